@@ -15,7 +15,7 @@ use Rattle.bufr_text.specs.declared.form.Form.TheVariants.{AsWritten}
 use Rattle.bufr_cli.specs.Corrected.{normal_texts}
 use Rattle.bufr_cli.proofs.RoundTripExamples.{blocks}
 
--- a document with this edition, behind its descriptors this text
+-- a document with this edition, after its descriptors this text
 abbrev by_hand : (edition rest : List ℕ) → List ℕ
 by_hand edition rest =
     codes "message\nedition " ++ (edition

@@ -90,7 +90,7 @@ module _ (form : Form) (records : List Record) (b : List Row) (d : List Sequence
         one-piece b d (FrameAt at octets) (piece (FrameAt at octets)) (OnOutput text) (gives (FrameAt at octets)) (accepted-piece b d octets read.sections read.template read.values read.used at read.accepted)
         ∙ ap OnOutput text-is
 
-    -- behind its text the reading goes on
+    -- after its text the reading goes on
     spells : (line : ℕ) (more : List ℕ) → map (told_piece AsWritten b d) (parse_lines line Between (lines_of (normal_text form b d document ++ more)))
         ≡ OnOutput octets ∷ map (told_piece AsWritten b d) (parse_lines (line + length (dump_lines read.sections items)) Between (lines_of more))
     spells line more =

@@ -148,7 +148,7 @@ open-all : (pieces : List Piece) → Open pieces → up_to_refused pieces ≡ pi
 unfolding up_to_refused
 open-all pieces open' = ap up_to_refused (sym (append-nil pieces)) ∙ open' [] ∙ append-nil pieces
 
--- a verdict tells on which writer its piece is
+-- a verdict reports on which writer its piece is
 accepted-open : (pieces : List Piece) (p : Piece) → counted_accepted verdict.Accepted ≡ count_by is_accepted (p ∷ []) → Open pieces → Open (pieces ++ p ∷ [])
 accepted-open pieces (OnOutput text) is open' = open-accepted pieces text open'
 accepted-open pieces (OnErrors text) is open' = absurd (omega (arith, is))
@@ -163,7 +163,7 @@ unfolding up_to_refused
 next-piece (OnOutput text) more = (up_to_refused more, refl)
 next-piece (OnErrors text) more = ([], refl)
 
--- behind the end nothing is read
+-- after the end nothing is read
 nothing-after : (xs ys : List ℕ) → [] ≡ xs ++ ys → ys ≡ []
 nothing-after [] ys is = sym is
 nothing-after (x ∷ xs) ys is = absurd (omega (arith, ap length is))
@@ -187,7 +187,7 @@ none-else (Some v) none = absurd (none v refl)
 pub falls : (before after n : ℕ) → before < n → after ≡ before + 1 → n - after < n - before
 falls before after n few one = omega (arith, few, one)
 
--- What a run has done so far: all that was told was written, and none of it was refused.
+-- What a run has done so far: all that was reported was written, and none of it was refused.
 pub record EncodedSoFar (form : Form) (b : List Row) (d : List Sequence) (left mid : Option (List ℕ)) (reads reads' : ℕ) (w w' e e' : Option (List ℕ)) (s : ReaderModel) (tally : Tally) : Type 0 where
   pub octets : List ℕ
   pub results : List ParseResult
@@ -219,7 +219,7 @@ ran-fresh form b d left reads w e s tally is accepted refused =
       sound = refl;
     })
 
--- what a call told that told something
+-- what a call reported that reported something
 reported-call : (left left' : Option (List ℕ)) (old new : ReaderModel) (next : Result (Option Document) ReadFault) (x : ParseResult) → (so : ReturnsNextDocument left left' old new next) → parse_results next ≡ x ∷ [] → ReadsLines left left' old new (x ∷ []) so.octets
 reported-call left left' old new (Ok None) x so is = absurd (omega (arith, ap length is))
 reported-call left left' old new (Ok (Some document)) x so is = let C : List ParseResult → Type 0 = λ t. ReadsLines left left' old new t so.octets in subst C is so.reads.0
@@ -257,11 +257,11 @@ Tallies-one tally tally' v pieces p before is accepted refused =
       refused = ap (λ n. n + counted_refused v) before.refused ∙ ap (λ n. count_by is_refused pieces + n) refused ∙ sym (count-append is_refused pieces (p ∷ []));
     })
 
--- what was told and then one more, as pieces
+-- what was reported and then one more, as pieces
 one-more : (form : Form) (b : List Row) (d : List Sequence) (results : List ParseResult) (x : ParseResult) → map (told_piece form b d) (results ++ x ∷ []) ≡ map (told_piece form b d) results ++ told_piece form b d x ∷ []
 one-more form b d results x = map-append (told_piece form b d) results (x ∷ [])
 
--- what was told is the first of what was read
+-- what was reported is the first of what was read
 read-prefix : (left left' : Option (List ℕ)) (s : ReaderModel) (results : List ParseResult) (bs : List ℕ) → ReadsLines left left' new_reader s results bs → (more : List ParseResult) × (read_documents s.ended bs ≡ results ++ more)
 read-prefix left left' s results bs call = by s.ended refl
   where
@@ -416,7 +416,7 @@ module _ (form : Form) (b : List Row) (d : List Sequence) (left mid left' : Opti
         tallies = λ t none. subst T (sym (pieces t none)) (Tallies-one tally tally' verdict.Refused before p ran.tallies after accepted refused);
       }
 
-  -- the end of the text, told by an answer
+  -- the end of the text, reported by an answer
   pub done-last : (w2 e2 : Option (List ℕ)) (write_event : Result (Option Verdict) RunFault) → LeavesNext w1 w2 e1 e2 (told_piece form b d) next write_event → write_event ≡ Ok None
       → (bs : List ℕ) × EncodeDone (encode_pieces form b d) left left' w w2 e e2 bs tally
   done-last w2 e2 write_event reports is =
@@ -426,14 +426,14 @@ module _ (form : Form) (b : List Row) (d : List Sequence) (left mid left' : Opti
       let E : Option (List ℕ) → Type 0 = λ x. EncodeDone (encode_pieces form b d) left left' w w2 e x (ran.octets ++ so.octets) tally in
       (ran.octets ++ so.octets, subst E (sym end.2) (subst W (sym end.1) (done-end end.0)))
 
-  -- a document was refused, told by an answer
+  -- a document was refused, reported by an answer
   pub done-at-refused : (w2 e2 : Option (List ℕ)) (write_event : Result (Option Verdict) RunFault) (v : Verdict) (tally' : Tally) → LeavesNext w1 w2 e1 e2 (told_piece form b d) next write_event → write_event ≡ Ok (Some v) → v ≡ verdict.Refused
       → tally' ≡ tally_after tally v → (bs : List ℕ) × EncodeDone (encode_pieces form b d) left left' w w2 e e2 bs tally'
   done-at-refused w2 e2 write_event v tally' reports is refused after =
       let T : Result (Option Verdict) RunFault → Type 0 = λ x. LeavesNext w1 w2 e1 e2 (told_piece form b d) next x in
       (ran.octets ++ so.octets, done-refused w2 e2 tally' (subst T (is ∙ ap (λ (x : Verdict). Ok (Some x)) refused) reports) (after ∙ ap (tally_after tally) refused))
 
-  -- one more document, told by an answer
+  -- one more document, reported by an answer
   pub turn-on : (w2 e2 : Option (List ℕ)) (write_event : Result (Option Verdict) RunFault) (v : Verdict) (tally' : Tally) → LeavesNext w1 w2 e1 e2 (told_piece form b d) next write_event → write_event ≡ Ok (Some v) → (v ≡ verdict.Refused → ⊥)
       → tally' ≡ tally_after tally v → EncodedSoFar form b d left left' reads reads2 w w2 e e2 s' tally'
   turn-on w2 e2 write_event v tally' reports is some after =
@@ -453,7 +453,7 @@ module _ (form : Form) (b : List Row) (d : List Sequence) (left mid left' : Opti
         accepted = ap (count_by is_refused) pieces ∙ open-accepts (map (told_piece form b d) ran.results) ran.open';
       }
 
-  -- a writer failed, or memory was refused, in the piece of what was told
+  -- a writer failed, or memory was refused, in the piece of what was reported
   stops-piece : (w2 e2 : Option (List ℕ)) (f : RunFault) (x : ParseResult) → parse_results next ≡ x ∷ [] → LeavesPieces w1 w2 e1 e2 (told_piece form b d x ∷ []) (Err f)
       → LeavesDocuments (encode_pieces form b d) left left' w w2 e e2 (Unit {0}) (ran.octets ++ so.octets) (Err Memory)
   stops-piece w2 e2 f x is reports =
@@ -491,7 +491,7 @@ module _ (form : Form) (b : List Row) (d : List Sequence) (left mid left' : Opti
     again : Consumes mid left' so.octets
     again = let N : Result (Option Document) ReadFault → Type 0 = λ x. ReadsDocument mid left' s s' x so.octets in (subst N is so.reads).0
 
-    -- the pieces of all that was told stand before those of what is known beyond
+    -- the pieces of all that was reported are before those of what is known beyond
     reported-part : (all more : List ParseResult) → all ≡ ran.results ++ more → (part : WrittenInPart w w2 e e2 (encode_pieces form b d all)) × (count_by is_refused part.given ≡ 0)
     reported-part all more parts =
         let G : Option (List ℕ) → Type 0 = λ x. GrowsByPrefix w1 x [] in
@@ -587,7 +587,7 @@ stop-reads left left' s s' w w' e e' piece next write_event f r so reports fails
     let stopped = subst T long' reports in
     (subst E stopped.0 so.ends).2
 
--- what tells something is no failure of the reader
+-- what reports something is no failure of the reader
 reported-keeps : (count : ℕ) (next : Result (Option Document) ReadFault) (x : ParseResult) → parse_results next ≡ x ∷ [] → failures_by count next ≡ count
 reported-keeps count (Ok None) x is = refl
 reported-keeps count (Ok (Some document)) x is = refl
@@ -596,7 +596,7 @@ reported-keeps count (Err (SubsetCount line)) x is = refl
 reported-keeps count (Err (HeaderRange line)) x is = refl
 reported-keeps count (Err (Run run)) x is = absurd (omega (arith, ap length is))
 
--- the failures of the reader, where a document or a line was told
+-- the failures of the reader, where a document or a line was reported
 pub verdict-keeps : (w w' e e' : Option (List ℕ)) (piece : ParseResult → Piece) (count : ℕ) (next : Result (Option Document) ReadFault) (write_event : Result (Option Verdict) RunFault) (v : Verdict)
     → LeavesNext w w' e e' piece next write_event → write_event ≡ Ok (Some v) → failures_by count next ≡ count
 verdict-keeps w w' e e' piece count next write_event v reports is =

@@ -29,7 +29,7 @@ no-some {A} x same =
     IsThere None = ⊥
     IsThere (Some y) = Unit {0}
 
--- what tells the names of the commands apart
+-- what distinguishes the names of the commands
 abbrev HasThreeLetters : Text → Type 0
 HasThreeLetters (a ∷ b ∷ c ∷ rest) = Unit {0}
 HasThreeLetters _ = ⊥

@@ -141,7 +141,7 @@ event-kind : (b : List Row) (d : List Sequence) (here : StreamEvent) (p : Piece)
 event-kind b d (FrameAt offset m) p small so = message-kind b d offset m small (sections_of m) p refl so
 event-kind b d (StrayAt offset cause) p small so = inl (_, so)
 
--- the piece of an accepted message is its dump text, wherever it stands
+-- the piece of an accepted message is its dump text, wherever it is
 pub accepted-piece : (b : List Row) (d : List Sequence) (m : List ℕ) (s : Sections) (template : Tree) (values : Values) (used offset : ℕ) → IsAccepted b d m s template values used
     → IsDumpPiece b d (FrameAt offset m) (OnOutput (dump_text_of s (dump_items_in b template s values)))
 accepted-piece b d m s template values used offset a =

@@ -143,7 +143,7 @@ cut-by pieces_of left left' w w' e e' unflushed early bs takes Memory stops cut 
 
 module _ (is_piece : StreamEvent → Piece → Type 0) (left mid left' : Option (List ℕ)) (reads reads1 reads2 : ℕ) (w w1 e e1 : Option (List ℕ)) (s s' : FinderModel) (tally : Tally) (result : Result Event RunFault)
     (ran : Ran is_piece left mid reads reads1 w w1 e e1 s tally) (next : ReturnsNextEvent mid left' reads1 reads2 s s' result) where
-  -- an event was told and counted
+  -- an event was reported and counted
   pub turn : (w2 e2 : Option (List ℕ)) (verdict : Verdict) (tally' : Tally) (event : Event) → result ≡ Ok event → IsEvent event
       → ((piece : StreamEvent → Piece) → GivesPieces is_piece piece → LeavesPieces w1 w2 e1 e2 (map piece (events_of event)) (Ok verdict))
       → tally' ≡ tally_after tally verdict → tally'.accepted + tally'.refused ≡ tally.accepted + tally.refused + 1
@@ -309,7 +309,7 @@ module _ (is_piece : StreamEvent → Piece → Type 0) (left mid left' : Option 
           }),
     )
 
--- the octets that a reader tells are those that were read to its end
+-- the octets that a reader reports are those that were read to its end
 pub all-known : (pieces_of : List StreamEvent → List Piece) (left left' w w' e e' : Option (List ℕ)) (unflushed early : Type 0) (r : Result Tally RunFault)
     → ((bs : List ℕ) × LeavesEvents pieces_of left left' w w' e e' unflushed early bs r) → IfOk r (λ tally. IfSome left (λ s. WritesPieces w w' e e' (pieces_of (scan s)) × Tallies tally (pieces_of (scan s))))
 all-known pieces_of left left' w w' e e' unflushed early (Ok tally) (bs, done) =

@@ -28,7 +28,7 @@ abbrev pub normal_text : Form → List Row → List Sequence → Document → Li
 normal_text form b d document =
     normal_by form b document (tree_of (tables_of b d) document.descriptors)
 
--- the text of a document that is encoded, and those behind it; of one that is refused, and behind
+-- the text of a document that is encoded, and those after it; of one that is refused, and after
 -- it, there is none
 abbrev pub before_refused : Result (List ℕ) RefusedAt → (text : List ℕ)
     → (more : List (List ℕ)) → List (List ℕ)

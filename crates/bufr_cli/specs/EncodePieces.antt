@@ -20,7 +20,7 @@ abbrev pub told_piece : Form → List Row → List Sequence → ParseResult → 
 told_piece form b d (Complete document) = encoded (encoding_in form b d document)
 told_piece form b d (Refused line fault) = OnErrors (refused_line line fault)
 
--- nothing more is written behind the first fault
+-- nothing more is written after the first fault
 -- rule: first-refusal-ends
 unfoldable pub up_to_refused : List Piece → List Piece
 up_to_refused [] = []

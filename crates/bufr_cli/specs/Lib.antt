@@ -26,7 +26,7 @@ pub mod Running
 pub mod WritingPieces
 -- what a run has written that went through, of `dump` and of `encode` too
 pub mod Whole
--- what a call of the program comes to: a job done and told, help, a mistaken line
+-- what a call of the program comes to: a job done and reported, help, a mistaken line
 pub mod Calling
 -- how a run of the program ended, and what is flushed after it
 pub mod Ending

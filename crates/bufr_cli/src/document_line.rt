@@ -1,4 +1,4 @@
-//! The lines that tell the faults of a document.
+//! The lines that report the faults of a document.
 ghost use Rattle.std.specs.Prelude.{◌≡◌, ◌≢◌, ◌≤◌, ◌+◌, ℕ, [], ◌∷◌, Err, IfErr, IfSome, length};
 ghost use Rattle.bufr_fill.specs.DraftFaults.{other_than};
 ghost use Rattle.bufr_tables.specs.Fxy.{fxy_text};
@@ -19,7 +19,7 @@ use bufr_frame::RunFault;
 use bufr_tables::{Fxy, TemplateFault};
 use bufr_text::{DocumentFault, ReadFault, WalkRefusal, lay_named, lay_text};
 
-/// The octets in which a line is laid from its end: 33 for what stands before its text, where each
+/// The octets in which a line is written from its end: 33 for what is before its text, where each
 /// number of its type has room, and 39 for the longest text, of a template fault.
 const LINE: usize = 72;
 
@@ -61,7 +61,7 @@ fn write_descriptor_line<E: Sink>(
     write_line(line, number, text, &digits, e)
 }
 
-/// Writes the line of a document in whose `line` another item, or none, stands where this is
+/// Writes the line of a document in whose `line` another item, or none, is where this is
 /// expected.
 fn write_expected<E: Sink>(
     line: u64,
@@ -150,7 +150,7 @@ fn write_walk<E: Sink>(
 ///
 /// # Errors
 ///
-/// [`RunFault::Write`] where the writer fails or takes nothing; a front of the line was taken.
+/// [`RunFault::Write`] where the writer fails or takes nothing; a prefix of the line was taken.
 // rule: fault-lines-of-encoding
 pub fn write_document_fault<E: Sink>(fault: DocumentFault, e: &mut E) -> Result<(), RunFault>
     requires some { fault ≢ DocumentFault.Memory }
@@ -184,7 +184,7 @@ pub fn write_document_fault<E: Sink>(fault: DocumentFault, e: &mut E) -> Result<
 ///
 /// # Errors
 ///
-/// [`RunFault::Write`] where the writer fails or takes nothing; a front of the line was taken.
+/// [`RunFault::Write`] where the writer fails or takes nothing; a prefix of the line was taken.
 // rule: fault-lines-of-reading
 pub fn write_read_fault<E: Sink>(fault: ReadFault, e: &mut E) -> Result<(), RunFault>
     requires { (run : RunFault) → fault ≢ ReadFault.Run run }

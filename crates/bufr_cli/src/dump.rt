@@ -245,7 +245,7 @@ impl<'a> EventWriter for DumpRun<'a> {
 ///
 /// [`RunFault::Read`] and [`RunFault::InputTooLong`] as [`bufr_frame::Finder::next`] gives them;
 /// the texts of all that was certain were written then. [`RunFault::Write`] where a writer failed
-/// or took nothing, and [`RunFault::Memory`]: a front of the texts was written.
+/// or took nothing, and [`RunFault::Memory`]: a prefix of the texts was written.
 pub fn run_dump<R: Source, W: Sink, E: Sink>(
     alloc: Global,
     r: &mut R,

@@ -81,7 +81,7 @@ fn encode_one<W: Sink, E: Sink>(
     }
 }
 
-/// Writes what stands for the next document of a text: its message, or a fault line. At the end of
+/// Writes what the next document gives of a text: its message, or a fault line. At the end of
 /// the text there is nothing. The document's memory goes back to its reader.
 // rule: document-read-first
 fn encode_next<W: Sink, E: Sink>(
@@ -181,7 +181,7 @@ fn encode_documents<R: Source, W: Sink, E: Sink>(
 ///
 /// [`RunFault::Read`] and [`RunFault::InputTooLong`] as [`DumpReader::next_document`] gives them;
 /// the messages of all documents that were read whole were written then. [`RunFault::Write`] where
-/// a writer failed or took nothing, and [`RunFault::Memory`]: a front of the messages was written.
+/// a writer failed or took nothing, and [`RunFault::Memory`]: a prefix of the messages was written.
 pub fn run_encode_form<R: Source, W: Sink, E: Sink>(
     alloc: Global,
     r: &mut R,

@@ -1,4 +1,4 @@
-//! The lines that tell the faults of a stream, of a message, of its template and of its data.
+//! The lines that report the faults of a stream, of a message, of its template and of its data.
 ghost use Rattle.std.specs.Prelude.{◌≡◌, ◌≢◌, ◌≤◌, ◌+◌, ◌++◌, [], ◌∷◌, codes, decimal, drop, length};
 ghost use Rattle.bufr_tables.specs.Fxy.{fxy_text};
 ghost use Rattle.bufr_tables.specs.FaultNumber.{number_of_template_fault};
@@ -15,14 +15,14 @@ use bufr_tables::{Fxy, TemplateFault};
 use bufr_text::{lay_decimal, lay_named, lay_text, suffix, write_all};
 use bufr_walk::{Spot, WalkFault};
 
-/// The octets in which a line is laid from its end: 35 for what stands before its text, where each
+/// The octets in which a line is written from its end: 35 for what is before its text, where each
 /// number of its type has room, and 29 for the longest text with its line feed.
 const LINE: usize = 64;
 
-/// The same for a fault of the data, whose text says where it stands in 75 octets at most.
+/// The same for a fault of the data, whose text says where it is in 75 octets at most.
 const SPOT_LINE: usize = 110;
 
-/// Writes the fault line whose text, with its line feed, stands in `line` from `end` on: before it
+/// Writes the fault line whose text, with its line feed, is in `line` from `end` on: before it
 /// come a word, the place that this counts, and the fault's number.
 // rule: stream-fault-line
 pub(crate) fn write_fault<E: Sink>(
@@ -63,7 +63,7 @@ fn stray_text(cause: Cause) -> &'static [u8]
 ///
 /// # Errors
 ///
-/// [`RunFault::Write`] where the writer fails or takes nothing; a front of the line was taken.
+/// [`RunFault::Write`] where the writer fails or takes nothing; a prefix of the line was taken.
 // rule: fault-1, fault-2, fault-3
 pub fn write_stray<E: Sink>(offset: u64, cause: Cause, e: &mut E) -> Result<(), RunFault>
     ensures writes { Writes (E.taken e.old) (E.taken e.new)
@@ -105,7 +105,7 @@ fn lay_section_fault(fault: SectionFault, line: &mut [u8]) -> usize
 ///
 /// # Errors
 ///
-/// [`RunFault::Write`] where the writer fails or takes nothing; a front of the line was taken.
+/// [`RunFault::Write`] where the writer fails or takes nothing; a prefix of the line was taken.
 // rule: fault-10, fault-11, fault-12, fault-13, fault-14
 pub fn write_section_fault<E: Sink>(
     offset: u64,
@@ -146,7 +146,7 @@ pub(crate) fn name_of_template_fault(fault: &TemplateFault) -> (&'static [u8], F
 ///
 /// # Errors
 ///
-/// [`RunFault::Write`] where the writer fails or takes nothing; a front of the line was taken.
+/// [`RunFault::Write`] where the writer fails or takes nothing; a prefix of the line was taken.
 // rule: fault-20, fault-21, fault-22, fault-23, fault-24, fault-25, fault-26, fault-27, fault-28
 pub fn write_template_fault<E: Sink>(
     offset: u64,
@@ -167,7 +167,7 @@ pub fn write_template_fault<E: Sink>(
     write_fault(b"offset ", offset, fault.number(), &mut line, end, e)
 }
 
-/// What a fault of the data is called, and where it stands.
+/// What a fault of the data is called, and where it is.
 fn name_of_walk_fault(fault: &WalkFault) -> (&'static [u8], Spot)
     requires { fault.now ≢ WalkFault.Memory }
     ensures text { walk_fault_text fault.now ≡ spot_text result.0.now result.1 }
@@ -184,7 +184,7 @@ fn name_of_walk_fault(fault: &WalkFault) -> (&'static [u8], Spot)
     }
 }
 
-/// Lays a name and where in the data it stands at the end of the octets, and answers where they
+/// Lays a name and where in the data it is at the end of the octets, and answers where they
 /// begin.
 // rule: stream-fault-place
 fn lay_spot(name: &[u8], spot: Spot, line: &mut [u8]) -> usize
@@ -209,7 +209,7 @@ fn lay_spot(name: &[u8], spot: Spot, line: &mut [u8]) -> usize
 ///
 /// # Errors
 ///
-/// [`RunFault::Write`] where the writer fails or takes nothing; a front of the line was taken.
+/// [`RunFault::Write`] where the writer fails or takes nothing; a prefix of the line was taken.
 // rule: fault-30, fault-31, fault-32, fault-33, fault-34, fault-35
 pub fn write_walk_fault<E: Sink>(offset: u64, fault: &WalkFault, e: &mut E) -> Result<(), RunFault>
     requires { fault.now ≢ WalkFault.Memory }

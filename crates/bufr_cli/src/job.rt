@@ -95,10 +95,10 @@ pub enum LineFault {
     Memory,
 }
 
-/// The version that `bufr --version` tells.
+/// The version that `bufr --version` prints.
 const VERSION: &str = "0.1.0";
 
-/// What stands under the help of the program.
+/// The notes under the help of the program.
 const PROGRAM_NOTES: &str = "\
 Exit status:
   0  nothing was refused
@@ -110,7 +110,7 @@ Examples:
   bufr dump -B b.csv -D d.csv bulletins.bufr
   bufr encode -B b.csv -D d.csv bulletins.txt";
 
-/// What stands under the help of `ls`.
+/// The notes under the help of `ls`.
 const LS_NOTES: &str = "\
 A line for each message goes to standard output, and a line for each fault to
 standard error, with its offset in octets and its number:
@@ -128,7 +128,7 @@ Exit status:
 Example:
   bufr ls bulletins.bufr 2> faults.txt";
 
-/// What stands under the help of `dump`.
+/// The notes under the help of `dump`.
 const DUMP_NOTES: &str = "\
 The text of each message goes to standard output, and a line for each fault to
 standard error, with its offset in octets and its number:
@@ -159,7 +159,7 @@ Exit status:
 Example:
   bufr dump -B b.csv -D d.csv bulletins.bufr > bulletins.txt";
 
-/// What stands under the help of `encode`.
+/// The notes under the help of `encode`.
 const ENCODE_NOTES: &str = "\
 The message of each document goes to standard output, when its end line was
 read. The first document that is refused ends the run, with a line on standard
@@ -209,7 +209,7 @@ impl From<AllocError> for LineFault {
     }
 }
 
-/// A command of this name, which help tells about, with these notes under its own help.
+/// A command of this name, which help describes, with these notes under its own help.
 fn named_command<'a>(
     alloc: Global,
     name: &'a str,
@@ -224,7 +224,7 @@ fn named_command<'a>(
         .after_help(notes)
 }
 
-/// The input's file, which help tells about.
+/// The input's file, which help describes.
 fn file_argument<'a>(alloc: Global, help: &'a str) -> Arg<'a>
     ensures rule { rule_of result ≡ new_rule (codes "FILE") }
     ensures global { result.global ≡ false }
@@ -353,7 +353,7 @@ fn command_line<'a>(alloc: Global) -> Result<clap::Command<'a>, AllocError>
     with_encode(alloc, command)
 }
 
-/// The fault that an error of clap stands for, with its text.
+/// The fault that an error of clap means, with its text.
 // rule: help
 fn line_fault(alloc: Global, error: &Error) -> LineFault
     ensures { TellsKind (kind_of error.now) result }

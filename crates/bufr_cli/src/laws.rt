@@ -44,7 +44,7 @@ pub fn dumped_streams_are_built_again()
 {}
 
 /// Where all accepted messages of a stream are as an encoder writes them (reserved bits and octets
-/// zero, nothing behind the descriptors, no minus zero, each compressed item packed as its values
+/// zero, nothing after the descriptors, no minus zero, each compressed item packed as its values
 /// are packed, the least octets of data with zero bits at their end), they are built of the dump
 /// text octet for octet.
 pub fn canonical_streams_are_built_as_they_are()

@@ -86,7 +86,7 @@ impl EventWriter for LsRun {
 ///
 /// [`RunFault::Read`], [`RunFault::InputTooLong`] and [`RunFault::Memory`] as [`Finder::next`]
 /// gives them; the lines of all that was certain were written then. [`RunFault::Write`] where a
-/// writer failed or took nothing: a front of the lines was written.
+/// writer failed or took nothing: a prefix of the lines was written.
 // rule: input-without-bufr
 pub fn run_ls<R: Source, W: Sink, E: Sink>(
     alloc: Global,

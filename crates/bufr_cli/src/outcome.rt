@@ -85,7 +85,7 @@ fn write_run_fault<E: Sink>(fault: RunFault, e: &mut E) -> Result<(), RunFault>
 }
 
 /// Writes the line of a fault of a table: which table, the fault's number, and its text, a value
-/// behind a text.
+/// after a text.
 fn write_numbered<'a, E: Sink>(
     table: &'a [u8],
     number: u8,
@@ -156,7 +156,7 @@ fn write_last<E: Sink>(outcome: &Outcome<'_>, e: &mut E) -> Result<(), RunFault>
 /// for all else. A write that fails leaves the status as it is. It takes no memory.
 pub fn finish<E: Sink>(outcome: &Outcome<'_>, e: &mut E) -> u8
     ensures status { result ≡ status_of outcome.now }
-    // A front of the line is written, and all of it where no call of the writer failed or took
+    // A prefix of the line is written, and all of it where no call of the writer failed or took
     // nothing.
     ensures prefix { GrowsByPrefix (E.taken e.old) (E.taken e.new) (last_line outcome.now) }
     ensures whole { E.failures e.old < 2 ^ 64 - 1 → E.empty_writes e.old < 2 ^ 64 - 1

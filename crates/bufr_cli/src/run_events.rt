@@ -29,8 +29,8 @@ pub trait EventWriter {
     ///
     /// # Errors
     ///
-    /// [`RunFault::Write`] where a writer fails or takes nothing, and [`RunFault::Memory`]; a front
-    /// of the piece was written.
+    /// [`RunFault::Write`] where a writer fails or takes nothing, and [`RunFault::Memory`]; a
+    /// prefix of the piece was written.
     fn write_event<W: Sink, E: Sink>(
         &mut self,
         event: Event<'_>,

@@ -104,7 +104,7 @@ module _ (table : List Sequence) (fxy : ℕ) (old : List Bool) (queue : List ℕ
       seen = below_more (SeenAt new) i was.seen here;
     }
 
-    -- another, which is put behind the queue
+    -- another, which is put after the queue
     pub visited-push : (x : ℕ) → x ≡ slice_index (members_or_none table fxy) i → i < length (members_or_none table fxy) → IsSome (members_of table x) → get_or new x false ≡ false → x < length new
         → IsVisited table fxy (i + 1) old queue (set new x true) (longer ++ x ∷ [])
     visited-push x at inside sequence unseen small = record {

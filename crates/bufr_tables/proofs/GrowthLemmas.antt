@@ -1,4 +1,4 @@
--- Cells with more behind them.
+-- Cells with more after them.
 use Rattle.std.proofs.Common.{◌≡◌, ℕ, ◌+◌, ◌≤◌, max, Bool, true, false, ◌||◌, List, [], ◌∷◌, ◌++◌, length, set, refl, sym, ◌∙◌, ap, arith, append_assoc}
 use Rattle.std.proofs.lemmas.List.{append-nil, length-append}
 use Rattle.std.proofs.Math.Seq.{set-append_seam}
@@ -44,7 +44,7 @@ grow-grow g a b =
     (omega (arith, depth-join a b))
     (sym (or_assoc g.full (consumes a) (consumes b)) ∙ ap (λ c. g.full || c) (sym (consumes-join a b)))
 
--- the cells of a group, from those that stand when its body is laid out
+-- the cells of a group, from those that exist when its body is flattened
 group_cells : (cells : List Cell) (p : Passes) (body : Tree) (place : ℕ) → place ≡ length cells
     → set (((cells ++ first_cell p 0 ∷ factor_cells p) ++ cells_of body (length (cells ++ first_cell p 0 ∷ factor_cells p)) []) ++ cell.PassEnd ∷ []) place (first_cell p (length cells + own_places p + size body))
     ≡ cells ++ cells_of (group_of p body) (length cells) []

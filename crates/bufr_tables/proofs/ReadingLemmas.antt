@@ -16,7 +16,7 @@ use Rattle.bufr_tables.specs.Records.{Record}
 use Rattle.bufr_tables.specs.Reading.{GivesNext, IsBetween, count_of, record_given, records_behind, text_left}
 use Rattle.bufr_tables.specs.declared.records.RecordReader.{RecordReader}
 
--- behind the octet that ends a record no record has begun
+-- after the octet that ends a record no record has begun
 after_end-between : (t : Terminator) (c : ℕ) → ends_at_end (after_end t c) ≡ false
 after_end-between term.CRLF c = elim (cases_Bool (c == 13)) [ inl e ↦ rw e refl | inr e ↦ rw e refl ]
 after_end-between (term.Any t) c = refl
@@ -150,7 +150,7 @@ stripped-count (a ∷ b ∷ c ∷ rest) m h = by (is_bom a b c)
     by true = omega arith
     by false = omega arith
 
--- behind the start of a text the reader reads from its buffer
+-- after the start of a text the reader reads from its buffer
 pending-is : (reader : Reader (Bor (List ℕ))) → reader.bom_checked ≡ true → text_left reader ≡ pending_of (Some reader.rdr.now) reader
 pending-is reader with_open_group = rw with_open_group refl
 

@@ -30,7 +30,7 @@ fields-at (name ∷ names) [] place d same inside = absurd (omega arith)
 fields-at (name ∷ names) (field ∷ fields) zero d same inside = refl
 fields-at (name ∷ names) (field ∷ fields) (suc place) d same inside = fields-at names fields place d (omega (arith, same)) (omega arith)
 
--- one field, told apart from its name or not
+-- one field, distinguished from its name or not
 module _ (names : List (Bor (List ℕ))) (r : Record) (place : ℕ) (d : Bor (List ℕ)) (field : List ℕ) (differs : Bool) (same : length r ≡ length names) (inside : place < length names)
     (is : field ≡ field_of r place) (reported : differs ≡ not (bytes_eq field (get_or names place d).now))
     (so_far : has_fields (field_texts names) r ≡ has_fields (drop place (field_texts names)) (drop place r)) where
@@ -49,7 +49,7 @@ module _ (names : List (Bor (List ℕ))) (r : Record) (place : ℕ) (d : Bor (Li
       by false e is_not = cc is_not
 
 module _ (A : Type 0) (names : List (List ℕ)) (with_record : ℕ → A → Record → Result A TableFault) (none : A) (records : List Record) where
-  -- behind the header
+  -- after the header
   pub table-opened : (r : RecordReader) → IsOpened names records r → table_of names with_record none records ≡ table_from with_record (r.number + 1) none (records_left r)
   unfolding table_of
   table-opened r is = rw (is.header, is.number, is.rest) refl

@@ -12,7 +12,7 @@ use Rattle.bufr_tables.proofs.SoundLemmas.{tree_fine}
 use Rattle.bufr_tables.proofs.Laying.{cells-tail, length-cells, raised_laid, kept_raised}
 use Rattle.bufr_tables.proofs.GrowthLemmas.{same_growth}
 
--- what is left of the definition behind the list
+-- what is left of the definition after the list
 after_list : List ℕ → Result Tree TemplateFault → Result Tree TemplateFault
 after_list list expanded = expanded >>= λ tree. unless (consumes tree) (fault.EmptyGroup (first_of list)) >>= λ _. Ok tree
 
@@ -24,7 +24,7 @@ pub whole-fault : (tables : Tables) (list : List ℕ) (start : BuilderModel) (wh
 unfolding tree_of after_list
 whole-fault tables list start why e refuses other = ap (after_list list) (same_start tables list start e ∙ refuses other)
 
--- what stands behind no cells
+-- what is after no cells
 put_tree : (start new : BuilderModel) (tree : Tree) → start ≡ growth [] 0 0 false → new ≡ push_tree start tree → new ≡ growth (cells_of tree 0 []) 0 (depth tree) (consumes tree)
 put_tree start new tree es e =
     e ∙ ap (λ (g : BuilderModel). push_tree g tree) es
@@ -37,7 +37,7 @@ whole-empty tables list start new first es puts empty ef =
     ∙ ap (λ b. unless b (fault.EmptyGroup (first_of list)) >>= λ _. Ok puts.tree) (ap (λ (g : BuilderModel). g.full) (sym (put_tree start new puts.tree es puts.is_put)) ∙ empty)
     ∙ ap (λ d. Err (fault.EmptyGroup d)) (sym ef)
 
--- a tree is defined, and its cells have been laid out
+-- a tree is defined, and its cells have been flattened
 pub record IsWhole (tables : Tables) (list : List ℕ) (new : BuilderModel) : Type 0 where
   pub tree : Tree
   pub is_defined : tree_of tables list ≡ Ok tree
@@ -73,7 +73,7 @@ pub record IsBuilt (tables : Tables) (list : List ℕ) (cells : List Cell) (dept
   pub is_kept : IsTemplate cells depth_told (trees_of_cells cells)
   pub is_defined : tree_of tables list ≡ Ok (trees_of_cells cells)
 
--- with the end of the template behind the cells
+-- with the end of the template after the cells
 pub whole-built : (tables : Tables) (list : List ℕ) (new : BuilderModel) (cells : List Cell) → IsWhole tables list new → cells ≡ new.cells ++ cell.Finish ∷ [] → length new.cells + new.groups < 65535 → IsBuilt tables list cells new.deep
 whole-built tables list new cells whole e within =
     let flattened = whole-flattened tables list new cells whole e within in

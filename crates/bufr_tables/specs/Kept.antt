@@ -31,7 +31,7 @@ rows_kept octets stored = map (row_kept octets) stored
 abbrev pub IsRowInside : ℕ → Stored → Type 0
 IsRowInside size s = (s.start ≤ s.middle) × (s.middle ≤ s.end) × (s.end ≤ size)
 
--- a block of octets has more of them behind those that it had
+-- a block of octets has more of them after those that it had
 abbrev pub ExtendsBlock : List ℕ → List ℕ → Type 0
 ExtendsBlock old new = (more : List ℕ) × (new ≡ old ++ more)
 

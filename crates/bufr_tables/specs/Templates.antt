@@ -14,7 +14,7 @@ pub record ListByTables : Type 0 where
   pub table_d : List Sequence
   pub list : List ℕ
 
--- an answer is what a list of descriptors stands for, no template is too long, and no fault is
+-- an answer is what a list of descriptors means, no template is too long, and no fault is
 -- want of memory
 pub record IsAnswer (tables : Tables) (list : List ℕ)
     (answer : Result Tree TemplateFault) : Type 0 where

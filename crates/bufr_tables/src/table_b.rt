@@ -24,7 +24,7 @@ const HEADER: [&[u8]; 6] = [b"fxy", b"name", b"unit", b"scale", b"reference", b"
 
 /// What Table B says of an element.
 ///
-/// [`TableB::get`] promises the limits that stand here. The factors of delayed replications,
+/// [`TableB::get`] promises the limits that are stated here. The factors of delayed replications,
 /// 031000, 031001 and 031002, are no text and have 1, 8 and 16 bits, scale 0 and reference 0.
 #[derive(Clone, Copy, Debug, PartialEq, Eq)]
 pub struct Entry<'a> {
@@ -306,7 +306,7 @@ impl TableB {
     }
 }
 
-/// Puts the name and the unit of an entry behind a block of octets.
+/// Puts the name and the unit of an entry after a block of octets.
 fn store(octets: &mut Vec<u8>, fxy: Fxy, entry: &Entry) -> Result<Stored, AllocError>
     ensures grows { ExtendsBlock octets.old.items octets.new.items }
     ensures ok { IfOk result (λ s. IsStored octets.new.items fxy entry.now s) }

@@ -1,5 +1,5 @@
 //! Templates: descriptor lists expanded to a tree (WMO-No. 306, Volume I.2, FM 94: section 3,
-//! Tables C and D), which is laid out in cells.
+//! Tables C and D), which is flattened to cells.
 ghost use Rattle.std.specs.Prelude.{◌≡◌, ◌≢◌, ◌≤◌, length, Ok, Err, IfOk, IfErr, is_some};
 ghost use Rattle.bufr_tables.specs.TableB.{entry_of};
 ghost use Rattle.bufr_tables.specs.TableD.{members_of};
@@ -33,9 +33,9 @@ use std::marker::Model;
 /// The most groups and sequences that may be open together.
 const MAX_OPEN: u32 = 32;
 
-/// A template: the tree of elements, operators and groups that a list of descriptors stands for,
-/// sequences replaced by their members (WMO-No. 306, Volume I.2, FM 94: section 3, Table D), laid
-/// out in cells. A clause sees it as that tree.
+/// A template: the tree of elements, operators and groups that a list of descriptors means,
+/// sequences replaced by their members (WMO-No. 306, Volume I.2, FM 94: section 3, Table D),
+/// written out in cells. A clause sees it as that tree.
 ///
 /// Some node of each group's body, and of the whole, takes bits of the data, so that a pass of a
 /// group is never free.
@@ -88,7 +88,7 @@ impl Template {
     /// - at a sequence: [`TemplateFault::UnknownSequence`] where Table D lacks it, then
     ///   [`TemplateFault::Depth`], then the faults of its members;
     /// - at an element: [`TemplateFault::UnknownElement`] where Table B lacks it, unless 2 06 Y
-    ///   stands before it; then [`TemplateFault::TemplateSize`];
+    ///   is before it; then [`TemplateFault::TemplateSize`];
     /// - at an operator: [`TemplateFault::Operator`] where it, or its operand, is none that a
     ///   template may hold; [`TemplateFault::LocalShape`] where 2 06 Y is not followed by an
     ///   element in the same list; then [`TemplateFault::TemplateSize`];
@@ -156,7 +156,7 @@ impl Template {
         self.depth
     }
 
-    /// Its cells in the order of the data, as many as [`Template::places`] tells. The cells of a
+    /// Its cells in the order of the data, as many as [`Template::places`] says. The cells of a
     /// group are [`Cell::Fixed`], or [`Cell::Delayed`] and [`Cell::Factor`], then those of its
     /// body, then [`Cell::PassEnd`]; the last cell is [`Cell::Finish`]. Takes no memory.
     pub fn cells(&self) -> &[Cell]

@@ -89,7 +89,7 @@ block_canonical = record {
   bits = (λ h. h, tt);
 }
 
--- With a bit behind its data the message is accepted, and is not as an encoder writes it.
+-- With a bit after its data the message is accepted, and is not as an encoder writes it.
 -- rule: bits-left-over
 bit_behind_accepted : IsAccepted the_table [] (one_block_number 0x15) (its_sections 0x15) (element 257 bare) block_number 7
 unfolding the_table the_head message one_block_number its_sections block_number sections_of section_end tree_of level part_of inner_of next_item bits_of bits_in

@@ -80,7 +80,7 @@ field_bits spec good bits mid c t plus =
 
 -- ---- the items of one subset
 
--- drafts are written to the bits that stand before what is behind
+-- drafts are written to the bits that come before the rest
 record AreFilled {C D E : Type 0} (filler : Filler D C E) (course : Course) (ds : List D) (bits suffix : List Bool) : Type 0 where
   out : List Bool
   fills : fill filler course ds ≡ Ok out

@@ -15,7 +15,7 @@ drop-on a b s = grind (arith, common_steps)
 one-set : (out : List ℕ) (count word : ℕ) → count < length out → take (count + 1) (slice_set out count word) ≡ take count out ++ word ∷ []
 one-set out count word h = grind (arith, common_steps)
 
--- a descriptor behind a space
+-- a descriptor after a space
 first-on : (t : List ℕ) → 7 ≤ length t → descriptors_read t ≡ (if slice_index t 0 == 32 then onto_read (fxy_of (take 6 (drop 1 t))) (descriptors_read (drop 7 t)) else None)
 unfolding descriptors_read
 first-on (s ∷ a ∷ b ∷ c ∷ d ∷ e ∷ g ∷ more) h = refl

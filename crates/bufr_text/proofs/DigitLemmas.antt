@@ -35,7 +35,7 @@ four_more_digits n long fits =
 pub at_most_20_digits : (n : ℕ) → n < 2 ^ 64 → length (decimal n) ≤ 20
 at_most_20_digits n fits = length-decimal-le 20 n (omega arith) (omega (arith, fits)) fits
 
--- a name and digits fill a front
+-- a name and digits fill a prefix
 pub named_digits : (name copied free line : List ℕ) (value count start : ℕ) → copied ≡ name → count ≡ length (decimal value) → start + length (decimal value) ≡ length name + count
     → drop start line ≡ decimal value ++ drop (length name + count) (copied ++ drop (length name) free) → take start line ≡ take start (copied ++ drop (length name) free) → take (length name + count) line ≡ name ++ decimal value
 named_digits name copied free line value count start same digits sum written before =

@@ -24,7 +24,8 @@ use Rattle.bufr_text.specs.DumpItems.{dump_item_of, dump_items_of}
 unfoldable listed : (fxy : ℕ) → (name unit : List ℕ) → Kind → (width : ℕ) → Row
 listed fxy name unit k width = record { fxy = fxy; name = name; unit = unit; kind = k; scale = pos 0; reference = pos 0; width = width }
 
--- block, name, latitude, temperature, figure and factor; scale, reference and width are those of what was asked
+-- block, name, latitude, temperature, figure and factor; scale, reference and width are those of
+-- what was asked
 unfoldable table : List Row
 unfolding listed
 table =

@@ -13,7 +13,7 @@ use Rattle.bufr_text.specs.DumpWritten.{WritesPrefix, CountsFaults}
 use Rattle.bufr_text.specs.Writing.{Writes, GrowsByPrefix}
 use Rattle.bufr_text.proofs.WritingLemmas.{WrittenSoFar}
 
--- a front of a text is one of a longer text
+-- a prefix of a text is one of a longer text
 pub prefix-longer : (a b : Option (List ℕ)) (s t : List ℕ) → GrowsByPrefix a b s → GrowsByPrefix a b (s ++ t)
 prefix-longer a b s t first = record {
   prefix = first.prefix;
@@ -22,7 +22,7 @@ prefix-longer a b s t first = record {
   gains = first.gains;
 }
 
--- a text was written, and then a front of another one
+-- a text was written, and then a prefix of another one
 pub prefix-after : (a b c : Option (List ℕ)) (s t : List ℕ) → Appends a b s → GrowsByPrefix b c t → GrowsByPrefix a c (s ++ t)
 prefix-after a b c s t first second = record {
   prefix = s ++ second.prefix;
@@ -126,7 +126,7 @@ cut-run n m xs is = by (cases_lt (length xs) n)
         let same : m ≡ n = omega (arith, is, enough) in
         (ap (λ k. take k xs) same, ap (λ k. drop k xs) same)
 
--- the lines of octets behind a word: the first and the others
+-- the lines of octets after a word: the first and the others
 pub octet-lines-next : (f : List ℕ → List ℕ) (less m : ℕ) (rest run suffix : List ℕ) → 0 < length rest → m ≡ min (length rest) (suc less) → run ≡ take m rest → suffix ≡ drop m rest
     → text_of_lines (map f (runs_of (suc less) rest)) ≡ (f run ++ 10 ∷ []) ++ text_of_lines (map f (runs_of (suc less) suffix))
 octet-lines-next f less m rest run suffix some is prefix back =

@@ -112,7 +112,7 @@ packed_over n course ss start c mid c' e why at some z w fault results few =
     same : (a b : FaultAt) → ◌≡◌ {A = Option FaultAt} (Some a) (Some b) → a ≡ b
     same a b e = cc
 
--- what stopped a walk is the fault where it stands, and leaves it there
+-- what stopped a walk is the fault where it is, and leaves it there
 told_here : (line : ℕ) (next : Next) (mid : PackedOutModel) (stop : WalkStop DraftFault) (s' : PackedOutModel) (f : FaultAt) → StopsWalk PackedFills next mid stop s' → line ≡ first_line_at s'.place s'.subsets → told_stop line stop ≡ Some f → IsFaultHere next mid f
 told_here line (take_next spec) mid (stops.Field e) s' f h l t = by (draft_fault e) h.0 t
   where

@@ -78,12 +78,12 @@ module _ {D C E : Type 0} (filler : Filler D C E) where
       by astray h g = absurd cc h
       by (refused why) h g = absurd cc h
 
--- a fault that is told is the definition's
+-- a fault that is reported is the definition's
 pub refuses_so : (o : Option FaultAt) (results : Option RefusedAt) (r : Result (List Bool) FaultAt) → results ≡ option_map told_of_draft o → ((f : FaultAt) → o ≡ Some f → r ≡ Err f) → IsDocumentRefusal results (told_of_items r)
 refuses_so None results r e h = subst (λ t. IsDocumentRefusal t (told_of_items r)) (sym e) tt
 refuses_so (Some f) results r e h = subst (λ t. IsDocumentRefusal t (told_of_items r)) (sym e) (ap told_of_items (h f refl))
 
--- the refusal of a walk, as it is told
+-- the refusal of a walk, as it is reported
 pub told_refused : (line : ℕ) (r : refusal.the_data) (f : FaultAt) → told_stop line (stop_by r) ≡ Some f → at_line line (walk_refused r) ≡ f
 told_refused line (refusal.Width fxy) f e = cc
 told_refused line (refusal.Defining fxy) f e = cc

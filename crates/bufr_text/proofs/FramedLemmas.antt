@@ -1,4 +1,4 @@
--- A message that was written has octets, and is scanned as one message whatever is behind it.
+-- A message that was written has octets, and is scanned as one message whatever is after it.
 use Rattle.std.proofs.Common.{◌≡◌, ℕ, ◌+◌, ◌-◌, ◌*◌, ◌/◌, ◌%◌, ◌^◌, ◌<◌, ◌≤◌, Bool, true, false, List, [], ◌∷◌, ◌++◌, length, take, drop, Option, Some, None, refl, sym, ◌∙◌, ap, subst, arith, codes, append_assoc, length-append}
 use Rattle.std.specs.Prelude.{◌==◌, ◌&&◌, nat_lt, is_some, unwrap_or, if◌then◌else◌}
 use Rattle.std.specs.List.{AllByRecursion}
@@ -110,7 +110,7 @@ verdict_frame m a b c d e = rw (a, b, c, d, e) refl
 at_least : (a b : ℕ) → b ≤ a → nat_lt a b ≡ false
 at_least a b h = grind (arith, nat_tests)
 
--- what is behind a message that states its length n
+-- what is after a message that states its length n
 module _ (m t : List ℕ) (n : ℕ) (is : stated_length (m ++ t) ≡ n) (long : length m ≡ n) where
   taken_whole : take (stated_length (m ++ t)) (m ++ t) ≡ m
   taken_whole = ap (λ k. take k (m ++ t)) is ∙ take_at m t n long

@@ -40,7 +40,7 @@ origin-is s h same =
     ap origin_text same
     ∙ sym (ap (λ l. codes "message\n" ++ l) (header-text 0 (take 10 (header_of s))))
 
--- the first lines, laid from their end
+-- the first lines, written from their end
 pub origin-written : (s : Sections) (h : Head) (line two one rest : List ℕ) → h ≡ s.head → line ≡ two → two ≡ joined_onto (origin_texts h) one → one ≡ joined_onto (category_texts h) rest → rest ≡ []
     → line ≡ text_of_lines (codes "message" ∷ header_lines 0 (take 10 (header_of s)))
 origin-written s h line two one rest head whole origin category none =
@@ -79,7 +79,7 @@ counts-are f s observed compressed optional section2 subsets suffix first second
     ∙ ap (λ x. joined_onto (counts_texts (flag s.observed) (flag s.compressed) (flag x) subsets) suffix) there
     ∙ ap (λ x. joined_onto (counts_texts (flag s.observed) (flag s.compressed) (flag (is_some s.section2)) x) suffix) count
 
--- the last lines, laid from their end
+-- the last lines, written from their end
 pub date-written : (s : Sections) (h : Head) (line two one rest : List ℕ) → h ≡ s.head → line ≡ two → two ≡ joined_onto (date_texts h) one
     → one ≡ joined_onto (counts_texts (flag s.observed) (flag s.compressed) (flag (is_some s.section2)) s.subsets) rest → rest ≡ []
     → line ≡ text_of_lines (header_lines 10 (drop 10 (header_of s)))
@@ -97,7 +97,7 @@ no-section2 f o section2 is none =
     let there : section2 ≡ None = sym is ∙ ap (option_map f) none in
     ap (λ s. text_of_lines (map section2_line (runs_of 32 (unwrap_or s [])))) there
 
--- The texts that stand before the subsets, one after another.
+-- The texts before the subsets, one after another.
 module _ (s : Sections) where
   abbrev pub origin : List ℕ
   origin = text_of_lines (codes "message" ∷ header_lines 0 (take 10 (header_of s)))

@@ -1,4 +1,4 @@
--- The values of a header, and what holds of a place behind each line.
+-- The values of a header, and what holds of a place after each line.
 use Rattle.std.proofs.Common.{◌≡◌, ℕ, zero, suc, ◌+◌, ◌<◌, ◌≤◌, ◌==◌, ◌&&◌, not, nat_le, Bool, true, false, if◌then◌else◌, List, [], ◌∷◌, ◌++◌, length, refl, sym, ap, subst, ◌∙◌, arith, length-append}
 use Rattle.std.specs.Prelude.{slice_index, ◌||◌}
 use Rattle.std.specs.List.{AllByRecursion}
@@ -290,7 +290,7 @@ filling-so at subset d Closes sound h lines few written (ended, is, has) =
     closing-so at subset (with_entry d (Ends at)) (still-headed d (Ends at) h) (omega (arith, lines, one-entry d (Ends at))) (still-written d (Ends at) written) (by-number subset ended (with_entry d (Ends at)) is (one-more at ended d has)) (ends-last d.entries at)
 filling-so at subset d Wrong sound h lines few written has = tt
 
--- what holds of a place holds of the place behind the line
+-- what holds of a place holds of the place after the line
 pub turn-holds : (at : ℕ) (place : ParserState) (line : Line) → 0 < at → IsSound line → IsParserState at place → StandsAfter at (turn at place line)
 unfolding turn
 turn-holds at Between Passed some sound s = tt

@@ -47,7 +47,7 @@ unsigned-plain (suc n) (negsuc m) places count h e z =
     let more : count ≡ suc m = z ∙ ap (λ (t : Bool). if t then 0 else places) (not-zero n) ∙ e in
     ap (λ (k : ℕ). decimal (suc n) ++ replicate k 48) more
 
--- the same, laid before what is behind
+-- the same, before the rest
 pub written-pointed : (written digits suffix : List ℕ) (n : ℕ) (scale : ℤ) (places : ℕ) → int_lt (pos 0) scale ≡ true → places ≡ unsigned_abs scale → digits ≡ decimal n → written ≡ pointed places digits ++ suffix → written ≡ unsigned_text n scale ++ suffix
 written-pointed written digits suffix n scale places h e d is = is ∙ ap (λ t. pointed places t ++ suffix) d ∙ ap (λ t. t ++ suffix) (unsigned-pointed n scale places h e)
 
@@ -56,7 +56,7 @@ pub written-plain : (written line digits suffix : List ℕ) (n : ℕ) (scale : �
 written-plain written line digits suffix n scale places count h e z d zeros is =
     is ∙ ap (λ t. t ++ line) d ∙ ap (λ t. decimal n ++ t) zeros ∙ sym (append_assoc (decimal n) (replicate count 48) suffix) ∙ ap (λ t. t ++ suffix) (unsigned-plain n scale places count h e z)
 
--- behind its sign
+-- after its sign
 pub written-negative : (written line suffix : List ℕ) (v scale : ℤ) (size : ℕ) → int_lt v (pos 0) ≡ true → size ≡ unsigned_abs v → line ≡ unsigned_text size scale ++ suffix → written ≡ 45 ∷ line → written ≡ decimal_text_of v scale ++ suffix
 unfolding decimal_text_of
 written-negative written line suffix (pos n) scale size h e below is = absurd (true≢false (sym h ∙ none-below n))

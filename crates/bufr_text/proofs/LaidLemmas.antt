@@ -47,7 +47,7 @@ padded_one n fits =
     let none : 1 - length (decimal n) ≡ 0 = omega (arith, some) in
     ap (λ k. replicate k 48 ++ decimal n) none
 
--- with one more of the last digits laid
+-- with one more of the last digits written
 pub fraction_more : (places place left : ℕ) (written line all : List ℕ) → place < places → left < 2 ^ 64 → written ≡ (48 + left % 10) ∷ line
     → zero_padded (places + 1 - place) left ++ line ≡ all → zero_padded (places + 1 - (place + 1)) (left / 10) ++ written ≡ all
 fraction_more places place left written line all below fits is so =

@@ -206,7 +206,7 @@ above-dump s subsets given =
     )
     e
 
--- the law: behind a dump text the reading goes on between documents
+-- the law: after a dump text the reading goes on between documents
 pub text-spells : (s : Sections) (subsets : List (List dump.DumpItem)) (at : ℕ) (t : List ℕ) → IsDumpable s subsets
     → parse_lines at Between (lines_of (dump_text_of s subsets ++ t)) ≡ Complete (document_of at s subsets) ∷ parse_lines (at + length (dump_lines s subsets)) Between (lines_of t)
 text-spells s subsets at t given = ap (parse_lines at Between) (lines-back (dump_lines s subsets) t (above-dump s subsets given)) ∙ dump-spells s subsets at (lines_of t) given

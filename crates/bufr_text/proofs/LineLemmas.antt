@@ -25,7 +25,7 @@ pub section2-says : (xs : List ℕ) → AllByRecursion IsOctet xs → 0 < length
 unfolding line_of worded prefix_while suffix_while without_prefix
 section2-says xs all some few = rw (hex_back xs all, in_bounds xs 32 some few) refl
 
--- the text behind the word of a line of descriptors is empty or begins with a space
+-- the text after the word of a line of descriptors is empty or begins with a space
 pub descriptors-says : (ws : List ℕ) → AllByRecursion IsDescriptorWord ws → 0 < length ws → length ws ≤ 8 → line_of (descriptors_line ws) ≡ Descriptors ws
 unfolding line_of worded prefix_while suffix_while without_prefix descriptors_text
 descriptors-says [] all some few = absurd (omega arith)
@@ -81,7 +81,7 @@ behind_is (w ∷ word) (c ∷ text) rest h = by (c == w) refl h (behind_is word 
     by true is h more = let same : c ≡ w = grind (arith, nat_tests, is) in let there : text ≡ word ++ rest = more h in cc
     by false is h more = absurd cc h
 
--- what stands behind a key and a space is its value
+-- what is after a key and a space is its value
 pub value_there : (k : ℕ) (word line rest : List ℕ) (r : Option ℕ) → k < 20 → word ≡ (key_in keys k).name ++ 32 ∷ [] → Some rest ≡ without_prefix word line → r ≡ number_read rest
     → IfSome r (λ v. line_of line ≡ Header k v)
 value_there k word line rest None few is there read = tt

@@ -1,11 +1,11 @@
--- Which faults tell want of memory.
+-- Which faults report want of memory.
 use Rattle.std.proofs.Common.{◌≡◌, ℕ, List, Option, Some, None, Result, Ok, refl}
 use Rattle.bufr_text.specs.declared.encode_fault.DocumentFault.{DocumentFault}
 use Rattle.bufr_text.specs.declared.encode_fault.DocumentFault.TheVariants as fault
 use Rattle.bufr_text.specs.Encoding.{RefusedAt}
 use Rattle.bufr_text.specs.EncodingFault.{IsDocumentRefusal, told_refusal}
 
--- a fault that tells no refusal is want of memory
+-- a fault that reports no refusal is want of memory
 is_memory : (why : DocumentFault) → told_refusal why ≡ None → why ≡ fault.Memory
 is_memory (fault.WrongDescriptor line e) h = absurd cc h
 is_memory (fault.Number line) h = absurd cc h

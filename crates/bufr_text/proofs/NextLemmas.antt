@@ -1,4 +1,4 @@
--- What a call of a reader of dump texts tells.
+-- What a call of a reader of dump texts reports.
 use Rattle.std.proofs.Common.{inl, inr, ◌⊎◌, ◌≡◌, ℕ, ◌+◌, ◌-◌, ◌<◌, ◌≤◌, true, false, List, [], ◌∷◌, ◌++◌, length, refl, sym, ap, subst, ◌∙◌, arith, append-nil, length-append}
 use Rattle.std.specs.Prelude.{Option, Some, None, Result, Ok, Err, IfOk, IfSome}
 use Rattle.std.specs.Io.KnownBytes.{Consumes}
@@ -97,13 +97,13 @@ module _ (left mid : Option (List ℕ)) (old s s' : ReaderModel) (bs : List ℕ)
   end-next (Err (HeaderRange line)) so = absurd so
   end-next (Err (Run f)) so = absurd so
 
--- the end tells no document
+-- the end reports no document
 pub end-proper : (s s' : ReaderModel) (result : Result (Option Document) ReadFault) → HandlesEnd s s' result → IfOk result (λ found. IfSome found (λ document. IsProper document))
 end-proper s s' (Ok None) so = tt
 end-proper s s' (Ok (Some d)) so = absurd so
 end-proper s s' (Err f) so = tt
 
--- nothing is told, and nothing but the fault and the reads is new
+-- nothing is reported, and nothing but the fault and the reads is new
 quiet-reports : (s s' : ReaderModel) → s'.at ≡ s.at → s'.place ≡ s.place → s'.held ≡ s.held → s'.ended ≡ s.ended → ParsesHeldLines s s' []
 quiet-reports s s' at place held ended =
     let A : ℕ → Type 0 = λ k. TakesWholeLines s.at s.held k s'.held in
@@ -134,7 +134,7 @@ open-call left left' s s' results bs none read reports before after order =
       fed = λ _ e _. absurd (true≢false (sym e ∙ after));
     }
 
--- a read, behind what was read so far in a call
+-- a read, after what was read so far in a call
 module _ (left mid left' : Option (List ℕ)) (old s s' : ReaderModel) (bs bs' : List ℕ) (call : ReadsLines left mid old s [] bs) (waits : (s.reads ≡ old.reads) ⊎ ReadsOnlyIfNoLine left old s.reads bs) (open' : s.ended ≡ false) (clean : has_no_feed s.held ≡ true) where
   waited : (reads : ℕ) → reads ≡ s.reads + 1 → length s.held ≤ 4096 → length bs' ≤ 4096 → ReadsOnlyIfNoLine left old reads (bs ++ bs')
   waited reads made short few = record {
@@ -225,7 +225,7 @@ pub none-unless : {A : Type 0} → (x : Option A) → ((a : A) → x ≡ Some a 
 none-unless None not = refl
 none-unless (Some a) not = absurd (not a refl)
 
--- after the end was told it is told again
+-- after the end was reported it is reported again
 none-reported : (left : Option (List ℕ)) (old new : ReaderModel) (results : List ParseResult) (bs : List ℕ) (left' : Option (List ℕ)) → ReadsLines left left' old new results bs → HasNoMoreLines old → results ≡ []
 none-reported left old new results bs left' call (ended, held, none) =
     let kept = call.kept ended in
@@ -251,7 +251,7 @@ done-again left left' old new (Err (Run Write)) next done = absurd next.reads
 done-again left left' old new (Err (Run InputTooLong)) next done = absurd (true≢false (sym (next.reads.kept done.0).0 ∙ next.ends.1.0))
 done-again left left' old new (Err (Run Memory)) next done = absurd (omega (arith, next.reads.2 done.0, ap length done.1))
 
--- the documents that calls told from the beginning
+-- the documents that calls reported from the beginning
 pub reported-first : (left left' : Option (List ℕ)) (s : ReaderModel) (results : List ParseResult) (bs t : List ℕ) → ReadsLines left left' new_reader s results bs → (s.ended ≡ true → t ≡ []) → documents_of (bs ++ t) ≡ results ++ parse (position_of s) t
 reported-first left left' s results bs t call none = call.goes.whole t none
 

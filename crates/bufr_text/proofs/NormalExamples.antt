@@ -54,7 +54,7 @@ compressed_flag = refl
 plain_flag : header_as Plain (1 ∷ 2 ∷ 3 ∷ 4 ∷ 5 ∷ 6 ∷ 7 ∷ 8 ∷ 9 ∷ 10 ∷ 11 ∷ 12 ∷ 13 ∷ 14 ∷ 15 ∷ 16 ∷ 17 ∷ 1 ∷ 19 ∷ 20 ∷ []) ≡ 1 ∷ 2 ∷ 3 ∷ 4 ∷ 5 ∷ 6 ∷ 7 ∷ 8 ∷ 9 ∷ 10 ∷ 11 ∷ 12 ∷ 13 ∷ 14 ∷ 15 ∷ 16 ∷ 17 ∷ 0 ∷ 19 ∷ 20 ∷ []
 plain_flag = refl
 
--- the scale's places, and zeros in front are gone
+-- the scale's places, and leading zeros are gone
 two_places : items_in (element 3173 bare) (number 24 3173 (codes "0288.1") ∷ Ends 25 ∷ missing 26 3173 ∷ Ends 27 ∷ [])
     ≡ codes "subset 1\n012101 288.10  # AIR TEMPERATURE [K]\nsubset 2\n012101 MISSING  # AIR TEMPERATURE [K]\n"
 unfolding items_in number missing digits decimal_text_of unsigned_text decimal_value_of
@@ -68,7 +68,7 @@ short_text : items_in (element 271 bare) (Holds (draft 24 271 (text_form (codes 
 unfolding items_in quoted digits
 short_text = refl
 
--- a factor tells how many items follow
+-- a factor says how many items follow
 factor : items_in (delayed 7937 (element 257 bare) bare) (number 24 7937 (codes "02") ∷ number 25 257 (codes "1.0") ∷ number 26 257 (codes "2") ∷ Ends 27 ∷ [])
     ≡ codes "subset 1\n031001 2  # FACTOR [Numeric]\n001001 1  # WMO BLOCK NUMBER [Numeric]\n001001 2  # WMO BLOCK NUMBER [Numeric]\n"
 unfolding items_in number digits decimal_text_of unsigned_text decimal_value_of

@@ -251,7 +251,7 @@ module _ (form : Form) (records : List Record) (table : List Row) (sequences : L
     abbrev message_with : (line : ℕ) → Head → (List ℕ → MessageParts) → Result (List Bool) FaultAt → Result (List ℕ) RefusedAt
     message_with line head parts r = told_of_items r >>= λ b. message_of line head (parts (octets_of_bits b))
 
-    -- the line stands in a refusal alone
+    -- the line is in a refusal alone
     other_line : (line : ℕ) (head : Head) (parts : List ℕ → MessageParts) (r : Result (List Bool) FaultAt) → message_with line head parts r ≡ Ok octets → message_with at head parts r ≡ Ok octets
     other_line line head parts (Err why) e = absurd cc
     other_line line head parts (Ok b) e = by (nat_lt max_octets (message_size head.edition (parts (octets_of_bits b)))) e

@@ -1,4 +1,4 @@
--- What is told while the end is not known is the first of what is told of the whole.
+-- What is reported while the end is not known is the first of what is reported of the whole.
 use Rattle.std.proofs.Common.{◌≡◌, ℕ, ◌+◌, ◌<◌, ◌==◌, ◌&&◌, nat_lt, not, Bool, true, false, List, [], ◌∷◌, ◌++◌, length, refl, sym, ap, ◌∙◌, arith, append_assoc}
 use Rattle.std.proofs.lemmas.Bool.Decides.{nat_tests}
 use Rattle.bufr_text.specs.Documents.{ParserState, Between, Heading, Laying, Filling, Stopped, ParseResult, turn, line_within_limit, parse_lines, place_after, told_at, lines_of, prepend_to_line, split_of, onto_split, parse_open_lines, documents_of, open_documents_of}
@@ -44,7 +44,7 @@ IsFront results all = (more : List ParseResult) × (all ≡ results ++ more)
 prefix-more : (x results all : List ParseResult) → IsFront results all → IsFront (x ++ results) (x ++ all)
 prefix-more x results all (more, e) = (more, ap (λ (z : List ParseResult). x ++ z) e ∙ sym (append_assoc x results more))
 
--- a rest that is short tells nothing yet, one that is long is refused either way
+-- a rest that is short reports nothing yet, one that is long is refused either way
 rest-prefix : (at : ℕ) (place : ParserState) (rest t : List ℕ) (b : Bool) → nat_lt 4096 (length rest) ≡ b → Reads place → has_no_feed rest ≡ true → IsFront (parse_open_lines at place [] rest) (parse_lines at place (lines_of (rest ++ t)))
 unfolding parse_open_lines
 rest-prefix at place rest t true h r clean =
@@ -65,7 +65,8 @@ lines-prefix [] at place rest t clean = any-prefix at place rest t clean
 lines-prefix (line ∷ lines) at place rest t clean =
     prefix-more (told_at at (turn at place (line_within_limit line))) _ _ (lines-prefix lines (at + 1) (place_after (turn at place (line_within_limit line))) rest t clean)
 
--- the documents that are told while the end is not known stay the first ones, whatever comes behind
+-- the documents that are reported while the end is not known stay the first ones, whatever comes
+-- after
 pub open-prefix : (s t : List ℕ) → IsFront (open_documents_of s) (documents_of (s ++ t))
 open-prefix s t =
     let (more, e) = lines-prefix (split_of s).whole 1 Between (split_of s).rest t (rest-clean s) in

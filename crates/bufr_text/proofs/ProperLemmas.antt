@@ -45,7 +45,7 @@ drafts-octets [] all = tt
 drafts-octets (Holds item ∷ es) (h, all) = onto-octets item (subsets_of es) h (drafts-octets es all)
 drafts-octets (Ends line ∷ es) (h, all) = (tt, drafts-octets es all)
 
--- nothing was read behind the header
+-- nothing was read after the header
 pub written-bare : (d : Document) → IsBare d → HasLineGroups d
 written-bare d bare = record {
   local1 = subst (λ (l : List ℕ). AllByRecursion IsOctet l) (sym bare.local1) tt;

@@ -79,7 +79,7 @@ pub ◌⨾◌ : {a b c : LineModel} {s t : List ℕ} → Pushes a s b → Pushes
   sink = second.sink ∙ first.sink;
 }
 
--- a text was laid after what is held
+-- a text was written after what is held
 holds_from : (a b : LineModel) (text : List ℕ) (r : Result Unit RunFault) → a.status ≡ r → b.status ≡ a.status → b.taken ≡ a.taken → b.failures ≡ a.failures → b.empty_writes ≡ a.empty_writes → b.held ≡ a.held ++ text → PushesFrom r a text b
 holds_from a b text (Ok x) is same taken failures empty held = record {
   moves = rw (same, is) (record { prefix = []; parts = sym held; gains = rw taken (Appends-nil a.taken) });
@@ -140,7 +140,7 @@ all_written {a = a} {b = b} {c = c} {text = text} {r = r} x pushed handed ok non
     let from = rw ok at pushes.from in
     rw (← was, is, ends) (rw append-nil at (all_moved a c (text ++ []) c.status none empty from.moves))
 
--- what is held with a front of the free octets filled
+-- what is held with a prefix of the free octets filled
 pub held_filled : (octets free text : List ℕ) (len n k : ℕ) → len ≤ length octets → n ≤ length free → take n free ≡ text → take (len + n) (put_mid len k octets free) ≡ take len octets ++ text
 held_filled octets free text len n k within fits is =
     let ahead : length (take len octets) ≡ len = length-take-le len octets within in

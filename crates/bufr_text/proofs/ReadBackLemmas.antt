@@ -52,7 +52,7 @@ section2_octets true octets h = h
 section2_octets false octets h = tt
 
 module _ (records : List Record) (table : List Row) (template : Tree) (rows : AreRows records table) (legal : IsLegal template) (drafts : List Subset) (out : List Bool) (texts : AllHaveOctets drafts) where
-  -- the bits of the data, whatever is behind them, have a reading that says what the drafts say
+  -- the bits of the data, whatever is after them, have a reading that says what the drafts say
   record IsFilled (compressed : Bool) : Type 0 where
     values : Values
     said : AreValuesOf values drafts

@@ -35,7 +35,7 @@ range-kept old new len a b order within same =
     ∙ ap (drop a) (sym (take-take b len new within) ∙ ap (take b) same)
     ∙ sym (part-prefix old a b order)
 
--- where a reader stands that goes on
+-- where a reader is that goes on
 pub place-sound : (f : Option ReadFault) (progress : Progress) → f ≡ None → place_now f progress ≡ place_with progress.place progress.parts
 place-sound None progress e = refl
 place-sound (Some f) progress e = absurd cc
@@ -44,7 +44,7 @@ place-sound (Some f) progress e = absurd cc
 abbrev pub state : (at : ℕ) → documents.ParserState → List ℕ → Bool → Option ReadFault → ℕ → ReaderModel
 state at place held ended fault reads = record { at = at; place = place; held = held; ended = ended; fault = fault; reads = reads }
 
--- what lines tell that were taken
+-- what lines report that were taken
 pub takes-reports : (old new : Progress) (f f' : Option ReadFault) (items held : List ℕ) (start filled len : ℕ) (ended : Bool) (reads : ℕ) (step : TakeResult) (p : documents.ParserState)
     → TakesLines old new held len step → f ≡ None → held ≡ slice_range items start filled → filled ≤ length items → p ≡ place_behind step new
     → ParsesHeldLines (state old.at (place_now f old) (slice_range items start filled) ended f reads) (state new.at p (slice_range items (start + len) filled) ended f' reads) (step_results step new.parts)
@@ -82,7 +82,7 @@ wants-here old f items held start filled ended reads w none is =
       next = record { line = w.line; rest = w.rest; held = w.holds; single = w.single; adds_to = w.adds_to };
     }
 
--- the `end` line of a document that they tell
+-- the `end` line of a document that they report
 pub takes-end : (old new : Progress) (items held : List ℕ) (start filled len : ℕ) → TakesLines old new held len taken.Gives → held ≡ slice_range items start filled → filled ≤ length items → TakesEndLine old.at (slice_range items start filled) new.at (slice_range items (start + len) filled)
 takes-end old new items held start filled len takes is within =
     let long : length held ≡ filled - start = ap length is ∙ part-length items start filled within in
@@ -173,14 +173,14 @@ pub grown : (old new room : List ℕ) (len : ℕ) → new ≡ take 8192 old ++ r
 grown old new room len is size few =
     ap (take len) (is ∙ ap (λ (l : List ℕ). l ++ room) (take_all 8192 old (omega (arith, size, few)))) ∙ take_at old room len (sym size)
 
--- a line feed behind what is held
+-- a line feed after what is held
 pub feed-read : (old new rest : List ℕ) (a b : ℕ) → slice_range old a b ≡ rest → a ≤ b → b ≤ length old → take (b + 1) new ≡ take b old ++ 10 ∷ [] → slice_range new a (b + 1) ≡ rest ++ 10 ∷ []
 feed-read old new rest a b is order within same =
     part-prefix new a (b + 1) (omega (arith, order)) ∙ ap (drop a) same
     ∙ drop-append-le a (take b old) (10 ∷ []) (omega (arith, length-take b old, order, within))
     ∙ ap (λ (l : List ℕ). l ++ 10 ∷ []) (sym (part-prefix old a b order) ∙ is)
 
--- octets behind what is held
+-- octets after what is held
 pub some-read : (items items1 items2 rest bs : List ℕ) (place filled slid n : ℕ) → slice_range items place filled ≡ rest → slid ≤ place → place ≤ filled → filled - slid ≤ length items1
     → slice_range items1 (place - slid) (filled - slid) ≡ slice_range items place filled
     → take (filled - slid + length bs) items2 ≡ take (filled - slid) items1 ++ bs → n ≡ length bs

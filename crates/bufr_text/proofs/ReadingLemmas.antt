@@ -6,7 +6,7 @@ use Rattle.bufr_text.specs.Line.{Line, Passed, Opens, Header, Local1, Section2, 
 use Rattle.bufr_text.specs.Documents.{ParserState, Between, Heading, Laying, Filling, Stopped, WalkGoes, Faults, ParseResult, Refused, NotAllowed, turn, line_within_limit, parse_lines, place_after, told_at, told_at_end, lines_of, prepend_to_line, Split, onto_split, octet_onto_split, split_of, parse_open_lines}
 use Rattle.bufr_text.specs.Reading.{has_no_feed, ReaderPosition, parse, parse_open, ContinuesParse}
 
--- behind a fault nothing is told
+-- after a fault nothing is reported
 stays-stopped : (at : ℕ) (meaning : Line) → turn at Stopped meaning ≡ WalkGoes Stopped
 unfolding turn
 stays-stopped at Passed = refl
@@ -70,7 +70,7 @@ still-open : (b c : Bool) → (b ≡ true → c ≡ true) → c ≡ false → b 
 still-open true c kept unended = sym (kept refl) ∙ unended
 still-open false c kept unended = refl
 
--- what was told is followed by what is told next
+-- what was reported is followed by what is reported next
 pub goes-further : (a b c : ReaderPosition) (x y : List ParseResult) → (b.ended ≡ true → c.ended ≡ true) → ContinuesParse a b x → ContinuesParse b c y → ContinuesParse a c (x ++ y)
 goes-further a b c x y kept f g = record {
   whole = λ t none. f.whole t (λ e. none (kept e)) ∙ ap (λ (z : List ParseResult). x ++ z) (g.whole t none) ∙ sym (append_assoc x y (parse c t));
@@ -189,7 +189,7 @@ ends-inside at place = record {
       ∙ ap (λ (z : List ParseResult). told_at_end at place ++ z) (sym (stopped-reports at (lines_of t)));
 }
 
--- where no whole line is held and the rest is short, nothing is told before the end is known
+-- where no whole line is held and the rest is short, nothing is reported before the end is known
 rest-alone : (held : List ℕ) → has_no_feed held ≡ true → split_of held ≡ record { whole = []; rest = held }
 unfolding split_of
 rest-alone [] h = refl

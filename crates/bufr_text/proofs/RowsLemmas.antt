@@ -20,7 +20,7 @@ pub record IsRead (row : Row) : Type 0 where
   pub good : limits.IsRow row
   pub element : row.fxy < 16384
 
--- a test that was passed, and the value behind it
+-- a test that was passed, and the value after it
 passed : {A P : Type 0} (test : Bool) (x y : A) → only_if test x ≡ Some y → (test ≡ true → x ≡ y → P) → P
 passed true x y is go = go refl (cc is)
 passed false x y is go = absurd (cc is)

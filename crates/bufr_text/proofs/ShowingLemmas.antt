@@ -47,7 +47,7 @@ together-text table j [] = refl
 together-text table j (i ∷ items) =
     ap (λ l. (call_line (item_call (view_of table i.spec (content_at j i.content))) ++ 10 ∷ []) ++ l) (together-text table j items)
 
--- a subset, and those behind it
+-- a subset, and those after it
 subset-text : (number : ℕ) (calls more : List Timed) (lines suffix : List (List ℕ)) → calls_text calls ≡ text_of_lines lines → calls_text more ≡ text_of_lines suffix
     → (subset_line number ++ 10 ∷ []) ++ calls_text (calls ++ more) ≡ text_of_lines (subset_line number ∷ (lines ++ suffix))
 subset-text number calls more lines suffix here there =
@@ -91,7 +91,7 @@ stretches-text s r values =
     (stretches-append (map call_stretch (calls_of r values)) (stretch (turns_shown r values) (codes "end\n") ∷ []) ∙ ap (λ l. l ++ codes "end\n") (reading-text r values))
     ∙ dump-text-is s (dump_items_of r values)
 
--- stretches that were written are a front of their text
+-- stretches that were written are a prefix of their text
 pub stretches-prefix : {X : Type 0} (a b : Option (List ℕ)) (stretches : List Stretch) (turns : ℕ) (r : Result X RunFault) (steps : ℕ) → WritesStretches a b stretches turns r steps → WritesPrefix a b (stretches_text stretches) r
 stretches-prefix a b stretches turns (Ok x) steps writes = writes.0
 stretches-prefix a b stretches turns (Err f) steps stops =
@@ -100,7 +100,7 @@ stretches-prefix a b stretches turns (Err f) steps stops =
     let P : List ℕ → Type 0 = λ t. GrowsByPrefix a b t in
     subst P (sym text) (prefix-after a stops.between b (stretches_text stops.given) (stops.next.text ++ stretches_text stops.rest) stops.whole (prefix-longer stops.between b stops.next.text (stretches_text stops.rest) stops.prefix))
 
--- the dump text or a front of it, from its stretches
+-- the dump text or a prefix of it, from its stretches
 pub dump-writes : {X : Type 0} (s : Sections) (read : outcome.Read) (values : Values) (a b : Option (List ℕ)) (r : Result X RunFault) (steps : ℕ) → WritesStretches a b (stretches_of s read values) (turns_shown read values) r steps
     → WritesPrefix a b (dump_text_of s (dump_items_of read values)) r
 dump-writes s read values a b r steps writes =
@@ -115,7 +115,7 @@ pub record Left (p : SinkModel) (calls : List Timed) (turns : ℕ) (r : Result (
   pub line : p'.line ≡ p.line
   pub writer : p'.writer ≡ p.writer
 
--- one call more in front
+-- one call more at the start
 left-writes : (p mid p' : SinkModel) (t : Timed) (calls : List Timed) (turns : ℕ) (r : Result (Unit {0}) (ShowFault RunFault)) (steps : ℕ) → Appends p.taken mid.taken (call_line t.call ++ 10 ∷ [])
     → WritesStretches mid.taken p'.taken (map call_stretch calls) turns (outcome_of r) steps → WritesStretches p.taken p'.taken (map call_stretch (t ∷ calls)) turns (outcome_of r) steps
 left-writes p mid p' t calls turns (Ok x) steps one two = (Appends-trans p.taken mid.taken p'.taken (call_line t.call ++ 10 ∷ []) (calls_text calls) one two.0, two.1)
@@ -216,7 +216,7 @@ module _ (a b : Option (List ℕ)) (head last : Stretch) (middle : List Stretch)
         made = here.made;
       })
 
-  -- all but the last stretch were written, and then that one, or a front of it
+  -- all but the last stretch were written, and then that one, or a prefix of it
   pub dump-end : {X : Type 0} (c d : Option (List ℕ)) (r : Result X RunFault) (steps : ℕ) → Appends a b head.text → Appends b c (stretches_text middle) → WritesPrefix c d last.text r → steps ≡ ticked 0 turns → last.turns ≡ turns → WritesStretches a d (head ∷ (middle ++ last ∷ [])) turns r steps
   dump-end c d (Ok x) steps whole calls writes made is =
       let all : head.text ++ (stretches_text middle ++ last.text) ≡ stretches_text (head ∷ (middle ++ last ∷ [])) =

@@ -22,7 +22,7 @@ said-is line meaning is =
     let short : nat_lt 4096 (length line) ≡ false = grind (arith, nat_tests, is.short) in
     rw short is.says
 
--- the reading goes on behind a line, or gives a document
+-- the reading goes on after a line, or gives a document
 pub goes : (at : ℕ) (place next : ParserState) (line : List ℕ) (meaning : Line) (more : List (List ℕ)) → IsLineOf line meaning → turn at place meaning ≡ WalkGoes next
     → parse_lines at place (line ∷ more) ≡ parse_lines (at + 1) next more
 unfolding parse_lines
@@ -180,7 +180,7 @@ subsets-run (items ∷ subsets) n d at more stated few (here, all) =
     (append_assoc (d.entries ++ Ends at ∷ []) own (Ends (at + 1 + length items) ∷ later) ∙ append_assoc d.entries (Ends at ∷ []) (own ++ (Ends (at + 1 + length items) ∷ later)))
     ∙ ap (λ k. Complete (with_entries d (Ends at ∷ subset_entries at (items ∷ subsets))) ∷ parse_lines k Between more) (omega (arith, subset-lines-count (n + 1) items subsets))
 
--- the subsets and the end, where they stand behind the parts before them
+-- the subsets and the end, where they are after the parts before them
 pub subsets-written : (subsets : List (List dump.DumpItem)) (part : ℕ) (d : Document) (at : ℕ) (more : List (List ℕ)) → d.entries ≡ [] → length subsets ≡ subsets_in d → subsets_in d < 65536 → AllByRecursion (λ items. AllByRecursion IsItem items) subsets
     → parse_lines at (Laying part d) (subset_lines 1 subsets ++ codes "end" ∷ more)
     ≡ Complete (with_entries d (subset_entries at subsets)) ∷ parse_lines (at + length (subset_lines 1 subsets) + 1) Between more

@@ -111,7 +111,7 @@ record IsHeading (d : Document) (own : List NumberedLine) : Type 0 where
   in_order : says header ≡ header_says 0 d.header
   bare : IsBare d
 
--- the parts before the subsets stand in their order
+-- the parts before the subsets are in their order
 record IsLaying (part : ℕ) (d : Document) (own : List NumberedLine) : Type 0 where
   with_open_group : IsBegun d own
   before_section2 : part ≡ 0 → with_open_group.section2 ≡ []
@@ -128,7 +128,7 @@ record IsFilling (subset : ℕ) (d : Document) (own : List NumberedLine) : Type 
   counted : subset ≡ length done + 1
   entries : d.entries ≡ entries_heard done last.at ++ map item_entry last.items
 
--- which lines stand before a place in a document
+-- which lines are before a place in a document
 abbrev IsOpen : ParserState → List NumberedLine → Type 0
 IsOpen Between own = own ≡ []
 IsOpen (Heading d) own = IsHeading d own

@@ -66,7 +66,7 @@ passes-feed at at' held from n p feed =
     let P : List ℕ → Type 0 = λ t. TakesWholeLines at held (at' + 1) t in
     subst P (drop-on (n + 1) from held) (passes-line at at' held (drop from held) (take n (drop from held)) (drop (n + 1) (drop from held)) p feed.1 feed.2)
 
--- what holds behind a turn
+-- what holds after a turn
 holds-after : (new : Progress) (t : documents.LineEffect) (line : List ℕ) → IsParserState new.at (place_with new.place new.parts) → 0 < new.at → t ≡ documents.turn new.at (place_with new.place new.parts) (line_within_limit line) → StandsAfter new.at t
 holds-after new t line s some e = subst (StandsAfter new.at) (sym e) (turn-holds new.at (place_with new.place new.parts) (line_within_limit line) some (said-sound line) s)
 

@@ -23,7 +23,7 @@ use Rattle.bufr_text.specs.Encoding.{RefusedAt}
 use Rattle.bufr_text.specs.EncodingFault.{told_of_draft}
 use Rattle.bufr_text.specs.EncodingCost.{turned_one, turned_at, turns_filled, CountsSteps}
 
--- ---- the more is told, the more turns there are
+-- ---- the more is reported, the more turns there are
 
 -- the same turns, and perhaps more where the counts ran out
 abbrev Extends : Turns → Turns → Type 0
@@ -208,7 +208,7 @@ pub all_made : (o : Option RefusedAt) (before turns after : ℕ) → after ≡ t
 all_made None before turns after h = omega (arith, h)
 all_made (Some f) before turns after h = h
 
--- all turns were made where a fault is told
+-- all turns were made where a fault is reported
 pub makes_so : (o : Option FaultAt) (results : Option RefusedAt) (before turns after : ℕ) → results ≡ option_map told_of_draft o → after ≤ ticked before turns → ((f : FaultAt) → o ≡ Some f → after ≡ ticked before turns) → CountsSteps results before turns after
 makes_so None results before turns after e few h = subst (λ t. CountsSteps t before turns after) (sym e) few
 makes_so (Some f) results before turns after e few h = subst (λ t. CountsSteps t before turns after) (sym e) (h f refl)

@@ -38,7 +38,7 @@ Writes-stop a b s t first r f writes is same =
     let here = rw is at writes in
     rw same (here.0, prefix-more a b s t here.1)
 
--- a front of the octets was written, and the rest is left
+-- a prefix of the octets was written, and the rest is left
 pub record WrittenSoFar (old now : Option (List ℕ)) (octets rest : List ℕ) : Type 0 where
   pub prefix : List ℕ
   pub parts : octets ≡ prefix ++ rest

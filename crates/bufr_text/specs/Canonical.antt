@@ -31,7 +31,7 @@ AreWritten (apart subsets) bits suffix = HaveNoMinusZero (flat_map (λ items. it
 AreWritten (together items) bits suffix = ArePacked items bits suffix
 
 -- reserved octets and bits are zero, no octet is left over, and the data take the least octets,
--- with zero bits behind them; in edition 3 the least that make section 4 even
+-- with zero bits after them; in edition 3 the least that make section 4 even
 -- rule: canonical
 pub record IsCanonical (m : List ℕ) (s : Sections) (values : Values) (used : ℕ) : Type 0 where
   pub plain : IsPlain m

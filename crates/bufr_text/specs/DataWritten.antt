@@ -20,7 +20,7 @@ use Rattle.bufr_text.specs.Encoding.{data_bits, told_of_items}
 use Rattle.bufr_text.specs.EncodingFault.{IsDocumentRefusal, told_refusal}
 use Rattle.bufr_text.specs.EncodingCost.{count_filled, count_data, turns_filled, turns_data, CountsSteps}
 
--- the fault of a walk that stopped where the next entry stands on a line; want of memory is none
+-- the fault of a walk that stopped where the next entry is on a line; want of memory is none
 abbrev pub told_stop : (line : ℕ) → WalkStop DraftFault → Option FaultAt
 told_stop line (stops.Width fxy) = Some (at_line line (walk_refused (refusal.Width fxy)))
 told_stop line (stops.Defining fxy) = Some (at_line line (walk_refused (refusal.Defining fxy)))
@@ -60,7 +60,7 @@ WritesData places compressed course subsets (Err why) steps =
 
 -- ---- one subset
 
--- what is left behind the end of the next subset
+-- what is left after the end of the next subset
 abbrev pub left_behind : List DraftEntry → List DraftEntry
 left_behind [] = []
 left_behind (Holds d ∷ more) = left_behind more

@@ -14,8 +14,8 @@ pub data TextLineFault : Type 0 where
   SubsetCount : TextLineFault
   HeaderRange : TextLineFault
 
--- where the reading stands: between documents, in the header, in the parts before the subsets (0
--- local use, 1 section 2, 2 descriptors), in a subset of this number, or behind a fault
+-- where the reading is: between documents, in the header, in the parts before the subsets (0
+-- local use, 1 section 2, 2 descriptors), in a subset of this number, or after a fault
 pub data ParserState : Type 0 where
   Between : ParserState
   Heading : Document → ParserState
@@ -78,7 +78,7 @@ beginning read d subset =
 abbrev pub closing : (read : ℕ) → Document → LineEffect
 closing read d = if read == subsets_in d then Gives d else Faults SubsetCount
 
--- a line behind the header and before the first subset
+-- a line after the header and before the first subset
 -- rule: reading-section2
 abbrev pub laying : (part : ℕ) → Document → Line → LineEffect
 laying part d (Local1 octets) =
@@ -160,7 +160,7 @@ parse_lines at place (line ∷ more) =
     turn at place (line_within_limit line) in told_at at here ++ parse_lines (at + 1)
     (place_after here) more
 
--- one more octet in front of the first line
+-- one more octet before the first line
 abbrev pub prepend_to_line : ℕ → List (List ℕ) → List (List ℕ)
 prepend_to_line c [] = (c ∷ []) ∷ []
 prepend_to_line c (line ∷ more) = (c ∷ line) ∷ more
@@ -185,12 +185,12 @@ parse_open_lines at place (line ∷ more) rest =
     turn at place (line_within_limit line) in told_at at here
     ++ parse_open_lines (at + 1) (place_after here) more rest
 
--- the lines of a text that end by a line feed, and what is behind the last of them
+-- the lines of a text that end by a line feed, and what is after the last of them
 pub record Split : Type 0 where
   pub whole : List (List ℕ)
   pub rest : List ℕ
 
--- one more octet in front of the first line, or of the rest where there is no line
+-- one more octet before the first line, or of the rest where there is no line
 abbrev pub onto_split : ℕ → List (List ℕ) → List ℕ → Split
 onto_split c [] rest = record { whole = []; rest = c ∷ rest }
 onto_split c (line ∷ more) rest = record { whole = (c ∷ line) ∷ more; rest = rest }

@@ -21,7 +21,7 @@ pub record ReadsMessage (s : Sections) (r : outcome.Read) : Type 0 where
   pub values : Values
   pub read : IsReading (course_of r) r.source values r.bits
 
--- the text was written, or the front of it where the writer failed or memory ran out
+-- the text was written, or a prefix of it where the writer failed or memory ran out
 abbrev pub WritesPrefix : {X : Type 0} → (old new : Option (List ℕ)) → List ℕ
     → Result X RunFault → Type 0
 WritesPrefix old new text (Ok x) = Appends old new text
@@ -65,7 +65,7 @@ stretches_of s r values =
 abbrev pub stretches_text : List Stretch → List ℕ
 stretches_text stretches = flat_map (λ p. p.text) stretches
 
--- the writing stopped: the stretches before one were written whole, of that one a front, and the
+-- the writing stopped: the stretches before one were written whole, of that one a prefix, and the
 -- steps are the turns before it
 pub record WritesUpTo (old new : Option (List ℕ)) (stretches : List Stretch)
     (steps : ℕ) : Type 0 where

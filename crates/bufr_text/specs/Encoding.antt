@@ -44,7 +44,7 @@ abbrev pub ◌>>=◌ : {A B : Type 0} → Result A RefusedAt → (A → Result B
 (Ok a) >>= next = next a
 (Err why) >>= next = Err why
 
--- a fault of the template is told at the line of `message`
+-- a fault of the template is reported at the line of `message`
 -- rule: fault-56
 abbrev pub told_of_template : ℕ → Result Tree TemplateFault → Result Tree RefusedAt
 told_of_template line (Ok template) = Ok template

@@ -17,7 +17,7 @@ use Rattle.bufr_text.specs.declared.step.LineRefusal.TheVariants as refusal
 use Rattle.bufr_text.specs.declared.fault.ReadFault.{ReadFault}
 use Rattle.bufr_text.specs.declared.fault.ReadFault.TheVariants.{Line, SubsetCount, HeaderRange, Run}
 
--- where a reader stands: behind a refused line nothing more is told
+-- where a reader is: after a refused line nothing more is reported
 abbrev pub place_now : Option ReadFault → Progress → ParserState
 place_now None progress = place_with progress.place progress.parts
 place_now (Some (Line line)) progress = Stopped
@@ -37,12 +37,12 @@ pub record IsProgress (progress : Progress) (held reads : ℕ) : Type 0 where
   pub some : 0 < progress.at
   pub near : progress.at + held ≤ 4096 * reads + 1
 
--- Lines were taken and tell something.
+-- Lines were taken and report something.
 pub record ParsesHeldLines (old new : ReaderModel) (results : List ParseResult) : Type 0 where
   pub goes : ContinuesParse (position_of old) (position_of new) results
   pub passes : TakesWholeLines old.at old.held new.at new.held
 
--- Lines were taken and tell nothing, and the next one adds to the document.
+-- Lines were taken and report nothing, and the next one adds to the document.
 pub record WantsHere (old : ReaderModel) : Type 0 where
   pub mid : ReaderModel
   pub taken : ParsesHeldLines old mid []
@@ -86,7 +86,7 @@ ReadEndsText left' old new bs (Err InputTooLong) = ⊥
 ReadEndsText left' old new bs (Err Memory) =
     (new.reads ≡ old.reads) × (bs ≡ []) × (new.ended ≡ false) × (new.reads ≡ 0)
 
--- One read: octets come behind those that are held, or the end was reached, which ends the last
+-- One read: octets come after those that are held, or the end was reached, which ends the last
 -- line.
 pub record ReadsMoreText (left left' : Option (List ℕ)) (old new : ReaderModel)
     (result : Result (Unit {0}) RunFault) (bs : List ℕ) : Type 0 where

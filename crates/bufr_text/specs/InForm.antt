@@ -32,7 +32,7 @@ pub record HasReadingIn (form : Form) (table : List Row) (s : Sections) (templat
     (values : Values) (written : List ℕ) : Type 0 where
   pub few : length written ≤ max_octets
   pub octets : AllByRecursion IsOctet written
-  -- in a stream it is one message, whatever is behind it
+  -- in a stream it is one message, whatever is after it
   pub framed : (at : ℕ) (suffix : List ℕ) → scan_from 0 at (written ++ suffix)
       ≡ FrameAt at written ∷ scan_from 0 (at + length written) suffix
   pub sections : Sections
@@ -48,7 +48,7 @@ pub record HasReadingIn (form : Form) (table : List Row) (s : Sections) (templat
 
 -- what the document of an accepted message may be refused for in a form: in the one that it has,
 -- nothing; else the length, and in compressed data factors that differ and contents that no
--- increments tell apart
+-- increments distinguish
 abbrev pub IsForForm : Form → DocumentRefusal → Type 0
 IsForForm form.AsWritten why = ⊥
 IsForForm form.Plain (by_template why) = ⊥

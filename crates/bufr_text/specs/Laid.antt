@@ -1,4 +1,4 @@
--- The texts of which the header lines are laid (the name of a key behind its line feed, and its
+-- The texts of which the header lines are written (the name of a key after its line feed, and its
 -- value), and the room for the line of an item.
 -- Cited by private steps only.
 use Rattle.std.specs.Prelude.{ℕ, ◌+◌, ◌*◌, List, [], ◌∷◌, Option, Some, None, codes, decimal, length, unsigned_abs}
@@ -37,7 +37,7 @@ counts_texts observed compressed optional subsets =
     ∷ codes "\noptional " ∷ optional
     ∷ codes "\nsubsets " ∷ decimal subsets ∷ codes "\n" ∷ []
 
--- how many octets a descriptor and what stands for a value take at most
+-- how many octets a descriptor and the form of a value take at most
 abbrev pub most_value : Value → ℕ
 most_value (value.Number n scale) = 50 + unsigned_abs scale
 most_value (value.Text t) = 4 * length t.now + 9

@@ -1,7 +1,7 @@
 -- ---- texts and their words
 -- words and values that lines are made of, and how each is read back
 pub mod Grammar
--- private: a line laid from its end, octet by octet
+-- private: a line written from its end, octet by octet
 pub mod Laid
 -- the line that lists a message
 pub mod LsLine
@@ -23,7 +23,7 @@ pub mod DumpWritten
 -- private: a writer of a dump, and what one call of a showing does to it
 pub mod Pen
 -- ---- what lines spell
--- what a line says, apart from where it stands; the keys of the header
+-- what a line says, apart from where it is; the keys of the header
 pub mod Line
 -- a message as its text gives it, not looked at yet
 pub mod Document
@@ -68,7 +68,7 @@ pub mod Reader
 pub mod Form
 -- the message that a document is encoded to, or its first refusal
 pub mod Encoding
--- the faults of an encoding and their numbers, and which refusal each tells
+-- the faults of an encoding and their numbers, and which refusal each reports
 pub mod EncodingFault
 -- the bits and the turns of an encoding up to its first refusal
 pub mod EncodingCost

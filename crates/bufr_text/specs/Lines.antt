@@ -17,20 +17,20 @@ pub record LineModel : Type 0 where
   pub status : Result Unit RunFault
   pub sink : ℕ
 
--- a front of the text was written, and the rest is held
+-- a prefix of the text was written, and the rest is held
 pub record MovesPrefix (before after : Option (List ℕ)) (text held : List ℕ) : Type 0 where
   pub prefix : List ℕ
   pub parts : text ≡ prefix ++ held
   pub gains : Appends before after prefix
 
--- of what was held and the text a front was written; the rest is held, or lost where the sink
+-- of what was held and the text a prefix was written; the rest is held, or lost where the sink
 -- failed
 abbrev pub Moves : {X : Type 0} → (before after : Option (List ℕ)) → (text held : List ℕ)
     → Result X RunFault → Type 0
 Moves before after text held (Ok x) = MovesPrefix before after text held
 Moves before after text held (Err fault) = (fault ≡ Write) × GrowsByPrefix before after text
 
--- a text came after what the sink took and the block held together, or a front of all that was
+-- a text came after what the sink took and the block held together, or a prefix of all that was
 -- written
 pub record MovesOn (before : LineModel) (text : List ℕ) (after : LineModel) : Type 0 where
   pub moves : Moves before.taken after.taken (before.held ++ text) after.held after.status

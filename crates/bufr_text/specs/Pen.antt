@@ -28,7 +28,7 @@ sink_model taken failures empty flushes line writer =
       writer = writer;
     }
 
--- a text was written, or a front of it
+-- a text was written, or a prefix of it
 pub record Inks {X : Type 0} (p : SinkModel) (text : List ℕ) (r : Result X RunFault)
     (p' : SinkModel) : Type 0 where
   pub writes : WritesPrefix p.taken p'.taken text r
@@ -37,7 +37,7 @@ pub record Inks {X : Type 0} (p : SinkModel) (text : List ℕ) (r : Result X Run
   pub line : p'.line ≡ p.line
   pub writer : p'.writer ≡ p.writer
 
--- the line of a call was written, or a front of it
+-- the line of a call was written, or a prefix of it
 abbrev pub InksCall : {X : Type 0} → SinkModel → Call → Result X RunFault → SinkModel → Type 0
 InksCall p call r p' = Inks p (call_line call ++ 10 ∷ []) r p'
 

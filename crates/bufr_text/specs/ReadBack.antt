@@ -29,7 +29,7 @@ pub record IsReadAs (form : Form) (table : List Row) (sequences : List Sequence)
   pub values : Values
   pub used : ℕ
   pub accepted : IsAccepted table sequences octets sections template values used
-  -- in a stream it is one message, whatever is behind it
+  -- in a stream it is one message, whatever is after it
   pub framed : (at : ℕ) (suffix : List ℕ) → scan_from 0 at (octets ++ suffix)
       ≡ FrameAt at octets ∷ scan_from 0 (at + length octets) suffix
   pub head : sections.head ≡ head_from_values d

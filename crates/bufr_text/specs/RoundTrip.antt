@@ -69,7 +69,7 @@ pub record HasSameReading (table : List Row) (m : List ℕ) (s : Sections) (temp
   pub no_longer : length written ≤ length m + extra_octets m
   pub few : length written ≤ max_octets
   pub octets : AllByRecursion IsOctet written
-  -- in a stream it is one message, whatever is behind it
+  -- in a stream it is one message, whatever is after it
   pub framed : (at : ℕ) (suffix : List ℕ) → scan_from 0 at (written ++ suffix)
       ≡ FrameAt at written ∷ scan_from 0 (at + length written) suffix
   pub sections : Sections

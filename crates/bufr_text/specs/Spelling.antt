@@ -91,8 +91,8 @@ pub record IsDocument (d : Document) (lines : List NumberedLine) : Type 0 where
   pub counted : length subsets ≡ subsets_in d
   pub entries : d.entries ≡ entries_heard subsets end
 
--- What is told of lines: documents one after another, up to the end of the lines or to the first
--- that is refused.
+-- What is reported of lines: documents one after another, up to the end of the lines or to the
+-- first that is refused.
 abbrev pub AreTold : List NumberedLine → List ParseResult → Type 0
 AreTold lines [] = lines ≡ []
 AreTold lines (Refused line fault ∷ results) = results ≡ []

@@ -41,7 +41,7 @@ part_number written.Local1 = 0
 part_number written.Section2 = 1
 part_number written.Descriptors = 2
 
--- where the reading stands, with the document as far as it was read
+-- where the reading is, with the document as far as it was read
 abbrev pub place_with : ParserState → spec.Document → documents.ParserState
 place_with place.Between d = documents.Between
 place_with place.Heading d = documents.Heading d
@@ -53,13 +53,13 @@ line_fault_of refusal.NotAllowed = documents.NotAllowed
 line_fault_of refusal.SubsetCount = documents.SubsetCount
 line_fault_of refusal.HeaderRange = documents.HeaderRange
 
--- what a turn does, with the document behind it
+-- what a turn does, with the document after it
 abbrev pub turned : LineEffect → spec.Document → documents.LineEffect
 turned (turn.WalkGoes place) d = documents.WalkGoes (place_with place d)
 turned turn.Gives d = documents.Gives d
 turned (turn.Refuses refusal) d = documents.Faults (line_fault_of refusal)
 
--- Nothing was read behind the header.
+-- Nothing was read after the header.
 pub record IsBare (d : spec.Document) : Type 0 where
   pub local1 : d.local1 ≡ []
   pub section2 : d.section2 ≡ []
@@ -85,7 +85,7 @@ pub record HasSubsets (ended : ℕ) (d : spec.Document) : Type 0 where
   pub counted : length (subsets_of d.entries) ≡ ended
 
 -- What holds of a place where the line of this number is next: the header is not whole in the
--- header and whole behind it, the number of a subset is small and one more than those that were
+-- header and whole after it, the number of a subset is small and one more than those that were
 -- ended, and each entry has a line.
 abbrev pub IsParserState : (at : ℕ) → documents.ParserState → Type 0
 IsParserState at documents.Between = Unit {0}
@@ -99,7 +99,7 @@ IsParserState at (documents.Filling subset d) =
     × ((ended : ℕ) × (subset ≡ ended + 1) × HasSubsets ended d)
 IsParserState at documents.Stopped = Unit {0}
 
--- the same behind a turn at a line
+-- the same after a turn at a line
 abbrev pub StandsAfter : (at : ℕ) → documents.LineEffect → Type 0
 StandsAfter at (documents.WalkGoes place) = IsParserState (at + 1) place
 StandsAfter at (documents.Gives d) = IsProper d × (length d.entries ≤ at)

@@ -18,13 +18,13 @@ FeedAt held (Some place) =
     (place < length held) × (has_no_feed (take place held) ≡ true)
     × (held ≡ take place held ++ 10 ∷ drop (place + 1) held)
 
--- what was told
+-- what was reported
 abbrev pub step_results : TakeResult → spec.Document → List documents.ParseResult
 step_results taken.More d = []
 step_results taken.Gives d = documents.Complete d ∷ []
 step_results (taken.Refuses line refusal) d = documents.Refused line (line_fault_of refusal) ∷ []
 
--- where the reading stands behind it
+-- where the reading is after it
 abbrev pub place_behind : TakeResult → Progress → documents.ParserState
 place_behind taken.More progress = place_with progress.place progress.parts
 place_behind taken.Gives progress = documents.Between
@@ -63,7 +63,7 @@ pub record TakesLines (old new : Progress) (held : List ℕ) (place : ℕ)
   pub passes : TakesWholeLines old.at held new.at (drop place held)
   pub closes : step ≡ taken.Gives → TakesEndLine old.at held new.at (drop place held)
 
--- Lines up to a place were taken, and nothing was told yet.
+-- Lines up to a place were taken, and nothing was reported yet.
 pub record IsTaking (old new : Progress) (held : List ℕ) (place : ℕ) : Type 0 where
   pub goes : (ended : Bool)
       → ContinuesParse (stand_of old held ended) (stand_of new (drop place held) ended) []
@@ -73,7 +73,7 @@ pub record IsTaking (old new : Progress) (held : List ℕ) (place : ℕ) : Type 
   pub near : new.at ≤ old.at + place
   pub passes : TakesWholeLines old.at held new.at (drop place held)
 
--- Lines were taken that told nothing, and the next one is whole and adds to the document.
+-- Lines were taken that reported nothing, and the next one is whole and adds to the document.
 pub record WantsAt (old : Progress) (held : List ℕ) : Type 0 where
   pub progress : Progress
   pub place : ℕ

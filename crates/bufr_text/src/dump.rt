@@ -172,7 +172,7 @@ fn write_subsets<W: Sink>(
 ///
 /// # Errors
 ///
-/// [`RunFault::Write`] where the writer fails or takes nothing, and [`RunFault::Memory`]; a front
+/// [`RunFault::Write`] where the writer fails or takes nothing, and [`RunFault::Memory`]; a prefix
 /// of the text was taken.
 pub fn write_dump<W: Sink>(
     alloc: Global,
@@ -182,7 +182,7 @@ pub fn write_dump<W: Sink>(
     w: &mut W,
 ) -> Result<(), RunFault>
     requires { ReadsMessage message.now reading.now }
-    // At `Ok` the writer took the dump text of the reading's items, at a fault a front of it.
+    // At `Ok` the writer took the dump text of the reading's items, at a fault a prefix of it.
     ensures writes { (values : Values)
         → IsReading (course_of reading.now) reading.now.source values reading.now.bits →
         WritesPrefix (W.taken w.old) (W.taken w.new)
@@ -219,7 +219,7 @@ pub fn write_dump_by<W: Sink>(
     requires reads { ReadsMessage message.now reading.now }
     requires cached { cache.old ≡ reading.now.table }
     ensures same { cache.new ≡ cache.old }
-    // At `Ok` the writer took the dump text of the reading's items, at a fault a front of it.
+    // At `Ok` the writer took the dump text of the reading's items, at a fault a prefix of it.
     ensures writes { (values : Values)
         → IsReading (course_of reading.now) reading.now.source values reading.now.bits →
         WritesPrefix (W.taken w.old) (W.taken w.new)

@@ -13,9 +13,9 @@ use std::marker::Model;
 
 /// Reads the documents of a dump text, one after another.
 ///
-/// It reads only where it holds no whole line, so a document is told before the next one is read.
-/// A read asks for at most 4,096 octets, and at most 8,192 are held. The only memory that it takes
-/// besides is that of the document, which may be handed back to it ([`DumpReader::reuse`]).
+/// It reads only where it holds no whole line, so a document is reported before the next one is
+/// read. A read asks for at most 4,096 octets, and at most 8,192 are held. The only memory that it
+/// takes besides is that of the document, which may be handed back to it ([`DumpReader::reuse`]).
 ///
 /// ```
 /// let mut reader = DumpReader::new(rt.alloc());
@@ -198,7 +198,7 @@ impl DumpReader {
         }
     }
 
-    /// Reads once, behind the octets that are held. At the end the last line is ended.
+    /// Reads once, after the octets that are held. At the end the last line is ended.
     // rule: reading-last-line
     fn read_more<R: Source>(&mut self, r: &mut R) -> Result<(), RunFault>
         requires sound { self.old.fault ≡ None }
@@ -252,7 +252,7 @@ impl DumpReader {
 
     /// The next document of the input `r`, which is to be the same at each call, or `None` where
     /// the end was reached and no line is left. After `None` it comes again. A document is as its
-    /// header says: it has so many subsets and nothing behind them, and octets of section 2 only
+    /// header says: it has so many subsets and nothing after them, and octets of section 2 only
     /// where there is one.
     ///
     /// # Errors

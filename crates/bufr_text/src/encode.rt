@@ -29,7 +29,7 @@ use bufr_tables::{Fxy, TableB, TableD, Template, TemplateFault};
 use bufr_walk::{SpecCache, Steps, TemplateCache, WalkStop, walk_by};
 use std::alloc::{AllocError, Global};
 
-/// The fault of a walk that stopped, where the next entry stands on a line.
+/// The fault of a walk that stopped, where the next entry is on a line.
 // rule: fault-62
 fn of_stop(stop: WalkStop<DraftFault>, line: u64) -> DocumentFault
     ensures { told_refusal result ≡ option_map told_of_draft (told_stop line stop) }
@@ -338,7 +338,7 @@ pub fn encode_by(
 /// the template, subset after subset, or once for all subsets where the data are compressed. A turn
 /// is a descriptor taken (a replication, a factor, an element, an operator), the end of a pass of a
 /// group, or the end of the template. Where an item, or the walk at it, is refused, its turn is the
-/// last; an item too many is refused behind the end of the template. Without a subset, and where
+/// last; an item too many is refused after the end of the template. Without a subset, and where
 /// the descriptors make no template, there is no step. At want of memory perhaps not all of these
 /// are made. They are at most as many as the template has places for each bit of the data, and for
 /// one bit more where the document is refused.

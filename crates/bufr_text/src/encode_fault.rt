@@ -40,7 +40,7 @@ impl WalkRefusal {
 /// length.
 #[derive(Clone, Copy, Debug, PartialEq, Eq, Error)]
 pub enum DocumentFault {
-    /// Another item, or none, stands where this is expected.
+    /// Another item, or none, is where this is expected.
     #[error("line {0}: another item is expected")]
     WrongDescriptor(u64, Expected),
     /// No decimal, or one that is not whole at the field's scale, or a form of another kind than
@@ -62,7 +62,7 @@ pub enum DocumentFault {
     /// A factor of compressed data that is not that of the first subset.
     #[error("line {0}: a factor is not the same in all subsets")]
     UnequalFactor(u64),
-    /// Texts of compressed data that no increments can tell apart, or references that differ.
+    /// Texts of compressed data that no increments can distinguish, or references that differ.
     #[error("line {0}: no increments can tell the values apart")]
     Increment(u64),
     /// The message would have more than 16,777,215 octets.

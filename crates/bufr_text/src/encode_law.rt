@@ -27,7 +27,7 @@ pub fn accepted_messages_are_dumpable()
         → IsDumpable s (dump_items_in table template s values) }
 {}
 
-/// The document of an accepted message's dump text is encoded, wherever it stands: to a message
+/// The document of an accepted message's dump text is encoded, wherever it is: to a message
 /// with the same head, local octets, section 2, descriptors, number of subsets, flags and values,
 /// and no longer, but that in edition 3 up to two octets make sections 3 and 4 even.
 // rule: becomes-canonical
@@ -72,7 +72,7 @@ pub fn dump_texts_are_encoded_again()
 {}
 
 /// The document of an accepted message's dump text is refused for want of memory alone: a fault
-/// that may be told of its encoding is [`DocumentFault::Memory`](crate::DocumentFault::Memory).
+/// that may be reported of its encoding is [`DocumentFault::Memory`](crate::DocumentFault::Memory).
 pub fn dumped_messages_are_refused_for_want_of_memory_alone()
     ensures { (records : List Record) (table : List Row) (sequences : List Sequence) (m : List ℕ)
         (s : Sections) (template : Tree) (values : Values) (used at : ℕ) (why : DocumentFault)
@@ -97,7 +97,7 @@ pub fn canonical_messages_are_encoded_to_themselves()
 /// same reading, but for the flag of compression: the same head, local octets, section 2,
 /// descriptors, number of subsets, and items of each subset. In the form that it says nothing
 /// refuses it; in plain form its length may, and in compressed form its length, factors that differ
-/// between subsets, and contents that no increments tell apart.
+/// between subsets, and contents that no increments distinguish.
 pub fn dumped_messages_are_encoded_in_each_form()
     ensures { (records : List Record) (table : List Row) (sequences : List Sequence) (m : List ℕ)
         (s : Sections) (template : Tree) (values : Values) (used at : ℕ) (form : Form)
@@ -107,7 +107,7 @@ pub fn dumped_messages_are_encoded_in_each_form()
         (document_of at s (dump_items_in table template s values))) }
 {}
 
-/// A fault that may be told of such an encoding is
+/// A fault that may be reported of such an encoding is
 /// [`DocumentFault::Memory`](crate::DocumentFault::Memory), in plain and compressed form also
 /// [`DocumentFault::TooLong`](crate::DocumentFault::TooLong), and in compressed form
 /// [`DocumentFault::UnequalFactor`](crate::DocumentFault::UnequalFactor) or

@@ -122,7 +122,7 @@ fn write_date<W: Sink>(message: &Message<'_>, w: &mut W) -> Result<(), RunFault>
     write_all(suffix(&line, start), w)
 }
 
-/// Writes a line of octets behind its word.
+/// Writes a line of octets after its word.
 fn write_octet_line<W: Sink>(
     word: &[u8],
     octets: &[u8],
@@ -139,7 +139,7 @@ fn write_octet_line<W: Sink>(
     write_all(line.as_slice(), w)
 }
 
-/// Writes octets behind a word, 32 on each line but the last.
+/// Writes octets after a word, 32 on each line but the last.
 // rule: text-local1
 fn write_octet_lines<W: Sink>(
     word: &[u8],

@@ -12,14 +12,14 @@ use crate::quoted::decode_quoted;
 use crate::slice::{ahead, octet_at, suffix, without_prefix, without_space};
 use crate::step::ParsedLine;
 
-/// Whether an octet can stand in a number token.
+/// Whether an octet may be in a number token.
 fn is_number_octet(octet: u8) -> bool
     ensures { result ≡ is_number_octet octet }
 {
     octet.is_ascii_digit() || octet == b'-' || octet == b'.'
 }
 
-/// How many octets of a number token stand in front.
+/// How many octets of a number token come first.
 // rule: reading-number
 fn token(text: &[u8]) -> usize
     ensures within { result ≤ length text.now }
@@ -33,7 +33,7 @@ fn token(text: &[u8]) -> usize
     at
 }
 
-/// A value in front, and what is behind it; the octets of a text are put into `scratch`.
+/// A value, and the rest after it; the octets of a text are put into `scratch`.
 #[tactic(auto, using(crate::proofs::ItemLemmas::value_steps))]
 fn value<'a>(text: &'a [u8], scratch: &'a mut [u8]) -> Option<(ValueKind, &'a [u8], &'a [u8])>
     requires { length text.now ≤ length scratch.old }
@@ -67,7 +67,7 @@ fn is_hashed(text: &[u8]) -> bool
     false
 }
 
-/// Whether nothing but a comment is behind a value.
+/// Whether nothing but a comment is after a value.
 #[tactic(auto, using(crate::proofs::ItemLemmas::hash_steps))]
 // rule: reading-after-a-value
 fn is_passed_behind(text: &[u8]) -> bool
@@ -89,7 +89,7 @@ pub(crate) fn item<'a>(text: &'a [u8], scratch: &'a mut [u8]) -> Option<ParsedLi
     Some(ParsedLine::Item { fxy, kind, octets })
 }
 
-/// What a line says of a redefined reference, behind `R` and a space.
+/// What a line says of a redefined reference, after `R` and a space.
 #[tactic(auto, using(crate::proofs::ItemLemmas::reference_steps))]
 // rule: reading-reference
 pub(crate) fn reference<'a>(text: &'a [u8]) -> Option<ParsedLine<'a>>

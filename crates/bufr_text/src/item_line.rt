@@ -1,4 +1,4 @@
-//! The line of an item of a dump text, laid from its end.
+//! The line of an item of a dump text, written from its end.
 ghost use Rattle.std.specs.Prelude.{◌≡◌, ◌≤◌, ◌<◌, ◌+◌, ◌*◌, ◌-◌, ◌++◌, ◌==◌, if◌then◌else◌, [], ◌∷◌, decimal, drop, false, length, option_map, unsigned_abs, IfOk, IfSome};
 ghost use Rattle.bufr_bits.specs.DecimalText.{decimal_text_of, pointed, unsigned_text};
 ghost use Rattle.bufr_tables.specs.Entry.{row_of_entry};
@@ -18,7 +18,7 @@ use bufr_walk::{ItemView, Value};
 use itoa::Buffer;
 use std::alloc::AllocError;
 
-/// Lays an octet that does not stand for itself before `end`, and answers where it begins.
+/// Lays an octet that does not mean itself before `end`, and answers where it begins.
 // rule: text-escapes
 fn lay_escape(octet: u8, line: &mut [u8], end: usize) -> usize
     requires other { is_unescaped octet ≡ false }
@@ -50,7 +50,7 @@ fn lay_octet(octet: u8, line: &mut [u8], end: usize) -> usize
     lay_escape(octet, line, end)
 }
 
-/// Lays the octets of a text before `end`, what does not stand for itself as an escape, and the
+/// Lays the octets of a text before `end`, what does not mean itself as an escape, and the
 /// quote that closes it, and answers where it begins.
 // rule: text-quoted, text-inserted
 fn lay_quoted(octets: &[u8], line: &mut [u8], end: usize) -> usize
@@ -89,7 +89,7 @@ fn lay_pointed(digits: &[u8], places: usize, line: &mut [u8], end: usize) -> usi
     lay_text(whole, line, end)
 }
 
-/// How many zeros stand behind the digits of a number that ten multiplies so often: none behind 0.
+/// How many zeros are after the digits of a number that ten multiplies so often: none after 0.
 fn zeros_behind(size: u128, power: usize) -> usize
     ensures value { result ≡ (if size == 0 then 0 else power) }
     ensures few { result ≤ power }
@@ -97,7 +97,7 @@ fn zeros_behind(size: u128, power: usize) -> usize
     if size == 0 { 0 } else { power }
 }
 
-/// Lays the last digits of a number before `end`, so many as there are places, zeros in front of
+/// Lays the last digits of a number before `end`, so many as there are places, zeros before
 /// them, and answers the number that the digits before them write.
 fn lay_fraction(value: u64, places: usize, line: &mut [u8], end: usize) -> u64
     requires room { places ≤ end }
@@ -218,7 +218,7 @@ fn lay_numeric(fxy: Fxy, v: i128, scale: i16, line: &mut [u8], end: usize) -> us
     lay_fxy(fxy, line, end)
 }
 
-/// Lays a descriptor and what stands for a value before `end`, and answers where they begin.
+/// Lays a descriptor and the form of a value before `end`, and returns where they begin.
 // rule: text-missing, text-reference
 fn lay_form(fxy: Fxy, value: Value<'_>, line: &mut [u8], end: usize) -> usize
     requires room { most_value value ≤ end }
@@ -281,7 +281,7 @@ fn lay_item(item: &ItemView<'_>, line: &mut [u8]) -> usize
     lay_form(item.fxy, item.value, line, end)
 }
 
-/// How many octets a descriptor and what stands for a value take at most.
+/// How many octets a descriptor and the form of a value take at most.
 #[inline(always)]
 fn most_value(value: Value<'_>) -> Option<usize>
     ensures { IfSome result (λ most. most ≡ most_value value.entry) }
@@ -319,7 +319,7 @@ fn most_item(item: &ItemView<'_>) -> Option<usize>
     value.checked_add(comment)?.checked_add(1)
 }
 
-/// Makes the line of an item (its descriptor, what stands for its value, and its comment) at the
+/// Makes the line of an item (its descriptor, what means its value, and its comment) at the
 /// end of the octets, which are more where it needs more, and answers where it begins.
 ///
 /// # Errors

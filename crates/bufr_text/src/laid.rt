@@ -1,11 +1,12 @@
-//! Parts of a line, laid from its end to its beginning, so that digits are written where they stay.
+//! Parts of a line, written from its end to its beginning, so that digits are written where they
+//! stay.
 ghost use Rattle.std.specs.Prelude.{◌≡◌, ◌≤◌, ◌+◌, ◌++◌, decimal, drop, length, replicate};
 ghost use Rattle.bufr_text.specs.Writing.{flag};
 
 use itoa::write_digits;
 
-/// The octets in which a line of numbers behind their names is put together. The longest has 226;
-/// a number is laid only where each of its type has room.
+/// The octets in which a line of numbers after their names is put together. The longest has 226;
+/// a number is written only where each of its type has room.
 pub(crate) const LINE: usize = 320;
 
 /// Lays a text before `end`, and answers where it begins.
@@ -21,7 +22,7 @@ pub fn lay_text(text: &[u8], line: &mut [u8], end: usize) -> usize
     start
 }
 
-/// Lays `1` or `0` before `end`, and answers where it stands.
+/// Lays `1` or `0` before `end`, and answers where it is.
 #[inline(always)]
 pub(crate) fn lay_flag(on: bool, line: &mut [u8], end: usize) -> usize
     requires room { 1 ≤ end }
@@ -56,7 +57,7 @@ pub(crate) fn lay_short(value: u16, line: &mut [u8], end: usize) -> usize
     write_digits(u64::from(value), line, end)
 }
 
-/// Lays a number behind its name before `end`, and answers where the name begins.
+/// Lays a number after its name before `end`, and answers where the name begins.
 #[inline(always)]
 pub fn lay_named(name: &[u8], value: u16, line: &mut [u8], end: usize) -> usize
     requires room { length name.now + 5 ≤ end }

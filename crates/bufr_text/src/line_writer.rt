@@ -1,4 +1,4 @@
-//! A writer of lines: octets laid forward into a block of memory, and handed on to a sink.
+//! A writer of lines: octets written forward into a block of memory, and handed on to a sink.
 ghost use Rattle.std.specs.Prelude.{◌≡◌, ◌≤◌, ◌++◌, [], Ok, length, take, decimal, replicate};
 ghost use Rattle.bufr_text.specs.Lines.{Pushes};
 ghost use Rattle.bufr_text.specs.Writing.{Writes, CountsWrites, flag, zero_padded};

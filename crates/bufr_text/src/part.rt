@@ -23,7 +23,7 @@ pub enum Part<'a> {
 ///
 /// # Errors
 ///
-/// [`RunFault::Write`] where the writer fails or takes nothing; a front of the octets was taken.
+/// [`RunFault::Write`] where the writer fails or takes nothing; a prefix of the octets was taken.
 // rule: one-write-a-line
 pub fn write_all<W: Sink>(octets: &[u8], w: &mut W) -> Result<(), RunFault>
     ensures writes { Writes (W.taken w.old) (W.taken w.new) octets.now result }
@@ -58,7 +58,7 @@ fn lay_part(part: Part<'_>, line: &mut [u8], end: usize) -> Option<usize>
     }
 }
 
-/// Lays parts, one behind another, at the end of the octets, and answers where they begin.
+/// Lays parts, one after another, at the end of the octets, and returns where they begin.
 fn lay_parts(parts: &[Part<'_>], line: &mut [u8]) -> Option<usize>
     ensures start { IfSome result (λ start. start ≤ length line.old) }
     ensures written { IfSome result (λ start. drop start line.new ≡ flat_map part_text parts.now) }
@@ -115,7 +115,7 @@ fn write_each<W: Sink>(parts: &[Part<'_>], w: &mut W) -> Result<(), RunFault>
 ///
 /// # Errors
 ///
-/// [`RunFault::Write`] where the writer fails or takes nothing; a front of the text was taken.
+/// [`RunFault::Write`] where the writer fails or takes nothing; a prefix of the text was taken.
 pub fn write_parts<W: Sink>(parts: &[Part<'_>], w: &mut W) -> Result<(), RunFault>
     ensures writes { Writes (W.taken w.old) (W.taken w.new) (flat_map part_text parts.now) result }
     ensures counts { CountsWrites (W.failures w.old) (W.failures w.new) (W.empty_writes w.old)

@@ -15,7 +15,7 @@ use crate::step::{LineEffect, LineRefusal, ParserState, step};
 use memchr::memchr;
 use std::alloc::{AllocError, Global};
 
-/// How far the reading has come: where it stands, and the document that is being read.
+/// How far the reading has come: where it is, and the document that is being read.
 #[derive(Drop)]
 pub(crate) struct Progress {
     pub(crate) place: ParserState,

@@ -38,7 +38,7 @@ fn put_hex(octets: &[u8], line: &mut Vec<u8>) -> Result<(), AllocError>
     Ok(())
 }
 
-/// Makes a line of octets behind its word.
+/// Makes a line of octets after its word.
 pub(crate) fn make_octet_line(
     word: &[u8],
     octets: &[u8],
@@ -59,7 +59,7 @@ fn put_fxy(fxy: Fxy, line: &mut Vec<u8>) -> Result<(), AllocError>
     line.extend_from_slice(&fxy.text())
 }
 
-/// Puts the descriptors of a line, at most eight, each behind a space.
+/// Puts the descriptors of a line, at most eight, each after a space.
 fn put_descriptors(words: &mut Words<'_>, line: &mut Vec<u8>) -> Result<(), AllocError>
     ensures line { OnOk result
         (line.new.items ≡ line.old.items ++ descriptors_text (take 8 (words_left words.old))) }

@@ -9,7 +9,7 @@ use crate::document::{DocumentParts, ValueKind};
 use crate::key::in_range;
 use std::alloc::AllocError;
 
-/// What a line says. Octets of hexadecimal digits and of texts are those that they stand for.
+/// What a line says. Octets of hexadecimal digits and of texts are those that they mean.
 #[derive(Clone, Copy)]
 pub(crate) enum ParsedLine<'a> {
     Passed,
@@ -31,7 +31,7 @@ pub(crate) enum ParsedLine<'a> {
     Wrong,
 }
 
-/// How far the parts before the subsets have come: they stand in this order.
+/// How far the parts before the subsets have come: they are in this order.
 #[derive(Clone, Copy)]
 pub(crate) enum LineGroup {
     Local1,
@@ -55,7 +55,7 @@ impl LineGroup {
     }
 }
 
-/// Where the reading stands.
+/// Where the reading is.
 #[derive(Clone, Copy)]
 pub(crate) enum ParserState {
     Between,
@@ -128,7 +128,7 @@ fn closing(parts: &DocumentParts, read: u32) -> LineEffect
     }
 }
 
-/// A line behind the header and before the first subset.
+/// A line after the header and before the first subset.
 // rule: reading-section2
 fn laying(
     parts: &mut DocumentParts,

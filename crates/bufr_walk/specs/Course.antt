@@ -55,7 +55,7 @@ abbrev pub operated : Result OperatorModel TurnRefusal → (OperatorModel → Ne
 operated (Err why) go = stop (refused why)
 operated (Ok settings) go = later 1 (go settings)
 
--- what comes next in these turns, after items that returned `told`
+-- what comes next in these turns, after items that returned `answers`
 -- rule: defining-fixed-groups, 2-03-255-alone
 abbrev pub ahead : List Row → Turns → OperatorModel → List Taken → NextTurn
 ahead table finish s answers = stop at_end

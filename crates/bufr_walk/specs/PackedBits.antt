@@ -76,7 +76,7 @@ kind_step kind.Character k = 8 * k
 kind_step kind.Coded k = k
 kind_step kind.Numeric k = k
 
--- an item with this base, k and the bits `behind` has contents, and returns `t`
+-- an item with this base, k and the bits `suffix` has contents, and returns `t`
 pub record IsTold (spec : FieldSpec) (k n : ℕ) (base suffix : List Bool) (t : Taken) : Type 0 where
   pub contents : List Content
   pub are : contents_of spec k base

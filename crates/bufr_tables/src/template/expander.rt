@@ -34,7 +34,7 @@ impl Expander<'_> {
         self.table_b.get(fxy).is_some()
     }
 
-    /// Expands a list behind what has grown, with room to open so many groups and sequences more.
+    /// Expands a list after what has grown, with room to open so many groups and sequences more.
     #[cycle(expansion)]
     pub(crate) fn list(
         &self,
@@ -56,7 +56,7 @@ impl Expander<'_> {
         Ok(())
     }
 
-    /// Expands one descriptor, and tells how many of those behind it it takes.
+    /// Expands one descriptor, and returns how many of those after it it takes.
     #[cycle(expansion)]
     // rule: descriptor-kinds
     fn part(
@@ -148,7 +148,7 @@ impl Expander<'_> {
         Ok(usize::from(fxy.x()))
     }
 
-    /// A group of as many passes as its factor tells, which stands before the X descriptors.
+    /// A group of as many passes as its factor says, which comes before the X descriptors.
     #[cycle(expansion)]
     // rule: delayed-replication
     fn delayed(
@@ -211,7 +211,7 @@ impl Expander<'_> {
         growing.close(place, passes)
     }
 
-    /// A sequence: its members stand in its place.
+    /// A sequence: its members are in its place.
     #[cycle(expansion)]
     fn sequence(
         &self,
@@ -236,7 +236,7 @@ impl Expander<'_> {
     }
 }
 
-/// An operator; one that gives a width stands before an element.
+/// An operator; one that gives a width comes before an element.
 // rule: 2-06-y-before-an-element
 fn operator(fxy: Fxy, after: &[Fxy], growing: &mut TemplateBuilder) -> Result<usize, TemplateFault>
     ensures gives { GivesPart (builder_model growing.old)

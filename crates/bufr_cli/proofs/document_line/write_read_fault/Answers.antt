@@ -6,7 +6,7 @@ use Rattle.bufr_text.specs.Writing.{Writes}
 use Rattle.bufr_cli.specs.DocumentLine.{document_line, refused_line}
 use Rattle.bufr_cli.proofs.document_line.write_read_fault.Goals as goal
 
--- the line of what is told first
+-- the line of what is reported first
 abbrev line_told : List ParseResult → List ℕ
 line_told [] = []
 line_told (Complete document ∷ rest) = []

@@ -2,7 +2,7 @@ use Rattle.std.proofs.Common.{◌≡◌, length}
 use Rattle.bufr_text.proofs.WritingLemmas.{WrittenSoFar}
 use Rattle.bufr_text.proofs.part.write_all.Given as goal
 
--- a front was written, the rest is left, and no call failed
+-- a prefix was written, the rest is left, and no call failed
 abbrev pub invariant-loop-rest : goal.invariant-loop-rest
 invariant-loop-rest g l = record {
   so_far : WrittenSoFar (g.W.Sink.taken l.fn.w) (g.W.Sink.taken l.w) l.octets l.rest;
