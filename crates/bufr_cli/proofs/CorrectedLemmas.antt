@@ -30,7 +30,7 @@ use Rattle.bufr_text.proofs.RowsLemmas.{rows-read}
 use Rattle.bufr_text.proofs.SpelledProper.{spelled-proper}
 use Rattle.bufr_cli.specs.Corrected.{IsDumpedInOneSpelling, before_refused, built, form_pieces, normal_by, normal_text, normal_texts}
 use Rattle.bufr_cli.specs.DumpPieces.{IsDumpPiece}
-use Rattle.bufr_cli.specs.EncodePieces.{encoded, told_piece, up_to_refused}
+use Rattle.bufr_cli.specs.EncodePieces.{encoded, result_piece, up_to_refused}
 use Rattle.bufr_cli.specs.Pieces.{Piece, OnOutput, OnErrors, output_of, errors_of, is_accepted, is_refused}
 use Rattle.bufr_cli.specs.RoundTrip.{dump_pieces, dumped, text_pieces}
 use Rattle.bufr_cli.specs.Running.{GivesPieces}
@@ -45,7 +45,7 @@ record AreBuilt (b : List Row) (d : List Sequence) (piece : StreamEvent → Piec
   as_many : length (filter is_accepted (up_to_refused pieces)) ≡ length messages
   scanned : (at : ℕ) → scan_from 0 at (concat messages) ≡ placed at messages
   results : (at : ℕ) → map piece (placed at messages) ≡ map OnOutput texts
-  again : (line : ℕ) → map (told_piece AsWritten b d) (parse_lines line Between (lines_of (concat texts))) ≡ map OnOutput messages
+  again : (line : ℕ) → map (result_piece AsWritten b d) (parse_lines line Between (lines_of (concat texts))) ≡ map OnOutput messages
 
 -- nothing is built
 none-built : (b : List Row) (d : List Sequence) (piece : StreamEvent → Piece) → AreBuilt b d piece [] []
@@ -56,7 +56,7 @@ none-built b d piece = record {
   as_many = refl;
   scanned = λ at. scan_from-nil 0 at;
   results = λ at. refl;
-  again = λ line. ap (map (told_piece AsWritten b d)) (nothing-spelled line);
+  again = λ line. ap (map (result_piece AsWritten b d)) (nothing-spelled line);
 }
 
 -- a line on the errors ends it
@@ -68,7 +68,7 @@ fault-ends b d piece line more = record {
   as_many = refl;
   scanned = λ at. scan_from-nil 0 at;
   results = λ at. refl;
-  again = λ line. ap (map (told_piece AsWritten b d)) (nothing-spelled line);
+  again = λ line. ap (map (result_piece AsWritten b d)) (nothing-spelled line);
 }
 
 module _ (form : Form) (records : List Record) (b : List Row) (d : List Sequence) (piece : StreamEvent → Piece) (rows : AreRows records b) (gives : GivesPieces (IsDumpPiece b d) piece) where
@@ -91,13 +91,13 @@ module _ (form : Form) (records : List Record) (b : List Row) (d : List Sequence
         ∙ ap OnOutput text-is
 
     -- after its text the reading goes on
-    spells : (line : ℕ) (more : List ℕ) → map (told_piece AsWritten b d) (parse_lines line Between (lines_of (normal_text form b d document ++ more)))
-        ≡ OnOutput octets ∷ map (told_piece AsWritten b d) (parse_lines (line + length (dump_lines read.sections items)) Between (lines_of more))
+    spells : (line : ℕ) (more : List ℕ) → map (result_piece AsWritten b d) (parse_lines line Between (lines_of (normal_text form b d document ++ more)))
+        ≡ OnOutput octets ∷ map (result_piece AsWritten b d) (parse_lines (line + length (dump_lines read.sections items)) Between (lines_of more))
     spells line more =
         let legal = (tree_fine (tables_of b d) read.sections.descriptors read.template read.accepted.expands).legal in
-        ap (λ t. map (told_piece AsWritten b d) (parse_lines line Between (lines_of (t ++ more)))) (sym text-is)
-        ∙ ap (map (told_piece AsWritten b d)) (text-spells read.sections items line more (dumpable b d octets read.sections read.template read.values read.used (rows-read records b rows) legal read.accepted))
-        ∙ ap (λ x. encoded x ∷ map (told_piece AsWritten b d) (parse_lines (line + length (dump_lines read.sections items)) Between (lines_of more)))
+        ap (λ t. map (result_piece AsWritten b d) (parse_lines line Between (lines_of (t ++ more)))) (sym text-is)
+        ∙ ap (map (result_piece AsWritten b d)) (text-spells read.sections items line more (dumpable b d octets read.sections read.template read.values read.used (rows-read records b rows) legal read.accepted))
+        ∙ ap (λ x. encoded x ∷ map (result_piece AsWritten b d) (parse_lines (line + length (dump_lines read.sections items)) Between (lines_of more)))
         (encoded_again_same form records b d rows document octets read line proper is)
 
     one-more : (pieces : List Piece) (texts : List (List ℕ)) → AreBuilt b d piece pieces texts → AreBuilt b d piece (OnOutput octets ∷ pieces) (normal_text form b d document ∷ texts)
@@ -117,12 +117,12 @@ module _ (form : Form) (records : List Record) (b : List Row) (d : List Sequence
   document-more document (Ok octets) pieces texts proper is r = one-more document octets proper is (encoded_read form records b d rows document proper octets is) pieces texts r
   document-more document (Err refused) pieces texts proper is r = fault-ends b d piece _ pieces
 
-  are-built : (results : List ParseResult) → AreProper results → AreBuilt b d piece (map (told_piece form b d) results) (normal_texts form b d results)
+  are-built : (results : List ParseResult) → AreProper results → AreBuilt b d piece (map (result_piece form b d) results) (normal_texts form b d results)
   unfolding normal_texts
   are-built [] proper = none-built b d piece
   are-built (Complete document ∷ more) proper =
-      document-more document (encoding_in form b d document) (map (told_piece form b d) more) (normal_texts form b d more) proper.0 refl (are-built more proper.1)
-  are-built (Refused line fault ∷ more) proper = fault-ends b d piece _ (map (told_piece form b d) more)
+      document-more document (encoding_in form b d document) (map (result_piece form b d) more) (normal_texts form b d more) proper.0 refl (are-built more proper.1)
+  are-built (Refused line fault ∷ more) proper = fault-ends b d piece _ (map (result_piece form b d) more)
 
   -- the law
   pub one-spelling : (text : List ℕ) → IsDumpedInOneSpelling form b d piece text

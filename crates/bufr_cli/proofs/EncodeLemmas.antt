@@ -12,7 +12,7 @@ use Rattle.bufr_frame.specs.Runs.{max_reads, read_failures_after}
 use Rattle.bufr_frame.specs.declared.fault.RunFault.{RunFault}
 use Rattle.bufr_frame.specs.declared.fault.RunFault.TheVariants.{Read, Write, InputTooLong, Memory}
 use Rattle.bufr_text.specs.Document.{Document}
-use Rattle.bufr_text.specs.Documents.{ParseResult, TextLineFault, Complete, Refused, NotAllowed, LineEffect, WalkGoes, Gives, Faults, ParserState, Between, Heading, Laying, Filling, Stopped, told_at, told_at_end, parse_lines, line_within_limit, place_after, prepend_to_line, lines_of, documents_of, open_documents_of}
+use Rattle.bufr_text.specs.Documents.{ParseResult, TextLineFault, Complete, Refused, NotAllowed, LineEffect, WalkGoes, Gives, Faults, ParserState, Between, Heading, BeforeSubsets, Filling, Stopped, reported_at, reported_at_end, parse_lines, line_within_limit, place_after, prepend_to_line, lines_of, documents_of, open_documents_of}
 use Rattle.bufr_text.specs.Reading.{parse, parse_open}
 use Rattle.bufr_text.specs.Documents as documents
 use Rattle.bufr_text.specs.Reader.{ReaderModel, new_reader, position_of, parse_results, ReadsLines, ReturnsNextDocument, ReadsDocument, LeavesReader, CountsTextReads, HasNoWholeLine, failures_by}
@@ -21,9 +21,9 @@ use Rattle.bufr_text.specs.declared.fault.ReadFault.{ReadFault}
 use Rattle.bufr_text.specs.declared.form.Form.{Form}
 use Rattle.bufr_text.specs.declared.fault.ReadFault.TheVariants.{Line, SubsetCount, HeaderRange, Run}
 use Rattle.bufr_cli.specs.DocumentLine.{refused_line}
-use Rattle.bufr_cli.specs.EncodePieces.{told_piece, encode_pieces, up_to_refused}
+use Rattle.bufr_cli.specs.EncodePieces.{result_piece, encode_pieces, up_to_refused}
 use Rattle.bufr_cli.specs.EncodeRun.{EncodeDone, EncodeStopped, LeavesDocuments, read_documents}
-use Rattle.bufr_cli.specs.EncodeTelling.{LeavesNext}
+use Rattle.bufr_cli.specs.EncodeReporting.{LeavesNext}
 use Rattle.bufr_cli.specs.Pieces.{Piece, OnOutput, OnErrors, errors_of, is_accepted, is_refused, output_of}
 use Rattle.bufr_cli.specs.Counting.{Blames}
 use Rattle.bufr_cli.specs.Running.{ReadsAtMost, Tallies, WritesPieces, WrittenInPart}
@@ -54,19 +54,19 @@ next-stopped w w' e e' piece next document write_event f r is reports stops fail
 -- the line of a fault of the text was stopped
 pub line-cut : {X : Type 0} (w e e' : Option (List ℕ)) (form : Form) (b : List Row) (d : List Sequence) (next : Result (Option Document) ReadFault) (fault : ReadFault) (first : Result X RunFault) (f : RunFault) (r : Result (Option Verdict) RunFault)
     → next ≡ Err fault → ((run : RunFault) → fault ≡ Run run → ⊥) → ((line : ℕ) (why : TextLineFault) → parse_results (Err fault) ≡ Refused line why ∷ [] → Writes e e' (refused_line line why) first)
-    → first ≡ Err f → r ≡ Err f → LeavesNext w w e e' (told_piece form b d) next r
+    → first ≡ Err f → r ≡ Err f → LeavesNext w w e e' (result_piece form b d) next r
 line-cut {X = X} w e e' form b d next fault first f r is some writes fails same =
     by fault is some writes
   where
-    results : (line : ℕ) (why : TextLineFault) → parse_results next ≡ Refused line why ∷ [] → Writes e e' (refused_line line why) first → LeavesNext w w e e' (told_piece form b d) next r
+    results : (line : ℕ) (why : TextLineFault) → parse_results next ≡ Refused line why ∷ [] → Writes e e' (refused_line line why) first → LeavesNext w w e e' (result_piece form b d) next r
     results line why reports written =
         let W : Result X RunFault → Type 0 = λ x. Writes e e' (refused_line line why) x in
-        let P : Result (Option Verdict) RunFault → Type 0 = λ x. LeavesNext w w e e' (told_piece form b d) next x in
+        let P : Result (Option Verdict) RunFault → Type 0 = λ x. LeavesNext w w e e' (result_piece form b d) next x in
         let write : f ≡ Write = (subst W fails written).0 in
         subst P (sym (same ∙ ap Err write)) (Refused line why, reports, line-stopped w e e' (refused_line line why) first Write (Err Write) (OnErrors (refused_line line why)) refl written (fails ∙ ap Err write) refl)
 
     by : (g : ReadFault) → next ≡ Err g → ((run : RunFault) → g ≡ Run run → ⊥) → ((line : ℕ) (why : TextLineFault) → parse_results (Err g) ≡ Refused line why ∷ [] → Writes e e' (refused_line line why) first)
-        → LeavesNext w w e e' (told_piece form b d) next r
+        → LeavesNext w w e e' (result_piece form b d) next r
     by (Line line) is' some' writes' = results line NotAllowed (ap parse_results is') (writes' line NotAllowed refl)
     by (SubsetCount line) is' some' writes' = results line documents.SubsetCount (ap parse_results is') (writes' line documents.SubsetCount refl)
     by (HeaderRange line) is' some' writes' = results line documents.HeaderRange (ap parse_results is') (writes' line documents.HeaderRange refl)
@@ -75,7 +75,7 @@ line-cut {X = X} w e e' form b d next fault first f r is some writes fails same 
 -- the line of a fault of the text was written
 pub line-written : (w e e' : Option (List ℕ)) (form : Form) (b : List Row) (d : List Sequence) (next : Result (Option Document) ReadFault) (fault : ReadFault)
     → next ≡ Err fault → ((run : RunFault) → fault ≡ Run run → ⊥) → ((line : ℕ) (why : TextLineFault) → parse_results (Err fault) ≡ Refused line why ∷ [] → Appends e e' (refused_line line why))
-    → LeavesNext w w e e' (told_piece form b d) next (Ok (Some verdict.Refused))
+    → LeavesNext w w e e' (result_piece form b d) next (Ok (Some verdict.Refused))
 line-written w e e' form b d next (Line line) is some writes =
     (Refused line NotAllowed, ap parse_results is, errors-reported w e e' (refused_line line NotAllowed) (OnErrors (refused_line line NotAllowed)) refl (writes line NotAllowed refl))
 line-written w e e' form b d next (SubsetCount line) is some writes =
@@ -193,9 +193,9 @@ pub record EncodedSoFar (form : Form) (b : List Row) (d : List Sequence) (left m
   pub results : List ParseResult
   pub call : ReadsLines left mid new_reader s results octets
   pub counts : CountsTextReads reads reads' new_reader s
-  pub written : WritesPieces w w' e e' (map (told_piece form b d) results)
-  pub tallies : Tallies tally (map (told_piece form b d) results)
-  pub open' : Open (map (told_piece form b d) results)
+  pub written : WritesPieces w w' e e' (map (result_piece form b d) results)
+  pub tallies : Tallies tally (map (result_piece form b d) results)
+  pub open' : Open (map (result_piece form b d) results)
   pub sound : s.fault ≡ None
 
 -- of a reader that is equal the same was done
@@ -228,15 +228,15 @@ reported-call left left' old new (Err (SubsetCount line)) x so is = let C : List
 reported-call left left' old new (Err (HeaderRange line)) x so is = let C : List ParseResult → Type 0 = λ t. ReadsLines left left' old new t so.octets in subst C is so.reads
 reported-call left left' old new (Err (Run run)) x so is = absurd (omega (arith, ap length is))
 
-refused-one : (form : Form) (b : List Row) (d : List Sequence) (line : ℕ) (why : TextLineFault) (x : ParseResult) → Refused line why ∷ [] ≡ x ∷ [] → counted_accepted verdict.Accepted ≡ count_by is_accepted (told_piece form b d x ∷ []) → ⊥
+refused-one : (form : Form) (b : List Row) (d : List Sequence) (line : ℕ) (why : TextLineFault) (x : ParseResult) → Refused line why ∷ [] ≡ x ∷ [] → counted_accepted verdict.Accepted ≡ count_by is_accepted (result_piece form b d x ∷ []) → ⊥
 refused-one form b d line why x is one =
-    let P : List ParseResult → Type 0 = λ l. 1 ≡ count_by is_accepted (map (told_piece form b d) l) in
+    let P : List ParseResult → Type 0 = λ l. 1 ≡ count_by is_accepted (map (result_piece form b d) l) in
     let here : 1 ≡ 0 = subst P (sym is) one in
     omega (arith, here)
 
 -- a document that was accepted leaves the reader without a fault
 accepted-sound : (form : Form) (b : List Row) (d : List Sequence) (left left' : Option (List ℕ)) (old new : ReaderModel) (next : Result (Option Document) ReadFault) (x : ParseResult) → ReturnsNextDocument left left' old new next → parse_results next ≡ x ∷ []
-    → counted_accepted verdict.Accepted ≡ count_by is_accepted (told_piece form b d x ∷ []) → new.fault ≡ None
+    → counted_accepted verdict.Accepted ≡ count_by is_accepted (result_piece form b d x ∷ []) → new.fault ≡ None
 accepted-sound form b d left left' old new (Ok None) x so is one = absurd (omega (arith, ap length is))
 accepted-sound form b d left left' old new (Ok (Some document)) x so is one = so.ends
 accepted-sound form b d left left' old new (Err (Line line)) x so is one = absurd (refused-one form b d line NotAllowed x is one)
@@ -258,8 +258,8 @@ Tallies-one tally tally' v pieces p before is accepted refused =
     })
 
 -- what was reported and then one more, as pieces
-one-more : (form : Form) (b : List Row) (d : List Sequence) (results : List ParseResult) (x : ParseResult) → map (told_piece form b d) (results ++ x ∷ []) ≡ map (told_piece form b d) results ++ told_piece form b d x ∷ []
-one-more form b d results x = map-append (told_piece form b d) results (x ∷ [])
+one-more : (form : Form) (b : List Row) (d : List Sequence) (results : List ParseResult) (x : ParseResult) → map (result_piece form b d) (results ++ x ∷ []) ≡ map (result_piece form b d) results ++ result_piece form b d x ∷ []
+one-more form b d results x = map-append (result_piece form b d) results (x ∷ [])
 
 -- what was reported is the first of what was read
 read-prefix : (left left' : Option (List ℕ)) (s : ReaderModel) (results : List ParseResult) (bs : List ℕ) → ReadsLines left left' new_reader s results bs → (more : List ParseResult) × (read_documents s.ended bs ≡ results ++ more)
@@ -272,15 +272,15 @@ read-prefix left left' s results bs call = by s.ended refl
         subst R (sym is) (parse_open (position_of s) [], ap open_documents_of (sym (append-nil bs)) ∙ reported-first-openly left left' s results bs [] call is)
 
 -- so many documents are in so many octets
-reported-few : (at : ℕ) (t : LineEffect) → length (told_at at t) ≤ 1
+reported-few : (at : ℕ) (t : LineEffect) → length (reported_at at t) ≤ 1
 reported-few at (WalkGoes place) = omega arith
 reported-few at (Gives document) = omega arith
 reported-few at (Faults fault) = omega arith
 
-end-few : (at : ℕ) (place : ParserState) → length (told_at_end at place) ≤ 1
+end-few : (at : ℕ) (place : ParserState) → length (reported_at_end at place) ≤ 1
 end-few at Between = omega arith
 end-few at (Heading document) = omega arith
-end-few at (Laying part document) = omega arith
+end-few at (BeforeSubsets part document) = omega arith
 end-few at (Filling subset document) = omega arith
 end-few at Stopped = omega arith
 
@@ -289,7 +289,7 @@ unfolding parse_lines
 spelled-few [] at place = end-few at place
 spelled-few (line ∷ more) at place =
     let here = documents.turn at place (line_within_limit line) in
-    omega (arith, reported-few at here, spelled-few more (at + 1) (place_after here), length-append (told_at at here) (parse_lines (at + 1) (place_after here) more))
+    omega (arith, reported-few at here, spelled-few more (at + 1) (place_after here), length-append (reported_at at here) (parse_lines (at + 1) (place_after here) more))
 
 onto-few : (c : ℕ) (lines : List (List ℕ)) → length (prepend_to_line c lines) ≤ length lines + 1
 onto-few c [] = omega arith
@@ -332,8 +332,8 @@ ran-few form b d left mid reads reads' w w' e e' s tally ran =
       arith,
       ran.tallies.accepted,
       ran.tallies.refused,
-      counted-all (map (told_piece form b d) ran.results),
-      as-many (told_piece form b d) ran.results,
+      counted-all (map (result_piece form b d) ran.results),
+      as-many (result_piece form b d) ran.results,
       ap length all,
       length-append ran.results (parse (position_of s) []),
       documents-few ran.octets,
@@ -344,22 +344,22 @@ ran-few form b d left mid reads reads' w w' e e' s tally ran =
 module _ (form : Form) (b : List Row) (d : List Sequence) (left mid left' : Option (List ℕ)) (reads reads1 reads2 : ℕ) (w w1 e e1 : Option (List ℕ)) (s s' : ReaderModel) (tally : Tally) (next : Result (Option Document) ReadFault)
     (ran : EncodedSoFar form b d left mid reads reads1 w w1 e e1 s tally) (so : ReturnsNextDocument mid left' s s' next) (counts : CountsTextReads reads1 reads2 s s') where
   -- one more document
-  pub turn : (w2 e2 : Option (List ℕ)) (tally' : Tally) → LeavesNext w1 w2 e1 e2 (told_piece form b d) next (Ok (Some verdict.Accepted)) → tally' ≡ tally_after tally verdict.Accepted
+  pub turn : (w2 e2 : Option (List ℕ)) (tally' : Tally) → LeavesNext w1 w2 e1 e2 (result_piece form b d) next (Ok (Some verdict.Accepted)) → tally' ≡ tally_after tally verdict.Accepted
       → EncodedSoFar form b d left left' reads reads2 w w2 e e2 s' tally'
   turn w2 e2 tally' (x, is, (written, accepted, refused)) after =
       let more = one-more form b d ran.results x in
       let W : List Piece → Type 0 = λ l. WritesPieces w w2 e e2 l in
       let T : List Piece → Type 0 = λ l. Tallies tally' l in
       let O : List Piece → Type 0 = λ l. Open l in
-      let p = told_piece form b d x in
+      let p = result_piece form b d x in
       record {
         octets = ran.octets ++ so.octets;
         results = ran.results ++ x ∷ [];
         call = call-then left mid left' new_reader s s' ran.results (x ∷ []) ran.octets so.octets ran.call (reported-call mid left' s s' next x so is);
         counts = counts-then reads reads1 reads2 new_reader s s' ran.counts counts;
-        written = subst W (sym more) (Written-then w w1 w2 e e1 e2 (map (told_piece form b d) ran.results) (p ∷ []) ran.written written);
-        tallies = subst T (sym more) (Tallies-one tally tally' verdict.Accepted (map (told_piece form b d) ran.results) p ran.tallies after accepted refused);
-        open' = subst O (sym more) (accepted-open (map (told_piece form b d) ran.results) p accepted ran.open');
+        written = subst W (sym more) (Written-then w w1 w2 e e1 e2 (map (result_piece form b d) ran.results) (p ∷ []) ran.written written);
+        tallies = subst T (sym more) (Tallies-one tally tally' verdict.Accepted (map (result_piece form b d) ran.results) p ran.tallies after accepted refused);
+        open' = subst O (sym more) (accepted-open (map (result_piece form b d) ran.results) p accepted ran.open');
         sound = accepted-sound form b d mid left' s s' next x so is accepted;
       }
 
@@ -372,7 +372,7 @@ module _ (form : Form) (b : List Row) (d : List Sequence) (left mid left' : Opti
       let call = call-then left mid left' new_reader s s' ran.results [] ran.octets so.octets ran.call (subst N is so.reads) in
       let done = (subst E is so.ends).1 in
       let all : documents_of bs ≡ ran.results = reported-at-end left left' s' (ran.results ++ []) bs call done ∙ append-nil ran.results in
-      let pieces : encode_pieces form b d (documents_of bs) ≡ map (told_piece form b d) ran.results = ap (encode_pieces form b d) all ∙ open-all (map (told_piece form b d) ran.results) ran.open' in
+      let pieces : encode_pieces form b d (documents_of bs) ≡ map (result_piece form b d) ran.results = ap (encode_pieces form b d) all ∙ open-all (map (result_piece form b d) ran.results) ran.open' in
       record {
         read = call.read;
         ended = true;
@@ -387,23 +387,23 @@ module _ (form : Form) (b : List Row) (d : List Sequence) (left mid left' : Opti
       }
 
   -- a document was refused
-  pub done-refused : (w2 e2 : Option (List ℕ)) (tally' : Tally) → LeavesNext w1 w2 e1 e2 (told_piece form b d) next (Ok (Some verdict.Refused)) → tally' ≡ tally_after tally verdict.Refused
+  pub done-refused : (w2 e2 : Option (List ℕ)) (tally' : Tally) → LeavesNext w1 w2 e1 e2 (result_piece form b d) next (Ok (Some verdict.Refused)) → tally' ≡ tally_after tally verdict.Refused
       → EncodeDone (encode_pieces form b d) left left' w w2 e e2 (ran.octets ++ so.octets) tally'
   done-refused w2 e2 tally' (x, is, (written, accepted, refused)) after =
       let bs = ran.octets ++ so.octets in
       let call = call-then left mid left' new_reader s s' ran.results (x ∷ []) ran.octets so.octets ran.call (reported-call mid left' s s' next x so is) in
-      let p = told_piece form b d x in
-      let before = map (told_piece form b d) ran.results in
+      let p = result_piece form b d x in
+      let before = map (result_piece form b d) ran.results in
       let closed = refused-closed before p accepted ran.open' in
       let pieces : (t : List ℕ) → (s'.ended ≡ true → t ≡ []) → encode_pieces form b d (documents_of (bs ++ t)) ≡ before ++ p ∷ [] = λ t none.
       ap (encode_pieces form b d) (reported-first left left' s' (ran.results ++ x ∷ []) bs t call none)
-      ∙ ap up_to_refused (map-append (told_piece form b d) (ran.results ++ x ∷ []) (parse (position_of s') t) ∙ ap (λ l. l ++ map (told_piece form b d) (parse (position_of s') t)) (one-more form b d ran.results x))
-      ∙ closed (map (told_piece form b d) (parse (position_of s') t)) in
+      ∙ ap up_to_refused (map-append (result_piece form b d) (ran.results ++ x ∷ []) (parse (position_of s') t) ∙ ap (λ l. l ++ map (result_piece form b d) (parse (position_of s') t)) (one-more form b d ran.results x))
+      ∙ closed (map (result_piece form b d) (parse (position_of s') t)) in
       let prefix = read-prefix left left' s' (ran.results ++ x ∷ []) bs call in
       let known : encode_pieces form b d (read_documents s'.ended bs) ≡ before ++ p ∷ [] =
       ap (encode_pieces form b d) prefix.1
-      ∙ ap up_to_refused (map-append (told_piece form b d) (ran.results ++ x ∷ []) prefix.0 ∙ ap (λ l. l ++ map (told_piece form b d) prefix.0) (one-more form b d ran.results x))
-      ∙ closed (map (told_piece form b d) prefix.0) in
+      ∙ ap up_to_refused (map-append (result_piece form b d) (ran.results ++ x ∷ []) prefix.0 ∙ ap (λ l. l ++ map (result_piece form b d) prefix.0) (one-more form b d ran.results x))
+      ∙ closed (map (result_piece form b d) prefix.0) in
       let W : List Piece → Type 0 = λ l. WritesPieces w w2 e e2 l in
       let T : List Piece → Type 0 = λ l. Tallies tally' l in
       let all = Written-then w w1 w2 e e1 e2 before (p ∷ []) ran.written written in
@@ -417,27 +417,27 @@ module _ (form : Form) (b : List Row) (d : List Sequence) (left mid left' : Opti
       }
 
   -- the end of the text, reported by an answer
-  pub done-last : (w2 e2 : Option (List ℕ)) (write_event : Result (Option Verdict) RunFault) → LeavesNext w1 w2 e1 e2 (told_piece form b d) next write_event → write_event ≡ Ok None
+  pub done-last : (w2 e2 : Option (List ℕ)) (write_event : Result (Option Verdict) RunFault) → LeavesNext w1 w2 e1 e2 (result_piece form b d) next write_event → write_event ≡ Ok None
       → (bs : List ℕ) × EncodeDone (encode_pieces form b d) left left' w w2 e e2 bs tally
   done-last w2 e2 write_event reports is =
-      let T : Result (Option Verdict) RunFault → Type 0 = λ x. LeavesNext w1 w2 e1 e2 (told_piece form b d) next x in
+      let T : Result (Option Verdict) RunFault → Type 0 = λ x. LeavesNext w1 w2 e1 e2 (result_piece form b d) next x in
       let end = subst T is reports in
       let W : Option (List ℕ) → Type 0 = λ x. EncodeDone (encode_pieces form b d) left left' w x e e1 (ran.octets ++ so.octets) tally in
       let E : Option (List ℕ) → Type 0 = λ x. EncodeDone (encode_pieces form b d) left left' w w2 e x (ran.octets ++ so.octets) tally in
       (ran.octets ++ so.octets, subst E (sym end.2) (subst W (sym end.1) (done-end end.0)))
 
   -- a document was refused, reported by an answer
-  pub done-at-refused : (w2 e2 : Option (List ℕ)) (write_event : Result (Option Verdict) RunFault) (v : Verdict) (tally' : Tally) → LeavesNext w1 w2 e1 e2 (told_piece form b d) next write_event → write_event ≡ Ok (Some v) → v ≡ verdict.Refused
+  pub done-at-refused : (w2 e2 : Option (List ℕ)) (write_event : Result (Option Verdict) RunFault) (v : Verdict) (tally' : Tally) → LeavesNext w1 w2 e1 e2 (result_piece form b d) next write_event → write_event ≡ Ok (Some v) → v ≡ verdict.Refused
       → tally' ≡ tally_after tally v → (bs : List ℕ) × EncodeDone (encode_pieces form b d) left left' w w2 e e2 bs tally'
   done-at-refused w2 e2 write_event v tally' reports is refused after =
-      let T : Result (Option Verdict) RunFault → Type 0 = λ x. LeavesNext w1 w2 e1 e2 (told_piece form b d) next x in
+      let T : Result (Option Verdict) RunFault → Type 0 = λ x. LeavesNext w1 w2 e1 e2 (result_piece form b d) next x in
       (ran.octets ++ so.octets, done-refused w2 e2 tally' (subst T (is ∙ ap (λ (x : Verdict). Ok (Some x)) refused) reports) (after ∙ ap (tally_after tally) refused))
 
   -- one more document, reported by an answer
-  pub turn-on : (w2 e2 : Option (List ℕ)) (write_event : Result (Option Verdict) RunFault) (v : Verdict) (tally' : Tally) → LeavesNext w1 w2 e1 e2 (told_piece form b d) next write_event → write_event ≡ Ok (Some v) → (v ≡ verdict.Refused → ⊥)
+  pub turn-on : (w2 e2 : Option (List ℕ)) (write_event : Result (Option Verdict) RunFault) (v : Verdict) (tally' : Tally) → LeavesNext w1 w2 e1 e2 (result_piece form b d) next write_event → write_event ≡ Ok (Some v) → (v ≡ verdict.Refused → ⊥)
       → tally' ≡ tally_after tally v → EncodedSoFar form b d left left' reads reads2 w w2 e e2 s' tally'
   turn-on w2 e2 write_event v tally' reports is some after =
-      let T : Result (Option Verdict) RunFault → Type 0 = λ x. LeavesNext w1 w2 e1 e2 (told_piece form b d) next x in
+      let T : Result (Option Verdict) RunFault → Type 0 = λ x. LeavesNext w1 w2 e1 e2 (result_piece form b d) next x in
       let accepted = accepted-else v some in
       turn w2 e2 tally' (subst T (is ∙ ap (λ (x : Verdict). Ok (Some x)) accepted) reports) (after ∙ ap (tally_after tally) accepted)
 
@@ -445,24 +445,24 @@ module _ (form : Form) (b : List Row) (d : List Sequence) (left mid left' : Opti
   stops-read w2 e2 same_w same_e call open' =
       let bs = ran.octets ++ so.octets in
       let all : open_documents_of bs ≡ ran.results = reported-at-fault left left' s' (ran.results ++ []) bs call open' ∙ append-nil ran.results in
-      let pieces : encode_pieces form b d (open_documents_of bs) ≡ map (told_piece form b d) ran.results = ap (encode_pieces form b d) all ∙ open-all (map (told_piece form b d) ran.results) ran.open' in
+      let pieces : encode_pieces form b d (open_documents_of bs) ≡ map (result_piece form b d) ran.results = ap (encode_pieces form b d) all ∙ open-all (map (result_piece form b d) ran.results) ran.open' in
       let V : Option (List ℕ) → Option (List ℕ) → List Piece → Type 0 = λ x y l. WritesPieces w x e y l in
       record {
         read = call.read;
         written = rw (same_w, same_e) (subst (V w1 e1) (sym pieces) ran.written);
-        accepted = ap (count_by is_refused) pieces ∙ open-accepts (map (told_piece form b d) ran.results) ran.open';
+        accepted = ap (count_by is_refused) pieces ∙ open-accepts (map (result_piece form b d) ran.results) ran.open';
       }
 
   -- a writer failed, or memory was refused, in the piece of what was reported
-  stops-piece : (w2 e2 : Option (List ℕ)) (f : RunFault) (x : ParseResult) → parse_results next ≡ x ∷ [] → LeavesPieces w1 w2 e1 e2 (told_piece form b d x ∷ []) (Err f)
+  stops-piece : (w2 e2 : Option (List ℕ)) (f : RunFault) (x : ParseResult) → parse_results next ≡ x ∷ [] → LeavesPieces w1 w2 e1 e2 (result_piece form b d x ∷ []) (Err f)
       → LeavesDocuments (encode_pieces form b d) left left' w w2 e e2 (Unit {0}) (ran.octets ++ so.octets) (Err Memory)
   stops-piece w2 e2 f x is reports =
       let bs = ran.octets ++ so.octets in
       let call = call-then left mid left' new_reader s s' ran.results (x ∷ []) ran.octets so.octets ran.call (reported-call mid left' s s' next x so is) in
-      let before = map (told_piece form b d) ran.results in
-      let p = told_piece form b d x in
+      let before = map (result_piece form b d) ran.results in
+      let p = result_piece form b d x in
       let prefix = read-prefix left left' s' (ran.results ++ x ∷ []) bs call in
-      let tail = map (told_piece form b d) prefix.0 in
+      let tail = map (result_piece form b d) prefix.0 in
       let following = next-piece p tail in (
         record {
           read = call.read;
@@ -473,7 +473,7 @@ module _ (form : Form) (b : List Row) (d : List Sequence) (left mid left' : Opti
             next = Some p;
             rest = following.0;
             parts = ap (encode_pieces form b d) prefix.1
-                ∙ ap up_to_refused (map-append (told_piece form b d) (ran.results ++ x ∷ []) prefix.0 ∙ ap (λ l. l ++ tail) (one-more form b d ran.results x) ∙ append_assoc before (p ∷ []) tail)
+                ∙ ap up_to_refused (map-append (result_piece form b d) (ran.results ++ x ∷ []) prefix.0 ∙ ap (λ l. l ++ tail) (one-more form b d ran.results x) ∙ append_assoc before (p ∷ []) tail)
                 ∙ ran.open' (p ∷ tail) ∙ ap (λ l. before ++ l) following.1;
             between_output = w1;
             between_errors = e1;
@@ -497,17 +497,17 @@ module _ (form : Form) (b : List Row) (d : List Sequence) (left mid left' : Opti
         let G : Option (List ℕ) → Type 0 = λ x. GrowsByPrefix w1 x [] in
         let H : Option (List ℕ) → Type 0 = λ x. GrowsByPrefix e1 x [] in (
           record {
-            given = map (told_piece form b d) ran.results;
+            given = map (result_piece form b d) ran.results;
             next = None;
-            rest = up_to_refused (map (told_piece form b d) more);
-            parts = ap (encode_pieces form b d) parts ∙ ap up_to_refused (map-append (told_piece form b d) ran.results more) ∙ ran.open' (map (told_piece form b d) more);
+            rest = up_to_refused (map (result_piece form b d) more);
+            parts = ap (encode_pieces form b d) parts ∙ ap up_to_refused (map-append (result_piece form b d) ran.results more) ∙ ran.open' (map (result_piece form b d) more);
             between_output = w1;
             between_errors = e1;
             whole = ran.written;
             output = subst G (sym same_w) (grows-nil w1);
             errors = subst H (sym same_e) (grows-nil e1);
           },
-          open-accepts (map (told_piece form b d) ran.results) ran.open',
+          open-accepts (map (result_piece form b d) ran.results) ran.open',
         )
 
     pub stops-memory : (bs : List ℕ) × LeavesDocuments (encode_pieces form b d) left left' w w2 e e2 (Unit {0}) bs (Err Memory)
@@ -545,11 +545,11 @@ module _ (form : Form) (b : List Row) (d : List Sequence) (left mid left' : Opti
             )
 
   -- the run was stopped
-  pub stops : (w2 e2 : Option (List ℕ)) (write_event : Result (Option Verdict) RunFault) (f : RunFault) (r : Result Tally RunFault) → LeavesNext w1 w2 e1 e2 (told_piece form b d) next write_event → write_event ≡ Err f → r ≡ Err f
+  pub stops : (w2 e2 : Option (List ℕ)) (write_event : Result (Option Verdict) RunFault) (f : RunFault) (r : Result Tally RunFault) → LeavesNext w1 w2 e1 e2 (result_piece form b d) next write_event → write_event ≡ Err f → r ≡ Err f
       → (bs : List ℕ) × LeavesDocuments (encode_pieces form b d) left left' w w2 e e2 (Unit {0}) bs r
   stops w2 e2 write_event f r reports fails same =
       let P : Result Tally RunFault → Type 0 = λ x. (bs : List ℕ) × LeavesDocuments (encode_pieces form b d) left left' w w2 e e2 (Unit {0}) bs x in
-      let T : Result (Option Verdict) RunFault → Type 0 = λ x. LeavesNext w1 w2 e1 e2 (told_piece form b d) next x in
+      let T : Result (Option Verdict) RunFault → Type 0 = λ x. LeavesNext w1 w2 e1 e2 (result_piece form b d) next x in
       subst P (sym same) (by f (subst T fails reports))
     where
       reads-so : (g : RunFault) → next ≡ Err (Run g) → ReadsDocument mid left' s s' (Err (Run g)) so.octets
@@ -558,7 +558,7 @@ module _ (form : Form) (b : List Row) (d : List Sequence) (left mid left' : Opti
       ends-so : (g : RunFault) → next ≡ Err (Run g) → LeavesReader s' (Err (Run g))
       ends-so g is = let E : Result (Option Document) ReadFault → Type 0 = λ x. LeavesReader s' x in subst E is so.ends
 
-      by : (g : RunFault) → LeavesNext w1 w2 e1 e2 (told_piece form b d) next (Err g) → (bs : List ℕ) × LeavesDocuments (encode_pieces form b d) left left' w w2 e e2 (Unit {0}) bs (Err g)
+      by : (g : RunFault) → LeavesNext w1 w2 e1 e2 (result_piece form b d) next (Err g) → (bs : List ℕ) × LeavesDocuments (encode_pieces form b d) left left' w w2 e e2 (Unit {0}) bs (Err g)
       by Read (is, same_w, same_e) = (
         ran.octets ++ so.octets,
         stops-read w2 e2 same_w same_e (call-then left mid left' new_reader s s' ran.results [] ran.octets so.octets ran.call (reads-so Read is)) (ends-so Read is).1,

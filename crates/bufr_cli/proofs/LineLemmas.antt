@@ -6,7 +6,7 @@ use Rattle.clap.specs.Values.{kind_of}
 use Rattle.clap.specs.declared.error.Error.{Error}
 use Rattle.clap.specs.declared.error.kind.ErrorKind.{ErrorKind}
 use Rattle.clap.specs.declared.error.kind.ErrorKind.TheVariants.{DisplayHelp, DisplayVersion, OutOfMemory}
-use Rattle.bufr_cli.specs.Line.{HasNoJob, HasTables, IsWhyNoJob, SaysWhy, TellsKind, name_of}
+use Rattle.bufr_cli.specs.Line.{HasNoJob, HasTables, IsWhyNoJob, SaysWhy, ReportsKind, name_of}
 use Rattle.bufr_cli.specs.declared.job.NoJob.{NoJob}
 use Rattle.bufr_cli.specs.declared.job.NoJob.TheVariants.{UnknownCommand, MissingTable, UnknownForm}
 use Rattle.bufr_cli.specs.declared.job.Subcommand.{Subcommand}
@@ -69,7 +69,7 @@ not-shown : (k : ErrorKind) {kind : ErrorKind} → kind ≡ k → kind ≡ OutOf
 not-shown k shown memory is = subst IsShown memory (subst IsShown (sym shown) is)
 
 -- what an error of clap says of the line
-pub reported-why : (kinds : Kinds) (e : Error) (met : Option (Text × List Row)) (fault : LineFault) → HasKind kinds e → TellsKind (kind_of e) fault → SaysWhy kinds met fault
+pub reported-why : (kinds : Kinds) (e : Error) (met : Option (Text × List Row)) (fault : LineFault) → HasKind kinds e → ReportsKind (kind_of e) fault → SaysWhy kinds met fault
 reported-why kinds e met (Help text) (inl memory) (inl shown) = absurd (not-shown DisplayHelp shown memory tt)
 reported-why kinds e met (Help text) (inl memory) (inr shown) = absurd (not-shown DisplayVersion shown memory tt)
 reported-why kinds e met (Help text) (inr among) (inl shown) = inl (subst (λ kind. IsAmong kind kinds) shown among)

@@ -30,7 +30,7 @@ use Rattle.bufr_text.proofs.LawLemmas.{text-spells}
 use Rattle.bufr_text.proofs.RowsLemmas.{rows-read, good-rows}
 use Rattle.bufr_cli.specs.DumpPieces.{IsDataPiece, IsTemplatePiece, IsMessagePiece, IsDumpPiece, dump_text}
 use Rattle.bufr_text.specs.declared.form.Form.TheVariants.{AsWritten}
-use Rattle.bufr_cli.specs.EncodePieces.{encoded, told_piece, up_to_refused}
+use Rattle.bufr_cli.specs.EncodePieces.{encoded, result_piece, up_to_refused}
 use Rattle.bufr_cli.specs.Pieces.{Piece, OnOutput, OnErrors, output_of, errors_of, is_accepted, is_refused}
 use Rattle.bufr_cli.specs.RoundTrip.{accepted_in, accepted_messages, dump_pieces, dumped, longer_by, event_octets, rebuilding, rebuilt, text_pieces, IsBuiltAgain, IsWholeRound, IsCanonicalMessage, RoundTrips, Written}
 use Rattle.bufr_cli.specs.Devices.{holding}
@@ -175,7 +175,7 @@ accepted_of piece es = flat_map (λ here. accepted_in here (piece here)) es
 record Built (b : List Row) (d : List Sequence) (piece : StreamEvent → Piece) (text : List ℕ) (accepted : List (List ℕ)) (pieces : List Piece) (most line : ℕ) : Type 0 where
   messages : List (List ℕ)
   readings : AllZip (IsBuiltAgain b d) accepted messages
-  results : map (told_piece AsWritten b d) (parse_lines line Between (lines_of text)) ≡ map OnOutput messages
+  results : map (result_piece AsWritten b d) (parse_lines line Between (lines_of text)) ≡ map OnOutput messages
   no_longer : length (concat messages) ≤ most + longer_by accepted
   scanned : (at : ℕ) → scan_from 0 at (concat messages) ≡ placed at messages
   again : (at : ℕ) → map piece (placed at messages) ≡ filter is_accepted pieces
@@ -219,11 +219,11 @@ module _ (b : List Row) (d : List Sequence) (piece : StreamEvent → Piece) (giv
       let legal = (tree_fine (tables_of b d) s.descriptors template a.expands).legal in
       let w = encoded_again b d m s template values used line (good-rows b read) legal a in
       let here : (at : ℕ) → piece (FrameAt at w.octets) ≡ OnOutput (dump_text_of s items) = λ at. same-piece m s template values used at w.octets a w.same in
-      let rest = map (told_piece AsWritten b d) (parse_lines (line + length (dump_lines s items)) Between (lines_of text)) in
+      let rest = map (result_piece AsWritten b d) (parse_lines (line + length (dump_lines s items)) Between (lines_of text)) in
       record {
         messages = w.octets ∷ r.messages;
         readings = (record { sections = s; template = template; values = values; used = used; accepted = a; same = w.same }, r.readings);
-        results = ap (map (told_piece AsWritten b d)) (text-spells s items line text (dumpable b d m s template values used read legal a))
+        results = ap (map (result_piece AsWritten b d)) (text-spells s items line text (dumpable b d m s template values used read legal a))
             ∙ ap (λ x. encoded x ∷ rest) w.is ∙ ap (λ l. OnOutput w.octets ∷ l) r.results;
         no_longer = omega (arith, length-append w.octets (concat r.messages), w.same.no_longer, r.no_longer);
         scanned = λ at. w.same.framed at (concat r.messages) ∙ ap (λ l. FrameAt at w.octets ∷ l) (r.scanned (at + length w.octets));
@@ -253,7 +253,7 @@ module _ (b : List Row) (d : List Sequence) (piece : StreamEvent → Piece) (giv
   built records [] line rows small = record {
     messages = [];
     readings = tt;
-    results = ap (map (told_piece AsWritten b d)) (nothing-spelled line);
+    results = ap (map (result_piece AsWritten b d)) (nothing-spelled line);
     no_longer = omega arith;
     scanned = λ at. scan_from-nil 0 at;
     again = λ at. refl;

@@ -48,7 +48,7 @@ pub Written-nil : (w e : Option (List ℕ)) → WritesPieces w w e e []
 Written-nil w e = record { output = Appends-nil w; errors = Appends-nil e }
 
 -- Pieces were written and counted.
-pub record ToldSoFar (w w' e e' : Option (List ℕ)) (tally : Tally) (pieces : List Piece) : Type 0 where
+pub record ReportedSoFar (w w' e e' : Option (List ℕ)) (tally : Tally) (pieces : List Piece) : Type 0 where
   pub written : WritesPieces w w' e e' pieces
   pub tallies : Tallies tally pieces
 
@@ -58,7 +58,7 @@ pub record Ran (is_piece : StreamEvent → Piece → Type 0) (left mid : Option 
   pub events : List StreamEvent
   pub step : ReadsAndPasses left mid new_finder s octets events
   pub counts : CountsReads reads reads' new_finder s
-  pub wrote : (piece : StreamEvent → Piece) → GivesPieces is_piece piece → ToldSoFar w w' e e' tally (map piece events)
+  pub wrote : (piece : StreamEvent → Piece) → GivesPieces is_piece piece → ReportedSoFar w w' e e' tally (map piece events)
   pub sound : s.fault ≡ None
   pub few : tally.accepted + tally.refused ≤ s.at
   pub near : s.at < 2 ^ 63
@@ -115,8 +115,8 @@ count-append p xs ys = grind (arith, common_steps)
 
 -- the pieces of one more event were written and counted
 reported-then : (piece : StreamEvent → Piece) (w w1 w2 e e1 e2 : Option (List ℕ)) (tally tally' : Tally) (verdict : Verdict) (events here : List StreamEvent)
-    → ToldSoFar w w1 e e1 tally (map piece events) → LeavesPieces w1 w2 e1 e2 (map piece here) (Ok verdict) → tally' ≡ tally_after tally verdict
-    → ToldSoFar w w2 e e2 tally' (map piece (events ++ here))
+    → ReportedSoFar w w1 e e1 tally (map piece events) → LeavesPieces w1 w2 e1 e2 (map piece here) (Ok verdict) → tally' ≡ tally_after tally verdict
+    → ReportedSoFar w w2 e e2 tally' (map piece (events ++ here))
 reported-then piece w w1 w2 e e1 e2 tally tally' verdict events here before reports counts =
     let W : List Piece → Type 0 = λ l. WritesPieces w w2 e e2 l in
     let both = sym (map-append piece events here) in

@@ -13,7 +13,7 @@ pub mod EncodePieces
 -- what a run of `encode` leaves, by its answer
 pub mod EncodeRun
 -- what telling one document does to the writers
-pub mod EncodeTelling
+pub mod EncodeReporting
 -- the fault lines of a stream and of its messages, each with its offset
 pub mod FaultLine
 -- a text for one of the two writers, and what `ls` writes for an event

@@ -6,7 +6,7 @@ ghost use Rattle.bufr_tables.specs.FaultNumber.{number_of_template_fault};
 ghost use Rattle.bufr_text.specs.Documents.{TextLineFault, Refused};
 ghost use Rattle.bufr_text.specs.Reader.{parse_results};
 ghost use Rattle.bufr_text.specs.Encoding.{by_template};
-ghost use Rattle.bufr_text.specs.EncodingFault.{number_of_document_fault, told_refusal, walk_told};
+ghost use Rattle.bufr_text.specs.EncodingFault.{number_of_document_fault, reported_refusal, walk_report};
 ghost use Rattle.bufr_text.specs.Writing.{Writes};
 ghost use Rattle.bufr_cli.specs.DocumentLine.{document_line, item_fault_line, refusal_line, refused_line, walk_text};
 ghost use Rattle.bufr_cli.specs.Counting.{OnlyWrites};
@@ -134,7 +134,7 @@ fn write_walk<E: Sink>(
 ) -> Result<(), RunFault>
     requires { number ≡ number_of_document_fault (DocumentFault.Walk line refusal) }
     ensures writes { Writes (E.taken e.old) (E.taken e.new)
-        (item_fault_line line (walk_told refusal)) result }
+        (item_fault_line line (walk_report refusal)) result }
     ensures counts { OnlyWrites (writer_of E.Sink e.old) (writer_of E.Sink e.new) result }
 {
     let why = refusal.number();
@@ -155,7 +155,7 @@ fn write_walk<E: Sink>(
 pub fn write_document_fault<E: Sink>(fault: DocumentFault, e: &mut E) -> Result<(), RunFault>
     requires some { fault ≢ DocumentFault.Memory }
     requires template { (line : ℕ) → fault ≢ DocumentFault.Template line TemplateFault.Memory }
-    ensures writes { IfSome (told_refusal fault) (λ refused.
+    ensures writes { IfSome (reported_refusal fault) (λ refused.
         Writes (E.taken e.old) (E.taken e.new) (refusal_line refused.line refused.why) result) }
     ensures counts { OnlyWrites (writer_of E.Sink e.old) (writer_of E.Sink e.new) result }
 {

@@ -11,7 +11,7 @@ ghost use Rattle.bufr_cli.specs.Counting.{BlamesWriter};
 ghost use Rattle.bufr_cli.specs.Devices.{input_of, writers_of};
 ghost use Rattle.bufr_cli.specs.Running.{RunsEvents, GivesPieces, ReadsAtMost};
 ghost use Rattle.bufr_cli.specs.Whole.{WritesAndCounts};
-ghost use Rattle.bufr_cli.specs.WritingPieces.{StopsPiece, TellsPieces};
+ghost use Rattle.bufr_cli.specs.WritingPieces.{StopsPiece, ReportsPieces};
 
 use crate::fault_line::{write_section_fault, write_stray, write_template_fault, write_walk_fault};
 use crate::run_events::{EventWriter, run_events};
@@ -72,7 +72,7 @@ fn dump_data<W: Sink, E: Sink>(
     ensures same { cache.new ≡ cache.old }
     ensures reports { (piece : Piece)
         → IsDataPiece table.now offset message.now template.now piece
-        → TellsPieces (writers_of W.Sink w.old E.Sink e.old)
+        → ReportsPieces (writers_of W.Sink w.old E.Sink e.old)
         (writers_of W.Sink w.new E.Sink e.new) (piece ∷ []) result }
     ensures stops { StopsPiece true result }
     ensures counts { BlamesWriter (writers_of W.Sink w.old E.Sink e.old)
@@ -110,7 +110,7 @@ fn dump_selected<W: Sink, E: Sink>(
     ensures same { cache.new ≡ cache.old }
     ensures reports { (piece : Piece)
         → IsMessagePiece templates.now.table_b templates.now.table_d offset (Ok message.now) piece
-        → TellsPieces (writers_of W.Sink w.old E.Sink e.old)
+        → ReportsPieces (writers_of W.Sink w.old E.Sink e.old)
         (writers_of W.Sink w.new E.Sink e.new) (piece ∷ []) result }
     ensures stops { StopsPiece true result }
     ensures counts { BlamesWriter (writers_of W.Sink w.old E.Sink e.old)
@@ -141,7 +141,7 @@ fn dump_message<W: Sink, E: Sink>(
 ) -> Result<Verdict, RunFault>
     ensures reports { (piece : Piece)
         → IsMessagePiece templates.old.table_b templates.old.table_d offset (Ok message.now) piece
-        → TellsPieces (writers_of W.Sink w.old E.Sink e.old)
+        → ReportsPieces (writers_of W.Sink w.old E.Sink e.old)
         (writers_of W.Sink w.new E.Sink e.new) (piece ∷ []) result }
     ensures stops { StopsPiece true result }
     ensures table_b { templates.new.table_b ≡ templates.old.table_b }
@@ -171,7 +171,7 @@ fn dump_event<W: Sink, E: Sink>(
     requires { IsEvent event }
     ensures reports { (piece : StreamEvent → Piece)
         → GivesPieces (IsDumpPiece templates.old.table_b templates.old.table_d) piece
-        → TellsPieces (writers_of W.Sink w.old E.Sink e.old)
+        → ReportsPieces (writers_of W.Sink w.old E.Sink e.old)
         (writers_of W.Sink w.new E.Sink e.new) (map piece (events_of event.entry)) result }
     ensures stops { StopsPiece true result }
     ensures table_b { templates.new.table_b ≡ templates.old.table_b }

@@ -5,7 +5,7 @@ ghost use Rattle.clap.specs.Values.{kind_of};
 ghost use Rattle.clap.specs.Words.{app_of, fault_of, first_of, found_of, new_app, new_rule, rows_of, rule_of, subcommand_of, with_subcommand};
 ghost use Rattle.bufr_text.specs.declared.form.Form.{Form};
 ghost use Rattle.bufr_cli.specs.Line.{bufr_app, encode_app, form_rule, ls_app, name_of, no_job_text, table_rule, tables_app, top_app, word_of};
-ghost use Rattle.bufr_cli.specs.Line.{AreNamed, HasTables, IsJobOf, IsWhyNoJob, LacksForm, LacksTables, SaysWhy, TellsKind};
+ghost use Rattle.bufr_cli.specs.Line.{AreNamed, HasTables, IsJobOf, IsWhyNoJob, LacksForm, LacksTables, SaysWhy, ReportsKind};
 
 use bufr_text::Form;
 use clap::error::ErrorKind;
@@ -356,7 +356,7 @@ fn command_line<'a>(alloc: Global) -> Result<clap::Command<'a>, AllocError>
 /// The fault that an error of clap means, with its text.
 // rule: help
 fn line_fault(alloc: Global, error: &Error) -> LineFault
-    ensures { TellsKind (kind_of error.now) result }
+    ensures { ReportsKind (kind_of error.now) result }
 {
     if error.kind() == ErrorKind::OutOfMemory {
         return LineFault::Memory;

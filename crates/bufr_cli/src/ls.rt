@@ -7,7 +7,7 @@ ghost use Rattle.bufr_cli.specs.Counting.{BlamesWriter};
 ghost use Rattle.bufr_cli.specs.Devices.{input_of, writers_of};
 ghost use Rattle.bufr_cli.specs.Running.{RunsEvents};
 ghost use Rattle.bufr_cli.specs.Whole.{WritesAndCounts};
-ghost use Rattle.bufr_cli.specs.WritingPieces.{StopsPiece, TellsPieces};
+ghost use Rattle.bufr_cli.specs.WritingPieces.{StopsPiece, ReportsPieces};
 
 use crate::fault_line::{write_section_fault, write_stray};
 use crate::run_events::{EventWriter, run_events};
@@ -21,7 +21,7 @@ use std::alloc::Global;
 // rule: one-fault-a-message
 fn list_event<W: Sink, E: Sink>(event: Event<'_>, w: &mut W, e: &mut E) -> Result<Verdict, RunFault>
     requires { IsEvent event }
-    ensures reports { TellsPieces (writers_of W.Sink w.old E.Sink e.old)
+    ensures reports { ReportsPieces (writers_of W.Sink w.old E.Sink e.old)
         (writers_of W.Sink w.new E.Sink e.new) (map ls_piece (events_of event.entry)) result }
     ensures stops { StopsPiece false result }
     ensures counts { BlamesWriter (writers_of W.Sink w.old E.Sink e.old)

@@ -9,7 +9,7 @@ ghost use Rattle.bufr_cli.specs.Pieces.{Piece};
 ghost use Rattle.bufr_cli.specs.Counting.{BlamesWriter, CountsCalls};
 ghost use Rattle.bufr_cli.specs.Devices.{input_of, writer_of, writers_of};
 ghost use Rattle.bufr_cli.specs.Running.{RunsEvents, GivesPieces};
-ghost use Rattle.bufr_cli.specs.WritingPieces.{RunReads, StopsPiece, TellsPieces};
+ghost use Rattle.bufr_cli.specs.WritingPieces.{RunReads, StopsPiece, ReportsPieces};
 
 use crate::tally::{Tally, Verdict};
 use bufr_bits::{Sink, Source};
@@ -39,7 +39,7 @@ pub trait EventWriter {
     ) -> Result<Verdict, RunFault>
         requires { IsEvent event }
         ensures reports { (piece : StreamEvent → Piece) → GivesPieces (is_piece self.old) piece
-            → TellsPieces (writers_of W.Sink w.old E.Sink e.old)
+            → ReportsPieces (writers_of W.Sink w.old E.Sink e.old)
             (writers_of W.Sink w.new E.Sink e.new)
             (map piece (events_of event.entry)) result }
         ensures stops { StopsPiece (takes_memory self.old) result }

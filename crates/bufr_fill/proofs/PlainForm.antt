@@ -8,16 +8,16 @@ use Rattle.bufr_walk.specs.declared.spec.Role.TheVariants as role
 use Rattle.bufr_walk.specs.declared.spec.Taken.{Taken}
 use Rattle.bufr_walk.specs.FieldSpec.{FieldSpec, IsSpec}
 use Rattle.bufr_walk.specs.Calls.{content_at}
-use Rattle.bufr_walk.specs.Content.{Content, bits_for, told_by_role, answer_of}
+use Rattle.bufr_walk.specs.Content.{Content, bits_for, answer_by_role, answer_of}
 use Rattle.bufr_walk.specs.Course.{Course, take_next, at_end}
-use Rattle.bufr_walk.specs.PackedField.{packed_field, told_first}
+use Rattle.bufr_walk.specs.PackedField.{packed_field, answer_first}
 use Rattle.bufr_walk.specs.PlainField.{FieldFault, found, plain_field}
 use Rattle.bufr_walk.specs.Reading.{Item, plain, packed, after, ReadsPass, ReadsSubsets, IsPackedReading}
 use Rattle.bufr_fill.specs.Draft.{Draft}
 use Rattle.bufr_fill.specs.DraftContent.{content_of, plainly, plain_filler}
 use Rattle.bufr_fill.specs.Encoding.{plain_data, ◌>>=◌}
 use Rattle.bufr_fill.specs.Entries.{Subset}
-use Rattle.bufr_fill.specs.Filling.{fill, fill_one, fill_none, filled, and_behind}
+use Rattle.bufr_fill.specs.Filling.{fill, fill_one, fill_none, filled, with_bits_before}
 use Rattle.bufr_fill.specs.Fits.{Fits, AllFit}
 use Rattle.bufr_fill.specs.OtherForm.{subsets_from, IsWrittenApart}
 use Rattle.bufr_fill.specs.Packing.{same, are_same, packed_bits, packed_unlike, packing}
@@ -47,8 +47,8 @@ join end_line course i d ds w out next fills bits rest =
     let filler = plain_filler end_line in
     ap (λ n. fill_one filler n d (λ t. fill filler (λ answer_of. course (t ∷ answer_of)) ds)) next
     ∙ ap (λ r. filled filler i.spec (plainly d.line i.spec r) (λ t. fill filler (λ answer_of. course (t ∷ answer_of)) ds)) fills
-    ∙ ap (λ b. and_behind filler b (fill filler (after plain course i) ds)) bits
-    ∙ ap (and_behind filler w) rest
+    ∙ ap (λ b. with_bits_before filler b (fill filler (after plain course i) ds)) bits
+    ∙ ap (with_bits_before filler w) rest
 
 pub plain_subset : (end_line : ℕ) (course : Course) (items : List (Item Content)) (ds : List Draft) → Follows course items → AreDrafts IsDumped items ds → IsPlainSubset end_line course items ds
 plain_subset end_line course [] [] h dumped = record {
@@ -115,11 +115,11 @@ same_at c (d ∷ cs) (suc j) e h = same_at c cs j (and_second (same c d) (are_sa
 abbrev packed_or : Bool → Role → FieldSpec → Content → List Content → Result (List Bool) FieldFault
 packed_or b r spec c cs = if b then Ok (packed_bits (bits_for spec.width c) 0 []) else packed_unlike r spec (c ∷ cs)
 
-alike : (b : Bool) (r : Role) (spec : FieldSpec) (c : Content) (cs : List Content) (out : List Bool) (j : ℕ) → are_same c cs ≡ b → packed_or b r spec c cs ≡ Ok out → j < length cs → told_by_role r (content_at j cs) ≡ told_by_role r c
+alike : (b : Bool) (r : Role) (spec : FieldSpec) (c : Content) (cs : List Content) (out : List Bool) (j : ℕ) → are_same c cs ≡ b → packed_or b r spec c cs ≡ Ok out → j < length cs → answer_by_role r (content_at j cs) ≡ answer_by_role r c
 alike b role.Element spec c cs out j q e h = refl
 alike b role.Inserted spec c cs out j q e h = refl
-alike true role.Factor spec c cs out j q e h = ap (told_by_role role.Factor) (same_at c cs j q h)
-alike true role.Reference spec c cs out j q e h = ap (told_by_role role.Reference) (same_at c cs j q h)
+alike true role.Factor spec c cs out j q e h = ap (answer_by_role role.Factor) (same_at c cs j q h)
+alike true role.Reference spec c cs out j q e h = ap (answer_by_role role.Reference) (same_at c cs j q h)
 alike false role.Factor spec c cs out j q e h = absurd cc
 alike false role.Reference spec c cs out j q e h = absurd cc
 
@@ -135,7 +135,7 @@ fit_at spec (c ∷ cs) (suc j) f h = fit_at spec cs j f.1 (omega (arith, h))
 -- what holds of the content of one subset of an item that was read
 record IsOneOf (spec : FieldSpec) (cs : List Content) (j : ℕ) : Type 0 where
   fits : Fits spec (content_at j cs)
-  gives : answer_of spec (content_at j cs) ≡ told_first spec cs
+  gives : answer_of spec (content_at j cs) ≡ answer_first spec cs
 
 one_of : (n : ℕ) (spec : FieldSpec) (cs : List Content) (j : ℕ) (bits mid : List Bool) → IsSpec spec → j < n → packed_field n spec bits ≡ Ok (found cs mid) → IsOneOf spec cs j
 one_of n spec [] j bits mid good h e = absurd (omega (arith, h, packed_count n spec good [] bits mid e))

@@ -28,15 +28,15 @@ pub record Filler (D C E : Type 0) : Type 0 where
 
 module _ {D C E : Type 0} (filler : Filler D C E) where
   -- bits, followed by the bits of the rest
-  abbrev pub and_behind : List Bool → Result (List Bool) E → Result (List Bool) E
-  and_behind bits (Err why) = Err why
-  and_behind bits (Ok suffix) = Ok (bits ++ suffix)
+  abbrev pub with_bits_before : List Bool → Result (List Bool) E → Result (List Bool) E
+  with_bits_before bits (Err why) = Err why
+  with_bits_before bits (Ok suffix) = Ok (bits ++ suffix)
 
   -- one item that was written, and the rest
   abbrev pub filled : FieldSpec → Result (WrittenItem C) E → (Taken → Result (List Bool) E)
       → Result (List Bool) E
   filled spec (Err why) rest = Err why
-  filled spec (Ok w) rest = and_behind w.bits (rest (filler.gives spec w.content))
+  filled spec (Ok w) rest = with_bits_before w.bits (rest (filler.gives spec w.content))
 
   -- what comes next, where there is a draft
   abbrev pub fill_one : Next → D → (Taken → Result (List Bool) E) → Result (List Bool) E

@@ -77,7 +77,7 @@ pub fn written_packed_data_are_read()
 
 /// Law: the drafts of the items of a reading, without compression, are written to bits that the
 /// items determine. Other drafts with the same contents are written to the same bits.
-pub fn plain_data_are_told_by_what_is_said()
+pub fn plain_data_are_fixed_by_what_is_said()
     ensures { OfTemplates (λ course. (subsets : List (List (Item Content)))
         (drafts others : List Subset) (bits suffix : List Bool)
         → ReadsSubsets course subsets bits suffix
@@ -86,7 +86,7 @@ pub fn plain_data_are_told_by_what_is_said()
 {}
 
 /// Law: the same of compressed data.
-pub fn packed_data_are_told_by_what_is_said()
+pub fn packed_data_are_fixed_by_what_is_said()
     ensures { OfTemplates (λ course. (n : ℕ) (items : List (Item (List Content)))
         (drafts others : List Subset) (bits suffix : List Bool)
         → IsPackedReading n course items bits suffix

@@ -280,7 +280,7 @@ fn octets_needed(drawn: &[FieldContent<'_>], spec: &Spec) -> usize
 
 /// Writes the first octets of a text that spaces follow, or ones where the text is missing.
 #[tactic(auto, using(crate::proofs::PackSteps::eighth_most))]
-fn push_front(
+fn push_prefix(
     out: &mut BitWriter,
     drawn: FieldContent<'_>,
     k: usize,
@@ -322,7 +322,7 @@ fn push_fronts(
     ensures grown { ExtendsBits out.old out.new }
 {
     for d in drawn {
-        push_front(out, *d, k, spec)?;
+        push_prefix(out, *d, k, spec)?;
     }
     Ok(())
 }

@@ -11,7 +11,7 @@ use Rattle.bufr_tables.specs.Cells.{cells_of}
 use Rattle.bufr_tables.specs.Passes.{own_places, group_of, first_cell, factor_cells}
 use Rattle.bufr_tables.specs.Growth.{BuilderModel, growth, places_so_far, push_tree, with_open_group, with_closed_group}
 use Rattle.bufr_tables.proofs.TreeLemmas.{depth-join, consumes-join, or_assoc}
-use Rattle.bufr_tables.proofs.Laying.{length-cells, cells-tail, cells-join}
+use Rattle.bufr_tables.proofs.Flattening.{length-cells, cells-tail, cells-join}
 
 pub same_growth : (c c' : List Cell) (n n' d d' : ℕ) (f f' : Bool) → c ≡ c' → n ≡ n' → d ≡ d' → f ≡ f' → growth c n d f ≡ growth c' n' d' f'
 same_growth c c' n n' d d' f f' p q r s = ap (λ x. growth x n d f) p ∙ ap (λ x. growth c' x d f) q ∙ ap (λ x. growth c' n' x f) r ∙ ap (growth c' n' d') s

@@ -9,7 +9,7 @@ use Rattle.bufr_tables.specs.Cells.{cells_of, trees_of_cells, AreCellsOf, IsTemp
 use Rattle.bufr_tables.specs.Expansion.{Tables, ◌>>=◌, unless, level, inner_of, first_of, tree_of, max_open}
 use Rattle.bufr_tables.specs.Growth.{BuilderModel, growth, places_so_far, push_tree, PushesTree, IsFaultOrMemory}
 use Rattle.bufr_tables.proofs.SoundLemmas.{tree_fine}
-use Rattle.bufr_tables.proofs.Laying.{cells-tail, length-cells, raised_laid, kept_raised}
+use Rattle.bufr_tables.proofs.Flattening.{cells-tail, length-cells, raised_flattened, kept_raised}
 use Rattle.bufr_tables.proofs.GrowthLemmas.{same_growth}
 
 -- what is left of the definition after the list
@@ -69,8 +69,8 @@ whole-flattened tables list new cells whole e within =
     }
 
 -- the cells of a template have been built
-pub record IsBuilt (tables : Tables) (list : List ℕ) (cells : List Cell) (depth_told : ℕ) : Type 0 where
-  pub is_kept : IsTemplate cells depth_told (trees_of_cells cells)
+pub record IsBuilt (tables : Tables) (list : List ℕ) (cells : List Cell) (depth_reported : ℕ) : Type 0 where
+  pub is_kept : IsTemplate cells depth_reported (trees_of_cells cells)
   pub is_defined : tree_of tables list ≡ Ok (trees_of_cells cells)
 
 -- with the end of the template after the cells
@@ -78,6 +78,6 @@ pub whole-built : (tables : Tables) (list : List ℕ) (new : BuilderModel) (cell
 whole-built tables list new cells whole e within =
     let flattened = whole-flattened tables list new cells whole e within in
     record {
-      is_kept = kept_raised cells new.deep whole.tree (record { is_laid = flattened; depth_is = whole.depth_is });
-      is_defined = whole.is_defined ∙ ap Ok (sym (raised_laid cells whole.tree flattened));
+      is_kept = kept_raised cells new.deep whole.tree (record { is_flattened = flattened; depth_is = whole.depth_is });
+      is_defined = whole.is_defined ∙ ap Ok (sym (raised_flattened cells whole.tree flattened));
     }

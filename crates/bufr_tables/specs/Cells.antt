@@ -59,6 +59,6 @@ pub record AreCellsOf (cells : List Cell) (tree : Tree) : Type 0 where
   pub legal : IsLegal tree
 
 -- that, with the depth that is kept beside the cells
-pub record IsTemplate (cells : List Cell) (depth_told : ℕ) (tree : Tree) : Type 0 where
-  pub is_laid : AreCellsOf cells tree
-  pub depth_is : depth_told ≡ depth tree
+pub record IsTemplate (cells : List Cell) (depth_reported : ℕ) (tree : Tree) : Type 0 where
+  pub is_flattened : AreCellsOf cells tree
+  pub depth_is : depth_reported ≡ depth tree

@@ -17,12 +17,12 @@ abbrev pub text_left : Reader (Bor (List ℕ)) → Option (List ℕ)
 text_left reader = source_of (λ s. Some s.now) reader
 
 -- the records of these octets, from a state of the reader
-abbrev pub records_behind : State → Option (List ℕ) → List Record
-records_behind state None = []
-records_behind state (Some text) = records_from default_config (length text + 1) state text
+abbrev pub records_after : State → Option (List ℕ) → List Record
+records_after state None = []
+records_after state (Some text) = records_from default_config (length text + 1) state text
 
 abbrev pub records_left : RecordReader → List Record
-records_left r = records_behind (reader_state r.reader) (text_left r.reader)
+records_left r = records_after (reader_state r.reader) (text_left r.reader)
 
 -- how many octets there are, where they are known
 abbrev pub count_of : Option (List ℕ) → ℕ

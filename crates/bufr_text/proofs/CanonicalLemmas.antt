@@ -210,8 +210,8 @@ within_data : (table : List Row) (template : Tree) (s : Sections) (values : Valu
 within_data table template s (apart subsets) used h = h.1
 within_data table template s (together items) used h = h.1
 
-front_is : (bits out : List Bool) (used : ℕ) → used ≤ length bits → bits ≡ out ++ drop used bits → out ≡ take used bits
-front_is bits out used few e =
+prefix_is : (bits out : List Bool) (used : ℕ) → used ≤ length bits → bits ≡ out ++ drop used bits → out ≡ take used bits
+prefix_is bits out used few e =
     let l : length out ≡ used = omega (arith, ap length e, length-append out (drop used bits), length-drop used bits, few) in
     sym (ap (take used) e ∙ take_at out (drop used bits) used l)
 
@@ -226,7 +226,7 @@ canonical_encoded table sequences m s template values used at rows legal a c =
     let f = data_filled table template s values used (at + lines_before s) rows legal a.read c.bits in
     let edition = s.head.edition in
     let made = octets_of_bits f.out in
-    let payload : s.payload ≡ with_even_length edition 4 made = c.least ∙ ap (λ (b : List Bool). with_even_length edition 4 (octets_of_bits b)) (sym (front_is bits f.out used (within_data table template s values used a.read) f.splits)) in
+    let payload : s.payload ≡ with_even_length edition 4 made = c.least ∙ ap (λ (b : List Bool). with_even_length edition 4 (octets_of_bits b)) (sym (prefix_is bits f.out used (within_data table template s values used a.read) f.splits)) in
     let same : parts_of_document d made ≡ parts_with s made = parts_back at s items made in
     let short : length made ≤ length s.payload = omega (arith, ap length payload, length-evened edition 4 made, even-least edition (4 + length made)) in
     let most : message_size edition (parts_with s made) ≤ max_octets = size_least s made max_octets short (not-too-long m s a.sections a.few) in

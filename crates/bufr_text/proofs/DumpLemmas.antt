@@ -7,7 +7,7 @@ use Rattle.std.proofs.lemmas.Bool.{cases_lt}
 use Rattle.std.proofs.lemmas.List.{take_all, drop_all}
 use Rattle.bufr_frame.specs.declared.fault.RunFault.{RunFault}
 use Rattle.bufr_frame.specs.declared.fault.RunFault.TheVariants.{Read, Write, InputTooLong, Memory}
-use Rattle.bufr_text.specs.Grammar.{runs_behind, runs_of}
+use Rattle.bufr_text.specs.Grammar.{runs_after, runs_of}
 use Rattle.bufr_text.specs.Dump.{text_of_lines}
 use Rattle.bufr_text.specs.DumpWritten.{WritesPrefix, CountsFaults}
 use Rattle.bufr_text.specs.Writing.{Writes, GrowsByPrefix}
@@ -91,14 +91,14 @@ so-far-end a b whole rest before none =
     subst P (sym (before.parts ∙ ap (λ l. before.prefix ++ l) none ∙ append-nil before.prefix)) before.gains
 
 -- a list in runs: the first and the others
-runs-skip : (skip less : ℕ) (xs : List ℕ) → runs_behind skip (suc less) xs ≡ runs_behind 0 (suc less) (drop skip xs)
-unfolding runs_behind
+runs-skip : (skip less : ℕ) (xs : List ℕ) → runs_after skip (suc less) xs ≡ runs_after 0 (suc less) (drop skip xs)
+unfolding runs_after
 runs-skip zero less xs = refl
 runs-skip (suc skip) less [] = refl
 runs-skip (suc skip) less (x ∷ xs) = runs-skip skip less xs
 
 pub runs-next : (less : ℕ) (xs : List ℕ) → 0 < length xs → runs_of (suc less) xs ≡ take (suc less) xs ∷ runs_of (suc less) (drop (suc less) xs)
-unfolding runs_behind
+unfolding runs_after
 runs-next less [] some = absurd (omega (arith, some))
 runs-next less (x ∷ xs) some =
     let e : suc less - 1 ≡ less = omega arith in
@@ -109,7 +109,7 @@ pub lines-next : (f : List ℕ → List ℕ) (less : ℕ) (xs : List ℕ) → 0 
 lines-next f less xs some = ap (λ (l : List (List ℕ)). text_of_lines (map f l)) (runs-next less xs some)
 
 pub lines-none : (f : List ℕ → List ℕ) (most : ℕ) (xs : List ℕ) → length xs ≤ 0 → text_of_lines (map f (runs_of most xs)) ≡ []
-unfolding runs_behind
+unfolding runs_after
 lines-none f most [] none = refl
 lines-none f most (x ∷ xs) none = absurd (omega (arith, none))
 

@@ -27,7 +27,7 @@ use Rattle.bufr_walk.specs.Course.{Course, next_item}
 use Rattle.bufr_walk.specs.Outcome.{data_of}
 use Rattle.bufr_walk.specs.PackedField.{packed_field}
 use Rattle.bufr_walk.specs.PlainField.{found}
-use Rattle.bufr_walk.specs.Reading.{Item, plain, packed, ReadsItems, ReadsSubsets, IsPackedReading, IsReading, Values, apart, together, tells_of, after}
+use Rattle.bufr_walk.specs.Reading.{Item, plain, packed, ReadsItems, ReadsSubsets, IsPackedReading, IsReading, Values, apart, together, item_answer, after}
 use Rattle.bufr_fill.specs.Fits.{AreOctets, FitsKind, FitsRole, Fits, AllFit}
 use Rattle.bufr_fill.proofs.WrittenLists.{AllSpecs, EachSpecs}
 use Rattle.bufr_fill.proofs.FieldBits.{top_below}
@@ -182,7 +182,7 @@ module _ (table : List Row) (all : AllByRecursion IsRead table) where
   items_fit course [] bits suffix good specs h = tt
   items_fit course (i ∷ items) bits suffix good specs h = (
     item_fits i.spec i.content (good [] i.spec h.1) (value_fits i.spec specs.0 i.content (plain_read i.spec specs.0 bits h.0 i.content h.2).0),
-    items_fit (after plain course i) items h.0 suffix (λ results spec e. good (tells_of plain i ∷ results) spec e) specs.1 h.3,
+    items_fit (after plain course i) items h.0 suffix (λ results spec e. good (item_answer plain i ∷ results) spec e) specs.1 h.3,
   )
 
   subsets_fit : (course : Course) (subsets : List (List (Item Content))) (bits suffix : List Bool) → IsWordCourse course → EachSpecs subsets → ReadsSubsets course subsets bits suffix → AllByRecursion (λ items. AllByRecursion IsItem items) (map (items_apart table) subsets)
@@ -197,7 +197,7 @@ module _ (table : List Row) (all : AllByRecursion IsRead table) where
   packed_items_fit n j course [] bits suffix good specs h = tt
   packed_items_fit n j course (i ∷ items) bits suffix good specs h = (
     item_fits i.spec (content_at j i.content) (good [] i.spec h.1) (value_at i.spec specs.0 j i.content (packed_fits n i.spec i.content bits h.0 specs.0 h.2)),
-    packed_items_fit n j (after (packed n) course i) items h.0 suffix (λ results spec e. good (tells_of (packed n) i ∷ results) spec e) specs.1 h.3,
+    packed_items_fit n j (after (packed n) course i) items h.0 suffix (λ results spec e. good (item_answer (packed n) i ∷ results) spec e) specs.1 h.3,
   )
 
   together_fit : (left j : ℕ) (items : List (Item (List Content))) → ((j : ℕ) → AllByRecursion IsItem (compressed_dump_items table j items)) → AllByRecursion (λ items. AllByRecursion IsItem items) (compressed_dump_subsets table left j items)

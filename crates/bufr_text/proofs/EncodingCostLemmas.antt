@@ -7,11 +7,11 @@ use Rattle.bufr_walk.specs.Course.{Course, Next, take_next, at_end, astray, refu
 use Rattle.bufr_walk.specs.Stop.{stop_by}
 use Rattle.bufr_walk.specs.Taking.{TakenField, Takes, course_after}
 use Rattle.bufr_fill.specs.Fault.{FaultAt, at_line, walk_refused}
-use Rattle.bufr_fill.specs.Filling.{WrittenItem, Filler, fill, fill_one, fill_none, filled, and_behind}
+use Rattle.bufr_fill.specs.Filling.{WrittenItem, Filler, fill, fill_one, fill_none, filled, with_bits_before}
 use Rattle.bufr_fill.proofs.Filled.{HasFilled}
-use Rattle.bufr_text.specs.Encoding.{RefusedAt, told_of_items}
-use Rattle.bufr_text.specs.EncodingFault.{IsDocumentRefusal, told_of_draft}
-use Rattle.bufr_text.specs.DataWritten.{told_stop}
+use Rattle.bufr_text.specs.Encoding.{RefusedAt, report_of_items}
+use Rattle.bufr_text.specs.EncodingFault.{IsDocumentRefusal, report_of_draft}
+use Rattle.bufr_text.specs.DataWritten.{reported_stop}
 use Rattle.bufr_text.specs.EncodingCost.{counted_one, counted_at, count_filled}
 use Rattle.std.specs.Option.{option_map}
 use Rattle.std.proofs.Common.{◌<◌, get_or}
@@ -64,7 +64,7 @@ module _ {D C E : Type 0} (filler : Filler D C E) where
       count : Taken → ℕ
       count t = count_filled filler (λ results. course (t ∷ results)) ds
 
-      suffix : (item : List Bool) (r : Result (List Bool) E) (n : ℕ) → ((b : List Bool) → r ≡ Ok b → n ≡ length b) → and_behind filler item r ≡ Ok bits → length item + n ≡ length bits
+      suffix : (item : List Bool) (r : Result (List Bool) E) (n : ℕ) → ((b : List Bool) → r ≡ Ok b → n ≡ length b) → with_bits_before filler item r ≡ Ok bits → length item + n ≡ length bits
       suffix item (Ok b) n g e = let same : item ++ b ≡ bits = cc in omega (arith, g b refl, length-append item b, ap length same)
       suffix item (Err why) n g e = absurd cc e
 
@@ -79,14 +79,14 @@ module _ {D C E : Type 0} (filler : Filler D C E) where
       by (refused why) h g = absurd cc h
 
 -- a fault that is reported is the definition's
-pub refuses_so : (o : Option FaultAt) (results : Option RefusedAt) (r : Result (List Bool) FaultAt) → results ≡ option_map told_of_draft o → ((f : FaultAt) → o ≡ Some f → r ≡ Err f) → IsDocumentRefusal results (told_of_items r)
-refuses_so None results r e h = subst (λ t. IsDocumentRefusal t (told_of_items r)) (sym e) tt
-refuses_so (Some f) results r e h = subst (λ t. IsDocumentRefusal t (told_of_items r)) (sym e) (ap told_of_items (h f refl))
+pub refuses_so : (o : Option FaultAt) (results : Option RefusedAt) (r : Result (List Bool) FaultAt) → results ≡ option_map report_of_draft o → ((f : FaultAt) → o ≡ Some f → r ≡ Err f) → IsDocumentRefusal results (report_of_items r)
+refuses_so None results r e h = subst (λ t. IsDocumentRefusal t (report_of_items r)) (sym e) tt
+refuses_so (Some f) results r e h = subst (λ t. IsDocumentRefusal t (report_of_items r)) (sym e) (ap report_of_items (h f refl))
 
 -- the refusal of a walk, as it is reported
-pub told_refused : (line : ℕ) (r : refusal.the_data) (f : FaultAt) → told_stop line (stop_by r) ≡ Some f → at_line line (walk_refused r) ≡ f
-told_refused line (refusal.Width fxy) f e = cc
-told_refused line (refusal.Defining fxy) f e = cc
+pub reported_refused : (line : ℕ) (r : refusal.the_data) (f : FaultAt) → reported_stop line (stop_by r) ≡ Some f → at_line line (walk_refused r) ≡ f
+reported_refused line (refusal.Width fxy) f e = cc
+reported_refused line (refusal.Defining fxy) f e = cc
 
 -- octets that are the bits of data
 pub octets_are_bits : (xs : List ℕ) (bits : List Bool) → ((k : ℕ) → get_or xs k 0 < 256) → AreOctetsOf xs bits → xs ≡ octets_of_bits bits

@@ -41,8 +41,8 @@ use Rattle.bufr_text.specs.Document.{Document}
 use Rattle.bufr_text.specs.Dump.{DumpItem, subset_entries, document_of, lines_before}
 use Rattle.bufr_text.specs.DumpItems.{items_apart, compressed_dump_items, compressed_dump_subsets}
 use Rattle.bufr_text.specs.RoundTrip.{IsAccepted, IsEncodedAgain, dump_items_in}
-use Rattle.bufr_text.specs.Encoding.{by_item, too_long, RefusedAt, refused_at, told_of_items, data_bits, octets_of_bits, parts_as, compressed_as, message_of, encoding_in}
-use Rattle.bufr_text.specs.EncodingFault.{IsDocumentRefusal, told_refusal}
+use Rattle.bufr_text.specs.Encoding.{by_item, too_long, RefusedAt, refused_at, report_of_items, data_bits, octets_of_bits, parts_as, compressed_as, message_of, encoding_in}
+use Rattle.bufr_text.specs.EncodingFault.{IsDocumentRefusal, reported_refusal}
 use Rattle.bufr_text.specs.Form.{compressed_by}
 use Rattle.bufr_text.specs.InForm.{each_subset, HasReadingIn, IsForForm, IsFormed, IsFaultIn, EncodesForm}
 use Rattle.bufr_text.proofs.DumpableLemmas.{octets_are, sections_given}
@@ -229,7 +229,7 @@ not_written : (table : List Row) (sequences : List Sequence) (m : List ℕ) (s :
 not_written table sequences m s template values used at a f =
     let d = document_of at s (dump_items_in table template s values) in
     let refused = refused_at f.why.line (by_item f.why.fault) in
-    let is : encoding_in form.Compressed table sequences d ≡ Err refused = no_data form.Compressed table sequences d template (Some refused) a.expands (ap told_of_items f.is) in
+    let is : encoding_in form.Compressed table sequences d ≡ Err refused = no_data form.Compressed table sequences d template (Some refused) a.expands (ap report_of_items f.is) in
     subst (IsFormed form.Compressed table s template values) (sym is) f.unlike
 
 as_it_is : (table : List Row) (m : List ℕ) (s : Sections) (template : Tree) (values : Values) (used at : ℕ) (sequences : List Sequence) → length m ≤ max_octets → IsEncodedAgain table sequences m s template values (document_of at s (dump_items_in table template s values))
@@ -267,7 +267,7 @@ formed form.Compressed table sequences m s template values used at rows legal a 
 -- ---- the faults that are answered
 
 -- what is answered is what the definition says
-pub answered : (form : Form) (table : List Row) (s : Sections) (template : Tree) (values : Values) (defined : Result (List ℕ) RefusedAt) (why : DocumentFault) → IsFormed form table s template values defined → IsDocumentRefusal (told_refusal why) defined → IsFaultIn form why
+pub answered : (form : Form) (table : List Row) (s : Sections) (template : Tree) (values : Values) (defined : Result (List ℕ) RefusedAt) (why : DocumentFault) → IsFormed form table s template values defined → IsDocumentRefusal (reported_refusal why) defined → IsFaultIn form why
 answered form table s template values defined why h r = λ f q. refused f (subst (λ o. IsDocumentRefusal o defined) q r)
   where
     refused : (f : RefusedAt) → defined ≡ Err f → IsForForm form f.why
@@ -283,7 +283,7 @@ formed_of form records table sequences m s template values used at d rows a same
     subst (λ (x : Document). IsFormed form table s template values (encoding_in form table sequences x)) (sym same)
     (formed form table sequences m s template values used at (good-rows table (rows-read records table rows)) (tree_fine (tables_of table sequences) s.descriptors template a.expands).legal a)
 
-pub form_so : (form : Form) (table : List Row) (s : Sections) (template : Tree) (values : Values) (defined : Result (List ℕ) RefusedAt) (r : Result (Vec ℕ Global) DocumentFault) → IfOk r (λ octets. defined ≡ Ok octets.items) → IfErr r (λ why. IsDocumentRefusal (told_refusal why) defined)
+pub form_so : (form : Form) (table : List Row) (s : Sections) (template : Tree) (values : Values) (defined : Result (List ℕ) RefusedAt) (r : Result (Vec ℕ Global) DocumentFault) → IfOk r (λ octets. defined ≡ Ok octets.items) → IfErr r (λ why. IsDocumentRefusal (reported_refusal why) defined)
     → IsFormed form table s template values defined → EncodesForm form table s template values r
 form_so form table s template values defined (Ok octets) ok err h = answered_well form table s template values defined octets.items h ok
 form_so form table s template values defined (Err why) ok err h = answered form table s template values defined why h err

@@ -10,7 +10,7 @@ use Rattle.std.specs.Io.KnownBytes.{Appends}
 use Rattle.std.proofs.lemmas.Grind.{flat_map-append}
 use Rattle.bufr_text.specs.Dump.{bit, header_of, header_lines, local1_line, section2_line, descriptors_line, head_lines, text_of_lines}
 use Rattle.bufr_text.specs.DumpWritten.{WritesPrefix}
-use Rattle.bufr_text.specs.Grammar.{runs_behind, runs_of}
+use Rattle.bufr_text.specs.Grammar.{runs_after, runs_of}
 use Rattle.bufr_text.specs.Laid.{category_texts, counts_texts, date_texts, origin_texts}
 use Rattle.bufr_text.specs.Writing.{flag, joined_onto}
 use Rattle.bufr_text.proofs.DumpLemmas.{WritesFront-then, WritesFront-stop}
@@ -92,7 +92,7 @@ text-append xs ys = flat_map-append (λ line. line ++ 10 ∷ []) xs ys
 
 -- no section 2, no lines
 pub no-section2 : {X : Type 0} (f : X → List ℕ) (o : Option X) (section2 : Option (List ℕ)) → option_map f o ≡ section2 → o ≡ None → text_of_lines (map section2_line (runs_of 32 (unwrap_or section2 []))) ≡ []
-unfolding runs_behind
+unfolding runs_after
 no-section2 f o section2 is none =
     let there : section2 ≡ None = sym is ∙ ap (option_map f) none in
     ap (λ s. text_of_lines (map section2_line (runs_of 32 (unwrap_or s [])))) there

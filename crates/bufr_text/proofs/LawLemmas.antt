@@ -10,7 +10,7 @@ use Rattle.bufr_frame.specs.Section1.{Field, Master, Centre, Subcentre, Update, 
 use Rattle.bufr_frame.specs.Section1 as section1
 use Rattle.bufr_frame.specs.Sections.{Sections}
 use Rattle.bufr_text.specs.Document.{Document, blank}
-use Rattle.bufr_text.specs.Grammar.{runs_of, runs_behind}
+use Rattle.bufr_text.specs.Grammar.{runs_of, runs_after}
 use Rattle.bufr_text.specs.Line.{Line, Opens, Local1, Section2, Descriptors, keys}
 use Rattle.bufr_text.specs.Documents.{Between, Heading, Complete, turn, parse_lines, lines_of, documents_of}
 use Rattle.bufr_text.specs.Dump.{header_of, bit, header_lines, header_line, local1_line, section2_line, descriptors_line, subset_line, subset_lines, item_text, head_lines, dump_lines, dump_text_of, text_of_lines, subset_entries, document_of, lines_before}
@@ -58,7 +58,7 @@ header-fits s h few =
 
 -- section 2 has lines only where it is there
 optional-there : (section2 : Option (List ℕ)) → 0 < length (runs_of 32 (unwrap_or section2 [])) → bit (is_some section2) ≡ 1
-unfolding runs_behind
+unfolding runs_after
 optional-there None some = absurd (omega arith)
 optional-there (Some octets) some = refl
 

@@ -6,12 +6,12 @@ use Rattle.std.proofs.lemmas.List.{take_all, take_at, drop-append-le}
 use Rattle.bufr_frame.proofs.BufferLemmas.{part-prefix, part-drop, part-length, rest-read}
 use Rattle.bufr_text.specs.Document as spec
 use Rattle.bufr_text.specs.Documents as documents
-use Rattle.bufr_text.specs.Documents.{Between, Heading, Laying, Filling, Stopped, ParseResult, Refused, NotAllowed, parse_lines, lines_of, told_at_end}
+use Rattle.bufr_text.specs.Documents.{Between, Heading, BeforeSubsets, Filling, Stopped, ParseResult, Refused, NotAllowed, parse_lines, lines_of, reported_at_end}
 use Rattle.bufr_text.specs.Reading.{has_no_feed, ContinuesParse, TakesWholeLines, TakesEndLine, parse}
 use Rattle.bufr_text.specs.Reader.{ReaderModel, position_of}
 use Rattle.bufr_text.specs.Filling.{place_now, ends_by_feed, IsProgress, ParsesHeldLines, WantsHere, TakesHeldLines, read_fault_at, stopped}
 use Rattle.bufr_text.specs.Step.{place_with, line_fault_of, IsParserState}
-use Rattle.bufr_text.specs.TakingLines.{step_results, place_behind, TakesLines, WantsAt}
+use Rattle.bufr_text.specs.TakingLines.{step_results, place_following, TakesLines, WantsAt}
 use Rattle.bufr_text.specs.declared.progress.Progress.{Progress}
 use Rattle.bufr_text.specs.declared.progress.TakeResult.{TakeResult}
 use Rattle.bufr_text.specs.declared.progress.TakeResult.TheVariants as taken
@@ -46,15 +46,15 @@ state at place held ended fault reads = record { at = at; place = place; held = 
 
 -- what lines report that were taken
 pub takes-reports : (old new : Progress) (f f' : Option ReadFault) (items held : List ℕ) (start filled len : ℕ) (ended : Bool) (reads : ℕ) (step : TakeResult) (p : documents.ParserState)
-    → TakesLines old new held len step → f ≡ None → held ≡ slice_range items start filled → filled ≤ length items → p ≡ place_behind step new
+    → TakesLines old new held len step → f ≡ None → held ≡ slice_range items start filled → filled ≤ length items → p ≡ place_following step new
     → ParsesHeldLines (state old.at (place_now f old) (slice_range items start filled) ended f reads) (state new.at p (slice_range items (start + len) filled) ended f' reads) (step_results step new.parts)
 takes-reports old new f f' items held start filled len ended reads step p takes none is within place =
     let long : length held ≡ filled - start = ap length is ∙ part-length items start filled within in
     let rest : drop len held ≡ slice_range items (start + len) filled = ap (drop len) is ∙ part-drop items start filled len (omega (arith, takes.within, long)) in
     let A : documents.ParserState → Type 0 = λ q. ContinuesParse (record { at = old.at; place = q; held = slice_range items start filled; ended = ended }) (record { at = new.at; place = p; held = slice_range items (start + len) filled; ended = ended }) (step_results step new.parts) in
     let B : documents.ParserState → Type 0 = λ q. ContinuesParse (record { at = old.at; place = place_with old.place old.parts; held = slice_range items start filled; ended = ended }) (record { at = new.at; place = q; held = slice_range items (start + len) filled; ended = ended }) (step_results step new.parts) in
-    let C : List ℕ → Type 0 = λ h. ContinuesParse (record { at = old.at; place = place_with old.place old.parts; held = h; ended = ended }) (record { at = new.at; place = place_behind step new; held = slice_range items (start + len) filled; ended = ended }) (step_results step new.parts) in
-    let D : List ℕ → Type 0 = λ h. ContinuesParse (record { at = old.at; place = place_with old.place old.parts; held = held; ended = ended }) (record { at = new.at; place = place_behind step new; held = h; ended = ended }) (step_results step new.parts) in
+    let C : List ℕ → Type 0 = λ h. ContinuesParse (record { at = old.at; place = place_with old.place old.parts; held = h; ended = ended }) (record { at = new.at; place = place_following step new; held = slice_range items (start + len) filled; ended = ended }) (step_results step new.parts) in
+    let D : List ℕ → Type 0 = λ h. ContinuesParse (record { at = old.at; place = place_with old.place old.parts; held = held; ended = ended }) (record { at = new.at; place = place_following step new; held = h; ended = ended }) (step_results step new.parts) in
     let E : List ℕ → Type 0 = λ h. TakesWholeLines old.at h new.at (slice_range items (start + len) filled) in
     let F : List ℕ → Type 0 = λ h. TakesWholeLines old.at held new.at h in
     record {
@@ -124,10 +124,10 @@ progress-between old new d held start filled len reads step takes is within same
     }
 
 -- the end
-pub reported-inside : (p : ParserState) (d : spec.Document) (at : ℕ) → (p ≡ place.Between → ⊥) → told_at_end at (place_with p d) ≡ Refused at NotAllowed ∷ []
+pub reported-inside : (p : ParserState) (d : spec.Document) (at : ℕ) → (p ≡ place.Between → ⊥) → reported_at_end at (place_with p d) ≡ Refused at NotAllowed ∷ []
 reported-inside place.Between d at not = absurd (not refl)
 reported-inside place.Heading d at not = refl
-reported-inside (place.Laying part) d at not = refl
+reported-inside (place.BeforeSubsets part) d at not = refl
 reported-inside (place.Filling subset) d at not = refl
 
 pub none-held : (s : ReaderModel) → s.ended ≡ true → (s.ended ≡ true → ends_by_feed s.held ≡ true) → has_no_feed s.held ≡ true → s.held ≡ []
@@ -138,7 +138,7 @@ unfolding parse_lines lines_of
 done-between s place held =
     ap (λ (z : List ℕ). parse_lines s.at s.place (lines_of (z ++ []))) held ∙ ap (λ (p : documents.ParserState). parse_lines s.at p []) place
 
-pub end-reports : (s : ReaderModel) → s.ended ≡ true → s.held ≡ [] → told_at_end s.at s.place ≡ Refused s.at NotAllowed ∷ [] → ParsesHeldLines s (stopped s (fault.Line s.at)) (Refused s.at NotAllowed ∷ [])
+pub end-reports : (s : ReaderModel) → s.ended ≡ true → s.held ≡ [] → reported_at_end s.at s.place ≡ Refused s.at NotAllowed ∷ [] → ParsesHeldLines s (stopped s (fault.Line s.at)) (Refused s.at NotAllowed ∷ [])
 end-reports s ended held results =
     let A : Bool → Type 0 = λ e. ContinuesParse (record { at = s.at; place = s.place; held = s.held; ended = e }) (record { at = s.at; place = Stopped; held = s.held; ended = e }) (Refused s.at NotAllowed ∷ []) in
     let B : List ℕ → Type 0 = λ h. ContinuesParse (record { at = s.at; place = s.place; held = h; ended = true }) (record { at = s.at; place = Stopped; held = h; ended = true }) (Refused s.at NotAllowed ∷ []) in
@@ -149,7 +149,7 @@ end-reports s ended held results =
 pub reads-place : (p : ParserState) (d : spec.Document) → Reads (place_with p d)
 reads-place place.Between d = tt
 reads-place place.Heading d = tt
-reads-place (place.Laying part) d = tt
+reads-place (place.BeforeSubsets part) d = tt
 reads-place (place.Filling subset) d = tt
 
 pub long-reports : (s : ReaderModel) → Reads s.place → has_no_feed s.held ≡ true → 4096 < length s.held → ParsesHeldLines s (stopped s (fault.Line s.at)) (Refused s.at NotAllowed ∷ [])

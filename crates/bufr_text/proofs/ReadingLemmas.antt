@@ -3,7 +3,7 @@ use Rattle.std.proofs.Common.{◌≡◌, ℕ, ◌+◌, ◌<◌, ◌≤◌, ◌==
 use Rattle.std.proofs.lemmas.Bool.Decides.{nat_tests}
 use Rattle.bufr_bits.proofs.ScaledLemmas.{and_first, and_second}
 use Rattle.bufr_text.specs.Line.{Line, Passed, Opens, Header, Local1, Section2, Descriptors, Begins, Item, Closes, Wrong}
-use Rattle.bufr_text.specs.Documents.{ParserState, Between, Heading, Laying, Filling, Stopped, WalkGoes, Faults, ParseResult, Refused, NotAllowed, turn, line_within_limit, parse_lines, place_after, told_at, told_at_end, lines_of, prepend_to_line, Split, onto_split, octet_onto_split, split_of, parse_open_lines}
+use Rattle.bufr_text.specs.Documents.{ParserState, Between, Heading, BeforeSubsets, Filling, Stopped, WalkGoes, Faults, ParseResult, Refused, NotAllowed, turn, line_within_limit, parse_lines, place_after, reported_at, reported_at_end, lines_of, prepend_to_line, Split, onto_split, octet_onto_split, split_of, parse_open_lines}
 use Rattle.bufr_text.specs.Reading.{has_no_feed, ReaderPosition, parse, parse_open, ContinuesParse}
 
 -- after a fault nothing is reported
@@ -29,8 +29,8 @@ pub stopped-reports-openly : (at : ℕ) (lines : List (List ℕ)) (rest : List �
 unfolding parse_open_lines
 stopped-reports-openly at [] rest = by-length (nat_lt 4096 (length rest))
   where
-    by-length : (b : Bool) → (if b then told_at at (turn at Stopped Wrong) else []) ≡ []
-    by-length true = ap (told_at at) (stays-stopped at Wrong)
+    by-length : (b : Bool) → (if b then reported_at at (turn at Stopped Wrong) else []) ≡ []
+    by-length true = ap (reported_at at) (stays-stopped at Wrong)
     by-length false = refl
 stopped-reports-openly at (line ∷ lines) rest = rw (stays-stopped at (line_within_limit line)) (stopped-reports-openly (at + 1) lines rest)
 
@@ -59,7 +59,7 @@ openly-from at place s = parse_open_lines at place s.whole s.rest
 
 pub takes-line : (at : ℕ) (place : ParserState) (line rest : List ℕ) (ended : Bool) → has_no_feed line ≡ true
     → let here = turn at place (line_within_limit line) in
-    ContinuesParse (record { at = at; place = place; held = line ++ 10 ∷ rest; ended = ended }) (record { at = at + 1; place = place_after here; held = rest; ended = ended }) (told_at at here)
+    ContinuesParse (record { at = at; place = place; held = line ++ 10 ∷ rest; ended = ended }) (record { at = at + 1; place = place_after here; held = rest; ended = ended }) (reported_at at here)
 unfolding parse_lines parse_open_lines
 takes-line at place line rest ended h = record {
   whole = λ t none. ap (parse_lines at place) (ap lines_of (append_assoc line (10 ∷ rest) t) ∙ line-held line (rest ++ t) h);
@@ -102,7 +102,7 @@ long-first (c ∷ d ∷ held) t h some =
 abbrev pub Reads : ParserState → Type 0
 Reads Between = Unit {0}
 Reads (Heading d) = Unit {0}
-Reads (Laying part d) = Unit {0}
+Reads (BeforeSubsets part d) = Unit {0}
 Reads (Filling subset d) = Unit {0}
 Reads Stopped = ⊥
 
@@ -110,7 +110,7 @@ pub wrong-faults : (at : ℕ) (place : ParserState) → Reads place → turn at 
 unfolding turn
 wrong-faults at Between r = refl
 wrong-faults at (Heading d) r = refl
-wrong-faults at (Laying part d) r = refl
+wrong-faults at (BeforeSubsets part d) r = refl
 wrong-faults at (Filling subset d) r = refl
 wrong-faults at Stopped r = absurd r
 
@@ -179,14 +179,14 @@ one-line (c ∷ d ∷ held) h some =
     rw (no-feed-first c (and_first (not (c == 10)) (has_no_feed (d ∷ held)) h)) (ap (prepend_to_line c) (one-line (d ∷ held) (and_second (not (c == 10)) (has_no_feed (d ∷ held)) h) (omega arith)))
 
 pub ends-inside : (at : ℕ) (place : ParserState)
-    → ContinuesParse (record { at = at; place = place; held = []; ended = true }) (record { at = at; place = Stopped; held = []; ended = true }) (told_at_end at place)
+    → ContinuesParse (record { at = at; place = place; held = []; ended = true }) (record { at = at; place = Stopped; held = []; ended = true }) (reported_at_end at place)
 unfolding parse_lines lines_of
 ends-inside at place = record {
   openly = λ unended t. absurd (cc-no unended);
   whole = λ t none.
       ap (λ (z : List ℕ). parse_lines at place (lines_of z)) (none refl)
-      ∙ sym (append-nil (told_at_end at place))
-      ∙ ap (λ (z : List ParseResult). told_at_end at place ++ z) (sym (stopped-reports at (lines_of t)));
+      ∙ sym (append-nil (reported_at_end at place))
+      ∙ ap (λ (z : List ParseResult). reported_at_end at place ++ z) (sym (stopped-reports at (lines_of t)));
 }
 
 -- where no whole line is held and the rest is short, nothing is reported before the end is known

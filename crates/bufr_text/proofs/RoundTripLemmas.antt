@@ -39,7 +39,7 @@ use Rattle.bufr_text.specs.declared.form.Form.TheVariants.{AsWritten}
 use Rattle.bufr_text.specs.Document.{Document}
 use Rattle.bufr_text.specs.Dump.{DumpItem, bit, dump_value_of, item_entries, subset_entries, document_of, dump_text_of, lines_before}
 use Rattle.bufr_text.specs.DumpItems.{value_of, items_apart, compressed_dump_items, compressed_dump_subsets}
-use Rattle.bufr_text.specs.Encoding.{too_long, refused_at, ◌>>=◌, told_of_template, told_of_items, data_bits, octets_of_bits, parts_of_document, message_of, encoding_in, encoding_of}
+use Rattle.bufr_text.specs.Encoding.{too_long, refused_at, ◌>>=◌, report_of_template, report_of_items, data_bits, octets_of_bits, parts_of_document, message_of, encoding_in, encoding_of}
 use Rattle.bufr_text.specs.RoundTrip.{IsAccepted, dump_items_in, extra_octets, SaySame, HasSameReading, IsEncodedAgain}
 use Rattle.bufr_text.specs.Header.{head_from_values, compressed_in}
 use Rattle.bufr_text.proofs.DumpableLemmas.{octets_are, sections_given}
@@ -134,8 +134,8 @@ pub encoded_to : (table : List Row) (sequences : List Sequence) (d : Document) (
     → message_size (head_from_values d).edition (parts_of_document d (octets_of_bits bits)) ≤ max_octets → encoding_of table sequences d ≡ Ok (message_octets (head_from_values d) (parts_of_document d (octets_of_bits bits)))
 unfolding encoding_in
 encoded_to table sequences d template bits expands filled few =
-    ap (λ r. told_of_template d.line r >>= λ t. told_of_items (data_bits (compressed_in d) (next_item table t) (subsets_of d.entries)) >>= λ b. message_of d.line (head_from_values d) (parts_of_document d (octets_of_bits b))) expands
-    ∙ ap (λ r. told_of_items r >>= λ b. message_of d.line (head_from_values d) (parts_of_document d (octets_of_bits b))) filled
+    ap (λ r. report_of_template d.line r >>= λ t. report_of_items (data_bits (compressed_in d) (next_item table t) (subsets_of d.entries)) >>= λ b. message_of d.line (head_from_values d) (parts_of_document d (octets_of_bits b))) expands
+    ∙ ap (λ r. report_of_items r >>= λ b. message_of d.line (head_from_values d) (parts_of_document d (octets_of_bits b))) filled
     ∙ ap (λ b. if b then Err (refused_at d.line too_long) else Ok (message_octets (head_from_values d) (parts_of_document d (octets_of_bits bits)))) (within (message_size (head_from_values d).edition (parts_of_document d (octets_of_bits bits))) max_octets few)
 
 -- what the document of a message says

@@ -79,9 +79,9 @@ out_of_order : none_with (codes "section2 04" ∷ codes "local1 01" ∷ codes "e
 unfolding parse_lines lines_of turn line_of worded prefix_while suffix_while place_from keys without_prefix hex_read descriptors_read
 out_of_order = refl
 
-behind_descriptors : none_with (codes "descriptors 001001" ∷ codes "section2 04" ∷ codes "end" ∷ []) ≡ Refused 23 NotAllowed ∷ []
+after_descriptors : none_with (codes "descriptors 001001" ∷ codes "section2 04" ∷ codes "end" ∷ []) ≡ Refused 23 NotAllowed ∷ []
 unfolding parse_lines lines_of turn line_of worded prefix_while suffix_while place_from keys without_prefix hex_read descriptors_read
-behind_descriptors = refl
+after_descriptors = refl
 
 -- within a line: what is no line goes before a value past its range, and that before a count
 abbrev centre_with : List ℕ → List ParseResult

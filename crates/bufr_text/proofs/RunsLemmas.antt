@@ -3,10 +3,10 @@ use Rattle.std.proofs.Common.{◌≡◌, ℕ, zero, suc, ◌-◌, ◌<◌, ◌�
 use Rattle.std.proofs.Math.Seq.{drop-nil}
 use Rattle.std.proofs.lemmas.List.{take-append-drop}
 use Rattle.std.specs.List.{concat, AllByRecursion}
-use Rattle.bufr_text.specs.Grammar.{runs_behind, runs_of}
+use Rattle.bufr_text.specs.Grammar.{runs_after, runs_of}
 
-concat-after : (skip less : ℕ) (xs : List ℕ) → concat (runs_behind skip (suc less) xs) ≡ drop skip xs
-unfolding runs_behind
+concat-after : (skip less : ℕ) (xs : List ℕ) → concat (runs_after skip (suc less) xs) ≡ drop skip xs
+unfolding runs_after
 concat-after skip less [] = rw drop-nil refl
 concat-after (suc skip) less (x ∷ xs) = concat-after skip less xs
 concat-after zero less (x ∷ xs) =
@@ -27,8 +27,8 @@ all-take P zero xs all = tt
 all-take P (suc n) [] all = tt
 all-take P (suc n) (x ∷ xs) (here, all) = (here, all-take P n xs all)
 
-runs-after : (P : ℕ → Type 0) (skip less : ℕ) (xs : List ℕ) → AllByRecursion P xs → AllByRecursion (IsRun P (suc less)) (runs_behind skip (suc less) xs)
-unfolding runs_behind
+runs-after : (P : ℕ → Type 0) (skip less : ℕ) (xs : List ℕ) → AllByRecursion P xs → AllByRecursion (IsRun P (suc less)) (runs_after skip (suc less) xs)
+unfolding runs_after
 runs-after P skip less [] all = tt
 runs-after P (suc skip) less (x ∷ xs) (here, all) = runs-after P skip less xs all
 runs-after P zero less (x ∷ xs) (here, all) =

@@ -18,9 +18,9 @@ use Rattle.bufr_walk.specs.Walked.{answers_of}
 use Rattle.bufr_fill.specs.Fault.{FaultAt}
 use Rattle.bufr_fill.specs.Filling.{WrittenItem, Filler}
 use Rattle.bufr_fill.proofs.Filled.{HasFilled}
-use Rattle.bufr_fill.proofs.WalkFills.{after_told}
+use Rattle.bufr_fill.proofs.WalkFills.{after_answers}
 use Rattle.bufr_text.specs.Encoding.{RefusedAt}
-use Rattle.bufr_text.specs.EncodingFault.{told_of_draft}
+use Rattle.bufr_text.specs.EncodingFault.{report_of_draft}
 use Rattle.bufr_text.specs.EncodingCost.{turned_one, turned_at, turns_filled, CountsSteps}
 
 -- ---- the more is reported, the more turns there are
@@ -189,11 +189,11 @@ module _ {D C E : Type 0} (filler : Filler D C E) where
   -- where a walk comes to the last turn, its turns are all
   pub last_turns : (course : Course) (items : List TakenField) (ds : List D) (n : Next) (all : ℕ) → all ≡ turns_filled filler (course_after course items) ds → (course (answers_of items)).next ≡ n → IsLast n ds → (course (answers_of items)).turns ≡ all
   last_turns course items ds n all total next h =
-      sym (total ∙ here (course_after course items) ds n (ap (λ a. a.next) (after_told course items) ∙ next) h ∙ ap (λ a. a.turns) (after_told course items))
+      sym (total ∙ here (course_after course items) ds n (ap (λ a. a.next) (after_answers course items) ∙ next) h ∙ ap (λ a. a.turns) (after_answers course items))
 
   pub some_turns : (course : Course) (items : List TakenField) (ds : List D) (all : ℕ) → AddsTurns course → all ≡ turns_filled filler (course_after course items) ds → (course (answers_of items)).turns ≤ all
   some_turns course items ds all g total =
-      omega (arith, ap (λ a. a.turns) (after_told course items), at_least (course_after course items) ds (adds_after course items g), total)
+      omega (arith, ap (λ a. a.turns) (after_answers course items), at_least (course_after course items) ds (adds_after course items g), total)
 
 -- ---- steps
 
@@ -209,6 +209,6 @@ all_made None before turns after h = omega (arith, h)
 all_made (Some f) before turns after h = h
 
 -- all turns were made where a fault is reported
-pub makes_so : (o : Option FaultAt) (results : Option RefusedAt) (before turns after : ℕ) → results ≡ option_map told_of_draft o → after ≤ ticked before turns → ((f : FaultAt) → o ≡ Some f → after ≡ ticked before turns) → CountsSteps results before turns after
+pub makes_so : (o : Option FaultAt) (results : Option RefusedAt) (before turns after : ℕ) → results ≡ option_map report_of_draft o → after ≤ ticked before turns → ((f : FaultAt) → o ≡ Some f → after ≡ ticked before turns) → CountsSteps results before turns after
 makes_so None results before turns after e few h = subst (λ t. CountsSteps t before turns after) (sym e) few
 makes_so (Some f) results before turns after e few h = subst (λ t. CountsSteps t before turns after) (sym e) (h f refl)

@@ -46,13 +46,13 @@ abbrev pub ◌>>=◌ : {A B : Type 0} → Result A RefusedAt → (A → Result B
 
 -- a fault of the template is reported at the line of `message`
 -- rule: fault-56
-abbrev pub told_of_template : ℕ → Result Tree TemplateFault → Result Tree RefusedAt
-told_of_template line (Ok template) = Ok template
-told_of_template line (Err why) = Err (refused_at line (by_template why))
+abbrev pub report_of_template : ℕ → Result Tree TemplateFault → Result Tree RefusedAt
+report_of_template line (Ok template) = Ok template
+report_of_template line (Err why) = Err (refused_at line (by_template why))
 
-abbrev pub told_of_items : Result (List Bool) FaultAt → Result (List Bool) RefusedAt
-told_of_items (Ok bits) = Ok bits
-told_of_items (Err f) = Err (refused_at f.line (by_item f.fault))
+abbrev pub report_of_items : Result (List Bool) FaultAt → Result (List Bool) RefusedAt
+report_of_items (Ok bits) = Ok bits
+report_of_items (Err f) = Err (refused_at f.line (by_item f.fault))
 
 -- the bits of the data
 abbrev pub data_bits : (compressed : Bool) → Course → List Subset → Result (List Bool) FaultAt
@@ -91,8 +91,8 @@ message_of line head parts =
 -- rule: fault-56-first-60-last
 unfoldable pub encoding_in : Form → List Row → List Sequence → Document → Result (List ℕ) RefusedAt
 encoding_in form table sequences d = do
-  template ← told_of_template d.line (tree_of (tables_of table sequences) d.descriptors)
-  bits ← told_of_items
+  template ← report_of_template d.line (tree_of (tables_of table sequences) d.descriptors)
+  bits ← report_of_items
       (data_bits (compressed_as form d) (next_item table template) (subsets_of d.entries))
   message_of d.line (head_from_values d) (parts_as (compressed_as form d) d (octets_of_bits bits))
 

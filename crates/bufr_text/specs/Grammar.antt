@@ -26,13 +26,13 @@ abbrev pub without_space : List ℕ → Option (List ℕ)
 without_space text = without_prefix (32 ∷ []) text
 
 -- a list in runs of at most so many; the elements that a run has taken are skipped
-unfoldable pub runs_behind : (skip most : ℕ) → List ℕ → List (List ℕ)
-runs_behind skip most [] = []
-runs_behind (suc skip) most (x ∷ more) = runs_behind skip most more
-runs_behind zero most (x ∷ more) = take most (x ∷ more) ∷ runs_behind (most - 1) most more
+unfoldable pub runs_after : (skip most : ℕ) → List ℕ → List (List ℕ)
+runs_after skip most [] = []
+runs_after (suc skip) most (x ∷ more) = runs_after skip most more
+runs_after zero most (x ∷ more) = take most (x ∷ more) ∷ runs_after (most - 1) most more
 
 abbrev pub runs_of : (most : ℕ) → List ℕ → List (List ℕ)
-runs_of most xs = runs_behind 0 most xs
+runs_of most xs = runs_after 0 most xs
 
 -- the upper-case hexadecimal digit of a number under 16
 abbrev pub hex_digit : ℕ → ℕ
@@ -179,6 +179,6 @@ is_hashed [] = false
 is_hashed (c ∷ more) = if c == 32 then is_hashed more else (c == 35)
 
 -- rule: reading-after-a-value
-abbrev pub is_passed_behind : List ℕ → Bool
-is_passed_behind [] = true
-is_passed_behind (c ∷ more) = (c == 32) && is_hashed more
+abbrev pub is_passed_after : List ℕ → Bool
+is_passed_after [] = true
+is_passed_after (c ∷ more) = (c == 32) && is_hashed more

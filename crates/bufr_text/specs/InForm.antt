@@ -18,7 +18,7 @@ use Rattle.bufr_text.specs.declared.form.Form.{Form}
 use Rattle.bufr_text.specs.declared.form.Form.TheVariants as form
 use Rattle.bufr_text.specs.RoundTrip.{SaySame, dump_items_in}
 use Rattle.bufr_text.specs.Encoding.{DocumentRefusal, by_template, by_item, too_long, RefusedAt}
-use Rattle.bufr_text.specs.EncodingFault.{told_refusal}
+use Rattle.bufr_text.specs.EncodingFault.{reported_refusal}
 use Rattle.bufr_text.specs.Bounds.{IsOctet}
 
 -- the items of each subset, whatever the form in which they were read
@@ -68,7 +68,7 @@ IsFormed form table s template values (Err refused) = IsForForm form refused.why
 -- come in each form
 abbrev pub IsFaultIn : Form → DocumentFault → Type 0
 IsFaultIn form why =
-    (refused : RefusedAt) → told_refusal why ≡ Some refused → IsForForm form refused.why
+    (refused : RefusedAt) → reported_refusal why ≡ Some refused → IsForForm form refused.why
 
 -- what is answered for the document of a message in a form
 abbrev pub EncodesForm : Form → List Row → Sections → Tree → Values

@@ -5,7 +5,7 @@ use Rattle.std.specs.Char.{is_ascii_digit}
 use Rattle.std.specs.Str.{bytes_eq}
 use Rattle.bufr_frame.specs.Section1.{Field, Master, Centre, Subcentre, Update, Category, Subcategory, LocalSubcategory, MasterVersion, LocalVersion, Year, Month, Day, Hour, Minute, Second, Slot, most_in}
 use Rattle.bufr_fill.specs.Draft.{DraftValue, number_token, text_form, missing_form, reference_token}
-use Rattle.bufr_text.specs.Grammar.{prefix_while, suffix_while, without_prefix, without_space, hex_read, fxy_read, descriptors_read, number_read, quoted_read, is_number_octet, is_passed_behind}
+use Rattle.bufr_text.specs.Grammar.{prefix_while, suffix_while, without_prefix, without_space, hex_read, fxy_read, descriptors_read, number_read, quoted_read, is_number_octet, is_passed_after}
 
 -- what a line says; `Header` has the place of its key, `Wrong` is no line of a document
 pub data Line : Type 0 where
@@ -97,7 +97,7 @@ with_one_to most line xs =
 
 -- nothing but a comment is after a value
 abbrev pub item_if_comment : (fxy : ℕ) → DraftValue × List ℕ → Line
-item_if_comment fxy (form, rest) = if is_passed_behind rest then Item fxy form else Wrong
+item_if_comment fxy (form, rest) = if is_passed_after rest then Item fxy form else Wrong
 
 -- a value, and the rest after it
 abbrev pub text_value : List ℕ → Option (DraftValue × List ℕ)

@@ -93,10 +93,10 @@ pub record IsDocument (d : Document) (lines : List NumberedLine) : Type 0 where
 
 -- What is reported of lines: documents one after another, up to the end of the lines or to the
 -- first that is refused.
-abbrev pub AreTold : List NumberedLine → List ParseResult → Type 0
-AreTold lines [] = lines ≡ []
-AreTold lines (Refused line fault ∷ results) = results ≡ []
-AreTold lines (Complete d ∷ results) =
+abbrev pub AreReported : List NumberedLine → List ParseResult → Type 0
+AreReported lines [] = lines ≡ []
+AreReported lines (Refused line fault ∷ results) = results ≡ []
+AreReported lines (Complete d ∷ results) =
     (own : List NumberedLine) × (more : List NumberedLine) × (lines ≡ own ++ more)
     × IsDocument d own
-    × AreTold more results
+    × AreReported more results

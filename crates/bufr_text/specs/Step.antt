@@ -45,7 +45,7 @@ part_number written.Descriptors = 2
 abbrev pub place_with : ParserState → spec.Document → documents.ParserState
 place_with place.Between d = documents.Between
 place_with place.Heading d = documents.Heading d
-place_with (place.Laying part) d = documents.Laying (part_number part) d
+place_with (place.BeforeSubsets part) d = documents.BeforeSubsets (part_number part) d
 place_with (place.Filling subset) d = documents.Filling subset d
 
 abbrev pub line_fault_of : LineRefusal → documents.TextLineFault
@@ -92,7 +92,7 @@ IsParserState at documents.Between = Unit {0}
 IsParserState at (documents.Heading d) =
     (length d.header < 20) × (are_in_range (spec.edition_in d) 0 d.header ≡ true)
     × (length d.entries < at) × IsBare d
-IsParserState at (documents.Laying part d) =
+IsParserState at (documents.BeforeSubsets part d) =
     IsHeaded d × (length d.entries < at) × HasLineGroups d × (d.entries ≡ [])
 IsParserState at (documents.Filling subset d) =
     IsHeaded d × (length d.entries < at) × (subset < 65536) × HasLineGroups d
@@ -100,7 +100,7 @@ IsParserState at (documents.Filling subset d) =
 IsParserState at documents.Stopped = Unit {0}
 
 -- the same after a turn at a line
-abbrev pub StandsAfter : (at : ℕ) → documents.LineEffect → Type 0
-StandsAfter at (documents.WalkGoes place) = IsParserState (at + 1) place
-StandsAfter at (documents.Gives d) = IsProper d × (length d.entries ≤ at)
-StandsAfter at (documents.Faults fault) = Unit {0}
+abbrev pub HoldsAfter : (at : ℕ) → documents.LineEffect → Type 0
+HoldsAfter at (documents.WalkGoes place) = IsParserState (at + 1) place
+HoldsAfter at (documents.Gives d) = IsProper d × (length d.entries ≤ at)
+HoldsAfter at (documents.Faults fault) = Unit {0}

@@ -14,7 +14,7 @@ pub(crate) const MOST_WORDS: usize = 8;
 
 /// The descriptor that six digits write first, and what is after it.
 #[tactic(auto, using(crate::proofs::ItemLemmas::by_six))]
-pub(crate) fn fxy_front<'a>(text: &'a [u8]) -> Option<(u16, &'a [u8])>
+pub(crate) fn fxy_prefix<'a>(text: &'a [u8]) -> Option<(u16, &'a [u8])>
     ensures value { option_map (λ read. (read.0, read.1.now)) result ≡ fxy_read text.now }
     ensures within { IfSome result (λ read. length read.1.now ≤ length text.now) }
 {

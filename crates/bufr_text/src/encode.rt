@@ -13,9 +13,9 @@ ghost use Rattle.bufr_text.specs.InForm.{EncodesForm};
 ghost use Rattle.bufr_walk.specs.Course.{next_item};
 ghost use Rattle.bufr_walk.specs.Ticks.{ticked};
 ghost use Rattle.bufr_fill.specs.Entries.{subsets_of};
-ghost use Rattle.bufr_text.specs.Encoding.{encoding_in, encoding_of, told_of_template, octets_of_bits, message_of, compressed_as, parts_as};
-ghost use Rattle.bufr_text.specs.EncodingFault.{IsDocumentRefusal, told_of_draft, told_refusal};
-ghost use Rattle.bufr_text.specs.DataWritten.{AreOctetsOf, WritesData, WritesSubset, told_stop};
+ghost use Rattle.bufr_text.specs.Encoding.{encoding_in, encoding_of, report_of_template, octets_of_bits, message_of, compressed_as, parts_as};
+ghost use Rattle.bufr_text.specs.EncodingFault.{IsDocumentRefusal, report_of_draft, reported_refusal};
+ghost use Rattle.bufr_text.specs.DataWritten.{AreOctetsOf, WritesData, WritesSubset, reported_stop};
 ghost use Rattle.bufr_text.specs.EncodingCost.{CountsSteps, places_by, bits_by, turns_by};
 ghost use Rattle.bufr_text.specs.Header.{head_from_values, most_entries};
 ghost use Rattle.bufr_text.specs.declared.form.Form.TheVariants.{AsWritten};
@@ -32,7 +32,7 @@ use std::alloc::{AllocError, Global};
 /// The fault of a walk that stopped, where the next entry is on a line.
 // rule: fault-62
 fn of_stop(stop: WalkStop<DraftFault>, line: u64) -> DocumentFault
-    ensures { told_refusal result ≡ option_map told_of_draft (told_stop line stop) }
+    ensures { reported_refusal result ≡ option_map report_of_draft (reported_stop line stop) }
 {
     match stop {
         WalkStop::Width(fxy) => DocumentFault::Walk(line, WalkRefusal::Width(fxy)),
@@ -76,7 +76,7 @@ fn template_of<'t>(
     ensures tree { IfOk result (λ template.
         tree_of (tables_of templates.now.table_b templates.now.table_d) templates.now.list
         ≡ Ok template.now) }
-    ensures fault { IfErr result (λ why. IsDocumentRefusal (told_refusal why) (told_of_template line
+    ensures fault { IfErr result (λ why. IsDocumentRefusal (reported_refusal why) (report_of_template line
         (tree_of (tables_of templates.now.table_b templates.now.table_d) templates.now.list))) }
     ensures memory { IfErr result
         (λ why. (line : ℕ) → why ≢ DocumentFault.Template line TemplateFault.Memory) }
@@ -216,7 +216,7 @@ fn write_whole(
     ensures octets { IfOk result (λ octets. message_of document.now.line
         (head_from_values document.now)
         (parts_as (compressed_as form document.now) document.now payload.now) ≡ Ok octets.items) }
-    ensures fault { IfErr result (λ why. IsDocumentRefusal (told_refusal why)
+    ensures fault { IfErr result (λ why. IsDocumentRefusal (reported_refusal why)
         (message_of document.now.line (head_from_values document.now)
         (parts_as (compressed_as form document.now) document.now payload.now))) }
     ensures payload { (bits : List Bool) → AreOctetsOf payload.now bits
@@ -256,13 +256,13 @@ fn encode_selected(
     ensures octets { IfOk result (λ octets.
         encoding_in form templates.now.table_b templates.now.table_d document.now
         ≡ Ok octets.items) }
-    ensures fault { IfErr result (λ why. IsDocumentRefusal (told_refusal why)
+    ensures fault { IfErr result (λ why. IsDocumentRefusal (reported_refusal why)
         (encoding_in form templates.now.table_b templates.now.table_d document.now)) }
     ensures memory { IfErr result
         (λ why. (line : ℕ) → why ≢ DocumentFault.Template line TemplateFault.Memory) }
     ensures made { OnOk result (steps.new
         ≡ ticked 0 (turns_by form templates.now.table_b templates.now.table_d document.now)) }
-    ensures made_refused { IfErr result (λ why. CountsSteps (told_refusal why) 0
+    ensures made_refused { IfErr result (λ why. CountsSteps (reported_refusal why) 0
         (turns_by form templates.now.table_b templates.now.table_d document.now) steps.new) }
     ensures accepted { OnOk result (steps.new
         ≤ places_by templates.now.table_b templates.now.table_d document.now
@@ -304,14 +304,14 @@ pub fn encode_by(
         encoding_in form templates.old.table_b templates.old.table_d document.now
         ≡ Ok octets.items) }
     // Want of memory is the only freedom.
-    ensures fault { IfErr result (λ why. IsDocumentRefusal (told_refusal why)
+    ensures fault { IfErr result (λ why. IsDocumentRefusal (reported_refusal why)
         (encoding_in form templates.old.table_b templates.old.table_d document.now)) }
     // It has one name, `Memory`.
     ensures memory { IfErr result
         (λ why. (line : ℕ) → why ≢ DocumentFault.Template line TemplateFault.Memory) }
     ensures made { OnOk result (steps.new
         ≡ ticked 0 (turns_by form templates.old.table_b templates.old.table_d document.now)) }
-    ensures made_refused { IfErr result (λ why. CountsSteps (told_refusal why) 0
+    ensures made_refused { IfErr result (λ why. CountsSteps (reported_refusal why) 0
         (turns_by form templates.old.table_b templates.old.table_d document.now) steps.new) }
     ensures accepted { OnOk result (steps.new
         ≤ places_by templates.old.table_b templates.old.table_d document.now
@@ -369,14 +369,14 @@ pub fn encode_form(
         (λ octets. encoding_in form table_b.now table_d.now document.now ≡ Ok octets.items) }
     // Want of memory is the only freedom.
     ensures fault { IfErr result (λ why.
-        IsDocumentRefusal (told_refusal why)
+        IsDocumentRefusal (reported_refusal why)
         (encoding_in form table_b.now table_d.now document.now)) }
     // It has one name, `Memory`.
     ensures memory { IfErr result
         (λ why. (line : ℕ) → why ≢ DocumentFault.Template line TemplateFault.Memory) }
     ensures made { OnOk result
         (steps.new ≡ ticked 0 (turns_by form table_b.now table_d.now document.now)) }
-    ensures made_refused { IfErr result (λ why. CountsSteps (told_refusal why) 0
+    ensures made_refused { IfErr result (λ why. CountsSteps (reported_refusal why) 0
         (turns_by form table_b.now table_d.now document.now) steps.new) }
     ensures accepted { OnOk result (steps.new ≤ places_by table_b.now table_d.now document.now
         * bits_by form table_b.now table_d.now document.now) }
@@ -417,14 +417,14 @@ pub fn encode_document(
         (λ octets. encoding_of table_b.now table_d.now document.now ≡ Ok octets.items) }
     // Want of memory is the only freedom.
     ensures fault { IfErr result
-        (λ why. IsDocumentRefusal (told_refusal why)
+        (λ why. IsDocumentRefusal (reported_refusal why)
         (encoding_of table_b.now table_d.now document.now)) }
     // It has one name, `Memory`.
     ensures memory { IfErr result
         (λ why. (line : ℕ) → why ≢ DocumentFault.Template line TemplateFault.Memory) }
     ensures made { OnOk result
         (steps.new ≡ ticked 0 (turns_by AsWritten table_b.now table_d.now document.now)) }
-    ensures made_refused { IfErr result (λ why. CountsSteps (told_refusal why) 0
+    ensures made_refused { IfErr result (λ why. CountsSteps (reported_refusal why) 0
         (turns_by AsWritten table_b.now table_d.now document.now) steps.new) }
     ensures accepted { OnOk result (steps.new ≤ places_by table_b.now table_d.now document.now
         * bits_by AsWritten table_b.now table_d.now document.now) }

@@ -13,7 +13,7 @@ ghost use Rattle.bufr_text.specs.Documents.{Complete, documents_of};
 ghost use Rattle.bufr_text.specs.Dump.{document_of, dump_text_of};
 ghost use Rattle.bufr_text.specs.RoundTrip.{HasSameReading, IsAccepted, IsEncodedAgain, dump_items_in};
 ghost use Rattle.bufr_text.specs.Encoding.{encoding_in, encoding_of};
-ghost use Rattle.bufr_text.specs.EncodingFault.{IsDocumentRefusal, told_refusal};
+ghost use Rattle.bufr_text.specs.EncodingFault.{IsDocumentRefusal, reported_refusal};
 ghost use Rattle.bufr_text.specs.Bounds.{IsDumpable};
 ghost use Rattle.bufr_text.specs.Form.{compressed_by, form_of_flag};
 ghost use Rattle.bufr_text.specs.InForm.{HasReadingIn, IsFaultIn, IsFormed};
@@ -77,7 +77,7 @@ pub fn dumped_messages_are_refused_for_want_of_memory_alone()
     ensures { (records : List Record) (table : List Row) (sequences : List Sequence) (m : List ℕ)
         (s : Sections) (template : Tree) (values : Values) (used at : ℕ) (why : DocumentFault)
         → AreRows records table → IsAccepted table sequences m s template values used
-        → IsDocumentRefusal (told_refusal why)
+        → IsDocumentRefusal (reported_refusal why)
         (encoding_of table sequences (document_of at s (dump_items_in table template s values)))
         → why ≡ Memory }
 {}
@@ -117,7 +117,7 @@ pub fn dumped_messages_are_refused_for_their_form_alone()
         (s : Sections) (template : Tree) (values : Values) (used at : ℕ) (form : Form)
         (why : DocumentFault)
         → AreRows records table → IsAccepted table sequences m s template values used
-        → IsDocumentRefusal (told_refusal why)
+        → IsDocumentRefusal (reported_refusal why)
         (encoding_in form table sequences
         (document_of at s (dump_items_in table template s values)))
         → IsFaultIn form why }

@@ -90,7 +90,7 @@ fn lay_pointed(digits: &[u8], places: usize, line: &mut [u8], end: usize) -> usi
 }
 
 /// How many zeros are after the digits of a number that ten multiplies so often: none after 0.
-fn zeros_behind(size: u128, power: usize) -> usize
+fn zeros_after(size: u128, power: usize) -> usize
     ensures value { result ≡ (if size == 0 then 0 else power) }
     ensures few { result ≤ power }
 {
@@ -139,7 +139,7 @@ fn lay_narrow(size: u64, scale: i16, line: &mut [u8], end: usize) -> usize
     if scale > 0 {
         return lay_with_point(size, places, line, end);
     }
-    let end = lay_zeros(zeros_behind(u128::from(size), places), line, end);
+    let end = lay_zeros(zeros_after(u128::from(size), places), line, end);
     lay_decimal(size, line, end)
 }
 
@@ -158,7 +158,7 @@ fn lay_wide(size: u128, scale: i16, line: &mut [u8], end: usize) -> usize
     if scale > 0 {
         return lay_pointed(digits, places, line, end);
     }
-    let end = lay_zeros(zeros_behind(size, places), line, end);
+    let end = lay_zeros(zeros_after(size, places), line, end);
     lay_text(digits, line, end)
 }
 

@@ -7,7 +7,7 @@ ghost use Rattle.bufr_text.specs.Bounds.{IsDumpable};
 ghost use Rattle.bufr_text.specs.Document.{Document};
 ghost use Rattle.bufr_text.specs.Reading.{TakesWholeLines, parse, parse_open};
 ghost use Rattle.bufr_text.specs.Reader.{ReaderModel, new_reader, unfed, position_of, IsMissingFeed, ReadsLines, ReturnsNextDocument, HasNoMoreLines, HasNoWholeLine};
-ghost use Rattle.bufr_text.specs.Spelling.{AreTold, numbered_lines};
+ghost use Rattle.bufr_text.specs.Spelling.{AreReported, numbered_lines};
 ghost use Rattle.bufr_text.specs.Whole.{AreProper};
 ghost use Rattle.bufr_text.specs.declared.fault.ReadFault.{ReadFault};
 
@@ -35,12 +35,12 @@ pub fn documents_are_proper()
 /// The lines of a text that are no comment and not empty are the lines of its documents, one
 /// document after another, up to the end or to the first line that is refused.
 pub fn lines_are_those_of_the_documents()
-    ensures { (text : List ℕ) → AreTold (numbered_lines 1 (lines_of text)) (documents_of text) }
+    ensures { (text : List ℕ) → AreReported (numbered_lines 1 (lines_of text)) (documents_of text) }
 {}
 
 /// The documents that are reported while the end is not known stay the first ones, whatever comes
 /// after.
-pub fn open_documents_are_front()
+pub fn open_documents_are_prefix()
     ensures { (s t : List ℕ)
         → (more : List ParseResult) × (documents_of (s ++ t) ≡ open_documents_of s ++ more) }
 {}
@@ -56,7 +56,7 @@ pub fn calls_compose()
 
 /// What calls reported from the beginning are the first documents of the octets read, whatever
 /// comes after; after the end nothing does.
-pub fn documents_told_are_the_first()
+pub fn documents_reported_are_the_first()
     ensures { (left left' : Option (List ℕ)) (s : ReaderModel) (results : List ParseResult)
         (bs t : List ℕ)
         → ReadsLines left left' new_reader s results bs → (s.ended ≡ true → t ≡ [])
@@ -65,7 +65,7 @@ pub fn documents_told_are_the_first()
 
 /// What calls reported from the beginning while the end is not known are the first open documents
 /// of the octets read, whatever comes after.
-pub fn documents_told_are_the_first_open()
+pub fn documents_reported_are_the_first_open()
     ensures { (left left' : Option (List ℕ)) (s : ReaderModel) (results : List ParseResult)
         (bs t : List ℕ)
         → ReadsLines left left' new_reader s results bs → s.ended ≡ false
@@ -73,7 +73,7 @@ pub fn documents_told_are_the_first_open()
 {}
 
 /// What calls reported up to the end are the documents of the octets read.
-pub fn documents_told_are_the_documents()
+pub fn documents_reported_are_the_documents()
     ensures { (left left' : Option (List ℕ)) (s : ReaderModel) (results : List ParseResult)
         (bs : List ℕ)
         → ReadsLines left left' new_reader s results bs → HasNoMoreLines s → documents_of bs ≡ results }
@@ -81,7 +81,7 @@ pub fn documents_told_are_the_documents()
 
 /// What calls reported up to a failed read, or up to the last read that is made, are the open
 /// documents of the octets read.
-pub fn documents_told_are_the_open_documents()
+pub fn documents_reported_are_the_open_documents()
     ensures { (left left' : Option (List ℕ)) (s : ReaderModel) (results : List ParseResult)
         (bs : List ℕ)
         → ReadsLines left left' new_reader s results bs → HasNoWholeLine s → open_documents_of bs
@@ -91,7 +91,7 @@ pub fn documents_told_are_the_open_documents()
 /// The octets that calls read are the lines that they took, and after those exactly what is held:
 /// as many lines were taken as line numbers were passed. Where the end was reached, a last line
 /// that lacks its line feed was given one, which is none of the octets that are said to be held.
-pub fn octets_behind_the_lines_are_held()
+pub fn octets_after_the_lines_are_held()
     ensures { (left left' : Option (List ℕ)) (s : ReaderModel) (results : List ParseResult)
         (bs : List ℕ)
         → ReadsLines left left' new_reader s results bs → (feed : List ℕ)

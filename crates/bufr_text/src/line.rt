@@ -34,7 +34,7 @@ fn word_len(line: &[u8]) -> usize
 /// The octets, 1 to 32 of them, that the digits after one space write; they are put into
 /// `scratch`.
 // rule: reading-long-lists
-fn octets_behind<'a>(rest: &[u8], scratch: &'a mut [u8]) -> Option<&'a [u8]>
+fn octets_after<'a>(rest: &[u8], scratch: &'a mut [u8]) -> Option<&'a [u8]>
     requires { length rest.now ≤ length scratch.old }
     ensures { (line : List ℕ → Line) → made line (option_map (λ s. s.now) result)
         ≡ made (λ text. made (with_one_to 32 line) (hex_read text)) (without_space rest.now) }
@@ -104,11 +104,11 @@ fn worded<'a>(
         return alone(rest, ParsedLine::Opens);
     }
     if is(word, b"local1") {
-        let octets = octets_behind(rest, octets.as_mut_slice())?;
+        let octets = octets_after(rest, octets.as_mut_slice())?;
         return Some(ParsedLine::Local1(octets));
     }
     if is(word, b"section2") {
-        let octets = octets_behind(rest, octets.as_mut_slice())?;
+        let octets = octets_after(rest, octets.as_mut_slice())?;
         return Some(ParsedLine::Section2(octets));
     }
     if is(word, b"descriptors") {

@@ -173,9 +173,9 @@ pub turns_in_all : (table : List Row) (t : Tree) (answers : List Taken) → IsSo
 unfolding next_item
 turns_in_all table t answers g e = omega (arith, pays_end table (1 + size t) t (omega arith) g.0 g.1 0 1 (λ _. finish) (λ counts s items' w. omega arith) (counts_of answers) begin answers e)
 
-told_length : (items : List TakenField) → length (answers_of items) ≡ length items
-told_length [] = refl
-told_length (i ∷ items) = ap suc (told_length items)
+answer_length : (items : List TakenField) → length (answers_of items) ≡ length items
+answer_length [] = refl
+answer_length (i ∷ items) = ap suc (answer_length items)
 
 by_bits : (n a b k : ℕ) → a + k ≤ b → n * k ≤ n * (b - a)
 by_bits n a b k u = mul-le-mul_left n (let h : k ≤ b - a = omega arith in h)
@@ -203,7 +203,7 @@ module _ {S E : Type 0} (takes : S → FieldSpec → Result Taken E → S → Ty
   pub steps_ok : (table : List Row) (t : Tree) (s : S) (c : ℕ) (s' : S) (c' : ℕ) → IsSound t → Walked takes (next_item table t) s c (Ok tt) s' c' → c' ≤ c + places t * (used s' - used s)
   steps_ok table t s c s' c' sound w =
       let paid : used s + length w.0 ≤ used s' = items_used (next_item table t) s w.0 s' w.1 in
-      let turns : (next_item table t (answers_of w.0)).turns ≤ places t * length w.0 = subst (λ k. (next_item table t (answers_of w.0)).turns ≤ places t * k) (told_length w.0) (turns_in_all table t (answers_of w.0) sound w.2) in
+      let turns : (next_item table t (answers_of w.0)).turns ≤ places t * length w.0 = subst (λ k. (next_item table t (answers_of w.0)).turns ≤ places t * k) (answer_length w.0) (turns_in_all table t (answers_of w.0) sound w.2) in
       let bits : places t * length w.0 ≤ places t * (used s' - used s) = by_bits (places t) (used s) (used s') (length w.0) paid in
       ticks_at_most c (next_item table t (answers_of w.0)).turns c' _ w.3 (omega (arith, turns, bits))
 
@@ -211,6 +211,6 @@ module _ {S E : Type 0} (takes : S → FieldSpec → Result Taken E → S → Ty
   steps_err table t s c why s' c' sound w =
       let same : used w.1 ≤ used s' = stop_keeps (next_item table t (answers_of w.0)).next w.1 why s' w.3 in
       let paid : used s + length w.0 ≤ used w.1 = items_used (next_item table t) s w.0 w.1 w.2 in
-      let turns : (next_item table t (answers_of w.0)).turns ≤ places t * (length w.0 + 1) = subst (λ k. (next_item table t (answers_of w.0)).turns ≤ places t * (k + 1)) (told_length w.0) (turns_before table t (answers_of w.0) sound) in
+      let turns : (next_item table t (answers_of w.0)).turns ≤ places t * (length w.0 + 1) = subst (λ k. (next_item table t (answers_of w.0)).turns ≤ places t * (k + 1)) (answer_length w.0) (turns_before table t (answers_of w.0) sound) in
       let bits : places t * (length w.0 + 1) ≤ places t * (used s' - used s + 1) = mul-le-mul_left (places t) (let h : length w.0 + 1 ≤ used s' - used s + 1 = omega (arith, same, paid) in h) in
       ticks_at_most c (next_item table t (answers_of w.0)).turns c' _ w.4 (omega (arith, turns, bits))

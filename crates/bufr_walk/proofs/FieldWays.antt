@@ -114,7 +114,7 @@ module _ {S E : Type 0} (takes : S → FieldSpec → Result Taken E → S → Ty
           taken = (f', ap (λ a. a.next) (asks rest [] [] ∙ ap (λ q. asked q (λ u more. ahead table (left rest []) (after_field s fxy u) more) []) k.1), k.2, refl);
           leads = λ more.
               asks rest (counts_in t (counts_of more)) (t ∷ more)
-              ∙ ap (λ q. asked q (λ u later_told. ahead table (left rest (counts_in t (counts_of more))) (after_field s fxy u) later_told) (t ∷ more)) k.1
+              ∙ ap (λ q. asked q (λ u later_answer. ahead table (left rest (counts_in t (counts_of more))) (after_field s fxy u) later_answer) (t ∷ more)) k.1
               ∙ ap (λ counts. later 1 (ahead table (left rest counts) (after_field s fxy t) more)) (plain (counts_of more));
         };
       }
@@ -131,7 +131,7 @@ module _ {S E : Type 0} (takes : S → FieldSpec → Result Taken E → S → Ty
         way = λ rest. record {
           items = record { spec = o.0; taken = taken.Count n } ∷ [];
           taken = (f', ap (λ q. (asked q (λ u answers. ahead table open_end (after_field s fxy u) answers) []).next) e, o.2, refl);
-          leads = λ later_told. ap (λ q. later 1 (asked q (λ u answers. ahead table (passes n (unroll body) (unroll more (k rest)) (counts_of later_told)) (after_field s fxy u) answers) (taken.Count n ∷ later_told))) e ∙ later_twice 1 1 _;
+          leads = λ later_answer. ap (λ q. later 1 (asked q (λ u answers. ahead table (passes n (unroll body) (unroll more (k rest)) (counts_of later_answer)) (after_field s fxy u) answers) (taken.Count n ∷ later_answer))) e ∙ later_twice 1 1 _;
         };
       }
 

@@ -23,7 +23,7 @@ use Rattle.bufr_walk.specs.Walked.{Walked}
 use Rattle.bufr_walk.specs.WalkProgress.{course, HasWalked, StopsIn, TakesField}
 use Rattle.bufr_walk.specs.Stop.{stop_by}
 use Rattle.bufr_walk.specs.Ticks.{ticked}
-use Rattle.bufr_walk.specs.CellWalk.{OpenGroup, frames_of, turns_after_pass, tail_of, AllStand, IsAtNodes, IsAtCell, costs, owed, weight, Turned}
+use Rattle.bufr_walk.specs.CellWalk.{OpenGroup, frames_of, turns_after_pass, tail_of, AllFit, IsAtNodes, IsAtCell, costs, owed, weight, Turned}
 use Rattle.bufr_walk.proofs.WaysLemmas.{came_none, came_then, came_stops, came_turn}
 use Rattle.bufr_walk.proofs.FieldWays.{came_field, came_factor, stops_field, stops_factor, inserted_is, came_operator, stops_operator, element_role, inserted_role, whole, whole_stops}
 use Rattle.bufr_walk.proofs.FlatWeights.{drop_head, drop_body, worst, cost_here, owed_push}
@@ -60,7 +60,7 @@ module _ (cells : List Cell) where
       → drop start cells ≡ cells_of body start (cell.PassEnd ∷ cells_of more after (tail_of groups))
       → drop after cells ≡ cells_of more after (tail_of groups)
       → length groups + 1 + depth body ≤ 32 → length groups + depth more ≤ 32
-      → IsLegal body → IsLegal more → AllStand cells groups
+      → IsLegal body → IsLegal more → AllFit cells groups
       → (left' : Rest → Rest) × IsAtCell cells next stack' left' × ((k : Rest) (counts : List ℕ) → passes count (unroll body) (unroll more (turns_after_pass groups k)) counts ≡ left' k counts)
       × (weight cells next stack' ≡ count * (1 + worst body) + worst more + owed (costs cells 0) stack)
   entered zero body more groups start after next stack stack' none some frames h1 h2 d1 d2 k1 k2 outer =
@@ -337,20 +337,20 @@ module _ {S E : Type 0} (takes : S → FieldSpec → Result Taken E → S → Ty
       (at.left_is, refl, refl, tick)
 
 -- as many cells as places
-pub laid_length : (cells : List Cell) (template : Tree) → AreCellsOf cells template → length cells ≡ places template
-laid_length cells template h =
-    ap length h.flattened ∙ lay_length template 0 (cell.Finish ∷ []) ∙ (let q : size template + 1 ≡ 1 + size template = omega arith in q)
+pub flattened_length : (cells : List Cell) (template : Tree) → AreCellsOf cells template → length cells ≡ places template
+flattened_length cells template h =
+    ap length h.flattened ∙ cells_length template 0 (cell.Finish ∷ []) ∙ (let q : size template + 1 ≡ 1 + size template = omega arith in q)
   where
-    lay_length : (t : Tree) (at : ℕ) (tail : List Cell) → length (cells_of t at tail) ≡ size t + length tail
-    lay_length bare at tail = omega arith
-    lay_length (element fxy more) at tail = omega (arith, lay_length more (at + 1) tail)
-    lay_length (operator fxy more) at tail = omega (arith, lay_length more (at + 1) tail)
-    lay_length (fixed n body more) at tail = omega (arith, lay_length body (at + 1) (cell.PassEnd ∷ cells_of more (at + 2 + size body) tail), lay_length more (at + 2 + size body) tail)
-    lay_length (delayed fxy body more) at tail = omega (arith, lay_length body (at + 2) (cell.PassEnd ∷ cells_of more (at + 3 + size body) tail), lay_length more (at + 3 + size body) tail)
+    cells_length : (t : Tree) (at : ℕ) (tail : List Cell) → length (cells_of t at tail) ≡ size t + length tail
+    cells_length bare at tail = omega arith
+    cells_length (element fxy more) at tail = omega (arith, cells_length more (at + 1) tail)
+    cells_length (operator fxy more) at tail = omega (arith, cells_length more (at + 1) tail)
+    cells_length (fixed n body more) at tail = omega (arith, cells_length body (at + 1) (cell.PassEnd ∷ cells_of more (at + 2 + size body) tail), cells_length more (at + 2 + size body) tail)
+    cells_length (delayed fxy body more) at tail = omega (arith, cells_length body (at + 2) (cell.PassEnd ∷ cells_of more (at + 3 + size body) tail), cells_length more (at + 3 + size body) tail)
 
 -- a walk before the whole template
-pub stands_first : (cells : List Cell) (template : Tree) (stack : List Frame) → AreCellsOf cells template → stack ≡ [] → IsAtCell cells 0 stack (unroll template)
-stands_first cells template stack h e = (template, [], record { frames = e; here = h.flattened; deep = omega (arith, h.shallow); legal = h.legal; outer = tt; left_is = λ k counts. refl })
+pub fits_first : (cells : List Cell) (template : Tree) (stack : List Frame) → AreCellsOf cells template → stack ≡ [] → IsAtCell cells 0 stack (unroll template)
+fits_first cells template stack h e = (template, [], record { frames = e; here = h.flattened; deep = omega (arith, h.shallow); legal = h.legal; outer = tt; left_is = λ k counts. refl })
 
 module _ {S E : Type 0} (takes : S → FieldSpec → Result Taken E → S → Type 0) (table : List Row) (cells : List Cell) where
   -- a turn that led on

@@ -47,8 +47,8 @@ same_field a b r k p by_role spec_by_kind h =
     }
 
 -- a field that was found at a place
-pub stands_there : (specs : List FieldSpec) (place : ℕ) (there spec : FieldSpec) → place < length specs → there ≡ get_or specs place there → there ≡ spec → HasSpecAt specs place spec
-stands_there specs place there spec below at same = record {
+pub fits_there : (specs : List FieldSpec) (place : ℕ) (there spec : FieldSpec) → place < length specs → there ≡ get_or specs place there → there ≡ spec → HasSpecAt specs place spec
+fits_there specs place there spec below at same = record {
   below = below;
   is = get_or_default specs place no_field there below ∙ sym at ∙ same;
 }

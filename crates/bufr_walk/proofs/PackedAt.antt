@@ -18,9 +18,9 @@ use Rattle.bufr_walk.specs.Calls.{content_at}
 use Rattle.bufr_walk.specs.Content.{Content, content_in}
 use Rattle.bufr_walk.specs.PlainField.{FieldFault, FieldRead, data_end, increment, unequal_factor}
 use Rattle.bufr_walk.specs.StoredItems.{content_kept}
-use Rattle.bufr_walk.specs.PackedField.{increments, increment_bits_of, padded_text, varied_by, if_equal, varied, contents_of, all_same, with_behind, item_by, packed_field}
+use Rattle.bufr_walk.specs.PackedField.{increments, increment_bits_of, padded_text, varied_by, if_equal, varied, contents_of, all_same, with_suffix, item_by, packed_field}
 use Rattle.bufr_walk.specs.PackedBits.{holds_by, content_from, number_from, kind_step}
-use Rattle.bufr_walk.specs.PackedIn.{contents_found, was_found, has_base, stands_at}
+use Rattle.bufr_walk.specs.PackedIn.{contents_found, was_found, has_base, fits_at}
 use Rattle.bufr_walk.proofs.PlainLemmas.{bits_length, ones_by_number}
 use Rattle.bufr_walk.proofs.PackedContents.{varied_are, element_are, inserted_are, factor_are, wrong_reference, step_element, step_inserted, step_factor}
 
@@ -29,9 +29,9 @@ if_found : (b : Bool) (x : Result (FieldRead (List Content)) FieldFault) → was
 if_found true x h = absurd cc
 if_found false x h = (refl, h, refl)
 
-behind_found : (r : Result (List Content) FieldFault) (bs : List Bool) → was_found (with_behind r bs) ≡ true → r ≡ Ok (contents_found (with_behind r bs))
-behind_found (Ok cs) bs h = refl
-behind_found (Err why) bs h = absurd cc
+after_found : (r : Result (List Content) FieldFault) (bs : List Bool) → was_found (with_suffix r bs) ≡ true → r ≡ Ok (contents_found (with_suffix r bs))
+after_found (Ok cs) bs h = refl
+after_found (Err why) bs h = absurd cc
 
 at_most : (a b : ℕ) → nat_lt a b ≡ false → b ≤ a
 at_most a b h = grind (arith, nat_tests)
@@ -51,11 +51,11 @@ parts bits at n a k h is =
     let first = if_found (nat_lt (length here) (a.width + 6)) (item_by a n read here) h in
     let same_k : read ≡ k = ap (λ bs. number_of (take 6 bs)) (drop-drop a.width at bits) ∙ sym is in
     let inner : was_found (item_by a n k here) ≡ true = subst (λ x. was_found (item_by a n x here) ≡ true) same_k first.1 in
-    let second = if_found (nat_lt (length back) (n * s)) (with_behind (contents_of a k base (increments n s back)) (drop (n * s) back)) inner in
-    let are = behind_found (contents_of a k base (increments n s back)) (drop (n * s) back) second.1 in
+    let second = if_found (nat_lt (length back) (n * s)) (with_suffix (contents_of a k base (increments n s back)) (drop (n * s) back)) inner in
+    let are = after_found (contents_of a k base (increments n s back)) (drop (n * s) back) second.1 in
     let same : back ≡ drop (at + (a.width + 6)) bits = drop-drop (a.width + 6) at bits in
     let cs = contents_found (packed_field n a here) in
-    let all : contents_found (with_behind (contents_of a k base (increments n s back)) (drop (n * s) back)) ≡ cs = sym (first.2 ∙ ap (λ x. contents_found (item_by a n x here)) same_k ∙ second.2) in
+    let all : contents_found (with_suffix (contents_of a k base (increments n s back)) (drop (n * s) back)) ≡ cs = sym (first.2 ∙ ap (λ x. contents_found (item_by a n x here)) same_k ∙ second.2) in
     let long : a.width + 6 ≤ length here = at_most (length here) (a.width + 6) first.0 in
     let room : n * s ≤ length back = at_most (length back) (n * s) second.0 in
     record {
@@ -66,20 +66,20 @@ parts bits at n a k h is =
 same_number : (a b : ℕ) → (a == b) ≡ true → a ≡ b
 same_number a b h = grind (arith, nat_tests)
 
-kept_step : (bits : List Bool) (n : ℕ) (e : IndexedItem) → stands_at bits n e ≡ true → e.step ≡ number_of (take 6 (drop (e.at + e.spec.width) bits))
+kept_step : (bits : List Bool) (n : ℕ) (e : IndexedItem) → fits_at bits n e ≡ true → e.step ≡ number_of (take 6 (drop (e.at + e.spec.width) bits))
 kept_step bits n e h =
     let step = e.step == number_of (take 6 (drop (e.at + e.spec.width) bits)) in
     same_number e.step (number_of (take 6 (drop (e.at + e.spec.width) bits))) (and_first step (has_base bits e) (and_second (was_found (packed_field n e.spec (drop e.at bits))) (step && has_base bits e) h))
 
 -- the base of a kept item that is a number
-pub kept_base : (bits : List Bool) (n : ℕ) (e : IndexedItem) → stands_at bits n e ≡ true → is_character e.spec.kind ≡ false → e.base ≡ number_of (take e.spec.width (drop e.at bits))
+pub kept_base : (bits : List Bool) (n : ℕ) (e : IndexedItem) → fits_at bits n e ≡ true → is_character e.spec.kind ≡ false → e.base ≡ number_of (take e.spec.width (drop e.at bits))
 kept_base bits n e h k =
     let step = e.step == number_of (take 6 (drop (e.at + e.spec.width) bits)) in
     let has : has_base bits e ≡ true = and_second step (has_base bits e) (and_second (was_found (packed_field n e.spec (drop e.at bits))) (step && has_base bits e) h) in
     same_number e.base (number_of (take e.spec.width (drop e.at bits))) (ap (λ b. b || (e.base == number_of (take e.spec.width (drop e.at bits)))) (sym k) ∙ has)
 
 -- the parts of a kept item
-pub kept_parts : (bits : List Bool) (n : ℕ) (e : IndexedItem) → stands_at bits n e ≡ true → IsAt bits e.at n e.spec e.step (contents_found (packed_field n e.spec (drop e.at bits)))
+pub kept_parts : (bits : List Bool) (n : ℕ) (e : IndexedItem) → fits_at bits n e ≡ true → IsAt bits e.at n e.spec e.step (contents_found (packed_field n e.spec (drop e.at bits)))
 kept_parts bits n e h =
     parts bits e.at n e.spec e.step (and_first (was_found (packed_field n e.spec (drop e.at bits))) ((e.step == number_of (take 6 (drop (e.at + e.spec.width) bits))) && has_base bits e) h) (kept_step bits n e h)
 
@@ -153,7 +153,7 @@ step_is a k n base suffix cs some are = by a.role refl
 pub reaches : (n j s : ℕ) → j < n → (j + 1) * s ≤ n * s
 reaches n j s h = mul-le-mul_right s (omega (arith, h))
 
-pub increment_within : (bits : List Bool) (n : ℕ) (e : IndexedItem) (j : ℕ) → stands_at bits n e ≡ true → 1 ≤ e.step → j < n → e.at + (e.spec.width + 6) + (j + 1) * kind_step e.spec.kind e.step ≤ length bits
+pub increment_within : (bits : List Bool) (n : ℕ) (e : IndexedItem) (j : ℕ) → fits_at bits n e ≡ true → 1 ≤ e.step → j < n → e.at + (e.spec.width + 6) + (j + 1) * kind_step e.spec.kind e.step ≤ length bits
 increment_within bits n e j h some below =
     let p = kept_parts bits n e h in
     let s = kind_step e.spec.kind e.step in
@@ -162,7 +162,7 @@ increment_within bits n e j h some below =
     let all : e.at + (e.spec.width + 6 + n * s) ≤ length bits = subst (λ x. e.at + (e.spec.width + 6 + n * x) ≤ length bits) same p.within in
     omega (arith, far, all)
 
-pub step_small : (bits : List Bool) (n : ℕ) (e : IndexedItem) → stands_at bits n e ≡ true → e.step ≤ 63
+pub step_small : (bits : List Bool) (n : ℕ) (e : IndexedItem) → fits_at bits n e ≡ true → e.step ≤ 63
 step_small bits n e h =
     let six = take 6 (drop (e.at + e.spec.width) bits) in
     let is : e.step ≡ number_of six = kept_step bits n e h in
@@ -175,10 +175,10 @@ step_small bits n e h =
     length-take-most n xs = omega (arith, length-take n xs)
 
 -- the content of one subset, by the bits of its item
-pub base_content : (bits : List Bool) (n : ℕ) (e : IndexedItem) (j : ℕ) → stands_at bits n e ≡ true → e.step ≡ 0 → j < n → content_kept bits n e j ≡ content_in e.spec (take e.spec.width (drop e.at bits))
+pub base_content : (bits : List Bool) (n : ℕ) (e : IndexedItem) (j : ℕ) → fits_at bits n e ≡ true → e.step ≡ 0 → j < n → content_kept bits n e j ≡ content_in e.spec (take e.spec.width (drop e.at bits))
 base_content bits n e j h none below = let p = kept_parts bits n e h in base_at e.spec e.step n j _ _ _ none below p.are
 
-pub varied_content : (bits : List Bool) (n : ℕ) (e : IndexedItem) (j : ℕ) → stands_at bits n e ≡ true → 1 ≤ e.step → j < n
+pub varied_content : (bits : List Bool) (n : ℕ) (e : IndexedItem) (j : ℕ) → fits_at bits n e ≡ true → 1 ≤ e.step → j < n
     → content_kept bits n e j ≡ content_from e.spec.kind e.spec e.step (take e.spec.width (drop e.at bits)) (take (kind_step e.spec.kind e.step) (drop (j * kind_step e.spec.kind e.step) (drop (e.at + (e.spec.width + 6)) bits)))
 varied_content bits n e j h some below = let p = kept_parts bits n e h in varied_at e.spec e.step n j _ _ _ some below p.are
 
@@ -203,28 +203,28 @@ text_step kind.Character k h = refl
 text_step kind.Coded k h = absurd cc
 text_step kind.Numeric k h = absurd cc
 
-pub number_content : (bits : List Bool) (n : ℕ) (e : IndexedItem) (j : ℕ) → stands_at bits n e ≡ true → 1 ≤ e.step → j < n → is_character e.spec.kind ≡ false
+pub number_content : (bits : List Bool) (n : ℕ) (e : IndexedItem) (j : ℕ) → fits_at bits n e ≡ true → 1 ≤ e.step → j < n → is_character e.spec.kind ≡ false
     → number_from e.spec e.step (take e.spec.width (drop e.at bits)) (take e.step (drop (j * e.step) (drop (e.at + (e.spec.width + 6)) bits))) ≡ content_kept bits n e j
 number_content bits n e j h some below c = sym (varied_content bits n e j h some below ∙ number_kind e.spec.kind e.spec e.step j _ _ c)
 
-pub number_within : (bits : List Bool) (n : ℕ) (e : IndexedItem) (j : ℕ) → stands_at bits n e ≡ true → 1 ≤ e.step → j < n → is_character e.spec.kind ≡ false → e.at + (e.spec.width + 6) + (j + 1) * e.step ≤ length bits
+pub number_within : (bits : List Bool) (n : ℕ) (e : IndexedItem) (j : ℕ) → fits_at bits n e ≡ true → 1 ≤ e.step → j < n → is_character e.spec.kind ≡ false → e.at + (e.spec.width + 6) + (j + 1) * e.step ≤ length bits
 number_within bits n e j h some below c = subst (λ s. e.at + (e.spec.width + 6) + (j + 1) * s ≤ length bits) (number_step e.spec.kind e.step c) (increment_within bits n e j h some below)
 
-pub text_content : (bits : List Bool) (n : ℕ) (e : IndexedItem) (j : ℕ) → stands_at bits n e ≡ true → 1 ≤ e.step → j < n → is_character e.spec.kind ≡ true
+pub text_content : (bits : List Bool) (n : ℕ) (e : IndexedItem) (j : ℕ) → fits_at bits n e ≡ true → 1 ≤ e.step → j < n → is_character e.spec.kind ≡ true
     → padded_text (e.spec.width / 8) e.step (take (8 * e.step) (drop (j * (8 * e.step)) (drop (e.at + (e.spec.width + 6)) bits))) ≡ content_kept bits n e j
 text_content bits n e j h some below c = sym (varied_content bits n e j h some below ∙ text_kind e.spec.kind e.spec e.step j _ _ c)
 
-pub text_within : (bits : List Bool) (n : ℕ) (e : IndexedItem) (j : ℕ) → stands_at bits n e ≡ true → 1 ≤ e.step → j < n → is_character e.spec.kind ≡ true → e.at + (e.spec.width + 6) + (j + 1) * (8 * e.step) ≤ length bits
+pub text_within : (bits : List Bool) (n : ℕ) (e : IndexedItem) (j : ℕ) → fits_at bits n e ≡ true → 1 ≤ e.step → j < n → is_character e.spec.kind ≡ true → e.at + (e.spec.width + 6) + (j + 1) * (8 * e.step) ≤ length bits
 text_within bits n e j h some below c = subst (λ s. e.at + (e.spec.width + 6) + (j + 1) * s ≤ length bits) (text_step e.spec.kind e.step c) (increment_within bits n e j h some below)
 
 -- whether the base of a kept item is all ones, by its number
-pub kept_ones : (octets : List ℕ) (n : ℕ) (e : IndexedItem) → stands_at (bits_of octets) n e ≡ true → is_character e.spec.kind ≡ false → (e.base == 2 ^ e.spec.width - 1) ≡ are_all_ones (bits_at octets e.at e.spec.width)
+pub kept_ones : (octets : List ℕ) (n : ℕ) (e : IndexedItem) → fits_at (bits_of octets) n e ≡ true → is_character e.spec.kind ≡ false → (e.base == 2 ^ e.spec.width - 1) ≡ are_all_ones (bits_at octets e.at e.spec.width)
 kept_ones octets n e h k =
     let p = kept_parts (bits_of octets) n e h in
     ones_by_number octets e.at e.spec.width e.base (omega (arith, p.within, bits_length octets)) (kept_base (bits_of octets) n e h k)
 
 -- and that number
-pub kept_number : (octets : List ℕ) (n : ℕ) (e : IndexedItem) → stands_at (bits_of octets) n e ≡ true → is_character e.spec.kind ≡ false → (e.base ≡ number_of (bits_at octets e.at e.spec.width)) × (e.base < 2 ^ e.spec.width)
+pub kept_number : (octets : List ℕ) (n : ℕ) (e : IndexedItem) → fits_at (bits_of octets) n e ≡ true → is_character e.spec.kind ≡ false → (e.base ≡ number_of (bits_at octets e.at e.spec.width)) × (e.base < 2 ^ e.spec.width)
 kept_number octets n e h k =
     let is = kept_base (bits_of octets) n e h k in
     let p = kept_parts (bits_of octets) n e h in

@@ -12,10 +12,10 @@ use Rattle.bufr_walk.specs.declared.spec.Taken.{Taken}
 use Rattle.bufr_walk.specs.declared.spec.Taken.TheVariants as taken
 use Rattle.bufr_walk.specs.declared.packed_in.PackedFault.TheVariants as wrong
 use Rattle.bufr_walk.specs.FieldSpec.{FieldSpec, IsSpec, HasRole}
-use Rattle.bufr_walk.specs.Content.{Content, number, missing, content_in, answer_of, told_by_role}
+use Rattle.bufr_walk.specs.Content.{Content, number, missing, content_in, answer_of, answer_by_role}
 use Rattle.bufr_walk.specs.PlainField.{FieldFault, increment, unequal_factor}
-use Rattle.bufr_walk.specs.PackedField.{ones, and_contents, increased, increments, all_increased, padded_text, increment_bits_of, numbers_of, varied_by, same_count, if_equal, varied, contents_of, told_first}
-use Rattle.bufr_walk.specs.PackedBits.{stays_within, all_within, all_equal, increased_to, numbers_hold, holds_by, number_from, content_from, kind_step, is_plain_role, IsTold, IsWrong}
+use Rattle.bufr_walk.specs.PackedField.{ones, and_contents, increased, increments, all_increased, padded_text, increment_bits_of, numbers_of, varied_by, same_count, if_equal, varied, contents_of, answer_first}
+use Rattle.bufr_walk.specs.PackedBits.{stays_within, all_within, all_equal, increased_to, numbers_hold, holds_by, number_from, content_from, kind_step, is_plain_role, IsAnswer, IsWrong}
 
 -- one increment that stays within the width
 one_within : (a b c : Bool) (x : Content) → (a || not b) ≡ true → ◌≡◌ {A = Result Content FieldFault} (if a then Ok missing else if b then Err increment else if c then Ok missing else Ok x) (Ok (if a then missing else if c then missing else x))
@@ -125,23 +125,23 @@ factor_are a k n base suffix some e =
     ∙ ap (λ r. varied r a k base (increments n (increment_bits_of r a.kind k) suffix)) e ∙ ap (λ s. if_equal (varied_by a.kind a k base (increments n s suffix))) (step_factor a.kind k)
 
 -- an element returns nothing to the walk
-plain_element : (a : FieldSpec) (cs : List Content) → a.role ≡ role.Element → taken.Plain ≡ told_first a cs
+plain_element : (a : FieldSpec) (cs : List Content) → a.role ≡ role.Element → taken.Plain ≡ answer_first a cs
 plain_element a [] e = refl
-plain_element a (c ∷ cs) e = ap (λ r. told_by_role r c) (sym e)
+plain_element a (c ∷ cs) e = ap (λ r. answer_by_role r c) (sym e)
 
-plain_inserted : (a : FieldSpec) (cs : List Content) → a.role ≡ role.Inserted → taken.Plain ≡ told_first a cs
+plain_inserted : (a : FieldSpec) (cs : List Content) → a.role ≡ role.Inserted → taken.Plain ≡ answer_first a cs
 plain_inserted a [] e = refl
-plain_inserted a (c ∷ cs) e = ap (λ r. told_by_role r c) (sym e)
+plain_inserted a (c ∷ cs) e = ap (λ r. answer_by_role r c) (sym e)
 
-pub told_element_varied : (a : FieldSpec) (k n : ℕ) (base suffix : List Bool) → 1 ≤ k → a.role ≡ role.Element → holds_by a.kind a k n base suffix ≡ true → IsTold a k n base suffix taken.Plain
-told_element_varied a k n base suffix some e h = record {
+pub answer_element_varied : (a : FieldSpec) (k n : ℕ) (base suffix : List Bool) → 1 ≤ k → a.role ≡ role.Element → holds_by a.kind a k n base suffix ≡ true → IsAnswer a k n base suffix taken.Plain
+answer_element_varied a k n base suffix some e h = record {
   contents = map (content_from a.kind a k base) (increments n (kind_step a.kind k) suffix);
   are = element_are a k n base suffix some e ∙ varied_are a.kind a k n base suffix true h;
   gives = plain_element a _ e;
 }
 
-pub told_inserted_varied : (a : FieldSpec) (k n : ℕ) (base suffix : List Bool) → 1 ≤ k → a.role ≡ role.Inserted → holds_by a.kind a k n base suffix ≡ true → IsTold a k n base suffix taken.Plain
-told_inserted_varied a k n base suffix some e h = record {
+pub answer_inserted_varied : (a : FieldSpec) (k n : ℕ) (base suffix : List Bool) → 1 ≤ k → a.role ≡ role.Inserted → holds_by a.kind a k n base suffix ≡ true → IsAnswer a k n base suffix taken.Plain
+answer_inserted_varied a k n base suffix some e h = record {
   contents = map (content_from a.kind a k base) (increments n (kind_step a.kind k) suffix);
   are = inserted_are a k n base suffix some e ∙ varied_are a.kind a k n base suffix true h;
   gives = plain_inserted a _ e;
@@ -167,8 +167,8 @@ wrong_reference a k n base suffix f g some e = record {
 }
 
 -- with no increments all have the base
-pub told_base : (a : FieldSpec) (k n : ℕ) (base suffix : List Bool) (t : Taken) → k ≡ 0 → 1 ≤ n → t ≡ answer_of a (content_in a base) → IsTold a k n base suffix t
-told_base a k n base suffix t e some h =
+pub answer_base : (a : FieldSpec) (k n : ℕ) (base suffix : List Bool) (t : Taken) → k ≡ 0 → 1 ≤ n → t ≡ answer_of a (content_in a base) → IsAnswer a k n base suffix t
+answer_base a k n base suffix t e some h =
     let is = increments n (increment_bits_of a.role a.kind k) suffix in
     record {
       contents = map (λ i. content_in a base) is;
@@ -176,7 +176,7 @@ told_base a k n base suffix t e some h =
       gives = h ∙ first n (increment_bits_of a.role a.kind k) some;
     }
   where
-    first : (n s : ℕ) → 1 ≤ n → answer_of a (content_in a base) ≡ told_first a (map (λ i. content_in a base) (increments n s suffix))
+    first : (n s : ℕ) → 1 ≤ n → answer_of a (content_in a base) ≡ answer_first a (map (λ i. content_in a base) (increments n s suffix))
     first zero s h = absurd (omega arith)
     first (suc n) s h = refl
 
@@ -213,9 +213,9 @@ equal_numbers base first (suc n) k suffix b h e t =
     ap (λ x. if x then Ok (number (base + number_of i) ∷ cs) else Err unequal_factor)
     (ap (λ f. list_all (same_count (number (base + f))) cs) (sym e) ∙ same_numbers base first is ∙ sym (ap (λ x. x && list_all (λ j. number_of j == first) is) (ap (λ f. f == first) (sym e) ∙ self_equal first)) ∙ t)
 
-first_number : (base first n k : ℕ) (suffix : List Bool) (a : FieldSpec) → 1 ≤ n → first ≡ number_of (take k suffix) → a.role ≡ role.Factor → taken.Count (base + first) ≡ told_first a (map (λ i. number (base + number_of i)) (increments n k suffix))
+first_number : (base first n k : ℕ) (suffix : List Bool) (a : FieldSpec) → 1 ≤ n → first ≡ number_of (take k suffix) → a.role ≡ role.Factor → taken.Count (base + first) ≡ answer_first a (map (λ i. number (base + number_of i)) (increments n k suffix))
 first_number base first zero k suffix a h e r = absurd (omega arith)
-first_number base first (suc n) k suffix a h e r = ap (λ f. taken.Count (base + f)) e ∙ ap (λ x. told_by_role x (number (base + number_of (take k suffix)))) (sym r)
+first_number base first (suc n) k suffix a h e r = ap (λ f. taken.Count (base + f)) e ∙ ap (λ x. answer_by_role x (number (base + number_of (take k suffix)))) (sym r)
 
 equal_are : (a : FieldSpec) (k n : ℕ) (base suffix : List Bool) (first : ℕ) (b : Bool) → 1 ≤ k → 1 ≤ n → IsSpec a → a.role ≡ role.Factor → holds_by a.kind a k n base suffix ≡ true → first ≡ number_of (take k suffix) → all_equal k n first suffix ≡ b
     → contents_of a k base (increments n (increment_bits_of a.role a.kind k) suffix) ≡ (if b then Ok (map (λ i. number (number_of base + number_of i)) (increments n k suffix)) else Err unequal_factor)
@@ -224,8 +224,8 @@ equal_are a k n base suffix first b some any spec e h f t =
     factor_are a k n base suffix some e ∙ ap if_equal (varied_are a.kind a k n base suffix true h)
     ∙ ap (λ cs. if_equal (Ok cs)) (factor_numbers a k n base suffix r.0 r.1) ∙ equal_numbers (number_of base) first n k suffix b any f t
 
-pub told_factor_varied : (a : FieldSpec) (k n : ℕ) (base suffix : List Bool) (low first : ℕ) → 1 ≤ k → 1 ≤ n → IsSpec a → a.role ≡ role.Factor → holds_by a.kind a k n base suffix ≡ true → low ≡ number_of base → first ≡ number_of (take k suffix) → all_equal k n first suffix ≡ true → IsTold a k n base suffix (taken.Count (low + first))
-told_factor_varied a k n base suffix low first some any spec e h l f t = record {
+pub answer_factor_varied : (a : FieldSpec) (k n : ℕ) (base suffix : List Bool) (low first : ℕ) → 1 ≤ k → 1 ≤ n → IsSpec a → a.role ≡ role.Factor → holds_by a.kind a k n base suffix ≡ true → low ≡ number_of base → first ≡ number_of (take k suffix) → all_equal k n first suffix ≡ true → IsAnswer a k n base suffix (taken.Count (low + first))
+answer_factor_varied a k n base suffix low first some any spec e h l f t = record {
   contents = map (λ i. number (number_of base + number_of i)) (increments n k suffix);
   are = equal_are a k n base suffix first true some any spec e h f t;
   gives = ap (λ x. taken.Count (x + first)) l ∙ first_number (number_of base) first n k suffix a any f e;
@@ -239,12 +239,12 @@ wrong_unequal a k n base suffix first f g some any spec e h q t = record {
 }
 
 -- the same for each role that returns nothing
-pub told_varied : (a : FieldSpec) (k n : ℕ) (base suffix : List Bool) → 1 ≤ k → is_plain_role a.role ≡ true → holds_by a.kind a k n base suffix ≡ true → IsTold a k n base suffix taken.Plain
-told_varied a k n base suffix some e h = by a.role refl e
+pub answer_varied : (a : FieldSpec) (k n : ℕ) (base suffix : List Bool) → 1 ≤ k → is_plain_role a.role ≡ true → holds_by a.kind a k n base suffix ≡ true → IsAnswer a k n base suffix taken.Plain
+answer_varied a k n base suffix some e h = by a.role refl e
   where
-    by : (r : Role) → a.role ≡ r → is_plain_role r ≡ true → IsTold a k n base suffix taken.Plain
-    by role.Element q e = told_element_varied a k n base suffix some q h
-    by role.Inserted q e = told_inserted_varied a k n base suffix some q h
+    by : (r : Role) → a.role ≡ r → is_plain_role r ≡ true → IsAnswer a k n base suffix taken.Plain
+    by role.Element q e = answer_element_varied a k n base suffix some q h
+    by role.Inserted q e = answer_inserted_varied a k n base suffix some q h
     by role.Factor q e = absurd cc
     by role.Reference q e = absurd cc
 

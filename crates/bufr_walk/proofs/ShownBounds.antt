@@ -12,7 +12,7 @@ use Rattle.bufr_walk.specs.Content.{Content}
 use Rattle.bufr_walk.specs.Course.{Course, next_item}
 use Rattle.bufr_walk.specs.StoredItems.{IsStoredReading, PaysBits, items_in}
 use Rattle.bufr_walk.specs.Outcome.{Read, course_of}
-use Rattle.bufr_walk.specs.Reading.{Item, plain, tells_of, after, next_after, turns_after, turns_in, ReadsSubsets, Values, apart, together, IsReading, IsPackedReading, max_values}
+use Rattle.bufr_walk.specs.Reading.{Item, plain, item_answer, after, next_after, turns_after, turns_in, ReadsSubsets, Values, apart, together, IsReading, IsPackedReading, max_values}
 use Rattle.bufr_walk.specs.CallsInTurn.{Shows}
 use Rattle.bufr_walk.specs.Ticks.{ticked}
 use Rattle.bufr_walk.proofs.Bound.{turns_before, turns_in_all}
@@ -78,19 +78,19 @@ shows_within sees most s (c ∷ calls) turns (Err why) s' steps h t g =
     elim h as (λ _. steps ≤ most) [ inl x ↦ ticked_most c.turns most steps x.1 g.0 | inr y ↦ shows_within sees most y.0 calls turns (Err why) s' steps y.2 t g.1 ]
 
 -- what items returned to the walk
-abbrev tells_all : List (Item Content) → List Taken
-tells_all [] = []
-tells_all (i ∷ items) = tells_of plain i ∷ tells_all items
+abbrev answers_all : List (Item Content) → List Taken
+answers_all [] = []
+answers_all (i ∷ items) = item_answer plain i ∷ answers_all items
 
-tells_length : (items : List (Item Content)) → length (tells_all items) ≡ length items
-tells_length [] = refl
-tells_length (i ∷ items) = ap suc (tells_length items)
+gives_length : (items : List (Item Content)) → length (answers_all items) ≡ length items
+gives_length [] = refl
+gives_length (i ∷ items) = ap suc (gives_length items)
 
-turns_are : (course : Course) (items : List (Item Content)) → turns_after plain course items ≡ (course (tells_all items)).turns
+turns_are : (course : Course) (items : List (Item Content)) → turns_after plain course items ≡ (course (answers_all items)).turns
 turns_are course [] = refl
 turns_are course (i ∷ items) = turns_are (after plain course i) items
 
-next_is : (course : Course) (items : List (Item Content)) → next_after plain course items ≡ (course (tells_all items)).next
+next_is : (course : Course) (items : List (Item Content)) → next_after plain course items ≡ (course (answers_all items)).next
 next_is course [] = refl
 next_is course (i ∷ items) = next_is (after plain course i) items
 
@@ -108,7 +108,7 @@ items_within : (n most : ℕ) (table : List Row) (before paid done : ℕ) (cours
 items_within n most table before paid done course [] h b m = tt
 items_within n most table before paid done course (i ∷ items) h b m = (
   omega (arith, h [], b, m, split n paid (done + 0 + 1), mono n (paid + (done + 0 + 1)) (paid + (done + suc (length items))) (omega arith)),
-  items_within n most table before paid (done + 1) (after plain course i) items (λ answers. subst (λ k. (course (tells_of plain i ∷ answers)).turns ≤ n * k) (counted done (length answers)) (h (tells_of plain i ∷ answers))) b (subst (λ k. n * (paid + k) ≤ most) (moved done (length items)) m),
+  items_within n most table before paid (done + 1) (after plain course i) items (λ answers. subst (λ k. (course (item_answer plain i ∷ answers)).turns ≤ n * k) (counted done (length answers)) (h (item_answer plain i ∷ answers))) b (subst (λ k. n * (paid + k) ≤ most) (moved done (length items)) m),
 )
   where
     counted : (d l : ℕ) → d + suc l + 1 ≡ d + 1 + l + 1
@@ -122,7 +122,7 @@ subsets_within most table template before paid number [] bits suffix sound h b m
 subsets_within most table template before paid number (items ∷ subsets) bits suffix sound h b m =
     let n : ℕ = places template in
     let course : Course = next_item table template in
-    let turns : turns_after plain course items ≤ n * length items = subst (λ k. turns_after plain course items ≤ n * k) (tells_length items) (subst (λ k. k ≤ n * length (tells_all items)) (sym (turns_are course items)) (turns_in_all table template (tells_all items) sound (sym (next_is course items) ∙ h.1.1))) in
+    let turns : turns_after plain course items ≤ n * length items = subst (λ k. turns_after plain course items ≤ n * k) (gives_length items) (subst (λ k. k ≤ n * length (answers_all items)) (sym (turns_are course items)) (turns_in_all table template (answers_all items) sound (sym (next_is course items) ∙ h.1.1))) in
     let more : before + turns_after plain course items ≤ n * (paid + length items) = omega (arith, b, turns, split n paid (length items)) in
     let rest = subsets_within most table template (before + turns_after plain course items) (paid + length items) (number + 1) subsets h.0 suffix sound h.2 more (subst (λ k. n * k ≤ most) (moved paid (length items) (items_in subsets)) m) in (
       (

@@ -126,8 +126,8 @@ same_item course spec a c bits mid mid' e e' f f' =
 course_is : (course : Course) (i : TakenField) (a : Item Content) (c : Content) → i.taken ≡ answer_of i.spec c → item_of i.spec c ≡ a → (λ more. course (i.taken ∷ more)) ≡ after plain course a
 course_is course i a c e is = ap (λ t more. course (t ∷ more)) e ∙ ap (after plain course) is
 
-behind_of : (course : Course) (i : TakenField) (a : Item Content) (others : List (Item Content)) (mid' mid left : List Bool) → (λ more. course (i.taken ∷ more)) ≡ after plain course a → mid' ≡ mid → ReadsPass plain (after plain course a) others mid' left → ReadsPass plain (λ more. course (i.taken ∷ more)) others mid left
-behind_of course i a others mid' mid left go e r = subst (λ c. ReadsPass plain c others mid left) (sym go) (subst (λ b. ReadsPass plain (after plain course a) others b left) e r)
+suffix_of : (course : Course) (i : TakenField) (a : Item Content) (others : List (Item Content)) (mid' mid left : List Bool) → (λ more. course (i.taken ∷ more)) ≡ after plain course a → mid' ≡ mid → ReadsPass plain (after plain course a) others mid' left → ReadsPass plain (λ more. course (i.taken ∷ more)) others mid left
+suffix_of course i a others mid' mid left go e r = subst (λ c. ReadsPass plain c others mid left) (sym go) (subst (λ b. ReadsPass plain (after plain course a) others b left) e r)
 
 module _ {V E : Type 0} (sees : V → Call → Result (Unit {0}) E → V → Type 0) where
   -- a field that was peeked at, shown and passed
@@ -217,7 +217,7 @@ module _ {V E : Type 0} (sees : V → Call → Result (Unit {0}) E → V → Typ
     shown_so table before course s (i ∷ items) s' h t (a ∷ others) left more r =
         let is = same_item course i.spec a h.2.is_taken.content (rest_of (on s).cursor) (rest_of (on h.0).cursor) r.0.0 h.1 r.0.1 h.2.is_taken.field r.0.2 in
         let go = course_is course i a h.2.is_taken.content h.2.is_taken.gives is.0 in
-        let l = shown_so table before (λ answer_of. course (i.taken ∷ answer_of)) h.0 items s' h.3 (h.2.table ∙ t) others left more (behind_of course i a others r.0.0 (rest_of (on h.0).cursor) left go is.1 (r.0.3, r.1)) in
+        let l = shown_so table before (λ answer_of. course (i.taken ∷ answer_of)) h.0 items s' h.3 (h.2.table ∙ t) others left more (suffix_of course i a others r.0.0 (rest_of (on h.0).cursor) left go is.1 (r.0.3, r.1)) in
         record {
           rest = l.rest;
           further = l.further;

@@ -7,7 +7,7 @@ use Rattle.bufr_walk.specs.FieldSpec.{FieldSpec}
 use Rattle.bufr_walk.specs.Course.{Course, Next, take_next, at_end}
 use Rattle.bufr_walk.specs.Content.{Content, answer_of}
 use Rattle.bufr_walk.specs.PlainField.{FieldFault, FieldRead, found, plain_field}
-use Rattle.bufr_walk.specs.PackedField.{packed_field, told_first}
+use Rattle.bufr_walk.specs.PackedField.{packed_field, answer_first}
 
 -- an item: its specification, and its content for one subset or for all
 pub record Item (C : Type 0) : Type 0 where
@@ -25,15 +25,15 @@ plain = record { field = plain_field; gives = answer_of }
 
 -- the coding of n compressed subsets
 abbrev pub packed : ℕ → DataCoding (List Content)
-packed n = record { field = packed_field n; gives = told_first }
+packed n = record { field = packed_field n; gives = answer_first }
 
 -- what an item returns to the walk
-abbrev pub tells_of : {C : Type 0} → DataCoding C → Item C → Taken
-tells_of form i = form.gives i.spec i.content
+abbrev pub item_answer : {C : Type 0} → DataCoding C → Item C → Taken
+item_answer form i = form.gives i.spec i.content
 
 -- a course after one more item
 abbrev pub after : {C : Type 0} → DataCoding C → Course → Item C → Course
-after form course i answer_of = course (tells_of form i ∷ answer_of)
+after form course i answer_of = course (item_answer form i ∷ answer_of)
 
 -- each item is the content of the field that comes next, at the bits after the one before
 abbrev pub ReadsItems : {C : Type 0} → DataCoding C → Course → List (Item C)

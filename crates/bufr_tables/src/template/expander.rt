@@ -164,7 +164,7 @@ impl Expander<'_> {
             result (builder_model growing.new) }
         ensures within { IfOk result (λ taken. taken ≤ length after.now) }
     {
-        let Some((factor, behind_factor)) = after.split_first() else {
+        let Some((factor, after_factor)) = after.split_first() else {
             return Err(TemplateFault::NoFactor(fxy));
         };
         if !factor.is_factor() {
@@ -174,7 +174,7 @@ impl Expander<'_> {
             return Err(TemplateFault::UnknownElement(*factor));
         }
         let passes = Passes::Delayed(*factor);
-        self.group_of(fxy, &passes, behind_factor, room, growing)?;
+        self.group_of(fxy, &passes, after_factor, room, growing)?;
         Ok(1 + usize::from(fxy.x()))
     }
 

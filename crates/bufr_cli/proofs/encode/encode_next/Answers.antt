@@ -4,7 +4,7 @@ use Rattle.bufr_frame.specs.declared.fault.RunFault.{RunFault}
 use Rattle.bufr_text.specs.Documents.{Complete}
 use Rattle.bufr_text.specs.Reader.{parse_results}
 use Rattle.bufr_text.specs.declared.fault.ReadFault.TheVariants.{Run}
-use Rattle.bufr_cli.specs.EncodePieces.{told_piece}
+use Rattle.bufr_cli.specs.EncodePieces.{result_piece}
 use Rattle.bufr_cli.specs.declared.tally.Verdict.{Verdict}
 use Rattle.bufr_cli.proofs.EncodeLemmas.{blames-none, line-cut, line-written, next-stopped, run-ended}
 use Rattle.bufr_cli.proofs.encode.encode_next.Goals as goal
@@ -20,7 +20,7 @@ returns-in_ok-verdict-in-Ok-Some-clause-reports g c = (Complete c.in-Ok-Some.doc
 pub returns-in-Err-Run-clause-reports : goal.returns-in-Err-Run-clause-reports
 returns-in-Err-Run-clause-reports g c =
     let is : c.args.next ≡ Err (Run c.in-Err-Run.fault) = search rules in
-    run-ended _ _ (told_piece c.args.form c.args.templates.now.table_b c.args.templates.now.table_d) c.args.next c.in-Err-Run.fault is c.requires
+    run-ended _ _ (result_piece c.args.form c.args.templates.now.table_b c.args.templates.now.table_d) c.args.next c.in-Err-Run.fault is c.requires
 
 pub returns-in-Err-Run-clause-counts : goal.returns-in-Err-Run-clause-counts
 returns-in-Err-Run-clause-counts g c =

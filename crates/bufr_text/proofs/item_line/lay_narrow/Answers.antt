@@ -11,5 +11,5 @@ returns-then-scale-gt0-clause-written c =
 pub returns-clause-written : goal.returns-clause-written
 returns-clause-written c =
     let scale = to_z-of_z c.ranges.scale in
-    let count = c.zeros_behind.ensures.value ∙ ap (λ n. if n == 0 then 0 else c.unsigned_abs-places.result) c.from.ensures in
+    let count = c.zeros_after.ensures.value ∙ ap (λ n. if n == 0 then 0 else c.unsigned_abs-places.result) c.from.ensures in
     written-plain _ _ _ _ c.args.size c.args.scale c.unsigned_abs-places.result _ (rw scale at c.if-scale-gt0.false) (c.unsigned_abs-places.ensures.value ∙ ap unsigned_abs scale) count refl c.lay_zeros-end.ensures.written c.lay_decimal.ensures.written

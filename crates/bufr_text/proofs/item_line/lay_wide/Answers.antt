@@ -10,4 +10,4 @@ returns-then-scale-gt0-clause-written c =
 pub returns-clause-written : goal.returns-clause-written
 returns-clause-written c =
     let scale = to_z-of_z c.ranges.scale in
-    written-plain _ _ _ _ c.args.size c.args.scale c.unsigned_abs-places.result _ (rw scale at c.if-scale-gt0.false) (c.unsigned_abs-places.ensures.value ∙ ap unsigned_abs scale) c.zeros_behind.ensures.value (c.as_bytes-digits.ensures.value ∙ c.format.ensures.text) c.lay_zeros-end.ensures.written c.lay_text.ensures.written
+    written-plain _ _ _ _ c.args.size c.args.scale c.unsigned_abs-places.result _ (rw scale at c.if-scale-gt0.false) (c.unsigned_abs-places.ensures.value ∙ ap unsigned_abs scale) c.zeros_after.ensures.value (c.as_bytes-digits.ensures.value ∙ c.format.ensures.text) c.lay_zeros-end.ensures.written c.lay_text.ensures.written

@@ -1,6 +1,6 @@
 use Rattle.std.proofs.Common.{◌∙◌, ℕ, refl, sym, ap, subst}
 use Rattle.std.specs.Prelude.{Err}
-use Rattle.bufr_text.specs.Documents.{told_at_end}
+use Rattle.bufr_text.specs.Documents.{reported_at_end}
 use Rattle.bufr_text.specs.Reader.{ReaderModel}
 use Rattle.bufr_text.specs.Step.{place_with}
 use Rattle.bufr_text.specs.Filling.{ends_by_feed, HandlesEnd, stopped}
@@ -24,7 +24,7 @@ returns-in_default c =
     let sound = ap (λ s. s.fault) c.self.view_is ∙ c.requires.sound in
     let held = none-held s c.requires.ended (λ e. ap (λ s. ends_by_feed s.held) (sym c.self.view_is) ∙ c.self.invariant.4 (ap (λ s. s.ended) c.self.view_is ∙ e)) c.requires.none in
     let place = ap (λ s. s.place) (sym c.self.view_is) ∙ place-sound v.fault v.progress sound in
-    let results = ap (told_at_end s.at) place ∙ reported-inside v.progress.place v.progress.parts s.at c.in_default.not-Between in
+    let results = ap (reported_at_end s.at) place ∙ reported-inside v.progress.place v.progress.parts s.at c.in_default.not-Between in
     let F : ReadFault → Type 0 = λ f. HandlesEnd s c.stop.new.self (Err f) in
     let N : ReaderModel → Type 0 = λ n. HandlesEnd s n (Err (fault.Line v.progress.at)) in
     let K : ℕ → Type 0 = λ k. HandlesEnd s (stopped s (fault.Line k)) (Err (fault.Line k)) in

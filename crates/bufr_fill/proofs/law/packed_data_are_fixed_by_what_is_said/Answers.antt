@@ -1,5 +1,5 @@
 use Rattle.bufr_fill.proofs.SaidWritten.{packed_said_alike}
-use Rattle.bufr_fill.proofs.law.packed_data_are_told_by_what_is_said.Goals as goal
+use Rattle.bufr_fill.proofs.law.packed_data_are_fixed_by_what_is_said.Goals as goal
 
 pub returns : goal.returns
 returns c = λ records table template rows legal n items drafts others bits suffix read count said more also.

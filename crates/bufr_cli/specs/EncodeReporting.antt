@@ -35,8 +35,8 @@ LeavesNext output output' errors errors' piece next (Err Memory) =
     × LeavesPieces output output' errors errors' (piece x ∷ []) (Err Memory))
 
 -- the same of two writers
-abbrev pub TellsNext : (before after : Writers) → (ParseResult → Piece)
+abbrev pub ReportsNext : (before after : Writers) → (ParseResult → Piece)
     → Result (Option Document) ReadFault → Result (Option Verdict) RunFault → Type 0
-TellsNext before after piece next result =
+ReportsNext before after piece next result =
     LeavesNext before.output.taken after.output.taken before.errors.taken after.errors.taken
     piece next result

@@ -1,5 +1,5 @@
 use Rattle.bufr_text.proofs.NextLemmas.{reported-at-end}
-use Rattle.bufr_text.proofs.law.documents_told_are_the_documents.Goals as goal
+use Rattle.bufr_text.proofs.law.documents_reported_are_the_documents.Goals as goal
 
 pub returns : goal.returns
 returns c = reported-at-end
