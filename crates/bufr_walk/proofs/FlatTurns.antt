@@ -23,7 +23,7 @@ use Rattle.bufr_walk.specs.Walked.{Walked}
 use Rattle.bufr_walk.specs.WalkProgress.{course, HasWalked, StopsIn, TakesField}
 use Rattle.bufr_walk.specs.Stop.{stop_by}
 use Rattle.bufr_walk.specs.Ticks.{ticked}
-use Rattle.bufr_walk.specs.CellWalk.{OpenGroup, frames_of, turns_after_pass, tail_of, AllFit, IsAtNodes, IsAtCell, costs, owed, weight, Turned}
+use Rattle.bufr_walk.specs.CellWalk.{OpenGroup, frames_of, turns_after_pass, tail_of, AllGroupsFit, IsAtNodes, IsAtCell, costs, owed, weight, Turned}
 use Rattle.bufr_walk.proofs.WaysLemmas.{came_none, came_then, came_stops, came_turn}
 use Rattle.bufr_walk.proofs.FieldWays.{came_field, came_factor, stops_field, stops_factor, inserted_is, came_operator, stops_operator, element_role, inserted_role, whole, whole_stops}
 use Rattle.bufr_walk.proofs.FlatWeights.{drop_head, drop_body, worst, cost_here, owed_push}
@@ -60,7 +60,7 @@ module _ (cells : List Cell) where
       → drop start cells ≡ cells_of body start (cell.PassEnd ∷ cells_of more after (tail_of groups))
       → drop after cells ≡ cells_of more after (tail_of groups)
       → length groups + 1 + depth body ≤ 32 → length groups + depth more ≤ 32
-      → IsLegal body → IsLegal more → AllFit cells groups
+      → IsLegal body → IsLegal more → AllGroupsFit cells groups
       → (left' : Rest → Rest) × IsAtCell cells next stack' left' × ((k : Rest) (counts : List ℕ) → passes count (unroll body) (unroll more (turns_after_pass groups k)) counts ≡ left' k counts)
       × (weight cells next stack' ≡ count * (1 + worst body) + worst more + owed (costs cells 0) stack)
   entered zero body more groups start after next stack stack' none some frames h1 h2 d1 d2 k1 k2 outer =

@@ -15,7 +15,7 @@ use Rattle.bufr_walk.specs.FieldSpec.{FieldSpec, IsSpec, HasRole}
 use Rattle.bufr_walk.specs.Content.{Content, number, missing, content_in, answer_of, answer_by_role}
 use Rattle.bufr_walk.specs.PlainField.{FieldFault, increment, unequal_factor}
 use Rattle.bufr_walk.specs.PackedField.{ones, and_contents, increased, increments, all_increased, padded_text, increment_bits_of, numbers_of, varied_by, same_count, if_equal, varied, contents_of, answer_first}
-use Rattle.bufr_walk.specs.PackedBits.{stays_within, all_within, all_equal, increased_to, numbers_hold, holds_by, number_from, content_from, kind_step, is_plain_role, IsAnswer, IsWrong}
+use Rattle.bufr_walk.specs.PackedBits.{stays_within, all_within, all_equal, increased_to, numbers_hold, holds_by, number_from, content_from, kind_step, is_plain_role, IsItemAnswer, IsWrong}
 
 -- one increment that stays within the width
 one_within : (a b c : Bool) (x : Content) → (a || not b) ≡ true → ◌≡◌ {A = Result Content FieldFault} (if a then Ok missing else if b then Err increment else if c then Ok missing else Ok x) (Ok (if a then missing else if c then missing else x))
@@ -133,14 +133,14 @@ plain_inserted : (a : FieldSpec) (cs : List Content) → a.role ≡ role.Inserte
 plain_inserted a [] e = refl
 plain_inserted a (c ∷ cs) e = ap (λ r. answer_by_role r c) (sym e)
 
-pub answer_element_varied : (a : FieldSpec) (k n : ℕ) (base suffix : List Bool) → 1 ≤ k → a.role ≡ role.Element → holds_by a.kind a k n base suffix ≡ true → IsAnswer a k n base suffix taken.Plain
+pub answer_element_varied : (a : FieldSpec) (k n : ℕ) (base suffix : List Bool) → 1 ≤ k → a.role ≡ role.Element → holds_by a.kind a k n base suffix ≡ true → IsItemAnswer a k n base suffix taken.Plain
 answer_element_varied a k n base suffix some e h = record {
   contents = map (content_from a.kind a k base) (increments n (kind_step a.kind k) suffix);
   are = element_are a k n base suffix some e ∙ varied_are a.kind a k n base suffix true h;
   gives = plain_element a _ e;
 }
 
-pub answer_inserted_varied : (a : FieldSpec) (k n : ℕ) (base suffix : List Bool) → 1 ≤ k → a.role ≡ role.Inserted → holds_by a.kind a k n base suffix ≡ true → IsAnswer a k n base suffix taken.Plain
+pub answer_inserted_varied : (a : FieldSpec) (k n : ℕ) (base suffix : List Bool) → 1 ≤ k → a.role ≡ role.Inserted → holds_by a.kind a k n base suffix ≡ true → IsItemAnswer a k n base suffix taken.Plain
 answer_inserted_varied a k n base suffix some e h = record {
   contents = map (content_from a.kind a k base) (increments n (kind_step a.kind k) suffix);
   are = inserted_are a k n base suffix some e ∙ varied_are a.kind a k n base suffix true h;
@@ -167,7 +167,7 @@ wrong_reference a k n base suffix f g some e = record {
 }
 
 -- with no increments all have the base
-pub answer_base : (a : FieldSpec) (k n : ℕ) (base suffix : List Bool) (t : Taken) → k ≡ 0 → 1 ≤ n → t ≡ answer_of a (content_in a base) → IsAnswer a k n base suffix t
+pub answer_base : (a : FieldSpec) (k n : ℕ) (base suffix : List Bool) (t : Taken) → k ≡ 0 → 1 ≤ n → t ≡ answer_of a (content_in a base) → IsItemAnswer a k n base suffix t
 answer_base a k n base suffix t e some h =
     let is = increments n (increment_bits_of a.role a.kind k) suffix in
     record {
@@ -224,7 +224,7 @@ equal_are a k n base suffix first b some any spec e h f t =
     factor_are a k n base suffix some e ∙ ap if_equal (varied_are a.kind a k n base suffix true h)
     ∙ ap (λ cs. if_equal (Ok cs)) (factor_numbers a k n base suffix r.0 r.1) ∙ equal_numbers (number_of base) first n k suffix b any f t
 
-pub answer_factor_varied : (a : FieldSpec) (k n : ℕ) (base suffix : List Bool) (low first : ℕ) → 1 ≤ k → 1 ≤ n → IsSpec a → a.role ≡ role.Factor → holds_by a.kind a k n base suffix ≡ true → low ≡ number_of base → first ≡ number_of (take k suffix) → all_equal k n first suffix ≡ true → IsAnswer a k n base suffix (taken.Count (low + first))
+pub answer_factor_varied : (a : FieldSpec) (k n : ℕ) (base suffix : List Bool) (low first : ℕ) → 1 ≤ k → 1 ≤ n → IsSpec a → a.role ≡ role.Factor → holds_by a.kind a k n base suffix ≡ true → low ≡ number_of base → first ≡ number_of (take k suffix) → all_equal k n first suffix ≡ true → IsItemAnswer a k n base suffix (taken.Count (low + first))
 answer_factor_varied a k n base suffix low first some any spec e h l f t = record {
   contents = map (λ i. number (number_of base + number_of i)) (increments n k suffix);
   are = equal_are a k n base suffix first true some any spec e h f t;
@@ -239,10 +239,10 @@ wrong_unequal a k n base suffix first f g some any spec e h q t = record {
 }
 
 -- the same for each role that returns nothing
-pub answer_varied : (a : FieldSpec) (k n : ℕ) (base suffix : List Bool) → 1 ≤ k → is_plain_role a.role ≡ true → holds_by a.kind a k n base suffix ≡ true → IsAnswer a k n base suffix taken.Plain
+pub answer_varied : (a : FieldSpec) (k n : ℕ) (base suffix : List Bool) → 1 ≤ k → is_plain_role a.role ≡ true → holds_by a.kind a k n base suffix ≡ true → IsItemAnswer a k n base suffix taken.Plain
 answer_varied a k n base suffix some e h = by a.role refl e
   where
-    by : (r : Role) → a.role ≡ r → is_plain_role r ≡ true → IsAnswer a k n base suffix taken.Plain
+    by : (r : Role) → a.role ≡ r → is_plain_role r ≡ true → IsItemAnswer a k n base suffix taken.Plain
     by role.Element q e = answer_element_varied a k n base suffix some q h
     by role.Inserted q e = answer_inserted_varied a k n base suffix some q h
     by role.Factor q e = absurd cc

@@ -11,7 +11,7 @@ use Rattle.bufr_walk.specs.declared.packed_in.PackedFault.TheVariants as wrong
 use Rattle.bufr_walk.specs.FieldSpec.{FieldSpec}
 use Rattle.bufr_walk.specs.PlainField.{data_end, found}
 use Rattle.bufr_walk.specs.PackedField.{increments, increment_bits_of, contents_of, with_suffix, item_by, packed_field}
-use Rattle.bufr_walk.specs.PackedBits.{IsAnswer, IsWrong, IsSeen, IsUnseen}
+use Rattle.bufr_walk.specs.PackedBits.{IsItemAnswer, IsWrong, IsSeen, IsUnseen}
 
 not_short : (a b : ℕ) → b ≤ a → nat_lt a b ≡ false
 not_short a b h = grind (arith, nat_tests)
@@ -65,7 +65,7 @@ module _ (bits : List Bool) (at n : ℕ) (a : FieldSpec) where
         fault = ap wrong.DataEnd g;
       }
 
-  pub seen_here : (seen : ItemBits) (size : ℕ) → 1 ≤ a.width → seen.end ≡ at + size → at + size ≤ length bits → seen.step ≡ number_of (take 6 (drop (at + a.width) bits)) → size ≡ a.width + 6 + n * increment_bits_of a.role a.kind seen.step → IsAnswer a seen.step n (take a.width (drop at bits)) (drop (at + (a.width + 6)) bits) seen.answer → (is_character a.kind ≡ false → seen.base ≡ number_of (take a.width (drop at bits))) → IsSeen bits at n a seen
+  pub seen_here : (seen : ItemBits) (size : ℕ) → 1 ≤ a.width → seen.end ≡ at + size → at + size ≤ length bits → seen.step ≡ number_of (take 6 (drop (at + a.width) bits)) → size ≡ a.width + 6 + n * increment_bits_of a.role a.kind seen.step → IsItemAnswer a seen.step n (take a.width (drop at bits)) (drop (at + (a.width + 6)) bits) seen.answer → (is_character a.kind ≡ false → seen.base ≡ number_of (take a.width (drop at bits))) → IsSeen bits at n a seen
   seen_here seen size some end_is within is size_is answers based = record {
     contents = answers.contents;
     field = field_is seen.step size within is size_is ∙ ap (λ r. with_suffix r (drop (at + size) bits)) answers.are ∙ ap (λ j. Ok (found answers.contents (drop j bits))) (sym end_is);

@@ -77,7 +77,7 @@ kind_step kind.Coded k = k
 kind_step kind.Numeric k = k
 
 -- an item with this base, k and the bits `suffix` has contents, and returns `t`
-pub record IsAnswer (spec : FieldSpec) (k n : ℕ) (base suffix : List Bool) (t : Taken) : Type 0 where
+pub record IsItemAnswer (spec : FieldSpec) (k n : ℕ) (base suffix : List Bool) (t : Taken) : Type 0 where
   pub contents : List Content
   pub are : contents_of spec k base
       (increments n (increment_bits_of spec.role spec.kind k) suffix) ≡ Ok contents
@@ -95,7 +95,7 @@ pub record IsWrong (spec : FieldSpec) (k n : ℕ) (base suffix : List Bool)
 abbrev pub AnswersAt : (bits : List Bool) (at subsets : ℕ) → FieldSpec → (k : ℕ)
     → Result Taken PackedFault → Type 0
 AnswersAt bits at n spec k (Ok t) =
-    IsAnswer spec k n (take spec.width (drop at bits)) (drop (at + (spec.width + 6)) bits) t
+    IsItemAnswer spec k n (take spec.width (drop at bits)) (drop (at + (spec.width + 6)) bits) t
 AnswersAt bits at n spec k (Err e) =
     IsWrong spec k n (take spec.width (drop at bits)) (drop (at + (spec.width + 6)) bits) e
 
