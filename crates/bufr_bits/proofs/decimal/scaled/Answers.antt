@@ -26,7 +26,7 @@ returns c =
     let kept = are_kept whole fraction c.args.up c.args.down _ _ _ _ _ _ c.saturating_sub.ensures c.min.ensures c.split_at.ensures.front c.split_at.ensures.back c.split_at-2.ensures.front c.split_at-2.ensures.back in
     let zero_cut = sym c.are_zeros.ensures ∙ c.if-not-are_zeros.false in
     let zero_left = sym c.are_zeros-2.ensures ∙ c.if-not-are_zeros-2.false in
-    let prefix = c.split_at-2.ensures.prefix_len in
+    let prefix = c.split_at-2.ensures.front_len in
     let few = c.min.ensures in
     let number = c.times_ten.ensures _ (c.extend_with_digits-number.ensures _ (c.extend_with_digits.ensures 0 refl)) in
     answer_ok whole fraction c.args.up c.args.down _ _ _ _ _ c.times_ten.result c.requires.whole c.requires.fraction c.requires.one kept zero_cut zero_left (omega arith) number
