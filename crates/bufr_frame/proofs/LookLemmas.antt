@@ -1,7 +1,7 @@
 -- Octets that come after do not change what was certain.
 use Rattle.std.proofs.Common.{◌≡◌, ◌⊎◌, inl, inr, ℕ, zero, suc, ◌+◌, ◌-◌, ◌*◌, ◌<◌, ◌≤◌, Bool, true, false, List, [], ◌∷◌, ◌++◌, length, take, drop, codes, refl, sym, ◌∙◌, ap, subst, arith, Some, None, length-drop, append_assoc, length-append, length-take, get_or, append-nil, below_more}
 use Rattle.std.specs.Prelude.{if◌then◌else◌, nat_lt, not, take_while, min, max}
-use Rattle.std.specs.List.{list_all, front_len}
+use Rattle.std.specs.List.{list_all, prefix_len}
 use Rattle.std.specs.Str.{bytes_eq}
 use Rattle.std.proofs.lemmas.Slice.Eq.{bytes_eq-Decides}
 use Rattle.std.proofs.lemmas.Bool.Decides.{nat_tests}
@@ -386,7 +386,7 @@ pub take_while-all : (xs ys : List StreamEvent) → list_all is_decided xs ≡ t
 take_while-all [] ys all = refl
 take_while-all (x ∷ xs) ys all =
     let both : (is_decided x ≡ true) × (list_all is_decided xs ≡ true) = and_parts (is_decided x) (list_all is_decided xs) all in
-    let one : 1 + front_len is_decided (xs ++ ys) ≡ suc (front_len is_decided (xs ++ ys)) = omega arith in
+    let one : 1 + prefix_len is_decided (xs ++ ys) ≡ suc (prefix_len is_decided (xs ++ ys)) = omega arith in
     rw (both.0, one) (ap (λ l. x ∷ l) (take_while-all xs ys both.1))
 
 -- what was certain stays the prefix, whatever comes after
