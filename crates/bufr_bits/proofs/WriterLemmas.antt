@@ -25,7 +25,7 @@ bits_of-one : (n : ℕ) → bits_of (n % 256 ∷ []) ≡ bits_in n 8
 unfolding bits_of
 bits_of-one n = sym (bits_in-octet n)
 
--- ---- the last bits, with zeros up to the next octet
+-- ---- the last bits, with zeros up to the next octet.
 -- zeros after bits, and as many of all of these as end within the zeros
 zeros_after : (last count pad rest : ℕ) → take (count + pad) (bits_in (last * 2 ^ (pad + rest)) (count + (pad + rest))) ≡ bits_in last count ++ replicate pad false
 zeros_after last count pad rest =

@@ -37,8 +37,8 @@ use Rattle.bufr_cli.specs.Running.{GivesPieces}
 use Rattle.bufr_cli.proofs.DumpLemmas.{one-piece}
 use Rattle.bufr_cli.proofs.RoundTripLemmas.{accepted-piece, nothing-spelled, outputs-accepted, outputs-octets, outputs-refused, outputs-silent, outputs-whole, placed, placed-count}
 
--- What is written for documents, and their texts: the messages on the output are framed one by one,
--- have these texts, and are built of these again, from any line of a text on.
+-- What is written for documents, and their texts. The messages on the output are framed one by one
+-- and have these texts. They are built of these again, from any line of a text on.
 record AreBuilt (b : List Row) (d : List Sequence) (piece : StreamEvent → Piece) (pieces : List Piece) (texts : List (List ℕ)) : Type 0 where
   messages : List (List ℕ)
   written : flat_map output_of (up_to_refused pieces) ≡ concat messages

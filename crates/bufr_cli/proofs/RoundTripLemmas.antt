@@ -169,8 +169,8 @@ placed-count piece at (m ∷ ms) = ap suc (placed-count piece (at + length m) ms
 abbrev accepted_of : (StreamEvent → Piece) → List StreamEvent → List (List ℕ)
 accepted_of piece es = flat_map (λ here. accepted_in here (piece here)) es
 
--- Events with these pieces, this dump text and these accepted messages: the text is encoded, from a
--- line of a text on, to as many messages with the same readings, which are framed one by one and
+-- Events with these pieces, this dump text and these accepted messages. From a line of a text on,
+-- the text is encoded to as many messages with the same readings. These are framed one by one and
 -- have the same pieces.
 record Built (b : List Row) (d : List Sequence) (piece : StreamEvent → Piece) (text : List ℕ) (accepted : List (List ℕ)) (pieces : List Piece) (most line : ℕ) : Type 0 where
   messages : List (List ℕ)

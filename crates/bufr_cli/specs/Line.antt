@@ -130,7 +130,8 @@ HasNoJob subcommand = (job : Job) → ¬ IsJobOf subcommand job
 -- the fault that an error of this kind means; its text takes memory
 abbrev pub ReportsKind : ErrorKind → LineFault → Type 0
 ReportsKind kind (Help text) = (kind ≡ DisplayHelp) ⊎ (kind ≡ DisplayVersion)
-ReportsKind kind (Usage text) = (kind ≢ OutOfMemory) × (kind ≢ DisplayHelp) × (kind ≢ DisplayVersion)
+ReportsKind kind (Usage text) =
+    (kind ≢ OutOfMemory) × (kind ≢ DisplayHelp) × (kind ≢ DisplayVersion)
 ReportsKind kind Memory = Unit {0}
 
 -- help or the version is asked for

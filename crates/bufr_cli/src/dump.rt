@@ -55,8 +55,8 @@ fn read_data<'a>(
     read_by(alloc, message, template, table, cache, steps)
 }
 
-/// Writes the text of a message by its template and the specs that are cached, or the line of the
-/// fault that its data are refused for.
+/// Writes the text of a message by its template and the specs that are cached. Where its data are
+/// refused, it writes the line of their fault.
 // rule: refused-messages-write-nothing
 fn dump_data<W: Sink, E: Sink>(
     alloc: Global,
@@ -94,8 +94,8 @@ fn dump_data<W: Sink, E: Sink>(
     }
 }
 
-/// Writes the text of a message by the template that was selected for it, or the line of the fault
-/// that its descriptors or its data are refused for.
+/// Writes the text of a message by the template that was selected for it. Where its descriptors or
+/// its data are refused, it writes the line of their fault.
 fn dump_selected<W: Sink, E: Sink>(
     alloc: Global,
     offset: u64,
@@ -224,9 +224,9 @@ impl<'a> EventWriter for DumpRun<'a> {
     }
 }
 
-/// Dumps the messages of `r` by these tables: for each its text on `w`, and for each stray `BUFR`
-/// and each message that is refused a fault line on `e` and nothing on `w`, in the order of the
-/// stream, each as soon as it is certain. At the end `w`, then `e` is flushed.
+/// Dumps the messages of `r` by these tables, in the order of the stream, each as soon as it is
+/// certain. The text of a message goes to `w`. A stray `BUFR` and a message that is refused have a
+/// fault line on `e` and nothing on `w`. At the end `w`, then `e` is flushed.
 ///
 /// A message is refused for its sections, then for its descriptors ([`TemplateFault`]), then for
 /// its data ([`WalkFault`]).

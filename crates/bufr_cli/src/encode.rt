@@ -25,7 +25,7 @@ use bufr_walk::{Steps, TemplateCache};
 use std::alloc::Global;
 
 /// The octets of a document in a form, or its first fault. It says less than the call that it
-/// makes, so that what is proved of a run does not carry the steps and what is said of dumps.
+/// makes. So the proof of a run carries neither the steps nor what is said of dumps.
 fn octets_of(
     alloc: Global,
     document: &Document,

@@ -492,9 +492,9 @@ fn job_of<'a>(name: &str, found: &ArgMatches<'a>) -> Result<Job<'a>, NoJob>
 ///
 /// # Errors
 ///
-/// [`LineFault::Help`] where help or the version is asked for, [`LineFault::Usage`] where the words
-/// are not understood, no command is among them, a table is missing or a form unknown, and
-/// [`LineFault::Memory`].
+/// [`LineFault::Help`] where help or the version is asked for. [`LineFault::Usage`] where the words
+/// are not understood, no command is among them, a table is missing or a form unknown.
+/// [`LineFault::Memory`] where memory ran out.
 // rule: usage
 pub fn parse_line<'a, S: AsStr>(alloc: Global, words: &'a [S]) -> Result<Job<'a>, LineFault>
     ensures job { IfOk result

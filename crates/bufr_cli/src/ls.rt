@@ -70,9 +70,9 @@ impl EventWriter for LsRun {
     }
 }
 
-/// Lists the messages of `r`: for each a line on `w`, and for each stray `BUFR` and each message
-/// that cannot be taken apart a fault line on `e`, in the order of the stream, each as soon as it
-/// is certain. At the end `w`, then `e` is flushed.
+/// Lists the messages of `r`, in the order of the stream, each as soon as it is certain. A message
+/// has a line on `w`. A stray `BUFR` and a message that cannot be taken apart have a fault line on
+/// `e`. At the end `w`, then `e` is flushed.
 ///
 /// ```
 /// let mut r = Device::new(b"BUFR".as_slice());

@@ -57,4 +57,5 @@ module _ {D C E : Type 0} (filler : Filler D C E) where
   -- rule: fault-62-first
   abbrev pub fill : Course → List D → Result (List Bool) E
   fill course [] = fill_none (course []).next
-  fill course (d ∷ ds) = fill_one (course []).next d (λ t. fill (λ answers. course (t ∷ answers)) ds)
+  fill course (d ∷ ds) =
+      fill_one (course []).next d (λ t. fill (λ answers. course (t ∷ answers)) ds)

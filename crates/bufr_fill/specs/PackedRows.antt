@@ -73,7 +73,8 @@ contents_drawn count [] = []
 contents_drawn count (d ∷ ds) = content_drawn count d ∷ contents_drawn count ds
 
 -- contents before others, or the fault of these
-abbrev pub with_contents_before : List Content → Result (List Content) FaultAt → Result (List Content) FaultAt
+abbrev pub with_contents_before : List Content → Result (List Content) FaultAt
+    → Result (List Content) FaultAt
 with_contents_before cs (Ok more) = Ok (cs ++ more)
 with_contents_before cs (Err f) = Err f
 

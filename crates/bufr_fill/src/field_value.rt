@@ -67,7 +67,8 @@ fn raw_in(value: i128, spec: &Spec) -> Result<u64, Wrong>
 // rule: fault-52
 fn raw_of_token(token: &[u8], spec: &Spec) -> Result<u64, Wrong>
     requires narrow { spec.now.width ≤ 63 }
-    ensures is { number_answer result ≡ raw_of spec.now (decimal_value_of token.now spec.now.scale) }
+    ensures is { number_answer result
+        ≡ raw_of spec.now (decimal_value_of token.now spec.now.scale) }
     ensures below { IfOk result (λ raw. raw < raw_limit spec.now.may_be_missing spec.now.width) }
 {
     match decimal_read(token, spec.scale()) {
@@ -197,7 +198,8 @@ pub(crate) fn field_content<'a>(
     item: &DraftItem<'a>,
     spec: &Spec,
 ) -> Result<FieldContent<'a>, Wrong>
-    ensures is { drawn_answer (spec.now.width / 8) result ≡ content_of spec.now (draft_in item.now) }
+    ensures is { drawn_answer (spec.now.width / 8) result
+        ≡ content_of spec.now (draft_in item.now) }
     ensures drawn { IfOk result (λ d. IsDrawn spec.now d) }
 {
     if !is_item_of(item, spec) {

@@ -11,7 +11,7 @@ use Rattle.bufr_tables.specs.Cells.{cells_of}
 use Rattle.bufr_tables.specs.Passes.{own_places, first_cell, factor_cells}
 use Rattle.bufr_tables.specs.Expansion.{ExpandedPart, part, with_places, ◌>>=◌}
 
--- the cells so far, how many groups are open after them, the most that were open together, and
+-- the cells so far, how many groups are open after them, and the most that were open together; and
 -- whether a node of the innermost open list takes bits
 pub record BuilderModel : Type 0 where
   pub cells : List Cell

@@ -113,8 +113,9 @@ row_of r = do
       }
   only_if (is_valid_factor (factor_width fxy) row) row
 
--- the limits of each row of a table: a plain name and unit, the kind that the unit says, a scale
--- and a width that such an element may have, and for a factor of delayed replications its own width
+-- the limits of each row of a table: a plain name and unit, and the kind that the unit says; a
+-- scale and a width that such an element may have; for a factor of delayed replications its own
+-- width
 pub record IsRow (row : Row) : Type 0 where
   pub name : is_name row.name ≡ true
   pub unit : is_name row.unit ≡ true

@@ -61,12 +61,12 @@ impl Model for Template {
 }
 
 impl Template {
-    /// Expands a list of descriptors, depth first, from left to right, and lays the tree out in
+    /// Expands a list of descriptors, depth first, from left to right, and flattens the tree to
     /// cells.
     ///
     /// At most 32 groups and sequences are open together, and a template takes at most 65,535
-    /// places ([`Template::places`] counts them), so a list that would expand to more is refused
-    /// after that many.
+    /// places ([`Template::places`] counts them). A list that would expand to more is refused after
+    /// that many.
     ///
     /// ```
     /// let descriptors = [Fxy::from_word(0x0101)]; // 0 01 001
@@ -80,7 +80,7 @@ impl Template {
     ///
     /// - at a replication 1 X Y: [`TemplateFault::GroupShape`] where X is 0;
     ///   [`TemplateFault::NoFactor`] where Y is 0 and no factor follows (0 31 000, 0 31 001 or
-    ///   0 31 002), [`TemplateFault::UnknownElement`] with the factor where Table B lacks it;
+    ///   0 31 002); [`TemplateFault::UnknownElement`] with the factor where Table B lacks it;
     ///   [`TemplateFault::GroupShape`] where fewer than X descriptors are left in the same list,
     ///   the factor not among them; then [`TemplateFault::Depth`], [`TemplateFault::TemplateSize`],
     ///   the faults of its body, and [`TemplateFault::EmptyGroup`] where no node of the body takes
@@ -138,8 +138,8 @@ impl Template {
         Ok(Template { cells, depth })
     }
 
-    /// How many places it takes, from 2 to 65,535: one for its end, one for each element and
-    /// operator, two for a group of a fixed count and three for a delayed group, its factor among
+    /// How many places it takes, from 2 to 65,535: one for its end, and one for each element and
+    /// operator. A group of a fixed count takes two, and a delayed group three, its factor among
     /// them. Takes no memory.
     pub fn places(&self) -> u32
         ensures value { result ≡ places_of self.now }

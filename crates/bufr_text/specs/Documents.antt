@@ -14,8 +14,8 @@ pub data TextLineFault : Type 0 where
   SubsetCount : TextLineFault
   HeaderRange : TextLineFault
 
--- where the reading is: between documents, in the header, in the parts before the subsets (0
--- local use, 1 section 2, 2 descriptors), in a subset of this number, or after a fault
+-- where the reading is: between documents, in the header, in a subset of this number, or after a
+-- fault; or in the parts before the subsets (0 local use, 1 section 2, 2 descriptors)
 pub data ParserState : Type 0 where
   Between : ParserState
   Heading : Document → ParserState
@@ -84,7 +84,8 @@ abbrev pub before_subsets : (part : ℕ) → Document → Line → LineEffect
 before_subsets part d (Local1 octets) =
     if part == 0 then WalkGoes (BeforeSubsets 0 (with_local1 d octets)) else Faults NotAllowed
 before_subsets part d (Section2 octets) =
-    if nat_le part 1 && (optional_in d == 1) then WalkGoes (BeforeSubsets 1 (with_section2 d octets))
+    if nat_le part 1 && (optional_in d == 1)
+    then WalkGoes (BeforeSubsets 1 (with_section2 d octets))
     else Faults NotAllowed
 before_subsets part d (Descriptors words) = WalkGoes (BeforeSubsets 2 (with_descriptors d words))
 before_subsets part d (Begins subset) = beginning 0 d subset

@@ -21,9 +21,9 @@ use Rattle.bufr_text.specs.Document.{Document, subsets_in}
 use Rattle.bufr_text.specs.Form.{compressed_by}
 use Rattle.bufr_text.specs.Header.{head_from_values, observed_in, compressed_in, section2_in}
 
--- why a document is refused: its descriptors make no template, an item (or where one should be, or
--- the walk there) is at fault, or its message would be too long (that it is, and in which order, is
--- a choice of this project)
+-- why a document is refused: its descriptors make no template, or an item is at fault; or there is
+-- none where one should be, or the walk there is at fault; or its message would be too long; that
+-- it is, and in which order, is a choice of this project
 pub data DocumentRefusal : Type 0 where
   by_template : (why : TemplateFault) → DocumentRefusal
   by_item : (why : DraftFaultKind) → DocumentRefusal

@@ -85,8 +85,8 @@ EndsAtEndLine old new bs =
     (feed : List ℕ) × IsMissingFeed old.ended new.ended feed
     × TakesEndLine old.at ((old.held ++ bs) ++ feed) new.at new.held
 
--- The last read was made where all whole lines were taken and reported nothing, and what was left
--- of a line was no longer than a line can be. It gave at most 4,096 octets.
+-- The last read was made where all whole lines were taken and reported nothing. What was left of a
+-- line was no longer than a line can be. It gave at most 4,096 octets.
 pub record ReadsOnlyIfNoLine (left : Option (List ℕ)) (old : ReaderModel) (reads : ℕ)
     (bs : List ℕ) : Type 0 where
   pub before : List ℕ
@@ -105,7 +105,8 @@ pub record ReadsOnlyIfNoLine (left : Option (List ℕ)) (old : ReaderModel) (rea
 
 -- while the end is not known, no whole line is held, and nothing more is reported of what is held
 abbrev pub HasNoWholeLine : ReaderModel → Type 0
-HasNoWholeLine s = (s.ended ≡ false) × (parse_open (position_of s) [] ≡ []) × (has_no_feed s.held ≡ true)
+HasNoWholeLine s =
+    (s.ended ≡ false) × (parse_open (position_of s) [] ≡ []) × (has_no_feed s.held ≡ true)
 
 -- the end was reached and nothing is left
 abbrev pub HasNoMoreLines : ReaderModel → Type 0
@@ -143,8 +144,8 @@ pub record NeedsMemoryForLine (left left' : Option (List ℕ)) (old : ReaderMode
   pub next : AddsNext mid
 
 -- what a call reads and reports; where memory was wanted it reports nothing, and says no more of
--- what it holds, but that it is wanted only where a line was held or the end was not reached, and,
--- after the first read, only for a line that adds to the document
+-- what it holds; it is wanted only where a line was held or the end was not reached; after the
+-- first read it is wanted only for a line that adds to the document
 abbrev pub ReadsDocument : (left left' : Option (List ℕ)) → (old new : ReaderModel)
     → Result (Option Document) ReadFault → List ℕ → Type 0
 ReadsDocument left left' old new (Ok None) bs = ReadsLines left left' old new

@@ -84,9 +84,9 @@ pub record HasSubsets (ended : ℕ) (d : spec.Document) : Type 0 where
   pub texts : AllByRecursion EntryHasOctets d.entries
   pub counted : length (subsets_of d.entries) ≡ ended
 
--- What holds of a place where the line of this number is next: the header is not whole in the
--- header and whole after it, the number of a subset is small and one more than those that were
--- ended, and each entry has a line.
+-- What holds of a place where the line of this number is next. The header is not whole in the
+-- header, and whole after it. The number of a subset is small, and one more than those that were
+-- ended. Each entry has a line.
 abbrev pub IsParserState : (at : ℕ) → documents.ParserState → Type 0
 IsParserState at documents.Between = Unit {0}
 IsParserState at (documents.Heading d) =

@@ -76,8 +76,8 @@ fn template_of<'t>(
     ensures tree { IfOk result (λ template.
         tree_of (tables_of templates.now.table_b templates.now.table_d) templates.now.list
         ≡ Ok template.now) }
-    ensures fault { IfErr result (λ why. IsDocumentRefusal (reported_refusal why) (report_of_template line
-        (tree_of (tables_of templates.now.table_b templates.now.table_d) templates.now.list))) }
+    ensures fault { IfErr result (λ why. IsDocumentRefusal (reported_refusal why)
+        (report_of_template line (tree_of (tables_of templates.now.table_b templates.now.table_d) templates.now.list))) }
     ensures memory { IfErr result
         (λ why. (line : ℕ) → why ≢ DocumentFault.Template line TemplateFault.Memory) }
 {
@@ -334,14 +334,14 @@ pub fn encode_by(
 /// document says; so the document of a message that was read gives the same message in the other
 /// form, where this can hold it.
 ///
-/// It sets the steps to those that are made for it, up to the greatest `u64`: one for each turn of
-/// the template, subset after subset, or once for all subsets where the data are compressed. A turn
-/// is a descriptor taken (a replication, a factor, an element, an operator), the end of a pass of a
-/// group, or the end of the template. Where an item, or the walk at it, is refused, its turn is the
-/// last; an item too many is refused after the end of the template. Without a subset, and where
-/// the descriptors make no template, there is no step. At want of memory perhaps not all of these
-/// are made. They are at most as many as the template has places for each bit of the data, and for
-/// one bit more where the document is refused.
+/// It sets the steps to those that are made for it, up to the greatest `u64`. There is one for each
+/// turn of the template, subset after subset, or once for all subsets where the data are
+/// compressed. A turn is a descriptor taken (a replication, a factor, an element, an operator), the
+/// end of a pass, or the end of the template. Where an item, or the walk at it, is refused, its
+/// turn is the last. An item too many is refused after the end of the template. Without a subset,
+/// and where the descriptors make no template, there is no step. At want of memory perhaps not all
+/// of these are made. The steps are at most as many as the template has places for each bit of the
+/// data. Where the document is refused, one bit more counts.
 ///
 /// ```
 /// let document = reader.next_document(&mut r)?.ok_or("a document")?;

@@ -7,7 +7,7 @@ ghost use Rattle.bufr_text.specs.Line.{key_in, keys, leasts, mosts, place_from};
 
 use crate::number::is;
 
-/// A key: what is before its value (a line feed, its name and a space), its least value, and
+/// A key: what is before its value (a line feed, its name and a space), and its least value. Then
 /// its greatest value in edition 3 and in edition 4.
 pub(crate) struct Key(pub(crate) &'static [u8], u16, u16, u16);
 

@@ -26,14 +26,14 @@ pub fn dump_text_is_one_document()
         → documents_of (dump_text_of s subsets) ≡ Complete (document_of 1 s subsets) ∷ [] }
 {}
 
-/// Each document of a text is proper: its header is whole, it has as many subsets as that says and
-/// nothing after them, and octets of section 2 only where there is one.
+/// Each document of a text is proper. Its header is whole, and it has as many subsets as that says
+/// and nothing after them. It has octets of section 2 only where there is one.
 pub fn documents_are_proper()
     ensures { (text : List ℕ) → AreProper (documents_of text) }
 {}
 
-/// The lines of a text that are no comment and not empty are the lines of its documents, one
-/// document after another, up to the end or to the first line that is refused.
+/// The lines of a text that are no comment and not empty are the lines of its documents. The
+/// documents come one after another, up to the end or to the first line that is refused.
 pub fn lines_are_those_of_the_documents()
     ensures { (text : List ℕ) → AreReported (numbered_lines 1 (lines_of text)) (documents_of text) }
 {}
@@ -76,7 +76,8 @@ pub fn documents_reported_are_the_first_open()
 pub fn documents_reported_are_the_documents()
     ensures { (left left' : Option (List ℕ)) (s : ReaderModel) (results : List ParseResult)
         (bs : List ℕ)
-        → ReadsLines left left' new_reader s results bs → HasNoMoreLines s → documents_of bs ≡ results }
+        → ReadsLines left left' new_reader s results bs → HasNoMoreLines s
+        → documents_of bs ≡ results }
 {}
 
 /// What calls reported up to a failed read, or up to the last read that is made, are the open
@@ -88,9 +89,10 @@ pub fn documents_reported_are_the_open_documents()
         ≡ results }
 {}
 
-/// The octets that calls read are the lines that they took, and after those exactly what is held:
-/// as many lines were taken as line numbers were passed. Where the end was reached, a last line
-/// that lacks its line feed was given one, which is none of the octets that are said to be held.
+/// The octets that calls read are the lines that they took, and after those exactly what is held.
+/// As many lines were taken as line numbers were passed. Where the end was reached, a last line
+/// that lacks its line feed was given one. That feed is none of the octets that are said to be
+/// held.
 pub fn octets_after_the_lines_are_held()
     ensures { (left left' : Option (List ℕ)) (s : ReaderModel) (results : List ParseResult)
         (bs : List ℕ)

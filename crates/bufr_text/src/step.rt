@@ -136,7 +136,8 @@ fn before_subsets(
     said: ParsedLine<'_>,
 ) -> Result<LineEffect, AllocError>
     ensures turns { IfOk result
-        (λ t. turned t parts.new ≡ before_subsets (part_number part) parts.old (meaning said.entry)) }
+        (λ t. turned t parts.new
+        ≡ before_subsets (part_number part) parts.old (meaning said.entry)) }
     ensures wants { OnErr result
         (adds (place_with (ParserState.BeforeSubsets part) parts.old) (meaning said.entry) ≡ true) }
 {

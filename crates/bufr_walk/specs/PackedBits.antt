@@ -77,7 +77,8 @@ kind_step kind.Coded k = k
 kind_step kind.Numeric k = k
 
 -- an item with this base, k and the bits `suffix` has contents, and returns `t`
-pub record IsItemAnswer (spec : FieldSpec) (k n : ℕ) (base suffix : List Bool) (t : Taken) : Type 0 where
+pub record IsItemAnswer (spec : FieldSpec) (k n : ℕ) (base suffix : List Bool)
+    (t : Taken) : Type 0 where
   pub contents : List Content
   pub are : contents_of spec k base
       (increments n (increment_bits_of spec.role spec.kind k) suffix) ≡ Ok contents

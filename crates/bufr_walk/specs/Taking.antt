@@ -21,4 +21,5 @@ Takes {S} takes course s (i ∷ items) s' =
 -- a course after some fields
 abbrev pub course_after : Course → List TakenField → Course
 course_after course [] answers = course answers
-course_after course (i ∷ items) answers = course_after (λ more. course (i.taken ∷ more)) items answers
+course_after course (i ∷ items) answers =
+    course_after (λ more. course (i.taken ∷ more)) items answers

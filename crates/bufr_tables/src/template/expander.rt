@@ -1,9 +1,9 @@
 //! The expansion of descriptors, depth first, from left to right.
 //!
 //! Each descriptor that is looked at takes a place, opens a group or a sequence, or is a fault. A
-//! sequence has a member at least, and at most 32 groups and sequences are open together, so that
-//! few are looked at for each place, and 65,535 places are the most: a hostile list is refused
-//! soon, whatever the tables hold. The recursion ends by `room` alone.
+//! sequence has a member at least, and at most 32 groups and sequences are open together. So few
+//! descriptors are looked at for each place, and 65,535 places are the most. A hostile list is
+//! refused soon, whatever the tables hold. The recursion ends by `room` alone.
 ghost use Rattle.std.specs.Prelude.{◌≡◌, ◌≤◌, length, IfOk};
 ghost use Rattle.bufr_tables.specs.Fxy.{x_of};
 ghost use Rattle.bufr_tables.specs.Expansion.{part_of, element_part, operator_part, group_part, fixed_part, delayed_part, sequence_part};
