@@ -77,7 +77,8 @@ fn template_of<'t>(
         tree_of (tables_of templates.now.table_b templates.now.table_d) templates.now.list
         ≡ Ok template.now) }
     ensures fault { IfErr result (λ why. IsDocumentRefusal (reported_refusal why)
-        (report_of_template line (tree_of (tables_of templates.now.table_b templates.now.table_d) templates.now.list))) }
+        (report_of_template line (tree_of (tables_of templates.now.table_b templates.now.table_d)
+        templates.now.list))) }
     ensures memory { IfErr result
         (λ why. (line : ℕ) → why ≢ DocumentFault.Template line TemplateFault.Memory) }
 {
