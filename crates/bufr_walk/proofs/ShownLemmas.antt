@@ -144,7 +144,7 @@ module _ {V E : Type 0} (sees : V → Call → Result (Unit {0}) E → V → Typ
 
   pub unshown_here : (c c' : Cursor) (v v' : V) (table : List Row) (a b : ℕ) (spec : FieldSpec) (t : Taken) (e : E) → c' ≡ c → IsTaken c spec t (past c spec) → sees v (item_call (view_of table spec (content_in spec (take spec.width (rest_of c))))) (Err e) v' → IsUnshown sees (stage c v table a b) spec e (stage c' v' table a b)
   unshown_here c c' v v' table a b spec t e same h w = record {
-    answers = t;
+    answer = t;
     is_taken = h;
     call = subst (λ x. sees v (item_call (view_of table spec x)) (Err e) v') (content_is spec (rest_of c) (rest_of (past c spec)) h.content h.field) w;
     cursor = same;

@@ -27,7 +27,7 @@ returns-in-Ok-clause-seen c =
     let bits = bits_of (octets_of c.args.bits.now) in
     let all = bits_length (octets_of c.args.bits.now) in
     let wide : c.from-width.result ≡ c.args.spec.now.width = c.from-width.ensures ∙ c.width.ensures.value in
-    seen_here bits c.args.at c.args.subsets c.args.spec.now (record { answers = c.in-Ok.answer; step = c.number_at-k.result; base = c.number_there.result; end = c.args.at + (c.from-width.result + 6 + c.from.result * c.from-2.result) }) (c.from-width.result + 6 + c.from.result * c.from-2.result) c.width.ensures.some refl
+    seen_here bits c.args.at c.args.subsets c.args.spec.now (record { answer = c.in-Ok.answer; step = c.number_at-k.result; base = c.number_there.result; end = c.args.at + (c.from-width.result + 6 + c.from.result * c.from-2.result) }) (c.from-width.result + 6 + c.from.result * c.from-2.result) c.width.ensures.some refl
     (omega (arith, all, c.len_bits.ensures, c.if-left-size.false, c.requires.within))
     (c.number_at-k.ensures.value ∙ ap (λ w. number_of (take 6 (drop (c.args.at + w) bits))) wide)
     (size_same _ _ _ _ _ _ wide c.from.ensures (c.from-2.ensures ∙ c.increment_bits_of.ensures.value)) c.in-Ok.ensures.answer c.number_there.ensures
