@@ -33,8 +33,8 @@ module _ {D C E S : Type 0} (filler : Filler D C E) (left : S → List D) (out :
   one course s spec t mid next h =
       ap (count_filled filler course) h.here
       ∙ ap (λ n. counted_at filler n h.draft (λ x. count_filled filler (λ results. course (x ∷ results)) (left mid))) next
-      ∙ ap (λ r. counted_one filler r filler.reports spec (λ x. count_filled filler (λ results. course (x ∷ results)) (left mid))) h.fills
-      ∙ ap (λ x. length h.item.bits + count_filled filler (λ results. course (x ∷ results)) (left mid)) (sym h.reports)
+      ∙ ap (λ r. counted_one filler r filler.gives spec (λ x. count_filled filler (λ results. course (x ∷ results)) (left mid))) h.fills
+      ∙ ap (λ x. length h.item.bits + count_filled filler (λ results. course (x ∷ results)) (left mid)) (sym h.gives)
 
   -- the bits that a walk wrote, and those that are left, are those of all
   pub walk_counts : (course : Course) (s : S) (items : List TakenField) (s' : S) → Takes takes course s items s' → length (out s') + count_filled filler (course_after course items) (left s') ≡ length (out s) + count_filled filler course (left s)
@@ -68,8 +68,8 @@ module _ {D C E : Type 0} (filler : Filler D C E) where
       suffix item (Ok b) n g e = let same : item ++ b ≡ bits = cc in omega (arith, g b refl, length-append item b, ap length same)
       suffix item (Err why) n g e = absurd cc e
 
-      one : (spec : FieldSpec) (r : Result (WrittenItem C) E) → filled filler spec r rest ≡ Ok bits → ((t : Taken) (b : List Bool) → rest t ≡ Ok b → count t ≡ length b) → counted_one filler r filler.reports spec count ≡ length bits
-      one spec (Ok w) e g = suffix w.bits (rest (filler.reports spec w.content)) (count (filler.reports spec w.content)) (g (filler.reports spec w.content)) e
+      one : (spec : FieldSpec) (r : Result (WrittenItem C) E) → filled filler spec r rest ≡ Ok bits → ((t : Taken) (b : List Bool) → rest t ≡ Ok b → count t ≡ length b) → counted_one filler r filler.gives spec count ≡ length bits
+      one spec (Ok w) e g = suffix w.bits (rest (filler.gives spec w.content)) (count (filler.gives spec w.content)) (g (filler.gives spec w.content)) e
       one spec (Err why) e g = absurd cc e
 
       by : (n : Next) → fill_one filler n d rest ≡ Ok bits → ((t : Taken) (b : List Bool) → rest t ≡ Ok b → count t ≡ length b) → counted_at filler n d count ≡ length bits

@@ -143,7 +143,7 @@ module _ {D C E S : Type 0} (filler : Filler D C E) (left : S → List D) (out :
       ap (turns_filled filler course) h.here
       ∙ ap (λ n. turned_at filler n (course []).turns h.draft (λ x. turns_filled filler (λ results. course (x ∷ results)) (left mid))) next
       ∙ ap (λ r. turned_one filler r spec (course []).turns (λ x. turns_filled filler (λ results. course (x ∷ results)) (left mid))) h.fills
-      ∙ ap (λ x. turns_filled filler (λ results. course (x ∷ results)) (left mid)) (sym h.reports)
+      ∙ ap (λ x. turns_filled filler (λ results. course (x ∷ results)) (left mid)) (sym h.gives)
 
   -- the turns of all drafts are those of the drafts that a walk left, after its items
   pub walk_turns : (course : Course) (s : S) (items : List TakenField) (s' : S) → Takes takes course s items s' → turns_filled filler course (left s) ≡ turns_filled filler (course_after course items) (left s')
@@ -177,7 +177,7 @@ module _ {D C E : Type 0} (filler : Filler D C E) where
       rest t = turns_filled filler (λ results. course (t ∷ results)) ds
 
       one : (spec : FieldSpec) (r : Result (WrittenItem C) E) → ((t : Taken) → (course []).turns ≤ rest t) → (course []).turns ≤ turned_one filler r spec (course []).turns rest
-      one spec (Ok w) h = h (filler.reports spec w.content)
+      one spec (Ok w) h = h (filler.gives spec w.content)
       one spec (Err why) h = omega arith
 
       by : (n : Next) → ((t : Taken) → (course []).turns ≤ rest t) → (course []).turns ≤ turned_at filler n (course []).turns d rest

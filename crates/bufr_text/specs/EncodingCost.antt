@@ -26,11 +26,11 @@ module _ {D C E : Type 0} (filler : Filler D C E) where
   -- the bits of an item that can be written, and of those after it
   abbrev pub counted_one : Result (WrittenItem C) E → (FieldSpec → C → Taken) → FieldSpec
       → (Taken → ℕ) → ℕ
-  counted_one (Err why) reports spec rest = 0
-  counted_one (Ok w) reports spec rest = length w.bits + rest (reports spec w.content)
+  counted_one (Err why) gives spec rest = 0
+  counted_one (Ok w) gives spec rest = length w.bits + rest (gives spec w.content)
 
   abbrev pub counted_at : Next → D → (Taken → ℕ) → ℕ
-  counted_at (take_next spec) d rest = counted_one (filler.fills spec d) filler.reports spec rest
+  counted_at (take_next spec) d rest = counted_one (filler.fills spec d) filler.gives spec rest
   counted_at _ d rest = 0
 
   -- how many bits the drafts are, up to the first that is refused
@@ -89,7 +89,7 @@ module _ {D C E : Type 0} (filler : Filler D C E) where
   -- many
   abbrev pub turned_one : Result (WrittenItem C) E → FieldSpec → (here : ℕ) → (Taken → ℕ) → ℕ
   turned_one (Err why) spec here more = here
-  turned_one (Ok w) spec here more = more (filler.reports spec w.content)
+  turned_one (Ok w) spec here more = more (filler.gives spec w.content)
 
   -- a draft too many is reported at the end of the template, which is a turn too
   abbrev pub turned_at : Next → (here : ℕ) → D → (Taken → ℕ) → ℕ
