@@ -1,10 +1,10 @@
 //! `bufr`: lists, dumps and encodes messages of FM 94 BUFR.
 //!
-//! `bufr ls [FILE]` writes a line for each message of a stream, `bufr dump -B FILE -D FILE [FILE]`
-//! the text of each by Tables B and D, and `bufr encode -B FILE -D FILE [--form WORD] [FILE]` the
-//! messages that such texts spell. Faults go to standard error, a line each. The exit status is 0
-//! where nothing was refused, 1 where a message or a document was, and 2 where the command line, a
-//! file, a table, reading, writing or memory failed.
+//! `bufr ls [FILE]` writes a line for each message of a stream. `bufr dump -B FILE -D FILE [FILE]`
+//! writes the text of each, by Tables B and D. `bufr encode -B FILE -D FILE [--form WORD] [FILE]`
+//! writes the messages that such texts spell. Faults go to standard error, a line each. The exit
+//! status is 0 where nothing was refused, and 1 where a message or a document was. It is 2 where
+//! the command line, a file, a table, reading, writing or memory failed.
 //!
 //! This crate wraps the process: its arguments, its inputs and its writers. [`run`] of `bufr_cli`
 //! does what the arguments ask for.

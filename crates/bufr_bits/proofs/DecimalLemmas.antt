@@ -31,12 +31,12 @@ value_after-append n (x ∷ xs) ys = value_after-append (n * 10 + digit_value x)
 pub value-append : (xs ys : List ℕ) → digits_value 10 (xs ++ ys) ≡ digits_value 10 xs * 10 ^ length ys + digits_value 10 ys
 value-append xs ys = value_after-append 0 xs ys ∙ value_after-is (digits_value 10 xs) ys
 
-tells_digits : IsDigitsTest (λ ds. all_digits ds ≡ true)
-tells_digits = search rules
+digits_hold : IsDigitsTest (λ ds. all_digits ds ≡ true)
+digits_hold = search rules
 
 -- digits write less than the power of ten of their count
 pub own : IsNumeralModel (λ ds. all_digits ds ≡ true) (digits_value 10)
-own = numerals_by_value (λ ds. all_digits ds ≡ true) tells_digits
+own = numerals_by_value (λ ds. all_digits ds ≡ true) digits_hold
 
 pub value-below : (ds : List ℕ) → all_digits ds ≡ true → digits_value 10 ds < 10 ^ length ds
 value-below ds h = digits_value_short own ds (length ds) h (omega arith)
@@ -117,7 +117,7 @@ exact_down a b d w m f hb hd ha =
 pub zero_value : (ds : List ℕ) → all_digits ds ≡ true → (digits_value 10 ds == 0) ≡ list_all (λ d. d == 48) ds
 zero_value [] h = refl
 zero_value (d ∷ ds) h =
-    let parts = tells_digits.parts d ds h in
+    let parts = digits_hold.parts d ds h in
     let digit = digit_value_digit d parts.0 in
     let here : (0 * 10 + digit_value d == 0) ≡ (d == 48) = grind (arith, nat_tests, digit) in
     let moved = value_after-is (0 * 10 + digit_value d) ds in

@@ -23,11 +23,11 @@ digit_no_minus : (c : ℕ) → is_ascii_digit c ≡ true → (c == 45) ≡ false
 digit_no_minus c h = grind (arith, nat_tests)
 
 -- the first place of a point
-pub point_behind : (whole fraction : List ℕ) → all_digits whole ≡ true → position_or_len (λ c. c == 46) (whole ++ 46 ∷ fraction) ≡ length whole
-point_behind [] fraction h = refl
-point_behind (d ∷ whole) fraction h =
+pub point_after : (whole fraction : List ℕ) → all_digits whole ≡ true → position_or_len (λ c. c == 46) (whole ++ 46 ∷ fraction) ≡ length whole
+point_after [] fraction h = refl
+point_after (d ∷ whole) fraction h =
     let digit = digit_no_point d (and_first (is_ascii_digit d) (all_digits whole) h) in
-    let rest = point_behind whole fraction (and_second (is_ascii_digit d) (all_digits whole) h) in
+    let rest = point_after whole fraction (and_second (is_ascii_digit d) (all_digits whole) h) in
     rw digit (omega (arith, rest))
 
 pub point_nowhere : (whole : List ℕ) → all_digits whole ≡ true → position_or_len (λ c. c == 46) whole ≡ length whole
@@ -48,11 +48,11 @@ zeros_value (suc k) = zeros_value k
 
 -- the parts of a text with a point
 pub whole_with_point : (whole fraction : List ℕ) → all_digits whole ≡ true → whole_part (whole ++ 46 ∷ fraction) ≡ whole
-whole_with_point whole fraction h = ap (λ (k : ℕ). take k (whole ++ 46 ∷ fraction)) (point_behind whole fraction h) ∙ take_at whole (46 ∷ fraction) (length whole) refl
+whole_with_point whole fraction h = ap (λ (k : ℕ). take k (whole ++ 46 ∷ fraction)) (point_after whole fraction h) ∙ take_at whole (46 ∷ fraction) (length whole) refl
 
 pub fraction_with_point : (whole fraction : List ℕ) → all_digits whole ≡ true → fraction_part (whole ++ 46 ∷ fraction) ≡ fraction
 fraction_with_point whole fraction h =
-    ap (λ (k : ℕ). drop (k + 1) (whole ++ 46 ∷ fraction)) (point_behind whole fraction h) ∙ sym (drop-drop 1 (length whole) (whole ++ 46 ∷ fraction)) ∙ ap (drop 1) (drop_at whole (46 ∷ fraction) (length whole) refl)
+    ap (λ (k : ℕ). drop (k + 1) (whole ++ 46 ∷ fraction)) (point_after whole fraction h) ∙ sym (drop-drop 1 (length whole) (whole ++ 46 ∷ fraction)) ∙ ap (drop 1) (drop_at whole (46 ∷ fraction) (length whole) refl)
 
 -- the parts of digits alone
 pub whole_alone : (whole : List ℕ) → all_digits whole ≡ true → whole_part whole ≡ whole
@@ -80,7 +80,7 @@ form_with_point whole fraction sw sf hw hf =
     let text = whole ++ 46 ∷ fraction in
     let w = whole_with_point whole fraction hw in
     let f = fraction_with_point whole fraction hw in
-    let there : is_some (position (λ c. c == 46) text) ≡ true = position_somewhere text (length whole) (point_behind whole fraction hw) (omega (arith, length-append whole (46 ∷ fraction))) in
+    let there : is_some (position (λ c. c == 46) text) ≡ true = position_somewhere text (length whole) (point_after whole fraction hw) (omega (arith, length-append whole (46 ∷ fraction))) in
     rw (w, f, there, is_digits_true whole sw hw, is_digits_true fraction sf hf) refl
 
 pub form_alone : (whole : List ℕ) → 0 < length whole → all_digits whole ≡ true → is_unsigned whole ≡ true
@@ -130,8 +130,8 @@ padded_value count d n e =
     let none : digits_value 10 (replicate count 48) * 10 ^ length d ≡ 0 = ap (λ (m : ℕ). m * 10 ^ length d) (zeros_value count) ∙ omega arith in
     value-append (replicate count 48) d ∙ omega (arith, none)
 
-zeros_behind_value : (count : ℕ) (d : List ℕ) (n : ℕ) → digits_value 10 d ≡ n → digits_value 10 (d ++ replicate count 48) ≡ n * 10 ^ count
-zeros_behind_value count d n e =
+zeros_after_value : (count : ℕ) (d : List ℕ) (n : ℕ) → digits_value 10 d ≡ n → digits_value 10 (d ++ replicate count 48) ≡ n * 10 ^ count
+zeros_after_value count d n e =
     value-append d (replicate count 48) ∙ ap (λ (m : ℕ). digits_value 10 d * 10 ^ length (replicate {A = ℕ} count 48) + m) (zeros_value count) ∙ ap (λ (m : ℕ). digits_value 10 d * 10 ^ m + 0) (length-replicate {A = ℕ} count 48) ∙ ap (λ (m : ℕ). m * 10 ^ count + 0) e ∙ omega arith
 
 pointed_is_text : (n places : ℕ) → n < 10 ^ 64 → IsTextOf (pointed (suc places) (decimal n)) n (pos (suc places))
@@ -149,7 +149,7 @@ pointed_is_text n places h =
 
 multiplied : (n less : ℕ) → suc n < 10 ^ 64 → digits_value 10 (decimal (suc n) ++ replicate (suc less) 48) * 1 ≡ suc n * 10 ^ (less + 1)
 multiplied n less h =
-    let value = zeros_behind_value (suc less) (decimal (suc n)) (suc n) (decimal_value (suc n) h) in
+    let value = zeros_after_value (suc less) (decimal (suc n)) (suc n) (decimal_value (suc n) h) in
     let same : suc less ≡ less + 1 = omega arith in
     ap (λ (m : ℕ). m * 1) value ∙ ap (λ (k : ℕ). suc n * 10 ^ k * 1) same ∙ omega arith
 
@@ -165,9 +165,9 @@ pub no_sign : (text : List ℕ) → is_ascii_digit (get_or text 0 0) ≡ true �
 no_sign text h = digit_no_minus (get_or text 0 0) h
 
 -- a text after a sign is read as its parts
-read_behind_minus : (text : List ℕ) (n : ℕ) (scale : ℤ) → IsTextOf text n scale → decimal_value_of (45 ∷ text) scale ≡ signed true n
+read_after_minus : (text : List ℕ) (n : ℕ) (scale : ℤ) → IsTextOf text n scale → decimal_value_of (45 ∷ text) scale ≡ signed true n
 unfolding decimal_value_of
-read_behind_minus text n scale h = rw (h.form, h.value) refl
+read_after_minus text n scale h = rw (h.form, h.value) refl
 
 read_alone : (text : List ℕ) (n : ℕ) (scale : ℤ) → IsTextOf text n scale → decimal_value_of text scale ≡ signed false n
 unfolding decimal_value_of
@@ -183,4 +183,4 @@ fits_minus n h = let small : nat_le (suc n) (2 ^ 127) ≡ true = le-leb (suc n) 
 pub reads_back : (v scale : ℤ) → mag v < 2 ^ 127 → decimal_value_of (decimal_text_of v scale) scale ≡ Ok v
 unfolding decimal_text_of
 reads_back (pos n) scale h = read_alone (unsigned_text n scale) n scale (unsigned_is_text n scale (omega arith)) ∙ fits_signed n h
-reads_back (negsuc n) scale h = read_behind_minus (unsigned_text (suc n) scale) (suc n) scale (unsigned_is_text (suc n) scale (omega arith)) ∙ fits_minus n h
+reads_back (negsuc n) scale h = read_after_minus (unsigned_text (suc n) scale) (suc n) scale (unsigned_is_text (suc n) scale (omega arith)) ∙ fits_minus n h

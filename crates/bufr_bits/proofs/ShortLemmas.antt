@@ -23,8 +23,8 @@ pub digits_more : (ds : List ℕ) (i : ℕ) → all_digits (take i ds) ≡ true 
 digits_more ds i h lt d =
     ap all_digits (take_more ds i 0 lt) ∙ list_all-append is_ascii_digit (take i ds) (get_or ds i 0 ∷ []) ∙ rw (h, d) refl
 
-pub front_more : (n : ℕ) (ds : List ℕ) (i : ℕ) → i < length ds → is_ascii_digit (get_or ds i 0) ≡ true → digits_value_after 10 n (take (i + 1) ds) ≡ digits_value_after 10 n (take i ds) * 10 + (get_or ds i 0 - 48)
-front_more n ds i lt d =
+pub prefix_more : (n : ℕ) (ds : List ℕ) (i : ℕ) → i < length ds → is_ascii_digit (get_or ds i 0) ≡ true → digits_value_after 10 n (take (i + 1) ds) ≡ digits_value_after 10 n (take i ds) * 10 + (get_or ds i 0 - 48)
+prefix_more n ds i lt d =
     let value = digit_value_digit (get_or ds i 0) (digit_range (get_or ds i 0) d) in
     let same : digit_value (get_or ds i 0) ≡ get_or ds i 0 - 48 = omega arith in
     ap (digits_value_after 10 n) (take_more ds i 0 lt) ∙ value_after-append n (take i ds) (get_or ds i 0 ∷ []) ∙ ap (λ (m : ℕ). digits_value_after 10 n (take i ds) * 10 + m) same
@@ -42,8 +42,8 @@ digit_fits n value i len d most below lt fits few =
     let more : 10 ^ suc i ≤ 10 ^ len = pow-le-pow_right (omega arith) (omega arith) in
     digit_fits_product n value (10 ^ i) (10 ^ len) (10 ^ suc i) d most (pow-suc 10 i) (mul-le-mul_right (n + 1) more) below fits few
 
-pub front_fits : (n value i d : ℕ) (ds : List ℕ) → all_digits (take i ds) ≡ true → value ≡ digits_value_after 10 n (take i ds) → i < length ds → (n + 1) * 10 ^ length ds ≤ 2 ^ 64 → d ≤ 9 → value * 10 + d < 2 ^ 64
-front_fits n value i d ds h e lt fits few =
+pub prefix_fits : (n value i d : ℕ) (ds : List ℕ) → all_digits (take i ds) ≡ true → value ≡ digits_value_after 10 n (take i ds) → i < length ds → (n + 1) * 10 ^ length ds ≤ 2 ^ 64 → d ≤ 9 → value * 10 + d < 2 ^ 64
+prefix_fits n value i d ds h e lt fits few =
     let prefix : length (take i ds) ≡ i = length-take-le i ds (omega arith) in
     let below : value < (n + 1) * 10 ^ i = subst (λ (k : ℕ). value < (n + 1) * 10 ^ k) prefix (subst (λ (k : ℕ). k < (n + 1) * 10 ^ length (take i ds)) (sym e) (value_after-below n (take i ds) h)) in
     digit_fits n value i (length ds) d (2 ^ 64) below lt fits few
@@ -219,8 +219,8 @@ read_short_fault text body scale up down n places fault r b h hu hd e result =
     let value = value_short text body scale up down n places b h hu hd in
     result ∙ ap (λ (q : Result ℕ NumberFault). and_then q (signed (starts_with_minus text))) e ∙ sym value
 
-pub ten_more_front : (n value i : ℕ) → value ≡ n * 10 ^ i → value * 10 ≡ n * 10 ^ (i + 1)
-ten_more_front n value i e = let ten : 10 ^ (i + 1) ≡ 10 ^ i * 10 = ten_split (i + 1) i 1 refl in rw (e, ten) (omega arith)
+pub ten_more_prefix : (n value i : ℕ) → value ≡ n * 10 ^ i → value * 10 ≡ n * 10 ^ (i + 1)
+ten_more_prefix n value i e = let ten : 10 ^ (i + 1) ≡ 10 ^ i * 10 = ten_split (i + 1) i 1 refl in rw (e, ten) (omega arith)
 
 -- all that follows a place
 pub rest_is : (text : List ℕ) (i : ℕ) → take (length text - i) (drop i text) ≡ drop i text

@@ -30,8 +30,8 @@ window_is xs chunk n h e small below value =
     }
 
 -- a window of the octets from a place on
-pub window_behind : (xs ys : List ℕ) (first n : ℕ) → first ≤ length xs → ys ≡ take (length xs - first) (drop first xs) → IsWindow n 0 ys → IsWindow n first xs
-window_behind xs ys first n h e w =
+pub window_after : (xs ys : List ℕ) (first n : ℕ) → first ≤ length xs → ys ≡ take (length xs - first) (drop first xs) → IsWindow n 0 ys → IsWindow n first xs
+window_after xs ys first n h e w =
     let same : ys ≡ drop first xs = e ∙ take_rest xs first in
     let long : length ys ≡ length xs - first = ap length same ∙ length-drop first xs in
     let room = w.within in
@@ -87,7 +87,7 @@ pub window_answer : (answer : Option ℕ) (xs ys : List ℕ) (first : ℕ) → f
 window_answer None xs ys first h e few =
     let long : length ys ≡ length xs - first = ap length (e ∙ take_rest xs first) ∙ length-drop first xs in
     omega arith
-window_answer (Some w) xs ys first h e there = window_behind xs ys first w h e there
+window_answer (Some w) xs ys first h e there = window_after xs ys first w h e there
 
 -- octets are all ones where their window is the greatest number and the others are
 pub window_ones : (xs : List ℕ) (w : ℕ) → IsWindow w 0 xs → are_all_ones (bits_of xs) ≡ ((w == 2 ^ 64 - 1) && are_all_ones (bits_of (drop 8 xs)))

@@ -25,10 +25,10 @@ bits_of-one : (n : ℕ) → bits_of (n % 256 ∷ []) ≡ bits_in n 8
 unfolding bits_of
 bits_of-one n = sym (bits_in-octet n)
 
--- ---- the last bits, with zeros up to the next octet
+-- ---- the last bits, with zeros up to the next octet.
 -- zeros after bits, and as many of all of these as end within the zeros
-zeros_behind : (last count pad rest : ℕ) → take (count + pad) (bits_in (last * 2 ^ (pad + rest)) (count + (pad + rest))) ≡ bits_in last count ++ replicate pad false
-zeros_behind last count pad rest =
+zeros_after : (last count pad rest : ℕ) → take (count + pad) (bits_in (last * 2 ^ (pad + rest)) (count + (pad + rest))) ≡ bits_in last count ++ replicate pad false
+zeros_after last count pad rest =
     let free = pad + rest in
     let sum : last * 2 ^ free ≡ last * 2 ^ free + 0 = omega arith in
     let none : 0 / 2 ^ rest ≡ 0 = omega (arith, shr_le 0 rest) in
@@ -48,7 +48,7 @@ last_octets xs ys bytes last count some few low b e =
     let all : 64 ≡ count + (pad + rest) = omega arith in
     let same : number ≡ last * 2 ^ (pad + rest) = shl_whole last count (64 - count) 64 low (omega arith) ∙ ap (λ (k : ℕ). last * 2 ^ k) parts in
     let bits : bits_of bytes ≡ bits_in (last * 2 ^ (pad + rest)) (count + (pad + rest)) = ap bits_of b ∙ bits_of-bytes 8 number ∙ ap (λ (n : ℕ). bits_in n 64) same ∙ ap (bits_in (last * 2 ^ (pad + rest))) all in
-    let first : bits_of (take whole bytes) ≡ bits_in last count ++ padding count = sym (take-bits_of whole bytes) ∙ ap (λ (k : ℕ). take k (bits_of bytes)) filled ∙ ap (take (count + pad)) bits ∙ zeros_behind last count pad rest in
+    let first : bits_of (take whole bytes) ≡ bits_in last count ++ padding count = sym (take-bits_of whole bytes) ∙ ap (λ (k : ℕ). take k (bits_of bytes)) filled ∙ ap (take (count + pad)) bits ∙ zeros_after last count pad rest in
     ap bits_of e ∙ bits_of-append xs (take whole bytes) ∙ ap (λ (bs : List Bool). bits_of xs ++ bs) first
 
 -- where there are no last bits there is nothing to write

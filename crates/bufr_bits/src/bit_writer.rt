@@ -301,8 +301,8 @@ pub fn pushed_reads_back(value: u64, width: u32)
         value width ++ after → number_of (bits_at octets (length before) width) ≡ value }
 {}
 
-/// Law: where octets have the bits of other octets, with any bits before and after, each of these
-/// is the number that [`BitSlice::octet`](crate::BitSlice::octet) answers at its place.
+/// Law: octets have the bits of other octets, with any bits before and after. Then each of these is
+/// the number that [`BitSlice::octet`](crate::BitSlice::octet) returns at its place.
 pub fn pushed_octets_read_back(octets: &[u8])
     ensures bits { (before after : List Bool) (among : List ℕ)
         → bits_of among ≡ before ++ bits_of octets.now ++ after

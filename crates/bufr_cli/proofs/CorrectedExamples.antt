@@ -9,13 +9,13 @@ use Rattle.bufr_walk.specs.Course.{next_item}
 use Rattle.bufr_text.specs.Documents.{documents_of, lines_of, parse_lines, turn}
 use Rattle.bufr_text.specs.Dump.{header_lines}
 use Rattle.bufr_text.specs.Encoding.{encoding_in}
-use Rattle.bufr_text.specs.Grammar.{prefix_while, suffix_while, without_prefix, descriptors_read, descriptors_text, fxy_read, hex_read, hex_text, is_hashed, quoted_read, runs_behind}
+use Rattle.bufr_text.specs.Grammar.{prefix_while, suffix_while, without_prefix, descriptors_read, descriptors_text, fxy_read, hex_read, hex_text, is_hashed, quoted_read, runs_after}
 use Rattle.bufr_text.specs.Line.{keys, line_of, place_from, value_read, worded}
 use Rattle.bufr_text.specs.declared.form.Form.TheVariants.{AsWritten}
 use Rattle.bufr_cli.specs.Corrected.{normal_texts}
 use Rattle.bufr_cli.proofs.RoundTripExamples.{blocks}
 
--- a document with this edition, behind its descriptors this text
+-- a document with this edition, after its descriptors this text
 abbrev by_hand : (edition rest : List ℕ) → List ℕ
 by_hand edition rest =
     codes "message\nedition " ++ (edition
@@ -26,7 +26,7 @@ by_hand edition rest =
 -- `end` is refused
 one-before-a-refused-line : normal_texts AsWritten blocks [] (documents_of (codes "# by hand\n" ++ by_hand (codes "04") (codes "\nsubset 01\n001001 010.0  # changed\nend\nend\n")))
     ≡ by_hand (codes "4") (codes "subset 1\n001001 10  # WMO BLOCK NUMBER [Numeric]\nend\n") ∷ []
-unfolding normal_texts parse_lines lines_of turn line_of worded prefix_while suffix_while place_from keys without_prefix descriptors_read fxy_read value_read quoted_read hex_read is_hashed encoding_in tree_of level part_of inner_of next_item decimal_value_of bits_of bits_in header_lines runs_behind hex_text descriptors_text digits decimal_text_of unsigned_text
+unfolding normal_texts parse_lines lines_of turn line_of worded prefix_while suffix_while place_from keys without_prefix descriptors_read fxy_read value_read quoted_read hex_read is_hashed encoding_in tree_of level part_of inner_of next_item decimal_value_of bits_of bits_in header_lines runs_after hex_text descriptors_text digits decimal_text_of unsigned_text
 one-before-a-refused-line = refl
 
 -- seven bits hold no 200: the document is refused, and it has no text

@@ -30,22 +30,22 @@ use Rattle.bufr_text.proofs.RowsLemmas.{rows-read}
 use Rattle.bufr_text.proofs.SpelledProper.{spelled-proper}
 use Rattle.bufr_cli.specs.Corrected.{IsDumpedInOneSpelling, before_refused, built, form_pieces, normal_by, normal_text, normal_texts}
 use Rattle.bufr_cli.specs.DumpPieces.{IsDumpPiece}
-use Rattle.bufr_cli.specs.EncodePieces.{encoded, told_piece, up_to_refused}
+use Rattle.bufr_cli.specs.EncodePieces.{encoded, result_piece, up_to_refused}
 use Rattle.bufr_cli.specs.Pieces.{Piece, OnOutput, OnErrors, output_of, errors_of, is_accepted, is_refused}
 use Rattle.bufr_cli.specs.RoundTrip.{dump_pieces, dumped, text_pieces}
 use Rattle.bufr_cli.specs.Running.{GivesPieces}
 use Rattle.bufr_cli.proofs.DumpLemmas.{one-piece}
 use Rattle.bufr_cli.proofs.RoundTripLemmas.{accepted-piece, nothing-spelled, outputs-accepted, outputs-octets, outputs-refused, outputs-silent, outputs-whole, placed, placed-count}
 
--- What is written for documents, and their texts: the messages on the output are framed one by one,
--- have these texts, and are built of these again, from any line of a text on.
+-- What is written for documents, and their texts. The messages on the output are framed one by one
+-- and have these texts. They are built of these again, from any line of a text on.
 record AreBuilt (b : List Row) (d : List Sequence) (piece : StreamEvent → Piece) (pieces : List Piece) (texts : List (List ℕ)) : Type 0 where
   messages : List (List ℕ)
   written : flat_map output_of (up_to_refused pieces) ≡ concat messages
   as_many : length (filter is_accepted (up_to_refused pieces)) ≡ length messages
   scanned : (at : ℕ) → scan_from 0 at (concat messages) ≡ placed at messages
-  told : (at : ℕ) → map piece (placed at messages) ≡ map OnOutput texts
-  again : (line : ℕ) → map (told_piece AsWritten b d) (parse_lines line Between (lines_of (concat texts))) ≡ map OnOutput messages
+  results : (at : ℕ) → map piece (placed at messages) ≡ map OnOutput texts
+  again : (line : ℕ) → map (result_piece AsWritten b d) (parse_lines line Between (lines_of (concat texts))) ≡ map OnOutput messages
 
 -- nothing is built
 none-built : (b : List Row) (d : List Sequence) (piece : StreamEvent → Piece) → AreBuilt b d piece [] []
@@ -55,8 +55,8 @@ none-built b d piece = record {
   written = refl;
   as_many = refl;
   scanned = λ at. scan_from-nil 0 at;
-  told = λ at. refl;
-  again = λ line. ap (map (told_piece AsWritten b d)) (nothing-spelled line);
+  results = λ at. refl;
+  again = λ line. ap (map (result_piece AsWritten b d)) (nothing-spelled line);
 }
 
 -- a line on the errors ends it
@@ -67,8 +67,8 @@ fault-ends b d piece line more = record {
   written = refl;
   as_many = refl;
   scanned = λ at. scan_from-nil 0 at;
-  told = λ at. refl;
-  again = λ line. ap (map (told_piece AsWritten b d)) (nothing-spelled line);
+  results = λ at. refl;
+  again = λ line. ap (map (result_piece AsWritten b d)) (nothing-spelled line);
 }
 
 module _ (form : Form) (records : List Record) (b : List Row) (d : List Sequence) (piece : StreamEvent → Piece) (rows : AreRows records b) (gives : GivesPieces (IsDumpPiece b d) piece) where
@@ -90,14 +90,14 @@ module _ (form : Form) (records : List Record) (b : List Row) (d : List Sequence
         one-piece b d (FrameAt at octets) (piece (FrameAt at octets)) (OnOutput text) (gives (FrameAt at octets)) (accepted-piece b d octets read.sections read.template read.values read.used at read.accepted)
         ∙ ap OnOutput text-is
 
-    -- behind its text the reading goes on
-    spells : (line : ℕ) (more : List ℕ) → map (told_piece AsWritten b d) (parse_lines line Between (lines_of (normal_text form b d document ++ more)))
-        ≡ OnOutput octets ∷ map (told_piece AsWritten b d) (parse_lines (line + length (dump_lines read.sections items)) Between (lines_of more))
+    -- after its text the reading goes on
+    spells : (line : ℕ) (more : List ℕ) → map (result_piece AsWritten b d) (parse_lines line Between (lines_of (normal_text form b d document ++ more)))
+        ≡ OnOutput octets ∷ map (result_piece AsWritten b d) (parse_lines (line + length (dump_lines read.sections items)) Between (lines_of more))
     spells line more =
         let legal = (tree_fine (tables_of b d) read.sections.descriptors read.template read.accepted.expands).legal in
-        ap (λ t. map (told_piece AsWritten b d) (parse_lines line Between (lines_of (t ++ more)))) (sym text-is)
-        ∙ ap (map (told_piece AsWritten b d)) (text-spells read.sections items line more (dumpable b d octets read.sections read.template read.values read.used (rows-read records b rows) legal read.accepted))
-        ∙ ap (λ x. encoded x ∷ map (told_piece AsWritten b d) (parse_lines (line + length (dump_lines read.sections items)) Between (lines_of more)))
+        ap (λ t. map (result_piece AsWritten b d) (parse_lines line Between (lines_of (t ++ more)))) (sym text-is)
+        ∙ ap (map (result_piece AsWritten b d)) (text-spells read.sections items line more (dumpable b d octets read.sections read.template read.values read.used (rows-read records b rows) legal read.accepted))
+        ∙ ap (λ x. encoded x ∷ map (result_piece AsWritten b d) (parse_lines (line + length (dump_lines read.sections items)) Between (lines_of more)))
         (encoded_again_same form records b d rows document octets read line proper is)
 
     one-more : (pieces : List Piece) (texts : List (List ℕ)) → AreBuilt b d piece pieces texts → AreBuilt b d piece (OnOutput octets ∷ pieces) (normal_text form b d document ∷ texts)
@@ -107,7 +107,7 @@ module _ (form : Form) (records : List Record) (b : List Row) (d : List Sequence
       written = ap (λ l. octets ++ l) r.written;
       as_many = ap suc r.as_many;
       scanned = λ at. read.framed at (concat r.messages) ∙ ap (λ l. FrameAt at octets ∷ l) (r.scanned (at + length octets));
-      told = λ at. ap (λ p. p ∷ map piece (placed (at + length octets) r.messages)) (piece-is at) ∙ ap (λ l. OnOutput (normal_text form b d document) ∷ l) (r.told (at + length octets));
+      results = λ at. ap (λ p. p ∷ map piece (placed (at + length octets) r.messages)) (piece-is at) ∙ ap (λ l. OnOutput (normal_text form b d document) ∷ l) (r.results (at + length octets));
       again = λ line. spells line (concat texts) ∙ ap (λ l. OnOutput octets ∷ l) (r.again (line + length (dump_lines read.sections items)));
     }
 
@@ -117,21 +117,21 @@ module _ (form : Form) (records : List Record) (b : List Row) (d : List Sequence
   document-more document (Ok octets) pieces texts proper is r = one-more document octets proper is (encoded_read form records b d rows document proper octets is) pieces texts r
   document-more document (Err refused) pieces texts proper is r = fault-ends b d piece _ pieces
 
-  are-built : (told : List ParseResult) → AreProper told → AreBuilt b d piece (map (told_piece form b d) told) (normal_texts form b d told)
+  are-built : (results : List ParseResult) → AreProper results → AreBuilt b d piece (map (result_piece form b d) results) (normal_texts form b d results)
   unfolding normal_texts
   are-built [] proper = none-built b d piece
   are-built (Complete document ∷ more) proper =
-      document-more document (encoding_in form b d document) (map (told_piece form b d) more) (normal_texts form b d more) proper.0 refl (are-built more proper.1)
-  are-built (Refused line fault ∷ more) proper = fault-ends b d piece _ (map (told_piece form b d) more)
+      document-more document (encoding_in form b d document) (map (result_piece form b d) more) (normal_texts form b d more) proper.0 refl (are-built more proper.1)
+  are-built (Refused line fault ∷ more) proper = fault-ends b d piece _ (map (result_piece form b d) more)
 
   -- the law
   pub one-spelling : (text : List ℕ) → IsDumpedInOneSpelling form b d piece text
   one-spelling text =
       let texts = normal_texts form b d (documents_of text) in
       let r = are-built (documents_of text) (spelled-proper 1 Between (lines_of text) (omega arith) tt) in
-      let pieces : dump_pieces piece (built form b d text) ≡ map OnOutput texts = ap (map piece) (ap scan r.written ∙ r.scanned 0) ∙ r.told 0 in
+      let pieces : dump_pieces piece (built form b d text) ≡ map OnOutput texts = ap (map piece) (ap scan r.written ∙ r.scanned 0) ∙ r.results 0 in
       let same_text : dumped piece (built form b d text) ≡ concat texts = ap (flat_map output_of) pieces ∙ outputs-octets texts in
-      let many : length r.messages ≡ length texts = sym (placed-count piece 0 r.messages) ∙ ap length (r.told 0) ∙ length-map texts OnOutput in
+      let many : length r.messages ≡ length texts = sym (placed-count piece 0 r.messages) ∙ ap length (r.results 0) ∙ length-map texts OnOutput in
       record {
         pieces = pieces;
         same_text = same_text;

@@ -21,7 +21,7 @@ use Rattle.bufr_walk.specs.Refusal.{field_stop}
 use Rattle.bufr_walk.specs.declared.fault.WalkFault.TheVariants as walk
 use Rattle.bufr_walk.specs.declared.spec.Role.TheVariants.{Element}
 use Rattle.bufr_text.specs.Dump.{header_lines, subset_lines}
-use Rattle.bufr_text.specs.Grammar.{descriptors_text, hex_text, runs_behind}
+use Rattle.bufr_text.specs.Grammar.{descriptors_text, hex_text, runs_after}
 use Rattle.bufr_text.specs.Line.{keys}
 use Rattle.bufr_cli.specs.DumpPieces.{IsDumpPiece}
 use Rattle.bufr_cli.specs.FaultLine.{fault_line, template_fault_text, walk_fault_text}
@@ -126,7 +126,7 @@ unknown-piece = refl
 
 -- its data are read: seven bits are the number 10, and one bit is left over
 read-piece : IsDumpPiece blocks [] (FrameAt 0 one_block_number) (OnOutput (codes "message\nedition 4\nmaster 0\ncentre 98\nsubcentre 0\nupdate 0\ncategory 0\nsubcategory 0\nlocalsubcategory 0\nmasterversion 14\nlocalversion 0\nyear 2024\nmonth 1\nday 2\nhour 3\nminute 4\nsecond 5\nobserved 1\ncompressed 0\noptional 0\nsubsets 1\ndescriptors 001001\nsubset 1\n001001 10  # WMO BLOCK NUMBER [Numeric]\nend\n"))
-unfolding sections_of section_end tree_of inner_of level part_of next_item bits_of header_lines subset_lines runs_behind hex_text descriptors_text keys decimal_text_of unsigned_text digits
+unfolding sections_of section_end tree_of inner_of level part_of next_item bits_of header_lines subset_lines runs_after hex_text descriptors_text keys decimal_text_of unsigned_text digits
 read-piece = (
   apart ((record { spec = record { fxy = 257; role = Element; kind = Numeric; width = 7; scale = pos 0; reference = pos 0; may_be_missing = true; listed = true }; content = number 10 } ∷ []) ∷ []),
   7,

@@ -36,11 +36,11 @@ use Rattle.bufr_cli.specs.declared.tally.Verdict.TheVariants.{Accepted, Refused}
 
 -- of a text nothing was written
 grows-none : (w : Option (List ℕ)) (text : List ℕ) → GrowsByPrefix w w text
-grows-none w text = record { front = []; back = text; parts = refl; gains = Appends-nil w }
+grows-none w text = record { prefix = []; back = text; parts = refl; gains = Appends-nil w }
 
--- a text was written on the output, or a front of it
-output-told : (w w' e : Option (List ℕ)) (text : List ℕ) (piece : Piece) → piece ≡ OnOutput text → Appends w w' text → LeavesPieces w w' e e (piece ∷ []) (Ok Accepted)
-output-told w w' e text piece is writes =
+-- a text was written on the output, or a prefix of it
+output-reported : (w w' e : Option (List ℕ)) (text : List ℕ) (piece : Piece) → piece ≡ OnOutput text → Appends w w' text → LeavesPieces w w' e e (piece ∷ []) (Ok Accepted)
+output-reported w w' e text piece is writes =
     let P : Piece → Type 0 = λ p. LeavesPieces w w' e e (p ∷ []) (Ok Accepted) in
     let W : List ℕ → Type 0 = λ t. Appends w w' t in
     subst P (sym is) (record { output = subst W (sym (append-nil text)) writes; errors = Appends-nil e }, refl, refl)
@@ -51,9 +51,9 @@ output-stopped w w' e text piece f is writes =
     let W : List ℕ → Type 0 = λ t. GrowsByPrefix w w' t in
     subst P (sym is) (subst W (sym (append-nil text)) writes, grows-none e [])
 
--- a line was written on the errors, or a front of it
-pub errors-told : (w e e' : Option (List ℕ)) (text : List ℕ) (piece : Piece) → piece ≡ OnErrors text → Appends e e' text → LeavesPieces w w e e' (piece ∷ []) (Ok Refused)
-errors-told w e e' text piece is writes =
+-- a line was written on the errors, or a prefix of it
+pub errors-reported : (w e e' : Option (List ℕ)) (text : List ℕ) (piece : Piece) → piece ≡ OnErrors text → Appends e e' text → LeavesPieces w w e e' (piece ∷ []) (Ok Refused)
+errors-reported w e e' text piece is writes =
     let P : Piece → Type 0 = λ p. LeavesPieces w w e e' (p ∷ []) (Ok Refused) in
     let W : List ℕ → Type 0 = λ t. Appends e e' t in
     subst P (sym is) (record { output = Appends-nil w; errors = subst W (sym (append-nil text)) writes }, refl, refl)
@@ -107,13 +107,13 @@ reading-of table template s r steps (is_table, is_template, is_source, values, (
     let C : Data → Type 0 = λ d. IsReading (next_item r.table r.template) d values r.bits in
     (values, read, subst C (sym is_source) (subst B (sym is_template) (subst A (sym is_table) read)))
 
--- the text of a reading was written, or a front of it
-pub reading-told : (table : List Row) (offset : ℕ) (s : Sections) (template : Tree) (r : Read) (steps : ℕ) (w w' e : Option (List ℕ)) → IsReadingOf table template (data_of s) r steps
+-- the text of a reading was written, or a prefix of it
+pub reading-reported : (table : List Row) (offset : ℕ) (s : Sections) (template : Tree) (r : Read) (steps : ℕ) (w w' e : Option (List ℕ)) → IsReadingOf table template (data_of s) r steps
     → ((values : Values) → IsReading (course_of r) r.source values r.bits → Appends w w' (dump_text_of s (dump_items_of r values)))
     → (piece : Piece) → IsDataPiece table offset s template piece → LeavesPieces w w' e e (piece ∷ []) (Ok Accepted)
-reading-told table offset s template r steps w w' e so writes piece is =
+reading-reported table offset s template r steps w w' e so writes piece is =
     let found = reading-of table template s r steps so in
-    output-told w w' e (dump_text_of s (dump_items_of r found.0)) piece (read-piece table offset s template r found.0 so.0 so.2 found.1 piece is) (writes found.0 found.2)
+    output-reported w w' e (dump_text_of s (dump_items_of r found.0)) piece (read-piece table offset s template r found.0 so.0 so.2 found.1 piece is) (writes found.0 found.2)
 
 pub reading-stopped : {X : Type 0} (table : List Row) (offset : ℕ) (s : Sections) (template : Tree) (r : Read) (steps : ℕ) (w w' e : Option (List ℕ)) (first : Result X RunFault) (f : RunFault) (result : Result Verdict RunFault) → IsReadingOf table template (data_of s) r steps
     → ((values : Values) → IsReading (course_of r) r.source values r.bits → WritesPrefix w w' (dump_text_of s (dump_items_of r values)) first) → first ≡ Err f → result ≡ Err f
@@ -125,7 +125,7 @@ reading-stopped {X = X} table offset s template r steps w w' e first f result so
     let P : Result Verdict RunFault → Type 0 = λ x. LeavesPieces w w' e e (piece ∷ []) x in
     subst P (sym same) (output-stopped w w' e text piece f (read-piece table offset s template r found.0 so.0 so.2 found.1 piece is) (subst W fails (writes found.0 found.2)))
 
--- a front of a fault line was written
+-- a prefix of a fault line was written
 pub line-stopped : {X : Type 0} (w e e' : Option (List ℕ)) (text : List ℕ) (first : Result X RunFault) (f : RunFault) (result : Result Verdict RunFault) (piece : Piece) → piece ≡ OnErrors text → Writes e e' text first → first ≡ Err f → result ≡ Err f
     → LeavesPieces w w e e' (piece ∷ []) result
 line-stopped {X = X} w e e' text first f result piece is writes fails same =

@@ -85,7 +85,7 @@ too-many-line : refusal_line 24 (by_item (too_many_values 0x0101)) ≡ codes "li
 unfolding digits
 too-many-line = refl
 
--- behind the first fault nothing is written
+-- after the first fault nothing is written
 -- rule: first-refusal-ends
 first-fault : up_to_refused (OnOutput (1 ∷ []) ∷ OnErrors (2 ∷ []) ∷ OnOutput (3 ∷ []) ∷ OnErrors (4 ∷ []) ∷ []) ≡ OnOutput (1 ∷ []) ∷ OnErrors (2 ∷ []) ∷ []
 unfolding up_to_refused

@@ -12,18 +12,18 @@ use Rattle.bufr_frame.specs.Runs.{max_reads, read_failures_after}
 use Rattle.bufr_frame.specs.declared.fault.RunFault.{RunFault}
 use Rattle.bufr_frame.specs.declared.fault.RunFault.TheVariants.{Read, Write, InputTooLong, Memory}
 use Rattle.bufr_text.specs.Document.{Document}
-use Rattle.bufr_text.specs.Documents.{ParseResult, TextLineFault, Complete, Refused, NotAllowed, LineEffect, WalkGoes, Gives, Faults, ParserState, Between, Heading, Laying, Filling, Stopped, told_at, told_at_end, parse_lines, line_within_limit, place_after, prepend_to_line, lines_of, documents_of, open_documents_of}
+use Rattle.bufr_text.specs.Documents.{ParseResult, TextLineFault, Complete, Refused, NotAllowed, LineEffect, WalkGoes, Gives, Faults, ParserState, Between, Heading, BeforeSubsets, Filling, Stopped, reported_at, reported_at_end, parse_lines, line_within_limit, place_after, prepend_to_line, lines_of, documents_of, open_documents_of}
 use Rattle.bufr_text.specs.Reading.{parse, parse_open}
 use Rattle.bufr_text.specs.Documents as documents
-use Rattle.bufr_text.specs.Reader.{ReaderModel, new_reader, stand, parse_results, ReadsLines, ReturnsNextDocument, ReadsDocument, LeavesReader, CountsTextReads, HasNoWholeLine, failures_by}
+use Rattle.bufr_text.specs.Reader.{ReaderModel, new_reader, position_of, parse_results, ReadsLines, ReturnsNextDocument, ReadsDocument, LeavesReader, CountsTextReads, HasNoWholeLine, failures_by}
 use Rattle.bufr_text.specs.Writing.{GrowsByPrefix, Writes}
 use Rattle.bufr_text.specs.declared.fault.ReadFault.{ReadFault}
 use Rattle.bufr_text.specs.declared.form.Form.{Form}
 use Rattle.bufr_text.specs.declared.fault.ReadFault.TheVariants.{Line, SubsetCount, HeaderRange, Run}
 use Rattle.bufr_cli.specs.DocumentLine.{refused_line}
-use Rattle.bufr_cli.specs.EncodePieces.{told_piece, encode_pieces, up_to_refused}
+use Rattle.bufr_cli.specs.EncodePieces.{result_piece, encode_pieces, up_to_refused}
 use Rattle.bufr_cli.specs.EncodeRun.{EncodeDone, EncodeStopped, LeavesDocuments, read_documents}
-use Rattle.bufr_cli.specs.EncodeTelling.{LeavesNext}
+use Rattle.bufr_cli.specs.EncodeReporting.{LeavesNext}
 use Rattle.bufr_cli.specs.Pieces.{Piece, OnOutput, OnErrors, errors_of, is_accepted, is_refused, output_of}
 use Rattle.bufr_cli.specs.Counting.{Blames}
 use Rattle.bufr_cli.specs.Running.{ReadsAtMost, Tallies, WritesPieces, WrittenInPart}
@@ -32,56 +32,56 @@ use Rattle.bufr_cli.specs.declared.tally.Tally.{Tally}
 use Rattle.bufr_cli.specs.declared.tally.Verdict.{Verdict}
 use Rattle.bufr_cli.specs.declared.tally.Verdict.TheVariants as verdict
 use Rattle.bufr_text.proofs.CallLemmas.{call-none, call-then}
-use Rattle.bufr_text.proofs.NextLemmas.{counts-none, counts-then, told-first, told-first-openly, told-at-end, told-at-fault}
+use Rattle.bufr_text.proofs.NextLemmas.{counts-none, counts-then, reported-first, reported-first-openly, reported-at-end, reported-at-fault}
 use Rattle.bufr_cli.proofs.RunLemmas.{Written-nil, Written-then, grows-nil}
-use Rattle.bufr_cli.proofs.DumpLemmas.{errors-told, line-stopped}
+use Rattle.bufr_cli.proofs.DumpLemmas.{errors-reported, line-stopped}
 
 -- the encoding of a document was stopped
 pub next-stopped : (w w' e e' : Option (List ℕ)) (piece : ParseResult → Piece) (next : Result (Option Document) ReadFault) (document : Document) (write_event : Result Verdict RunFault) (f : RunFault) (r : Result (Option Verdict) RunFault)
     → next ≡ Ok (Some document) → LeavesPieces w w' e e' (piece (Complete document) ∷ []) write_event → StopsPiece true write_event → write_event ≡ Err f → r ≡ Err f → LeavesNext w w' e e' piece next r
-next-stopped w w' e e' piece next document write_event f r is tells stops fails same =
+next-stopped w w' e e' piece next document write_event f r is reports stops fails same =
     let P : Result (Option Verdict) RunFault → Type 0 = λ x. LeavesNext w w' e e' piece next x in
     let T : Result Verdict RunFault → Type 0 = λ x. LeavesPieces w w' e e' (piece (Complete document) ∷ []) x in
     let S : Result Verdict RunFault → Type 0 = λ x. StopsPiece true x in
-    subst P (sym same) (by f (subst T fails tells) (subst S fails stops))
+    subst P (sym same) (by f (subst T fails reports) (subst S fails stops))
   where
     by : (g : RunFault) → LeavesPieces w w' e e' (piece (Complete document) ∷ []) (Err g) → StopsPiece true (Err g) → LeavesNext w w' e e' piece next (Err g)
-    by Read tells' stops' = absurd stops'
-    by InputTooLong tells' stops' = absurd stops'
-    by Write tells' stops' = (Complete document, ap parse_results is, tells')
-    by Memory tells' stops' = inr (Complete document, ap parse_results is, tells')
+    by Read reports' stops' = absurd stops'
+    by InputTooLong reports' stops' = absurd stops'
+    by Write reports' stops' = (Complete document, ap parse_results is, reports')
+    by Memory reports' stops' = inr (Complete document, ap parse_results is, reports')
 
 -- the line of a fault of the text was stopped
 pub line-cut : {X : Type 0} (w e e' : Option (List ℕ)) (form : Form) (b : List Row) (d : List Sequence) (next : Result (Option Document) ReadFault) (fault : ReadFault) (first : Result X RunFault) (f : RunFault) (r : Result (Option Verdict) RunFault)
     → next ≡ Err fault → ((run : RunFault) → fault ≡ Run run → ⊥) → ((line : ℕ) (why : TextLineFault) → parse_results (Err fault) ≡ Refused line why ∷ [] → Writes e e' (refused_line line why) first)
-    → first ≡ Err f → r ≡ Err f → LeavesNext w w e e' (told_piece form b d) next r
+    → first ≡ Err f → r ≡ Err f → LeavesNext w w e e' (result_piece form b d) next r
 line-cut {X = X} w e e' form b d next fault first f r is some writes fails same =
     by fault is some writes
   where
-    told : (line : ℕ) (why : TextLineFault) → parse_results next ≡ Refused line why ∷ [] → Writes e e' (refused_line line why) first → LeavesNext w w e e' (told_piece form b d) next r
-    told line why tells written =
+    results : (line : ℕ) (why : TextLineFault) → parse_results next ≡ Refused line why ∷ [] → Writes e e' (refused_line line why) first → LeavesNext w w e e' (result_piece form b d) next r
+    results line why reports written =
         let W : Result X RunFault → Type 0 = λ x. Writes e e' (refused_line line why) x in
-        let P : Result (Option Verdict) RunFault → Type 0 = λ x. LeavesNext w w e e' (told_piece form b d) next x in
+        let P : Result (Option Verdict) RunFault → Type 0 = λ x. LeavesNext w w e e' (result_piece form b d) next x in
         let write : f ≡ Write = (subst W fails written).0 in
-        subst P (sym (same ∙ ap Err write)) (Refused line why, tells, line-stopped w e e' (refused_line line why) first Write (Err Write) (OnErrors (refused_line line why)) refl written (fails ∙ ap Err write) refl)
+        subst P (sym (same ∙ ap Err write)) (Refused line why, reports, line-stopped w e e' (refused_line line why) first Write (Err Write) (OnErrors (refused_line line why)) refl written (fails ∙ ap Err write) refl)
 
     by : (g : ReadFault) → next ≡ Err g → ((run : RunFault) → g ≡ Run run → ⊥) → ((line : ℕ) (why : TextLineFault) → parse_results (Err g) ≡ Refused line why ∷ [] → Writes e e' (refused_line line why) first)
-        → LeavesNext w w e e' (told_piece form b d) next r
-    by (Line line) is' some' writes' = told line NotAllowed (ap parse_results is') (writes' line NotAllowed refl)
-    by (SubsetCount line) is' some' writes' = told line documents.SubsetCount (ap parse_results is') (writes' line documents.SubsetCount refl)
-    by (HeaderRange line) is' some' writes' = told line documents.HeaderRange (ap parse_results is') (writes' line documents.HeaderRange refl)
+        → LeavesNext w w e e' (result_piece form b d) next r
+    by (Line line) is' some' writes' = results line NotAllowed (ap parse_results is') (writes' line NotAllowed refl)
+    by (SubsetCount line) is' some' writes' = results line documents.SubsetCount (ap parse_results is') (writes' line documents.SubsetCount refl)
+    by (HeaderRange line) is' some' writes' = results line documents.HeaderRange (ap parse_results is') (writes' line documents.HeaderRange refl)
     by (Run run) is' some' writes' = absurd (some' run refl)
 
 -- the line of a fault of the text was written
 pub line-written : (w e e' : Option (List ℕ)) (form : Form) (b : List Row) (d : List Sequence) (next : Result (Option Document) ReadFault) (fault : ReadFault)
     → next ≡ Err fault → ((run : RunFault) → fault ≡ Run run → ⊥) → ((line : ℕ) (why : TextLineFault) → parse_results (Err fault) ≡ Refused line why ∷ [] → Appends e e' (refused_line line why))
-    → LeavesNext w w e e' (told_piece form b d) next (Ok (Some verdict.Refused))
+    → LeavesNext w w e e' (result_piece form b d) next (Ok (Some verdict.Refused))
 line-written w e e' form b d next (Line line) is some writes =
-    (Refused line NotAllowed, ap parse_results is, errors-told w e e' (refused_line line NotAllowed) (OnErrors (refused_line line NotAllowed)) refl (writes line NotAllowed refl))
+    (Refused line NotAllowed, ap parse_results is, errors-reported w e e' (refused_line line NotAllowed) (OnErrors (refused_line line NotAllowed)) refl (writes line NotAllowed refl))
 line-written w e e' form b d next (SubsetCount line) is some writes =
-    (Refused line documents.SubsetCount, ap parse_results is, errors-told w e e' (refused_line line documents.SubsetCount) (OnErrors (refused_line line documents.SubsetCount)) refl (writes line documents.SubsetCount refl))
+    (Refused line documents.SubsetCount, ap parse_results is, errors-reported w e e' (refused_line line documents.SubsetCount) (OnErrors (refused_line line documents.SubsetCount)) refl (writes line documents.SubsetCount refl))
 line-written w e e' form b d next (HeaderRange line) is some writes =
-    (Refused line documents.HeaderRange, ap parse_results is, errors-told w e e' (refused_line line documents.HeaderRange) (OnErrors (refused_line line documents.HeaderRange)) refl (writes line documents.HeaderRange refl))
+    (Refused line documents.HeaderRange, ap parse_results is, errors-reported w e e' (refused_line line documents.HeaderRange) (OnErrors (refused_line line documents.HeaderRange)) refl (writes line documents.HeaderRange refl))
 line-written w e e' form b d next (Run run) is some writes = absurd (some run refl)
 
 -- the reading ended
@@ -148,7 +148,7 @@ open-all : (pieces : List Piece) → Open pieces → up_to_refused pieces ≡ pi
 unfolding up_to_refused
 open-all pieces open' = ap up_to_refused (sym (append-nil pieces)) ∙ open' [] ∙ append-nil pieces
 
--- a verdict tells on which writer its piece is
+-- a verdict reports on which writer its piece is
 accepted-open : (pieces : List Piece) (p : Piece) → counted_accepted verdict.Accepted ≡ count_by is_accepted (p ∷ []) → Open pieces → Open (pieces ++ p ∷ [])
 accepted-open pieces (OnOutput text) is open' = open-accepted pieces text open'
 accepted-open pieces (OnErrors text) is open' = absurd (omega (arith, is))
@@ -163,16 +163,16 @@ unfolding up_to_refused
 next-piece (OnOutput text) more = (up_to_refused more, refl)
 next-piece (OnErrors text) more = ([], refl)
 
--- behind the end nothing is read
-nothing-behind : (xs ys : List ℕ) → [] ≡ xs ++ ys → ys ≡ []
-nothing-behind [] ys is = sym is
-nothing-behind (x ∷ xs) ys is = absurd (omega (arith, ap length is))
+-- after the end nothing is read
+nothing-after : (xs ys : List ℕ) → [] ≡ xs ++ ys → ys ≡ []
+nothing-after [] ys is = sym is
+nothing-after (x ∷ xs) ys is = absurd (omega (arith, ap length is))
 
 end-stays : (left mid left' : Option (List ℕ)) (bs more : List ℕ) → Consumes left mid bs → IsAtEnd mid → Consumes mid left' more → Consumes left left' bs
 end-stays None mid left' bs more read end again = tt
 end-stays (Some x) None left' bs more read end again = absurd read
 end-stays (Some x) (Some y) None bs more read end again = absurd again
-end-stays (Some x) (Some y) (Some z) bs more read end again = read ∙ ap (λ l. bs ++ l) (end ∙ sym (nothing-behind more z (sym end ∙ again)))
+end-stays (Some x) (Some y) (Some z) bs more read end again = read ∙ ap (λ l. bs ++ l) (end ∙ sym (nothing-after more z (sym end ∙ again)))
 
 -- what is not refused is accepted
 accepted-else : (v : Verdict) → (v ≡ verdict.Refused → ⊥) → v ≡ verdict.Accepted
@@ -187,15 +187,15 @@ none-else (Some v) none = absurd (none v refl)
 pub falls : (before after n : ℕ) → before < n → after ≡ before + 1 → n - after < n - before
 falls before after n few one = omega (arith, few, one)
 
--- What a run has done so far: all that was told was written, and none of it was refused.
+-- What a run has done so far: all that was reported was written, and none of it was refused.
 pub record EncodedSoFar (form : Form) (b : List Row) (d : List Sequence) (left mid : Option (List ℕ)) (reads reads' : ℕ) (w w' e e' : Option (List ℕ)) (s : ReaderModel) (tally : Tally) : Type 0 where
   pub octets : List ℕ
-  pub told : List ParseResult
-  pub call : ReadsLines left mid new_reader s told octets
+  pub results : List ParseResult
+  pub call : ReadsLines left mid new_reader s results octets
   pub counts : CountsTextReads reads reads' new_reader s
-  pub written : WritesPieces w w' e e' (map (told_piece form b d) told)
-  pub tallies : Tallies tally (map (told_piece form b d) told)
-  pub open' : Open (map (told_piece form b d) told)
+  pub written : WritesPieces w w' e e' (map (result_piece form b d) results)
+  pub tallies : Tallies tally (map (result_piece form b d) results)
+  pub open' : Open (map (result_piece form b d) results)
   pub sound : s.fault ≡ None
 
 -- of a reader that is equal the same was done
@@ -210,7 +210,7 @@ ran-fresh form b d left reads w e s tally is accepted refused =
     let P : ReaderModel → Type 0 = λ x. EncodedSoFar form b d left left reads reads w w e e x tally in
     subst P (sym is) (record {
       octets = [];
-      told = [];
+      results = [];
       call = call-none left new_reader;
       counts = counts-none reads new_reader (omega arith);
       written = Written-nil w e;
@@ -219,24 +219,24 @@ ran-fresh form b d left reads w e s tally is accepted refused =
       sound = refl;
     })
 
--- what a call told that told something
-told-call : (left left' : Option (List ℕ)) (old new : ReaderModel) (next : Result (Option Document) ReadFault) (x : ParseResult) → (so : ReturnsNextDocument left left' old new next) → parse_results next ≡ x ∷ [] → ReadsLines left left' old new (x ∷ []) so.octets
-told-call left left' old new (Ok None) x so is = absurd (omega (arith, ap length is))
-told-call left left' old new (Ok (Some document)) x so is = let C : List ParseResult → Type 0 = λ t. ReadsLines left left' old new t so.octets in subst C is so.reads.0
-told-call left left' old new (Err (Line line)) x so is = let C : List ParseResult → Type 0 = λ t. ReadsLines left left' old new t so.octets in subst C is so.reads
-told-call left left' old new (Err (SubsetCount line)) x so is = let C : List ParseResult → Type 0 = λ t. ReadsLines left left' old new t so.octets in subst C is so.reads
-told-call left left' old new (Err (HeaderRange line)) x so is = let C : List ParseResult → Type 0 = λ t. ReadsLines left left' old new t so.octets in subst C is so.reads
-told-call left left' old new (Err (Run run)) x so is = absurd (omega (arith, ap length is))
+-- what a call reported that reported something
+reported-call : (left left' : Option (List ℕ)) (old new : ReaderModel) (next : Result (Option Document) ReadFault) (x : ParseResult) → (so : ReturnsNextDocument left left' old new next) → parse_results next ≡ x ∷ [] → ReadsLines left left' old new (x ∷ []) so.octets
+reported-call left left' old new (Ok None) x so is = absurd (omega (arith, ap length is))
+reported-call left left' old new (Ok (Some document)) x so is = let C : List ParseResult → Type 0 = λ t. ReadsLines left left' old new t so.octets in subst C is so.reads.0
+reported-call left left' old new (Err (Line line)) x so is = let C : List ParseResult → Type 0 = λ t. ReadsLines left left' old new t so.octets in subst C is so.reads
+reported-call left left' old new (Err (SubsetCount line)) x so is = let C : List ParseResult → Type 0 = λ t. ReadsLines left left' old new t so.octets in subst C is so.reads
+reported-call left left' old new (Err (HeaderRange line)) x so is = let C : List ParseResult → Type 0 = λ t. ReadsLines left left' old new t so.octets in subst C is so.reads
+reported-call left left' old new (Err (Run run)) x so is = absurd (omega (arith, ap length is))
 
-refused-one : (form : Form) (b : List Row) (d : List Sequence) (line : ℕ) (why : TextLineFault) (x : ParseResult) → Refused line why ∷ [] ≡ x ∷ [] → counted_accepted verdict.Accepted ≡ count_by is_accepted (told_piece form b d x ∷ []) → ⊥
+refused-one : (form : Form) (b : List Row) (d : List Sequence) (line : ℕ) (why : TextLineFault) (x : ParseResult) → Refused line why ∷ [] ≡ x ∷ [] → counted_accepted verdict.Accepted ≡ count_by is_accepted (result_piece form b d x ∷ []) → ⊥
 refused-one form b d line why x is one =
-    let P : List ParseResult → Type 0 = λ l. 1 ≡ count_by is_accepted (map (told_piece form b d) l) in
+    let P : List ParseResult → Type 0 = λ l. 1 ≡ count_by is_accepted (map (result_piece form b d) l) in
     let here : 1 ≡ 0 = subst P (sym is) one in
     omega (arith, here)
 
 -- a document that was accepted leaves the reader without a fault
 accepted-sound : (form : Form) (b : List Row) (d : List Sequence) (left left' : Option (List ℕ)) (old new : ReaderModel) (next : Result (Option Document) ReadFault) (x : ParseResult) → ReturnsNextDocument left left' old new next → parse_results next ≡ x ∷ []
-    → counted_accepted verdict.Accepted ≡ count_by is_accepted (told_piece form b d x ∷ []) → new.fault ≡ None
+    → counted_accepted verdict.Accepted ≡ count_by is_accepted (result_piece form b d x ∷ []) → new.fault ≡ None
 accepted-sound form b d left left' old new (Ok None) x so is one = absurd (omega (arith, ap length is))
 accepted-sound form b d left left' old new (Ok (Some document)) x so is one = so.ends
 accepted-sound form b d left left' old new (Err (Line line)) x so is one = absurd (refused-one form b d line NotAllowed x is one)
@@ -257,30 +257,30 @@ Tallies-one tally tally' v pieces p before is accepted refused =
       refused = ap (λ n. n + counted_refused v) before.refused ∙ ap (λ n. count_by is_refused pieces + n) refused ∙ sym (count-append is_refused pieces (p ∷ []));
     })
 
--- what was told and then one more, as pieces
-one-more : (form : Form) (b : List Row) (d : List Sequence) (told : List ParseResult) (x : ParseResult) → map (told_piece form b d) (told ++ x ∷ []) ≡ map (told_piece form b d) told ++ told_piece form b d x ∷ []
-one-more form b d told x = map-append (told_piece form b d) told (x ∷ [])
+-- what was reported and then one more, as pieces
+one-more : (form : Form) (b : List Row) (d : List Sequence) (results : List ParseResult) (x : ParseResult) → map (result_piece form b d) (results ++ x ∷ []) ≡ map (result_piece form b d) results ++ result_piece form b d x ∷ []
+one-more form b d results x = map-append (result_piece form b d) results (x ∷ [])
 
--- what was told is the first of what was read
-read-front : (left left' : Option (List ℕ)) (s : ReaderModel) (told : List ParseResult) (bs : List ℕ) → ReadsLines left left' new_reader s told bs → (more : List ParseResult) × (read_documents s.ended bs ≡ told ++ more)
-read-front left left' s told bs call = by s.ended refl
+-- what was reported is the first of what was read
+read-prefix : (left left' : Option (List ℕ)) (s : ReaderModel) (results : List ParseResult) (bs : List ℕ) → ReadsLines left left' new_reader s results bs → (more : List ParseResult) × (read_documents s.ended bs ≡ results ++ more)
+read-prefix left left' s results bs call = by s.ended refl
   where
-    by : (ended : Bool) → s.ended ≡ ended → (more : List ParseResult) × (read_documents s.ended bs ≡ told ++ more)
-    by true is = let R : Bool → Type 0 = λ x. (more : List ParseResult) × (read_documents x bs ≡ told ++ more) in
-        subst R (sym is) (parse (stand s) [], ap documents_of (sym (append-nil bs)) ∙ told-first left left' s told bs [] call (λ ended. refl))
-    by false is = let R : Bool → Type 0 = λ x. (more : List ParseResult) × (read_documents x bs ≡ told ++ more) in
-        subst R (sym is) (parse_open (stand s) [], ap open_documents_of (sym (append-nil bs)) ∙ told-first-openly left left' s told bs [] call is)
+    by : (ended : Bool) → s.ended ≡ ended → (more : List ParseResult) × (read_documents s.ended bs ≡ results ++ more)
+    by true is = let R : Bool → Type 0 = λ x. (more : List ParseResult) × (read_documents x bs ≡ results ++ more) in
+        subst R (sym is) (parse (position_of s) [], ap documents_of (sym (append-nil bs)) ∙ reported-first left left' s results bs [] call (λ ended. refl))
+    by false is = let R : Bool → Type 0 = λ x. (more : List ParseResult) × (read_documents x bs ≡ results ++ more) in
+        subst R (sym is) (parse_open (position_of s) [], ap open_documents_of (sym (append-nil bs)) ∙ reported-first-openly left left' s results bs [] call is)
 
 -- so many documents are in so many octets
-told-few : (at : ℕ) (t : LineEffect) → length (told_at at t) ≤ 1
-told-few at (WalkGoes place) = omega arith
-told-few at (Gives document) = omega arith
-told-few at (Faults fault) = omega arith
+reported-few : (at : ℕ) (t : LineEffect) → length (reported_at at t) ≤ 1
+reported-few at (WalkGoes place) = omega arith
+reported-few at (Gives document) = omega arith
+reported-few at (Faults fault) = omega arith
 
-end-few : (at : ℕ) (place : ParserState) → length (told_at_end at place) ≤ 1
+end-few : (at : ℕ) (place : ParserState) → length (reported_at_end at place) ≤ 1
 end-few at Between = omega arith
 end-few at (Heading document) = omega arith
-end-few at (Laying part document) = omega arith
+end-few at (BeforeSubsets part document) = omega arith
 end-few at (Filling subset document) = omega arith
 end-few at Stopped = omega arith
 
@@ -289,7 +289,7 @@ unfolding parse_lines
 spelled-few [] at place = end-few at place
 spelled-few (line ∷ more) at place =
     let here = documents.turn at place (line_within_limit line) in
-    omega (arith, told-few at here, spelled-few more (at + 1) (place_after here), length-append (told_at at here) (parse_lines (at + 1) (place_after here) more))
+    omega (arith, reported-few at here, spelled-few more (at + 1) (place_after here), length-append (reported_at at here) (parse_lines (at + 1) (place_after here) more))
 
 onto-few : (c : ℕ) (lines : List (List ℕ)) → length (prepend_to_line c lines) ≤ length lines + 1
 onto-few c [] = omega arith
@@ -319,7 +319,7 @@ counted-all (OnErrors text ∷ more) =
     let r : count_by is_refused (OnErrors text ∷ more) ≡ 1 + count_by is_refused more = count-append is_refused (OnErrors text ∷ []) more in
     omega (arith, a, r, counted-all more)
 
-as-many : (piece : ParseResult → Piece) (told : List ParseResult) → length (map piece told) ≡ length told
+as-many : (piece : ParseResult → Piece) (results : List ParseResult) → length (map piece results) ≡ length results
 as-many piece [] = refl
 as-many piece (x ∷ more) = omega (arith, as-many piece more)
 
@@ -327,15 +327,15 @@ as-many piece (x ∷ more) = omega (arith, as-many piece more)
 pub ran-few : (form : Form) (b : List Row) (d : List Sequence) (left mid : Option (List ℕ)) (reads reads' : ℕ) (w w' e e' : Option (List ℕ)) (s : ReaderModel) (tally : Tally)
     → EncodedSoFar form b d left mid reads reads' w w' e e' s tally → tally.accepted + tally.refused < 2 ^ 63
 ran-few form b d left mid reads reads' w w' e e' s tally ran =
-    let all : documents_of ran.octets ≡ ran.told ++ parse (stand s) [] = ap documents_of (sym (append-nil ran.octets)) ∙ told-first left mid s ran.told ran.octets [] ran.call (λ ended. refl) in
+    let all : documents_of ran.octets ≡ ran.results ++ parse (position_of s) [] = ap documents_of (sym (append-nil ran.octets)) ∙ reported-first left mid s ran.results ran.octets [] ran.call (λ ended. refl) in
     omega (
       arith,
       ran.tallies.accepted,
       ran.tallies.refused,
-      counted-all (map (told_piece form b d) ran.told),
-      as-many (told_piece form b d) ran.told,
+      counted-all (map (result_piece form b d) ran.results),
+      as-many (result_piece form b d) ran.results,
       ap length all,
-      length-append ran.told (parse (stand s) []),
+      length-append ran.results (parse (position_of s) []),
       documents-few ran.octets,
       ran.call.few,
       ran.counts.most,
@@ -344,22 +344,22 @@ ran-few form b d left mid reads reads' w w' e e' s tally ran =
 module _ (form : Form) (b : List Row) (d : List Sequence) (left mid left' : Option (List ℕ)) (reads reads1 reads2 : ℕ) (w w1 e e1 : Option (List ℕ)) (s s' : ReaderModel) (tally : Tally) (next : Result (Option Document) ReadFault)
     (ran : EncodedSoFar form b d left mid reads reads1 w w1 e e1 s tally) (so : ReturnsNextDocument mid left' s s' next) (counts : CountsTextReads reads1 reads2 s s') where
   -- one more document
-  pub turn : (w2 e2 : Option (List ℕ)) (tally' : Tally) → LeavesNext w1 w2 e1 e2 (told_piece form b d) next (Ok (Some verdict.Accepted)) → tally' ≡ tally_after tally verdict.Accepted
+  pub turn : (w2 e2 : Option (List ℕ)) (tally' : Tally) → LeavesNext w1 w2 e1 e2 (result_piece form b d) next (Ok (Some verdict.Accepted)) → tally' ≡ tally_after tally verdict.Accepted
       → EncodedSoFar form b d left left' reads reads2 w w2 e e2 s' tally'
   turn w2 e2 tally' (x, is, (written, accepted, refused)) after =
-      let more = one-more form b d ran.told x in
+      let more = one-more form b d ran.results x in
       let W : List Piece → Type 0 = λ l. WritesPieces w w2 e e2 l in
       let T : List Piece → Type 0 = λ l. Tallies tally' l in
       let O : List Piece → Type 0 = λ l. Open l in
-      let p = told_piece form b d x in
+      let p = result_piece form b d x in
       record {
         octets = ran.octets ++ so.octets;
-        told = ran.told ++ x ∷ [];
-        call = call-then left mid left' new_reader s s' ran.told (x ∷ []) ran.octets so.octets ran.call (told-call mid left' s s' next x so is);
+        results = ran.results ++ x ∷ [];
+        call = call-then left mid left' new_reader s s' ran.results (x ∷ []) ran.octets so.octets ran.call (reported-call mid left' s s' next x so is);
         counts = counts-then reads reads1 reads2 new_reader s s' ran.counts counts;
-        written = subst W (sym more) (Written-then w w1 w2 e e1 e2 (map (told_piece form b d) ran.told) (p ∷ []) ran.written written);
-        tallies = subst T (sym more) (Tallies-one tally tally' verdict.Accepted (map (told_piece form b d) ran.told) p ran.tallies after accepted refused);
-        open' = subst O (sym more) (accepted-open (map (told_piece form b d) ran.told) p accepted ran.open');
+        written = subst W (sym more) (Written-then w w1 w2 e e1 e2 (map (result_piece form b d) ran.results) (p ∷ []) ran.written written);
+        tallies = subst T (sym more) (Tallies-one tally tally' verdict.Accepted (map (result_piece form b d) ran.results) p ran.tallies after accepted refused);
+        open' = subst O (sym more) (accepted-open (map (result_piece form b d) ran.results) p accepted ran.open');
         sound = accepted-sound form b d mid left' s s' next x so is accepted;
       }
 
@@ -369,10 +369,10 @@ module _ (form : Form) (b : List Row) (d : List Sequence) (left mid left' : Opti
       let N : Result (Option Document) ReadFault → Type 0 = λ x. ReadsDocument mid left' s s' x so.octets in
       let E : Result (Option Document) ReadFault → Type 0 = λ x. LeavesReader s' x in
       let bs = ran.octets ++ so.octets in
-      let call = call-then left mid left' new_reader s s' ran.told [] ran.octets so.octets ran.call (subst N is so.reads) in
+      let call = call-then left mid left' new_reader s s' ran.results [] ran.octets so.octets ran.call (subst N is so.reads) in
       let done = (subst E is so.ends).1 in
-      let all : documents_of bs ≡ ran.told = told-at-end left left' s' (ran.told ++ []) bs call done ∙ append-nil ran.told in
-      let pieces : encode_pieces form b d (documents_of bs) ≡ map (told_piece form b d) ran.told = ap (encode_pieces form b d) all ∙ open-all (map (told_piece form b d) ran.told) ran.open' in
+      let all : documents_of bs ≡ ran.results = reported-at-end left left' s' (ran.results ++ []) bs call done ∙ append-nil ran.results in
+      let pieces : encode_pieces form b d (documents_of bs) ≡ map (result_piece form b d) ran.results = ap (encode_pieces form b d) all ∙ open-all (map (result_piece form b d) ran.results) ran.open' in
       record {
         read = call.read;
         ended = true;
@@ -387,23 +387,23 @@ module _ (form : Form) (b : List Row) (d : List Sequence) (left mid left' : Opti
       }
 
   -- a document was refused
-  pub done-refused : (w2 e2 : Option (List ℕ)) (tally' : Tally) → LeavesNext w1 w2 e1 e2 (told_piece form b d) next (Ok (Some verdict.Refused)) → tally' ≡ tally_after tally verdict.Refused
+  pub done-refused : (w2 e2 : Option (List ℕ)) (tally' : Tally) → LeavesNext w1 w2 e1 e2 (result_piece form b d) next (Ok (Some verdict.Refused)) → tally' ≡ tally_after tally verdict.Refused
       → EncodeDone (encode_pieces form b d) left left' w w2 e e2 (ran.octets ++ so.octets) tally'
   done-refused w2 e2 tally' (x, is, (written, accepted, refused)) after =
       let bs = ran.octets ++ so.octets in
-      let call = call-then left mid left' new_reader s s' ran.told (x ∷ []) ran.octets so.octets ran.call (told-call mid left' s s' next x so is) in
-      let p = told_piece form b d x in
-      let before = map (told_piece form b d) ran.told in
+      let call = call-then left mid left' new_reader s s' ran.results (x ∷ []) ran.octets so.octets ran.call (reported-call mid left' s s' next x so is) in
+      let p = result_piece form b d x in
+      let before = map (result_piece form b d) ran.results in
       let closed = refused-closed before p accepted ran.open' in
       let pieces : (t : List ℕ) → (s'.ended ≡ true → t ≡ []) → encode_pieces form b d (documents_of (bs ++ t)) ≡ before ++ p ∷ [] = λ t none.
-      ap (encode_pieces form b d) (told-first left left' s' (ran.told ++ x ∷ []) bs t call none)
-      ∙ ap up_to_refused (map-append (told_piece form b d) (ran.told ++ x ∷ []) (parse (stand s') t) ∙ ap (λ l. l ++ map (told_piece form b d) (parse (stand s') t)) (one-more form b d ran.told x))
-      ∙ closed (map (told_piece form b d) (parse (stand s') t)) in
-      let front = read-front left left' s' (ran.told ++ x ∷ []) bs call in
+      ap (encode_pieces form b d) (reported-first left left' s' (ran.results ++ x ∷ []) bs t call none)
+      ∙ ap up_to_refused (map-append (result_piece form b d) (ran.results ++ x ∷ []) (parse (position_of s') t) ∙ ap (λ l. l ++ map (result_piece form b d) (parse (position_of s') t)) (one-more form b d ran.results x))
+      ∙ closed (map (result_piece form b d) (parse (position_of s') t)) in
+      let prefix = read-prefix left left' s' (ran.results ++ x ∷ []) bs call in
       let known : encode_pieces form b d (read_documents s'.ended bs) ≡ before ++ p ∷ [] =
-      ap (encode_pieces form b d) front.1
-      ∙ ap up_to_refused (map-append (told_piece form b d) (ran.told ++ x ∷ []) front.0 ∙ ap (λ l. l ++ map (told_piece form b d) front.0) (one-more form b d ran.told x))
-      ∙ closed (map (told_piece form b d) front.0) in
+      ap (encode_pieces form b d) prefix.1
+      ∙ ap up_to_refused (map-append (result_piece form b d) (ran.results ++ x ∷ []) prefix.0 ∙ ap (λ l. l ++ map (result_piece form b d) prefix.0) (one-more form b d ran.results x))
+      ∙ closed (map (result_piece form b d) prefix.0) in
       let W : List Piece → Type 0 = λ l. WritesPieces w w2 e e2 l in
       let T : List Piece → Type 0 = λ l. Tallies tally' l in
       let all = Written-then w w1 w2 e e1 e2 before (p ∷ []) ran.written written in
@@ -416,53 +416,53 @@ module _ (form : Form) (b : List Row) (d : List Sequence) (left mid left' : Opti
         tallies = λ t none. subst T (sym (pieces t none)) (Tallies-one tally tally' verdict.Refused before p ran.tallies after accepted refused);
       }
 
-  -- the end of the text, told by an answer
-  pub done-last : (w2 e2 : Option (List ℕ)) (write_event : Result (Option Verdict) RunFault) → LeavesNext w1 w2 e1 e2 (told_piece form b d) next write_event → write_event ≡ Ok None
+  -- the end of the text, reported by an answer
+  pub done-last : (w2 e2 : Option (List ℕ)) (write_event : Result (Option Verdict) RunFault) → LeavesNext w1 w2 e1 e2 (result_piece form b d) next write_event → write_event ≡ Ok None
       → (bs : List ℕ) × EncodeDone (encode_pieces form b d) left left' w w2 e e2 bs tally
-  done-last w2 e2 write_event tells is =
-      let T : Result (Option Verdict) RunFault → Type 0 = λ x. LeavesNext w1 w2 e1 e2 (told_piece form b d) next x in
-      let end = subst T is tells in
+  done-last w2 e2 write_event reports is =
+      let T : Result (Option Verdict) RunFault → Type 0 = λ x. LeavesNext w1 w2 e1 e2 (result_piece form b d) next x in
+      let end = subst T is reports in
       let W : Option (List ℕ) → Type 0 = λ x. EncodeDone (encode_pieces form b d) left left' w x e e1 (ran.octets ++ so.octets) tally in
       let E : Option (List ℕ) → Type 0 = λ x. EncodeDone (encode_pieces form b d) left left' w w2 e x (ran.octets ++ so.octets) tally in
       (ran.octets ++ so.octets, subst E (sym end.2) (subst W (sym end.1) (done-end end.0)))
 
-  -- a document was refused, told by an answer
-  pub done-at-refused : (w2 e2 : Option (List ℕ)) (write_event : Result (Option Verdict) RunFault) (v : Verdict) (tally' : Tally) → LeavesNext w1 w2 e1 e2 (told_piece form b d) next write_event → write_event ≡ Ok (Some v) → v ≡ verdict.Refused
+  -- a document was refused, reported by an answer
+  pub done-at-refused : (w2 e2 : Option (List ℕ)) (write_event : Result (Option Verdict) RunFault) (v : Verdict) (tally' : Tally) → LeavesNext w1 w2 e1 e2 (result_piece form b d) next write_event → write_event ≡ Ok (Some v) → v ≡ verdict.Refused
       → tally' ≡ tally_after tally v → (bs : List ℕ) × EncodeDone (encode_pieces form b d) left left' w w2 e e2 bs tally'
-  done-at-refused w2 e2 write_event v tally' tells is refused after =
-      let T : Result (Option Verdict) RunFault → Type 0 = λ x. LeavesNext w1 w2 e1 e2 (told_piece form b d) next x in
-      (ran.octets ++ so.octets, done-refused w2 e2 tally' (subst T (is ∙ ap (λ (x : Verdict). Ok (Some x)) refused) tells) (after ∙ ap (tally_after tally) refused))
+  done-at-refused w2 e2 write_event v tally' reports is refused after =
+      let T : Result (Option Verdict) RunFault → Type 0 = λ x. LeavesNext w1 w2 e1 e2 (result_piece form b d) next x in
+      (ran.octets ++ so.octets, done-refused w2 e2 tally' (subst T (is ∙ ap (λ (x : Verdict). Ok (Some x)) refused) reports) (after ∙ ap (tally_after tally) refused))
 
-  -- one more document, told by an answer
-  pub turn-on : (w2 e2 : Option (List ℕ)) (write_event : Result (Option Verdict) RunFault) (v : Verdict) (tally' : Tally) → LeavesNext w1 w2 e1 e2 (told_piece form b d) next write_event → write_event ≡ Ok (Some v) → (v ≡ verdict.Refused → ⊥)
+  -- one more document, reported by an answer
+  pub turn-on : (w2 e2 : Option (List ℕ)) (write_event : Result (Option Verdict) RunFault) (v : Verdict) (tally' : Tally) → LeavesNext w1 w2 e1 e2 (result_piece form b d) next write_event → write_event ≡ Ok (Some v) → (v ≡ verdict.Refused → ⊥)
       → tally' ≡ tally_after tally v → EncodedSoFar form b d left left' reads reads2 w w2 e e2 s' tally'
-  turn-on w2 e2 write_event v tally' tells is some after =
-      let T : Result (Option Verdict) RunFault → Type 0 = λ x. LeavesNext w1 w2 e1 e2 (told_piece form b d) next x in
+  turn-on w2 e2 write_event v tally' reports is some after =
+      let T : Result (Option Verdict) RunFault → Type 0 = λ x. LeavesNext w1 w2 e1 e2 (result_piece form b d) next x in
       let accepted = accepted-else v some in
-      turn w2 e2 tally' (subst T (is ∙ ap (λ (x : Verdict). Ok (Some x)) accepted) tells) (after ∙ ap (tally_after tally) accepted)
+      turn w2 e2 tally' (subst T (is ∙ ap (λ (x : Verdict). Ok (Some x)) accepted) reports) (after ∙ ap (tally_after tally) accepted)
 
-  stops-read : (w2 e2 : Option (List ℕ)) → (w2 ≡ w1) → (e2 ≡ e1) → ReadsLines left left' new_reader s' (ran.told ++ []) (ran.octets ++ so.octets) → HasNoWholeLine s' → EncodeStopped (encode_pieces form b d) left left' w w2 e e2 (ran.octets ++ so.octets)
+  stops-read : (w2 e2 : Option (List ℕ)) → (w2 ≡ w1) → (e2 ≡ e1) → ReadsLines left left' new_reader s' (ran.results ++ []) (ran.octets ++ so.octets) → HasNoWholeLine s' → EncodeStopped (encode_pieces form b d) left left' w w2 e e2 (ran.octets ++ so.octets)
   stops-read w2 e2 same_w same_e call open' =
       let bs = ran.octets ++ so.octets in
-      let all : open_documents_of bs ≡ ran.told = told-at-fault left left' s' (ran.told ++ []) bs call open' ∙ append-nil ran.told in
-      let pieces : encode_pieces form b d (open_documents_of bs) ≡ map (told_piece form b d) ran.told = ap (encode_pieces form b d) all ∙ open-all (map (told_piece form b d) ran.told) ran.open' in
+      let all : open_documents_of bs ≡ ran.results = reported-at-fault left left' s' (ran.results ++ []) bs call open' ∙ append-nil ran.results in
+      let pieces : encode_pieces form b d (open_documents_of bs) ≡ map (result_piece form b d) ran.results = ap (encode_pieces form b d) all ∙ open-all (map (result_piece form b d) ran.results) ran.open' in
       let V : Option (List ℕ) → Option (List ℕ) → List Piece → Type 0 = λ x y l. WritesPieces w x e y l in
       record {
         read = call.read;
         written = rw (same_w, same_e) (subst (V w1 e1) (sym pieces) ran.written);
-        accepted = ap (count_by is_refused) pieces ∙ open-accepts (map (told_piece form b d) ran.told) ran.open';
+        accepted = ap (count_by is_refused) pieces ∙ open-accepts (map (result_piece form b d) ran.results) ran.open';
       }
 
-  -- a writer failed, or memory was refused, in the piece of what was told
-  stops-piece : (w2 e2 : Option (List ℕ)) (f : RunFault) (x : ParseResult) → parse_results next ≡ x ∷ [] → LeavesPieces w1 w2 e1 e2 (told_piece form b d x ∷ []) (Err f)
+  -- a writer failed, or memory was refused, in the piece of what was reported
+  stops-piece : (w2 e2 : Option (List ℕ)) (f : RunFault) (x : ParseResult) → parse_results next ≡ x ∷ [] → LeavesPieces w1 w2 e1 e2 (result_piece form b d x ∷ []) (Err f)
       → LeavesDocuments (encode_pieces form b d) left left' w w2 e e2 (Unit {0}) (ran.octets ++ so.octets) (Err Memory)
-  stops-piece w2 e2 f x is tells =
+  stops-piece w2 e2 f x is reports =
       let bs = ran.octets ++ so.octets in
-      let call = call-then left mid left' new_reader s s' ran.told (x ∷ []) ran.octets so.octets ran.call (told-call mid left' s s' next x so is) in
-      let before = map (told_piece form b d) ran.told in
-      let p = told_piece form b d x in
-      let front = read-front left left' s' (ran.told ++ x ∷ []) bs call in
-      let tail = map (told_piece form b d) front.0 in
+      let call = call-then left mid left' new_reader s s' ran.results (x ∷ []) ran.octets so.octets ran.call (reported-call mid left' s s' next x so is) in
+      let before = map (result_piece form b d) ran.results in
+      let p = result_piece form b d x in
+      let prefix = read-prefix left left' s' (ran.results ++ x ∷ []) bs call in
+      let tail = map (result_piece form b d) prefix.0 in
       let following = next-piece p tail in (
         record {
           read = call.read;
@@ -472,14 +472,14 @@ module _ (form : Form) (b : List Row) (d : List Sequence) (left mid left' : Opti
             given = before;
             next = Some p;
             rest = following.0;
-            parts = ap (encode_pieces form b d) front.1
-                ∙ ap up_to_refused (map-append (told_piece form b d) (ran.told ++ x ∷ []) front.0 ∙ ap (λ l. l ++ tail) (one-more form b d ran.told x) ∙ append_assoc before (p ∷ []) tail)
+            parts = ap (encode_pieces form b d) prefix.1
+                ∙ ap up_to_refused (map-append (result_piece form b d) (ran.results ++ x ∷ []) prefix.0 ∙ ap (λ l. l ++ tail) (one-more form b d ran.results x) ∙ append_assoc before (p ∷ []) tail)
                 ∙ ran.open' (p ∷ tail) ∙ ap (λ l. before ++ l) following.1;
             between_output = w1;
             between_errors = e1;
             whole = ran.written;
-            output = tells.0;
-            errors = tells.1;
+            output = reports.0;
+            errors = reports.1;
           };
           flushed = λ not. absurd (not tt);
         },
@@ -491,23 +491,23 @@ module _ (form : Form) (b : List Row) (d : List Sequence) (left mid left' : Opti
     again : Consumes mid left' so.octets
     again = let N : Result (Option Document) ReadFault → Type 0 = λ x. ReadsDocument mid left' s s' x so.octets in (subst N is so.reads).0
 
-    -- the pieces of all that was told stand before those of what is known beyond
-    told-part : (all more : List ParseResult) → all ≡ ran.told ++ more → (part : WrittenInPart w w2 e e2 (encode_pieces form b d all)) × (count_by is_refused part.given ≡ 0)
-    told-part all more parts =
+    -- the pieces of all that was reported are before those of what is known beyond
+    reported-part : (all more : List ParseResult) → all ≡ ran.results ++ more → (part : WrittenInPart w w2 e e2 (encode_pieces form b d all)) × (count_by is_refused part.given ≡ 0)
+    reported-part all more parts =
         let G : Option (List ℕ) → Type 0 = λ x. GrowsByPrefix w1 x [] in
         let H : Option (List ℕ) → Type 0 = λ x. GrowsByPrefix e1 x [] in (
           record {
-            given = map (told_piece form b d) ran.told;
+            given = map (result_piece form b d) ran.results;
             next = None;
-            rest = up_to_refused (map (told_piece form b d) more);
-            parts = ap (encode_pieces form b d) parts ∙ ap up_to_refused (map-append (told_piece form b d) ran.told more) ∙ ran.open' (map (told_piece form b d) more);
+            rest = up_to_refused (map (result_piece form b d) more);
+            parts = ap (encode_pieces form b d) parts ∙ ap up_to_refused (map-append (result_piece form b d) ran.results more) ∙ ran.open' (map (result_piece form b d) more);
             between_output = w1;
             between_errors = e1;
             whole = ran.written;
             output = subst G (sym same_w) (grows-nil w1);
             errors = subst H (sym same_e) (grows-nil e1);
           },
-          open-accepts (map (told_piece form b d) ran.told) ran.open',
+          open-accepts (map (result_piece form b d) ran.results) ran.open',
         )
 
     pub stops-memory : (bs : List ℕ) × LeavesDocuments (encode_pieces form b d) left left' w w2 e e2 (Unit {0}) bs (Err Memory)
@@ -516,7 +516,7 @@ module _ (form : Form) (b : List Row) (d : List Sequence) (left mid left' : Opti
         by : (ended : Bool) → s.ended ≡ ended → (bs : List ℕ) × LeavesDocuments (encode_pieces form b d) left left' w w2 e e2 (Unit {0}) bs (Err Memory)
         by true ended =
             let end = ran.call.end (λ start. absurd (false≢true start)) ended in
-            let part = told-part (documents_of ran.octets) (parse (stand s) []) (ap documents_of (sym (append-nil ran.octets)) ∙ told-first left mid s ran.told ran.octets [] ran.call (λ _. refl)) in (
+            let part = reported-part (documents_of ran.octets) (parse (position_of s) []) (ap documents_of (sym (append-nil ran.octets)) ∙ reported-first left mid s ran.results ran.octets [] ran.call (λ _. refl)) in (
               ran.octets,
               (
                 record {
@@ -530,7 +530,7 @@ module _ (form : Form) (b : List Row) (d : List Sequence) (left mid left' : Opti
               ),
             )
         by false unended =
-            let part = told-part (open_documents_of (ran.octets ++ so.octets)) (parse_open (stand s) so.octets) (told-first-openly left mid s ran.told ran.octets so.octets ran.call unended) in (
+            let part = reported-part (open_documents_of (ran.octets ++ so.octets)) (parse_open (position_of s) so.octets) (reported-first-openly left mid s ran.results ran.octets so.octets ran.call unended) in (
               ran.octets ++ so.octets,
               (
                 record {
@@ -545,12 +545,12 @@ module _ (form : Form) (b : List Row) (d : List Sequence) (left mid left' : Opti
             )
 
   -- the run was stopped
-  pub stops : (w2 e2 : Option (List ℕ)) (write_event : Result (Option Verdict) RunFault) (f : RunFault) (r : Result Tally RunFault) → LeavesNext w1 w2 e1 e2 (told_piece form b d) next write_event → write_event ≡ Err f → r ≡ Err f
+  pub stops : (w2 e2 : Option (List ℕ)) (write_event : Result (Option Verdict) RunFault) (f : RunFault) (r : Result Tally RunFault) → LeavesNext w1 w2 e1 e2 (result_piece form b d) next write_event → write_event ≡ Err f → r ≡ Err f
       → (bs : List ℕ) × LeavesDocuments (encode_pieces form b d) left left' w w2 e e2 (Unit {0}) bs r
-  stops w2 e2 write_event f r tells fails same =
+  stops w2 e2 write_event f r reports fails same =
       let P : Result Tally RunFault → Type 0 = λ x. (bs : List ℕ) × LeavesDocuments (encode_pieces form b d) left left' w w2 e e2 (Unit {0}) bs x in
-      let T : Result (Option Verdict) RunFault → Type 0 = λ x. LeavesNext w1 w2 e1 e2 (told_piece form b d) next x in
-      subst P (sym same) (by f (subst T fails tells))
+      let T : Result (Option Verdict) RunFault → Type 0 = λ x. LeavesNext w1 w2 e1 e2 (result_piece form b d) next x in
+      subst P (sym same) (by f (subst T fails reports))
     where
       reads-so : (g : RunFault) → next ≡ Err (Run g) → ReadsDocument mid left' s s' (Err (Run g)) so.octets
       reads-so g is = let N : Result (Option Document) ReadFault → Type 0 = λ x. ReadsDocument mid left' s s' x so.octets in subst N is so.reads
@@ -558,18 +558,18 @@ module _ (form : Form) (b : List Row) (d : List Sequence) (left mid left' : Opti
       ends-so : (g : RunFault) → next ≡ Err (Run g) → LeavesReader s' (Err (Run g))
       ends-so g is = let E : Result (Option Document) ReadFault → Type 0 = λ x. LeavesReader s' x in subst E is so.ends
 
-      by : (g : RunFault) → LeavesNext w1 w2 e1 e2 (told_piece form b d) next (Err g) → (bs : List ℕ) × LeavesDocuments (encode_pieces form b d) left left' w w2 e e2 (Unit {0}) bs (Err g)
+      by : (g : RunFault) → LeavesNext w1 w2 e1 e2 (result_piece form b d) next (Err g) → (bs : List ℕ) × LeavesDocuments (encode_pieces form b d) left left' w w2 e e2 (Unit {0}) bs (Err g)
       by Read (is, same_w, same_e) = (
         ran.octets ++ so.octets,
-        stops-read w2 e2 same_w same_e (call-then left mid left' new_reader s s' ran.told [] ran.octets so.octets ran.call (reads-so Read is)) (ends-so Read is).1,
+        stops-read w2 e2 same_w same_e (call-then left mid left' new_reader s s' ran.results [] ran.octets so.octets ran.call (reads-so Read is)) (ends-so Read is).1,
       )
       by InputTooLong (is, same_w, same_e) = (
         ran.octets ++ so.octets,
-        stops-read w2 e2 same_w same_e (call-then left mid left' new_reader s s' ran.told [] ran.octets so.octets ran.call (reads-so InputTooLong is)) (ends-so InputTooLong is).1,
+        stops-read w2 e2 same_w same_e (call-then left mid left' new_reader s s' ran.results [] ran.octets so.octets ran.call (reads-so InputTooLong is)) (ends-so InputTooLong is).1,
       )
-      by Write (x, is, tells') = (ran.octets ++ so.octets, (stops-piece w2 e2 Write x is tells').0)
+      by Write (x, is, reports') = (ran.octets ++ so.octets, (stops-piece w2 e2 Write x is reports').0)
       by Memory (inl (is, same_w, same_e)) = stops-memory w2 e2 same_w same_e is
-      by Memory (inr (x, is, tells')) = (ran.octets ++ so.octets, stops-piece w2 e2 Memory x is tells')
+      by Memory (inr (x, is, reports')) = (ran.octets ++ so.octets, stops-piece w2 e2 Memory x is reports')
 
 -- the reads of a run
 pub reads-made : {X : Type 0} (reads reads' : ℕ) (s : ReaderModel) (r : Result X RunFault) → CountsTextReads reads reads' new_reader s → (r ≡ Err InputTooLong → s.reads ≡ max_reads) → ReadsAtMost reads reads' r
@@ -580,44 +580,44 @@ reads-made reads reads' s r counts long =
 -- a run that is stopped because its input is too long made all reads
 pub stop-reads : (left left' : Option (List ℕ)) (s s' : ReaderModel) (w w' e e' : Option (List ℕ)) (piece : ParseResult → Piece) (next : Result (Option Document) ReadFault) (write_event : Result (Option Verdict) RunFault) (f : RunFault) (r : Result Tally RunFault)
     → ReturnsNextDocument left left' s s' next → LeavesNext w w' e e' piece next write_event → write_event ≡ Err f → r ≡ Err f → r ≡ Err InputTooLong → s'.reads ≡ max_reads
-stop-reads left left' s s' w w' e e' piece next write_event f r so tells fails same long =
+stop-reads left left' s s' w w' e e' piece next write_event f r so reports fails same long =
     let T : Result (Option Verdict) RunFault → Type 0 = λ x. LeavesNext w w' e e' piece next x in
     let E : Result (Option Document) ReadFault → Type 0 = λ x. LeavesReader s' x in
     let long' : write_event ≡ Err InputTooLong = cc in
-    let stopped = subst T long' tells in
+    let stopped = subst T long' reports in
     (subst E stopped.0 so.ends).2
 
--- what tells something is no failure of the reader
-told-keeps : (count : ℕ) (next : Result (Option Document) ReadFault) (x : ParseResult) → parse_results next ≡ x ∷ [] → failures_by count next ≡ count
-told-keeps count (Ok None) x is = refl
-told-keeps count (Ok (Some document)) x is = refl
-told-keeps count (Err (Line line)) x is = refl
-told-keeps count (Err (SubsetCount line)) x is = refl
-told-keeps count (Err (HeaderRange line)) x is = refl
-told-keeps count (Err (Run run)) x is = absurd (omega (arith, ap length is))
+-- what reports something is no failure of the reader
+reported-keeps : (count : ℕ) (next : Result (Option Document) ReadFault) (x : ParseResult) → parse_results next ≡ x ∷ [] → failures_by count next ≡ count
+reported-keeps count (Ok None) x is = refl
+reported-keeps count (Ok (Some document)) x is = refl
+reported-keeps count (Err (Line line)) x is = refl
+reported-keeps count (Err (SubsetCount line)) x is = refl
+reported-keeps count (Err (HeaderRange line)) x is = refl
+reported-keeps count (Err (Run run)) x is = absurd (omega (arith, ap length is))
 
--- the failures of the reader, where a document or a line was told
+-- the failures of the reader, where a document or a line was reported
 pub verdict-keeps : (w w' e e' : Option (List ℕ)) (piece : ParseResult → Piece) (count : ℕ) (next : Result (Option Document) ReadFault) (write_event : Result (Option Verdict) RunFault) (v : Verdict)
     → LeavesNext w w' e e' piece next write_event → write_event ≡ Ok (Some v) → failures_by count next ≡ count
-verdict-keeps w w' e e' piece count next write_event v tells is =
+verdict-keeps w w' e e' piece count next write_event v reports is =
     let T : Result (Option Verdict) RunFault → Type 0 = λ x. LeavesNext w w' e e' piece next x in
-    let here = subst T is tells in
-    told-keeps count next here.0 here.1
+    let here = subst T is reports in
+    reported-keeps count next here.0 here.1
 
 -- the failures of the reader, where the run was stopped
 pub stop-failures : (w w' e e' : Option (List ℕ)) (piece : ParseResult → Piece) (next : Result (Option Document) ReadFault) (write_event : Result (Option Verdict) RunFault) (f : RunFault) (r : Result Tally RunFault) (before after : ℕ)
     → LeavesNext w w' e e' piece next write_event → write_event ≡ Err f → r ≡ Err f → after ≡ failures_by before next → after ≡ read_failures_after before r
-stop-failures w w' e e' piece next write_event f r before after tells fails same is =
+stop-failures w w' e e' piece next write_event f r before after reports fails same is =
     let P : Result Tally RunFault → Type 0 = λ x. after ≡ read_failures_after before x in
     let T : Result (Option Verdict) RunFault → Type 0 = λ x. LeavesNext w w' e e' piece next x in
-    subst P (sym same) (by f (subst T fails tells))
+    subst P (sym same) (by f (subst T fails reports))
   where
     by : (g : RunFault) → LeavesNext w w' e e' piece next (Err g) → after ≡ read_failures_after {X = Tally} before (Err g)
     by Read (stopped, _, _) = is ∙ ap (failures_by before) stopped
     by InputTooLong (stopped, _, _) = is ∙ ap (failures_by before) stopped
-    by Write (x, one, _) = is ∙ told-keeps before next x one
+    by Write (x, one, _) = is ∙ reported-keeps before next x one
     by Memory (inl (stopped, _, _)) = is ∙ ap (failures_by before) stopped
-    by Memory (inr (x, one, _)) = is ∙ told-keeps before next x one
+    by Memory (inr (x, one, _)) = is ∙ reported-keeps before next x one
 
 -- a fault before the flushes
 pub stays-unflushed : (pieces_of : List ParseResult → List Piece) (left left' w w' e e' : Option (List ℕ)) (unflushed : Type 0) → unflushed → (first : Result Tally RunFault) (f : RunFault) (r : Result Tally RunFault) → first ≡ Err f → r ≡ Err f

@@ -83,7 +83,7 @@ edition-3-line : ls_pieces edition_3 ≡ OnOutput (codes "offset=0 length=46 edi
 unfolding scan_from sections_of section_end digits
 edition-3-line = refl
 
--- a stray word in front, and another edition in front
+-- a stray word first, and another edition first
 -- rule: one-fault-a-message
 stray-listed : ls_pieces (codes "BUFR" ++ 0 ∷ 0 ∷ 64 ∷ 4 ∷ (slice_set one_block_number 7 2 ++ 0 ∷ 0 ∷ 0 ∷ 0 ∷ 0 ∷ 0 ∷ 0 ∷ 0 ∷ [])) ≡ OnErrors (codes "offset 0: 3 no end\n") ∷ OnErrors (codes "offset 8: 10 edition 2\n") ∷ []
 unfolding scan_from sections_of section_end digits

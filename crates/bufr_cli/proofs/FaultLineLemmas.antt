@@ -4,7 +4,7 @@ use Rattle.std.specs.Prelude.{IfSome, Result}
 use Rattle.bufr_frame.specs.declared.fault.RunFault.{RunFault}
 use Rattle.bufr_text.specs.Documents.{ParseResult, Complete, Refused, TextLineFault}
 use Rattle.bufr_text.specs.Encoding.{RefusedAt}
-use Rattle.bufr_text.specs.EncodingFault.{number_of_walk_refusal, walk_told}
+use Rattle.bufr_text.specs.EncodingFault.{number_of_walk_refusal, walk_report}
 use Rattle.bufr_text.specs.Lines.{LineModel, Pushes}
 use Rattle.bufr_text.specs.Reader.{parse_results}
 use Rattle.bufr_text.specs.Writing.{GrowsByPrefix, Writes, joined}
@@ -28,7 +28,7 @@ line_pushed word place number text first second third = joined_then (place_texts
 
 -- the line of a walk that is refused
 pub walk_line : (place : ℕ) (refusal : WalkRefusal) (fxy : ℕ) → (refusal ≡ walk.Width fxy) ⊎ ((refusal ≡ walk.Defining fxy) ⊎ (refusal ≡ walk.TooManyValues fxy))
-    → document_line place 62 (walk_text (number_of_walk_refusal refusal) fxy) ≡ item_fault_line place (walk_told refusal)
+    → document_line place 62 (walk_text (number_of_walk_refusal refusal) fxy) ≡ item_fault_line place (walk_report refusal)
 walk_line place refusal fxy (inl is) = rw is refl
 walk_line place refusal fxy (inr (inl is)) = rw is refl
 walk_line place refusal fxy (inr (inr is)) = rw is refl
@@ -63,5 +63,5 @@ module _ {X : Type 0} (old new : Option (List ℕ)) (r : Result X RunFault) wher
   prefix_written {text = text} writes = at r writes
     where
       at : (r : Result X RunFault) → Writes old new text r → GrowsByPrefix old new text
-      at (Ok x) writes = record { front = text; back = []; parts = sym (append-nil text); gains = writes }
+      at (Ok x) writes = record { prefix = text; back = []; parts = sym (append-nil text); gains = writes }
       at (Err fault) writes = writes.1

@@ -6,7 +6,7 @@ use Rattle.clap.specs.Values.{kind_of}
 use Rattle.clap.specs.declared.error.Error.{Error}
 use Rattle.clap.specs.declared.error.kind.ErrorKind.{ErrorKind}
 use Rattle.clap.specs.declared.error.kind.ErrorKind.TheVariants.{DisplayHelp, DisplayVersion, OutOfMemory}
-use Rattle.bufr_cli.specs.Line.{HasNoJob, HasTables, IsWhyNoJob, SaysWhy, TellsKind, name_of}
+use Rattle.bufr_cli.specs.Line.{HasNoJob, HasTables, IsWhyNoJob, SaysWhy, ReportsKind, name_of}
 use Rattle.bufr_cli.specs.declared.job.NoJob.{NoJob}
 use Rattle.bufr_cli.specs.declared.job.NoJob.TheVariants.{UnknownCommand, MissingTable, UnknownForm}
 use Rattle.bufr_cli.specs.declared.job.Subcommand.{Subcommand}
@@ -29,7 +29,7 @@ no-some {A} x same =
     IsThere None = ⊥
     IsThere (Some y) = Unit {0}
 
--- what tells the names of the commands apart
+-- what distinguishes the names of the commands
 abbrev HasThreeLetters : Text → Type 0
 HasThreeLetters (a ∷ b ∷ c ∷ rest) = Unit {0}
 HasThreeLetters _ = ⊥
@@ -69,11 +69,11 @@ not-shown : (k : ErrorKind) {kind : ErrorKind} → kind ≡ k → kind ≡ OutOf
 not-shown k shown memory is = subst IsShown memory (subst IsShown (sym shown) is)
 
 -- what an error of clap says of the line
-pub told-why : (kinds : Kinds) (e : Error) (met : Option (Text × List Row)) (fault : LineFault) → HasKind kinds e → TellsKind (kind_of e) fault → SaysWhy kinds met fault
-told-why kinds e met (Help text) (inl memory) (inl shown) = absurd (not-shown DisplayHelp shown memory tt)
-told-why kinds e met (Help text) (inl memory) (inr shown) = absurd (not-shown DisplayVersion shown memory tt)
-told-why kinds e met (Help text) (inr among) (inl shown) = inl (subst (λ kind. IsAmong kind kinds) shown among)
-told-why kinds e met (Help text) (inr among) (inr shown) = inr (subst (λ kind. IsAmong kind kinds) shown among)
-told-why kinds e met (Usage text) (inl memory) told = absurd (told.0 memory)
-told-why kinds e met (Usage text) (inr among) told = inl (kind_of e, among, told.1, told.2)
-told-why kinds e met Memory has told = tt
+pub reported-why : (kinds : Kinds) (e : Error) (met : Option (Text × List Row)) (fault : LineFault) → HasKind kinds e → ReportsKind (kind_of e) fault → SaysWhy kinds met fault
+reported-why kinds e met (Help text) (inl memory) (inl shown) = absurd (not-shown DisplayHelp shown memory tt)
+reported-why kinds e met (Help text) (inl memory) (inr shown) = absurd (not-shown DisplayVersion shown memory tt)
+reported-why kinds e met (Help text) (inr among) (inl shown) = inl (subst (λ kind. IsAmong kind kinds) shown among)
+reported-why kinds e met (Help text) (inr among) (inr shown) = inr (subst (λ kind. IsAmong kind kinds) shown among)
+reported-why kinds e met (Usage text) (inl memory) results = absurd (results.0 memory)
+reported-why kinds e met (Usage text) (inr among) results = inl (kind_of e, among, results.1, results.2)
+reported-why kinds e met Memory has results = tt

@@ -30,7 +30,7 @@ use Rattle.bufr_text.proofs.LawLemmas.{text-spells}
 use Rattle.bufr_text.proofs.RowsLemmas.{rows-read, good-rows}
 use Rattle.bufr_cli.specs.DumpPieces.{IsDataPiece, IsTemplatePiece, IsMessagePiece, IsDumpPiece, dump_text}
 use Rattle.bufr_text.specs.declared.form.Form.TheVariants.{AsWritten}
-use Rattle.bufr_cli.specs.EncodePieces.{encoded, told_piece, up_to_refused}
+use Rattle.bufr_cli.specs.EncodePieces.{encoded, result_piece, up_to_refused}
 use Rattle.bufr_cli.specs.Pieces.{Piece, OnOutput, OnErrors, output_of, errors_of, is_accepted, is_refused}
 use Rattle.bufr_cli.specs.RoundTrip.{accepted_in, accepted_messages, dump_pieces, dumped, longer_by, event_octets, rebuilding, rebuilt, text_pieces, IsBuiltAgain, IsWholeRound, IsCanonicalMessage, RoundTrips, Written}
 use Rattle.bufr_cli.specs.Devices.{holding}
@@ -141,7 +141,7 @@ event-kind : (b : List Row) (d : List Sequence) (here : StreamEvent) (p : Piece)
 event-kind b d (FrameAt offset m) p small so = message-kind b d offset m small (sections_of m) p refl so
 event-kind b d (StrayAt offset cause) p small so = inl (_, so)
 
--- the piece of an accepted message is its dump text, wherever it stands
+-- the piece of an accepted message is its dump text, wherever it is
 pub accepted-piece : (b : List Row) (d : List Sequence) (m : List ℕ) (s : Sections) (template : Tree) (values : Values) (used offset : ℕ) → IsAccepted b d m s template values used
     → IsDumpPiece b d (FrameAt offset m) (OnOutput (dump_text_of s (dump_items_in b template s values)))
 accepted-piece b d m s template values used offset a =
@@ -169,13 +169,13 @@ placed-count piece at (m ∷ ms) = ap suc (placed-count piece (at + length m) ms
 abbrev accepted_of : (StreamEvent → Piece) → List StreamEvent → List (List ℕ)
 accepted_of piece es = flat_map (λ here. accepted_in here (piece here)) es
 
--- Events with these pieces, this dump text and these accepted messages: the text is encoded, from a
--- line of a text on, to as many messages with the same readings, which are framed one by one and
+-- Events with these pieces, this dump text and these accepted messages. From a line of a text on,
+-- the text is encoded to as many messages with the same readings. These are framed one by one and
 -- have the same pieces.
 record Built (b : List Row) (d : List Sequence) (piece : StreamEvent → Piece) (text : List ℕ) (accepted : List (List ℕ)) (pieces : List Piece) (most line : ℕ) : Type 0 where
   messages : List (List ℕ)
   readings : AllZip (IsBuiltAgain b d) accepted messages
-  told : map (told_piece AsWritten b d) (parse_lines line Between (lines_of text)) ≡ map OnOutput messages
+  results : map (result_piece AsWritten b d) (parse_lines line Between (lines_of text)) ≡ map OnOutput messages
   no_longer : length (concat messages) ≤ most + longer_by accepted
   scanned : (at : ℕ) → scan_from 0 at (concat messages) ≡ placed at messages
   again : (at : ℕ) → map piece (placed at messages) ≡ filter is_accepted pieces
@@ -201,7 +201,7 @@ module _ (b : List Row) (d : List Sequence) (piece : StreamEvent → Piece) (giv
   built-fault here text' text accepted pieces most more line le r = record {
     messages = r.messages;
     readings = r.readings;
-    told = r.told;
+    results = r.results;
     no_longer = omega (arith, r.no_longer, le);
     scanned = r.scanned;
     again = r.again;
@@ -219,12 +219,12 @@ module _ (b : List Row) (d : List Sequence) (piece : StreamEvent → Piece) (giv
       let legal = (tree_fine (tables_of b d) s.descriptors template a.expands).legal in
       let w = encoded_again b d m s template values used line (good-rows b read) legal a in
       let here : (at : ℕ) → piece (FrameAt at w.octets) ≡ OnOutput (dump_text_of s items) = λ at. same-piece m s template values used at w.octets a w.same in
-      let rest = map (told_piece AsWritten b d) (parse_lines (line + length (dump_lines s items)) Between (lines_of text)) in
+      let rest = map (result_piece AsWritten b d) (parse_lines (line + length (dump_lines s items)) Between (lines_of text)) in
       record {
         messages = w.octets ∷ r.messages;
         readings = (record { sections = s; template = template; values = values; used = used; accepted = a; same = w.same }, r.readings);
-        told = ap (map (told_piece AsWritten b d)) (text-spells s items line text (dumpable b d m s template values used read legal a))
-            ∙ ap (λ x. encoded x ∷ rest) w.is ∙ ap (λ l. OnOutput w.octets ∷ l) r.told;
+        results = ap (map (result_piece AsWritten b d)) (text-spells s items line text (dumpable b d m s template values used read legal a))
+            ∙ ap (λ x. encoded x ∷ rest) w.is ∙ ap (λ l. OnOutput w.octets ∷ l) r.results;
         no_longer = omega (arith, length-append w.octets (concat r.messages), w.same.no_longer, r.no_longer);
         scanned = λ at. w.same.framed at (concat r.messages) ∙ ap (λ l. FrameAt at w.octets ∷ l) (r.scanned (at + length w.octets));
         again = λ at. ap (λ p. p ∷ map piece (placed (at + length w.octets) r.messages)) (here at) ∙ ap (λ l. OnOutput (dump_text_of s items) ∷ l) (r.again (at + length w.octets));
@@ -253,7 +253,7 @@ module _ (b : List Row) (d : List Sequence) (piece : StreamEvent → Piece) (giv
   built records [] line rows small = record {
     messages = [];
     readings = tt;
-    told = ap (map (told_piece AsWritten b d)) (nothing-spelled line);
+    results = ap (map (result_piece AsWritten b d)) (nothing-spelled line);
     no_longer = omega arith;
     scanned = λ at. scan_from-nil 0 at;
     again = λ at. refl;
@@ -268,7 +268,7 @@ module _ (b : List Row) (d : List Sequence) (piece : StreamEvent → Piece) (giv
   round-trips records s rows octets =
       let r = built records (scan s) 1 rows (small-frames 0 0 s octets) in
       let ms = r.messages in
-      let pieces : rebuilding b d piece s ≡ map OnOutput ms = ap up_to_refused r.told ∙ outputs-whole ms in
+      let pieces : rebuilding b d piece s ≡ map OnOutput ms = ap up_to_refused r.results ∙ outputs-whole ms in
       let are : rebuilt b d piece s ≡ concat ms = ap (flat_map output_of) pieces ∙ outputs-octets ms in
       let events : scan (rebuilt b d piece s) ≡ placed 0 ms = ap scan are ∙ r.scanned 0 in
       let texts : dump_pieces piece (rebuilt b d piece s) ≡ filter is_accepted (dump_pieces piece s) = ap (map piece) events ∙ r.again 0 in
@@ -293,7 +293,7 @@ module _ (b : List Row) (d : List Sequence) (piece : StreamEvent → Piece) (giv
       → rebuilt b d piece s ≡ concat (accepted_messages piece s)
   canonical-kept records s rows octets all =
       let r = built records (scan s) 1 rows (small-frames 0 0 s octets) in
-      ap (flat_map output_of) (ap up_to_refused r.told ∙ outputs-whole r.messages) ∙ outputs-octets r.messages ∙ ap concat (r.kept all)
+      ap (flat_map output_of) (ap up_to_refused r.results ∙ outputs-whole r.messages) ∙ outputs-octets r.messages ∙ ap concat (r.kept all)
 
   -- ---- three runs
 

@@ -28,7 +28,7 @@ use Rattle.bufr_cli.specs.declared.tally.Tally.{Tally}
 use Rattle.bufr_cli.specs.declared.tally.Verdict.{Verdict}
 
 pub grows-nil : (w : Option (List ℕ)) → GrowsByPrefix w w []
-grows-nil w = record { front = []; back = []; parts = refl; gains = Appends-nil w }
+grows-nil w = record { prefix = []; back = []; parts = refl; gains = Appends-nil w }
 
 -- a fault line stopped
 pub errors-stop : {X : Type 0} (w e e' : Option (List ℕ)) (text : List ℕ) (first : Result X RunFault) (r : Result Verdict RunFault) (f : RunFault)
@@ -48,7 +48,7 @@ pub Written-nil : (w e : Option (List ℕ)) → WritesPieces w w e e []
 Written-nil w e = record { output = Appends-nil w; errors = Appends-nil e }
 
 -- Pieces were written and counted.
-pub record ToldSoFar (w w' e e' : Option (List ℕ)) (tally : Tally) (pieces : List Piece) : Type 0 where
+pub record ReportedSoFar (w w' e e' : Option (List ℕ)) (tally : Tally) (pieces : List Piece) : Type 0 where
   pub written : WritesPieces w w' e e' pieces
   pub tallies : Tallies tally pieces
 
@@ -58,7 +58,7 @@ pub record Ran (is_piece : StreamEvent → Piece → Type 0) (left mid : Option 
   pub events : List StreamEvent
   pub step : ReadsAndPasses left mid new_finder s octets events
   pub counts : CountsReads reads reads' new_finder s
-  pub wrote : (piece : StreamEvent → Piece) → GivesPieces is_piece piece → ToldSoFar w w' e e' tally (map piece events)
+  pub wrote : (piece : StreamEvent → Piece) → GivesPieces is_piece piece → ReportedSoFar w w' e e' tally (map piece events)
   pub sound : s.fault ≡ None
   pub few : tally.accepted + tally.refused ≤ s.at
   pub near : s.at < 2 ^ 63
@@ -86,10 +86,10 @@ ran-fresh is_piece left reads w e s tally is accepted refused =
     })
 
 -- it is one happening
-told-one : (event : Event) → IsEvent event → (here : StreamEvent) × (events_of event ≡ here ∷ [])
-told-one (Frame offset octets) some = (FrameAt offset octets.now, refl)
-told-one (Stray offset cause) some = (StrayAt offset cause, refl)
-told-one Done some = absurd some
+reported-one : (event : Event) → IsEvent event → (here : StreamEvent) × (events_of event ≡ here ∷ [])
+reported-one (Frame offset octets) some = (FrameAt offset octets.now, refl)
+reported-one (Stray offset cause) some = (StrayAt offset cause, refl)
+reported-one Done some = absurd some
 
 -- an event that is not the end
 pub is-event : (s s' : FinderModel) (event : Event) → LeavesFinder s s' (Ok event) → (event ≡ Done → ⊥) → IsEvent event
@@ -103,9 +103,9 @@ goes-on s s' (Stray offset cause) ends some = (ends.0, ends.1)
 goes-on s s' Done ends some = absurd some
 
 -- the events so far are the first of what was read
-read-front : (ended : Bool) (s rest : List ℕ) (events : List StreamEvent) (at : ℕ) → Advances ended 0 s events at rest → (more : List StreamEvent) × (read_events ended s ≡ events ++ more)
-read-front true s rest events at advances = (scan_from 0 at rest, whole-scan true s rest events at advances)
-read-front false s rest events at advances = events-are-certain s rest events at advances
+read-prefix : (ended : Bool) (s rest : List ℕ) (events : List StreamEvent) (at : ℕ) → Advances ended 0 s events at rest → (more : List StreamEvent) × (read_events ended s ≡ events ++ more)
+read-prefix true s rest events at advances = (scan_from 0 at rest, whole-scan true s rest events at advances)
+read-prefix false s rest events at advances = events-are-certain s rest events at advances
 
 map-append : (piece : StreamEvent → Piece) (xs ys : List StreamEvent) → map piece (xs ++ ys) ≡ map piece xs ++ map piece ys
 map-append piece xs ys = grind (arith, common_steps)
@@ -114,18 +114,18 @@ count-append : (p : Piece → Bool) (xs ys : List Piece) → count_by p (xs ++ y
 count-append p xs ys = grind (arith, common_steps)
 
 -- the pieces of one more event were written and counted
-told-then : (piece : StreamEvent → Piece) (w w1 w2 e e1 e2 : Option (List ℕ)) (tally tally' : Tally) (verdict : Verdict) (events here : List StreamEvent)
-    → ToldSoFar w w1 e e1 tally (map piece events) → LeavesPieces w1 w2 e1 e2 (map piece here) (Ok verdict) → tally' ≡ tally_after tally verdict
-    → ToldSoFar w w2 e e2 tally' (map piece (events ++ here))
-told-then piece w w1 w2 e e1 e2 tally tally' verdict events here before tells counts =
+reported-then : (piece : StreamEvent → Piece) (w w1 w2 e e1 e2 : Option (List ℕ)) (tally tally' : Tally) (verdict : Verdict) (events here : List StreamEvent)
+    → ReportedSoFar w w1 e e1 tally (map piece events) → LeavesPieces w1 w2 e1 e2 (map piece here) (Ok verdict) → tally' ≡ tally_after tally verdict
+    → ReportedSoFar w w2 e e2 tally' (map piece (events ++ here))
+reported-then piece w w1 w2 e e1 e2 tally tally' verdict events here before reports counts =
     let W : List Piece → Type 0 = λ l. WritesPieces w w2 e e2 l in
     let both = sym (map-append piece events here) in
     record {
-      written = subst W both (Written-then w w1 w2 e e1 e2 (map piece events) (map piece here) before.written tells.0);
+      written = subst W both (Written-then w w1 w2 e e1 e2 (map piece events) (map piece here) before.written reports.0);
       tallies = record {
-        accepted = ap (λ t. t.accepted) counts ∙ ap (λ n. n + counted_accepted verdict) before.tallies.accepted ∙ ap (λ n. count_by is_accepted (map piece events) + n) tells.1
+        accepted = ap (λ t. t.accepted) counts ∙ ap (λ n. n + counted_accepted verdict) before.tallies.accepted ∙ ap (λ n. count_by is_accepted (map piece events) + n) reports.1
             ∙ sym (count-append is_accepted (map piece events) (map piece here)) ∙ ap (count_by is_accepted) both;
-        refused = ap (λ t. t.refused) counts ∙ ap (λ n. n + counted_refused verdict) before.tallies.refused ∙ ap (λ n. count_by is_refused (map piece events) + n) tells.2
+        refused = ap (λ t. t.refused) counts ∙ ap (λ n. n + counted_refused verdict) before.tallies.refused ∙ ap (λ n. count_by is_refused (map piece events) + n) reports.2
             ∙ sym (count-append is_refused (map piece events) (map piece here)) ∙ ap (count_by is_refused) both;
       };
     }
@@ -143,19 +143,19 @@ cut-by pieces_of left left' w w' e e' unflushed early bs takes Memory stops cut 
 
 module _ (is_piece : StreamEvent → Piece → Type 0) (left mid left' : Option (List ℕ)) (reads reads1 reads2 : ℕ) (w w1 e e1 : Option (List ℕ)) (s s' : FinderModel) (tally : Tally) (result : Result Event RunFault)
     (ran : Ran is_piece left mid reads reads1 w w1 e e1 s tally) (next : ReturnsNextEvent mid left' reads1 reads2 s s' result) where
-  -- an event was told and counted
+  -- an event was reported and counted
   pub turn : (w2 e2 : Option (List ℕ)) (verdict : Verdict) (tally' : Tally) (event : Event) → result ≡ Ok event → IsEvent event
       → ((piece : StreamEvent → Piece) → GivesPieces is_piece piece → LeavesPieces w1 w2 e1 e2 (map piece (events_of event)) (Ok verdict))
       → tally' ≡ tally_after tally verdict → tally'.accepted + tally'.refused ≡ tally.accepted + tally.refused + 1
       → Ran is_piece left left' reads reads2 w w2 e e2 s' tally'
-  turn w2 e2 verdict tally' event is some tells counts one =
+  turn w2 e2 verdict tally' event is some reports counts one =
       let steps = rw is at next.steps in
       let on = goes-on s s' event (rw is at next.ends) some in record {
         octets = ran.octets ++ steps.0;
         events = ran.events ++ events_of event;
         step = ReadsAndPasses-then left mid left' s s' ran.octets steps.0 ran.events (events_of event) ran.step steps.1;
         counts = CountsReads-then reads reads1 reads2 s s' ran.counts next.counts;
-        wrote = λ piece gives. told-then piece w w1 w2 e e1 e2 tally tally' verdict ran.events (events_of event) (ran.wrote piece gives) (tells piece gives) counts;
+        wrote = λ piece gives. reported-then piece w w1 w2 e e1 e2 tally tally' verdict ran.events (events_of event) (ran.wrote piece gives) (reports piece gives) counts;
         sound = on.0;
         few = omega (arith, ran.few, on.1, one);
         near = next.near;
@@ -220,20 +220,20 @@ module _ (is_piece : StreamEvent → Piece → Type 0) (left mid left' : Option 
       by piece written bs step Memory so = (cut piece written bs step Memory so.0, λ _. fewer so.1)
 
   -- the telling of an event was stopped
-  pub stop-tell : (unflushed : Type 0) → unflushed → (w2 e2 : Option (List ℕ)) (event : Event) (takes : Bool) (write_event : Result Verdict RunFault) (f : RunFault) (r : Result Tally RunFault) → result ≡ Ok event → IsEvent event
+  pub stop-report : (unflushed : Type 0) → unflushed → (w2 e2 : Option (List ℕ)) (event : Event) (takes : Bool) (write_event : Result Verdict RunFault) (f : RunFault) (r : Result Tally RunFault) → result ≡ Ok event → IsEvent event
       → ((piece : StreamEvent → Piece) → GivesPieces is_piece piece → LeavesPieces w1 w2 e1 e2 (map piece (events_of event)) write_event) → StopsPiece takes write_event → write_event ≡ Err f → r ≡ Err f
       → (bs : List ℕ) × ((piece : StreamEvent → Piece) → GivesPieces is_piece piece → LeavesEvents (map piece) left left' w w2 e e2 unflushed (ReadsFewer reads reads2) bs r)
-  stop-tell unflushed kept w2 e2 event takes write_event f r is some tells stops fails same =
+  stop-report unflushed kept w2 e2 event takes write_event f r is some reports stops fails same =
       let steps = rw is at next.steps in
       let bs = ran.octets ++ steps.0 in
       let step = ReadsAndPasses-then left mid left' s s' ran.octets steps.0 ran.events (events_of event) ran.step steps.1 in
-      let front = read-front s'.ended bs s'.rest (ran.events ++ events_of event) s'.at step.advances in
-      let rest = front.0 in
-      let one = told-one event some in (
+      let prefix = read-prefix s'.ended bs s'.rest (ran.events ++ events_of event) s'.at step.advances in
+      let rest = prefix.0 in
+      let one = reported-one event some in (
         bs,
         λ piece gives.
             let S : Result Verdict RunFault → Type 0 = λ x. LeavesPieces w1 w2 e1 e2 (map piece (events_of event)) x in
-            let lines = subst S fails (tells piece gives) in
+            let lines = subst S fails (reports piece gives) in
             let O : List StreamEvent → Type 0 = λ l. GrowsByPrefix w1 w2 (flat_map output_of (map piece l)) in
             let E : List StreamEvent → Type 0 = λ l. GrowsByPrefix e1 e2 (flat_map errors_of (map piece l)) in
             let P : Result Tally RunFault → Type 0 = λ x. LeavesEvents (map piece) left left' w w2 e e2 unflushed (ReadsFewer reads reads2) bs x in
@@ -245,7 +245,7 @@ module _ (is_piece : StreamEvent → Piece → Type 0) (left mid left' : Option 
                 given = map piece ran.events;
                 next = Some (piece one.0);
                 rest = map piece rest;
-                parts = ap (map piece) front.1
+                parts = ap (map piece) prefix.1
                     ∙ map-append piece (ran.events ++ events_of event) rest ∙ ap (λ l. l ++ map piece rest) (map-append piece ran.events (events_of event))
                     ∙ append_assoc (map piece ran.events) (map piece (events_of event)) (map piece rest)
                     ∙ ap (λ l. map piece ran.events ++ (map piece l ++ map piece rest)) one.1;
@@ -309,7 +309,7 @@ module _ (is_piece : StreamEvent → Piece → Type 0) (left mid left' : Option 
           }),
     )
 
--- the octets that a reader tells are those that were read to its end
+-- the octets that a reader reports are those that were read to its end
 pub all-known : (pieces_of : List StreamEvent → List Piece) (left left' w w' e e' : Option (List ℕ)) (unflushed early : Type 0) (r : Result Tally RunFault)
     → ((bs : List ℕ) × LeavesEvents pieces_of left left' w w' e e' unflushed early bs r) → IfOk r (λ tally. IfSome left (λ s. WritesPieces w w' e e' (pieces_of (scan s)) × Tallies tally (pieces_of (scan s))))
 all-known pieces_of left left' w w' e e' unflushed early (Ok tally) (bs, done) =
@@ -344,18 +344,18 @@ run-reads-stop takes reads mid reads' mid_left left' s s' result f r before next
     stops.1)
 
 -- where the telling of an event was stopped
-pub run-reads-tell : (takes : Bool) (reads reads' : ℕ) (s : FinderModel) (f : RunFault) (r : Result Tally RunFault) → CountsReads reads reads' new_finder s → StopsPiece takes (Err f) → r ≡ Err f → RunReads takes reads reads' r
-run-reads-tell takes reads reads' s Read r counts stops same = absurd stops
-run-reads-tell takes reads reads' s Write r counts stops same = run-reads takes reads reads' s r counts (λ long. cc) (λ none wanted. cc)
-run-reads-tell takes reads reads' s InputTooLong r counts stops same = absurd stops
-run-reads-tell takes reads reads' s Memory r counts stops same = run-reads takes reads reads' s r counts (λ long. cc) (λ none wanted. absurd (false≢true (sym none ∙ stops)))
+pub run-reads-report : (takes : Bool) (reads reads' : ℕ) (s : FinderModel) (f : RunFault) (r : Result Tally RunFault) → CountsReads reads reads' new_finder s → StopsPiece takes (Err f) → r ≡ Err f → RunReads takes reads reads' r
+run-reads-report takes reads reads' s Read r counts stops same = absurd stops
+run-reads-report takes reads reads' s Write r counts stops same = run-reads takes reads reads' s r counts (λ long. cc) (λ none wanted. cc)
+run-reads-report takes reads reads' s InputTooLong r counts stops same = absurd stops
+run-reads-report takes reads reads' s Memory r counts stops same = run-reads takes reads reads' s r counts (λ long. cc) (λ none wanted. absurd (false≢true (sym none ∙ stops)))
 
 -- the reader's failures, where the telling of an event was stopped
-pub reader-tell : (takes : Bool) (f : RunFault) (r : Result Tally RunFault) (before after : ℕ) → StopsPiece takes (Err f) → r ≡ Err f → after ≡ before → after ≡ read_failures_after before r
-reader-tell takes Read r before after stops same e = absurd stops
-reader-tell takes Write r before after stops same e = subst (λ x. after ≡ read_failures_after before x) (sym same) e
-reader-tell takes InputTooLong r before after stops same e = absurd stops
-reader-tell takes Memory r before after stops same e = subst (λ x. after ≡ read_failures_after before x) (sym same) e
+pub reader-report : (takes : Bool) (f : RunFault) (r : Result Tally RunFault) (before after : ℕ) → StopsPiece takes (Err f) → r ≡ Err f → after ≡ before → after ≡ read_failures_after before r
+reader-report takes Read r before after stops same e = absurd stops
+reader-report takes Write r before after stops same e = subst (λ x. after ≡ read_failures_after before x) (sym same) e
+reader-report takes InputTooLong r before after stops same e = absurd stops
+reader-report takes Memory r before after stops same e = subst (λ x. after ≡ read_failures_after before x) (sym same) e
 
 -- pieces by two functions that agree are the same
 pub same-pieces : (piece piece' : StreamEvent → Piece) (events : List StreamEvent) → ((here : StreamEvent) → piece here ≡ piece' here) → map piece events ≡ map piece' events
@@ -371,9 +371,9 @@ fails-then f f1 f2 n n1 n2 before (inl more) = inl (more.0 ∙ ap (λ k. counted
 fails-then f f1 f2 n n1 n2 before (inr more) = inr (more.0 ∙ before.0, more.1 ∙ ap (λ k. counted k 1) before.1)
 
 -- the writers' counts, where the telling of an event was stopped
-pub blames-tell : {a b c d a' b' c' d' : Type 0} (write_event : Result Verdict RunFault) (f : RunFault) (r : Result Tally RunFault) → write_event ≡ Err f → r ≡ Err f
+pub blames-report : {a b c d a' b' c' d' : Type 0} (write_event : Result Verdict RunFault) (f : RunFault) (r : Result Tally RunFault) → write_event ≡ Err f → r ≡ Err f
     → (a → a') → (b → b') → (c → c') → (d → d') → Blames write_event a b c d → Blames r a' b' c' d'
-blames-tell {a} {b} {c} {d} {a'} {b'} {c'} {d'} write_event f r is same go_a go_b go_c go_d blames =
+blames-report {a} {b} {c} {d} {a'} {b'} {c'} {d'} write_event f r is same go_a go_b go_c go_d blames =
     let B : Result Verdict RunFault → Type 0 = λ x. Blames x a b c d in
     let B' : Result Tally RunFault → Type 0 = λ x. Blames x a' b' c' d' in
     subst B' (sym same) (by f (subst B is blames))

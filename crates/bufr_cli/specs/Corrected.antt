@@ -28,7 +28,7 @@ abbrev pub normal_text : Form → List Row → List Sequence → Document → Li
 normal_text form b d document =
     normal_by form b document (tree_of (tables_of b d) document.descriptors)
 
--- the text of a document that is encoded, and those behind it; of one that is refused, and behind
+-- the text of a document that is encoded, and those after it; of one that is refused, and after
 -- it, there is none
 abbrev pub before_refused : Result (List ℕ) RefusedAt → (text : List ℕ)
     → (more : List (List ℕ)) → List (List ℕ)
@@ -51,8 +51,8 @@ form_pieces form b d text = encode_pieces form b d (documents_of text)
 abbrev pub built : Form → List Row → List Sequence → (text : List ℕ) → List ℕ
 built form b d text = flat_map output_of (form_pieces form b d text)
 
--- What `encode` builds of a text, dumped, is the text's documents before the first that is refused,
--- each in the one spelling that a dump has.
+-- What `encode` builds of a text is dumped to the text's documents before the first that is
+-- refused. Each is in the one spelling that a dump has.
 pub record IsDumpedInOneSpelling (form : Form) (b : List Row) (d : List Sequence)
     (piece : StreamEvent → Piece) (text : List ℕ) : Type 0 where
   -- each event is a message that is accepted, and its text is the document's: nothing else, and no

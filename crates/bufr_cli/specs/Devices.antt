@@ -10,8 +10,8 @@ pub record Input : Type 0 where
   pub reads : ℕ
   pub failures : ℕ
 
--- A writer: the octets that it took, where they are known, its calls that failed, its writes that
--- took nothing, its flushes, and whether all that it took was handed on.
+-- A writer. It has the octets that it took, where they are known, its calls that failed, and its
+-- writes that took nothing. It has its flushes, and whether all that it took was handed on.
 pub record Writer : Type 0 where
   pub taken : Option (List ℕ)
   pub failures : ℕ

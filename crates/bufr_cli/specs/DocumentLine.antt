@@ -1,4 +1,4 @@
--- The lines that tell the faults of a document. (a choice of this project)
+-- The lines that report the faults of a document. (a choice of this project)
 -- Cited by public contracts.
 use Rattle.std.specs.Prelude.{ℕ, true, false, List, [], ◌∷◌, ◌++◌, Option, Some, None, codes, decimal}
 use Rattle.bufr_tables.specs.Fxy.{fxy_text}
@@ -36,7 +36,7 @@ line_of_read_fault (read.Run fault) = []
 abbrev pub walk_text : (number fxy : ℕ) → List (List ℕ)
 walk_text number fxy = codes "walk " ∷ decimal number ∷ codes " descriptor " ∷ fxy_text fxy ∷ []
 
--- an item that is refused; a factor always tells its count
+-- an item that is refused; a factor always says its count
 -- rule: fault-lines-of-encoding
 abbrev pub item_fault_line : (line : ℕ) → DraftFaultKind → List ℕ
 item_fault_line line (wrong_descriptor fxy false) =
@@ -55,7 +55,7 @@ item_fault_line line (walk_refused (walk.Defining fxy)) = document_line line 62 
 item_fault_line line (too_many_values fxy) = document_line line 62 (walk_text 35 fxy)
 item_fault_line line no_count = []
 
--- a document that is refused: its template's fault is told as that of a message
+-- a document that is refused: its template's fault is reported as that of a message
 -- rule: fault-lines-of-encoding
 abbrev pub refusal_line : (line : ℕ) → DocumentRefusal → List ℕ
 refusal_line line (by_template why) =

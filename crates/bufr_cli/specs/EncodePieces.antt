@@ -16,11 +16,11 @@ encoded (Err refused) = OnErrors (refusal_line refused.line refused.why)
 
 -- what is written for a document, or for the line that is refused
 -- rule: document-read-first
-abbrev pub told_piece : Form → List Row → List Sequence → ParseResult → Piece
-told_piece form b d (Complete document) = encoded (encoding_in form b d document)
-told_piece form b d (Refused line fault) = OnErrors (refused_line line fault)
+abbrev pub result_piece : Form → List Row → List Sequence → ParseResult → Piece
+result_piece form b d (Complete document) = encoded (encoding_in form b d document)
+result_piece form b d (Refused line fault) = OnErrors (refused_line line fault)
 
--- nothing more is written behind the first fault
+-- nothing more is written after the first fault
 -- rule: first-refusal-ends
 unfoldable pub up_to_refused : List Piece → List Piece
 up_to_refused [] = []
@@ -29,4 +29,4 @@ up_to_refused (OnErrors text ∷ more) = OnErrors text ∷ []
 
 -- what `encode` writes for what a text spells
 abbrev pub encode_pieces : Form → List Row → List Sequence → List ParseResult → List Piece
-encode_pieces form b d told = up_to_refused (map (told_piece form b d) told)
+encode_pieces form b d results = up_to_refused (map (result_piece form b d) results)

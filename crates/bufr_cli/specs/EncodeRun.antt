@@ -15,8 +15,8 @@ abbrev pub read_documents : (ended : Bool) → List ℕ → List ParseResult
 read_documents true bs = documents_of bs
 read_documents false bs = open_documents_of bs
 
--- The pieces of the whole input were written and counted, whatever is behind the octets that were
--- read: nothing, where the end was reached, and all that comes behind a refused document counts for
+-- The pieces of the whole input were written and counted, whatever is after the octets that were
+-- read: nothing, where the end was reached, and all that comes after a refused document counts for
 -- nothing.
 pub record EncodeDone (pieces_of : List ParseResult → List Piece)
     (left left' output output' errors errors' : Option (List ℕ)) (bs : List ℕ)
@@ -39,8 +39,8 @@ pub record EncodeStopped (pieces_of : List ParseResult → List Piece)
   pub written : WritesPieces output output' errors errors' (pieces_of (open_documents_of bs))
   pub accepted : count_by is_refused (pieces_of (open_documents_of bs)) ≡ 0
 
--- A writer failed, or memory was refused: of what was read a front was written; where a flush was
--- tried, all stands.
+-- A writer failed, or memory was refused: of what was read a prefix was written; where a flush was
+-- tried, all of it is written.
 pub record EncodeCut (pieces_of : List ParseResult → List Piece)
     (left left' output output' errors errors' : Option (List ℕ)) (unflushed : Type 0)
     (bs : List ℕ) : Type 0 where

@@ -1,4 +1,4 @@
--- The lines that tell the faults of a stream and of its messages. (a choice of this project)
+-- The lines that report the faults of a stream and of its messages. (a choice of this project)
 -- Cited by public contracts.
 use Rattle.std.specs.Prelude.{ℕ, List, [], ◌∷◌, ◌++◌, codes, decimal}
 use Rattle.bufr_frame.specs.declared.fault.Cause.{Cause}
@@ -30,7 +30,7 @@ section_fault_text (SectionPast section) =
 section_fault_text SectionsEnd = codes "sections do not meet the end" ∷ []
 section_fault_text Edition3Long = codes "edition 3 length" ∷ []
 
--- the text of a template fault, in parts; want of memory ends a run, and no line tells it
+-- the text of a template fault, in parts; want of memory ends a run, and no line reports it
 -- rule: fault-20, fault-21, fault-22, fault-23, fault-24, fault-25, fault-26, fault-27, fault-28
 abbrev pub template_fault_text : TemplateFault → List (List ℕ)
 template_fault_text (template.UnknownElement fxy) = codes "unknown element " ∷ fxy_text fxy ∷ []
@@ -44,14 +44,14 @@ template_fault_text (template.TemplateSize fxy) = codes "template size " ∷ fxy
 template_fault_text (template.LocalShape fxy) = codes "local shape " ∷ fxy_text fxy ∷ []
 template_fault_text template.Memory = []
 
--- what stands at fault, and where: the subset, the descriptor, and the bits before the item
+-- what is at fault, and where: the subset, the descriptor, and the bits before the item
 -- rule: stream-fault-place
 abbrev pub spot_text : List ℕ → Spot → List (List ℕ)
 spot_text name spot =
     name ∷ codes " at subset " ∷ decimal spot.subset ∷ codes " descriptor " ∷ fxy_text spot.fxy
     ∷ codes " bit " ∷ decimal spot.bit ∷ []
 
--- the text of a fault of the data, in parts; want of memory ends a run, and no line tells it
+-- the text of a fault of the data, in parts; want of memory ends a run, and no line reports it
 -- rule: fault-30, fault-31, fault-32, fault-33, fault-34, fault-35
 abbrev pub walk_fault_text : WalkFault → List (List ℕ)
 walk_fault_text (walk.DataEnd spot) = spot_text (codes "data end") spot

@@ -30,7 +30,7 @@ run_line fault =
 abbrev pub numbered : (table : List ℕ) (number : ℕ) → List (List ℕ) → List ℕ
 numbered table number text = joined (table ∷ decimal number ∷ codes " " ∷ (text ++ codes "\n" ∷ []))
 
--- the line of a table that cannot be read; want of memory is told as in a run
+-- the line of a table that cannot be read; want of memory is reported as in a run
 -- rule: status-of-table, fault-73
 abbrev pub table_line : (table : List ℕ) → TableFault → List ℕ
 table_line name table.Header =

@@ -13,7 +13,7 @@ pub mod EncodePieces
 -- what a run of `encode` leaves, by its answer
 pub mod EncodeRun
 -- what telling one document does to the writers
-pub mod EncodeTelling
+pub mod EncodeReporting
 -- the fault lines of a stream and of its messages, each with its offset
 pub mod FaultLine
 -- a text for one of the two writers, and what `ls` writes for an event
@@ -26,7 +26,7 @@ pub mod Running
 pub mod WritingPieces
 -- what a run has written that went through, of `dump` and of `encode` too
 pub mod Whole
--- what a call of the program comes to: a job done and told, help, a mistaken line
+-- what a call of the program comes to: a job done and reported, help, a mistaken line
 pub mod Calling
 -- how a run of the program ended, and what is flushed after it
 pub mod Ending

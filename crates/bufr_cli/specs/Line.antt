@@ -127,11 +127,12 @@ form_asked (Encode tables form) = Some form
 abbrev pub HasNoJob : Option (Text × List Row) → Type 0
 HasNoJob subcommand = (job : Job) → ¬ IsJobOf subcommand job
 
--- the fault that an error of this kind stands for; its text takes memory
-abbrev pub TellsKind : ErrorKind → LineFault → Type 0
-TellsKind kind (Help text) = (kind ≡ DisplayHelp) ⊎ (kind ≡ DisplayVersion)
-TellsKind kind (Usage text) = (kind ≢ OutOfMemory) × (kind ≢ DisplayHelp) × (kind ≢ DisplayVersion)
-TellsKind kind Memory = Unit {0}
+-- the fault that an error of this kind means; its text takes memory
+abbrev pub ReportsKind : ErrorKind → LineFault → Type 0
+ReportsKind kind (Help text) = (kind ≡ DisplayHelp) ⊎ (kind ≡ DisplayVersion)
+ReportsKind kind (Usage text) =
+    (kind ≢ OutOfMemory) × (kind ≢ DisplayHelp) × (kind ≢ DisplayVersion)
+ReportsKind kind Memory = Unit {0}
 
 -- help or the version is asked for
 -- rule: help

@@ -60,8 +60,8 @@ abbrev pub longer_by : List (List ℕ) → ℕ
 longer_by [] = 0
 longer_by (m ∷ ms) = extra_octets m + longer_by ms
 
--- Of two messages the first is accepted, and the second has the same reading and is no longer, but
--- that in edition 3 up to two octets make odd sections even.
+-- Of two messages the first is accepted, and the second has the same reading. The second is no
+-- longer, but that in edition 3 up to two octets make odd sections even.
 pub record IsBuiltAgain (b : List Row) (d : List Sequence) (m written : List ℕ) : Type 0 where
   pub sections : Sections
   pub template : Tree
@@ -112,7 +112,7 @@ pub record Written : Type 0 where
   pub tally : Tally
 
 -- A stream was dumped to a text, the text encoded to messages, and the messages dumped again. The
--- two texts are the same, nothing was refused but by the first run, and the messages have, one by
+-- two texts are the same, and nothing was refused but by the first run. The messages have, one by
 -- one, the readings of those that were dumped.
 pub record IsWholeRound (b : List Row) (d : List Sequence) (stream : List ℕ)
     (text messages again : Written) : Type 0 where

@@ -19,7 +19,7 @@ pub record WritesPieces (old_output new_output old_errors new_errors : Option (L
   pub output : Appends old_output new_output (flat_map output_of pieces)
   pub errors : Appends old_errors new_errors (flat_map errors_of pieces)
 
--- The first pieces were written whole, and of the next one a front.
+-- The first pieces were written whole, and of the next one a prefix.
 pub record WrittenInPart (old_output new_output old_errors new_errors : Option (List ℕ))
     (pieces : List Piece) : Type 0 where
   pub given : List Piece
@@ -59,8 +59,8 @@ abbrev pub read_events : (ended : Bool) → List ℕ → List StreamEvent
 read_events true bs = scan bs
 read_events false bs = open_scan bs
 
--- A writer failed, or memory was refused: of what was read a front was written; where a flush was
--- tried, all stands.
+-- A writer failed, or memory was refused: of what was read a prefix was written; where a flush was
+-- tried, all of it is written.
 -- rule: fault-line-not-written, reader-gone
 pub record RunCut (pieces_of : List StreamEvent → List Piece)
     (left left' output output' errors errors' : Option (List ℕ)) (unflushed : Type 0)

@@ -42,8 +42,8 @@ LeavesPieces output output' errors errors' pieces (Err fault) =
     × GrowsByPrefix errors errors' (flat_map errors_of pieces)
 
 -- the same of two writers
-abbrev pub TellsPieces : (before after : Writers) → List Piece → Result Verdict RunFault → Type 0
-TellsPieces before after pieces result =
+abbrev pub ReportsPieces : (before after : Writers) → List Piece → Result Verdict RunFault → Type 0
+ReportsPieces before after pieces result =
     LeavesPieces before.output.taken after.output.taken before.errors.taken after.errors.taken
     pieces result
 

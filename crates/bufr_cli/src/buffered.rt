@@ -1,8 +1,8 @@
 //! The program's own writers.
 use std::io::{self, BufWriter, ErrorKind, Write};
 
-/// A buffered writer that tries nothing again. Behind a call that failed each further one fails at
-/// once, and at its end it writes nothing, where `std`'s would try to write what it still holds.
+/// A buffered writer that tries nothing again. After a call that failed each further one fails at
+/// once. At its end it writes nothing, where `std`'s would try to write what it still holds.
 pub struct Buffered<W: Write + Drop> {
     writer: BufWriter<W>,
     failed: bool,

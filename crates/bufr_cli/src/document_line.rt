@@ -3,7 +3,7 @@ ghost use Rattle.std.specs.Prelude.{◌≡◌, ◌≢◌, ℕ, [], ◌∷◌, Er
 ghost use Rattle.bufr_tables.specs.Fxy.{fxy_text};
 ghost use Rattle.bufr_text.specs.Documents.{TextLineFault, Refused};
 ghost use Rattle.bufr_text.specs.Reader.{parse_results};
-ghost use Rattle.bufr_text.specs.EncodingFault.{number_of_document_fault, told_refusal, walk_told};
+ghost use Rattle.bufr_text.specs.EncodingFault.{number_of_document_fault, reported_refusal, walk_report};
 ghost use Rattle.bufr_text.specs.Lines.{Pushes};
 ghost use Rattle.bufr_text.specs.Writing.{Writes};
 ghost use Rattle.bufr_cli.specs.DocumentLine.{document_line, item_fault_line, line_of_read_fault, line_of_refusal, refusal_line, refused_line};
@@ -52,7 +52,7 @@ fn push_walk<E: Sink>(
     refusal: WalkRefusal,
 )
     requires { number ≡ number_of_document_fault (DocumentFault.Walk place refusal) }
-    ensures { Pushes line.old (item_fault_line place (walk_told refusal)) line.new }
+    ensures { Pushes line.old (item_fault_line place (walk_report refusal)) line.new }
 {
     push_place(line, b"line ", place, number);
     line.push_named(b"walk ", u64::from(refusal.number()));
@@ -68,7 +68,7 @@ fn push_walk<E: Sink>(
 fn push_document_fault<E: Sink>(line: &mut LineWriter<'_, '_, E>, fault: DocumentFault)
     requires some { fault ≢ DocumentFault.Memory }
     requires template { (line : ℕ) → fault ≢ DocumentFault.Template line TemplateFault.Memory }
-    ensures { Pushes line.old (line_of_refusal (told_refusal fault)) line.new }
+    ensures { Pushes line.old (line_of_refusal (reported_refusal fault)) line.new }
 {
     let number = fault.number();
     match &fault {
@@ -110,7 +110,7 @@ fn push_document_fault<E: Sink>(line: &mut LineWriter<'_, '_, E>, fault: Documen
 pub fn write_document_fault<E: Sink>(fault: DocumentFault, e: &mut E) -> Result<(), RunFault>
     requires some { fault ≢ DocumentFault.Memory }
     requires template { (line : ℕ) → fault ≢ DocumentFault.Template line TemplateFault.Memory }
-    ensures writes { IfSome (told_refusal fault) (λ refused.
+    ensures writes { IfSome (reported_refusal fault) (λ refused.
         Writes (E.taken e.old) (E.taken e.new) (refusal_line refused.line refused.why) result) }
     ensures counts { OnlyWrites (writer_of E.Sink e.old) (writer_of E.Sink e.new) result }
 {

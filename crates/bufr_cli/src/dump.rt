@@ -12,7 +12,7 @@ ghost use Rattle.bufr_cli.specs.Counting.{BlamesWriter};
 ghost use Rattle.bufr_cli.specs.Devices.{input_of, writers_of};
 ghost use Rattle.bufr_cli.specs.Running.{RunsEvents, GivesPieces, ReadsAtMost};
 ghost use Rattle.bufr_cli.specs.Whole.{WritesAndCounts};
-ghost use Rattle.bufr_cli.specs.WritingPieces.{StopsPiece, TellsPieces};
+ghost use Rattle.bufr_cli.specs.WritingPieces.{StopsPiece, ReportsPieces};
 
 use crate::fault_line::{write_section_fault, write_stray, write_template_fault, write_walk_fault};
 use crate::run_events::{EventWriter, run_events};
@@ -63,8 +63,8 @@ fn read_data<'a>(
     )
 }
 
-/// Writes the text of a message by its template and the specs that are cached, or the line of the
-/// fault that its data are refused for.
+/// Writes the text of a message by its template and the specs that are cached. Where its data are
+/// refused, it writes the line of their fault.
 // rule: refused-messages-write-nothing
 fn dump_data<W: Sink, E: Sink>(
     offset: u64,
@@ -77,9 +77,9 @@ fn dump_data<W: Sink, E: Sink>(
 ) -> Result<Verdict, RunFault>
     requires { memory.old.specs ≡ table.now }
     ensures same { memory.new.specs ≡ memory.old.specs }
-    ensures tells { (piece : Piece)
+    ensures reports { (piece : Piece)
         → IsDataPiece table.now offset message.now template.now piece
-        → TellsPieces (writers_of W.Sink w.old E.Sink e.old)
+        → ReportsPieces (writers_of W.Sink w.old E.Sink e.old)
         (writers_of W.Sink w.new E.Sink e.new) (piece ∷ []) result }
     ensures stops { StopsPiece true result }
     ensures counts { BlamesWriter (writers_of W.Sink w.old E.Sink e.old)
@@ -101,8 +101,8 @@ fn dump_data<W: Sink, E: Sink>(
     }
 }
 
-/// Writes the text of a message by the template that was selected for it, or the line of the fault
-/// that its descriptors or its data are refused for.
+/// Writes the text of a message by the template that was selected for it. Where its descriptors or
+/// its data are refused, it writes the line of their fault.
 fn dump_selected<W: Sink, E: Sink>(
     offset: u64,
     message: &Message<'_>,
@@ -114,9 +114,9 @@ fn dump_selected<W: Sink, E: Sink>(
     requires list { templates.now.list ≡ message.now.descriptors }
     requires cached { memory.old.specs ≡ templates.now.table_b }
     ensures same { memory.new.specs ≡ memory.old.specs }
-    ensures tells { (piece : Piece)
+    ensures reports { (piece : Piece)
         → IsMessagePiece templates.now.table_b templates.now.table_d offset (Ok message.now) piece
-        → TellsPieces (writers_of W.Sink w.old E.Sink e.old)
+        → ReportsPieces (writers_of W.Sink w.old E.Sink e.old)
         (writers_of W.Sink w.new E.Sink e.new) (piece ∷ []) result }
     ensures stops { StopsPiece true result }
     ensures counts { BlamesWriter (writers_of W.Sink w.old E.Sink e.old)
@@ -153,10 +153,10 @@ fn dump_message<W: Sink, E: Sink>(
     w: &mut W,
     e: &mut E,
 ) -> Result<Verdict, RunFault>
-    ensures tells { (piece : Piece)
+    ensures reports { (piece : Piece)
         → IsMessagePiece run.old.templates.table_b run.old.templates.table_d offset
         (Ok message.now) piece
-        → TellsPieces (writers_of W.Sink w.old E.Sink e.old)
+        → ReportsPieces (writers_of W.Sink w.old E.Sink e.old)
         (writers_of W.Sink w.new E.Sink e.new) (piece ∷ []) result }
     ensures stops { StopsPiece true result }
     ensures table_b { run.new.templates.table_b ≡ run.old.templates.table_b }
@@ -187,10 +187,10 @@ fn dump_frame<W: Sink, E: Sink>(
     e: &mut E,
 ) -> Result<Verdict, RunFault>
     requires { 12 ≤ length octets.now }
-    ensures tells { (piece : Piece)
+    ensures reports { (piece : Piece)
         → IsMessagePiece run.old.templates.table_b run.old.templates.table_d offset
         (sections_of octets.now) piece
-        → TellsPieces (writers_of W.Sink w.old E.Sink e.old)
+        → ReportsPieces (writers_of W.Sink w.old E.Sink e.old)
         (writers_of W.Sink w.new E.Sink e.new) (piece ∷ []) result }
     ensures stops { StopsPiece true result }
     ensures table_b { run.new.templates.table_b ≡ run.old.templates.table_b }
@@ -218,9 +218,9 @@ fn dump_event<W: Sink, E: Sink>(
     e: &mut E,
 ) -> Result<Verdict, RunFault>
     requires { IsEvent event }
-    ensures tells { (piece : StreamEvent → Piece)
+    ensures reports { (piece : StreamEvent → Piece)
         → GivesPieces (IsDumpPiece run.old.templates.table_b run.old.templates.table_d) piece
-        → TellsPieces (writers_of W.Sink w.old E.Sink e.old)
+        → ReportsPieces (writers_of W.Sink w.old E.Sink e.old)
         (writers_of W.Sink w.new E.Sink e.new) (map piece (events_of event.entry)) result }
     ensures stops { StopsPiece true result }
     ensures table_b { run.new.templates.table_b ≡ run.old.templates.table_b }
@@ -258,9 +258,9 @@ impl<'a> EventWriter for DumpRun<'a> {
     }
 }
 
-/// Dumps the messages of `r` by these tables: for each its text on `w`, and for each stray `BUFR`
-/// and each message that is refused a fault line on `e` and nothing on `w`, in the order of the
-/// stream, each as soon as it is certain. At the end `w`, then `e` is flushed.
+/// Dumps the messages of `r` by these tables, in the order of the stream, each as soon as it is
+/// certain. The text of a message goes to `w`. A stray `BUFR` and a message that is refused have a
+/// fault line on `e` and nothing on `w`. At the end `w`, then `e` is flushed.
 ///
 /// A message is refused for its sections, then for its descriptors ([`TemplateFault`]), then for
 /// its data ([`WalkFault`]).

@@ -3,16 +3,16 @@ ghost use Rattle.std.specs.Prelude.{◌≡◌, ◌≢◌, ℕ, List, [], ◌∷�
 ghost use Rattle.bufr_frame.specs.Runs.{read_failures_after};
 ghost use Rattle.bufr_text.specs.Documents.{Complete};
 ghost use Rattle.bufr_text.specs.Encoding.{encoding_in};
-ghost use Rattle.bufr_text.specs.EncodingFault.{IsDocumentRefusal, told_refusal};
+ghost use Rattle.bufr_text.specs.EncodingFault.{IsDocumentRefusal, reported_refusal};
 ghost use Rattle.bufr_text.specs.declared.form.Form.TheVariants.{AsWritten};
-ghost use Rattle.bufr_cli.specs.EncodePieces.{encode_pieces, told_piece};
+ghost use Rattle.bufr_cli.specs.EncodePieces.{encode_pieces, result_piece};
 ghost use Rattle.bufr_cli.specs.EncodeRun.{EncodesSoFar, RunsEncode};
-ghost use Rattle.bufr_cli.specs.EncodeTelling.{TellsNext};
+ghost use Rattle.bufr_cli.specs.EncodeReporting.{ReportsNext};
 ghost use Rattle.bufr_cli.specs.Counting.{BlamesWriter};
 ghost use Rattle.bufr_cli.specs.Devices.{input_of, writers_of};
 ghost use Rattle.bufr_cli.specs.Running.{ReadsAtMost};
 ghost use Rattle.bufr_cli.specs.Whole.{Encodes};
-ghost use Rattle.bufr_cli.specs.WritingPieces.{StopsPiece, TellsPieces};
+ghost use Rattle.bufr_cli.specs.WritingPieces.{StopsPiece, ReportsPieces};
 
 use crate::document_line::{write_document_fault, write_read_fault};
 use crate::run_events::flush;
@@ -25,7 +25,7 @@ use bufr_walk::{Steps, TemplateCache};
 use std::alloc::Global;
 
 /// The octets of a document in a form, or its first fault. It says less than the call that it
-/// makes, so that what is proved of a run does not carry the steps and what is said of dumps.
+/// makes. So the proof of a run carries neither the steps nor what is said of dumps.
 fn octets_of(
     alloc: Global,
     document: &Document,
@@ -37,7 +37,7 @@ fn octets_of(
     ensures octets { IfOk result (λ octets.
         encoding_in form templates.old.table_b templates.old.table_d document.now
         ≡ Ok octets.items) }
-    ensures fault { IfErr result (λ why. IsDocumentRefusal (told_refusal why)
+    ensures fault { IfErr result (λ why. IsDocumentRefusal (reported_refusal why)
         (encoding_in form templates.old.table_b templates.old.table_d document.now)) }
     ensures memory { IfErr result
         (λ why. (line : ℕ) → why ≢ DocumentFault.Template line TemplateFault.Memory) }
@@ -55,9 +55,9 @@ fn encode_one<W: Sink, E: Sink>(
     w: &mut W,
     e: &mut E,
 ) -> Result<Verdict, RunFault>
-    ensures tells { TellsPieces (writers_of W.Sink w.old E.Sink e.old)
+    ensures reports { ReportsPieces (writers_of W.Sink w.old E.Sink e.old)
         (writers_of W.Sink w.new E.Sink e.new)
-        (told_piece form templates.old.table_b templates.old.table_d (Complete document.now) ∷ [])
+        (result_piece form templates.old.table_b templates.old.table_d (Complete document.now) ∷ [])
         result }
     ensures stops { StopsPiece true result }
     ensures table_b { templates.new.table_b ≡ templates.old.table_b }
@@ -81,7 +81,7 @@ fn encode_one<W: Sink, E: Sink>(
     }
 }
 
-/// Writes what stands for the next document of a text: its message, or a fault line. At the end of
+/// Writes what the next document gives of a text: its message, or a fault line. At the end of
 /// the text there is nothing. The document's memory goes back to its reader.
 // rule: document-read-first
 fn encode_next<W: Sink, E: Sink>(
@@ -97,9 +97,9 @@ fn encode_next<W: Sink, E: Sink>(
     ensures reader { reader.new ≡ reader.old }
     ensures table_b { templates.new.table_b ≡ templates.old.table_b }
     ensures table_d { templates.new.table_d ≡ templates.old.table_d }
-    ensures tells { TellsNext (writers_of W.Sink w.old E.Sink e.old)
+    ensures reports { ReportsNext (writers_of W.Sink w.old E.Sink e.old)
         (writers_of W.Sink w.new E.Sink e.new)
-        (told_piece form templates.old.table_b templates.old.table_d) next result }
+        (result_piece form templates.old.table_b templates.old.table_d) next result }
     ensures counts { BlamesWriter (writers_of W.Sink w.old E.Sink e.old)
         (writers_of W.Sink w.new E.Sink e.new) result }
     ensures output_flushes { W.flushes w.new ≡ W.flushes w.old }
@@ -181,7 +181,7 @@ fn encode_documents<R: Source, W: Sink, E: Sink>(
 ///
 /// [`RunFault::Read`] and [`RunFault::InputTooLong`] as [`DumpReader::next_document`] gives them;
 /// the messages of all documents that were read whole were written then. [`RunFault::Write`] where
-/// a writer failed or took nothing, and [`RunFault::Memory`]: a front of the messages was written.
+/// a writer failed or took nothing, and [`RunFault::Memory`]: a prefix of the messages was written.
 pub fn run_encode_form<R: Source, W: Sink, E: Sink>(
     alloc: Global,
     r: &mut R,

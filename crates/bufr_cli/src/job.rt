@@ -5,7 +5,7 @@ ghost use Rattle.clap.specs.Values.{kind_of};
 ghost use Rattle.clap.specs.Words.{app_of, fault_of, first_of, found_of, new_app, new_rule, rows_of, rule_of, subcommand_of, with_subcommand};
 ghost use Rattle.bufr_text.specs.declared.form.Form.{Form};
 ghost use Rattle.bufr_cli.specs.Line.{bufr_app, encode_app, form_rule, ls_app, name_of, no_job_text, table_rule, tables_app, top_app, word_of};
-ghost use Rattle.bufr_cli.specs.Line.{AreNamed, HasTables, IsJobOf, IsWhyNoJob, LacksForm, LacksTables, SaysWhy, TellsKind};
+ghost use Rattle.bufr_cli.specs.Line.{AreNamed, HasTables, IsJobOf, IsWhyNoJob, LacksForm, LacksTables, SaysWhy, ReportsKind};
 
 use bufr_text::Form;
 use clap::error::ErrorKind;
@@ -95,10 +95,10 @@ pub enum LineFault {
     Memory,
 }
 
-/// The version that `bufr --version` tells.
+/// The version that `bufr --version` prints.
 const VERSION: &str = "0.1.0";
 
-/// What stands under the help of the program.
+/// The notes under the help of the program.
 const PROGRAM_NOTES: &str = "\
 Exit status:
   0  nothing was refused
@@ -110,7 +110,7 @@ Examples:
   bufr dump -B b.csv -D d.csv bulletins.bufr
   bufr encode -B b.csv -D d.csv bulletins.txt";
 
-/// What stands under the help of `ls`.
+/// The notes under the help of `ls`.
 const LS_NOTES: &str = "\
 A line for each message goes to standard output, and a line for each fault to
 standard error, with its offset in octets and its number:
@@ -128,7 +128,7 @@ Exit status:
 Example:
   bufr ls bulletins.bufr 2> faults.txt";
 
-/// What stands under the help of `dump`.
+/// The notes under the help of `dump`.
 const DUMP_NOTES: &str = "\
 The text of each message goes to standard output, and a line for each fault to
 standard error, with its offset in octets and its number:
@@ -140,7 +140,7 @@ standard error, with its offset in octets and its number:
   30-35  data that do not fit the template
   70-73  reading, writing, an endless input, memory
 Of a message that is refused nothing goes to standard output. A table at fault
-is told before the input is opened:
+is results before the input is opened:
   40-45  header, row, duplicate, cycle, size, number of fields
 
 The tables are CSV files whose first line names these columns:
@@ -159,12 +159,12 @@ Exit status:
 Example:
   bufr dump -B b.csv -D d.csv bulletins.bufr > bulletins.txt";
 
-/// What stands under the help of `encode`.
+/// The notes under the help of `encode`.
 const ENCODE_NOTES: &str = "\
 The message of each document goes to standard output, when its end line was
 read. The first document that is refused ends the run, with a line on standard
-error that tells the line of the text, from 1, and the fault's number:
-  50     a line that may not stand there, is too long, or is missing at the end
+error that reports the line of the text, from 1, and the fault's number:
+  50     a line that may not position_of there, is too long, or is missing at the end
   51     another item, or none, where one is expected, or one too many
   52-55  a value: number, out of range, text long, missing forbidden
   56     descriptors that the tables do not know, or that make no template
@@ -174,7 +174,7 @@ error that tells the line of the text, from 1, and the fault's number:
   62     data that the template cannot hold
   70-73  reading, writing, an endless input, memory
 Of a document that is refused nothing goes to standard output. A table at fault
-is told before the input is opened:
+is results before the input is opened:
   40-45  header, row, duplicate, cycle, size, number of fields
 
 The tables are CSV files whose first line names these columns:
@@ -183,7 +183,7 @@ The tables are CSV files whose first line names these columns:
 They have to be those that the text was dumped by.
 
 With --form plain or --form compressed each message is written in that form,
-whatever its document says. Compressed, 58 tells a replication factor that
+whatever its document says. Compressed, 58 reports a replication factor that
 differs between subsets, 59 texts that differ where one has more than 63 octets
 without the spaces at its end, or reference values that differ: such data can
 be written plain alone. Plain data may be too long (60).
@@ -209,7 +209,7 @@ impl From<AllocError> for LineFault {
     }
 }
 
-/// A command of this name, which help tells about, with these notes under its own help.
+/// A command of this name, which help describes, with these notes under its own help.
 fn named_command<'a>(
     alloc: Global,
     name: &'a str,
@@ -224,7 +224,7 @@ fn named_command<'a>(
         .after_help(notes)
 }
 
-/// The input's file, which help tells about.
+/// The input's file, which help describes.
 fn file_argument<'a>(alloc: Global, help: &'a str) -> Arg<'a>
     ensures rule { rule_of result ≡ new_rule (codes "FILE") }
     ensures global { result.global ≡ false }
@@ -353,10 +353,10 @@ fn command_line<'a>(alloc: Global) -> Result<clap::Command<'a>, AllocError>
     with_encode(alloc, command)
 }
 
-/// The fault that an error of clap stands for, with its text.
+/// The fault that an error of clap means, with its text.
 // rule: help
 fn line_fault(alloc: Global, error: &Error) -> LineFault
-    ensures { TellsKind (kind_of error.now) result }
+    ensures { ReportsKind (kind_of error.now) result }
 {
     if error.kind() == ErrorKind::OutOfMemory {
         return LineFault::Memory;
@@ -492,9 +492,9 @@ fn job_of<'a>(name: &str, found: &ArgMatches<'a>) -> Result<Job<'a>, NoJob>
 ///
 /// # Errors
 ///
-/// [`LineFault::Help`] where help or the version is asked for, [`LineFault::Usage`] where the words
-/// are not understood, no command is among them, a table is missing or a form unknown, and
-/// [`LineFault::Memory`].
+/// [`LineFault::Help`] where help or the version is asked for. [`LineFault::Usage`] where the words
+/// are not understood, no command is among them, a table is missing or a form unknown.
+/// [`LineFault::Memory`] where memory ran out.
 // rule: usage
 pub fn parse_line<'a, S: AsStr>(alloc: Global, words: &'a [S]) -> Result<Job<'a>, LineFault>
     ensures job { IfOk result

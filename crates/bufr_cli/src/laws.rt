@@ -43,10 +43,10 @@ pub fn dumped_streams_are_built_again()
         → RoundTrips table_b table_d piece s }
 {}
 
-/// Where all accepted messages of a stream are as an encoder writes them (reserved bits and octets
-/// zero, nothing behind the descriptors, no minus zero, each compressed item packed as its values
-/// are packed, the least octets of data with zero bits at their end), they are built of the dump
-/// text octet for octet.
+/// Accepted messages that are as an encoder writes them are built of the dump text octet for octet.
+/// Such a message has reserved bits and octets of zero, nothing after the descriptors, and no minus
+/// zero. Each compressed item is packed as its values are packed. Its data take the least octets,
+/// with zero bits at their end.
 pub fn canonical_streams_are_built_as_they_are()
     ensures { (records : List Record) (table_b : List Row) (table_d : List Sequence)
         (piece : StreamEvent → Piece) (s : List ℕ)
@@ -56,9 +56,9 @@ pub fn canonical_streams_are_built_as_they_are()
         → rebuilt table_b table_d piece s ≡ concat (accepted_messages piece s) }
 {}
 
-/// Runs of the program that went through, each over what the one before wrote, by the same tables:
-/// after `dump`, `encode` and `dump` again the two texts are the same, nothing was refused but by
-/// the first, the messages have one by one the readings of those that were dumped, and canonical
+/// Runs of the program that went through, each over what the one before wrote, by the same tables.
+/// After `dump`, `encode` and `dump` again the two texts are the same, and nothing was refused but
+/// by the first. The messages have one by one the readings of those that were dumped. Canonical
 /// messages are the same octet for octet.
 pub fn runs_close_the_round()
     ensures { (records : List Record) (table_b : List Row) (table_d : List Sequence)
@@ -74,9 +74,9 @@ pub fn runs_close_the_round()
 {}
 
 /// For every text, in every form and by all tables that were read: what `encode` builds of it is
-/// dumped without a fault to the texts, one after another, of its documents before the first that
-/// is refused (or before the line that is), each in the one spelling that a dump has; and these
-/// texts are encoded to the same octets again.
+/// dumped without a fault. The dump is the texts of its documents before the first that is refused,
+/// or before the line that is. Each text is in the one spelling that a dump has. These texts are
+/// encoded to the same octets again.
 pub fn encoded_texts_are_dumped_in_one_spelling()
     ensures { (form : Form) (records : List Record) (table_b : List Row) (table_d : List Sequence)
         (piece : StreamEvent → Piece) (text : List ℕ)

@@ -8,7 +8,7 @@ ghost use Rattle.bufr_cli.specs.Counting.{BlamesWriter};
 ghost use Rattle.bufr_cli.specs.Devices.{input_of, writers_of};
 ghost use Rattle.bufr_cli.specs.Running.{RunsEvents};
 ghost use Rattle.bufr_cli.specs.Whole.{WritesAndCounts};
-ghost use Rattle.bufr_cli.specs.WritingPieces.{StopsPiece, TellsPieces};
+ghost use Rattle.bufr_cli.specs.WritingPieces.{StopsPiece, ReportsPieces};
 
 use crate::fault_line::{write_section_fault, write_stray};
 use crate::run_events::{EventWriter, run_events};
@@ -28,7 +28,7 @@ fn list_frame<W: Sink, E: Sink>(
     e: &mut E,
 ) -> Result<Verdict, RunFault>
     requires { 12 ≤ length octets.now }
-    ensures tells { TellsPieces (writers_of W.Sink w.old E.Sink e.old)
+    ensures reports { ReportsPieces (writers_of W.Sink w.old E.Sink e.old)
         (writers_of W.Sink w.new E.Sink e.new)
         (ls_or_fault offset (sections_of octets.now) ∷ []) result }
     ensures stops { StopsPiece false result }
@@ -53,7 +53,7 @@ fn list_frame<W: Sink, E: Sink>(
 // rule: one-fault-a-message
 fn list_event<W: Sink, E: Sink>(event: Event<'_>, w: &mut W, e: &mut E) -> Result<Verdict, RunFault>
     requires { IsEvent event }
-    ensures tells { TellsPieces (writers_of W.Sink w.old E.Sink e.old)
+    ensures reports { ReportsPieces (writers_of W.Sink w.old E.Sink e.old)
         (writers_of W.Sink w.new E.Sink e.new) (map ls_piece (events_of event.entry)) result }
     ensures stops { StopsPiece false result }
     ensures counts { BlamesWriter (writers_of W.Sink w.old E.Sink e.old)
@@ -93,9 +93,9 @@ impl EventWriter for LsRun {
     }
 }
 
-/// Lists the messages of `r`: for each a line on `w`, and for each stray `BUFR` and each message
-/// that cannot be taken apart a fault line on `e`, in the order of the stream, each as soon as it
-/// is certain. At the end `w`, then `e` is flushed.
+/// Lists the messages of `r`, in the order of the stream, each as soon as it is certain. A message
+/// has a line on `w`. A stray `BUFR` and a message that cannot be taken apart have a fault line on
+/// `e`. At the end `w`, then `e` is flushed.
 ///
 /// ```
 /// let mut r = Device::new(b"BUFR".as_slice());
@@ -109,7 +109,7 @@ impl EventWriter for LsRun {
 ///
 /// [`RunFault::Read`], [`RunFault::InputTooLong`] and [`RunFault::Memory`] as [`Finder::next`]
 /// gives them; the lines of all that was certain were written then. [`RunFault::Write`] where a
-/// writer failed or took nothing: a front of the lines was written.
+/// writer failed or took nothing: a prefix of the lines was written.
 // rule: input-without-bufr
 pub fn run_ls<R: Source, W: Sink, E: Sink>(
     alloc: Global,

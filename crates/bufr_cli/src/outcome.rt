@@ -133,7 +133,7 @@ pub fn finish<E: Sink>(outcome: &Outcome<'_>, e: &mut E) -> u8
     ensures status { result ≡ status_of outcome.now }
     // A prefix of the line is written, and all of it where no call of the writer failed or took
     // nothing.
-    ensures front { GrowsByPrefix (E.taken e.old) (E.taken e.new) (last_line outcome.now) }
+    ensures prefix { GrowsByPrefix (E.taken e.old) (E.taken e.new) (last_line outcome.now) }
     ensures whole { E.failures e.old < 2 ^ 64 - 1 → E.empty_writes e.old < 2 ^ 64 - 1
         → IsSame (writer_of E.Sink e.old) (writer_of E.Sink e.new)
         → Appends (E.taken e.old) (E.taken e.new) (last_line outcome.now) }

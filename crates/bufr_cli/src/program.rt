@@ -27,8 +27,8 @@ use std::convert::AsStr;
 use std::io::{BufReader, Read};
 use thiserror::Error;
 
-/// How many octets the program's own reader and writers hold, so that one call of the system
-/// serves many reads of the finder and many lines.
+/// How many octets the program's own reader and writers hold. So one call of the system serves many
+/// reads of the finder and many lines.
 pub const BUFFERED: usize = 65_536;
 
 /// A file cannot be opened.
@@ -65,9 +65,9 @@ pub trait Inputs {
         ensures unknown { IfErr result (λ _. file_octets self.now name.now ≡ None) };
 }
 
-/// Does what the words of a command line ask for, the first of which is the program's name, and
-/// answers the exit status of [`finish`], or 0 where help or the version was asked for: its text
-/// goes to `w`.
+/// Does what the words of a command line ask for, the first of which is the program's name. It
+/// returns the exit status of [`finish`]. Where help or the version was asked for, its text goes to
+/// `w` and the status is 0.
 pub fn run<'a, S: AsStr, I: Inputs, W: Sink, E: Sink>(
     alloc: Global,
     words: &'a [S],

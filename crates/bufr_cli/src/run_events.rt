@@ -9,7 +9,7 @@ ghost use Rattle.bufr_cli.specs.Pieces.{Piece};
 ghost use Rattle.bufr_cli.specs.Counting.{BlamesWriter, CountsCalls};
 ghost use Rattle.bufr_cli.specs.Devices.{input_of, writer_of, writers_of};
 ghost use Rattle.bufr_cli.specs.Running.{RunsEvents, GivesPieces};
-ghost use Rattle.bufr_cli.specs.WritingPieces.{RunReads, StopsPiece, TellsPieces};
+ghost use Rattle.bufr_cli.specs.WritingPieces.{RunReads, StopsPiece, ReportsPieces};
 
 use crate::tally::{Tally, Verdict};
 use bufr_bits::{Sink, Source};
@@ -29,8 +29,8 @@ pub trait EventWriter {
     ///
     /// # Errors
     ///
-    /// [`RunFault::Write`] where a writer fails or takes nothing, and [`RunFault::Memory`]; a front
-    /// of the piece was written.
+    /// [`RunFault::Write`] where a writer fails or takes nothing, and [`RunFault::Memory`]; a
+    /// prefix of the piece was written.
     fn write_event<W: Sink, E: Sink>(
         &mut self,
         event: Event<'_>,
@@ -38,8 +38,8 @@ pub trait EventWriter {
         e: &mut E,
     ) -> Result<Verdict, RunFault>
         requires { IsEvent event }
-        ensures tells { (piece : StreamEvent → Piece) → GivesPieces (is_piece self.old) piece
-            → TellsPieces (writers_of W.Sink w.old E.Sink e.old)
+        ensures reports { (piece : StreamEvent → Piece) → GivesPieces (is_piece self.old) piece
+            → ReportsPieces (writers_of W.Sink w.old E.Sink e.old)
             (writers_of W.Sink w.new E.Sink e.new)
             (map piece (events_of event.entry)) result }
         ensures stops { StopsPiece (takes_memory self.old) result }

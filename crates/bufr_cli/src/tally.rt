@@ -1,6 +1,6 @@
 //! How many messages a run accepted and refused.
 
-/// What became of a message, a document, or a place where `BUFR` stands.
+/// What became of a message, a document, or a place where `BUFR` is.
 #[derive(Clone, Copy, Debug, PartialEq, Eq)]
 pub enum Verdict {
     /// Its text was written on the output.

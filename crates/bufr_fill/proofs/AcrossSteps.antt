@@ -6,7 +6,7 @@ use Rattle.bufr_walk.specs.declared.spec.Taken.{Taken}
 use Rattle.bufr_fill.specs.declared.field_value.FieldContent.{FieldContent}
 use Rattle.bufr_walk.specs.FieldSpec.{FieldSpec}
 use Rattle.bufr_walk.specs.Content.{Content, answer_of, bits_for}
-use Rattle.bufr_walk.specs.PackedField.{told_first}
+use Rattle.bufr_walk.specs.PackedField.{answer_first}
 use Rattle.bufr_walk.specs.PlainField.{increment, unequal_factor}
 use Rattle.bufr_walk.specs.Reading.{max_values}
 use Rattle.bufr_fill.specs.Entries.{Subset}
@@ -55,9 +55,9 @@ module _ (spec : FieldSpec) (place : ℕ) (subsets : List Subset) where
     put_uneven cs h e = given cs h ∙ ap (packed_to cs (cells_at place subsets)) e
 
 -- what the first subset's content returns to the walk
-pub tells_first : (spec : FieldSpec) (count : ℕ) (ds : List FieldContent) (z : FieldContent) (t : Taken) → 0 < length ds → t ≡ answer_of spec (content_drawn count (get_or ds 0 z)) → t ≡ told_first spec (contents_drawn count ds)
-tells_first spec count [] z t h e = absurd (omega (arith, h))
-tells_first spec count (d ∷ ds) z t h e = e
+pub answers_first : (spec : FieldSpec) (count : ℕ) (ds : List FieldContent) (z : FieldContent) (t : Taken) → 0 < length ds → t ≡ answer_of spec (content_drawn count (get_or ds 0 z)) → t ≡ answer_first spec (contents_drawn count ds)
+answers_first spec count [] z t h e = absurd (omega (arith, h))
+answers_first spec count (d ∷ ds) z t h e = e
 
 -- contents that are all the same, and those that are not
 pub packed_alike : (spec : FieldSpec) (count : ℕ) (ds : List FieldContent) (z : FieldContent) → 0 < length ds → are_same (content_drawn count (get_or ds 0 z)) (contents_drawn count ds) ≡ true

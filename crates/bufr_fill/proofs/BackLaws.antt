@@ -18,14 +18,14 @@ use Rattle.bufr_fill.specs.DraftContent.{content_of, plainly, plain_filler}
 use Rattle.bufr_fill.specs.Encoding.{RowCell, ItemRow, cells_at, rows, longest, at_line_if_fault, content_here, contents_here, packed_to, are_many, pack_across, packed_filler, plain_data, packed_data, first_line, ◌>>=◌}
 use Rattle.bufr_fill.specs.Entries.{Subset}
 use Rattle.bufr_fill.specs.Fault.{DraftFaultKind, FaultAt, at_line, too_many_values}
-use Rattle.bufr_fill.specs.Filling.{WrittenItem, written_item, Filler, fill, fill_one, fill_none, filled, and_behind}
+use Rattle.bufr_fill.specs.Filling.{WrittenItem, written_item, Filler, fill, fill_one, fill_none, filled, with_bits_before}
 use Rattle.bufr_fill.specs.Fits.{Fits, AllFit}
 use Rattle.bufr_fill.proofs.Limits.{IsWithin}
 use Rattle.bufr_fill.specs.Packing.{packing}
 use Rattle.bufr_fill.specs.ReadBack.{HasOctets, HaveOctets, AllHaveOctets, IsSaid, AreSaidFrom, IsReadBack, IsPackedReadBack}
 use Rattle.bufr_fill.specs.WrittenAgain.{AreDrafts, items_of_subset}
 use Rattle.bufr_fill.proofs.Fitting.{draft_fits}
-use Rattle.bufr_fill.proofs.GoodReads.{IsGoodCourse, template_good, told_within}
+use Rattle.bufr_fill.proofs.GoodReads.{IsGoodCourse, template_good, answer_within}
 use Rattle.bufr_fill.proofs.PackedFits.{fitting_again}
 use Rattle.bufr_fill.proofs.PlainLaws.{plain_again}
 use Rattle.bufr_fill.proofs.TableRows.{table_good}
@@ -46,11 +46,11 @@ pub record IsBack {C D : Type 0} (form : DataCoding C) (of_item : Item C → D �
 -- what must hold of one item
 pub record IsOneBack {C D : Type 0} (form : DataCoding C) (of_item : Item C → D → Type 0) (spec : FieldSpec) (d : D) (w : WrittenItem C) : Type 0 where
   pub said : of_item (record { spec = spec; content = w.content }) d
-  pub within : IsWithin (form.tells spec w.content)
+  pub within : IsWithin (form.gives spec w.content)
   pub read : (more : List Bool) → form.field spec (w.bits ++ more) ≡ Ok (found w.content more)
 
 module _ {C D E : Type 0} (form : DataCoding C) (filler : Filler D C E) (of_item : Item C → D → Type 0) (HasText : D → Type 0)
-    (same_told : (spec : FieldSpec) (c : C) → filler.tells spec c ≡ form.tells spec c)
+    (same_answer : (spec : FieldSpec) (c : C) → filler.gives spec c ≡ form.gives spec c)
     (one : (spec : FieldSpec) (d : D) (w : WrittenItem C) → IsSpec spec → HasText d → filler.fills spec d ≡ Ok w → IsOneBack form of_item spec d w) where
   back_end : (course : Course) (out : List Bool) (n : Next) → (course []).next ≡ n → fill_none filler n ≡ Ok out → IsBack form of_item course [] out
   back_end course out (take_next spec) q e = cc
@@ -60,28 +60,28 @@ module _ {C D E : Type 0} (form : DataCoding C) (filler : Filler D C E) (of_item
 
   module _ (course : Course) (d : D) (ds : List D) (out : List Bool) (good : IsGoodCourse course) (text : HasText d)
       (others : (next : Course) (rest : List Bool) → IsGoodCourse next → fill filler next ds ≡ Ok rest → IsBack form of_item next ds rest) where
-    back_rest : (spec : FieldSpec) (w : WrittenItem C) → (course []).next ≡ take_next spec → IsOneBack form of_item spec d w → (r : Result (List Bool) E) → fill filler (λ told. course (form.tells spec w.content ∷ told)) ds ≡ r → and_behind filler w.bits r ≡ Ok out → IsBack form of_item course (d ∷ ds) out
+    back_rest : (spec : FieldSpec) (w : WrittenItem C) → (course []).next ≡ take_next spec → IsOneBack form of_item spec d w → (r : Result (List Bool) E) → fill filler (λ answers. course (form.gives spec w.content ∷ answers)) ds ≡ r → with_bits_before filler w.bits r ≡ Ok out → IsBack form of_item course (d ∷ ds) out
     back_rest spec w q here (Err why) p e = cc
     back_rest spec w q here (Ok rest) p e =
-        let behind = others (λ told. course (form.tells spec w.content ∷ told)) rest (λ told asked ws n. good (form.tells spec w.content ∷ told) asked (here.within, ws) n) p in
+        let suffix = others (λ answers. course (form.gives spec w.content ∷ answers)) rest (λ answers asked ws n. good (form.gives spec w.content ∷ answers) asked (here.within, ws) n) p in
         let joined : w.bits ++ rest ≡ out = same_ok (w.bits ++ rest) out e in
         record {
-          items = record { spec = spec; content = w.content } ∷ behind.items;
-          said = (here.said, behind.said);
+          items = record { spec = spec; content = w.content } ∷ suffix.items;
+          said = (here.said, suffix.said);
           read = λ more.
               let turned : w.bits ++ (rest ++ more) ≡ out ++ more = sym (append_assoc w.bits rest more) ∙ ap (λ x. x ++ more) joined in
-              let r = behind.read more in
+              let r = suffix.read more in
               ((rest ++ more, q, subst (λ bits. form.field spec bits ≡ Ok (found w.content (rest ++ more))) turned (here.read (rest ++ more)), r.0), r.1);
         }
 
-    back_fill : (spec : FieldSpec) → (course []).next ≡ take_next spec → (r : Result (WrittenItem C) E) → filler.fills spec d ≡ r → filled filler spec r (λ t. fill filler (λ told. course (t ∷ told)) ds) ≡ Ok out → IsBack form of_item course (d ∷ ds) out
+    back_fill : (spec : FieldSpec) → (course []).next ≡ take_next spec → (r : Result (WrittenItem C) E) → filler.fills spec d ≡ r → filled filler spec r (λ t. fill filler (λ answers. course (t ∷ answers)) ds) ≡ Ok out → IsBack form of_item course (d ∷ ds) out
     back_fill spec q (Err why) p e = cc
     back_fill spec q (Ok w) p e =
         let here = one spec d w (good [] spec tt q) text p in
-        back_rest spec w q here (fill filler (λ told. course (form.tells spec w.content ∷ told)) ds) refl
-        (subst (λ t. and_behind filler w.bits (fill filler (λ told. course (t ∷ told)) ds) ≡ Ok out) (same_told spec w.content) e)
+        back_rest spec w q here (fill filler (λ answers. course (form.gives spec w.content ∷ answers)) ds) refl
+        (subst (λ t. with_bits_before filler w.bits (fill filler (λ answers. course (t ∷ answers)) ds) ≡ Ok out) (same_answer spec w.content) e)
 
-    back_next : (n : Next) → (course []).next ≡ n → fill_one filler n d (λ t. fill filler (λ told. course (t ∷ told)) ds) ≡ Ok out → IsBack form of_item course (d ∷ ds) out
+    back_next : (n : Next) → (course []).next ≡ n → fill_one filler n d (λ t. fill filler (λ answers. course (t ∷ answers)) ds) ≡ Ok out → IsBack form of_item course (d ∷ ds) out
     back_next (take_next spec) q e = back_fill spec q (filler.fills spec d) refl e
     back_next at_end q e = cc
     back_next astray q e = cc
@@ -101,7 +101,7 @@ plain_one end_line spec d w good text e = by_content (content_of spec d) refl e
     by_content (Ok c) p q =
         let fits : Fits spec c = draft_fits spec d c text p in
         let is : written_item c (bits_for spec.width c) ≡ w = same_ok (written_item c (bits_for spec.width c)) w q in
-        subst (λ v. IsOneBack plain IsSaid spec d v) is (record { said = p; within = told_within spec.role spec c good good.role fits; read = plain_again spec good c fits })
+        subst (λ v. IsOneBack plain IsSaid spec d v) is (record { said = p; within = answer_within spec.role spec c good good.role fits; read = plain_again spec good c fits })
 
 module _ (course : Course) (good : IsGoodCourse course) where
   plain_join : (s : Subset) (ss : List Subset) (out : List Bool) → HaveOctets s.items → ((rest : List Bool) → plain_data course ss ≡ Ok rest → IsReadBack course ss rest)
@@ -163,8 +163,8 @@ cells_join spec cell cells cs text others (Err why) b p q e = cc
 cells_join spec cell cells cs text others (Ok c) (Err why) p q e = cc
 cells_join spec cell cells cs text others (Ok c) (Ok rest) p q e =
     let here = cell_said spec cell.draft cell.end_line c text p in
-    let behind = others rest q in
-    subst (AreCellsSaid spec (cell ∷ cells)) (same_ok (c ∷ rest) cs e) (record { said = (here.0, said_shift 0 spec c rest cells behind.said); fits = (here.1, behind.fits); count = ap suc behind.count })
+    let suffix = others rest q in
+    subst (AreCellsSaid spec (cell ∷ cells)) (same_ok (c ∷ rest) cs e) (record { said = (here.0, said_shift 0 spec c rest cells suffix.said); fits = (here.1, suffix.fits); count = ap suc suffix.count })
 
 cells_said : (spec : FieldSpec) (cells : List RowCell) (cs : List Content) → AllByRecursion (λ (cell : RowCell). OctetsIn cell.draft) cells → contents_here spec cells ≡ Ok cs → AreCellsSaid spec cells cs
 cells_said spec [] cs text e = subst (AreCellsSaid spec []) (same_ok [] cs e) (record { said = tt; fits = tt; count = refl })
@@ -190,7 +190,7 @@ packed_one n some spec a w good row e = by_many (are_many a.place (length a.cell
     by_list [] bits few are q = absurd (omega (arith, some, are.count, row.0))
     by_list (c ∷ cs) bits few are q = record {
       said = (are.said, few);
-      within = told_within spec.role spec c good good.role are.fits.0;
+      within = answer_within spec.role spec c good good.role are.fits.0;
       read = λ more. fitting_again n spec good c cs bits more are.fits (are.count ∙ row.0) q;
     }
 

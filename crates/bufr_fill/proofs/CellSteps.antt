@@ -13,7 +13,7 @@ use Rattle.bufr_fill.specs.Fault.{FaultAt, at_line, item_too_many}
 use Rattle.bufr_fill.specs.FieldContent.{content_drawn, IsDrawn}
 use Rattle.bufr_fill.specs.Kept.{entry_found}
 use Rattle.bufr_fill.specs.Encoding.{RowCell, content_here, contents_here, first_unlike, unlike_line, cell_line, line_in, first_line, ◌>>=◌}
-use Rattle.bufr_fill.specs.PackedRows.{entry_or_end, cell_entry, entry_here, entry_line, AllDrawn, contents_drawn, in_front, IsGathering, unlike_from}
+use Rattle.bufr_fill.specs.PackedRows.{entry_or_end, cell_entry, entry_here, entry_line, AllDrawn, contents_drawn, with_contents_before, IsGathering, unlike_from}
 use Rattle.bufr_fill.specs.PlainOut.{IfDraftFault}
 use Rattle.bufr_fill.specs.Packing.{same}
 use Rattle.bufr_fill.specs.PackedOut.{and_end, all_at_end}
@@ -56,33 +56,33 @@ all_more : (spec : FieldSpec) (ds : List FieldContent) (d : FieldContent) → Al
 all_more spec [] d h g = (g, tt)
 all_more spec (x ∷ ds) d h g = (h.0, all_more spec ds d h.1 g)
 
-front_more : (cs : List Content) (x : Content) (r : Result (List Content) FaultAt) → in_front cs (r >>= λ rest. Ok (x ∷ rest)) ≡ in_front (cs ++ x ∷ []) r
-front_more cs x (Ok more) = ap Ok (sym (append_assoc cs (x ∷ []) more))
-front_more cs x (Err f) = refl
+contents_before_more : (cs : List Content) (x : Content) (r : Result (List Content) FaultAt) → with_contents_before cs (r >>= λ rest. Ok (x ∷ rest)) ≡ with_contents_before (cs ++ x ∷ []) r
+contents_before_more cs x (Ok more) = ap Ok (sym (append_assoc cs (x ∷ []) more))
+contents_before_more cs x (Err f) = refl
 
 module _ (count : ℕ) (spec : FieldSpec) (cells : List RowCell) (j : ℕ) (ds : List FieldContent) (e : DraftEntry) (inv : IsGathering count spec cells j ds) (within : j < length cells)
     (here : (c : RowCell) → slice_get cells j ≡ Some c → e ≡ cell_entry c) where
   -- the contents of the row, by the next cell
-  next_is : (k : CellAt cells j) → contents_here spec cells ≡ in_front (contents_drawn count ds) (entry_here spec e >>= λ first. contents_here spec (drop (j + 1) cells) >>= λ rest. Ok (first ∷ rest))
+  next_is : (k : CellAt cells j) → contents_here spec cells ≡ with_contents_before (contents_drawn count ds) (entry_here spec e >>= λ first. contents_here spec (drop (j + 1) cells) >>= λ rest. Ok (first ∷ rest))
   next_is k =
-      inv.so ∙ ap (λ cs. in_front (contents_drawn count ds) (contents_here spec cs)) k.left
-      ∙ ap (λ r. in_front (contents_drawn count ds) (r >>= λ first. contents_here spec (drop (j + 1) cells) >>= λ rest. Ok (first ∷ rest))) (sym (entry_same spec k.cell.draft k.cell.end_line) ∙ ap (entry_here spec) (sym (here k.cell k.is)))
+      inv.so ∙ ap (λ cs. with_contents_before (contents_drawn count ds) (contents_here spec cs)) k.left
+      ∙ ap (λ r. with_contents_before (contents_drawn count ds) (r >>= λ first. contents_here spec (drop (j + 1) cells) >>= λ rest. Ok (first ∷ rest))) (sym (entry_same spec k.cell.draft k.cell.end_line) ∙ ap (entry_here spec) (sym (here k.cell k.is)))
 
   pub gather_fault : (o : Option FaultAt) → IfDraftFault o (λ f. entry_here spec e ≡ Err f) → IfDraftFault o (λ f. contents_here spec cells ≡ Err f)
   gather_fault None h = tt
   gather_fault (Some f) h =
-      next_is (cell_at cells j within) ∙ ap (λ r. in_front (contents_drawn count ds) (r >>= λ first. contents_here spec (drop (j + 1) cells) >>= λ rest. Ok (first ∷ rest))) h
+      next_is (cell_at cells j within) ∙ ap (λ r. with_contents_before (contents_drawn count ds) (r >>= λ first. contents_here spec (drop (j + 1) cells) >>= λ rest. Ok (first ∷ rest))) h
 
   pub gather_more : (d : FieldContent) → entry_here spec e ≡ Ok (content_drawn count d) → IsDrawn spec d → IsGathering count spec cells (j + 1) (ds ++ d ∷ [])
   gather_more d h g = record {
-    so = next_is (cell_at cells j within) ∙ ap (λ r. in_front (contents_drawn count ds) (r >>= λ first. contents_here spec (drop (j + 1) cells) >>= λ rest. Ok (first ∷ rest))) h
-        ∙ front_more (contents_drawn count ds) (content_drawn count d) (contents_here spec (drop (j + 1) cells)) ∙ ap (λ cs. in_front cs (contents_here spec (drop (j + 1) cells))) (sym (contents_more count ds d));
+    so = next_is (cell_at cells j within) ∙ ap (λ r. with_contents_before (contents_drawn count ds) (r >>= λ first. contents_here spec (drop (j + 1) cells) >>= λ rest. Ok (first ∷ rest))) h
+        ∙ contents_before_more (contents_drawn count ds) (content_drawn count d) (contents_here spec (drop (j + 1) cells)) ∙ ap (λ cs. with_contents_before cs (contents_here spec (drop (j + 1) cells))) (sym (contents_more count ds d));
     all = all_more spec ds d inv.all g;
     many = omega (arith, length-append ds (d ∷ []), inv.many);
   }
 
 pub gathered : (count : ℕ) (spec : FieldSpec) (cells : List RowCell) (j : ℕ) (ds : List FieldContent) → IsGathering count spec cells j ds → length cells ≤ j → contents_here spec cells ≡ Ok (contents_drawn count ds)
-gathered count spec cells j ds inv h = inv.so ∙ ap (λ cs. in_front (contents_drawn count ds) (contents_here spec cs)) (drop_none cells j h) ∙ ap Ok (append-nil (contents_drawn count ds))
+gathered count spec cells j ds inv h = inv.so ∙ ap (λ cs. with_contents_before (contents_drawn count ds) (contents_here spec cs)) (drop_none cells j h) ∙ ap Ok (append-nil (contents_drawn count ds))
 
 -- the entries that were found are those of the first cells, one more or all
 pub found_more : (cells : List RowCell) (j : ℕ) (fs : List EntryRef) (e : EntryRef) → j < length cells → map entry_found fs ≡ map cell_entry (take j cells) → ((c : RowCell) → slice_get cells j ≡ Some c → entry_found e ≡ cell_entry c)

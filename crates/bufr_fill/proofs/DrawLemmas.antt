@@ -2,7 +2,7 @@
 use Rattle.std.proofs.Common.{◌≡◌, ℕ, ◌^◌, ◌<◌, ◌&&◌, Bool, true, false, not, ℤ, Result, Err, refl, sym, ◌∙◌, ap, arith}
 use Rattle.std.specs.Prelude.{◌==◌, if◌then◌else◌}
 use Rattle.bufr_walk.specs.FieldSpec.{FieldSpec, is_reference}
-use Rattle.bufr_walk.specs.Content.{Content, answer_of, told_by_role, count_in, reference_in}
+use Rattle.bufr_walk.specs.Content.{Content, answer_of, answer_by_role, count_in, reference_in}
 use Rattle.bufr_walk.specs.declared.spec.Role.TheVariants as role
 use Rattle.bufr_walk.specs.declared.spec.Taken.TheVariants as taken
 use Rattle.bufr_fill.specs.Packing.{raw_limit}
@@ -31,17 +31,17 @@ pub content_wrong : (spec : FieldSpec) (d : Draft) → is_of spec d ≡ false �
 content_wrong spec d h = ap (λ b. if b then content_by_form d.form spec else Err (wrong_for spec)) h
 
 -- what each role returns to the walk
-pub told_element : (spec : FieldSpec) (c : Content) → spec.role ≡ role.Element → taken.Plain ≡ answer_of spec c
-told_element spec c e = sym (ap (λ r. told_by_role r c) e)
+pub answer_element : (spec : FieldSpec) (c : Content) → spec.role ≡ role.Element → taken.Plain ≡ answer_of spec c
+answer_element spec c e = sym (ap (λ r. answer_by_role r c) e)
 
-pub told_inserted : (spec : FieldSpec) (c : Content) → spec.role ≡ role.Inserted → taken.Plain ≡ answer_of spec c
-told_inserted spec c e = sym (ap (λ r. told_by_role r c) e)
+pub answer_inserted : (spec : FieldSpec) (c : Content) → spec.role ≡ role.Inserted → taken.Plain ≡ answer_of spec c
+answer_inserted spec c e = sym (ap (λ r. answer_by_role r c) e)
 
-pub told_count : (spec : FieldSpec) (c : Content) (n : ℕ) → spec.role ≡ role.Factor → n ≡ count_in c → taken.Count n ≡ answer_of spec c
-told_count spec c n e h = ap taken.Count h ∙ sym (ap (λ r. told_by_role r c) e)
+pub answer_count : (spec : FieldSpec) (c : Content) (n : ℕ) → spec.role ≡ role.Factor → n ≡ count_in c → taken.Count n ≡ answer_of spec c
+answer_count spec c n e h = ap taken.Count h ∙ sym (ap (λ r. answer_by_role r c) e)
 
-pub told_reference : (spec : FieldSpec) (c : Content) (v : ℤ) → spec.role ≡ role.Reference → v ≡ reference_in c → taken.Reference v ≡ answer_of spec c
-told_reference spec c v e h = ap taken.Reference h ∙ sym (ap (λ r. told_by_role r c) e)
+pub answer_reference : (spec : FieldSpec) (c : Content) (v : ℤ) → spec.role ≡ role.Reference → v ≡ reference_in c → taken.Reference v ≡ answer_of spec c
+answer_reference spec c v e h = ap taken.Reference h ∙ sym (ap (λ r. answer_by_role r c) e)
 
 -- a number is written in at most 63 bits
 pub drawn_narrow : (m : Bool) (w raw : ℕ) → raw < raw_limit m w → raw < 2 ^ w

@@ -10,7 +10,7 @@ pub record HasFilled {D C E : Type 0} (filler : Filler D C E) (left : List D) (o
   pub item : WrittenItem C
   pub here : left ≡ draft ∷ left'
   pub fills : filler.fills spec draft ≡ Ok item
-  pub tells : t ≡ filler.tells spec item.content
+  pub gives : t ≡ filler.gives spec item.content
   pub bits : out' ≡ out ++ item.bits
 
 -- the fault of a field that could not be written

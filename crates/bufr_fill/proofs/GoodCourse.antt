@@ -96,13 +96,13 @@ operator_good s x y set most legal = by (x == 1) (x == 2) (x == 3) (x == 6) (x =
 
 -- the references with one more that was defined
 references_kept : (fxy : ℕ) (reference : ℤ) (known : List Redefined) → unsigned_abs reference ≤ 2 ^ 63 → AreRedefined known → AreRedefined (with_reference fxy reference known)
-references_kept fxy reference [] told h = (told, h)
-references_kept fxy reference (r ∷ more) told h = by (nat_lt fxy r.fxy) (fxy == r.fxy) (references_kept fxy reference more told h.1)
+references_kept fxy reference [] answers h = (answers, h)
+references_kept fxy reference (r ∷ more) answers h = by (nat_lt fxy r.fxy) (fxy == r.fxy) (references_kept fxy reference more answers h.1)
   where
     by : (below same : Bool) → AreRedefined (with_reference fxy reference more)
         → AreRedefined (if below then record { fxy = fxy; reference = reference } ∷ r ∷ more else if same then record r { reference = reference } ∷ more else r ∷ with_reference fxy reference more)
-    by true same others = (told, h)
-    by false true others = (told, h.1)
+    by true same others = (answers, h)
+    by false true others = (answers, h.1)
     by false false others = (h.0, others)
 
 field_good : (s : OperatorModel) (fxy : ℕ) (t : Taken) → IsSettings s → IsWithin t → IsSettings (after_field s fxy t)
@@ -111,10 +111,10 @@ field_good s fxy (taken.Count n) set h = record { width_change = set.width_chang
 field_good s fxy (taken.Reference r) set h = record { width_change = set.width_change; scale_change = set.scale_change; new_reference_width = set.new_reference_width; precision_increase = set.precision_increase; character_octets = set.character_octets; local_width = omega arith; new_references = references_kept fxy r s.new_references h set.new_references }
 
 module _ (table : List Row) (rows : AreGoodRows table) where
-  asked_good : (r : Result FieldSpec TurnRefusal) (go : Taken → List Taken → NextTurn) (told : List Taken) (spec : FieldSpec) → AreWithin told → ((x : FieldSpec) → r ≡ Ok x → IsSpec x) → ((t : Taken) (more : List Taken) → IsWithin t → AreWithin more → (go t more).next ≡ take_next spec → IsSpec spec) → (asked r go told).next ≡ take_next spec → IsSpec spec
-  asked_good (Err why) go told spec w h g e = absurd cc
+  asked_good : (r : Result FieldSpec TurnRefusal) (go : Taken → List Taken → NextTurn) (answers : List Taken) (spec : FieldSpec) → AreWithin answers → ((x : FieldSpec) → r ≡ Ok x → IsSpec x) → ((t : Taken) (more : List Taken) → IsWithin t → AreWithin more → (go t more).next ≡ take_next spec → IsSpec spec) → (asked r go answers).next ≡ take_next spec → IsSpec spec
+  asked_good (Err why) go answers spec w h g e = absurd cc
   asked_good (Ok x) go [] spec w h g e = let is : x ≡ spec = cc in subst IsSpec is (h x refl)
-  asked_good (Ok x) go (t ∷ told) spec w h g e = g t told w.0 w.1 e
+  asked_good (Ok x) go (t ∷ answers) spec w h g e = g t answers w.0 w.1 e
 
   operated_good : (r : Result OperatorModel TurnRefusal) (go : OperatorModel → NextTurn) (spec : FieldSpec) → ((s : OperatorModel) → r ≡ Ok s → (go s).next ≡ take_next spec → IsSpec spec) → (operated r go).next ≡ take_next spec → IsSpec spec
   operated_good (Err why) go spec g e = absurd cc
@@ -127,23 +127,23 @@ module _ (table : List Row) (rows : AreGoodRows table) where
       by true q = absurd cc
       by false q = let is : with_operator (x_of fxy) (y_of fxy) s ≡ s' = cc in subst IsSettings is (operator_good s (x_of fxy) (y_of fxy) set (operand_most fxy) legal)
 
-  ahead_good : (turns : Turns) (s : OperatorModel) (told : List Taken) (spec : FieldSpec) → AreLegal turns → IsSettings s → AreWithin told → (ahead table turns s told).next ≡ take_next spec → IsSpec spec
-  ahead_good finish s told spec legal set w e = absurd cc
-  ahead_good open_end s told spec legal set w e = absurd cc
-  ahead_good (group next) s told spec legal set w e = ahead_good next s told spec legal set w e
-  ahead_good (pass_end next) s told spec legal set w e = ahead_good next s told spec legal set w e
-  ahead_good (factor_turn fxy next) s told spec legal set w e =
-      asked_good (factor_spec table s fxy) (λ t more. ahead table next (after_field s fxy t) more) told spec w (λ x q. factor_good table rows s set fxy x q) (λ t more h g q. ahead_good next (after_field s fxy t) more spec legal (field_good s fxy t set h) g q) e
-  ahead_good (element_turn fxy next) s told spec legal set w e =
-      asked_good (element_spec table s fxy) (λ t more. ahead table next (after_field s fxy t) more) told spec w (λ x q. element_good table rows s set fxy x q) (λ t more h g q. ahead_good next (after_field s fxy t) more spec legal (field_good s fxy t set h) g q) e
-  ahead_good (operator_turn fxy next) s told spec legal set w e =
-      by (is_inserted_text fxy) refl e (λ t more h g q. ahead_good next (after_field s fxy t) more spec legal.1 (field_good s fxy t set h) g q) (λ s' p q. ahead_good next s' told spec legal.1 (after_good s fxy s' set legal.0 p) w q)
+  ahead_good : (turns : Turns) (s : OperatorModel) (answers : List Taken) (spec : FieldSpec) → AreLegal turns → IsSettings s → AreWithin answers → (ahead table turns s answers).next ≡ take_next spec → IsSpec spec
+  ahead_good finish s answers spec legal set w e = absurd cc
+  ahead_good open_end s answers spec legal set w e = absurd cc
+  ahead_good (group next) s answers spec legal set w e = ahead_good next s answers spec legal set w e
+  ahead_good (pass_end next) s answers spec legal set w e = ahead_good next s answers spec legal set w e
+  ahead_good (factor_turn fxy next) s answers spec legal set w e =
+      asked_good (factor_spec table s fxy) (λ t more. ahead table next (after_field s fxy t) more) answers spec w (λ x q. factor_good table rows s set fxy x q) (λ t more h g q. ahead_good next (after_field s fxy t) more spec legal (field_good s fxy t set h) g q) e
+  ahead_good (element_turn fxy next) s answers spec legal set w e =
+      asked_good (element_spec table s fxy) (λ t more. ahead table next (after_field s fxy t) more) answers spec w (λ x q. element_good table rows s set fxy x q) (λ t more h g q. ahead_good next (after_field s fxy t) more spec legal (field_good s fxy t set h) g q) e
+  ahead_good (operator_turn fxy next) s answers spec legal set w e =
+      by (is_inserted_text fxy) refl e (λ t more h g q. ahead_good next (after_field s fxy t) more spec legal.1 (field_good s fxy t set h) g q) (λ s' p q. ahead_good next s' answers spec legal.1 (after_good s fxy s' set legal.0 p) w q)
     where
-      by : (b : Bool) → is_inserted_text fxy ≡ b → (if b then asked (inserted_spec s fxy) (λ t more. ahead table next (after_field s fxy t) more) told else operated (after_operator s fxy) (λ s'. ahead table next s' told)).next ≡ take_next spec
+      by : (b : Bool) → is_inserted_text fxy ≡ b → (if b then asked (inserted_spec s fxy) (λ t more. ahead table next (after_field s fxy t) more) answers else operated (after_operator s fxy) (λ s'. ahead table next s' answers)).next ≡ take_next spec
           → ((t : Taken) (more : List Taken) → IsWithin t → AreWithin more → (ahead table next (after_field s fxy t) more).next ≡ take_next spec → IsSpec spec)
-          → ((s' : OperatorModel) → after_operator s fxy ≡ Ok s' → (ahead table next s' told).next ≡ take_next spec → IsSpec spec) → IsSpec spec
-      by true p q f g = asked_good (inserted_spec s fxy) (λ t more. ahead table next (after_field s fxy t) more) told spec w (λ x r. inserted_good s fxy x p legal.0 r) f q
-      by false p q f g = operated_good (after_operator s fxy) (λ s'. ahead table next s' told) spec g q
+          → ((s' : OperatorModel) → after_operator s fxy ≡ Ok s' → (ahead table next s' answers).next ≡ take_next spec → IsSpec spec) → IsSpec spec
+      by true p q f g = asked_good (inserted_spec s fxy) (λ t more. ahead table next (after_field s fxy t) more) answers spec w (λ x r. inserted_good s fxy x p legal.0 r) f q
+      by false p q f g = operated_good (after_operator s fxy) (λ s'. ahead table next s' answers) spec g q
 
   passes_legal : (n : ℕ) (body : Rest → Rest) (rest : Rest) → ((r : Rest) → ((counts : List ℕ) → AreLegal (r counts)) → (counts : List ℕ) → AreLegal (body r counts)) → ((counts : List ℕ) → AreLegal (rest counts)) → (counts : List ℕ) → AreLegal (passes n body rest counts)
   passes_legal zero body rest h g counts = g counts
@@ -160,6 +160,6 @@ module _ (table : List Row) (rows : AreGoodRows table) where
   begin_good : IsSettings begin
   begin_good = record { width_change = omega arith; scale_change = omega arith; new_reference_width = omega arith; precision_increase = omega arith; character_octets = omega arith; local_width = omega arith; new_references = tt }
 
-  pub next_good : (tree : Tree) (told : List Taken) (spec : FieldSpec) → IsLegal tree → AreWithin told → (next_item table tree told).next ≡ take_next spec → IsSpec spec
+  pub next_good : (tree : Tree) (answers : List Taken) (spec : FieldSpec) → IsLegal tree → AreWithin answers → (next_item table tree answers).next ≡ take_next spec → IsSpec spec
   unfolding next_item
-  next_good tree told spec legal w e = ahead_good (turns_of tree (counts_of told)) begin told spec (unroll_legal tree (λ _. finish) legal (λ c. tt) (counts_of told)) begin_good w e
+  next_good tree answers spec legal w e = ahead_good (turns_of tree (counts_of answers)) begin answers spec (unroll_legal tree (λ _. finish) legal (λ c. tt) (counts_of answers)) begin_good w e

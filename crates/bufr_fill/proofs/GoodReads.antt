@@ -10,11 +10,11 @@ use Rattle.bufr_walk.specs.declared.spec.Role.TheVariants as role
 use Rattle.bufr_walk.specs.declared.spec.Taken.{Taken}
 use Rattle.bufr_walk.specs.FieldSpec.{FieldSpec, IsSpec, HasWidth, HasRole}
 use Rattle.bufr_walk.specs.Course.{Course, take_next, next_item}
-use Rattle.bufr_walk.specs.Content.{Content, number, text, missing, reference, told_by_role, answer_of}
+use Rattle.bufr_walk.specs.Content.{Content, number, text, missing, reference, answer_by_role, answer_of}
 use Rattle.bufr_walk.specs.PlainField.{found, plain_field}
-use Rattle.bufr_walk.specs.PackedField.{packed_field, told_first}
+use Rattle.bufr_walk.specs.PackedField.{packed_field, answer_first}
 use Rattle.bufr_fill.specs.Fits.{FitsRole}
-use Rattle.bufr_walk.specs.Reading.{Item, DataCoding, plain, packed, ReadsItems, ReadsSubsets, tells_of, after}
+use Rattle.bufr_walk.specs.Reading.{Item, DataCoding, plain, packed, ReadsItems, ReadsSubsets, item_answer, after}
 use Rattle.bufr_fill.proofs.Limits.{AreGoodRows, IsWithin, AreWithin}
 use Rattle.bufr_fill.proofs.WrittenLists.{AllSpecs, EachSpecs}
 use Rattle.bufr_fill.proofs.PlainLaws.{plain_read}
@@ -33,36 +33,36 @@ narrow kind.Numeric w h e = h.1
 narrow kind.Coded w h e = h.1
 narrow kind.Character w h e = absurd cc
 
-pub told_within : (r : Role) (spec : FieldSpec) (c : Content) → IsSpec spec → HasRole r spec.kind spec.may_be_missing → FitsRole r spec c → IsWithin (told_by_role r c)
-told_within role.Element spec c good hr h = tt
-told_within role.Inserted spec c good hr h = tt
-told_within role.Factor spec c good hr h = tt
-told_within role.Reference spec (reference v) good hr h =
+pub answer_within : (r : Role) (spec : FieldSpec) (c : Content) → IsSpec spec → HasRole r spec.kind spec.may_be_missing → FitsRole r spec c → IsWithin (answer_by_role r c)
+answer_within role.Element spec c good hr h = tt
+answer_within role.Inserted spec c good hr h = tt
+answer_within role.Factor spec c good hr h = tt
+answer_within role.Reference spec (reference v) good hr h =
     let n : spec.width - 1 ≤ 63 = omega (arith, narrow spec.kind spec.width good.width hr.0) in
     let p : 2 ^ (spec.width - 1) ≤ 2 ^ 63 = pow_mono n in
     omega (arith, p, h)
-told_within role.Reference spec (number raw) good hr h = absurd h
-told_within role.Reference spec (text os) good hr h = absurd h
-told_within role.Reference spec missing good hr h = absurd h
+answer_within role.Reference spec (number raw) good hr h = absurd h
+answer_within role.Reference spec (text os) good hr h = absurd h
+answer_within role.Reference spec missing good hr h = absurd h
 
-module _ {C : Type 0} (form : DataCoding C) (tells : (spec : FieldSpec) (c : C) (bits mid : List Bool) → IsSpec spec → form.field spec bits ≡ Ok (found c mid) → IsWithin (form.tells spec c)) where
-  pub specs_of_reads : (course : Course) (items : List (Item C)) (bits behind : List Bool) → IsGoodCourse course → ReadsItems form course items bits behind → AllSpecs items
-  specs_of_reads course [] bits behind good h = tt
-  specs_of_reads course (i ∷ items) bits behind good h =
+module _ {C : Type 0} (form : DataCoding C) (gives : (spec : FieldSpec) (c : C) (bits mid : List Bool) → IsSpec spec → form.field spec bits ≡ Ok (found c mid) → IsWithin (form.gives spec c)) where
+  pub specs_of_reads : (course : Course) (items : List (Item C)) (bits suffix : List Bool) → IsGoodCourse course → ReadsItems form course items bits suffix → AllSpecs items
+  specs_of_reads course [] bits suffix good h = tt
+  specs_of_reads course (i ∷ items) bits suffix good h =
       let here : IsSpec i.spec = good [] i.spec tt h.1 in
-      let within : IsWithin (tells_of form i) = tells i.spec i.content bits h.0 here h.2 in
-      (here, specs_of_reads (after form course i) items h.0 behind (λ answer_of spec w e. good (tells_of form i ∷ answer_of) spec (within, w) e) h.3)
+      let within : IsWithin (item_answer form i) = gives i.spec i.content bits h.0 here h.2 in
+      (here, specs_of_reads (after form course i) items h.0 suffix (λ answer_of spec w e. good (item_answer form i ∷ answer_of) spec (within, w) e) h.3)
 
-plain_tells : (spec : FieldSpec) (c : Content) (bits mid : List Bool) → IsSpec spec → plain_field spec bits ≡ Ok (found c mid) → IsWithin (answer_of spec c)
-plain_tells spec c bits mid good e = told_within spec.role spec c good good.role (plain_read spec good bits mid c e).0
+plain_gives : (spec : FieldSpec) (c : Content) (bits mid : List Bool) → IsSpec spec → plain_field spec bits ≡ Ok (found c mid) → IsWithin (answer_of spec c)
+plain_gives spec c bits mid good e = answer_within spec.role spec c good good.role (plain_read spec good bits mid c e).0
 
-packed_tells : (n : ℕ) (spec : FieldSpec) (cs : List Content) (bits mid : List Bool) → IsSpec spec → packed_field n spec bits ≡ Ok (found cs mid) → IsWithin (told_first spec cs)
-packed_tells n spec [] bits mid good e = tt
-packed_tells n spec (c ∷ cs) bits mid good e = told_within spec.role spec c good good.role (packed_again n spec good c cs bits mid e).2.fits.0
+packed_gives : (n : ℕ) (spec : FieldSpec) (cs : List Content) (bits mid : List Bool) → IsSpec spec → packed_field n spec bits ≡ Ok (found cs mid) → IsWithin (answer_first spec cs)
+packed_gives n spec [] bits mid good e = tt
+packed_gives n spec (c ∷ cs) bits mid good e = answer_within spec.role spec c good good.role (packed_again n spec good c cs bits mid e).2.fits.0
 
-pub plain_specs : (course : Course) (subsets : List (List (Item Content))) (bits behind : List Bool) → IsGoodCourse course → ReadsSubsets course subsets bits behind → EachSpecs subsets
-plain_specs course [] bits behind good h = tt
-plain_specs course (items ∷ subsets) bits behind good h = (specs_of_reads plain plain_tells course items bits h.0 good h.1.0, plain_specs course subsets h.0 behind good h.2)
+pub plain_specs : (course : Course) (subsets : List (List (Item Content))) (bits suffix : List Bool) → IsGoodCourse course → ReadsSubsets course subsets bits suffix → EachSpecs subsets
+plain_specs course [] bits suffix good h = tt
+plain_specs course (items ∷ subsets) bits suffix good h = (specs_of_reads plain plain_gives course items bits h.0 good h.1.0, plain_specs course subsets h.0 suffix good h.2)
 
-pub packed_specs : (n : ℕ) (course : Course) (items : List (Item (List Content))) (bits behind : List Bool) → IsGoodCourse course → ReadsItems (packed n) course items bits behind → AllSpecs items
-packed_specs n course items bits behind good h = specs_of_reads (packed n) (packed_tells n) course items bits behind good h
+pub packed_specs : (n : ℕ) (course : Course) (items : List (Item (List Content))) (bits suffix : List Bool) → IsGoodCourse course → ReadsItems (packed n) course items bits suffix → AllSpecs items
+packed_specs n course items bits suffix good h = specs_of_reads (packed n) (packed_gives n) course items bits suffix good h

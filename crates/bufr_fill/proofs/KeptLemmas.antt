@@ -13,8 +13,8 @@ range-append : (xs ys : List ℕ) (i j : ℕ) → i ≤ j → j ≤ length xs �
 range-append xs ys i j before inside =
     rw (drop-append-le i xs ys (omega arith), take-append-le (j - i) (drop i xs) ys (omega (arith, length-drop i xs))) refl
 
-range-behind : (xs ys : List ℕ) (j : ℕ) → j ≡ length xs + length ys → slice_range (xs ++ ys) (length xs) j ≡ ys
-range-behind xs ys j e = rw (drop-append_seam xs ys) (take_all (j - length xs) ys (omega arith))
+range-after : (xs ys : List ℕ) (j : ℕ) → j ≡ length xs + length ys → slice_range (xs ++ ys) (length xs) j ≡ ys
+range-after xs ys j e = rw (drop-append_seam xs ys) (take_all (j - length xs) ys (omega arith))
 
 entry-append : (octets more : List ℕ) (one : StoredEntry) → IsEntryInside (length octets) one → entry_kept (octets ++ more) one ≡ entry_kept octets one
 entry-append octets more one (order, inside) = ap (entry_by one.kind one.line one.fxy) (range-append octets more one.start one.end order inside)
@@ -28,7 +28,7 @@ pub entries-push : (octets more new : List ℕ) (cells : List StoredEntry) (one 
     → entries_kept new (cells ++ one ∷ []) ≡ entries_kept octets cells ++ e ∷ []
 entries-push octets more new cells one e all is from at said =
     let stop : one.end ≡ length octets + length more = at ∙ ap length is ∙ length-append octets more in
-    let range : slice_range new one.start one.end ≡ more = ap (λ (t : List ℕ). slice_range t one.start one.end) is ∙ ap (λ n. slice_range (octets ++ more) n one.end) from ∙ range-behind octets more one.end stop in
+    let range : slice_range new one.start one.end ≡ more = ap (λ (t : List ℕ). slice_range t one.start one.end) is ∙ ap (λ n. slice_range (octets ++ more) n one.end) from ∙ range-after octets more one.end stop in
     map-append (entry_kept new) cells (one ∷ [])
     ∙ ap (λ (t : List ℕ). map (entry_kept new) cells ++ entry_by one.kind one.line one.fxy t ∷ []) range
     ∙ ap (λ (x : DraftEntry). map (entry_kept new) cells ++ x ∷ []) said

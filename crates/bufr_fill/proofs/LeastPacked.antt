@@ -48,23 +48,23 @@ module _ (n : ℕ) (spec : FieldSpec) (some : 1 ≤ n) where
   lesser_k role.Reference false k j base is cs p e h = cc
 
   -- of two items with the same contents the one that is no longer has no greater k
-  shorter : (out bits : List Bool) (cs : List Content) (behind : List Bool) → packed_field n spec out ≡ Ok (found cs []) → packed_field n spec bits ≡ Ok (found cs behind) → length out + length behind ≤ length bits → k_of spec out ≤ k_of spec bits
-  shorter out bits cs behind e f h =
+  shorter : (out bits : List Bool) (cs : List Content) (suffix : List Bool) → packed_field n spec out ≡ Ok (found cs []) → packed_field n spec bits ≡ Ok (found cs suffix) → length out + length suffix ≤ length bits → k_of spec out ≤ k_of spec bits
+  shorter out bits cs suffix e f h =
       let a = unpacked n spec out cs [] e in
-      let b = unpacked n spec bits cs behind f in
+      let b = unpacked n spec bits cs suffix f in
       lesser_k spec.role (k_of spec out == 0) (k_of spec out) (k_of spec bits) _ _ cs refl a.contents (omega (arith, h, a.used, b.used))
 
   module _ (good : IsSpec spec) where
     -- the same bits are packed, whatever the contents were read from
-    no_longer : (c : Content) (cs : List Content) (out bits behind : List Bool) → packing spec (c ∷ cs) ≡ Ok out → packed_field n spec bits ≡ Ok (found (c ∷ cs) behind) → length out + length behind ≤ length bits
-    no_longer c cs out bits behind is e =
-        let p = packed_again n spec good c cs bits behind e in
+    no_longer : (c : Content) (cs : List Content) (out bits suffix : List Bool) → packing spec (c ∷ cs) ≡ Ok out → packed_field n spec bits ≡ Ok (found (c ∷ cs) suffix) → length out + length suffix ≤ length bits
+    no_longer c cs out bits suffix is e =
+        let p = packed_again n spec good c cs bits suffix e in
         omega (arith, p.1, p.2.short, ap length (same_ok _ _ (sym is ∙ p.2.is)))
 
-    by_contents : (cs : List Content) (bits behind : List Bool) → packed_field n spec bits ≡ Ok (found cs behind) → HasLeastK n spec cs
-    by_contents [] bits behind e = absurd (omega (arith, some, packed_count n spec good [] bits behind e))
-    by_contents (c ∷ cs) bits behind e =
-        let p = (packed_again n spec good c cs bits behind e).2 in
+    by_contents : (cs : List Content) (bits suffix : List Bool) → packed_field n spec bits ≡ Ok (found cs suffix) → HasLeastK n spec cs
+    by_contents [] bits suffix e = absurd (omega (arith, some, packed_count n spec good [] bits suffix e))
+    by_contents (c ∷ cs) bits suffix e =
+        let p = (packed_again n spec good c cs bits suffix e).2 in
         let alone : packed_field n spec p.out ≡ Ok (found (c ∷ cs) []) = subst (λ xs. packed_field n spec xs ≡ Ok (found (c ∷ cs) [])) (append-nil p.out) (p.again []) in
         record {
           out = p.out;
@@ -74,5 +74,5 @@ module _ (n : ℕ) (spec : FieldSpec) (some : 1 ≤ n) where
           short = λ bs mid f. no_longer c cs p.out bs mid p.is f;
         }
 
-pub least_k_packed : (n : ℕ) (spec : FieldSpec) (contents : List Content) (bits behind : List Bool) → 1 ≤ n → IsSpec spec → packed_field n spec bits ≡ Ok (found contents behind) → HasLeastK n spec contents
-least_k_packed n spec contents bits behind some good e = by_contents n spec some good contents bits behind e
+pub least_k_packed : (n : ℕ) (spec : FieldSpec) (contents : List Content) (bits suffix : List Bool) → 1 ≤ n → IsSpec spec → packed_field n spec bits ≡ Ok (found contents suffix) → HasLeastK n spec contents
+least_k_packed n spec contents bits suffix some good e = by_contents n spec some good contents bits suffix e

@@ -25,7 +25,7 @@ IsWithin (taken.Reference r) = unsigned_abs r ≤ 2 ^ 63
 
 abbrev pub AreWithin : List Taken → Type 0
 AreWithin [] = Unit {0}
-AreWithin (t ∷ told) = IsWithin t × AreWithin told
+AreWithin (t ∷ answers) = IsWithin t × AreWithin answers
 
 abbrev pub AreRedefined : List Redefined → Type 0
 AreRedefined [] = Unit {0}

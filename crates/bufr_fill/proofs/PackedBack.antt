@@ -143,15 +143,15 @@ module _ (count k : ℕ) (short : k ≤ count) where
   one_text (reference v) h p = absurd h
   one_text missing h p = ap (λ b. if b then missing else text (octets_in k (replicate (8 * k) true) ++ replicate (count - k) 32)) (ones_set (8 * k))
   one_text (text os) h p =
-      let front = take k os in
-      let l : length front ≡ k = length-take-le k os (omega (arith, h.0)) in
-      let are : AreOctets front = AreOctets-take k os h.1 in
-      let some : are_all_ones (bits_of front) ≡ false = full_test front are ∙ not_true (list_all (λ octet. octet == 255) front) (and_second (same_octets (front ++ replicate (length os - k) 32) os) (not (list_all (λ octet. octet == 255) front)) p) in
-      let whole : front ++ replicate (length os - k) 32 ≡ os = octets_same (front ++ replicate (length os - k) 32) os (and_first (same_octets (front ++ replicate (length os - k) 32) os) (not (list_all (λ octet. octet == 255) front)) p) in
-      ap (λ b. if b then missing else text (octets_in k (bits_of front) ++ replicate (count - k) 32)) some
-      ∙ ap (λ n. text (octets_in n (bits_of front) ++ replicate (count - k) 32)) (sym l)
-      ∙ ap (λ x. text (x ++ replicate (count - k) 32)) (octets_again front are)
-      ∙ ap (λ n. text (front ++ replicate (n - k) 32)) (sym h.0)
+      let prefix = take k os in
+      let l : length prefix ≡ k = length-take-le k os (omega (arith, h.0)) in
+      let are : AreOctets prefix = AreOctets-take k os h.1 in
+      let some : are_all_ones (bits_of prefix) ≡ false = full_test prefix are ∙ not_true (list_all (λ octet. octet == 255) prefix) (and_second (same_octets (prefix ++ replicate (length os - k) 32) os) (not (list_all (λ octet. octet == 255) prefix)) p) in
+      let whole : prefix ++ replicate (length os - k) 32 ≡ os = octets_same (prefix ++ replicate (length os - k) 32) os (and_first (same_octets (prefix ++ replicate (length os - k) 32) os) (not (list_all (λ octet. octet == 255) prefix)) p) in
+      ap (λ b. if b then missing else text (octets_in k (bits_of prefix) ++ replicate (count - k) 32)) some
+      ∙ ap (λ n. text (octets_in n (bits_of prefix) ++ replicate (count - k) 32)) (sym l)
+      ∙ ap (λ x. text (x ++ replicate (count - k) 32)) (octets_again prefix are)
+      ∙ ap (λ n. text (prefix ++ replicate (n - k) 32)) (sym h.0)
       ∙ ap text whole
 
   -- texts are read again from their octets

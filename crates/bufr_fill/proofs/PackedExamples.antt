@@ -165,17 +165,17 @@ least_k_packed : packing as_quantity (number 28815 ∷ number 28816 ∷ []) ≡ 
 unfolding as_quantity bits_in bits_of
 least_k_packed = refl
 
-least_k_told : k_of as_quantity (bits_of (112 ∷ 143 ∷ 8 ∷ 64 ∷ [])) ≡ 2
+least_k_reported : k_of as_quantity (bits_of (112 ∷ 143 ∷ 8 ∷ 64 ∷ [])) ≡ 2
 unfolding as_quantity bits_of
-least_k_told = refl
+least_k_reported = refl
 
 greater_k_read : packed_field 2 as_quantity (take 28 (bits_of (112 ∷ 143 ∷ 12 ∷ 16 ∷ []))) ≡ Ok (found (number 28815 ∷ number 28816 ∷ []) [])
 unfolding as_quantity bits_of
 greater_k_read = refl
 
-greater_k_told : k_of as_quantity (take 28 (bits_of (112 ∷ 143 ∷ 12 ∷ 16 ∷ []))) ≡ 3
+greater_k_reported : k_of as_quantity (take 28 (bits_of (112 ∷ 143 ∷ 12 ∷ 16 ∷ []))) ≡ 3
 unfolding as_quantity bits_of
-greater_k_told = refl
+greater_k_reported = refl
 
 lesser_base_read : packed_field 2 as_quantity (take 26 (bits_of (112 ∷ 142 ∷ 9 ∷ 128 ∷ []))) ≡ Ok (found (number 28815 ∷ number 28816 ∷ []) [])
 unfolding as_quantity bits_of

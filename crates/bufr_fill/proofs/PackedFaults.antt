@@ -12,12 +12,12 @@ use Rattle.bufr_fill.specs.Draft.{Draft}
 use Rattle.bufr_fill.specs.Encoding.{ItemRow, item_row, cells_at, rows, longest, first_there, there_or, line_in, content_here, contents_here, packed_to, are_many, pack_across, none_across, packed_filler, packed_data, ◌>>=◌}
 use Rattle.bufr_fill.specs.Entries.{Subset}
 use Rattle.bufr_fill.specs.Fault.{FaultAt, at_line, item_too_many, too_many_values, walk_refused}
-use Rattle.bufr_fill.specs.Filling.{Filler, fill, fill_one, fill_none, and_behind}
+use Rattle.bufr_fill.specs.Filling.{Filler, fill, fill_one, fill_none, with_bits_before}
 use Rattle.bufr_fill.specs.Packing.{packing}
 use Rattle.bufr_fill.specs.PackedOut.{PackedOutModel, new_packed_out, PackedFills, and_end, all_at_end, first_line_at, rows_left, IsFaultHere}
 use Rattle.bufr_fill.proofs.PackedWalks.{some_there, within, row_first, fills}
 use Rattle.bufr_fill.proofs.Places.{length-cells}
-use Rattle.bufr_fill.proofs.WalkFills.{after_told, walk_fills, unfilled}
+use Rattle.bufr_fill.proofs.WalkFills.{after_answers, walk_fills, unfilled}
 
 -- ---- places
 
@@ -63,7 +63,7 @@ pub stays : (course : Course) (s : PackedOutModel) (items : List TakenField) (s'
 stays course s [] s' h p = record { subsets = ap (λ (x : PackedOutModel). x.subsets) h; within = omega (arith, p, ap (λ (x : PackedOutModel). x.place) h, ap (λ (x : PackedOutModel). longest x.subsets) h) }
 stays course s (i ∷ items) s' h p =
     let near = within s h.0 i.spec i.taken h.2 in
-    let rest = stays (λ told. course (i.taken ∷ told)) h.0 items s' h.3 (omega (arith, near, h.2.place, ap longest h.2.subsets)) in
+    let rest = stays (λ answers. course (i.taken ∷ answers)) h.0 items s' h.3 (omega (arith, near, h.2.place, ap longest h.2.subsets)) in
     record { subsets = rest.subsets ∙ h.2.subsets; within = rest.within }
 
 module _ (course : Course) (s : Subset) (more : List Subset) where
@@ -78,7 +78,7 @@ module _ (course : Course) (s : Subset) (more : List Subset) where
   record Came (items : List TakenField) (mid : PackedOutModel) : Type 0 where
     bits : List Bool
     are : mid.bits ≡ bits
-    is : packed_data course (s ∷ more) ≡ and_behind filler bits (fill_from (course_after course items) mid.place)
+    is : packed_data course (s ∷ more) ≡ with_bits_before filler bits (fill_from (course_after course items) mid.place)
     subsets : mid.subsets ≡ s ∷ more
     near : mid.place ≤ longest (s ∷ more)
 
@@ -90,7 +90,7 @@ module _ (course : Course) (s : Subset) (more : List Subset) where
       record {
         bits = f.0;
         are = f.1;
-        is = ap (λ k. fill filler course (rows k 0 (s ∷ more))) (sym e) ∙ f.2 ∙ ap (λ ss. and_behind filler f.0 (fill filler (course_after course items) (rows (longest ss - mid.place) mid.place ss))) w.subsets;
+        is = ap (λ k. fill filler course (rows k 0 (s ∷ more))) (sym e) ∙ f.2 ∙ ap (λ ss. with_bits_before filler f.0 (fill filler (course_after course items) (rows (longest ss - mid.place) mid.place ss))) w.subsets;
         subsets = w.subsets;
         near = omega (arith, w.within, ap longest w.subsets);
       }
@@ -106,7 +106,7 @@ module _ (course : Course) (s : Subset) (more : List Subset) where
           ∙ ap (λ o. Err (at_line (line_in o s.end_line) (walk_refused why))) (sym (none_past s.items place (omega (arith, l, h))))
       by (suc k) l =
           ap (λ k. fill filler c (rows k place (s ∷ more))) l
-          ∙ ap (λ x. fill_one filler x (item_row place (s ∷ more)) (λ t. fill filler (λ told. c (t ∷ told)) (rows k (place + 1) (s ∷ more)))) e
+          ∙ ap (λ x. fill_one filler x (item_row place (s ∷ more)) (λ t. fill filler (λ answers. c (t ∷ answers)) (rows k (place + 1) (s ∷ more)))) e
 
   -- where an item is at fault
   fault_here : (c : Course) (place : ℕ) (spec : FieldSpec) (f : FaultAt) → (c []).next ≡ take_next spec → place ≤ longest (s ∷ more) → pack_across spec (item_row place (s ∷ more)) ≡ Err f → fill_from c place ≡ Err f
@@ -136,14 +136,14 @@ module _ (course : Course) (s : Subset) (more : List Subset) where
   over_here c place f e p =
       let b = ends_before place (s ∷ more) f p in
       ap (fill filler c) (row_first (longest (s ∷ more)) place (s ∷ more) b.0)
-      ∙ ap (λ x. fill_one filler x (item_row place (s ∷ more)) (λ t. fill filler (λ told. c (t ∷ told)) (rows (longest (s ∷ more) - (place + 1)) (place + 1) (s ∷ more)))) e
+      ∙ ap (λ x. fill_one filler x (item_row place (s ∷ more)) (λ t. fill filler (λ answers. c (t ∷ answers)) (rows (longest (s ∷ more) - (place + 1)) (place + 1) (s ∷ more)))) e
       ∙ ap Err (sym b.1)
 
   later : (items : List TakenField) (mid : PackedOutModel) → Came items mid → (f : FaultAt) → fill_from (course_after course items) mid.place ≡ Err f → packed_data course (s ∷ more) ≡ Err f
-  later items mid h f e = h.is ∙ ap (and_behind filler h.bits) e
+  later items mid h f e = h.is ∙ ap (with_bits_before filler h.bits) e
 
   stops : (items : List TakenField) (mid : PackedOutModel) (f : FaultAt) → Takes (oks PackedFills) course (new_packed_out (s ∷ more)) items mid → IsFaultHere (course (answers_of items)).next mid f → packed_data course (s ∷ more) ≡ Err f
-  stops items mid f h x = later items mid k f (by (course (answers_of items)).next (ap (λ a. a.next) (after_told course items)) x)
+  stops items mid f h x = later items mid k f (by (course (answers_of items)).next (ap (λ a. a.next) (after_answers course items)) x)
     where
       k : Came items mid
       k = came items mid h
@@ -159,8 +159,8 @@ module _ (course : Course) (s : Subset) (more : List Subset) where
       let k = came items mid h in
       let past = ends_past mid.place (s ∷ more) (ap (λ ss. all_at_end (cells_at mid.place ss)) (sym k.subsets) ∙ x) in
       let none : fill_from (course_after course items) mid.place ≡ Ok [] =
-      ap (fill filler (course_after course items)) (no_row mid.place (s ∷ more) past) ∙ ap (fill_none filler) (ap (λ a. a.next) (after_told course items) ∙ e) in
-      k.is ∙ ap (and_behind filler k.bits) none ∙ ap Ok (append-nil k.bits ∙ sym k.are)
+      ap (fill filler (course_after course items)) (no_row mid.place (s ∷ more) past) ∙ ap (fill_none filler) (ap (λ a. a.next) (after_answers course items) ∙ e) in
+      k.is ∙ ap (with_bits_before filler k.bits) none ∙ ap Ok (append-nil k.bits ∙ sym k.are)
 
 pub fault_as_defined : (course : Course) (subsets : List Subset) (items : List TakenField) (s : PackedOutModel) (f : FaultAt) → 1 ≤ length subsets → Takes (oks PackedFills) course (new_packed_out subsets) items s → IsFaultHere (course (answers_of items)).next s f → packed_data course subsets ≡ Err f
 fault_as_defined course [] items s f some h x = absurd (omega (arith, some))

@@ -14,7 +14,7 @@ use Rattle.bufr_fill.specs.Draft.{Draft}
 use Rattle.bufr_fill.specs.Encoding.{RowCell, ItemRow, item_row, cells_at, rows, longest, first_line, contents_here, packing_fault, packed_to, are_many, pack_across, packed_filler, packed_data, ◌>>=◌}
 use Rattle.bufr_fill.specs.Entries.{Subset}
 use Rattle.bufr_fill.specs.Fault.{FaultAt, at_line, too_many_values}
-use Rattle.bufr_fill.specs.Filling.{fill, fill_one, fill_none, filled, and_behind}
+use Rattle.bufr_fill.specs.Filling.{fill, fill_one, fill_none, filled, with_bits_before}
 use Rattle.bufr_fill.specs.Fits.{Fits, AllFit}
 use Rattle.bufr_fill.specs.OtherForm.{subsets_from, IsUnlike, IsTogetherOrNot}
 use Rattle.bufr_fill.specs.Packing.{packing}
@@ -147,15 +147,15 @@ across_gives spec good p rs ss h d few =
 
 -- ---- the course continues the same for all
 
-abbrev AllTell : FieldSpec → Taken → List Content → Type 0
-AllTell spec t [] = Unit {0}
-AllTell spec t (c ∷ cs) = (answer_of spec c ≡ t) × AllTell spec t cs
+abbrev AllAnswer : FieldSpec → Taken → List Content → Type 0
+AllAnswer spec t [] = Unit {0}
+AllAnswer spec t (c ∷ cs) = (answer_of spec c ≡ t) × AllAnswer spec t cs
 
-tell_from : (spec : FieldSpec) (t : Taken) (cs : List Content) → ((j : ℕ) → j < length cs → answer_of spec (content_at j cs) ≡ t) → AllTell spec t cs
-tell_from spec t [] h = tt
-tell_from spec t (c ∷ cs) h = (h 0 (omega arith), tell_from spec t cs (λ j l. h (suc j) (omega (arith, l))))
+all_answer : (spec : FieldSpec) (t : Taken) (cs : List Content) → ((j : ℕ) → j < length cs → answer_of spec (content_at j cs) ≡ t) → AllAnswer spec t cs
+all_answer spec t [] h = tt
+all_answer spec t (c ∷ cs) h = (h 0 (omega arith), all_answer spec t cs (λ j l. h (suc j) (omega (arith, l))))
 
-follow_next : (course : Course) (spec : FieldSpec) (t : Taken) (rs : List (List (Item Content))) → AreHeaded spec rs → AllTell spec t (firsts rs) → AllFollow course rs → AllFollow (λ answer_of. course (t ∷ answer_of)) (tails rs)
+follow_next : (course : Course) (spec : FieldSpec) (t : Taken) (rs : List (List (Item Content))) → AreHeaded spec rs → AllAnswer spec t (firsts rs) → AllFollow course rs → AllFollow (λ answer_of. course (t ∷ answer_of)) (tails rs)
 follow_next course spec t [] h a f = tt
 follow_next course spec t ([] ∷ rs) h a f = absurd h.0
 follow_next course spec t ((i ∷ items) ∷ rs) h a f =
@@ -225,16 +225,16 @@ module _ (end_line : ℕ) (many : Bool) where
   -- the first row, and those after it
   onto : (n : ℕ) (course : Course) (spec : FieldSpec) (c : Content) (cs : List Content) (rs : List (List (Item Content))) (a : ItemRow) (more : List ItemRow) → IsSpec spec → (course []).next ≡ take_next spec → AreHeaded spec rs → firsts rs ≡ c ∷ cs → length rs ≡ n
       → (r : Result (List Bool) FieldFault) → packing spec (c ∷ cs) ≡ r → pack_across spec a ≡ packed_to (c ∷ cs) a.cells r
-      → ((out : List Bool) → packing spec (c ∷ cs) ≡ Ok out → Either n (λ told_so. course (answer_of spec c ∷ told_so)) (tails rs) more end_line many)
+      → ((out : List Bool) → packing spec (c ∷ cs) ≡ Ok out → Either n (λ answer_so. course (answer_of spec c ∷ answer_so)) (tails rs) more end_line many)
       → Either n course rs (a ∷ more) end_line many
   onto n course spec c cs rs a more good next h f count (Err why) p gives rest =
       inr (record { why = packing_fault (c ∷ cs) a.cells why; is = fill_first course spec a more (Err why) (c ∷ cs) next gives; unlike = fault_unlike (c ∷ cs) a.cells why })
   onto n course spec c cs rs a more good next h f count (Ok w) p gives rest = by (rest w p)
     where
-      by : Either n (λ told_so. course (answer_of spec c ∷ told_so)) (tails rs) more end_line many → Either n course rs (a ∷ more) end_line many
+      by : Either n (λ answer_so. course (answer_of spec c ∷ answer_so)) (tails rs) more end_line many → Either n course rs (a ∷ more) end_line many
       by (inr x) = inr (record {
         why = x.why;
-        is = fill_first course spec a more (Ok w) (c ∷ cs) next gives ∙ ap (and_behind (packed_filler end_line many) w) x.is;
+        is = fill_first course spec a more (Ok w) (c ∷ cs) next gives ∙ ap (with_bits_before (packed_filler end_line many) w) x.is;
         unlike = x.unlike;
       })
       by (inl x) =
@@ -244,7 +244,7 @@ module _ (end_line : ℕ) (many : Bool) where
             items = record { spec = spec; content = c ∷ cs } ∷ x.items;
             parts = more_parts 0 spec (c ∷ cs) x.items rs (sym f) h x.parts;
             out = w ++ x.out;
-            fills = fill_first course spec a more (Ok w) (c ∷ cs) next gives ∙ ap (and_behind (packed_filler end_line many) w) x.fills;
+            fills = fill_first course spec a more (Ok w) (c ∷ cs) next gives ∙ ap (with_bits_before (packed_filler end_line many) w) x.fills;
             again = λ bits. let r = x.again bits in (
               (
                 x.out ++ bits,
@@ -285,28 +285,28 @@ module _ (end_line : ℕ) (many : Bool) where
       let forth : suc p ≡ p + 1 = omega arith in
       subst (λ k. Either n course all (rows k p ss) end_line many) (sym (longest_tails spec (i ∷ items) rs h))
       (onto n course spec i.content cs all (item_row p ss) more f.0.1 f.0.0 h refl refl (packing spec (i.content ∷ cs)) refl gives (λ w q.
-      let tells = tell_from spec (answer_of spec i.content) cs (λ j l. packed_alike spec i.content cs w (suc j) q (omega (arith, l))) in
+      let gives = all_answer spec (answer_of spec i.content) cs (λ j l. packed_alike spec i.content cs w (suc j) q (omega (arith, l))) in
       let d' = subst (λ k. DumpedAt k (tails all) ss) forth (dumped_next spec p all ss h d) in
-      let f' = follow_next course spec (answer_of spec i.content) all h (refl, tells) f in
+      let f' = follow_next course spec (answer_of spec i.content) all h (refl, gives) f in
       let same : length (tails rs) ≡ length rs = length-tails rs in
-      subst (λ k. Either (suc k) (λ told_so. course (answer_of spec i.content ∷ told_so)) (tails all) more end_line many) same
-      (from_place (λ told_so. course (answer_of spec i.content ∷ told_so)) items (tails rs) ss (p + 1) f' d' (
+      subst (λ k. Either (suc k) (λ answer_so. course (answer_of spec i.content ∷ answer_so)) (tails all) more end_line many) same
+      (from_place (λ answer_so. course (answer_of spec i.content ∷ answer_so)) items (tails rs) ss (p + 1) f' d' (
       let e : (p + 1) * suc (length (tails rs)) ≡ (p + 1) * n = ap (λ k. (p + 1) * suc k) same in omega (arith, few, one, tot, e)))))
 
 -- ---- from a reading
 
-follows_plain : (course : Course) (items : List (Item Content)) (bits behind : List Bool) → AllSpecs items → ReadsPass plain course items bits behind → Follows course items × (length items + length behind ≤ length bits)
-follows_plain course [] bits behind specs r = (r.1, omega (arith, ap length r.0))
-follows_plain course (i ∷ items) bits behind specs r =
-    let rest = follows_plain (after plain course i) items r.0.0 behind specs.1 (r.0.3, r.1) in
+follows_plain : (course : Course) (items : List (Item Content)) (bits suffix : List Bool) → AllSpecs items → ReadsPass plain course items bits suffix → Follows course items × (length items + length suffix ≤ length bits)
+follows_plain course [] bits suffix specs r = (r.1, omega (arith, ap length r.0))
+follows_plain course (i ∷ items) bits suffix specs r =
+    let rest = follows_plain (after plain course i) items r.0.0 suffix specs.1 (r.0.3, r.1) in
     let read = plain_read i.spec specs.0 bits r.0.0 i.content r.0.2 in
     ((r.0.1, specs.0, read.0, rest.0), omega (arith, rest.1, read.1, width_least i.spec.kind i.spec.width (specs.0).width))
 
-pub all_plain : (course : Course) (subsets : List (List (Item Content))) (bits behind : List Bool) → EachSpecs subsets → ReadsSubsets course subsets bits behind → AllFollow course subsets × (total subsets + length behind ≤ length bits)
-all_plain course [] bits behind specs r = (tt, omega (arith, ap length r))
-all_plain course (items ∷ subsets) bits behind specs r =
+pub all_plain : (course : Course) (subsets : List (List (Item Content))) (bits suffix : List Bool) → EachSpecs subsets → ReadsSubsets course subsets bits suffix → AllFollow course subsets × (total subsets + length suffix ≤ length bits)
+all_plain course [] bits suffix specs r = (tt, omega (arith, ap length r))
+all_plain course (items ∷ subsets) bits suffix specs r =
     let first = follows_plain course items bits r.0 specs.0 r.1 in
-    let rest = all_plain course subsets r.0 behind specs.1 r.2 in
+    let rest = all_plain course subsets r.0 suffix specs.1 r.2 in
     ((first.0, rest.0), omega (arith, first.1, rest.1))
 
 lengths : (items : List (Item Content)) (ds : List Draft) → AreDrafts IsDumped items ds → length ds ≡ length items
@@ -324,17 +324,17 @@ dumped_at (items ∷ subsets) (s ∷ ss) h =
     ((h.0, rest.0), omega (arith, rest.1, lengths items s.items h.0))
 
 -- data that were read subset after subset are written together, where their contents can be
-pub together : (course : Course) (subsets : List (List (Item Content))) (drafts : List Subset) (bits behind : List Bool) → length bits ≤ max_values → EachSpecs subsets → AreDumped subsets drafts → ReadsSubsets course subsets bits behind → IsTogetherOrNot course subsets drafts
-together course [] [] bits behind few specs dumped r = inl (record { items = []; same = refl; out = []; is = refl; again = λ more. (refl, refl) })
-together course [] (s ∷ ss) bits behind few specs dumped r = absurd dumped
-together course (items ∷ subsets) [] bits behind few specs dumped r = absurd dumped
-together course (items ∷ subsets) (s ∷ ss) bits behind few specs dumped r = by (from_place s.end_line many course items subsets (s ∷ ss) 0 all.0 at.0 (omega (arith, all.1, few)))
+pub together : (course : Course) (subsets : List (List (Item Content))) (drafts : List Subset) (bits suffix : List Bool) → length bits ≤ max_values → EachSpecs subsets → AreDumped subsets drafts → ReadsSubsets course subsets bits suffix → IsTogetherOrNot course subsets drafts
+together course [] [] bits suffix few specs dumped r = inl (record { items = []; same = refl; out = []; is = refl; again = λ more. (refl, refl) })
+together course [] (s ∷ ss) bits suffix few specs dumped r = absurd dumped
+together course (items ∷ subsets) [] bits suffix few specs dumped r = absurd dumped
+together course (items ∷ subsets) (s ∷ ss) bits suffix few specs dumped r = by (from_place s.end_line many course items subsets (s ∷ ss) 0 all.0 at.0 (omega (arith, all.1, few)))
   where
     many : Bool
     many = are_many (longest (s ∷ ss)) (length (s ∷ ss))
 
-    all : AllFollow course (items ∷ subsets) × (total (items ∷ subsets) + length behind ≤ length bits)
-    all = all_plain course (items ∷ subsets) bits behind specs r
+    all : AllFollow course (items ∷ subsets) × (total (items ∷ subsets) + length suffix ≤ length bits)
+    all = all_plain course (items ∷ subsets) bits suffix specs r
 
     at : DumpedAt 0 (items ∷ subsets) (s ∷ ss) × (longest (s ∷ ss) ≡ longest_left (items ∷ subsets))
     at = dumped_at (items ∷ subsets) (s ∷ ss) dumped

@@ -16,7 +16,7 @@ use Rattle.bufr_walk.specs.declared.spec.Role.TheVariants as role
 use Rattle.bufr_walk.specs.FieldSpec.{FieldSpec, IsSpec, HasWidth}
 use Rattle.bufr_walk.specs.Content.{Content, number, text, missing, reference, content_in, bits_for}
 use Rattle.bufr_walk.specs.PlainField.{FieldFault, data_end, increment, unequal_factor, FieldRead, found}
-use Rattle.bufr_walk.specs.PackedField.{increments, all_increased, padded_text, increment_bits_of, numbers_of, texts_of, varied_by, same_count, all_same, if_equal, varied, contents_of, with_behind, item_by, packed_field}
+use Rattle.bufr_walk.specs.PackedField.{increments, all_increased, padded_text, increment_bits_of, numbers_of, texts_of, varied_by, same_count, all_same, if_equal, varied, contents_of, with_suffix, item_by, packed_field}
 use Rattle.bufr_fill.specs.Packing.{raw_limit, same, are_same, lowest, has_bits, has_octets, least_k, increment_bits, octet_bits, packed_bits, numbers_over, packed_by, packed_unlike, packing}
 use Rattle.bufr_fill.specs.Fits.{FitsNumber, FitsText, FitsKind, FitsRole, Fits, AllFit}
 use Rattle.bufr_fill.proofs.FieldBits.{number_again, number_back, top_below}
@@ -44,29 +44,29 @@ pub record IsUnpacked (n : ℕ) (spec : FieldSpec) (bits : List Bool) (cs : List
   pub used : spec.width + 6 + n * increment_bits_of spec.role spec.kind k + length mid ≡ length bits
 
 module _ (n : ℕ) (spec : FieldSpec) where
-  with_rest : (r : Result (List Content) FieldFault) (rest : List Bool) (cs : List Content) (mid : List Bool) → with_behind r rest ≡ Ok (found cs mid) → (r ≡ Ok cs) × (rest ≡ mid)
+  with_rest : (r : Result (List Content) FieldFault) (rest : List Bool) (cs : List Content) (mid : List Bool) → with_suffix r rest ≡ Ok (found cs mid) → (r ≡ Ok cs) × (rest ≡ mid)
   with_rest (Err why) rest cs mid e = cc
   with_rest (Ok x) rest cs mid e =
       let f = same_ok _ _ e in
-      (ap (λ (y : FieldRead (List Content)). Ok y.content) f, ap (λ (y : FieldRead (List Content)). y.behind) f)
+      (ap (λ (y : FieldRead (List Content)). Ok y.content) f, ap (λ (y : FieldRead (List Content)). y.suffix) f)
 
   by_ends : (a b : Bool) (bits : List Bool) (cs : List Content) (mid : List Bool) (k : ℕ) → k ≤ 63 → nat_lt (length bits) (spec.width + 6) ≡ a → nat_lt (length (drop (spec.width + 6) bits)) (n * increment_bits_of spec.role spec.kind k) ≡ b
-      → (if a then Err data_end else if b then Err data_end else with_behind (contents_of spec k (take spec.width bits) (increments n (increment_bits_of spec.role spec.kind k) (drop (spec.width + 6) bits))) (drop (n * increment_bits_of spec.role spec.kind k) (drop (spec.width + 6) bits))) ≡ Ok (found cs mid)
+      → (if a then Err data_end else if b then Err data_end else with_suffix (contents_of spec k (take spec.width bits) (increments n (increment_bits_of spec.role spec.kind k) (drop (spec.width + 6) bits))) (drop (n * increment_bits_of spec.role spec.kind k) (drop (spec.width + 6) bits))) ≡ Ok (found cs mid)
       → IsUnpacked n spec bits cs mid k
   by_ends true b bits cs mid k small p q e = cc
   by_ends false true bits cs mid k small p q e = cc
   by_ends false false bits cs mid k small p q e =
-      let behind = drop (spec.width + 6) bits in
+      let suffix = drop (spec.width + 6) bits in
       let step = increment_bits_of spec.role spec.kind k in
-      let f = with_rest (contents_of spec k (take spec.width bits) (increments n step behind)) (drop (n * step) behind) cs mid e in
+      let f = with_rest (contents_of spec k (take spec.width bits) (increments n step suffix)) (drop (n * step) suffix) cs mid e in
       let long : spec.width + 6 ≤ length bits = at_most (length bits) (spec.width + 6) p in
-      let enough : n * step ≤ length behind = at_most (length behind) (n * step) q in
+      let enough : n * step ≤ length suffix = at_most (length suffix) (n * step) q in
       record {
         small = small;
         base = length-take-le spec.width bits (omega arith);
         enough = enough;
         contents = f.0;
-        used = omega (arith, long, enough, length-drop (spec.width + 6) bits, length-drop (n * step) behind, ap length f.1);
+        used = omega (arith, long, enough, length-drop (spec.width + 6) bits, length-drop (n * step) suffix, ap length f.1);
       }
 
   k_small : (bits : List Bool) → number_of (take 6 bits) ≤ 63
@@ -93,16 +93,16 @@ module _ (n : ℕ) (spec : FieldSpec) where
       let rest : drop w all ≡ bits_in k 6 ++ (pieces ++ more) = ap (drop w) turned ∙ drop_at base (bits_in k 6 ++ (pieces ++ more)) w lb in
       let six : take 6 (drop w all) ≡ bits_in k 6 = ap (take 6) rest ∙ take_at (bits_in k 6) (pieces ++ more) 6 (length-bits_in k 6) in
       let is_k : number_of (take 6 (drop w all)) ≡ k = ap number_of six ∙ number_again k 6 (omega arith) in
-      let behind : drop (w + 6) all ≡ pieces ++ more = sym (drop-drop 6 w all) ∙ ap (drop 6) rest ∙ drop_at (bits_in k 6) (pieces ++ more) 6 (length-bits_in k 6) in
+      let suffix : drop (w + 6) all ≡ pieces ++ more = sym (drop-drop 6 w all) ∙ ap (drop 6) rest ∙ drop_at (bits_in k 6) (pieces ++ more) 6 (length-bits_in k 6) in
       let size : length all ≡ w + 6 + (length pieces + length more) = omega (arith, ap length turned, length-append base (bits_in k 6 ++ (pieces ++ more)), length-append (bits_in k 6) (pieces ++ more), length-append pieces more, lb, length-bits_in k 6) in
       let none : nat_lt (length all) (w + 6) ≡ false = past (length all) (w + 6) (omega (arith, size)) in
       let enough : nat_lt (length (pieces ++ more)) (n * step) ≡ false = past (length (pieces ++ more)) (n * step) (omega (arith, length-append pieces more, lp)) in
       ap (λ b. if b then Err data_end else item_by spec n (number_of (take 6 (drop w all))) all) none
       ∙ ap (λ j. item_by spec n j all) is_k
-      ∙ ap (λ x. if nat_lt (length x) (n * step) then Err data_end else with_behind (contents_of spec k (take w all) (increments n step x)) (drop (n * step) x)) behind
-      ∙ ap (λ b. if b then Err data_end else with_behind (contents_of spec k (take w all) (increments n step (pieces ++ more))) (drop (n * step) (pieces ++ more))) enough
-      ∙ ap (λ x. with_behind (contents_of spec k x (increments n step (pieces ++ more))) (drop (n * step) (pieces ++ more))) first
-      ∙ ap (λ r. with_behind r (drop (n * step) (pieces ++ more))) e
+      ∙ ap (λ x. if nat_lt (length x) (n * step) then Err data_end else with_suffix (contents_of spec k (take w all) (increments n step x)) (drop (n * step) x)) suffix
+      ∙ ap (λ b. if b then Err data_end else with_suffix (contents_of spec k (take w all) (increments n step (pieces ++ more))) (drop (n * step) (pieces ++ more))) enough
+      ∙ ap (λ x. with_suffix (contents_of spec k x (increments n step (pieces ++ more))) (drop (n * step) (pieces ++ more))) first
+      ∙ ap (λ r. with_suffix r (drop (n * step) (pieces ++ more))) e
       ∙ ap (λ x. Ok (found cs x)) (drop_at pieces more (n * step) lp)
 
 -- ---- contents that differ

@@ -140,23 +140,23 @@ pub record IsFromOctets (count k : ℕ) (c : Content) : Type 0 where
 text_read : (count k : ℕ) (i : List Bool) (b : Bool) → k ≤ count → length i ≡ 8 * k → are_all_ones i ≡ b → IsFromOctets count k (if b then missing else text (octets_in k i ++ replicate (count - k) 32))
 text_read count k i true short long e = record { fits = tt; again = refl }
 text_read count k i false short long e =
-    let front = octets_in k i in
-    let l : length front ≡ k = length-octets_in k i in
-    let are : AreOctets front = octets_in-are k i long in
-    let some : list_all (λ octet. octet == 255) front ≡ false = sym (full_test front are) ∙ ap are_all_ones (octet_bits_again k i long) ∙ e in
-    let whole = front ++ replicate (count - k) 32 in
-    let size : length whole ≡ count = omega (arith, length-append front (replicate (count - k) 32), l, length-replicate {A = ℕ} (count - k) 32) in
-    let first : take k whole ≡ front = take_at front (replicate (count - k) 32) k l in
+    let prefix = octets_in k i in
+    let l : length prefix ≡ k = length-octets_in k i in
+    let are : AreOctets prefix = octets_in-are k i long in
+    let some : list_all (λ octet. octet == 255) prefix ≡ false = sym (full_test prefix are) ∙ ap are_all_ones (octet_bits_again k i long) ∙ e in
+    let whole = prefix ++ replicate (count - k) 32 in
+    let size : length whole ≡ count = omega (arith, length-append prefix (replicate (count - k) 32), l, length-replicate {A = ℕ} (count - k) 32) in
+    let first : take k whole ≡ prefix = take_at prefix (replicate (count - k) 32) k l in
     record {
       fits = (
         size,
-        AreOctets-append front (replicate (count - k) 32) are (AreOctets-spaces (count - k)),
-        list_all-append (λ octet. octet == 255) front (replicate (count - k) 32) ∙ and_false (list_all (λ octet. octet == 255) front) (list_all (λ octet. octet == 255) (replicate (count - k) 32)) some,
+        AreOctets-append prefix (replicate (count - k) 32) are (AreOctets-spaces (count - k)),
+        list_all-append (λ octet. octet == 255) prefix (replicate (count - k) 32) ∙ and_false (list_all (λ octet. octet == 255) prefix) (list_all (λ octet. octet == 255) (replicate (count - k) 32)) some,
       );
       again =
           ap (λ xs. same_octets (xs ++ replicate (length whole - k) 32) whole && not (list_all (λ octet. octet == 255) xs)) first
-          ∙ ap (λ n. same_octets (front ++ replicate (n - k) 32) whole && not (list_all (λ octet. octet == 255) front)) size
-          ∙ ap (λ b. b && not (list_all (λ octet. octet == 255) front)) (octets_self whole)
+          ∙ ap (λ n. same_octets (prefix ++ replicate (n - k) 32) whole && not (list_all (λ octet. octet == 255) prefix)) size
+          ∙ ap (λ b. b && not (list_all (λ octet. octet == 255) prefix)) (octets_self whole)
           ∙ ap not some;
     }
 

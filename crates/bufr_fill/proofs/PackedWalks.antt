@@ -11,7 +11,7 @@ use Rattle.bufr_walk.specs.Walked.{oks}
 use Rattle.bufr_fill.specs.Draft.{Draft}
 use Rattle.bufr_fill.specs.Entries.{Subset}
 use Rattle.bufr_fill.specs.Fault.{FaultAt, at_line, too_many_values}
-use Rattle.bufr_fill.specs.Filling.{WrittenItem, written_item, fill, and_behind}
+use Rattle.bufr_fill.specs.Filling.{WrittenItem, written_item, fill, with_bits_before}
 use Rattle.bufr_fill.proofs.Filled.{HasFilled}
 use Rattle.bufr_fill.specs.Encoding.{item_row, cells_at, rows, longest, are_many, first_line, content_here, contents_here, packed_to, pack_across, packed_filler, ◌>>=◌}
 use Rattle.bufr_fill.specs.Packing.{packing}
@@ -71,10 +71,10 @@ fills end many s spec t s' h = record {
   item = written_item h.put.contents h.put.item;
   here = row_first (longest s.subsets) s.place s.subsets (within s s' spec t h) ∙ ap (λ k. item_row s.place s.subsets ∷ rows (longest s.subsets - k) k s.subsets) (sym h.place) ∙ ap (λ ss. item_row s.place s.subsets ∷ rows (longest ss - s'.place) s'.place ss) (sym h.subsets);
   fills = h.put.is;
-  tells = h.put.tells;
+  gives = h.put.gives;
   bits = h.put.bits;
 }
 
 pub walk_of_rows : (end : ℕ) (many : Bool) (course : Course) (s : PackedOutModel) (items : List TakenField) (s' : PackedOutModel) → Takes (oks PackedFills) course s items s'
-    → (bits : List Bool) × (s'.bits ≡ s.bits ++ bits) × (fill (packed_filler end many) course (rows_left s) ≡ and_behind (packed_filler end many) bits (fill (packed_filler end many) (course_after course items) (rows_left s')))
+    → (bits : List Bool) × (s'.bits ≡ s.bits ++ bits) × (fill (packed_filler end many) course (rows_left s) ≡ with_bits_before (packed_filler end many) bits (fill (packed_filler end many) (course_after course items) (rows_left s')))
 walk_of_rows end many course s items s' h = walk_fills (packed_filler end many) rows_left (λ (p : PackedOutModel). p.bits) (oks PackedFills) (fills end many) course s items s' h

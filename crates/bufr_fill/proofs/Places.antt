@@ -29,13 +29,13 @@ pub cut : (from : ℕ) (xs : List DraftEntry) (e : ℕ) (rest : List ℕ) → en
 cut from [] e rest h = absurd cc
 cut from (Ends line ∷ more) e rest h =
     let at : from ≡ e = cc in
-    let behind : ends_of (from + 1) more ≡ rest = cc in
+    let suffix : ends_of (from + 1) more ≡ rest = cc in
     record {
       items = [];
       line = line;
       place = omega (arith, at);
       subsets = refl;
-      rest_is = sym behind ∙ ap (λ n. ends_of n more) (next from ∙ ap suc at);
+      rest_is = sym suffix ∙ ap (λ n. ends_of n more) (next from ∙ ap suc at);
       within = omega arith;
       there = λ j. first j;
     }
@@ -76,15 +76,15 @@ slice_get-drop (suc n) (x ∷ xs) k = let e : suc n + k ≡ suc (n + k) = omega 
 pub begin_none : (ends : List ℕ) → begin_of 0 ends 0 ≡ 0
 begin_none ends = refl
 
-begin_behind : (from : ℕ) (ends : List ℕ) (s : ℕ) (d : ℕ) → s < length ends → begin_of from ends (suc s) ≡ suc (get_or ends s d)
-begin_behind from [] s d h = absurd (omega (arith, h))
-begin_behind from (e ∷ ends) zero d h = refl
-begin_behind from (e ∷ ends) (suc s) d h = begin_behind (suc e) ends s d (omega (arith, h))
+begin_after : (from : ℕ) (ends : List ℕ) (s : ℕ) (d : ℕ) → s < length ends → begin_of from ends (suc s) ≡ suc (get_or ends s d)
+begin_after from [] s d h = absurd (omega (arith, h))
+begin_after from (e ∷ ends) zero d h = refl
+begin_after from (e ∷ ends) (suc s) d h = begin_after (suc e) ends s d (omega (arith, h))
 
 pub begin_more : (ends : List ℕ) (s : ℕ) (d : ℕ) → 1 ≤ s → s < length ends → begin_of 0 ends s ≡ get_or ends (s - 1) d + 1
 begin_more ends s d some h =
     let e : s ≡ suc (s - 1) = omega arith in
-    ap (begin_of 0 ends) e ∙ begin_behind 0 ends (s - 1) d (omega (arith, h)) ∙ sym (next (get_or ends (s - 1) d))
+    ap (begin_of 0 ends) e ∙ begin_after 0 ends (s - 1) d (omega (arith, h)) ∙ sym (next (get_or ends (s - 1) d))
 
 pub length-subsets : (from : ℕ) (xs : List DraftEntry) → length (subsets_of xs) ≡ length (ends_of from xs)
 length-subsets from [] = refl
@@ -96,7 +96,7 @@ length-subsets from (Holds d ∷ more) = length-onto d (subsets_of more) ∙ len
     length-onto d (s ∷ ss) = refl
 
 -- the entry of a subset at an index
-pub record Stands (place s from : ℕ) (xs : List DraftEntry) (ends : List ℕ) (e : ℕ) (c : RowCell) : Type 0 where
+pub record IsSubsetEnd (place s from : ℕ) (xs : List DraftEntry) (ends : List ℕ) (e : ℕ) (c : RowCell) : Type 0 where
   pub begins : from ≤ begin_of from ends s
   pub ends_at : from ≤ e
   pub there : slice_get xs (min e (begin_of from ends s + place) - from) ≡ Some (cell_entry c)
@@ -105,7 +105,7 @@ module _ (place : ℕ) (e : ℕ) (c : RowCell) where
   some_same : (a b : RowCell) → ◌≡◌ {A = Option RowCell} (Some a) (Some b) → a ≡ b
   some_same a b e = cc
 
-  at_first : (from : ℕ) (xs : List DraftEntry) (x : ℕ) (rest : List ℕ) → Cut from xs x rest → Some x ≡ Some e → slice_get (cells_at place (subsets_of xs)) 0 ≡ Some c → Stands place 0 from xs (x ∷ rest) e c
+  at_first : (from : ℕ) (xs : List DraftEntry) (x : ℕ) (rest : List ℕ) → Cut from xs x rest → Some x ≡ Some e → slice_get (cells_at place (subsets_of xs)) 0 ≡ Some c → IsSubsetEnd place 0 from xs (x ∷ rest) e c
   at_first from xs x rest k p q =
       let same : x ≡ e = cc in
       let cell : ◌≡◌ {A = Option RowCell} (Some (record { draft = slice_get k.items place; end_line = k.line })) (Some c) = sym (ap (λ ss. slice_get (cells_at place ss) 0) k.subsets) ∙ q in
@@ -117,7 +117,7 @@ module _ (place : ℕ) (e : ℕ) (c : RowCell) where
         there = ap (slice_get xs) m ∙ k.there place ∙ ap (λ (z : RowCell). Some (cell_entry z)) is;
       }
 
-  further : (from : ℕ) (xs : List DraftEntry) (s x : ℕ) (rest : List ℕ) (k : Cut from xs x rest) → Stands place s (suc x) (drop (suc (length k.items)) xs) rest e c → Stands place (suc s) from xs (x ∷ rest) e c
+  further : (from : ℕ) (xs : List DraftEntry) (s x : ℕ) (rest : List ℕ) (k : Cut from xs x rest) → IsSubsetEnd place s (suc x) (drop (suc (length k.items)) xs) rest e c → IsSubsetEnd place (suc s) from xs (x ∷ rest) e c
   further from xs s x rest k r =
       let m : suc (length k.items) + (min e (begin_of (suc x) rest s + place) - suc x) ≡ min e (begin_of (suc x) rest s + place) - from = omega (arith, k.place, r.begins, r.ends_at) in
       record {
@@ -126,18 +126,18 @@ module _ (place : ℕ) (e : ℕ) (c : RowCell) where
         there = ap (slice_get xs) (sym m) ∙ sym (slice_get-drop (suc (length k.items)) xs (min e (begin_of (suc x) rest s + place) - suc x)) ∙ r.there;
       }
 
-  stands_at : (s from : ℕ) (xs : List DraftEntry) (ends : List ℕ) → ends_of from xs ≡ ends → slice_get ends s ≡ Some e → slice_get (cells_at place (subsets_of xs)) s ≡ Some c → Stands place s from xs ends e c
-  stands_at s from xs [] p q r = absurd cc
-  stands_at zero from xs (x ∷ rest) p q r = at_first from xs x rest (cut from xs x rest p) q r
-  stands_at (suc s) from xs (x ∷ rest) p q r =
+  subset_end_at : (s from : ℕ) (xs : List DraftEntry) (ends : List ℕ) → ends_of from xs ≡ ends → slice_get ends s ≡ Some e → slice_get (cells_at place (subsets_of xs)) s ≡ Some c → IsSubsetEnd place s from xs ends e c
+  subset_end_at s from xs [] p q r = absurd cc
+  subset_end_at zero from xs (x ∷ rest) p q r = at_first from xs x rest (cut from xs x rest p) q r
+  subset_end_at (suc s) from xs (x ∷ rest) p q r =
       let k = cut from xs x rest p in
-      further from xs s x rest k (stands_at s (suc x) (drop (suc (length k.items)) xs) rest (sym k.rest_is) q (sym (ap (λ ss. slice_get (cells_at place ss) (suc s)) k.subsets) ∙ r))
+      further from xs s x rest k (subset_end_at s (suc x) (drop (suc (length k.items)) xs) rest (sym k.rest_is) q (sym (ap (λ ss. slice_get (cells_at place ss) (suc s)) k.subsets) ∙ r))
 
 -- the entry that the code reads
 pub entry_there : (place s : ℕ) (xs : List DraftEntry) (e : ℕ) (c : RowCell) → slice_get (ends_of 0 xs) s ≡ Some e → slice_get (cells_at place (subsets_of xs)) s ≡ Some c → slice_get xs (min e (begin_of 0 (ends_of 0 xs) s + place)) ≡ Some (cell_entry c)
 entry_there place s xs e c h g =
     let m : min e (begin_of 0 (ends_of 0 xs) s + place) - 0 ≡ min e (begin_of 0 (ends_of 0 xs) s + place) = omega arith in
-    sym (ap (slice_get xs) m) ∙ (stands_at place e c s 0 xs (ends_of 0 xs) refl h g).there
+    sym (ap (slice_get xs) m) ∙ (subset_end_at place e c s 0 xs (ends_of 0 xs) refl h g).there
 
 -- the ends are indices of entries
 pub end_small : (from : ℕ) (xs : List DraftEntry) (s : ℕ) (z : ℕ) → s < length (ends_of from xs) → get_or (ends_of from xs) s z < from + length xs
@@ -223,9 +223,9 @@ ends_here xs ends new place b within is so grown before =
         ap (λ l. l ++ ends_of (place + 1) (drop (place + 1) xs)) grown ∙ append_assoc ends (place ∷ []) (ends_of (place + 1) (drop (place + 1) xs))
         ∙ ap (λ l. ends ++ ends_of place l) (sym at) ∙ before
 
-pub ends_behind : (xs : List DraftEntry) (ends new : List ℕ) (place : ℕ) (b : Bool) → place < length xs → Some b ≡ option_map is_end (slice_get xs place) → b ≡ false → new ≡ ends
+pub ends_after : (xs : List DraftEntry) (ends new : List ℕ) (place : ℕ) (b : Bool) → place < length xs → Some b ≡ option_map is_end (slice_get xs place) → b ≡ false → new ≡ ends
     → ends ++ ends_of place (drop place xs) ≡ ends_of 0 xs → new ++ ends_of (place + 1) (drop (place + 1) xs) ≡ ends_of 0 xs
-ends_behind xs ends new place b within is so same before =
+ends_after xs ends new place b within is so same before =
     by (get_or xs place (Ends 0)) (is ∙ ap (option_map is_end) (slice_get-get_or xs place (Ends 0) within)) (next_of xs place within)
   where
     by : (e : DraftEntry) → Some b ≡ Some (is_end e) → drop place xs ≡ e ∷ drop (place + 1) xs → new ++ ends_of (place + 1) (drop (place + 1) xs) ≡ ends_of 0 xs

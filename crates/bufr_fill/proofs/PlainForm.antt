@@ -8,16 +8,16 @@ use Rattle.bufr_walk.specs.declared.spec.Role.TheVariants as role
 use Rattle.bufr_walk.specs.declared.spec.Taken.{Taken}
 use Rattle.bufr_walk.specs.FieldSpec.{FieldSpec, IsSpec}
 use Rattle.bufr_walk.specs.Calls.{content_at}
-use Rattle.bufr_walk.specs.Content.{Content, bits_for, told_by_role, answer_of}
+use Rattle.bufr_walk.specs.Content.{Content, bits_for, answer_by_role, answer_of}
 use Rattle.bufr_walk.specs.Course.{Course, take_next, at_end}
-use Rattle.bufr_walk.specs.PackedField.{packed_field, told_first}
+use Rattle.bufr_walk.specs.PackedField.{packed_field, answer_first}
 use Rattle.bufr_walk.specs.PlainField.{FieldFault, found, plain_field}
 use Rattle.bufr_walk.specs.Reading.{Item, plain, packed, after, ReadsPass, ReadsSubsets, IsPackedReading}
 use Rattle.bufr_fill.specs.Draft.{Draft}
 use Rattle.bufr_fill.specs.DraftContent.{content_of, plainly, plain_filler}
 use Rattle.bufr_fill.specs.Encoding.{plain_data, ◌>>=◌}
 use Rattle.bufr_fill.specs.Entries.{Subset}
-use Rattle.bufr_fill.specs.Filling.{fill, fill_one, fill_none, filled, and_behind}
+use Rattle.bufr_fill.specs.Filling.{fill, fill_one, fill_none, filled, with_bits_before}
 use Rattle.bufr_fill.specs.Fits.{Fits, AllFit}
 use Rattle.bufr_fill.specs.OtherForm.{subsets_from, IsWrittenApart}
 use Rattle.bufr_fill.specs.Packing.{same, are_same, packed_bits, packed_unlike, packing}
@@ -47,8 +47,8 @@ join end_line course i d ds w out next fills bits rest =
     let filler = plain_filler end_line in
     ap (λ n. fill_one filler n d (λ t. fill filler (λ answer_of. course (t ∷ answer_of)) ds)) next
     ∙ ap (λ r. filled filler i.spec (plainly d.line i.spec r) (λ t. fill filler (λ answer_of. course (t ∷ answer_of)) ds)) fills
-    ∙ ap (λ b. and_behind filler b (fill filler (after plain course i) ds)) bits
-    ∙ ap (and_behind filler w) rest
+    ∙ ap (λ b. with_bits_before filler b (fill filler (after plain course i) ds)) bits
+    ∙ ap (with_bits_before filler w) rest
 
 pub plain_subset : (end_line : ℕ) (course : Course) (items : List (Item Content)) (ds : List Draft) → Follows course items → AreDrafts IsDumped items ds → IsPlainSubset end_line course items ds
 plain_subset end_line course [] [] h dumped = record {
@@ -115,11 +115,11 @@ same_at c (d ∷ cs) (suc j) e h = same_at c cs j (and_second (same c d) (are_sa
 abbrev packed_or : Bool → Role → FieldSpec → Content → List Content → Result (List Bool) FieldFault
 packed_or b r spec c cs = if b then Ok (packed_bits (bits_for spec.width c) 0 []) else packed_unlike r spec (c ∷ cs)
 
-alike : (b : Bool) (r : Role) (spec : FieldSpec) (c : Content) (cs : List Content) (out : List Bool) (j : ℕ) → are_same c cs ≡ b → packed_or b r spec c cs ≡ Ok out → j < length cs → told_by_role r (content_at j cs) ≡ told_by_role r c
+alike : (b : Bool) (r : Role) (spec : FieldSpec) (c : Content) (cs : List Content) (out : List Bool) (j : ℕ) → are_same c cs ≡ b → packed_or b r spec c cs ≡ Ok out → j < length cs → answer_by_role r (content_at j cs) ≡ answer_by_role r c
 alike b role.Element spec c cs out j q e h = refl
 alike b role.Inserted spec c cs out j q e h = refl
-alike true role.Factor spec c cs out j q e h = ap (told_by_role role.Factor) (same_at c cs j q h)
-alike true role.Reference spec c cs out j q e h = ap (told_by_role role.Reference) (same_at c cs j q h)
+alike true role.Factor spec c cs out j q e h = ap (answer_by_role role.Factor) (same_at c cs j q h)
+alike true role.Reference spec c cs out j q e h = ap (answer_by_role role.Reference) (same_at c cs j q h)
 alike false role.Factor spec c cs out j q e h = absurd cc
 alike false role.Reference spec c cs out j q e h = absurd cc
 
@@ -135,27 +135,27 @@ fit_at spec (c ∷ cs) (suc j) f h = fit_at spec cs j f.1 (omega (arith, h))
 -- what holds of the content of one subset of an item that was read
 record IsOneOf (spec : FieldSpec) (cs : List Content) (j : ℕ) : Type 0 where
   fits : Fits spec (content_at j cs)
-  tells : answer_of spec (content_at j cs) ≡ told_first spec cs
+  gives : answer_of spec (content_at j cs) ≡ answer_first spec cs
 
 one_of : (n : ℕ) (spec : FieldSpec) (cs : List Content) (j : ℕ) (bits mid : List Bool) → IsSpec spec → j < n → packed_field n spec bits ≡ Ok (found cs mid) → IsOneOf spec cs j
 one_of n spec [] j bits mid good h e = absurd (omega (arith, h, packed_count n spec good [] bits mid e))
 one_of n spec (c ∷ cs) j bits mid good h e =
     let p = packed_again n spec good c cs bits mid e in
     let within : j < length (c ∷ cs) = omega (arith, h, packed_count n spec good (c ∷ cs) bits mid e) in
-    record { fits = fit_at spec (c ∷ cs) j p.2.fits within; tells = packed_alike spec c cs p.2.out j p.2.is within }
+    record { fits = fit_at spec (c ∷ cs) j p.2.fits within; gives = packed_alike spec c cs p.2.out j p.2.is within }
 
 -- the items of one subset follow one another
-follows_packed : (n j : ℕ) (course : Course) (items : List (Item (List Content))) (bits behind : List Bool) → j < n → AllSpecs items → ReadsPass (packed n) course items bits behind → Follows course (items_of_subset j items)
-follows_packed n j course [] bits behind h specs r = r.1
-follows_packed n j course (i ∷ items) bits behind h specs r =
+follows_packed : (n j : ℕ) (course : Course) (items : List (Item (List Content))) (bits suffix : List Bool) → j < n → AllSpecs items → ReadsPass (packed n) course items bits suffix → Follows course (items_of_subset j items)
+follows_packed n j course [] bits suffix h specs r = r.1
+follows_packed n j course (i ∷ items) bits suffix h specs r =
     let one = one_of n i.spec i.content j bits r.0.0 specs.0 h r.0.2 in
-    let rest = follows_packed n j (after (packed n) course i) items r.0.0 behind h specs.1 (r.0.3, r.1) in
-    (r.0.1, specs.0, one.fits, subst (λ (t : Taken). Follows (λ answer_of. course (t ∷ answer_of)) (items_of_subset j items)) (sym one.tells) rest)
+    let rest = follows_packed n j (after (packed n) course i) items r.0.0 suffix h specs.1 (r.0.3, r.1) in
+    (r.0.1, specs.0, one.fits, subst (λ (t : Taken). Follows (λ answer_of. course (t ∷ answer_of)) (items_of_subset j items)) (sym one.gives) rest)
 
-all_follow : (n j left : ℕ) (course : Course) (items : List (Item (List Content))) (bits behind : List Bool) → j + left ≤ n → AllSpecs items → ReadsPass (packed n) course items bits behind → AllFollow course (subsets_from left j items)
-all_follow n j zero course items bits behind h specs r = tt
-all_follow n j (suc left) course items bits behind h specs r =
-    (follows_packed n j course items bits behind (omega (arith, h)) specs r, all_follow n (suc j) left course items bits behind (omega (arith, h)) specs r)
+all_follow : (n j left : ℕ) (course : Course) (items : List (Item (List Content))) (bits suffix : List Bool) → j + left ≤ n → AllSpecs items → ReadsPass (packed n) course items bits suffix → AllFollow course (subsets_from left j items)
+all_follow n j zero course items bits suffix h specs r = tt
+all_follow n j (suc left) course items bits suffix h specs r =
+    (follows_packed n j course items bits suffix (omega (arith, h)) specs r, all_follow n (suc j) left course items bits suffix (omega (arith, h)) specs r)
 
 dumped_from : (j n : ℕ) (items : List (Item (List Content))) (ss : List Subset) → length ss ≡ n → AreDumpedFrom j items ss → AreDumped (subsets_from n j items) ss
 dumped_from j zero items [] e h = tt
@@ -167,12 +167,12 @@ length-subsets_from : (n j : ℕ) (items : List (Item (List Content))) → lengt
 length-subsets_from zero j items = refl
 length-subsets_from (suc n) j items = ap suc (length-subsets_from n (suc j) items)
 
-pub follow_reading : (n : ℕ) (course : Course) (items : List (Item (List Content))) (bits behind : List Bool) → AllSpecs items → IsPackedReading n course items bits behind → AllFollow course (subsets_from n 0 items)
-follow_reading zero course items bits behind specs r = tt
-follow_reading (suc n) course items bits behind specs r = all_follow (suc n) 0 (suc n) course items bits behind (omega arith) specs r.0
+pub follow_reading : (n : ℕ) (course : Course) (items : List (Item (List Content))) (bits suffix : List Bool) → AllSpecs items → IsPackedReading n course items bits suffix → AllFollow course (subsets_from n 0 items)
+follow_reading zero course items bits suffix specs r = tt
+follow_reading (suc n) course items bits suffix specs r = all_follow (suc n) 0 (suc n) course items bits suffix (omega arith) specs r.0
 
 -- compressed data are written subset after subset
-pub apart : (n : ℕ) (course : Course) (items : List (Item (List Content))) (drafts : List Subset) (bits behind : List Bool) → length drafts ≡ n → AllSpecs items → AreDumpedFrom 0 items drafts → IsPackedReading n course items bits behind → IsWrittenApart n course items drafts
-apart n course items drafts bits behind count specs dumped r =
-    let w = plain_subsets course (subsets_from n 0 items) drafts (follow_reading n course items bits behind specs r) (dumped_from 0 n items drafts count dumped) in
+pub apart : (n : ℕ) (course : Course) (items : List (Item (List Content))) (drafts : List Subset) (bits suffix : List Bool) → length drafts ≡ n → AllSpecs items → AreDumpedFrom 0 items drafts → IsPackedReading n course items bits suffix → IsWrittenApart n course items drafts
+apart n course items drafts bits suffix count specs dumped r =
+    let w = plain_subsets course (subsets_from n 0 items) drafts (follow_reading n course items bits suffix specs r) (dumped_from 0 n items drafts count dumped) in
     record { out = w.out; is = w.is; again = λ more. (w.again more, length-subsets_from n 0 items) }

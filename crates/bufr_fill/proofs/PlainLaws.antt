@@ -84,7 +84,7 @@ module _ (spec : FieldSpec) (good : IsSpec spec) where
       let at : spec.width ≤ length bits = grind (arith, nat_tests) in
       let l : length (take spec.width bits) ≡ spec.width = length-take-le spec.width bits at in (
         subst (λ x. Fits spec x) (ap (λ (x : FieldRead Content). x.content) f) (content_fits (take spec.width bits) l),
-        omega (arith, at, length-drop spec.width bits, ap (λ (x : FieldRead Content). length x.behind) f),
+        omega (arith, at, length-drop spec.width bits, ap (λ (x : FieldRead Content). length x.suffix) f),
       )
 
   -- what was read fits, and its bits were there

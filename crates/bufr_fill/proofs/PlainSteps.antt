@@ -28,13 +28,13 @@ pub filled_here : (entries : List DraftEntry) (place : ℕ) (item : DraftItem) (
     → Ok (content_drawn (spec.width / 8) d) ≡ content_of spec (draft_in item) → t ≡ answer_of spec (content_drawn (spec.width / 8) d)
     → new ≡ old ++ bits_for spec.width (content_drawn (spec.width / 8) d) → length old < length new
     → IsFilled s spec t (plain_out_model (drop (place + 1) entries) new)
-filled_here entries place item spec d t old new s view here drawn tells bits forth =
+filled_here entries place item spec d t old new s view here drawn gives bits forth =
     subst (λ z. IsFilled z spec t (plain_out_model (drop (place + 1) entries) new)) view (record {
       draft = draft_in item;
       content = content_drawn (spec.width / 8) d;
       here = next_there entries place (Holds (draft_in item)) here;
       is = sym drawn;
-      tells = tells;
+      gives = gives;
       bits = bits;
       forth = forth;
     })

@@ -13,8 +13,8 @@ use Rattle.bufr_bits.proofs.PushLemmas.{bits_in-above}
 use Rattle.bufr_walk.specs.Content.{sign_bit}
 use Rattle.bufr_fill.proofs.FieldBits.{first_bit}
 
-pub spaced_front : (octets : List ℕ) (count : ℕ) → length octets ≤ count → count ≤ 255 → take count (octets ++ replicate (255 - length octets) 32) ≡ octets ++ replicate (count - length octets) 32
-spaced_front octets count h g = by octets count (255 - length octets) (omega (arith, h, g)) h
+pub spaced_prefix : (octets : List ℕ) (count : ℕ) → length octets ≤ count → count ≤ 255 → take count (octets ++ replicate (255 - length octets) 32) ≡ octets ++ replicate (count - length octets) 32
+spaced_prefix octets count h g = by octets count (255 - length octets) (omega (arith, h, g)) h
   where
     by : (octets : List ℕ) (count n : ℕ) → count ≤ length octets + n → length octets ≤ count → take count (octets ++ replicate n 32) ≡ octets ++ replicate (count - length octets) 32
     by [] count n h g = let space : ℕ = 32 in let none : count ≡ count - 0 = omega arith in take-replicate {X = ℕ} count n space (omega (arith, h)) ∙ ap (λ j. replicate j space) none

@@ -49,9 +49,9 @@ minus_zero : IsSaid (item block (number 0)) (draft 24 257 (number_token (codes "
 unfolding decimal_value_of
 minus_zero = refl
 
-zeros_in_front : IsSaid (item temperature (number 1250)) (draft 24 257 (number_token (codes "0012.5000")))
+leading_zeros : IsSaid (item temperature (number 1250)) (draft 24 257 (number_token (codes "0012.5000")))
 unfolding decimal_value_of
-zeros_in_front = refl
+leading_zeros = refl
 
 greatest_number : IsSaid (item block (number 126)) (draft 24 257 (number_token (codes "126")))
 unfolding decimal_value_of

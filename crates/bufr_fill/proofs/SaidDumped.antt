@@ -48,10 +48,10 @@ said_from (suc n) j items (s ∷ ss) e h = (h.0, said_from n (suc j) items ss (o
 -- ---- over a template
 
 module _ (records : List Record) (table : List Row) (template : Tree) (rows : AreRows records table) (legal : IsLegal template) where
-  pub plain_follows : (subsets : List (List (Item Content))) (bits behind : List Bool) → ReadsSubsets (next_item table template) subsets bits behind → AllFollow (next_item table template) subsets
-  plain_follows subsets bits behind read =
+  pub plain_follows : (subsets : List (List (Item Content))) (bits suffix : List Bool) → ReadsSubsets (next_item table template) subsets bits suffix → AllFollow (next_item table template) subsets
+  plain_follows subsets bits suffix read =
       let course = next_item table template in
-      (all_plain course subsets bits behind (plain_specs course subsets bits behind (template_good table template (table_good records table rows) legal) read) read).0
+      (all_plain course subsets bits suffix (plain_specs course subsets bits suffix (template_good table template (table_good records table rows) legal) read) read).0
 
-  pub packed_follows : (n : ℕ) (items : List (Item (List Content))) (bits behind : List Bool) → IsPackedReading n (next_item table template) items bits behind → AllFollow (next_item table template) (subsets_from n 0 items)
-  packed_follows n items bits behind read = follow_reading n (next_item table template) items bits behind (reads_specs n table template items bits behind (table_good records table rows) legal read) read
+  pub packed_follows : (n : ℕ) (items : List (Item (List Content))) (bits suffix : List Bool) → IsPackedReading n (next_item table template) items bits suffix → AllFollow (next_item table template) (subsets_from n 0 items)
+  packed_follows n items bits suffix read = follow_reading n (next_item table template) items bits suffix (reads_specs n table template items bits suffix (table_good records table rows) legal read) read

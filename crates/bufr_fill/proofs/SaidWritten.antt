@@ -33,38 +33,38 @@ use Rattle.bufr_fill.proofs.WholeLaws.{have_contents, reads_specs}
 
 -- ---- one item after another
 
-module _ {C D E : Type 0} (form : DataCoding C) (filler : Filler D C E) (of_item : Item C → D → Type 0) (laid : Item C → List Bool)
-    (same_told : (spec : FieldSpec) (c : C) → filler.tells spec c ≡ form.tells spec c)
-    (one : (i : Item C) (d : D) (bits mid : List Bool) → IsSpec i.spec → of_item i d → form.field i.spec bits ≡ Ok (found i.content mid) → filler.fills i.spec d ≡ Ok (written_item i.content (laid i))) where
-  all_laid : (course : Course) (items : List (Item C)) (ds : List D) (bits behind : List Bool) → AllSpecs items → AreDrafts of_item items ds → ReadsPass form course items bits behind → fill filler course ds ≡ Ok (flat_map laid items)
-  all_laid course [] [] bits behind specs said h = ap (fill_none filler) h.1
-  all_laid course [] (d ∷ ds) bits behind specs said h = absurd said
-  all_laid course (i ∷ items) [] bits behind specs said h = absurd said
-  all_laid course (i ∷ items) (d ∷ ds) bits behind specs said h =
-      join form filler same_told course i d ds (laid i) (flat_map laid items) h.0.1 (one i d bits h.0.0 specs.0 said.0 h.0.2) (all_laid (after form course i) items ds h.0.0 behind specs.1 said.1 (h.0.3, h.1))
+module _ {C D E : Type 0} (form : DataCoding C) (filler : Filler D C E) (of_item : Item C → D → Type 0) (encoded : Item C → List Bool)
+    (same_answer : (spec : FieldSpec) (c : C) → filler.gives spec c ≡ form.gives spec c)
+    (one : (i : Item C) (d : D) (bits mid : List Bool) → IsSpec i.spec → of_item i d → form.field i.spec bits ≡ Ok (found i.content mid) → filler.fills i.spec d ≡ Ok (written_item i.content (encoded i))) where
+  all_encoded : (course : Course) (items : List (Item C)) (ds : List D) (bits suffix : List Bool) → AllSpecs items → AreDrafts of_item items ds → ReadsPass form course items bits suffix → fill filler course ds ≡ Ok (flat_map encoded items)
+  all_encoded course [] [] bits suffix specs said h = ap (fill_none filler) h.1
+  all_encoded course [] (d ∷ ds) bits suffix specs said h = absurd said
+  all_encoded course (i ∷ items) [] bits suffix specs said h = absurd said
+  all_encoded course (i ∷ items) (d ∷ ds) bits suffix specs said h =
+      join form filler same_answer course i d ds (encoded i) (flat_map encoded items) h.0.1 (one i d bits h.0.0 specs.0 said.0 h.0.2) (all_encoded (after form course i) items ds h.0.0 suffix specs.1 said.1 (h.0.3, h.1))
 
 -- ---- data that are not compressed
 
-abbrev plainly_laid : Item Content → List Bool
-plainly_laid i = bits_for i.spec.width i.content
+abbrev plainly_encoded : Item Content → List Bool
+plainly_encoded i = bits_for i.spec.width i.content
 
-plain_one : (end_line : ℕ) (i : Item Content) (d : Draft) (bits mid : List Bool) → IsSpec i.spec → IsSaid i d → plain_field i.spec bits ≡ Ok (found i.content mid) → (plain_filler end_line).fills i.spec d ≡ Ok (written_item i.content (plainly_laid i))
+plain_one : (end_line : ℕ) (i : Item Content) (d : Draft) (bits mid : List Bool) → IsSpec i.spec → IsSaid i d → plain_field i.spec bits ≡ Ok (found i.content mid) → (plain_filler end_line).fills i.spec d ≡ Ok (written_item i.content (plainly_encoded i))
 plain_one end_line i d bits mid good said e = ap (plainly d.line i.spec) said
 
-plain_laid : (course : Course) (subsets : List (List (Item Content))) (drafts : List Subset) (bits behind : List Bool) → EachSpecs subsets → AreSaid subsets drafts → ReadsSubsets course subsets bits behind → plain_data course drafts ≡ Ok (flat_map (flat_map plainly_laid) subsets)
-plain_laid course [] [] bits behind specs said h = refl
-plain_laid course [] (s ∷ ss) bits behind specs said h = absurd said
-plain_laid course (items ∷ subsets) [] bits behind specs said h = absurd said
-plain_laid course (items ∷ subsets) (s ∷ ss) bits behind specs said h =
-    ap (λ r. r >>= λ x. plain_data course ss >>= λ y. Ok (x ++ y)) (all_laid plain (plain_filler s.end_line) IsSaid plainly_laid (λ spec c. refl) (plain_one s.end_line) course items s.items bits h.0 specs.0 said.0 h.1)
-    ∙ ap (λ r. r >>= λ y. Ok (flat_map plainly_laid items ++ y)) (plain_laid course subsets ss h.0 behind specs.1 said.1 h.2)
+plain_encoded : (course : Course) (subsets : List (List (Item Content))) (drafts : List Subset) (bits suffix : List Bool) → EachSpecs subsets → AreSaid subsets drafts → ReadsSubsets course subsets bits suffix → plain_data course drafts ≡ Ok (flat_map (flat_map plainly_encoded) subsets)
+plain_encoded course [] [] bits suffix specs said h = refl
+plain_encoded course [] (s ∷ ss) bits suffix specs said h = absurd said
+plain_encoded course (items ∷ subsets) [] bits suffix specs said h = absurd said
+plain_encoded course (items ∷ subsets) (s ∷ ss) bits suffix specs said h =
+    ap (λ r. r >>= λ x. plain_data course ss >>= λ y. Ok (x ++ y)) (all_encoded plain (plain_filler s.end_line) IsSaid plainly_encoded (λ spec c. refl) (plain_one s.end_line) course items s.items bits h.0 specs.0 said.0 h.1)
+    ∙ ap (λ r. r >>= λ y. Ok (flat_map plainly_encoded items ++ y)) (plain_encoded course subsets ss h.0 suffix specs.1 said.1 h.2)
 
-pub plain_said_alike : (records : List Record) (table : List Row) (template : Tree) (subsets : List (List (Item Content))) (drafts others : List Subset) (bits behind : List Bool) → AreRows records table → IsLegal template → ReadsSubsets (next_item table template) subsets bits behind → AreSaid subsets drafts → AreSaid subsets others
+pub plain_said_alike : (records : List Record) (table : List Row) (template : Tree) (subsets : List (List (Item Content))) (drafts others : List Subset) (bits suffix : List Bool) → AreRows records table → IsLegal template → ReadsSubsets (next_item table template) subsets bits suffix → AreSaid subsets drafts → AreSaid subsets others
     → plain_data (next_item table template) drafts ≡ plain_data (next_item table template) others
-plain_said_alike records table template subsets drafts others bits behind rows legal read said also =
+plain_said_alike records table template subsets drafts others bits suffix rows legal read said also =
     let course = next_item table template in
-    let specs = plain_specs course subsets bits behind (template_good table template (table_good records table rows) legal) read in
-    plain_laid course subsets drafts bits behind specs said read ∙ sym (plain_laid course subsets others bits behind specs also read)
+    let specs = plain_specs course subsets bits suffix (template_good table template (table_good records table rows) legal) read in
+    plain_encoded course subsets drafts bits suffix specs said read ∙ sym (plain_encoded course subsets others bits suffix specs also read)
 
 -- ---- compressed data
 
@@ -72,8 +72,8 @@ abbrev bits_or_none : Result (List Bool) FieldFault → List Bool
 bits_or_none (Ok bits) = bits
 bits_or_none (Err why) = []
 
-abbrev packed_laid : Item (List Content) → List Bool
-packed_laid i = bits_or_none (packing i.spec i.content)
+abbrev packed_encoded : Item (List Content) → List Bool
+packed_encoded i = bits_or_none (packing i.spec i.content)
 
 -- the draft at an index has the content of the item there
 said_at : (end_line : ℕ) (items : List (Item Content)) (ds : List Draft) (p : ℕ) (i : Item Content) (rest : List (Item Content)) → AreDrafts IsSaid items ds → drop p items ≡ i ∷ rest → content_here i.spec (slice_get ds p) end_line ≡ Ok i.content
@@ -119,7 +119,7 @@ all_rows_said n items s ss count have h few =
     let l : longest (s ∷ ss) ≡ length items = omega (arith, drafts_length IsSaid (items_of_subset 0 items) s.items h.0, length-items_of 0 items, longest_said 1 items ss h.1) in
     subst (λ k. AreDrafts (IsSaidRow n) items (rows k 0 (s ∷ ss))) (sym l) (rows_said n items (s ∷ ss) items 0 count have h refl (omega (arith, few)))
 
-row_written : (n : ℕ) → 1 ≤ n → (i : Item (List Content)) (a : ItemRow) (bits mid : List Bool) → IsSpec i.spec → IsSaidRow n i a → packed_field n i.spec bits ≡ Ok (found i.content mid) → pack_across i.spec a ≡ Ok (written_item i.content (packed_laid i))
+row_written : (n : ℕ) → 1 ≤ n → (i : Item (List Content)) (a : ItemRow) (bits mid : List Bool) → IsSpec i.spec → IsSaidRow n i a → packed_field n i.spec bits ≡ Ok (found i.content mid) → pack_across i.spec a ≡ Ok (written_item i.content (packed_encoded i))
 row_written n some i a bits mid good row e =
     let within : (a.place + 1) * length a.cells ≤ max_values = subst (λ m. (a.place + 1) * m ≤ max_values) (sym row.total) row.few in
     ap (λ b. if b then Err (at_line (first_line a.cells) (too_many_values i.spec.fxy)) else (contents_here i.spec a.cells >>= λ xs. packed_to xs a.cells (packing i.spec xs))) (past max_values ((a.place + 1) * length a.cells) within)
@@ -132,18 +132,18 @@ row_written n some i a bits mid good row e =
         let p = packed_again n i.spec good c cs bits mid q in
         ap (packed_to (c ∷ cs) a.cells) p.2.is ∙ ap (λ r. Ok (written_item (c ∷ cs) (bits_or_none r))) (sym p.2.is)
 
-all_packed_laid : (n : ℕ) (course : Course) (items : List (Item (List Content))) (drafts : List Subset) (bits behind : List Bool) → length drafts ≡ n → AllSpecs items → AreSaidFrom 0 items drafts → IsPackedReading n course items bits behind → packed_data course drafts ≡ Ok (flat_map packed_laid items)
-all_packed_laid zero course items [] bits behind count specs said h = ap (λ xs. Ok (flat_map packed_laid xs)) (sym h.0)
-all_packed_laid zero course items (s ∷ ss) bits behind count specs said h = absurd (omega (arith, count))
-all_packed_laid (suc n) course items [] bits behind count specs said h = absurd (omega (arith, count))
-all_packed_laid (suc n) course items (s ∷ ss) bits behind count specs said h =
+all_packed_encoded : (n : ℕ) (course : Course) (items : List (Item (List Content))) (drafts : List Subset) (bits suffix : List Bool) → length drafts ≡ n → AllSpecs items → AreSaidFrom 0 items drafts → IsPackedReading n course items bits suffix → packed_data course drafts ≡ Ok (flat_map packed_encoded items)
+all_packed_encoded zero course items [] bits suffix count specs said h = ap (λ xs. Ok (flat_map packed_encoded xs)) (sym h.0)
+all_packed_encoded zero course items (s ∷ ss) bits suffix count specs said h = absurd (omega (arith, count))
+all_packed_encoded (suc n) course items [] bits suffix count specs said h = absurd (omega (arith, count))
+all_packed_encoded (suc n) course items (s ∷ ss) bits suffix count specs said h =
     let many = are_many (longest (s ∷ ss)) (length (s ∷ ss)) in
-    all_laid (packed (suc n)) (packed_filler s.end_line many) (IsSaidRow (suc n)) packed_laid (λ spec c. refl) (row_written (suc n) (omega arith)) course items (rows (longest (s ∷ ss)) 0 (s ∷ ss)) bits behind specs
-    (all_rows_said (suc n) items s ss count (have_contents (suc n) course items bits behind specs h.0.0) said h.1) h.0
+    all_encoded (packed (suc n)) (packed_filler s.end_line many) (IsSaidRow (suc n)) packed_encoded (λ spec c. refl) (row_written (suc n) (omega arith)) course items (rows (longest (s ∷ ss)) 0 (s ∷ ss)) bits suffix specs
+    (all_rows_said (suc n) items s ss count (have_contents (suc n) course items bits suffix specs h.0.0) said h.1) h.0
 
-pub packed_said_alike : (n : ℕ) (records : List Record) (table : List Row) (template : Tree) (items : List (Item (List Content))) (drafts others : List Subset) (bits behind : List Bool) → AreRows records table → IsLegal template → IsPackedReading n (next_item table template) items bits behind → length drafts ≡ n → AreSaidFrom 0 items drafts → length others ≡ n → AreSaidFrom 0 items others
+pub packed_said_alike : (n : ℕ) (records : List Record) (table : List Row) (template : Tree) (items : List (Item (List Content))) (drafts others : List Subset) (bits suffix : List Bool) → AreRows records table → IsLegal template → IsPackedReading n (next_item table template) items bits suffix → length drafts ≡ n → AreSaidFrom 0 items drafts → length others ≡ n → AreSaidFrom 0 items others
     → packed_data (next_item table template) drafts ≡ packed_data (next_item table template) others
-packed_said_alike n records table template items drafts others bits behind rows legal read count said counted also =
+packed_said_alike n records table template items drafts others bits suffix rows legal read count said counted also =
     let course = next_item table template in
-    let specs = reads_specs n table template items bits behind (table_good records table rows) legal read in
-    all_packed_laid n course items drafts bits behind count specs said read ∙ sym (all_packed_laid n course items others bits behind counted specs also read)
+    let specs = reads_specs n table template items bits suffix (table_good records table rows) legal read in
+    all_packed_encoded n course items drafts bits suffix count specs said read ∙ sym (all_packed_encoded n course items others bits suffix counted specs also read)

@@ -67,10 +67,10 @@ written_row r row is =
 rows_good : (records : List Record) (table : List Row) → map row_of records ≡ map Some table → AreGoodRows table
 rows_good records [] e = tt
 rows_good [] (first ∷ table) e = absurd cc
-rows_good (r ∷ records) (first ∷ table) e = (written_row r first (front (row_of r) (map row_of records) first (map Some table) e), rows_good records table (others (row_of r) (map row_of records) first (map Some table) e))
+rows_good (r ∷ records) (first ∷ table) e = (written_row r first (prefix (row_of r) (map row_of records) first (map Some table) e), rows_good records table (others (row_of r) (map row_of records) first (map Some table) e))
   where
-    front : (o : Option Row) (os : List (Option Row)) (x : Row) (xs : List (Option Row)) → ◌≡◌ {A = List (Option Row)} (o ∷ os) (Some x ∷ xs) → o ≡ Some x
-    front o os x xs e = cc
+    prefix : (o : Option Row) (os : List (Option Row)) (x : Row) (xs : List (Option Row)) → ◌≡◌ {A = List (Option Row)} (o ∷ os) (Some x ∷ xs) → o ≡ Some x
+    prefix o os x xs e = cc
 
     others : (o : Option Row) (os : List (Option Row)) (x : Row) (xs : List (Option Row)) → ◌≡◌ {A = List (Option Row)} (o ∷ os) (Some x ∷ xs) → os ≡ xs
     others o os x xs e = cc

@@ -192,15 +192,15 @@ trimmed_within (o ∷ os) = by ((trimmed os == 0) && (o == 32)) (trimmed_within 
     by true h = omega arith
     by false h = omega (arith, h)
 
-take_front : (n : ℕ) (os r : List ℕ) → n ≤ length os → take n (os ++ r) ≡ take n os
-take_front zero os r h = refl
-take_front (suc n) [] r h = absurd (omega (arith, h))
-take_front (suc n) (o ∷ os) r h = ap (λ xs. o ∷ xs) (take_front n os r (omega (arith, h)))
+take_prefix : (n : ℕ) (os r : List ℕ) → n ≤ length os → take n (os ++ r) ≡ take n os
+take_prefix zero os r h = refl
+take_prefix (suc n) [] r h = absurd (omega (arith, h))
+take_prefix (suc n) (o ∷ os) r h = ap (λ xs. o ∷ xs) (take_prefix n os r (omega (arith, h)))
 
 need_spaced : (count : ℕ) (os : List ℕ) → need (spaced count os) ≡ need os
 need_spaced count os =
     ap (λ n. need_by n (spaced count os)) (trimmed_spaced os (count - length os))
-    ∙ ap (λ xs. if full xs then suc (trimmed os) else trimmed os) (take_front (trimmed os) os (replicate (count - length os) 32) (trimmed_within os))
+    ∙ ap (λ xs. if full xs then suc (trimmed os) else trimmed os) (take_prefix (trimmed os) os (replicate (count - length os) 32) (trimmed_within os))
 
 take_all : (os : List ℕ) (n : ℕ) → length os ≤ n → take n os ≡ os
 take_all [] zero h = refl

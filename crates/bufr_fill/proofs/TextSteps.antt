@@ -37,15 +37,15 @@ octet_outside (o ∷ os) (suc i) h = octet_outside os i (omega (arith, h))
 pub spaced_at : (count : ℕ) (os : List ℕ) (i : ℕ) → length os ≤ count → i < count → drop i (spaced count os) ≡ octet_in os i ∷ drop (i + 1) (spaced count os)
 spaced_at count os i h l = by os (count - length os) i (omega (arith, h, l))
   where
-    behind : (i : ℕ) → suc (i + 1) ≡ suc i + 1
-    behind i = omega arith
+    suffix : (i : ℕ) → suc (i + 1) ≡ suc i + 1
+    suffix i = omega arith
 
     by : (os : List ℕ) (n i : ℕ) → i < length os + n → drop i (os ++ replicate n 32) ≡ octet_in os i ∷ drop (i + 1) (os ++ replicate n 32)
     by [] zero i l = absurd (omega (arith, l))
     by [] (suc n) zero l = refl
-    by [] (suc n) (suc i) l = by [] n i (omega (arith, l)) ∙ ap (λ k. 32 ∷ drop k (32 ∷ replicate n 32)) (behind i)
+    by [] (suc n) (suc i) l = by [] n i (omega (arith, l)) ∙ ap (λ k. 32 ∷ drop k (32 ∷ replicate n 32)) (suffix i)
     by (o ∷ os) n zero l = refl
-    by (o ∷ os) n (suc i) l = by os n i (omega (arith, l)) ∙ ap (λ k. octet_in os i ∷ drop k (o ∷ os ++ replicate n 32)) (behind i)
+    by (o ∷ os) n (suc i) l = by os n i (omega (arith, l)) ∙ ap (λ k. octet_in os i ∷ drop k (o ∷ os ++ replicate n 32)) (suffix i)
 
 pub text_more : (count : ℕ) (a b : List ℕ) (i x y : ℕ) → length a ≤ count → length b ≤ count → i < count → x ≡ octet_in a i → y ≡ octet_in b i → x ≡ y
     → same_octets (spaced count a) (spaced count b) ≡ same_octets (drop i (spaced count a)) (drop i (spaced count b))

@@ -20,14 +20,14 @@ use Rattle.bufr_fill.proofs.Across.{rows_dumped}
 use Rattle.bufr_fill.proofs.PackedLaws.{packed_count}
 use Rattle.bufr_fill.proofs.PackedTrip.{packed_rewritten}
 
-pub plain_again : (course : Course) (subsets : List (List (Item Content))) (drafts : List Subset) (bits behind : List Bool) → EachSpecs subsets → AreDumped subsets drafts → ReadsSubsets course subsets bits behind → IsWrittenAgain course subsets drafts bits behind
-plain_again course [] [] bits behind specs dumped h = record { out = []; is = refl; again = λ more. refl; short = omega (arith, ap length h) }
-plain_again course [] (s ∷ ss) bits behind specs dumped h = absurd dumped
-plain_again course (items ∷ subsets) [] bits behind specs dumped h = absurd dumped
-plain_again course (items ∷ subsets) (s ∷ ss) bits behind specs dumped h =
+pub plain_again : (course : Course) (subsets : List (List (Item Content))) (drafts : List Subset) (bits suffix : List Bool) → EachSpecs subsets → AreDumped subsets drafts → ReadsSubsets course subsets bits suffix → IsWrittenAgain course subsets drafts bits suffix
+plain_again course [] [] bits suffix specs dumped h = record { out = []; is = refl; again = λ more. refl; short = omega (arith, ap length h) }
+plain_again course [] (s ∷ ss) bits suffix specs dumped h = absurd dumped
+plain_again course (items ∷ subsets) [] bits suffix specs dumped h = absurd dumped
+plain_again course (items ∷ subsets) (s ∷ ss) bits suffix specs dumped h =
     let mid = h.0 in
     let first = rewritten plain (plain_filler s.end_line) IsDumped (λ spec c. refl) (plain_rewritten s.end_line) course items s.items bits mid specs.0 dumped.0 h.1 in
-    let rest = plain_again course subsets ss mid behind specs.1 dumped.1 h.2 in
+    let rest = plain_again course subsets ss mid suffix specs.1 dumped.1 h.2 in
     record {
       out = first.out ++ rest.out;
       is = ap (λ r. r >>= λ x. plain_data course ss >>= λ y. Ok (x ++ y)) first.fills ∙ ap (λ r. r >>= λ y. Ok (first.out ++ y)) rest.is;
@@ -39,29 +39,29 @@ plain_again course (items ∷ subsets) (s ∷ ss) bits behind specs dumped h =
       short = omega (arith, first.short, rest.short, length-append first.out rest.out);
     }
 
-pub have_contents : (n : ℕ) (course : Course) (items : List (Item (List Content))) (bits behind : List Bool) → AllSpecs items → ReadsItems (packed n) course items bits behind → HaveContents n items
-have_contents n course [] bits behind specs h = tt
-have_contents n course (i ∷ items) bits behind specs h = (packed_count n i.spec specs.0 i.content bits h.0 h.2, have_contents n (after (packed n) course i) items h.0 behind specs.1 h.3)
+pub have_contents : (n : ℕ) (course : Course) (items : List (Item (List Content))) (bits suffix : List Bool) → AllSpecs items → ReadsItems (packed n) course items bits suffix → HaveContents n items
+have_contents n course [] bits suffix specs h = tt
+have_contents n course (i ∷ items) bits suffix specs h = (packed_count n i.spec specs.0 i.content bits h.0 h.2, have_contents n (after (packed n) course i) items h.0 suffix specs.1 h.3)
 
-pub packed_again : (n : ℕ) (course : Course) (items : List (Item (List Content))) (drafts : List Subset) (bits behind : List Bool) → length drafts ≡ n → AllSpecs items → AreDumpedFrom 0 items drafts → IsPackedReading n course items bits behind → IsPackedAgain n course items drafts bits behind
-packed_again zero course items [] bits behind count specs dumped h = record { out = []; is = refl; again = λ more. (h.0, refl); short = omega (arith, ap length h.1) }
-packed_again zero course items (s ∷ ss) bits behind count specs dumped h = absurd (omega (arith, count))
-packed_again (suc n) course items [] bits behind count specs dumped h = absurd (omega (arith, count))
-packed_again (suc n) course items (s ∷ ss) bits behind count specs dumped h =
-    let rows_are = rows_dumped (suc n) items s ss count (have_contents (suc n) course items bits behind specs h.0.0) dumped h.1 in
+pub packed_again : (n : ℕ) (course : Course) (items : List (Item (List Content))) (drafts : List Subset) (bits suffix : List Bool) → length drafts ≡ n → AllSpecs items → AreDumpedFrom 0 items drafts → IsPackedReading n course items bits suffix → IsPackedAgain n course items drafts bits suffix
+packed_again zero course items [] bits suffix count specs dumped h = record { out = []; is = refl; again = λ more. (h.0, refl); short = omega (arith, ap length h.1) }
+packed_again zero course items (s ∷ ss) bits suffix count specs dumped h = absurd (omega (arith, count))
+packed_again (suc n) course items [] bits suffix count specs dumped h = absurd (omega (arith, count))
+packed_again (suc n) course items (s ∷ ss) bits suffix count specs dumped h =
+    let rows_are = rows_dumped (suc n) items s ss count (have_contents (suc n) course items bits suffix specs h.0.0) dumped h.1 in
     let many = are_many (longest (s ∷ ss)) (length (s ∷ ss)) in
-    let r = rewritten (packed (suc n)) (packed_filler s.end_line many) (IsDumpedAcross (suc n)) (λ spec c. refl) (packed_rewritten (suc n) s.end_line many (omega arith)) course items (rows (longest (s ∷ ss)) 0 (s ∷ ss)) bits behind specs rows_are h.0 in
+    let r = rewritten (packed (suc n)) (packed_filler s.end_line many) (IsDumpedAcross (suc n)) (λ spec c. refl) (packed_rewritten (suc n) s.end_line many (omega arith)) course items (rows (longest (s ∷ ss)) 0 (s ∷ ss)) bits suffix specs rows_are h.0 in
     record { out = r.out; is = r.fills; again = λ more. ((r.again more, h.0.1), h.1); short = r.short }
 
 -- the same over a template: nothing is required of the specifications
-pub plain_template_again : (table : List Row) (tree : Tree) (subsets : List (List (Item Content))) (drafts : List Subset) (bits behind : List Bool) → AreGoodRows table → IsLegal tree → AreDumped subsets drafts → ReadsSubsets (next_item table tree) subsets bits behind → IsWrittenAgain (next_item table tree) subsets drafts bits behind
-plain_template_again table tree subsets drafts bits behind rows legal dumped h =
-    plain_again (next_item table tree) subsets drafts bits behind (plain_specs (next_item table tree) subsets bits behind (template_good table tree rows legal) h) dumped h
+pub plain_template_again : (table : List Row) (tree : Tree) (subsets : List (List (Item Content))) (drafts : List Subset) (bits suffix : List Bool) → AreGoodRows table → IsLegal tree → AreDumped subsets drafts → ReadsSubsets (next_item table tree) subsets bits suffix → IsWrittenAgain (next_item table tree) subsets drafts bits suffix
+plain_template_again table tree subsets drafts bits suffix rows legal dumped h =
+    plain_again (next_item table tree) subsets drafts bits suffix (plain_specs (next_item table tree) subsets bits suffix (template_good table tree rows legal) h) dumped h
 
-pub reads_specs : (n : ℕ) (table : List Row) (tree : Tree) (items : List (Item (List Content))) (bits behind : List Bool) → AreGoodRows table → IsLegal tree → IsPackedReading n (next_item table tree) items bits behind → AllSpecs items
-reads_specs zero table tree items bits behind rows legal h = subst AllSpecs (sym h.0) tt
-reads_specs (suc n) table tree items bits behind rows legal h = packed_specs (suc n) (next_item table tree) items bits behind (template_good table tree rows legal) h.0.0
+pub reads_specs : (n : ℕ) (table : List Row) (tree : Tree) (items : List (Item (List Content))) (bits suffix : List Bool) → AreGoodRows table → IsLegal tree → IsPackedReading n (next_item table tree) items bits suffix → AllSpecs items
+reads_specs zero table tree items bits suffix rows legal h = subst AllSpecs (sym h.0) tt
+reads_specs (suc n) table tree items bits suffix rows legal h = packed_specs (suc n) (next_item table tree) items bits suffix (template_good table tree rows legal) h.0.0
 
-pub packed_template_again : (n : ℕ) (table : List Row) (tree : Tree) (items : List (Item (List Content))) (drafts : List Subset) (bits behind : List Bool) → AreGoodRows table → IsLegal tree → length drafts ≡ n → AreDumpedFrom 0 items drafts → IsPackedReading n (next_item table tree) items bits behind → IsPackedAgain n (next_item table tree) items drafts bits behind
-packed_template_again n table tree items drafts bits behind rows legal count dumped h =
-    packed_again n (next_item table tree) items drafts bits behind count (reads_specs n table tree items bits behind rows legal h) dumped h
+pub packed_template_again : (n : ℕ) (table : List Row) (tree : Tree) (items : List (Item (List Content))) (drafts : List Subset) (bits suffix : List Bool) → AreGoodRows table → IsLegal tree → length drafts ≡ n → AreDumpedFrom 0 items drafts → IsPackedReading n (next_item table tree) items bits suffix → IsPackedAgain n (next_item table tree) items drafts bits suffix
+packed_template_again n table tree items drafts bits suffix rows legal count dumped h =
+    packed_again n (next_item table tree) items drafts bits suffix count (reads_specs n table tree items bits suffix rows legal h) dumped h

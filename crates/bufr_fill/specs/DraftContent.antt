@@ -108,7 +108,7 @@ plainly line spec (Err why) = Err (at_line line why)
 abbrev pub plain_filler : (end_line : ℕ) → Filler Draft Content FaultAt
 plain_filler end_line = record {
   fills = λ spec d. plainly d.line spec (content_of spec d);
-  tells = answer_of;
+  gives = answer_of;
   none_left = λ spec. at_line end_line (wrong_for spec);
   left_over = λ d. at_line d.line item_too_many;
   refused_at = λ d why. at_line d.line (walk_refused why);

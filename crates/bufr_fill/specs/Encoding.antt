@@ -7,7 +7,7 @@ use Rattle.bufr_walk.specs.Course.{Course}
 use Rattle.bufr_walk.specs.Content.{Content}
 use Rattle.bufr_walk.specs.Reading.{max_values}
 use Rattle.bufr_walk.specs.PlainField.{FieldFault, unequal_factor}
-use Rattle.bufr_walk.specs.PackedField.{told_first}
+use Rattle.bufr_walk.specs.PackedField.{answer_first}
 use Rattle.bufr_fill.specs.Packing.{packing, same}
 use Rattle.bufr_fill.specs.Filling.{WrittenItem, written_item, Filler, fill}
 use Rattle.bufr_fill.specs.Draft.{Draft}
@@ -152,7 +152,7 @@ none_across end_line many spec =
 abbrev pub packed_filler : (end_line : ℕ) (many : Bool) → Filler ItemRow (List Content) FaultAt
 packed_filler end_line many = record {
   fills = pack_across;
-  tells = told_first;
+  gives = answer_first;
   none_left = none_across end_line many;
   left_over = λ a. at_line (first_there a.cells) item_too_many;
   refused_at = λ a why. at_line (first_line a.cells) (walk_refused why);

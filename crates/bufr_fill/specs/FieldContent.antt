@@ -13,14 +13,14 @@ use Rattle.bufr_fill.specs.Packing.{raw_limit}
 use Rattle.bufr_fill.specs.DraftFaults.{item_fault_of}
 
 -- the content of a number, or its fault
-abbrev pub number_told : Result ℕ Wrong → Result Content DraftFaultKind
-number_told (Ok raw) = Ok (number raw)
-number_told (Err why) = Err (item_fault_of why)
+abbrev pub number_answer : Result ℕ Wrong → Result Content DraftFaultKind
+number_answer (Ok raw) = Ok (number raw)
+number_answer (Err why) = Err (item_fault_of why)
 
 -- the content of a reference, or its fault
-abbrev pub reference_told : Result ℤ Wrong → Result Content DraftFaultKind
-reference_told (Ok value) = Ok (reference value)
-reference_told (Err why) = Err (item_fault_of why)
+abbrev pub reference_answer : Result ℤ Wrong → Result Content DraftFaultKind
+reference_answer (Ok value) = Ok (reference value)
+reference_answer (Err why) = Err (item_fault_of why)
 
 -- a text followed by spaces, up to `count` octets
 abbrev pub spaced : (count : ℕ) → List ℕ → List ℕ
@@ -34,9 +34,9 @@ content_drawn count drawn.Missing = missing
 content_drawn count (drawn.Reference value) = reference value
 
 -- the content of a field, or its fault
-abbrev pub drawn_told : (count : ℕ) → Result FieldContent Wrong → Result Content DraftFaultKind
-drawn_told count (Ok d) = Ok (content_drawn count d)
-drawn_told count (Err why) = Err (item_fault_of why)
+abbrev pub drawn_answer : (count : ℕ) → Result FieldContent Wrong → Result Content DraftFaultKind
+drawn_answer count (Ok d) = Ok (content_drawn count d)
+drawn_answer count (Err why) = Err (item_fault_of why)
 
 -- a text that the field has room for, and that does not read as missing
 abbrev pub HasRoom : (count : ℕ) → List ℕ → Type 0

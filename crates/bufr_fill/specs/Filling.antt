@@ -19,7 +19,7 @@ written_item content bits = record { content = content; bits = bits }
 -- of no draft, of one too many, and of a refused walk
 pub record Filler (D C E : Type 0) : Type 0 where
   pub fills : FieldSpec → D → Result (WrittenItem C) E
-  pub tells : FieldSpec → C → Taken
+  pub gives : FieldSpec → C → Taken
   pub none_left : FieldSpec → E
   pub left_over : D → E
   pub refused_at : D → TurnRefusal → E
@@ -28,15 +28,15 @@ pub record Filler (D C E : Type 0) : Type 0 where
 
 module _ {D C E : Type 0} (filler : Filler D C E) where
   -- bits, followed by the bits of the rest
-  abbrev pub and_behind : List Bool → Result (List Bool) E → Result (List Bool) E
-  and_behind bits (Err why) = Err why
-  and_behind bits (Ok behind) = Ok (bits ++ behind)
+  abbrev pub with_bits_before : List Bool → Result (List Bool) E → Result (List Bool) E
+  with_bits_before bits (Err why) = Err why
+  with_bits_before bits (Ok suffix) = Ok (bits ++ suffix)
 
   -- one item that was written, and the rest
   abbrev pub filled : FieldSpec → Result (WrittenItem C) E → (Taken → Result (List Bool) E)
       → Result (List Bool) E
   filled spec (Err why) rest = Err why
-  filled spec (Ok w) rest = and_behind w.bits (rest (filler.tells spec w.content))
+  filled spec (Ok w) rest = with_bits_before w.bits (rest (filler.gives spec w.content))
 
   -- what comes next, where there is a draft
   abbrev pub fill_one : Next → D → (Taken → Result (List Bool) E) → Result (List Bool) E
@@ -57,4 +57,5 @@ module _ {D C E : Type 0} (filler : Filler D C E) where
   -- rule: fault-62-first
   abbrev pub fill : Course → List D → Result (List Bool) E
   fill course [] = fill_none (course []).next
-  fill course (d ∷ ds) = fill_one (course []).next d (λ t. fill (λ told. course (t ∷ told)) ds)
+  fill course (d ∷ ds) =
+      fill_one (course []).next d (λ t. fill (λ answers. course (t ∷ answers)) ds)

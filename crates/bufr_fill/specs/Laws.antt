@@ -7,7 +7,7 @@ use Rattle.bufr_tables.specs.TableB.{Row, AreRows}
 use Rattle.bufr_tables.specs.Tree.{Tree}
 use Rattle.bufr_walk.specs.Course.{Course, next_item}
 use Rattle.bufr_walk.specs.Taking.{TakenField, course_after}
-use Rattle.bufr_fill.specs.Filling.{Filler, fill, and_behind}
+use Rattle.bufr_fill.specs.Filling.{Filler, fill, with_bits_before}
 
 -- a law holds of the course of each template of legal nodes, by each Table B that can be read
 abbrev pub OfTemplates : (Course → Type 0) → Type 0
@@ -22,4 +22,4 @@ abbrev pub WritesDrafts : {D C E : Type 0} → Filler D C E → Course → List 
 WritesDrafts filler course items old new drafts left =
     (bits : List Bool) × (new ≡ old ++ bits)
     × (fill filler course drafts
-    ≡ and_behind filler bits (fill filler (course_after course items) left))
+    ≡ with_bits_before filler bits (fill filler (course_after course items) left))

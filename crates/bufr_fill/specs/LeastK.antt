@@ -19,7 +19,7 @@ pub record HasLeastK (n : ℕ) (spec : FieldSpec) (contents : List Content) : Ty
   pub out : List Bool
   pub is : packing spec contents ≡ Ok out
   pub again : (more : List Bool) → packed_field n spec (out ++ more) ≡ Ok (found contents more)
-  pub least : (bits behind : List Bool) → packed_field n spec bits ≡ Ok (found contents behind)
+  pub least : (bits suffix : List Bool) → packed_field n spec bits ≡ Ok (found contents suffix)
       → k_of spec out ≤ k_of spec bits
-  pub short : (bits behind : List Bool) → packed_field n spec bits ≡ Ok (found contents behind)
-      → length out + length behind ≤ length bits
+  pub short : (bits suffix : List Bool) → packed_field n spec bits ≡ Ok (found contents suffix)
+      → length out + length suffix ≤ length bits

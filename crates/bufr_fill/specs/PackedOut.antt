@@ -6,7 +6,7 @@ use Rattle.bufr_fill.specs.declared.fault.DraftFault.{DraftFault}
 use Rattle.bufr_walk.specs.FieldSpec.{FieldSpec}
 use Rattle.bufr_walk.specs.Content.{Content}
 use Rattle.bufr_walk.specs.Course.{Next, take_next, at_end, astray, refused}
-use Rattle.bufr_walk.specs.PackedField.{told_first}
+use Rattle.bufr_walk.specs.PackedField.{answer_first}
 use Rattle.bufr_walk.specs.Reading.{max_values}
 use Rattle.bufr_fill.specs.Draft.{Draft}
 use Rattle.bufr_fill.specs.Entries.{DraftEntry, Holds, Ends, Subset}
@@ -51,7 +51,7 @@ pub record IsPutAcross (old new : List Bool) (spec : FieldSpec) (a : ItemRow)
   pub contents : List Content
   pub item : List Bool
   pub is : pack_across spec a ≡ Ok (written_item contents item)
-  pub tells : t ≡ told_first spec contents
+  pub gives : t ≡ answer_first spec contents
   pub bits : new ≡ old ++ item
   pub forth : length old < length new
 

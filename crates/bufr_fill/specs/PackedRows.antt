@@ -76,15 +76,16 @@ contents_drawn count [] = []
 contents_drawn count (d ∷ ds) = content_drawn count d ∷ contents_drawn count ds
 
 -- contents before others, or the fault of these
-abbrev pub in_front : List Content → Result (List Content) FaultAt → Result (List Content) FaultAt
-in_front cs (Ok more) = Ok (cs ++ more)
-in_front cs (Err f) = Err f
+abbrev pub with_contents_before : List Content → Result (List Content) FaultAt
+    → Result (List Content) FaultAt
+with_contents_before cs (Ok more) = Ok (cs ++ more)
+with_contents_before cs (Err f) = Err f
 
 -- the first `number` cells were converted
 pub record IsGathering (count : ℕ) (spec : FieldSpec) (cells : List RowCell) (number : ℕ)
     (drawn : List FieldContent) : Type 0 where
   pub so : contents_here spec cells
-      ≡ in_front (contents_drawn count drawn) (contents_here spec (drop number cells))
+      ≡ with_contents_before (contents_drawn count drawn) (contents_here spec (drop number cells))
   pub all : AllDrawn spec drawn
   pub many : length drawn ≡ number
 

@@ -35,7 +35,7 @@ pub record IsFilled (s : PlainOutModel) (spec : FieldSpec) (t : Taken)
   pub content : Content
   pub here : s.left ≡ Holds draft ∷ s'.left
   pub is : content_of spec draft ≡ Ok content
-  pub tells : t ≡ answer_of spec content
+  pub gives : t ≡ answer_of spec content
   pub bits : s'.bits ≡ s.bits ++ bits_for spec.width content
   pub forth : length s.bits < length s'.bits
 
@@ -65,23 +65,23 @@ line_at (Holds d ∷ more) = d.line
 line_at (Ends line ∷ more) = line
 
 -- the entries after the end of a subset, where the end is next
-abbrev pub behind_end : List DraftEntry → Result (List DraftEntry) FaultAt
-behind_end [] = Err (at_line 0 item_too_many)
-behind_end (Holds d ∷ more) = Err (at_line d.line item_too_many)
-behind_end (Ends line ∷ more) = Ok more
+abbrev pub after_end : List DraftEntry → Result (List DraftEntry) FaultAt
+after_end [] = Err (at_line 0 item_too_many)
+after_end (Holds d ∷ more) = Err (at_line d.line item_too_many)
+after_end (Ends line ∷ more) = Ok more
 
 -- the end of a subset was passed, or an item is next
 abbrev pub EndsSubset : PlainOutModel → Result (Unit {0}) DraftFault → PlainOutModel → Type 0
-EndsSubset s (Ok _) s' = (behind_end s.left ≡ Ok s'.left) × (s'.bits ≡ s.bits)
+EndsSubset s (Ok _) s' = (after_end s.left ≡ Ok s'.left) × (s'.bits ≡ s.bits)
 EndsSubset s (Err e) s' =
-    ((f : FaultAt) × (draft_fault e ≡ Some f) × (behind_end s.left ≡ Err f)) × (s' ≡ s)
+    ((f : FaultAt) × (draft_fault e ≡ Some f) × (after_end s.left ≡ Err f)) × (s' ≡ s)
 
 -- the fault at the next entry, by what comes next: that of the item, that of the walk on the
 -- entry's line, or an item that is left over
 abbrev pub IsFaultNext : Next → List DraftEntry → FaultAt → Type 0
 IsFaultNext (take_next spec) left f = IsFaultOf spec left f
 IsFaultNext (refused why) left f = f ≡ at_line (line_at left) (walk_refused why)
-IsFaultNext at_end left f = (1 ≤ length left) × (behind_end left ≡ Err f)
+IsFaultNext at_end left f = (1 ≤ length left) × (after_end left ≡ Err f)
 IsFaultNext astray left f = ⊥
 
 -- the items of the next subset

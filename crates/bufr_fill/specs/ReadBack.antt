@@ -47,12 +47,12 @@ AreSaidFrom j items (s ∷ ss) =
 pub record IsReadBack (course : Course) (drafts : List Subset) (bits : List Bool) : Type 0 where
   pub subsets : List (List (Item Content))
   pub said : AreSaid subsets drafts
-  pub read : (behind : List Bool) → ReadsSubsets course subsets (bits ++ behind) behind
+  pub read : (suffix : List Bool) → ReadsSubsets course subsets (bits ++ suffix) suffix
 
 -- the same of compressed data
 pub record IsPackedReadBack (course : Course) (drafts : List Subset)
     (bits : List Bool) : Type 0 where
   pub items : List (Item (List Content))
   pub said : AreSaidFrom 0 items drafts
-  pub read : (behind : List Bool)
-      → IsPackedReading (length drafts) course items (bits ++ behind) behind
+  pub read : (suffix : List Bool)
+      → IsPackedReading (length drafts) course items (bits ++ suffix) suffix

@@ -32,19 +32,19 @@ AreDumped (items ∷ subsets) (s ∷ ss) = AreDrafts IsDumped items s.items × A
 -- items that were read from bits are written again from the drafts of their dump; the new bits have
 -- the same reading, and are no more
 pub record IsWrittenAgain (course : Course) (subsets : List (List (Item Content)))
-    (drafts : List Subset) (bits behind : List Bool) : Type 0 where
+    (drafts : List Subset) (bits suffix : List Bool) : Type 0 where
   pub out : List Bool
   pub is : plain_data course drafts ≡ Ok out
   pub again : (more : List Bool) → ReadsSubsets course subsets (out ++ more) more
-  pub short : length out + length behind ≤ length bits
+  pub short : length out + length suffix ≤ length bits
 
 -- the same of compressed data
 pub record IsPackedAgain (n : ℕ) (course : Course) (items : List (Item (List Content)))
-    (drafts : List Subset) (bits behind : List Bool) : Type 0 where
+    (drafts : List Subset) (bits suffix : List Bool) : Type 0 where
   pub out : List Bool
   pub is : packed_data course drafts ≡ Ok out
   pub again : (more : List Bool) → IsPackedReading n course items (out ++ more) more
-  pub short : length out + length behind ≤ length bits
+  pub short : length out + length suffix ≤ length bits
 
 -- the items of one subset of compressed data
 abbrev pub items_of_subset : (subset : ℕ) → List (Item (List Content)) → List (Item Content)

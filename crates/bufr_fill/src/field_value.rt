@@ -5,7 +5,7 @@ ghost use Rattle.bufr_bits.specs.DecimalValue.{decimal_value_of};
 ghost use Rattle.bufr_tables.specs.TableB.{is_character};
 ghost use Rattle.bufr_walk.specs.FieldSpec.{is_reference};
 ghost use Rattle.bufr_fill.specs.DraftContent.{raw_within, raw_of, reference_of, text_within, is_of, is_marked, wrong_for, content_of, content_by_form};
-ghost use Rattle.bufr_fill.specs.FieldContent.{number_told, reference_told, spaced, HasRoom, drawn_told, IsDrawn, IsTextOf};
+ghost use Rattle.bufr_fill.specs.FieldContent.{number_answer, reference_answer, spaced, HasRoom, drawn_answer, IsDrawn, IsTextOf};
 ghost use Rattle.bufr_fill.specs.Packing.{raw_limit};
 ghost use Rattle.bufr_fill.specs.Given.{draft_in, form_in};
 ghost use Rattle.bufr_fill.specs.DraftFaults.{item_fault_of};
@@ -45,7 +45,7 @@ pub(crate) fn raw_limit(may_be_missing: bool, width: u32) -> u64
 // rule: fault-53
 fn raw_in(value: i128, spec: &Spec) -> Result<u64, Wrong>
     requires narrow { spec.now.width ≤ 63 }
-    ensures is { number_told result
+    ensures is { number_answer result
         ≡ raw_within spec.now.may_be_missing spec.now.width (value -ℤ spec.now.reference) }
     ensures below { IfOk result (λ raw. raw < raw_limit spec.now.may_be_missing spec.now.width) }
 {
@@ -67,7 +67,8 @@ fn raw_in(value: i128, spec: &Spec) -> Result<u64, Wrong>
 // rule: fault-52
 fn raw_of_token(token: &[u8], spec: &Spec) -> Result<u64, Wrong>
     requires narrow { spec.now.width ≤ 63 }
-    ensures is { number_told result ≡ raw_of spec.now (decimal_value_of token.now spec.now.scale) }
+    ensures is { number_answer result
+        ≡ raw_of spec.now (decimal_value_of token.now spec.now.scale) }
     ensures below { IfOk result (λ raw. raw < raw_limit spec.now.may_be_missing spec.now.width) }
 {
     match decimal_read(token, spec.scale()) {
@@ -82,7 +83,7 @@ fn raw_of_token(token: &[u8], spec: &Spec) -> Result<u64, Wrong>
 fn reference_of_token(token: &[u8], spec: &Spec) -> Result<i64, Wrong>
     requires some { 1 ≤ spec.now.width }
     requires narrow { spec.now.width ≤ 63 }
-    ensures is { reference_told result
+    ensures is { reference_answer result
         ≡ reference_of spec.now (decimal_value_of token.now (pos 0)) }
     ensures fits { IfOk result (λ value. unsigned_abs value < 2 ^ (spec.now.width - 1)) }
 {
@@ -119,7 +120,7 @@ fn reads_as_missing(octets: &[u8], count: usize) -> bool
 /// A text of at most `count` octets.
 // rule: fault-53, fault-54
 fn text_for<'a>(octets: &'a [u8], count: usize) -> Result<FieldContent<'a>, Wrong>
-    ensures is { drawn_told count result ≡ text_within count octets.now }
+    ensures is { drawn_answer count result ≡ text_within count octets.now }
     ensures text { IfOk result (λ d. IsTextOf count octets.now d) }
 {
     if octets.len() > count {
@@ -136,7 +137,7 @@ fn text_for<'a>(octets: &'a [u8], count: usize) -> Result<FieldContent<'a>, Wron
 // rule: fault-52, fault-55, fault-order-of-an-item
 fn draw_form<'a>(form: DraftValue<'a>, spec: &Spec) -> Result<FieldContent<'a>, Wrong>
     requires mark { is_reference spec.now.role ≡ is_marked (form_in form) }
-    ensures is { drawn_told (spec.now.width / 8) result
+    ensures is { drawn_answer (spec.now.width / 8) result
         ≡ content_by_form (form_in form.entry) spec.now }
     ensures drawn { IfOk result (λ d. IsDrawn spec.now d) }
 {
@@ -197,7 +198,8 @@ pub(crate) fn field_content<'a>(
     item: &DraftItem<'a>,
     spec: &Spec,
 ) -> Result<FieldContent<'a>, Wrong>
-    ensures is { drawn_told (spec.now.width / 8) result ≡ content_of spec.now (draft_in item.now) }
+    ensures is { drawn_answer (spec.now.width / 8) result
+        ≡ content_of spec.now (draft_in item.now) }
     ensures drawn { IfOk result (λ d. IsDrawn spec.now d) }
 {
     if !is_item_of(item, spec) {

@@ -30,18 +30,18 @@ ghost use Rattle.bufr_fill.specs.WrittenAgain.{AreDumped, AreDumpedFrom, IsWritt
 /// The bits have the same reading, and are no more. (WMO-No. 306, Volume I.2, FM 94: section 4)
 pub fn plain_data_round_trip()
     ensures { OfTemplates (λ course. (subsets : List (List (Item Content))) (drafts : List Subset)
-        (bits behind : List Bool) → AreDumped subsets drafts
-        → ReadsSubsets course subsets bits behind
-        → IsWrittenAgain course subsets drafts bits behind) }
+        (bits suffix : List Bool) → AreDumped subsets drafts
+        → ReadsSubsets course subsets bits suffix
+        → IsWrittenAgain course subsets drafts bits suffix) }
 {}
 
 /// Law: the same of compressed data. What was read is written again to bits that have the same
 /// reading, and are no more.
 pub fn packed_data_round_trip()
     ensures { OfTemplates (λ course. (n : ℕ) (items : List (Item (List Content)))
-        (drafts : List Subset) (bits behind : List Bool) → length drafts ≡ n
-        → AreDumpedFrom 0 items drafts → IsPackedReading n course items bits behind
-        → IsPackedAgain n course items drafts bits behind) }
+        (drafts : List Subset) (bits suffix : List Bool) → length drafts ≡ n
+        → AreDumpedFrom 0 items drafts → IsPackedReading n course items bits suffix
+        → IsPackedAgain n course items drafts bits suffix) }
 {}
 
 /// Law: an item of compressed data is packed with the least `k` of all that its contents can be
@@ -49,9 +49,9 @@ pub fn packed_data_round_trip()
 /// (WMO-No. 306, Volume I.2, FM 94: section 4, compression; that the `k` is the least is a choice
 /// of this project)
 pub fn items_are_packed_with_the_least_k()
-    ensures { (n : ℕ) (spec : FieldSpec) (contents : List Content) (bits behind : List Bool)
+    ensures { (n : ℕ) (spec : FieldSpec) (contents : List Content) (bits suffix : List Bool)
         → 1 ≤ n → IsSpec spec
-        → packed_field n spec bits ≡ Ok (found contents behind) → HasLeastK n spec contents }
+        → packed_field n spec bits ≡ Ok (found contents suffix) → HasLeastK n spec contents }
 {}
 
 /// Law: contents that fit their field, from any source, are packed with the least `k` of all that
@@ -77,19 +77,19 @@ pub fn written_packed_data_are_read()
 
 /// Law: the drafts of the items of a reading, without compression, are written to bits that the
 /// items determine. Other drafts with the same contents are written to the same bits.
-pub fn plain_data_are_told_by_what_is_said()
+pub fn plain_data_are_fixed_by_what_is_said()
     ensures { OfTemplates (λ course. (subsets : List (List (Item Content)))
-        (drafts others : List Subset) (bits behind : List Bool)
-        → ReadsSubsets course subsets bits behind
+        (drafts others : List Subset) (bits suffix : List Bool)
+        → ReadsSubsets course subsets bits suffix
         → AreSaid subsets drafts → AreSaid subsets others
         → plain_data course drafts ≡ plain_data course others) }
 {}
 
 /// Law: the same of compressed data.
-pub fn packed_data_are_told_by_what_is_said()
+pub fn packed_data_are_fixed_by_what_is_said()
     ensures { OfTemplates (λ course. (n : ℕ) (items : List (Item (List Content)))
-        (drafts others : List Subset) (bits behind : List Bool)
-        → IsPackedReading n course items bits behind
+        (drafts others : List Subset) (bits suffix : List Bool)
+        → IsPackedReading n course items bits suffix
         → length drafts ≡ n → AreSaidFrom 0 items drafts → length others ≡ n
         → AreSaidFrom 0 items others → packed_data course drafts ≡ packed_data course others) }
 {}
@@ -114,8 +114,8 @@ pub fn alike_drafts_have_the_same_packed_data()
 /// form. (WMO-No. 306, Volume I.2, FM 94: section 4)
 pub fn compressed_data_are_written_apart()
     ensures { OfTemplates (λ course. (n : ℕ) (items : List (Item (List Content)))
-        (drafts : List Subset) (bits behind : List Bool) → length drafts ≡ n
-        → AreDumpedFrom 0 items drafts → IsPackedReading n course items bits behind
+        (drafts : List Subset) (bits suffix : List Bool) → length drafts ≡ n
+        → AreDumpedFrom 0 items drafts → IsPackedReading n course items bits suffix
         → IsWrittenApart n course items drafts) }
 {}
 
@@ -125,8 +125,8 @@ pub fn compressed_data_are_written_apart()
 /// section 4, compression)
 pub fn plain_data_are_written_together()
     ensures { OfTemplates (λ course. (subsets : List (List (Item Content))) (drafts : List Subset)
-        (bits behind : List Bool) → length bits ≤ max_values
-        → AreDumped subsets drafts → ReadsSubsets course subsets bits behind
+        (bits suffix : List Bool) → length bits ≤ max_values
+        → AreDumped subsets drafts → ReadsSubsets course subsets bits suffix
         → IsTogetherOrNot course subsets drafts) }
 {}
 

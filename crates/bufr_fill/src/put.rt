@@ -23,7 +23,7 @@ pub(crate) fn with_spaces(octets: &[u8]) -> [u8; 255]
 }
 
 /// Writes a text, followed by spaces up to `count` octets.
-#[tactic(auto, using(crate::proofs::PutLemmas::spaced_front))]
+#[tactic(auto, using(crate::proofs::PutLemmas::spaced_prefix))]
 fn put_text(out: &mut BitWriter, octets: &[u8], count: usize)
     requires within { length octets.now ≤ count }
     requires most { count ≤ 255 }
@@ -151,9 +151,9 @@ fn reference_in(drawn: FieldContent<'_>) -> i64
 
 /// What a field returns to the walk.
 #[inline(always)]
-#[tactic(auto, using(crate::proofs::DrawLemmas::told_count, crate::proofs::DrawLemmas::told_reference, crate::proofs::DrawLemmas::told_element, crate::proofs::DrawLemmas::told_inserted))]
+#[tactic(auto, using(crate::proofs::DrawLemmas::answer_count, crate::proofs::DrawLemmas::answer_reference, crate::proofs::DrawLemmas::answer_element, crate::proofs::DrawLemmas::answer_inserted))]
 pub(crate) fn taken_of(drawn: FieldContent<'_>, spec: &Spec) -> Taken
-    ensures tells { result ≡ answer_of spec.now (content_drawn (spec.now.width / 8) drawn.entry) }
+    ensures gives { result ≡ answer_of spec.now (content_drawn (spec.now.width / 8) drawn.entry) }
     ensures shape { IsFor spec.now result }
 {
     match spec.role() {

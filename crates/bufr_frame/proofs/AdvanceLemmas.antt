@@ -18,8 +18,8 @@ use Rattle.bufr_frame.specs.FinderSteps.{gone_to, PassesEvent, ReadsMore, ReadEn
 use Rattle.bufr_frame.proofs.FindingLemmas.{turn-pass, turn-stop, read-step}
 use Rattle.bufr_frame.proofs.LongestLemmas.{open-sees, raised-open, raised-read}
 
-pub stopped-told : (p : Phase) (f : RunFault) → p ≡ phase.Stopped f → fault_in p ≡ None → ⊥
-stopped-told p f is none = let e : Some f ≡ None = ap fault_in (sym is) ∙ none in cc
+pub stopped-reported : (p : Phase) (f : RunFault) → p ≡ phase.Stopped f → fault_in p ≡ None → ⊥
+stopped-reported p f is none = let e : Some f ≡ None = ap fault_in (sym is) ∙ none in cc
 
 pub sound-unless : (p : Phase) → ((f : RunFault) → p ≡ phase.Stopped f → ⊥) → fault_in p ≡ None
 sound-unless phase.Reading not = refl

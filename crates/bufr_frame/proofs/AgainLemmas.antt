@@ -133,9 +133,9 @@ sizes m s e =
     let l3 : length (words (slice_range m (e.p2 + 7) e.p3)) ≡ (e.p3 - (e.p2 + 7)) / 2 =
     length-words (slice_range m (e.p2 + 7) e.p3) ∙ ap (λ n. n / 2) (slice-long m (e.p2 + 7) e.p3 (omega (arith, e.fourth.least_long, e.fourth.within))) in
     let l4 : 4 + length (slice_range m (e.p3 + 4) e.p4) ≡ e.p4 - e.p3 = omega (arith, slice-long m (e.p3 + 4) e.p4 (omega (arith, e.fourth.within)), e.fourth.least_long) in
-    let front : 8 + (least + length (slice_range m (8 + least) e.p1)) + section2_size (if has_section2 m then Some (slice_range m (e.p1 + 4) e.p2) else None) ≡ e.p2 =
+    let prefix : 8 + (least + length (slice_range m (8 + least) e.p1)) + section2_size (if has_section2 m then Some (slice_range m (e.p1 + 4) e.p2) else None) ≡ e.p2 =
     omega (arith, l1, e.first.least_long, second) in
-    ap (λ n. n + even_size (edition_of m) (7 + 2 * length (words (slice_range m (e.p2 + 7) e.p3))) + even_size (edition_of m) (4 + length (slice_range m (e.p3 + 4) e.p4)) + 4) front
+    ap (λ n. n + even_size (edition_of m) (7 + 2 * length (words (slice_range m (e.p2 + 7) e.p3))) + even_size (edition_of m) (4 + length (slice_range m (e.p3 + 4) e.p4)) + 4) prefix
     ∙ ap (λ n. e.p2 + even_size (edition_of m) (7 + 2 * n) + even_size (edition_of m) (4 + length (slice_range m (e.p3 + 4) e.p4)) + 4) l3
     ∙ ap (λ n. e.p2 + even_size (edition_of m) (7 + 2 * ((e.p3 - (e.p2 + 7)) / 2)) + even_size (edition_of m) n + 4) l4
 
@@ -311,17 +311,17 @@ module _ (m : List ℕ) (small : All (λ octet. octet < 256) m) where
   some-back false x = refl
 
   -- section 1 after its length
-  laid : (centre subcentre year : List ℕ) (flag : ℕ) → List ℕ
-  laid centre subcentre year flag = get_or m 11 0 ∷ centre ++ subcentre ++ get_or m 16 0 ∷ flag ∷ get_or m 18 0 ∷ get_or m 19 0 ∷ get_or m 20 0 ∷ get_or m 21 0 ∷ get_or m 22 0 ∷ year
+  written : (centre subcentre year : List ℕ) (flag : ℕ) → List ℕ
+  written centre subcentre year flag = get_or m 11 0 ∷ centre ++ subcentre ++ get_or m 16 0 ∷ flag ∷ get_or m 18 0 ∷ get_or m 19 0 ∷ get_or m 20 0 ∷ get_or m 21 0 ∷ get_or m 22 0 ∷ year
       ++ get_or m 25 0 ∷ get_or m 26 0 ∷ get_or m 27 0 ∷ get_or m 28 0 ∷ get_or m 29 0 ∷ []
 
-  head-laid : (edition : ℕ) (b : Bool) → slot_octets slots_4 (head_value (head_in edition slots_4 m 11) b) ≡ laid (two_octets (u16_at m 12)) (two_octets (u16_at m 14)) (two_octets (u16_at m 23)) (if b then 128 else 0)
-  unfolding laid
-  head-laid edition b = refl
+  head-written : (edition : ℕ) (b : Bool) → slot_octets slots_4 (head_value (head_in edition slots_4 m 11) b) ≡ written (two_octets (u16_at m 12)) (two_octets (u16_at m 14)) (two_octets (u16_at m 23)) (if b then 128 else 0)
+  unfolding written
+  head-written edition b = refl
 
-  octets-laid : octets_from 19 11 m ≡ laid (get_or m 12 0 ∷ get_or m 13 0 ∷ []) (get_or m 14 0 ∷ get_or m 15 0 ∷ []) (get_or m 23 0 ∷ get_or m 24 0 ∷ []) (get_or m 17 0)
-  unfolding laid octets_from
-  octets-laid = refl
+  octets-written : octets_from 19 11 m ≡ written (get_or m 12 0 ∷ get_or m 13 0 ∷ []) (get_or m 14 0 ∷ get_or m 15 0 ∷ []) (get_or m 23 0 ∷ get_or m 24 0 ∷ []) (get_or m 17 0)
+  unfolding written octets_from
+  octets-written = refl
 
   head-back-4 : (edition : ℕ) (b : Bool) → 30 ≤ length m → nat_le 128 (get_or m 17 0) ≡ b → get_or m 17 0 % 128 ≡ 0 → slot_octets slots_4 (head_value (head_in edition slots_4 m 11) b) ≡ octets_from 19 11 m
   head-back-4 edition b long is reserved =
@@ -329,29 +329,29 @@ module _ (m : List ℕ) (small : All (λ octet. octet < 256) m) where
       let s = word-back 14 (omega arith) in
       let y = word-back 23 (omega arith) in
       let f : (if b then 128 else 0) ≡ get_or m 17 0 = flag-back b (get_or m 17 0) is (small 17 0 (omega arith)) reserved in
-      head-laid edition b ∙ (let e : laid (two_octets (u16_at m 12)) (two_octets (u16_at m 14)) (two_octets (u16_at m 23)) (if b then 128 else 0)
-      ≡ laid (get_or m 12 0 ∷ get_or m 13 0 ∷ []) (get_or m 14 0 ∷ get_or m 15 0 ∷ []) (get_or m 23 0 ∷ get_or m 24 0 ∷ []) (get_or m 17 0) =
-      ap (λ l. laid l (two_octets (u16_at m 14)) (two_octets (u16_at m 23)) (if b then 128 else 0)) c
-      ∙ ap (λ l. laid (get_or m 12 0 ∷ get_or m 13 0 ∷ []) l (two_octets (u16_at m 23)) (if b then 128 else 0)) s
-      ∙ ap (λ l. laid (get_or m 12 0 ∷ get_or m 13 0 ∷ []) (get_or m 14 0 ∷ get_or m 15 0 ∷ []) l (if b then 128 else 0)) y
-      ∙ ap (laid (get_or m 12 0 ∷ get_or m 13 0 ∷ []) (get_or m 14 0 ∷ get_or m 15 0 ∷ []) (get_or m 23 0 ∷ get_or m 24 0 ∷ [])) f
-      in e) ∙ sym octets-laid
+      head-written edition b ∙ (let e : written (two_octets (u16_at m 12)) (two_octets (u16_at m 14)) (two_octets (u16_at m 23)) (if b then 128 else 0)
+      ≡ written (get_or m 12 0 ∷ get_or m 13 0 ∷ []) (get_or m 14 0 ∷ get_or m 15 0 ∷ []) (get_or m 23 0 ∷ get_or m 24 0 ∷ []) (get_or m 17 0) =
+      ap (λ l. written l (two_octets (u16_at m 14)) (two_octets (u16_at m 23)) (if b then 128 else 0)) c
+      ∙ ap (λ l. written (get_or m 12 0 ∷ get_or m 13 0 ∷ []) l (two_octets (u16_at m 23)) (if b then 128 else 0)) s
+      ∙ ap (λ l. written (get_or m 12 0 ∷ get_or m 13 0 ∷ []) (get_or m 14 0 ∷ get_or m 15 0 ∷ []) l (if b then 128 else 0)) y
+      ∙ ap (written (get_or m 12 0 ∷ get_or m 13 0 ∷ []) (get_or m 14 0 ∷ get_or m 15 0 ∷ []) (get_or m 23 0 ∷ get_or m 24 0 ∷ [])) f
+      in e) ∙ sym octets-written
 
-  laid-3 : (flag : ℕ) → List ℕ
-  laid-3 flag = get_or m 11 0 ∷ get_or m 12 0 ∷ get_or m 13 0 ∷ get_or m 14 0 ∷ flag ∷ get_or m 16 0 ∷ get_or m 17 0 ∷ get_or m 18 0 ∷ get_or m 19 0 ∷ get_or m 20 0
+  written-3 : (flag : ℕ) → List ℕ
+  written-3 flag = get_or m 11 0 ∷ get_or m 12 0 ∷ get_or m 13 0 ∷ get_or m 14 0 ∷ flag ∷ get_or m 16 0 ∷ get_or m 17 0 ∷ get_or m 18 0 ∷ get_or m 19 0 ∷ get_or m 20 0
       ∷ get_or m 21 0 ∷ get_or m 22 0 ∷ get_or m 23 0 ∷ get_or m 24 0 ∷ []
 
-  head-laid-3 : (edition : ℕ) (b : Bool) → slot_octets slots_3 (head_value (head_in edition slots_3 m 11) b) ≡ laid-3 (if b then 128 else 0)
-  unfolding laid-3
-  head-laid-3 edition b = refl
+  head-written-3 : (edition : ℕ) (b : Bool) → slot_octets slots_3 (head_value (head_in edition slots_3 m 11) b) ≡ written-3 (if b then 128 else 0)
+  unfolding written-3
+  head-written-3 edition b = refl
 
-  octets-laid-3 : octets_from 14 11 m ≡ laid-3 (get_or m 15 0)
-  unfolding laid-3 octets_from
-  octets-laid-3 = refl
+  octets-written-3 : octets_from 14 11 m ≡ written-3 (get_or m 15 0)
+  unfolding written-3 octets_from
+  octets-written-3 = refl
 
   head-back-3 : (edition : ℕ) (b : Bool) → 25 ≤ length m → nat_le 128 (get_or m 15 0) ≡ b → get_or m 15 0 % 128 ≡ 0 → slot_octets slots_3 (head_value (head_in edition slots_3 m 11) b) ≡ octets_from 14 11 m
   head-back-3 edition b long is reserved =
-      head-laid-3 edition b ∙ ap laid-3 (flag-back b (get_or m 15 0) is (small 15 0 (omega arith)) reserved) ∙ sym octets-laid-3
+      head-written-3 edition b ∙ ap written-3 (flag-back b (get_or m 15 0) is (small 15 0 (omega arith)) reserved) ∙ sym octets-written-3
 
   head-back : (b : Bool) → is_edition (edition_of m) ≡ true → 8 + first_least (edition_of m) ≤ length m → has_section2 m ≡ b → slot_value (slots_in m) m 11 Flags % 128 ≡ 0
       → head_octets (head_of m) b ≡ octets_from (octets_of_slots (slots_in m)) 11 m
@@ -422,8 +422,8 @@ module _ (m : List ℕ) (small : All (λ octet. octet < 256) m) where
       ∙ ap (λ l. l ++ x) (sym (seven-at m p)) ∙ sym (slice-begins 7 m p q fits within)
 
 -- the first eight octets
-front-back : (m : List ℕ) → All (λ octet. octet < 256) m → 8 ≤ length m → take 4 m ≡ codes "BUFR" → (n : ℕ) → n ≡ u24_at m 4 → section0_octets n (get_or m 7 0) ≡ take 8 m
-front-back m small long word n is =
+prefix-back : (m : List ℕ) → All (λ octet. octet < 256) m → 8 ≤ length m → take 4 m ≡ codes "BUFR" → (n : ℕ) → n ≡ u24_at m 4 → section0_octets n (get_or m 7 0) ≡ take 8 m
+prefix-back m small long word n is =
     let four : take 4 (drop 4 m) ≡ octets_from 4 4 m = slice-octets 4 4 m (omega arith) in
     ap (λ l. codes "BUFR" ++ l ++ get_or m 7 0 ∷ []) (length-back m small 4 n (omega arith) is)
     ∙ ap (λ l. codes "BUFR" ++ l) (sym (four ∙ four-at m 4)) ∙ ap (λ l. l ++ take 4 (drop 4 m)) (sym word) ∙ sym (take-add 4 4 m)
@@ -500,7 +500,7 @@ module _ (m : List ℕ) (plain : IsPlain m) (s : Sections) (e : Ended m s) where
       let L : ℕ → Type 0 = λ p. get_or m (p - 1) 0 ≡ 0 in
       let odd : edition_of m ≡ 4 → u24_at m e.p2 % 2 ≡ 1 = λ is. subst (λ p. u24_at m p % 2 ≡ 1) (sym at3) (plain.whole is) in
       let even : edition_of m ≡ 3 → u24_at m e.p2 % 2 ≡ 0 = λ is. subst (λ p. u24_at m p % 2 ≡ 0) (sym at3) (plain.even3 is) in
-      let s0 = front-back m small (omega (arith, o)) plain.word (message_size (edition_of m) (parts_in (parts m e.p1 e.p2 e.p3 e.p4))) size in
+      let s0 = prefix-back m small (omega (arith, o)) plain.word (message_size (edition_of m) (parts_in (parts m e.p1 e.p2 e.p3 e.p4))) size in
       let s1 = first-back m small b e.p1 known (omega (arith, e.first.least_long)) (omega (arith, o)) e.first.long refl plain.flags in
       let s2 = second-back m small b e.p1 e.p2 (omega (arith, o)) (λ there. ((e.second there).least_long, (e.second there).long, subst R (sym place2) (plain.section2 there))) e.no_second in
       let c3 = with_even_length (edition_of m) 7 (octets_of_words w) in

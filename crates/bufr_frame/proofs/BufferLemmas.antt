@@ -9,8 +9,8 @@ use Rattle.bufr_frame.specs.Input.{ReadsOnce}
 use Rattle.bufr_frame.proofs.ScanLemmas.{drop-twice}
 
 -- a part is the end of a prefix
-pub part-front : (s : List ℕ) (a b : ℕ) → a ≤ b → slice_range s a b ≡ drop a (take b s)
-part-front s a b order =
+pub part-prefix : (s : List ℕ) (a b : ℕ) → a ≤ b → slice_range s a b ≡ drop a (take b s)
+part-prefix s a b order =
     let e : a + (b - a) ≡ b = omega arith in
     sym (drop-take a (b - a) s) ∙ ap (λ n. drop a (take n s)) e
 
@@ -47,10 +47,10 @@ part-last s l before a b n same order within is fits =
     ∙ ap (λ i. drop (i - n) (slice_range s a b)) (sym long) ∙ ap (drop (length before - n)) is
 
 -- what was read follows what was held, where the buffer was lent as a slice
-pub behind-read : (a b : Option (List ℕ)) (items lent room : List ℕ) (filled to size n : ℕ) → lent ≡ items → size ≡ length items → length room ≡ length lent → take filled room ≡ take filled lent
+pub after-read : (a b : Option (List ℕ)) (items lent room : List ℕ) (filled to size n : ℕ) → lent ≡ items → size ≡ length items → length room ≡ length lent → take filled room ≡ take filled lent
     → filled + n ≤ to → to ≤ size → Consumes a b (take n (drop filled room)) → (n ≡ 0 → IsAtEnd b)
     → (bs : List ℕ) × ReadsOnce a b (take filled items) (take (filled + length bs) (take size (room ++ drop (length room) items))) (Ok n) bs
-behind-read a b items lent room filled to size n same sizes long front fits within read end =
+after-read a b items lent room filled to size n same sizes long prefix fits within read end =
     let bs = take n (drop filled room) in
     let whole : length room ≡ size = omega (arith, ap length same) in
     let count : n ≡ length bs = omega (arith, length-take n (drop filled room), length-drop filled room) in (
@@ -59,7 +59,7 @@ behind-read a b items lent room filled to size n same sizes long front fits with
         read = read;
         held = ap (λ k. take (filled + k) (take size (room ++ drop (length room) items))) (sym count)
             ∙ ap (take (filled + n)) (take_at room (drop (length room) items) size whole)
-            ∙ take-add filled n room ∙ ap (λ l. l ++ bs) (front ∙ ap (take filled) same);
+            ∙ take-add filled n room ∙ ap (λ l. l ++ bs) (prefix ∙ ap (take filled) same);
         outcome = (count, end);
       },
     )
@@ -73,10 +73,10 @@ rest-read items items1 items2 rest bs place filled slid n is less order within k
     let p = place - slid in
     let f = filled - slid in
     let fits : p ≤ length (take f items1) = omega (arith, length-take f items1) in
-    part-front items2 p (f + n) (omega arith)
+    part-prefix items2 p (f + n) (omega arith)
     ∙ ap (λ k. drop p (take (f + k) items2)) count
     ∙ ap (drop p) held ∙ drop-append-le p (take f items1) bs fits
-    ∙ ap (λ l. l ++ bs) (sym (part-front items1 p f (omega arith)) ∙ kept ∙ is)
+    ∙ ap (λ l. l ++ bs) (sym (part-prefix items1 p f (omega arith)) ∙ kept ∙ is)
 
 pub empty-of : (l : List ℕ) → length l ≡ 0 → l ≡ []
 empty-of [] none = refl

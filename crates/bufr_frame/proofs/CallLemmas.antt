@@ -16,7 +16,7 @@ use Rattle.bufr_frame.specs.Lookahead.{Advances, NoEventCertain}
 use Rattle.bufr_frame.specs.FinderCalls.{FinderModel, new_finder, ReadsAndPasses, RaisesLongest, HasNoMoreEvents}
 use Rattle.bufr_frame.specs.Next.{ReturnsNextEvent, LeavesFinder, HoldsUnread, events_returned}
 use Rattle.bufr_frame.proofs.ScanLemmas.{drop-twice, scan_from-nil, scan_from-here, scan_from-nothing, verdict-nothing}
-use Rattle.bufr_frame.proofs.LookLemmas.{take_while-all, taken-bounds, cut-so, length-eight, stated-front}
+use Rattle.bufr_frame.proofs.LookLemmas.{take_while-all, taken-bounds, cut-so, length-eight, stated-prefix}
 use Rattle.bufr_frame.proofs.FindingLemmas.{whole-scan}
 
 -- nothing that is left is certain: the events are the open scan
@@ -53,9 +53,9 @@ placed-append : (at : ℕ) (s : List ℕ) (xs ys : List StreamEvent) → AllPlac
 placed-append at s [] ys one u16_at = u16_at
 placed-append at s (x ∷ xs) ys one u16_at = (one.0, placed-append at s xs ys one.1 u16_at)
 
-placed-front : (at : ℕ) (s : List ℕ) (xs ys : List StreamEvent) → AllPlaced at s (xs ++ ys) → AllPlaced at s xs
-placed-front at s [] ys all = tt
-placed-front at s (x ∷ xs) ys all = (all.0, placed-front at s xs ys all.1)
+placed-prefix : (at : ℕ) (s : List ℕ) (xs ys : List StreamEvent) → AllPlaced at s (xs ++ ys) → AllPlaced at s xs
+placed-prefix at s [] ys all = tt
+placed-prefix at s (x ∷ xs) ys all = (all.0, placed-prefix at s xs ys all.1)
 
 placed-first : (at : ℕ) (s : List ℕ) (xs : List StreamEvent) → AllPlaced at s xs → AllPlaced at s (first_event xs)
 placed-first at s [] all = tt
@@ -92,17 +92,17 @@ scan-placed (suc n) at (x ∷ m) within =
     ]
 
 -- octets after it do not change the length that is stated at a certain event
-here-front : (m t : List ℕ) → 8 ≤ length m → length_here (m ++ t) ≡ length_here m
-here-front m t long = length-eight (m ++ t) (omega (arith, length-append m t)) ∙ stated-front m t long ∙ sym (length-eight m long)
+here-prefix : (m t : List ℕ) → 8 ≤ length m → length_here (m ++ t) ≡ length_here m
+here-prefix m t long = length-eight (m ++ t) (omega (arith, length-append m t)) ∙ stated-prefix m t long ∙ sym (length-eight m long)
 
-longest-front : (s t : List ℕ) (es : List StreamEvent) → AllPlaced 0 s es → list_all is_decided es ≡ true → longest_of 0 (s ++ t) es ≡ longest_of 0 s es
-longest-front s t [] all sure = refl
-longest-front s t (e ∷ es) all sure =
+longest-prefix : (s t : List ℕ) (es : List StreamEvent) → AllPlaced 0 s es → list_all is_decided es ≡ true → longest_of 0 (s ++ t) es ≡ longest_of 0 s es
+longest-prefix s t [] all sure = refl
+longest-prefix s t (e ∷ es) all sure =
     let both = and_parts (is_decided e) (list_all is_decided es) sure in
     let o = offset_of e - 0 in
     let fits : o + 8 ≤ length s = omega (arith, all.0.1 both.0) in
-    let one : length_here (drop o (s ++ t)) ≡ length_here (drop o s) = ap length_here (drop-append-le o s t (omega (arith, fits))) ∙ here-front (drop o s) t (omega (arith, fits, length-drop o s)) in
-    ap (λ n. max n (longest_of 0 (s ++ t) es)) one ∙ ap (max (length_here (drop o s))) (longest-front s t es all.1 both.1)
+    let one : length_here (drop o (s ++ t)) ≡ length_here (drop o s) = ap length_here (drop-append-le o s t (omega (arith, fits))) ∙ here-prefix (drop o s) t (omega (arith, fits, length-drop o s)) in
+    ap (λ n. max n (longest_of 0 (s ++ t) es)) one ∙ ap (max (length_here (drop o s))) (longest-prefix s t es all.1 both.1)
 
 longest-append : (at : ℕ) (s : List ℕ) (xs ys : List StreamEvent) → longest_of at s (xs ++ ys) ≡ max (longest_of at s xs) (longest_of at s ys)
 longest-append at s [] ys = omega arith
@@ -124,14 +124,14 @@ more-longest s s' bs bs' events seen left mid one known kept placed grown =
     let f = one.follows in
     let at_is : s.at ≡ f.passed = omega (arith, f.offset) in
     let rest_is : s.rest ++ bs' ≡ drop s.at (bs ++ bs') = ap (λ l. l ++ bs') (f.left ∙ ap (λ n. drop n bs) (sym at_is)) ∙ sym (drop-append-le s.at bs bs' (omega (arith, f.within, at_is))) in
-    let front : longest_of 0 (bs ++ bs') events ≡ longest_of 0 bs events = elim (cases_Bool s.ended) [
+    let prefix : longest_of 0 (bs ++ bs') events ≡ longest_of 0 bs events = elim (cases_Bool s.ended) [
       | inl end ↦ ap (λ l. longest_of 0 (bs ++ l) events) (kept end) ∙ ap (λ l. longest_of 0 l events) (append-nil bs)
       | inr going ↦
           let all : AllPlaced 0 bs (events ++ scan_from 0 s.at s.rest) =
           (let P : List StreamEvent → Type 0 = λ l. AllPlaced 0 bs l in subst P (whole-scan s.ended bs s.rest events s.at one.advances) (scan-placed (length bs) 0 bs (omega arith))) in
-          longest-front bs bs' events (placed-front 0 bs events (scan_from 0 s.at s.rest) all) (one.advances.decided going)
+          longest-prefix bs bs' events (placed-prefix 0 bs events (scan_from 0 s.at s.rest) all) (one.advances.decided going)
     ] in
-    grown ∙ ap (λ n. max n (longest_of s.at (s.rest ++ bs') seen)) (known ∙ sym front)
+    grown ∙ ap (λ n. max n (longest_of s.at (s.rest ++ bs') seen)) (known ∙ sym prefix)
     ∙ ap (max (longest_of 0 (bs ++ bs') events)) (longest-back (bs ++ bs') s.at (s.rest ++ bs') seen placed rest_is)
     ∙ sym (longest-append 0 (bs ++ bs') events seen)
 
@@ -142,7 +142,7 @@ longest-events left mid left' s s' bs bs' events es one known u16_at grown =
     let whole : scan_from 0 s.at (s.rest ++ bs') ≡ es ++ scan_from 0 s'.at s'.rest =
     ap (scan_from 0 s.at) (sym (append-nil (s.rest ++ bs'))) ∙ u16_at.advances.whole [] (λ _. refl) ∙ ap (λ l. es ++ scan_from 0 s'.at l) (append-nil s'.rest) in
     more-longest s s' bs bs' events es left mid one known (λ end. (u16_at.kept end).1)
-    (placed-front s.at (s.rest ++ bs') es (scan_from 0 s'.at s'.rest) (subst P whole (scan-placed (length (s.rest ++ bs')) s.at (s.rest ++ bs') (omega arith)))) grown
+    (placed-prefix s.at (s.rest ++ bs') es (scan_from 0 s'.at s'.rest) (subst P whole (scan-placed (length (s.rest ++ bs')) s.at (s.rest ++ bs') (omega arith)))) grown
 
 pub longest-stopped : (left mid left' : Option (List ℕ)) (s s' : FinderModel) (bs bs' : List ℕ) (events : List StreamEvent)
     → ReadsAndPasses left mid new_finder s bs events → s.longest ≡ longest_of 0 bs events → ReadsAndPasses mid left' s s' bs' [] → RaisesLongest s s' bs' (first_event (scan_from 0 s'.at s'.rest))

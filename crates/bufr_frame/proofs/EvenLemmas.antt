@@ -39,17 +39,17 @@ size-least edition local1 section2 descriptors n k most h g = omega (arith, even
 -- ---- octets
 
 -- made even once, it stays
-pub evened-twice : (edition front : ℕ) (octets : List ℕ) → with_even_length edition front (with_even_length edition front octets) ≡ with_even_length edition front octets
-evened-twice edition front octets =
-    ap (λ b. with_pad_octet b (with_even_length edition front octets)) (ap (is_padded edition) (length-evened edition front octets) ∙ even-stays edition (front + length octets))
+pub evened-twice : (edition prefix : ℕ) (octets : List ℕ) → with_even_length edition prefix (with_even_length edition prefix octets) ≡ with_even_length edition prefix octets
+evened-twice edition prefix octets =
+    ap (λ b. with_pad_octet b (with_even_length edition prefix octets)) (ap (is_padded edition) (length-evened edition prefix octets) ∙ even-stays edition (prefix + length octets))
 
 even-twice : (edition n : ℕ) → even_size edition (even_size edition n) ≡ even_size edition n
 even-twice edition n = ap (λ b. if b then even_size edition n + 1 else even_size edition n) (even-stays edition n)
 
 -- a payload that is even already is written as the payload that it was made from
-pub laid-even : (h : Head) (local1 : List ℕ) (section2 : Option (List ℕ)) (descriptors : List ℕ) (subsets : ℕ) (observed compressed : Bool) (payload : List ℕ)
+pub written-even : (h : Head) (local1 : List ℕ) (section2 : Option (List ℕ)) (descriptors : List ℕ) (subsets : ℕ) (observed compressed : Bool) (payload : List ℕ)
     → message_octets h (parts_of local1 section2 descriptors subsets observed compressed (with_even_length h.edition 4 payload)) ≡ message_octets h (parts_of local1 section2 descriptors subsets observed compressed payload)
-laid-even h local1 section2 descriptors subsets observed compressed payload =
+written-even h local1 section2 descriptors subsets observed compressed payload =
     let long : even_size h.edition (4 + length (with_even_length h.edition 4 payload)) ≡ even_size h.edition (4 + length payload) =
     ap (even_size h.edition) (length-evened h.edition 4 payload) ∙ even-twice h.edition (4 + length payload) in
     λ j. section0_octets (8 + (first_least h.edition + length local1) + section2_size section2 + even_size h.edition (7 + 2 * length descriptors) + long j + 4) h.edition
@@ -66,5 +66,5 @@ bits-by : (b : Bool) (octets : List ℕ) → (tail : List Bool) × (bits_of (wit
 bits-by true octets = (bits_of (0 ∷ []), bits-append octets (0 ∷ []))
 bits-by false octets = ([], sym (append-nil (bits_of octets)))
 
-pub evened-bits : (edition front : ℕ) (octets : List ℕ) → (tail : List Bool) × (bits_of (with_even_length edition front octets) ≡ bits_of octets ++ tail)
-evened-bits edition front octets = bits-by (is_padded edition (front + length octets)) octets
+pub evened-bits : (edition prefix : ℕ) (octets : List ℕ) → (tail : List Bool) × (bits_of (with_even_length edition prefix octets) ≡ bits_of octets ++ tail)
+evened-bits edition prefix octets = bits-by (is_padded edition (prefix + length octets)) octets

@@ -58,12 +58,12 @@ abbrev the_sections : List ℕ → Option (List ℕ) → ℕ → Sections
 the_sections local1 section2 size = record { head = the_head; local1 = local1; section2 = section2; descriptors = 257 ∷ []; subsets = 1; observed = true; compressed = false; payload = 0x14 ∷ []; size = size }
 
 -- rule: section-0, section-5, reserved-zero, writes-no-pad-octet
-one-laid-out : message_octets the_head (the_parts [] None) ≡ one_block_number
-one-laid-out = refl
+one-written-out : message_octets the_head (the_parts [] None) ≡ one_block_number
+one-written-out = refl
 
 -- rule: sections-1-and-2-as-given
-local-laid-out : message_octets the_head (the_parts (0xAB ∷ 0xCD ∷ []) (Some (1 ∷ 2 ∷ []))) ≡ local_use
-local-laid-out = refl
+local-written-out : message_octets the_head (the_parts (0xAB ∷ 0xCD ∷ []) (Some (1 ∷ 2 ∷ []))) ≡ local_use
+local-written-out = refl
 
 -- rule: section-1-of-edition-4, section-3, section-4
 one-sections : sections_of one_block_number ≡ Ok (the_sections [] None 48)
@@ -88,8 +88,8 @@ unfolding sections_of section_end
 edition-3-odd = refl
 
 -- rule: least-lengths, becomes-canonical
-edition-3-laid-out : message_octets head_of_edition_3 (parts_in (sections_of_edition_3 (0x14 ∷ []) 44)) ≡ edition_3
-edition-3-laid-out = refl
+edition-3-written-out : message_octets head_of_edition_3 (parts_in (sections_of_edition_3 (0x14 ∷ []) 44)) ≡ edition_3
+edition-3-written-out = refl
 
 edition-3-again : message_octets head_of_edition_3 (parts_in (sections_of_edition_3 (0x14 ∷ 0 ∷ []) 46)) ≡ edition_3
 edition-3-again = refl
@@ -188,9 +188,9 @@ unfolding scan_from
 no-end = refl
 
 -- rule: after-a-stray
-stray-in-front : scan (codes "BUFR" ++ 0 ∷ 0 ∷ 64 ∷ 4 ∷ one_block_number ++ 0 ∷ 0 ∷ 0 ∷ 0 ∷ 0 ∷ 0 ∷ 0 ∷ 0 ∷ []) ≡ StrayAt 0 NoEnd ∷ FrameAt 8 one_block_number ∷ []
+stray-in-prefix : scan (codes "BUFR" ++ 0 ∷ 0 ∷ 64 ∷ 4 ∷ one_block_number ++ 0 ∷ 0 ∷ 0 ∷ 0 ∷ 0 ∷ 0 ∷ 0 ∷ 0 ∷ []) ≡ StrayAt 0 NoEnd ∷ FrameAt 8 one_block_number ∷ []
 unfolding scan_from
-stray-in-front = refl
+stray-in-prefix = refl
 
 -- rule: stray-short-length
 short-length : scan (codes "BUFR" ++ 0 ∷ 0 ∷ 11 ∷ 4 ∷ codes "abcd") ≡ StrayAt 0 ShortLength ∷ []
@@ -291,10 +291,10 @@ longest-of-a-bare-word = refl
 
 -- the stray words of the worked streams, and lengths under 12
 -- rule: first-bufr
-stray-behind-messages : scan (codes "BUFR" ++ 0 ∷ 0 ∷ 64 ∷ 4 ∷ one_block_number ++ codes "xyBUF" ++ one_block_number ++ codes "BUFR" ++ 0 ∷ 0 ∷ 11 ∷ 4 ∷ codes "abcBUFR")
+stray-after-messages : scan (codes "BUFR" ++ 0 ∷ 0 ∷ 64 ∷ 4 ∷ one_block_number ++ codes "xyBUF" ++ one_block_number ++ codes "BUFR" ++ 0 ∷ 0 ∷ 11 ∷ 4 ∷ codes "abcBUFR")
     ≡ StrayAt 0 NoEnd ∷ FrameAt 8 one_block_number ∷ FrameAt 61 one_block_number ∷ StrayAt 109 ShortLength ∷ StrayAt 120 Cut ∷ []
 unfolding scan_from
-stray-behind-messages = refl
+stray-after-messages = refl
 
 -- parts written again: the plain message has the same octets; one with a reserved bit set has other
 -- octets, and is as long

@@ -73,7 +73,7 @@ step-none left s =
 module _ (left mid : Option (List ℕ)) (old s s' : FinderModel) (bs : List ℕ) (es : List StreamEvent) where
   -- events are passed, and nothing is read
   pub pass-step : (es' : List StreamEvent) → ReadsAndPasses left mid old s bs es → s'.ended ≡ s.ended → s'.reads ≡ s.reads → Advances s'.ended s.at s.rest es' s'.at s'.rest → Follows s.at s.rest s'.at s'.rest → ReadsAndPasses left mid old s' bs (es ++ es')
-  pass-step es' step same reads goes behind =
+  pass-step es' step same reads goes suffix =
       let E : Bool → Type 0 = λ e. Advances e old.at (old.rest ++ bs) (es ++ es') s'.at s'.rest in
       let R : List ℕ → Type 0 = λ l. Advances s.ended s.at l es' s'.at s'.rest in
       let I : Bool → Type 0 = λ e. Advances e s.at s.rest es' s'.at s'.rest in
@@ -83,7 +83,7 @@ module _ (left mid : Option (List ℕ)) (old s s' : FinderModel) (bs : List ℕ)
       record {
         read = step.read;
         advances = subst E (sym same) (subst Q (append-nil (old.rest ++ bs)) (Advances-then s.ended s.ended old.at s.at s'.at (old.rest ++ bs) s.rest s'.rest [] es es' (λ end. (end, refl)) step.advances (subst R (sym (append-nil s.rest)) (subst I same goes))));
-        follows = subst G (append-nil (old.rest ++ bs)) (Follows-then old.at s.at s'.at (old.rest ++ bs) s.rest s'.rest [] step.follows (subst F (sym (append-nil s.rest)) behind));
+        follows = subst G (append-nil (old.rest ++ bs)) (Follows-then old.at s.at s'.at (old.rest ++ bs) s.rest s'.rest [] step.follows (subst F (sym (append-nil s.rest)) suffix));
         kept = λ end. (same ∙ (step.kept end).0, (step.kept end).1, reads ∙ (step.kept end).2);
         end = λ before ended. step.end before (sym same ∙ ended);
       }

@@ -38,16 +38,16 @@ words-if : (b : Bool) (ws : List ℕ) → words (if b then octets_of_words ws ++
 words-if true ws = words-left-over ws
 words-if false ws = words-octets ws
 
-pub words-evened : (edition front : ℕ) (ws : List ℕ) → words (with_even_length edition front (octets_of_words ws)) ≡ ws
-words-evened edition front ws = words-if (is_padded edition (front + length (octets_of_words ws))) ws
+pub words-evened : (edition prefix : ℕ) (ws : List ℕ) → words (with_even_length edition prefix (octets_of_words ws)) ≡ ws
+words-evened edition prefix ws = words-if (is_padded edition (prefix + length (octets_of_words ws))) ws
 
 -- how many octets it has
-length-padded : (b : Bool) (front : ℕ) (octets : List ℕ) → front + length (with_pad_octet b octets) ≡ (if b then front + length octets + 1 else front + length octets)
-length-padded true front octets = omega (arith, length-append octets (0 ∷ []))
-length-padded false front octets = refl
+length-padded : (b : Bool) (prefix : ℕ) (octets : List ℕ) → prefix + length (with_pad_octet b octets) ≡ (if b then prefix + length octets + 1 else prefix + length octets)
+length-padded true prefix octets = omega (arith, length-append octets (0 ∷ []))
+length-padded false prefix octets = refl
 
-pub length-evened : (edition front : ℕ) (octets : List ℕ) → front + length (with_even_length edition front octets) ≡ even_size edition (front + length octets)
-length-evened edition front octets = length-padded (is_padded edition (front + length octets)) front octets
+pub length-evened : (edition prefix : ℕ) (octets : List ℕ) → prefix + length (with_even_length edition prefix octets) ≡ even_size edition (prefix + length octets)
+length-evened edition prefix octets = length-padded (is_padded edition (prefix + length octets)) prefix octets
 
 -- in edition 3 the remainder of a division by 2 is added
 pub even-3 : (n : ℕ) → even_size 3 n ≡ n + n % 2
@@ -76,24 +76,24 @@ length-octets_in (Single field ∷ more) says = omega (arith, length-octets_in m
 length-octets_in (Double field ∷ more) says = omega (arith, length-octets_in more says)
 
 -- what comes after a prefix
-pub index-behind : (front rest : List ℕ) (p k : ℕ) → p ≡ length front → get_or (front ++ rest) (p + k) 0 ≡ get_or rest k 0
-index-behind front rest p k is =
-    let e : p + k - length front ≡ k = omega arith in
-    get_or-append_right front rest (p + k) 0 (omega arith) ∙ ap (λ n. get_or rest n 0) e
+pub index-after : (prefix rest : List ℕ) (p k : ℕ) → p ≡ length prefix → get_or (prefix ++ rest) (p + k) 0 ≡ get_or rest k 0
+index-after prefix rest p k is =
+    let e : p + k - length prefix ≡ k = omega arith in
+    get_or-append_right prefix rest (p + k) 0 (omega arith) ∙ ap (λ n. get_or rest n 0) e
 
-pub range-behind : (front x rest : List ℕ) (i j : ℕ) → i ≡ length front → j ≡ i + length x → slice_range (front ++ (x ++ rest)) i j ≡ x
-range-behind front x rest i j is to =
+pub range-after : (prefix x rest : List ℕ) (i j : ℕ) → i ≡ length prefix → j ≡ i + length x → slice_range (prefix ++ (x ++ rest)) i j ≡ x
+range-after prefix x rest i j is to =
     let n : j - i ≡ length x = omega arith in
-    ap (take (j - i)) (drop_at front (x ++ rest) i (sym is)) ∙ ap (λ k. take k (x ++ rest)) n ∙ take-append-le (length x) x rest (omega arith) ∙ take-length x
+    ap (take (j - i)) (drop_at prefix (x ++ rest) i (sym is)) ∙ ap (λ k. take k (x ++ rest)) n ∙ take-append-le (length x) x rest (omega arith) ∙ take-length x
 
 -- where a section ends that states its length
-pub section-at : (m front rest : List ℕ) (k least p n : ℕ) → m ≡ front ++ (three_octets n ++ rest) → p ≡ length front → least ≤ n → 3 ≤ n → p + n + 4 ≤ length m
+pub section-at : (m prefix rest : List ℕ) (k least p n : ℕ) → m ≡ prefix ++ (three_octets n ++ rest) → p ≡ length prefix → least ≤ n → 3 ≤ n → p + n + 4 ≤ length m
     → section_end m k least p ≡ Ok (p + n)
 unfolding section_end
-section-at m front rest k least p n is at least_n three_n within =
-    let a : get_or m (p + 0) 0 ≡ n / 65536 = ap (λ l. get_or l (p + 0) 0) is ∙ index-behind front (three_octets n ++ rest) p 0 at in
-    let b : get_or m (p + 1) 0 ≡ n / 256 % 256 = ap (λ l. get_or l (p + 1) 0) is ∙ index-behind front (three_octets n ++ rest) p 1 at in
-    let c : get_or m (p + 2) 0 ≡ n % 256 = ap (λ l. get_or l (p + 2) 0) is ∙ index-behind front (three_octets n ++ rest) p 2 at in
+section-at m prefix rest k least p n is at least_n three_n within =
+    let a : get_or m (p + 0) 0 ≡ n / 65536 = ap (λ l. get_or l (p + 0) 0) is ∙ index-after prefix (three_octets n ++ rest) p 0 at in
+    let b : get_or m (p + 1) 0 ≡ n / 256 % 256 = ap (λ l. get_or l (p + 1) 0) is ∙ index-after prefix (three_octets n ++ rest) p 1 at in
+    let c : get_or m (p + 2) 0 ≡ n % 256 = ap (λ l. get_or l (p + 2) 0) is ∙ index-after prefix (three_octets n ++ rest) p 2 at in
     let z : p + 0 ≡ p = omega arith in
     let a' : get_or m p 0 ≡ n / 65536 = ap (λ i. get_or m i 0) (sym z) ∙ a in
     let t : u24_at m p ≡ n = rw (a', b, c) (three-number n) in
@@ -102,10 +102,10 @@ section-at m front rest k least p n is at least_n three_n within =
     let g : nat_lt (length m - 4) (p + n) ≡ false = grind (arith, nat_tests) in
     rw (e, t, f, g) refl
 
-second-at : (m front rest : List ℕ) (optional : Option (List ℕ)) (p : ℕ) → m ≡ front ++ (section2_octets optional ++ rest) → p ≡ length front → has_section2 m ≡ is_some optional
+second-at : (m prefix rest : List ℕ) (optional : Option (List ℕ)) (p : ℕ) → m ≡ prefix ++ (section2_octets optional ++ rest) → p ≡ length prefix → has_section2 m ≡ is_some optional
     → p + section2_size optional + 4 ≤ length m → (if has_section2 m then section_end m 2 4 p else Ok p) ≡ Ok (p + section2_size optional)
-second-at m front rest None p is at has within = let e : p + 0 ≡ p = omega arith in rw (has, e) refl
-second-at m front rest (Some octets) p is at has within = rw has (section-at m front (0 ∷ octets ++ rest) 2 4 p (4 + length octets) is at (omega arith) (omega arith) within)
+second-at m prefix rest None p is at has within = let e : p + 0 ≡ p = omega arith in rw (has, e) refl
+second-at m prefix rest (Some octets) p is at has within = rw has (section-at m prefix (0 ∷ octets ++ rest) 2 4 p (4 + length octets) is at (omega arith) (omega arith) within)
 
 flag-test : (b : Bool) → nat_le 128 (if b then 128 else 0) ≡ b
 flag-test true = refl
@@ -162,14 +162,14 @@ first-split : (n : ℕ) (head local1 rest : List ℕ) → ((three_octets n ++ he
 first-split n head local1 rest = refl
 
 -- section 2 read back
-second-part : (m front rest : List ℕ) (optional : Option (List ℕ)) (p q : ℕ) → m ≡ front ++ (section2_octets optional ++ rest) → p ≡ length front → q ≡ p + section2_size optional → has_section2 m ≡ is_some optional
+second-part : (m prefix rest : List ℕ) (optional : Option (List ℕ)) (p q : ℕ) → m ≡ prefix ++ (section2_octets optional ++ rest) → p ≡ length prefix → q ≡ p + section2_size optional → has_section2 m ≡ is_some optional
     → (if has_section2 m then Some (slice_range m (p + 4) q) else None) ≡ optional
-second-part m front rest None p q is at to has = rw has refl
-second-part m front rest (Some octets) p q is at to has =
+second-part m prefix rest None p q is at to has = rw has refl
+second-part m prefix rest (Some octets) p q is at to has =
     let head = three_octets (4 + length octets) ++ 0 ∷ [] in
-    let same : m ≡ (front ++ head) ++ (octets ++ rest) = is ∙ sym (append_assoc front head (octets ++ rest)) in
-    let begin : p + 4 ≡ length (front ++ head) = omega (arith, length-append front head) in
-    rw has (ap Some (ap (λ l. slice_range l (p + 4) q) same ∙ range-behind (front ++ head) octets rest (p + 4) q begin (omega arith)))
+    let same : m ≡ (prefix ++ head) ++ (octets ++ rest) = is ∙ sym (append_assoc prefix head (octets ++ rest)) in
+    let begin : p + 4 ≡ length (prefix ++ head) = omega (arith, length-append prefix head) in
+    rw has (ap Some (ap (λ l. slice_range l (p + 4) q) same ∙ range-after (prefix ++ head) octets rest (p + 4) q begin (omega arith)))
 
 -- section 1 read back, by the slots that it was written by
 module _ (h : Head) (optional : Bool) (size n : ℕ) (local1 rest : List ℕ) where
@@ -284,18 +284,18 @@ read-back h p writable =
     let same1 : m ≡ front1 ++ (p.local1 ++ (s2 ++ (s3 ++ (s4 ++ end)))) =
     ap (λ l. s0 ++ l) (append_assoc (three_octets n1 ++ ho) p.local1 (s2 ++ (s3 ++ (s4 ++ end)))) ∙ sym (append_assoc s0 (three_octets n1 ++ ho) (p.local1 ++ (s2 ++ (s3 ++ (s4 ++ end))))) in
     let begin1 : 8 + least ≡ length front1 = omega (arith, lh, length-append s0 (three_octets n1 ++ ho), length-append (three_octets n1) ho) in
-    let local1 : slice_range m (8 + least) p1 ≡ p.local1 = ap (λ l. slice_range l (8 + least) p1) same1 ∙ range-behind front1 p.local1 (s2 ++ (s3 ++ (s4 ++ end))) (8 + least) p1 begin1 (omega arith) in
+    let local1 : slice_range m (8 + least) p1 ≡ p.local1 = ap (λ l. slice_range l (8 + least) p1) same1 ∙ range-after front1 p.local1 (s2 ++ (s3 ++ (s4 ++ end))) (8 + least) p1 begin1 (omega arith) in
     let head3 = three_octets n3 ++ 0 ∷ two_octets p.subsets ++ flags ∷ [] in
     let same3 : m ≡ (f3 ++ head3) ++ (c3 ++ (s4 ++ end)) = at3 ∙ sym (append_assoc f3 head3 (c3 ++ (s4 ++ end))) in
     let descriptors : slice_range m (p2 + 7) p3 ≡ c3 =
-    ap (λ l. slice_range l (p2 + 7) p3) same3 ∙ range-behind (f3 ++ head3) c3 (s4 ++ end) (p2 + 7) p3 (omega (arith, length-append f3 head3, k3)) (omega arith) in
-    let behind3 : (k : ℕ) → get_or m (p2 + k) 0 ≡ get_or (s3 ++ (s4 ++ end)) k 0 = λ k. ap (λ l. get_or l (p2 + k) 0) at3 ∙ index-behind f3 (s3 ++ (s4 ++ end)) p2 k k3 in
+    ap (λ l. slice_range l (p2 + 7) p3) same3 ∙ range-after (f3 ++ head3) c3 (s4 ++ end) (p2 + 7) p3 (omega (arith, length-append f3 head3, k3)) (omega arith) in
+    let behind3 : (k : ℕ) → get_or m (p2 + k) 0 ≡ get_or (s3 ++ (s4 ++ end)) k 0 = λ k. ap (λ l. get_or l (p2 + k) 0) at3 ∙ index-after f3 (s3 ++ (s4 ++ end)) p2 k k3 in
     let five : p2 + 4 + 1 ≡ p2 + 5 = omega arith in
     let subsets : u16_at m (p2 + 4) ≡ p.subsets = rw (five, behind3 4, behind3 5) (two-number p.subsets) in
     let head4 = three_octets n4 ++ 0 ∷ [] in
     let same4 : m ≡ (f4 ++ head4) ++ (c4 ++ end) = at4 ∙ sym (append_assoc f4 head4 (c4 ++ end)) in
     let payload : slice_range m (p3 + 4) p4 ≡ c4 =
-    ap (λ l. slice_range l (p3 + 4) p4) same4 ∙ range-behind (f4 ++ head4) c4 end (p3 + 4) p4 (omega (arith, length-append f4 head4, k4)) (omega arith) in
+    ap (λ l. slice_range l (p3 + 4) p4) same4 ∙ range-after (f4 ++ head4) c4 end (p3 + 4) p4 (omega (arith, length-append f4 head4, k4)) (omega arith) in
     let size : length m ≡ message_size edition p = omega (arith, lm, size3, size4) in
     sections-are m p1 p2 p3 p4 known e1 e2 e3 e4 last short
     ∙ ap Ok (parts-make m p1 p2 p3 p4

@@ -12,7 +12,7 @@ use Rattle.bufr_frame.specs.Search.{StartsWithBufr, IsIncomplete, IsNextEvent, R
 use Rattle.bufr_frame.specs.FinderCalls.{FinderModel, Follows, RaisesLongest}
 use Rattle.bufr_frame.specs.FinderSteps.{event_by}
 use Rattle.bufr_frame.proofs.ScanLemmas.{drop-twice, scan_from-here, scan_from-found}
-use Rattle.bufr_frame.proofs.LookLemmas.{stands-front, stated-front, length-eight, cut-here, four-long}
+use Rattle.bufr_frame.proofs.LookLemmas.{holds-prefix, stated-prefix, length-eight, cut-here, four-long}
 
 max-none : (n : ℕ) → max n 0 ≡ n
 max-none n = omega arith
@@ -29,9 +29,9 @@ raise a b place size rest (inr (word, long, grown)) first is =
 pub raised-read : (a b : ℕ) (rest bs : List ℕ) → Raised a b rest → Raised a b (rest ++ bs)
 raised-read a b rest bs (inl same) = inl same
 raised-read a b rest bs (inr (word, long, grown)) = inr (
-  stands-front (codes "BUFR") 0 rest bs (omega arith) ∙ word,
+  holds-prefix (codes "BUFR") 0 rest bs (omega arith) ∙ word,
   omega (arith, long, length-append rest bs),
-  grown ∙ ap (max a) (sym (stated-front rest bs long)),
+  grown ∙ ap (max a) (sym (stated-prefix rest bs long)),
 )
 
 short-here : (m : List ℕ) → length m < 8 → length_here m ≡ 0

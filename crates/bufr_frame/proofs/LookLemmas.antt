@@ -17,41 +17,41 @@ use Rattle.bufr_frame.specs.Scan.{StreamEvent, scan, open_scan, scan_from, class
 use Rattle.bufr_frame.specs.Lookahead.{Advances, NoEventCertain}
 use Rattle.bufr_frame.specs.Search.{StartsWithBufr, IsNextEvent, IsIncomplete, HasNoFurtherEvent}
 use Rattle.bufr_frame.specs.Longest.{length_here}
-use Rattle.bufr_frame.proofs.ScanLemmas.{scan_from-nothing, verdict-nothing, scan_from-here, scan_from-past, verdict-elsewhere, verdict-there, scan_from-found, scan_from-front, drop-twice}
+use Rattle.bufr_frame.proofs.ScanLemmas.{scan_from-nothing, verdict-nothing, scan_from-here, scan_from-past, verdict-elsewhere, verdict-there, scan_from-found, scan_from-prefix, drop-twice}
 
-pub stands-front : (text : List ℕ) (p : ℕ) (m t : List ℕ) → p + 4 ≤ length m → has_word_at text p (m ++ t) ≡ has_word_at text p m
-stands-front text p m t long =
+pub holds-prefix : (text : List ℕ) (p : ℕ) (m t : List ℕ) → p + 4 ≤ length m → has_word_at text p (m ++ t) ≡ has_word_at text p m
+holds-prefix text p m t long =
     ap (λ l. bytes_eq (take 4 l) text) (drop-append-le p m t (omega arith))
     ∙ ap (λ l. bytes_eq l text) (take-append-le 4 (drop p m) t (omega (arith, length-drop {A = ℕ})))
 
-pub stated-front : (m t : List ℕ) → 8 ≤ length m → stated_length (m ++ t) ≡ stated_length m
-stated-front m t long =
+pub stated-prefix : (m t : List ℕ) → 8 ≤ length m → stated_length (m ++ t) ≡ stated_length m
+stated-prefix m t long =
     ap (λ n. 65536 * n + 256 * get_or (m ++ t) 5 0 + get_or (m ++ t) 6 0) (get_or_append_left m t 0 4 (omega arith))
     ∙ ap (λ n. 65536 * get_or m 4 0 + 256 * n + get_or (m ++ t) 6 0) (get_or_append_left m t 0 5 (omega arith))
     ∙ ap (λ n. 65536 * get_or m 4 0 + 256 * get_or m 5 0 + n) (get_or_append_left m t 0 6 (omega arith))
 
 -- what is certain stays so
-verdict-front : (m t : List ℕ) → 8 ≤ length m → stated_length m ≤ length m → classify (m ++ t) ≡ classify m
-verdict-front m t long whole =
-    let a : has_word_at (codes "BUFR") 0 (m ++ t) ≡ has_word_at (codes "BUFR") 0 m = stands-front (codes "BUFR") 0 m t (omega arith) in
-    let l : stated_length (m ++ t) ≡ stated_length m = stated-front m t long in
+verdict-prefix : (m t : List ℕ) → 8 ≤ length m → stated_length m ≤ length m → classify (m ++ t) ≡ classify m
+verdict-prefix m t long whole =
+    let a : has_word_at (codes "BUFR") 0 (m ++ t) ≡ has_word_at (codes "BUFR") 0 m = holds-prefix (codes "BUFR") 0 m t (omega arith) in
+    let l : stated_length (m ++ t) ≡ stated_length m = stated-prefix m t long in
     let b : nat_lt (length (m ++ t)) 8 ≡ nat_lt (length m) 8 = grind (arith, nat_tests, length-append m t) in
     let c : nat_lt (length (m ++ t)) (stated_length m) ≡ nat_lt (length m) (stated_length m) = grind (arith, nat_tests, length-append m t) in
-    let d : has_word_at (codes "7777") (stated_length m - 4) (m ++ t) ≡ has_word_at (codes "7777") (stated_length m - 4) m = stands-front (codes "7777") (stated_length m - 4) m t (omega arith) in
+    let d : has_word_at (codes "7777") (stated_length m - 4) (m ++ t) ≡ has_word_at (codes "7777") (stated_length m - 4) m = holds-prefix (codes "7777") (stated_length m - 4) m t (omega arith) in
     cc
 
-nothing-front : (m t : List ℕ) (j : ℕ) → j + 4 ≤ length m → (OccursAt m (codes "BUFR") j → ⊥) → classify (drop j (m ++ t)) ≡ Nothing
-nothing-front m t j long absent =
+nothing-prefix : (m t : List ℕ) (j : ℕ) → j + 4 ≤ length m → (OccursAt m (codes "BUFR") j → ⊥) → classify (drop j (m ++ t)) ≡ Nothing
+nothing-prefix m t j long absent =
     verdict-elsewhere (m ++ t) j (λ occurs. absent (record {
       fits = long;
       reads = λ i below. sym (get_or_append_left m t 0 (j + i) (omega arith)) ∙ occurs.reads i below;
     }))
 
 -- the first k indices have no event, whatever comes after
-past-front : (k : ℕ) (m t : List ℕ) → ((j : ℕ) → j < k → j + 4 ≤ length m) → k ≤ length m → ((j : ℕ) → j < k → OccursAt m (codes "BUFR") j → ⊥)
+past-prefix : (k : ℕ) (m t : List ℕ) → ((j : ℕ) → j < k → j + 4 ≤ length m) → k ≤ length m → ((j : ℕ) → j < k → OccursAt m (codes "BUFR") j → ⊥)
     → (at : ℕ) → scan_from 0 at (m ++ t) ≡ scan_from 0 (at + k) (drop k m ++ t)
-past-front k m t long within absent at =
-    scan_from-past k at (m ++ t) (omega (arith, length-append m t)) (λ j below. nothing-front m t j (long j below) (absent j below))
+past-prefix k m t long within absent at =
+    scan_from-past k at (m ++ t) (omega (arith, length-append m t)) (λ j below. nothing-prefix m t j (long j below) (absent j below))
     ∙ ap (scan_from 0 (at + k)) (drop-append-le k m t within)
 
 chain : (a b c d : Bool) → Candidate
@@ -114,44 +114,44 @@ certain m at here long whole =
     let b : nat_lt (length m) (stated_length m) ≡ false = grind (arith, nat_tests) in
     rw (is-chain m here, a, b) (chain-decided _ _ at m)
 
-happening-front : (at : ℕ) (m t : List ℕ) (v : Candidate) → 8 ≤ length m → stated_length m ≤ length m → stream_event at (m ++ t) v ≡ stream_event at m v
-happening-front at m t Nothing long whole = refl
-happening-front at m t (Stray cause) long whole = refl
-happening-front at m t Frame long whole = rw (stated-front m t long, take-append-le (stated_length m) m t whole) refl
+happening-prefix : (at : ℕ) (m t : List ℕ) (v : Candidate) → 8 ≤ length m → stated_length m ≤ length m → stream_event at (m ++ t) v ≡ stream_event at m v
+happening-prefix at m t Nothing long whole = refl
+happening-prefix at m t (Stray cause) long whole = refl
+happening-prefix at m t Frame long whole = rw (stated-prefix m t long, take-append-le (stated_length m) m t whole) refl
 
-taken-front : (m t : List ℕ) (v : Candidate) → 8 ≤ length m → candidate_len (m ++ t) v ≡ candidate_len m v
-taken-front m t Nothing long = refl
-taken-front m t (Stray cause) long = refl
-taken-front m t Frame long = stated-front m t long
+taken-prefix : (m t : List ℕ) (v : Candidate) → 8 ≤ length m → candidate_len (m ++ t) v ≡ candidate_len m v
+taken-prefix m t Nothing long = refl
+taken-prefix m t (Stray cause) long = refl
+taken-prefix m t Frame long = stated-prefix m t long
 
 -- the first event, whatever comes after
-pub found-front : (m t : List ℕ) (at : ℕ) → has_word_at (codes "BUFR") 0 m ≡ true → 8 ≤ length m → stated_length m ≤ length m
+pub found-prefix : (m t : List ℕ) (at : ℕ) → has_word_at (codes "BUFR") 0 m ≡ true → 8 ≤ length m → stated_length m ≤ length m
     → scan_from 0 at (m ++ t) ≡ stream_event at m (classify m) ++ scan_from 0 (at + candidate_len m (classify m)) (drop (candidate_len m (classify m)) m ++ t)
-found-front m t at here long whole =
+found-prefix m t at here long whole =
     let bounds = taken-bounds m here in
-    let v : classify (m ++ t) ≡ classify m = verdict-front m t long whole in
-    let k : candidate_len (m ++ t) (classify (m ++ t)) ≡ candidate_len m (classify m) = ap (candidate_len (m ++ t)) v ∙ taken-front m t (classify m) long in
-    let h : stream_event at (m ++ t) (classify (m ++ t)) ≡ stream_event at m (classify m) = ap (stream_event at (m ++ t)) v ∙ happening-front at m t (classify m) long whole in
+    let v : classify (m ++ t) ≡ classify m = verdict-prefix m t long whole in
+    let k : candidate_len (m ++ t) (classify (m ++ t)) ≡ candidate_len m (classify m) = ap (candidate_len (m ++ t)) v ∙ taken-prefix m t (classify m) long in
+    let h : stream_event at (m ++ t) (classify (m ++ t)) ≡ stream_event at m (classify m) = ap (stream_event at (m ++ t)) v ∙ happening-prefix at m t (classify m) long whole in
     let P : ℕ → Type 0 = λ n. 0 < n in
     scan_from-here at (m ++ t) (omega (arith, length-append m t)) (subst P (sym k) (omega (arith, bounds.0)))
     ∙ ap (λ e. e ++ scan_from 0 (at + candidate_len (m ++ t) (classify (m ++ t))) (drop (candidate_len (m ++ t) (classify (m ++ t))) (m ++ t))) h
     ∙ ap (λ n. stream_event at m (classify m) ++ scan_from 0 (at + n) (drop n (m ++ t))) k
     ∙ ap (λ l. stream_event at m (classify m) ++ scan_from 0 (at + candidate_len m (classify m)) l) (drop-append-le (candidate_len m (classify m)) m t bounds.1)
 
-pub stands-there : (s : List ℕ) (j : ℕ) → OccursAt s (codes "BUFR") j → has_word_at (codes "BUFR") 0 (drop j s) ≡ true
-stands-there s j occurs = (bytes_eq-Decides (take 4 (drop j s)) (codes "BUFR")).1 (OccursAt-part s (codes "BUFR") j occurs)
+pub holds-there : (s : List ℕ) (j : ℕ) → OccursAt s (codes "BUFR") j → has_word_at (codes "BUFR") 0 (drop j s) ≡ true
+holds-there s j occurs = (bytes_eq-Decides (take 4 (drop j s)) (codes "BUFR")).1 (OccursAt-part s (codes "BUFR") j occurs)
 
 -- `BUFR` is not at an index, by the comparison of the code
 pub absent-there : (s m : List ℕ) (place : ℕ) (b : Bool) → m ≡ drop place s → b ≡ has_word_at (codes "BUFR") 0 m → b ≡ false → OccursAt s (codes "BUFR") place → ⊥
-absent-there s m place b is so differs occurs = true≢false (sym (so ∙ ap (has_word_at (codes "BUFR") 0) is ∙ stands-there s place occurs) ∙ differs)
+absent-there s m place b is so differs occurs = true≢false (sym (so ∙ ap (has_word_at (codes "BUFR") 0) is ∙ holds-there s place occurs) ∙ differs)
 
 -- nor at the indices before it
 pub nowhere-more : (s : List ℕ) (place : ℕ) → Nowhere (OccursAt s (codes "BUFR")) 0 place → (OccursAt s (codes "BUFR") place → ⊥) → Nowhere (OccursAt s (codes "BUFR")) 0 (place + 1)
 nowhere-more s place before here k low below = below_more (λ j. OccursAt s (codes "BUFR") j → ⊥) place (λ j less. before j (omega arith) less) here k below
 
 -- an index after others, counted from them and from 0
-occurs-behind : (s : List ℕ) (near k : ℕ) → OccursAt s (codes "BUFR") (near + k) → OccursAt (drop near s) (codes "BUFR") k
-occurs-behind s near k occurs = record {
+occurs-after : (s : List ℕ) (near k : ℕ) → OccursAt s (codes "BUFR") (near + k) → OccursAt (drop near s) (codes "BUFR") k
+occurs-after s near k occurs = record {
   fits = omega (arith, occurs.fits, length-drop near s);
   reads = λ j below. get_or-drop near s (k + j) 0 ∙ ap (λ n. get_or s n 0) (omega arith) ∙ occurs.reads j below;
 }
@@ -163,31 +163,31 @@ occurs-before s near k occurs = record {
 }
 
 -- no `BUFR` at the nearest indices, and none up to an index after them
-nowhere-behind : (s : List ℕ) (near far : ℕ) → Nowhere (OccursAt s (codes "BUFR")) 0 near → Nowhere (OccursAt (drop near s) (codes "BUFR")) 0 far → Nowhere (OccursAt s (codes "BUFR")) 0 (near + far)
-nowhere-behind s near far before behind k low below occurs = elim (cases_lt k near) [
+nowhere-after : (s : List ℕ) (near far : ℕ) → Nowhere (OccursAt s (codes "BUFR")) 0 near → Nowhere (OccursAt (drop near s) (codes "BUFR")) 0 far → Nowhere (OccursAt s (codes "BUFR")) 0 (near + far)
+nowhere-after s near far before suffix k low below occurs = elim (cases_lt k near) [
   | inl less ↦ before k (omega arith) less occurs
   | inr more ↦
       let is : k ≡ near + (k - near) = omega arith in
-      behind (k - near) (omega arith) (omega arith) (occurs-behind s near (k - near) (subst (OccursAt s (codes "BUFR")) is occurs))
+      suffix (k - near) (omega arith) (omega arith) (occurs-after s near (k - near) (subst (OccursAt s (codes "BUFR")) is occurs))
 ]
 
-pub found-behind : (s m : List ℕ) (near k : ℕ) → m ≡ drop near s → Nowhere (OccursAt s (codes "BUFR")) 0 near → FindsNeedle m (codes "BUFR") 0 (Some k) → FindsNeedle s (codes "BUFR") 0 (Some (near + k))
-found-behind s m near k is before found =
+pub found-after : (s m : List ℕ) (near k : ℕ) → m ≡ drop near s → Nowhere (OccursAt s (codes "BUFR")) 0 near → FindsNeedle m (codes "BUFR") 0 (Some k) → FindsNeedle s (codes "BUFR") 0 (Some (near + k))
+found-after s m near k is before found =
     let F : List ℕ → Type 0 = λ l. FindsNeedle l (codes "BUFR") 0 (Some k) in
     let there = subst F is found in
     let here = occurs-before s near k there.1 in
-    (record { low = omega arith; high = omega (arith, here.fits); before = nowhere-behind s near k before there.0.before }, here)
+    (record { low = omega arith; high = omega (arith, here.fits); before = nowhere-after s near k before there.0.before }, here)
 
-pub none-behind : (s m : List ℕ) (near : ℕ) → m ≡ drop near s → near ≤ length s → Nowhere (OccursAt s (codes "BUFR")) 0 near → FindsNeedle m (codes "BUFR") 0 None → FindsNeedle s (codes "BUFR") 0 None
-none-behind s m near is within before none =
+pub none-after : (s m : List ℕ) (near : ℕ) → m ≡ drop near s → near ≤ length s → Nowhere (OccursAt s (codes "BUFR")) 0 near → FindsNeedle m (codes "BUFR") 0 None → FindsNeedle s (codes "BUFR") 0 None
+none-after s m near is within before none =
     let F : List ℕ → Type 0 = λ l. FindsNeedle l (codes "BUFR") 0 None in
     let N : ℕ → Type 0 = λ n. Nowhere (OccursAt s (codes "BUFR")) 0 n in
-    subst N (omega (arith, length-drop near s)) (nowhere-behind s near (length (drop near s) + 1) before (subst F is none))
+    subst N (omega (arith, length-drop near s)) (nowhere-after s near (length (drop near s) + 1) before (subst F is none))
 
 -- the indices before the first `BUFR`
 to-first : (s : List ℕ) (place : ℕ) → FindsNeedle s (codes "BUFR") 0 (Some place) → (t : List ℕ) (at : ℕ) → scan_from 0 at (s ++ t) ≡ scan_from 0 (at + place) (drop place s ++ t)
 to-first s place found t at =
-    past-front place s t (λ j below. omega (arith, found.1.fits)) (omega (arith, found.1.fits)) (λ j below. found.0.before j (omega arith) below) at
+    past-prefix place s t (λ j below. omega (arith, found.1.fits)) (omega (arith, found.1.fits)) (λ j below. found.0.before j (omega arith) below) at
 
 -- the octets begin with the word, by the search of the code
 pub word-occurs : (s : List ℕ) → StartsWithBufr s → OccursAt s (codes "BUFR") 0
@@ -196,16 +196,16 @@ word-occurs s here =
     OccursAt-from_part s (codes "BUFR") 0 (omega (arith, length-take {A = ℕ}, length-drop {A = ℕ}, ap length same)) same
 
 -- the first index of the word is 0, where the octets begin with it
-first-front : (s : List ℕ) (place : ℕ) → FindsNeedle s (codes "BUFR") 0 (Some place) → StartsWithBufr s → place ≡ 0
-first-front s zero found here = refl
-first-front s (suc k) found here = absurd (found.0.before 0 (omega arith) (omega arith) (word-occurs s here))
+first-prefix : (s : List ℕ) (place : ℕ) → FindsNeedle s (codes "BUFR") 0 (Some place) → StartsWithBufr s → place ≡ 0
+first-prefix s zero found here = refl
+first-prefix s (suc k) found here = absurd (found.0.before 0 (omega arith) (omega arith) (word-occurs s here))
 
 pub found-so : (ended : Bool) (s : List ℕ) (place : ℕ) → FindsNeedle s (codes "BUFR") 0 (Some place)
     → 8 ≤ length (drop place s) → stated_length (drop place s) ≤ length (drop place s) → IsNextEvent ended s place (classify (drop place s))
 found-so ended s place found long whole =
     let m = drop place s in
     let k = candidate_len m (classify m) in
-    let here = stands-there s place found.1 in
+    let here = holds-there s place found.1 in
     let bounds = taken-bounds m here in
     record {
       is = refl;
@@ -213,9 +213,9 @@ found-so ended s place found long whole =
       frame = frame-long m here;
       moves = bounds.0;
       within = omega (arith, found.1.fits, bounds.1, length-drop place s);
-      first = first-front s place found;
+      first = first-prefix s place found;
       advances = λ at. record {
-        whole = λ t _. to-first s place found t at ∙ found-front m t (at + place) here long whole
+        whole = λ t _. to-first s place found t at ∙ found-prefix m t (at + place) here long whole
             ∙ ap (λ l. stream_event (at + place) m (classify m) ++ scan_from 0 (at + place + k) (l ++ t)) (drop-twice k place s);
         decided = λ _. certain m (at + place) here long whole;
       };
@@ -226,7 +226,7 @@ pub found-so-end : (s : List ℕ) (place : ℕ) → FindsNeedle s (codes "BUFR")
 found-so-end s place found =
     let m = drop place s in
     let k = candidate_len m (classify m) in
-    let here = stands-there s place found.1 in
+    let here = holds-there s place found.1 in
     let bounds = taken-bounds m here in
     record {
       is = refl;
@@ -234,12 +234,12 @@ found-so-end s place found =
       frame = frame-long m here;
       moves = bounds.0;
       within = omega (arith, found.1.fits, bounds.1, length-drop place s);
-      first = first-front s place found;
+      first = first-prefix s place found;
       advances = λ at. record {
         whole = λ t none.
             let e : t ≡ [] = none refl in
             let P : List ℕ → Type 0 = λ t'. scan_from 0 at (s ++ t') ≡ stream_event (at + place) m (classify m) ++ scan_from 0 (at + place + k) (drop (place + k) s ++ t') in
-            subst P (sym e) (rw (append-nil, append-nil) (scan_from-found s (Some place) found at ∙ scan_from-front s (at + place) place k (omega (arith, found.1.fits)) refl (omega (arith, bounds.0))));
+            subst P (sym e) (rw (append-nil, append-nil) (scan_from-found s (Some place) found at ∙ scan_from-prefix s (at + place) place k (omega (arith, found.1.fits)) refl (omega (arith, bounds.0))));
         decided = λ going. absurd (true≢false going);
       };
     }
@@ -273,10 +273,10 @@ cut-here m size here is few = elim (cases_lt (length m) 8) [
 pub open-so : (s : List ℕ) (place size : ℕ) → FindsNeedle s (codes "BUFR") 0 (Some place) → size ≡ length_here (drop place s) → length (drop place s) < max 8 size → IsIncomplete s place size
 open-so s place size found is few =
     let m = drop place s in
-    let here = stands-there s place found.1 in
+    let here = holds-there s place found.1 in
     record {
       within = omega (arith, found.1.fits);
-      first = first-front s place found;
+      first = first-prefix s place found;
       few = few;
       here = inr here;
       advances = λ at. record { whole = λ t _. to-first s place found t at; decided = λ _. refl };
@@ -287,7 +287,7 @@ open-so s place size found is few =
 pub none-so : (s : List ℕ) → FindsNeedle s (codes "BUFR") 0 None → IsIncomplete s (length s - min (length s) 3) 0
 none-so s found =
     let k = length s - min (length s) 3 in
-    let moved : (t : List ℕ) (at : ℕ) → scan_from 0 at (s ++ t) ≡ scan_from 0 (at + k) (drop k s ++ t) = λ t at. past-front k s t (λ j below. omega arith) (omega arith) (λ j below. found j (omega arith) (omega arith)) at in
+    let moved : (t : List ℕ) (at : ℕ) → scan_from 0 at (s ++ t) ≡ scan_from 0 (at + k) (drop k s ++ t) = λ t at. past-prefix k s t (λ j below. omega arith) (omega arith) (λ j below. found j (omega arith) (omega arith)) at in
     let short : length (drop k s) < 4 = omega (arith, length-drop k s) in
     record {
       within = omega arith;
@@ -366,7 +366,7 @@ certain-within (suc n) at (x ∷ m) within =
       | inl short ↦ stays at (x ∷ m) (short-none at (x ∷ m) short)
       | inr long ↦ elim (cases_Bool (has_word_at (codes "BUFR") 0 (x ∷ m))) [
         | inr absent ↦ after at (at + 1) (x ∷ m) m [] (record {
-          whole = λ t _. scan_from-nothing at x (m ++ t) (verdict-nothing (x ∷ (m ++ t)) (stands-front (codes "BUFR") 0 (x ∷ m) t long ∙ absent));
+          whole = λ t _. scan_from-nothing at x (m ++ t) (verdict-nothing (x ∷ (m ++ t)) (holds-prefix (codes "BUFR") 0 (x ∷ m) t long ∙ absent));
           decided = λ _. refl;
         }) (certain-within n (at + 1) m (omega arith))
         | inl here ↦ elim (cases_lt (length (x ∷ m)) 8) [
@@ -374,7 +374,7 @@ certain-within (suc n) at (x ∷ m) within =
           | inr eight ↦ elim (cases_lt (length (x ∷ m)) (stated_length (x ∷ m))) [
             | inl short ↦ stays at (x ∷ m) (none-cut at (x ∷ m) (omega arith) (cut-so (x ∷ m) here (inr short)))
             | inr whole ↦ after at (at + candidate_len (x ∷ m) (classify (x ∷ m))) (x ∷ m) (drop (candidate_len (x ∷ m) (classify (x ∷ m))) (x ∷ m)) (stream_event at (x ∷ m) (classify (x ∷ m))) (record {
-              whole = λ t _. found-front (x ∷ m) t at here eight whole;
+              whole = λ t _. found-prefix (x ∷ m) t at here eight whole;
               decided = λ _. certain (x ∷ m) at here eight whole;
             }) (certain-within n (at + candidate_len (x ∷ m) (classify (x ∷ m))) (drop (candidate_len (x ∷ m) (classify (x ∷ m))) (x ∷ m)) (omega (arith, length-drop (candidate_len (x ∷ m) (classify (x ∷ m))) (x ∷ m), (taken-bounds (x ∷ m) here).0)))
           ]
@@ -390,8 +390,8 @@ take_while-all (x ∷ xs) ys all =
     rw (both.0, one) (ap (λ l. x ∷ l) (take_while-all xs ys both.1))
 
 -- what was certain stays the prefix, whatever comes after
-pub open-front : (s t : List ℕ) → (more : List StreamEvent) × (scan (s ++ t) ≡ open_scan s ++ more)
-open-front s t =
+pub open-prefix : (s t : List ℕ) → (more : List StreamEvent) × (scan (s ++ t) ≡ open_scan s ++ more)
+open-prefix s t =
     let c = certain-within (length s) 0 s (omega arith) in
     let whole : scan s ≡ c.events ++ scan_from 0 c.at' c.rest = ap (scan_from 0 0) (sym (append-nil s)) ∙ c.advances.whole [] (λ _. refl) ∙ ap (λ l. c.events ++ scan_from 0 c.at' l) (append-nil c.rest) in
     let open' : open_scan s ≡ c.events = ap (take_while is_decided) whole ∙ take_while-all c.events (scan_from 0 c.at' c.rest) (c.advances.decided refl) ∙ ap (λ l. c.events ++ l) c.none ∙ append-nil c.events in

@@ -86,9 +86,9 @@ pub verdict-there : (s : List ℕ) (j : ℕ) → OccursAt s (codes "BUFR") j →
 verdict-there s j occurs = verdict-some (drop j s) ((bytes_eq-Decides (take 4 (drop j s)) (codes "BUFR")).1 (OccursAt-part s (codes "BUFR") j occurs))
 
 -- the event at an index, and the rest of the scan after it
-pub scan_from-front : (s : List ℕ) (at place k : ℕ) → place < length s → k ≡ candidate_len (drop place s) (classify (drop place s)) → 0 < k
+pub scan_from-prefix : (s : List ℕ) (at place k : ℕ) → place < length s → k ≡ candidate_len (drop place s) (classify (drop place s)) → 0 < k
     → scan_from 0 at (drop place s) ≡ stream_event at (drop place s) (classify (drop place s)) ++ scan_from 0 (at + k) (drop (place + k) s)
-scan_from-front s at place k within is goes =
+scan_from-prefix s at place k within is goes =
     let m = drop place s in
     let Q : ℕ → Type 0 = λ n. 0 < n in
     let P : ℕ → Type 0 = λ n. scan_from 0 at m ≡ stream_event at m (classify m) ++ scan_from 0 (at + n) (drop n m) in

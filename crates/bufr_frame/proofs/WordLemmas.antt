@@ -2,8 +2,8 @@
 use Rattle.std.proofs.Common.{◌≡◌, ℕ, zero, suc, ◌+◌, ◌*◌, ◌/◌, ◌<◌, ◌≤◌, List, [], ◌∷◌, length, refl, ◌∙◌, ap, sym, arith, Some, None, slice_get}
 use Rattle.bufr_frame.specs.Octets.{u16_at, words}
 
-two-behind : (a b i : ℕ) (m : List ℕ) → u16_at (a ∷ b ∷ m) (2 * suc i) ≡ u16_at m (2 * i)
-two-behind a b i m = let e : 2 * suc i ≡ suc (suc (2 * i)) = omega arith in
+two-after : (a b i : ℕ) (m : List ℕ) → u16_at (a ∷ b ∷ m) (2 * suc i) ≡ u16_at m (2 * i)
+two-after a b i m = let e : 2 * suc i ≡ suc (suc (2 * i)) = omega arith in
     let f : suc (suc (2 * i)) + 1 ≡ suc (suc (2 * i + 1)) = omega arith in
     rw (e, f) refl
 
@@ -19,7 +19,7 @@ pub words-some : (m : List ℕ) (i : ℕ) → 2 * i + 2 ≤ length m → slice_g
 words-some [] i within = absurd (omega arith)
 words-some (a ∷ []) i within = absurd (omega arith)
 words-some (a ∷ b ∷ m) zero within = refl
-words-some (a ∷ b ∷ m) (suc i) within = words-some m i (omega arith) ∙ ap Some (sym (two-behind a b i m))
+words-some (a ∷ b ∷ m) (suc i) within = words-some m i (omega arith) ∙ ap Some (sym (two-after a b i m))
 
 -- two octets a word
 pub length-words : (m : List ℕ) → length (words m) ≡ length m / 2

@@ -25,9 +25,9 @@ is_some-map f (Some x) = refl
 is_some-map f None = refl
 
 -- what is padded after a prefix
-padded-behind : (b : Bool) (front octets : List ℕ) → with_pad_octet b (front ++ octets) ≡ front ++ with_pad_octet b octets
-padded-behind true front octets = append_assoc front octets (0 ∷ [])
-padded-behind false front octets = refl
+padded-after : (b : Bool) (prefix octets : List ℕ) → with_pad_octet b (prefix ++ octets) ≡ prefix ++ with_pad_octet b octets
+padded-after true prefix octets = append_assoc prefix octets (0 ∷ [])
+padded-after false prefix octets = refl
 
 -- section 3
 pub third : {X E : Type 0} (r : Result X E) (edition : ℕ) (words : List ℕ) (subsets flags n : ℕ) (b : Bool) (old one u16_at new : List ℕ)
@@ -40,9 +40,9 @@ third (Ok x) edition words subsets flags n b old one u16_at new size is p q last
     let f = 0 ∷ two_octets subsets ++ flags ∷ [] in
     let c = with_even_length edition 7 w in
     let long : n ≡ 7 + length c = size ∙ ap (λ k. even_size edition (7 + k)) (sym (length-octets_of_words words)) ∙ sym (length-evened edition 7 w) in
-    let front : u16_at ≡ ((old ++ three_octets n) ++ f) ++ w = q ∙ ap (λ l. (l ++ f) ++ w) p in
+    let prefix : u16_at ≡ ((old ++ three_octets n) ++ f) ++ w = q ∙ ap (λ l. (l ++ f) ++ w) p in
     let content : with_pad_octet b w ≡ c = ap (λ k. with_pad_octet k w) (is ∙ ap (λ k. is_padded edition (7 + k)) (sym (length-octets_of_words words))) in
     let whole : with_pad_octet b u16_at ≡ ((old ++ three_octets n) ++ f) ++ c =
-    ap (with_pad_octet b) front ∙ padded-behind b ((old ++ three_octets n) ++ f) w ∙ ap (λ l. ((old ++ three_octets n) ++ f) ++ l) content in
+    ap (with_pad_octet b) prefix ∙ padded-after b ((old ++ three_octets n) ++ f) w ∙ ap (λ l. ((old ++ three_octets n) ++ f) ++ l) content in
     let apart : ((old ++ three_octets n) ++ f) ++ c ≡ old ++ (three_octets n ++ (f ++ c)) = append_assoc (old ++ three_octets n) f c ∙ append_assoc old (three_octets n) (f ++ c) in
     last ∙ whole ∙ apart ∙ ap (λ k. old ++ (three_octets k ++ (f ++ c))) long

@@ -46,10 +46,10 @@ even_size edition size = if is_padded edition size then size + 1 else size
 abbrev pub with_pad_octet : (pads : Bool) → List ℕ → List ℕ
 with_pad_octet pads octets = if pads then octets ++ 0 ∷ [] else octets
 
--- the octets of a section 3 or 4 after its first `front` octets
+-- the octets of a section 3 or 4 after its first `prefix` octets
 -- rule: least-lengths, writes-no-pad-octet, writes-even-sections
-abbrev pub with_even_length : (edition front : ℕ) → List ℕ → List ℕ
-with_even_length edition front octets = with_pad_octet (is_padded edition (front + length octets))
+abbrev pub with_even_length : (edition prefix : ℕ) → List ℕ → List ℕ
+with_even_length edition prefix octets = with_pad_octet (is_padded edition (prefix + length octets))
     octets
 
 -- the octets of a message: 8 of section 0, those of section 1 with local use, and those of section

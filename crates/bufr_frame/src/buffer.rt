@@ -48,7 +48,7 @@ pub(crate) fn make_room(
 fn read_range<R: Source>(r: &mut R, buf: &mut [u8], from: usize, to: usize) -> Result<usize, Failed>
     requires order { from < to }
     requires within { to ≤ length buf.old }
-    ensures front { take from buf.new ≡ take from buf.old }
+    ensures prefix { take from buf.new ≡ take from buf.old }
     ensures fits { IfOk result (λ n. from + n ≤ to) }
     ensures ok { IfOk result
         (λ n. Consumes (R.left r.old) (R.left r.new) (take n (drop from buf.new))) }

@@ -16,7 +16,7 @@ pub const MAX_READS: u64 = 1 << 32;
 const CHUNK: usize = 65536;
 
 /// Makes room of `CHUNK` octets after those that are held, and returns how many are held.
-fn make_room_behind(octets: &mut Vec<u8>) -> Result<usize, RunFault>
+fn make_room_after(octets: &mut Vec<u8>) -> Result<usize, RunFault>
     ensures held { IfOk result (λ held. take held octets.new.items ≡ octets.old.items) }
     ensures room { IfOk result (λ held. vec_len octets.new ≡ held + CHUNK) }
     ensures err { IfErr result
@@ -69,7 +69,7 @@ pub fn read_to_end<R: Source>(
     ensures within { (reads.old ≤ reads.new) × (reads.new ≤ max_reads) }
 {
     while *reads < MAX_READS {
-        let held = make_room_behind(octets)?;
+        let held = make_room_after(octets)?;
         *reads += 1;
         if read_once(r, octets, held)? == 0 {
             return Ok(());

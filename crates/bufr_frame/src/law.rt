@@ -15,7 +15,7 @@ ghost use Rattle.bufr_frame.specs.declared.head.Head.{Head};
 
 /// Law: the events that are certain before the end is known stay the first ones, whatever comes
 /// after.
-pub fn open_scan_is_front()
+pub fn open_scan_is_prefix()
     ensures { (s t : List ℕ) → (more : List StreamEvent) × (scan (s ++ t) ≡ open_scan s ++ more) }
 {}
 
@@ -119,7 +119,7 @@ pub fn heads_of_messages_can_be_written()
 {}
 
 /// Law: a payload followed by the octet that makes section 4 even is written as without that octet.
-pub fn even_payloads_are_laid_out_alike()
+pub fn even_payloads_have_one_layout()
     ensures { (h : Head) (local1 : List ℕ) (section2 : Option (List ℕ)) (descriptors : List ℕ)
         (subsets : ℕ) (observed compressed : Bool) (payload : List ℕ)
         → message_octets h (parts_of local1 section2 descriptors subsets observed compressed

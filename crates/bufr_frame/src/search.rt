@@ -59,7 +59,7 @@ pub(crate) enum SearchResult {
 }
 
 /// The suffix of `s` from index `place`.
-pub(crate) fn behind(s: &[u8], place: usize) -> &[u8]
+pub(crate) fn suffix(s: &[u8], place: usize) -> &[u8]
     requires { place ≤ length s.now }
     ensures { result.now ≡ drop place s.now }
 {
@@ -124,7 +124,7 @@ fn find_near(rest: &[u8]) -> Option<usize>
     ensures { IsFirst (OccursAt rest.now (codes "BUFR")) 0 (min (length rest.now) 16) result }
 {
     'places: for place in 0..rest.len().min(NEAR) {
-        if starts_with_bufr(behind(rest, place)) {
+        if starts_with_bufr(suffix(rest, place)) {
             return Some(place);
         }
     }
@@ -141,7 +141,7 @@ fn find_word(word: &memmem::Finder<'_>, rest: &[u8]) -> Option<usize>
         return Some(place);
     }
     let near = rest.len().min(NEAR);
-    let place = word.find(behind(rest, near))?;
+    let place = word.find(suffix(rest, near))?;
     Some(near + place)
 }
 
@@ -174,7 +174,7 @@ fn find_event_at(rest: &[u8], place: usize, ended: bool) -> SearchResult
     requires { FindsNeedle rest.now (codes "BUFR") 0 (Some place) }
     ensures { IsSearchResult ended rest.now result }
 {
-    let m = behind(rest, place);
+    let m = suffix(rest, place);
     let stated_length = len_here(m);
     if ended {
         return SearchResult::Found(NextEvent {

@@ -12,7 +12,7 @@ use Rattle.bufr_tables.proofs.SoundLemmas.{tree_fine, IsFineWhole}
 -- no descriptors have the same fault by all tables
 pub nothing-answered : (tables : Tables) → IsAnswer tables [] (Err (fault.EmptyGroup 0))
 unfolding tree_of level
-nothing-answered tables = record { is_defined = refl; within = tt; told = λ e. cc }
+nothing-answered tables = record { is_defined = refl; within = tt; reported = λ e. cc }
 
 -- what a template says that is an answer
 pub record IsFineAnswer (tables : Tables) (list : List ℕ) (answer : Result Tree TemplateFault) : Type 0 where

@@ -104,7 +104,7 @@ module _ (table : List Sequence) (fxy : ℕ) (old : List Bool) (queue : List ℕ
       seen = below_more (SeenAt new) i was.seen here;
     }
 
-    -- another, which is put behind the queue
+    -- another, which is put after the queue
     pub visited-push : (x : ℕ) → x ≡ slice_index (members_or_none table fxy) i → i < length (members_or_none table fxy) → IsSome (members_of table x) → get_or new x false ≡ false → x < length new
         → IsVisited table fxy (i + 1) old queue (set new x true) (longer ++ x ∷ [])
     visited-push x at inside sequence unseen small = record {
@@ -246,7 +246,7 @@ module _ (table : List Sequence) (place : ℕ) (was : IsPassed table place) wher
         before = take place table;
         sequence = get_or table place d;
         after = drop (place + 1) table;
-        stands = sym (take-append-drop place table) ∙ ap (λ (rest : List Sequence). take place table ++ rest) (drop_more table place d inside);
+        split = sym (take-append-drop place table) ∙ ap (λ (rest : List Sequence). take place table ++ rest) (drop_more table place d inside);
         named = sym (get_or-map (λ (s : Sequence). s.fxy) table place d 0 inside) ∙ sym at;
         reaches = chain;
         first = λ k e below. earlier k e (omega (arith, length-take-le place table (omega arith)));

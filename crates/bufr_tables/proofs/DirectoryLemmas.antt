@@ -24,7 +24,7 @@ absent-parts k keys key absent = by (k == key) refl absent
     by true e absent = cc absent
     by false e absent = record { first = e; rest = none _ absent }
 
--- a key that is not in the list, added behind
+-- a key that is not in the list, added after
 pub place_of-added : (keys : List ℕ) (key : ℕ) → place_of keys key ≡ None → place_of (keys ++ key ∷ []) key ≡ Some (length keys)
 place_of-added [] key absent = let same : (key == key) ≡ true = search (rules, tests) in rw same refl
 place_of-added (k ∷ keys) key absent =

@@ -162,7 +162,7 @@ circle-named = record {
   before = [];
   sequence = record { fxy = 0xC001; members = 0xC002 ∷ [] };
   after = record { fxy = 0xC002; members = 0xC001 ∷ [] } ∷ [];
-  stands = refl;
+  split = refl;
   named = refl;
   reaches = more there (one back);
   first = λ k e below. absurd (omega arith);

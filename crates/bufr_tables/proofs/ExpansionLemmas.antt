@@ -6,7 +6,7 @@ use Rattle.bufr_tables.specs.Tree.{Tree, bare, join, size}
 use Rattle.bufr_tables.specs.Expansion.{Tables, Expansion, part, ◌>>=◌, part_of, level, inner_of}
 use Rattle.bufr_tables.proofs.TreeLemmas.{join_assoc}
 
--- what is defined behind nodes that stand already
+-- what is defined after nodes that exist already
 abbrev pub prefixed : Tree → Result Tree TemplateFault → Result Tree TemplateFault
 prefixed tree rest = rest >>= λ more. Ok (join tree more)
 

@@ -40,7 +40,7 @@ entry-other octets (s ∷ stored) fxy elements large =
     let here : (s.fxy == fxy) ≡ false = unlike s.fxy fxy elements.0 large in
     rw here (entry-other octets stored fxy elements.1 large)
 
--- octets behind the block leave the rows as they are
+-- octets after the block leave the rows as they are
 pub range-append : (xs ys : List ℕ) (i j : ℕ) → i ≤ j → j ≤ length xs → slice_range (xs ++ ys) i j ≡ slice_range xs i j
 range-append xs ys i j before inside =
     rw (drop-append-le i xs ys (omega arith), take-append-le (j - i) (drop i xs) ys (omega (arith, length-drop i xs))) refl

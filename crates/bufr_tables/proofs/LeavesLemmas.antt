@@ -19,7 +19,7 @@ leaves-join (operator fxy rest) b = ap (λ l. fxy ∷ l) (leaves-join rest b)
 leaves-join (fixed count body rest) b = ap (λ l. leaves body ++ l) (leaves-join rest b) ∙ sym (append_assoc (leaves body) (leaves rest) (leaves b))
 leaves-join (delayed factor body rest) b = ap (λ l. factor ∷ l) (ap (λ l. leaves body ++ l) (leaves-join rest b) ∙ sym (append_assoc (leaves body) (leaves rest) (leaves b)))
 
--- one list behind another
+-- one list after another
 says-append : (members : ℕ → Option (List ℕ)) (a b said more : List ℕ) → ListsLeaves members a said → ListsLeaves members b more → ListsLeaves members (a ++ b) (said ++ more)
 says-append members a b said more says_nothing h = h
 says-append members a b said more (says_itself d after rest f s) h = says_itself d (after ++ b) (rest ++ more) f (says-append members after b rest more s h)

@@ -10,7 +10,7 @@ pub mod RunsLemmas
 pub mod CycleLemmas
 pub mod ExpansionLemmas
 pub mod GrowthLemmas
-pub mod Laying
+pub mod Flattening
 pub mod LeavesLemmas
 pub mod LevelLemmas
 pub mod PartLemmas

@@ -8,9 +8,9 @@ use Rattle.std.proofs.lemmas.Option.{same_Some}
 use Rattle.bufr_tables.specs.Number.{number_after_digits, if_i64, i64_of, integer_of, natural_of, negated}
 
 -- one more digit
-pub number_behind-push : (n : ℕ) (digits : List ℕ) (digit : ℕ) → number_after_digits n (digits ++ digit ∷ []) ≡ 10 * number_after_digits n digits + (digit - 48)
-number_behind-push n [] digit = refl
-number_behind-push n (d ∷ digits) digit = number_behind-push (10 * n + (d - 48)) digits digit
+pub number_after-push : (n : ℕ) (digits : List ℕ) (digit : ℕ) → number_after_digits n (digits ++ digit ∷ []) ≡ 10 * number_after_digits n digits + (digit - 48)
+number_after-push n [] digit = refl
+number_after-push n (d ∷ digits) digit = number_after-push (10 * n + (d - 48)) digits digit
 
 -- the number so far, held at most m
 pub number_more : (digits : List ℕ) (i number m tens digit more : ℕ) → i < length digits
@@ -18,7 +18,7 @@ pub number_more : (digits : List ℕ) (i number m tens digit more : ℕ) → i <
     → tens ≡ min (number * 10) m → digit ≡ get_or digits i 0 - 48 → more ≡ min (tens + digit) m
     → more ≡ min (number_after_digits 0 (take (i + 1) digits)) m
 number_more digits i number m tens digit more inside is by_ten last sum =
-    rw (take_more digits i 0 inside, number_behind-push 0 (take i digits) (get_or digits i 0)) (omega arith)
+    rw (take_more digits i 0 inside, number_after-push 0 (take i digits) (get_or digits i 0)) (omega arith)
 
 -- a number below zero that fits
 pub fitting-negated : (m : ℕ) (z : ℤ) → 0 < m → m ≤ 2 ^ 63 → z ≡ negsuc (m - 1) → Some z ≡ if_i64 (negated m)

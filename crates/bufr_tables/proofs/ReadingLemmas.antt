@@ -13,10 +13,10 @@ use Rattle.csv.specs.declared.parser.Terminator.TheVariants as term
 use Rattle.csv.specs.declared.parser.Action.{Action}
 use Rattle.csv.specs.declared.reader.Reader.{Reader}
 use Rattle.bufr_tables.specs.Records.{Record}
-use Rattle.bufr_tables.specs.Reading.{GivesNext, IsBetween, count_of, record_given, records_behind, text_left}
+use Rattle.bufr_tables.specs.Reading.{GivesNext, IsBetween, count_of, record_given, records_after, text_left}
 use Rattle.bufr_tables.specs.declared.records.RecordReader.{RecordReader}
 
--- behind the octet that ends a record no record has begun
+-- after the octet that ends a record no record has begun
 after_end-between : (t : Terminator) (c : ℕ) → ends_at_end (after_end t c) ≡ false
 after_end-between term.CRLF c = elim (cases_Bool (c == 13)) [ inl e ↦ rw e refl | inr e ↦ rw e refl ]
 after_end-between (term.Any t) c = refl
@@ -94,7 +94,7 @@ records_from-enough cfg (suc n) (suc m) s xs between a b = by (next_record cfg s
 
 -- what a read that found a record did
 pub record Found (a : State) (before : Option (List ℕ)) (b : State) (after : Option (List ℕ)) (fields : Record) : Type 0 where
-  pub records : records_behind a before ≡ fields ∷ records_behind b after
+  pub records : records_after a before ≡ fields ∷ records_after b after
   pub known : IsSome after
   pub between : ends_at_end b ≡ false
   pub fewer : count_of after < count_of before
@@ -124,7 +124,7 @@ found-record a b (Some xs) None fields between known read = absurd read
 found-record a b (Some xs) (Some ys) fields between known read = found-next a b xs ys fields between read
 
 -- a read that found none
-found-no_more : (a b : State) (xs ys : List ℕ) (fields : Record) → NextIs (next_record default_config a [] [] xs) false fields b ys → records_behind a (Some xs) ≡ []
+found-no_more : (a b : State) (xs ys : List ℕ) (fields : Record) → NextIs (next_record default_config a [] [] xs) false fields b ys → records_after a (Some xs) ≡ []
 unfolding records_from
 found-no_more a b xs ys fields next = rw add-one (by (next_record default_config a [] [] xs) next)
   where
@@ -133,7 +133,7 @@ found-no_more a b xs ys fields next = rw add-one (by (next_record default_config
     by (Some read) next = cc next.0
 
 pub found-end : (a b : State) (before after : Option (List ℕ)) (fields : Record) → IsSome before
-    → ReadsNext default_config a before after false fields b → records_behind a before ≡ []
+    → ReadsNext default_config a before after false fields b → records_after a before ≡ []
 found-end a b None after fields known read = refl
 found-end a b (Some xs) None fields known read = absurd read
 found-end a b (Some xs) (Some ys) fields known read = found-no_more a b xs ys fields read
@@ -150,7 +150,7 @@ stripped-count (a ∷ b ∷ c ∷ rest) m h = by (is_bom a b c)
     by true = omega arith
     by false = omega arith
 
--- behind the start of a text the reader reads from its buffer
+-- after the start of a text the reader reads from its buffer
 pending-is : (reader : Reader (Bor (List ℕ))) → reader.bom_checked ≡ true → text_left reader ≡ pending_of (Some reader.rdr.now) reader
 pending-is reader with_open_group = rw with_open_group refl
 

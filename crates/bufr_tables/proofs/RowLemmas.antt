@@ -15,7 +15,7 @@ use Rattle.bufr_tables.specs.declared.table_b.Stored.{Stored}
 use Rattle.bufr_tables.proofs.KeptLemmas.{rows_kept-append}
 use Rattle.bufr_tables.specs.TableB.{IsRow, Row, allows_scale, allows_width, element_of, entry_of, is_name, natural_part, plain_of, row_of, scale_of, width_of}
 
--- a test that was passed, and the value behind it
+-- a test that was passed, and the value after it
 passed : {A P : Type 0} (test : Bool) (x y : A) → only_if test x ≡ Some y → (test ≡ true → x ≡ y → P) → P
 passed true x y is go = go refl (cc is)
 passed false x y is go = absurd (cc is)
@@ -64,7 +64,7 @@ pub rows-push : (rows : List Row) (row : Row) → AllByRecursion IsRow rows → 
 rows-push [] row all here = (here, tt)
 rows-push (first ∷ rows) row all here = (all.0, rows-push rows row all.1 here)
 
--- octets behind the block leave the rows within the limits
+-- octets after the block leave the rows within the limits
 pub limits-grown : (old new : List ℕ) (stored : List Stored) → AllByRecursion (IsRowKept old) stored → ExtendsBlock old new → AllByRecursion IsRow (rows_kept old stored) → AllByRecursion IsRow (rows_kept new stored)
 limits-grown old new stored kept grows all = rw (grows.1, rows_kept-append old grows.0 stored kept) all
 

@@ -34,7 +34,7 @@ lacks s table fxy absent = by (s.fxy == fxy) refl absent
     by true e absent = cc absent
     by false e absent = record { first = e; rest = absent }
 
--- a sequence behind a table that lacks it
+-- a sequence after a table that lacks it
 begun-listed : (table : List Sequence) (new : Sequence) (fxy : ℕ) → members_of table new.fxy ≡ None
     → members_or_none (table ++ new ∷ []) fxy ≡ members_or_none table fxy ++ only new.fxy new.members fxy
 begun-listed [] new fxy absent = by (new.fxy == fxy)
@@ -54,7 +54,7 @@ begun-listed (s ∷ table) new fxy absent =
         rw differs (sym (append-nil s.members))
     by false e other on = on
 
--- the last sequence is among those behind the first
+-- the last sequence is among those after the first
 last-differs : (table : List Sequence) (fxy sequence : ℕ) → is_last table sequence ≡ true → AllByRecursion (λ y. nat_eq fxy y ≡ false) (fxys_of table) → (fxy == sequence) ≡ false
 last-differs [] fxy sequence last apart = cc last
 last-differs (s ∷ []) fxy sequence last apart = rw (← eqb-true s.fxy sequence last) apart.0
@@ -195,4 +195,4 @@ sequences-law (first ∷ rest) table is = by (has_fields columns_d first) refl i
     by false e is = cc is
     by true e is =
         let add = rows-add 2 [] rest table is distinct-none in
-        record { first = first; rest = rest; stands = refl; named = e; rows = add.rows; written = add.written; members = add.members }
+        record { first = first; rest = rest; split = refl; named = e; rows = add.rows; written = add.written; members = add.members }

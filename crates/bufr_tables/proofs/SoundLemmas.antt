@@ -105,7 +105,7 @@ fine_plainly known room given rest e = subst (λ g. IsFine known room g rest) e
 pub part_is : (a b : ExpandedPart) → ◌≡◌ {A = Result ExpandedPart TemplateFault} (Ok a) (Ok b) → a ≡ b
 part_is a b h = cc
 
--- an element, and the rest behind it
+-- an element, and the rest after it
 element_joins : (tables : Tables) (room : ℕ) (given : Bool) (places d : ℕ) (first : ExpandedPart) (rest : Tree) → f_of d ≡ 0 → element_part tables given places d ≡ Ok first → IsFine tables.known room (gives_width d) rest → IsFine tables.known room given (join first.tree rest)
 element_joins tables room given places d first rest f h fine =
     let known = tested (given || tables.known d) (fault.UnknownElement d) (with_places places 1 d >>= λ _. Ok (part (element d bare) 0)) first h in
@@ -119,7 +119,7 @@ or_met : (gives begins : Bool) → (not gives || begins) ≡ true → gives ≡ 
 or_met true begins h e = h
 or_met false begins h e = absurd cc
 
--- an operator, and the rest behind it
+-- an operator, and the rest after it
 operator_joins : (known : ℕ → Bool) (room : ℕ) (given : Bool) (places d : ℕ) (after : List ℕ) (first : ExpandedPart) (rest : Tree) → f_of d ≡ 2 → operator_part places d after ≡ Ok first → (begins_with_element after ≡ true → first.taken ≡ 0 → is_element_first rest ≡ true) → IsFine known room (gives_width d) rest → IsFine known room given (join first.tree rest)
 operator_joins known room given places d after first rest f h begins fine =
     let legal = tested (is_legal_operator d) (fault.Operator d) (unless (not (gives_width d) || begins_with_element after) (fault.LocalShape d) >>= λ _. with_places places 1 d >>= λ _. Ok (part (operator d bare) 0)) first h in
@@ -156,7 +156,7 @@ body_fine known room (Some expand) fine places own d after body h =
       full = full.met;
     })
 
--- a group of a fixed count, and the rest behind it
+-- a group of a fixed count, and the rest after it
 fixed_joins : (known : ℕ → Bool) (room : ℕ) (inner : Option Expansion) → IsInnerFine known room inner → (given : Bool) (places d : ℕ) (after : List ℕ) (first : ExpandedPart) (rest : Tree) → 0 < y_of d → fixed_part inner places d after ≡ Ok first → IsFine known room false rest → IsFine known room given (join first.tree rest)
 fixed_joins known room inner fine given places d after first rest y h plain =
     let two = steps (body_of inner places 2 d after) (λ body. Ok (part (fixed (y_of d) body bare) (x_of d))) first h in
@@ -165,7 +165,7 @@ fixed_joins known room inner fine given places d after first rest y h plain =
     subst (λ (p : ExpandedPart). IsFine known room given (join p.tree rest)) e
     (record { groups = (y, (body.full, (body.fine.groups, plain.groups))); is_known = (body.fine.is_known, plain.is_known); legal = (body.fine.legal, plain.legal); shallow = omega (arith, body.deeper, plain.shallow) })
 
--- a delayed group, and the rest behind it
+-- a delayed group, and the rest after it
 delayed_joins : (tables : Tables) (room : ℕ) (inner : Option Expansion) → IsInnerFine tables.known room inner → (given : Bool) (places d : ℕ) (after : List ℕ) (first : ExpandedPart) (rest : Tree) → delayed_part tables inner places d after ≡ Ok first → IsFine tables.known room false rest → IsFine tables.known room given (join first.tree rest)
 delayed_joins tables room inner fine given places d [] first rest h plain = absurd cc
 delayed_joins tables room inner fine given places d (factor ∷ after) first rest h plain =
@@ -182,13 +182,13 @@ group_by_joins : (y : ℕ) (tables : Tables) (room : ℕ) (inner : Option Expans
 group_by_joins zero tables room inner fine given places d after first rest e h plain = delayed_joins tables room inner fine given places d after first rest h plain
 group_by_joins (suc count) tables room inner fine given places d after first rest e h plain = fixed_joins tables.known room inner fine given places d after first rest (subst (λ n. 0 < n) e (omega arith)) h plain
 
--- a group, and the rest behind it
+-- a group, and the rest after it
 group_joins : (tables : Tables) (room : ℕ) (inner : Option Expansion) → IsInnerFine tables.known room inner → (given : Bool) (places d : ℕ) (after : List ℕ) (first : ExpandedPart) (rest : Tree) → group_part tables inner places d after ≡ Ok first → IsFine tables.known room false rest → IsFine tables.known room given (join first.tree rest)
 group_joins tables room inner fine given places d after first rest h plain =
     let shaped = tested (nat_lt 0 (x_of d)) (fault.GroupShape d) (group_by (y_of d) tables inner places d after) first h in
     group_by_joins (y_of d) tables room inner fine given places d after first rest refl shaped.then_is plain
 
--- a sequence, and the rest behind it
+-- a sequence, and the rest after it
 sequence_joins : (tables : Tables) (room : ℕ) (inner : Option Expansion) → IsInnerFine tables.known room inner → (given : Bool) (places d : ℕ) (first : ExpandedPart) (rest : Tree) → sequence_part tables inner places d ≡ Ok first → IsFine tables.known room false rest → IsFine tables.known room given (join first.tree rest)
 sequence_joins tables room None fine given places d first rest h plain =
     let two = steps (ok_or (tables.members d) (fault.UnknownSequence d)) (λ members. Err (fault.Depth d)) first h in

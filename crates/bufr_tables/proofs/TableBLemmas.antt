@@ -77,4 +77,4 @@ rows-law (first ∷ rest) table is = by (has_fields columns_b first) refl is
     by false e is = cc is
     by true e is =
         let add = rows-add 2 [] rest table is distinct-none in
-        record { first = first; rest = rest; stands = refl; named = e; rows = rw add.longer add.written; distinct = add.distinct }
+        record { first = first; rest = rest; split = refl; named = e; rows = rw add.longer add.written; distinct = add.distinct }

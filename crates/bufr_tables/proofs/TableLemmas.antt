@@ -30,26 +30,26 @@ fields-at (name ∷ names) [] place d same inside = absurd (omega arith)
 fields-at (name ∷ names) (field ∷ fields) zero d same inside = refl
 fields-at (name ∷ names) (field ∷ fields) (suc place) d same inside = fields-at names fields place d (omega (arith, same)) (omega arith)
 
--- one field, told apart from its name or not
+-- one field, distinguished from its name or not
 module _ (names : List (Bor (List ℕ))) (r : Record) (place : ℕ) (d : Bor (List ℕ)) (field : List ℕ) (differs : Bool) (same : length r ≡ length names) (inside : place < length names)
-    (is : field ≡ field_of r place) (told : differs ≡ not (bytes_eq field (get_or names place d).now))
+    (is : field ≡ field_of r place) (reported : differs ≡ not (bytes_eq field (get_or names place d).now))
     (so_far : has_fields (field_texts names) r ≡ has_fields (drop place (field_texts names)) (drop place r)) where
   pub fields-other : differs ≡ true → false ≡ has_fields (field_texts names) r
-  fields-other apart = by (bytes_eq field (get_or names place d).now) refl (sym told ∙ apart)
+  fields-other apart = by (bytes_eq field (get_or names place d).now) refl (sym reported ∙ apart)
     where
       by : (b : Bool) → bytes_eq field (get_or names place d).now ≡ b → not b ≡ true → false ≡ has_fields (field_texts names) r
       by true e is_not = cc is_not
       by false e is_not = sym (so_far ∙ fields-at names r place d same inside ∙ rw (← is, e) refl)
 
   pub fields-more : differs ≡ false → has_fields (field_texts names) r ≡ has_fields (drop (place + 1) (field_texts names)) (drop (place + 1) r)
-  fields-more alike = rw add-one (by (bytes_eq field (get_or names place d).now) refl (sym told ∙ alike))
+  fields-more alike = rw add-one (by (bytes_eq field (get_or names place d).now) refl (sym reported ∙ alike))
     where
       by : (b : Bool) → bytes_eq field (get_or names place d).now ≡ b → not b ≡ false → has_fields (field_texts names) r ≡ has_fields (drop (suc place) (field_texts names)) (drop (suc place) r)
       by true e is_not = so_far ∙ fields-at names r place d same inside ∙ rw (← is, e) refl
       by false e is_not = cc is_not
 
 module _ (A : Type 0) (names : List (List ℕ)) (with_record : ℕ → A → Record → Result A TableFault) (none : A) (records : List Record) where
-  -- behind the header
+  -- after the header
   pub table-opened : (r : RecordReader) → IsOpened names records r → table_of names with_record none records ≡ table_from with_record (r.number + 1) none (records_left r)
   unfolding table_of
   table-opened r is = rw (is.header, is.number, is.rest) refl

@@ -34,8 +34,8 @@ measured : Result Tree TemplateFault → Result (ℕ × ℕ) TemplateFault
 measured tree = tree >>= λ t. Ok (places t, depth t)
 
 -- the cells
-laid : Result Tree TemplateFault → Result (List Cell) TemplateFault
-laid tree = tree >>= λ t. Ok (cells_of t 0 (cell.Finish ∷ []))
+flattened : Result Tree TemplateFault → Result (List Cell) TemplateFault
+flattened tree = tree >>= λ t. Ok (cells_of t 0 (cell.Finish ∷ []))
 
 -- so many replications, each of one pass over all that is left of so many descriptors, and an
 -- element
@@ -154,34 +154,34 @@ doubling_sequences : tree_of (record { known = λ d. d == fxy 0 1 1; members = d
 unfolding doubled tree_of inner_of level part_of
 doubling_sequences = refl
 
-one_block_number_is_laid : laid (given (fxy 0 1 1 ∷ [])) ≡ Ok (cell.Element (fxy 0 1 1) ∷ cell.Finish ∷ [])
-unfolding given laid
-one_block_number_is_laid = refl
+one_block_number_is_flattened : flattened (given (fxy 0 1 1 ∷ [])) ≡ Ok (cell.Element (fxy 0 1 1) ∷ cell.Finish ∷ [])
+unfolding given flattened
+one_block_number_is_flattened = refl
 
-delayed_twice_is_laid : laid (given (fxy 1 1 0 ∷ fxy 0 31 1 ∷ fxy 0 1 1 ∷ [])) ≡ Ok (cell.Delayed 4 ∷ cell.Factor (fxy 0 31 1) ∷ cell.Element (fxy 0 1 1) ∷ cell.PassEnd ∷ cell.Finish ∷ [])
-unfolding given laid
-delayed_twice_is_laid = refl
+delayed_twice_is_flattened : flattened (given (fxy 1 1 0 ∷ fxy 0 31 1 ∷ fxy 0 1 1 ∷ [])) ≡ Ok (cell.Delayed 4 ∷ cell.Factor (fxy 0 31 1) ∷ cell.Element (fxy 0 1 1) ∷ cell.PassEnd ∷ cell.Finish ∷ [])
+unfolding given flattened
+delayed_twice_is_flattened = refl
 
 delayed_twice_is_raised : trees_of_cells (cell.Delayed 4 ∷ cell.Factor (fxy 0 31 1) ∷ cell.Element (fxy 0 1 1) ∷ cell.PassEnd ∷ cell.Finish ∷ []) ≡ delayed (fxy 0 31 1) (element (fxy 0 1 1) bare) bare
 delayed_twice_is_raised = refl
 
 -- rule: replication-nested
-delayed_in_delayed_is_laid : laid (given (fxy 1 3 0 ∷ fxy 0 31 1 ∷ fxy 1 1 0 ∷ fxy 0 31 1 ∷ fxy 0 1 1 ∷ [])) ≡ Ok (cell.Delayed 7 ∷ cell.Factor (fxy 0 31 1) ∷ cell.Delayed 6 ∷ cell.Factor (fxy 0 31 1) ∷ cell.Element (fxy 0 1 1) ∷ cell.PassEnd ∷ cell.PassEnd ∷ cell.Finish ∷ [])
-unfolding given laid
-delayed_in_delayed_is_laid = refl
+delayed_in_delayed_is_flattened : flattened (given (fxy 1 3 0 ∷ fxy 0 31 1 ∷ fxy 1 1 0 ∷ fxy 0 31 1 ∷ fxy 0 1 1 ∷ [])) ≡ Ok (cell.Delayed 7 ∷ cell.Factor (fxy 0 31 1) ∷ cell.Delayed 6 ∷ cell.Factor (fxy 0 31 1) ∷ cell.Element (fxy 0 1 1) ∷ cell.PassEnd ∷ cell.PassEnd ∷ cell.Finish ∷ [])
+unfolding given flattened
+delayed_in_delayed_is_flattened = refl
 
-group_of_a_sequence_is_laid : laid (given (fxy 1 1 2 ∷ fxy 3 60 192 ∷ fxy 0 20 3 ∷ [])) ≡ Ok (cell.Fixed 2 4 ∷ cell.Element (fxy 0 1 1) ∷ cell.Element (fxy 0 12 101) ∷ cell.PassEnd ∷ cell.Element (fxy 0 20 3) ∷ cell.Finish ∷ [])
-unfolding given laid
-group_of_a_sequence_is_laid = refl
+group_of_a_sequence_is_flattened : flattened (given (fxy 1 1 2 ∷ fxy 3 60 192 ∷ fxy 0 20 3 ∷ [])) ≡ Ok (cell.Fixed 2 4 ∷ cell.Element (fxy 0 1 1) ∷ cell.Element (fxy 0 12 101) ∷ cell.PassEnd ∷ cell.Element (fxy 0 20 3) ∷ cell.Finish ∷ [])
+unfolding given flattened
+group_of_a_sequence_is_flattened = refl
 
-local_descriptor_is_laid : laid (given (fxy 2 6 12 ∷ fxy 0 63 255 ∷ [])) ≡ Ok (cell.Operator (fxy 2 6 12) ∷ cell.Element (fxy 0 63 255) ∷ cell.Finish ∷ [])
-unfolding given laid
-local_descriptor_is_laid = refl
+local_descriptor_is_flattened : flattened (given (fxy 2 6 12 ∷ fxy 0 63 255 ∷ [])) ≡ Ok (cell.Operator (fxy 2 6 12) ∷ cell.Element (fxy 0 63 255) ∷ cell.Finish ∷ [])
+unfolding given flattened
+local_descriptor_is_flattened = refl
 
 -- how many cells there are
 counted : Result (List Cell) TemplateFault → Result ℕ TemplateFault
 counted cells = cells >>= λ c. Ok (length c)
 
-thirty_two_groups_are_laid : counted (laid (given (nested 32))) ≡ Ok 66
-unfolding given laid counted nested
-thirty_two_groups_are_laid = refl
+thirty_two_groups_are_flattened : counted (flattened (given (nested 32))) ≡ Ok 66
+unfolding given flattened counted nested
+thirty_two_groups_are_flattened = refl

@@ -9,10 +9,10 @@ use Rattle.bufr_tables.specs.Cells.{cells_of, trees_of_cells, AreCellsOf, IsTemp
 use Rattle.bufr_tables.specs.Expansion.{Tables, ◌>>=◌, unless, level, inner_of, first_of, tree_of, max_open}
 use Rattle.bufr_tables.specs.Growth.{BuilderModel, growth, places_so_far, push_tree, PushesTree, IsFaultOrMemory}
 use Rattle.bufr_tables.proofs.SoundLemmas.{tree_fine}
-use Rattle.bufr_tables.proofs.Laying.{lay-tail, length-lay, raised_laid, kept_raised}
+use Rattle.bufr_tables.proofs.Flattening.{cells-tail, length-cells, raised_flattened, kept_raised}
 use Rattle.bufr_tables.proofs.GrowthLemmas.{same_growth}
 
--- what is left of the definition behind the list
+-- what is left of the definition after the list
 after_list : List ℕ → Result Tree TemplateFault → Result Tree TemplateFault
 after_list list expanded = expanded >>= λ tree. unless (consumes tree) (fault.EmptyGroup (first_of list)) >>= λ _. Ok tree
 
@@ -24,7 +24,7 @@ pub whole-fault : (tables : Tables) (list : List ℕ) (start : BuilderModel) (wh
 unfolding tree_of after_list
 whole-fault tables list start why e refuses other = ap (after_list list) (same_start tables list start e ∙ refuses other)
 
--- what stands behind no cells
+-- what is after no cells
 put_tree : (start new : BuilderModel) (tree : Tree) → start ≡ growth [] 0 0 false → new ≡ push_tree start tree → new ≡ growth (cells_of tree 0 []) 0 (depth tree) (consumes tree)
 put_tree start new tree es e =
     e ∙ ap (λ (g : BuilderModel). push_tree g tree) es
@@ -37,7 +37,7 @@ whole-empty tables list start new first es puts empty ef =
     ∙ ap (λ b. unless b (fault.EmptyGroup (first_of list)) >>= λ _. Ok puts.tree) (ap (λ (g : BuilderModel). g.full) (sym (put_tree start new puts.tree es puts.is_put)) ∙ empty)
     ∙ ap (λ d. Err (fault.EmptyGroup d)) (sym ef)
 
--- a tree is defined, and its cells have been laid out
+-- a tree is defined, and its cells have been flattened
 pub record IsWhole (tables : Tables) (list : List ℕ) (new : BuilderModel) : Type 0 where
   pub tree : Tree
   pub is_defined : tree_of tables list ≡ Ok tree
@@ -57,27 +57,27 @@ whole-ok tables list start new es puts full =
       depth_is = ap (λ (g : BuilderModel). g.deep) tree_is;
     }
 
-whole-laid : (tables : Tables) (list : List ℕ) (new : BuilderModel) (cells : List Cell) (whole : IsWhole tables list new) → cells ≡ new.cells ++ cell.Finish ∷ [] → length new.cells + new.groups < 65535 → AreCellsOf cells whole.tree
-whole-laid tables list new cells whole e within =
+whole-flattened : (tables : Tables) (list : List ℕ) (new : BuilderModel) (cells : List Cell) (whole : IsWhole tables list new) → cells ≡ new.cells ++ cell.Finish ∷ [] → length new.cells + new.groups < 65535 → AreCellsOf cells whole.tree
+whole-flattened tables list new cells whole e within =
     let fine = tree_fine tables list whole.tree whole.is_defined in
     record {
-      laid = e ∙ ap (λ l. l ++ cell.Finish ∷ []) whole.cells_are ∙ sym (lay-tail whole.tree 0 (cell.Finish ∷ []));
-      within = omega (arith, whole.groups_are, ap length whole.cells_are, length-lay whole.tree 0 []);
+      flattened = e ∙ ap (λ l. l ++ cell.Finish ∷ []) whole.cells_are ∙ sym (cells-tail whole.tree 0 (cell.Finish ∷ []));
+      within = omega (arith, whole.groups_are, ap length whole.cells_are, length-cells whole.tree 0 []);
       shallow = fine.shallow;
       sound = fine.sound;
       legal = fine.legal;
     }
 
 -- the cells of a template have been built
-pub record IsBuilt (tables : Tables) (list : List ℕ) (cells : List Cell) (depth_told : ℕ) : Type 0 where
-  pub is_kept : IsTemplate cells depth_told (trees_of_cells cells)
+pub record IsBuilt (tables : Tables) (list : List ℕ) (cells : List Cell) (depth_reported : ℕ) : Type 0 where
+  pub is_kept : IsTemplate cells depth_reported (trees_of_cells cells)
   pub is_defined : tree_of tables list ≡ Ok (trees_of_cells cells)
 
--- with the end of the template behind the cells
+-- with the end of the template after the cells
 pub whole-built : (tables : Tables) (list : List ℕ) (new : BuilderModel) (cells : List Cell) → IsWhole tables list new → cells ≡ new.cells ++ cell.Finish ∷ [] → length new.cells + new.groups < 65535 → IsBuilt tables list cells new.deep
 whole-built tables list new cells whole e within =
-    let laid = whole-laid tables list new cells whole e within in
+    let flattened = whole-flattened tables list new cells whole e within in
     record {
-      is_kept = kept_raised cells new.deep whole.tree (record { is_laid = laid; depth_is = whole.depth_is });
-      is_defined = whole.is_defined ∙ ap Ok (sym (raised_laid cells whole.tree laid));
+      is_kept = kept_raised cells new.deep whole.tree (record { is_flattened = flattened; depth_is = whole.depth_is });
+      is_defined = whole.is_defined ∙ ap Ok (sym (raised_flattened cells whole.tree flattened));
     }

@@ -1,4 +1,4 @@
--- A template laid out in cells, and read back from them (the form is a choice of this project).
+-- A template flattened to cells, and read back from them (the form is a choice of this project).
 -- Cited by public contracts.
 use Rattle.std.specs.Prelude.{ℕ, ◌+◌, ◌≡◌, ◌≤◌, List, [], ◌∷◌}
 use Rattle.bufr_tables.specs.declared.template.cell.Cell.{Cell}
@@ -20,7 +20,7 @@ cells_of (delayed fxy body more) at tail =
     cell.Delayed (at + 3 + size body) ∷ cell.Factor fxy
     ∷ cells_of body (at + 2) (cell.PassEnd ∷ cells_of more (at + 3 + size body) tail)
 
--- the factor that stands first
+-- the factor that comes first
 abbrev pub factor_first : List Cell → ℕ
 factor_first [] = 0
 factor_first (cell.Element fxy ∷ cells) = 0
@@ -31,7 +31,7 @@ factor_first (cell.Factor fxy ∷ cells) = fxy
 factor_first (cell.PassEnd ∷ cells) = 0
 factor_first (cell.Finish ∷ cells) = 0
 
--- a cell, and the factor behind it, put before the trees that were read behind it
+-- a cell, and the factor after it, put before the trees that were read after it
 abbrev pub prepend_cell : Cell → ℕ → List Tree → List Tree
 prepend_cell cell.Finish factor trees = bare ∷ []
 prepend_cell cell.PassEnd factor trees = bare ∷ trees
@@ -41,24 +41,24 @@ prepend_cell (cell.Fixed count after) factor (body ∷ rest ∷ trees) = fixed c
 prepend_cell (cell.Delayed after) factor (body ∷ rest ∷ trees) = delayed factor body rest ∷ trees
 prepend_cell _ factor trees = trees
 
--- the trees that cells lay out, the innermost list first
+-- the trees that cells hold, the innermost list first
 abbrev pub read_cells : List Cell → List Tree
 read_cells [] = []
 read_cells (c ∷ cells) = prepend_cell c (factor_first cells) (read_cells cells)
 
--- the tree that cells lay out
+-- the tree that cells hold
 abbrev pub trees_of_cells : List Cell → Tree
 trees_of_cells cells = first_tree (read_cells cells)
 
 -- cells are the layout of a tree as a walk relies on it
 pub record AreCellsOf (cells : List Cell) (tree : Tree) : Type 0 where
-  pub laid : cells ≡ cells_of tree 0 (cell.Finish ∷ [])
+  pub flattened : cells ≡ cells_of tree 0 (cell.Finish ∷ [])
   pub within : places tree ≤ 65535
   pub shallow : depth tree ≤ 32
   pub sound : IsSound tree
   pub legal : IsLegal tree
 
 -- that, with the depth that is kept beside the cells
-pub record IsTemplate (cells : List Cell) (depth_told : ℕ) (tree : Tree) : Type 0 where
-  pub is_laid : AreCellsOf cells tree
-  pub depth_is : depth_told ≡ depth tree
+pub record IsTemplate (cells : List Cell) (depth_reported : ℕ) (tree : Tree) : Type 0 where
+  pub is_flattened : AreCellsOf cells tree
+  pub depth_is : depth_reported ≡ depth tree

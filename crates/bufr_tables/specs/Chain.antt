@@ -33,7 +33,7 @@ pub record IsFirstCycle (table : List Sequence) (fxy : ℕ) : Type 0 where
   pub before : List Sequence
   pub sequence : Sequence
   pub after : List Sequence
-  pub stands : table ≡ before ++ sequence ∷ after
+  pub split : table ≡ before ++ sequence ∷ after
   pub named : sequence.fxy ≡ fxy
   pub reaches : ReachesItself table fxy
   pub first : All (λ s. ¬ ReachesItself table s.fxy) before

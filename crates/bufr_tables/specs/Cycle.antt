@@ -6,7 +6,7 @@ use Rattle.bufr_tables.specs.Chain.{Chain, Leads, ReachesItself}
 use Rattle.bufr_tables.specs.Fxy.{key_of}
 use Rattle.bufr_tables.specs.TableD.{Sequence, fxys_of, members_or_none, members_of}
 
--- the rank of a sequence, which stands at its X and Y
+-- the rank of a sequence, which is at its X and Y
 abbrev pub rank_of : List ℕ → ℕ → ℕ
 rank_of ranks fxy = slice_index ranks (key_of fxy)
 
@@ -40,7 +40,7 @@ unset [] = 0
 unset (flag ∷ flags) = (if flag then 0 else 1) + unset flags
 
 -- the first members of a sequence, so many, were seen, where they are sequences; those that were
--- not seen before stand behind the queue
+-- not seen before come after the queue
 pub record IsVisited (table : List Sequence) (fxy count : ℕ) (old : List Bool) (queue : List ℕ)
     (new : List Bool) (longer : List ℕ) : Type 0 where
   pub more : List ℕ

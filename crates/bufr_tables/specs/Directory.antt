@@ -4,7 +4,7 @@ use Rattle.std.specs.Prelude.{◌≡◌, ℕ, suc, ◌+◌, ◌<◌, ◌≤◌, 
 use Rattle.std.specs.List.{AllByRecursion, IsDistinct}
 use Rattle.bufr_tables.specs.declared.index.FxyIndex.TheInside.{Inside}
 
--- the first place where a number stands in a list, counted from 0
+-- the first place where a number is in a list, counted from 0
 abbrev pub place_of : List ℕ → ℕ → Option ℕ
 place_of [] n = None
 place_of (first ∷ rest) n = if first == n then Some 0 else option_map suc (place_of rest n)
@@ -14,7 +14,7 @@ abbrev pub mark_of : Option ℕ → ℕ
 mark_of None = 0
 mark_of (Some place) = place + 1
 
--- the marks are those of the places in the list of keys, and no key stands there twice
+-- the marks are those of the places in the list of keys, and no key is there twice
 pub record IsDirectory (a : Inside) : Type 0 where
   pub room : 16384 ≤ vec_capacity a.keys
   pub size : length a.marks.items ≡ 16384

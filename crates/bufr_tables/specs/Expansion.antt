@@ -1,4 +1,4 @@
--- The tree that a list of descriptors stands for, or the first fault on the way
+-- The tree that a list of descriptors means, or the first fault on the way
 -- (WMO-No. 306, Volume I.2, FM 94: section 3, replications, Tables C and D; the faults, their order
 -- and the limits are a choice of this project)
 -- Cited by public contracts.
@@ -10,7 +10,7 @@ pub use Rattle.bufr_tables.specs.Fxy.{is_factor}
 use Rattle.bufr_tables.specs.Operators.{is_legal_operator, gives_width}
 use Rattle.bufr_tables.specs.Tree.{Tree, bare, element, operator, fixed, delayed, join, size, consumes}
 
--- what the tables tell: which elements Table B knows, and the members of a sequence of Table D
+-- what the tables say: which elements Table B knows, and the members of a sequence of Table D
 pub record Tables : Type 0 where
   pub known : ℕ → Bool
   pub members : ℕ → Option (List ℕ)
@@ -40,11 +40,11 @@ unless false why = Err why
 abbrev pub with_places : (places more d : ℕ) → Result (Unit {0}) TemplateFault
 with_places places more d = unless (nat_le (places + more) max_places) (fault.TemplateSize d)
 
--- what a list of descriptors stands for behind so many places
+-- what a list of descriptors means after so many places
 abbrev pub Expansion : Type 0
 Expansion = (places : ℕ) → List ℕ → Result Tree TemplateFault
 
--- what one descriptor stands for, and how many of those behind it it takes
+-- what one descriptor means, and how many of those after it it takes
 pub record ExpandedPart : Type 0 where
   pub tree : Tree
   pub taken : ℕ
@@ -71,7 +71,7 @@ element_part tables width_given places d = do
   _ ← with_places places 1 d
   Ok (part (element d bare) 0)
 
--- an operator; one that gives a width stands before an element
+-- an operator; one that gives a width comes before an element
 -- rule: 2-06-y-before-an-element, fault-22, fault-28
 abbrev pub operator_part : ℕ → ℕ → List ℕ → Result ExpandedPart TemplateFault
 operator_part places d after = do
@@ -80,7 +80,7 @@ operator_part places d after = do
   _ ← with_places places 1 d
   Ok (part (operator d bare) 0)
 
--- the body of a group: the next X descriptors, behind the group's own places; some node of it takes
+-- the body of a group: the next X descriptors, after the group's own places; some node of it takes
 -- bits
 -- rule: replication-before-expansion, replication-nested, replication-in-one-list, fault-23
 abbrev pub body_of : Option Expansion → (places own d : ℕ) → List ℕ → Result Tree TemplateFault
@@ -99,7 +99,7 @@ fixed_part inner places d after = do
   body ← body_of inner places 2 d after
   Ok (part (fixed (y_of d) body bare) (x_of d))
 
--- a group of as many passes as its factor tells, which stands before the X descriptors
+-- a group of as many passes as its factor says, which comes before the X descriptors
 -- rule: delayed-replication, fault-24
 abbrev pub delayed_part : Tables → Option Expansion → ℕ → ℕ → List ℕ
     → Result ExpandedPart TemplateFault
@@ -124,7 +124,7 @@ group_part tables inner places d after = do
   _ ← unless (nat_lt 0 (x_of d)) (fault.GroupShape d)
   group_by (y_of d) tables inner places d after
 
--- a sequence: its members stand in its place
+-- a sequence: its members are in its place
 -- rule: fault-21
 abbrev pub sequence_part : Tables → Option Expansion → ℕ → ℕ → Result ExpandedPart TemplateFault
 sequence_part tables inner places d = do

@@ -1,4 +1,4 @@
--- What cells in the making stand for.
+-- What cells in the making mean.
 -- Cited by private steps only.
 use Rattle.bufr_tables.specs.declared.template.growing.TemplateBuilder.{TemplateBuilder}
 use Rattle.bufr_tables.specs.Growth.{BuilderModel, growth}

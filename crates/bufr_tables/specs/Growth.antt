@@ -11,7 +11,7 @@ use Rattle.bufr_tables.specs.Cells.{cells_of}
 use Rattle.bufr_tables.specs.Passes.{own_places, first_cell, factor_cells}
 use Rattle.bufr_tables.specs.Expansion.{ExpandedPart, part, with_places, ◌>>=◌}
 
--- the cells so far, how many groups are open behind them, the most that were open together, and
+-- the cells so far, how many groups are open after them, and the most that were open together; and
 -- whether a node of the innermost open list takes bits
 pub record BuilderModel : Type 0 where
   pub cells : List Cell
@@ -27,24 +27,24 @@ growth cells groups deep full = record { cells = cells; groups = groups; deep = 
 abbrev pub places_so_far : BuilderModel → ℕ
 places_so_far g = length g.cells + g.groups + 1
 
--- with a tree laid out behind the cells
+-- with a tree flattened after the cells
 abbrev pub push_tree : BuilderModel → Tree → BuilderModel
 push_tree g tree =
     growth (g.cells ++ cells_of tree (length g.cells) []) g.groups
     (max g.deep (g.groups + depth tree))
     (g.full || consumes tree)
 
--- with an element or operator behind the cells, where a place is left
+-- with an element or operator after the cells, where a place is left
 abbrev pub with_cell : BuilderModel → ℕ → Tree → Result BuilderModel TemplateFault
 with_cell g d node = with_places (places_so_far g) 1 d >>= λ _. Ok (push_tree g node)
 
--- with a group begun behind the cells, the place behind it not known yet
+-- with a group begun after the cells, the place after it not known yet
 abbrev pub with_open_group : BuilderModel → Passes → BuilderModel
 with_open_group g passes =
     growth (g.cells ++ first_cell passes 0 ∷ factor_cells passes) (g.groups + 1)
     (max g.deep (g.groups + 1)) false
 
--- with the innermost group ended, whose first cell stands at a place
+-- with the innermost group ended, whose first cell is at a place
 abbrev pub with_closed_group : BuilderModel → ℕ → Passes → BuilderModel
 with_closed_group g place passes =
     growth (slice_set (g.cells ++ cell.PassEnd ∷ []) place (first_cell passes (length g.cells + 1)))
@@ -54,7 +54,7 @@ with_closed_group g place passes =
 abbrev pub IsFaultOrMemory : {A : Type 0} → Result A TemplateFault → TemplateFault → Type 0
 IsFaultOrMemory defined why = why ≢ fault.Memory → defined ≡ Err why
 
--- the tree that is defined has been put behind what had grown
+-- the tree that is defined has been put after what had grown
 pub record PushesTree (old : BuilderModel) (defined : Result Tree TemplateFault)
     (new : BuilderModel) : Type 0 where
   pub tree : Tree
@@ -66,7 +66,7 @@ abbrev pub PushesTreeUnlessMemory : BuilderModel → Result Tree TemplateFault
 PushesTreeUnlessMemory old defined (Ok done) new = PushesTree old defined new
 PushesTreeUnlessMemory old defined (Err why) new = IsFaultOrMemory defined why
 
--- the part that is defined has been put behind what had grown, and has taken so many descriptors
+-- the part that is defined has been put after what had grown, and has taken so many descriptors
 pub record PushesPart (old : BuilderModel) (defined : Result ExpandedPart TemplateFault) (taken : ℕ)
     (new : BuilderModel) : Type 0 where
   pub tree : Tree
@@ -84,7 +84,7 @@ abbrev pub GivesGrowth : Result BuilderModel TemplateFault
 GivesGrowth defined (Ok done) new = defined ≡ Ok new
 GivesGrowth defined (Err why) new = IsFaultOrMemory defined why
 
--- a group has been begun behind what had grown, its places were left, and its first cell stands at
+-- a group has been begun after what had grown, its places were left, and its first cell is at
 -- a place
 pub record OpensGroup (old : BuilderModel) (passes : Passes) (d place : ℕ)
     (new : BuilderModel) : Type 0 where

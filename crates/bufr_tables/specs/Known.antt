@@ -5,7 +5,7 @@ use Rattle.bufr_tables.specs.Operators.{gives_width}
 use Rattle.bufr_tables.specs.Tree.{Tree, bare, element, operator, fixed, delayed}
 
 -- every factor is known, and every element but one whose width the operator before it gives;
--- whether one stands before the first node is told
+-- whether one comes before the first node is said
 abbrev pub IsKnownAfter : (known : ℕ → Bool) → (width_given : Bool) → Tree → Type 0
 IsKnownAfter known width_given bare = Unit {0}
 IsKnownAfter known width_given (element fxy rest) =

@@ -16,7 +16,7 @@ is_element_first (fixed count body rest) = false
 is_element_first (delayed factor body rest) = false
 
 -- elements have F = 0 and factors are replication factors; operators have F = 2 and are those that
--- a template may hold, with their operands; one that gives a width stands before an element
+-- a template may hold, with their operands; one that gives a width comes before an element
 abbrev pub IsLegal : Tree → Type 0
 IsLegal bare = Unit {0}
 IsLegal (element fxy rest) = (f_of fxy ≡ 0) × IsLegal rest

@@ -34,13 +34,13 @@ pub mod MemberRow
 pub mod Chain
 -- what the search for a cycle knows as it goes on
 pub mod Cycle
--- a template laid out in cells, and read back from them
+-- a template flattened to cells, and read back from them
 pub mod Cells
 -- how an expander's tables make it expand
 pub mod Expander
--- the tree that a list of descriptors stands for, or the first fault
+-- the tree that a list of descriptors means, or the first fault
 pub mod Expansion
--- what the cells in the making of the code stand for
+-- what the cells in the making of the code mean
 pub mod Growing
 -- cells in the making: how a tree adds to them
 pub mod Growth
@@ -56,7 +56,7 @@ pub mod Operators
 pub mod Passes
 -- that every group of a template, and the whole, takes bits
 pub mod Sound
--- what Tables B and D tell the expansion
+-- what Tables B and D say to the expansion
 pub mod TemplateTables
 -- templates that are asked for again: by which tables, and the list that is kept
 pub mod Templates

@@ -5,7 +5,7 @@ use Rattle.std.specs.Prelude.{ℕ, ◌+◌, ◌-◌, ◌*◌, ◌^◌, ◌==◌,
 use Rattle.std.specs.Char.{is_ascii_digit}
 use Rattle.std.specs.List.{list_all}
 
--- the number that digits write, behind a number that was written before them
+-- the number that digits write, after a number that was written before them
 abbrev pub number_after_digits : ℕ → List ℕ → ℕ
 number_after_digits n [] = n
 number_after_digits n (digit ∷ digits) = number_after_digits (10 * n + (digit - 48)) digits

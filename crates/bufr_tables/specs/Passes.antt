@@ -1,4 +1,4 @@
--- The two kinds of groups: of a fixed count, and of as many passes as a factor tells.
+-- The two kinds of groups: of a fixed count, and of as many passes as a factor says.
 -- Cited by private steps only.
 use Rattle.std.specs.Prelude.{ℕ, List, [], ◌∷◌}
 use Rattle.bufr_tables.specs.declared.template.cell.Cell.{Cell}
@@ -17,7 +17,7 @@ abbrev pub group_of : Passes → Tree → Tree
 group_of (passes.Fixed count) body = fixed count body bare
 group_of (passes.Delayed factor) body = delayed factor body bare
 
--- its first cell, where this place is behind its end
+-- its first cell, where this place is after its end
 abbrev pub first_cell : Passes → ℕ → Cell
 first_cell (passes.Fixed count) after = cell.Fixed count after
 first_cell (passes.Delayed factor) after = cell.Delayed after

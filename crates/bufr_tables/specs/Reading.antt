@@ -12,17 +12,17 @@ use Rattle.bufr_tables.specs.Records.{Record}
 use Rattle.bufr_tables.specs.Table.{has_header}
 use Rattle.bufr_tables.specs.declared.records.RecordReader.{RecordReader}
 
--- the octets behind the records that were given
+-- the octets after the records that were given
 abbrev pub text_left : Reader (Bor (List ℕ)) → Option (List ℕ)
 text_left reader = source_of (λ s. Some s.now) reader
 
 -- the records of these octets, from a state of the reader
-abbrev pub records_behind : State → Option (List ℕ) → List Record
-records_behind state None = []
-records_behind state (Some text) = records_from default_config (length text + 1) state text
+abbrev pub records_after : State → Option (List ℕ) → List Record
+records_after state None = []
+records_after state (Some text) = records_from default_config (length text + 1) state text
 
 abbrev pub records_left : RecordReader → List Record
-records_left r = records_behind (reader_state r.reader) (text_left r.reader)
+records_left r = records_after (reader_state r.reader) (text_left r.reader)
 
 -- how many octets there are, where they are known
 abbrev pub count_of : Option (List ℕ) → ℕ
@@ -32,7 +32,7 @@ count_of (Some text) = length text
 abbrev pub octets_left : RecordReader → ℕ
 octets_left r = count_of (text_left r.reader)
 
--- the reader stands between two records
+-- the reader is between two records
 pub record IsBetween (r : RecordReader) : Type 0 where
   pub config : reader_config r.reader ≡ default_config
   pub trim : reader_trim r.reader ≡ trim.None
@@ -53,7 +53,7 @@ pub record GivesNext (old new : RecordReader) (found : Bool) : Type 0 where
   pub between : found ≡ true → IsBetween new
   pub fewer : found ≡ true → octets_left new < octets_left old
 
--- a reader stands behind the header, which is record 1
+-- a reader is after the header, which is record 1
 pub record IsOpened (names : List (List ℕ)) (records : List Record)
     (r : RecordReader) : Type 0 where
   pub between : IsBetween r
@@ -61,6 +61,6 @@ pub record IsOpened (names : List (List ℕ)) (records : List Record)
   pub header : has_header names records ≡ true
   pub rest : records_left r ≡ drop 1 records
 
--- texts behind references
+-- texts after references
 abbrev pub field_texts : List (Bor (List ℕ)) → List (List ℕ)
 field_texts texts = map (λ text. text.now) texts

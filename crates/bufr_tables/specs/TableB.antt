@@ -117,8 +117,9 @@ row_of r = do
       }
   only_if (is_valid_factor (factor_width fxy) row) row
 
--- the limits of each row of a table: a plain name and unit, the kind that the unit says, a scale
--- and a width that such an element may have, and for a factor of delayed replications its own width
+-- the limits of each row of a table: a plain name and unit, and the kind that the unit says; a
+-- scale and a width that such an element may have; for a factor of delayed replications its own
+-- width
 pub record IsRow (row : Row) : Type 0 where
   pub name : is_name row.name ≡ true
   pub unit : is_name row.unit ≡ true
@@ -151,7 +152,7 @@ table_b_of records = table_of columns_b with_record_b [] records
 pub record AreRows (records : List Record) (table : List Row) : Type 0 where
   pub first : Record
   pub rest : List Record
-  pub stands : records ≡ first ∷ rest
+  pub split : records ≡ first ∷ rest
   pub named : has_fields columns_b first ≡ true
   pub rows : map row_of rest ≡ map Some table
   pub distinct : IsDistinct nat_eq (map (λ row. row.fxy) table)

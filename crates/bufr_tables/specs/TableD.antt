@@ -62,7 +62,7 @@ extended [] member = []
 extended (s ∷ []) member = record { fxy = s.fxy; members = s.members ++ member ∷ [] } ∷ []
 extended (s ∷ t ∷ rest) member = s ∷ extended (t ∷ rest) member
 
--- the rows of one sequence stand together: a row belongs to the last sequence, or begins one
+-- the rows of one sequence are together: a row belongs to the last sequence, or begins one
 unfoldable pub added : List Sequence → Member → List Sequence
 added table row =
     if is_last table row.sequence then extended table row.fxy
@@ -74,7 +74,7 @@ abbrev pub begins_again : List Sequence → Member → Bool
 begins_again table row = not (is_last table row.sequence) && is_some (members_of table row.sequence)
 
 -- the sequences so far with the row of record n, or what is at fault with this record; n - 2 rows
--- stand before it
+-- are before it
 -- rule: fault-44
 abbrev pub with_member : ℕ → List Sequence → Option Member → Result (List Sequence) TableFault
 with_member n table None = Err (RowFault n)
@@ -100,7 +100,7 @@ members_in (row ∷ rows) fxy =
 pub record AreSequences (records : List Record) (table : List Sequence) : Type 0 where
   pub first : Record
   pub rest : List Record
-  pub stands : records ≡ first ∷ rest
+  pub split : records ≡ first ∷ rest
   pub named : has_fields columns_d first ≡ true
   pub rows : List Member
   pub written : map member_of rest ≡ map Some rows

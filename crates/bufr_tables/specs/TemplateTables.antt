@@ -1,4 +1,4 @@
--- What Tables B and D tell the expansion.
+-- What Tables B and D say to the expansion.
 -- Cited by public contracts.
 use Rattle.std.specs.Prelude.{List, is_some}
 use Rattle.bufr_tables.specs.TableB.{Row, entry_of}

@@ -14,10 +14,10 @@ pub record ListByTables : Type 0 where
   pub table_d : List Sequence
   pub list : List ℕ
 
--- an answer is what a list of descriptors stands for, no template is too long, and no fault is
+-- an answer is what a list of descriptors means, no template is too long, and no fault is
 -- want of memory
 pub record IsAnswer (tables : Tables) (list : List ℕ)
     (answer : Result Tree TemplateFault) : Type 0 where
   pub is_defined : tree_of tables list ≡ answer
   pub within : IfOk answer (λ template. places template ≤ 65535)
-  pub told : IfErr answer (λ why. why ≢ Memory)
+  pub reported : IfErr answer (λ why. why ≢ Memory)

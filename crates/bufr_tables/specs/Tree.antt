@@ -13,7 +13,7 @@ pub data Tree : Type 0 where
   fixed : (count : ℕ) → (body rest : Tree) → Tree
   delayed : (factor : ℕ) → (body rest : Tree) → Tree
 
--- the nodes of one list, and behind them those of another
+-- the nodes of one list, and after them those of another
 abbrev pub join : Tree → Tree → Tree
 join bare more = more
 join (element fxy rest) more = element fxy (join rest more)

@@ -6,7 +6,7 @@ use Rattle.std.proofs.Common.{◌∙◌, ap}
 use Rattle.std.specs.Coded.{Coded, code_by, coded×, coded_ℕ, coded_list}
 use Rattle.bufr_tables.specs.Tree.{Tree, bare, element, operator, fixed, delayed}
 
--- a tree in front of what is written already: each node as its kind and its number, a body before
+-- a tree before what is written already: each node as its kind and its number, a body before
 -- the rest
 abbrev pub tree_code_onto : Tree → List (ℕ × ℕ) → List (ℕ × ℕ)
 tree_code_onto bare more = (0, 0) ∷ more
@@ -17,7 +17,7 @@ tree_code_onto (fixed count body rest) more = (3, count)
 tree_code_onto (delayed factor body rest) more = (4, factor)
     ∷ tree_code_onto body (tree_code_onto rest more)
 
--- one kind and number, put on the trees that were read behind it
+-- one kind and number, put on the trees that were read after it
 abbrev pub put : ℕ → ℕ → List Tree → List Tree
 put zero n trees = bare ∷ trees
 put (suc zero) n (rest ∷ trees) = element n rest ∷ trees

@@ -89,7 +89,7 @@ fn reaches_itself(alloc: Global, table: &TableD, sequence: Fxy) -> Result<bool, 
     Ok(seen[usize::from(sequence.word())])
 }
 
-/// Puts the members of a sequence that are sequences behind the queue, but for those that were
+/// Puts the members of a sequence that are sequences after the queue, but for those that were
 /// seen.
 fn visit(
     table: &TableD,

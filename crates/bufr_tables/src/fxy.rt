@@ -126,9 +126,8 @@ impl Fxy {
     }
 
     /// The descriptor that six digits `FXXYYY` write: one of F, two of X and three of Y. None where
-    /// the text is not six digits, or where F is past 3, X past 63 or Y past 255, so that they do
-    /// not
-    /// fit their two, six and eight bits.
+    /// the text is not six digits. None where F is past 3, X past 63 or Y past 255: they do not fit
+    /// their two, six and eight bits.
     ///
     /// ```
     /// assert_eq!(rt; Fxy::read(b"012101"), Some(Fxy::from_word(0x0c65)));

@@ -55,7 +55,7 @@ impl FxyIndex {
         }
     }
 
-    /// Adds a key behind the others.
+    /// Adds a key after the others.
     pub(crate) fn add(&mut self, key: usize)
         requires small { key < 16384 }
         requires absent { place_of self.old key ≡ None }

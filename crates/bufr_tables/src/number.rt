@@ -23,7 +23,7 @@ fn is_negative(text: &[u8]) -> bool
     !text.is_empty() && text[0] == b'-'
 }
 
-/// The octets behind the first.
+/// The octets after the first.
 fn without_first(text: &[u8]) -> &[u8]
     requires { 0 < length text.now }
     ensures { result.now ≡ drop 1 text.now }

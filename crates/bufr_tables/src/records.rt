@@ -36,7 +36,7 @@ impl<'a> RecordReader<'a> {
         }
     }
 
-    /// A reader behind the header of a text: a first record of these fields.
+    /// A reader after the header of a text: a first record of these fields.
     pub(crate) fn open(
         alloc: Global,
         text: &'a [u8],

@@ -200,7 +200,7 @@ impl<'a> SelectedTemplate<'a> {
         // The answer is what is defined.
         ensures answer { tree_of (tables_of self.now.table_b self.now.table_d)
             self.now.list ≡ result.now }
-        ensures told { IfErr result.now (λ why. why ≢ TemplateFault.Memory) }
+        ensures reported { IfErr result.now (λ why. why ≢ TemplateFault.Memory) }
         // What the walk over a template relies on, as of one that is built.
         ensures leaves { IfOk result.now
             (λ template. ListsLeaves (members_of self.now.table_d) self.now.list

@@ -352,11 +352,11 @@ impl TableB {
 
     /// Reads Table B from the octets of a CSV file.
     ///
-    /// Its header is `fxy,name,unit,scale,reference,width`. Each further record is one element:
-    /// `fxy` six digits of an element, name and unit at most 512 octets without control characters,
-    /// the others whole numbers, in the limits that [`Entry`] states. The factors of delayed
-    /// replications, 031000, 031001 and 031002, must be unsigned numbers of 1, 8 and 16 bits with
-    /// scale and reference 0.
+    /// Its header is `fxy,name,unit,scale,reference,width`. Each further record is one element.
+    /// `fxy` is six digits of an element. Name and unit have at most 512 octets without control
+    /// characters. The others are whole numbers, in the limits that [`Entry`] states. The factors
+    /// of delayed replications, 031000, 031001 and 031002, must be unsigned numbers of 1, 8 and 16
+    /// bits with scale and reference 0.
     ///
     /// # Errors
     ///

@@ -14,7 +14,7 @@ impl TableD {
     /// Reads Table D from the octets of a CSV file.
     ///
     /// Its header is `fxy,member`. Each further record is one member of a sequence: `fxy` six
-    /// digits of a sequence, `member` six digits of any descriptor. The rows of one sequence stand
+    /// digits of a sequence, `member` six digits of any descriptor. The rows of one sequence are
     /// together, in the order of its members. There are at most 65,536 rows.
     ///
     /// # Errors

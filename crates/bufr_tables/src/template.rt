@@ -1,5 +1,5 @@
 //! Templates: descriptor lists expanded to a tree (WMO-No. 306, Volume I.2, FM 94: section 3,
-//! Tables C and D), which is laid out in cells.
+//! Tables C and D), which is flattened to cells.
 ghost use Rattle.std.specs.Prelude.{◌≡◌, ◌≢◌, ◌≤◌, length, Ok, Err, IfOk, IfErr, is_some};
 ghost use Rattle.bufr_tables.specs.TableB.{entry_of};
 ghost use Rattle.bufr_tables.specs.TableD.{members_of};
@@ -33,9 +33,9 @@ use std::marker::Model;
 /// The most groups and sequences that may be open together.
 const MAX_OPEN: u32 = 32;
 
-/// A template: the tree of elements, operators and groups that a list of descriptors stands for,
-/// sequences replaced by their members (WMO-No. 306, Volume I.2, FM 94: section 3, Table D), laid
-/// out in cells. A clause sees it as that tree.
+/// A template: the tree of elements, operators and groups that a list of descriptors means,
+/// sequences replaced by their members (WMO-No. 306, Volume I.2, FM 94: section 3, Table D),
+/// written out in cells. A clause sees it as that tree.
 ///
 /// Some node of each group's body, and of the whole, takes bits of the data, so that a pass of a
 /// group is never free.
@@ -61,12 +61,12 @@ impl Model for Template {
 }
 
 impl Template {
-    /// Expands a list of descriptors, depth first, from left to right, and lays the tree out in
+    /// Expands a list of descriptors, depth first, from left to right, and flattens the tree to
     /// cells.
     ///
     /// At most 32 groups and sequences are open together, and a template takes at most 65,535
-    /// places ([`Template::places`] counts them), so a list that would expand to more is refused
-    /// after that many.
+    /// places ([`Template::places`] counts them). A list that would expand to more is refused after
+    /// that many.
     ///
     /// ```
     /// let descriptors = [Fxy::from_word(0x0101)]; // 0 01 001
@@ -80,7 +80,7 @@ impl Template {
     ///
     /// - at a replication 1 X Y: [`TemplateFault::GroupShape`] where X is 0;
     ///   [`TemplateFault::NoFactor`] where Y is 0 and no factor follows (0 31 000, 0 31 001 or
-    ///   0 31 002), [`TemplateFault::UnknownElement`] with the factor where Table B lacks it;
+    ///   0 31 002); [`TemplateFault::UnknownElement`] with the factor where Table B lacks it;
     ///   [`TemplateFault::GroupShape`] where fewer than X descriptors are left in the same list,
     ///   the factor not among them; then [`TemplateFault::Depth`], [`TemplateFault::TemplateSize`],
     ///   the faults of its body, and [`TemplateFault::EmptyGroup`] where no node of the body takes
@@ -88,7 +88,7 @@ impl Template {
     /// - at a sequence: [`TemplateFault::UnknownSequence`] where Table D lacks it, then
     ///   [`TemplateFault::Depth`], then the faults of its members;
     /// - at an element: [`TemplateFault::UnknownElement`] where Table B lacks it, unless 2 06 Y
-    ///   stands before it; then [`TemplateFault::TemplateSize`];
+    ///   is before it; then [`TemplateFault::TemplateSize`];
     /// - at an operator: [`TemplateFault::Operator`] where it, or its operand, is none that a
     ///   template may hold; [`TemplateFault::LocalShape`] where 2 06 Y is not followed by an
     ///   element in the same list; then [`TemplateFault::TemplateSize`];
@@ -138,8 +138,8 @@ impl Template {
         Ok(Template { cells, depth })
     }
 
-    /// How many places it takes, from 2 to 65,535: one for its end, one for each element and
-    /// operator, two for a group of a fixed count and three for a delayed group, its factor among
+    /// How many places it takes, from 2 to 65,535: one for its end, and one for each element and
+    /// operator. A group of a fixed count takes two, and a delayed group three, its factor among
     /// them. Takes no memory.
     pub fn places(&self) -> u32
         ensures value { result ≡ places_of self.now }
@@ -156,11 +156,11 @@ impl Template {
         self.depth
     }
 
-    /// Its cells in the order of the data, as many as [`Template::places`] tells. The cells of a
+    /// Its cells in the order of the data, as many as [`Template::places`] says. The cells of a
     /// group are [`Cell::Fixed`], or [`Cell::Delayed`] and [`Cell::Factor`], then those of its
     /// body, then [`Cell::PassEnd`]; the last cell is [`Cell::Finish`]. Takes no memory.
     pub fn cells(&self) -> &[Cell]
-        ensures laid { AreCellsOf result.now self.now }
+        ensures flattened { AreCellsOf result.now self.now }
         ensures count { length result.now ≡ places_of self.now }
     {
         self.cells.as_slice()

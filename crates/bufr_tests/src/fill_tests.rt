@@ -142,7 +142,7 @@ fn assert_outcome(rt: &impl Runtime, written: &Result<Vec<u8>, (u8, u64)>, row: 
 fn plain_laws() {
     law::plain_data_round_trip();
     law::written_plain_data_are_read();
-    law::plain_data_are_told_by_what_is_said();
+    law::plain_data_are_fixed_by_what_is_said();
     law::alike_drafts_have_the_same_plain_data();
     law::plain_walk_writes_as_defined();
     law::plain_fault_is_as_defined();
@@ -152,7 +152,7 @@ fn plain_laws() {
 fn packed_laws() {
     law::packed_data_round_trip();
     law::written_packed_data_are_read();
-    law::packed_data_are_told_by_what_is_said();
+    law::packed_data_are_fixed_by_what_is_said();
     law::alike_drafts_have_the_same_packed_data();
     law::fitting_items_are_packed_with_the_least_k();
     law::items_are_packed_with_the_least_k();

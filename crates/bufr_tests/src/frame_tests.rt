@@ -221,7 +221,7 @@ fn a_long_message_is_held(rt: HostRuntime) {
 
 #[test]
 fn laws() {
-    law::open_scan_is_front();
+    law::open_scan_is_prefix();
     law::events_to_the_end_are_the_scan();
     law::events_before_the_end_are_certain();
     law::events_at_a_fault_are_the_open_scan();
@@ -234,7 +234,7 @@ fn laws() {
     law::even_sections_are_written_no_longer();
     law::written_again_is_not_too_long();
     law::heads_of_messages_can_be_written();
-    law::even_payloads_are_laid_out_alike();
+    law::even_payloads_have_one_layout();
     law::shorter_payloads_make_no_longer_messages();
     law::plain_messages_are_written_again();
 }

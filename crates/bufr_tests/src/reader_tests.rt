@@ -417,14 +417,14 @@ fn reader_laws() {
     law::dump_text_is_one_document();
     law::documents_are_proper();
     law::lines_are_those_of_the_documents();
-    law::open_documents_are_front();
+    law::open_documents_are_prefix();
     law::calls_compose();
-    law::documents_told_are_the_first();
-    law::documents_told_are_the_first_open();
-    law::documents_told_are_the_documents();
-    law::documents_told_are_the_open_documents();
+    law::documents_reported_are_the_first();
+    law::documents_reported_are_the_first_open();
+    law::documents_reported_are_the_documents();
+    law::documents_reported_are_the_open_documents();
     law::none_comes_again();
-    law::octets_behind_the_lines_are_held();
+    law::octets_after_the_lines_are_held();
 }
 
 /// A thousand documents are read one after another, and the end comes again.

@@ -313,8 +313,8 @@ fn readings_of_messages(rt: HostRuntime) {
     }
 }
 
-/// A name, subsets, flags, descriptors, the first two octets of the data and how many there are,
-/// what reading gives, and how many subsets and items are shown.
+/// A name, subsets, flags, descriptors, the first two octets of the data and how many there are.
+/// Then what reading gives, and how many subsets and items are shown.
 #[rattlefmt::skip]
 const LIMITS: &[(&str, u16, u8, &str, ([u8; 2], usize), &str, Option<(u64, u64)>)] = &[
     ("one_item_too_many", 65535, PACKED, "101000 031002 001001", ([0x08, 0x00], 3330),

@@ -89,11 +89,11 @@ block_canonical = record {
   bits = (λ h. h, tt);
 }
 
--- With a bit behind its data the message is accepted, and is not as an encoder writes it.
+-- With a bit after its data the message is accepted, and is not as an encoder writes it.
 -- rule: bits-left-over
-bit_behind_accepted : IsAccepted the_table [] (one_block_number 0x15) (its_sections 0x15) (element 257 bare) block_number 7
+bit_after_accepted : IsAccepted the_table [] (one_block_number 0x15) (its_sections 0x15) (element 257 bare) block_number 7
 unfolding the_table the_head message one_block_number its_sections block_number sections_of section_end tree_of level part_of inner_of next_item bits_of bits_in
-bit_behind_accepted = record {
+bit_after_accepted = record {
   octets = search arith;
   few = omega arith;
   sections = refl;
@@ -102,9 +102,9 @@ bit_behind_accepted = record {
 }
 
 -- rule: canonical
-bit_behind_is_not_canonical : IsCanonical (one_block_number 0x15) (its_sections 0x15) block_number 7 → ⊥
+bit_after_is_not_canonical : IsCanonical (one_block_number 0x15) (its_sections 0x15) block_number 7 → ⊥
 unfolding its_sections the_head bits_of
-bit_behind_is_not_canonical c = let with_bit : List ℕ = 0x15 ∷ [] in let without : List ℕ = 0x14 ∷ [] in let e : with_bit ≡ without = c.least in cc
+bit_after_is_not_canonical c = let with_bit : List ℕ = 0x15 ∷ [] in let without : List ℕ = 0x14 ∷ [] in let e : with_bit ≡ without = c.least in cc
 
 -- a temperature in two subsets, of which the second has none: a base of 16 bits, k = 1, and two
 -- increments of one bit

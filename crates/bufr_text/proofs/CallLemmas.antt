@@ -7,7 +7,7 @@ use Rattle.std.proofs.lemmas.List.{nil_from_length}
 use Rattle.bufr_text.specs.Documents.{ParserState, ParseResult, parse_lines, parse_open_lines, lines_of, split_of}
 use Rattle.bufr_text.specs.Dump.{text_of_lines}
 use Rattle.bufr_text.specs.Reading.{has_no_feed, ReaderPosition, ContinuesParse, TakesWholeLines, TakesEndLine}
-use Rattle.bufr_text.specs.Reader.{ReaderModel, stand, position_after, IsMissingFeed, ReadsLines, EndsAtEndLine}
+use Rattle.bufr_text.specs.Reader.{ReaderModel, position_of, position_after, IsMissingFeed, ReadsLines, EndsAtEndLine}
 use Rattle.bufr_text.specs.Filling.{ParsesHeldLines, ReadsMoreText}
 use Rattle.bufr_text.proofs.ReadingLemmas.{goes-further, stays, line-held, one-line}
 use Rattle.bufr_text.proofs.TakingLemmas.{text-append, all-append, passes-none}
@@ -26,14 +26,14 @@ passes-end : (at at' at'' : ℕ) (held rest rest' : List ℕ) → TakesWholeLine
 passes-end at at' at'' held rest rest' p q = record {
   line = q.line;
   last = q.last;
-  front = passes-then at at' q.line held rest (q.last ++ 10 ∷ rest') p q.front;
+  prefix = passes-then at at' q.line held rest (q.last ++ 10 ∷ rest') p q.prefix;
   single = q.single;
   closes = q.closes;
   counted = q.counted;
 }
 
-pub closes-then : (left left' : Option (List ℕ)) (old s s' : ReaderModel) (told : List ParseResult) (bs : List ℕ) → ReadsLines left left' old s told bs → TakesEndLine s.at s.held s'.at s'.held → s'.ended ≡ s.ended → EndsAtEndLine old s' bs
-closes-then left left' old s s' told bs call end ended =
+pub closes-then : (left left' : Option (List ℕ)) (old s s' : ReaderModel) (results : List ParseResult) (bs : List ℕ) → ReadsLines left left' old s results bs → TakesEndLine s.at s.held s'.at s'.held → s'.ended ≡ s.ended → EndsAtEndLine old s' bs
+closes-then left left' old s s' results bs call end ended =
     let feed = call.lines.0 in
     let M : Bool → Type 0 = λ e. IsMissingFeed old.ended e feed in
     (feed, subst M (sym ended) call.lines.1, passes-end old.at s.at s'.at ((old.held ++ bs) ++ feed) s.held s'.held call.lines.2 end)
@@ -65,16 +65,16 @@ goes-more a b x bs e f kept = record {
     still false h = refl
 
 -- the line feeds that two parts of a call lack
-module _ (left mid left' : Option (List ℕ)) (old s s' : ReaderModel) (told told' : List ParseResult) (bs bs' : List ℕ) (one : ReadsLines left mid old s told bs) (two : ReadsLines mid left' s s' told' bs') where
+module _ (left mid left' : Option (List ℕ)) (old s s' : ReaderModel) (results results' : List ParseResult) (bs bs' : List ℕ) (one : ReadsLines left mid old s results bs) (two : ReadsLines mid left' s s' results' bs') where
   whole : old.held ++ (bs ++ bs') ≡ (old.held ++ bs) ++ bs'
   whole = sym (append_assoc old.held bs bs')
 
-  goes : ContinuesParse (position_after old (bs ++ bs')) (stand s') (told ++ told')
+  goes : ContinuesParse (position_after old (bs ++ bs')) (position_of s') (results ++ results')
   goes =
-      let G : List ℕ → Type 0 = λ h. ContinuesParse (record { at = old.at; place = old.place; held = h; ended = old.ended }) (stand s') (told ++ told') in
+      let G : List ℕ → Type 0 = λ h. ContinuesParse (record { at = old.at; place = old.place; held = h; ended = old.ended }) (position_of s') (results ++ results') in
       subst G (sym whole)
-      (goes-further (record { at = old.at; place = old.place; held = (old.held ++ bs) ++ bs'; ended = old.ended }) (position_after s bs') (stand s') told told' (λ e. (two.kept e).0)
-      (goes-more (position_after old bs) (stand s) told bs' s.ended one.goes (λ e. (e, (two.kept e).1))) two.goes)
+      (goes-further (record { at = old.at; place = old.place; held = (old.held ++ bs) ++ bs'; ended = old.ended }) (position_after s bs') (position_of s') results results' (λ e. (two.kept e).0)
+      (goes-more (position_after old bs) (position_of s) results bs' s.ended one.goes (λ e. (e, (two.kept e).1))) two.goes)
 
   -- the end was not reached before, or nothing more came
   lines-open : one.lines.0 ≡ [] → (feed : List ℕ) × IsMissingFeed old.ended s'.ended feed × TakesWholeLines old.at ((old.held ++ (bs ++ bs')) ++ feed) s'.at s'.held
@@ -137,7 +137,7 @@ module _ (left mid left' : Option (List ℕ)) (old s s' : ReaderModel) (told tol
       some-feed : ◌≡◌ {A = List ℕ} (10 ∷ []) [] → ⊥
       some-feed h = omega (arith, ap length h)
 
-  pub call-then : ReadsLines left left' old s' (told ++ told') (bs ++ bs')
+  pub call-then : ReadsLines left left' old s' (results ++ results') (bs ++ bs')
   call-then = record {
     read = Consumes-trans left mid left' bs bs' one.read two.read;
     order = omega (arith, one.order, two.order);
@@ -154,13 +154,13 @@ module _ (left mid left' : Option (List ℕ)) (old s s' : ReaderModel) (told tol
 
 pub call-none : (left : Option (List ℕ)) (s : ReaderModel) → ReadsLines left left s s [] []
 call-none left s =
-    let G : List ℕ → Type 0 = λ h. ContinuesParse (record { at = s.at; place = s.place; held = h; ended = s.ended }) (stand s) [] in
+    let G : List ℕ → Type 0 = λ h. ContinuesParse (record { at = s.at; place = s.place; held = h; ended = s.ended }) (position_of s) [] in
     let P : List ℕ → Type 0 = λ h. TakesWholeLines s.at h s.at s.held in
     record {
       read = Consumes-nil left;
       order = omega arith;
       few = omega arith;
-      goes = subst G (sym (append-nil s.held)) (stays (stand s));
+      goes = subst G (sym (append-nil s.held)) (stays (position_of s));
       lines = ([], inl refl, subst P (sym (append-nil (s.held ++ []) ∙ append-nil s.held)) (passes-none s.at s.held));
       kept = λ e. (e, refl, refl);
       end = λ before. before;
@@ -168,24 +168,24 @@ call-none left s =
     }
 
 -- lines that are taken
-pub takes-call : (left : Option (List ℕ)) (s s' : ReaderModel) (told : List ParseResult) → ParsesHeldLines s s' told → s'.ended ≡ s.ended → s'.reads ≡ s.reads → ReadsLines left left s s' told []
-takes-call left s s' told tells ended reads =
-    let G : List ℕ → Type 0 = λ h. ContinuesParse (record { at = s.at; place = s.place; held = h; ended = s.ended }) (stand s') told in
+pub takes-call : (left : Option (List ℕ)) (s s' : ReaderModel) (results : List ParseResult) → ParsesHeldLines s s' results → s'.ended ≡ s.ended → s'.reads ≡ s.reads → ReadsLines left left s s' results []
+takes-call left s s' results reports ended reads =
+    let G : List ℕ → Type 0 = λ h. ContinuesParse (record { at = s.at; place = s.place; held = h; ended = s.ended }) (position_of s') results in
     let P : List ℕ → Type 0 = λ h. TakesWholeLines s.at h s'.at s'.held in
     record {
       read = Consumes-nil left;
       order = omega (arith, reads);
       few = omega arith;
-      goes = subst G (sym (append-nil s.held)) tells.goes;
-      lines = ([], inl refl, subst P (sym (append-nil (s.held ++ []) ∙ append-nil s.held)) tells.passes);
+      goes = subst G (sym (append-nil s.held)) reports.goes;
+      lines = ([], inl refl, subst P (sym (append-nil (s.held ++ []) ∙ append-nil s.held)) reports.passes);
       kept = λ e. (ended ∙ e, refl, reads);
       end = λ before e. before (sym ended ∙ e);
       fed = λ before e _. absurd (true≢false (sym e ∙ ended ∙ before));
     }
 
 module _ (left left' : Option (List ℕ)) (s s' : ReaderModel) (bs : List ℕ) (read : ReadsMoreText left left' s s' (Ok tt) bs) (open' : s.ended ≡ false) (clean : has_no_feed s.held ≡ true) where
-  same-stand : (h : List ℕ) (t : List ℕ) → parse_lines s.at s.place (lines_of (h ++ t)) ≡ parse_lines s'.at s'.place (lines_of (h ++ t))
-  same-stand h t = ap (λ (k : ℕ). parse_lines k s.place (lines_of (h ++ t))) (sym read.at) ∙ ap (λ (p : ParserState). parse_lines s'.at p (lines_of (h ++ t))) (sym read.place)
+  same-hold : (h : List ℕ) (t : List ℕ) → parse_lines s.at s.place (lines_of (h ++ t)) ≡ parse_lines s'.at s'.place (lines_of (h ++ t))
+  same-hold h t = ap (λ (k : ℕ). parse_lines k s.place (lines_of (h ++ t))) (sym read.at) ∙ ap (λ (p : ParserState). parse_lines s'.at p (lines_of (h ++ t))) (sym read.place)
 
   -- the line feed that the last line lacks makes no difference
   held-lines : (t : List ℕ) → (s'.ended ≡ true → t ≡ []) → ((read.feed ≡ []) ⊎ ((s'.ended ≡ true) × (read.feed ≡ 10 ∷ []) × (0 < length s.held))) → lines_of ((s.held ++ bs) ++ t) ≡ lines_of (((s.held ++ bs) ++ read.feed) ++ t)
@@ -216,7 +216,7 @@ module _ (left left' : Option (List ℕ)) (s s' : ReaderModel) (bs : List ℕ) (
         order = omega (arith, read.ends.0);
         few = omega (arith, read.few, read.ends.0);
         goes = record {
-          whole = λ t none. ap (parse_lines s.at s.place) (held-lines t none read.missing) ∙ ap (λ (z : List ℕ). parse_lines s.at s.place (lines_of (z ++ t))) (sym read.held) ∙ same-stand s'.held t;
+          whole = λ t none. ap (parse_lines s.at s.place) (held-lines t none read.missing) ∙ ap (λ (z : List ℕ). parse_lines s.at s.place (lines_of (z ++ t))) (sym read.held) ∙ same-hold s'.held t;
           openly = λ unended t.
               ap (λ (z : List ℕ). parse_open_lines s.at s.place (split_of (z ++ t)).whole (split_of (z ++ t)).rest) (no-feed-open unended read.missing)
               ∙ ap (λ (k : ℕ). parse_open_lines k s.place (split_of (s'.held ++ t)).whole (split_of (s'.held ++ t)).rest) (sym read.at)

@@ -30,7 +30,7 @@ use Rattle.bufr_frame.specs.Layout.{with_even_length, message_octets, message_si
 use Rattle.bufr_frame.specs.Layout as layout
 use Rattle.bufr_frame.specs.Sections.{Sections}
 use Rattle.bufr_frame.proofs.AgainLemmas.{not-too-long, written-again}
-use Rattle.bufr_frame.proofs.EvenLemmas.{even-least, laid-even}
+use Rattle.bufr_frame.proofs.EvenLemmas.{even-least, written-even}
 use Rattle.bufr_frame.proofs.LayoutLemmas.{length-evened}
 use Rattle.bufr_fill.specs.Packing.{packing}
 use Rattle.bufr_fill.specs.Draft.{Draft}
@@ -59,7 +59,7 @@ same_found a b e = cc
 
 record IsTaken (spec : FieldSpec) (bits mid : List Bool) (c : Content) : Type 0 where
   is : content_in spec (take spec.width bits) ≡ c
-  behind : drop spec.width bits ≡ mid
+  suffix : drop spec.width bits ≡ mid
   enough : length (take spec.width bits) ≡ spec.width
 
 field_taken : (spec : FieldSpec) (bits mid : List Bool) (c : Content) → plain_field spec bits ≡ Ok (found c mid) → IsTaken spec bits mid c
@@ -70,37 +70,37 @@ field_taken spec bits mid c e = by (nat_lt (length bits) spec.width) refl e
 
     by : (b : Bool) → nat_lt (length bits) spec.width ≡ b → (if b then Err data_end else Ok (found (content_in spec (take spec.width bits)) (drop spec.width bits))) ≡ Ok (found c mid) → IsTaken spec bits mid c
     by true p q = absurd cc
-    by false p q = let f = same_found _ _ q in record { is = ap (λ (x : FieldRead Content). x.content) f; behind = ap (λ (x : FieldRead Content). x.behind) f; enough = length-take-le spec.width bits (at (length bits) spec.width p) }
+    by false p q = let f = same_found _ _ q in record { is = ap (λ (x : FieldRead Content). x.content) f; suffix = ap (λ (x : FieldRead Content). x.suffix) f; enough = length-take-le spec.width bits (at (length bits) spec.width p) }
 
 field_bits : (spec : FieldSpec) → IsSpec spec → (bits mid : List Bool) (c : Content) → IsTaken spec bits mid c → (IsMinusZero spec.role (take spec.width bits) → ⊥) → bits ≡ bits_for spec.width c ++ mid
 field_bits spec good bits mid c t plus =
     sym (take-append-drop spec.width bits)
     ∙ ap (λ x. x ++ drop spec.width bits) (sym (same_bits spec good (take spec.width bits) t.enough plus) ∙ ap (bits_for spec.width) t.is)
-    ∙ ap (λ x. bits_for spec.width c ++ x) t.behind
+    ∙ ap (λ x. bits_for spec.width c ++ x) t.suffix
 
 -- ---- the items of one subset
 
--- drafts are written to the bits that stand before what is behind
-record AreFilled {C D E : Type 0} (filler : Filler D C E) (course : Course) (ds : List D) (bits behind : List Bool) : Type 0 where
+-- drafts are written to the bits that come before the rest
+record AreFilled {C D E : Type 0} (filler : Filler D C E) (course : Course) (ds : List D) (bits suffix : List Bool) : Type 0 where
   out : List Bool
   fills : fill filler course ds ≡ Ok out
-  splits : bits ≡ out ++ behind
+  splits : bits ≡ out ++ suffix
 
-items_filled : (line : ℕ) (course : Course) (items : List (Item Content)) (ds : List Draft) (bits behind : List Bool) → AllSpecs items → AreDrafts IsDumped items ds → ReadsPass plain course items bits behind → HaveNoMinusZero items bits → AreFilled (plain_filler line) course ds bits behind
-items_filled line course [] [] bits behind specs drafts h plus = record { out = []; fills = ap (fill_none (plain_filler line)) h.1; splits = h.0 }
-items_filled line course [] (d ∷ ds) bits behind specs drafts h plus = absurd drafts
-items_filled line course (i ∷ items) [] bits behind specs drafts h plus = absurd drafts
-items_filled line course (i ∷ items) (d ∷ ds) bits behind specs drafts h plus =
+items_filled : (line : ℕ) (course : Course) (items : List (Item Content)) (ds : List Draft) (bits suffix : List Bool) → AllSpecs items → AreDrafts IsDumped items ds → ReadsPass plain course items bits suffix → HaveNoMinusZero items bits → AreFilled (plain_filler line) course ds bits suffix
+items_filled line course [] [] bits suffix specs drafts h plus = record { out = []; fills = ap (fill_none (plain_filler line)) h.1; splits = h.0 }
+items_filled line course [] (d ∷ ds) bits suffix specs drafts h plus = absurd drafts
+items_filled line course (i ∷ items) [] bits suffix specs drafts h plus = absurd drafts
+items_filled line course (i ∷ items) (d ∷ ds) bits suffix specs drafts h plus =
     let mid = h.0.0 in
     let t = field_taken i.spec bits mid i.content h.0.2 in
     let w = bits_for i.spec.width i.content in
     let fits = (plain_read i.spec specs.0 bits mid i.content h.0.2).0 in
     let here : (plain_filler line).fills i.spec d ≡ Ok (written_item i.content w) = ap (plainly d.line i.spec) (ap (content_of i.spec) (same_draft i.spec i.content d drafts.0) ∙ draft_again i.spec specs.0 d.line i.content fits) in
-    let rest = items_filled line (after plain course i) items ds mid behind specs.1 drafts.1 (h.0.3, h.1) (subst (HaveNoMinusZero items) t.behind plus.1) in
+    let rest = items_filled line (after plain course i) items ds mid suffix specs.1 drafts.1 (h.0.3, h.1) (subst (HaveNoMinusZero items) t.suffix plus.1) in
     record {
       out = w ++ rest.out;
       fills = join plain (plain_filler line) (λ spec c. refl) course i d ds w rest.out h.0.1 here rest.fills;
-      splits = field_bits i.spec specs.0 bits mid i.content t plus.0 ∙ ap (λ x. w ++ x) rest.splits ∙ sym (append_assoc w rest.out behind);
+      splits = field_bits i.spec specs.0 bits mid i.content t plus.0 ∙ ap (λ x. w ++ x) rest.splits ∙ sym (append_assoc w rest.out suffix);
     }
 
 -- ---- subsets
@@ -109,27 +109,27 @@ first_zeros : (course : Course) (a b : List (Item Content)) (bits mid : List Boo
 first_zeros course [] b bits mid h plus = (tt, subst (HaveNoMinusZero b) h plus)
 first_zeros course (i ∷ a) b bits mid h plus =
     let t = field_taken i.spec bits h.0 i.content h.2 in
-    let rest = first_zeros (after plain course i) a b h.0 mid h.3 (subst (HaveNoMinusZero (a ++ b)) t.behind plus.1) in
-    ((plus.0, subst (HaveNoMinusZero a) (sym t.behind) rest.0), rest.1)
+    let rest = first_zeros (after plain course i) a b h.0 mid h.3 (subst (HaveNoMinusZero (a ++ b)) t.suffix plus.1) in
+    ((plus.0, subst (HaveNoMinusZero a) (sym t.suffix) rest.0), rest.1)
 
-record AreAllFilled (r : Result (List Bool) FaultAt) (bits behind : List Bool) : Type 0 where
+record AreAllFilled (r : Result (List Bool) FaultAt) (bits suffix : List Bool) : Type 0 where
   out : List Bool
   fills : r ≡ Ok out
-  splits : bits ≡ out ++ behind
+  splits : bits ≡ out ++ suffix
 
-subsets_filled : (course : Course) (subsets : List (List (Item Content))) (drafts : List Subset) (bits behind : List Bool) → EachSpecs subsets → AreDumped subsets drafts → ReadsSubsets course subsets bits behind → HaveNoMinusZero (flat_map (λ x. x) subsets) bits → AreAllFilled (plain_data course drafts) bits behind
-subsets_filled course [] [] bits behind specs dumped h plus = record { out = []; fills = refl; splits = h }
-subsets_filled course [] (s ∷ ss) bits behind specs dumped h plus = absurd dumped
-subsets_filled course (items ∷ subsets) [] bits behind specs dumped h plus = absurd dumped
-subsets_filled course (items ∷ subsets) (s ∷ ss) bits behind specs dumped h plus =
+subsets_filled : (course : Course) (subsets : List (List (Item Content))) (drafts : List Subset) (bits suffix : List Bool) → EachSpecs subsets → AreDumped subsets drafts → ReadsSubsets course subsets bits suffix → HaveNoMinusZero (flat_map (λ x. x) subsets) bits → AreAllFilled (plain_data course drafts) bits suffix
+subsets_filled course [] [] bits suffix specs dumped h plus = record { out = []; fills = refl; splits = h }
+subsets_filled course [] (s ∷ ss) bits suffix specs dumped h plus = absurd dumped
+subsets_filled course (items ∷ subsets) [] bits suffix specs dumped h plus = absurd dumped
+subsets_filled course (items ∷ subsets) (s ∷ ss) bits suffix specs dumped h plus =
     let mid = h.0 in
     let zeros = first_zeros course items (flat_map (λ x. x) subsets) bits mid h.1.0 plus in
     let first = items_filled s.end_line course items s.items bits mid specs.0 dumped.0 h.1 zeros.0 in
-    let rest = subsets_filled course subsets ss mid behind specs.1 dumped.1 h.2 zeros.1 in
+    let rest = subsets_filled course subsets ss mid suffix specs.1 dumped.1 h.2 zeros.1 in
     record {
       out = first.out ++ rest.out;
       fills = ap (λ r. r >>= λ x. plain_data course ss >>= λ y. Ok (x ++ y)) first.fills ∙ ap (λ r. r >>= λ y. Ok (first.out ++ y)) rest.fills;
-      splits = first.splits ∙ ap (λ x. first.out ++ x) rest.splits ∙ sym (append_assoc first.out rest.out behind);
+      splits = first.splits ∙ ap (λ x. first.out ++ x) rest.splits ∙ sym (append_assoc first.out rest.out suffix);
     }
 
 -- ---- compressed data
@@ -155,36 +155,36 @@ packed_as spec cs a out e = by (are_many a.place (length a.cells)) (contents_her
     by false (Err why) q = absurd cc
     by false (Ok xs) q = packs_as spec cs a.cells xs out (packing spec xs) refl q
 
-packed_filled : (n line : ℕ) (many : Bool) → 1 ≤ n → (course : Course) (items : List (Item (List Content))) (ds : List ItemRow) (bits behind read left : List Bool) → AllSpecs items → AreDrafts (IsDumpedAcross n) items ds
-    → ReadsPass (packed n) course items read left → ArePacked items bits behind → AreFilled (packed_filler line many) course ds bits behind
-packed_filled n line many some course [] [] bits behind read left specs drafts h c = record { out = []; fills = ap (fill_none (packed_filler line many)) h.1; splits = c }
-packed_filled n line many some course [] (d ∷ ds) bits behind read left specs drafts h c = absurd drafts
-packed_filled n line many some course (i ∷ items) [] bits behind read left specs drafts h c = absurd drafts
-packed_filled n line many some course (i ∷ items) (d ∷ ds) bits behind read left specs drafts h c =
+packed_filled : (n line : ℕ) (many : Bool) → 1 ≤ n → (course : Course) (items : List (Item (List Content))) (ds : List ItemRow) (bits suffix read left : List Bool) → AllSpecs items → AreDrafts (IsDumpedAcross n) items ds
+    → ReadsPass (packed n) course items read left → ArePacked items bits suffix → AreFilled (packed_filler line many) course ds bits suffix
+packed_filled n line many some course [] [] bits suffix read left specs drafts h c = record { out = []; fills = ap (fill_none (packed_filler line many)) h.1; splits = c }
+packed_filled n line many some course [] (d ∷ ds) bits suffix read left specs drafts h c = absurd drafts
+packed_filled n line many some course (i ∷ items) [] bits suffix read left specs drafts h c = absurd drafts
+packed_filled n line many some course (i ∷ items) (d ∷ ds) bits suffix read left specs drafts h c =
     let r = packed_rewritten n line many some i d read h.0.0 specs.0 drafts.0 h.0.2 in
     let same : c.0 ≡ r.out = same_bits_ok c.0 r.out (sym c.2 ∙ packed_as i.spec i.content d r.out r.fills) in
     let here : (packed_filler line many).fills i.spec d ≡ Ok (written_item i.content c.0) = r.fills ∙ ap (λ x. Ok (written_item i.content x)) (sym same) in
-    let rest = packed_filled n line many some (after (packed n) course i) items ds c.1 behind h.0.0 left specs.1 drafts.1 (h.0.3, h.1) c.4 in
+    let rest = packed_filled n line many some (after (packed n) course i) items ds c.1 suffix h.0.0 left specs.1 drafts.1 (h.0.3, h.1) c.4 in
     record {
       out = c.0 ++ rest.out;
       fills = join (packed n) (packed_filler line many) (λ spec x. refl) course i d ds c.0 rest.out h.0.1 here rest.fills;
-      splits = c.3 ∙ ap (λ x. c.0 ++ x) rest.splits ∙ sym (append_assoc c.0 rest.out behind);
+      splits = c.3 ∙ ap (λ x. c.0 ++ x) rest.splits ∙ sym (append_assoc c.0 rest.out suffix);
     }
 
-have_contents : (n : ℕ) (course : Course) (items : List (Item (List Content))) (bits behind : List Bool) → AllSpecs items → ReadsItems (packed n) course items bits behind → HaveContents n items
-have_contents n course [] bits behind specs h = tt
-have_contents n course (i ∷ items) bits behind specs h = (packed_count n i.spec specs.0 i.content bits h.0 h.2, have_contents n (after (packed n) course i) items h.0 behind specs.1 h.3)
+have_contents : (n : ℕ) (course : Course) (items : List (Item (List Content))) (bits suffix : List Bool) → AllSpecs items → ReadsItems (packed n) course items bits suffix → HaveContents n items
+have_contents n course [] bits suffix specs h = tt
+have_contents n course (i ∷ items) bits suffix specs h = (packed_count n i.spec specs.0 i.content bits h.0 h.2, have_contents n (after (packed n) course i) items h.0 suffix specs.1 h.3)
 
-all_packed : (n : ℕ) (course : Course) (items : List (Item (List Content))) (drafts : List Subset) (bits behind : List Bool) → length drafts ≡ n → ((n : ℕ) → ReadsItems (packed n) course items bits behind → AllSpecs items) → AreDumpedFrom 0 items drafts → IsPackedReading n course items bits behind → ArePacked items bits behind
-    → AreAllFilled (packed_data course drafts) bits behind
-all_packed zero course items [] bits behind count specs dumped h c = record { out = []; fills = refl; splits = h.1 }
-all_packed zero course items (s ∷ ss) bits behind count specs dumped h c = absurd (omega (arith, count))
-all_packed (suc n) course items [] bits behind count specs dumped h c = absurd (omega (arith, count))
-all_packed (suc n) course items (s ∷ ss) bits behind count specs dumped h c =
+all_packed : (n : ℕ) (course : Course) (items : List (Item (List Content))) (drafts : List Subset) (bits suffix : List Bool) → length drafts ≡ n → ((n : ℕ) → ReadsItems (packed n) course items bits suffix → AllSpecs items) → AreDumpedFrom 0 items drafts → IsPackedReading n course items bits suffix → ArePacked items bits suffix
+    → AreAllFilled (packed_data course drafts) bits suffix
+all_packed zero course items [] bits suffix count specs dumped h c = record { out = []; fills = refl; splits = h.1 }
+all_packed zero course items (s ∷ ss) bits suffix count specs dumped h c = absurd (omega (arith, count))
+all_packed (suc n) course items [] bits suffix count specs dumped h c = absurd (omega (arith, count))
+all_packed (suc n) course items (s ∷ ss) bits suffix count specs dumped h c =
     let good = specs (suc n) h.0.0 in
-    let rows_are = rows_dumped (suc n) items s ss count (have_contents (suc n) course items bits behind good h.0.0) dumped h.1 in
+    let rows_are = rows_dumped (suc n) items s ss count (have_contents (suc n) course items bits suffix good h.0.0) dumped h.1 in
     let many = are_many (longest (s ∷ ss)) (length (s ∷ ss)) in
-    let f = packed_filled (suc n) s.end_line many (omega arith) course items (rows (longest (s ∷ ss)) 0 (s ∷ ss)) bits behind bits behind good rows_are h.0 c in
+    let f = packed_filled (suc n) s.end_line many (omega arith) course items (rows (longest (s ∷ ss)) 0 (s ∷ ss)) bits suffix bits suffix good rows_are h.0 c in
     record { out = f.out; fills = f.fills; splits = f.splits }
 
 -- ---- the message
@@ -210,8 +210,8 @@ within_data : (table : List Row) (template : Tree) (s : Sections) (values : Valu
 within_data table template s (apart subsets) used h = h.1
 within_data table template s (together items) used h = h.1
 
-front_is : (bits out : List Bool) (used : ℕ) → used ≤ length bits → bits ≡ out ++ drop used bits → out ≡ take used bits
-front_is bits out used few e =
+prefix_is : (bits out : List Bool) (used : ℕ) → used ≤ length bits → bits ≡ out ++ drop used bits → out ≡ take used bits
+prefix_is bits out used few e =
     let l : length out ≡ used = omega (arith, ap length e, length-append out (drop used bits), length-drop used bits, few) in
     sym (ap (take used) e ∙ take_at out (drop used bits) used l)
 
@@ -226,7 +226,7 @@ canonical_encoded table sequences m s template values used at rows legal a c =
     let f = data_filled table template s values used (at + lines_before s) rows legal a.read c.bits in
     let edition = s.head.edition in
     let made = octets_of_bits f.out in
-    let payload : s.payload ≡ with_even_length edition 4 made = c.least ∙ ap (λ (b : List Bool). with_even_length edition 4 (octets_of_bits b)) (sym (front_is bits f.out used (within_data table template s values used a.read) f.splits)) in
+    let payload : s.payload ≡ with_even_length edition 4 made = c.least ∙ ap (λ (b : List Bool). with_even_length edition 4 (octets_of_bits b)) (sym (prefix_is bits f.out used (within_data table template s values used a.read) f.splits)) in
     let same : parts_of_document d made ≡ parts_with s made = parts_back at s items made in
     let short : length made ≤ length s.payload = omega (arith, ap length payload, length-evened edition 4 made, even-least edition (4 + length made)) in
     let most : message_size edition (parts_with s made) ≤ max_octets = size_least s made max_octets short (not-too-long m s a.sections a.few) in
@@ -234,6 +234,6 @@ canonical_encoded table sequences m s template values used at rows legal a c =
     let fills : data_bits (compressed_in d) course (subsets_of d.entries) ≡ Ok f.out = fills_as (compressed_in d) s.compressed course (subsets_of d.entries) f.out (bit_back s.compressed) f.fills in
     encoded_to table sequences d template f.out a.expands fills few
     ∙ ap (λ (p : layout.MessageParts). Ok (message_octets s.head p)) same
-    ∙ ap Ok (sym (laid-even s.head s.local1 s.section2 s.descriptors s.subsets s.observed s.compressed made)
+    ∙ ap Ok (sym (written-even s.head s.local1 s.section2 s.descriptors s.subsets s.observed s.compressed made)
     ∙ ap (λ (o : List ℕ). message_octets s.head (parts_with s o)) (sym payload)
     ∙ written-again m s c.plain a.sections)

@@ -3,7 +3,7 @@ use Rattle.std.proofs.Common.{◌≡◌, ℕ, ◌+◌, ◌==◌, Bool, true, fal
 use Rattle.std.specs.Prelude.{nat_le, not, ◌&&◌, if◌then◌else◌, length}
 use Rattle.bufr_fill.specs.Entries.{Ends}
 use Rattle.bufr_text.specs.Document.{Document, edition_in, optional_in, subsets_in}
-use Rattle.bufr_text.specs.Documents.{ParserState, Between, Heading, Laying, Filling, Stopped, LineEffect, WalkGoes, Gives, Faults, NotAllowed, SubsetCount, HeaderRange, in_range, with_value, with_local1, with_section2, with_entry, turn}
+use Rattle.bufr_text.specs.Documents.{ParserState, Between, Heading, BeforeSubsets, Filling, Stopped, LineEffect, WalkGoes, Gives, Faults, NotAllowed, SubsetCount, HeaderRange, in_range, with_value, with_local1, with_section2, with_entry, turn}
 use Rattle.bufr_text.specs.Line.{Line, Passed, Opens, Header, Local1, Section2, Descriptors, Begins, Item, Closes, Wrong}
 
 -- a turn that gives a document was made by an `end` line
@@ -36,8 +36,8 @@ turn-end at Between Closes = tt
 turn-end at Between Wrong = tt
 turn-end at (Heading d) Passed = tt
 turn-end at (Heading d) Opens = tt
-turn-end at (Heading d) (Header key value) = either-turn (Header key value) (not (key == length d.header)) (Faults NotAllowed) (if not (in_range (edition_in d) key value) then Faults HeaderRange else WalkGoes (if key == 19 then Laying 0 (with_value d value) else Heading (with_value d value))) tt
-    (either-turn (Header key value) (not (in_range (edition_in d) key value)) (Faults HeaderRange) (WalkGoes (if key == 19 then Laying 0 (with_value d value) else Heading (with_value d value))) tt tt)
+turn-end at (Heading d) (Header key value) = either-turn (Header key value) (not (key == length d.header)) (Faults NotAllowed) (if not (in_range (edition_in d) key value) then Faults HeaderRange else WalkGoes (if key == 19 then BeforeSubsets 0 (with_value d value) else Heading (with_value d value))) tt
+    (either-turn (Header key value) (not (in_range (edition_in d) key value)) (Faults HeaderRange) (WalkGoes (if key == 19 then BeforeSubsets 0 (with_value d value) else Heading (with_value d value))) tt tt)
 turn-end at (Heading d) (Local1 octets) = tt
 turn-end at (Heading d) (Section2 octets) = tt
 turn-end at (Heading d) (Descriptors words) = tt
@@ -45,16 +45,16 @@ turn-end at (Heading d) (Begins next) = tt
 turn-end at (Heading d) (Item fxy form) = tt
 turn-end at (Heading d) Closes = tt
 turn-end at (Heading d) Wrong = tt
-turn-end at (Laying part d) Passed = tt
-turn-end at (Laying part d) Opens = tt
-turn-end at (Laying part d) (Header key value) = tt
-turn-end at (Laying part d) (Local1 octets) = either-turn (Local1 octets) (part == 0) (WalkGoes (Laying 0 (with_local1 d octets))) (Faults NotAllowed) tt tt
-turn-end at (Laying part d) (Section2 octets) = either-turn (Section2 octets) (nat_le part 1 && (optional_in d == 1)) (WalkGoes (Laying 1 (with_section2 d octets))) (Faults NotAllowed) tt tt
-turn-end at (Laying part d) (Descriptors words) = tt
-turn-end at (Laying part d) (Begins next) = beginning-end (Begins next) ((next == 0 + 1) && nat_le next (subsets_in d)) next d
-turn-end at (Laying part d) (Item fxy form) = tt
-turn-end at (Laying part d) Closes = closing-end (0 == subsets_in d) d
-turn-end at (Laying part d) Wrong = tt
+turn-end at (BeforeSubsets part d) Passed = tt
+turn-end at (BeforeSubsets part d) Opens = tt
+turn-end at (BeforeSubsets part d) (Header key value) = tt
+turn-end at (BeforeSubsets part d) (Local1 octets) = either-turn (Local1 octets) (part == 0) (WalkGoes (BeforeSubsets 0 (with_local1 d octets))) (Faults NotAllowed) tt tt
+turn-end at (BeforeSubsets part d) (Section2 octets) = either-turn (Section2 octets) (nat_le part 1 && (optional_in d == 1)) (WalkGoes (BeforeSubsets 1 (with_section2 d octets))) (Faults NotAllowed) tt tt
+turn-end at (BeforeSubsets part d) (Descriptors words) = tt
+turn-end at (BeforeSubsets part d) (Begins next) = beginning-end (Begins next) ((next == 0 + 1) && nat_le next (subsets_in d)) next d
+turn-end at (BeforeSubsets part d) (Item fxy form) = tt
+turn-end at (BeforeSubsets part d) Closes = closing-end (0 == subsets_in d) d
+turn-end at (BeforeSubsets part d) Wrong = tt
 turn-end at (Filling subset d) Passed = tt
 turn-end at (Filling subset d) Opens = tt
 turn-end at (Filling subset d) (Header key value) = tt

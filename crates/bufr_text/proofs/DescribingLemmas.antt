@@ -15,7 +15,7 @@ drop-on a b s = grind (arith, common_steps)
 one-set : (out : List ℕ) (count word : ℕ) → count < length out → take (count + 1) (slice_set out count word) ≡ take count out ++ word ∷ []
 one-set out count word h = grind (arith, common_steps)
 
--- a descriptor behind a space
+-- a descriptor after a space
 first-on : (t : List ℕ) → 7 ≤ length t → descriptors_read t ≡ (if slice_index t 0 == 32 then onto_read (fxy_of (take 6 (drop 1 t))) (descriptors_read (drop 7 t)) else None)
 unfolding descriptors_read
 first-on (s ∷ a ∷ b ∷ c ∷ d ∷ e ∷ g ∷ more) h = refl
@@ -61,17 +61,17 @@ wrong : (text : List ℕ) → descriptors_read text ≡ None → made (with_one_
 wrong text e = ap (made (with_one_to 8 Descriptors)) e
 
 module _ (text out : List ℕ) (count : ℕ) (is : IsDescribing text out count) where
-  none-behind : descriptors_read (drop (7 * count) text) ≡ None → Describes text out None
-  none-behind e = wrong text (is.read ∙ ap (option_map (λ more. take count out ++ more)) e)
+  none-after : descriptors_read (drop (7 * count) text) ≡ None → Describes text out None
+  none-after e = wrong text (is.read ∙ ap (option_map (λ more. take count out ++ more)) e)
 
   pub describing-short : 7 * count < length text → length (drop (7 * count) text) < 7 → Describes text out None
-  describing-short h few = none-behind (few-none (drop (7 * count) text) (omega (arith, length-drop (7 * count) text)) few)
+  describing-short h few = none-after (few-none (drop (7 * count) text) (omega (arith, length-drop (7 * count) text)) few)
 
   pub describing-no-space : 7 ≤ length (drop (7 * count) text) → (slice_index (drop (7 * count) text) 0 ≡ 32 → ⊥) → Describes text out None
-  describing-no-space long e = none-behind (no-space-on (drop (7 * count) text) long e)
+  describing-no-space long e = none-after (no-space-on (drop (7 * count) text) long e)
 
   pub describing-no-fxy : 7 ≤ length (drop (7 * count) text) → slice_index (drop (7 * count) text) 0 ≡ 32 → fxy_of (take 6 (drop 1 (drop (7 * count) text))) ≡ None → Describes text out None
-  describing-no-fxy long e f = none-behind (no-fxy-on (drop (7 * count) text) long e f)
+  describing-no-fxy long e f = none-after (no-fxy-on (drop (7 * count) text) long e f)
 
   pub describing-on : (word : ℕ) → 7 ≤ length (drop (7 * count) text) → slice_index (drop (7 * count) text) 0 ≡ 32 → fxy_of (take 6 (drop 1 (drop (7 * count) text))) ≡ Some word → IsDescribing text (slice_set out count word) (count + 1)
   describing-on word long e f =

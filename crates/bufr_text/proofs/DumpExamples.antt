@@ -16,7 +16,7 @@ use Rattle.bufr_walk.specs.Calls.{view_of}
 use Rattle.bufr_walk.specs.Content.{Content, number, text, missing, reference}
 use Rattle.bufr_walk.specs.Outcome.{read_by, data_in}
 use Rattle.bufr_walk.specs.Reading.{Item, Values, apart, together}
-use Rattle.bufr_text.specs.Grammar.{runs_behind, runs_of, hex_text, descriptors_text, quoted}
+use Rattle.bufr_text.specs.Grammar.{runs_after, runs_of, hex_text, descriptors_text, quoted}
 use Rattle.bufr_text.specs.Line.{keys}
 use Rattle.bufr_text.specs.Dump.{header_lines, local1_line, descriptors_line, subset_lines, dump_text_of, item_text, text_of_lines}
 use Rattle.bufr_text.specs.DumpItems.{dump_item_of, dump_items_of}
@@ -24,7 +24,8 @@ use Rattle.bufr_text.specs.DumpItems.{dump_item_of, dump_items_of}
 unfoldable listed : (fxy : ℕ) → (name unit : List ℕ) → Kind → (width : ℕ) → Row
 listed fxy name unit k width = record { fxy = fxy; name = name; unit = unit; kind = k; scale = pos 0; reference = pos 0; width = width }
 
--- block, name, latitude, temperature, figure and factor; scale, reference and width are those of what was asked
+-- block, name, latitude, temperature, figure and factor; scale, reference and width are those of
+-- what was asked
 unfoldable table : List Row
 unfolding listed
 table =
@@ -110,9 +111,9 @@ inserted = refl
 
 -- spaces at the end stay
 -- rule: text-quoted
-spaces_behind : line (asked 271 role.Element kind.Character (pos 0) (pos 0) true) (text (codes "ABC " ++ replicate 3 32)) ≡ codes "001015 \"ABC    \"  # STATION OR SITE NAME [CCITT IA5]"
+spaces_after : line (asked 271 role.Element kind.Character (pos 0) (pos 0) true) (text (codes "ABC " ++ replicate 3 32)) ≡ codes "001015 \"ABC    \"  # STATION OR SITE NAME [CCITT IA5]"
 unfolding line digits decimal_text_of unsigned_text quoted
-spaces_behind = refl
+spaces_after = refl
 
 -- rule: text-escapes
 edges_of_the_printed : line (asked 34052 role.Inserted kind.Character (pos 0) (pos 0) false) (text (31 ∷ 32 ∷ 126 ∷ 127 ∷ [])) ≡ codes "205004 \"\\x1F ~\\x7F\""
@@ -144,7 +145,7 @@ one_block_number : dumped
     0x00 ∷ 0x00 ∷ 0x05 ∷ 0x00 ∷ 0x14 ∷
     0x37 ∷ 0x37 ∷ 0x37 ∷ 0x37 ∷ []) (apart ((block_number ∷ []) ∷ []))
     ≡ codes "message\nedition 4\nmaster 0\ncentre 98\nsubcentre 0\nupdate 0\ncategory 0\nsubcategory 0\nlocalsubcategory 0\nmasterversion 14\nlocalversion 0\nyear 2024\nmonth 1\nday 2\nhour 3\nminute 4\nsecond 5\nobserved 1\ncompressed 0\noptional 0\nsubsets 1\ndescriptors 001001\nsubset 1\n001001 10  # WMO BLOCK NUMBER [Numeric]\nend\n"
-unfolding dumped block_number item table keys header_lines subset_lines runs_behind hex_text descriptors_text digits decimal_text_of unsigned_text
+unfolding dumped block_number item table keys header_lines subset_lines runs_after hex_text descriptors_text digits decimal_text_of unsigned_text
 one_block_number = refl
 
 temperatures : Item (List Content)
@@ -160,7 +161,7 @@ compressed_missing : dumped
     0x00 ∷ 0x00 ∷ 0x07 ∷ 0x00 ∷ 0x70 ∷ 0x8F ∷ 0x05 ∷
     0x37 ∷ 0x37 ∷ 0x37 ∷ 0x37 ∷ []) (together (temperatures ∷ []))
     ≡ codes "message\nedition 4\nmaster 0\ncentre 98\nsubcentre 0\nupdate 0\ncategory 0\nsubcategory 0\nlocalsubcategory 0\nmasterversion 14\nlocalversion 0\nyear 2024\nmonth 1\nday 2\nhour 3\nminute 4\nsecond 5\nobserved 1\ncompressed 1\noptional 0\nsubsets 2\ndescriptors 012101\nsubset 1\n012101 288.15  # AIR TEMPERATURE [K]\nsubset 2\n012101 MISSING  # AIR TEMPERATURE [K]\nend\n"
-unfolding dumped temperatures item table keys header_lines subset_lines runs_behind hex_text descriptors_text digits decimal_text_of unsigned_text
+unfolding dumped temperatures item table keys header_lines subset_lines runs_after hex_text descriptors_text digits decimal_text_of unsigned_text
 compressed_missing = refl
 
 -- octets for local use in section 1, and a section 2
@@ -173,7 +174,7 @@ local_use : dumped
     0x00 ∷ 0x00 ∷ 0x05 ∷ 0x00 ∷ 0x14 ∷
     0x37 ∷ 0x37 ∷ 0x37 ∷ 0x37 ∷ []) (apart ((block_number ∷ []) ∷ []))
     ≡ codes "message\nedition 4\nmaster 0\ncentre 98\nsubcentre 0\nupdate 0\ncategory 0\nsubcategory 0\nlocalsubcategory 0\nmasterversion 14\nlocalversion 0\nyear 2024\nmonth 1\nday 2\nhour 3\nminute 4\nsecond 5\nobserved 1\ncompressed 0\noptional 1\nsubsets 1\nlocal1 ABCD\nsection2 0102\ndescriptors 001001\nsubset 1\n001001 10  # WMO BLOCK NUMBER [Numeric]\nend\n"
-unfolding dumped block_number item table keys header_lines subset_lines runs_behind hex_text descriptors_text digits decimal_text_of unsigned_text
+unfolding dumped block_number item table keys header_lines subset_lines runs_after hex_text descriptors_text digits decimal_text_of unsigned_text
 local_use = refl
 
 -- no subset, no item
@@ -184,12 +185,12 @@ no_subsets : dumped
     0x00 ∷ 0x00 ∷ 0x04 ∷ 0x00 ∷
     0x37 ∷ 0x37 ∷ 0x37 ∷ 0x37 ∷ []) (apart [])
     ≡ codes "message\nedition 4\nmaster 0\ncentre 98\nsubcentre 0\nupdate 0\ncategory 0\nsubcategory 0\nlocalsubcategory 0\nmasterversion 14\nlocalversion 0\nyear 2024\nmonth 1\nday 2\nhour 3\nminute 4\nsecond 5\nobserved 1\ncompressed 0\noptional 0\nsubsets 0\ndescriptors 001001\nend\n"
-unfolding dumped table keys header_lines subset_lines runs_behind hex_text descriptors_text digits decimal_text_of unsigned_text
+unfolding dumped table keys header_lines subset_lines runs_after hex_text descriptors_text digits decimal_text_of unsigned_text
 no_subsets = refl
 
 -- 33 octets and nine descriptors take two lines each
 -- rule: text-local1, text-descriptors
 two_lines : text_of_lines (map local1_line (runs_of 32 (replicate 33 171)) ++ map descriptors_line (runs_of 8 (replicate 9 257)))
     ≡ codes "local1 ABABABABABABABABABABABABABABABABABABABABABABABABABABABABABABABAB\nlocal1 AB\ndescriptors 001001 001001 001001 001001 001001 001001 001001 001001\ndescriptors 001001\n"
-unfolding runs_behind hex_text descriptors_text
+unfolding runs_after hex_text descriptors_text
 two_lines = refl

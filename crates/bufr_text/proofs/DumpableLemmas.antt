@@ -27,7 +27,7 @@ use Rattle.bufr_walk.specs.Course.{Course, next_item}
 use Rattle.bufr_walk.specs.Outcome.{data_of}
 use Rattle.bufr_walk.specs.PackedField.{packed_field}
 use Rattle.bufr_walk.specs.PlainField.{found}
-use Rattle.bufr_walk.specs.Reading.{Item, plain, packed, ReadsItems, ReadsSubsets, IsPackedReading, IsReading, Values, apart, together, tells_of, after}
+use Rattle.bufr_walk.specs.Reading.{Item, plain, packed, ReadsItems, ReadsSubsets, IsPackedReading, IsReading, Values, apart, together, item_answer, after}
 use Rattle.bufr_fill.specs.Fits.{AreOctets, FitsKind, FitsRole, Fits, AllFit}
 use Rattle.bufr_fill.proofs.WrittenLists.{AllSpecs, EachSpecs}
 use Rattle.bufr_fill.proofs.FieldBits.{top_below}
@@ -178,35 +178,35 @@ module _ (table : List Row) (all : AllByRecursion IsRead table) where
 
   -- ---- the items of subsets
 
-  items_fit : (course : Course) (items : List (Item Content)) (bits behind : List Bool) → IsWordCourse course → AllSpecs items → ReadsItems plain course items bits behind → AllByRecursion IsItem (items_apart table items)
-  items_fit course [] bits behind good specs h = tt
-  items_fit course (i ∷ items) bits behind good specs h = (
+  items_fit : (course : Course) (items : List (Item Content)) (bits suffix : List Bool) → IsWordCourse course → AllSpecs items → ReadsItems plain course items bits suffix → AllByRecursion IsItem (items_apart table items)
+  items_fit course [] bits suffix good specs h = tt
+  items_fit course (i ∷ items) bits suffix good specs h = (
     item_fits i.spec i.content (good [] i.spec h.1) (value_fits i.spec specs.0 i.content (plain_read i.spec specs.0 bits h.0 i.content h.2).0),
-    items_fit (after plain course i) items h.0 behind (λ told spec e. good (tells_of plain i ∷ told) spec e) specs.1 h.3,
+    items_fit (after plain course i) items h.0 suffix (λ results spec e. good (item_answer plain i ∷ results) spec e) specs.1 h.3,
   )
 
-  subsets_fit : (course : Course) (subsets : List (List (Item Content))) (bits behind : List Bool) → IsWordCourse course → EachSpecs subsets → ReadsSubsets course subsets bits behind → AllByRecursion (λ items. AllByRecursion IsItem items) (map (items_apart table) subsets)
-  subsets_fit course [] bits behind good specs h = tt
-  subsets_fit course (items ∷ subsets) bits behind good specs h = (items_fit course items bits h.0 good specs.0 h.1.0, subsets_fit course subsets h.0 behind good specs.1 h.2)
+  subsets_fit : (course : Course) (subsets : List (List (Item Content))) (bits suffix : List Bool) → IsWordCourse course → EachSpecs subsets → ReadsSubsets course subsets bits suffix → AllByRecursion (λ items. AllByRecursion IsItem items) (map (items_apart table) subsets)
+  subsets_fit course [] bits suffix good specs h = tt
+  subsets_fit course (items ∷ subsets) bits suffix good specs h = (items_fit course items bits h.0 good specs.0 h.1.0, subsets_fit course subsets h.0 suffix good specs.1 h.2)
 
   packed_fits : (n : ℕ) (spec : FieldSpec) (cs : List Content) (bits mid : List Bool) → IsSpec spec → packed_field n spec bits ≡ Ok (found cs mid) → AllFit spec cs
   packed_fits n spec [] bits mid good e = tt
   packed_fits n spec (c ∷ cs) bits mid good e = (packed_again n spec good c cs bits mid e).2.fits
 
-  packed_items_fit : (n j : ℕ) (course : Course) (items : List (Item (List Content))) (bits behind : List Bool) → IsWordCourse course → AllSpecs items → ReadsItems (packed n) course items bits behind → AllByRecursion IsItem (compressed_dump_items table j items)
-  packed_items_fit n j course [] bits behind good specs h = tt
-  packed_items_fit n j course (i ∷ items) bits behind good specs h = (
+  packed_items_fit : (n j : ℕ) (course : Course) (items : List (Item (List Content))) (bits suffix : List Bool) → IsWordCourse course → AllSpecs items → ReadsItems (packed n) course items bits suffix → AllByRecursion IsItem (compressed_dump_items table j items)
+  packed_items_fit n j course [] bits suffix good specs h = tt
+  packed_items_fit n j course (i ∷ items) bits suffix good specs h = (
     item_fits i.spec (content_at j i.content) (good [] i.spec h.1) (value_at i.spec specs.0 j i.content (packed_fits n i.spec i.content bits h.0 specs.0 h.2)),
-    packed_items_fit n j (after (packed n) course i) items h.0 behind (λ told spec e. good (tells_of (packed n) i ∷ told) spec e) specs.1 h.3,
+    packed_items_fit n j (after (packed n) course i) items h.0 suffix (λ results spec e. good (item_answer (packed n) i ∷ results) spec e) specs.1 h.3,
   )
 
   together_fit : (left j : ℕ) (items : List (Item (List Content))) → ((j : ℕ) → AllByRecursion IsItem (compressed_dump_items table j items)) → AllByRecursion (λ items. AllByRecursion IsItem items) (compressed_dump_subsets table left j items)
   together_fit zero j items h = tt
   together_fit (suc left) j items h = (h j, together_fit left (j + 1) items h)
 
-  pub packed_fit : (n : ℕ) (course : Course) (items : List (Item (List Content))) (bits behind : List Bool) → IsWordCourse course → ((n : ℕ) → ReadsItems (packed n) course items bits behind → AllSpecs items) → IsPackedReading n course items bits behind → AllByRecursion (λ items. AllByRecursion IsItem items) (compressed_dump_subsets table n 0 items)
-  packed_fit zero course items bits behind good specs h = tt
-  packed_fit (suc n) course items bits behind good specs h = together_fit (suc n) 0 items (λ j. packed_items_fit (suc n) j course items bits behind good (specs (suc n) h.0.0) h.0.0)
+  pub packed_fit : (n : ℕ) (course : Course) (items : List (Item (List Content))) (bits suffix : List Bool) → IsWordCourse course → ((n : ℕ) → ReadsItems (packed n) course items bits suffix → AllSpecs items) → IsPackedReading n course items bits suffix → AllByRecursion (λ items. AllByRecursion IsItem items) (compressed_dump_subsets table n 0 items)
+  packed_fit zero course items bits suffix good specs h = tt
+  packed_fit (suc n) course items bits suffix good specs h = together_fit (suc n) 0 items (λ j. packed_items_fit (suc n) j course items bits suffix good (specs (suc n) h.0.0) h.0.0)
 
 together_count : (table : List Row) (left j : ℕ) (items : List (Item (List Content))) → length (compressed_dump_subsets table left j items) ≡ left
 together_count table zero j items = refl

@@ -19,10 +19,10 @@ use Rattle.bufr_fill.proofs.PackedFaults.{stays, fault_as_defined, written_as_de
 use Rattle.bufr_fill.proofs.PackedWalks.{fills}
 use Rattle.bufr_bits.specs.Bits.{bits_of}
 use Rattle.bufr_text.specs.declared.encode_fault.DocumentFault.{DocumentFault}
-use Rattle.bufr_text.specs.EncodingFault.{told_of_draft, told_refusal}
-use Rattle.bufr_text.specs.DataWritten.{told_stop, AreOctetsOf, IsData, IsNoData}
+use Rattle.bufr_text.specs.EncodingFault.{report_of_draft, reported_refusal}
+use Rattle.bufr_text.specs.DataWritten.{reported_stop, AreOctetsOf, IsData, IsNoData}
 use Rattle.bufr_text.specs.EncodingCost.{count_filled, count_packed, turns_filled, turns_packed}
-use Rattle.bufr_text.proofs.EncodingCostLemmas.{walk_counts, refuses_so, told_refused}
+use Rattle.bufr_text.proofs.EncodingCostLemmas.{walk_counts, refuses_so, reported_refused}
 use Rattle.bufr_text.proofs.TurnsLemmas.{AddsTurns, walk_turns, IsLast, last_turns, some_turns, ticked_at_most, all_made, makes_so}
 use Rattle.bufr_text.proofs.EncodePlain.{mul_most}
 
@@ -99,33 +99,33 @@ packed_written n course ss start c mid c' octets at some z w e few o =
 
 -- an item is left over
 pub packed_over : (n : ℕ) (course : Course) (ss : List Subset) (start : PackedOutModel) (c : ℕ) (mid : PackedOutModel) (c' : ℕ) (e : DraftFault) (why : DocumentFault) → start ≡ new_packed_out ss → 1 ≤ length ss → c ≡ 0 → Walked PackedFills course start c (Ok tt) mid c'
-    → (f : FaultAt) × (draft_fault e ≡ Some f) × (all_at_end (cells_at mid.place mid.subsets) ≡ Err f) → told_refusal why ≡ option_map told_of_draft (draft_fault e) → c' ≤ c + n * (length mid.bits - length start.bits) → IsNoData n true course ss why c'
-packed_over n course ss start c mid c' e why at some z w fault told few =
+    → (f : FaultAt) × (draft_fault e ≡ Some f) × (all_at_end (cells_at mid.place mid.subsets) ≡ Err f) → reported_refusal why ≡ option_map report_of_draft (draft_fault e) → c' ≤ c + n * (length mid.bits - length start.bits) → IsNoData n true course ss why c'
+packed_over n course ss start c mid c' e why at some z w fault results few =
     let h = subst (λ x. Takes (oks PackedFills) course x w.0 mid) at w.1 in
     let is = fault_as_defined course ss w.0 mid fault.0 some h (subst (λ next. IsFaultHere next mid fault.0) (sym w.2) fault.2) in
     record {
-      refuses = refuses_so (draft_fault e) (told_refusal why) (packed_data course ss) told (λ f g. is ∙ ap Err (same fault.0 f (sym fault.1 ∙ g)));
-      made = all_made (told_refusal why) 0 (turns_packed course ss) c' (walk_makes_all course ss start c mid c' at some z w);
+      refuses = refuses_so (draft_fault e) (reported_refusal why) (packed_data course ss) results (λ f g. is ∙ ap Err (same fault.0 f (sym fault.1 ∙ g)));
+      made = all_made (reported_refusal why) 0 (turns_packed course ss) c' (walk_makes_all course ss start c mid c' at some z w);
       few = omega (arith, z, few, mul_most n (length mid.bits - length start.bits) (count_packed course ss + 1) (omega (arith, counts course ss w.0 mid some h)));
     }
   where
     same : (a b : FaultAt) → ◌≡◌ {A = Option FaultAt} (Some a) (Some b) → a ≡ b
     same a b e = cc
 
--- what stopped a walk is the fault where it stands, and leaves it there
-told_here : (line : ℕ) (next : Next) (mid : PackedOutModel) (stop : WalkStop DraftFault) (s' : PackedOutModel) (f : FaultAt) → StopsWalk PackedFills next mid stop s' → line ≡ first_line_at s'.place s'.subsets → told_stop line stop ≡ Some f → IsFaultHere next mid f
-told_here line (take_next spec) mid (stops.Field e) s' f h l t = by (draft_fault e) h.0 t
+-- what stopped a walk is the fault where it is, and leaves it there
+reported_here : (line : ℕ) (next : Next) (mid : PackedOutModel) (stop : WalkStop DraftFault) (s' : PackedOutModel) (f : FaultAt) → StopsWalk PackedFills next mid stop s' → line ≡ first_line_at s'.place s'.subsets → reported_stop line stop ≡ Some f → IsFaultHere next mid f
+reported_here line (take_next spec) mid (stops.Field e) s' f h l t = by (draft_fault e) h.0 t
   where
     by : (o : Option FaultAt) → IfDraftFault o (IsFaultAcross spec mid) → o ≡ Some f → IsFaultAcross spec mid f
     by None h t = absurd cc t
     by (Some g) h t = let same : g ≡ f = cc in h ∙ ap Err same
-told_here line (take_next spec) mid stops.Memory s' f h l t = absurd cc t
-told_here line (take_next spec) mid (stops.Width fxy) s' f h l t = absurd h
-told_here line (take_next spec) mid (stops.Defining fxy) s' f h l t = absurd h
-told_here line at_end mid stop s' f h l t = absurd h
-told_here line astray mid stop s' f h l t = absurd h
-told_here line (refused r) mid stop s' f h l t =
-    sym (told_refused line r f (ap (told_stop line) (sym h.0) ∙ t)) ∙ ap (λ n. at_line n (walk_refused r)) (l ∙ ap (λ (p : PackedOutModel). first_line_at p.place p.subsets) h.1)
+reported_here line (take_next spec) mid stops.Memory s' f h l t = absurd cc t
+reported_here line (take_next spec) mid (stops.Width fxy) s' f h l t = absurd h
+reported_here line (take_next spec) mid (stops.Defining fxy) s' f h l t = absurd h
+reported_here line at_end mid stop s' f h l t = absurd h
+reported_here line astray mid stop s' f h l t = absurd h
+reported_here line (refused r) mid stop s' f h l t =
+    sym (reported_refused line r f (ap (reported_stop line) (sym h.0) ∙ t)) ∙ ap (λ n. at_line n (walk_refused r)) (l ∙ ap (λ (p : PackedOutModel). first_line_at p.place p.subsets) h.1)
 
 still : (next : Next) (mid : PackedOutModel) (stop : WalkStop DraftFault) (s' : PackedOutModel) → StopsWalk PackedFills next mid stop s' → s' ≡ mid
 still (take_next spec) mid (stops.Field e) s' h = h.1
@@ -138,16 +138,16 @@ still (refused r) mid stop s' h = h.1
 
 -- the walk stopped
 pub packed_stopped : (n : ℕ) (course : Course) (ss : List Subset) (start : PackedOutModel) (c : ℕ) (s' : PackedOutModel) (c' line : ℕ) (stop : WalkStop DraftFault) (why : DocumentFault) → AddsTurns course → start ≡ new_packed_out ss → 1 ≤ length ss → c ≡ 0 → Walked PackedFills course start c (Err stop) s' c'
-    → line ≡ first_line_at s'.place s'.subsets → told_refusal why ≡ option_map told_of_draft (told_stop line stop) → c' ≤ c + n * (length s'.bits - length start.bits + 1) → IsNoData n true course ss why c'
-packed_stopped n course ss start c s' c' line stop why g at some z w l told few =
+    → line ≡ first_line_at s'.place s'.subsets → reported_refusal why ≡ option_map report_of_draft (reported_stop line stop) → c' ≤ c + n * (length s'.bits - length start.bits + 1) → IsNoData n true course ss why c'
+packed_stopped n course ss start c s' c' line stop why g at some z w l results few =
     let h = subst (λ x. Takes (oks PackedFills) course x w.0 w.1) at w.2 in
     let next = (course (answers_of w.0)).next in
     let ticks : c' ≡ ticked 0 (course (answers_of w.0)).turns = w.4 ∙ ap (λ x. ticked x (course (answers_of w.0)).turns) z in
     record {
-      refuses = refuses_so (told_stop line stop) (told_refusal why) (packed_data course ss) told (λ f t. fault_as_defined course ss w.0 w.1 f some h (told_here line next w.1 stop s' f w.3 l t));
-      made = makes_so (told_stop line stop) (told_refusal why) 0 (turns_packed course ss) c' told
+      refuses = refuses_so (reported_stop line stop) (reported_refusal why) (packed_data course ss) results (λ f t. fault_as_defined course ss w.0 w.1 f some h (reported_here line next w.1 stop s' f w.3 l t));
+      made = makes_so (reported_stop line stop) (reported_refusal why) 0 (turns_packed course ss) c' results
           (omega (arith, ticks, ticked_at_most 0 (course (answers_of w.0)).turns (turns_packed course ss) (turns_at_most course ss w.0 w.1 g some h)))
-          (λ f t. ticks ∙ ap (ticked 0) (all_turns course ss w.0 w.1 some h (λ end many. fault_is_last end many next w.1 f (told_here line next w.1 stop s' f w.3 l t))));
+          (λ f t. ticks ∙ ap (ticked 0) (all_turns course ss w.0 w.1 some h (λ end many. fault_is_last end many next w.1 f (reported_here line next w.1 stop s' f w.3 l t))));
       few = omega (arith, z, few, mul_most n (length s'.bits - length start.bits + 1) (count_packed course ss + 1) (omega (arith, counts course ss w.0 w.1 some h, ap (λ (p : PackedOutModel). length p.bits) (still next w.1 stop s' w.3))));
     }
 

@@ -10,7 +10,7 @@ use Rattle.bufr_walk.specs.Course.{next_item}
 use Rattle.bufr_fill.specs.Entries.{subsets_of}
 use Rattle.bufr_text.specs.declared.form.Form.{Form}
 use Rattle.bufr_text.specs.Document.{Document}
-use Rattle.bufr_text.specs.Encoding.{RefusedAt, ◌>>=◌, told_of_template, told_of_items, data_bits, octets_of_bits, compressed_as, parts_as, message_of, encoding_in}
+use Rattle.bufr_text.specs.Encoding.{RefusedAt, ◌>>=◌, report_of_template, report_of_items, data_bits, octets_of_bits, compressed_as, parts_as, message_of, encoding_in}
 use Rattle.bufr_text.specs.DataWritten.{AreOctetsOf, IsData}
 use Rattle.bufr_text.specs.EncodingFault.{IsDocumentRefusal}
 use Rattle.bufr_text.specs.Header.{head_from_values}
@@ -30,8 +30,8 @@ module _ (form : Form) (table : List Row) (sequences : List Sequence) (d : Docum
       → encoding_in form table sequences d ≡ message_of d.line (head_from_values d) (parts_as (compressed_as form d) d payload)
   unfolding encoding_in
   as_written template bits payload e f p =
-      ap (λ r. told_of_template d.line r >>= λ t. told_of_items (data_bits (compressed_as form d) (next_item table t) (subsets_of d.entries)) >>= λ b. message_of d.line (head_from_values d) (parts_as (compressed_as form d) d (octets_of_bits b))) e
-      ∙ ap (λ r. told_of_items r >>= λ b. message_of d.line (head_from_values d) (parts_as (compressed_as form d) d (octets_of_bits b))) f
+      ap (λ r. report_of_template d.line r >>= λ t. report_of_items (data_bits (compressed_as form d) (next_item table t) (subsets_of d.entries)) >>= λ b. message_of d.line (head_from_values d) (parts_as (compressed_as form d) d (octets_of_bits b))) e
+      ∙ ap (λ r. report_of_items r >>= λ b. message_of d.line (head_from_values d) (parts_as (compressed_as form d) d (octets_of_bits b))) f
       ∙ ap (λ o. message_of d.line (head_from_values d) (parts_as (compressed_as form d) d o)) (sym p)
 
   pub whole : (n : ℕ) (template : Tree) (payload octets : List ℕ) (steps : ℕ) → tree_of (tables_of table sequences) d.descriptors ≡ Ok template
@@ -45,14 +45,14 @@ module _ (form : Form) (table : List Row) (sequences : List Sequence) (d : Docum
   not_whole n template payload steps o e h p m = subst (λ r. IsDocumentRefusal o r) (sym (as_written template h.out payload e h.is (p h.out h.octets_are))) m
 
   pub no_data : (template : Tree) (o : Option RefusedAt) → tree_of (tables_of table sequences) d.descriptors ≡ Ok template
-      → IsDocumentRefusal o (told_of_items (data_bits (compressed_as form d) (next_item table template) (subsets_of d.entries))) → IsDocumentRefusal o (encoding_in form table sequences d)
+      → IsDocumentRefusal o (report_of_items (data_bits (compressed_as form d) (next_item table template) (subsets_of d.entries))) → IsDocumentRefusal o (encoding_in form table sequences d)
   unfolding encoding_in
   no_data template None e h = tt
   no_data template (Some f) e h =
-      ap (λ r. told_of_template d.line r >>= λ t. told_of_items (data_bits (compressed_as form d) (next_item table t) (subsets_of d.entries)) >>= λ b. message_of d.line (head_from_values d) (parts_as (compressed_as form d) d (octets_of_bits b))) e
+      ap (λ r. report_of_template d.line r >>= λ t. report_of_items (data_bits (compressed_as form d) (next_item table t) (subsets_of d.entries)) >>= λ b. message_of d.line (head_from_values d) (parts_as (compressed_as form d) d (octets_of_bits b))) e
       ∙ ap (λ r. r >>= λ b. message_of d.line (head_from_values d) (parts_as (compressed_as form d) d (octets_of_bits b))) h
 
-  pub no_template : (o : Option RefusedAt) → IsDocumentRefusal o (told_of_template d.line (tree_of (tables_of table sequences) d.descriptors)) → IsDocumentRefusal o (encoding_in form table sequences d)
+  pub no_template : (o : Option RefusedAt) → IsDocumentRefusal o (report_of_template d.line (tree_of (tables_of table sequences) d.descriptors)) → IsDocumentRefusal o (encoding_in form table sequences d)
   unfolding encoding_in
   no_template None h = tt
-  no_template (Some f) h = ap (λ r. r >>= λ t. told_of_items (data_bits (compressed_as form d) (next_item table t) (subsets_of d.entries)) >>= λ b. message_of d.line (head_from_values d) (parts_as (compressed_as form d) d (octets_of_bits b))) h
+  no_template (Some f) h = ap (λ r. r >>= λ t. report_of_items (data_bits (compressed_as form d) (next_item table t) (subsets_of d.entries)) >>= λ b. message_of d.line (head_from_values d) (parts_as (compressed_as form d) d (octets_of_bits b))) h

@@ -7,11 +7,11 @@ use Rattle.bufr_walk.specs.Course.{Course, Next, take_next, at_end, astray, refu
 use Rattle.bufr_walk.specs.Stop.{stop_by}
 use Rattle.bufr_walk.specs.Taking.{TakenField, Takes, course_after}
 use Rattle.bufr_fill.specs.Fault.{FaultAt, at_line, walk_refused}
-use Rattle.bufr_fill.specs.Filling.{WrittenItem, Filler, fill, fill_one, fill_none, filled, and_behind}
+use Rattle.bufr_fill.specs.Filling.{WrittenItem, Filler, fill, fill_one, fill_none, filled, with_bits_before}
 use Rattle.bufr_fill.proofs.Filled.{HasFilled}
-use Rattle.bufr_text.specs.Encoding.{RefusedAt, told_of_items}
-use Rattle.bufr_text.specs.EncodingFault.{IsDocumentRefusal, told_of_draft}
-use Rattle.bufr_text.specs.DataWritten.{told_stop}
+use Rattle.bufr_text.specs.Encoding.{RefusedAt, report_of_items}
+use Rattle.bufr_text.specs.EncodingFault.{IsDocumentRefusal, report_of_draft}
+use Rattle.bufr_text.specs.DataWritten.{reported_stop}
 use Rattle.bufr_text.specs.EncodingCost.{counted_one, counted_at, count_filled}
 use Rattle.std.specs.Option.{option_map}
 use Rattle.std.proofs.Common.{◌<◌, get_or}
@@ -29,19 +29,19 @@ use Rattle.bufr_text.specs.DataWritten.{AreOctetsOf}
 
 module _ {D C E S : Type 0} (filler : Filler D C E) (left : S → List D) (out : S → List Bool) (takes : S → FieldSpec → Taken → S → Type 0)
     (fills : (s : S) (spec : FieldSpec) (t : Taken) (s' : S) → takes s spec t s' → HasFilled filler (left s) (out s) spec t (left s') (out s')) where
-  one : (course : Course) (s : S) (spec : FieldSpec) (t : Taken) (mid : S) → (course []).next ≡ take_next spec → (h : HasFilled filler (left s) (out s) spec t (left mid) (out mid)) → count_filled filler course (left s) ≡ length h.item.bits + count_filled filler (λ told. course (t ∷ told)) (left mid)
+  one : (course : Course) (s : S) (spec : FieldSpec) (t : Taken) (mid : S) → (course []).next ≡ take_next spec → (h : HasFilled filler (left s) (out s) spec t (left mid) (out mid)) → count_filled filler course (left s) ≡ length h.item.bits + count_filled filler (λ results. course (t ∷ results)) (left mid)
   one course s spec t mid next h =
       ap (count_filled filler course) h.here
-      ∙ ap (λ n. counted_at filler n h.draft (λ x. count_filled filler (λ told. course (x ∷ told)) (left mid))) next
-      ∙ ap (λ r. counted_one filler r filler.tells spec (λ x. count_filled filler (λ told. course (x ∷ told)) (left mid))) h.fills
-      ∙ ap (λ x. length h.item.bits + count_filled filler (λ told. course (x ∷ told)) (left mid)) (sym h.tells)
+      ∙ ap (λ n. counted_at filler n h.draft (λ x. count_filled filler (λ results. course (x ∷ results)) (left mid))) next
+      ∙ ap (λ r. counted_one filler r filler.gives spec (λ x. count_filled filler (λ results. course (x ∷ results)) (left mid))) h.fills
+      ∙ ap (λ x. length h.item.bits + count_filled filler (λ results. course (x ∷ results)) (left mid)) (sym h.gives)
 
   -- the bits that a walk wrote, and those that are left, are those of all
   pub walk_counts : (course : Course) (s : S) (items : List TakenField) (s' : S) → Takes takes course s items s' → length (out s') + count_filled filler (course_after course items) (left s') ≡ length (out s) + count_filled filler course (left s)
   walk_counts course s [] s' h = ap (λ x. length (out x) + count_filled filler course (left x)) h
   walk_counts course s (i ∷ items) s' h =
       let f = fills s i.spec i.taken h.0 h.2 in
-      let a = walk_counts (λ told. course (i.taken ∷ told)) h.0 items s' h.3 in
+      let a = walk_counts (λ results. course (i.taken ∷ results)) h.0 items s' h.3 in
       let b = one course s i.spec i.taken h.0 h.1 f in
       let c = ap length f.bits ∙ length-append (out s) f.item.bits in
       omega (arith, a, b, c)
@@ -56,20 +56,20 @@ module _ {D C E : Type 0} (filler : Filler D C E) where
       by at_end h = let e : [] ≡ bits = cc in ap length e
       by astray h = absurd cc h
       by (refused why) h = absurd cc h
-  all_counted course (d ∷ ds) bits h = by (course []).next h (λ t b e. all_counted (λ told. course (t ∷ told)) ds b e)
+  all_counted course (d ∷ ds) bits h = by (course []).next h (λ t b e. all_counted (λ results. course (t ∷ results)) ds b e)
     where
       rest : Taken → Result (List Bool) E
-      rest t = fill filler (λ told. course (t ∷ told)) ds
+      rest t = fill filler (λ results. course (t ∷ results)) ds
 
       count : Taken → ℕ
-      count t = count_filled filler (λ told. course (t ∷ told)) ds
+      count t = count_filled filler (λ results. course (t ∷ results)) ds
 
-      behind : (item : List Bool) (r : Result (List Bool) E) (n : ℕ) → ((b : List Bool) → r ≡ Ok b → n ≡ length b) → and_behind filler item r ≡ Ok bits → length item + n ≡ length bits
-      behind item (Ok b) n g e = let same : item ++ b ≡ bits = cc in omega (arith, g b refl, length-append item b, ap length same)
-      behind item (Err why) n g e = absurd cc e
+      suffix : (item : List Bool) (r : Result (List Bool) E) (n : ℕ) → ((b : List Bool) → r ≡ Ok b → n ≡ length b) → with_bits_before filler item r ≡ Ok bits → length item + n ≡ length bits
+      suffix item (Ok b) n g e = let same : item ++ b ≡ bits = cc in omega (arith, g b refl, length-append item b, ap length same)
+      suffix item (Err why) n g e = absurd cc e
 
-      one : (spec : FieldSpec) (r : Result (WrittenItem C) E) → filled filler spec r rest ≡ Ok bits → ((t : Taken) (b : List Bool) → rest t ≡ Ok b → count t ≡ length b) → counted_one filler r filler.tells spec count ≡ length bits
-      one spec (Ok w) e g = behind w.bits (rest (filler.tells spec w.content)) (count (filler.tells spec w.content)) (g (filler.tells spec w.content)) e
+      one : (spec : FieldSpec) (r : Result (WrittenItem C) E) → filled filler spec r rest ≡ Ok bits → ((t : Taken) (b : List Bool) → rest t ≡ Ok b → count t ≡ length b) → counted_one filler r filler.gives spec count ≡ length bits
+      one spec (Ok w) e g = suffix w.bits (rest (filler.gives spec w.content)) (count (filler.gives spec w.content)) (g (filler.gives spec w.content)) e
       one spec (Err why) e g = absurd cc e
 
       by : (n : Next) → fill_one filler n d rest ≡ Ok bits → ((t : Taken) (b : List Bool) → rest t ≡ Ok b → count t ≡ length b) → counted_at filler n d count ≡ length bits
@@ -78,15 +78,15 @@ module _ {D C E : Type 0} (filler : Filler D C E) where
       by astray h g = absurd cc h
       by (refused why) h g = absurd cc h
 
--- a fault that is told is the definition's
-pub refuses_so : (o : Option FaultAt) (told : Option RefusedAt) (r : Result (List Bool) FaultAt) → told ≡ option_map told_of_draft o → ((f : FaultAt) → o ≡ Some f → r ≡ Err f) → IsDocumentRefusal told (told_of_items r)
-refuses_so None told r e h = subst (λ t. IsDocumentRefusal t (told_of_items r)) (sym e) tt
-refuses_so (Some f) told r e h = subst (λ t. IsDocumentRefusal t (told_of_items r)) (sym e) (ap told_of_items (h f refl))
+-- a fault that is reported is the definition's
+pub refuses_so : (o : Option FaultAt) (results : Option RefusedAt) (r : Result (List Bool) FaultAt) → results ≡ option_map report_of_draft o → ((f : FaultAt) → o ≡ Some f → r ≡ Err f) → IsDocumentRefusal results (report_of_items r)
+refuses_so None results r e h = subst (λ t. IsDocumentRefusal t (report_of_items r)) (sym e) tt
+refuses_so (Some f) results r e h = subst (λ t. IsDocumentRefusal t (report_of_items r)) (sym e) (ap report_of_items (h f refl))
 
--- the refusal of a walk, as it is told
-pub told_refused : (line : ℕ) (r : refusal.the_data) (f : FaultAt) → told_stop line (stop_by r) ≡ Some f → at_line line (walk_refused r) ≡ f
-told_refused line (refusal.Width fxy) f e = cc
-told_refused line (refusal.Defining fxy) f e = cc
+-- the refusal of a walk, as it is reported
+pub reported_refused : (line : ℕ) (r : refusal.the_data) (f : FaultAt) → reported_stop line (stop_by r) ≡ Some f → at_line line (walk_refused r) ≡ f
+reported_refused line (refusal.Width fxy) f e = cc
+reported_refused line (refusal.Defining fxy) f e = cc
 
 -- octets that are the bits of data
 pub octets_are_bits : (xs : List ℕ) (bits : List Bool) → ((k : ℕ) → get_or xs k 0 < 256) → AreOctetsOf xs bits → xs ≡ octets_of_bits bits

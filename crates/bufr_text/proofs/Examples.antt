@@ -10,7 +10,7 @@ use Rattle.bufr_fill.specs.Entries.{Holds, Ends}
 use Rattle.bufr_text.specs.Document.{Document}
 use Rattle.std.specs.Fmt.{digits}
 use Rattle.bufr_bits.specs.DecimalText.{decimal_text_of, unsigned_text}
-use Rattle.bufr_text.specs.Grammar.{prefix_while, suffix_while, without_prefix, runs_behind, hex_text, hex_read, fxy_read, descriptors_text, descriptors_read, quoted, quoted_read, is_hashed}
+use Rattle.bufr_text.specs.Grammar.{prefix_while, suffix_while, without_prefix, runs_after, hex_text, hex_read, fxy_read, descriptors_text, descriptors_read, quoted, quoted_read, is_hashed}
 use Rattle.bufr_text.specs.Line.{keys, place_from, value_read, worded, line_of}
 use Rattle.bufr_text.specs.Documents.{Complete, Refused, NotAllowed, SubsetCount, HeaderRange, documents_of, open_documents_of, lines_of, split_of, parse_lines, parse_open_lines, turn}
 use Rattle.bufr_text.specs.Bounds.{IsDumpable}
@@ -46,7 +46,7 @@ abbrev the_document : Document
 the_document = document_of 1 one_block_number block_number
 
 the_dump : dump_text_of one_block_number block_number ≡ the_text
-unfolding header_lines subset_lines item_entries subset_entries keys digits runs_behind hex_text descriptors_text quoted decimal_text_of unsigned_text
+unfolding header_lines subset_lines item_entries subset_entries keys digits runs_after hex_text descriptors_text quoted decimal_text_of unsigned_text
 the_dump = refl
 
 abbrev the_document_written : Document
@@ -60,7 +60,7 @@ the_document_written = record {
 }
 
 as_document : the_document ≡ the_document_written
-unfolding header_lines subset_lines item_entries subset_entries keys digits runs_behind hex_text descriptors_text quoted decimal_text_of unsigned_text
+unfolding header_lines subset_lines item_entries subset_entries keys digits runs_after hex_text descriptors_text quoted decimal_text_of unsigned_text
 as_document = refl
 
 -- rule: reading-subset-end

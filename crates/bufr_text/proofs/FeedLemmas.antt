@@ -46,13 +46,13 @@ feed-within : (line rest : List ℕ) → has_no_feed (line ++ 10 ∷ rest) ≡ f
 feed-within [] rest = refl
 feed-within (c ∷ line) rest = neither (not (c == 10)) (has_no_feed (line ++ 10 ∷ rest)) (feed-within line rest)
 
-feed-behind : (n : ℕ) (held : List ℕ) → has_no_feed (drop n held) ≡ false → has_no_feed held ≡ false
-feed-behind zero held e = e
-feed-behind (suc n) [] e = e
-feed-behind (suc n) (c ∷ held) e = neither (not (c == 10)) (has_no_feed held) (feed-behind n held e)
+feed-after : (n : ℕ) (held : List ℕ) → has_no_feed (drop n held) ≡ false → has_no_feed held ≡ false
+feed-after zero held e = e
+feed-after (suc n) [] e = e
+feed-after (suc n) (c ∷ held) e = neither (not (c == 10)) (has_no_feed held) (feed-after n held e)
 
-pub line-behind : (held : List ℕ) (from n : ℕ) → FeedAt (drop from held) (Some n) → has_no_feed held ≡ false
-line-behind held from n feed = feed-behind from held (ap has_no_feed feed.2 ∙ feed-within (take n (drop from held)) (drop (n + 1) (drop from held)))
+pub line-after : (held : List ℕ) (from n : ℕ) → FeedAt (drop from held) (Some n) → has_no_feed held ≡ false
+line-after held from n feed = feed-after from held (ap has_no_feed feed.2 ∙ feed-within (take n (drop from held)) (drop (n + 1) (drop from held)))
 
 pub some-held : (held : List ℕ) → has_no_feed held ≡ false → 0 < length held
 some-held [] e = absurd (true≢false e)

@@ -1,5 +1,5 @@
--- A message in another form is accepted, its dump text differs in the flag alone, and from it a
--- canonical message comes back in its own.
+-- A message in another form is accepted, and its dump text differs in the flag alone. From it a
+-- canonical message comes back in its own form.
 use Rattle.std.proofs.Common.{◌≡◌, ◌∙◌, ℕ, Bool, true, false, List, Ok, refl, ap}
 use Rattle.bufr_tables.specs.Expansion.{tree_of}
 use Rattle.bufr_tables.specs.Legal.{IsLegal}

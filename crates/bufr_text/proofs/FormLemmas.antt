@@ -41,12 +41,12 @@ use Rattle.bufr_text.specs.Document.{Document}
 use Rattle.bufr_text.specs.Dump.{DumpItem, subset_entries, document_of, lines_before}
 use Rattle.bufr_text.specs.DumpItems.{items_apart, compressed_dump_items, compressed_dump_subsets}
 use Rattle.bufr_text.specs.RoundTrip.{IsAccepted, IsEncodedAgain, dump_items_in}
-use Rattle.bufr_text.specs.Encoding.{by_item, too_long, RefusedAt, refused_at, told_of_items, data_bits, octets_of_bits, parts_as, compressed_as, message_of, encoding_in}
-use Rattle.bufr_text.specs.EncodingFault.{IsDocumentRefusal, told_refusal}
+use Rattle.bufr_text.specs.Encoding.{by_item, too_long, RefusedAt, refused_at, report_of_items, data_bits, octets_of_bits, parts_as, compressed_as, message_of, encoding_in}
+use Rattle.bufr_text.specs.EncodingFault.{IsDocumentRefusal, reported_refusal}
 use Rattle.bufr_text.specs.Form.{compressed_by}
 use Rattle.bufr_text.specs.InForm.{each_subset, HasReadingIn, IsForForm, IsFormed, IsFaultIn, EncodesForm}
 use Rattle.bufr_text.proofs.DumpableLemmas.{octets_are, sections_given}
-use Rattle.bufr_text.proofs.RoundTripLemmas.{all_apart, all_together, bit_back, section2_back, padded, payload_bits, size_is, enough, behind, encoded_again}
+use Rattle.bufr_text.proofs.RoundTripLemmas.{all_apart, all_together, bit_back, section2_back, padded, payload_bits, size_is, enough, suffix, encoded_again}
 use Rattle.bufr_text.proofs.EncodeWhole.{as_written, no_data}
 use Rattle.bufr_text.proofs.FramedLemmas.{octets_small, framed}
 use Rattle.bufr_text.proofs.RowsLemmas.{rows-read, good-rows}
@@ -77,7 +77,7 @@ pub plain_reading : (course : Course) (subsets : List (List (reading.Item Conten
 plain_reading course subsets n out w octets more e = (
   refl,
   enough out more (bits_of octets) e,
-  subst (λ b. IsPlainReading n course subsets b (drop (length out) (bits_of octets))) (sym e) (subst (λ b. IsPlainReading n course subsets (out ++ more) b) (sym (behind out more (bits_of octets) e)) (w more)),
+  subst (λ b. IsPlainReading n course subsets b (drop (length out) (bits_of octets))) (sym e) (subst (λ b. IsPlainReading n course subsets (out ++ more) b) (sym (suffix out more (bits_of octets) e)) (w more)),
 )
 
 pub packed_reading : (course : Course) (items : List (reading.Item (List Content))) (n : ℕ) (out : List Bool) → ((more : List Bool) → IsPackedReading n course items (out ++ more) more) → (octets : List ℕ) (more : List Bool) → bits_of octets ≡ out ++ more
@@ -85,7 +85,7 @@ pub packed_reading : (course : Course) (items : List (reading.Item (List Content
 packed_reading course items n out w octets more e = (
   refl,
   enough out more (bits_of octets) e,
-  subst (λ b. IsPackedReading n course items b (drop (length out) (bits_of octets))) (sym e) (subst (λ b. IsPackedReading n course items (out ++ more) b) (sym (behind out more (bits_of octets) e)) (w more)),
+  subst (λ b. IsPackedReading n course items b (drop (length out) (bits_of octets))) (sym e) (subst (λ b. IsPackedReading n course items (out ++ more) b) (sym (suffix out more (bits_of octets) e)) (w more)),
 )
 
 -- the bits that are written for a message's values in a form, and what is read from them
@@ -189,7 +189,7 @@ module _ (form : Form) (table : List Row) (sequences : List Sequence) (m : List 
       record {
         few = omega (arith, few, long);
         octets = octets_small s.head parts given.head given.local1 given.section2 given.descriptors given.few (octets_are payload (octets_in-are ((length f.out + 7) / 8) (f.out ++ padding (length f.out)) (padded f.out))) few;
-        framed = λ at behind. framed s.head parts at behind long;
+        framed = λ at suffix. framed s.head parts at suffix long;
         sections = sections_from s.head parts;
         are = back;
         same = record { head = refl; local1 = refl; section2 = refl; descriptors = refl; subsets = refl; observed = refl; compressed = refl };
@@ -229,7 +229,7 @@ not_written : (table : List Row) (sequences : List Sequence) (m : List ℕ) (s :
 not_written table sequences m s template values used at a f =
     let d = document_of at s (dump_items_in table template s values) in
     let refused = refused_at f.why.line (by_item f.why.fault) in
-    let is : encoding_in form.Compressed table sequences d ≡ Err refused = no_data form.Compressed table sequences d template (Some refused) a.expands (ap told_of_items f.is) in
+    let is : encoding_in form.Compressed table sequences d ≡ Err refused = no_data form.Compressed table sequences d template (Some refused) a.expands (ap report_of_items f.is) in
     subst (IsFormed form.Compressed table s template values) (sym is) f.unlike
 
 as_it_is : (table : List Row) (m : List ℕ) (s : Sections) (template : Tree) (values : Values) (used at : ℕ) (sequences : List Sequence) → length m ≤ max_octets → IsEncodedAgain table sequences m s template values (document_of at s (dump_items_in table template s values))
@@ -267,7 +267,7 @@ formed form.Compressed table sequences m s template values used at rows legal a 
 -- ---- the faults that are answered
 
 -- what is answered is what the definition says
-pub answered : (form : Form) (table : List Row) (s : Sections) (template : Tree) (values : Values) (defined : Result (List ℕ) RefusedAt) (why : DocumentFault) → IsFormed form table s template values defined → IsDocumentRefusal (told_refusal why) defined → IsFaultIn form why
+pub answered : (form : Form) (table : List Row) (s : Sections) (template : Tree) (values : Values) (defined : Result (List ℕ) RefusedAt) (why : DocumentFault) → IsFormed form table s template values defined → IsDocumentRefusal (reported_refusal why) defined → IsFaultIn form why
 answered form table s template values defined why h r = λ f q. refused f (subst (λ o. IsDocumentRefusal o defined) q r)
   where
     refused : (f : RefusedAt) → defined ≡ Err f → IsForForm form f.why
@@ -283,7 +283,7 @@ formed_of form records table sequences m s template values used at d rows a same
     subst (λ (x : Document). IsFormed form table s template values (encoding_in form table sequences x)) (sym same)
     (formed form table sequences m s template values used at (good-rows table (rows-read records table rows)) (tree_fine (tables_of table sequences) s.descriptors template a.expands).legal a)
 
-pub form_so : (form : Form) (table : List Row) (s : Sections) (template : Tree) (values : Values) (defined : Result (List ℕ) RefusedAt) (r : Result (Vec ℕ Global) DocumentFault) → IfOk r (λ octets. defined ≡ Ok octets.items) → IfErr r (λ why. IsDocumentRefusal (told_refusal why) defined)
+pub form_so : (form : Form) (table : List Row) (s : Sections) (template : Tree) (values : Values) (defined : Result (List ℕ) RefusedAt) (r : Result (Vec ℕ Global) DocumentFault) → IfOk r (λ octets. defined ≡ Ok octets.items) → IfErr r (λ why. IsDocumentRefusal (reported_refusal why) defined)
     → IsFormed form table s template values defined → EncodesForm form table s template values r
 form_so form table s template values defined (Ok octets) ok err h = answered_well form table s template values defined octets.items h ok
 form_so form table s template values defined (Err why) ok err h = answered form table s template values defined why h err

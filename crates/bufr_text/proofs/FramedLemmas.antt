@@ -1,4 +1,4 @@
--- A message that was written has octets, and is scanned as one message whatever is behind it.
+-- A message that was written has octets, and is scanned as one message whatever is after it.
 use Rattle.std.proofs.Common.{◌≡◌, ℕ, ◌+◌, ◌-◌, ◌*◌, ◌/◌, ◌%◌, ◌^◌, ◌<◌, ◌≤◌, Bool, true, false, List, [], ◌∷◌, ◌++◌, length, take, drop, Option, Some, None, refl, sym, ◌∙◌, ap, subst, arith, codes, append_assoc, length-append}
 use Rattle.std.specs.Prelude.{◌==◌, ◌&&◌, nat_lt, is_some, unwrap_or, if◌then◌else◌}
 use Rattle.std.specs.List.{AllByRecursion}
@@ -41,8 +41,8 @@ flags_small true false = omega arith
 flags_small false true = omega arith
 flags_small false false = omega arith
 
-evened_small : (edition front : ℕ) (octets : List ℕ) → AllByRecursion IsOctet octets → AllByRecursion IsOctet (with_even_length edition front octets)
-evened_small edition front octets g = by ((edition == 3) && ((front + length octets) % 2 == 1))
+evened_small : (edition prefix : ℕ) (octets : List ℕ) → AllByRecursion IsOctet octets → AllByRecursion IsOctet (with_even_length edition prefix octets)
+evened_small edition prefix octets g = by ((edition == 3) && ((prefix + length octets) % 2 == 1))
   where
     by : (b : Bool) → AllByRecursion IsOctet (if b then octets ++ 0 ∷ [] else octets)
     by true = both octets (0 ∷ []) g (omega arith, tt)
@@ -110,7 +110,7 @@ verdict_frame m a b c d e = rw (a, b, c, d, e) refl
 at_least : (a b : ℕ) → b ≤ a → nat_lt a b ≡ false
 at_least a b h = grind (arith, nat_tests)
 
--- what is behind a message that states its length n
+-- what is after a message that states its length n
 module _ (m t : List ℕ) (n : ℕ) (is : stated_length (m ++ t) ≡ n) (long : length m ≡ n) where
   taken_whole : take (stated_length (m ++ t)) (m ++ t) ≡ m
   taken_whole = ap (λ k. take k (m ++ t)) is ∙ take_at m t n long
@@ -130,10 +130,10 @@ module _ (m t : List ℕ) (n : ℕ) (is : stated_length (m ++ t) ≡ n) (long : 
       ∙ ap (λ x. FrameAt at m ∷ scan_from 0 (at + stated_length (m ++ t)) x) left_whole
       ∙ ap (λ k. FrameAt at m ∷ scan_from 0 (at + k) t) size
 
-ends_with : (front t : List ℕ) (k : ℕ) → length front ≡ k → has_word_at (codes "7777") k ((front ++ codes "7777") ++ t) ≡ true
-ends_with front t k e =
-    ap (λ x. bytes_eq (take 4 (drop k x)) (codes "7777")) (append_assoc front (codes "7777") t)
-    ∙ ap (λ x. bytes_eq (take 4 x) (codes "7777")) (drop_at front (codes "7777" ++ t) k e)
+ends_with : (prefix t : List ℕ) (k : ℕ) → length prefix ≡ k → has_word_at (codes "7777") k ((prefix ++ codes "7777") ++ t) ≡ true
+ends_with prefix t k e =
+    ap (λ x. bytes_eq (take 4 (drop k x)) (codes "7777")) (append_assoc prefix (codes "7777") t)
+    ∙ ap (λ x. bytes_eq (take 4 x) (codes "7777")) (drop_at prefix (codes "7777" ++ t) k e)
 
 pub framed : (h : Head) (p : MessageParts) (at : ℕ) (t : List ℕ) → length (message_octets h p) ≡ message_size h.edition p → scan_from 0 at (message_octets h p ++ t) ≡ FrameAt at (message_octets h p) ∷ scan_from 0 (at + length (message_octets h p)) t
 framed h p at t long =
@@ -145,15 +145,15 @@ framed h p at t long =
     let s3 = section3_octets (with_even_length h.edition 7 (octets_of_words p.descriptors)) p.subsets (data_flags p.observed p.compressed) in
     let s4 = section4_octets (with_even_length h.edition 4 p.payload) in
     let end = codes "7777" in
-    let front = s0 ++ (s1 ++ (s2 ++ (s3 ++ s4))) in
-    let split : m ≡ front ++ end =
+    let prefix = s0 ++ (s1 ++ (s2 ++ (s3 ++ s4))) in
+    let split : m ≡ prefix ++ end =
     ap (λ x. s0 ++ (s1 ++ (s2 ++ x))) (sym (append_assoc s3 s4 end)) ∙ ap (λ x. s0 ++ (s1 ++ x)) (sym (append_assoc s2 (s3 ++ s4) end))
     ∙ ap (λ x. s0 ++ x) (sym (append_assoc s1 (s2 ++ (s3 ++ s4)) end)) ∙ sym (append_assoc s0 (s1 ++ (s2 ++ (s3 ++ s4))) end) in
     let is : stated_length (m ++ t) ≡ n = three-number n in
     let least : 12 ≤ n = omega arith in
-    let at_end : length front ≡ n - 4 = omega (arith, long, ap length split, length-append front end) in
+    let at_end : length prefix ≡ n - 4 = omega (arith, long, ap length split, length-append prefix end) in
     let whole : length (m ++ t) ≡ n + length t = length-append m t ∙ ap (λ k. k + length t) long in
-    let last : has_word_at end (stated_length (m ++ t) - 4) (m ++ t) ≡ true = ap (λ k. has_word_at end (k - 4) (m ++ t)) is ∙ ap (λ x. has_word_at end (n - 4) (x ++ t)) split ∙ ends_with front t (n - 4) at_end in
+    let last : has_word_at end (stated_length (m ++ t) - 4) (m ++ t) ≡ true = ap (λ k. has_word_at end (k - 4) (m ++ t)) is ∙ ap (λ x. has_word_at end (n - 4) (x ++ t)) split ∙ ends_with prefix t (n - 4) at_end in
     framed_by m t n is long at (omega (arith, least)) (verdict_frame (m ++ t) refl
     (at_least (length (m ++ t)) 8 (omega (arith, whole, least)))
     (at_least (length (m ++ t)) (stated_length (m ++ t)) (omega (arith, whole, is)))

@@ -18,25 +18,25 @@ abbrev pub stops : (ℕ → Bool) → List ℕ → Bool
 stops test [] = true
 stops test (c ∷ more) = not (test c)
 
-front-stop : (test : ℕ → Bool) (text : List ℕ) → stops test text ≡ true → prefix_while test text ≡ []
+prefix-stop : (test : ℕ → Bool) (text : List ℕ) → stops test text ≡ true → prefix_while test text ≡ []
 unfolding prefix_while
-front-stop test [] h = refl
-front-stop test (c ∷ more) h = let e : test c ≡ false = grind (arith, h) in rw e refl
+prefix-stop test [] h = refl
+prefix-stop test (c ∷ more) h = let e : test c ≡ false = grind (arith, h) in rw e refl
 
-behind-stop : (test : ℕ → Bool) (text : List ℕ) → stops test text ≡ true → suffix_while test text ≡ text
+after-stop : (test : ℕ → Bool) (text : List ℕ) → stops test text ≡ true → suffix_while test text ≡ text
 unfolding suffix_while
-behind-stop test [] h = refl
-behind-stop test (c ∷ more) h = let e : test c ≡ false = grind (arith, h) in rw e refl
+after-stop test [] h = refl
+after-stop test (c ∷ more) h = let e : test c ≡ false = grind (arith, h) in rw e refl
 
-pub front-of : (test : ℕ → Bool) (a b : List ℕ) → list_all test a ≡ true → stops test b ≡ true → prefix_while test (a ++ b) ≡ a
+pub prefix-of : (test : ℕ → Bool) (a b : List ℕ) → list_all test a ≡ true → stops test b ≡ true → prefix_while test (a ++ b) ≡ a
 unfolding prefix_while
-front-of test [] b h s = front-stop test b s
-front-of test (c ∷ a) b h s = rw (and_first (test c) (list_all test a) h) (ap (λ (t : List ℕ). c ∷ t) (front-of test a b (and_second (test c) (list_all test a) h) s))
+prefix-of test [] b h s = prefix-stop test b s
+prefix-of test (c ∷ a) b h s = rw (and_first (test c) (list_all test a) h) (ap (λ (t : List ℕ). c ∷ t) (prefix-of test a b (and_second (test c) (list_all test a) h) s))
 
-pub behind-of : (test : ℕ → Bool) (a b : List ℕ) → list_all test a ≡ true → stops test b ≡ true → suffix_while test (a ++ b) ≡ b
+pub after-of : (test : ℕ → Bool) (a b : List ℕ) → list_all test a ≡ true → stops test b ≡ true → suffix_while test (a ++ b) ≡ b
 unfolding suffix_while
-behind-of test [] b h s = behind-stop test b s
-behind-of test (c ∷ a) b h s = rw (and_first (test c) (list_all test a) h) (behind-of test a b (and_second (test c) (list_all test a) h) s)
+after-of test [] b h s = after-stop test b s
+after-of test (c ∷ a) b h s = rw (and_first (test c) (list_all test a) h) (after-of test a b (and_second (test c) (list_all test a) h) s)
 
 -- hexadecimal digits
 upper-back : (n : ℕ) → n < 16 → upper_value (hex_digit n) ≡ Some n

@@ -6,7 +6,7 @@ use Rattle.bufr_frame.specs.Sections.{Sections}
 use Rattle.bufr_tables.specs.Fxy.{fxy_text}
 use Rattle.std.proofs.lemmas.Grind.{flat_map-append}
 use Rattle.bufr_text.specs.Dump.{bit, header_of, header_lines, local1_line, section2_line, descriptors_line, head_lines, text_of_lines}
-use Rattle.bufr_text.specs.Grammar.{descriptors_text, runs_behind, runs_of}
+use Rattle.bufr_text.specs.Grammar.{descriptors_text, runs_after, runs_of}
 use Rattle.bufr_text.specs.Key.{header_text, lead_of}
 use Rattle.bufr_text.specs.Line.{keys, key_in}
 
@@ -54,7 +54,7 @@ text-append xs ys = flat_map-append (λ line. line ++ 10 ∷ []) xs ys
 
 -- no section 2, no lines
 pub no-section2 : {X : Type 0} (f : X → List ℕ) (o : Option X) (section2 : Option (List ℕ)) → option_map f o ≡ section2 → o ≡ None → text_of_lines (map section2_line (runs_of 32 (unwrap_or section2 []))) ≡ []
-unfolding runs_behind
+unfolding runs_after
 no-section2 f o section2 is none =
     let there : section2 ≡ None = sym is ∙ ap (option_map f) none in
     ap (λ s. text_of_lines (map section2_line (runs_of 32 (unwrap_or s [])))) there

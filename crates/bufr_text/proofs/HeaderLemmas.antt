@@ -1,4 +1,4 @@
--- The values of a header, and what holds of a place behind each line.
+-- The values of a header, and what holds of a place after each line.
 use Rattle.std.proofs.Common.{◌≡◌, ℕ, zero, suc, ◌+◌, ◌<◌, ◌≤◌, ◌==◌, ◌&&◌, not, nat_le, Bool, true, false, if◌then◌else◌, List, [], ◌∷◌, ◌++◌, length, refl, sym, ap, subst, ◌∙◌, arith, length-append}
 use Rattle.std.specs.Prelude.{slice_index, ◌||◌}
 use Rattle.std.specs.List.{AllByRecursion}
@@ -11,12 +11,12 @@ use Rattle.bufr_frame.specs.Section1 as section1
 use Rattle.bufr_fill.specs.Entries.{DraftEntry, Holds, Ends, subsets_of}
 use Rattle.bufr_text.specs.Document.{Document, edition_in, optional_in, subsets_in}
 use Rattle.bufr_text.specs.Line.{Line, Passed, Opens, Header, Local1, Section2, Descriptors, Begins, Item, Closes, Wrong, keys, leasts, mosts}
-use Rattle.bufr_text.specs.Documents.{ParserState, Between, Heading, Laying, Filling, Stopped, LineEffect, WalkGoes, Gives, Faults, NotAllowed, SubsetCount, HeaderRange, in_range, heading, laying, filling, beginning, closing, with_value, with_local1, with_section2, with_entry, turn}
+use Rattle.bufr_text.specs.Documents.{ParserState, Between, Heading, BeforeSubsets, Filling, Stopped, LineEffect, WalkGoes, Gives, Faults, NotAllowed, SubsetCount, HeaderRange, in_range, heading, before_subsets, filling, beginning, closing, with_value, with_local1, with_section2, with_entry, turn}
 use Rattle.bufr_text.specs.Header.{are_in_range, head_from_values, IsHeaded}
 use Rattle.bufr_text.specs.Bounds.{IsOctet, IsDescriptorWord}
 use Rattle.bufr_text.specs.Proper.{AreEnded}
-use Rattle.bufr_text.specs.Step.{IsBare, HasLineGroups, EntryHasOctets, HasSubsets, IsParserState, StandsAfter}
-use Rattle.bufr_text.proofs.ProperLemmas.{all-more, item-ends-none, end-ends-one, ends-last, drafts-octets, laid-bare}
+use Rattle.bufr_text.specs.Step.{IsBare, HasLineGroups, EntryHasOctets, HasSubsets, IsParserState, HoldsAfter}
+use Rattle.bufr_text.proofs.ProperLemmas.{all-more, item-ends-none, end-ends-one, ends-last, drafts-octets, written-bare}
 use Rattle.bufr_text.proofs.SoundLemmas.{IsSound}
 use Rattle.bufr_fill.specs.Draft.{draft}
 
@@ -139,11 +139,11 @@ ranges-again (x ∷ xs) v h g =
 pub later : (at : ℕ) (place : ParserState) → IsParserState at place → IsParserState (at + 1) place
 later at Between s = tt
 later at (Heading d) s = (s.0, s.1, omega (arith, s.2), s.3)
-later at (Laying part d) s = (s.0, omega (arith, s.1), s.2, s.3)
+later at (BeforeSubsets part d) s = (s.0, omega (arith, s.1), s.2, s.3)
 later at (Filling subset d) s = (s.0, omega (arith, s.1), s.2, s.3, s.4)
 later at Stopped s = tt
 
-if-so : (at : ℕ) (b : Bool) (x y : LineEffect) → (b ≡ true → StandsAfter at x) → (b ≡ false → StandsAfter at y) → StandsAfter at (if b then x else y)
+if-so : (at : ℕ) (b : Bool) (x y : LineEffect) → (b ≡ true → HoldsAfter at x) → (b ≡ false → HoldsAfter at y) → HoldsAfter at (if b then x else y)
 if-so at true x y p q = p refl
 if-so at false x y p q = q refl
 
@@ -162,17 +162,17 @@ still-bare : (d : Document) (value : ℕ) → IsBare d → IsBare (with_value d 
 still-bare d value bare = record { local1 = bare.local1; section2 = bare.section2; descriptors = bare.descriptors; entries = bare.entries }
 
 value-so : (at key value : ℕ) (d : Document) (b : Bool) → (key == 19) ≡ b → length d.header < 20 → are_in_range (edition_in d) 0 d.header ≡ true → length d.entries < at → key ≡ length d.header → in_range (edition_in d) key value ≡ true → IsBare d
-    → IsParserState (at + 1) (if b then Laying 0 (with_value d value) else Heading (with_value d value))
+    → IsParserState (at + 1) (if b then BeforeSubsets 0 (with_value d value) else Heading (with_value d value))
 value-so at key value d true last few ranges lines same fits bare =
     let is : key ≡ 19 = grind (arith, nat_tests, last) in
-    (record { whole = omega (arith, length-append d.header (value ∷ []), is, same); ranges = ranges-again d.header value ranges (ap (λ (n : ℕ). in_range (edition_in d) n value) (sym same) ∙ fits) }, omega (arith, lines), laid-bare (with_value d value) (still-bare d value bare), bare.entries)
+    (record { whole = omega (arith, length-append d.header (value ∷ []), is, same); ranges = ranges-again d.header value ranges (ap (λ (n : ℕ). in_range (edition_in d) n value) (sym same) ∙ fits) }, omega (arith, lines), written-bare (with_value d value) (still-bare d value bare), bare.entries)
 value-so at key value d false last few ranges lines same fits bare =
     let other : key ≡ 19 → ⊥ = λ is. (let e : (key == 19) ≡ true = grind (arith, nat_tests, is) in cc) in
     (omega (arith, length-append d.header (value ∷ []), other, same, few), ranges-again d.header value ranges (ap (λ (n : ℕ). in_range (edition_in d) n value) (sym same) ∙ fits), omega (arith, lines), still-bare d value bare)
 
-heading-so : (at key value : ℕ) (d : Document) → length d.header < 20 → are_in_range (edition_in d) 0 d.header ≡ true → length d.entries < at → IsBare d → StandsAfter at (heading d (Header key value))
+heading-so : (at key value : ℕ) (d : Document) → length d.header < 20 → are_in_range (edition_in d) 0 d.header ≡ true → length d.entries < at → IsBare d → HoldsAfter at (heading d (Header key value))
 heading-so at key value d few ranges lines bare =
-    let taken : LineEffect = WalkGoes (if key == 19 then Laying 0 (with_value d value) else Heading (with_value d value)) in
+    let taken : LineEffect = WalkGoes (if key == 19 then BeforeSubsets 0 (with_value d value) else Heading (with_value d value)) in
     let ranged : LineEffect = if not (in_range (edition_in d) key value) then Faults HeaderRange else taken in
     if-so at (not (key == length d.header)) (Faults NotAllowed) ranged (λ e. tt) (λ e.
     if-so at (not (in_range (edition_in d) key value)) (Faults HeaderRange) taken (λ f. tt) (λ f.
@@ -184,23 +184,23 @@ subset-few a b n h = let le : nat_le a n ≡ true = and_second (a == b) (nat_le 
 same-number : (a b n : ℕ) → ((a == b) && nat_le a n) ≡ true → a ≡ b
 same-number a b n h = let is : (a == b) ≡ true = and_first (a == b) (nat_le a n) h in grind (arith, nat_tests, is)
 
-beginning-so : (at read subset : ℕ) (d : Document) → IsHeaded d → length d.entries < at + 1 → HasLineGroups d → HasSubsets read d → StandsAfter at (beginning read d subset)
-beginning-so at read subset d h lines laid has =
+beginning-so : (at read subset : ℕ) (d : Document) → IsHeaded d → length d.entries < at + 1 → HasLineGroups d → HasSubsets read d → HoldsAfter at (beginning read d subset)
+beginning-so at read subset d h lines written has =
     if-so at ((subset == read + 1) && nat_le subset (subsets_in d)) (WalkGoes (Filling subset d)) (Faults SubsetCount)
-    (λ e. (h, lines, omega (arith, subset-few subset (read + 1) (subsets_in d) e, subsets-few d h), laid, (read, same-number subset (read + 1) (subsets_in d) e, has))) (λ e. tt)
+    (λ e. (h, lines, omega (arith, subset-few subset (read + 1) (subsets_in d) e, subsets-few d h), written, (read, same-number subset (read + 1) (subsets_in d) e, has))) (λ e. tt)
 
 equal : (a b : ℕ) → (a == b) ≡ true → a ≡ b
 equal a b e = grind (arith, nat_tests, e)
 
-closing-so : (at read : ℕ) (d : Document) → IsHeaded d → length d.entries ≤ at → HasLineGroups d → HasSubsets read d → AreEnded d.entries → StandsAfter at (closing read d)
-closing-so at read d h lines laid has closed =
+closing-so : (at read : ℕ) (d : Document) → IsHeaded d → length d.entries ≤ at → HasLineGroups d → HasSubsets read d → AreEnded d.entries → HoldsAfter at (closing read d)
+closing-so at read d h lines written has closed =
     if-so at (read == subsets_in d) (Gives d) (Faults SubsetCount) (λ e. (
       record {
         headed = h;
-        local1 = laid.local1;
-        section2 = laid.section2;
-        no_section2 = laid.no_section2;
-        descriptors = laid.descriptors;
+        local1 = written.local1;
+        section2 = written.section2;
+        no_section2 = written.no_section2;
+        descriptors = written.descriptors;
         texts = drafts-octets d.entries has.texts;
         counted = has.counted ∙ equal read (subsets_in d) e;
         ended = closed;
@@ -215,34 +215,34 @@ none-ended d none = record { texts = subst (λ (l : List DraftEntry). AllByRecur
 none-last : (es : List DraftEntry) → es ≡ [] → AreEnded es
 none-last es none = subst (λ (l : List DraftEntry). AreEnded l) (sym none) tt
 
-laying-so : (at part : ℕ) (d : Document) (line : Line) → IsSound line → IsHeaded d → length d.entries < at → HasLineGroups d → d.entries ≡ [] → StandsAfter at (laying part d line)
-laying-so at part d Passed sound h lines laid none = tt
-laying-so at part d Opens sound h lines laid none = tt
-laying-so at part d (Header key value) sound h lines laid none = tt
-laying-so at part d (Local1 octets) sound h lines laid none =
-    if-so at (part == 0) (WalkGoes (Laying 0 (with_local1 d octets))) (Faults NotAllowed) (λ e. (
+before_subsets-so : (at part : ℕ) (d : Document) (line : Line) → IsSound line → IsHeaded d → length d.entries < at → HasLineGroups d → d.entries ≡ [] → HoldsAfter at (before_subsets part d line)
+before_subsets-so at part d Passed sound h lines written none = tt
+before_subsets-so at part d Opens sound h lines written none = tt
+before_subsets-so at part d (Header key value) sound h lines written none = tt
+before_subsets-so at part d (Local1 octets) sound h lines written none =
+    if-so at (part == 0) (WalkGoes (BeforeSubsets 0 (with_local1 d octets))) (Faults NotAllowed) (λ e. (
       record { whole = h.whole; ranges = h.ranges },
       omega (arith, lines),
-      record { local1 = all-more IsOctet d.local1 octets laid.local1 sound; section2 = laid.section2; no_section2 = laid.no_section2; descriptors = laid.descriptors },
+      record { local1 = all-more IsOctet d.local1 octets written.local1 sound; section2 = written.section2; no_section2 = written.no_section2; descriptors = written.descriptors },
       none,
     )) (λ e. tt)
-laying-so at part d (Section2 octets) sound h lines laid none =
-    if-so at (nat_le part 1 && (optional_in d == 1)) (WalkGoes (Laying 1 (with_section2 d octets))) (Faults NotAllowed) (λ e. (
+before_subsets-so at part d (Section2 octets) sound h lines written none =
+    if-so at (nat_le part 1 && (optional_in d == 1)) (WalkGoes (BeforeSubsets 1 (with_section2 d octets))) (Faults NotAllowed) (λ e. (
       record { whole = h.whole; ranges = h.ranges },
       omega (arith, lines),
-      record { local1 = laid.local1; section2 = all-more IsOctet d.section2 octets laid.section2 sound; no_section2 = λ other. absurd (true≢false (sym (and_second (nat_le part 1) (optional_in d == 1) e) ∙ other)); descriptors = laid.descriptors },
+      record { local1 = written.local1; section2 = all-more IsOctet d.section2 octets written.section2 sound; no_section2 = λ other. absurd (true≢false (sym (and_second (nat_le part 1) (optional_in d == 1) e) ∙ other)); descriptors = written.descriptors },
       none,
     )) (λ e. tt)
-laying-so at part d (Descriptors words) sound h lines laid none = (
+before_subsets-so at part d (Descriptors words) sound h lines written none = (
   record { whole = h.whole; ranges = h.ranges },
   omega (arith, lines),
-  record { local1 = laid.local1; section2 = laid.section2; no_section2 = laid.no_section2; descriptors = all-more IsDescriptorWord d.descriptors words laid.descriptors sound },
+  record { local1 = written.local1; section2 = written.section2; no_section2 = written.no_section2; descriptors = all-more IsDescriptorWord d.descriptors words written.descriptors sound },
   none,
 )
-laying-so at part d (Begins subset) sound h lines laid none = beginning-so at 0 subset d h (omega (arith, lines)) laid (none-ended d none)
-laying-so at part d (Item fxy form) sound h lines laid none = tt
-laying-so at part d Closes sound h lines laid none = closing-so at 0 d h (omega (arith, lines)) laid (none-ended d none) (none-last d.entries none)
-laying-so at part d Wrong sound h lines laid none = tt
+before_subsets-so at part d (Begins subset) sound h lines written none = beginning-so at 0 subset d h (omega (arith, lines)) written (none-ended d none)
+before_subsets-so at part d (Item fxy form) sound h lines written none = tt
+before_subsets-so at part d Closes sound h lines written none = closing-so at 0 d h (omega (arith, lines)) written (none-ended d none) (none-last d.entries none)
+before_subsets-so at part d Wrong sound h lines written none = tt
 
 one-entry : (d : Document) (entry : DraftEntry) → length (with_entry d entry).entries ≡ length d.entries + 1
 one-entry d entry = omega (arith, length-append d.entries (entry ∷ []))
@@ -251,8 +251,8 @@ one-entry d entry = omega (arith, length-append d.entries (entry ∷ []))
 still-headed : (d : Document) (entry : DraftEntry) → IsHeaded d → IsHeaded (with_entry d entry)
 still-headed d entry h = record { whole = h.whole; ranges = h.ranges }
 
-still-laid : (d : Document) (entry : DraftEntry) → HasLineGroups d → HasLineGroups (with_entry d entry)
-still-laid d entry laid = record { local1 = laid.local1; section2 = laid.section2; no_section2 = laid.no_section2; descriptors = laid.descriptors }
+still-written : (d : Document) (entry : DraftEntry) → HasLineGroups d → HasLineGroups (with_entry d entry)
+still-written d entry written = record { local1 = written.local1; section2 = written.section2; no_section2 = written.no_section2; descriptors = written.descriptors }
 
 one-more : (at ended : ℕ) (d : Document) → HasSubsets ended d → HasSubsets (ended + 1) (with_entry d (Ends at))
 one-more at ended d has = record {
@@ -263,20 +263,20 @@ one-more at ended d has = record {
 by-number : (subset ended : ℕ) (d : Document) → subset ≡ ended + 1 → HasSubsets (ended + 1) d → HasSubsets subset d
 by-number subset ended d is has = subst (λ (n : ℕ). HasSubsets n d) (sym is) has
 
-filling-so : (at subset : ℕ) (d : Document) (line : Line) → IsSound line → IsHeaded d → length d.entries < at → subset < 65536 → HasLineGroups d → ((ended : ℕ) × (subset ≡ ended + 1) × HasSubsets ended d) → StandsAfter at (filling at subset d line)
-filling-so at subset d Passed sound h lines few laid has = tt
-filling-so at subset d Opens sound h lines few laid has = tt
-filling-so at subset d (Header key value) sound h lines few laid has = tt
-filling-so at subset d (Local1 octets) sound h lines few laid has = tt
-filling-so at subset d (Section2 octets) sound h lines few laid has = tt
-filling-so at subset d (Descriptors words) sound h lines few laid has = tt
-filling-so at subset d (Begins next) sound h lines few laid (ended, is, has) =
-    beginning-so at subset next (with_entry d (Ends at)) (still-headed d (Ends at) h) (omega (arith, lines, one-entry d (Ends at))) (still-laid d (Ends at) laid) (by-number subset ended (with_entry d (Ends at)) is (one-more at ended d has))
-filling-so at subset d (Item fxy form) sound h lines few laid (ended, is, has) = (
+filling-so : (at subset : ℕ) (d : Document) (line : Line) → IsSound line → IsHeaded d → length d.entries < at → subset < 65536 → HasLineGroups d → ((ended : ℕ) × (subset ≡ ended + 1) × HasSubsets ended d) → HoldsAfter at (filling at subset d line)
+filling-so at subset d Passed sound h lines few written has = tt
+filling-so at subset d Opens sound h lines few written has = tt
+filling-so at subset d (Header key value) sound h lines few written has = tt
+filling-so at subset d (Local1 octets) sound h lines few written has = tt
+filling-so at subset d (Section2 octets) sound h lines few written has = tt
+filling-so at subset d (Descriptors words) sound h lines few written has = tt
+filling-so at subset d (Begins next) sound h lines few written (ended, is, has) =
+    beginning-so at subset next (with_entry d (Ends at)) (still-headed d (Ends at) h) (omega (arith, lines, one-entry d (Ends at))) (still-written d (Ends at) written) (by-number subset ended (with_entry d (Ends at)) is (one-more at ended d has))
+filling-so at subset d (Item fxy form) sound h lines few written (ended, is, has) = (
   still-headed d (Holds (draft at fxy form)) h,
   omega (arith, lines, one-entry d (Holds (draft at fxy form))),
   few,
-  still-laid d (Holds (draft at fxy form)) laid,
+  still-written d (Holds (draft at fxy form)) written,
   (
     ended,
     is,
@@ -286,60 +286,60 @@ filling-so at subset d (Item fxy form) sound h lines few laid (ended, is, has) =
     },
   ),
 )
-filling-so at subset d Closes sound h lines few laid (ended, is, has) =
-    closing-so at subset (with_entry d (Ends at)) (still-headed d (Ends at) h) (omega (arith, lines, one-entry d (Ends at))) (still-laid d (Ends at) laid) (by-number subset ended (with_entry d (Ends at)) is (one-more at ended d has)) (ends-last d.entries at)
-filling-so at subset d Wrong sound h lines few laid has = tt
+filling-so at subset d Closes sound h lines few written (ended, is, has) =
+    closing-so at subset (with_entry d (Ends at)) (still-headed d (Ends at) h) (omega (arith, lines, one-entry d (Ends at))) (still-written d (Ends at) written) (by-number subset ended (with_entry d (Ends at)) is (one-more at ended d has)) (ends-last d.entries at)
+filling-so at subset d Wrong sound h lines few written has = tt
 
--- what holds of a place holds of the place behind the line
-pub turn-stands : (at : ℕ) (place : ParserState) (line : Line) → 0 < at → IsSound line → IsParserState at place → StandsAfter at (turn at place line)
+-- what holds of a place holds of the place after the line
+pub turn-holds : (at : ℕ) (place : ParserState) (line : Line) → 0 < at → IsSound line → IsParserState at place → HoldsAfter at (turn at place line)
 unfolding turn
-turn-stands at Between Passed some sound s = tt
-turn-stands at Between Opens some sound s = (omega arith, refl, omega arith, record { local1 = refl; section2 = refl; descriptors = refl; entries = refl })
-turn-stands at Between (Header key value) some sound s = tt
-turn-stands at Between (Local1 octets) some sound s = tt
-turn-stands at Between (Section2 octets) some sound s = tt
-turn-stands at Between (Descriptors words) some sound s = tt
-turn-stands at Between (Begins subset) some sound s = tt
-turn-stands at Between (Item fxy form) some sound s = tt
-turn-stands at Between Closes some sound s = tt
-turn-stands at Between Wrong some sound s = tt
-turn-stands at (Heading d) Passed some sound s = later at (Heading d) s
-turn-stands at (Heading d) Opens some sound s = tt
-turn-stands at (Heading d) (Header key value) some sound s = heading-so at key value d s.0 s.1 s.2 s.3
-turn-stands at (Heading d) (Local1 octets) some sound s = tt
-turn-stands at (Heading d) (Section2 octets) some sound s = tt
-turn-stands at (Heading d) (Descriptors words) some sound s = tt
-turn-stands at (Heading d) (Begins subset) some sound s = tt
-turn-stands at (Heading d) (Item fxy form) some sound s = tt
-turn-stands at (Heading d) Closes some sound s = tt
-turn-stands at (Heading d) Wrong some sound s = tt
-turn-stands at (Laying part d) Passed some sound s = later at (Laying part d) s
-turn-stands at (Laying part d) Opens some sound s = tt
-turn-stands at (Laying part d) (Header key value) some sound s = tt
-turn-stands at (Laying part d) (Local1 octets) some sound s = laying-so at part d (Local1 octets) sound s.0 s.1 s.2 s.3
-turn-stands at (Laying part d) (Section2 octets) some sound s = laying-so at part d (Section2 octets) sound s.0 s.1 s.2 s.3
-turn-stands at (Laying part d) (Descriptors words) some sound s = laying-so at part d (Descriptors words) sound s.0 s.1 s.2 s.3
-turn-stands at (Laying part d) (Begins subset) some sound s = laying-so at part d (Begins subset) sound s.0 s.1 s.2 s.3
-turn-stands at (Laying part d) (Item fxy form) some sound s = tt
-turn-stands at (Laying part d) Closes some sound s = laying-so at part d Closes sound s.0 s.1 s.2 s.3
-turn-stands at (Laying part d) Wrong some sound s = tt
-turn-stands at (Filling subset d) Passed some sound s = later at (Filling subset d) s
-turn-stands at (Filling subset d) Opens some sound s = tt
-turn-stands at (Filling subset d) (Header key value) some sound s = tt
-turn-stands at (Filling subset d) (Local1 octets) some sound s = tt
-turn-stands at (Filling subset d) (Section2 octets) some sound s = tt
-turn-stands at (Filling subset d) (Descriptors words) some sound s = tt
-turn-stands at (Filling subset d) (Begins next) some sound s = filling-so at subset d (Begins next) sound s.0 s.1 s.2 s.3 s.4
-turn-stands at (Filling subset d) (Item fxy form) some sound s = filling-so at subset d (Item fxy form) sound s.0 s.1 s.2 s.3 s.4
-turn-stands at (Filling subset d) Closes some sound s = filling-so at subset d Closes sound s.0 s.1 s.2 s.3 s.4
-turn-stands at (Filling subset d) Wrong some sound s = tt
-turn-stands at Stopped Passed some sound s = tt
-turn-stands at Stopped Opens some sound s = tt
-turn-stands at Stopped (Header key value) some sound s = tt
-turn-stands at Stopped (Local1 octets) some sound s = tt
-turn-stands at Stopped (Section2 octets) some sound s = tt
-turn-stands at Stopped (Descriptors words) some sound s = tt
-turn-stands at Stopped (Begins subset) some sound s = tt
-turn-stands at Stopped (Item fxy form) some sound s = tt
-turn-stands at Stopped Closes some sound s = tt
-turn-stands at Stopped Wrong some sound s = tt
+turn-holds at Between Passed some sound s = tt
+turn-holds at Between Opens some sound s = (omega arith, refl, omega arith, record { local1 = refl; section2 = refl; descriptors = refl; entries = refl })
+turn-holds at Between (Header key value) some sound s = tt
+turn-holds at Between (Local1 octets) some sound s = tt
+turn-holds at Between (Section2 octets) some sound s = tt
+turn-holds at Between (Descriptors words) some sound s = tt
+turn-holds at Between (Begins subset) some sound s = tt
+turn-holds at Between (Item fxy form) some sound s = tt
+turn-holds at Between Closes some sound s = tt
+turn-holds at Between Wrong some sound s = tt
+turn-holds at (Heading d) Passed some sound s = later at (Heading d) s
+turn-holds at (Heading d) Opens some sound s = tt
+turn-holds at (Heading d) (Header key value) some sound s = heading-so at key value d s.0 s.1 s.2 s.3
+turn-holds at (Heading d) (Local1 octets) some sound s = tt
+turn-holds at (Heading d) (Section2 octets) some sound s = tt
+turn-holds at (Heading d) (Descriptors words) some sound s = tt
+turn-holds at (Heading d) (Begins subset) some sound s = tt
+turn-holds at (Heading d) (Item fxy form) some sound s = tt
+turn-holds at (Heading d) Closes some sound s = tt
+turn-holds at (Heading d) Wrong some sound s = tt
+turn-holds at (BeforeSubsets part d) Passed some sound s = later at (BeforeSubsets part d) s
+turn-holds at (BeforeSubsets part d) Opens some sound s = tt
+turn-holds at (BeforeSubsets part d) (Header key value) some sound s = tt
+turn-holds at (BeforeSubsets part d) (Local1 octets) some sound s = before_subsets-so at part d (Local1 octets) sound s.0 s.1 s.2 s.3
+turn-holds at (BeforeSubsets part d) (Section2 octets) some sound s = before_subsets-so at part d (Section2 octets) sound s.0 s.1 s.2 s.3
+turn-holds at (BeforeSubsets part d) (Descriptors words) some sound s = before_subsets-so at part d (Descriptors words) sound s.0 s.1 s.2 s.3
+turn-holds at (BeforeSubsets part d) (Begins subset) some sound s = before_subsets-so at part d (Begins subset) sound s.0 s.1 s.2 s.3
+turn-holds at (BeforeSubsets part d) (Item fxy form) some sound s = tt
+turn-holds at (BeforeSubsets part d) Closes some sound s = before_subsets-so at part d Closes sound s.0 s.1 s.2 s.3
+turn-holds at (BeforeSubsets part d) Wrong some sound s = tt
+turn-holds at (Filling subset d) Passed some sound s = later at (Filling subset d) s
+turn-holds at (Filling subset d) Opens some sound s = tt
+turn-holds at (Filling subset d) (Header key value) some sound s = tt
+turn-holds at (Filling subset d) (Local1 octets) some sound s = tt
+turn-holds at (Filling subset d) (Section2 octets) some sound s = tt
+turn-holds at (Filling subset d) (Descriptors words) some sound s = tt
+turn-holds at (Filling subset d) (Begins next) some sound s = filling-so at subset d (Begins next) sound s.0 s.1 s.2 s.3 s.4
+turn-holds at (Filling subset d) (Item fxy form) some sound s = filling-so at subset d (Item fxy form) sound s.0 s.1 s.2 s.3 s.4
+turn-holds at (Filling subset d) Closes some sound s = filling-so at subset d Closes sound s.0 s.1 s.2 s.3 s.4
+turn-holds at (Filling subset d) Wrong some sound s = tt
+turn-holds at Stopped Passed some sound s = tt
+turn-holds at Stopped Opens some sound s = tt
+turn-holds at Stopped (Header key value) some sound s = tt
+turn-holds at Stopped (Local1 octets) some sound s = tt
+turn-holds at Stopped (Section2 octets) some sound s = tt
+turn-holds at Stopped (Descriptors words) some sound s = tt
+turn-holds at Stopped (Begins subset) some sound s = tt
+turn-holds at Stopped (Item fxy form) some sound s = tt
+turn-holds at Stopped Closes some sound s = tt
+turn-holds at Stopped Wrong some sound s = tt

@@ -8,7 +8,7 @@ use Rattle.std.proofs.lemmas.Grind.{common_steps}
 use Rattle.std.proofs.lemmas.List.{drop_all}
 use Rattle.bufr_bits.proofs.ScaledLemmas.{and_first, and_second}
 use Rattle.bufr_tables.specs.Fxy.{fxy_of}
-use Rattle.bufr_text.specs.Grammar.{prefix_while, suffix_while, without_space, without_prefix, fxy_read, is_number_octet, is_hashed, is_passed_behind}
+use Rattle.bufr_text.specs.Grammar.{prefix_while, suffix_while, without_space, without_prefix, fxy_read, is_number_octet, is_hashed, is_passed_after}
 use Rattle.bufr_text.specs.Unquoting.{IsTokenTo}
 use Rattle.bufr_fill.specs.Draft.{number_token, reference_token}
 use Rattle.bufr_text.specs.Line.{value_read, text_value, number_value, missing_value}
@@ -156,15 +156,15 @@ pub hashed-end : (text : List ℕ) (at : ℕ) → length text ≤ at → is_hash
 unfolding is_hashed
 hashed-end text at h = ap is_hashed (drop_all at text h)
 
-pub passed-space : (text : List ℕ) → slice_index text 0 ≡ 32 → is_passed_behind text ≡ is_hashed text
+pub passed-space : (text : List ℕ) → slice_index text 0 ≡ 32 → is_passed_after text ≡ is_hashed text
 passed-space [] e = absurd (omega arith)
 passed-space (c ∷ more) e = let q : (c == 32) ≡ true = grind (arith, nat_tests, e) in rw q (sym (hashed-one c more e))
 
-pub passed-other : (text : List ℕ) → 0 < length text → (slice_index text 0 ≡ 32 → ⊥) → is_passed_behind text ≡ false
+pub passed-other : (text : List ℕ) → 0 < length text → (slice_index text 0 ≡ 32 → ⊥) → is_passed_after text ≡ false
 passed-other [] some e = absurd (omega arith)
 passed-other (c ∷ more) some e = let q : (c == 32) ≡ false = grind (arith, nat_tests, e) in rw q refl
 
-pub passed-none : (text : List ℕ) → length text ≡ 0 → is_passed_behind text ≡ true
+pub passed-none : (text : List ℕ) → length text ≡ 0 → is_passed_after text ≡ true
 passed-none [] e = refl
 passed-none (c ∷ more) e = absurd (omega arith)
 

@@ -11,10 +11,10 @@ use Rattle.bufr_text.specs.Line.{key_in, keys, leasts, mosts, place_from}
 use Rattle.bufr_text.specs.Line as line
 use Rattle.bufr_text.proofs.HeaderLemmas.{not-3}
 
--- what stands before the value of a key has the key's name and no other
-front-all : (xs : List ℕ) (c : ℕ) → take (length xs) (xs ++ c ∷ []) ≡ xs
-front-all [] c = refl
-front-all (x ∷ xs) c = ap (λ l. x ∷ l) (front-all xs c)
+-- what is before the value of a key has the key's name and no other
+prefix-all : (xs : List ℕ) (c : ℕ) → take (length xs) (xs ++ c ∷ []) ≡ xs
+prefix-all [] c = refl
+prefix-all (x ∷ xs) c = ap (λ l. x ∷ l) (prefix-all xs c)
 
 named : (key : line.Key) (name : List ℕ) → is_named (lead_of key) name ≡ bytes_eq name key.name
 named key name =
@@ -22,9 +22,9 @@ named key name =
     let count : length (lead_of key) - 2 ≡ length key.name = omega (arith, length-append key.name (32 ∷ [])) in
     ap (λ b. b && bytes_eq name (take (length (lead_of key) - 2) (key.name ++ 32 ∷ []))) long
     ∙ ap (λ n. bytes_eq name (take n (key.name ++ 32 ∷ []))) count
-    ∙ ap (bytes_eq name) (front-all key.name 32)
+    ∙ ap (bytes_eq name) (prefix-all key.name 32)
 
--- the place of a key is that of what stands before its value
+-- the place of a key is that of what is before its value
 module _ {Row : Type 0} (lead : Row → List ℕ) (name : List ℕ) where
   places : (at : ℕ) (rows : List Row) (ks : List line.Key) → map lead rows ≡ map lead_of ks → position_from (λ row. is_named (lead row) name) at rows ≡ place_from at name ks
   unfolding place_from
@@ -41,7 +41,7 @@ module _ {Row : Type 0} (lead : Row → List ℕ) (name : List ℕ) where
   pub place-is : (rows : List Row) → map lead rows ≡ map lead_of keys → position (λ row. is_named (lead row) name) rows ≡ place_from 0 name keys
   place-is rows same = position_from-zero (λ row. is_named (lead row) name) rows ∙ places 0 rows keys same
 
--- what stands before a value has the key's name and a space behind its first octet
+-- what is before a value has the key's name and a space after its first octet
 module _ {Row : Type 0} (lead : Row → List ℕ) where
   lead_at : (rows : List Row) (ks : List line.Key) (i : ℕ) (d : Row) → map lead rows ≡ map lead_of ks → i < length rows → lead (get_or rows i d) ≡ lead_of (key_in ks i)
   lead_at [] ks i d same below = absurd (omega (arith, below))
@@ -71,7 +71,7 @@ place-few p rows o is = let P : Option ℕ → Type 0 = λ o. IfSome o (λ i. i 
     by true h = grind (arith, nat_tests, h)
     by false h = tt
 
--- a number of a row stands at the same place of its column
+-- a number of a row is at the same place of its column
 pub column : {Row : Type 0} (f : Row → ℕ) (rows : List Row) (xs : List ℕ) (i : ℕ) (d : Row) → map f rows ≡ xs → i < length rows → f (get_or rows i d) ≡ slice_index xs i
 column f rows xs i d same below = at f rows i d below ∙ ap (λ l. slice_index l i) same
   where

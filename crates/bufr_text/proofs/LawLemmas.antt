@@ -10,7 +10,7 @@ use Rattle.bufr_frame.specs.Section1.{Field, Master, Centre, Subcentre, Update, 
 use Rattle.bufr_frame.specs.Section1 as section1
 use Rattle.bufr_frame.specs.Sections.{Sections}
 use Rattle.bufr_text.specs.Document.{Document, blank}
-use Rattle.bufr_text.specs.Grammar.{runs_of, runs_behind}
+use Rattle.bufr_text.specs.Grammar.{runs_of, runs_after}
 use Rattle.bufr_text.specs.Line.{Line, Opens, Local1, Section2, Descriptors, keys}
 use Rattle.bufr_text.specs.Documents.{Between, Heading, Complete, turn, parse_lines, lines_of, documents_of}
 use Rattle.bufr_text.specs.Dump.{header_of, bit, header_lines, header_line, local1_line, section2_line, descriptors_line, subset_line, subset_lines, item_text, head_lines, dump_lines, dump_text_of, text_of_lines, subset_entries, document_of, lines_before}
@@ -19,7 +19,7 @@ use Rattle.bufr_text.specs.Bounds.{IsOctet, IsDescriptorWord, IsItem, IsDumpable
 use Rattle.bufr_text.proofs.CleanLemmas.{IsLineOf, header-line, local1-line, section2-line, descriptors-line, subset-line, item-line, message-line, end-line}
 use Rattle.bufr_text.proofs.RunsLemmas.{IsRun, runs-are, concat-runs}
 use Rattle.bufr_text.proofs.LinesLemmas.{IsAbove, lines-back}
-use Rattle.bufr_text.proofs.SpelledLemmas.{InRange, goes, header-run, local1-run, section2-run, descriptors-run, subsets-laid, laid}
+use Rattle.bufr_text.proofs.SpelledLemmas.{InRange, goes, header-run, local1-run, section2-run, descriptors-run, subsets-written, written}
 
 -- the header's values are within their ranges
 up_to : (least most v : ℕ) → least ≤ v → v ≤ most → (nat_le least v && nat_le v most) ≡ true
@@ -58,7 +58,7 @@ header-fits s h few =
 
 -- section 2 has lines only where it is there
 optional-there : (section2 : Option (List ℕ)) → 0 < length (runs_of 32 (unwrap_or section2 [])) → bit (is_some section2) ≡ 1
-unfolding runs_behind
+unfolding runs_after
 optional-there None some = absurd (omega arith)
 optional-there (Some octets) some = refl
 
@@ -98,8 +98,8 @@ all-lines-run s subsets at more given =
     ∙ header-run s.head.edition s.head.master (header-tail s) at (at + 1) A refl (header-fits s given.head given.few)
     ∙ local1-run a d1 (at + 1 + 1 + 19) B (runs-are IsOctet 31 s.local1 given.local1)
     ∙ section2-run b 0 d2 (at + 1 + 1 + 19 + length a) C (omega arith) (λ some. optional-there s.section2 some) (runs-are IsOctet 31 (unwrap_or s.section2 []) given.section2)
-    ∙ descriptors-run c (laid 0 b 1) d3 (at + 1 + 1 + 19 + length a + length b) D (runs-are IsDescriptorWord 7 s.descriptors given.descriptors)
-    ∙ subsets-laid subsets (laid (laid 0 b 1) c 2) d4 (at + 1 + 1 + 19 + length a + length b + length c) more refl given.counted (omega (arith, given.few)) given.items
+    ∙ descriptors-run c (written 0 b 1) d3 (at + 1 + 1 + 19 + length a + length b) D (runs-are IsDescriptorWord 7 s.descriptors given.descriptors)
+    ∙ subsets-written subsets (written (written 0 b 1) c 2) d4 (at + 1 + 1 + 19 + length a + length b + length c) more refl given.counted (omega (arith, given.few)) given.items
 
 header-lines-count : (k : ℕ) (values : List ℕ) → length (header_lines k values) ≡ length values
 unfolding header_lines
@@ -206,7 +206,7 @@ above-dump s subsets given =
     )
     e
 
--- the law: behind a dump text the reading goes on between documents
+-- the law: after a dump text the reading goes on between documents
 pub text-spells : (s : Sections) (subsets : List (List dump.DumpItem)) (at : ℕ) (t : List ℕ) → IsDumpable s subsets
     → parse_lines at Between (lines_of (dump_text_of s subsets ++ t)) ≡ Complete (document_of at s subsets) ∷ parse_lines (at + length (dump_lines s subsets)) Between (lines_of t)
 text-spells s subsets at t given = ap (parse_lines at Between) (lines-back (dump_lines s subsets) t (above-dump s subsets given)) ∙ dump-spells s subsets at (lines_of t) given

@@ -4,7 +4,7 @@ use Rattle.std.specs.Fmt.{digits}
 use Rattle.bufr_frame.specs.Sections.{Sections}
 use Rattle.bufr_text.specs.LsLine.{ls_line}
 
--- a message whose values all differ, so that each stands in its place
+-- a message whose values all differ, so that each is in its place
 abbrev all_different : Sections
 all_different = record {
   head = record { edition = 4; master = 11; centre = 1234; subcentre = 56; update = 7; category = 8; subcategory = 9; local_subcategory = 10; master_version = 12; local_version = 13; year = 987; month = 14; day = 15; hour = 232; minute = 6; second = 0 };

@@ -1,12 +1,12 @@
--- Which faults tell want of memory.
+-- Which faults report want of memory.
 use Rattle.std.proofs.Common.{◌≡◌, ℕ, List, Option, Some, None, Result, Ok, refl}
 use Rattle.bufr_text.specs.declared.encode_fault.DocumentFault.{DocumentFault}
 use Rattle.bufr_text.specs.declared.encode_fault.DocumentFault.TheVariants as fault
 use Rattle.bufr_text.specs.Encoding.{RefusedAt}
-use Rattle.bufr_text.specs.EncodingFault.{IsDocumentRefusal, told_refusal}
+use Rattle.bufr_text.specs.EncodingFault.{IsDocumentRefusal, reported_refusal}
 
--- a fault that tells no refusal is want of memory
-is_memory : (why : DocumentFault) → told_refusal why ≡ None → why ≡ fault.Memory
+-- a fault that reports no refusal is want of memory
+is_memory : (why : DocumentFault) → reported_refusal why ≡ None → why ≡ fault.Memory
 is_memory (fault.WrongDescriptor line e) h = absurd cc h
 is_memory (fault.Number line) h = absurd cc h
 is_memory (fault.OutOfRange line) h = absurd cc h
@@ -20,8 +20,8 @@ is_memory (fault.Walk line why) h = absurd cc h
 is_memory fault.Memory h = refl
 
 -- what is encoded is refused for nothing else
-pub memory_alone : (why : DocumentFault) (defined : Result (List ℕ) RefusedAt) (octets : List ℕ) → defined ≡ Ok octets → IsDocumentRefusal (told_refusal why) defined → why ≡ fault.Memory
-memory_alone why defined octets is h = is_memory why (none (told_refusal why) h)
+pub memory_alone : (why : DocumentFault) (defined : Result (List ℕ) RefusedAt) (octets : List ℕ) → defined ≡ Ok octets → IsDocumentRefusal (reported_refusal why) defined → why ≡ fault.Memory
+memory_alone why defined octets is h = is_memory why (none (reported_refusal why) h)
   where
     none : (o : Option RefusedAt) → IsDocumentRefusal o defined → o ≡ None
     none None h = refl

@@ -1,4 +1,4 @@
--- What a call of a reader of dump texts tells.
+-- What a call of a reader of dump texts reports.
 use Rattle.std.proofs.Common.{inl, inr, ◌⊎◌, ◌≡◌, ℕ, ◌+◌, ◌-◌, ◌<◌, ◌≤◌, true, false, List, [], ◌∷◌, ◌++◌, length, refl, sym, ap, subst, ◌∙◌, arith, append-nil, length-append}
 use Rattle.std.specs.Prelude.{Option, Some, None, Result, Ok, Err, IfOk, IfSome}
 use Rattle.std.specs.Io.KnownBytes.{Consumes}
@@ -13,7 +13,7 @@ use Rattle.bufr_text.specs.Documents.{ParserState, ParseResult, Complete, Refuse
 use Rattle.bufr_text.specs.Dump.{text_of_lines}
 use Rattle.bufr_text.specs.Proper.{IsProper}
 use Rattle.bufr_text.specs.Reading.{has_no_feed, ContinuesParse, TakesWholeLines, parse, parse_open}
-use Rattle.bufr_text.specs.Reader.{ReaderModel, new_reader, stand, IsMissingFeed, HasNoMoreLines, KeepsUnread, ReadsLines, ReadsOnlyIfNoLine, ReturnsNextDocument, HasNoWholeLine, CountsTextReads}
+use Rattle.bufr_text.specs.Reader.{ReaderModel, new_reader, position_of, IsMissingFeed, HasNoMoreLines, KeepsUnread, ReadsLines, ReadsOnlyIfNoLine, ReturnsNextDocument, HasNoWholeLine, CountsTextReads}
 use Rattle.bufr_text.specs.Filling.{ParsesHeldLines, TakesHeldLines, HandlesEnd, FillsBuffer, stopped}
 use Rattle.bufr_text.specs.declared.fault.ReadFault.{ReadFault}
 use Rattle.bufr_text.specs.declared.fault.ReadFault.TheVariants.{Line, SubsetCount, HeaderRange, Run}
@@ -42,14 +42,14 @@ pub waits-same : (left : Option (List ℕ)) (old s s' : ReaderModel) (bs bs' : L
 waits-same left old s s' bs bs' (inl e) same is = inl (same ∙ e)
 waits-same left old s s' bs bs' (inr w) same is = inr (let W : List ℕ → Type 0 = λ l. ReadsOnlyIfNoLine left old s'.reads l in let R : ℕ → Type 0 = λ n. ReadsOnlyIfNoLine left old n bs in subst W is (subst R (sym same) w))
 
-pub call-takes : (left mid : Option (List ℕ)) (old s s' : ReaderModel) (bs : List ℕ) (told : List ParseResult) → ReadsLines left mid old s [] bs → ParsesHeldLines s s' told → s'.ended ≡ s.ended → s'.reads ≡ s.reads → ReadsLines left mid old s' told bs
-call-takes left mid old s s' bs told call tells ended reads =
-    let C : List ℕ → Type 0 = λ l. ReadsLines left mid old s' told l in
-    subst C (append-nil bs) (call-then left mid mid old s s' [] told bs [] call (takes-call mid s s' told tells ended reads))
+pub call-takes : (left mid : Option (List ℕ)) (old s s' : ReaderModel) (bs : List ℕ) (results : List ParseResult) → ReadsLines left mid old s [] bs → ParsesHeldLines s s' results → s'.ended ≡ s.ended → s'.reads ≡ s.reads → ReadsLines left mid old s' results bs
+call-takes left mid old s s' bs results call reports ended reads =
+    let C : List ℕ → Type 0 = λ l. ReadsLines left mid old s' results l in
+    subst C (append-nil bs) (call-then left mid mid old s s' [] results bs [] call (takes-call mid s s' results reports ended reads))
 
 -- where the end was reached before, what is held was held before
-held-before : (left mid : Option (List ℕ)) (old s : ReaderModel) (bs : List ℕ) (told : List ParseResult) → ReadsLines left mid old s told bs → old.ended ≡ true → 0 < length s.held → 0 < length old.held
-held-before left mid old s bs told call e some = by-feed call.lines.1
+held-before : (left mid : Option (List ℕ)) (old s : ReaderModel) (bs : List ℕ) (results : List ParseResult) → ReadsLines left mid old s results bs → old.ended ≡ true → 0 < length s.held → 0 < length old.held
+held-before left mid old s bs results call e some = by-feed call.lines.1
   where
     by-feed : IsMissingFeed old.ended s.ended call.lines.0 → 0 < length old.held
     by-feed (inl none) =
@@ -67,8 +67,8 @@ module _ (left mid : Option (List ℕ)) (old s s' : ReaderModel) (bs : List ℕ)
     ends = went.1;
   }
 
-  went-keeps : (told : List ParseResult) → ParsesHeldLines s s' told → KeepsUnread old s' bs
-  went-keeps told tells = call-keeps left mid old s' told bs (call-takes left mid old s s' bs told call tells ended reads)
+  went-keeps : (results : List ParseResult) → ParsesHeldLines s s' results → KeepsUnread old s' bs
+  went-keeps results reports = call-keeps left mid old s' results bs (call-takes left mid old s s' bs results call reports ended reads)
 
   -- a line that is refused, or want of memory
   pub went-fault : (f : ReadFault) → TakesHeldLines s s' (Err f) → ReturnsNextDocument left mid old s' (Err f)
@@ -97,15 +97,15 @@ module _ (left mid : Option (List ℕ)) (old s s' : ReaderModel) (bs : List ℕ)
   end-next (Err (HeaderRange line)) so = absurd so
   end-next (Err (Run f)) so = absurd so
 
--- the end tells no document
+-- the end reports no document
 pub end-proper : (s s' : ReaderModel) (result : Result (Option Document) ReadFault) → HandlesEnd s s' result → IfOk result (λ found. IfSome found (λ document. IsProper document))
 end-proper s s' (Ok None) so = tt
 end-proper s s' (Ok (Some d)) so = absurd so
 end-proper s s' (Err f) so = tt
 
--- nothing is told, and nothing but the fault and the reads is new
-quiet-tells : (s s' : ReaderModel) → s'.at ≡ s.at → s'.place ≡ s.place → s'.held ≡ s.held → s'.ended ≡ s.ended → ParsesHeldLines s s' []
-quiet-tells s s' at place held ended =
+-- nothing is reported, and nothing but the fault and the reads is new
+quiet-reports : (s s' : ReaderModel) → s'.at ≡ s.at → s'.place ≡ s.place → s'.held ≡ s.held → s'.ended ≡ s.ended → ParsesHeldLines s s' []
+quiet-reports s s' at place held ended =
     let A : ℕ → Type 0 = λ k. TakesWholeLines s.at s.held k s'.held in
     let H : List ℕ → Type 0 = λ h. TakesWholeLines s.at s.held s.at h in record {
       goes = record {
@@ -119,22 +119,22 @@ quiet-tells s s' at place held ended =
     }
 
 -- no octets come, and the end is not reached
-open-call : (left left' : Option (List ℕ)) (s s' : ReaderModel) (told : List ParseResult) (bs : List ℕ) → bs ≡ [] → Consumes left left' bs → ParsesHeldLines s s' told → s.ended ≡ false → s'.ended ≡ false → s.reads ≤ s'.reads → ReadsLines left left' s s' told bs
-open-call left left' s s' told bs none read tells before after order =
-    let G : List ℕ → Type 0 = λ h. ContinuesParse (record { at = s.at; place = s.place; held = h; ended = s.ended }) (stand s') told in
+open-call : (left left' : Option (List ℕ)) (s s' : ReaderModel) (results : List ParseResult) (bs : List ℕ) → bs ≡ [] → Consumes left left' bs → ParsesHeldLines s s' results → s.ended ≡ false → s'.ended ≡ false → s.reads ≤ s'.reads → ReadsLines left left' s s' results bs
+open-call left left' s s' results bs none read reports before after order =
+    let G : List ℕ → Type 0 = λ h. ContinuesParse (record { at = s.at; place = s.place; held = h; ended = s.ended }) (position_of s') results in
     let P : List ℕ → Type 0 = λ h. TakesWholeLines s.at h s'.at s'.held in
     let same : s.held ++ bs ≡ s.held = ap (λ (l : List ℕ). s.held ++ l) none ∙ append-nil s.held in record {
       read = read;
       order = order;
       few = omega (arith, ap length none);
-      goes = subst G (sym same) tells.goes;
-      lines = ([], inl refl, subst P (sym (append-nil (s.held ++ bs) ∙ same)) tells.passes);
+      goes = subst G (sym same) reports.goes;
+      lines = ([], inl refl, subst P (sym (append-nil (s.held ++ bs) ∙ same)) reports.passes);
       kept = λ e. absurd (true≢false (sym e ∙ before));
       end = λ reached e. absurd (true≢false (sym e ∙ after));
       fed = λ _ e _. absurd (true≢false (sym e ∙ after));
     }
 
--- a read, behind what was read so far in a call
+-- a read, after what was read so far in a call
 module _ (left mid left' : Option (List ℕ)) (old s s' : ReaderModel) (bs bs' : List ℕ) (call : ReadsLines left mid old s [] bs) (waits : (s.reads ≡ old.reads) ⊎ ReadsOnlyIfNoLine left old s.reads bs) (open' : s.ended ≡ false) (clean : has_no_feed s.held ≡ true) where
   waited : (reads : ℕ) → reads ≡ s.reads + 1 → length s.held ≤ 4096 → length bs' ≤ 4096 → ReadsOnlyIfNoLine left old reads (bs ++ bs')
   waited reads made short few = record {
@@ -175,7 +175,7 @@ module _ (left mid left' : Option (List ℕ)) (old s s' : ReaderModel) (bs bs' :
 
   quiet-call : (x : ReaderModel) → bs' ≡ [] → Consumes mid left' bs' → x.at ≡ s.at → x.place ≡ s.place → x.held ≡ s.held → x.ended ≡ false → s.reads ≤ x.reads → ReadsLines left left' old x [] (bs ++ bs')
   quiet-call x none read at place held ended order =
-      call-then left mid left' old s x [] [] bs bs' call (open-call mid left' s x [] bs' none read (quiet-tells s x at place held (ended ∙ sym open')) open' ended order)
+      call-then left mid left' old s x [] [] bs bs' call (open-call mid left' s x [] bs' none read (quiet-reports s x at place held (ended ∙ sym open')) open' ended order)
 
   pub fill-fault : (f : ReadFault) → FillsBuffer mid left' s s' (Err f) bs' → ReturnsNextDocument left left' old s' (Err f)
   fill-fault (Line line) so =
@@ -225,41 +225,41 @@ pub none-unless : {A : Type 0} → (x : Option A) → ((a : A) → x ≡ Some a 
 none-unless None not = refl
 none-unless (Some a) not = absurd (not a refl)
 
--- after the end was told it is told again
-none-told : (left : Option (List ℕ)) (old new : ReaderModel) (told : List ParseResult) (bs : List ℕ) (left' : Option (List ℕ)) → ReadsLines left left' old new told bs → HasNoMoreLines old → told ≡ []
-none-told left old new told bs left' call (ended, held, none) =
+-- after the end was reported it is reported again
+none-reported : (left : Option (List ℕ)) (old new : ReaderModel) (results : List ParseResult) (bs : List ℕ) (left' : Option (List ℕ)) → ReadsLines left left' old new results bs → HasNoMoreLines old → results ≡ []
+none-reported left old new results bs left' call (ended, held, none) =
     let kept = call.kept ended in
-    let H : List ℕ → Type 0 = λ h. parse_lines old.at old.place (lines_of (h ++ [])) ≡ told ++ parse (stand new) [] in
+    let H : List ℕ → Type 0 = λ h. parse_lines old.at old.place (lines_of (h ++ [])) ≡ results ++ parse (position_of new) [] in
     let before : old.held ++ bs ≡ old.held = ap (λ (l : List ℕ). old.held ++ l) kept.1 ∙ append-nil old.held in
-    front-none told (parse (stand new) []) (sym (subst H before (call.goes.whole [] (λ e. refl))) ∙ none)
+    prefix-none results (parse (position_of new) []) (sym (subst H before (call.goes.whole [] (λ e. refl))) ∙ none)
   where
-    front-none : (xs ys : List ParseResult) → xs ++ ys ≡ [] → xs ≡ []
-    front-none [] ys e = refl
-    front-none (x ∷ xs) ys e = absurd (omega (arith, ap length e))
+    prefix-none : (xs ys : List ParseResult) → xs ++ ys ≡ [] → xs ≡ []
+    prefix-none [] ys e = refl
+    prefix-none (x ∷ xs) ys e = absurd (omega (arith, ap length e))
 
 some-none : (x : ParseResult) → x ∷ [] ≡ [] → ⊥
 some-none x e = omega (arith, ap length e)
 
 pub done-again : (left left' : Option (List ℕ)) (old new : ReaderModel) (result : Result (Option Document) ReadFault) → ReturnsNextDocument left left' old new result → HasNoMoreLines old → (result ≡ Ok None) × (new.reads ≡ old.reads)
 done-again left left' old new (Ok None) next done = (refl, (next.reads.kept done.0).2)
-done-again left left' old new (Ok (Some d)) next done = absurd (some-none _ (none-told left old new _ next.octets left' next.reads.0 done))
-done-again left left' old new (Err (Line line)) next done = absurd (some-none _ (none-told left old new _ next.octets left' next.reads done))
-done-again left left' old new (Err (SubsetCount line)) next done = absurd (some-none _ (none-told left old new _ next.octets left' next.reads done))
-done-again left left' old new (Err (HeaderRange line)) next done = absurd (some-none _ (none-told left old new _ next.octets left' next.reads done))
+done-again left left' old new (Ok (Some d)) next done = absurd (some-none _ (none-reported left old new _ next.octets left' next.reads.0 done))
+done-again left left' old new (Err (Line line)) next done = absurd (some-none _ (none-reported left old new _ next.octets left' next.reads done))
+done-again left left' old new (Err (SubsetCount line)) next done = absurd (some-none _ (none-reported left old new _ next.octets left' next.reads done))
+done-again left left' old new (Err (HeaderRange line)) next done = absurd (some-none _ (none-reported left old new _ next.octets left' next.reads done))
 done-again left left' old new (Err (Run Read)) next done = absurd (true≢false (sym (next.reads.kept done.0).0 ∙ next.ends.1.0))
 done-again left left' old new (Err (Run Write)) next done = absurd next.reads
 done-again left left' old new (Err (Run InputTooLong)) next done = absurd (true≢false (sym (next.reads.kept done.0).0 ∙ next.ends.1.0))
 done-again left left' old new (Err (Run Memory)) next done = absurd (omega (arith, next.reads.2 done.0, ap length done.1))
 
--- the documents that calls told from the beginning
-pub told-first : (left left' : Option (List ℕ)) (s : ReaderModel) (told : List ParseResult) (bs t : List ℕ) → ReadsLines left left' new_reader s told bs → (s.ended ≡ true → t ≡ []) → documents_of (bs ++ t) ≡ told ++ parse (stand s) t
-told-first left left' s told bs t call none = call.goes.whole t none
+-- the documents that calls reported from the beginning
+pub reported-first : (left left' : Option (List ℕ)) (s : ReaderModel) (results : List ParseResult) (bs t : List ℕ) → ReadsLines left left' new_reader s results bs → (s.ended ≡ true → t ≡ []) → documents_of (bs ++ t) ≡ results ++ parse (position_of s) t
+reported-first left left' s results bs t call none = call.goes.whole t none
 
-pub told-first-openly : (left left' : Option (List ℕ)) (s : ReaderModel) (told : List ParseResult) (bs t : List ℕ) → ReadsLines left left' new_reader s told bs → s.ended ≡ false → open_documents_of (bs ++ t) ≡ told ++ parse_open (stand s) t
-told-first-openly left left' s told bs t call unended = call.goes.openly unended t
+pub reported-first-openly : (left left' : Option (List ℕ)) (s : ReaderModel) (results : List ParseResult) (bs t : List ℕ) → ReadsLines left left' new_reader s results bs → s.ended ≡ false → open_documents_of (bs ++ t) ≡ results ++ parse_open (position_of s) t
+reported-first-openly left left' s results bs t call unended = call.goes.openly unended t
 
-pub told-at-end : (left left' : Option (List ℕ)) (s : ReaderModel) (told : List ParseResult) (bs : List ℕ) → ReadsLines left left' new_reader s told bs → HasNoMoreLines s → documents_of bs ≡ told
-told-at-end left left' s told bs call done = ap documents_of (sym (append-nil bs)) ∙ call.goes.whole [] (λ e. refl) ∙ ap (λ (l : List ParseResult). told ++ l) done.2 ∙ append-nil told
+pub reported-at-end : (left left' : Option (List ℕ)) (s : ReaderModel) (results : List ParseResult) (bs : List ℕ) → ReadsLines left left' new_reader s results bs → HasNoMoreLines s → documents_of bs ≡ results
+reported-at-end left left' s results bs call done = ap documents_of (sym (append-nil bs)) ∙ call.goes.whole [] (λ e. refl) ∙ ap (λ (l : List ParseResult). results ++ l) done.2 ∙ append-nil results
 
-pub told-at-fault : (left left' : Option (List ℕ)) (s : ReaderModel) (told : List ParseResult) (bs : List ℕ) → ReadsLines left left' new_reader s told bs → HasNoWholeLine s → open_documents_of bs ≡ told
-told-at-fault left left' s told bs call open' = ap open_documents_of (sym (append-nil bs)) ∙ call.goes.openly open'.0 [] ∙ ap (λ (l : List ParseResult). told ++ l) open'.1 ∙ append-nil told
+pub reported-at-fault : (left left' : Option (List ℕ)) (s : ReaderModel) (results : List ParseResult) (bs : List ℕ) → ReadsLines left left' new_reader s results bs → HasNoWholeLine s → open_documents_of bs ≡ results
+reported-at-fault left left' s results bs call open' = ap open_documents_of (sym (append-nil bs)) ∙ call.goes.openly open'.0 [] ∙ ap (λ (l : List ParseResult). results ++ l) open'.1 ∙ append-nil results

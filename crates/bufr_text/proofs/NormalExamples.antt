@@ -14,7 +14,7 @@ use Rattle.bufr_text.specs.declared.form.Form.{Form}
 use Rattle.bufr_text.specs.declared.form.Form.TheVariants.{AsWritten, Plain, Compressed}
 use Rattle.bufr_text.specs.Document.{Document}
 use Rattle.bufr_text.specs.Dump.{header_lines, text_of_lines}
-use Rattle.bufr_text.specs.Grammar.{runs_behind, hex_text, descriptors_text, quoted}
+use Rattle.bufr_text.specs.Grammar.{runs_after, hex_text, descriptors_text, quoted}
 use Rattle.bufr_text.specs.Line.{keys}
 use Rattle.bufr_text.specs.Normal.{header_as, normal_subsets, normal}
 use Rattle.bufr_text.proofs.EncodingExamples.{document, number, missing}
@@ -44,7 +44,7 @@ parse_lines form tree d = normal form table tree d
 -- a point and zeros are gone, and the comment comes
 point_and_zeros : parse_lines AsWritten (element 257 bare) (document 0 1 (257 ∷ []) (number 24 257 (codes "010.0") ∷ Ends 25 ∷ []))
     ≡ codes "message\nedition 4\nmaster 0\ncentre 98\nsubcentre 0\nupdate 0\ncategory 0\nsubcategory 0\nlocalsubcategory 0\nmasterversion 14\nlocalversion 0\nyear 2024\nmonth 1\nday 2\nhour 3\nminute 4\nsecond 5\nobserved 1\ncompressed 0\noptional 0\nsubsets 1\ndescriptors 001001\nsubset 1\n001001 10  # WMO BLOCK NUMBER [Numeric]\nend\n"
-unfolding parse_lines document number keys header_lines runs_behind hex_text descriptors_text digits decimal_text_of unsigned_text decimal_value_of
+unfolding parse_lines document number keys header_lines runs_after hex_text descriptors_text digits decimal_text_of unsigned_text decimal_value_of
 point_and_zeros = refl
 
 -- in a form the flag is the form's
@@ -54,7 +54,7 @@ compressed_flag = refl
 plain_flag : header_as Plain (1 ∷ 2 ∷ 3 ∷ 4 ∷ 5 ∷ 6 ∷ 7 ∷ 8 ∷ 9 ∷ 10 ∷ 11 ∷ 12 ∷ 13 ∷ 14 ∷ 15 ∷ 16 ∷ 17 ∷ 1 ∷ 19 ∷ 20 ∷ []) ≡ 1 ∷ 2 ∷ 3 ∷ 4 ∷ 5 ∷ 6 ∷ 7 ∷ 8 ∷ 9 ∷ 10 ∷ 11 ∷ 12 ∷ 13 ∷ 14 ∷ 15 ∷ 16 ∷ 17 ∷ 0 ∷ 19 ∷ 20 ∷ []
 plain_flag = refl
 
--- the scale's places, and zeros in front are gone
+-- the scale's places, and leading zeros are gone
 two_places : items_in (element 3173 bare) (number 24 3173 (codes "0288.1") ∷ Ends 25 ∷ missing 26 3173 ∷ Ends 27 ∷ [])
     ≡ codes "subset 1\n012101 288.10  # AIR TEMPERATURE [K]\nsubset 2\n012101 MISSING  # AIR TEMPERATURE [K]\n"
 unfolding items_in number missing digits decimal_text_of unsigned_text decimal_value_of
@@ -68,7 +68,7 @@ short_text : items_in (element 271 bare) (Holds (draft 24 271 (text_form (codes 
 unfolding items_in quoted digits
 short_text = refl
 
--- a factor tells how many items follow
+-- a factor says how many items follow
 factor : items_in (delayed 7937 (element 257 bare) bare) (number 24 7937 (codes "02") ∷ number 25 257 (codes "1.0") ∷ number 26 257 (codes "2") ∷ Ends 27 ∷ [])
     ≡ codes "subset 1\n031001 2  # FACTOR [Numeric]\n001001 1  # WMO BLOCK NUMBER [Numeric]\n001001 2  # WMO BLOCK NUMBER [Numeric]\n"
 unfolding items_in number digits decimal_text_of unsigned_text decimal_value_of

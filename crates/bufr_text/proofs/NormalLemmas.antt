@@ -38,7 +38,7 @@ use Rattle.bufr_text.specs.Documents.{Complete, documents_of}
 use Rattle.bufr_text.specs.Dump.{DumpItem, bit, header_lines, local1_line, section2_line, descriptors_line, head_lines, form_text, comment_text, item_text, subset_line, subset_lines, text_of_lines, dump_text_of, subset_entries, lines_before, document_of}
 use Rattle.bufr_text.specs.DumpItems.{dump_item_of, items_apart, compressed_dump_subsets}
 use Rattle.bufr_text.specs.RoundTrip.{dump_items_in}
-use Rattle.bufr_text.specs.Encoding.{RefusedAt, too_long, refused_at, ◌>>=◌, told_of_template, told_of_items, data_bits, octets_of_bits, parts_as, parts_of_document, compressed_as, message_of, encoding_in, encoding_of}
+use Rattle.bufr_text.specs.Encoding.{RefusedAt, too_long, refused_at, ◌>>=◌, report_of_template, report_of_items, data_bits, octets_of_bits, parts_as, parts_of_document, compressed_as, message_of, encoding_in, encoding_of}
 use Rattle.bufr_text.specs.Grammar.{runs_of}
 use Rattle.bufr_text.specs.Header.{IsHeaded, head_from_values, observed_in, compressed_in, section2_in}
 use Rattle.bufr_text.specs.InForm.{each_subset}
@@ -66,8 +66,8 @@ items_are table course [] [] f said = refl
 items_are table course [] (d ∷ ds) f said = absurd said
 items_are table course (i ∷ items) [] f said = absurd said
 items_are table course (i ∷ items) (d ∷ ds) f said =
-    ap (λ n. line_and table n d (λ t. normal_items table (λ told. course (t ∷ told)) ds)) f.0
-    ∙ ap (λ r. normal_line table i.spec d ∷ normal_items table (λ told. course (draft_answer i.spec r ∷ told)) ds) said.0
+    ap (λ n. line_and table n d (λ t. normal_items table (λ results. course (t ∷ results)) ds)) f.0
+    ∙ ap (λ r. normal_line table i.spec d ∷ normal_items table (λ results. course (draft_answer i.spec r ∷ results)) ds) said.0
     ∙ ap (λ x. x ∷ normal_items table (after plain course i) ds) (line_is table i.spec d i.content said.0)
     ∙ ap (λ xs. item_text (dump_item_of (view_of table i.spec i.content)) ∷ xs) (items_are table (after plain course i) items ds f.3 said.1)
 
@@ -87,15 +87,15 @@ abbrev values_from : (count place : ℕ) → List ℕ → List ℕ
 values_from zero k xs = []
 values_from (suc n) k xs = slice_index xs k ∷ values_from n (suc k) xs
 
-values_behind : (n k : ℕ) (x : ℕ) (xs : List ℕ) → values_from n (suc k) (x ∷ xs) ≡ values_from n k xs
-values_behind zero k x xs = refl
-values_behind (suc n) k x xs = ap (λ more. slice_index xs k ∷ more) (values_behind n (suc k) x xs)
+values_after : (n k : ℕ) (x : ℕ) (xs : List ℕ) → values_from n (suc k) (x ∷ xs) ≡ values_from n k xs
+values_after zero k x xs = refl
+values_after (suc n) k x xs = ap (λ more. slice_index xs k ∷ more) (values_after n (suc k) x xs)
 
 all_values : (n : ℕ) (xs : List ℕ) → length xs ≡ n → xs ≡ values_from n 0 xs
 all_values zero [] h = refl
 all_values zero (x ∷ xs) h = absurd (omega (arith, h))
 all_values (suc n) [] h = absurd (omega (arith, h))
-all_values (suc n) (x ∷ xs) h = let l : length xs ≡ n = omega (arith, h) in ap (λ more. x ∷ more) (all_values n xs l ∙ sym (values_behind n 0 x xs))
+all_values (suc n) (x ∷ xs) h = let l : length xs ≡ n = omega (arith, h) in ap (λ more. x ∷ more) (all_values n xs l ∙ sym (values_after n 0 x xs))
 
 -- a flag of 0 or 1
 flag_back : (v : ℕ) → v ≤ 1 → bit (v == 1) ≡ v
@@ -249,9 +249,9 @@ module _ (form : Form) (records : List Record) (table : List Row) (sequences : L
 
     -- what is made of the bits of the data
     abbrev message_with : (line : ℕ) → Head → (List ℕ → MessageParts) → Result (List Bool) FaultAt → Result (List ℕ) RefusedAt
-    message_with line head parts r = told_of_items r >>= λ b. message_of line head (parts (octets_of_bits b))
+    message_with line head parts r = report_of_items r >>= λ b. message_of line head (parts (octets_of_bits b))
 
-    -- the line stands in a refusal alone
+    -- the line is in a refusal alone
     other_line : (line : ℕ) (head : Head) (parts : List ℕ → MessageParts) (r : Result (List Bool) FaultAt) → message_with line head parts r ≡ Ok octets → message_with at head parts r ≡ Ok octets
     other_line line head parts (Err why) e = absurd cc
     other_line line head parts (Ok b) e = by (nat_lt max_octets (message_size head.edition (parts (octets_of_bits b)))) e
@@ -277,12 +277,12 @@ module _ (form : Form) (records : List Record) (table : List Row) (sequences : L
     encoded_from : encoding_in form table sequences d ≡ message_with d.line (head_from_values d) parts_said (data_bits (compressed_as form d) course (subsets_of d.entries))
     unfolding encoding_in
     encoded_from =
-        ap (λ r. told_of_template d.line r >>= λ t. message_with d.line (head_from_values d) parts_said (data_bits (compressed_as form d) (next_item table t) (subsets_of d.entries)))
+        ap (λ r. report_of_template d.line r >>= λ t. message_with d.line (head_from_values d) parts_said (data_bits (compressed_as form d) (next_item table t) (subsets_of d.entries)))
         (ap (tree_of (tables_of table sequences)) (sym h.descriptors) ∙ h.accepted.expands)
 
     again_from : encoding_of table sequences again ≡ message_with at h.sections.head (parts_of_document again) (data_bits (compressed_in again) course drafts_again)
     unfolding encoding_in
-    again_from = ap (λ r. told_of_template at r >>= λ t. message_with at h.sections.head (parts_of_document again) (data_bits (compressed_in again) (next_item table t) drafts_again)) h.accepted.expands
+    again_from = ap (λ r. report_of_template at r >>= λ t. message_with at h.sections.head (parts_of_document again) (data_bits (compressed_in again) (next_item table t) drafts_again)) h.accepted.expands
 
     -- and it is encoded to the same octets
     pub encoded_again_same : IsProper d → encoding_in form table sequences d ≡ Ok octets → encoding_of table sequences again ≡ Ok octets

@@ -45,9 +45,9 @@ drafts-octets [] all = tt
 drafts-octets (Holds item ∷ es) (h, all) = onto-octets item (subsets_of es) h (drafts-octets es all)
 drafts-octets (Ends line ∷ es) (h, all) = (tt, drafts-octets es all)
 
--- nothing was read behind the header
-pub laid-bare : (d : Document) → IsBare d → HasLineGroups d
-laid-bare d bare = record {
+-- nothing was read after the header
+pub written-bare : (d : Document) → IsBare d → HasLineGroups d
+written-bare d bare = record {
   local1 = subst (λ (l : List ℕ). AllByRecursion IsOctet l) (sym bare.local1) tt;
   section2 = subst (λ (l : List ℕ). AllByRecursion IsOctet l) (sym bare.section2) tt;
   no_section2 = λ _. bare.section2;

@@ -25,10 +25,10 @@ module _ (a b c : LineModel) (s t : List ℕ) where
   moves_then (Err f) first second = (
     second.0,
     record {
-      front = first.prefix ++ second.1.front;
+      prefix = first.prefix ++ second.1.prefix;
       back = second.1.back;
-      parts = parts_then a.held s t first.prefix second.1.front b.held second.1.back first.parts second.1.parts;
-      gains = Appends-trans a.taken b.taken c.taken first.prefix second.1.front first.gains second.1.gains;
+      parts = parts_then a.held s t first.prefix second.1.prefix b.held second.1.back first.parts second.1.parts;
+      gains = Appends-trans a.taken b.taken c.taken first.prefix second.1.prefix first.gains second.1.gains;
     },
   )
 
@@ -41,9 +41,9 @@ module _ (a b c : LineModel) (s t : List ℕ) where
         moves = rw (second.status, second.taken) (
           moves.0,
           record {
-            front = moves.1.front;
+            prefix = moves.1.prefix;
             back = moves.1.back ++ t;
-            parts = sym (append_assoc a.held s t) ∙ ap (λ l. l ++ t) moves.1.parts ∙ append_assoc moves.1.front moves.1.back t;
+            parts = sym (append_assoc a.held s t) ∙ ap (λ l. l ++ t) moves.1.parts ∙ append_assoc moves.1.prefix moves.1.back t;
             gains = moves.1.gains;
           },
         );

@@ -27,7 +27,7 @@ use Rattle.bufr_fill.proofs.BackLaws.{plain_template_back, packed_template_back}
 use Rattle.bufr_fill.proofs.FieldBits.{octets_in-are}
 use Rattle.bufr_text.specs.declared.form.Form.{Form}
 use Rattle.bufr_text.specs.Document.{Document, optional_in}
-use Rattle.bufr_text.specs.Encoding.{too_long, refused_at, ◌>>=◌, told_of_template, told_of_items, data_bits, octets_of_bits, parts_as, compressed_as, message_of, encoding_in}
+use Rattle.bufr_text.specs.Encoding.{too_long, refused_at, ◌>>=◌, report_of_template, report_of_items, data_bits, octets_of_bits, parts_as, compressed_as, message_of, encoding_in}
 use Rattle.bufr_text.specs.Bounds.{IsOctet}
 use Rattle.bufr_text.specs.Header.{head_from_values}
 use Rattle.bufr_text.specs.Proper.{IsProper}
@@ -52,7 +52,7 @@ section2_octets true octets h = h
 section2_octets false octets h = tt
 
 module _ (records : List Record) (table : List Row) (template : Tree) (rows : AreRows records table) (legal : IsLegal template) (drafts : List Subset) (out : List Bool) (texts : AllHaveOctets drafts) where
-  -- the bits of the data, whatever is behind them, have a reading that says what the drafts say
+  -- the bits of the data, whatever is after them, have a reading that says what the drafts say
   record IsFilled (compressed : Bool) : Type 0 where
     values : Values
     said : AreValuesOf values drafts
@@ -96,7 +96,7 @@ module _ (form : Form) (records : List Record) (table : List Row) (sequences : L
           expands = expands;
           read = subst (λ n. IsReading (next_item table template) (record { compressed = compressed_as form d; subsets = n; bits = bits_of (with_even_length head.edition 4 payload) }) f.values (length bits)) proper.counted (f.read (with_even_length head.edition 4 payload) (padding (length bits) ++ padded_bits.0) written);
         };
-        framed = λ at behind. framed head parts at behind long;
+        framed = λ at suffix. framed head parts at suffix long;
         head = refl;
         local1 = refl;
         section2 = refl;
@@ -118,12 +118,12 @@ module _ (form : Form) (records : List Record) (table : List Row) (sequences : L
       (made template bits expands fills (at_most max_octets (message_size (head_from_values d).edition (parts_as (compressed_as form d) d (octets_of_bits bits))) p))
 
   by_bits : (template : Tree) → tree_of (tables_of table sequences) d.descriptors ≡ Ok template → (r : Result (List Bool) FaultAt) → data_in template ≡ r
-      → (told_of_items r >>= λ b. message_of d.line (head_from_values d) (parts_as (compressed_as form d) d (octets_of_bits b))) ≡ Ok octets → IsReadAs form table sequences d octets
+      → (report_of_items r >>= λ b. message_of d.line (head_from_values d) (parts_as (compressed_as form d) d (octets_of_bits b))) ≡ Ok octets → IsReadAs form table sequences d octets
   by_bits template expands (Err why) p e = absurd cc
   by_bits template expands (Ok bits) p e = by_size template bits expands p (nat_lt max_octets (message_size (head_from_values d).edition (parts_as (compressed_as form d) d (octets_of_bits bits)))) refl e
 
   by_template : (r : Result Tree TemplateFault) → tree_of (tables_of table sequences) d.descriptors ≡ r
-      → (told_of_template d.line r >>= λ t. told_of_items (data_in t) >>= λ b. message_of d.line (head_from_values d) (parts_as (compressed_as form d) d (octets_of_bits b))) ≡ Ok octets → IsReadAs form table sequences d octets
+      → (report_of_template d.line r >>= λ t. report_of_items (data_in t) >>= λ b. message_of d.line (head_from_values d) (parts_as (compressed_as form d) d (octets_of_bits b))) ≡ Ok octets → IsReadAs form table sequences d octets
   by_template (Err why) p e = absurd cc
   by_template (Ok template) p e = by_bits template p (data_in template) refl e
 

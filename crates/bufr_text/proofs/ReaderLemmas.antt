@@ -3,15 +3,15 @@ use Rattle.std.proofs.Common.{◌≡◌, ℕ, zero, suc, ◌+◌, ◌-◌, ◌<�
 use Rattle.std.specs.Prelude.{Option, Some, None, Err, slice_range}
 use Rattle.std.proofs.lemmas.Grind.{common_steps}
 use Rattle.std.proofs.lemmas.List.{take_all, take_at, drop-append-le}
-use Rattle.bufr_frame.proofs.BufferLemmas.{part-front, part-drop, part-length, rest-read}
+use Rattle.bufr_frame.proofs.BufferLemmas.{part-prefix, part-drop, part-length, rest-read}
 use Rattle.bufr_text.specs.Document as spec
 use Rattle.bufr_text.specs.Documents as documents
-use Rattle.bufr_text.specs.Documents.{Between, Heading, Laying, Filling, Stopped, ParseResult, Refused, NotAllowed, parse_lines, lines_of, told_at_end}
+use Rattle.bufr_text.specs.Documents.{Between, Heading, BeforeSubsets, Filling, Stopped, ParseResult, Refused, NotAllowed, parse_lines, lines_of, reported_at_end}
 use Rattle.bufr_text.specs.Reading.{has_no_feed, ContinuesParse, TakesWholeLines, TakesEndLine, parse}
-use Rattle.bufr_text.specs.Reader.{ReaderModel, stand}
+use Rattle.bufr_text.specs.Reader.{ReaderModel, position_of}
 use Rattle.bufr_text.specs.Filling.{place_now, ends_by_feed, IsProgress, ParsesHeldLines, WantsHere, TakesHeldLines, read_fault_at, stopped}
 use Rattle.bufr_text.specs.Step.{place_with, line_fault_of, IsParserState}
-use Rattle.bufr_text.specs.TakingLines.{step_results, place_behind, TakesLines, WantsAt}
+use Rattle.bufr_text.specs.TakingLines.{step_results, place_following, TakesLines, WantsAt}
 use Rattle.bufr_text.specs.declared.progress.Progress.{Progress}
 use Rattle.bufr_text.specs.declared.progress.TakeResult.{TakeResult}
 use Rattle.bufr_text.specs.declared.progress.TakeResult.TheVariants as taken
@@ -31,11 +31,11 @@ take-take n k l order = grind (arith, common_steps)
 
 pub range-kept : (old new : List ℕ) (len a b : ℕ) → a ≤ b → b ≤ len → take len new ≡ old → slice_range new a b ≡ slice_range old a b
 range-kept old new len a b order within same =
-    part-front new a b order
+    part-prefix new a b order
     ∙ ap (drop a) (sym (take-take b len new within) ∙ ap (take b) same)
-    ∙ sym (part-front old a b order)
+    ∙ sym (part-prefix old a b order)
 
--- where a reader stands that goes on
+-- where a reader is that goes on
 pub place-sound : (f : Option ReadFault) (progress : Progress) → f ≡ None → place_now f progress ≡ place_with progress.place progress.parts
 place-sound None progress e = refl
 place-sound (Some f) progress e = absurd cc
@@ -44,17 +44,17 @@ place-sound (Some f) progress e = absurd cc
 abbrev pub state : (at : ℕ) → documents.ParserState → List ℕ → Bool → Option ReadFault → ℕ → ReaderModel
 state at place held ended fault reads = record { at = at; place = place; held = held; ended = ended; fault = fault; reads = reads }
 
--- what lines tell that were taken
-pub takes-tells : (old new : Progress) (f f' : Option ReadFault) (items held : List ℕ) (start filled len : ℕ) (ended : Bool) (reads : ℕ) (step : TakeResult) (p : documents.ParserState)
-    → TakesLines old new held len step → f ≡ None → held ≡ slice_range items start filled → filled ≤ length items → p ≡ place_behind step new
+-- what lines report that were taken
+pub takes-reports : (old new : Progress) (f f' : Option ReadFault) (items held : List ℕ) (start filled len : ℕ) (ended : Bool) (reads : ℕ) (step : TakeResult) (p : documents.ParserState)
+    → TakesLines old new held len step → f ≡ None → held ≡ slice_range items start filled → filled ≤ length items → p ≡ place_following step new
     → ParsesHeldLines (state old.at (place_now f old) (slice_range items start filled) ended f reads) (state new.at p (slice_range items (start + len) filled) ended f' reads) (step_results step new.parts)
-takes-tells old new f f' items held start filled len ended reads step p takes none is within place =
+takes-reports old new f f' items held start filled len ended reads step p takes none is within place =
     let long : length held ≡ filled - start = ap length is ∙ part-length items start filled within in
     let rest : drop len held ≡ slice_range items (start + len) filled = ap (drop len) is ∙ part-drop items start filled len (omega (arith, takes.within, long)) in
     let A : documents.ParserState → Type 0 = λ q. ContinuesParse (record { at = old.at; place = q; held = slice_range items start filled; ended = ended }) (record { at = new.at; place = p; held = slice_range items (start + len) filled; ended = ended }) (step_results step new.parts) in
     let B : documents.ParserState → Type 0 = λ q. ContinuesParse (record { at = old.at; place = place_with old.place old.parts; held = slice_range items start filled; ended = ended }) (record { at = new.at; place = q; held = slice_range items (start + len) filled; ended = ended }) (step_results step new.parts) in
-    let C : List ℕ → Type 0 = λ h. ContinuesParse (record { at = old.at; place = place_with old.place old.parts; held = h; ended = ended }) (record { at = new.at; place = place_behind step new; held = slice_range items (start + len) filled; ended = ended }) (step_results step new.parts) in
-    let D : List ℕ → Type 0 = λ h. ContinuesParse (record { at = old.at; place = place_with old.place old.parts; held = held; ended = ended }) (record { at = new.at; place = place_behind step new; held = h; ended = ended }) (step_results step new.parts) in
+    let C : List ℕ → Type 0 = λ h. ContinuesParse (record { at = old.at; place = place_with old.place old.parts; held = h; ended = ended }) (record { at = new.at; place = place_following step new; held = slice_range items (start + len) filled; ended = ended }) (step_results step new.parts) in
+    let D : List ℕ → Type 0 = λ h. ContinuesParse (record { at = old.at; place = place_with old.place old.parts; held = held; ended = ended }) (record { at = new.at; place = place_following step new; held = h; ended = ended }) (step_results step new.parts) in
     let E : List ℕ → Type 0 = λ h. TakesWholeLines old.at h new.at (slice_range items (start + len) filled) in
     let F : List ℕ → Type 0 = λ h. TakesWholeLines old.at held new.at h in
     record {
@@ -79,10 +79,10 @@ wants-here old f items held start filled ended reads w none is =
       };
       ended = refl;
       reads = refl;
-      next = record { line = w.line; rest = w.rest; held = w.stands; single = w.single; adds_to = w.adds_to };
+      next = record { line = w.line; rest = w.rest; held = w.holds; single = w.single; adds_to = w.adds_to };
     }
 
--- the `end` line of a document that they tell
+-- the `end` line of a document that they report
 pub takes-end : (old new : Progress) (items held : List ℕ) (start filled len : ℕ) → TakesLines old new held len taken.Gives → held ≡ slice_range items start filled → filled ≤ length items → TakesEndLine old.at (slice_range items start filled) new.at (slice_range items (start + len) filled)
 takes-end old new items held start filled len takes is within =
     let long : length held ≡ filled - start = ap length is ∙ part-length items start filled within in
@@ -109,7 +109,7 @@ taken-ends items start filled len within e =
 -- the progress of a reader that goes on
 pub progress-more : (old new : Progress) (held : List ℕ) (start filled len reads : ℕ) → TakesLines old new held len taken.More → IsProgress old (filled - start) reads → start + len ≤ filled → IsProgress new (filled - (start + len)) reads
 progress-more old new held start filled len reads takes is within = record {
-  stands = takes.stands;
+  holds = takes.holds;
   some = omega (arith, is.some, takes.passes.counted);
   near = omega (arith, is.near, takes.near, within);
 }
@@ -118,69 +118,69 @@ pub progress-between : (old new d : Progress) (held : List ℕ) (start filled le
 progress-between old new d held start filled len reads step takes is within same between =
     let S : ParserState → Type 0 = λ p. IsParserState d.at (place_with p d.parts) in
     record {
-      stands = subst S (sym between) tt;
+      holds = subst S (sym between) tt;
       some = omega (arith, is.some, takes.passes.counted, same);
       near = omega (arith, is.near, takes.near, within, same);
     }
 
 -- the end
-pub told-inside : (p : ParserState) (d : spec.Document) (at : ℕ) → (p ≡ place.Between → ⊥) → told_at_end at (place_with p d) ≡ Refused at NotAllowed ∷ []
-told-inside place.Between d at not = absurd (not refl)
-told-inside place.Heading d at not = refl
-told-inside (place.Laying part) d at not = refl
-told-inside (place.Filling subset) d at not = refl
+pub reported-inside : (p : ParserState) (d : spec.Document) (at : ℕ) → (p ≡ place.Between → ⊥) → reported_at_end at (place_with p d) ≡ Refused at NotAllowed ∷ []
+reported-inside place.Between d at not = absurd (not refl)
+reported-inside place.Heading d at not = refl
+reported-inside (place.BeforeSubsets part) d at not = refl
+reported-inside (place.Filling subset) d at not = refl
 
 pub none-held : (s : ReaderModel) → s.ended ≡ true → (s.ended ≡ true → ends_by_feed s.held ≡ true) → has_no_feed s.held ≡ true → s.held ≡ []
 none-held s ended ends clean = ends-none s.held (ends ended) clean
 
-pub done-between : (s : ReaderModel) → s.place ≡ Between → s.held ≡ [] → parse (stand s) [] ≡ []
+pub done-between : (s : ReaderModel) → s.place ≡ Between → s.held ≡ [] → parse (position_of s) [] ≡ []
 unfolding parse_lines lines_of
 done-between s place held =
     ap (λ (z : List ℕ). parse_lines s.at s.place (lines_of (z ++ []))) held ∙ ap (λ (p : documents.ParserState). parse_lines s.at p []) place
 
-pub end-tells : (s : ReaderModel) → s.ended ≡ true → s.held ≡ [] → told_at_end s.at s.place ≡ Refused s.at NotAllowed ∷ [] → ParsesHeldLines s (stopped s (fault.Line s.at)) (Refused s.at NotAllowed ∷ [])
-end-tells s ended held told =
+pub end-reports : (s : ReaderModel) → s.ended ≡ true → s.held ≡ [] → reported_at_end s.at s.place ≡ Refused s.at NotAllowed ∷ [] → ParsesHeldLines s (stopped s (fault.Line s.at)) (Refused s.at NotAllowed ∷ [])
+end-reports s ended held results =
     let A : Bool → Type 0 = λ e. ContinuesParse (record { at = s.at; place = s.place; held = s.held; ended = e }) (record { at = s.at; place = Stopped; held = s.held; ended = e }) (Refused s.at NotAllowed ∷ []) in
     let B : List ℕ → Type 0 = λ h. ContinuesParse (record { at = s.at; place = s.place; held = h; ended = true }) (record { at = s.at; place = Stopped; held = h; ended = true }) (Refused s.at NotAllowed ∷ []) in
     let C : List ParseResult → Type 0 = λ t. ContinuesParse (record { at = s.at; place = s.place; held = []; ended = true }) (record { at = s.at; place = Stopped; held = []; ended = true }) t in
-    record { goes = subst A (sym ended) (subst B (sym held) (subst C told (ends-inside s.at s.place))); passes = passes-none s.at s.held }
+    record { goes = subst A (sym ended) (subst B (sym held) (subst C results (ends-inside s.at s.place))); passes = passes-none s.at s.held }
 
 -- a line that is too long
 pub reads-place : (p : ParserState) (d : spec.Document) → Reads (place_with p d)
 reads-place place.Between d = tt
 reads-place place.Heading d = tt
-reads-place (place.Laying part) d = tt
+reads-place (place.BeforeSubsets part) d = tt
 reads-place (place.Filling subset) d = tt
 
-pub long-tells : (s : ReaderModel) → Reads s.place → has_no_feed s.held ≡ true → 4096 < length s.held → ParsesHeldLines s (stopped s (fault.Line s.at)) (Refused s.at NotAllowed ∷ [])
-long-tells s reads clean long = record { goes = refuses-long s.at s.place s.held s.ended reads clean long; passes = passes-none s.at s.held }
+pub long-reports : (s : ReaderModel) → Reads s.place → has_no_feed s.held ≡ true → 4096 < length s.held → ParsesHeldLines s (stopped s (fault.Line s.at)) (Refused s.at NotAllowed ∷ [])
+long-reports s reads clean long = record { goes = refuses-long s.at s.place s.held s.ended reads clean long; passes = passes-none s.at s.held }
 
 -- a line that is refused
 by-fault : (now : ReaderModel) (at line : ℕ) (progress : Progress) (held : List ℕ) (ended : Bool) (reads : ℕ) (refusal : LineRefusal) → ((f : Option ReadFault) → ParsesHeldLines now (state at Stopped held ended f reads) (Refused line (line_fault_of refusal) ∷ []))
     → TakesHeldLines now (state at (place_now (Some (read_fault_at line refusal)) progress) held ended (Some (read_fault_at line refusal)) reads) (Err (read_fault_at line refusal))
-by-fault now at line progress held ended reads refusal.NotAllowed tells = (tells (Some (fault.Line line)), refl)
-by-fault now at line progress held ended reads refusal.SubsetCount tells = (tells (Some (fault.SubsetCount line)), refl)
-by-fault now at line progress held ended reads refusal.HeaderRange tells = (tells (Some (fault.HeaderRange line)), refl)
+by-fault now at line progress held ended reads refusal.NotAllowed reports = (reports (Some (fault.Line line)), refl)
+by-fault now at line progress held ended reads refusal.SubsetCount reports = (reports (Some (fault.SubsetCount line)), refl)
+by-fault now at line progress held ended reads refusal.HeaderRange reports = (reports (Some (fault.HeaderRange line)), refl)
 
 pub refuses-went : (now : ReaderModel) (at line : ℕ) (progress : Progress) (held : List ℕ) (ended : Bool) (reads : ℕ) (refusal : LineRefusal) (f : ReadFault) → f ≡ read_fault_at line refusal → ((f : Option ReadFault) → ParsesHeldLines now (state at Stopped held ended f reads) (Refused line (line_fault_of refusal) ∷ []))
     → TakesHeldLines now (state at (place_now (Some f) progress) held ended (Some f) reads) (Err f)
-refuses-went now at line progress held ended reads refusal f is tells =
+refuses-went now at line progress held ended reads refusal f is reports =
     let W : ReadFault → Type 0 = λ f. TakesHeldLines now (state at (place_now (Some f) progress) held ended (Some f) reads) (Err f) in
-    subst W (sym is) (by-fault now at line progress held ended reads refusal tells)
+    subst W (sym is) (by-fault now at line progress held ended reads refusal reports)
 
 -- a buffer that grew
 pub grown : (old new room : List ℕ) (len : ℕ) → new ≡ take 8192 old ++ room → len ≡ length old → len ≤ 8192 → take len new ≡ old
 grown old new room len is size few =
     ap (take len) (is ∙ ap (λ (l : List ℕ). l ++ room) (take_all 8192 old (omega (arith, size, few)))) ∙ take_at old room len (sym size)
 
--- a line feed behind what is held
+-- a line feed after what is held
 pub feed-read : (old new rest : List ℕ) (a b : ℕ) → slice_range old a b ≡ rest → a ≤ b → b ≤ length old → take (b + 1) new ≡ take b old ++ 10 ∷ [] → slice_range new a (b + 1) ≡ rest ++ 10 ∷ []
 feed-read old new rest a b is order within same =
-    part-front new a (b + 1) (omega (arith, order)) ∙ ap (drop a) same
+    part-prefix new a (b + 1) (omega (arith, order)) ∙ ap (drop a) same
     ∙ drop-append-le a (take b old) (10 ∷ []) (omega (arith, length-take b old, order, within))
-    ∙ ap (λ (l : List ℕ). l ++ 10 ∷ []) (sym (part-front old a b order) ∙ is)
+    ∙ ap (λ (l : List ℕ). l ++ 10 ∷ []) (sym (part-prefix old a b order) ∙ is)
 
--- octets behind what is held
+-- octets after what is held
 pub some-read : (items items1 items2 rest bs : List ℕ) (place filled slid n : ℕ) → slice_range items place filled ≡ rest → slid ≤ place → place ≤ filled → filled - slid ≤ length items1
     → slice_range items1 (place - slid) (filled - slid) ≡ slice_range items place filled
     → take (filled - slid + length bs) items2 ≡ take (filled - slid) items1 ++ bs → n ≡ length bs
@@ -189,7 +189,7 @@ some-read items items1 items2 rest bs place filled slid n is less order within k
     rest-read items items1 items2 rest bs place filled slid n is less order within kept held count ∙ sym (append-nil (rest ++ bs))
 
 pub progress-read : (d : Progress) (held held' reads : ℕ) → IsProgress d held reads → held' ≤ held + 4096 → IsProgress d held' (reads + 1)
-progress-read d held held' reads is few = record { stands = is.stands; some = is.some; near = omega (arith, is.near, few) }
+progress-read d held held' reads is few = record { holds = is.holds; some = is.some; near = omega (arith, is.near, few) }
 
 -- the room is made once, before the first read
 pub none-read : (reads room : ℕ) → (0 < reads → room ≡ 8192) → room < 8192 → reads ≡ 0

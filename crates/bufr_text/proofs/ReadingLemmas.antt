@@ -3,10 +3,10 @@ use Rattle.std.proofs.Common.{◌≡◌, ℕ, ◌+◌, ◌<◌, ◌≤◌, ◌==
 use Rattle.std.proofs.lemmas.Bool.Decides.{nat_tests}
 use Rattle.bufr_bits.proofs.ScaledLemmas.{and_first, and_second}
 use Rattle.bufr_text.specs.Line.{Line, Passed, Opens, Header, Local1, Section2, Descriptors, Begins, Item, Closes, Wrong}
-use Rattle.bufr_text.specs.Documents.{ParserState, Between, Heading, Laying, Filling, Stopped, WalkGoes, Faults, ParseResult, Refused, NotAllowed, turn, line_within_limit, parse_lines, place_after, told_at, told_at_end, lines_of, prepend_to_line, Split, onto_split, octet_onto_split, split_of, parse_open_lines}
+use Rattle.bufr_text.specs.Documents.{ParserState, Between, Heading, BeforeSubsets, Filling, Stopped, WalkGoes, Faults, ParseResult, Refused, NotAllowed, turn, line_within_limit, parse_lines, place_after, reported_at, reported_at_end, lines_of, prepend_to_line, Split, onto_split, octet_onto_split, split_of, parse_open_lines}
 use Rattle.bufr_text.specs.Reading.{has_no_feed, ReaderPosition, parse, parse_open, ContinuesParse}
 
--- behind a fault nothing is told
+-- after a fault nothing is reported
 stays-stopped : (at : ℕ) (meaning : Line) → turn at Stopped meaning ≡ WalkGoes Stopped
 unfolding turn
 stays-stopped at Passed = refl
@@ -20,19 +20,19 @@ stays-stopped at (Item fxy form) = refl
 stays-stopped at Closes = refl
 stays-stopped at Wrong = refl
 
-pub stopped-tells : (at : ℕ) (lines : List (List ℕ)) → parse_lines at Stopped lines ≡ []
+pub stopped-reports : (at : ℕ) (lines : List (List ℕ)) → parse_lines at Stopped lines ≡ []
 unfolding parse_lines
-stopped-tells at [] = refl
-stopped-tells at (line ∷ lines) = rw (stays-stopped at (line_within_limit line)) (stopped-tells (at + 1) lines)
+stopped-reports at [] = refl
+stopped-reports at (line ∷ lines) = rw (stays-stopped at (line_within_limit line)) (stopped-reports (at + 1) lines)
 
-pub stopped-tells-openly : (at : ℕ) (lines : List (List ℕ)) (rest : List ℕ) → parse_open_lines at Stopped lines rest ≡ []
+pub stopped-reports-openly : (at : ℕ) (lines : List (List ℕ)) (rest : List ℕ) → parse_open_lines at Stopped lines rest ≡ []
 unfolding parse_open_lines
-stopped-tells-openly at [] rest = by-length (nat_lt 4096 (length rest))
+stopped-reports-openly at [] rest = by-length (nat_lt 4096 (length rest))
   where
-    by-length : (b : Bool) → (if b then told_at at (turn at Stopped Wrong) else []) ≡ []
-    by-length true = ap (told_at at) (stays-stopped at Wrong)
+    by-length : (b : Bool) → (if b then reported_at at (turn at Stopped Wrong) else []) ≡ []
+    by-length true = ap (reported_at at) (stays-stopped at Wrong)
     by-length false = refl
-stopped-tells-openly at (line ∷ lines) rest = rw (stays-stopped at (line_within_limit line)) (stopped-tells-openly (at + 1) lines rest)
+stopped-reports-openly at (line ∷ lines) rest = rw (stays-stopped at (line_within_limit line)) (stopped-reports-openly (at + 1) lines rest)
 
 -- a line that is held whole
 no-feed-first : (c : ℕ) → not (c == 10) ≡ true → (c == 10) ≡ false
@@ -59,7 +59,7 @@ openly-from at place s = parse_open_lines at place s.whole s.rest
 
 pub takes-line : (at : ℕ) (place : ParserState) (line rest : List ℕ) (ended : Bool) → has_no_feed line ≡ true
     → let here = turn at place (line_within_limit line) in
-    ContinuesParse (record { at = at; place = place; held = line ++ 10 ∷ rest; ended = ended }) (record { at = at + 1; place = place_after here; held = rest; ended = ended }) (told_at at here)
+    ContinuesParse (record { at = at; place = place; held = line ++ 10 ∷ rest; ended = ended }) (record { at = at + 1; place = place_after here; held = rest; ended = ended }) (reported_at at here)
 unfolding parse_lines parse_open_lines
 takes-line at place line rest ended h = record {
   whole = λ t none. ap (parse_lines at place) (ap lines_of (append_assoc line (10 ∷ rest) t) ∙ line-held line (rest ++ t) h);
@@ -70,7 +70,7 @@ still-open : (b c : Bool) → (b ≡ true → c ≡ true) → c ≡ false → b 
 still-open true c kept unended = sym (kept refl) ∙ unended
 still-open false c kept unended = refl
 
--- what was told is followed by what is told next
+-- what was reported is followed by what is reported next
 pub goes-further : (a b c : ReaderPosition) (x y : List ParseResult) → (b.ended ≡ true → c.ended ≡ true) → ContinuesParse a b x → ContinuesParse b c y → ContinuesParse a c (x ++ y)
 goes-further a b c x y kept f g = record {
   whole = λ t none. f.whole t (λ e. none (kept e)) ∙ ap (λ (z : List ParseResult). x ++ z) (g.whole t none) ∙ sym (append_assoc x y (parse c t));
@@ -102,7 +102,7 @@ long-first (c ∷ d ∷ held) t h some =
 abbrev pub Reads : ParserState → Type 0
 Reads Between = Unit {0}
 Reads (Heading d) = Unit {0}
-Reads (Laying part d) = Unit {0}
+Reads (BeforeSubsets part d) = Unit {0}
 Reads (Filling subset d) = Unit {0}
 Reads Stopped = ⊥
 
@@ -110,7 +110,7 @@ pub wrong-faults : (at : ℕ) (place : ParserState) → Reads place → turn at 
 unfolding turn
 wrong-faults at Between r = refl
 wrong-faults at (Heading d) r = refl
-wrong-faults at (Laying part d) r = refl
+wrong-faults at (BeforeSubsets part d) r = refl
 wrong-faults at (Filling subset d) r = refl
 wrong-faults at Stopped r = absurd r
 
@@ -143,7 +143,7 @@ openly-long : (at : ℕ) (place : ParserState) (held : List ℕ) (s : Split) →
 unfolding LongSplit parse_open_lines
 openly-long at place held s r long (more, rest, lines, inl e) =
     let over : nat_lt 4096 (length (held ++ more)) ≡ true = grind (arith, nat_tests, length-append held more, long) in
-    ap (openly-from at place) e ∙ rw (over, wrong-faults at place r) (ap (λ (z : List ParseResult). Refused at NotAllowed ∷ z) (stopped-tells-openly (at + 1) lines rest))
+    ap (openly-from at place) e ∙ rw (over, wrong-faults at place r) (ap (λ (z : List ParseResult). Refused at NotAllowed ∷ z) (stopped-reports-openly (at + 1) lines rest))
 openly-long at place held s r long (more, rest, lines, inr e) =
     let over : nat_lt 4096 (length (held ++ more)) ≡ true = grind (arith, nat_tests, length-append held more, long) in
     ap (openly-from at place) e ∙ rw (over, wrong-faults at place r) refl
@@ -152,7 +152,7 @@ refuses-openly : (at : ℕ) (place : ParserState) (held t : List ℕ) → Reads 
     → openly-from at place (split_of (held ++ t)) ≡ Refused at NotAllowed ∷ openly-from at Stopped (split_of (held ++ t))
 refuses-openly at place held t r h long =
     openly-long at place held (split_of (held ++ t)) r long (long-split held t h (omega (arith, long)))
-    ∙ ap (λ (z : List ParseResult). Refused at NotAllowed ∷ z) (sym (stopped-tells-openly at (split_of (held ++ t)).whole (split_of (held ++ t)).rest))
+    ∙ ap (λ (z : List ParseResult). Refused at NotAllowed ∷ z) (sym (stopped-reports-openly at (split_of (held ++ t)).whole (split_of (held ++ t)).rest))
 
 pub refuses-long : (at : ℕ) (place : ParserState) (held : List ℕ) (ended : Bool) → Reads place → has_no_feed held ≡ true → 4096 < length held
     → ContinuesParse (record { at = at; place = place; held = held; ended = ended }) (record { at = at; place = Stopped; held = held; ended = ended }) (Refused at NotAllowed ∷ [])
@@ -163,8 +163,8 @@ refuses-long at place held ended r h long = record {
       let (more, rest, e) = long-first held t h (omega (arith, long)) in
       let over : nat_lt 4096 (length (held ++ more)) ≡ true = grind (arith, nat_tests, length-append held more, long) in
       ap (parse_lines at place) e
-      ∙ rw (over, wrong-faults at place r) (ap (λ (z : List ParseResult). Refused at NotAllowed ∷ z) (stopped-tells (at + 1) rest))
-      ∙ ap (λ (z : List ParseResult). Refused at NotAllowed ∷ z) (sym (stopped-tells at (lines_of (held ++ t))));
+      ∙ rw (over, wrong-faults at place r) (ap (λ (z : List ParseResult). Refused at NotAllowed ∷ z) (stopped-reports (at + 1) rest))
+      ∙ ap (λ (z : List ParseResult). Refused at NotAllowed ∷ z) (sym (stopped-reports at (lines_of (held ++ t))));
 }
 
 cc-no : true ≡ false → ⊥
@@ -179,17 +179,17 @@ one-line (c ∷ d ∷ held) h some =
     rw (no-feed-first c (and_first (not (c == 10)) (has_no_feed (d ∷ held)) h)) (ap (prepend_to_line c) (one-line (d ∷ held) (and_second (not (c == 10)) (has_no_feed (d ∷ held)) h) (omega arith)))
 
 pub ends-inside : (at : ℕ) (place : ParserState)
-    → ContinuesParse (record { at = at; place = place; held = []; ended = true }) (record { at = at; place = Stopped; held = []; ended = true }) (told_at_end at place)
+    → ContinuesParse (record { at = at; place = place; held = []; ended = true }) (record { at = at; place = Stopped; held = []; ended = true }) (reported_at_end at place)
 unfolding parse_lines lines_of
 ends-inside at place = record {
   openly = λ unended t. absurd (cc-no unended);
   whole = λ t none.
       ap (λ (z : List ℕ). parse_lines at place (lines_of z)) (none refl)
-      ∙ sym (append-nil (told_at_end at place))
-      ∙ ap (λ (z : List ParseResult). told_at_end at place ++ z) (sym (stopped-tells at (lines_of t)));
+      ∙ sym (append-nil (reported_at_end at place))
+      ∙ ap (λ (z : List ParseResult). reported_at_end at place ++ z) (sym (stopped-reports at (lines_of t)));
 }
 
--- where no whole line is held and the rest is short, nothing is told before the end is known
+-- where no whole line is held and the rest is short, nothing is reported before the end is known
 rest-alone : (held : List ℕ) → has_no_feed held ≡ true → split_of held ≡ record { whole = []; rest = held }
 unfolding split_of
 rest-alone [] h = refl

@@ -39,7 +39,7 @@ use Rattle.bufr_text.specs.declared.form.Form.TheVariants.{AsWritten}
 use Rattle.bufr_text.specs.Document.{Document}
 use Rattle.bufr_text.specs.Dump.{DumpItem, bit, dump_value_of, item_entries, subset_entries, document_of, dump_text_of, lines_before}
 use Rattle.bufr_text.specs.DumpItems.{value_of, items_apart, compressed_dump_items, compressed_dump_subsets}
-use Rattle.bufr_text.specs.Encoding.{too_long, refused_at, ◌>>=◌, told_of_template, told_of_items, data_bits, octets_of_bits, parts_of_document, message_of, encoding_in, encoding_of}
+use Rattle.bufr_text.specs.Encoding.{too_long, refused_at, ◌>>=◌, report_of_template, report_of_items, data_bits, octets_of_bits, parts_of_document, message_of, encoding_in, encoding_of}
 use Rattle.bufr_text.specs.RoundTrip.{IsAccepted, dump_items_in, extra_octets, SaySame, HasSameReading, IsEncodedAgain}
 use Rattle.bufr_text.specs.Header.{head_from_values, compressed_in}
 use Rattle.bufr_text.proofs.DumpableLemmas.{octets_are, sections_given}
@@ -134,8 +134,8 @@ pub encoded_to : (table : List Row) (sequences : List Sequence) (d : Document) (
     → message_size (head_from_values d).edition (parts_of_document d (octets_of_bits bits)) ≤ max_octets → encoding_of table sequences d ≡ Ok (message_octets (head_from_values d) (parts_of_document d (octets_of_bits bits)))
 unfolding encoding_in
 encoded_to table sequences d template bits expands filled few =
-    ap (λ r. told_of_template d.line r >>= λ t. told_of_items (data_bits (compressed_in d) (next_item table t) (subsets_of d.entries)) >>= λ b. message_of d.line (head_from_values d) (parts_of_document d (octets_of_bits b))) expands
-    ∙ ap (λ r. told_of_items r >>= λ b. message_of d.line (head_from_values d) (parts_of_document d (octets_of_bits b))) filled
+    ap (λ r. report_of_template d.line r >>= λ t. report_of_items (data_bits (compressed_in d) (next_item table t) (subsets_of d.entries)) >>= λ b. message_of d.line (head_from_values d) (parts_of_document d (octets_of_bits b))) expands
+    ∙ ap (λ r. report_of_items r >>= λ b. message_of d.line (head_from_values d) (parts_of_document d (octets_of_bits b))) filled
     ∙ ap (λ b. if b then Err (refused_at d.line too_long) else Ok (message_octets (head_from_values d) (parts_of_document d (octets_of_bits bits)))) (within (message_size (head_from_values d).edition (parts_of_document d (octets_of_bits bits))) max_octets few)
 
 -- what the document of a message says
@@ -171,8 +171,8 @@ record IsFilled (table : List Row) (template : Tree) (s : Sections) (values : Va
 pub enough : (out octets : List Bool) (bits : List Bool) → bits ≡ out ++ octets → length out ≤ length bits
 enough out octets bits e = omega (arith, ap length e, length-append out octets)
 
-pub behind : (out more bits : List Bool) → bits ≡ out ++ more → drop (length out) bits ≡ more
-behind out more bits e = ap (drop (length out)) e ∙ drop_at out more (length out) refl
+pub suffix : (out more bits : List Bool) → bits ≡ out ++ more → drop (length out) bits ≡ more
+suffix out more bits e = ap (drop (length out)) e ∙ drop_at out more (length out) refl
 
 pub fills_as : (b c : Bool) (course : Course) (drafts : List Subset) (out : List Bool) → b ≡ c → data_bits c course drafts ≡ Ok out → data_bits b course drafts ≡ Ok out
 fills_as b c course drafts out e h = ap (λ x. data_bits x course drafts) e ∙ h
@@ -192,7 +192,7 @@ filled table template s (apart subsets) used at rows legal read =
         enough w.out tail (bits_of octets) e,
         (
           subst (λ b. ReadsSubsets course subsets b (drop (length w.out) (bits_of octets))) (sym e)
-              (subst (λ b. ReadsSubsets course subsets (w.out ++ tail) b) (sym (behind w.out tail (bits_of octets) e)) (w.again tail)),
+              (subst (λ b. ReadsSubsets course subsets (w.out ++ tail) b) (sym (suffix w.out tail (bits_of octets) e)) (w.again tail)),
           read.2.1,
         ),
       );
@@ -210,7 +210,7 @@ filled table template s (together items) used at rows legal read =
         read.0,
         enough w.out tail (bits_of octets) e,
         subst (λ b. IsPackedReading s.subsets course items b (drop (length w.out) (bits_of octets))) (sym e)
-            (subst (λ b. IsPackedReading s.subsets course items (w.out ++ tail) b) (sym (behind w.out tail (bits_of octets) e)) (w.again tail)),
+            (subst (λ b. IsPackedReading s.subsets course items (w.out ++ tail) b) (sym (suffix w.out tail (bits_of octets) e)) (w.again tail)),
       );
     }
 
@@ -270,7 +270,7 @@ encoded_again table sequences m s template values used at rows legal a =
         no_longer = omega (arith, least, long);
         few = omega (arith, most, long);
         octets = octets_small s.head parts given.head given.local1 given.section2 given.descriptors given.few (octets_are payload (octets_in-are ((length f.out + 7) / 8) (f.out ++ padding (length f.out)) (padded f.out))) most;
-        framed = λ at behind. framed s.head parts at behind long;
+        framed = λ at suffix. framed s.head parts at suffix long;
         sections = sections_from s.head parts;
         are = back;
         same = record { head = refl; local1 = refl; section2 = refl; descriptors = refl; subsets = refl; observed = refl; compressed = refl };

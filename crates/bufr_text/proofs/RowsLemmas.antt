@@ -20,7 +20,7 @@ pub record IsRead (row : Row) : Type 0 where
   pub good : limits.IsRow row
   pub element : row.fxy < 16384
 
--- a test that was passed, and the value behind it
+-- a test that was passed, and the value after it
 passed : {A P : Type 0} (test : Bool) (x y : A) → only_if test x ≡ Some y → (test ≡ true → x ≡ y → P) → P
 passed true x y is go = go refl (cc is)
 passed false x y is go = absurd (cc is)
@@ -107,10 +107,10 @@ each-read : (records : List Record) (table : List Row) → map row_of records �
 each-read records [] e = tt
 each-read [] (row ∷ table) e = absurd cc
 each-read (r ∷ records) (row ∷ table) e =
-    (row-read r row (front (row_of r) (map row_of records) row (map Some table) e), each-read records table (others (row_of r) (map row_of records) row (map Some table) e))
+    (row-read r row (prefix (row_of r) (map row_of records) row (map Some table) e), each-read records table (others (row_of r) (map row_of records) row (map Some table) e))
   where
-    front : (o : Option Row) (os : List (Option Row)) (x : Row) (xs : List (Option Row)) → ◌≡◌ {A = List (Option Row)} (o ∷ os) (Some x ∷ xs) → o ≡ Some x
-    front o os x xs e = cc
+    prefix : (o : Option Row) (os : List (Option Row)) (x : Row) (xs : List (Option Row)) → ◌≡◌ {A = List (Option Row)} (o ∷ os) (Some x ∷ xs) → o ≡ Some x
+    prefix o os x xs e = cc
 
     others : (o : Option Row) (os : List (Option Row)) (x : Row) (xs : List (Option Row)) → ◌≡◌ {A = List (Option Row)} (o ∷ os) (Some x ∷ xs) → os ≡ xs
     others o os x xs e = cc

@@ -12,19 +12,19 @@ all_said lines = map line_within_limit lines
 ten : Line
 ten = Item 257 (number_token (codes "10"))
 
--- one space is behind a descriptor, and no tab or second one
+-- one space is after a descriptor, and no tab or second one
 -- rule: reading-blanks
 blanks : all_said (codes "001001 10" ∷ (codes "001001" ++ 9 ∷ codes "10") ∷ codes "001001  10" ∷ [] ∷ codes "  " ∷ (9 ∷ []) ∷ []) ≡ ten ∷ Wrong ∷ Wrong ∷ Passed ∷ Wrong ∷ Wrong ∷ []
 unfolding ten line_of worded prefix_while suffix_while without_prefix fxy_read value_read is_hashed place_from keys
 blanks = refl
 
--- a carriage return is an octet of the line: it can stand behind `#` alone
+-- a carriage return is an octet of the line: it may come after `#` alone
 -- rule: reading-carriage-return
 carriage_returns : all_said ((35 ∷ 13 ∷ []) ∷ (13 ∷ []) ∷ (codes "001001 10 #" ++ 13 ∷ []) ∷ (codes "001001 10" ++ 13 ∷ []) ∷ (codes "end" ++ 13 ∷ []) ∷ []) ≡ Passed ∷ Wrong ∷ ten ∷ Wrong ∷ Wrong ∷ []
 unfolding ten line_of worded prefix_while suffix_while without_prefix fxy_read value_read is_hashed place_from keys
 carriage_returns = refl
 
--- behind a value, `#` stands behind spaces, and nothing else does
+-- after a value, `#` comes after spaces, and nothing else comes
 -- rule: reading-after-a-value
 comments : all_said (codes "001001 10 #" ∷ codes "001001 10    # x" ∷ codes "001001 10#" ∷ codes "001001 10 x" ∷ codes "001001 10 " ∷ codes " # x" ∷ []) ≡ ten ∷ ten ∷ Wrong ∷ Wrong ∷ Wrong ∷ Wrong ∷ []
 unfolding ten line_of worded prefix_while suffix_while without_prefix fxy_read value_read is_hashed place_from keys
@@ -55,7 +55,7 @@ unfolding line_of worded prefix_while suffix_while without_prefix fxy_read value
 texts = refl
 
 -- the lines of a document, with these from the one of `centre` to that of `subsets`, and these
--- behind them
+-- after them
 abbrev document_with : (centre optional subsets : List ℕ) → (more : List (List ℕ)) → List ℕ
 document_with centre optional subsets more = text_of_lines (
     codes "message" ∷ codes "edition 4" ∷ codes "master 0" ∷ centre ∷ codes "subcentre 0" ∷ codes "update 0" ∷ codes "category 0"
@@ -68,7 +68,7 @@ none_with more = documents_of (document_with (codes "centre 98") (codes "optiona
 abbrev header_written : List ℕ
 header_written = 4 ∷ 0 ∷ 98 ∷ 0 ∷ 0 ∷ 0 ∷ 0 ∷ 0 ∷ 14 ∷ 0 ∷ 2024 ∷ 1 ∷ 2 ∷ 3 ∷ 4 ∷ 5 ∷ 1 ∷ 0 ∷ 1 ∷ 0 ∷ []
 
--- lines of octets and of descriptors may be short in the middle; their kinds stand in order
+-- lines of octets and of descriptors may be short in the middle; their kinds come in order
 -- rule: reading-long-lists
 short_in_the_middle : none_with (codes "local1 01" ∷ codes "local1 0203" ∷ codes "section2 04" ∷ codes "section2 0506" ∷ codes "descriptors 001001" ∷ codes "descriptors 012101 001001" ∷ codes "end" ∷ [])
     ≡ Complete (record { line = 1; header = header_written; local1 = 1 ∷ 2 ∷ 3 ∷ []; section2 = 4 ∷ 5 ∷ 6 ∷ []; descriptors = 257 ∷ 0x0C65 ∷ 257 ∷ []; entries = [] }) ∷ []
@@ -79,9 +79,9 @@ out_of_order : none_with (codes "section2 04" ∷ codes "local1 01" ∷ codes "e
 unfolding parse_lines lines_of turn line_of worded prefix_while suffix_while place_from keys without_prefix hex_read descriptors_read
 out_of_order = refl
 
-behind_descriptors : none_with (codes "descriptors 001001" ∷ codes "section2 04" ∷ codes "end" ∷ []) ≡ Refused 23 NotAllowed ∷ []
+after_descriptors : none_with (codes "descriptors 001001" ∷ codes "section2 04" ∷ codes "end" ∷ []) ≡ Refused 23 NotAllowed ∷ []
 unfolding parse_lines lines_of turn line_of worded prefix_while suffix_while place_from keys without_prefix hex_read descriptors_read
-behind_descriptors = refl
+after_descriptors = refl
 
 -- within a line: what is no line goes before a value past its range, and that before a count
 abbrev centre_with : List ℕ → List ParseResult

@@ -46,12 +46,12 @@ together-text table j [] = refl
 together-text table j (i ∷ items) =
     ap (λ l. (call_line (item_call (view_of table i.spec (content_at j i.content))) ++ 10 ∷ []) ++ l) (together-text table j items)
 
--- a subset, and those behind it
-subset-text : (number : ℕ) (calls more : List Timed) (lines behind : List (List ℕ)) → calls_text calls ≡ text_of_lines lines → calls_text more ≡ text_of_lines behind
-    → (subset_line number ++ 10 ∷ []) ++ calls_text (calls ++ more) ≡ text_of_lines (subset_line number ∷ (lines ++ behind))
-subset-text number calls more lines behind here there =
+-- a subset, and those after it
+subset-text : (number : ℕ) (calls more : List Timed) (lines suffix : List (List ℕ)) → calls_text calls ≡ text_of_lines lines → calls_text more ≡ text_of_lines suffix
+    → (subset_line number ++ 10 ∷ []) ++ calls_text (calls ++ more) ≡ text_of_lines (subset_line number ∷ (lines ++ suffix))
+subset-text number calls more lines suffix here there =
     ap (λ l. (subset_line number ++ 10 ∷ []) ++ l)
-    (calls-append calls more ∙ ap (λ l. l ++ calls_text more) here ∙ ap (λ l. text_of_lines lines ++ l) there ∙ sym (text-append lines behind))
+    (calls-append calls more ∙ ap (λ l. l ++ calls_text more) here ∙ ap (λ l. text_of_lines lines ++ l) there ∙ sym (text-append lines suffix))
 
 subsets-text : (table : List Row) (course : Course) (before number : ℕ) (subsets : List (List (Item Content))) → calls_text (subset_calls table course before number subsets) ≡ text_of_lines (subset_lines number (map (items_apart table) subsets))
 unfolding subset_lines
@@ -201,7 +201,7 @@ module _ (a b : LineModel) (r : outcome.Read) (values : Values) where
 
 -- what a writer that held nothing wrote
 prefix-moved : (a b : LineModel) (text : List ℕ) (r : Result Unit RunFault) → Moves a.taken b.taken (a.held ++ text) b.held r → GrowsByPrefix a.taken b.taken (a.held ++ text)
-prefix-moved a b text (Ok x) moves = record { front = moves.prefix; back = b.held; parts = moves.parts; gains = moves.gains }
+prefix-moved a b text (Ok x) moves = record { prefix = moves.prefix; back = b.held; parts = moves.parts; gains = moves.gains }
 prefix-moved a b text (Err f) moves = moves.1
 
 -- what a dump leaves of the sink
@@ -237,9 +237,9 @@ module _ {a b c : LineModel} {head : List ℕ} (rest : List ℕ) (ok : a.status 
       let parts : head ++ rest ≡ (head ++ more.prefix) ++ more.suffix = ap (λ l. head ++ l) more.parts ∙ sym (append_assoc head more.prefix more.suffix) in
       record {
         writes = record {
-          front = grown.front;
+          prefix = grown.prefix;
           back = grown.back ++ more.suffix;
-          parts = parts ∙ ap (λ l. l ++ more.suffix) grown.parts ∙ append_assoc grown.front grown.back more.suffix;
+          parts = parts ∙ ap (λ l. l ++ more.suffix) grown.parts ∙ append_assoc grown.prefix grown.back more.suffix;
           gains = grown.gains;
         };
         counts = counts-fault a.failures c.failures a.empty_writes c.empty_writes c.status fault is (only-write a c (a.held ++ (head ++ more.prefix)) c.held c.status from.moves) from.counts;

@@ -12,7 +12,7 @@ use Rattle.bufr_fill.specs.Fits.{AreOctets}
 use Rattle.bufr_fill.specs.ReadBack.{HasOctets}
 use Rattle.bufr_text.specs.Documents.{line_within_limit}
 use Rattle.bufr_text.specs.Bounds.{IsOctet, IsDescriptorWord}
-use Rattle.bufr_text.specs.Grammar.{without_space, upper_value, either_value, pair_value, onto_read, hex_read, fxy_read, descriptors_read, number_read, QuotedToken, Closed, ListsLeaves, Nothing, is_unescaped, says_pair, escape_of, quoting_of, octet_onto, quoted_on, quoted_read, is_number_octet, is_passed_behind, prefix_while, suffix_while}
+use Rattle.bufr_text.specs.Grammar.{without_space, upper_value, either_value, pair_value, onto_read, hex_read, fxy_read, descriptors_read, number_read, QuotedToken, Closed, ListsLeaves, Nothing, is_unescaped, says_pair, escape_of, quoting_of, octet_onto, quoted_on, quoted_read, is_number_octet, is_passed_after, prefix_while, suffix_while}
 use Rattle.bufr_text.specs.Line.{Line, Passed, Opens, Header, Local1, Section2, Descriptors, Begins, Item, Closes, Wrong, keys, place_from, made, with_one_to, item_if_comment, text_value, number_value, missing_value, value_read, valued, item_line, worded, is_no_space, line_of}
 
 -- what a line says is of octets and of descriptors
@@ -191,7 +191,7 @@ made-always line (Some x) h = h x
 made-always line None h = tt
 
 item-sound : (fxy : ℕ) (r : Option (DraftValue × List ℕ)) → IfSome r (λ r. HasOctets (r.0)) → IsSound (made (item_if_comment fxy) r)
-item-sound fxy (Some (form, rest)) h = if-line (is_passed_behind rest) (Item fxy form) Wrong h tt
+item-sound fxy (Some (form, rest)) h = if-line (is_passed_after rest) (Item fxy form) Wrong h tt
 item-sound fxy None h = tt
 
 valued-sound : (read : List ℕ → Option (DraftValue × List ℕ)) (r : ℕ × List ℕ) → ((text : List ℕ) → IfSome (read text) (λ r. HasOctets (r.0))) → IsSound (valued read r)

@@ -90,31 +90,31 @@ module _ (table : List Row) (all : AllByRecursion IsRead table) where
       by false None q = absurd cc
       by false (Some row) q = fitted (factor_field row fxy) spec q h
 
-  asked_word : (r : Result FieldSpec TurnRefusal) (go : Taken → List Taken → NextTurn) (told : List Taken) (spec : FieldSpec) → ((x : FieldSpec) → r ≡ Ok x → HasWord x) → ((t : Taken) (more : List Taken) → (go t more).next ≡ take_next spec → HasWord spec) → (asked r go told).next ≡ take_next spec → HasWord spec
-  asked_word (Err why) go told spec h g e = absurd cc
+  asked_word : (r : Result FieldSpec TurnRefusal) (go : Taken → List Taken → NextTurn) (results : List Taken) (spec : FieldSpec) → ((x : FieldSpec) → r ≡ Ok x → HasWord x) → ((t : Taken) (more : List Taken) → (go t more).next ≡ take_next spec → HasWord spec) → (asked r go results).next ≡ take_next spec → HasWord spec
+  asked_word (Err why) go results spec h g e = absurd cc
   asked_word (Ok x) go [] spec h g e = let is : x ≡ spec = cc in subst HasWord is (h x refl)
-  asked_word (Ok x) go (t ∷ told) spec h g e = g t told e
+  asked_word (Ok x) go (t ∷ results) spec h g e = g t results e
 
   operated_word : (r : Result OperatorModel TurnRefusal) (go : OperatorModel → NextTurn) (spec : FieldSpec) → ((s : OperatorModel) → (go s).next ≡ take_next spec → HasWord spec) → (operated r go).next ≡ take_next spec → HasWord spec
   operated_word (Err why) go spec g e = absurd cc
   operated_word (Ok s) go spec g e = g s e
 
-  ahead_word : (turns : Turns) (s : OperatorModel) (told : List Taken) (spec : FieldSpec) → AreWords turns → (ahead table turns s told).next ≡ take_next spec → HasWord spec
-  ahead_word finish s told spec h e = absurd cc
-  ahead_word open_end s told spec h e = absurd cc
-  ahead_word (group next) s told spec h e = ahead_word next s told spec h e
-  ahead_word (pass_end next) s told spec h e = ahead_word next s told spec h e
-  ahead_word (factor_turn fxy next) s told spec h e =
-      asked_word (factor_spec table s fxy) (λ t more. ahead table next (after_field s fxy t) more) told spec (λ x q. factor_word s fxy x h.0 q) (λ t more q. ahead_word next (after_field s fxy t) more spec h.1 q) e
-  ahead_word (element_turn fxy next) s told spec h e =
-      asked_word (element_spec table s fxy) (λ t more. ahead table next (after_field s fxy t) more) told spec (λ x q. element_word s fxy x h.0 q) (λ t more q. ahead_word next (after_field s fxy t) more spec h.1 q) e
-  ahead_word (operator_turn fxy next) s told spec h e = by (is_inserted_text fxy) e (λ t more q. ahead_word next (after_field s fxy t) more spec h.1 q) (λ s' q. ahead_word next s' told spec h.1 q)
+  ahead_word : (turns : Turns) (s : OperatorModel) (results : List Taken) (spec : FieldSpec) → AreWords turns → (ahead table turns s results).next ≡ take_next spec → HasWord spec
+  ahead_word finish s results spec h e = absurd cc
+  ahead_word open_end s results spec h e = absurd cc
+  ahead_word (group next) s results spec h e = ahead_word next s results spec h e
+  ahead_word (pass_end next) s results spec h e = ahead_word next s results spec h e
+  ahead_word (factor_turn fxy next) s results spec h e =
+      asked_word (factor_spec table s fxy) (λ t more. ahead table next (after_field s fxy t) more) results spec (λ x q. factor_word s fxy x h.0 q) (λ t more q. ahead_word next (after_field s fxy t) more spec h.1 q) e
+  ahead_word (element_turn fxy next) s results spec h e =
+      asked_word (element_spec table s fxy) (λ t more. ahead table next (after_field s fxy t) more) results spec (λ x q. element_word s fxy x h.0 q) (λ t more q. ahead_word next (after_field s fxy t) more spec h.1 q) e
+  ahead_word (operator_turn fxy next) s results spec h e = by (is_inserted_text fxy) e (λ t more q. ahead_word next (after_field s fxy t) more spec h.1 q) (λ s' q. ahead_word next s' results spec h.1 q)
     where
-      by : (b : Bool) → (if b then asked (inserted_spec s fxy) (λ t more. ahead table next (after_field s fxy t) more) told else operated (after_operator s fxy) (λ s'. ahead table next s' told)).next ≡ take_next spec
+      by : (b : Bool) → (if b then asked (inserted_spec s fxy) (λ t more. ahead table next (after_field s fxy t) more) results else operated (after_operator s fxy) (λ s'. ahead table next s' results)).next ≡ take_next spec
           → ((t : Taken) (more : List Taken) → (ahead table next (after_field s fxy t) more).next ≡ take_next spec → HasWord spec)
-          → ((s' : OperatorModel) → (ahead table next s' told).next ≡ take_next spec → HasWord spec) → HasWord spec
-      by true q f g = asked_word (inserted_spec s fxy) (λ t more. ahead table next (after_field s fxy t) more) told spec (λ x r. inserted_word s fxy x h.0 r) f q
-      by false q f g = operated_word (after_operator s fxy) (λ s'. ahead table next s' told) spec g q
+          → ((s' : OperatorModel) → (ahead table next s' results).next ≡ take_next spec → HasWord spec) → HasWord spec
+      by true q f g = asked_word (inserted_spec s fxy) (λ t more. ahead table next (after_field s fxy t) more) results spec (λ x r. inserted_word s fxy x h.0 r) f q
+      by false q f g = operated_word (after_operator s fxy) (λ s'. ahead table next s' results) spec g q
 
 -- the descriptors of a legal template
 class_word : (fxy k : ℕ) → f_of fxy ≡ k → k < 4 → IsDescriptorWord fxy
@@ -140,8 +140,8 @@ unroll_words (delayed fxy body more) rest legal g (n ∷ counts) = (factor_class
 
 -- whatever comes next on a course has a descriptor of 16 bits
 abbrev pub IsWordCourse : Course → Type 0
-IsWordCourse course = (told : List Taken) (spec : FieldSpec) → (course told).next ≡ take_next spec → HasWord spec
+IsWordCourse course = (results : List Taken) (spec : FieldSpec) → (course results).next ≡ take_next spec → HasWord spec
 
 pub next_word : (table : List Row) (tree : Tree) → AllByRecursion IsRead table → IsLegal tree → IsWordCourse (next_item table tree)
 unfolding next_item
-next_word table tree all legal told spec e = ahead_word table all (turns_of tree (counts_of told)) begin told spec (unroll_words tree (λ _. finish) legal (λ c. tt) (counts_of told)) e
+next_word table tree all legal results spec e = ahead_word table all (turns_of tree (counts_of results)) begin results spec (unroll_words tree (λ _. finish) legal (λ c. tt) (counts_of results)) e

@@ -8,7 +8,7 @@ use Rattle.bufr_fill.specs.Draft.{draft}
 use Rattle.bufr_fill.specs.Entries.{DraftEntry, Holds, Ends}
 use Rattle.bufr_text.specs.Document.{Document, blank, edition_in, optional_in, subsets_in}
 use Rattle.bufr_text.specs.Line.{Line, Header, Local1, Section2, Descriptors, Begins, Item, Closes}
-use Rattle.bufr_text.specs.Documents.{ParserState, Between, Heading, Laying, Filling, WalkGoes, Gives, Complete, turn, line_within_limit, parse_lines, in_range, with_value, with_local1, with_section2, with_descriptors, with_entry}
+use Rattle.bufr_text.specs.Documents.{ParserState, Between, Heading, BeforeSubsets, Filling, WalkGoes, Gives, Complete, turn, line_within_limit, parse_lines, in_range, with_value, with_local1, with_section2, with_descriptors, with_entry}
 use Rattle.bufr_text.specs.Dump.{header_lines, local1_line, section2_line, descriptors_line, subset_line, subset_lines, item_text, dump_value_of, item_entries, subset_entries}
 use Rattle.bufr_text.specs.Dump as dump
 use Rattle.bufr_text.specs.Bounds.{IsOctet, IsDescriptorWord, IsItem}
@@ -22,7 +22,7 @@ said-is line meaning is =
     let short : nat_lt 4096 (length line) ≡ false = grind (arith, nat_tests, is.short) in
     rw short is.says
 
--- the reading goes on behind a line, or gives a document
+-- the reading goes on after a line, or gives a document
 pub goes : (at : ℕ) (place next : ParserState) (line : List ℕ) (meaning : Line) (more : List (List ℕ)) → IsLineOf line meaning → turn at place meaning ≡ WalkGoes next
     → parse_lines at place (line ∷ more) ≡ parse_lines (at + 1) next more
 unfolding parse_lines
@@ -53,83 +53,83 @@ first-stays [] ys some = absurd (omega (arith, some))
 first-stays (x ∷ xs) ys some = refl
 
 edition-stays : (edition k : ℕ) (d : Document) (value : ℕ) → 0 < k → k ≡ length d.header → edition_in d ≡ edition → edition_in (with_value d value) ≡ edition
-edition-stays edition k d value behind is same = first-stays d.header (value ∷ []) (omega (arith, behind, is)) ∙ same
+edition-stays edition k d value suffix is same = first-stays d.header (value ∷ []) (omega (arith, suffix, is)) ∙ same
 
 ranged : (edition k value : ℕ) (d : Document) → edition_in d ≡ edition → in_range edition k value ≡ true → in_range (edition_in d) k value ≡ true
 ranged edition k value d same range = ap (λ (n : ℕ). in_range n k value) same ∙ range
 
 run-on : (edition k : ℕ) (value : ℕ) (values : List ℕ) (d : Document) (at : ℕ) (more : List (List ℕ)) → 0 < k → k + length values ≡ 19 → k ≡ length d.header → edition_in d ≡ edition → InRange edition k (value ∷ values)
-    → parse_lines at (Heading d) (header_lines k (value ∷ values) ++ more) ≡ parse_lines (at + 1 + length values) (Laying 0 (with_header d (d.header ++ value ∷ values))) more
+    → parse_lines at (Heading d) (header_lines k (value ∷ values) ++ more) ≡ parse_lines (at + 1 + length values) (BeforeSubsets 0 (with_header d (d.header ++ value ∷ values))) more
 unfolding header_lines turn
-run-on edition k value [] d at more behind count is same (range, small, rest) =
+run-on edition k value [] d at more suffix count is same (range, small, rest) =
     let last : k ≡ 19 = omega (arith, count) in
     let is_last : (k == 19) ≡ true = grind (arith, nat_tests, last) in
-    goes at (Heading d) (Laying 0 (with_value d value)) _ (Header k value) more (header-line k value (omega (arith, last)) small) (rw (same-key k d is, ranged edition k value d same range, is_last) refl)
-    ∙ ap (λ n. parse_lines n (Laying 0 (with_value d value)) more) (omega arith)
-run-on edition k value (v ∷ values) d at more behind count is same (range, small, rest) =
+    goes at (Heading d) (BeforeSubsets 0 (with_value d value)) _ (Header k value) more (header-line k value (omega (arith, last)) small) (rw (same-key k d is, ranged edition k value d same range, is_last) refl)
+    ∙ ap (λ n. parse_lines n (BeforeSubsets 0 (with_value d value)) more) (omega arith)
+run-on edition k value (v ∷ values) d at more suffix count is same (range, small, rest) =
     goes at (Heading d) (Heading (with_value d value)) _ (Header k value) (header_lines (k + 1) (v ∷ values) ++ more) (header-line k value (omega (arith, count)) small) (rw (same-key k d is, ranged edition k value d same range, not-last k (omega (arith, count))) refl)
-    ∙ run-on edition (k + 1) v values (with_value d value) (at + 1) more (omega arith) (omega (arith, count)) (omega (arith, length-append d.header (value ∷ []), is)) (edition-stays edition k d value behind is same) rest
-    ∙ ap (λ (t : List ℕ). parse_lines (at + 1 + 1 + length values) (Laying 0 (with_header d t)) more) (append_assoc d.header (value ∷ []) (v ∷ values))
-    ∙ ap (λ n. parse_lines n (Laying 0 (with_header d (d.header ++ value ∷ v ∷ values))) more) (omega arith)
+    ∙ run-on edition (k + 1) v values (with_value d value) (at + 1) more (omega arith) (omega (arith, count)) (omega (arith, length-append d.header (value ∷ []), is)) (edition-stays edition k d value suffix is same) rest
+    ∙ ap (λ (t : List ℕ). parse_lines (at + 1 + 1 + length values) (BeforeSubsets 0 (with_header d t)) more) (append_assoc d.header (value ∷ []) (v ∷ values))
+    ∙ ap (λ n. parse_lines n (BeforeSubsets 0 (with_header d (d.header ++ value ∷ v ∷ values))) more) (omega arith)
 
 -- the edition comes first, and its range goes by none
 pub header-run : (edition v : ℕ) (values : List ℕ) (line at : ℕ) (more : List (List ℕ)) → length values ≡ 18 → InRange edition 0 (edition ∷ v ∷ values)
-    → parse_lines at (Heading (blank line)) (header_lines 0 (edition ∷ v ∷ values) ++ more) ≡ parse_lines (at + 1 + 19) (Laying 0 (with_header (blank line) (edition ∷ v ∷ values))) more
+    → parse_lines at (Heading (blank line)) (header_lines 0 (edition ∷ v ∷ values) ++ more) ≡ parse_lines (at + 1 + 19) (BeforeSubsets 0 (with_header (blank line) (edition ∷ v ∷ values))) more
 unfolding header_lines turn
 header-run edition v values line at more count (range, small, rest) =
     let d = blank line in
     let first : in_range 0 0 edition ≡ true = any-edition 0 edition edition ∙ range in
     goes at (Heading d) (Heading (with_value d edition)) _ (Header 0 edition) (header_lines 1 (v ∷ values) ++ more) (header-line 0 edition (omega arith) small) (rw first refl)
     ∙ run-on edition 1 v values (with_value d edition) (at + 1) more (omega arith) (omega (arith, count)) refl refl rest
-    ∙ ap (λ n. parse_lines n (Laying 0 (with_header d (edition ∷ v ∷ values))) more) (omega (arith, count))
+    ∙ ap (λ n. parse_lines n (BeforeSubsets 0 (with_header d (edition ∷ v ∷ values))) more) (omega (arith, count))
 
 -- local use
 pub local1-run : (runs : List (List ℕ)) (d : Document) (at : ℕ) (more : List (List ℕ)) → AllByRecursion (IsRun IsOctet 32) runs
-    → parse_lines at (Laying 0 d) (map local1_line runs ++ more) ≡ parse_lines (at + length runs) (Laying 0 (with_local1 d (concat runs))) more
+    → parse_lines at (BeforeSubsets 0 d) (map local1_line runs ++ more) ≡ parse_lines (at + length runs) (BeforeSubsets 0 (with_local1 d (concat runs))) more
 unfolding turn
 local1-run [] d at more all =
-    ap (λ (t : List ℕ). parse_lines at (Laying 0 (record d { local1 = t })) more) (sym (append-nil d.local1)) ∙ ap (λ n. parse_lines n (Laying 0 (with_local1 d [])) more) (omega arith)
+    ap (λ (t : List ℕ). parse_lines at (BeforeSubsets 0 (record d { local1 = t })) more) (sym (append-nil d.local1)) ∙ ap (λ n. parse_lines n (BeforeSubsets 0 (with_local1 d [])) more) (omega arith)
 local1-run (run ∷ runs) d at more (here, all) =
-    goes at (Laying 0 d) (Laying 0 (with_local1 d run)) _ (Local1 run) (map local1_line runs ++ more) (local1-line run here.all here.some here.few) refl
+    goes at (BeforeSubsets 0 d) (BeforeSubsets 0 (with_local1 d run)) _ (Local1 run) (map local1_line runs ++ more) (local1-line run here.all here.some here.few) refl
     ∙ local1-run runs (with_local1 d run) (at + 1) more all
-    ∙ ap (λ (t : List ℕ). parse_lines (at + 1 + length runs) (Laying 0 (record d { local1 = t })) more) (append_assoc d.local1 run (concat runs))
-    ∙ ap (λ n. parse_lines n (Laying 0 (with_local1 d (concat (run ∷ runs)))) more) (omega arith)
+    ∙ ap (λ (t : List ℕ). parse_lines (at + 1 + length runs) (BeforeSubsets 0 (record d { local1 = t })) more) (append_assoc d.local1 run (concat runs))
+    ∙ ap (λ n. parse_lines n (BeforeSubsets 0 (with_local1 d (concat (run ∷ runs)))) more) (omega arith)
 
 -- section 2; where it has lines, local use can follow no more
-pub laid : (part : ℕ) → List (List ℕ) → (next : ℕ) → ℕ
-laid part [] next = part
-laid part (run ∷ runs) next = next
+pub written : (part : ℕ) → List (List ℕ) → (next : ℕ) → ℕ
+written part [] next = part
+written part (run ∷ runs) next = next
 
-laid-again : (runs : List (List ℕ)) (next : ℕ) → laid next runs next ≡ next
-unfolding laid
-laid-again [] next = refl
-laid-again (run ∷ runs) next = refl
+written-again : (runs : List (List ℕ)) (next : ℕ) → written next runs next ≡ next
+unfolding written
+written-again [] next = refl
+written-again (run ∷ runs) next = refl
 
 pub section2-run : (runs : List (List ℕ)) (part : ℕ) (d : Document) (at : ℕ) (more : List (List ℕ)) → part ≤ 1 → (0 < length runs → optional_in d ≡ 1) → AllByRecursion (IsRun IsOctet 32) runs
-    → parse_lines at (Laying part d) (map section2_line runs ++ more) ≡ parse_lines (at + length runs) (Laying (laid part runs 1) (with_section2 d (concat runs))) more
-unfolding turn laid
+    → parse_lines at (BeforeSubsets part d) (map section2_line runs ++ more) ≡ parse_lines (at + length runs) (BeforeSubsets (written part runs 1) (with_section2 d (concat runs))) more
+unfolding turn written
 section2-run [] part d at more early optional all =
-    ap (λ (t : List ℕ). parse_lines at (Laying part (record d { section2 = t })) more) (sym (append-nil d.section2)) ∙ ap (λ n. parse_lines n (Laying part (with_section2 d [])) more) (omega arith)
+    ap (λ (t : List ℕ). parse_lines at (BeforeSubsets part (record d { section2 = t })) more) (sym (append-nil d.section2)) ∙ ap (λ n. parse_lines n (BeforeSubsets part (with_section2 d [])) more) (omega arith)
 section2-run (run ∷ runs) part d at more early optional (here, all) =
     let first : nat_le part 1 ≡ true = grind (arith, nat_tests, early) in
     let there : (optional_in d == 1) ≡ true = grind (arith, nat_tests, optional (omega arith)) in
-    goes at (Laying part d) (Laying 1 (with_section2 d run)) _ (Section2 run) (map section2_line runs ++ more) (section2-line run here.all here.some here.few) (rw (first, there) refl)
+    goes at (BeforeSubsets part d) (BeforeSubsets 1 (with_section2 d run)) _ (Section2 run) (map section2_line runs ++ more) (section2-line run here.all here.some here.few) (rw (first, there) refl)
     ∙ section2-run runs 1 (with_section2 d run) (at + 1) more (omega arith) (λ some. optional (omega arith)) all
-    ∙ ap (λ (p : ℕ). parse_lines (at + 1 + length runs) (Laying p (with_section2 (with_section2 d run) (concat runs))) more) (laid-again runs 1)
-    ∙ ap (λ (t : List ℕ). parse_lines (at + 1 + length runs) (Laying 1 (record d { section2 = t })) more) (append_assoc d.section2 run (concat runs))
-    ∙ ap (λ n. parse_lines n (Laying 1 (with_section2 d (concat (run ∷ runs)))) more) (omega arith)
+    ∙ ap (λ (p : ℕ). parse_lines (at + 1 + length runs) (BeforeSubsets p (with_section2 (with_section2 d run) (concat runs))) more) (written-again runs 1)
+    ∙ ap (λ (t : List ℕ). parse_lines (at + 1 + length runs) (BeforeSubsets 1 (record d { section2 = t })) more) (append_assoc d.section2 run (concat runs))
+    ∙ ap (λ n. parse_lines n (BeforeSubsets 1 (with_section2 d (concat (run ∷ runs)))) more) (omega arith)
 
 pub descriptors-run : (runs : List (List ℕ)) (part : ℕ) (d : Document) (at : ℕ) (more : List (List ℕ)) → AllByRecursion (IsRun IsDescriptorWord 8) runs
-    → parse_lines at (Laying part d) (map descriptors_line runs ++ more) ≡ parse_lines (at + length runs) (Laying (laid part runs 2) (with_descriptors d (concat runs))) more
-unfolding turn laid
+    → parse_lines at (BeforeSubsets part d) (map descriptors_line runs ++ more) ≡ parse_lines (at + length runs) (BeforeSubsets (written part runs 2) (with_descriptors d (concat runs))) more
+unfolding turn written
 descriptors-run [] part d at more all =
-    ap (λ (t : List ℕ). parse_lines at (Laying part (record d { descriptors = t })) more) (sym (append-nil d.descriptors)) ∙ ap (λ n. parse_lines n (Laying part (with_descriptors d [])) more) (omega arith)
+    ap (λ (t : List ℕ). parse_lines at (BeforeSubsets part (record d { descriptors = t })) more) (sym (append-nil d.descriptors)) ∙ ap (λ n. parse_lines n (BeforeSubsets part (with_descriptors d [])) more) (omega arith)
 descriptors-run (run ∷ runs) part d at more (here, all) =
-    goes at (Laying part d) (Laying 2 (with_descriptors d run)) _ (Descriptors run) (map descriptors_line runs ++ more) (descriptors-line run here.all here.some here.few) refl
+    goes at (BeforeSubsets part d) (BeforeSubsets 2 (with_descriptors d run)) _ (Descriptors run) (map descriptors_line runs ++ more) (descriptors-line run here.all here.some here.few) refl
     ∙ descriptors-run runs 2 (with_descriptors d run) (at + 1) more all
-    ∙ ap (λ (p : ℕ). parse_lines (at + 1 + length runs) (Laying p (with_descriptors (with_descriptors d run) (concat runs))) more) (laid-again runs 2)
-    ∙ ap (λ (t : List ℕ). parse_lines (at + 1 + length runs) (Laying 2 (record d { descriptors = t })) more) (append_assoc d.descriptors run (concat runs))
-    ∙ ap (λ n. parse_lines n (Laying 2 (with_descriptors d (concat (run ∷ runs)))) more) (omega arith)
+    ∙ ap (λ (p : ℕ). parse_lines (at + 1 + length runs) (BeforeSubsets p (with_descriptors (with_descriptors d run) (concat runs))) more) (written-again runs 2)
+    ∙ ap (λ (t : List ℕ). parse_lines (at + 1 + length runs) (BeforeSubsets 2 (record d { descriptors = t })) more) (append_assoc d.descriptors run (concat runs))
+    ∙ ap (λ n. parse_lines n (BeforeSubsets 2 (with_descriptors d (concat (run ∷ runs)))) more) (omega arith)
 
 -- items
 abbrev pub with_entries : Document → List DraftEntry → Document
@@ -180,22 +180,22 @@ subsets-run (items ∷ subsets) n d at more stated few (here, all) =
     (append_assoc (d.entries ++ Ends at ∷ []) own (Ends (at + 1 + length items) ∷ later) ∙ append_assoc d.entries (Ends at ∷ []) (own ++ (Ends (at + 1 + length items) ∷ later)))
     ∙ ap (λ k. Complete (with_entries d (Ends at ∷ subset_entries at (items ∷ subsets))) ∷ parse_lines k Between more) (omega (arith, subset-lines-count (n + 1) items subsets))
 
--- the subsets and the end, where they stand behind the parts before them
-pub subsets-laid : (subsets : List (List dump.DumpItem)) (part : ℕ) (d : Document) (at : ℕ) (more : List (List ℕ)) → d.entries ≡ [] → length subsets ≡ subsets_in d → subsets_in d < 65536 → AllByRecursion (λ items. AllByRecursion IsItem items) subsets
-    → parse_lines at (Laying part d) (subset_lines 1 subsets ++ codes "end" ∷ more)
+-- the subsets and the end, where they are after the parts before them
+pub subsets-written : (subsets : List (List dump.DumpItem)) (part : ℕ) (d : Document) (at : ℕ) (more : List (List ℕ)) → d.entries ≡ [] → length subsets ≡ subsets_in d → subsets_in d < 65536 → AllByRecursion (λ items. AllByRecursion IsItem items) subsets
+    → parse_lines at (BeforeSubsets part d) (subset_lines 1 subsets ++ codes "end" ∷ more)
     ≡ Complete (with_entries d (subset_entries at subsets)) ∷ parse_lines (at + length (subset_lines 1 subsets) + 1) Between more
 unfolding turn subset_entries subset_lines
-subsets-laid [] part d at more none stated few all =
+subsets-written [] part d at more none stated few all =
     let closed : (0 == subsets_in d) ≡ true = grind (arith, nat_tests, stated) in
-    gives at (Laying part d) d _ Closes more end-line (rw closed refl)
+    gives at (BeforeSubsets part d) d _ Closes more end-line (rw closed refl)
     ∙ ap (λ (t : List DraftEntry). Complete (record d { entries = t }) ∷ parse_lines (at + 1) Between more) (sym (append-nil d.entries))
     ∙ ap (λ k. Complete (with_entries d []) ∷ parse_lines k Between more) (omega arith)
-subsets-laid (items ∷ subsets) part d at more none stated few (here, all) =
+subsets-written (items ∷ subsets) part d at more none stated few (here, all) =
     let allowed : nat_le 1 (subsets_in d) ≡ true = grind (arith, nat_tests, stated) in
     let own = item_entries (at + 1) items in
     let later = subset_entries (at + 1 + length items) subsets in
     let tail = subset_lines 2 subsets in
-    subset-run items 1 d at (Laying part d) tail (codes "end" ∷ more) (omega arith) here (rw allowed refl)
+    subset-run items 1 d at (BeforeSubsets part d) tail (codes "end" ∷ more) (omega arith) here (rw allowed refl)
     ∙ subsets-run subsets 1 (with_entries d own) (at + 1 + length items) more (omega (arith, stated)) few all
     ∙ ap (λ (t : List DraftEntry). Complete (record d { entries = t }) ∷ parse_lines (at + 1 + length items + length tail + 1) Between more) (append_assoc d.entries own (Ends (at + 1 + length items) ∷ later))
     ∙ ap (λ k. Complete (with_entries d (subset_entries at (items ∷ subsets))) ∷ parse_lines k Between more) (omega (arith, subset-lines-count 1 items subsets))

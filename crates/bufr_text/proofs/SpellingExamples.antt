@@ -29,7 +29,7 @@ one_of_two : IsProper (document 0 2 (257 ∷ []) (number 24 257 (codes "10") ∷
 unfolding document number
 one_of_two h = omega (arith, h.counted)
 
--- an item behind the end of the last subset
+-- an item after the end of the last subset
 no_end : AreEnded (Ends 24 ∷ number 25 257 (codes "10") ∷ []) → ⊥
 unfolding number
 no_end h = h
@@ -84,7 +84,7 @@ one_document = record {
   local1 = [];
   section2 = [];
   descriptors = (257 ∷ []) ∷ [];
-  laid = numbered_line 22 (Descriptors (257 ∷ [])) ∷ [];
+  written = numbered_line 22 (Descriptors (257 ∷ [])) ∷ [];
   subsets = subset_at 23 ∷ [];
   end = 25;
   are = refl;

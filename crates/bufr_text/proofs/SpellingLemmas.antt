@@ -7,11 +7,11 @@ use Rattle.bufr_bits.proofs.ScaledLemmas.{and_first, and_second}
 use Rattle.bufr_fill.specs.Draft.{DraftValue, draft}
 use Rattle.bufr_fill.specs.Entries.{DraftEntry, Holds, Ends}
 use Rattle.bufr_text.specs.Document.{Document, edition_in, optional_in, subsets_in}
-use Rattle.bufr_text.specs.Documents.{ParserState, Between, Heading, Laying, Filling, Stopped, LineEffect, WalkGoes, Gives, Faults, NotAllowed, SubsetCount, HeaderRange, in_range, heading, beginning, closing, with_value, with_local1, with_section2, with_descriptors, with_entry, turn, line_within_limit, parse_lines, place_after, told_at, told_at_end, lines_of, documents_of}
+use Rattle.bufr_text.specs.Documents.{ParserState, Between, Heading, BeforeSubsets, Filling, Stopped, LineEffect, WalkGoes, Gives, Faults, NotAllowed, SubsetCount, HeaderRange, in_range, heading, beginning, closing, with_value, with_local1, with_section2, with_descriptors, with_entry, turn, line_within_limit, parse_lines, place_after, reported_at, reported_at_end, lines_of, documents_of}
 use Rattle.bufr_text.specs.Line.{Line, Passed, Opens, Header, Local1, Section2, Descriptors, Begins, Item, Closes, Wrong}
-use Rattle.bufr_text.specs.Spelling.{NumberedLine, numbered_line, onto_heard, numbered_lines, header_says, Element, SubsetHeard, subsets_heard, first_at, entries_heard, IsDocument, AreTold}
+use Rattle.bufr_text.specs.Spelling.{NumberedLine, numbered_line, onto_heard, numbered_lines, header_says, Element, SubsetHeard, subsets_heard, first_at, entries_heard, IsDocument, AreReported}
 use Rattle.bufr_text.specs.Step.{IsBare}
-use Rattle.bufr_text.proofs.ReadingLemmas.{stopped-tells}
+use Rattle.bufr_text.proofs.ReadingLemmas.{stopped-reports}
 
 abbrev says : List NumberedLine → List Line
 says lines = map (λ l. l.says) lines
@@ -92,13 +92,13 @@ entries-more (part ∷ done) last end =
 -- The lines before the subsets, as far as they were read.
 record IsBegun (d : Document) (own : List NumberedLine) : Type 0 where
   header : List NumberedLine
-  laid : List NumberedLine
+  written : List NumberedLine
   local1 : List (List ℕ)
   section2 : List (List ℕ)
   descriptors : List (List ℕ)
-  are : own ≡ (numbered_line d.line Opens ∷ header) ++ laid
+  are : own ≡ (numbered_line d.line Opens ∷ header) ++ written
   in_order : says header ≡ header_says 0 d.header
-  parts : says laid ≡ map Local1 local1 ++ (map Section2 section2 ++ map Descriptors descriptors)
+  parts : says written ≡ map Local1 local1 ++ (map Section2 section2 ++ map Descriptors descriptors)
   local1_is : d.local1 ≡ concat local1
   section2_is : d.section2 ≡ concat section2
   descriptors_are : d.descriptors ≡ concat descriptors
@@ -111,8 +111,8 @@ record IsHeading (d : Document) (own : List NumberedLine) : Type 0 where
   in_order : says header ≡ header_says 0 d.header
   bare : IsBare d
 
--- the parts before the subsets stand in their order
-record IsLaying (part : ℕ) (d : Document) (own : List NumberedLine) : Type 0 where
+-- the parts before the subsets are in their order
+record IsBeforeSubsets (part : ℕ) (d : Document) (own : List NumberedLine) : Type 0 where
   with_open_group : IsBegun d own
   before_section2 : part ≡ 0 → with_open_group.section2 ≡ []
   before_descriptors : part ≤ 1 → with_open_group.descriptors ≡ []
@@ -120,28 +120,28 @@ record IsLaying (part : ℕ) (d : Document) (own : List NumberedLine) : Type 0 w
 
 -- the subsets that were ended, and the one that is being read
 record IsFilling (subset : ℕ) (d : Document) (own : List NumberedLine) : Type 0 where
-  front : List NumberedLine
-  with_open_group : IsBegun d front
+  prefix : List NumberedLine
+  with_open_group : IsBegun d prefix
   done : List SubsetHeard
   last : SubsetHeard
-  are : own ≡ front ++ subsets_heard 1 (done ++ last ∷ [])
+  are : own ≡ prefix ++ subsets_heard 1 (done ++ last ∷ [])
   counted : subset ≡ length done + 1
   entries : d.entries ≡ entries_heard done last.at ++ map item_entry last.items
 
--- which lines stand before a place in a document
+-- which lines are before a place in a document
 abbrev IsOpen : ParserState → List NumberedLine → Type 0
 IsOpen Between own = own ≡ []
 IsOpen (Heading d) own = IsHeading d own
-IsOpen (Laying part d) own = IsLaying part d own
+IsOpen (BeforeSubsets part d) own = IsBeforeSubsets part d own
 IsOpen (Filling subset d) own = IsFilling subset d own
 IsOpen Stopped own = ⊥
 
-abbrev IsOpenBehind : LineEffect → List NumberedLine → Type 0
-IsOpenBehind (WalkGoes place) own = IsOpen place own
-IsOpenBehind (Gives d) own = IsDocument d own
-IsOpenBehind (Faults fault) own = Unit {0}
+abbrev IsOpenAfter : LineEffect → List NumberedLine → Type 0
+IsOpenAfter (WalkGoes place) own = IsOpen place own
+IsOpenAfter (Gives d) own = IsDocument d own
+IsOpenAfter (Faults fault) own = Unit {0}
 
-if-open : (own : List NumberedLine) (b : Bool) (x y : LineEffect) → (b ≡ true → IsOpenBehind x own) → (b ≡ false → IsOpenBehind y own) → IsOpenBehind (if b then x else y) own
+if-open : (own : List NumberedLine) (b : Bool) (x y : LineEffect) → (b ≡ true → IsOpenAfter x own) → (b ≡ false → IsOpenAfter y own) → IsOpenAfter (if b then x else y) own
 if-open own true x y p q = p refl
 if-open own false x y p q = q refl
 
@@ -163,20 +163,20 @@ in-order d at key value header is order =
     map-append (λ (l : NumberedLine). l.says) header (numbered_line at (Header key value) ∷ []) ∙ ap (λ (t : List Line). t ++ Header key value ∷ []) order
     ∙ ap (λ (k : ℕ). header_says 0 d.header ++ Header k value ∷ []) e ∙ sym (headers-more 0 d.header value)
 
-heading-open : (at key value : ℕ) (d : Document) (own : List NumberedLine) → IsHeading d own → IsOpenBehind (heading d (Header key value)) (own ++ numbered_line at (Header key value) ∷ [])
+heading-open : (at key value : ℕ) (d : Document) (own : List NumberedLine) → IsHeading d own → IsOpenAfter (heading d (Header key value)) (own ++ numbered_line at (Header key value) ∷ [])
 heading-open at key value d own is =
     let here = own ++ numbered_line at (Header key value) ∷ [] in
     let next = with_value d value in
-    let taken : LineEffect = WalkGoes (if key == 19 then Laying 0 next else Heading next) in
+    let taken : LineEffect = WalkGoes (if key == 19 then BeforeSubsets 0 next else Heading next) in
     let ranged : LineEffect = if not (in_range (edition_in d) key value) then Faults HeaderRange else taken in
     if-open here (not (key == length d.header)) (Faults NotAllowed) ranged (λ e. tt) (λ e.
     if-open here (not (in_range (edition_in d) key value)) (Faults HeaderRange) taken (λ f. tt) (λ f. by (key == 19) (equal key (length d.header) (not-false (key == length d.header) e))))
   where
-    by : (last : Bool) → key ≡ length d.header → IsOpen (if last then Laying 0 (with_value d value) else Heading (with_value d value)) (own ++ numbered_line at (Header key value) ∷ [])
+    by : (last : Bool) → key ≡ length d.header → IsOpen (if last then BeforeSubsets 0 (with_value d value) else Heading (with_value d value)) (own ++ numbered_line at (Header key value) ∷ [])
     by true same = record {
       with_open_group = record {
         header = is.header ++ numbered_line at (Header key value) ∷ [];
-        laid = [];
+        written = [];
         local1 = [];
         section2 = [];
         descriptors = [];
@@ -200,28 +200,28 @@ heading-open at key value d own is =
     }
 
 -- one more line of the parts before the subsets
-laid-more : (d : Document) (own : List NumberedLine) (b : IsBegun d own) (x : NumberedLine) → own ++ x ∷ [] ≡ (numbered_line d.line Opens ∷ b.header) ++ (b.laid ++ x ∷ [])
-laid-more d own b x = ap (λ (t : List NumberedLine). t ++ x ∷ []) b.are ∙ append_assoc (numbered_line d.line Opens ∷ b.header) b.laid (x ∷ [])
+written-more : (d : Document) (own : List NumberedLine) (b : IsBegun d own) (x : NumberedLine) → own ++ x ∷ [] ≡ (numbered_line d.line Opens ∷ b.header) ++ (b.written ++ x ∷ [])
+written-more d own b x = ap (λ (t : List NumberedLine). t ++ x ∷ []) b.are ∙ append_assoc (numbered_line d.line Opens ∷ b.header) b.written (x ∷ [])
 
-says-more : (laid : List NumberedLine) (x : NumberedLine) (lines : List Line) → says laid ≡ lines → says (laid ++ x ∷ []) ≡ lines ++ x.says ∷ []
-says-more laid x lines is = map-append (λ (l : NumberedLine). l.says) laid (x ∷ []) ∙ ap (λ (t : List Line). t ++ x.says ∷ []) is
+says-more : (written : List NumberedLine) (x : NumberedLine) (lines : List Line) → says written ≡ lines → says (written ++ x ∷ []) ≡ lines ++ x.says ∷ []
+says-more written x lines is = map-append (λ (l : NumberedLine). l.says) written (x ∷ []) ∙ ap (λ (t : List Line). t ++ x.says ∷ []) is
 
-local1-open : (at : ℕ) (d : Document) (octets : List ℕ) (own : List NumberedLine) → IsLaying 0 d own → IsLaying 0 (with_local1 d octets) (own ++ numbered_line at (Local1 octets) ∷ [])
+local1-open : (at : ℕ) (d : Document) (octets : List ℕ) (own : List NumberedLine) → IsBeforeSubsets 0 d own → IsBeforeSubsets 0 (with_local1 d octets) (own ++ numbered_line at (Local1 octets) ∷ [])
 local1-open at d octets own is =
     let b = is.with_open_group in
     let none2 = is.before_section2 refl in
     let none3 = is.before_descriptors (omega arith) in
-    let before : says b.laid ≡ map Local1 b.local1 = b.parts ∙ ap (λ (t : List (List ℕ)). map Local1 b.local1 ++ (map Section2 t ++ map Descriptors b.descriptors)) none2 ∙ ap (λ (t : List (List ℕ)). map Local1 b.local1 ++ map Descriptors t) none3 ∙ append-nil (map Local1 b.local1) in
+    let before : says b.written ≡ map Local1 b.local1 = b.parts ∙ ap (λ (t : List (List ℕ)). map Local1 b.local1 ++ (map Section2 t ++ map Descriptors b.descriptors)) none2 ∙ ap (λ (t : List (List ℕ)). map Local1 b.local1 ++ map Descriptors t) none3 ∙ append-nil (map Local1 b.local1) in
     record {
       with_open_group = record {
         header = b.header;
-        laid = b.laid ++ numbered_line at (Local1 octets) ∷ [];
+        written = b.written ++ numbered_line at (Local1 octets) ∷ [];
         local1 = b.local1 ++ octets ∷ [];
         section2 = [];
         descriptors = [];
-        are = laid-more d own b (numbered_line at (Local1 octets));
+        are = written-more d own b (numbered_line at (Local1 octets));
         in_order = b.in_order;
-        parts = says-more b.laid (numbered_line at (Local1 octets)) (map Local1 b.local1) before ∙ sym (map-append Local1 b.local1 (octets ∷ [])) ∙ sym (append-nil (map Local1 (b.local1 ++ octets ∷ [])));
+        parts = says-more b.written (numbered_line at (Local1 octets)) (map Local1 b.local1) before ∙ sym (map-append Local1 b.local1 (octets ∷ [])) ∙ sym (append-nil (map Local1 (b.local1 ++ octets ∷ [])));
         local1_is = ap (λ (t : List ℕ). t ++ octets) b.local1_is ∙ sym (concat-more b.local1 octets);
         section2_is = b.section2_is ∙ ap (λ (t : List (List ℕ)). concat t) none2;
         descriptors_are = b.descriptors_are ∙ ap (λ (t : List (List ℕ)). concat t) none3;
@@ -232,22 +232,22 @@ local1-open at d octets own is =
       none = is.none;
     }
 
-section2-open : (at part : ℕ) (d : Document) (octets : List ℕ) (own : List NumberedLine) → part ≤ 1 → optional_in d ≡ 1 → IsLaying part d own → IsLaying 1 (with_section2 d octets) (own ++ numbered_line at (Section2 octets) ∷ [])
+section2-open : (at part : ℕ) (d : Document) (octets : List ℕ) (own : List NumberedLine) → part ≤ 1 → optional_in d ≡ 1 → IsBeforeSubsets part d own → IsBeforeSubsets 1 (with_section2 d octets) (own ++ numbered_line at (Section2 octets) ∷ [])
 section2-open at part d octets own early flag is =
     let b = is.with_open_group in
     let none3 = is.before_descriptors early in
     let first = map Local1 b.local1 in
-    let before : says b.laid ≡ first ++ map Section2 b.section2 = b.parts ∙ ap (λ (t : List (List ℕ)). first ++ (map Section2 b.section2 ++ map Descriptors t)) none3 ∙ ap (λ (t : List Line). first ++ t) (append-nil (map Section2 b.section2)) in
+    let before : says b.written ≡ first ++ map Section2 b.section2 = b.parts ∙ ap (λ (t : List (List ℕ)). first ++ (map Section2 b.section2 ++ map Descriptors t)) none3 ∙ ap (λ (t : List Line). first ++ t) (append-nil (map Section2 b.section2)) in
     record {
       with_open_group = record {
         header = b.header;
-        laid = b.laid ++ numbered_line at (Section2 octets) ∷ [];
+        written = b.written ++ numbered_line at (Section2 octets) ∷ [];
         local1 = b.local1;
         section2 = b.section2 ++ octets ∷ [];
         descriptors = [];
-        are = laid-more d own b (numbered_line at (Section2 octets));
+        are = written-more d own b (numbered_line at (Section2 octets));
         in_order = b.in_order;
-        parts = says-more b.laid (numbered_line at (Section2 octets)) (first ++ map Section2 b.section2) before ∙ append_assoc first (map Section2 b.section2) (Section2 octets ∷ [])
+        parts = says-more b.written (numbered_line at (Section2 octets)) (first ++ map Section2 b.section2) before ∙ append_assoc first (map Section2 b.section2) (Section2 octets ∷ [])
             ∙ ap (λ (t : List Line). first ++ t) (sym (map-append Section2 b.section2 (octets ∷ [])) ∙ sym (append-nil (map Section2 (b.section2 ++ octets ∷ []))));
         local1_is = b.local1_is;
         section2_is = ap (λ (t : List ℕ). t ++ octets) b.section2_is ∙ sym (concat-more b.section2 octets);
@@ -259,7 +259,7 @@ section2-open at part d octets own early flag is =
       none = is.none;
     }
 
-descriptors-open : (at part : ℕ) (d : Document) (words : List ℕ) (own : List NumberedLine) → IsLaying part d own → IsLaying 2 (with_descriptors d words) (own ++ numbered_line at (Descriptors words) ∷ [])
+descriptors-open : (at part : ℕ) (d : Document) (words : List ℕ) (own : List NumberedLine) → IsBeforeSubsets part d own → IsBeforeSubsets 2 (with_descriptors d words) (own ++ numbered_line at (Descriptors words) ∷ [])
 descriptors-open at part d words own is =
     let b = is.with_open_group in
     let first = map Local1 b.local1 in
@@ -267,13 +267,13 @@ descriptors-open at part d words own is =
     record {
       with_open_group = record {
         header = b.header;
-        laid = b.laid ++ numbered_line at (Descriptors words) ∷ [];
+        written = b.written ++ numbered_line at (Descriptors words) ∷ [];
         local1 = b.local1;
         section2 = b.section2;
         descriptors = b.descriptors ++ words ∷ [];
-        are = laid-more d own b (numbered_line at (Descriptors words));
+        are = written-more d own b (numbered_line at (Descriptors words));
         in_order = b.in_order;
-        parts = says-more b.laid (numbered_line at (Descriptors words)) (first ++ (second ++ map Descriptors b.descriptors)) b.parts ∙ append_assoc first (second ++ map Descriptors b.descriptors) (Descriptors words ∷ [])
+        parts = says-more b.written (numbered_line at (Descriptors words)) (first ++ (second ++ map Descriptors b.descriptors)) b.parts ∙ append_assoc first (second ++ map Descriptors b.descriptors) (Descriptors words ∷ [])
             ∙ ap (λ (t : List Line). first ++ t) (append_assoc second (map Descriptors b.descriptors) (Descriptors words ∷ []) ∙ ap (λ (t : List Line). second ++ t) (sym (map-append Descriptors b.descriptors (words ∷ []))));
         local1_is = b.local1_is;
         section2_is = b.section2_is;
@@ -289,11 +289,11 @@ descriptors-open at part d words own is =
 is-next : (subset read most : ℕ) → ((subset == read + 1) && nat_le subset most) ≡ true → subset ≡ read + 1
 is-next subset read most e = equal subset (read + 1) (and_first (subset == read + 1) (nat_le subset most) e)
 
-first-open : (at part subset : ℕ) (d : Document) (own : List NumberedLine) → IsLaying part d own → IsOpenBehind (beginning 0 d subset) (own ++ numbered_line at (Begins subset) ∷ [])
+first-open : (at part subset : ℕ) (d : Document) (own : List NumberedLine) → IsBeforeSubsets part d own → IsOpenAfter (beginning 0 d subset) (own ++ numbered_line at (Begins subset) ∷ [])
 first-open at part subset d own is =
     if-open (own ++ numbered_line at (Begins subset) ∷ []) ((subset == 0 + 1) && nat_le subset (subsets_in d)) (WalkGoes (Filling subset d)) (Faults SubsetCount) (λ e.
     let number : subset ≡ 1 = is-next subset 0 (subsets_in d) e in record {
-      front = own;
+      prefix = own;
       with_open_group = is.with_open_group;
       done = [];
       last = bare_subset at;
@@ -302,7 +302,7 @@ first-open at part subset d own is =
       entries = is.none;
     }) (λ e. tt)
 
-none-open : (at part : ℕ) (d : Document) (own : List NumberedLine) → IsLaying part d own → IsOpenBehind (closing 0 d) (own ++ numbered_line at Closes ∷ [])
+none-open : (at part : ℕ) (d : Document) (own : List NumberedLine) → IsBeforeSubsets part d own → IsOpenAfter (closing 0 d) (own ++ numbered_line at Closes ∷ [])
 none-open at part d own is =
     let b = is.with_open_group in
     if-open (own ++ numbered_line at Closes ∷ []) (0 == subsets_in d) (Gives d) (Faults SubsetCount) (λ e. record {
@@ -310,10 +310,10 @@ none-open at part d own is =
       local1 = b.local1;
       section2 = b.section2;
       descriptors = b.descriptors;
-      laid = b.laid;
+      written = b.written;
       subsets = [];
       end = at;
-      are = laid-more d own b (numbered_line at Closes);
+      are = written-more d own b (numbered_line at Closes);
       in_order = b.in_order;
       parts = b.parts;
       local1_is = b.local1_is;
@@ -327,7 +327,7 @@ none-open at part d own is =
 begun-still : (d : Document) (entry : DraftEntry) (own : List NumberedLine) → IsBegun d own → IsBegun (with_entry d entry) own
 begun-still d entry own b = record {
   header = b.header;
-  laid = b.laid;
+  written = b.written;
   local1 = b.local1;
   section2 = b.section2;
   descriptors = b.descriptors;
@@ -344,34 +344,34 @@ begun-still d entry own b = record {
 ended-entries : (at subset : ℕ) (d : Document) (own : List NumberedLine) (is : IsFilling subset d own) → d.entries ++ Ends at ∷ [] ≡ entries_heard (is.done ++ is.last ∷ []) at
 ended-entries at subset d own is = ap (λ (t : List DraftEntry). t ++ Ends at ∷ []) is.entries ∙ sym (entries-more is.done is.last at)
 
-next-open : (at subset next : ℕ) (d : Document) (own : List NumberedLine) → IsFilling subset d own → IsOpenBehind (beginning subset (with_entry d (Ends at)) next) (own ++ numbered_line at (Begins next) ∷ [])
+next-open : (at subset next : ℕ) (d : Document) (own : List NumberedLine) → IsFilling subset d own → IsOpenAfter (beginning subset (with_entry d (Ends at)) next) (own ++ numbered_line at (Begins next) ∷ [])
 next-open at subset next d own is =
     let parts = is.done ++ is.last ∷ [] in
     if-open (own ++ numbered_line at (Begins next) ∷ []) ((next == subset + 1) && nat_le next (subsets_in d)) (WalkGoes (Filling next (with_entry d (Ends at)))) (Faults SubsetCount) (λ e.
     let number : next ≡ 1 + length parts = omega (arith, is-next next subset (subsets_in d) e, is.counted, length-append is.done (is.last ∷ [])) in record {
-      front = is.front;
-      with_open_group = begun-still d (Ends at) is.front is.with_open_group;
+      prefix = is.prefix;
+      with_open_group = begun-still d (Ends at) is.prefix is.with_open_group;
       done = parts;
       last = bare_subset at;
-      are = ap (λ (t : List NumberedLine). t ++ numbered_line at (Begins next) ∷ []) is.are ∙ append_assoc is.front (subsets_heard 1 parts) (numbered_line at (Begins next) ∷ [])
-          ∙ ap (λ (t : List NumberedLine). is.front ++ t) (ap (λ (n : ℕ). subsets_heard 1 parts ++ numbered_line at (Begins n) ∷ []) number ∙ sym (part-more 1 parts at));
+      are = ap (λ (t : List NumberedLine). t ++ numbered_line at (Begins next) ∷ []) is.are ∙ append_assoc is.prefix (subsets_heard 1 parts) (numbered_line at (Begins next) ∷ [])
+          ∙ ap (λ (t : List NumberedLine). is.prefix ++ t) (ap (λ (n : ℕ). subsets_heard 1 parts ++ numbered_line at (Begins n) ∷ []) number ∙ sym (part-more 1 parts at));
       counted = omega (arith, number);
       entries = ended-entries at subset d own is ∙ sym (append-nil (entries_heard parts at));
     }) (λ e. tt)
 
 item-open : (at subset : ℕ) (d : Document) (own : List NumberedLine) (i : Element) → i.at ≡ at → IsFilling subset d own → IsFilling subset (with_entry d (item_entry i)) (own ++ item_line i ∷ [])
 item-open at subset d own i here is = record {
-  front = is.front;
-  with_open_group = begun-still d (item_entry i) is.front is.with_open_group;
+  prefix = is.prefix;
+  with_open_group = begun-still d (item_entry i) is.prefix is.with_open_group;
   done = is.done;
   last = with_item is.last i;
-  are = ap (λ (t : List NumberedLine). t ++ item_line i ∷ []) is.are ∙ append_assoc is.front (subsets_heard 1 (is.done ++ is.last ∷ [])) (item_line i ∷ []) ∙ ap (λ (t : List NumberedLine). is.front ++ t) (sym (item-more 1 is.done is.last i));
+  are = ap (λ (t : List NumberedLine). t ++ item_line i ∷ []) is.are ∙ append_assoc is.prefix (subsets_heard 1 (is.done ++ is.last ∷ [])) (item_line i ∷ []) ∙ ap (λ (t : List NumberedLine). is.prefix ++ t) (sym (item-more 1 is.done is.last i));
   counted = is.counted;
   entries = ap (λ (t : List DraftEntry). t ++ item_entry i ∷ []) is.entries ∙ append_assoc (entries_heard is.done is.last.at) (map item_entry is.last.items) (item_entry i ∷ [])
       ∙ ap (λ (t : List DraftEntry). entries_heard is.done is.last.at ++ t) (sym (map-append item_entry is.last.items (i ∷ [])));
 }
 
-end-open : (at subset : ℕ) (d : Document) (own : List NumberedLine) → IsFilling subset d own → IsOpenBehind (closing subset (with_entry d (Ends at))) (own ++ numbered_line at Closes ∷ [])
+end-open : (at subset : ℕ) (d : Document) (own : List NumberedLine) → IsFilling subset d own → IsOpenAfter (closing subset (with_entry d (Ends at))) (own ++ numbered_line at Closes ∷ [])
 end-open at subset d own is =
     let b = is.with_open_group in
     let parts = is.done ++ is.last ∷ [] in
@@ -380,12 +380,12 @@ end-open at subset d own is =
       local1 = b.local1;
       section2 = b.section2;
       descriptors = b.descriptors;
-      laid = b.laid;
+      written = b.written;
       subsets = parts;
       end = at;
-      are = ap (λ (t : List NumberedLine). t ++ numbered_line at Closes ∷ []) (is.are ∙ ap (λ (t : List NumberedLine). t ++ subsets_heard 1 parts) b.are ∙ append_assoc (numbered_line d.line Opens ∷ b.header) b.laid (subsets_heard 1 parts))
-          ∙ append_assoc (numbered_line d.line Opens ∷ b.header) (b.laid ++ subsets_heard 1 parts) (numbered_line at Closes ∷ [])
-          ∙ ap (λ (t : List NumberedLine). (numbered_line d.line Opens ∷ b.header) ++ t) (append_assoc b.laid (subsets_heard 1 parts) (numbered_line at Closes ∷ []));
+      are = ap (λ (t : List NumberedLine). t ++ numbered_line at Closes ∷ []) (is.are ∙ ap (λ (t : List NumberedLine). t ++ subsets_heard 1 parts) b.are ∙ append_assoc (numbered_line d.line Opens ∷ b.header) b.written (subsets_heard 1 parts))
+          ∙ append_assoc (numbered_line d.line Opens ∷ b.header) (b.written ++ subsets_heard 1 parts) (numbered_line at Closes ∷ [])
+          ∙ ap (λ (t : List NumberedLine). (numbered_line d.line Opens ∷ b.header) ++ t) (append_assoc b.written (subsets_heard 1 parts) (numbered_line at Closes ∷ []));
       in_order = b.in_order;
       parts = b.parts;
       local1_is = b.local1_is;
@@ -396,19 +396,19 @@ end-open at subset d own is =
       entries = ended-entries at subset d own is;
     }) (λ e. tt)
 
-by-part : (at part : ℕ) (d : Document) (octets : List ℕ) (own : List NumberedLine) (b : Bool) → (part == 0) ≡ b → IsLaying part d own → IsOpenBehind (if b then WalkGoes (Laying 0 (with_local1 d octets)) else Faults NotAllowed) (own ++ numbered_line at (Local1 octets) ∷ [])
-by-part at part d octets own true e is = local1-open at d octets own (subst (λ (n : ℕ). IsLaying n d own) (equal part 0 e) is)
+by-part : (at part : ℕ) (d : Document) (octets : List ℕ) (own : List NumberedLine) (b : Bool) → (part == 0) ≡ b → IsBeforeSubsets part d own → IsOpenAfter (if b then WalkGoes (BeforeSubsets 0 (with_local1 d octets)) else Faults NotAllowed) (own ++ numbered_line at (Local1 octets) ∷ [])
+by-part at part d octets own true e is = local1-open at d octets own (subst (λ (n : ℕ). IsBeforeSubsets n d own) (equal part 0 e) is)
 by-part at part d octets own false e is = tt
 
-by-flag : (at part : ℕ) (d : Document) (octets : List ℕ) (own : List NumberedLine) → IsLaying part d own → IsOpenBehind (if nat_le part 1 && (optional_in d == 1) then WalkGoes (Laying 1 (with_section2 d octets)) else Faults NotAllowed) (own ++ numbered_line at (Section2 octets) ∷ [])
+by-flag : (at part : ℕ) (d : Document) (octets : List ℕ) (own : List NumberedLine) → IsBeforeSubsets part d own → IsOpenAfter (if nat_le part 1 && (optional_in d == 1) then WalkGoes (BeforeSubsets 1 (with_section2 d octets)) else Faults NotAllowed) (own ++ numbered_line at (Section2 octets) ∷ [])
 by-flag at part d octets own is =
-    if-open (own ++ numbered_line at (Section2 octets) ∷ []) (nat_le part 1 && (optional_in d == 1)) (WalkGoes (Laying 1 (with_section2 d octets))) (Faults NotAllowed) (λ e.
+    if-open (own ++ numbered_line at (Section2 octets) ∷ []) (nat_le part 1 && (optional_in d == 1)) (WalkGoes (BeforeSubsets 1 (with_section2 d octets))) (Faults NotAllowed) (λ e.
     let early : nat_le part 1 ≡ true = and_first (nat_le part 1) (optional_in d == 1) e in
     let most : part ≤ 1 = grind (arith, nat_tests, early) in
     section2-open at part d octets own most (equal (optional_in d) 1 (and_second (nat_le part 1) (optional_in d == 1) e)) is) (λ e. tt)
 
 -- each line keeps it
-turn-opens : (at : ℕ) (place : ParserState) (line : Line) (own : List NumberedLine) → IsOpen place own → IsOpenBehind (turn at place line) (own ++ one at line)
+turn-opens : (at : ℕ) (place : ParserState) (line : Line) (own : List NumberedLine) → IsOpen place own → IsOpenAfter (turn at place line) (own ++ one at line)
 unfolding turn
 turn-opens at Between Passed own is = passed Between own is
 turn-opens at Between Opens own is = record { header = []; are = ap (λ (t : List NumberedLine). t ++ numbered_line at Opens ∷ []) is; in_order = refl; bare = record { local1 = refl; section2 = refl; descriptors = refl; entries = refl } }
@@ -430,16 +430,16 @@ turn-opens at (Heading d) (Begins subset) own is = tt
 turn-opens at (Heading d) (Item fxy form) own is = tt
 turn-opens at (Heading d) Closes own is = tt
 turn-opens at (Heading d) Wrong own is = tt
-turn-opens at (Laying part d) Passed own is = passed (Laying part d) own is
-turn-opens at (Laying part d) Opens own is = tt
-turn-opens at (Laying part d) (Header key value) own is = tt
-turn-opens at (Laying part d) (Local1 octets) own is = by-part at part d octets own (part == 0) refl is
-turn-opens at (Laying part d) (Section2 octets) own is = by-flag at part d octets own is
-turn-opens at (Laying part d) (Descriptors words) own is = descriptors-open at part d words own is
-turn-opens at (Laying part d) (Begins subset) own is = first-open at part subset d own is
-turn-opens at (Laying part d) (Item fxy form) own is = tt
-turn-opens at (Laying part d) Closes own is = none-open at part d own is
-turn-opens at (Laying part d) Wrong own is = tt
+turn-opens at (BeforeSubsets part d) Passed own is = passed (BeforeSubsets part d) own is
+turn-opens at (BeforeSubsets part d) Opens own is = tt
+turn-opens at (BeforeSubsets part d) (Header key value) own is = tt
+turn-opens at (BeforeSubsets part d) (Local1 octets) own is = by-part at part d octets own (part == 0) refl is
+turn-opens at (BeforeSubsets part d) (Section2 octets) own is = by-flag at part d octets own is
+turn-opens at (BeforeSubsets part d) (Descriptors words) own is = descriptors-open at part d words own is
+turn-opens at (BeforeSubsets part d) (Begins subset) own is = first-open at part subset d own is
+turn-opens at (BeforeSubsets part d) (Item fxy form) own is = tt
+turn-opens at (BeforeSubsets part d) Closes own is = none-open at part d own is
+turn-opens at (BeforeSubsets part d) Wrong own is = tt
 turn-opens at (Filling subset d) Passed own is = passed (Filling subset d) own is
 turn-opens at (Filling subset d) Opens own is = tt
 turn-opens at (Filling subset d) (Header key value) own is = tt
@@ -456,24 +456,24 @@ on : (at : ℕ) (line : List ℕ) (more : List (List ℕ)) (own : List NumberedL
 unfolding numbered_lines
 on at line more own = append_assoc own (one at (line_within_limit line)) (numbered_lines (at + 1) more) ∙ ap (λ (t : List NumberedLine). own ++ t) (sym (onto-one at (line_within_limit line) (numbered_lines (at + 1) more)))
 
-end-told : (at : ℕ) (place : ParserState) (own : List NumberedLine) → IsOpen place own → AreTold (own ++ []) (told_at_end at place)
-end-told at Between own is = append-nil own ∙ is
-end-told at (Heading d) own is = refl
-end-told at (Laying part d) own is = refl
-end-told at (Filling subset d) own is = refl
-end-told at Stopped own is = absurd is
+end-reported : (at : ℕ) (place : ParserState) (own : List NumberedLine) → IsOpen place own → AreReported (own ++ []) (reported_at_end at place)
+end-reported at Between own is = append-nil own ∙ is
+end-reported at (Heading d) own is = refl
+end-reported at (BeforeSubsets part d) own is = refl
+end-reported at (Filling subset d) own is = refl
+end-reported at Stopped own is = absurd is
 
-told-on : (at : ℕ) (line : List ℕ) (more : List (List ℕ)) (own : List NumberedLine) (here : LineEffect) → IsOpenBehind here (own ++ one at (line_within_limit line))
-    → ((next : ParserState) (own' : List NumberedLine) → IsOpen next own' → AreTold (own' ++ numbered_lines (at + 1) more) (parse_lines (at + 1) next more))
-    → AreTold (own ++ numbered_lines at (line ∷ more)) (told_at at here ++ parse_lines (at + 1) (place_after here) more)
-told-on at line more own (WalkGoes next) opens rest = subst (λ (t : List NumberedLine). AreTold t (parse_lines (at + 1) next more)) (on at line more own) (rest next (own ++ one at (line_within_limit line)) opens)
-told-on at line more own (Gives d) is rest = (own ++ one at (line_within_limit line), numbered_lines (at + 1) more, sym (on at line more own), is, rest Between [] refl)
-told-on at line more own (Faults fault) is rest = stopped-tells (at + 1) more
+reported-on : (at : ℕ) (line : List ℕ) (more : List (List ℕ)) (own : List NumberedLine) (here : LineEffect) → IsOpenAfter here (own ++ one at (line_within_limit line))
+    → ((next : ParserState) (own' : List NumberedLine) → IsOpen next own' → AreReported (own' ++ numbered_lines (at + 1) more) (parse_lines (at + 1) next more))
+    → AreReported (own ++ numbered_lines at (line ∷ more)) (reported_at at here ++ parse_lines (at + 1) (place_after here) more)
+reported-on at line more own (WalkGoes next) opens rest = subst (λ (t : List NumberedLine). AreReported t (parse_lines (at + 1) next more)) (on at line more own) (rest next (own ++ one at (line_within_limit line)) opens)
+reported-on at line more own (Gives d) is rest = (own ++ one at (line_within_limit line), numbered_lines (at + 1) more, sym (on at line more own), is, rest Between [] refl)
+reported-on at line more own (Faults fault) is rest = stopped-reports (at + 1) more
 
-lines-told : (at : ℕ) (place : ParserState) (lines : List (List ℕ)) (own : List NumberedLine) → IsOpen place own → AreTold (own ++ numbered_lines at lines) (parse_lines at place lines)
+lines-reported : (at : ℕ) (place : ParserState) (lines : List (List ℕ)) (own : List NumberedLine) → IsOpen place own → AreReported (own ++ numbered_lines at lines) (parse_lines at place lines)
 unfolding parse_lines numbered_lines
-lines-told at place [] own is = end-told at place own is
-lines-told at place (line ∷ more) own is = told-on at line more own (turn at place (line_within_limit line)) (turn-opens at place (line_within_limit line) own is) (λ next own' opens. lines-told (at + 1) next more own' opens)
+lines-reported at place [] own is = end-reported at place own is
+lines-reported at place (line ∷ more) own is = reported-on at line more own (turn at place (line_within_limit line)) (turn-opens at place (line_within_limit line) own is) (λ next own' opens. lines-reported (at + 1) next more own' opens)
 
-pub text-told : (text : List ℕ) → AreTold (numbered_lines 1 (lines_of text)) (documents_of text)
-text-told text = lines-told 1 Between (lines_of text) [] refl
+pub text-reported : (text : List ℕ) → AreReported (numbered_lines 1 (lines_of text)) (documents_of text)
+text-reported text = lines-reported 1 Between (lines_of text) [] refl

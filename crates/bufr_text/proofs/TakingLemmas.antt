@@ -4,17 +4,17 @@ use Rattle.std.specs.List.{AllByRecursion}
 use Rattle.std.proofs.lemmas.Grind.{common_steps}
 use Rattle.bufr_text.specs.Document as spec
 use Rattle.bufr_text.specs.Documents as documents
-use Rattle.bufr_text.specs.Documents.{line_within_limit, place_after, told_at}
+use Rattle.bufr_text.specs.Documents.{line_within_limit, place_after, reported_at}
 use Rattle.bufr_text.specs.Dump.{text_of_lines}
 use Rattle.bufr_text.specs.Reading.{has_no_feed, ReaderPosition, ContinuesParse, TakesWholeLines}
-use Rattle.bufr_text.specs.Step.{place_with, line_fault_of, turned, IsParserState, StandsAfter}
-use Rattle.bufr_text.specs.TakingLines.{FeedAt, step_results, stand_of, stand_behind, TakesLines, IsTaking}
+use Rattle.bufr_text.specs.Step.{place_with, line_fault_of, turned, IsParserState, HoldsAfter}
+use Rattle.bufr_text.specs.TakingLines.{FeedAt, step_results, position_with, position_after_take, TakesLines, IsTaking}
 use Rattle.bufr_text.specs.declared.progress.Progress.{Progress}
 use Rattle.bufr_text.specs.declared.progress.TakeResult.TheVariants as taken
 use Rattle.bufr_text.specs.declared.step.LineEffect.TheVariants as turn
 use Rattle.bufr_text.specs.declared.step.ParserState.{ParserState}
 use Rattle.bufr_text.specs.declared.step.LineRefusal.{LineRefusal}
-use Rattle.bufr_text.proofs.HeaderLemmas.{turn-stands}
+use Rattle.bufr_text.proofs.HeaderLemmas.{turn-holds}
 use Rattle.bufr_text.proofs.SoundLemmas.{said-sound}
 use Rattle.bufr_text.proofs.ClosingLemmas.{gives-end}
 use Rattle.bufr_text.proofs.ReadingLemmas.{takes-line, goes-further}
@@ -25,11 +25,11 @@ drop-on a b s = grind (arith, common_steps)
 -- a line is taken
 line-taken : (new : Progress) (held : List ℕ) (from n : ℕ) (t : documents.LineEffect) (ended : Bool) → FeedAt (drop from held) (Some n)
     → t ≡ documents.turn new.at (place_with new.place new.parts) (line_within_limit (take n (drop from held)))
-    → ContinuesParse (stand_of new (drop from held) ended) (record { at = new.at + 1; place = place_after t; held = drop (from + (n + 1)) held; ended = ended }) (told_at new.at t)
+    → ContinuesParse (position_with new (drop from held) ended) (record { at = new.at + 1; place = place_after t; held = drop (from + (n + 1)) held; ended = ended }) (reported_at new.at t)
 line-taken new held from n t ended feed e =
     let place = place_with new.place new.parts in
     let line = take n (drop from held) in
-    let P : documents.LineEffect → List ℕ → List ℕ → Type 0 = λ t before behind. ContinuesParse (record { at = new.at; place = place; held = before; ended = ended }) (record { at = new.at + 1; place = place_after t; held = behind; ended = ended }) (told_at new.at t) in
+    let P : documents.LineEffect → List ℕ → List ℕ → Type 0 = λ t before suffix. ContinuesParse (record { at = new.at; place = place; held = before; ended = ended }) (record { at = new.at + 1; place = place_after t; held = suffix; ended = ended }) (reported_at new.at t) in
     let here = takes-line new.at place line (drop (n + 1) (drop from held)) ended feed.1 in
     subst (λ (b : List ℕ). P t (drop from held) b) (drop-on (n + 1) from held)
     (subst (λ (b : List ℕ). P t b (drop (n + 1) (drop from held))) (sym feed.2)
@@ -66,9 +66,9 @@ passes-feed at at' held from n p feed =
     let P : List ℕ → Type 0 = λ t. TakesWholeLines at held (at' + 1) t in
     subst P (drop-on (n + 1) from held) (passes-line at at' held (drop from held) (take n (drop from held)) (drop (n + 1) (drop from held)) p feed.1 feed.2)
 
--- what holds behind a turn
-stands-behind : (new : Progress) (t : documents.LineEffect) (line : List ℕ) → IsParserState new.at (place_with new.place new.parts) → 0 < new.at → t ≡ documents.turn new.at (place_with new.place new.parts) (line_within_limit line) → StandsAfter new.at t
-stands-behind new t line s some e = subst (StandsAfter new.at) (sym e) (turn-stands new.at (place_with new.place new.parts) (line_within_limit line) some (said-sound line) s)
+-- what holds after a turn
+holds-after : (new : Progress) (t : documents.LineEffect) (line : List ℕ) → IsParserState new.at (place_with new.place new.parts) → 0 < new.at → t ≡ documents.turn new.at (place_with new.place new.parts) (line_within_limit line) → HoldsAfter new.at t
+holds-after new t line s some e = subst (HoldsAfter new.at) (sym e) (turn-holds new.at (place_with new.place new.parts) (line_within_limit line) some (said-sound line) s)
 
 further : (a b c : ReaderPosition) (x : List documents.ParseResult) → b.ended ≡ c.ended → ContinuesParse a b [] → ContinuesParse b c x → ContinuesParse a c x
 further a b c x same f g = goes-further a b c [] x (λ e. sym same ∙ e) f g
@@ -77,9 +77,9 @@ pub taking-goes : (old new : Progress) (held : List ℕ) (from n : ℕ) (place :
     → turned (turn.WalkGoes place) d ≡ documents.turn new.at (place_with new.place new.parts) (line_within_limit (take n (drop from held)))
     → IsTaking old (record { place = place; at = new.at + 1; parts = d }) held (from + (n + 1))
 taking-goes old new held from n place d is feed e = record {
-  goes = λ ended. further (stand_of old held ended) (stand_of new (drop from held) ended) (stand_of (record { place = place; at = new.at + 1; parts = d }) (drop (from + (n + 1)) held) ended) [] refl (is.goes ended) (line-taken new held from n (turned (turn.WalkGoes place) d) ended feed e);
+  goes = λ ended. further (position_with old held ended) (position_with new (drop from held) ended) (position_with (record { place = place; at = new.at + 1; parts = d }) (drop (from + (n + 1)) held) ended) [] refl (is.goes ended) (line-taken new held from n (turned (turn.WalkGoes place) d) ended feed e);
   within = omega (arith, feed.0, length-drop from held);
-  stands = stands-behind new (turned (turn.WalkGoes place) d) (take n (drop from held)) is.stands is.some e;
+  holds = holds-after new (turned (turn.WalkGoes place) d) (take n (drop from held)) is.holds is.some e;
   some = omega arith;
   near = omega (arith, is.near);
   passes = passes-feed old.at new.at held from n is.passes feed;
@@ -89,17 +89,17 @@ pub taking-gives : (old new : Progress) (held : List ℕ) (from n : ℕ) (last :
     → turned turn.Gives last.parts ≡ documents.turn new.at (place_with new.place new.parts) (line_within_limit (take n (drop from held)))
     → TakesLines old last held (from + (n + 1)) taken.Gives
 taking-gives old new held from n last is feed at e = record {
-  goes = λ ended. further (stand_of old held ended) (stand_of new (drop from held) ended) (stand_behind taken.Gives last (drop (from + (n + 1)) held) ended) (step_results taken.Gives last.parts) refl (is.goes ended)
-      (subst (λ (k : ℕ). ContinuesParse (stand_of new (drop from held) ended) (record { at = k; place = documents.Between; held = drop (from + (n + 1)) held; ended = ended }) (step_results taken.Gives last.parts)) (sym at) (line-taken new held from n (turned turn.Gives last.parts) ended feed e));
+  goes = λ ended. further (position_with old held ended) (position_with new (drop from held) ended) (position_after_take taken.Gives last (drop (from + (n + 1)) held) ended) (step_results taken.Gives last.parts) refl (is.goes ended)
+      (subst (λ (k : ℕ). ContinuesParse (position_with new (drop from held) ended) (record { at = k; place = documents.Between; held = drop (from + (n + 1)) held; ended = ended }) (step_results taken.Gives last.parts)) (sym at) (line-taken new held from n (turned turn.Gives last.parts) ended feed e));
   all = λ more. absurd cc;
   within = omega (arith, feed.0, length-drop from held);
   near = omega (arith, is.near, at);
   passes = subst (λ (k : ℕ). TakesWholeLines old.at held k (drop (from + (n + 1)) held)) (sym at) (passes-feed old.at new.at held from n is.passes feed);
-  stands = (let after = stands-behind new (turned turn.Gives last.parts) (take n (drop from held)) is.stands is.some e in (after.0, omega (arith, after.1, at)));
+  holds = (let after = holds-after new (turned turn.Gives last.parts) (take n (drop from held)) is.holds is.some e in (after.0, omega (arith, after.1, at)));
   closes = λ gives. record {
     line = new.at;
     last = take n (drop from held);
-    front = (let P : List ℕ → Type 0 = λ t. TakesWholeLines old.at held new.at (take n (drop from held) ++ 10 ∷ t) in let Q : List ℕ → Type 0 = λ t. TakesWholeLines old.at held new.at t in subst P (drop-on (n + 1) from held) (subst Q feed.2 is.passes));
+    prefix = (let P : List ℕ → Type 0 = λ t. TakesWholeLines old.at held new.at (take n (drop from held) ++ 10 ∷ t) in let Q : List ℕ → Type 0 = λ t. TakesWholeLines old.at held new.at t in subst P (drop-on (n + 1) from held) (subst Q feed.2 is.passes));
     single = feed.1;
     closes = gives-end new.at (place_with new.place new.parts) (line_within_limit (take n (drop from held))) last.parts e;
     counted = at;
@@ -110,13 +110,13 @@ pub taking-refuses : (old new : Progress) (held : List ℕ) (from n line : ℕ) 
     → turned (turn.Refuses refusal) last.parts ≡ documents.turn new.at (place_with new.place new.parts) (line_within_limit (take n (drop from held)))
     → TakesLines old last held (from + (n + 1)) (taken.Refuses line refusal)
 taking-refuses old new held from n line refusal last is feed at here e = record {
-  goes = λ ended. further (stand_of old held ended) (stand_of new (drop from held) ended) (stand_behind (taken.Refuses line refusal) last (drop (from + (n + 1)) held) ended) (step_results (taken.Refuses line refusal) last.parts) refl (is.goes ended)
-      (subst (λ (k : ℕ). ContinuesParse (stand_of new (drop from held) ended) (record { at = last.at; place = documents.Stopped; held = drop (from + (n + 1)) held; ended = ended }) (documents.Refused k (line_fault_of refusal) ∷ [])) (sym here)
-      (subst (λ (k : ℕ). ContinuesParse (stand_of new (drop from held) ended) (record { at = k; place = documents.Stopped; held = drop (from + (n + 1)) held; ended = ended }) (documents.Refused new.at (line_fault_of refusal) ∷ [])) (sym at) (line-taken new held from n (turned (turn.Refuses refusal) last.parts) ended feed e)));
+  goes = λ ended. further (position_with old held ended) (position_with new (drop from held) ended) (position_after_take (taken.Refuses line refusal) last (drop (from + (n + 1)) held) ended) (step_results (taken.Refuses line refusal) last.parts) refl (is.goes ended)
+      (subst (λ (k : ℕ). ContinuesParse (position_with new (drop from held) ended) (record { at = last.at; place = documents.Stopped; held = drop (from + (n + 1)) held; ended = ended }) (documents.Refused k (line_fault_of refusal) ∷ [])) (sym here)
+      (subst (λ (k : ℕ). ContinuesParse (position_with new (drop from held) ended) (record { at = k; place = documents.Stopped; held = drop (from + (n + 1)) held; ended = ended }) (documents.Refused new.at (line_fault_of refusal) ∷ [])) (sym at) (line-taken new held from n (turned (turn.Refuses refusal) last.parts) ended feed e)));
   all = λ more. absurd cc;
   within = omega (arith, feed.0, length-drop from held);
   near = omega (arith, is.near, at);
   passes = subst (λ (k : ℕ). TakesWholeLines old.at held k (drop (from + (n + 1)) held)) (sym at) (passes-feed old.at new.at held from n is.passes feed);
-  stands = tt;
+  holds = tt;
   closes = λ gives. absurd cc;
 }

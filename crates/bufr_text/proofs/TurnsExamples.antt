@@ -63,13 +63,13 @@ another_descriptor : turns (document 0 1 (0x0101 ∷ 0x0101 ∷ []) (number 24 0
 unfolding turns block listed table document number tree_of level part_of inner_of next_item
 another_descriptor = refl
 
--- an item too many comes behind the end of the template
+-- an item too many comes after the end of the template
 second_item : turns (document 0 1 (0x0101 ∷ []) (block 24 (codes "10") ∷ block 25 (codes "10") ∷ Ends 26 ∷ [])) ≡ 2
 unfolding turns block listed table document number tree_of level part_of inner_of next_item decimal_value_of bits_in
 second_item = refl
 
 -- a pass for each subset: fails where the second begins with the turns of the first, and where
--- subsets behind a refused one count
+-- subsets after a refused one count
 two_subsets : turns (document 0 2 (0x4100 ∷ 0x1F01 ∷ 0x0101 ∷ []) (factor 24 (codes "1") ∷ block 25 (codes "10") ∷ Ends 26 ∷ factor 27 (codes "0") ∷ Ends 28 ∷ [])) ≡ 8
 unfolding turns block factor listed table document number tree_of level part_of inner_of next_item decimal_value_of bits_in
 two_subsets = refl

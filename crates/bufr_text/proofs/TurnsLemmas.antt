@@ -18,12 +18,12 @@ use Rattle.bufr_walk.specs.Walked.{answers_of}
 use Rattle.bufr_fill.specs.Fault.{FaultAt}
 use Rattle.bufr_fill.specs.Filling.{WrittenItem, Filler}
 use Rattle.bufr_fill.proofs.Filled.{HasFilled}
-use Rattle.bufr_fill.proofs.WalkFills.{after_told}
+use Rattle.bufr_fill.proofs.WalkFills.{after_answers}
 use Rattle.bufr_text.specs.Encoding.{RefusedAt}
-use Rattle.bufr_text.specs.EncodingFault.{told_of_draft}
+use Rattle.bufr_text.specs.EncodingFault.{report_of_draft}
 use Rattle.bufr_text.specs.EncodingCost.{turned_one, turned_at, turns_filled, CountsSteps}
 
--- ---- the more is told, the more turns there are
+-- ---- the more is reported, the more turns there are
 
 -- the same turns, and perhaps more where the counts ran out
 abbrev Extends : Turns → Turns → Type 0
@@ -58,97 +58,97 @@ unroll_extends (delayed fxy body t) rest g (n ∷ counts) more = (
 )
 
 -- whatever comes, it takes a turn
-asked_some : (r : Result FieldSpec TurnRefusal) (go : Taken → List Taken → NextTurn) (told : List Taken) → 1 ≤ (asked r go told).turns
-asked_some (Err why) go told = omega arith
+asked_some : (r : Result FieldSpec TurnRefusal) (go : Taken → List Taken → NextTurn) (results : List Taken) → 1 ≤ (asked r go results).turns
+asked_some (Err why) go results = omega arith
 asked_some (Ok spec) go [] = omega arith
-asked_some (Ok spec) go (t ∷ told) = omega arith
+asked_some (Ok spec) go (t ∷ results) = omega arith
 
 operated_some : (r : Result OperatorModel TurnRefusal) (go : OperatorModel → NextTurn) → 1 ≤ (operated r go).turns
 operated_some (Err why) go = omega arith
 operated_some (Ok s) go = omega arith
 
-ahead_some : (table : List Row) (u : Turns) (s : OperatorModel) (told : List Taken) → 1 ≤ (ahead table u s told).turns
-ahead_some table finish s told = omega arith
-ahead_some table open_end s told = omega arith
-ahead_some table (group t) s told = omega arith
-ahead_some table (pass_end t) s told = omega arith
-ahead_some table (factor_turn fxy t) s told = asked_some (factor_spec table s fxy) (λ x more. ahead table t (after_field s fxy x) more) told
-ahead_some table (element_turn fxy t) s told = asked_some (element_spec table s fxy) (λ x more. ahead table t (after_field s fxy x) more) told
-ahead_some table (operator_turn fxy t) s told = by (is_inserted_text fxy)
+ahead_some : (table : List Row) (u : Turns) (s : OperatorModel) (results : List Taken) → 1 ≤ (ahead table u s results).turns
+ahead_some table finish s results = omega arith
+ahead_some table open_end s results = omega arith
+ahead_some table (group t) s results = omega arith
+ahead_some table (pass_end t) s results = omega arith
+ahead_some table (factor_turn fxy t) s results = asked_some (factor_spec table s fxy) (λ x more. ahead table t (after_field s fxy x) more) results
+ahead_some table (element_turn fxy t) s results = asked_some (element_spec table s fxy) (λ x more. ahead table t (after_field s fxy x) more) results
+ahead_some table (operator_turn fxy t) s results = by (is_inserted_text fxy)
   where
-    by : (b : Bool) → 1 ≤ (if b then asked (inserted_spec s fxy) (λ x more. ahead table t (after_field s fxy x) more) told else operated (after_operator s fxy) (λ s'. ahead table t s' told)).turns
-    by true = asked_some (inserted_spec s fxy) (λ x more. ahead table t (after_field s fxy x) more) told
-    by false = operated_some (after_operator s fxy) (λ s'. ahead table t s' told)
+    by : (b : Bool) → 1 ≤ (if b then asked (inserted_spec s fxy) (λ x more. ahead table t (after_field s fxy x) more) results else operated (after_operator s fxy) (λ s'. ahead table t s' results)).turns
+    by true = asked_some (inserted_spec s fxy) (λ x more. ahead table t (after_field s fxy x) more) results
+    by false = operated_some (after_operator s fxy) (λ s'. ahead table t s' results)
 
-asked_grows : (r : Result FieldSpec TurnRefusal) (go go' : Taken → List Taken → NextTurn) (told more : List Taken) → ((t : Taken) (l : List Taken) → (go t l).turns ≤ (go' t (l ++ more)).turns) → (asked r go told).turns ≤ (asked r go' (told ++ more)).turns
-asked_grows (Err why) go go' told more g = omega arith
+asked_grows : (r : Result FieldSpec TurnRefusal) (go go' : Taken → List Taken → NextTurn) (results more : List Taken) → ((t : Taken) (l : List Taken) → (go t l).turns ≤ (go' t (l ++ more)).turns) → (asked r go results).turns ≤ (asked r go' (results ++ more)).turns
+asked_grows (Err why) go go' results more g = omega arith
 asked_grows (Ok spec) go go' [] [] g = omega arith
 asked_grows (Ok spec) go go' [] (m ∷ more) g = omega arith
-asked_grows (Ok spec) go go' (t ∷ told) more g = omega (arith, g t told)
+asked_grows (Ok spec) go go' (t ∷ results) more g = omega (arith, g t results)
 
 operated_grows : (r : Result OperatorModel TurnRefusal) (go go' : OperatorModel → NextTurn) → ((s : OperatorModel) → (go s).turns ≤ (go' s).turns) → (operated r go).turns ≤ (operated r go').turns
 operated_grows (Err why) go go' g = omega arith
 operated_grows (Ok s) go go' g = omega (arith, g s)
 
-ahead_grows : (table : List Row) (u u' : Turns) (s : OperatorModel) (told more : List Taken) → Extends u u' → (ahead table u s told).turns ≤ (ahead table u' s (told ++ more)).turns
-ahead_grows table finish u' s told more h = subst (λ x. 1 ≤ (ahead table x s (told ++ more)).turns) (sym h) (omega arith)
-ahead_grows table open_end u' s told more h = ahead_some table u' s (told ++ more)
-ahead_grows table (group t) u' s told more h =
-    subst (λ x. (ahead table (group t) s told).turns ≤ (ahead table x s (told ++ more)).turns) (sym h.1) (omega (arith, ahead_grows table t h.0 s told more h.2))
-ahead_grows table (pass_end t) u' s told more h =
-    subst (λ x. (ahead table (pass_end t) s told).turns ≤ (ahead table x s (told ++ more)).turns) (sym h.1) (omega (arith, ahead_grows table t h.0 s told more h.2))
-ahead_grows table (factor_turn fxy t) u' s told more h =
-    subst (λ x. (ahead table (factor_turn fxy t) s told).turns ≤ (ahead table x s (told ++ more)).turns) (sym h.1)
-    (asked_grows (factor_spec table s fxy) (λ x l. ahead table t (after_field s fxy x) l) (λ x l. ahead table h.0 (after_field s fxy x) l) told more (λ x l. ahead_grows table t h.0 (after_field s fxy x) l more h.2))
-ahead_grows table (element_turn fxy t) u' s told more h =
-    subst (λ x. (ahead table (element_turn fxy t) s told).turns ≤ (ahead table x s (told ++ more)).turns) (sym h.1)
-    (asked_grows (element_spec table s fxy) (λ x l. ahead table t (after_field s fxy x) l) (λ x l. ahead table h.0 (after_field s fxy x) l) told more (λ x l. ahead_grows table t h.0 (after_field s fxy x) l more h.2))
-ahead_grows table (operator_turn fxy t) u' s told more h =
-    subst (λ x. (ahead table (operator_turn fxy t) s told).turns ≤ (ahead table x s (told ++ more)).turns) (sym h.1)
-    (by (is_inserted_text fxy) (λ x l. ahead_grows table t h.0 (after_field s fxy x) l more h.2) (λ s'. ahead_grows table t h.0 s' told more h.2))
+ahead_grows : (table : List Row) (u u' : Turns) (s : OperatorModel) (results more : List Taken) → Extends u u' → (ahead table u s results).turns ≤ (ahead table u' s (results ++ more)).turns
+ahead_grows table finish u' s results more h = subst (λ x. 1 ≤ (ahead table x s (results ++ more)).turns) (sym h) (omega arith)
+ahead_grows table open_end u' s results more h = ahead_some table u' s (results ++ more)
+ahead_grows table (group t) u' s results more h =
+    subst (λ x. (ahead table (group t) s results).turns ≤ (ahead table x s (results ++ more)).turns) (sym h.1) (omega (arith, ahead_grows table t h.0 s results more h.2))
+ahead_grows table (pass_end t) u' s results more h =
+    subst (λ x. (ahead table (pass_end t) s results).turns ≤ (ahead table x s (results ++ more)).turns) (sym h.1) (omega (arith, ahead_grows table t h.0 s results more h.2))
+ahead_grows table (factor_turn fxy t) u' s results more h =
+    subst (λ x. (ahead table (factor_turn fxy t) s results).turns ≤ (ahead table x s (results ++ more)).turns) (sym h.1)
+    (asked_grows (factor_spec table s fxy) (λ x l. ahead table t (after_field s fxy x) l) (λ x l. ahead table h.0 (after_field s fxy x) l) results more (λ x l. ahead_grows table t h.0 (after_field s fxy x) l more h.2))
+ahead_grows table (element_turn fxy t) u' s results more h =
+    subst (λ x. (ahead table (element_turn fxy t) s results).turns ≤ (ahead table x s (results ++ more)).turns) (sym h.1)
+    (asked_grows (element_spec table s fxy) (λ x l. ahead table t (after_field s fxy x) l) (λ x l. ahead table h.0 (after_field s fxy x) l) results more (λ x l. ahead_grows table t h.0 (after_field s fxy x) l more h.2))
+ahead_grows table (operator_turn fxy t) u' s results more h =
+    subst (λ x. (ahead table (operator_turn fxy t) s results).turns ≤ (ahead table x s (results ++ more)).turns) (sym h.1)
+    (by (is_inserted_text fxy) (λ x l. ahead_grows table t h.0 (after_field s fxy x) l more h.2) (λ s'. ahead_grows table t h.0 s' results more h.2))
   where
     by : (b : Bool) → ((x : Taken) (l : List Taken) → (ahead table t (after_field s fxy x) l).turns ≤ (ahead table h.0 (after_field s fxy x) (l ++ more)).turns)
-        → ((s' : OperatorModel) → (ahead table t s' told).turns ≤ (ahead table h.0 s' (told ++ more)).turns)
-        → (if b then asked (inserted_spec s fxy) (λ x l. ahead table t (after_field s fxy x) l) told else operated (after_operator s fxy) (λ s'. ahead table t s' told)).turns
-        ≤ (if b then asked (inserted_spec s fxy) (λ x l. ahead table h.0 (after_field s fxy x) l) (told ++ more) else operated (after_operator s fxy) (λ s'. ahead table h.0 s' (told ++ more))).turns
-    by true f g = asked_grows (inserted_spec s fxy) (λ x l. ahead table t (after_field s fxy x) l) (λ x l. ahead table h.0 (after_field s fxy x) l) told more f
-    by false f g = operated_grows (after_operator s fxy) (λ s'. ahead table t s' told) (λ s'. ahead table h.0 s' (told ++ more)) g
+        → ((s' : OperatorModel) → (ahead table t s' results).turns ≤ (ahead table h.0 s' (results ++ more)).turns)
+        → (if b then asked (inserted_spec s fxy) (λ x l. ahead table t (after_field s fxy x) l) results else operated (after_operator s fxy) (λ s'. ahead table t s' results)).turns
+        ≤ (if b then asked (inserted_spec s fxy) (λ x l. ahead table h.0 (after_field s fxy x) l) (results ++ more) else operated (after_operator s fxy) (λ s'. ahead table h.0 s' (results ++ more))).turns
+    by true f g = asked_grows (inserted_spec s fxy) (λ x l. ahead table t (after_field s fxy x) l) (λ x l. ahead table h.0 (after_field s fxy x) l) results more f
+    by false f g = operated_grows (after_operator s fxy) (λ s'. ahead table t s' results) (λ s'. ahead table h.0 s' (results ++ more)) g
 
-counts_append : (told more : List Taken) → counts_of (told ++ more) ≡ counts_of told ++ counts_of more
+counts_append : (results more : List Taken) → counts_of (results ++ more) ≡ counts_of results ++ counts_of more
 counts_append [] more = refl
-counts_append (taken.Plain ∷ told) more = counts_append told more
-counts_append (taken.Count n ∷ told) more = ap (λ c. n ∷ c) (counts_append told more)
-counts_append (taken.Reference r ∷ told) more = counts_append told more
+counts_append (taken.Plain ∷ results) more = counts_append results more
+counts_append (taken.Count n ∷ results) more = ap (λ c. n ∷ c) (counts_append results more)
+counts_append (taken.Reference r ∷ results) more = counts_append results more
 
 -- what comes after more items takes no fewer turns
 abbrev pub AddsTurns : Course → Type 0
-AddsTurns course = (told more : List Taken) → (course told).turns ≤ (course (told ++ more)).turns
+AddsTurns course = (results more : List Taken) → (course results).turns ≤ (course (results ++ more)).turns
 
 pub template_adds : (table : List Row) (template : Tree) → AddsTurns (next_item table template)
 unfolding next_item
-template_adds table template told more =
-    ahead_grows table (turns_of template (counts_of told)) (turns_of template (counts_of (told ++ more))) begin told more
-    (subst (λ c. Extends (turns_of template (counts_of told)) (turns_of template c)) (sym (counts_append told more)) (unroll_extends template (λ _. finish) (λ c m. refl) (counts_of told) (counts_of more)))
+template_adds table template results more =
+    ahead_grows table (turns_of template (counts_of results)) (turns_of template (counts_of (results ++ more))) begin results more
+    (subst (λ c. Extends (turns_of template (counts_of results)) (turns_of template c)) (sym (counts_append results more)) (unroll_extends template (λ _. finish) (λ c m. refl) (counts_of results) (counts_of more)))
 
 adds_after : (course : Course) (items : List TakenField) → AddsTurns course → AddsTurns (course_after course items)
-adds_after course [] g told more = g told more
-adds_after course (i ∷ items) g told more = adds_after (λ l. course (i.taken ∷ l)) items (λ l m. g (i.taken ∷ l) m) told more
+adds_after course [] g results more = g results more
+adds_after course (i ∷ items) g results more = adds_after (λ l. course (i.taken ∷ l)) items (λ l m. g (i.taken ∷ l) m) results more
 
 -- ---- the turns of a walk
 
 module _ {D C E S : Type 0} (filler : Filler D C E) (left : S → List D) (out : S → List Bool) (takes : S → FieldSpec → Taken → S → Type 0)
     (fills : (s : S) (spec : FieldSpec) (t : Taken) (s' : S) → takes s spec t s' → HasFilled filler (left s) (out s) spec t (left s') (out s')) where
-  one : (course : Course) (s : S) (spec : FieldSpec) (t : Taken) (mid : S) → (course []).next ≡ take_next spec → HasFilled filler (left s) (out s) spec t (left mid) (out mid) → turns_filled filler course (left s) ≡ turns_filled filler (λ told. course (t ∷ told)) (left mid)
+  one : (course : Course) (s : S) (spec : FieldSpec) (t : Taken) (mid : S) → (course []).next ≡ take_next spec → HasFilled filler (left s) (out s) spec t (left mid) (out mid) → turns_filled filler course (left s) ≡ turns_filled filler (λ results. course (t ∷ results)) (left mid)
   one course s spec t mid next h =
       ap (turns_filled filler course) h.here
-      ∙ ap (λ n. turned_at filler n (course []).turns h.draft (λ x. turns_filled filler (λ told. course (x ∷ told)) (left mid))) next
-      ∙ ap (λ r. turned_one filler r spec (course []).turns (λ x. turns_filled filler (λ told. course (x ∷ told)) (left mid))) h.fills
-      ∙ ap (λ x. turns_filled filler (λ told. course (x ∷ told)) (left mid)) (sym h.tells)
+      ∙ ap (λ n. turned_at filler n (course []).turns h.draft (λ x. turns_filled filler (λ results. course (x ∷ results)) (left mid))) next
+      ∙ ap (λ r. turned_one filler r spec (course []).turns (λ x. turns_filled filler (λ results. course (x ∷ results)) (left mid))) h.fills
+      ∙ ap (λ x. turns_filled filler (λ results. course (x ∷ results)) (left mid)) (sym h.gives)
 
   -- the turns of all drafts are those of the drafts that a walk left, after its items
   pub walk_turns : (course : Course) (s : S) (items : List TakenField) (s' : S) → Takes takes course s items s' → turns_filled filler course (left s) ≡ turns_filled filler (course_after course items) (left s')
   walk_turns course s [] s' h = ap (λ x. turns_filled filler course (left x)) (sym h)
-  walk_turns course s (i ∷ items) s' h = one course s i.spec i.taken h.0 h.1 (fills s i.spec i.taken h.0 h.2) ∙ walk_turns (λ told. course (i.taken ∷ told)) h.0 items s' h.3
+  walk_turns course s (i ∷ items) s' h = one course s i.spec i.taken h.0 h.1 (fills s i.spec i.taken h.0 h.2) ∙ walk_turns (λ results. course (i.taken ∷ results)) h.0 items s' h.3
 
 module _ {D C E : Type 0} (filler : Filler D C E) where
   -- no draft is taken at what comes next
@@ -161,23 +161,23 @@ module _ {D C E : Type 0} (filler : Filler D C E) where
 
   here : (course : Course) (ds : List D) (n : Next) → (course []).next ≡ n → IsLast n ds → turns_filled filler course ds ≡ (course []).turns
   here course [] n e h = refl
-  here course (d ∷ ds) n e h = ap (λ x. turned_at filler x (course []).turns d (λ t. turns_filled filler (λ told. course (t ∷ told)) ds)) e ∙ by n h
+  here course (d ∷ ds) n e h = ap (λ x. turned_at filler x (course []).turns d (λ t. turns_filled filler (λ results. course (t ∷ results)) ds)) e ∙ by n h
     where
-      by : (n : Next) → IsLast n (d ∷ ds) → turned_at filler n (course []).turns d (λ t. turns_filled filler (λ told. course (t ∷ told)) ds) ≡ (course []).turns
-      by (take_next spec) h = ap (λ r. turned_one filler r spec (course []).turns (λ t. turns_filled filler (λ told. course (t ∷ told)) ds)) h.1
+      by : (n : Next) → IsLast n (d ∷ ds) → turned_at filler n (course []).turns d (λ t. turns_filled filler (λ results. course (t ∷ results)) ds) ≡ (course []).turns
+      by (take_next spec) h = ap (λ r. turned_one filler r spec (course []).turns (λ t. turns_filled filler (λ results. course (t ∷ results)) ds)) h.1
       by at_end h = refl
       by (refused why) h = refl
       by astray h = refl
 
   at_least : (course : Course) (ds : List D) → AddsTurns course → (course []).turns ≤ turns_filled filler course ds
   at_least course [] g = omega arith
-  at_least course (d ∷ ds) g = by (course []).next (λ t. omega (arith, g [] (t ∷ []), at_least (λ told. course (t ∷ told)) ds (λ told more. g (t ∷ told) more)))
+  at_least course (d ∷ ds) g = by (course []).next (λ t. omega (arith, g [] (t ∷ []), at_least (λ results. course (t ∷ results)) ds (λ results more. g (t ∷ results) more)))
     where
       rest : Taken → ℕ
-      rest t = turns_filled filler (λ told. course (t ∷ told)) ds
+      rest t = turns_filled filler (λ results. course (t ∷ results)) ds
 
       one : (spec : FieldSpec) (r : Result (WrittenItem C) E) → ((t : Taken) → (course []).turns ≤ rest t) → (course []).turns ≤ turned_one filler r spec (course []).turns rest
-      one spec (Ok w) h = h (filler.tells spec w.content)
+      one spec (Ok w) h = h (filler.gives spec w.content)
       one spec (Err why) h = omega arith
 
       by : (n : Next) → ((t : Taken) → (course []).turns ≤ rest t) → (course []).turns ≤ turned_at filler n (course []).turns d rest
@@ -189,11 +189,11 @@ module _ {D C E : Type 0} (filler : Filler D C E) where
   -- where a walk comes to the last turn, its turns are all
   pub last_turns : (course : Course) (items : List TakenField) (ds : List D) (n : Next) (all : ℕ) → all ≡ turns_filled filler (course_after course items) ds → (course (answers_of items)).next ≡ n → IsLast n ds → (course (answers_of items)).turns ≡ all
   last_turns course items ds n all total next h =
-      sym (total ∙ here (course_after course items) ds n (ap (λ a. a.next) (after_told course items) ∙ next) h ∙ ap (λ a. a.turns) (after_told course items))
+      sym (total ∙ here (course_after course items) ds n (ap (λ a. a.next) (after_answers course items) ∙ next) h ∙ ap (λ a. a.turns) (after_answers course items))
 
   pub some_turns : (course : Course) (items : List TakenField) (ds : List D) (all : ℕ) → AddsTurns course → all ≡ turns_filled filler (course_after course items) ds → (course (answers_of items)).turns ≤ all
   some_turns course items ds all g total =
-      omega (arith, ap (λ a. a.turns) (after_told course items), at_least (course_after course items) ds (adds_after course items g), total)
+      omega (arith, ap (λ a. a.turns) (after_answers course items), at_least (course_after course items) ds (adds_after course items g), total)
 
 -- ---- steps
 
@@ -208,7 +208,7 @@ pub all_made : (o : Option RefusedAt) (before turns after : ℕ) → after ≡ t
 all_made None before turns after h = omega (arith, h)
 all_made (Some f) before turns after h = h
 
--- all turns were made where a fault is told
-pub makes_so : (o : Option FaultAt) (told : Option RefusedAt) (before turns after : ℕ) → told ≡ option_map told_of_draft o → after ≤ ticked before turns → ((f : FaultAt) → o ≡ Some f → after ≡ ticked before turns) → CountsSteps told before turns after
-makes_so None told before turns after e few h = subst (λ t. CountsSteps t before turns after) (sym e) few
-makes_so (Some f) told before turns after e few h = subst (λ t. CountsSteps t before turns after) (sym e) (h f refl)
+-- all turns were made where a fault is reported
+pub makes_so : (o : Option FaultAt) (results : Option RefusedAt) (before turns after : ℕ) → results ≡ option_map report_of_draft o → after ≤ ticked before turns → ((f : FaultAt) → o ≡ Some f → after ≡ ticked before turns) → CountsSteps results before turns after
+makes_so None results before turns after e few h = subst (λ t. CountsSteps t before turns after) (sym e) few
+makes_so (Some f) results before turns after e few h = subst (λ t. CountsSteps t before turns after) (sym e) (h f refl)

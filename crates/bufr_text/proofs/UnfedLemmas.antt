@@ -13,11 +13,11 @@ cut xs = take (length xs - 1) xs
 cut-back : (xs : List ℕ) → cut (xs ++ 10 ∷ []) ≡ xs
 cut-back xs = take_at xs (10 ∷ []) (length (xs ++ 10 ∷ []) - 1) (omega (arith, length-append xs (10 ∷ [])))
 
-cut-front : (xs : List ℕ) (y : ℕ) (ys : List ℕ) → cut (xs ++ y ∷ ys) ≡ xs ++ cut (y ∷ ys)
-cut-front [] y ys = refl
-cut-front (x ∷ xs) y ys =
+cut-prefix : (xs : List ℕ) (y : ℕ) (ys : List ℕ) → cut (xs ++ y ∷ ys) ≡ xs ++ cut (y ∷ ys)
+cut-prefix [] y ys = refl
+cut-prefix (x ∷ xs) y ys =
     let n : length (x ∷ xs ++ y ∷ ys) - 1 ≡ suc (length (xs ++ y ∷ ys) - 1) = omega (arith, length-append xs (y ∷ ys)) in
-    ap (λ (k : ℕ). take k (x ∷ xs ++ y ∷ ys)) n ∙ ap (λ (t : List ℕ). x ∷ t) (cut-front xs y ys)
+    ap (λ (k : ℕ). take k (x ∷ xs ++ y ∷ ys)) n ∙ ap (λ (t : List ℕ). x ∷ t) (cut-prefix xs y ys)
 
 none-kept : (b : Bool) → (if b then cut [] else []) ≡ []
 none-kept true = refl
@@ -32,15 +32,15 @@ keeps-by true false h bs feed t (k ∷ more) (inl none) kept fed same = absurd (
 keeps-by true true h bs feed t (k ∷ more) (inl none) kept fed same =
     let nothing = (kept refl).1 in
     let is : h ≡ t ++ k ∷ more = sym (ap (λ (z : List ℕ). (h ++ bs) ++ z) none ∙ append-nil (h ++ bs) ∙ ap (λ (z : List ℕ). h ++ z) nothing ∙ append-nil h) ∙ same in
-    (t, ap (λ (z : List ℕ). cut h ++ z) nothing ∙ append-nil (cut h) ∙ ap (λ (z : List ℕ). cut z) is ∙ cut-front t k more)
+    (t, ap (λ (z : List ℕ). cut h ++ z) nothing ∙ append-nil (cut h) ∙ ap (λ (z : List ℕ). cut z) is ∙ cut-prefix t k more)
 keeps-by false false h bs feed t (k ∷ more) (inl none) kept fed same = (t, sym (ap (λ (z : List ℕ). (h ++ bs) ++ z) none ∙ append-nil (h ++ bs)) ∙ same)
 keeps-by false false h bs feed t (k ∷ more) (inr (open', ended, e)) kept fed same = absurd (true≢false (sym ended))
 keeps-by false true h bs feed t (k ∷ more) (inl none) kept fed same = absurd (omega (arith, ap length (fed refl refl none)))
 keeps-by false true h bs feed t (k ∷ more) (inr (open', ended, e)) kept fed same =
-    (t, sym (cut-back (h ++ bs)) ∙ ap (λ (z : List ℕ). cut ((h ++ bs) ++ z)) (sym e) ∙ ap (λ (z : List ℕ). cut z) same ∙ cut-front t k more)
+    (t, sym (cut-back (h ++ bs)) ∙ ap (λ (z : List ℕ). cut ((h ++ bs) ++ z)) (sym e) ∙ ap (λ (z : List ℕ). cut z) same ∙ cut-prefix t k more)
 
-pub call-keeps : (left left' : Option (List ℕ)) (old new : ReaderModel) (told : List ParseResult) (bs : List ℕ) → ReadsLines left left' old new told bs → KeepsUnread old new bs
-call-keeps left left' old new told bs call =
+pub call-keeps : (left left' : Option (List ℕ)) (old new : ReaderModel) (results : List ParseResult) (bs : List ℕ) → ReadsLines left left' old new results bs → KeepsUnread old new bs
+call-keeps left left' old new results bs call =
     keeps-by old.ended new.ended old.held bs call.lines.0 (text_of_lines call.lines.2.lines) new.held call.lines.1 (λ e. ((call.kept e).0, (call.kept e).1)) call.fed call.lines.2.octets
 
 -- the same is held

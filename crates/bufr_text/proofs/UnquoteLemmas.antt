@@ -65,7 +65,7 @@ says-in text octet written e some =
     let q : IsIn text (ListsLeaves octet written) = subst (IsIn text) (sym e) (quoting-in text) in
     (q.0, q.1 some)
 
--- what is read behind an octet
+-- what is read after an octet
 pub says-on : (text : List ℕ) (octet written : ℕ) → ListsLeaves octet written ≡ quoting_of text → 0 < length text → quoted_read 0 text ≡ octet_onto octet (quoted_read 0 (drop written text))
 unfolding quoted_read
 says-on [] octet written e some = absurd (omega arith)

@@ -15,18 +15,18 @@ module _ (a b c : Option (List ℕ)) (s t : List ℕ) where
   Writes-then (Err f) first second = (
     second.0,
     record {
-      front = s ++ second.1.front;
+      prefix = s ++ second.1.prefix;
       back = second.1.back;
-      parts = ap (λ l. s ++ l) second.1.parts ∙ sym (append_assoc s second.1.front second.1.back);
-      gains = Appends-trans a b c s second.1.front first second.1.gains;
+      parts = ap (λ l. s ++ l) second.1.parts ∙ sym (append_assoc s second.1.prefix second.1.back);
+      gains = Appends-trans a b c s second.1.prefix first second.1.gains;
     },
   )
 
 prefix-more : (a b : Option (List ℕ)) (s t : List ℕ) → GrowsByPrefix a b s → GrowsByPrefix a b (s ++ t)
 prefix-more a b s t first = record {
-  front = first.front;
+  prefix = first.prefix;
   back = first.back ++ t;
-  parts = ap (λ l. l ++ t) first.parts ∙ append_assoc first.front first.back t;
+  parts = ap (λ l. l ++ t) first.parts ∙ append_assoc first.prefix first.back t;
   gains = first.gains;
 }
 

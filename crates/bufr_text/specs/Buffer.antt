@@ -4,7 +4,7 @@ use Rattle.std.specs.Prelude.{◌≡◌, ℕ, ◌-◌, ◌<◌, ◌≤◌, List,
 use Rattle.bufr_frame.specs.declared.fault.RunFault.{RunFault}
 use Rattle.bufr_frame.specs.declared.fault.RunFault.TheVariants.{Memory}
 
--- The octets stand some places nearer to the front, and room for 4,096 is behind them; or memory
+-- The octets are some places nearer to the start, and room for 4,096 is after them; or memory
 -- was refused to a buffer that had less room, and all is as it was.
 abbrev pub MakesTextRoom : (old new : List ℕ) → (len len' start filled : ℕ) → Result ℕ RunFault
     → Type 0

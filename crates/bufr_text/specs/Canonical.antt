@@ -19,19 +19,19 @@ HaveNoMinusZero (i ∷ items) bits =
     × HaveNoMinusZero items (drop i.spec.width bits)
 
 -- each item of compressed data is packed as its contents are packed
-abbrev pub ArePacked : List (Item (List Content)) → (bits behind : List Bool) → Type 0
-ArePacked [] bits behind = bits ≡ behind
-ArePacked (i ∷ items) bits behind =
+abbrev pub ArePacked : List (Item (List Content)) → (bits suffix : List Bool) → Type 0
+ArePacked [] bits suffix = bits ≡ suffix
+ArePacked (i ∷ items) bits suffix =
     (out : List Bool) × (mid : List Bool) × (packing i.spec i.content ≡ Ok out)
-    × (bits ≡ out ++ mid) × ArePacked items mid behind
+    × (bits ≡ out ++ mid) × ArePacked items mid suffix
 
 -- the data bits are as an encoder writes them
-abbrev pub AreWritten : Values → (bits behind : List Bool) → Type 0
-AreWritten (apart subsets) bits behind = HaveNoMinusZero (flat_map (λ items. items) subsets) bits
-AreWritten (together items) bits behind = ArePacked items bits behind
+abbrev pub AreWritten : Values → (bits suffix : List Bool) → Type 0
+AreWritten (apart subsets) bits suffix = HaveNoMinusZero (flat_map (λ items. items) subsets) bits
+AreWritten (together items) bits suffix = ArePacked items bits suffix
 
 -- reserved octets and bits are zero, no octet is left over, and the data take the least octets,
--- with zero bits behind them; in edition 3 the least that make section 4 even
+-- with zero bits after them; in edition 3 the least that make section 4 even
 -- rule: canonical
 pub record IsCanonical (m : List ℕ) (s : Sections) (values : Values) (used : ℕ) : Type 0 where
   pub plain : IsPlain m

@@ -16,16 +16,16 @@ use Rattle.bufr_fill.specs.Filling.{fill}
 use Rattle.bufr_fill.specs.PlainOut.{PlainOutModel, items_left, end_left}
 use Rattle.bufr_fill.specs.DraftFaults.{draft_fault}
 use Rattle.bufr_text.specs.declared.encode_fault.DocumentFault.{DocumentFault}
-use Rattle.bufr_text.specs.Encoding.{data_bits, told_of_items}
-use Rattle.bufr_text.specs.EncodingFault.{IsDocumentRefusal, told_refusal}
+use Rattle.bufr_text.specs.Encoding.{data_bits, report_of_items}
+use Rattle.bufr_text.specs.EncodingFault.{IsDocumentRefusal, reported_refusal}
 use Rattle.bufr_text.specs.EncodingCost.{count_filled, count_data, turns_filled, turns_data, CountsSteps}
 
--- the fault of a walk that stopped where the next entry stands on a line; want of memory is none
-abbrev pub told_stop : (line : ℕ) → WalkStop DraftFault → Option FaultAt
-told_stop line (stops.Width fxy) = Some (at_line line (walk_refused (refusal.Width fxy)))
-told_stop line (stops.Defining fxy) = Some (at_line line (walk_refused (refusal.Defining fxy)))
-told_stop line (stops.Field e) = draft_fault e
-told_stop line stops.Memory = None
+-- the fault of a walk that stopped where the next entry is on a line; want of memory is none
+abbrev pub reported_stop : (line : ℕ) → WalkStop DraftFault → Option FaultAt
+reported_stop line (stops.Width fxy) = Some (at_line line (walk_refused (refusal.Width fxy)))
+reported_stop line (stops.Defining fxy) = Some (at_line line (walk_refused (refusal.Defining fxy)))
+reported_stop line (stops.Field e) = draft_fault e
+reported_stop line stops.Memory = None
 
 -- ---- what the writing of data answers
 
@@ -45,9 +45,9 @@ pub record IsData (places : ℕ) (compressed : Bool) (course : Course) (subsets 
 
 pub record IsNoData (places : ℕ) (compressed : Bool) (course : Course) (subsets : List Subset)
     (why : DocumentFault) (steps : ℕ) : Type 0 where
-  pub refuses : IsDocumentRefusal (told_refusal why)
-      (told_of_items (data_bits compressed course subsets))
-  pub made : CountsSteps (told_refusal why) 0 (turns_data compressed course subsets) steps
+  pub refuses : IsDocumentRefusal (reported_refusal why)
+      (report_of_items (data_bits compressed course subsets))
+  pub made : CountsSteps (reported_refusal why) 0 (turns_data compressed course subsets) steps
   pub few : steps ≤ places * (count_data compressed course subsets + 1)
 
 -- what the writing of data answers, for a document
@@ -60,11 +60,11 @@ WritesData places compressed course subsets (Err why) steps =
 
 -- ---- one subset
 
--- what is left behind the end of the next subset
-abbrev pub left_behind : List DraftEntry → List DraftEntry
-left_behind [] = []
-left_behind (Holds d ∷ more) = left_behind more
-left_behind (Ends line ∷ more) = more
+-- what is left after the end of the next subset
+abbrev pub left_after : List DraftEntry → List DraftEntry
+left_after [] = []
+left_after (Holds d ∷ more) = left_after more
+left_after (Ends line ∷ more) = more
 
 -- what the definition makes of the next subset
 abbrev pub fill_next : Course → List DraftEntry → Result (List Bool) FaultAt
@@ -82,15 +82,15 @@ pub record IsSubset (places : ℕ) (course : Course) (s : PlainOutModel) (steps 
   pub bits : List Bool
   pub is : fill_next course s.left ≡ Ok bits
   pub written : s'.bits ≡ s.bits ++ bits
-  pub left : s'.left ≡ left_behind s.left
+  pub left : s'.left ≡ left_after s.left
   pub made : steps' ≡ ticked steps (turns_next course s.left)
   pub few : steps' ≤ steps + places * length bits
 
 pub record IsNoSubset (places : ℕ) (course : Course) (s : PlainOutModel) (steps : ℕ)
     (why : DocumentFault)
     (steps' : ℕ) : Type 0 where
-  pub refuses : IsDocumentRefusal (told_refusal why) (told_of_items (fill_next course s.left))
-  pub made : CountsSteps (told_refusal why) steps (turns_next course s.left) steps'
+  pub refuses : IsDocumentRefusal (reported_refusal why) (report_of_items (fill_next course s.left))
+  pub made : CountsSteps (reported_refusal why) steps (turns_next course s.left) steps'
   pub few : steps' ≤ steps + places * (count_next course s.left + 1)
 
 -- the next subset was written and its end passed, or it is refused

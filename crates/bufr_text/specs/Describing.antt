@@ -4,14 +4,14 @@ use Rattle.std.specs.Prelude.{◌≡◌, ℕ, ◌*◌, ◌<◌, ◌≤◌, List,
 use Rattle.bufr_text.specs.Grammar.{descriptors_read}
 use Rattle.bufr_text.specs.Line.{Descriptors, Wrong, made, with_one_to}
 
--- the descriptors stand in front of `out`, or the text is none of a line
+-- the descriptors are a prefix of `out`, or the text is none of a line
 abbrev pub Describes : (text out : List ℕ) → Option ℕ → Type 0
 Describes text out None = made (with_one_to 8 Descriptors) (descriptors_read text) ≡ Wrong
 Describes text out (Some count) =
     (count ≤ length out)
     × (made (with_one_to 8 Descriptors) (descriptors_read text) ≡ Descriptors (take count out))
 
--- the descriptors that were read stand in front of `out`
+-- the descriptors that were read are a prefix of `out`
 pub record IsDescribing (text out : List ℕ) (count : ℕ) : Type 0 where
   pub within : 7 * count ≤ length text
   pub some : 0 < length text

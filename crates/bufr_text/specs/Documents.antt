@@ -14,12 +14,12 @@ pub data TextLineFault : Type 0 where
   SubsetCount : TextLineFault
   HeaderRange : TextLineFault
 
--- where the reading stands: between documents, in the header, in the parts before the subsets (0
--- local use, 1 section 2, 2 descriptors), in a subset of this number, or behind a fault
+-- where the reading is: between documents, in the header, in a subset of this number, or after a
+-- fault; or in the parts before the subsets (0 local use, 1 section 2, 2 descriptors)
 pub data ParserState : Type 0 where
   Between : ParserState
   Heading : Document → ParserState
-  Laying : (part : ℕ) → Document → ParserState
+  BeforeSubsets : (part : ℕ) → Document → ParserState
   Filling : (subset : ℕ) → Document → ParserState
   Stopped : ParserState
 
@@ -62,7 +62,7 @@ abbrev pub heading : Document → Line → LineEffect
 heading d (Header key value) =
     if not (key == length d.header) then Faults NotAllowed
     else if not (in_range (edition_in d) key value) then Faults HeaderRange
-    else WalkGoes (if key == 19 then Laying 0 (with_value d value)
+    else WalkGoes (if key == 19 then BeforeSubsets 0 (with_value d value)
     else Heading (with_value d value))
 heading d line = Faults NotAllowed
 
@@ -78,18 +78,19 @@ beginning read d subset =
 abbrev pub closing : (read : ℕ) → Document → LineEffect
 closing read d = if read == subsets_in d then Gives d else Faults SubsetCount
 
--- a line behind the header and before the first subset
+-- a line after the header and before the first subset
 -- rule: reading-section2
-abbrev pub laying : (part : ℕ) → Document → Line → LineEffect
-laying part d (Local1 octets) =
-    if part == 0 then WalkGoes (Laying 0 (with_local1 d octets)) else Faults NotAllowed
-laying part d (Section2 octets) =
-    if nat_le part 1 && (optional_in d == 1) then WalkGoes (Laying 1 (with_section2 d octets))
+abbrev pub before_subsets : (part : ℕ) → Document → Line → LineEffect
+before_subsets part d (Local1 octets) =
+    if part == 0 then WalkGoes (BeforeSubsets 0 (with_local1 d octets)) else Faults NotAllowed
+before_subsets part d (Section2 octets) =
+    if nat_le part 1 && (optional_in d == 1)
+    then WalkGoes (BeforeSubsets 1 (with_section2 d octets))
     else Faults NotAllowed
-laying part d (Descriptors words) = WalkGoes (Laying 2 (with_descriptors d words))
-laying part d (Begins subset) = beginning 0 d subset
-laying part d Closes = closing 0 d
-laying part d line = Faults NotAllowed
+before_subsets part d (Descriptors words) = WalkGoes (BeforeSubsets 2 (with_descriptors d words))
+before_subsets part d (Begins subset) = beginning 0 d subset
+before_subsets part d Closes = closing 0 d
+before_subsets part d line = Faults NotAllowed
 
 -- a line in a subset
 -- rule: reading-subset-end
@@ -112,16 +113,16 @@ unfoldable pub turn : (at : ℕ) → ParserState → Line → LineEffect
 turn at place Passed = WalkGoes place
 turn at Between line = opening at line
 turn at (Heading d) line = heading d line
-turn at (Laying part d) line = laying part d line
+turn at (BeforeSubsets part d) line = before_subsets part d line
 turn at (Filling subset d) line = filling at subset d line
 turn at Stopped line = WalkGoes Stopped
 
 -- whether a line adds to the document that is being read: octets, descriptors, an item, or the end
 -- of a subset
 abbrev pub adds : ParserState → Line → Bool
-adds (Laying part d) (Local1 octets) = true
-adds (Laying part d) (Section2 octets) = true
-adds (Laying part d) (Descriptors words) = true
+adds (BeforeSubsets part d) (Local1 octets) = true
+adds (BeforeSubsets part d) (Section2 octets) = true
+adds (BeforeSubsets part d) (Descriptors words) = true
 adds (Filling subset d) (Item fxy form) = true
 adds (Filling subset d) (Begins next) = true
 adds (Filling subset d) Closes = true
@@ -137,30 +138,30 @@ place_after (WalkGoes place) = place
 place_after (Gives d) = Between
 place_after (Faults fault) = Stopped
 
-abbrev pub told_at : (at : ℕ) → LineEffect → List ParseResult
-told_at at (WalkGoes place) = []
-told_at at (Gives d) = Complete d ∷ []
-told_at at (Faults fault) = Refused at fault ∷ []
+abbrev pub reported_at : (at : ℕ) → LineEffect → List ParseResult
+reported_at at (WalkGoes place) = []
+reported_at at (Gives d) = Complete d ∷ []
+reported_at at (Faults fault) = Refused at fault ∷ []
 
 -- the end of the text: inside a document it is a fault at the next line
 -- rule: fault-50, input-ends-early
-abbrev pub told_at_end : (at : ℕ) → ParserState → List ParseResult
-told_at_end at Between = []
-told_at_end at (Heading d) = Refused at NotAllowed ∷ []
-told_at_end at (Laying part d) = Refused at NotAllowed ∷ []
-told_at_end at (Filling subset d) = Refused at NotAllowed ∷ []
-told_at_end at Stopped = []
+abbrev pub reported_at_end : (at : ℕ) → ParserState → List ParseResult
+reported_at_end at Between = []
+reported_at_end at (Heading d) = Refused at NotAllowed ∷ []
+reported_at_end at (BeforeSubsets part d) = Refused at NotAllowed ∷ []
+reported_at_end at (Filling subset d) = Refused at NotAllowed ∷ []
+reported_at_end at Stopped = []
 
 -- the documents that lines spell, from a place on
 -- rule: reading-line-numbers
 unfoldable pub parse_lines : (at : ℕ) → ParserState → List (List ℕ) → List ParseResult
-parse_lines at place [] = told_at_end at place
+parse_lines at place [] = reported_at_end at place
 parse_lines at place (line ∷ more) =
     let here =
-    turn at place (line_within_limit line) in told_at at here ++ parse_lines (at + 1)
+    turn at place (line_within_limit line) in reported_at at here ++ parse_lines (at + 1)
     (place_after here) more
 
--- one more octet in front of the first line
+-- one more octet before the first line
 abbrev pub prepend_to_line : ℕ → List (List ℕ) → List (List ℕ)
 prepend_to_line c [] = (c ∷ []) ∷ []
 prepend_to_line c (line ∷ more) = (c ∷ line) ∷ more
@@ -179,18 +180,18 @@ documents_of text = parse_lines 1 Between (lines_of text)
 unfoldable pub parse_open_lines : (at : ℕ) → ParserState → List (List ℕ) → (rest : List ℕ)
     → List ParseResult
 parse_open_lines at place [] rest =
-    if nat_lt 4096 (length rest) then told_at at (turn at place Wrong) else []
+    if nat_lt 4096 (length rest) then reported_at at (turn at place Wrong) else []
 parse_open_lines at place (line ∷ more) rest =
     let here =
-    turn at place (line_within_limit line) in told_at at here
+    turn at place (line_within_limit line) in reported_at at here
     ++ parse_open_lines (at + 1) (place_after here) more rest
 
--- the lines of a text that end by a line feed, and what is behind the last of them
+-- the lines of a text that end by a line feed, and what is after the last of them
 pub record Split : Type 0 where
   pub whole : List (List ℕ)
   pub rest : List ℕ
 
--- one more octet in front of the first line, or of the rest where there is no line
+-- one more octet before the first line, or of the rest where there is no line
 abbrev pub onto_split : ℕ → List (List ℕ) → List ℕ → Split
 onto_split c [] rest = record { whole = []; rest = c ∷ rest }
 onto_split c (line ∷ more) rest = record { whole = (c ∷ line) ∷ more; rest = rest }

@@ -63,7 +63,7 @@ section2_line octets = codes "section2 " ++ hex_text octets
 abbrev pub descriptors_line : List ℕ → List ℕ
 descriptors_line words = codes "descriptors" ++ descriptors_text words
 
--- what stands for a value in a document
+-- the form of a value in a document
 -- rule: text-number
 abbrev pub dump_value_of : DumpValue → DraftValue
 dump_value_of (IsNumber v scale) = number_token (decimal_text_of v scale)
@@ -78,7 +78,7 @@ comment_text None = []
 comment_text (Some comment) =
     joined (codes "  # " ∷ comment.name ∷ codes " [" ∷ comment.unit ∷ codes "]" ∷ [])
 
--- a descriptor and what stands for its value
+-- a descriptor and its value's text
 -- rule: text-quoted, text-missing, text-reference, text-inserted
 abbrev pub form_text : (fxy : ℕ) → DraftValue → List ℕ
 form_text fxy (number_token token) = fxy_text fxy ++ 32 ∷ token
@@ -120,7 +120,7 @@ text_of_lines lines = flat_map (λ line. line ++ 10 ∷ []) lines
 abbrev pub dump_text_of : Sections → List (List DumpItem) → List ℕ
 dump_text_of s subsets = text_of_lines (dump_lines s subsets)
 
--- the entries of items whose first stands at a line
+-- the entries of items whose first is at a line
 unfoldable pub item_entries : (at : ℕ) → List DumpItem → List DraftEntry
 item_entries at [] = []
 item_entries at (item ∷ more) =

@@ -18,7 +18,7 @@ pub record ReadsMessage (s : Sections) (r : outcome.Read) : Type 0 where
   pub values : Values
   pub read : IsReading (course_of r) r.source values r.bits
 
--- the text was written, or the front of it where the writer failed or memory ran out
+-- the text was written, or a prefix of it where the writer failed or memory ran out
 abbrev pub WritesPrefix : {X : Type 0} → (old new : Option (List ℕ)) → List ℕ
     → Result X RunFault → Type 0
 WritesPrefix old new text (Ok x) = Appends old new text

@@ -21,9 +21,9 @@ use Rattle.bufr_text.specs.Document.{Document, subsets_in}
 use Rattle.bufr_text.specs.Form.{compressed_by}
 use Rattle.bufr_text.specs.Header.{head_from_values, observed_in, compressed_in, section2_in}
 
--- why a document is refused: its descriptors make no template, an item (or where one should be, or
--- the walk there) is at fault, or its message would be too long (that it is, and in which order, is
--- a choice of this project)
+-- why a document is refused: its descriptors make no template, or an item is at fault; or there is
+-- none where one should be, or the walk there is at fault; or its message would be too long; that
+-- it is, and in which order, is a choice of this project
 pub data DocumentRefusal : Type 0 where
   by_template : (why : TemplateFault) → DocumentRefusal
   by_item : (why : DraftFaultKind) → DocumentRefusal
@@ -44,15 +44,15 @@ abbrev pub ◌>>=◌ : {A B : Type 0} → Result A RefusedAt → (A → Result B
 (Ok a) >>= next = next a
 (Err why) >>= next = Err why
 
--- a fault of the template is told at the line of `message`
+-- a fault of the template is reported at the line of `message`
 -- rule: fault-56
-abbrev pub told_of_template : ℕ → Result Tree TemplateFault → Result Tree RefusedAt
-told_of_template line (Ok template) = Ok template
-told_of_template line (Err why) = Err (refused_at line (by_template why))
+abbrev pub report_of_template : ℕ → Result Tree TemplateFault → Result Tree RefusedAt
+report_of_template line (Ok template) = Ok template
+report_of_template line (Err why) = Err (refused_at line (by_template why))
 
-abbrev pub told_of_items : Result (List Bool) FaultAt → Result (List Bool) RefusedAt
-told_of_items (Ok bits) = Ok bits
-told_of_items (Err f) = Err (refused_at f.line (by_item f.fault))
+abbrev pub report_of_items : Result (List Bool) FaultAt → Result (List Bool) RefusedAt
+report_of_items (Ok bits) = Ok bits
+report_of_items (Err f) = Err (refused_at f.line (by_item f.fault))
 
 -- the bits of the data
 abbrev pub data_bits : (compressed : Bool) → Course → List Subset → Result (List Bool) FaultAt
@@ -91,8 +91,8 @@ message_of line head parts =
 -- rule: fault-56-first-60-last
 unfoldable pub encoding_in : Form → List Row → List Sequence → Document → Result (List ℕ) RefusedAt
 encoding_in form table sequences d = do
-  template ← told_of_template d.line (tree_of (tables_of table sequences) d.descriptors)
-  bits ← told_of_items
+  template ← report_of_template d.line (tree_of (tables_of table sequences) d.descriptors)
+  bits ← report_of_items
       (data_bits (compressed_as form d) (next_item table template) (subsets_of d.entries))
   message_of d.line (head_from_values d) (parts_as (compressed_as form d) d (octets_of_bits bits))
 

@@ -23,23 +23,23 @@ use Rattle.bufr_text.specs.Encoding.{RefusedAt, compressed_as}
 -- ---- the bits before the first refusal
 
 module _ {D C E : Type 0} (filler : Filler D C E) where
-  -- the bits of an item that can be written, and of those behind it
+  -- the bits of an item that can be written, and of those after it
   abbrev pub counted_one : Result (WrittenItem C) E → (FieldSpec → C → Taken) → FieldSpec
       → (Taken → ℕ) → ℕ
-  counted_one (Err why) tells spec rest = 0
-  counted_one (Ok w) tells spec rest = length w.bits + rest (tells spec w.content)
+  counted_one (Err why) gives spec rest = 0
+  counted_one (Ok w) gives spec rest = length w.bits + rest (gives spec w.content)
 
   abbrev pub counted_at : Next → D → (Taken → ℕ) → ℕ
-  counted_at (take_next spec) d rest = counted_one (filler.fills spec d) filler.tells spec rest
+  counted_at (take_next spec) d rest = counted_one (filler.fills spec d) filler.gives spec rest
   counted_at _ d rest = 0
 
   -- how many bits the drafts are, up to the first that is refused
   abbrev pub count_filled : Course → List D → ℕ
   count_filled course [] = 0
   count_filled course (d ∷ ds) =
-      counted_at (course []).next d (λ t. count_filled (λ told. course (t ∷ told)) ds)
+      counted_at (course []).next d (λ t. count_filled (λ results. course (t ∷ results)) ds)
 
--- those behind one subset count where it is not refused
+-- those after one subset count where it is not refused
 abbrev pub count_after : Result (List Bool) FaultAt → (more : ℕ) → ℕ
 count_after (Ok bits) more = more
 count_after (Err why) more = 0
@@ -85,13 +85,13 @@ bits_by form table sequences d =
 -- choice of this project)
 
 module _ {D C E : Type 0} (filler : Filler D C E) where
-  -- behind a draft that can be written there are more turns; one that is refused is the last of so
+  -- after a draft that can be written there are more turns; one that is refused is the last of so
   -- many
   abbrev pub turned_one : Result (WrittenItem C) E → FieldSpec → (here : ℕ) → (Taken → ℕ) → ℕ
   turned_one (Err why) spec here more = here
-  turned_one (Ok w) spec here more = more (filler.tells spec w.content)
+  turned_one (Ok w) spec here more = more (filler.gives spec w.content)
 
-  -- a draft too many is told at the end of the template, which is a turn too
+  -- a draft too many is reported at the end of the template, which is a turn too
   abbrev pub turned_at : Next → (here : ℕ) → D → (Taken → ℕ) → ℕ
   turned_at (take_next spec) here d more = turned_one (filler.fills spec d) spec here more
   turned_at at_end here d more = here
@@ -103,7 +103,7 @@ module _ {D C E : Type 0} (filler : Filler D C E) where
   turns_filled course [] = (course []).turns
   turns_filled course (d ∷ ds) =
       turned_at (course []).next (course []).turns d
-      (λ t. turns_filled (λ told. course (t ∷ told)) ds)
+      (λ t. turns_filled (λ results. course (t ∷ results)) ds)
 
 -- one pass for each subset, up to one that is refused
 abbrev pub turns_plain : Course → List Subset → ℕ
@@ -135,7 +135,7 @@ abbrev pub turns_by : Form → List Row → List Sequence → Document → ℕ
 turns_by form table sequences d =
     turns_for form table d (tree_of (tables_of table sequences) d.descriptors)
 
--- the steps behind so many turns, where the writing was refused; at want of memory they are perhaps
+-- the steps after so many turns, where the writing was refused; at want of memory they are perhaps
 -- not all made
 abbrev pub CountsSteps : Option RefusedAt → (before turns after : ℕ) → Type 0
 CountsSteps (Some f) before turns after = after ≡ ticked before turns

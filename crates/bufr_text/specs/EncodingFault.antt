@@ -10,10 +10,10 @@ use Rattle.bufr_text.specs.declared.encode_fault.DocumentFault.TheVariants as fa
 use Rattle.bufr_text.specs.declared.encode_fault.WalkRefusal.{WalkRefusal}
 use Rattle.bufr_text.specs.declared.encode_fault.WalkRefusal.TheVariants as walk
 
-abbrev pub walk_told : WalkRefusal → DraftFaultKind
-walk_told (walk.Width fxy) = walk_refused (refusal.Width fxy)
-walk_told (walk.Defining fxy) = walk_refused (refusal.Defining fxy)
-walk_told (walk.TooManyValues fxy) = too_many_values fxy
+abbrev pub walk_report : WalkRefusal → DraftFaultKind
+walk_report (walk.Width fxy) = walk_refused (refusal.Width fxy)
+walk_report (walk.Defining fxy) = walk_refused (refusal.Defining fxy)
+walk_report (walk.TooManyValues fxy) = too_many_values fxy
 
 abbrev pub number_of_walk_refusal : WalkRefusal → ℕ
 number_of_walk_refusal (walk.Width fxy) = 31
@@ -21,22 +21,22 @@ number_of_walk_refusal (walk.Defining fxy) = 32
 number_of_walk_refusal (walk.TooManyValues fxy) = 35
 
 -- a fault of an item is a refusal of its document
-abbrev pub told_of_draft : FaultAt → RefusedAt
-told_of_draft f = refused_at f.line (by_item f.fault)
+abbrev pub report_of_draft : FaultAt → RefusedAt
+report_of_draft f = refused_at f.line (by_item f.fault)
 
 -- a refusal of the document; want of memory is none
-abbrev pub told_refusal : DocumentFault → Option RefusedAt
-told_refusal (fault.WrongDescriptor line e) = Some (refused_at line (by_item (other_than e)))
-told_refusal (fault.Number line) = Some (refused_at line (by_item wrong_number))
-told_refusal (fault.OutOfRange line) = Some (refused_at line (by_item out_of_range))
-told_refusal (fault.TextLong line) = Some (refused_at line (by_item text_long))
-told_refusal (fault.MissingForbidden line) = Some (refused_at line (by_item missing_forbidden))
-told_refusal (fault.Template line why) = Some (refused_at line (by_template why))
-told_refusal (fault.UnequalFactor line) = Some (refused_at line (by_item unequal_factors))
-told_refusal (fault.Increment line) = Some (refused_at line (by_item uneven_increment))
-told_refusal (fault.TooLong line) = Some (refused_at line too_long)
-told_refusal (fault.Walk line why) = Some (refused_at line (by_item (walk_told why)))
-told_refusal fault.Memory = None
+abbrev pub reported_refusal : DocumentFault → Option RefusedAt
+reported_refusal (fault.WrongDescriptor line e) = Some (refused_at line (by_item (other_than e)))
+reported_refusal (fault.Number line) = Some (refused_at line (by_item wrong_number))
+reported_refusal (fault.OutOfRange line) = Some (refused_at line (by_item out_of_range))
+reported_refusal (fault.TextLong line) = Some (refused_at line (by_item text_long))
+reported_refusal (fault.MissingForbidden line) = Some (refused_at line (by_item missing_forbidden))
+reported_refusal (fault.Template line why) = Some (refused_at line (by_template why))
+reported_refusal (fault.UnequalFactor line) = Some (refused_at line (by_item unequal_factors))
+reported_refusal (fault.Increment line) = Some (refused_at line (by_item uneven_increment))
+reported_refusal (fault.TooLong line) = Some (refused_at line too_long)
+reported_refusal (fault.Walk line why) = Some (refused_at line (by_item (walk_report why)))
+reported_refusal fault.Memory = None
 
 -- the number of a fault
 abbrev pub number_of_document_fault : DocumentFault → ℕ

@@ -9,7 +9,7 @@ use Rattle.bufr_text.specs.Document.{Document}
 use Rattle.bufr_text.specs.Documents as documents
 use Rattle.bufr_text.specs.Documents.{ParserState, Between, Stopped, ParseResult, Complete, Refused}
 use Rattle.bufr_text.specs.Reading.{has_no_feed, ContinuesParse, TakesWholeLines, TakesEndLine, parse}
-use Rattle.bufr_text.specs.Reader.{ReaderModel, stand, AddsNext}
+use Rattle.bufr_text.specs.Reader.{ReaderModel, position_of, AddsNext}
 use Rattle.bufr_text.specs.Step.{place_with, IsParserState}
 use Rattle.bufr_text.specs.declared.progress.Progress.{Progress}
 use Rattle.bufr_text.specs.declared.step.LineRefusal.{LineRefusal}
@@ -17,7 +17,7 @@ use Rattle.bufr_text.specs.declared.step.LineRefusal.TheVariants as refusal
 use Rattle.bufr_text.specs.declared.fault.ReadFault.{ReadFault}
 use Rattle.bufr_text.specs.declared.fault.ReadFault.TheVariants.{Line, SubsetCount, HeaderRange, Run}
 
--- where a reader stands: behind a refused line nothing more is told
+-- where a reader is: after a refused line nothing more is reported
 abbrev pub place_now : Option ReadFault → Progress → ParserState
 place_now None progress = place_with progress.place progress.parts
 place_now (Some (Line line)) progress = Stopped
@@ -33,16 +33,16 @@ ends_by_feed (c ∷ d ∷ more) = ends_by_feed (d ∷ more)
 
 -- The progress of a reader that goes on: each line had an octet at least.
 pub record IsProgress (progress : Progress) (held reads : ℕ) : Type 0 where
-  pub stands : IsParserState progress.at (place_with progress.place progress.parts)
+  pub holds : IsParserState progress.at (place_with progress.place progress.parts)
   pub some : 0 < progress.at
   pub near : progress.at + held ≤ 4096 * reads + 1
 
--- Lines were taken and tell something.
-pub record ParsesHeldLines (old new : ReaderModel) (told : List ParseResult) : Type 0 where
-  pub goes : ContinuesParse (stand old) (stand new) told
+-- Lines were taken and report something.
+pub record ParsesHeldLines (old new : ReaderModel) (results : List ParseResult) : Type 0 where
+  pub goes : ContinuesParse (position_of old) (position_of new) results
   pub passes : TakesWholeLines old.at old.held new.at new.held
 
--- Lines were taken and tell nothing, and the next one adds to the document.
+-- Lines were taken and report nothing, and the next one adds to the document.
 pub record WantsHere (old : ReaderModel) : Type 0 where
   pub mid : ReaderModel
   pub taken : ParsesHeldLines old mid []
@@ -86,7 +86,7 @@ ReadEndsText left' old new bs (Err InputTooLong) = ⊥
 ReadEndsText left' old new bs (Err Memory) =
     (new.reads ≡ old.reads) × (bs ≡ []) × (new.ended ≡ false) × (new.reads ≡ 0)
 
--- One read: octets come behind those that are held, or the end was reached, which ends the last
+-- One read: octets come after those that are held, or the end was reached, which ends the last
 -- line.
 pub record ReadsMoreText (left left' : Option (List ℕ)) (old new : ReaderModel)
     (result : Result (Unit {0}) RunFault) (bs : List ℕ) : Type 0 where
@@ -116,7 +116,7 @@ stopped s (Run fault) = record s { fault = Some (Run fault) }
 
 -- what the end comes to, where no line is held
 abbrev pub HandlesEnd : ReaderModel → ReaderModel → Result (Option Document) ReadFault → Type 0
-HandlesEnd old new (Ok None) = (new ≡ old) × (new.held ≡ []) × (parse (stand new) [] ≡ [])
+HandlesEnd old new (Ok None) = (new ≡ old) × (new.held ≡ []) × (parse (position_of new) [] ≡ [])
 HandlesEnd old new (Ok (Some document)) = ⊥
 HandlesEnd old new (Err (Line line)) =
     ParsesHeldLines old new (Refused line documents.NotAllowed ∷ [])

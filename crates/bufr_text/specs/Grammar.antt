@@ -6,7 +6,7 @@ use Rattle.std.specs.Char.{is_ascii_digit}
 use Rattle.std.specs.Str.Parse.{digits_value}
 use Rattle.bufr_tables.specs.Fxy.{fxy_of, fxy_text}
 
--- the elements in front that pass a test, and what is behind them
+-- the longest prefix of elements that pass a test, and the rest
 unfoldable pub prefix_while : (ℕ → Bool) → List ℕ → List ℕ
 prefix_while test [] = []
 prefix_while test (c ∷ more) = if test c then c ∷ prefix_while test more else []
@@ -15,24 +15,24 @@ unfoldable pub suffix_while : (ℕ → Bool) → List ℕ → List ℕ
 suffix_while test [] = []
 suffix_while test (c ∷ more) = if test c then suffix_while test more else c ∷ more
 
--- what is behind a word that stands in front
+-- the rest after a word that comes first
 unfoldable pub without_prefix : (word text : List ℕ) → Option (List ℕ)
 without_prefix [] text = Some text
 without_prefix (w ∷ word) [] = None
 without_prefix (w ∷ word) (c ∷ text) = if c == w then without_prefix word text else None
 
--- what is behind one space
+-- what is after one space
 abbrev pub without_space : List ℕ → Option (List ℕ)
 without_space text = without_prefix (32 ∷ []) text
 
 -- a list in runs of at most so many; the elements that a run has taken are skipped
-unfoldable pub runs_behind : (skip most : ℕ) → List ℕ → List (List ℕ)
-runs_behind skip most [] = []
-runs_behind (suc skip) most (x ∷ more) = runs_behind skip most more
-runs_behind zero most (x ∷ more) = take most (x ∷ more) ∷ runs_behind (most - 1) most more
+unfoldable pub runs_after : (skip most : ℕ) → List ℕ → List (List ℕ)
+runs_after skip most [] = []
+runs_after (suc skip) most (x ∷ more) = runs_after skip most more
+runs_after zero most (x ∷ more) = take most (x ∷ more) ∷ runs_after (most - 1) most more
 
 abbrev pub runs_of : (most : ℕ) → List ℕ → List (List ℕ)
-runs_of most xs = runs_behind 0 most xs
+runs_of most xs = runs_after 0 most xs
 
 -- the upper-case hexadecimal digit of a number under 16
 abbrev pub hex_digit : ℕ → ℕ
@@ -64,7 +64,7 @@ unfoldable pub hex_text : List ℕ → List ℕ
 hex_text [] = []
 hex_text (octet ∷ more) = hex_digit (octet / 16) ∷ hex_digit (octet % 16) ∷ hex_text more
 
--- one more element in front of a list that was read
+-- one more element before a list that was read
 abbrev pub onto_read : {X : Type 0} → Option X → Option (List X) → Option (List X)
 onto_read (Some x) (Some xs) = Some (x ∷ xs)
 onto_read (Some x) None = None
@@ -77,7 +77,7 @@ hex_read (high ∷ []) = None
 hex_read (high ∷ low ∷ more) =
     onto_read (pair_value (either_value high) (either_value low)) (hex_read more)
 
--- the descriptor that six digits in front write, and what is behind it
+-- the descriptor that six digits write first, and what is after it
 unfoldable pub fxy_read : List ℕ → Option (ℕ × List ℕ)
 fxy_read (a ∷ b ∷ c ∷ d ∷ e ∷ g ∷ more) =
     option_map (λ fxy. (fxy, more)) (fxy_of (a ∷ b ∷ c ∷ d ∷ e ∷ g ∷ []))
@@ -104,11 +104,11 @@ number_read text =
     if nat_lt 0 (length text) && list_all is_ascii_digit text
     then Some (min (digits_value 10 text) 65536) else None
 
--- an octet that stands for itself in a text
+-- an octet that a text has unescaped
 abbrev pub is_unescaped : ℕ → Bool
 is_unescaped c = nat_le 32 c && nat_le c 126 && not (c == 34) && not (c == 92)
 
--- an octet in a text: a quote and a backslash behind a backslash, what cannot be printed as `\xHH`
+-- an octet in a text: a quote and a backslash after a backslash, what cannot be printed as `\xHH`
 -- rule: text-escapes
 abbrev pub escaped : ℕ → List ℕ
 escaped octet =
@@ -121,7 +121,7 @@ unfoldable pub quoted : List ℕ → List ℕ
 quoted [] = 34 ∷ []
 quoted (octet ∷ more) = escaped octet ++ quoted more
 
--- what stands in front of a text that goes on: its end, an octet and how many octets write it, or
+-- how a text that goes on begins: its end, an octet and how many octets write it, or
 -- nothing that a text can hold
 pub data QuotedToken : Type 0 where
   Closed : QuotedToken
@@ -132,7 +132,7 @@ abbrev pub says_pair : Option ℕ → QuotedToken
 says_pair (Some octet) = ListsLeaves octet 4
 says_pair None = Nothing
 
--- what begins with a backslash; past the end of the text stands 0, which no case allows
+-- what begins with a backslash; past the end of the text is 0, which no case allows
 abbrev pub escape_of : List ℕ → QuotedToken
 escape_of text =
     if (slice_index text 1 == 34) || (slice_index text 1 == 92)
@@ -141,7 +141,7 @@ escape_of text =
     (pair_value (upper_value (slice_index text 2)) (upper_value (slice_index text 3)))
     else Nothing
 
--- what stands in front of a text
+-- how a text begins
 -- rule: reading-quoted
 abbrev pub quoting_of : List ℕ → QuotedToken
 quoting_of text =
@@ -150,7 +150,7 @@ quoting_of text =
     else if is_unescaped (slice_index text 0) then ListsLeaves (slice_index text 0) 1
     else Nothing
 
--- a text that was read, and what is behind its closing quote
+-- a text that was read, and what is after its closing quote
 abbrev pub octet_onto : ℕ → Option (List ℕ × List ℕ) → Option (List ℕ × List ℕ)
 octet_onto octet None = None
 octet_onto octet (Some read) = Some (octet ∷ read.0, read.1)
@@ -161,7 +161,7 @@ quoted_on Closed closed more = Some ([], closed)
 quoted_on (ListsLeaves octet written) closed more = octet_onto octet (more (written - 1))
 quoted_on Nothing closed more = None
 
--- the octets of a text and what is behind its closing quote; octets that were looked at already are
+-- the octets of a text and what is after its closing quote; octets that were looked at already are
 -- skipped
 unfoldable pub quoted_read : (skip : ℕ) → List ℕ → Option (List ℕ × List ℕ)
 quoted_read skip [] = None
@@ -179,6 +179,6 @@ is_hashed [] = false
 is_hashed (c ∷ more) = if c == 32 then is_hashed more else (c == 35)
 
 -- rule: reading-after-a-value
-abbrev pub is_passed_behind : List ℕ → Bool
-is_passed_behind [] = true
-is_passed_behind (c ∷ more) = (c == 32) && is_hashed more
+abbrev pub is_passed_after : List ℕ → Bool
+is_passed_after [] = true
+is_passed_after (c ∷ more) = (c == 32) && is_hashed more

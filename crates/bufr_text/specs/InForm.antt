@@ -18,7 +18,7 @@ use Rattle.bufr_text.specs.declared.form.Form.{Form}
 use Rattle.bufr_text.specs.declared.form.Form.TheVariants as form
 use Rattle.bufr_text.specs.RoundTrip.{SaySame, dump_items_in}
 use Rattle.bufr_text.specs.Encoding.{DocumentRefusal, by_template, by_item, too_long, RefusedAt}
-use Rattle.bufr_text.specs.EncodingFault.{told_refusal}
+use Rattle.bufr_text.specs.EncodingFault.{reported_refusal}
 use Rattle.bufr_text.specs.Bounds.{IsOctet}
 
 -- the items of each subset, whatever the form in which they were read
@@ -32,9 +32,9 @@ pub record HasReadingIn (form : Form) (table : List Row) (s : Sections) (templat
     (values : Values) (written : List ℕ) : Type 0 where
   pub few : length written ≤ max_octets
   pub octets : AllByRecursion IsOctet written
-  -- in a stream it is one message, whatever is behind it
-  pub framed : (at : ℕ) (behind : List ℕ) → scan_from 0 at (written ++ behind)
-      ≡ FrameAt at written ∷ scan_from 0 (at + length written) behind
+  -- in a stream it is one message, whatever is after it
+  pub framed : (at : ℕ) (suffix : List ℕ) → scan_from 0 at (written ++ suffix)
+      ≡ FrameAt at written ∷ scan_from 0 (at + length written) suffix
   pub sections : Sections
   pub are : sections_of written ≡ Ok sections
   pub same : SaySame form s sections
@@ -48,7 +48,7 @@ pub record HasReadingIn (form : Form) (table : List Row) (s : Sections) (templat
 
 -- what the document of an accepted message may be refused for in a form: in the one that it has,
 -- nothing; else the length, and in compressed data factors that differ and contents that no
--- increments tell apart
+-- increments distinguish
 abbrev pub IsForForm : Form → DocumentRefusal → Type 0
 IsForForm form.AsWritten why = ⊥
 IsForForm form.Plain (by_template why) = ⊥
@@ -68,7 +68,7 @@ IsFormed form table s template values (Err refused) = IsForForm form refused.why
 -- come in each form
 abbrev pub IsFaultIn : Form → DocumentFault → Type 0
 IsFaultIn form why =
-    (refused : RefusedAt) → told_refusal why ≡ Some refused → IsForForm form refused.why
+    (refused : RefusedAt) → reported_refusal why ≡ Some refused → IsForForm form refused.why
 
 -- what is answered for the document of a message in a form
 abbrev pub EncodesForm : Form → List Row → Sections → Tree → Values

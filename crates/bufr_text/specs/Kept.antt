@@ -7,7 +7,7 @@ use Rattle.bufr_text.specs.declared.document.ValueKind.{ValueKind}
 use Rattle.bufr_text.specs.declared.document.ValueKind.TheVariants as kind
 use Rattle.bufr_text.specs.declared.document.DocumentParts.TheInside.{Inside}
 
--- what octets stand for
+-- what octets mean
 abbrev pub form_by : ValueKind → List ℕ → DraftValue
 form_by kind.Number octets = number_token octets
 form_by kind.Text octets = text_form octets

@@ -4,11 +4,11 @@ use Rattle.std.specs.Prelude.{ℕ, ◌+◌, ◌-◌, nat_le, Bool, ◌&&◌, Lis
 use Rattle.std.specs.Str.{bytes_eq}
 use Rattle.bufr_text.specs.Line.{Key, key_in, keys}
 
--- what stands before the value of a key: a line feed, its name and a space
+-- what is before the value of a key: a line feed, its name and a space
 abbrev pub lead_of : Key → List ℕ
 lead_of key = 10 ∷ (key.name ++ 32 ∷ [])
 
--- what stands between the first octet and the last is this name
+-- what is between the first octet and the last is this name
 abbrev pub is_named : (lead name : List ℕ) → Bool
 is_named lead name = nat_le 2 (length lead) && bytes_eq name (take (length lead - 2) (drop 1 lead))
 

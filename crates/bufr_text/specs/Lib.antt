@@ -21,7 +21,7 @@ pub mod DumpWritten
 -- private: what the calls of a showing push to a writer of lines
 pub mod Pen
 -- ---- what lines spell
--- what a line says, apart from where it stands; the keys of the header
+-- what a line says, apart from where it is; the keys of the header
 pub mod Line
 -- a message as its text gives it, not looked at yet
 pub mod Document
@@ -66,7 +66,7 @@ pub mod Reader
 pub mod Form
 -- the message that a document is encoded to, or its first refusal
 pub mod Encoding
--- the faults of an encoding and their numbers, and which refusal each tells
+-- the faults of an encoding and their numbers, and which refusal each reports
 pub mod EncodingFault
 -- the bits and the turns of an encoding up to its first refusal
 pub mod EncodingCost

@@ -1,11 +1,11 @@
--- What a line of a dump text says, apart from where it stands. (a choice of this project)
+-- What a line of a dump text says, apart from where it is. (a choice of this project)
 -- Cited by public contracts.
 use Rattle.std.specs.Prelude.{ℕ, zero, suc, ◌+◌, ◌==◌, nat_le, nat_lt, Bool, not, ◌&&◌, if◌then◌else◌, List, [], ◌∷◌, Option, Some, None, option_map, codes, length, map}
 use Rattle.std.specs.Char.{is_ascii_digit}
 use Rattle.std.specs.Str.{bytes_eq}
 use Rattle.bufr_frame.specs.Section1.{Field, Master, Centre, Subcentre, Update, Category, Subcategory, LocalSubcategory, MasterVersion, LocalVersion, Year, Month, Day, Hour, Minute, Second, Slot, most_in}
 use Rattle.bufr_fill.specs.Draft.{DraftValue, number_token, text_form, missing_form, reference_token}
-use Rattle.bufr_text.specs.Grammar.{prefix_while, suffix_while, without_prefix, without_space, hex_read, fxy_read, descriptors_read, number_read, quoted_read, is_number_octet, is_passed_behind}
+use Rattle.bufr_text.specs.Grammar.{prefix_while, suffix_while, without_prefix, without_space, hex_read, fxy_read, descriptors_read, number_read, quoted_read, is_number_octet, is_passed_after}
 
 -- what a line says; `Header` has the place of its key, `Wrong` is no line of a document
 pub data Line : Type 0 where
@@ -95,11 +95,11 @@ abbrev pub with_one_to : (most : ℕ) → (List ℕ → Line) → List ℕ → L
 with_one_to most line xs =
     if nat_lt 0 (length xs) && nat_le (length xs) most then line xs else Wrong
 
--- nothing but a comment is behind a value
+-- nothing but a comment is after a value
 abbrev pub item_if_comment : (fxy : ℕ) → DraftValue × List ℕ → Line
-item_if_comment fxy (form, rest) = if is_passed_behind rest then Item fxy form else Wrong
+item_if_comment fxy (form, rest) = if is_passed_after rest then Item fxy form else Wrong
 
--- a value in front, and what is behind it
+-- a value, and the rest after it
 abbrev pub text_value : List ℕ → Option (DraftValue × List ℕ)
 text_value text = option_map (λ read. (text_form (read.0), read.1)) (quoted_read 0 text)
 
@@ -130,7 +130,7 @@ valued read (fxy, rest) = made (λ text. made (item_if_comment fxy) (read text))
 abbrev pub item_line : (List ℕ → Option (DraftValue × List ℕ)) → List ℕ → Line
 item_line read text = made (valued read) (fxy_read text)
 
--- a line by its first word, and what is behind that word
+-- a line by its first word, and what is after that word
 -- rule: reading-reference
 unfoldable pub worded : (word rest : List ℕ) → Line
 worded word rest =

@@ -5,7 +5,7 @@ use Rattle.bufr_frame.specs.Sections.{Sections}
 use Rattle.bufr_frame.specs.declared.head.Head.{Head}
 use Rattle.bufr_text.specs.Writing.{joined, zero_padded, flag}
 
--- where the message stands, and where it comes from
+-- where the message is, and where it comes from
 abbrev pub origin_texts : (offset size : ℕ) → Head → List (List ℕ)
 origin_texts offset size h =
     codes "offset=" ∷ decimal offset ∷ codes " length=" ∷ decimal size ∷ codes " edition=" ∷

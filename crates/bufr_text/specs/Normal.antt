@@ -41,13 +41,13 @@ abbrev pub comment_at : List Row → FieldSpec → Option Comment
 comment_at table spec =
     option_map comment_of (if spec.listed then entry_of table spec.fxy else None)
 
--- the line of an item at its field: its descriptor, the one spelling of what stands behind it, and
+-- the line of an item at its field: its descriptor, the one spelling of what is after it, and
 -- the comment
 abbrev pub normal_line : List Row → FieldSpec → Draft → List ℕ
 normal_line table spec d =
     form_text d.fxy (normal_form spec d.form) ++ comment_text (comment_at table spec)
 
--- what an item tells those behind it; one that is no content of its field tells nothing
+-- what an item says to those after it; one that is no content of its field reports nothing
 abbrev pub draft_answer : FieldSpec → Result Content DraftFaultKind → Taken
 draft_answer spec (Ok c) = answer_of spec c
 draft_answer spec (Err why) = taken.Plain
@@ -73,7 +73,7 @@ normal_subsets table course n [] = []
 normal_subsets table course n (s ∷ more) =
     subset_line n ∷ (normal_items table course s.items ++ normal_subsets table course (n + 1) more)
 
--- the document's text: its own comments and empty lines, zeros in front of numbers, and where its
+-- the document's text: its own comments and empty lines, leading zeros of numbers, and where its
 -- lines of octets and descriptors end are gone
 abbrev pub normal : Form → List Row → Tree → Document → List ℕ
 normal form table template d =

@@ -29,9 +29,9 @@ pub record IsReadAs (form : Form) (table : List Row) (sequences : List Sequence)
   pub values : Values
   pub used : ℕ
   pub accepted : IsAccepted table sequences octets sections template values used
-  -- in a stream it is one message, whatever is behind it
-  pub framed : (at : ℕ) (behind : List ℕ) → scan_from 0 at (octets ++ behind)
-      ≡ FrameAt at octets ∷ scan_from 0 (at + length octets) behind
+  -- in a stream it is one message, whatever is after it
+  pub framed : (at : ℕ) (suffix : List ℕ) → scan_from 0 at (octets ++ suffix)
+      ≡ FrameAt at octets ∷ scan_from 0 (at + length octets) suffix
   pub head : sections.head ≡ head_from_values d
   pub local1 : sections.local1 ≡ d.local1
   pub section2 : sections.section2 ≡ section2_in d

@@ -12,11 +12,11 @@ use Rattle.bufr_text.specs.Reading.{has_no_feed, ReaderPosition, ContinuesParse,
 use Rattle.bufr_text.specs.declared.fault.ReadFault.{ReadFault}
 use Rattle.bufr_text.specs.declared.fault.ReadFault.TheVariants.{Line, SubsetCount, HeaderRange, Run}
 
--- what a reader stands for
+-- what a reader means
 pub record ReaderModel : Type 0 where
   -- the number of the next line
   pub at : ℕ
-  -- where the reading stands, with the document as far as it was read
+  -- where the reading is, with the document as far as it was read
   pub place : ParserState
   -- the octets that were read and not yet taken as lines
   pub held : List ℕ
@@ -31,14 +31,14 @@ pub record ReaderModel : Type 0 where
 abbrev pub new_reader : ReaderModel
 new_reader = record { at = 1; place = Between; held = []; ended = false; fault = None; reads = 0 }
 
-abbrev pub stand : ReaderModel → ReaderPosition
-stand s = record { at = s.at; place = s.place; held = s.held; ended = s.ended }
+abbrev pub position_of : ReaderModel → ReaderPosition
+position_of s = record { at = s.at; place = s.place; held = s.held; ended = s.ended }
 
--- the same with octets behind those that are held
+-- the same with octets after those that are held
 abbrev pub position_after : ReaderModel → List ℕ → ReaderPosition
 position_after s bs = record { at = s.at; place = s.place; held = s.held ++ bs; ended = s.ended }
 
--- what an answer tells
+-- what an answer reports
 abbrev pub parse_results : Result (Option Document) ReadFault → List ParseResult
 parse_results (Ok None) = []
 parse_results (Ok (Some document)) = Complete document ∷ []
@@ -57,20 +57,20 @@ IsMissingFeed ended ended' feed =
 abbrev pub unfed : ReaderModel → List ℕ
 unfed s = if s.ended then take (length s.held - 1) s.held else s.held
 
--- What was held of the text and what was read is what was taken of it, and behind that what is held
+-- What was held of the text and what was read is what was taken of it, and after that what is held
 -- of it.
 abbrev pub KeepsUnread : (old new : ReaderModel) → List ℕ → Type 0
 KeepsUnread old new bs = (taken : List ℕ) × (unfed old ++ bs ≡ taken ++ unfed new)
 
--- Octets were read, and what was held spells with them what was told and then what is held now.
+-- Octets were read, and what was held spells with them what was reported and then what is held now.
 -- What was taken are whole lines.
 pub record ReadsLines (left left' : Option (List ℕ)) (old new : ReaderModel)
-    (told : List ParseResult)
+    (results : List ParseResult)
     (bs : List ℕ) : Type 0 where
   pub read : Consumes left left' bs
   pub order : old.reads ≤ new.reads
   pub few : length bs ≤ 4096 * (new.reads - old.reads)
-  pub goes : ContinuesParse (position_after old bs) (stand new) told
+  pub goes : ContinuesParse (position_after old bs) (position_of new) results
   pub lines : (feed : List ℕ) × IsMissingFeed old.ended new.ended feed
       × TakesWholeLines old.at ((old.held ++ bs) ++ feed) new.at new.held
   -- where the end was reached now and no line feed was lacking, nothing is held
@@ -78,14 +78,14 @@ pub record ReadsLines (left left' : Option (List ℕ)) (old new : ReaderModel)
   pub kept : old.ended ≡ true → (new.ended ≡ true) × (bs ≡ []) × (new.reads ≡ old.reads)
   pub end : (old.ended ≡ true → IsAtEnd left) → new.ended ≡ true → IsAtEnd left'
 
--- Where a document was told, the last line taken is its `end` line: what is held is exactly what
--- was read behind it.
+-- Where a document was reported, the last line taken is its `end` line: what is held is exactly
+-- what was read after it.
 abbrev pub EndsAtEndLine : (old new : ReaderModel) → List ℕ → Type 0
 EndsAtEndLine old new bs =
     (feed : List ℕ) × IsMissingFeed old.ended new.ended feed
     × TakesEndLine old.at ((old.held ++ bs) ++ feed) new.at new.held
 
--- The last read was made where all whole lines were taken and told nothing, and what was left of a
+-- The last read was made where all whole lines were taken and reported nothing. What was left of a
 -- line was no longer than a line can be. It gave at most 4,096 octets.
 pub record ReadsOnlyIfNoLine (left : Option (List ℕ)) (old : ReaderModel) (reads : ℕ)
     (bs : List ℕ) : Type 0 where
@@ -103,13 +103,14 @@ pub record ReadsOnlyIfNoLine (left : Option (List ℕ)) (old : ReaderModel) (rea
   pub short : length mid.held ≤ 4096
   pub made : reads ≡ mid.reads + 1
 
--- while the end is not known, no whole line is held, and nothing more is told of what is held
+-- while the end is not known, no whole line is held, and nothing more is reported of what is held
 abbrev pub HasNoWholeLine : ReaderModel → Type 0
-HasNoWholeLine s = (s.ended ≡ false) × (parse_open (stand s) [] ≡ []) × (has_no_feed s.held ≡ true)
+HasNoWholeLine s =
+    (s.ended ≡ false) × (parse_open (position_of s) [] ≡ []) × (has_no_feed s.held ≡ true)
 
 -- the end was reached and nothing is left
 abbrev pub HasNoMoreLines : ReaderModel → Type 0
-HasNoMoreLines s = (s.ended ≡ true) × (s.held ≡ []) × (parse (stand s) [] ≡ [])
+HasNoMoreLines s = (s.ended ≡ true) × (s.held ≡ []) × (parse (position_of s) [] ≡ [])
 
 -- how a call leaves the reader: at the end nothing is left; an input is too long only after 2^32
 -- reads; memory was wanted only where a whole line is held, or before the first read
@@ -126,7 +127,7 @@ LeavesReader new (Err (Run InputTooLong)) =
 LeavesReader new (Err (Run Memory)) =
     (new.fault ≡ Some (Run Memory)) × ((has_no_feed new.held ≡ false) ⊎ (new.reads ≡ 0))
 
--- Behind what was taken stands a whole line that adds to the document.
+-- After what was taken is a whole line that adds to the document.
 pub record AddsNext (s : ReaderModel) : Type 0 where
   pub line : List ℕ
   pub rest : List ℕ
@@ -134,7 +135,7 @@ pub record AddsNext (s : ReaderModel) : Type 0 where
   pub single : has_no_feed line ≡ true
   pub adds_to : adds s.place (line_within_limit line) ≡ true
 
--- The lines that were read tell nothing, up to one that adds to the document: there memory was
+-- The lines that were read report nothing, up to one that adds to the document: there memory was
 -- wanted.
 pub record NeedsMemoryForLine (left left' : Option (List ℕ)) (old : ReaderModel)
     (bs : List ℕ) : Type 0 where
@@ -142,9 +143,9 @@ pub record NeedsMemoryForLine (left left' : Option (List ℕ)) (old : ReaderMode
   pub taken : ReadsLines left left' old mid [] bs
   pub next : AddsNext mid
 
--- what a call reads and tells; where memory was wanted it tells nothing, and says no more of what
--- it holds, but that it is wanted only where a line was held or the end was not reached, and,
--- behind the first read, only for a line that adds to the document
+-- what a call reads and reports; where memory was wanted it reports nothing, and says no more of
+-- what it holds; it is wanted only where a line was held or the end was not reached; after the
+-- first read it is wanted only for a line that adds to the document
 abbrev pub ReadsDocument : (left left' : Option (List ℕ)) → (old new : ReaderModel)
     → Result (Option Document) ReadFault → List ℕ → Type 0
 ReadsDocument left left' old new (Ok None) bs = ReadsLines left left' old new
@@ -165,7 +166,7 @@ ReadsDocument left left' old new (Err (Run Memory)) bs =
     × (old.ended ≡ true → 0 < length old.held)
     × ((new.reads ≡ 0) ⊎ NeedsMemoryForLine left left' old bs)
 
--- A call tells the next document, or why there is none.
+-- A call reports the next document, or why there is none.
 pub record ReturnsNextDocument (left left' : Option (List ℕ)) (old new : ReaderModel)
     (result : Result (Option Document) ReadFault) : Type 0 where
   pub octets : List ℕ

@@ -10,7 +10,7 @@ use Rattle.bufr_text.specs.Line.{Closes}
 abbrev pub has_no_feed : List ℕ → Bool
 has_no_feed octets = list_all (λ c. not (c == 10)) octets
 
--- what a reading stands for: the number of the next line, where it stands, the octets that it
+-- what a reading means: the number of the next line, where it is, the octets that it
 -- holds, whether the end was reached
 pub record ReaderPosition : Type 0 where
   pub at : ℕ
@@ -22,16 +22,16 @@ pub record ReaderPosition : Type 0 where
 abbrev pub parse : ReaderPosition → List ℕ → List ParseResult
 parse s t = parse_lines s.at s.place (lines_of (s.held ++ t))
 
--- the same, where more may come behind these
+-- the same, where more may come after these
 abbrev pub parse_open : ReaderPosition → List ℕ → List ParseResult
 parse_open s t =
     parse_open_lines s.at s.place (split_of (s.held ++ t)).whole (split_of (s.held ++ t)).rest
 
--- The held octets spell what was told and then what is still held, whatever comes behind; behind
+-- The held octets spell what was reported and then what is still held, whatever comes after; after
 -- the end nothing does.
-pub record ContinuesParse (old new : ReaderPosition) (told : List ParseResult) : Type 0 where
-  pub whole : (t : List ℕ) → (new.ended ≡ true → t ≡ []) → parse old t ≡ told ++ parse new t
-  pub openly : new.ended ≡ false → (t : List ℕ) → parse_open old t ≡ told ++ parse_open new t
+pub record ContinuesParse (old new : ReaderPosition) (results : List ParseResult) : Type 0 where
+  pub whole : (t : List ℕ) → (new.ended ≡ true → t ≡ []) → parse old t ≡ results ++ parse new t
+  pub openly : new.ended ≡ false → (t : List ℕ) → parse_open old t ≡ results ++ parse_open new t
 
 -- Lines were taken: what was held is these lines, each with its line feed, and then what is still
 -- held.
@@ -41,12 +41,12 @@ pub record TakesWholeLines (at : ℕ) (held : List ℕ) (at' : ℕ) (rest : List
   pub counted : at' ≡ at + length lines
   pub octets : held ≡ text_of_lines lines ++ rest
 
--- Lines were taken, the last of them an `end` line: what is still held is what is behind it.
+-- Lines were taken, the last of them an `end` line: what is still held is what is after it.
 pub record TakesEndLine (at : ℕ) (held : List ℕ) (at' : ℕ) (rest : List ℕ) : Type 0 where
   -- the number of the `end` line
   pub line : ℕ
   pub last : List ℕ
-  pub front : TakesWholeLines at held line (last ++ 10 ∷ rest)
+  pub prefix : TakesWholeLines at held line (last ++ 10 ∷ rest)
   pub single : has_no_feed last ≡ true
   pub closes : line_within_limit last ≡ Closes
   pub counted : at' ≡ line + 1

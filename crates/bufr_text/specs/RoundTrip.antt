@@ -39,8 +39,8 @@ abbrev pub dump_items_in : List Row → Tree → Sections → Values → List (L
 dump_items_in table template s values = dump_items_of (read_by table template (data_of s) 0 0)
     values
 
--- the sections of two messages say the same, but for their lengths, the bits of the data, and the
--- flag of compression, which is that of a form
+-- the sections of two messages say the same; the lengths, the bits of the data, and the flag of
+-- compression, which is that of a form, may differ
 pub record SaySame (form : Form) (a b : Sections) : Type 0 where
   pub head : b.head ≡ a.head
   pub local1 : b.local1 ≡ a.local1
@@ -62,16 +62,16 @@ has_odd_section m =
 abbrev pub extra_octets : (m : List ℕ) → ℕ
 extra_octets m = if has_odd_section m then 2 else 0
 
--- octets are a message with the same reading as the message m of sections s, and are no longer, but
--- that in edition 3 up to two octets make odd sections even
+-- octets are a message with the same reading as the message m of sections s; they are no longer,
+-- but that in edition 3 up to two octets make odd sections even
 pub record HasSameReading (table : List Row) (m : List ℕ) (s : Sections) (template : Tree)
     (values : Values) (written : List ℕ) : Type 0 where
   pub no_longer : length written ≤ length m + extra_octets m
   pub few : length written ≤ max_octets
   pub octets : AllByRecursion IsOctet written
-  -- in a stream it is one message, whatever is behind it
-  pub framed : (at : ℕ) (behind : List ℕ) → scan_from 0 at (written ++ behind)
-      ≡ FrameAt at written ∷ scan_from 0 (at + length written) behind
+  -- in a stream it is one message, whatever is after it
+  pub framed : (at : ℕ) (suffix : List ℕ) → scan_from 0 at (written ++ suffix)
+      ≡ FrameAt at written ∷ scan_from 0 (at + length written) suffix
   pub sections : Sections
   pub are : sections_of written ≡ Ok sections
   pub same : SaySame AsWritten s sections

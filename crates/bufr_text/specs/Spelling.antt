@@ -76,13 +76,13 @@ pub record IsDocument (d : Document) (lines : List NumberedLine) : Type 0 where
   pub local1 : List (List ℕ)
   pub section2 : List (List ℕ)
   pub descriptors : List (List ℕ)
-  pub laid : List NumberedLine
+  pub written : List NumberedLine
   pub subsets : List SubsetHeard
   pub end : ℕ
   pub are : lines ≡ numbered_line d.line Opens ∷ header
-      ++ (laid ++ (subsets_heard 1 subsets ++ numbered_line end Closes ∷ []))
+      ++ (written ++ (subsets_heard 1 subsets ++ numbered_line end Closes ∷ []))
   pub in_order : map (λ l. l.says) header ≡ header_says 0 d.header
-  pub parts : map (λ l. l.says) laid
+  pub parts : map (λ l. l.says) written
       ≡ map Local1 local1 ++ (map Section2 section2 ++ map Descriptors descriptors)
   pub local1_is : d.local1 ≡ concat local1
   pub section2_is : d.section2 ≡ concat section2
@@ -91,12 +91,12 @@ pub record IsDocument (d : Document) (lines : List NumberedLine) : Type 0 where
   pub counted : length subsets ≡ subsets_in d
   pub entries : d.entries ≡ entries_heard subsets end
 
--- What is told of lines: documents one after another, up to the end of the lines or to the first
--- that is refused.
-abbrev pub AreTold : List NumberedLine → List ParseResult → Type 0
-AreTold lines [] = lines ≡ []
-AreTold lines (Refused line fault ∷ told) = told ≡ []
-AreTold lines (Complete d ∷ told) =
+-- What is reported of lines: documents one after another, up to the end of the lines or to the
+-- first that is refused.
+abbrev pub AreReported : List NumberedLine → List ParseResult → Type 0
+AreReported lines [] = lines ≡ []
+AreReported lines (Refused line fault ∷ results) = results ≡ []
+AreReported lines (Complete d ∷ results) =
     (own : List NumberedLine) × (more : List NumberedLine) × (lines ≡ own ++ more)
     × IsDocument d own
-    × AreTold more told
+    × AreReported more results

@@ -14,7 +14,7 @@ use Rattle.bufr_text.specs.Proper.{IsProper}
 use Rattle.bufr_text.specs.declared.step.ParsedLine.{ParsedLine}
 use Rattle.bufr_text.specs.declared.step.ParsedLine.TheVariants as said
 use Rattle.bufr_text.specs.declared.step.LineGroup.{LineGroup}
-use Rattle.bufr_text.specs.declared.step.LineGroup.TheVariants as laid
+use Rattle.bufr_text.specs.declared.step.LineGroup.TheVariants as written
 use Rattle.bufr_text.specs.declared.step.ParserState.{ParserState}
 use Rattle.bufr_text.specs.declared.step.ParserState.TheVariants as place
 use Rattle.bufr_text.specs.declared.step.LineRefusal.{LineRefusal}
@@ -37,15 +37,15 @@ meaning said.Wrong = line.Wrong
 
 -- how far the parts before the subsets have come
 abbrev pub part_number : LineGroup → ℕ
-part_number laid.Local1 = 0
-part_number laid.Section2 = 1
-part_number laid.Descriptors = 2
+part_number written.Local1 = 0
+part_number written.Section2 = 1
+part_number written.Descriptors = 2
 
--- where the reading stands, with the document as far as it was read
+-- where the reading is, with the document as far as it was read
 abbrev pub place_with : ParserState → spec.Document → documents.ParserState
 place_with place.Between d = documents.Between
 place_with place.Heading d = documents.Heading d
-place_with (place.Laying part) d = documents.Laying (part_number part) d
+place_with (place.BeforeSubsets part) d = documents.BeforeSubsets (part_number part) d
 place_with (place.Filling subset) d = documents.Filling subset d
 
 abbrev pub line_fault_of : LineRefusal → documents.TextLineFault
@@ -53,13 +53,13 @@ line_fault_of refusal.NotAllowed = documents.NotAllowed
 line_fault_of refusal.SubsetCount = documents.SubsetCount
 line_fault_of refusal.HeaderRange = documents.HeaderRange
 
--- what a turn does, with the document behind it
+-- what a turn does, with the document after it
 abbrev pub turned : LineEffect → spec.Document → documents.LineEffect
 turned (turn.WalkGoes place) d = documents.WalkGoes (place_with place d)
 turned turn.Gives d = documents.Gives d
 turned (turn.Refuses refusal) d = documents.Faults (line_fault_of refusal)
 
--- Nothing was read behind the header.
+-- Nothing was read after the header.
 pub record IsBare (d : spec.Document) : Type 0 where
   pub local1 : d.local1 ≡ []
   pub section2 : d.section2 ≡ []
@@ -84,23 +84,23 @@ pub record HasSubsets (ended : ℕ) (d : spec.Document) : Type 0 where
   pub texts : AllByRecursion EntryHasOctets d.entries
   pub counted : length (subsets_of d.entries) ≡ ended
 
--- What holds of a place where the line of this number is next: the header is not whole in the
--- header and whole behind it, the number of a subset is small and one more than those that were
--- ended, and each entry has a line.
+-- What holds of a place where the line of this number is next. The header is not whole in the
+-- header, and whole after it. The number of a subset is small, and one more than those that were
+-- ended. Each entry has a line.
 abbrev pub IsParserState : (at : ℕ) → documents.ParserState → Type 0
 IsParserState at documents.Between = Unit {0}
 IsParserState at (documents.Heading d) =
     (length d.header < 20) × (are_in_range (spec.edition_in d) 0 d.header ≡ true)
     × (length d.entries < at) × IsBare d
-IsParserState at (documents.Laying part d) =
+IsParserState at (documents.BeforeSubsets part d) =
     IsHeaded d × (length d.entries < at) × HasLineGroups d × (d.entries ≡ [])
 IsParserState at (documents.Filling subset d) =
     IsHeaded d × (length d.entries < at) × (subset < 65536) × HasLineGroups d
     × ((ended : ℕ) × (subset ≡ ended + 1) × HasSubsets ended d)
 IsParserState at documents.Stopped = Unit {0}
 
--- the same behind a turn at a line
-abbrev pub StandsAfter : (at : ℕ) → documents.LineEffect → Type 0
-StandsAfter at (documents.WalkGoes place) = IsParserState (at + 1) place
-StandsAfter at (documents.Gives d) = IsProper d × (length d.entries ≤ at)
-StandsAfter at (documents.Faults fault) = Unit {0}
+-- the same after a turn at a line
+abbrev pub HoldsAfter : (at : ℕ) → documents.LineEffect → Type 0
+HoldsAfter at (documents.WalkGoes place) = IsParserState (at + 1) place
+HoldsAfter at (documents.Gives d) = IsProper d × (length d.entries ≤ at)
+HoldsAfter at (documents.Faults fault) = Unit {0}

@@ -18,20 +18,20 @@ FeedAt held (Some place) =
     (place < length held) × (has_no_feed (take place held) ≡ true)
     × (held ≡ take place held ++ 10 ∷ drop (place + 1) held)
 
--- what was told
+-- what was reported
 abbrev pub step_results : TakeResult → spec.Document → List documents.ParseResult
 step_results taken.More d = []
 step_results taken.Gives d = documents.Complete d ∷ []
 step_results (taken.Refuses line refusal) d = documents.Refused line (line_fault_of refusal) ∷ []
 
--- where the reading stands behind it
-abbrev pub place_behind : TakeResult → Progress → documents.ParserState
-place_behind taken.More progress = place_with progress.place progress.parts
-place_behind taken.Gives progress = documents.Between
-place_behind (taken.Refuses line refusal) progress = documents.Stopped
+-- where the reading is after it
+abbrev pub place_following : TakeResult → Progress → documents.ParserState
+place_following taken.More progress = place_with progress.place progress.parts
+place_following taken.Gives progress = documents.Between
+place_following (taken.Refuses line refusal) progress = documents.Stopped
 
-abbrev pub stand_of : Progress → List ℕ → Bool → ReaderPosition
-stand_of progress held ended =
+abbrev pub position_with : Progress → List ℕ → Bool → ReaderPosition
+position_with progress held ended =
     record {
       at = progress.at;
       place = place_with progress.place progress.parts;
@@ -39,47 +39,47 @@ stand_of progress held ended =
       ended = ended;
     }
 
-abbrev pub stand_behind : TakeResult → Progress → List ℕ → Bool → ReaderPosition
-stand_behind step progress held ended =
-    record { at = progress.at; place = place_behind step progress; held = held; ended = ended }
+abbrev pub position_after_take : TakeResult → Progress → List ℕ → Bool → ReaderPosition
+position_after_take step progress held ended =
+    record { at = progress.at; place = place_following step progress; held = held; ended = ended }
 
 -- a document that is whole has a line for each entry
-abbrev pub StandsBehind : TakeResult → Progress → Type 0
-StandsBehind taken.More progress = IsParserState progress.at
+abbrev pub HoldsAfterTake : TakeResult → Progress → Type 0
+HoldsAfterTake taken.More progress = IsParserState progress.at
     (place_with progress.place progress.parts)
-StandsBehind taken.Gives progress =
+HoldsAfterTake taken.Gives progress =
     IsProper progress.parts × (length progress.parts.entries < progress.at)
-StandsBehind (taken.Refuses line refusal) progress = Unit {0}
+HoldsAfterTake (taken.Refuses line refusal) progress = Unit {0}
 
 -- The lines up to a place were taken.
 pub record TakesLines (old new : Progress) (held : List ℕ) (place : ℕ)
     (step : TakeResult) : Type 0 where
-  pub goes : (ended : Bool) → ContinuesParse (stand_of old held ended)
-      (stand_behind step new (drop place held) ended) (step_results step new.parts)
+  pub goes : (ended : Bool) → ContinuesParse (position_with old held ended)
+      (position_after_take step new (drop place held) ended) (step_results step new.parts)
   pub all : step ≡ taken.More → has_no_feed (drop place held) ≡ true
   pub within : place ≤ length held
-  pub stands : StandsBehind step new
+  pub holds : HoldsAfterTake step new
   pub near : new.at ≤ old.at + place
   pub passes : TakesWholeLines old.at held new.at (drop place held)
   pub closes : step ≡ taken.Gives → TakesEndLine old.at held new.at (drop place held)
 
--- Lines up to a place were taken, and nothing was told yet.
+-- Lines up to a place were taken, and nothing was reported yet.
 pub record IsTaking (old new : Progress) (held : List ℕ) (place : ℕ) : Type 0 where
   pub goes : (ended : Bool)
-      → ContinuesParse (stand_of old held ended) (stand_of new (drop place held) ended) []
+      → ContinuesParse (position_with old held ended) (position_with new (drop place held) ended) []
   pub within : place ≤ length held
-  pub stands : IsParserState new.at (place_with new.place new.parts)
+  pub holds : IsParserState new.at (place_with new.place new.parts)
   pub some : 0 < new.at
   pub near : new.at ≤ old.at + place
   pub passes : TakesWholeLines old.at held new.at (drop place held)
 
--- Lines were taken that told nothing, and the next one is whole and adds to the document.
+-- Lines were taken that reported nothing, and the next one is whole and adds to the document.
 pub record WantsAt (old : Progress) (held : List ℕ) : Type 0 where
   pub progress : Progress
   pub place : ℕ
   pub taking : IsTaking old progress held place
   pub line : List ℕ
   pub rest : List ℕ
-  pub stands : drop place held ≡ line ++ 10 ∷ rest
+  pub holds : drop place held ≡ line ++ 10 ∷ rest
   pub single : has_no_feed line ≡ true
   pub adds_to : adds (place_with progress.place progress.parts) (line_within_limit line) ≡ true

@@ -14,12 +14,12 @@ quoting_said quoting.Closed = grammar.Closed
 quoting_said (quoting.ListsLeaves octet written) = grammar.ListsLeaves octet written
 quoting_said quoting.Nothing = grammar.Nothing
 
--- octets that were read in front of what is read on
+-- octets that were read, before what is read on
 abbrev pub octets_onto : List ℕ → Option (List ℕ × List ℕ) → Option (List ℕ × List ℕ)
 octets_onto octets None = None
 octets_onto octets (Some read) = Some (octets ++ read.0, read.1)
 
--- the octets of the text stand in front, and what is behind the closing quote begins at a place; or
+-- the octets of the text come first, and what is after the closing quote begins at a place; or
 -- there is none
 abbrev pub Unquotes : (text out : List ℕ) → Option (ℕ × ℕ) → Type 0
 Unquotes text out None = quoted_read 0 text ≡ None
@@ -27,14 +27,14 @@ Unquotes text out (Some (count, at)) =
     (count ≤ length out) × (at ≤ length text)
     × (quoted_read 0 text ≡ Some (take count out, drop at text))
 
--- what was read stands in front of `out`
+-- what was read is a prefix of `out`
 pub record IsUnquoting (text out : List ℕ) (count at : ℕ) : Type 0 where
   pub few : count ≤ at
   pub within : at ≤ length text
   pub room : length text ≤ length out
   pub read : quoted_read 0 text ≡ octets_onto (take count out) (quoted_read 0 (drop at text))
 
--- the octets of a token that were passed stand in front
+-- the octets of a token that were passed come first
 pub record IsTokenTo (text : List ℕ) (at : ℕ) : Type 0 where
   pub within : at ≤ length text
   pub ahead : prefix_while is_number_octet text ≡ take at text ++ prefix_while is_number_octet

@@ -12,11 +12,11 @@ pub record IsWhole (d : Document) : Type 0 where
   pub proper : IsProper d
   pub few : length d.entries ≤ most_entries
 
--- what is told is a proper document, or that a line is refused
-abbrev pub IsProperlyTold : ParseResult → Type 0
-IsProperlyTold (Complete d) = IsProper d
-IsProperlyTold (Refused line fault) = Unit {0}
+-- what is reported is a proper document, or that a line is refused
+abbrev pub IsProperlyReported : ParseResult → Type 0
+IsProperlyReported (Complete d) = IsProper d
+IsProperlyReported (Refused line fault) = Unit {0}
 
--- all documents that are told are proper
+-- all documents that are reported are proper
 abbrev pub AreProper : List ParseResult → Type 0
-AreProper told = AllByRecursion IsProperlyTold told
+AreProper results = AllByRecursion IsProperlyReported results

@@ -6,14 +6,14 @@ use Rattle.bufr_bits.specs.Counts.{counted}
 use Rattle.bufr_frame.specs.declared.fault.RunFault.{RunFault}
 use Rattle.bufr_frame.specs.declared.fault.RunFault.TheVariants.{Write}
 
--- known octets grow by the front of a text
+-- known octets grow by a prefix of a text
 pub record GrowsByPrefix (old new : Option (List ℕ)) (text : List ℕ) : Type 0 where
-  pub front : List ℕ
+  pub prefix : List ℕ
   pub back : List ℕ
-  pub parts : text ≡ front ++ back
-  pub gains : Appends old new front
+  pub parts : text ≡ prefix ++ back
+  pub gains : Appends old new prefix
 
--- the text was written, or the front of it where the writer failed
+-- the text was written, or a prefix of it where the writer failed
 abbrev pub Writes : {X : Type 0} → Option (List ℕ) → Option (List ℕ) → List ℕ
     → Result X RunFault → Type 0
 Writes old new text (Ok x) = Appends old new text
@@ -35,7 +35,7 @@ abbrev pub CountsWrites : {X : Type 0} → (failures failures' empty empty' : �
 CountsWrites failures failures' empty empty' (Ok x) = Stays failures failures' empty empty'
 CountsWrites failures failures' empty empty' (Err fault) = Fails failures failures' empty empty'
 
--- decimal digits, at least so many, zeros in front
+-- decimal digits, at least so many, with leading zeros
 -- rule: listing-time
 abbrev pub zero_padded : (least n : ℕ) → List ℕ
 zero_padded least n = replicate (least - length (decimal n)) 48 ++ decimal n
@@ -50,7 +50,7 @@ abbrev pub joined : List (List ℕ) → List ℕ
 joined [] = []
 joined (text ∷ more) = text ++ joined more
 
--- texts, one after another, and what is behind them
-abbrev pub joined_onto : List (List ℕ) → (behind : List ℕ) → List ℕ
-joined_onto [] behind = behind
-joined_onto (text ∷ more) behind = text ++ joined_onto more behind
+-- texts, one after another, and what is after them
+abbrev pub joined_onto : List (List ℕ) → (suffix : List ℕ) → List ℕ
+joined_onto [] suffix = suffix
+joined_onto (text ∷ more) suffix = text ++ joined_onto more suffix

@@ -33,7 +33,7 @@ fn grow(buffer: &mut Vec<u8>) -> Result<(), RunFault>
     }
 }
 
-/// Moves the octets from `start` to `filled` to the front.
+/// Moves the octets from `start` to `filled` to the start.
 fn slide(buffer: &mut Vec<u8>, start: usize, filled: usize)
     requires order { start ≤ filled }
     requires within { filled ≤ vec_len buffer.old }
@@ -44,8 +44,8 @@ fn slide(buffer: &mut Vec<u8>, start: usize, filled: usize)
     buffer.copy_within(start..filled, 0);
 }
 
-/// Makes room for a read behind the octets from `start` to `filled`, and answers how many places
-/// nearer to the front they then stand.
+/// Makes room for a read after the octets from `start` to `filled`, and answers how many places
+/// nearer to the start they then are.
 pub(crate) fn make_room(
     buffer: &mut Vec<u8>,
     start: usize,

@@ -12,9 +12,9 @@ const SPACED: usize = 7;
 /// The most descriptors of a line.
 pub(crate) const MOST_WORDS: usize = 8;
 
-/// The descriptor that six digits in front write, and what is behind it.
+/// The descriptor that six digits write first, and what is after it.
 #[tactic(auto, using(crate::proofs::ItemLemmas::by_six))]
-pub(crate) fn fxy_front<'a>(text: &'a [u8]) -> Option<(u16, &'a [u8])>
+pub(crate) fn fxy_prefix<'a>(text: &'a [u8]) -> Option<(u16, &'a [u8])>
     ensures value { option_map (λ read. (read.0, read.1.now)) result ≡ fxy_read text.now }
     ensures within { IfSome result (λ read. length read.1.now ≤ length text.now) }
 {
@@ -25,7 +25,7 @@ pub(crate) fn fxy_front<'a>(text: &'a [u8]) -> Option<(u16, &'a [u8])>
     Some((fxy.word(), suffix(text, 6)))
 }
 
-/// Puts descriptors, each behind one space, to the front of `out`; answers how many they are, 1 to
+/// Puts descriptors, each after one space, to the start of `out`; answers how many they are, 1 to
 /// 8.
 // rule: reading-descriptor
 pub(crate) fn describe(text: &[u8], out: &mut [u16]) -> Option<usize>

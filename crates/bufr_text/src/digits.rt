@@ -32,8 +32,8 @@ pub(crate) fn count_digits(value: u64) -> usize
     count + 4
 }
 
-/// Fills a prefix with a name and the digits of a number after it, of which there are so many, and
-/// returns how many octets these are.
+/// Fills a prefix with a name and the digits of a number after it, of which there are so many.
+/// Returns how many octets these are.
 #[inline(always)]
 fn fill_digits(name: &[u8], value: u64, digits: usize, free: &mut [u8]) -> usize
     requires digits { digits ≡ length (decimal value) }

@@ -22,7 +22,7 @@ use std::marker::Model;
 /// How many keys the header has.
 const KEYS: usize = 20;
 
-/// What stands for a value.
+/// The form of a value.
 #[derive(Clone, Copy)]
 pub(crate) enum ValueKind {
     Number,
@@ -31,7 +31,7 @@ pub(crate) enum ValueKind {
     Reference,
 }
 
-/// What octets stand for.
+/// What octets mean.
 fn form_kept(kind: ValueKind, octets: &[u8]) -> DraftValue<'_>
     ensures { form_in result ≡ form_by kind octets.now }
 {
@@ -340,7 +340,7 @@ impl Document {
         self.parts.entries().len()
     }
 
-    /// The entry at a place, from 0. Each subset's items stand before its end.
+    /// The entry at a place, from 0. Each subset's items are before its end.
     pub fn entry(&self, place: usize) -> DraftEntry<'_>
         requires { place < length self.now.entries }
         ensures { entry_in result ≡ slice_index_or self.now.entries place (entry_in result) }

@@ -13,9 +13,9 @@ use std::marker::Model;
 
 /// Reads the documents of a dump text, one after another.
 ///
-/// It reads only where it holds no whole line, so a document is told before the next one is read.
-/// A read asks for at most 4,096 octets, and at most 8,192 are held. The only memory that it takes
-/// besides is that of the document, which may be handed back to it ([`DumpReader::reuse`]).
+/// It reads only where it holds no whole line, so a document is reported before the next one is
+/// read. A read asks for at most 4,096 octets, and at most 8,192 are held. The only memory that it
+/// takes besides is that of the document, which may be handed back to it ([`DumpReader::reuse`]).
 ///
 /// ```
 /// let mut reader = DumpReader::new(rt.alloc());
@@ -114,9 +114,9 @@ impl DumpReader {
         }
     }
 
-    /// Takes the memory of a document for those to come, so that a long text of long documents does
-    /// not take and give back memory for each. Nothing else changes. Inside of a document that is
-    /// being read, or was refused there, the memory is given back instead.
+    /// Takes the memory of a document for those to come. So a long text of long documents does not
+    /// take and give back memory for each. Nothing else changes. Inside of a document that is being
+    /// read, or was refused there, the memory is given back instead.
     pub fn reuse(&mut self, document: Document)
         ensures { self.new ≡ self.old }
     {
@@ -198,7 +198,7 @@ impl DumpReader {
         }
     }
 
-    /// Reads once, behind the octets that are held. At the end the last line is ended.
+    /// Reads once, after the octets that are held. At the end the last line is ended.
     // rule: reading-last-line
     fn read_more<R: Source>(&mut self, r: &mut R) -> Result<(), RunFault>
         requires sound { self.old.fault ≡ None }
@@ -250,19 +250,20 @@ impl DumpReader {
         }
     }
 
-    /// The next document of the input `r`, which is to be the same at each call, or `None` where
-    /// the end was reached and no line is left. After `None` it comes again. A document is as its
-    /// header says: it has so many subsets and nothing behind them, and octets of section 2 only
+    /// The next document of the input `r`, which is to be the same at each call. `None` where the
+    /// end was reached and no line is left; after `None` it comes again. A document is as its
+    /// header says. It has so many subsets and nothing after them, and octets of section 2 only
     /// where there is one.
     ///
     /// # Errors
     ///
     /// [`ReadFault::Line`], [`ReadFault::SubsetCount`] and [`ReadFault::HeaderRange`] where the
     /// next document is refused, with the line. [`ReadFault::Run`] with [`RunFault::Read`] where a
-    /// read failed in this call, with [`RunFault::InputTooLong`] where the end was not reached in
-    /// 2^32 reads, and with [`RunFault::Memory`] where a document could not grow by a line that is
-    /// held, or the buffer could not be made before the first read. All documents that were read
-    /// whole were given before. After a fault each call answers the same one, and reads nothing.
+    /// read failed in this call, and with [`RunFault::InputTooLong`] where the end was not reached
+    /// in 2^32 reads. [`ReadFault::Run`] with [`RunFault::Memory`] where a document could not grow
+    /// by a line that is held. The same where the buffer could not be made before the first read.
+    /// All documents that were read whole were given before. After a fault each call returns the
+    /// same one, and reads nothing.
     pub fn next_document<R: Source>(&mut self, r: &mut R) -> Result<Option<Document>, ReadFault>
         ensures next { self.old.fault ≡ None
             → ReturnsNextDocument (R.left r.old) (R.left r.new) self.old self.new result }

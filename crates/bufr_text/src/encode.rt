@@ -13,9 +13,9 @@ ghost use Rattle.bufr_text.specs.InForm.{EncodesForm};
 ghost use Rattle.bufr_walk.specs.Course.{next_item};
 ghost use Rattle.bufr_walk.specs.Ticks.{ticked};
 ghost use Rattle.bufr_fill.specs.Entries.{subsets_of};
-ghost use Rattle.bufr_text.specs.Encoding.{encoding_in, encoding_of, told_of_template, octets_of_bits, message_of, compressed_as, parts_as};
-ghost use Rattle.bufr_text.specs.EncodingFault.{IsDocumentRefusal, told_of_draft, told_refusal};
-ghost use Rattle.bufr_text.specs.DataWritten.{AreOctetsOf, WritesData, WritesSubset, told_stop};
+ghost use Rattle.bufr_text.specs.Encoding.{encoding_in, encoding_of, report_of_template, octets_of_bits, message_of, compressed_as, parts_as};
+ghost use Rattle.bufr_text.specs.EncodingFault.{IsDocumentRefusal, report_of_draft, reported_refusal};
+ghost use Rattle.bufr_text.specs.DataWritten.{AreOctetsOf, WritesData, WritesSubset, reported_stop};
 ghost use Rattle.bufr_text.specs.EncodingCost.{CountsSteps, places_by, bits_by, turns_by};
 ghost use Rattle.bufr_text.specs.Header.{head_from_values, most_entries};
 ghost use Rattle.bufr_text.specs.declared.form.Form.TheVariants.{AsWritten};
@@ -29,10 +29,10 @@ use bufr_tables::{Fxy, TableB, TableD, Template, TemplateFault};
 use bufr_walk::{SpecCache, Steps, TemplateCache, WalkStop, walk_by};
 use std::alloc::{AllocError, Global};
 
-/// The fault of a walk that stopped, where the next entry stands on a line.
+/// The fault of a walk that stopped, where the next entry is on a line.
 // rule: fault-62
 fn of_stop(stop: WalkStop<DraftFault>, line: u64) -> DocumentFault
-    ensures { told_refusal result ≡ option_map told_of_draft (told_stop line stop) }
+    ensures { reported_refusal result ≡ option_map report_of_draft (reported_stop line stop) }
 {
     match stop {
         WalkStop::Width(fxy) => DocumentFault::Walk(line, WalkRefusal::Width(fxy)),
@@ -76,8 +76,9 @@ fn template_of<'t>(
     ensures tree { IfOk result (λ template.
         tree_of (tables_of templates.now.table_b templates.now.table_d) templates.now.list
         ≡ Ok template.now) }
-    ensures fault { IfErr result (λ why. IsDocumentRefusal (told_refusal why) (told_of_template line
-        (tree_of (tables_of templates.now.table_b templates.now.table_d) templates.now.list))) }
+    ensures fault { IfErr result (λ why. IsDocumentRefusal (reported_refusal why)
+        (report_of_template line (tree_of (tables_of templates.now.table_b templates.now.table_d)
+        templates.now.list))) }
     ensures memory { IfErr result
         (λ why. (line : ℕ) → why ≢ DocumentFault.Template line TemplateFault.Memory) }
 {
@@ -216,7 +217,7 @@ fn write_whole(
     ensures octets { IfOk result (λ octets. message_of document.now.line
         (head_from_values document.now)
         (parts_as (compressed_as form document.now) document.now payload.now) ≡ Ok octets.items) }
-    ensures fault { IfErr result (λ why. IsDocumentRefusal (told_refusal why)
+    ensures fault { IfErr result (λ why. IsDocumentRefusal (reported_refusal why)
         (message_of document.now.line (head_from_values document.now)
         (parts_as (compressed_as form document.now) document.now payload.now))) }
     ensures payload { (bits : List Bool) → AreOctetsOf payload.now bits
@@ -256,13 +257,13 @@ fn encode_selected(
     ensures octets { IfOk result (λ octets.
         encoding_in form templates.now.table_b templates.now.table_d document.now
         ≡ Ok octets.items) }
-    ensures fault { IfErr result (λ why. IsDocumentRefusal (told_refusal why)
+    ensures fault { IfErr result (λ why. IsDocumentRefusal (reported_refusal why)
         (encoding_in form templates.now.table_b templates.now.table_d document.now)) }
     ensures memory { IfErr result
         (λ why. (line : ℕ) → why ≢ DocumentFault.Template line TemplateFault.Memory) }
     ensures made { OnOk result (steps.new
         ≡ ticked 0 (turns_by form templates.now.table_b templates.now.table_d document.now)) }
-    ensures made_refused { IfErr result (λ why. CountsSteps (told_refusal why) 0
+    ensures made_refused { IfErr result (λ why. CountsSteps (reported_refusal why) 0
         (turns_by form templates.now.table_b templates.now.table_d document.now) steps.new) }
     ensures accepted { OnOk result (steps.new
         ≤ places_by templates.now.table_b templates.now.table_d document.now
@@ -304,14 +305,14 @@ pub fn encode_by(
         encoding_in form templates.old.table_b templates.old.table_d document.now
         ≡ Ok octets.items) }
     // Want of memory is the only freedom.
-    ensures fault { IfErr result (λ why. IsDocumentRefusal (told_refusal why)
+    ensures fault { IfErr result (λ why. IsDocumentRefusal (reported_refusal why)
         (encoding_in form templates.old.table_b templates.old.table_d document.now)) }
     // It has one name, `Memory`.
     ensures memory { IfErr result
         (λ why. (line : ℕ) → why ≢ DocumentFault.Template line TemplateFault.Memory) }
     ensures made { OnOk result (steps.new
         ≡ ticked 0 (turns_by form templates.old.table_b templates.old.table_d document.now)) }
-    ensures made_refused { IfErr result (λ why. CountsSteps (told_refusal why) 0
+    ensures made_refused { IfErr result (λ why. CountsSteps (reported_refusal why) 0
         (turns_by form templates.old.table_b templates.old.table_d document.now) steps.new) }
     ensures accepted { OnOk result (steps.new
         ≤ places_by templates.old.table_b templates.old.table_d document.now
@@ -334,14 +335,14 @@ pub fn encode_by(
 /// document says; so the document of a message that was read gives the same message in the other
 /// form, where this can hold it.
 ///
-/// It sets the steps to those that are made for it, up to the greatest `u64`: one for each turn of
-/// the template, subset after subset, or once for all subsets where the data are compressed. A turn
-/// is a descriptor taken (a replication, a factor, an element, an operator), the end of a pass of a
-/// group, or the end of the template. Where an item, or the walk at it, is refused, its turn is the
-/// last; an item too many is refused behind the end of the template. Without a subset, and where
-/// the descriptors make no template, there is no step. At want of memory perhaps not all of these
-/// are made. They are at most as many as the template has places for each bit of the data, and for
-/// one bit more where the document is refused.
+/// It sets the steps to those that are made for it, up to the greatest `u64`. There is one for each
+/// turn of the template, subset after subset, or once for all subsets where the data are
+/// compressed. A turn is a descriptor taken (a replication, a factor, an element, an operator), the
+/// end of a pass, or the end of the template. Where an item, or the walk at it, is refused, its
+/// turn is the last. An item too many is refused after the end of the template. Without a subset,
+/// and where the descriptors make no template, there is no step. At want of memory perhaps not all
+/// of these are made. The steps are at most as many as the template has places for each bit of the
+/// data. Where the document is refused, one bit more counts.
 ///
 /// ```
 /// let document = reader.next_document(&mut r)?.ok_or("a document")?;
@@ -369,14 +370,14 @@ pub fn encode_form(
         (λ octets. encoding_in form table_b.now table_d.now document.now ≡ Ok octets.items) }
     // Want of memory is the only freedom.
     ensures fault { IfErr result (λ why.
-        IsDocumentRefusal (told_refusal why)
+        IsDocumentRefusal (reported_refusal why)
         (encoding_in form table_b.now table_d.now document.now)) }
     // It has one name, `Memory`.
     ensures memory { IfErr result
         (λ why. (line : ℕ) → why ≢ DocumentFault.Template line TemplateFault.Memory) }
     ensures made { OnOk result
         (steps.new ≡ ticked 0 (turns_by form table_b.now table_d.now document.now)) }
-    ensures made_refused { IfErr result (λ why. CountsSteps (told_refusal why) 0
+    ensures made_refused { IfErr result (λ why. CountsSteps (reported_refusal why) 0
         (turns_by form table_b.now table_d.now document.now) steps.new) }
     ensures accepted { OnOk result (steps.new ≤ places_by table_b.now table_d.now document.now
         * bits_by form table_b.now table_d.now document.now) }
@@ -417,14 +418,14 @@ pub fn encode_document(
         (λ octets. encoding_of table_b.now table_d.now document.now ≡ Ok octets.items) }
     // Want of memory is the only freedom.
     ensures fault { IfErr result
-        (λ why. IsDocumentRefusal (told_refusal why)
+        (λ why. IsDocumentRefusal (reported_refusal why)
         (encoding_of table_b.now table_d.now document.now)) }
     // It has one name, `Memory`.
     ensures memory { IfErr result
         (λ why. (line : ℕ) → why ≢ DocumentFault.Template line TemplateFault.Memory) }
     ensures made { OnOk result
         (steps.new ≡ ticked 0 (turns_by AsWritten table_b.now table_d.now document.now)) }
-    ensures made_refused { IfErr result (λ why. CountsSteps (told_refusal why) 0
+    ensures made_refused { IfErr result (λ why. CountsSteps (reported_refusal why) 0
         (turns_by AsWritten table_b.now table_d.now document.now) steps.new) }
     ensures accepted { OnOk result (steps.new ≤ places_by table_b.now table_d.now document.now
         * bits_by AsWritten table_b.now table_d.now document.now) }

@@ -1,7 +1,7 @@
 //! Why a document cannot be encoded (the numbers and their order are a choice of this project).
 ghost use Rattle.std.specs.Prelude.{◌≡◌, option_map};
 ghost use Rattle.bufr_fill.specs.DraftFaults.{draft_fault};
-ghost use Rattle.bufr_text.specs.EncodingFault.{number_of_document_fault, number_of_walk_refusal, told_of_draft, told_refusal};
+ghost use Rattle.bufr_text.specs.EncodingFault.{number_of_document_fault, number_of_walk_refusal, report_of_draft, reported_refusal};
 
 use bufr_fill::{DraftFault, Expected};
 use bufr_tables::{Fxy, TemplateFault};
@@ -40,7 +40,7 @@ impl WalkRefusal {
 /// length.
 #[derive(Clone, Copy, Debug, PartialEq, Eq, Error)]
 pub enum DocumentFault {
-    /// Another item, or none, stands where this is expected.
+    /// Another item, or none, is where this is expected.
     #[error("line {0}: another item is expected")]
     WrongDescriptor(u64, Expected),
     /// No decimal, or one that is not whole at the field's scale, or a form of another kind than
@@ -62,7 +62,7 @@ pub enum DocumentFault {
     /// A factor of compressed data that is not that of the first subset.
     #[error("line {0}: a factor is not the same in all subsets")]
     UnequalFactor(u64),
-    /// Texts of compressed data that no increments can tell apart, or references that differ.
+    /// Texts of compressed data that no increments can distinguish, or references that differ.
     #[error("line {0}: no increments can tell the values apart")]
     Increment(u64),
     /// The message would have more than 16,777,215 octets.
@@ -98,7 +98,7 @@ impl DocumentFault {
 
     /// The number of its line; none for want of memory.
     pub fn line(self) -> Option<u64>
-        ensures { result ≡ option_map (λ r. r.line) (told_refusal self) }
+        ensures { result ≡ option_map (λ r. r.line) (reported_refusal self) }
     {
         match self {
             DocumentFault::WrongDescriptor(line, _) => Some(line),
@@ -129,7 +129,7 @@ impl From<AllocError> for DocumentFault {
 
 /// What is wrong with an item, as a fault of its document.
 pub(crate) fn of_draft(fault: DraftFault) -> DocumentFault
-    ensures { told_refusal result ≡ option_map told_of_draft (draft_fault fault) }
+    ensures { reported_refusal result ≡ option_map report_of_draft (draft_fault fault) }
 {
     match fault {
         DraftFault::WrongDescriptor(line, expected) => {

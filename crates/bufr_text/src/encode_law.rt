@@ -13,7 +13,7 @@ ghost use Rattle.bufr_text.specs.Documents.{Complete, documents_of};
 ghost use Rattle.bufr_text.specs.Dump.{document_of, dump_text_of};
 ghost use Rattle.bufr_text.specs.RoundTrip.{HasSameReading, IsAccepted, IsEncodedAgain, dump_items_in};
 ghost use Rattle.bufr_text.specs.Encoding.{encoding_in, encoding_of};
-ghost use Rattle.bufr_text.specs.EncodingFault.{IsDocumentRefusal, told_refusal};
+ghost use Rattle.bufr_text.specs.EncodingFault.{IsDocumentRefusal, reported_refusal};
 ghost use Rattle.bufr_text.specs.Bounds.{IsDumpable};
 ghost use Rattle.bufr_text.specs.Form.{compressed_by, form_of_flag};
 ghost use Rattle.bufr_text.specs.InForm.{HasReadingIn, IsFaultIn, IsFormed};
@@ -27,9 +27,9 @@ pub fn accepted_messages_are_dumpable()
         → IsDumpable s (dump_items_in table template s values) }
 {}
 
-/// The document of an accepted message's dump text is encoded, wherever it stands: to a message
-/// with the same head, local octets, section 2, descriptors, number of subsets, flags and values,
-/// and no longer, but that in edition 3 up to two octets make sections 3 and 4 even.
+/// The document of an accepted message's dump text is encoded, wherever it is. The message has the
+/// same head, local octets, section 2, descriptors, number of subsets, flags and values. It is no
+/// longer, but that in edition 3 up to two octets make sections 3 and 4 even.
 // rule: becomes-canonical
 pub fn dumped_messages_are_encoded_again()
     ensures { (records : List Record) (table : List Row) (sequences : List Sequence) (m : List ℕ)
@@ -59,8 +59,9 @@ pub fn encoded_messages_are_accepted()
         → IsAccepted table sequences octets again.sections template values again.used }
 {}
 
-/// The dump text of an accepted message is one document, which is encoded to a message with the
-/// same reading, and no longer, but that in edition 3 up to two octets make sections 3 and 4 even.
+/// The dump text of an accepted message is one document. It is encoded to a message with the same
+/// reading. The message is no longer, but that in edition 3 up to two octets make sections 3 and 4
+/// even.
 pub fn dump_texts_are_encoded_again()
     ensures { (records : List Record) (table : List Row) (sequences : List Sequence) (m : List ℕ)
         (s : Sections) (template : Tree) (values : Values) (used : ℕ)
@@ -72,12 +73,12 @@ pub fn dump_texts_are_encoded_again()
 {}
 
 /// The document of an accepted message's dump text is refused for want of memory alone: a fault
-/// that may be told of its encoding is [`DocumentFault::Memory`](crate::DocumentFault::Memory).
+/// that may be reported of its encoding is [`DocumentFault::Memory`](crate::DocumentFault::Memory).
 pub fn dumped_messages_are_refused_for_want_of_memory_alone()
     ensures { (records : List Record) (table : List Row) (sequences : List Sequence) (m : List ℕ)
         (s : Sections) (template : Tree) (values : Values) (used at : ℕ) (why : DocumentFault)
         → AreRows records table → IsAccepted table sequences m s template values used
-        → IsDocumentRefusal (told_refusal why)
+        → IsDocumentRefusal (reported_refusal why)
         (encoding_of table sequences (document_of at s (dump_items_in table template s values)))
         → why ≡ Memory }
 {}
@@ -93,11 +94,11 @@ pub fn canonical_messages_are_encoded_to_themselves()
         ≡ Ok m }
 {}
 
-/// The document of an accepted message's dump text is encoded in each form to a message with the
-/// same reading, but for the flag of compression: the same head, local octets, section 2,
+/// The document of an accepted message's dump text is encoded in each form. The message has the
+/// same reading, but for the flag of compression. It has the same head, local octets, section 2,
 /// descriptors, number of subsets, and items of each subset. In the form that it says nothing
-/// refuses it; in plain form its length may, and in compressed form its length, factors that differ
-/// between subsets, and contents that no increments tell apart.
+/// refuses it. In plain form its length may. In compressed form its length, factors that differ
+/// between subsets, and contents that no increments distinguish may.
 pub fn dumped_messages_are_encoded_in_each_form()
     ensures { (records : List Record) (table : List Row) (sequences : List Sequence) (m : List ℕ)
         (s : Sections) (template : Tree) (values : Values) (used at : ℕ) (form : Form)
@@ -107,17 +108,19 @@ pub fn dumped_messages_are_encoded_in_each_form()
         (document_of at s (dump_items_in table template s values))) }
 {}
 
-/// A fault that may be told of such an encoding is
-/// [`DocumentFault::Memory`](crate::DocumentFault::Memory), in plain and compressed form also
-/// [`DocumentFault::TooLong`](crate::DocumentFault::TooLong), and in compressed form
-/// [`DocumentFault::UnequalFactor`](crate::DocumentFault::UnequalFactor) or
+/// Such an encoding may be refused in any form by
+/// [`DocumentFault::Memory`](crate::DocumentFault::Memory).
+/// In plain and compressed form [`DocumentFault::TooLong`](crate::DocumentFault::TooLong) may come
+/// too.
+/// In compressed form these may come too:
+/// [`DocumentFault::UnequalFactor`](crate::DocumentFault::UnequalFactor) and
 /// [`DocumentFault::Increment`](crate::DocumentFault::Increment).
 pub fn dumped_messages_are_refused_for_their_form_alone()
     ensures { (records : List Record) (table : List Row) (sequences : List Sequence) (m : List ℕ)
         (s : Sections) (template : Tree) (values : Values) (used at : ℕ) (form : Form)
         (why : DocumentFault)
         → AreRows records table → IsAccepted table sequences m s template values used
-        → IsDocumentRefusal (told_refusal why)
+        → IsDocumentRefusal (reported_refusal why)
         (encoding_in form table sequences
         (document_of at s (dump_items_in table template s values)))
         → IsFaultIn form why }

@@ -6,7 +6,7 @@ use thiserror::Error;
 /// Why a dump text cannot be read on. Lines are counted from 1, over all documents of the input.
 #[derive(Clone, Copy, Debug, PartialEq, Eq, Error)]
 pub enum ReadFault {
-    /// This line is none that can stand there, or it is over 4,096 octets long, or the input ends
+    /// This line is none that can be there, or it is over 4,096 octets long, or the input ends
     /// before it and inside a document.
     #[error("line {0} is not one that can stand there")]
     Line(u64),

@@ -17,7 +17,7 @@ fn either_value(octet: u8) -> Option<u8>
     }
 }
 
-/// Puts the octets that digits write to the front of `out`; answers how many they are.
+/// Puts the octets that digits write to the start of `out`; answers how many they are.
 pub(crate) fn decode_hex(text: &[u8], out: &mut [u8]) -> Option<usize>
     requires { length text.now ≤ 2 * length out.old }
     ensures { Unhexes text.now out.new result }

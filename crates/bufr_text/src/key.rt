@@ -7,7 +7,7 @@ ghost use Rattle.bufr_text.specs.Line.{key_in, keys, leasts, mosts, place_from};
 
 use crate::number::is;
 
-/// A key: what stands before its value (a line feed, its name and a space), its least value, and
+/// A key: what is before its value (a line feed, its name and a space), and its least value. Then
 /// its greatest value in edition 3 and in edition 4.
 pub(crate) struct Key(pub(crate) &'static [u8], u16, u16, u16);
 
@@ -46,7 +46,7 @@ fn keys() -> &'static [Key]
     &KEYS
 }
 
-/// Whether what stands before a key's value has this name.
+/// Whether what is before a key's value has this name.
 fn is_named(lead: &[u8], name: &[u8]) -> bool
     ensures { result ≡ is_named lead.now name.now }
 {
@@ -63,7 +63,7 @@ fn position(keys: &[Key], name: &[u8]) -> Option<usize>
     keys.iter().position(|key| is_named(key.0, name))
 }
 
-/// The name of the key at a place, and the space behind it.
+/// The name of the key at a place, and the space after it.
 pub(crate) fn word_at(place: usize) -> Option<&'static [u8]>
     ensures few { IfSome result (λ _. place < 20) }
     ensures word { IfSome result (λ word. word.now ≡ (key_in keys place).name ++ 32 ∷ []) }

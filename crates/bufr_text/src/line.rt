@@ -19,7 +19,7 @@ use memchr::memchr;
 /// The most octets of a line, without its line feed.
 pub(crate) const MAX_LINE: usize = 4096;
 
-/// How many octets stand before the first space.
+/// How many octets are before the first space.
 fn word_len(line: &[u8]) -> usize
     ensures within { result ≤ length line.now }
     ensures word { take result line.now ≡ prefix_while is_no_space line.now }
@@ -31,10 +31,10 @@ fn word_len(line: &[u8]) -> usize
     }
 }
 
-/// The octets, 1 to 32 of them, that the digits behind one space write; they are put into
+/// The octets, 1 to 32 of them, that the digits after one space write; they are put into
 /// `scratch`.
 // rule: reading-long-lists
-fn octets_behind<'a>(rest: &[u8], scratch: &'a mut [u8]) -> Option<&'a [u8]>
+fn octets_after<'a>(rest: &[u8], scratch: &'a mut [u8]) -> Option<&'a [u8]>
     requires { length rest.now ≤ length scratch.old }
     ensures { (line : List ℕ → Line) → made line (option_map (λ s. s.now) result)
         ≡ made (λ text. made (with_one_to 32 line) (hex_read text)) (without_space rest.now) }
@@ -57,7 +57,7 @@ fn descriptors<'a>(rest: &[u8], words: &'a mut [u16]) -> Option<ParsedLine<'a>>
     Some(ParsedLine::Descriptors(&words[..count]))
 }
 
-/// A line of the header: the place of its key, and the number behind one space.
+/// A line of the header: the place of its key, and the number after one space.
 fn header<'a>(word: &[u8], rest: &[u8]) -> Option<ParsedLine<'a>>
     ensures { made meaning result ≡ made (λ place.
         made (λ text. made (spec.Header place) (number_read text)) (without_space rest.now))
@@ -68,7 +68,7 @@ fn header<'a>(word: &[u8], rest: &[u8]) -> Option<ParsedLine<'a>>
     Some(ParsedLine::Header { key, value })
 }
 
-/// `subset` and its number behind one space.
+/// `subset` and its number after one space.
 fn subset<'a>(rest: &[u8]) -> Option<ParsedLine<'a>>
     ensures { made meaning result
         ≡ made (λ text. made spec.Begins (number_read text)) (without_space rest.now) }
@@ -77,7 +77,7 @@ fn subset<'a>(rest: &[u8]) -> Option<ParsedLine<'a>>
     Some(ParsedLine::Begins(subset))
 }
 
-/// What a word says that stands alone.
+/// What a word alone says.
 fn alone<'a>(rest: &[u8], line_within_limit: ParsedLine<'a>) -> Option<ParsedLine<'a>>
     ensures { made meaning result
         ≡ (if length rest.now == 0 then meaning line_within_limit.entry else spec.Wrong) }
@@ -104,11 +104,11 @@ fn worded<'a>(
         return alone(rest, ParsedLine::Opens);
     }
     if is(word, b"local1") {
-        let octets = octets_behind(rest, octets.as_mut_slice())?;
+        let octets = octets_after(rest, octets.as_mut_slice())?;
         return Some(ParsedLine::Local1(octets));
     }
     if is(word, b"section2") {
-        let octets = octets_behind(rest, octets.as_mut_slice())?;
+        let octets = octets_after(rest, octets.as_mut_slice())?;
         return Some(ParsedLine::Section2(octets));
     }
     if is(word, b"descriptors") {
@@ -126,7 +126,7 @@ fn worded<'a>(
     header(word, rest)
 }
 
-/// The number of a header line, where this key stands in front.
+/// The number of a header line, where this key comes first.
 #[inline(always)]
 fn value_after_space(line: &[u8], key: usize) -> Option<u32>
     ensures { IfSome result (λ value. line_of line.now ≡ spec.Header key value) }

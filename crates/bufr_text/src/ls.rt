@@ -95,7 +95,7 @@ fn push_counts<W: Sink>(line: &mut LineWriter<'_, '_, W>, message: &Message<'_>)
 ///
 /// # Errors
 ///
-/// [`RunFault::Write`] where the writer fails or takes nothing; a front of the line was taken.
+/// [`RunFault::Write`] where the writer fails or takes nothing; a prefix of the line was taken.
 // rule: listing-line, listing-offset-and-length
 pub fn write_ls<W: Sink>(offset: u64, message: &Message<'_>, w: &mut W) -> Result<(), RunFault>
     ensures writes { Writes (W.taken w.old) (W.taken w.new) (ls_line offset message.now) result }

@@ -15,7 +15,7 @@ use crate::step::{LineEffect, LineRefusal, ParserState, step};
 use memchr::memchr;
 use std::alloc::{AllocError, Global};
 
-/// How far the reading has come: where it stands, and the document that is being read.
+/// How far the reading has come: where it is, and the document that is being read.
 #[derive(Drop)]
 pub(crate) struct Progress {
     pub(crate) place: ParserState,
@@ -50,7 +50,7 @@ pub(crate) fn take_line(
     octets: &mut [u8; MAX_LINE],
     words: &mut [u16; MOST_WORDS],
 ) -> Result<LineEffect, AllocError>
-    requires stands { IsParserState progress.old.at
+    requires holds { IsParserState progress.old.at
         (place_with progress.old.place progress.old.parts) }
     ensures turns { IfOk result (λ t. turned t progress.new.parts ≡ documents.turn progress.old.at
         (place_with progress.old.place progress.old.parts) (line_within_limit line.now)) }
@@ -76,7 +76,7 @@ pub(crate) fn take_lines(
     held: &[u8],
     octets: &mut [u8; MAX_LINE],
 ) -> Result<(usize, TakeResult), AllocError>
-    requires stands { IsParserState progress.old.at
+    requires holds { IsParserState progress.old.at
         (place_with progress.old.place progress.old.parts) }
     requires some { 0 < progress.old.at }
     requires few { progress.old.at + length held.now < 2 ^ 63 }

@@ -5,7 +5,7 @@ ghost use Rattle.bufr_text.specs.Unquoting.{quoting_said, Unquotes};
 
 use crate::slice::{octet_at, suffix};
 
-/// What stands in front of a text.
+/// How a text begins.
 #[derive(Clone, Copy)]
 pub(crate) enum QuotedToken {
     /// The quote that ends it.
@@ -28,7 +28,7 @@ fn upper_value(octet: u8) -> Option<u8>
     }
 }
 
-/// Whether an octet of a text stands for itself.
+/// Whether an octet of a text is unescaped.
 pub(crate) fn is_unescaped(octet: u8) -> bool
     ensures { result ≡ is_unescaped octet }
 {
@@ -58,7 +58,7 @@ fn escape(text: &[u8]) -> QuotedToken
     }
 }
 
-/// What stands in front of a text.
+/// How a text begins.
 // rule: reading-quoted
 fn first_part(text: &[u8]) -> QuotedToken
     ensures { quoting_said result ≡ quoting_of text.now }
@@ -71,8 +71,8 @@ fn first_part(text: &[u8]) -> QuotedToken
     }
 }
 
-/// Puts the octets of a text to the front of `out`; answers how many they are, and where the text
-/// goes on behind its closing quote.
+/// Puts the octets of a text to the start of `out`; answers how many they are, and where the text
+/// goes on after its closing quote.
 pub(crate) fn decode_quoted(text: &[u8], out: &mut [u8]) -> Option<(usize, usize)>
     requires { length text.now ≤ length out.old }
     ensures { Unquotes text.now out.new result }

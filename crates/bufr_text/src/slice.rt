@@ -2,14 +2,14 @@
 ghost use Rattle.std.specs.Prelude.{◌≡◌, ◌≤◌, length, drop, take, slice_index, option_map, IfSome};
 ghost use Rattle.bufr_text.specs.Grammar.{without_space, without_prefix};
 
-/// The octet at a place, or 0 behind the end.
+/// The octet at a place, or 0 after the end.
 pub(crate) fn octet_at(text: &[u8], place: usize) -> u8
     ensures { result ≡ slice_index text.now place }
 {
     if place < text.len() { text[place] } else { 0 }
 }
 
-/// The octets in front of a place.
+/// The octets before a place.
 pub(crate) fn ahead<'a>(text: &'a [u8], place: usize) -> &'a [u8]
     requires { place ≤ length text.now }
     ensures { result.now ≡ take place text.now }
@@ -17,7 +17,7 @@ pub(crate) fn ahead<'a>(text: &'a [u8], place: usize) -> &'a [u8]
     &text[..place]
 }
 
-/// What is behind a place.
+/// What is after a place.
 pub(crate) fn suffix<'a>(text: &'a [u8], place: usize) -> &'a [u8]
     requires { place ≤ length text.now }
     ensures { result.now ≡ drop place text.now }
@@ -25,7 +25,7 @@ pub(crate) fn suffix<'a>(text: &'a [u8], place: usize) -> &'a [u8]
     &text[place..]
 }
 
-/// What is behind a word.
+/// What is after a word.
 pub(crate) fn without_prefix<'a>(text: &'a [u8], word: &[u8]) -> Option<&'a [u8]>
     ensures value { option_map (λ s. s.now) result ≡ without_prefix word.now text.now }
     ensures within { IfSome result (λ s. length s.now ≤ length text.now) }
@@ -33,7 +33,7 @@ pub(crate) fn without_prefix<'a>(text: &'a [u8], word: &[u8]) -> Option<&'a [u8]
     text.strip_prefix(word)
 }
 
-/// What is behind one space.
+/// What is after one space.
 #[tactic(auto, using(crate::proofs::ItemLemmas::space_steps))]
 #[inline(always)]
 pub(crate) fn without_space<'a>(text: &'a [u8]) -> Option<&'a [u8]>

@@ -2,14 +2,14 @@
 ghost use Rattle.std.specs.Prelude.{◌≡◌, ◌<◌, length, true, IfOk, OnErr};
 ghost use Rattle.bufr_text.specs.Document as spec;
 ghost use Rattle.bufr_text.specs.Line as line;
-ghost use Rattle.bufr_text.specs.Documents.{heading, laying, filling, beginning, closing, opening, turn, adds};
+ghost use Rattle.bufr_text.specs.Documents.{heading, before_subsets, filling, beginning, closing, opening, turn, adds};
 ghost use Rattle.bufr_text.specs.Step.{meaning, part_number, place_with, turned, IsParserState};
 
 use crate::document::{DocumentParts, ValueKind};
 use crate::key::in_range;
 use std::alloc::AllocError;
 
-/// What a line says. Octets of hexadecimal digits and of texts are those that they stand for.
+/// What a line says. Octets of hexadecimal digits and of texts are those that they mean.
 #[derive(Clone, Copy)]
 pub(crate) enum ParsedLine<'a> {
     Passed,
@@ -31,7 +31,7 @@ pub(crate) enum ParsedLine<'a> {
     Wrong,
 }
 
-/// How far the parts before the subsets have come: they stand in this order.
+/// How far the parts before the subsets have come: they are in this order.
 #[derive(Clone, Copy)]
 pub(crate) enum LineGroup {
     Local1,
@@ -55,13 +55,13 @@ impl LineGroup {
     }
 }
 
-/// Where the reading stands.
+/// Where the reading is.
 #[derive(Clone, Copy)]
 pub(crate) enum ParserState {
     Between,
     Heading,
     /// Behind the header, before the first subset.
-    Laying(LineGroup),
+    BeforeSubsets(LineGroup),
     /// In this subset.
     Filling(u32),
 }
@@ -97,7 +97,7 @@ fn heading(parts: &mut DocumentParts, key: usize, value: u32) -> LineEffect
     }
     parts.push_value(value as u16);
     if key == 19 {
-        LineEffect::WalkGoes(ParserState::Laying(LineGroup::Local1))
+        LineEffect::WalkGoes(ParserState::BeforeSubsets(LineGroup::Local1))
     } else {
         LineEffect::WalkGoes(ParserState::Heading)
     }
@@ -128,30 +128,31 @@ fn closing(parts: &DocumentParts, read: u32) -> LineEffect
     }
 }
 
-/// A line behind the header and before the first subset.
+/// A line after the header and before the first subset.
 // rule: reading-section2
-fn laying(
+fn before_subsets(
     parts: &mut DocumentParts,
     part: LineGroup,
     said: ParsedLine<'_>,
 ) -> Result<LineEffect, AllocError>
     ensures turns { IfOk result
-        (λ t. turned t parts.new ≡ laying (part_number part) parts.old (meaning said.entry)) }
+        (λ t. turned t parts.new
+        ≡ before_subsets (part_number part) parts.old (meaning said.entry)) }
     ensures wants { OnErr result
-        (adds (place_with (ParserState.Laying part) parts.old) (meaning said.entry) ≡ true) }
+        (adds (place_with (ParserState.BeforeSubsets part) parts.old) (meaning said.entry) ≡ true) }
 {
     let turn = match said {
         ParsedLine::Local1(octets) if part.number() == 0 => {
             parts.extend_local1(octets)?;
-            LineEffect::WalkGoes(ParserState::Laying(LineGroup::Local1))
+            LineEffect::WalkGoes(ParserState::BeforeSubsets(LineGroup::Local1))
         }
         ParsedLine::Section2(octets) if part.number() <= 1 && parts.value(18) == 1 => {
             parts.extend_section2(octets)?;
-            LineEffect::WalkGoes(ParserState::Laying(LineGroup::Section2))
+            LineEffect::WalkGoes(ParserState::BeforeSubsets(LineGroup::Section2))
         }
         ParsedLine::Descriptors(words) => {
             parts.extend_descriptors(words)?;
-            LineEffect::WalkGoes(ParserState::Laying(LineGroup::Descriptors))
+            LineEffect::WalkGoes(ParserState::BeforeSubsets(LineGroup::Descriptors))
         }
         ParsedLine::Begins(subset) => beginning(parts, 0, subset),
         ParsedLine::Closes => closing(parts, 0),
@@ -229,7 +230,7 @@ pub(crate) fn step(
             ParsedLine::Header { key, value } => Ok(heading(parts, key, value)),
             _ => Ok(LineEffect::Refuses(LineRefusal::NotAllowed)),
         },
-        ParserState::Laying(part) => laying(parts, part, said),
+        ParserState::BeforeSubsets(part) => before_subsets(parts, part, said),
         ParserState::Filling(subset) => filling(parts, at, subset, said),
     }
 }

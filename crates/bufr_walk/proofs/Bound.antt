@@ -40,11 +40,11 @@ module _ (table : List Row) (n : ℕ) where
       by true = omega (arith, asked_turns (inserted_spec s fxy) (λ t more. ahead table next (after_field s fxy t) more) items a (λ t more. h (after_field s fxy t) more))
       by false = operated_turns (after_operator s fxy) (λ s'. ahead table next s' items) items a (λ s'. h s' items)
 
-  operator_pays : (fxy : ℕ) (behind : Bool) (s : OperatorModel) (next : Turns) (items : List Taken) (a z : ℕ) → a - n ≤ z → ((s' : OperatorModel) (more : List Taken) → (ahead table next s' more).turns ≤ a + n * length more) → (behind ≡ true → (s' : OperatorModel) → (ahead table next s' items).turns ≤ z + n * length items) → (is_inserted_text fxy || behind) ≡ true
+  operator_pays : (fxy : ℕ) (suffix : Bool) (s : OperatorModel) (next : Turns) (items : List Taken) (a z : ℕ) → a - n ≤ z → ((s' : OperatorModel) (more : List Taken) → (ahead table next s' more).turns ≤ a + n * length more) → (suffix ≡ true → (s' : OperatorModel) → (ahead table next s' items).turns ≤ z + n * length items) → (is_inserted_text fxy || suffix) ≡ true
       → (ahead table (operator_turn fxy next) s items).turns ≤ 1 + z + n * length items
-  operator_pays fxy behind s next items a z near h g c = by (is_inserted_text fxy) c
+  operator_pays fxy suffix s next items a z near h g c = by (is_inserted_text fxy) c
     where
-      by : (b : Bool) → (b || behind) ≡ true → (if b then asked (inserted_spec s fxy) (λ t more. ahead table next (after_field s fxy t) more) items else operated (after_operator s fxy) (λ s'. ahead table next s' items)).turns ≤ 1 + z + n * length items
+      by : (b : Bool) → (b || suffix) ≡ true → (if b then asked (inserted_spec s fxy) (λ t more. ahead table next (after_field s fxy t) more) items else operated (after_operator s fxy) (λ s'. ahead table next s' items)).turns ≤ 1 + z + n * length items
       by true q = omega (arith, near, asked_turns (inserted_spec s fxy) (λ t more. ahead table next (after_field s fxy t) more) items a (λ t more. h (after_field s fxy t) more))
       by false q = operated_turns (after_operator s fxy) (λ s'. ahead table next s' items) items z (λ s'. g q s')
 
@@ -73,7 +73,7 @@ module _ (table : List Row) (n : ℕ) where
     bounded (element fxy more) h g a rest b = λ counts s items.
         omega (arith, asked_turns (element_spec table s fxy) (λ t more_items. ahead table (unroll more rest counts) (after_field s fxy t) more_items) items (size more + a) (λ t more_items. bounded more (omega arith) g a rest b counts (after_field s fxy t) more_items))
     bounded (operator fxy more) h g a rest b = λ counts s items.
-        omega (arith, operator_turns fxy s (unroll more rest counts) items (size more + a) (λ s' told. bounded more (omega arith) g a rest b counts s' told))
+        omega (arith, operator_turns fxy s (unroll more rest counts) items (size more + a) (λ s' answers. bounded more (omega arith) g a rest b counts s' answers))
     bounded (fixed count body more) h g a rest b = λ counts s items.
         omega (arith, passes_any body (omega arith) (pays body (omega arith) g.1.1.0 g.1.0) count (size more + a) (unroll more rest) (bounded more (omega arith) g.1.1.1 a rest b) counts s items)
     bounded (delayed fxy body more) h g a rest b = λ counts s items.
@@ -84,7 +84,7 @@ module _ (table : List Row) (n : ℕ) where
     pays (element fxy more) h g c a rest b = λ counts s items.
         omega (arith, asked_turns (element_spec table s fxy) (λ t more_items. ahead table (unroll more rest counts) (after_field s fxy t) more_items) items (size more + a) (λ t more_items. bounded more (omega arith) g a rest b counts (after_field s fxy t) more_items))
     pays (operator fxy more) h g c a rest b = λ counts s items.
-        omega (arith, operator_pays fxy (consumes more) s (unroll more rest counts) items (size more + a) (size more + (a - n)) (omega arith) (λ s' told. bounded more (omega arith) g a rest b counts s' told) (λ c' s'. pays more (omega arith) g c' a rest b counts s' items) c)
+        omega (arith, operator_pays fxy (consumes more) s (unroll more rest counts) items (size more + a) (size more + (a - n)) (omega arith) (λ s' answers. bounded more (omega arith) g a rest b counts s' answers) (λ c' s'. pays more (omega arith) g c' a rest b counts s' items) c)
     pays (fixed zero body more) h g c a rest b = absurd (omega arith)
     pays (fixed (suc k) body more) h g c a rest b = λ counts s items.
         omega (arith, passes_some body (omega arith) (pays body (omega arith) g.1.1.0 g.1.0) k (size more + a) (unroll more rest) (bounded more (omega arith) g.1.1.1 a rest b) counts s items)
@@ -112,11 +112,11 @@ module _ (table : List Row) (n : ℕ) where
       by true q = omega (arith, asked_end (inserted_spec s fxy) (λ t more. ahead table next (after_field s fxy t) more) items d a (λ t more w. h (after_field s fxy t) more w) q)
       by false q = operated_end (after_operator s fxy) (λ s'. ahead table next s' items) items d a (λ s' w. h s' items w) q
 
-  operator_pays_end : (fxy : ℕ) (behind : Bool) (s : OperatorModel) (next : Turns) (items : List Taken) (d a : ℕ) → ((s' : OperatorModel) (more : List Taken) → (ahead table next s' more).next ≡ at_end → (ahead table next s' more).turns + d ≤ a + n * length more) → (behind ≡ true → (s' : OperatorModel) → (ahead table next s' items).next ≡ at_end → (ahead table next s' items).turns + (n + d) ≤ a + n * length items)
-      → (is_inserted_text fxy || behind) ≡ true → (ahead table (operator_turn fxy next) s items).next ≡ at_end → (ahead table (operator_turn fxy next) s items).turns + (n + d) ≤ 1 + a + n * length items
-  operator_pays_end fxy behind s next items d a h g c e = by (is_inserted_text fxy) c e
+  operator_pays_end : (fxy : ℕ) (suffix : Bool) (s : OperatorModel) (next : Turns) (items : List Taken) (d a : ℕ) → ((s' : OperatorModel) (more : List Taken) → (ahead table next s' more).next ≡ at_end → (ahead table next s' more).turns + d ≤ a + n * length more) → (suffix ≡ true → (s' : OperatorModel) → (ahead table next s' items).next ≡ at_end → (ahead table next s' items).turns + (n + d) ≤ a + n * length items)
+      → (is_inserted_text fxy || suffix) ≡ true → (ahead table (operator_turn fxy next) s items).next ≡ at_end → (ahead table (operator_turn fxy next) s items).turns + (n + d) ≤ 1 + a + n * length items
+  operator_pays_end fxy suffix s next items d a h g c e = by (is_inserted_text fxy) c e
     where
-      by : (b : Bool) → (b || behind) ≡ true → (if b then asked (inserted_spec s fxy) (λ t more. ahead table next (after_field s fxy t) more) items else operated (after_operator s fxy) (λ s'. ahead table next s' items)).next ≡ at_end
+      by : (b : Bool) → (b || suffix) ≡ true → (if b then asked (inserted_spec s fxy) (λ t more. ahead table next (after_field s fxy t) more) items else operated (after_operator s fxy) (λ s'. ahead table next s' items)).next ≡ at_end
           → (if b then asked (inserted_spec s fxy) (λ t more. ahead table next (after_field s fxy t) more) items else operated (after_operator s fxy) (λ s'. ahead table next s' items)).turns + (n + d) ≤ 1 + a + n * length items
       by true p q = omega (arith, asked_end (inserted_spec s fxy) (λ t more. ahead table next (after_field s fxy t) more) items d a (λ t more w. h (after_field s fxy t) more w) q)
       by false p q = operated_end (after_operator s fxy) (λ s'. ahead table next s' items) items (n + d) a (λ s' w. g p s' w) q
@@ -145,7 +145,7 @@ module _ (table : List Row) (n : ℕ) where
     ended (element fxy more) h g d a rest b = λ counts s items e.
         omega (arith, asked_end (element_spec table s fxy) (λ t more_items. ahead table (unroll more rest counts) (after_field s fxy t) more_items) items d (size more + a) (λ t more_items w. ended more (omega arith) g d a rest b counts (after_field s fxy t) more_items w) e)
     ended (operator fxy more) h g d a rest b = λ counts s items e.
-        omega (arith, operator_end fxy s (unroll more rest counts) items d (size more + a) (λ s' told w. ended more (omega arith) g d a rest b counts s' told w) e)
+        omega (arith, operator_end fxy s (unroll more rest counts) items d (size more + a) (λ s' answers w. ended more (omega arith) g d a rest b counts s' answers w) e)
     ended (fixed count body more) h g d a rest b = λ counts s items e.
         omega (arith, any_end body (omega arith) (pays_end body (omega arith) g.1.1.0 g.1.0) count d (size more + a) (unroll more rest) (ended more (omega arith) g.1.1.1 d a rest b) counts s items e)
     ended (delayed fxy body more) h g d a rest b = λ counts s items e.
@@ -156,7 +156,7 @@ module _ (table : List Row) (n : ℕ) where
     pays_end (element fxy more) h g c d a rest b = λ counts s items e.
         omega (arith, asked_end (element_spec table s fxy) (λ t more_items. ahead table (unroll more rest counts) (after_field s fxy t) more_items) items d (size more + a) (λ t more_items w. ended more (omega arith) g d a rest b counts (after_field s fxy t) more_items w) e)
     pays_end (operator fxy more) h g c d a rest b = λ counts s items e.
-        omega (arith, operator_pays_end fxy (consumes more) s (unroll more rest counts) items d (size more + a) (λ s' told w. ended more (omega arith) g d a rest b counts s' told w) (λ c' s' w. pays_end more (omega arith) g c' d a rest b counts s' items w) c e)
+        omega (arith, operator_pays_end fxy (consumes more) s (unroll more rest counts) items d (size more + a) (λ s' answers w. ended more (omega arith) g d a rest b counts s' answers w) (λ c' s' w. pays_end more (omega arith) g c' d a rest b counts s' items w) c e)
     pays_end (fixed zero body more) h g c d a rest b = absurd (omega arith)
     pays_end (fixed (suc k) body more) h g c d a rest b = λ counts s items e.
         omega (arith, some_end body (omega arith) (pays_end body (omega arith) g.1.1.0 g.1.0) k d (size more + a) (unroll more rest) (ended more (omega arith) g.1.1.1 d a rest b) counts s items e)
@@ -164,18 +164,18 @@ module _ (table : List Row) (n : ℕ) where
         omega (arith, delayed_end fxy body more rest d a (λ j. any_end body (omega arith) (pays_end body (omega arith) g.1.0 g.0) j d (size more + a) (unroll more rest) (ended more (omega arith) g.1.1 d a rest b)) counts s items e)
 
 -- up to any next: at most n turns for each item, and n more
-pub turns_before : (table : List Row) (t : Tree) (told : List Taken) → IsSound t → (next_item table t told).turns ≤ places t * (length told + 1)
+pub turns_before : (table : List Row) (t : Tree) (answers : List Taken) → IsSound t → (next_item table t answers).turns ≤ places t * (length answers + 1)
 unfolding next_item
-turns_before table t told g = omega (arith, bounded table (1 + size t) t (omega arith) g.0 1 (λ _. finish) (λ counts s items'. omega arith) (counts_of told) begin told)
+turns_before table t answers g = omega (arith, bounded table (1 + size t) t (omega arith) g.0 1 (λ _. finish) (λ counts s items'. omega arith) (counts_of answers) begin answers)
 
 -- up to the end: at most n turns for each item
-pub turns_in_all : (table : List Row) (t : Tree) (told : List Taken) → IsSound t → (next_item table t told).next ≡ at_end → (next_item table t told).turns ≤ places t * length told
+pub turns_in_all : (table : List Row) (t : Tree) (answers : List Taken) → IsSound t → (next_item table t answers).next ≡ at_end → (next_item table t answers).turns ≤ places t * length answers
 unfolding next_item
-turns_in_all table t told g e = omega (arith, pays_end table (1 + size t) t (omega arith) g.0 g.1 0 1 (λ _. finish) (λ counts s items' w. omega arith) (counts_of told) begin told e)
+turns_in_all table t answers g e = omega (arith, pays_end table (1 + size t) t (omega arith) g.0 g.1 0 1 (λ _. finish) (λ counts s items' w. omega arith) (counts_of answers) begin answers e)
 
-told_length : (items : List TakenField) → length (answers_of items) ≡ length items
-told_length [] = refl
-told_length (i ∷ items) = ap suc (told_length items)
+answer_length : (items : List TakenField) → length (answers_of items) ≡ length items
+answer_length [] = refl
+answer_length (i ∷ items) = ap suc (answer_length items)
 
 by_bits : (n a b k : ℕ) → a + k ≤ b → n * k ≤ n * (b - a)
 by_bits n a b k u = mul-le-mul_left n (let h : k ≤ b - a = omega arith in h)
@@ -203,7 +203,7 @@ module _ {S E : Type 0} (takes : S → FieldSpec → Result Taken E → S → Ty
   pub steps_ok : (table : List Row) (t : Tree) (s : S) (c : ℕ) (s' : S) (c' : ℕ) → IsSound t → Walked takes (next_item table t) s c (Ok tt) s' c' → c' ≤ c + places t * (used s' - used s)
   steps_ok table t s c s' c' sound w =
       let paid : used s + length w.0 ≤ used s' = items_used (next_item table t) s w.0 s' w.1 in
-      let turns : (next_item table t (answers_of w.0)).turns ≤ places t * length w.0 = subst (λ k. (next_item table t (answers_of w.0)).turns ≤ places t * k) (told_length w.0) (turns_in_all table t (answers_of w.0) sound w.2) in
+      let turns : (next_item table t (answers_of w.0)).turns ≤ places t * length w.0 = subst (λ k. (next_item table t (answers_of w.0)).turns ≤ places t * k) (answer_length w.0) (turns_in_all table t (answers_of w.0) sound w.2) in
       let bits : places t * length w.0 ≤ places t * (used s' - used s) = by_bits (places t) (used s) (used s') (length w.0) paid in
       ticks_at_most c (next_item table t (answers_of w.0)).turns c' _ w.3 (omega (arith, turns, bits))
 
@@ -211,6 +211,6 @@ module _ {S E : Type 0} (takes : S → FieldSpec → Result Taken E → S → Ty
   steps_err table t s c why s' c' sound w =
       let same : used w.1 ≤ used s' = stop_keeps (next_item table t (answers_of w.0)).next w.1 why s' w.3 in
       let paid : used s + length w.0 ≤ used w.1 = items_used (next_item table t) s w.0 w.1 w.2 in
-      let turns : (next_item table t (answers_of w.0)).turns ≤ places t * (length w.0 + 1) = subst (λ k. (next_item table t (answers_of w.0)).turns ≤ places t * (k + 1)) (told_length w.0) (turns_before table t (answers_of w.0) sound) in
+      let turns : (next_item table t (answers_of w.0)).turns ≤ places t * (length w.0 + 1) = subst (λ k. (next_item table t (answers_of w.0)).turns ≤ places t * (k + 1)) (answer_length w.0) (turns_before table t (answers_of w.0) sound) in
       let bits : places t * (length w.0 + 1) ≤ places t * (used s' - used s + 1) = mul-le-mul_left (places t) (let h : length w.0 + 1 ≤ used s' - used s + 1 = omega (arith, same, paid) in h) in
       ticks_at_most c (next_item table t (answers_of w.0)).turns c' _ w.4 (omega (arith, turns, bits))

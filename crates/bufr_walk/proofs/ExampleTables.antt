@@ -64,7 +64,7 @@ module _ {C V : Type 0} (form : DataCoding C) (shows : FieldSpec → C → V) (c
   field_pass : FieldSpec → ℕ → ℕ → Result (FieldRead C) FieldFault → (C → List Bool → Pass V) → Pass V
   unfolding with_open_group ended
   field_pass spec left turns (Err why) go = ended (field_fault spec.fxy why left turns)
-  field_pass spec left turns (Ok f) go = with_open_group (spec.fxy, shows spec f.content) (go f.content f.behind)
+  field_pass spec left turns (Ok f) go = with_open_group (spec.fxy, shows spec f.content) (go f.content f.suffix)
 
   next_pass : Next → ℕ → ℕ → (FieldSpec → Pass V) → Pass V
   unfolding with_open_group ended
@@ -75,10 +75,10 @@ module _ {C V : Type 0} (form : DataCoding C) (shows : FieldSpec → C → V) (c
 
   pass : ℕ → List Taken → List Bool → Pass V
   unfolding next_pass field_pass ended
-  pass zero told bits = ended unknown
-  pass (suc more) told bits =
-      let a = course told in
-      next_pass a.next (length bits) a.turns (λ spec. field_pass spec (length bits) a.turns (form.field spec bits) (λ c behind. pass more (told ++ form.tells spec c ∷ []) behind))
+  pass zero answers bits = ended unknown
+  pass (suc more) answers bits =
+      let a = course answers in
+      next_pass a.next (length bits) a.turns (λ spec. field_pass spec (length bits) a.turns (form.field spec bits) (λ c suffix. pass more (answers ++ form.gives spec c ∷ []) suffix))
 
 -- one subset of data that are not compressed
 unfoldable pub one : Tree → List ℕ → Pass ShownValue
@@ -90,17 +90,17 @@ unfoldable pub together : ℕ → Tree → List ℕ → Pass (List ShownValue)
 unfolding table pass next_item bits_of
 together n tree octets = pass (packed n) (λ spec cs. map (shown spec) cs) (next_item table tree) 40 [] (bits_of octets)
 
-behind : {V : Type 0} → Ending → (ℕ → List V) → List V
-behind (done left turns) go = go left
-behind (walk_fault why left turns) go = []
-behind (field_fault fxy why left turns) go = []
-behind unknown go = []
+suffix : {V : Type 0} → Ending → (ℕ → List V) → List V
+suffix (done left turns) go = go left
+suffix (walk_fault why left turns) go = []
+suffix (field_fault fxy why left turns) go = []
+suffix unknown go = []
 
 in_turn : ℕ → Course → List Bool → List (Pass ShownValue)
-unfolding pass behind
+unfolding pass suffix
 in_turn zero course bits = []
 in_turn (suc n) course bits =
-    let p = pass plain shown course 40 [] bits in p ∷ behind p.ending (λ left. in_turn n course (drop (length bits - left) bits))
+    let p = pass plain shown course 40 [] bits in p ∷ suffix p.ending (λ left. in_turn n course (drop (length bits - left) bits))
 
 -- two subsets of data that are not compressed, each from the beginning of the template; nothing is
 -- read after a fault

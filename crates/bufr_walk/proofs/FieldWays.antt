@@ -100,7 +100,7 @@ module _ {S E : Type 0} (takes : S → FieldSpec → Result Taken E → S → Ty
 
   -- turns of a field that is no factor
   pub came_field : (over left : Rest → Rest) (fxy : ℕ) (s : OperatorModel) (f : S) (c : ℕ) (r : Result FieldSpec TurnRefusal) (t : Taken) (f' : S) (c' : ℕ)
-      → ((rest : Rest) (counts : List ℕ) (told : List Taken) → ahead table (over rest counts) s told ≡ asked r (λ u more. ahead table (left rest counts) (after_field s fxy u) more) told)
+      → ((rest : Rest) (counts : List ℕ) (answers : List Taken) → ahead table (over rest counts) s answers ≡ asked r (λ u more. ahead table (left rest counts) (after_field s fxy u) more) answers)
       → ((spec : FieldSpec) → r ≡ Ok spec → spec.role ≡ role.Factor → ⊥) → TakesField takes r f (Ok t) f' → c' ≡ ticked c 1 → HasWalked takes table over left s f c (after_field s fxy t) f' c'
   came_field over left fxy s f c r t f' c' asks none took tick =
       let k = took_ok r f t f' took in
@@ -114,7 +114,7 @@ module _ {S E : Type 0} (takes : S → FieldSpec → Result Taken E → S → Ty
           taken = (f', ap (λ a. a.next) (asks rest [] [] ∙ ap (λ q. asked q (λ u more. ahead table (left rest []) (after_field s fxy u) more) []) k.1), k.2, refl);
           leads = λ more.
               asks rest (counts_in t (counts_of more)) (t ∷ more)
-              ∙ ap (λ q. asked q (λ u later_told. ahead table (left rest (counts_in t (counts_of more))) (after_field s fxy u) later_told) (t ∷ more)) k.1
+              ∙ ap (λ q. asked q (λ u later_answer. ahead table (left rest (counts_in t (counts_of more))) (after_field s fxy u) later_answer) (t ∷ more)) k.1
               ∙ ap (λ counts. later 1 (ahead table (left rest counts) (after_field s fxy t) more)) (plain (counts_of more));
         };
       }
@@ -130,8 +130,8 @@ module _ {S E : Type 0} (takes : S → FieldSpec → Result Taken E → S → Ty
         ticks = tick ∙ ticked_twice c 1 1;
         way = λ rest. record {
           items = record { spec = o.0; taken = taken.Count n } ∷ [];
-          taken = (f', ap (λ q. (asked q (λ u told. ahead table open_end (after_field s fxy u) told) []).next) e, o.2, refl);
-          leads = λ later_told. ap (λ q. later 1 (asked q (λ u told. ahead table (passes n (unroll body) (unroll more (k rest)) (counts_of later_told)) (after_field s fxy u) told) (taken.Count n ∷ later_told))) e ∙ later_twice 1 1 _;
+          taken = (f', ap (λ q. (asked q (λ u answers. ahead table open_end (after_field s fxy u) answers) []).next) e, o.2, refl);
+          leads = λ later_answer. ap (λ q. later 1 (asked q (λ u answers. ahead table (passes n (unroll body) (unroll more (k rest)) (counts_of later_answer)) (after_field s fxy u) answers) (taken.Count n ∷ later_answer))) e ∙ later_twice 1 1 _;
         };
       }
 
@@ -145,7 +145,7 @@ module _ {S E : Type 0} (takes : S → FieldSpec → Result Taken E → S → Ty
 
   -- a field that was not taken
   pub stops_field : (over left : Rest → Rest) (fxy : ℕ) (s : OperatorModel) (f : S) (c : ℕ) (r : Result FieldSpec TurnRefusal) (why : WalkStop E) (f' : S) (c' : ℕ)
-      → ((rest : Rest) (counts : List ℕ) (told : List Taken) → ahead table (over rest counts) s told ≡ asked r (λ u more. ahead table (left rest counts) (after_field s fxy u) more) told)
+      → ((rest : Rest) (counts : List ℕ) (answers : List Taken) → ahead table (over rest counts) s answers ≡ asked r (λ u more. ahead table (left rest counts) (after_field s fxy u) more) answers)
       → TakesField takes r f (Err why) f' → c' ≡ ticked c 1 → StopsIn takes table over s f c why f' c'
   stops_field over left fxy s f c r why f' c' asks took tick = record {
     turns = 1;
@@ -159,21 +159,21 @@ module _ {S E : Type 0} (takes : S → FieldSpec → Result Taken E → S → Ty
   stops_factor fxy body more s f c r why f' c' is took tick k = record {
     turns = 2;
     ticks = tick ∙ ticked_twice c 1 1;
-    way = λ rest. stops_asked 1 (factor_spec table s fxy) (λ u told. ahead table open_end (after_field s fxy u) told) f why f' _ refl (subst (λ q. TakesField takes q f (Err why) f') is took);
+    way = λ rest. stops_asked 1 (factor_spec table s fxy) (λ u answers. ahead table open_end (after_field s fxy u) answers) f why f' _ refl (subst (λ q. TakesField takes q f (Err why) f') is took);
   }
 
   -- an operator that changes the operators in force
-  operator_is : (over left : Rest → Rest) (fxy : ℕ) (s : OperatorModel) → is_inserted_text fxy ≡ false → ((rest : Rest) (counts : List ℕ) → over rest counts ≡ operator_turn fxy (left rest counts)) → (rest : Rest) (counts : List ℕ) (told : List Taken)
-      → ahead table (over rest counts) s told ≡ operated (after_operator s fxy) (λ s'. ahead table (left rest counts) s' told)
-  operator_is over left fxy s x is rest counts told =
-      ap (λ ts. ahead table ts s told) (is rest counts)
-      ∙ ap (λ b. if b then asked (inserted_spec s fxy) (λ t more. ahead table (left rest counts) (after_field s fxy t) more) told else operated (after_operator s fxy) (λ s'. ahead table (left rest counts) s' told)) x
+  operator_is : (over left : Rest → Rest) (fxy : ℕ) (s : OperatorModel) → is_inserted_text fxy ≡ false → ((rest : Rest) (counts : List ℕ) → over rest counts ≡ operator_turn fxy (left rest counts)) → (rest : Rest) (counts : List ℕ) (answers : List Taken)
+      → ahead table (over rest counts) s answers ≡ operated (after_operator s fxy) (λ s'. ahead table (left rest counts) s' answers)
+  operator_is over left fxy s x is rest counts answers =
+      ap (λ ts. ahead table ts s answers) (is rest counts)
+      ∙ ap (λ b. if b then asked (inserted_spec s fxy) (λ t more. ahead table (left rest counts) (after_field s fxy t) more) answers else operated (after_operator s fxy) (λ s'. ahead table (left rest counts) s' answers)) x
 
-  pub inserted_is : (over left : Rest → Rest) (fxy : ℕ) (s : OperatorModel) → is_inserted_text fxy ≡ true → ((rest : Rest) (counts : List ℕ) → over rest counts ≡ operator_turn fxy (left rest counts)) → (rest : Rest) (counts : List ℕ) (told : List Taken)
-      → ahead table (over rest counts) s told ≡ asked (inserted_spec s fxy) (λ t more. ahead table (left rest counts) (after_field s fxy t) more) told
-  inserted_is over left fxy s x is rest counts told =
-      ap (λ ts. ahead table ts s told) (is rest counts)
-      ∙ ap (λ b. if b then asked (inserted_spec s fxy) (λ t more. ahead table (left rest counts) (after_field s fxy t) more) told else operated (after_operator s fxy) (λ s'. ahead table (left rest counts) s' told)) x
+  pub inserted_is : (over left : Rest → Rest) (fxy : ℕ) (s : OperatorModel) → is_inserted_text fxy ≡ true → ((rest : Rest) (counts : List ℕ) → over rest counts ≡ operator_turn fxy (left rest counts)) → (rest : Rest) (counts : List ℕ) (answers : List Taken)
+      → ahead table (over rest counts) s answers ≡ asked (inserted_spec s fxy) (λ t more. ahead table (left rest counts) (after_field s fxy t) more) answers
+  inserted_is over left fxy s x is rest counts answers =
+      ap (λ ts. ahead table ts s answers) (is rest counts)
+      ∙ ap (λ b. if b then asked (inserted_spec s fxy) (λ t more. ahead table (left rest counts) (after_field s fxy t) more) answers else operated (after_operator s fxy) (λ s'. ahead table (left rest counts) s' answers)) x
 
   pub came_operator : (over left : Rest → Rest) (fxy : ℕ) (s s' : OperatorModel) (f : S) (c c' : ℕ) → is_inserted_text fxy ≡ false → ((rest : Rest) (counts : List ℕ) → over rest counts ≡ operator_turn fxy (left rest counts)) → after_operator s fxy ≡ Ok s' → c' ≡ ticked c 1 → HasWalked takes table over left s f c s' f c'
   came_operator over left fxy s s' f c c' x is e tick = record {
@@ -195,7 +195,7 @@ module _ {S E : Type 0} (takes : S → FieldSpec → Result Taken E → S → Ty
   pub whole : (template : Tree) (s s' : OperatorModel) (f f' : S) (c c' c'' : ℕ) → HasWalked takes table (unroll template) (λ rest. rest) s f c s' f' c' → c'' ≡ ticked c' 1 → Walked takes (course table (turns_of template) s) f c (Ok tt) f' c''
   whole template s s' f f' c c' c'' w tick =
       let way : WalkGoes takes (course table (turns_of template) s) f w.turns (course table (λ _. finish) s') f' = w.way (λ _. finish) in
-      let last : course table (turns_of template) s (answers_of way.items) ≡ later w.turns (stop at_end) = ap (λ told. course table (turns_of template) s told) (sym (append-nil (answers_of way.items))) ∙ way.leads [] in
+      let last : course table (turns_of template) s (answers_of way.items) ≡ later w.turns (stop at_end) = ap (λ answers. course table (turns_of template) s answers) (sym (append-nil (answers_of way.items))) ∙ way.leads [] in
       (way.items, way.taken, ap (λ x. x.next) last, tick ∙ ap (λ k. ticked k 1) w.ticks ∙ ticked_twice c w.turns 1 ∙ ap (ticked c) (sym (ap (λ x. x.turns) last)))
 
   pub whole_stops : (template : Tree) (s : OperatorModel) (f f' : S) (c c' : ℕ) (why : WalkStop E) → StopsIn takes table (unroll template) s f c why f' c' → Walked takes (course table (turns_of template) s) f c (Err why) f' c'

@@ -23,7 +23,7 @@ use Rattle.bufr_walk.specs.Walked.{Walked}
 use Rattle.bufr_walk.specs.WalkProgress.{course, HasWalked, StopsIn, TakesField}
 use Rattle.bufr_walk.specs.Stop.{stop_by}
 use Rattle.bufr_walk.specs.Ticks.{ticked}
-use Rattle.bufr_walk.specs.CellWalk.{OpenGroup, frames_of, turns_after_pass, tail_of, AllStand, IsAtNodes, IsAtCell, costs, owed, weight, Turned}
+use Rattle.bufr_walk.specs.CellWalk.{OpenGroup, frames_of, turns_after_pass, tail_of, AllGroupsFit, IsAtNodes, IsAtCell, costs, owed, weight, Turned}
 use Rattle.bufr_walk.proofs.WaysLemmas.{came_none, came_then, came_stops, came_turn}
 use Rattle.bufr_walk.proofs.FieldWays.{came_field, came_factor, stops_field, stops_factor, inserted_is, came_operator, stops_operator, element_role, inserted_role, whole, whole_stops}
 use Rattle.bufr_walk.proofs.FlatWeights.{drop_head, drop_body, worst, cost_here, owed_push}
@@ -60,7 +60,7 @@ module _ (cells : List Cell) where
       → drop start cells ≡ cells_of body start (cell.PassEnd ∷ cells_of more after (tail_of groups))
       → drop after cells ≡ cells_of more after (tail_of groups)
       → length groups + 1 + depth body ≤ 32 → length groups + depth more ≤ 32
-      → IsLegal body → IsLegal more → AllStand cells groups
+      → IsLegal body → IsLegal more → AllGroupsFit cells groups
       → (left' : Rest → Rest) × IsAtCell cells next stack' left' × ((k : Rest) (counts : List ℕ) → passes count (unroll body) (unroll more (turns_after_pass groups k)) counts ≡ left' k counts)
       × (weight cells next stack' ≡ count * (1 + worst body) + worst more + owed (costs cells 0) stack)
   entered zero body more groups start after next stack stack' none some frames h1 h2 d1 d2 k1 k2 outer =
@@ -169,19 +169,19 @@ module _ {S E : Type 0} (takes : S → FieldSpec → Result Taken E → S → Ty
   )
 
   pub turn_element : (place : ℕ) (stack : List Frame) (left : Rest → Rest) (d : Cell) (fxy : ℕ) (s s' : OperatorModel) (f f' : S) (c c' : ℕ) (r : Result FieldSpec TurnRefusal) (t : Taken) → IsAtCell cells place stack left → get_or cells place d ≡ cell.Element fxy → r ≡ element_spec table s fxy → TakesField takes r f (Ok t) f' → c' ≡ ticked c 1 → s' ≡ after_field s fxy t → Turned takes table cells left place stack s f c (Ok (Some (place + 1))) stack s' f' c'
-  turn_element place stack left d fxy s s' f f' c c' r t st e spec took tick told =
+  turn_element place stack left d fxy s s' f f' c c' r t st e spec took tick answers =
       let i = is_element st.0 st.1 place fxy _ (here_is place stack left d _ st e) in
       let at : IsAtNodes cells place stack left (element fxy i.0) st.1 = moved place stack left st _ i.1 in
       turn_on place stack left st.1 i.0 (element fxy i.0) s s' f f' c c' at i.2 refl refl at.legal.1
-      (subst (λ z. HasWalked takes table (λ k. unroll (element fxy i.0) (turns_after_pass st.1 k)) (λ k. unroll i.0 (turns_after_pass st.1 k)) s f c z f' c') (sym told)
-      (came_field takes table (λ k. unroll (element fxy i.0) (turns_after_pass st.1 k)) (λ k. unroll i.0 (turns_after_pass st.1 k)) fxy s f c (element_spec table s fxy) t f' c' (λ rest counts told. refl) (element_role table s fxy) (subst (λ q. TakesField takes q f (Ok t) f') spec took) tick))
+      (subst (λ z. HasWalked takes table (λ k. unroll (element fxy i.0) (turns_after_pass st.1 k)) (λ k. unroll i.0 (turns_after_pass st.1 k)) s f c z f' c') (sym answers)
+      (came_field takes table (λ k. unroll (element fxy i.0) (turns_after_pass st.1 k)) (λ k. unroll i.0 (turns_after_pass st.1 k)) fxy s f c (element_spec table s fxy) t f' c' (λ rest counts answers. refl) (element_role table s fxy) (subst (λ q. TakesField takes q f (Ok t) f') spec took) tick))
 
   pub fail_element : (place : ℕ) (stack : List Frame) (left : Rest → Rest) (d : Cell) (fxy : ℕ) (s : OperatorModel) (f f' : S) (c c' : ℕ) (r : Result FieldSpec TurnRefusal) (why : WalkStop E) → IsAtCell cells place stack left → get_or cells place d ≡ cell.Element fxy → r ≡ element_spec table s fxy → TakesField takes r f (Err why) f' → c' ≡ ticked c 1 → StopsIn takes table left s f c why f' c'
   fail_element place stack left d fxy s f f' c c' r why st e spec took tick =
       let i = is_element st.0 st.1 place fxy _ (here_is place stack left d _ st e) in
       let at : IsAtNodes cells place stack left (element fxy i.0) st.1 = moved place stack left st _ i.1 in
       came_stops takes table why (came_none takes table left (λ k. unroll (element fxy i.0) (turns_after_pass st.1 k)) s f c at.left_is)
-      (stops_field takes table (λ k. unroll (element fxy i.0) (turns_after_pass st.1 k)) (λ k. unroll i.0 (turns_after_pass st.1 k)) fxy s f c (element_spec table s fxy) why f' c' (λ rest counts told. refl) (subst (λ q. TakesField takes q f (Err why) f') spec took) tick)
+      (stops_field takes table (λ k. unroll (element fxy i.0) (turns_after_pass st.1 k)) (λ k. unroll i.0 (turns_after_pass st.1 k)) fxy s f c (element_spec table s fxy) why f' c' (λ rest counts answers. refl) (subst (λ q. TakesField takes q f (Err why) f') spec took) tick)
 
   pub operator_legal : (place : ℕ) (stack : List Frame) (left : Rest → Rest) (d : Cell) (fxy : ℕ) → IsAtCell cells place stack left → get_or cells place d ≡ cell.Operator fxy → is_legal_operator fxy ≡ true
   operator_legal place stack left d fxy st e =
@@ -189,13 +189,13 @@ module _ {S E : Type 0} (takes : S → FieldSpec → Result Taken E → S → Ty
       (moved place stack left st _ i.1).legal.1.0
 
   pub turn_inserted : (place : ℕ) (stack : List Frame) (left : Rest → Rest) (d : Cell) (fxy : ℕ) (s s' : OperatorModel) (f f' : S) (c c' : ℕ) (r : Result FieldSpec TurnRefusal) (t : Taken) → IsAtCell cells place stack left → get_or cells place d ≡ cell.Operator fxy → is_inserted_text fxy ≡ true → r ≡ inserted_spec s fxy → TakesField takes r f (Ok t) f' → c' ≡ ticked c 1 → s' ≡ after_field s fxy t → Turned takes table cells left place stack s f c (Ok (Some (place + 1))) stack s' f' c'
-  turn_inserted place stack left d fxy s s' f f' c c' r t st e x spec took tick told =
+  turn_inserted place stack left d fxy s s' f f' c c' r t st e x spec took tick answers =
       let i = is_operator st.0 st.1 place fxy _ (here_is place stack left d _ st e) in
       let at : IsAtNodes cells place stack left (operator fxy i.0) st.1 = moved place stack left st _ i.1 in
       let over : Rest → Rest = λ k. unroll (operator fxy i.0) (turns_after_pass st.1 k) in
       let next : Rest → Rest = λ k. unroll i.0 (turns_after_pass st.1 k) in
       turn_on place stack left st.1 i.0 (operator fxy i.0) s s' f f' c c' at i.2 refl refl at.legal.1.1.1
-      (subst (λ z. HasWalked takes table over next s f c z f' c') (sym told)
+      (subst (λ z. HasWalked takes table over next s f c z f' c') (sym answers)
       (came_field takes table over next fxy s f c (inserted_spec s fxy) t f' c' (inserted_is takes table over next fxy s x (λ rest counts. refl)) (inserted_role s fxy) (subst (λ q. TakesField takes q f (Ok t) f') spec took) tick))
 
   pub fail_inserted : (place : ℕ) (stack : List Frame) (left : Rest → Rest) (d : Cell) (fxy : ℕ) (s : OperatorModel) (f f' : S) (c c' : ℕ) (r : Result FieldSpec TurnRefusal) (why : WalkStop E) → IsAtCell cells place stack left → get_or cells place d ≡ cell.Operator fxy → is_inserted_text fxy ≡ true → r ≡ inserted_spec s fxy → TakesField takes r f (Err why) f' → c' ≡ ticked c 1 → StopsIn takes table left s f c why f' c'
@@ -208,18 +208,18 @@ module _ {S E : Type 0} (takes : S → FieldSpec → Result Taken E → S → Ty
       (stops_field takes table over next fxy s f c (inserted_spec s fxy) why f' c' (inserted_is takes table over next fxy s x (λ rest counts. refl)) (subst (λ q. TakesField takes q f (Err why) f') spec took) tick)
 
   pub turn_operator : (place : ℕ) (stack : List Frame) (left : Rest → Rest) (d : Cell) (fxy : ℕ) (s s' : OperatorModel) (f : S) (c c' : ℕ) → IsAtCell cells place stack left → get_or cells place d ≡ cell.Operator fxy → is_inserted_text fxy ≡ false → after_operator s fxy ≡ Ok s' → c' ≡ ticked c 1 → Turned takes table cells left place stack s f c (Ok (Some (place + 1))) stack s' f c'
-  turn_operator place stack left d fxy s s' f c c' st e x told tick =
+  turn_operator place stack left d fxy s s' f c c' st e x answers tick =
       let i = is_operator st.0 st.1 place fxy _ (here_is place stack left d _ st e) in
       let at : IsAtNodes cells place stack left (operator fxy i.0) st.1 = moved place stack left st _ i.1 in
       turn_on place stack left st.1 i.0 (operator fxy i.0) s s' f f c c' at i.2 refl refl at.legal.1.1.1
-      (came_operator takes table (λ k. unroll (operator fxy i.0) (turns_after_pass st.1 k)) (λ k. unroll i.0 (turns_after_pass st.1 k)) fxy s s' f c c' x (λ rest counts. refl) told tick)
+      (came_operator takes table (λ k. unroll (operator fxy i.0) (turns_after_pass st.1 k)) (λ k. unroll i.0 (turns_after_pass st.1 k)) fxy s s' f c c' x (λ rest counts. refl) answers tick)
 
   pub fail_operator : (place : ℕ) (stack : List Frame) (left : Rest → Rest) (d : Cell) (fxy : ℕ) (s : OperatorModel) (f : S) (c c' : ℕ) (why : TurnRefusal) → IsAtCell cells place stack left → get_or cells place d ≡ cell.Operator fxy → is_inserted_text fxy ≡ false → after_operator s fxy ≡ Err why → c' ≡ ticked c 1 → StopsIn takes table left s f c (stop_by why) f c'
-  fail_operator place stack left d fxy s f c c' why st e x told tick =
+  fail_operator place stack left d fxy s f c c' why st e x answers tick =
       let i = is_operator st.0 st.1 place fxy _ (here_is place stack left d _ st e) in
       let at : IsAtNodes cells place stack left (operator fxy i.0) st.1 = moved place stack left st _ i.1 in
       came_stops takes table (stop_by why) (came_none takes table left (λ k. unroll (operator fxy i.0) (turns_after_pass st.1 k)) s f c at.left_is)
-      (stops_operator takes table (λ k. unroll (operator fxy i.0) (turns_after_pass st.1 k)) (λ k. unroll i.0 (turns_after_pass st.1 k)) fxy s f c c' why x (λ rest counts. refl) told tick)
+      (stops_operator takes table (λ k. unroll (operator fxy i.0) (turns_after_pass st.1 k)) (λ k. unroll i.0 (turns_after_pass st.1 k)) fxy s f c c' why x (λ rest counts. refl) answers tick)
 
   -- after a body and its end
   past_body : (start after : ℕ) (body m : Tree) (tail : List Cell) → after ≡ start + (size body + 1) → drop start cells ≡ cells_of body start (cell.PassEnd ∷ cells_of m after tail) → drop after cells ≡ cells_of m after tail
@@ -270,7 +270,7 @@ module _ {S E : Type 0} (takes : S → FieldSpec → Result Taken E → S → Ty
       → r ≡ factor_spec table s fxy → TakesField takes r f (Ok t) f' → t ≡ taken.Count count → s' ≡ after_field s fxy t → count ≤ 2 ^ 64
       → (count ≡ 0 → (next ≡ after) × (stack' ≡ stack)) → (0 < count → (next ≡ place + 2) × (stack' ≡ stack ++ record { start = place + 2; after = after; left = count - 1 } ∷ []))
       → c' ≡ ticked c 1 → c'' ≡ ticked c' 1 → Turned takes table cells left place stack s f c (Ok (Some next)) stack' s' f' c''
-  turn_delayed place stack left d d2 after count next fxy stack' s s' f f' c c' c'' r t st e e2 spec took is told most none some tick tock =
+  turn_delayed place stack left d d2 after count next fxy stack' s s' f f' c c' c'' r t st e e2 spec took is answers most none some tick tock =
       let i = is_delayed st.0 st.1 place after _ (here_is place stack left d _ st e) in
       let body : Tree = i.1 in
       let m : Tree = i.2 in
@@ -280,7 +280,7 @@ module _ {S E : Type 0} (takes : S → FieldSpec → Result Taken E → S → Ty
       let h1 : drop (place + 2) cells ≡ cells_of body (place + 2) (cell.PassEnd ∷ cells_of m after (tail_of st.1)) = ap (λ j. drop j cells) (let q : place + 2 ≡ place + 1 + 1 = omega arith in q) ∙ head.2 ∙ ap (λ a. cells_of body (place + 2) (cell.PassEnd ∷ cells_of m a (tail_of st.1))) (sym i.4) in
       let h2 : drop after cells ≡ cells_of m after (tail_of st.1) = past_body (place + 2) after body m (tail_of st.1) (i.4 ∙ (let q : place + 3 + size body ≡ place + 2 + (size body + 1) = omega arith in q)) h1 in
       let en = entered cells count body m st.1 (place + 2) after next stack stack' none some at.frames h1 h2 (omega (arith, at.deep)) (omega (arith, at.deep)) at.legal.1.0 at.legal.1.1 at.outer in
-      let set : s' ≡ after_field s fxy (taken.Count count) = told ∙ ap (after_field s fxy) is in (
+      let set : s' ≡ after_field s fxy (taken.Count count) = answers ∙ ap (after_field s fxy) is in (
         en.0,
         en.1,
         came_then takes table (came_none takes table left (λ k. unroll (delayed fxy body m) (turns_after_pass st.1 k)) s f c at.left_is)
@@ -337,20 +337,20 @@ module _ {S E : Type 0} (takes : S → FieldSpec → Result Taken E → S → Ty
       (at.left_is, refl, refl, tick)
 
 -- as many cells as places
-pub laid_length : (cells : List Cell) (template : Tree) → AreCellsOf cells template → length cells ≡ places template
-laid_length cells template h =
-    ap length h.laid ∙ lay_length template 0 (cell.Finish ∷ []) ∙ (let q : size template + 1 ≡ 1 + size template = omega arith in q)
+pub flattened_length : (cells : List Cell) (template : Tree) → AreCellsOf cells template → length cells ≡ places template
+flattened_length cells template h =
+    ap length h.flattened ∙ cells_length template 0 (cell.Finish ∷ []) ∙ (let q : size template + 1 ≡ 1 + size template = omega arith in q)
   where
-    lay_length : (t : Tree) (at : ℕ) (tail : List Cell) → length (cells_of t at tail) ≡ size t + length tail
-    lay_length bare at tail = omega arith
-    lay_length (element fxy more) at tail = omega (arith, lay_length more (at + 1) tail)
-    lay_length (operator fxy more) at tail = omega (arith, lay_length more (at + 1) tail)
-    lay_length (fixed n body more) at tail = omega (arith, lay_length body (at + 1) (cell.PassEnd ∷ cells_of more (at + 2 + size body) tail), lay_length more (at + 2 + size body) tail)
-    lay_length (delayed fxy body more) at tail = omega (arith, lay_length body (at + 2) (cell.PassEnd ∷ cells_of more (at + 3 + size body) tail), lay_length more (at + 3 + size body) tail)
+    cells_length : (t : Tree) (at : ℕ) (tail : List Cell) → length (cells_of t at tail) ≡ size t + length tail
+    cells_length bare at tail = omega arith
+    cells_length (element fxy more) at tail = omega (arith, cells_length more (at + 1) tail)
+    cells_length (operator fxy more) at tail = omega (arith, cells_length more (at + 1) tail)
+    cells_length (fixed n body more) at tail = omega (arith, cells_length body (at + 1) (cell.PassEnd ∷ cells_of more (at + 2 + size body) tail), cells_length more (at + 2 + size body) tail)
+    cells_length (delayed fxy body more) at tail = omega (arith, cells_length body (at + 2) (cell.PassEnd ∷ cells_of more (at + 3 + size body) tail), cells_length more (at + 3 + size body) tail)
 
 -- a walk before the whole template
-pub stands_first : (cells : List Cell) (template : Tree) (stack : List Frame) → AreCellsOf cells template → stack ≡ [] → IsAtCell cells 0 stack (unroll template)
-stands_first cells template stack h e = (template, [], record { frames = e; here = h.laid; deep = omega (arith, h.shallow); legal = h.legal; outer = tt; left_is = λ k counts. refl })
+pub fits_first : (cells : List Cell) (template : Tree) (stack : List Frame) → AreCellsOf cells template → stack ≡ [] → IsAtCell cells 0 stack (unroll template)
+fits_first cells template stack h e = (template, [], record { frames = e; here = h.flattened; deep = omega (arith, h.shallow); legal = h.legal; outer = tt; left_is = λ k counts. refl })
 
 module _ {S E : Type 0} (takes : S → FieldSpec → Result Taken E → S → Type 0) (table : List Row) (cells : List Cell) where
   -- a turn that led on

@@ -24,24 +24,24 @@ worst (operator fxy more) = 1 + worst more
 worst (fixed n body more) = 1 + n * (1 + worst body) + worst more
 worst (delayed fxy body more) = 2 + 2 ^ 64 * (1 + worst body) + worst more
 
-pub drop_lay : (t : Tree) (at : ℕ) (tail : List Cell) → drop (size t) (cells_of t at tail) ≡ tail
-drop_lay bare at tail = refl
-drop_lay (element fxy more) at tail = skip 1 (size more) (1 + size more) _ (cells_of more (at + 1) tail) tail refl (drop_lay more (at + 1) tail) refl
-drop_lay (operator fxy more) at tail = skip 1 (size more) (1 + size more) _ (cells_of more (at + 1) tail) tail refl (drop_lay more (at + 1) tail) refl
-drop_lay (fixed n body more) at tail =
+pub drop_cells : (t : Tree) (at : ℕ) (tail : List Cell) → drop (size t) (cells_of t at tail) ≡ tail
+drop_cells bare at tail = refl
+drop_cells (element fxy more) at tail = skip 1 (size more) (1 + size more) _ (cells_of more (at + 1) tail) tail refl (drop_cells more (at + 1) tail) refl
+drop_cells (operator fxy more) at tail = skip 1 (size more) (1 + size more) _ (cells_of more (at + 1) tail) tail refl (drop_cells more (at + 1) tail) refl
+drop_cells (fixed n body more) at tail =
     skip 1 (size body + (1 + size more)) (2 + size body + size more) _ (cells_of body (at + 1) (cell.PassEnd ∷ cells_of more (at + 2 + size body) tail)) tail refl
-    (skip (size body) (1 + size more) _ _ (cell.PassEnd ∷ cells_of more (at + 2 + size body) tail) tail (drop_lay body (at + 1) _)
-    (skip 1 (size more) (1 + size more) _ (cells_of more (at + 2 + size body) tail) tail refl (drop_lay more (at + 2 + size body) tail) refl) refl)
+    (skip (size body) (1 + size more) _ _ (cell.PassEnd ∷ cells_of more (at + 2 + size body) tail) tail (drop_cells body (at + 1) _)
+    (skip 1 (size more) (1 + size more) _ (cells_of more (at + 2 + size body) tail) tail refl (drop_cells more (at + 2 + size body) tail) refl) refl)
     (omega arith)
-drop_lay (delayed fxy body more) at tail =
+drop_cells (delayed fxy body more) at tail =
     skip 2 (size body + (1 + size more)) (3 + size body + size more) _ (cells_of body (at + 2) (cell.PassEnd ∷ cells_of more (at + 3 + size body) tail)) tail refl
-    (skip (size body) (1 + size more) _ _ (cell.PassEnd ∷ cells_of more (at + 3 + size body) tail) tail (drop_lay body (at + 2) _)
-    (skip 1 (size more) (1 + size more) _ (cells_of more (at + 3 + size body) tail) tail refl (drop_lay more (at + 3 + size body) tail) refl) refl)
+    (skip (size body) (1 + size more) _ _ (cell.PassEnd ∷ cells_of more (at + 3 + size body) tail) tail (drop_cells body (at + 2) _)
+    (skip 1 (size more) (1 + size more) _ (cells_of more (at + 3 + size body) tail) tail refl (drop_cells more (at + 3 + size body) tail) refl) refl)
     (omega arith)
 
 -- after a body and its end
 pub drop_body : (t : Tree) (at : ℕ) (tail : List Cell) → drop (size t + 1) (cells_of t at (cell.PassEnd ∷ tail)) ≡ tail
-drop_body t at tail = skip (size t) 1 (size t + 1) _ (cell.PassEnd ∷ tail) tail (drop_lay t at (cell.PassEnd ∷ tail)) refl refl
+drop_body t at tail = skip (size t) 1 (size t + 1) _ (cell.PassEnd ∷ tail) tail (drop_cells t at (cell.PassEnd ∷ tail)) refl refl
 
 costs_drop : (xs : List Cell) (at i : ℕ) → get_or (costs xs at) i 0 ≡ get_or (costs (drop i xs) (at + i)) 0 0
 costs_drop [] at zero = refl
@@ -56,24 +56,24 @@ jump xs ys at after k h e =
     ∙ ap (λ j. get_or (costs (drop j xs) (at + j)) 0 0) (let g : after - at ≡ k = omega arith in g)
     ∙ ap (λ z. get_or (costs z (at + k)) 0 0) h ∙ ap (λ j. get_or (costs ys j) 0 0) (sym e)
 
-pub cost_lay : (t : Tree) (at : ℕ) (tail : List Cell) → get_or (costs (cells_of t at tail) at) 0 0 ≡ worst t + get_or (costs tail (at + size t)) 0 0
-cost_lay bare at tail = ap (λ k. get_or (costs tail k) 0 0) (let e : at ≡ at + 0 = omega arith in e) ∙ sym (zero-add _)
-cost_lay (element fxy more) at tail = ap (λ x. 1 + x) (cost_lay more (at + 1) tail ∙ ap (λ k. worst more + get_or (costs tail k) 0 0) (let e : at + 1 + size more ≡ at + (1 + size more) = omega arith in e)) ∙ sym (add_assoc 1 (worst more) _)
-cost_lay (operator fxy more) at tail = ap (λ x. 1 + x) (cost_lay more (at + 1) tail ∙ ap (λ k. worst more + get_or (costs tail k) 0 0) (let e : at + 1 + size more ≡ at + (1 + size more) = omega arith in e)) ∙ sym (add_assoc 1 (worst more) _)
-cost_lay (fixed n body more) at tail =
+pub cost_cells : (t : Tree) (at : ℕ) (tail : List Cell) → get_or (costs (cells_of t at tail) at) 0 0 ≡ worst t + get_or (costs tail (at + size t)) 0 0
+cost_cells bare at tail = ap (λ k. get_or (costs tail k) 0 0) (let e : at ≡ at + 0 = omega arith in e) ∙ sym (zero-add _)
+cost_cells (element fxy more) at tail = ap (λ x. 1 + x) (cost_cells more (at + 1) tail ∙ ap (λ k. worst more + get_or (costs tail k) 0 0) (let e : at + 1 + size more ≡ at + (1 + size more) = omega arith in e)) ∙ sym (add_assoc 1 (worst more) _)
+cost_cells (operator fxy more) at tail = ap (λ x. 1 + x) (cost_cells more (at + 1) tail ∙ ap (λ k. worst more + get_or (costs tail k) 0 0) (let e : at + 1 + size more ≡ at + (1 + size more) = omega arith in e)) ∙ sym (add_assoc 1 (worst more) _)
+cost_cells (fixed n body more) at tail =
     let after : ℕ = at + 2 + size body in
     let cells : List Cell = cells_of body (at + 1) (cell.PassEnd ∷ cells_of more after tail) in
-    let b : get_or (costs cells (at + 1)) 0 0 ≡ worst body = cost_lay body (at + 1) (cell.PassEnd ∷ cells_of more after tail) ∙ add-zero (worst body) in
+    let b : get_or (costs cells (at + 1)) 0 0 ≡ worst body = cost_cells body (at + 1) (cell.PassEnd ∷ cells_of more after tail) ∙ add-zero (worst body) in
     let j : get_or (costs cells (at + 1)) (after - (at + 1)) 0 ≡ worst more + get_or (costs tail (at + (2 + size body + size more))) 0 0 =
-    jump cells (cells_of more after tail) (at + 1) after (size body + 1) (drop_body body (at + 1) (cells_of more after tail)) (omega arith) ∙ cost_lay more after tail ∙ ap (λ k. worst more + get_or (costs tail k) 0 0) (let e : after + size more ≡ at + (2 + size body + size more) = omega arith in e) in
+    jump cells (cells_of more after tail) (at + 1) after (size body + 1) (drop_body body (at + 1) (cells_of more after tail)) (omega arith) ∙ cost_cells more after tail ∙ ap (λ k. worst more + get_or (costs tail k) 0 0) (let e : after + size more ≡ at + (2 + size body + size more) = omega arith in e) in
     ap (λ x. 1 + n * (1 + x) + get_or (costs cells (at + 1)) (after - (at + 1)) 0) b ∙ ap (λ y. 1 + n * (1 + worst body) + y) j ∙ sym (add_assoc (1 + n * (1 + worst body)) (worst more) _)
-cost_lay (delayed fxy body more) at tail =
+cost_cells (delayed fxy body more) at tail =
     let after : ℕ = at + 3 + size body in
     let cells : List Cell = cells_of body (at + 2) (cell.PassEnd ∷ cells_of more after tail) in
     let two : at + 1 + 1 ≡ at + 2 = omega arith in
-    let b : get_or (costs cells (at + 1 + 1)) 0 0 ≡ worst body = ap (λ k. get_or (costs cells k) 0 0) two ∙ cost_lay body (at + 2) (cell.PassEnd ∷ cells_of more after tail) ∙ add-zero (worst body) in
+    let b : get_or (costs cells (at + 1 + 1)) 0 0 ≡ worst body = ap (λ k. get_or (costs cells k) 0 0) two ∙ cost_cells body (at + 2) (cell.PassEnd ∷ cells_of more after tail) ∙ add-zero (worst body) in
     let j : get_or (costs (cell.Factor fxy ∷ cells) (at + 1)) (after - (at + 1)) 0 ≡ worst more + get_or (costs tail (at + (3 + size body + size more))) 0 0 =
-    jump (cell.Factor fxy ∷ cells) (cells_of more after tail) (at + 1) after (size body + 2) (skip 1 (size body + 1) (size body + 2) _ cells (cells_of more after tail) refl (drop_body body (at + 2) (cells_of more after tail)) (omega arith)) (omega arith) ∙ cost_lay more after tail ∙ ap (λ k. worst more + get_or (costs tail k) 0 0) (let e : after + size more ≡ at + (3 + size body + size more) = omega arith in e) in
+    jump (cell.Factor fxy ∷ cells) (cells_of more after tail) (at + 1) after (size body + 2) (skip 1 (size body + 1) (size body + 2) _ cells (cells_of more after tail) refl (drop_body body (at + 2) (cells_of more after tail)) (omega arith)) (omega arith) ∙ cost_cells more after tail ∙ ap (λ k. worst more + get_or (costs tail k) 0 0) (let e : after + size more ≡ at + (3 + size body + size more) = omega arith in e) in
     ap (λ x. 2 + 2 ^ 64 * (1 + x) + get_or (costs (cell.Factor fxy ∷ cells) (at + 1)) (after - (at + 1)) 0) b ∙ ap (λ y. 2 + 2 ^ 64 * (1 + worst body) + y) j ∙ sym (add_assoc (2 + 2 ^ 64 * (1 + worst body)) (worst more) _)
 
 -- the end of a pass, and of all
@@ -85,7 +85,7 @@ tail_costs (s ∷ outer) at = refl
 pub cost_here : (cells : List Cell) (place : ℕ) (more : Tree) (groups : List OpenGroup) → drop place cells ≡ cells_of more place (tail_of groups) → get_or (costs cells 0) place 0 ≡ worst more
 cost_here cells place more groups h =
     costs_drop cells 0 place ∙ ap (λ k. get_or (costs (drop place cells) k) 0 0) (zero-add place) ∙ ap (λ z. get_or (costs z place) 0 0) h
-    ∙ cost_lay more place (tail_of groups) ∙ ap (λ k. worst more + k) (tail_costs groups (place + size more)) ∙ add-zero (worst more)
+    ∙ cost_cells more place (tail_of groups) ∙ ap (λ k. worst more + k) (tail_costs groups (place + size more)) ∙ add-zero (worst more)
 
 pub owed_push : (cost : List ℕ) (frames : List Frame) (f : Frame) → owed cost (frames ++ f ∷ []) ≡ owed cost frames + (1 + f.left * (1 + get_or cost f.start 0) + get_or cost f.after 0)
 owed_push cost [] f = omega arith

@@ -28,15 +28,15 @@ group_in_a_group : one (delayed (fxy 0 31 1) (delayed (fxy 0 31 1) (element (fxy
 unfolding one gives fxy
 group_in_a_group = refl
 
-group_behind_a_group : one (delayed (fxy 0 31 1) (element (fxy 0 1 1) bare) (delayed (fxy 0 31 0) (element (fxy 0 12 101) bare) bare)) (1 ∷ 21 ∷ 112 ∷ 143 ∷ [])
+group_after_a_group : one (delayed (fxy 0 31 1) (element (fxy 0 1 1) bare) (delayed (fxy 0 31 0) (element (fxy 0 12 101) bare) bare)) (1 ∷ 21 ∷ 112 ∷ 143 ∷ [])
     ≡ gives ((7937, shown_number (pos 1) (pos 0)) ∷ (257, shown_number (pos 10) (pos 0)) ∷ (7936, shown_number (pos 1) (pos 0)) ∷ (3173, shown_number (pos 28815) (pos 2)) ∷ []) (done 0 9)
 unfolding one gives fxy
-group_behind_a_group = refl
+group_after_a_group = refl
 
-group_behind_no_pass : one (delayed (fxy 0 31 1) (delayed (fxy 0 31 1) (element (fxy 0 1 1) bare) bare) (element (fxy 0 1 1) bare)) (0 ∷ 20 ∷ [])
+group_after_no_pass : one (delayed (fxy 0 31 1) (delayed (fxy 0 31 1) (element (fxy 0 1 1) bare) bare) (element (fxy 0 1 1) bare)) (0 ∷ 20 ∷ [])
     ≡ gives ((7937, shown_number (pos 0) (pos 0)) ∷ (257, shown_number (pos 10) (pos 0)) ∷ []) (done 1 4)
 unfolding one gives fxy
-group_behind_no_pass = refl
+group_after_no_pass = refl
 
 -- The data may end at a factor, or at the first or the last item of a group: fails where an earlier
 -- item is dropped, or where the place is another.
@@ -54,37 +54,37 @@ data_end_at_the_last_pass = refl
 
 -- What is in force ends with its subset: fails where a width, a scale, a precision or a reference
 -- reaches the next one.
-changed_behind : Tree
+changed_after : Tree
 unfolding fxy
-changed_behind = element (fxy 0 12 101) (operator (fxy 2 1 132) (operator (fxy 2 2 129) (operator (fxy 2 7 1) (operator (fxy 2 3 10) (element (fxy 0 12 101) (operator (fxy 2 3 255) bare))))))
+changed_after = element (fxy 0 12 101) (operator (fxy 2 1 132) (operator (fxy 2 2 129) (operator (fxy 2 7 1) (operator (fxy 2 3 10) (element (fxy 0 12 101) (operator (fxy 2 3 255) bare))))))
 
 -- rule: operators-end-with-subset
-changes_end_with_the_subset : two changed_behind (112 ∷ 143 ∷ 228 ∷ 28 ∷ 35 ∷ 249 ∷ 0 ∷ [])
+changes_end_with_the_subset : two changed_after (112 ∷ 143 ∷ 228 ∷ 28 ∷ 35 ∷ 249 ∷ 0 ∷ [])
     ≡ gives ((3173, shown_number (pos 28815) (pos 2)) ∷ (3173, shown_reference (negsuc 399)) ∷ []) (done 30 8)
     ∷ gives ((3173, shown_number (pos 28815) (pos 2)) ∷ (3173, shown_reference (negsuc 399)) ∷ []) (done 4 8) ∷ []
-unfolding two gives changed_behind
+unfolding two gives changed_after
 changes_end_with_the_subset = refl
 
 -- So does a definition of references: fails where the next subset begins within it.
-defining_behind : Tree
+defining_after : Tree
 unfolding fxy
-defining_behind = element (fxy 0 1 1) (operator (fxy 2 3 10) (element (fxy 0 1 1) bare))
+defining_after = element (fxy 0 1 1) (operator (fxy 2 3 10) (element (fxy 0 1 1) bare))
 
 -- rule: operators-end-with-subset
-definitions_end_with_the_subset : two defining_behind (21 ∷ 200 ∷ 10 ∷ 228 ∷ 0 ∷ [])
+definitions_end_with_the_subset : two defining_after (21 ∷ 200 ∷ 10 ∷ 228 ∷ 0 ∷ [])
     ≡ gives ((257, shown_number (pos 10) (pos 0)) ∷ (257, shown_reference (negsuc 399)) ∷ []) (done 23 4)
     ∷ gives ((257, shown_number (pos 10) (pos 0)) ∷ (257, shown_reference (negsuc 399)) ∷ []) (done 6 4) ∷ []
-unfolding two gives defining_behind
+unfolding two gives defining_after
 definitions_end_with_the_subset = refl
 
 -- So does a text width: fails where the second text has two octets.
-text_width_behind : Tree
+text_width_after : Tree
 unfolding fxy
-text_width_behind = element (fxy 0 31 250) (operator (fxy 2 8 2) bare)
+text_width_after = element (fxy 0 31 250) (operator (fxy 2 8 2) bare)
 
-text_width_ends_with_the_subset : two text_width_behind (65 ∷ 66 ∷ [])
+text_width_ends_with_the_subset : two text_width_after (65 ∷ 66 ∷ [])
     ≡ gives ((8186, shown_text (65 ∷ [])) ∷ []) (done 8 3) ∷ gives ((8186, shown_text (66 ∷ [])) ∷ []) (done 0 3) ∷ []
-unfolding two gives text_width_behind
+unfolding two gives text_width_after
 text_width_ends_with_the_subset = refl
 
 -- The data may end in a later subset: fails where the rest of the first is read as one.
@@ -110,8 +110,8 @@ minus_400 fxy = record {
 }
 
 -- rule: subsets-without-padding
-reading_of_changes : IsPlainReading 2 (next_item table changed_behind) ((at_288_15 ∷ minus_400 3173 ∷ []) ∷ (at_288_15 ∷ minus_400 3173 ∷ []) ∷ []) data_of_two []
-unfolding table changed_behind at_288_15 minus_400 next_item data_of_two
+reading_of_changes : IsPlainReading 2 (next_item table changed_after) ((at_288_15 ∷ minus_400 3173 ∷ []) ∷ (at_288_15 ∷ minus_400 3173 ∷ []) ∷ []) data_of_two []
+unfolding table changed_after at_288_15 minus_400 next_item data_of_two
 reading_of_changes = (
   (
     drop 26 data_of_two,
@@ -131,8 +131,8 @@ data_of_definitions : List Bool
 unfolding bits_of
 data_of_definitions = bits_of (21 ∷ 200 ∷ 10 ∷ 228 ∷ 0 ∷ [])
 
-reading_of_definitions : IsPlainReading 2 (next_item table defining_behind) ((block_10 ∷ minus_400 257 ∷ []) ∷ (block_10 ∷ minus_400 257 ∷ []) ∷ []) data_of_definitions (drop 34 data_of_definitions)
-unfolding table defining_behind block_10 minus_400 next_item data_of_definitions
+reading_of_definitions : IsPlainReading 2 (next_item table defining_after) ((block_10 ∷ minus_400 257 ∷ []) ∷ (block_10 ∷ minus_400 257 ∷ []) ∷ []) data_of_definitions (drop 34 data_of_definitions)
+unfolding table defining_after block_10 minus_400 next_item data_of_definitions
 reading_of_definitions = (
   (
     drop 17 data_of_definitions,
@@ -149,13 +149,13 @@ letter octet = record {
 }
 
 -- rule: subsets-without-padding
-reading_of_letters : IsPlainReading 2 (next_item table text_width_behind) ((letter 65 ∷ []) ∷ (letter 66 ∷ []) ∷ []) (bits_of (65 ∷ 66 ∷ [])) []
-unfolding table text_width_behind letter next_item bits_of
+reading_of_letters : IsPlainReading 2 (next_item table text_width_after) ((letter 65 ∷ []) ∷ (letter 66 ∷ []) ∷ []) (bits_of (65 ∷ 66 ∷ [])) []
+unfolding table text_width_after letter next_item bits_of
 reading_of_letters = ((bits_of (66 ∷ []), ((bits_of (66 ∷ []), refl, refl, refl), refl), ([], (([], refl, refl, refl), refl), refl)), refl)
 
 -- The turns are those of all subsets: fails where they begin anew.
-turns_of_both : turns_in (next_item table changed_behind) ((at_288_15 ∷ minus_400 3173 ∷ []) ∷ (at_288_15 ∷ minus_400 3173 ∷ []) ∷ []) ≡ 16
-unfolding table changed_behind at_288_15 minus_400 next_item
+turns_of_both : turns_in (next_item table changed_after) ((at_288_15 ∷ minus_400 3173 ∷ []) ∷ (at_288_15 ∷ minus_400 3173 ∷ []) ∷ []) ≡ 16
+unfolding table changed_after at_288_15 minus_400 next_item
 turns_of_both = refl
 
 -- A refusal has its subset from 1, and the bits and the turns before it from the first subset on.

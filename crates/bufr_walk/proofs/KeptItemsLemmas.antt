@@ -47,8 +47,8 @@ same_field a b r k p by_role spec_by_kind h =
     }
 
 -- a field that was found at a place
-pub stands_there : (specs : List FieldSpec) (place : ℕ) (there spec : FieldSpec) → place < length specs → there ≡ get_or specs place there → there ≡ spec → HasSpecAt specs place spec
-stands_there specs place there spec below at same = record {
+pub fits_there : (specs : List FieldSpec) (place : ℕ) (there spec : FieldSpec) → place < length specs → there ≡ get_or specs place there → there ≡ spec → HasSpecAt specs place spec
+fits_there specs place there spec below at same = record {
   below = below;
   is = get_or_default specs place no_field there below ∙ sym at ∙ same;
 }
@@ -72,4 +72,4 @@ one_more now specs specs1 specs2 places places1 places2 item place view have sam
     let before : indexed_items specs2 places ≡ now = ap (λ ss. indexed_items ss places) grown ∙ same_items specs put.more places have ∙ view in
     ap (indexed_items specs2) all ∙ map-append (item_at_location specs2) places (last ∷ [])
     ∙ ap (λ xs. xs ++ item_at_location specs2 last ∷ []) before
-    ∙ ap (λ s. now ++ record { spec = s; at = item.at; base = item.base; step = item.step } ∷ []) put.stands.is
+    ∙ ap (λ s. now ++ record { spec = s; at = item.at; base = item.base; step = item.step } ∷ []) put.fits.is

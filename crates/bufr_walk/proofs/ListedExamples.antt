@@ -12,7 +12,7 @@ use Rattle.bufr_walk.proofs.ExampleTables.{fxy, table}
 
 -- the field that comes next, after items that returned this
 abbrev asks : Tree → List Taken → FieldSpec → Type 0
-asks tree told spec = (next_item table tree told).next ≡ take_next spec
+asks tree answers spec = (next_item table tree answers).next ≡ take_next spec
 
 -- A quantity and a figure of Table B may be commented and may be missing; the changes in force show
 -- in a quantity alone: fails where a figure loses its kind, scale or reference.
@@ -88,9 +88,9 @@ factor_in_a_group_asked : asks (delayed (fxy 0 31 1) (delayed (fxy 0 31 0) (elem
 unfolding table next_item fxy
 factor_in_a_group_asked = refl
 
-factor_behind_a_group_asked : asks (delayed (fxy 0 31 1) (element (fxy 0 1 1) bare) (delayed (fxy 0 31 2) bare bare)) (taken.Count 1 ∷ taken.Plain ∷ []) (record { fxy = 7938; role = role.Factor; kind = kind.Numeric; width = 16; scale = pos 0; reference = pos 0; may_be_missing = false; listed = true })
+factor_after_a_group_asked : asks (delayed (fxy 0 31 1) (element (fxy 0 1 1) bare) (delayed (fxy 0 31 2) bare bare)) (taken.Count 1 ∷ taken.Plain ∷ []) (record { fxy = 7938; role = role.Factor; kind = kind.Numeric; width = 16; scale = pos 0; reference = pos 0; may_be_missing = false; listed = true })
 unfolding table next_item fxy
-factor_behind_a_group_asked = refl
+factor_after_a_group_asked = refl
 
 -- A reference has the width of its definition, no comment, and is never missing: fails where a
 -- change reaches it, or where it may be missing.

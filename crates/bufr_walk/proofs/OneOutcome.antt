@@ -59,7 +59,7 @@ module _ {C : Type 0} (form : DataCoding C) (many : ℕ → Bool) where
       let same : x.spec ≡ y.spec = cc in
       let f : found x.content h.reads.0 ≡ found y.content g.reads.0 = same_found _ _ (sym h.reads.2 ∙ ap (λ s. form.field s bits) same ∙ g.reads.2) in
       let item : x ≡ y = (λ j. record { spec = same j; content = (f j).content }) in
-      let mid : h.reads.0 ≡ g.reads.0 = ap (λ (z : FieldRead C). z.behind) f in
+      let mid : h.reads.0 ≡ g.reads.0 = ap (λ (z : FieldRead C). z.suffix) f in
       let rest = one_outcome (after form course x) (from + 1) h.reads.0 xs ys l m o p
       (record { reads = h.reads.3; few = λ j lt. shifted from j (h.few (suc j) (omega (arith, lt))); ends = subst (λ k. outcome_of form (many k) (next_after form (after form course x) xs) l ≡ Some o) (counted from (length xs)) h.ends })
       (record { reads = subst (λ z. ReadsItems form (after form course z) ys h.reads.0 m) (sym item) (subst (λ b. ReadsItems form (after form course y) ys b m) (sym mid) g.reads.3); few = λ j lt. shifted from j (g.few (suc j) (omega (arith, lt))); ends = subst (λ z. outcome_of form (many (from + 1 + length ys)) (next_after form (after form course z) ys) m ≡ Some p) (sym item) (subst (λ k. outcome_of form (many k) (next_after form (after form course y) ys) m ≡ Some p) (counted from (length ys)) g.ends) }) in

@@ -18,9 +18,9 @@ use Rattle.bufr_walk.specs.Calls.{content_at}
 use Rattle.bufr_walk.specs.Content.{Content, content_in}
 use Rattle.bufr_walk.specs.PlainField.{FieldFault, FieldRead, data_end, increment, unequal_factor}
 use Rattle.bufr_walk.specs.StoredItems.{content_kept}
-use Rattle.bufr_walk.specs.PackedField.{increments, increment_bits_of, padded_text, varied_by, if_equal, varied, contents_of, all_same, with_behind, item_by, packed_field}
+use Rattle.bufr_walk.specs.PackedField.{increments, increment_bits_of, padded_text, varied_by, if_equal, varied, contents_of, all_same, with_suffix, item_by, packed_field}
 use Rattle.bufr_walk.specs.PackedBits.{holds_by, content_from, number_from, kind_step}
-use Rattle.bufr_walk.specs.PackedIn.{contents_found, was_found, has_base, stands_at}
+use Rattle.bufr_walk.specs.PackedIn.{contents_found, was_found, has_base, fits_at}
 use Rattle.bufr_walk.proofs.PlainLemmas.{bits_length, ones_by_number}
 use Rattle.bufr_walk.proofs.PackedContents.{varied_are, element_are, inserted_are, factor_are, wrong_reference, step_element, step_inserted, step_factor}
 
@@ -29,9 +29,9 @@ if_found : (b : Bool) (x : Result (FieldRead (List Content)) FieldFault) → was
 if_found true x h = absurd cc
 if_found false x h = (refl, h, refl)
 
-behind_found : (r : Result (List Content) FieldFault) (bs : List Bool) → was_found (with_behind r bs) ≡ true → r ≡ Ok (contents_found (with_behind r bs))
-behind_found (Ok cs) bs h = refl
-behind_found (Err why) bs h = absurd cc
+after_found : (r : Result (List Content) FieldFault) (bs : List Bool) → was_found (with_suffix r bs) ≡ true → r ≡ Ok (contents_found (with_suffix r bs))
+after_found (Ok cs) bs h = refl
+after_found (Err why) bs h = absurd cc
 
 at_most : (a b : ℕ) → nat_lt a b ≡ false → b ≤ a
 at_most a b h = grind (arith, nat_tests)
@@ -51,11 +51,11 @@ parts bits at n a k h is =
     let first = if_found (nat_lt (length here) (a.width + 6)) (item_by a n read here) h in
     let same_k : read ≡ k = ap (λ bs. number_of (take 6 bs)) (drop-drop a.width at bits) ∙ sym is in
     let inner : was_found (item_by a n k here) ≡ true = subst (λ x. was_found (item_by a n x here) ≡ true) same_k first.1 in
-    let second = if_found (nat_lt (length back) (n * s)) (with_behind (contents_of a k base (increments n s back)) (drop (n * s) back)) inner in
-    let are = behind_found (contents_of a k base (increments n s back)) (drop (n * s) back) second.1 in
+    let second = if_found (nat_lt (length back) (n * s)) (with_suffix (contents_of a k base (increments n s back)) (drop (n * s) back)) inner in
+    let are = after_found (contents_of a k base (increments n s back)) (drop (n * s) back) second.1 in
     let same : back ≡ drop (at + (a.width + 6)) bits = drop-drop (a.width + 6) at bits in
     let cs = contents_found (packed_field n a here) in
-    let all : contents_found (with_behind (contents_of a k base (increments n s back)) (drop (n * s) back)) ≡ cs = sym (first.2 ∙ ap (λ x. contents_found (item_by a n x here)) same_k ∙ second.2) in
+    let all : contents_found (with_suffix (contents_of a k base (increments n s back)) (drop (n * s) back)) ≡ cs = sym (first.2 ∙ ap (λ x. contents_found (item_by a n x here)) same_k ∙ second.2) in
     let long : a.width + 6 ≤ length here = at_most (length here) (a.width + 6) first.0 in
     let room : n * s ≤ length back = at_most (length back) (n * s) second.0 in
     record {
@@ -66,20 +66,20 @@ parts bits at n a k h is =
 same_number : (a b : ℕ) → (a == b) ≡ true → a ≡ b
 same_number a b h = grind (arith, nat_tests)
 
-kept_step : (bits : List Bool) (n : ℕ) (e : IndexedItem) → stands_at bits n e ≡ true → e.step ≡ number_of (take 6 (drop (e.at + e.spec.width) bits))
+kept_step : (bits : List Bool) (n : ℕ) (e : IndexedItem) → fits_at bits n e ≡ true → e.step ≡ number_of (take 6 (drop (e.at + e.spec.width) bits))
 kept_step bits n e h =
     let step = e.step == number_of (take 6 (drop (e.at + e.spec.width) bits)) in
     same_number e.step (number_of (take 6 (drop (e.at + e.spec.width) bits))) (and_first step (has_base bits e) (and_second (was_found (packed_field n e.spec (drop e.at bits))) (step && has_base bits e) h))
 
 -- the base of a kept item that is a number
-pub kept_base : (bits : List Bool) (n : ℕ) (e : IndexedItem) → stands_at bits n e ≡ true → is_character e.spec.kind ≡ false → e.base ≡ number_of (take e.spec.width (drop e.at bits))
+pub kept_base : (bits : List Bool) (n : ℕ) (e : IndexedItem) → fits_at bits n e ≡ true → is_character e.spec.kind ≡ false → e.base ≡ number_of (take e.spec.width (drop e.at bits))
 kept_base bits n e h k =
     let step = e.step == number_of (take 6 (drop (e.at + e.spec.width) bits)) in
     let has : has_base bits e ≡ true = and_second step (has_base bits e) (and_second (was_found (packed_field n e.spec (drop e.at bits))) (step && has_base bits e) h) in
     same_number e.base (number_of (take e.spec.width (drop e.at bits))) (ap (λ b. b || (e.base == number_of (take e.spec.width (drop e.at bits)))) (sym k) ∙ has)
 
 -- the parts of a kept item
-pub kept_parts : (bits : List Bool) (n : ℕ) (e : IndexedItem) → stands_at bits n e ≡ true → IsAt bits e.at n e.spec e.step (contents_found (packed_field n e.spec (drop e.at bits)))
+pub kept_parts : (bits : List Bool) (n : ℕ) (e : IndexedItem) → fits_at bits n e ≡ true → IsAt bits e.at n e.spec e.step (contents_found (packed_field n e.spec (drop e.at bits)))
 kept_parts bits n e h =
     parts bits e.at n e.spec e.step (and_first (was_found (packed_field n e.spec (drop e.at bits))) ((e.step == number_of (take 6 (drop (e.at + e.spec.width) bits))) && has_base bits e) h) (kept_step bits n e h)
 
@@ -96,12 +96,12 @@ at_map f (suc n) s (suc j) bits h = at_map f n s j (drop s bits) (omega arith) �
     next s j = omega arith
 
 -- with no increments
-pub base_at : (a : FieldSpec) (k n j : ℕ) (base behind : List Bool) (cs : List Content) → k ≡ 0 → j < n → contents_of a k base (increments n (increment_bits_of a.role a.kind k) behind) ≡ Ok cs → content_at j cs ≡ content_in a base
-base_at a k n j base behind cs e h are =
+pub base_at : (a : FieldSpec) (k n j : ℕ) (base suffix : List Bool) (cs : List Content) → k ≡ 0 → j < n → contents_of a k base (increments n (increment_bits_of a.role a.kind k) suffix) ≡ Ok cs → content_at j cs ≡ content_in a base
+base_at a k n j base suffix cs e h are =
     let s = increment_bits_of a.role a.kind k in
-    let all : ◌≡◌ {A = Result (List Content) FieldFault} (Ok (map (λ i. content_in a base) (increments n s behind))) (Ok cs) = sym (ap (λ x. if x == 0 then Ok (map (λ i. content_in a base) (increments n s behind)) else varied a.role a x base (increments n s behind)) e) ∙ are in
-    let same : map (λ i. content_in a base) (increments n s behind) ≡ cs = cc in
-    ap (content_at j) (sym same) ∙ at_map (λ i. content_in a base) n s j behind h
+    let all : ◌≡◌ {A = Result (List Content) FieldFault} (Ok (map (λ i. content_in a base) (increments n s suffix))) (Ok cs) = sym (ap (λ x. if x == 0 then Ok (map (λ i. content_in a base) (increments n s suffix)) else varied a.role a x base (increments n s suffix)) e) ∙ are in
+    let same : map (λ i. content_in a base) (increments n s suffix) ≡ cs = cc in
+    ap (content_at j) (sym same) ∙ at_map (λ i. content_in a base) n s j suffix h
 
 ok_if : (b : Bool) (xs cs : List Content) → ◌≡◌ {A = Result (List Content) FieldFault} (if b then Ok xs else Err increment) (Ok cs) → xs ≡ cs
 ok_if true xs cs h = cc
@@ -116,36 +116,36 @@ equal_ok true xs cs h = by (all_same xs) h
 equal_ok false xs cs h = absurd cc
 
 -- with increments
-pub varied_contents : (a : FieldSpec) (k n : ℕ) (base behind : List Bool) (cs : List Content) → 1 ≤ k → contents_of a k base (increments n (increment_bits_of a.role a.kind k) behind) ≡ Ok cs → map (content_from a.kind a k base) (increments n (kind_step a.kind k) behind) ≡ cs
-varied_contents a k n base behind cs some are = by a.role refl
+pub varied_contents : (a : FieldSpec) (k n : ℕ) (base suffix : List Bool) (cs : List Content) → 1 ≤ k → contents_of a k base (increments n (increment_bits_of a.role a.kind k) suffix) ≡ Ok cs → map (content_from a.kind a k base) (increments n (kind_step a.kind k) suffix) ≡ cs
+varied_contents a k n base suffix cs some are = by a.role refl
   where
-    whole : varied_by a.kind a k base (increments n (kind_step a.kind k) behind) ≡ (if holds_by a.kind a k n base behind then Ok (map (content_from a.kind a k base) (increments n (kind_step a.kind k) behind)) else Err increment)
-    whole = varied_are a.kind a k n base behind (holds_by a.kind a k n base behind) refl
+    whole : varied_by a.kind a k base (increments n (kind_step a.kind k) suffix) ≡ (if holds_by a.kind a k n base suffix then Ok (map (content_from a.kind a k base) (increments n (kind_step a.kind k) suffix)) else Err increment)
+    whole = varied_are a.kind a k n base suffix (holds_by a.kind a k n base suffix) refl
 
-    by : (r : Role) → a.role ≡ r → map (content_from a.kind a k base) (increments n (kind_step a.kind k) behind) ≡ cs
-    by role.Element q = ok_if (holds_by a.kind a k n base behind) (map (content_from a.kind a k base) (increments n (kind_step a.kind k) behind)) cs (sym (element_are a k n base behind some q ∙ whole) ∙ are)
-    by role.Inserted q = ok_if (holds_by a.kind a k n base behind) (map (content_from a.kind a k base) (increments n (kind_step a.kind k) behind)) cs (sym (inserted_are a k n base behind some q ∙ whole) ∙ are)
-    by role.Factor q = equal_ok (holds_by a.kind a k n base behind) (map (content_from a.kind a k base) (increments n (kind_step a.kind k) behind)) cs (sym (factor_are a k n base behind some q ∙ ap if_equal whole) ∙ are)
+    by : (r : Role) → a.role ≡ r → map (content_from a.kind a k base) (increments n (kind_step a.kind k) suffix) ≡ cs
+    by role.Element q = ok_if (holds_by a.kind a k n base suffix) (map (content_from a.kind a k base) (increments n (kind_step a.kind k) suffix)) cs (sym (element_are a k n base suffix some q ∙ whole) ∙ are)
+    by role.Inserted q = ok_if (holds_by a.kind a k n base suffix) (map (content_from a.kind a k base) (increments n (kind_step a.kind k) suffix)) cs (sym (inserted_are a k n base suffix some q ∙ whole) ∙ are)
+    by role.Factor q = equal_ok (holds_by a.kind a k n base suffix) (map (content_from a.kind a k base) (increments n (kind_step a.kind k) suffix)) cs (sym (factor_are a k n base suffix some q ∙ ap if_equal whole) ∙ are)
     by role.Reference q =
-        let w = wrong_reference a k n base behind a.fxy refl some q in
+        let w = wrong_reference a k n base suffix a.fxy refl some q in
         let no : ◌≡◌ {A = Result (List Content) FieldFault} (Err w.why) (Ok cs) = sym w.is ∙ are in
         absurd cc
 
-pub varied_at : (a : FieldSpec) (k n j : ℕ) (base behind : List Bool) (cs : List Content) → 1 ≤ k → j < n → contents_of a k base (increments n (increment_bits_of a.role a.kind k) behind) ≡ Ok cs
-    → content_at j cs ≡ content_from a.kind a k base (take (kind_step a.kind k) (drop (j * kind_step a.kind k) behind))
-varied_at a k n j base behind cs some h are =
-    ap (content_at j) (sym (varied_contents a k n base behind cs some are)) ∙ at_map (content_from a.kind a k base) n (kind_step a.kind k) j behind h
+pub varied_at : (a : FieldSpec) (k n j : ℕ) (base suffix : List Bool) (cs : List Content) → 1 ≤ k → j < n → contents_of a k base (increments n (increment_bits_of a.role a.kind k) suffix) ≡ Ok cs
+    → content_at j cs ≡ content_from a.kind a k base (take (kind_step a.kind k) (drop (j * kind_step a.kind k) suffix))
+varied_at a k n j base suffix cs some h are =
+    ap (content_at j) (sym (varied_contents a k n base suffix cs some are)) ∙ at_map (content_from a.kind a k base) n (kind_step a.kind k) j suffix h
 
 -- the bits of one subset by role and kind; a redefined reference has none
-step_is : (a : FieldSpec) (k n : ℕ) (base behind : List Bool) (cs : List Content) → 1 ≤ k → contents_of a k base (increments n (increment_bits_of a.role a.kind k) behind) ≡ Ok cs → increment_bits_of a.role a.kind k ≡ kind_step a.kind k
-step_is a k n base behind cs some are = by a.role refl
+step_is : (a : FieldSpec) (k n : ℕ) (base suffix : List Bool) (cs : List Content) → 1 ≤ k → contents_of a k base (increments n (increment_bits_of a.role a.kind k) suffix) ≡ Ok cs → increment_bits_of a.role a.kind k ≡ kind_step a.kind k
+step_is a k n base suffix cs some are = by a.role refl
   where
     by : (r : Role) → a.role ≡ r → increment_bits_of a.role a.kind k ≡ kind_step a.kind k
     by role.Element q = ap (λ r. increment_bits_of r a.kind k) q ∙ step_element a.kind k
     by role.Inserted q = ap (λ r. increment_bits_of r a.kind k) q ∙ step_inserted a.kind k
     by role.Factor q = ap (λ r. increment_bits_of r a.kind k) q ∙ step_factor a.kind k
     by role.Reference q =
-        let w = wrong_reference a k n base behind a.fxy refl some q in
+        let w = wrong_reference a k n base suffix a.fxy refl some q in
         let no : ◌≡◌ {A = Result (List Content) FieldFault} (Err w.why) (Ok cs) = sym w.is ∙ are in
         absurd cc
 
@@ -153,7 +153,7 @@ step_is a k n base behind cs some are = by a.role refl
 pub reaches : (n j s : ℕ) → j < n → (j + 1) * s ≤ n * s
 reaches n j s h = mul-le-mul_right s (omega (arith, h))
 
-pub increment_within : (bits : List Bool) (n : ℕ) (e : IndexedItem) (j : ℕ) → stands_at bits n e ≡ true → 1 ≤ e.step → j < n → e.at + (e.spec.width + 6) + (j + 1) * kind_step e.spec.kind e.step ≤ length bits
+pub increment_within : (bits : List Bool) (n : ℕ) (e : IndexedItem) (j : ℕ) → fits_at bits n e ≡ true → 1 ≤ e.step → j < n → e.at + (e.spec.width + 6) + (j + 1) * kind_step e.spec.kind e.step ≤ length bits
 increment_within bits n e j h some below =
     let p = kept_parts bits n e h in
     let s = kind_step e.spec.kind e.step in
@@ -162,7 +162,7 @@ increment_within bits n e j h some below =
     let all : e.at + (e.spec.width + 6 + n * s) ≤ length bits = subst (λ x. e.at + (e.spec.width + 6 + n * x) ≤ length bits) same p.within in
     omega (arith, far, all)
 
-pub step_small : (bits : List Bool) (n : ℕ) (e : IndexedItem) → stands_at bits n e ≡ true → e.step ≤ 63
+pub step_small : (bits : List Bool) (n : ℕ) (e : IndexedItem) → fits_at bits n e ≡ true → e.step ≤ 63
 step_small bits n e h =
     let six = take 6 (drop (e.at + e.spec.width) bits) in
     let is : e.step ≡ number_of six = kept_step bits n e h in
@@ -175,23 +175,23 @@ step_small bits n e h =
     length-take-most n xs = omega (arith, length-take n xs)
 
 -- the content of one subset, by the bits of its item
-pub base_content : (bits : List Bool) (n : ℕ) (e : IndexedItem) (j : ℕ) → stands_at bits n e ≡ true → e.step ≡ 0 → j < n → content_kept bits n e j ≡ content_in e.spec (take e.spec.width (drop e.at bits))
+pub base_content : (bits : List Bool) (n : ℕ) (e : IndexedItem) (j : ℕ) → fits_at bits n e ≡ true → e.step ≡ 0 → j < n → content_kept bits n e j ≡ content_in e.spec (take e.spec.width (drop e.at bits))
 base_content bits n e j h none below = let p = kept_parts bits n e h in base_at e.spec e.step n j _ _ _ none below p.are
 
-pub varied_content : (bits : List Bool) (n : ℕ) (e : IndexedItem) (j : ℕ) → stands_at bits n e ≡ true → 1 ≤ e.step → j < n
+pub varied_content : (bits : List Bool) (n : ℕ) (e : IndexedItem) (j : ℕ) → fits_at bits n e ≡ true → 1 ≤ e.step → j < n
     → content_kept bits n e j ≡ content_from e.spec.kind e.spec e.step (take e.spec.width (drop e.at bits)) (take (kind_step e.spec.kind e.step) (drop (j * kind_step e.spec.kind e.step) (drop (e.at + (e.spec.width + 6)) bits)))
 varied_content bits n e j h some below = let p = kept_parts bits n e h in varied_at e.spec e.step n j _ _ _ some below p.are
 
 -- the same of numbers and of texts
-number_kind : (kd : Kind) (a : FieldSpec) (k j : ℕ) (base behind : List Bool) → is_character kd ≡ false → content_from kd a k base (take (kind_step kd k) (drop (j * kind_step kd k) behind)) ≡ number_from a k base (take k (drop (j * k) behind))
-number_kind kind.Character a k j base behind h = absurd cc
-number_kind kind.Coded a k j base behind h = refl
-number_kind kind.Numeric a k j base behind h = refl
+number_kind : (kd : Kind) (a : FieldSpec) (k j : ℕ) (base suffix : List Bool) → is_character kd ≡ false → content_from kd a k base (take (kind_step kd k) (drop (j * kind_step kd k) suffix)) ≡ number_from a k base (take k (drop (j * k) suffix))
+number_kind kind.Character a k j base suffix h = absurd cc
+number_kind kind.Coded a k j base suffix h = refl
+number_kind kind.Numeric a k j base suffix h = refl
 
-text_kind : (kd : Kind) (a : FieldSpec) (k j : ℕ) (base behind : List Bool) → is_character kd ≡ true → content_from kd a k base (take (kind_step kd k) (drop (j * kind_step kd k) behind)) ≡ padded_text (a.width / 8) k (take (8 * k) (drop (j * (8 * k)) behind))
-text_kind kind.Character a k j base behind h = refl
-text_kind kind.Coded a k j base behind h = absurd cc
-text_kind kind.Numeric a k j base behind h = absurd cc
+text_kind : (kd : Kind) (a : FieldSpec) (k j : ℕ) (base suffix : List Bool) → is_character kd ≡ true → content_from kd a k base (take (kind_step kd k) (drop (j * kind_step kd k) suffix)) ≡ padded_text (a.width / 8) k (take (8 * k) (drop (j * (8 * k)) suffix))
+text_kind kind.Character a k j base suffix h = refl
+text_kind kind.Coded a k j base suffix h = absurd cc
+text_kind kind.Numeric a k j base suffix h = absurd cc
 
 number_step : (kd : Kind) (k : ℕ) → is_character kd ≡ false → kind_step kd k ≡ k
 number_step kind.Character k h = absurd cc
@@ -203,28 +203,28 @@ text_step kind.Character k h = refl
 text_step kind.Coded k h = absurd cc
 text_step kind.Numeric k h = absurd cc
 
-pub number_content : (bits : List Bool) (n : ℕ) (e : IndexedItem) (j : ℕ) → stands_at bits n e ≡ true → 1 ≤ e.step → j < n → is_character e.spec.kind ≡ false
+pub number_content : (bits : List Bool) (n : ℕ) (e : IndexedItem) (j : ℕ) → fits_at bits n e ≡ true → 1 ≤ e.step → j < n → is_character e.spec.kind ≡ false
     → number_from e.spec e.step (take e.spec.width (drop e.at bits)) (take e.step (drop (j * e.step) (drop (e.at + (e.spec.width + 6)) bits))) ≡ content_kept bits n e j
 number_content bits n e j h some below c = sym (varied_content bits n e j h some below ∙ number_kind e.spec.kind e.spec e.step j _ _ c)
 
-pub number_within : (bits : List Bool) (n : ℕ) (e : IndexedItem) (j : ℕ) → stands_at bits n e ≡ true → 1 ≤ e.step → j < n → is_character e.spec.kind ≡ false → e.at + (e.spec.width + 6) + (j + 1) * e.step ≤ length bits
+pub number_within : (bits : List Bool) (n : ℕ) (e : IndexedItem) (j : ℕ) → fits_at bits n e ≡ true → 1 ≤ e.step → j < n → is_character e.spec.kind ≡ false → e.at + (e.spec.width + 6) + (j + 1) * e.step ≤ length bits
 number_within bits n e j h some below c = subst (λ s. e.at + (e.spec.width + 6) + (j + 1) * s ≤ length bits) (number_step e.spec.kind e.step c) (increment_within bits n e j h some below)
 
-pub text_content : (bits : List Bool) (n : ℕ) (e : IndexedItem) (j : ℕ) → stands_at bits n e ≡ true → 1 ≤ e.step → j < n → is_character e.spec.kind ≡ true
+pub text_content : (bits : List Bool) (n : ℕ) (e : IndexedItem) (j : ℕ) → fits_at bits n e ≡ true → 1 ≤ e.step → j < n → is_character e.spec.kind ≡ true
     → padded_text (e.spec.width / 8) e.step (take (8 * e.step) (drop (j * (8 * e.step)) (drop (e.at + (e.spec.width + 6)) bits))) ≡ content_kept bits n e j
 text_content bits n e j h some below c = sym (varied_content bits n e j h some below ∙ text_kind e.spec.kind e.spec e.step j _ _ c)
 
-pub text_within : (bits : List Bool) (n : ℕ) (e : IndexedItem) (j : ℕ) → stands_at bits n e ≡ true → 1 ≤ e.step → j < n → is_character e.spec.kind ≡ true → e.at + (e.spec.width + 6) + (j + 1) * (8 * e.step) ≤ length bits
+pub text_within : (bits : List Bool) (n : ℕ) (e : IndexedItem) (j : ℕ) → fits_at bits n e ≡ true → 1 ≤ e.step → j < n → is_character e.spec.kind ≡ true → e.at + (e.spec.width + 6) + (j + 1) * (8 * e.step) ≤ length bits
 text_within bits n e j h some below c = subst (λ s. e.at + (e.spec.width + 6) + (j + 1) * s ≤ length bits) (text_step e.spec.kind e.step c) (increment_within bits n e j h some below)
 
 -- whether the base of a kept item is all ones, by its number
-pub kept_ones : (octets : List ℕ) (n : ℕ) (e : IndexedItem) → stands_at (bits_of octets) n e ≡ true → is_character e.spec.kind ≡ false → (e.base == 2 ^ e.spec.width - 1) ≡ are_all_ones (bits_at octets e.at e.spec.width)
+pub kept_ones : (octets : List ℕ) (n : ℕ) (e : IndexedItem) → fits_at (bits_of octets) n e ≡ true → is_character e.spec.kind ≡ false → (e.base == 2 ^ e.spec.width - 1) ≡ are_all_ones (bits_at octets e.at e.spec.width)
 kept_ones octets n e h k =
     let p = kept_parts (bits_of octets) n e h in
     ones_by_number octets e.at e.spec.width e.base (omega (arith, p.within, bits_length octets)) (kept_base (bits_of octets) n e h k)
 
 -- and that number
-pub kept_number : (octets : List ℕ) (n : ℕ) (e : IndexedItem) → stands_at (bits_of octets) n e ≡ true → is_character e.spec.kind ≡ false → (e.base ≡ number_of (bits_at octets e.at e.spec.width)) × (e.base < 2 ^ e.spec.width)
+pub kept_number : (octets : List ℕ) (n : ℕ) (e : IndexedItem) → fits_at (bits_of octets) n e ≡ true → is_character e.spec.kind ≡ false → (e.base ≡ number_of (bits_at octets e.at e.spec.width)) × (e.base < 2 ^ e.spec.width)
 kept_number octets n e h k =
     let is = kept_base (bits_of octets) n e h k in
     let p = kept_parts (bits_of octets) n e h in

@@ -9,7 +9,7 @@ use Rattle.bufr_walk.specs.declared.fault.ShowFault.{ShowFault}
 use Rattle.bufr_walk.specs.declared.kept.IndexedItem.{IndexedItem}
 use Rattle.bufr_walk.specs.Calls.{Call, Timed, timed, compressed_item_calls}
 use Rattle.bufr_walk.specs.StoredItems.{call_kept}
-use Rattle.bufr_walk.specs.PackedIn.{items_at, stands_at}
+use Rattle.bufr_walk.specs.PackedIn.{items_at, fits_at}
 use Rattle.bufr_walk.specs.CallsInTurn.{Shows}
 
 -- these calls were made, in no turn
@@ -53,16 +53,16 @@ pub next_call : (table : List Row) (bits : List Bool) (n j : ℕ) (kept : List I
     → compressed_item_calls table j (items_at bits n (drop i kept)) ≡ timed 0 (call_kept table bits n k j) ∷ compressed_item_calls table j (items_at bits n (drop (i + 1) kept))
 next_call table bits n j kept i k h e = ap (λ ks. compressed_item_calls table j (items_at bits n ks)) (next_entry kept i k h (sym e))
 
-pub stand_behind : (bits : List Bool) (n : ℕ) (kept : List IndexedItem) (i : ℕ) (k : IndexedItem) → i < length kept → k ≡ get_or kept i k → list_all (stands_at bits n) (drop i kept) ≡ true → list_all (stands_at bits n) (drop (i + 1) kept) ≡ true
-stand_behind bits n kept i k h e w = and_second (stands_at bits n k) (list_all (stands_at bits n) (drop (i + 1) kept)) (subst (λ ks. list_all (stands_at bits n) ks ≡ true) (next_entry kept i k h (sym e)) w)
+pub fit_after : (bits : List Bool) (n : ℕ) (kept : List IndexedItem) (i : ℕ) (k : IndexedItem) → i < length kept → k ≡ get_or kept i k → list_all (fits_at bits n) (drop i kept) ≡ true → list_all (fits_at bits n) (drop (i + 1) kept) ≡ true
+fit_after bits n kept i k h e w = and_second (fits_at bits n k) (list_all (fits_at bits n) (drop (i + 1) kept)) (subst (λ ks. list_all (fits_at bits n) ks ≡ true) (next_entry kept i k h (sym e)) w)
 
 -- spaces after a text
 pub pad_none : (xs : List ℕ) (n : ℕ) → xs ≡ xs ++ replicate (n - n) 32
 pad_none xs n = let none : 0 ≡ n - n = omega arith in sym (append-nil xs) ∙ ap (λ k. xs ++ replicate k 32) none
 
-pub pad_more : (text front : List ℕ) (place from : ℕ) → place < length text → from ≤ place → take place text ≡ front ++ replicate (place - from) 32 → take (place + 1) (set text place 32) ≡ front ++ replicate (place + 1 - from) 32
-pad_more text front place from h order e =
+pub pad_more : (text prefix : List ℕ) (place from : ℕ) → place < length text → from ≤ place → take place text ≡ prefix ++ replicate (place - from) 32 → take (place + 1) (set text place 32) ≡ prefix ++ replicate (place + 1 - from) 32
+pad_more text prefix place from h order e =
     let space : ℕ = 32 in
     let more : place - from + 1 ≡ place + 1 - from = omega arith in
-    take_more_set text place 32 h ∙ ap (λ xs. xs ++ 32 ∷ []) e ∙ append_assoc front (replicate (place - from) 32) (32 ∷ [])
-    ∙ ap (λ xs. front ++ xs) (replicate-append-replicate (place - from) 1 32 ∙ ap (λ n. replicate n 32) more)
+    take_more_set text place 32 h ∙ ap (λ xs. xs ++ 32 ∷ []) e ∙ append_assoc prefix (replicate (place - from) 32) (32 ∷ [])
+    ∙ ap (λ xs. prefix ++ xs) (replicate-append-replicate (place - from) 1 32 ∙ ap (λ n. replicate n 32) more)

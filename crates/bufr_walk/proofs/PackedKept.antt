@@ -15,7 +15,7 @@ use Rattle.bufr_walk.specs.FieldSpec.{FieldSpec}
 use Rattle.bufr_walk.specs.PlainField.{FieldFault, data_end, increment, unequal_factor}
 use Rattle.bufr_walk.specs.PackedField.{packed_field}
 use Rattle.bufr_walk.specs.PackedBits.{IsSeen, IsUnseen, IsLooked, IsUnlooked}
-use Rattle.bufr_walk.specs.PackedIn.{PackedCursor, item_with_contents, item_at, items_at, contents_found, was_found, has_base, stands_at, packed_view, IsPackedIn, IsPackedTaken, wrong_of, PackedTakes}
+use Rattle.bufr_walk.specs.PackedIn.{PackedCursor, item_with_contents, item_at, items_at, contents_found, was_found, has_base, fits_at, packed_view, IsPackedIn, IsPackedTaken, wrong_of, PackedTakes}
 use Rattle.bufr_walk.specs.Reading.{max_values, items_at_once}
 
 pub length-items_at : (bits : List Bool) (n : ℕ) (kept : List IndexedItem) → length (items_at bits n kept) ≡ length kept
@@ -33,8 +33,8 @@ both : (a b : Bool) → a ≡ true → b ≡ true → (a && b) ≡ true
 both a b e f = ap (λ x. x && b) e ∙ f
 
 -- the entry of an item that was read
-pub stands_here : (bits : List Bool) (n : ℕ) (e : IndexedItem) (seen : ItemBits) → IsSeen bits e.at n e.spec seen → e.base ≡ seen.base → e.step ≡ seen.step → stands_at bits n e ≡ true
-stands_here bits n e seen h b k =
+pub fits_here : (bits : List Bool) (n : ℕ) (e : IndexedItem) (seen : ItemBits) → IsSeen bits e.at n e.spec seen → e.base ≡ seen.base → e.step ≡ seen.step → fits_at bits n e ≡ true
+fits_here bits n e seen h b k =
     let step = e.step == number_of (take 6 (drop (e.at + e.spec.width) bits)) in
     both (was_found (packed_field n e.spec (drop e.at bits))) (step && has_base bits e) (ap was_found h.field)
     (both step (has_base bits e) (equal_test e.step (number_of (take 6 (drop (e.at + e.spec.width) bits))) (k ∙ h.step)) (based (is_character e.spec.kind) refl))
@@ -46,7 +46,7 @@ stands_here bits n e seen h b k =
 -- one entry more
 pub keeps : (bits : List Bool) (at n : ℕ) (kept kept' : List IndexedItem) (e : IndexedItem) (seen : ItemBits) → IsPackedIn bits at n kept → e.at ≡ at → e.base ≡ seen.base → e.step ≡ seen.step → IsLooked (packed_view bits at n kept) e.spec seen → kept' ≡ kept ++ e ∷ [] → IsPackedIn bits seen.end n kept'
 keeps bits at n kept kept' e seen h here b k look is =
-    let stands = stands_here bits n e seen (subst (λ x. IsSeen bits x n e.spec seen) (sym here) look.seen) b k in
+    let fits = fits_here bits n e seen (subst (λ x. IsSeen bits x n e.spec seen) (sym here) look.seen) b k in
     let count : length kept' ≡ length kept + 1 = ap length is ∙ length-append kept (e ∷ []) in
     let many = look.few in
     record {
@@ -54,16 +54,16 @@ keeps bits at n kept kept' e seen h here b k look is =
       some = h.some;
       few = subst (λ j. j * n ≤ max_values) (ap (λ j. j + 1) (length-items_at bits n kept) ∙ sym count) look.few;
       held = omega (arith, count, h.held, look.seen.least);
-      stand = ap (list_all (stands_at bits n)) is ∙ list_all-append (stands_at bits n) kept (e ∷ []) ∙ both (list_all (stands_at bits n) kept) (stands_at bits n e && true) h.stand (both (stands_at bits n e) true stands refl);
+      fit = ap (list_all (fits_at bits n)) is ∙ list_all-append (fits_at bits n) kept (e ∷ []) ∙ both (list_all (fits_at bits n) kept) (fits_at bits n e && true) h.fit (both (fits_at bits n e) true fits refl);
     }
 
 pub takes_one : (bits : List Bool) (at n : ℕ) (kept kept' : List IndexedItem) (e : IndexedItem) (seen : ItemBits) → e.at ≡ at → IsLooked (packed_view bits at n kept) e.spec seen → kept' ≡ kept ++ e ∷ []
-    → IsPackedTaken (packed_view bits at n kept) e.spec seen.told (packed_view bits seen.end n kept')
+    → IsPackedTaken (packed_view bits at n kept) e.spec seen.answer (packed_view bits seen.end n kept')
 takes_one bits at n kept kept' e seen here look is = record {
   contents = look.seen.contents;
   few = look.few;
   field = look.seen.field;
-  tells = look.seen.tells;
+  gives = look.seen.gives;
   bits = refl;
   subsets = refl;
   items = ap (items_at bits n) is ∙ items_at-append bits n kept e ∙ ap (λ x. items_at bits n kept ++ item_with_contents e.spec x ∷ []) (ap (λ j. contents_found (packed_field n e.spec (drop j bits))) here ∙ ap contents_found look.seen.field);

@@ -64,10 +64,10 @@ all_fit m w base k (suc n) bits h =
     fits true false past e = ap not e
     fits false missing past e = ap not e
 
-pub numbers_fit : (a : FieldSpec) (k n value width : ℕ) (base behind : List Bool) → value ≡ number_of base → width ≡ a.width → value + ones k ≤ ones width → numbers_hold a k n base behind ≡ true
-numbers_fit a k n value width base behind e f h =
+pub numbers_fit : (a : FieldSpec) (k n value width : ℕ) (base suffix : List Bool) → value ≡ number_of base → width ≡ a.width → value + ones k ≤ ones width → numbers_hold a k n base suffix ≡ true
+numbers_fit a k n value width base suffix e f h =
     let fits : number_of base + ones k ≤ ones a.width = subst (λ w. number_of base + ones k ≤ ones w) f (subst (λ v. v + ones k ≤ ones width) e h) in
-    ap (λ b. is_missing a base || b) (all_fit a.may_be_missing a.width (number_of base) k n behind fits) ∙ either (is_missing a base)
+    ap (λ b. is_missing a base || b) (all_fit a.may_be_missing a.width (number_of base) k n suffix fits) ∙ either (is_missing a base)
   where
     either : (b : Bool) → (b || true) ≡ true
     either true = refl

@@ -20,7 +20,7 @@ use Rattle.bufr_walk.specs.Fault.{spot, walk_fault_of, bits_before}
 use Rattle.bufr_walk.specs.StoredItems.{IsReadAndKept}
 use Rattle.bufr_walk.specs.Outcome.{IsRead, IsFault, IsRefused}
 use Rattle.bufr_walk.specs.PackedField.{packed_field}
-use Rattle.bufr_walk.specs.PackedIn.{items_at, stands_at, wrong_of, PackedCursor, remaining_bits, item_with_contents, IsPackedTaken, IsPackedWrong, PackedTakes, refuses_packed, new_packed_in, packed_fault}
+use Rattle.bufr_walk.specs.PackedIn.{items_at, fits_at, wrong_of, PackedCursor, remaining_bits, item_with_contents, IsPackedTaken, IsPackedWrong, PackedTakes, refuses_packed, new_packed_in, packed_fault}
 use Rattle.bufr_walk.specs.PlainField.{FieldFault, data_end, increment, unequal_factor}
 use Rattle.bufr_walk.specs.Reading.{Item, packed, ReadsItems, ReadsPass, next_after, turns_after, after, max_values, items_at_once, Data, together, IsPackedReading, turns_together}
 use Rattle.bufr_walk.specs.Refusal.{Stop, walk_stop, too_many, field_stop, field_stop_of, stop_at, ComesToTogether, would_be_many, IsPackedShort}
@@ -52,8 +52,8 @@ passes n course s [] s' e h = record {
 passes n course s (i ∷ turns) s' e h =
     let step : IsPackedTaken s i.spec i.taken h.0 = h.2 in
     let item : Item (List Content) = item_with_contents i.spec step.contents in
-    let same : (λ told. course (i.taken ∷ told)) ≡ after (packed n) course item = ap (λ t told. course (t ∷ told)) step.tells in
-    let more = passes n (λ told. course (i.taken ∷ told)) h.0 turns s' (step.subsets ∙ e) h.3 in
+    let same : (λ answers. course (i.taken ∷ answers)) ≡ after (packed n) course item = ap (λ t answers. course (t ∷ answers)) step.gives in
+    let more = passes n (λ answers. course (i.taken ∷ answers)) h.0 turns s' (step.subsets ∙ e) h.3 in
     record {
       read = item ∷ more.read;
       reads = (
@@ -76,9 +76,9 @@ is_many : (a b : ℕ) → a < b → nat_lt a b ≡ true
 is_many a b h = grind (arith, nat_tests)
 
 -- with a subset at least
-reading_of : (n : ℕ) (course : Course) (items : List (Item (List Content))) (bits behind : List Bool) → 1 ≤ n → ReadsPass (packed n) course items bits behind → length items * n ≤ max_values → IsPackedReading n course items bits behind
-reading_of zero course items bits behind some h few = absurd (omega arith)
-reading_of (suc n) course items bits behind some h few = (h, few)
+reading_of : (n : ℕ) (course : Course) (items : List (Item (List Content))) (bits suffix : List Bool) → 1 ≤ n → ReadsPass (packed n) course items bits suffix → length items * n ≤ max_values → IsPackedReading n course items bits suffix
+reading_of zero course items bits suffix some h few = absurd (omega arith)
+reading_of (suc n) course items bits suffix some h few = (h, few)
 
 turns_are_those : (n : ℕ) (course : Course) (items : List (Item (List Content))) → 1 ≤ n → turns_together n course items ≡ turns_after (packed n) course items
 turns_are_those zero course items some = absurd (omega arith)
@@ -116,15 +116,15 @@ module _ (n : ℕ) (course : Course) (bits : List Bool) (s : PackedCursor) (firs
       )
 
   -- with the entries that were kept
-  pub whole_read : (s' : PackedCursor) (c c' used : ℕ) (kept : List IndexedItem) → c ≡ 0 → Walked PackedTakes course s c (Ok tt) s' c' → s'.at ≤ length s'.bits → length s'.items * s'.subsets ≤ max_values → used ≡ s'.at → items_at s'.bits s'.subsets kept ≡ s'.items → list_all (stands_at s'.bits s'.subsets) kept ≡ true
+  pub whole_read : (s' : PackedCursor) (c c' used : ℕ) (kept : List IndexedItem) → c ≡ 0 → Walked PackedTakes course s c (Ok tt) s' c' → s'.at ≤ length s'.bits → length s'.items * s'.subsets ≤ max_values → used ≡ s'.at → items_at s'.bits s'.subsets kept ≡ s'.items → list_all (fits_at s'.bits s'.subsets) kept ≡ true
       → IsReadAndKept course (packed_data n bits) kept used c'
-  whole_read s' c c' used kept zero_first w within few at are stand =
+  whole_read s' c c' used kept zero_first w within few at are fit =
       let p = passes n course s w.0 s' begins w.1 in (
         s'.items,
         subst (λ u. IsRead course (packed_data n bits) (together s'.items) u c') (sym at) (walk_reads s' c c' zero_first w within few),
         (
           ap (λ b. items_at b n kept) (sym (all_bits w.0 s' p)) ∙ ap (λ m. items_at s'.bits m kept) (sym p.subsets) ∙ are,
-          ap (λ b. list_all (stands_at b n) kept) (sym (all_bits w.0 s' p)) ∙ ap (λ m. list_all (stands_at s'.bits m) kept) (sym p.subsets) ∙ stand,
+          ap (λ b. list_all (fits_at b n) kept) (sym (all_bits w.0 s' p)) ∙ ap (λ m. list_all (fits_at s'.bits m) kept) (sym p.subsets) ∙ fit,
         ),
       )
 

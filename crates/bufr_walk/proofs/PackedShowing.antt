@@ -10,7 +10,7 @@ use Rattle.bufr_walk.specs.Content.{Content}
 use Rattle.bufr_walk.specs.Course.{Course}
 use Rattle.bufr_walk.specs.StoredItems.{IsStoredReading, KeepsValues, held_of}
 use Rattle.bufr_walk.specs.Outcome.{Read, course_of}
-use Rattle.bufr_walk.specs.PackedIn.{items_at, stands_at}
+use Rattle.bufr_walk.specs.PackedIn.{items_at, fits_at}
 use Rattle.bufr_walk.specs.Reading.{Item, packed, ReadsPass, Values, apart, together, IsReading, IsPackedReading, items_kept}
 use Rattle.bufr_walk.specs.CallsInTurn.{Shows}
 use Rattle.bufr_walk.proofs.OneReading.{one_reading}
@@ -25,10 +25,10 @@ one_packed (suc n) course xs ys bits l m h g = let one = one_outcome (packed (su
     has zs left w = record { reads = w.0; few = λ j lt. refl; ends = ap (λ x. outcome_of (packed (suc n)) false x left) w.1 }
 
 -- the entries that are kept are at their locations
-pub entries_stand : (r : Read) (entries : List IndexedItem) → IsStoredReading r (kept.Together entries) → list_all (stands_at r.source.bits r.source.subsets) entries ≡ true
-entries_stand r entries h = by h.values h.keeps
+pub entries_fit : (r : Read) (entries : List IndexedItem) → IsStoredReading r (kept.Together entries) → list_all (fits_at r.source.bits r.source.subsets) entries ≡ true
+entries_fit r entries h = by h.values h.keeps
   where
-    by : (values : Values) → KeepsValues (kept.Together entries) r.source values → list_all (stands_at r.source.bits r.source.subsets) entries ≡ true
+    by : (values : Values) → KeepsValues (kept.Together entries) r.source values → list_all (fits_at r.source.bits r.source.subsets) entries ≡ true
     by (apart all) w = absurd w
     by (together items) w = w.1
 

@@ -13,7 +13,7 @@ use Rattle.bufr_walk.specs.declared.spec.Role.TheVariants as role
 use Rattle.bufr_walk.specs.declared.spec.Taken.{Taken}
 use Rattle.bufr_walk.specs.declared.spec.Taken.TheVariants as taken
 use Rattle.bufr_walk.specs.FieldSpec.{FieldSpec, IsSpec, HasRole, HasWidth}
-use Rattle.bufr_walk.specs.Content.{missing, answer_of, told_by_role, content_in, content_by, said_by, count_in, signed_by}
+use Rattle.bufr_walk.specs.Content.{missing, answer_of, answer_by_role, content_in, content_by, said_by, count_in, signed_by}
 use Rattle.bufr_walk.specs.PlainField.{plain_field, found, data_end}
 use Rattle.bufr_walk.specs.PlainIn.{Cursor, rest_of, past, IsTaken}
 
@@ -36,17 +36,17 @@ factor_width a h e = let r : HasRole role.Factor a.kind a.may_be_missing = subst
 pub reference_width : (a : FieldSpec) → IsSpec a → a.role ≡ role.Reference → a.width ≤ 63
 reference_width a h e = let r : HasRole role.Reference a.kind a.may_be_missing = subst (λ x. HasRole x a.kind a.may_be_missing) e h.role in numeric_width a.kind a.width r.0 h.width
 
-pub told_element : (a : FieldSpec) (bits : List Bool) → a.role ≡ role.Element → taken.Plain ≡ answer_of a (content_in a bits)
-told_element a bits e = ap (λ r. told_by_role r (content_by r a bits)) (sym e)
+pub answer_element : (a : FieldSpec) (bits : List Bool) → a.role ≡ role.Element → taken.Plain ≡ answer_of a (content_in a bits)
+answer_element a bits e = ap (λ r. answer_by_role r (content_by r a bits)) (sym e)
 
-pub told_inserted : (a : FieldSpec) (bits : List Bool) → a.role ≡ role.Inserted → taken.Plain ≡ answer_of a (content_in a bits)
-told_inserted a bits e = ap (λ r. told_by_role r (content_by r a bits)) (sym e)
+pub answer_inserted : (a : FieldSpec) (bits : List Bool) → a.role ≡ role.Inserted → taken.Plain ≡ answer_of a (content_in a bits)
+answer_inserted a bits e = ap (λ r. answer_by_role r (content_by r a bits)) (sym e)
 
 -- a factor is a number
-pub told_factor : (a : FieldSpec) (bits : List Bool) (n : ℕ) → IsSpec a → a.role ≡ role.Factor → n ≡ number_of bits → taken.Count n ≡ answer_of a (content_in a bits)
-told_factor a bits n h e is =
+pub answer_factor : (a : FieldSpec) (bits : List Bool) (n : ℕ) → IsSpec a → a.role ≡ role.Factor → n ≡ number_of bits → taken.Count n ≡ answer_of a (content_in a bits)
+answer_factor a bits n h e is =
     let r : HasRole role.Factor a.kind a.may_be_missing = subst (λ x. HasRole x a.kind a.may_be_missing) e h.role in
-    ap taken.Count is ∙ sym (ap (λ x. told_by_role x (content_by x a bits)) e ∙ ap taken.Count (counts a.kind a.may_be_missing (are_all_ones bits) r.0 r.1))
+    ap taken.Count is ∙ sym (ap (λ x. answer_by_role x (content_by x a bits)) e ∙ ap taken.Count (counts a.kind a.may_be_missing (are_all_ones bits) r.0 r.1))
   where
     counts : (k : Kind) (m b : Bool) → k ≡ kind.Numeric → m ≡ false → count_in (if b && m then missing else said_by k a.width bits) ≡ number_of bits
     counts kind.Character m b p q = absurd cc
@@ -55,8 +55,8 @@ told_factor a bits n h e is =
     counts kind.Numeric false true p q = refl
     counts kind.Numeric false false p q = refl
 
-pub told_reference : (a : FieldSpec) (bits : List Bool) (z : ℤ) → a.role ≡ role.Reference → z ≡ signed_by bits → taken.Reference z ≡ answer_of a (content_in a bits)
-told_reference a bits z e is = ap taken.Reference is ∙ sym (ap (λ x. told_by_role x (content_by x a bits)) e)
+pub answer_reference : (a : FieldSpec) (bits : List Bool) (z : ℤ) → a.role ≡ role.Reference → z ≡ signed_by bits → taken.Reference z ≡ answer_of a (content_in a bits)
+answer_reference a bits z e is = ap taken.Reference is ∙ sym (ap (λ x. answer_by_role x (content_by x a bits)) e)
 
 -- a sign and a size
 pub signed_parts : (octets : List ℕ) (at width k sign size : ℕ) → width ≡ suc k → at + width ≤ 8 * length octets → sign ≡ number_of (bits_at octets at 1) → size ≡ number_of (bits_at octets (at + 1) k) → (if sign == 1 then neg_ℤ (pos size) else pos size) ≡ signed_by (bits_at octets at width)
@@ -80,7 +80,7 @@ taken_here s octets spec t e h within is = record {
   content = content_in spec (take spec.width (rest_of s));
   some = some_width spec h;
   field = there (nat_lt (length (rest_of s)) spec.width) (not_short (length (rest_of s)) spec.width (omega (arith, length-drop s.at s.bits, ap length e, length-bits_of octets)));
-  tells = is ∙ ap (λ bs. answer_of spec (content_in spec (take spec.width (drop s.at bs)))) (sym e);
+  gives = is ∙ ap (λ bs. answer_of spec (content_in spec (take spec.width (drop s.at bs)))) (sym e);
   next = refl;
 }
   where

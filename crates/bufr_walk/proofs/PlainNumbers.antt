@@ -15,9 +15,9 @@ use Rattle.bufr_walk.specs.declared.kept.IndexedItem.{IndexedItem}
 use Rattle.bufr_walk.specs.Content.{number, missing, answer_of, content_in, said_by, shown, shown_number, shown_missing}
 use Rattle.bufr_walk.specs.StoredItems.{content_kept}
 use Rattle.bufr_walk.specs.PackedBits.{is_missing}
-use Rattle.bufr_walk.specs.PackedIn.{stands_at}
+use Rattle.bufr_walk.specs.PackedIn.{fits_at}
 use Rattle.bufr_walk.specs.Numbers.{is_plain_number, is_plain, IsPlainNumber, IsSpecWith}
-use Rattle.bufr_walk.proofs.PlainLemmas.{told_element}
+use Rattle.bufr_walk.proofs.PlainLemmas.{answer_element}
 use Rattle.bufr_walk.proofs.PackedAt.{base_content}
 use Rattle.bufr_walk.proofs.ShownLemmas.{value_by, said_number, missing_shown, number_shown}
 
@@ -64,13 +64,13 @@ pub plain_shown : (a : FieldSpec) (bits : List Bool) (raw : ℕ) → IsPlainNumb
 plain_shown a bits raw p m is = number_shown a bits raw p.kind (ap is_reference p.role) m is
 
 -- the value of a plain item with no increments, which all subsets have
-pub base_missing : (octets : List ℕ) (n : ℕ) (e : IndexedItem) (j : ℕ) → stands_at (bits_of octets) n e ≡ true → e.step ≡ 0 → j < n → IsPlainNumber e.spec → is_missing e.spec (bits_at octets e.at e.spec.width) ≡ true → missing ≡ content_kept (bits_of octets) n e j
+pub base_missing : (octets : List ℕ) (n : ℕ) (e : IndexedItem) (j : ℕ) → fits_at (bits_of octets) n e ≡ true → e.step ≡ 0 → j < n → IsPlainNumber e.spec → is_missing e.spec (bits_at octets e.at e.spec.width) ≡ true → missing ≡ content_kept (bits_of octets) n e j
 base_missing octets n e j h none below p m =
     let base = bits_at octets e.at e.spec.width in
     sym (base_content (bits_of octets) n e j h none below ∙ value_by e.spec.role e.spec base (ap is_reference p.role)
     ∙ ap (λ b. if b then missing else said_by e.spec.kind e.spec.width base) m)
 
-pub base_number : (octets : List ℕ) (n : ℕ) (e : IndexedItem) (j raw : ℕ) → stands_at (bits_of octets) n e ≡ true → e.step ≡ 0 → j < n → IsPlainNumber e.spec → is_missing e.spec (bits_at octets e.at e.spec.width) ≡ false → raw ≡ number_of (bits_at octets e.at e.spec.width) → number raw ≡ content_kept (bits_of octets) n e j
+pub base_number : (octets : List ℕ) (n : ℕ) (e : IndexedItem) (j raw : ℕ) → fits_at (bits_of octets) n e ≡ true → e.step ≡ 0 → j < n → IsPlainNumber e.spec → is_missing e.spec (bits_at octets e.at e.spec.width) ≡ false → raw ≡ number_of (bits_at octets e.at e.spec.width) → number raw ≡ content_kept (bits_of octets) n e j
 base_number octets n e j raw h none below p m is =
     let base = bits_at octets e.at e.spec.width in
     ap number is
@@ -82,8 +82,8 @@ pub row_is : (table : List Row) (a : FieldSpec) (row : Row) → IsPlainNumber a 
 row_is table a row p e = e ∙ ap (λ b. if b then entry_of table a.fxy else None) (sym p.listed)
 
 -- what it returns to the walk
-pub plain_told : (a : FieldSpec) (bits : List Bool) → IsPlainNumber a → taken.Plain ≡ answer_of a (content_in a bits)
-plain_told a bits p = told_element a bits p.role
+pub plain_answer : (a : FieldSpec) (bits : List Bool) → IsPlainNumber a → taken.Plain ≡ answer_of a (content_in a bits)
+plain_answer a bits p = answer_element a bits p.role
 
 pub plain_for : (a : FieldSpec) → IsPlainNumber a → IsFor a taken.Plain
 plain_for a p = subst (λ r. IsForRole r taken.Plain) (sym p.role) tt

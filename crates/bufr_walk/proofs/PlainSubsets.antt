@@ -23,9 +23,9 @@ ticked_more a b = by a b (2 ^ 64 - 1)
     by : (a b most : ℕ) → max (max 0 (min (0 + a) most)) (min (max 0 (min (0 + a) most) + b) most) ≡ max 0 (min (0 + (a + b)) most)
     by a b most = omega arith
 
-pub reads_more : (course : Course) (xs : List (List (Item Content))) (x : List (Item Content)) (bits mid behind : List Bool) → ReadsSubsets course xs bits mid → ReadsPass plain course x mid behind → ReadsSubsets course (xs ++ x ∷ []) bits behind
-reads_more course [] x bits mid behind h r = (behind, subst (λ z. ReadsPass plain course x z behind) (sym h) r, refl)
-reads_more course (y ∷ xs) x bits mid behind h r = (h.0, h.1, reads_more course xs x h.0 mid behind h.2 r)
+pub reads_more : (course : Course) (xs : List (List (Item Content))) (x : List (Item Content)) (bits mid suffix : List Bool) → ReadsSubsets course xs bits mid → ReadsPass plain course x mid suffix → ReadsSubsets course (xs ++ x ∷ []) bits suffix
+reads_more course [] x bits mid suffix h r = (suffix, subst (λ z. ReadsPass plain course x z suffix) (sym h) r, refl)
+reads_more course (y ∷ xs) x bits mid suffix h r = (h.0, h.1, reads_more course xs x h.0 mid suffix h.2 r)
 
 pub turns_more : (course : Course) (xs : List (List (Item Content))) (x : List (Item Content)) → turns_in course (xs ++ x ∷ []) ≡ turns_in course xs + turns_after plain course x
 turns_more course [] x = omega arith

@@ -23,8 +23,8 @@ reads course s [] s' h = ([], ap rest_of (sym h), refl, refl)
 reads course s (i ∷ items) s' h =
     let step = h.2 in
     let item : Item Content = record { spec = i.spec; content = step.content } in
-    let same : (λ told. course (i.taken ∷ told)) ≡ after plain course item = ap (λ t told. course (t ∷ told)) step.tells in
-    let more = reads (λ told. course (i.taken ∷ told)) h.0 items s' h.3 in (
+    let same : (λ answers. course (i.taken ∷ answers)) ≡ after plain course item = ap (λ t answers. course (t ∷ answers)) step.gives in
+    let more = reads (λ answers. course (i.taken ∷ answers)) h.0 items s' h.3 in (
       item ∷ more.0,
       (rest_of h.0, h.1, step.field, subst (λ c. ReadsItems plain c more.0 (rest_of h.0) (rest_of s')) same more.1),
       ap (λ c. next_after plain c more.0) (sym same) ∙ more.2,
@@ -33,13 +33,13 @@ reads course s (i ∷ items) s' h =
 
 pub same_bits : (course : Course) (s : Cursor) (items : List TakenField) (s' : Cursor) → Takes (oks PlainTakes) course s items s' → s'.bits ≡ s.bits
 same_bits course s [] s' h = ap (λ x. x.bits) h
-same_bits course s (i ∷ items) s' h = same_bits (λ told. course (i.taken ∷ told)) h.0 items s' h.3 ∙ ap (λ x. x.bits) h.2.next
+same_bits course s (i ∷ items) s' h = same_bits (λ answers. course (i.taken ∷ answers)) h.0 items s' h.3 ∙ ap (λ x. x.bits) h.2.next
 
 -- each item takes a bit
 reads_paid : (course : Course) (s : Cursor) (items : List TakenField) (s' : Cursor) (h : Takes (oks PlainTakes) course s items s') → s.at + length (reads course s items s' h).0 ≤ s'.at
 unfolding reads
 reads_paid course s [] s' h = omega (arith, ap (λ x. x.at) h)
-reads_paid course s (i ∷ items) s' h = omega (arith, h.2.some, ap (λ x. x.at) h.2.next, reads_paid (λ told. course (i.taken ∷ told)) h.0 items s' h.3)
+reads_paid course s (i ∷ items) s' h = omega (arith, h.2.some, ap (λ x. x.at) h.2.next, reads_paid (λ answers. course (i.taken ∷ answers)) h.0 items s' h.3)
 
 -- an accepted walk reads a subset
 pub pass_reads : (course : Course) (s s' : Cursor) (c c' : ℕ) → Walked PlainTakes course s c (Ok tt) s' c' → PassReads course s c s' c'
@@ -78,7 +78,7 @@ pass_stops course s s' c c' subset at why here w =
 -- a walk does not move back
 takes_forth : (course : Course) (s : Cursor) (items : List TakenField) (s' : Cursor) → Takes (oks PlainTakes) course s items s' → s.at ≤ s'.at
 takes_forth course s [] s' h = omega (arith, ap (λ x. x.at) h)
-takes_forth course s (i ∷ items) s' h = omega (arith, takes_forth (λ told. course (i.taken ∷ told)) h.0 items s' h.3, ap (λ x. x.at) h.2.next)
+takes_forth course s (i ∷ items) s' h = omega (arith, takes_forth (λ answers. course (i.taken ∷ answers)) h.0 items s' h.3, ap (λ x. x.at) h.2.next)
 
 stop_forth : (next : Next) (mid s' : Cursor) (why : WalkStop DataEnd) → StopsWalk PlainTakes next mid why s' → mid.at ≤ s'.at
 stop_forth (take_next spec) mid s' (stops.Field e) h = omega (arith, ap (λ x. x.at) h.2)

@@ -12,7 +12,7 @@ use Rattle.bufr_walk.specs.Content.{Content}
 use Rattle.bufr_walk.specs.Course.{Course, next_item}
 use Rattle.bufr_walk.specs.StoredItems.{IsStoredReading, PaysBits, items_in}
 use Rattle.bufr_walk.specs.Outcome.{Read, course_of}
-use Rattle.bufr_walk.specs.Reading.{Item, plain, tells_of, after, next_after, turns_after, turns_in, ReadsSubsets, Values, apart, together, IsReading, IsPackedReading, max_values}
+use Rattle.bufr_walk.specs.Reading.{Item, plain, item_answer, after, next_after, turns_after, turns_in, ReadsSubsets, Values, apart, together, IsReading, IsPackedReading, max_values}
 use Rattle.bufr_walk.specs.CallsInTurn.{Shows}
 use Rattle.bufr_walk.specs.Ticks.{ticked}
 use Rattle.bufr_walk.proofs.Bound.{turns_before, turns_in_all}
@@ -30,8 +30,8 @@ called_items table before course (i ∷ items) = omega (arith, called_items tabl
 called_subsets : (table : List Row) (course : Course) (before number : ℕ) (subsets : List (List (Item Content))) → items_called (subset_calls table course before number subsets) ≡ items_in subsets
 called_subsets table course before number [] = refl
 called_subsets table course before number (items ∷ subsets) =
-    let behind : List Timed = subset_calls table course (before + turns_after plain course items) (number + 1) subsets in
-    omega (arith, called_more (item_calls table before course items) behind, called_items table before course items, called_subsets table course (before + turns_after plain course items) (number + 1) subsets)
+    let suffix : List Timed = subset_calls table course (before + turns_after plain course items) (number + 1) subsets in
+    omega (arith, called_more (item_calls table before course items) suffix, called_items table before course items, called_subsets table course (before + turns_after plain course items) (number + 1) subsets)
 
 called_together : (table : List Row) (j : ℕ) (items : List (Item (List Content))) → items_called (compressed_item_calls table j items) ≡ length items
 called_together table j [] = refl
@@ -40,13 +40,13 @@ called_together table j (i ∷ items) = omega (arith, called_together table j it
 called_all : (table : List Row) (n j : ℕ) (items : List (Item (List Content))) → items_called (compressed_subset_calls table n j items) ≡ length items * n
 called_all table zero j items = omega arith
 called_all table (suc n) j items =
-    let behind : List Timed = compressed_subset_calls table n (j + 1) items in
+    let suffix : List Timed = compressed_subset_calls table n (j + 1) items in
     let more : length items * suc n ≡ length items + length items * n = grind arith in
-    omega (arith, more, called_more (compressed_item_calls table j items) behind, called_together table j items, called_all table n (j + 1) items)
+    omega (arith, more, called_more (compressed_item_calls table j items) suffix, called_together table j items, called_all table n (j + 1) items)
 
-packed_few : (table : List Row) (n used : ℕ) (course : Course) (items : List (Item (List Content))) (bits behind : List Bool) → IsPackedReading n course items bits behind → length items * n ≤ max_values
-packed_few table zero used course items bits behind h = omega arith
-packed_few table (suc n) used course items bits behind h = h.1
+packed_few : (table : List Row) (n used : ℕ) (course : Course) (items : List (Item (List Content))) (bits suffix : List Bool) → IsPackedReading n course items bits suffix → length items * n ≤ max_values
+packed_few table zero used course items bits suffix h = omega arith
+packed_few table (suc n) used course items bits suffix h = h.1
 
 -- the items of all calls
 pub few_items : (r : Read) (k : StoredItems) → IsStoredReading r k → (values : Values) → IsReading (course_of r) r.source values r.bits → items_called (calls_of r values) ≤ max_values
@@ -78,25 +78,25 @@ shows_within sees most s (c ∷ calls) turns (Err why) s' steps h t g =
     elim h as (λ _. steps ≤ most) [ inl x ↦ ticked_most c.turns most steps x.1 g.0 | inr y ↦ shows_within sees most y.0 calls turns (Err why) s' steps y.2 t g.1 ]
 
 -- what items returned to the walk
-abbrev tells_all : List (Item Content) → List Taken
-tells_all [] = []
-tells_all (i ∷ items) = tells_of plain i ∷ tells_all items
+abbrev answers_all : List (Item Content) → List Taken
+answers_all [] = []
+answers_all (i ∷ items) = item_answer plain i ∷ answers_all items
 
-tells_length : (items : List (Item Content)) → length (tells_all items) ≡ length items
-tells_length [] = refl
-tells_length (i ∷ items) = ap suc (tells_length items)
+gives_length : (items : List (Item Content)) → length (answers_all items) ≡ length items
+gives_length [] = refl
+gives_length (i ∷ items) = ap suc (gives_length items)
 
-turns_are : (course : Course) (items : List (Item Content)) → turns_after plain course items ≡ (course (tells_all items)).turns
+turns_are : (course : Course) (items : List (Item Content)) → turns_after plain course items ≡ (course (answers_all items)).turns
 turns_are course [] = refl
 turns_are course (i ∷ items) = turns_are (after plain course i) items
 
-next_is : (course : Course) (items : List (Item Content)) → next_after plain course items ≡ (course (tells_all items)).next
+next_is : (course : Course) (items : List (Item Content)) → next_after plain course items ≡ (course (answers_all items)).next
 next_is course [] = refl
 next_is course (i ∷ items) = next_is (after plain course i) items
 
 -- a bound on the turns up to what comes after some items
 abbrev TurnsWithin : ℕ → ℕ → Course → Type 0
-TurnsWithin n done course = (told : List Taken) → (course told).turns ≤ n * (done + length told + 1)
+TurnsWithin n done course = (answers : List Taken) → (course answers).turns ≤ n * (done + length answers + 1)
 
 split : (n a b : ℕ) → n * (a + b) ≡ n * a + n * b
 split n a b = grind arith
@@ -108,7 +108,7 @@ items_within : (n most : ℕ) (table : List Row) (before paid done : ℕ) (cours
 items_within n most table before paid done course [] h b m = tt
 items_within n most table before paid done course (i ∷ items) h b m = (
   omega (arith, h [], b, m, split n paid (done + 0 + 1), mono n (paid + (done + 0 + 1)) (paid + (done + suc (length items))) (omega arith)),
-  items_within n most table before paid (done + 1) (after plain course i) items (λ told. subst (λ k. (course (tells_of plain i ∷ told)).turns ≤ n * k) (counted done (length told)) (h (tells_of plain i ∷ told))) b (subst (λ k. n * (paid + k) ≤ most) (moved done (length items)) m),
+  items_within n most table before paid (done + 1) (after plain course i) items (λ answers. subst (λ k. (course (item_answer plain i ∷ answers)).turns ≤ n * k) (counted done (length answers)) (h (item_answer plain i ∷ answers))) b (subst (λ k. n * (paid + k) ≤ most) (moved done (length items)) m),
 )
   where
     counted : (d l : ℕ) → d + suc l + 1 ≡ d + 1 + l + 1
@@ -117,18 +117,18 @@ items_within n most table before paid done course (i ∷ items) h b m = (
     moved : (d l : ℕ) → d + suc l ≡ d + 1 + l
     moved d l = omega arith
 
-subsets_within : (most : ℕ) (table : List Row) (template : Tree) (before paid number : ℕ) (subsets : List (List (Item Content))) (bits behind : List Bool) → IsSound template → ReadsSubsets (next_item table template) subsets bits behind → before ≤ places template * paid → places template * (paid + items_in subsets) ≤ most → AllWithin most (subset_calls table (next_item table template) before number subsets) × (before + turns_in (next_item table template) subsets ≤ most)
-subsets_within most table template before paid number [] bits behind sound h b m = (tt, omega (arith, b, m, mono (places template) paid (paid + 0) (omega arith)))
-subsets_within most table template before paid number (items ∷ subsets) bits behind sound h b m =
+subsets_within : (most : ℕ) (table : List Row) (template : Tree) (before paid number : ℕ) (subsets : List (List (Item Content))) (bits suffix : List Bool) → IsSound template → ReadsSubsets (next_item table template) subsets bits suffix → before ≤ places template * paid → places template * (paid + items_in subsets) ≤ most → AllWithin most (subset_calls table (next_item table template) before number subsets) × (before + turns_in (next_item table template) subsets ≤ most)
+subsets_within most table template before paid number [] bits suffix sound h b m = (tt, omega (arith, b, m, mono (places template) paid (paid + 0) (omega arith)))
+subsets_within most table template before paid number (items ∷ subsets) bits suffix sound h b m =
     let n : ℕ = places template in
     let course : Course = next_item table template in
-    let turns : turns_after plain course items ≤ n * length items = subst (λ k. turns_after plain course items ≤ n * k) (tells_length items) (subst (λ k. k ≤ n * length (tells_all items)) (sym (turns_are course items)) (turns_in_all table template (tells_all items) sound (sym (next_is course items) ∙ h.1.1))) in
+    let turns : turns_after plain course items ≤ n * length items = subst (λ k. turns_after plain course items ≤ n * k) (gives_length items) (subst (λ k. k ≤ n * length (answers_all items)) (sym (turns_are course items)) (turns_in_all table template (answers_all items) sound (sym (next_is course items) ∙ h.1.1))) in
     let more : before + turns_after plain course items ≤ n * (paid + length items) = omega (arith, b, turns, split n paid (length items)) in
-    let rest = subsets_within most table template (before + turns_after plain course items) (paid + length items) (number + 1) subsets h.0 behind sound h.2 more (subst (λ k. n * k ≤ most) (moved paid (length items) (items_in subsets)) m) in (
+    let rest = subsets_within most table template (before + turns_after plain course items) (paid + length items) (number + 1) subsets h.0 suffix sound h.2 more (subst (λ k. n * k ≤ most) (moved paid (length items) (items_in subsets)) m) in (
       (
         omega (arith, b, m, mono n paid (paid + (length items + items_in subsets)) (omega arith)),
         within_more most (item_calls table before course items) (subset_calls table course (before + turns_after plain course items) (number + 1) subsets)
-            (items_within n most table before paid 0 course items (λ told. subst (λ k. (course told).turns ≤ n * k) (zeroed (length told)) (turns_before table template told sound)) b (omega (arith, m, mono n (paid + (0 + length items)) (paid + (length items + items_in subsets)) (omega arith)))) rest.0,
+            (items_within n most table before paid 0 course items (λ answers. subst (λ k. (course answers).turns ≤ n * k) (zeroed (length answers)) (turns_before table template answers sound)) b (omega (arith, m, mono n (paid + (0 + length items)) (paid + (length items + items_in subsets)) (omega arith)))) rest.0,
       ),
       omega (arith, rest.1),
     )

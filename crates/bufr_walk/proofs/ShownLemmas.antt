@@ -38,10 +38,10 @@ same_found : (a b : FieldRead Content) → ◌≡◌ {A = Result (FieldRead Cont
 same_found a b e = cc
 
 -- the content of a field that is there
-pub content_is : (spec : FieldSpec) (bits behind : List Bool) (c : Content) → plain_field spec bits ≡ Ok (found c behind) → content_in spec (take spec.width bits) ≡ c
-content_is spec bits behind c h = by (nat_lt (length bits) spec.width) h
+pub content_is : (spec : FieldSpec) (bits suffix : List Bool) (c : Content) → plain_field spec bits ≡ Ok (found c suffix) → content_in spec (take spec.width bits) ≡ c
+content_is spec bits suffix c h = by (nat_lt (length bits) spec.width) h
   where
-    by : (b : Bool) → (if b then Err data_end else Ok (found (content_in spec (take spec.width bits)) (drop spec.width bits))) ≡ Ok (found c behind) → content_in spec (take spec.width bits) ≡ c
+    by : (b : Bool) → (if b then Err data_end else Ok (found (content_in spec (take spec.width bits)) (drop spec.width bits))) ≡ Ok (found c suffix) → content_in spec (take spec.width bits) ≡ c
     by true e = absurd cc
     by false e = ap (λ (z : FieldRead Content). z.content) (same_found _ _ e)
 
@@ -121,13 +121,13 @@ same_item course spec a c bits mid mid' e e' f f' =
     let next : take_next spec ≡ take_next a.spec = sym e ∙ e' in
     let same : spec ≡ a.spec = cc in
     let g : found c mid ≡ found a.content mid' = same_found _ _ (sym f ∙ ap (λ z. plain_field z bits) same ∙ f') in
-    ((λ j. record { spec = same j; content = (g j).content }), ap (λ (z : FieldRead Content). z.behind) (sym g))
+    ((λ j. record { spec = same j; content = (g j).content }), ap (λ (z : FieldRead Content). z.suffix) (sym g))
 
 course_is : (course : Course) (i : TakenField) (a : Item Content) (c : Content) → i.taken ≡ answer_of i.spec c → item_of i.spec c ≡ a → (λ more. course (i.taken ∷ more)) ≡ after plain course a
 course_is course i a c e is = ap (λ t more. course (t ∷ more)) e ∙ ap (after plain course) is
 
-behind_of : (course : Course) (i : TakenField) (a : Item Content) (others : List (Item Content)) (mid' mid left : List Bool) → (λ more. course (i.taken ∷ more)) ≡ after plain course a → mid' ≡ mid → ReadsPass plain (after plain course a) others mid' left → ReadsPass plain (λ more. course (i.taken ∷ more)) others mid left
-behind_of course i a others mid' mid left go e r = subst (λ c. ReadsPass plain c others mid left) (sym go) (subst (λ b. ReadsPass plain (after plain course a) others b left) e r)
+suffix_of : (course : Course) (i : TakenField) (a : Item Content) (others : List (Item Content)) (mid' mid left : List Bool) → (λ more. course (i.taken ∷ more)) ≡ after plain course a → mid' ≡ mid → ReadsPass plain (after plain course a) others mid' left → ReadsPass plain (λ more. course (i.taken ∷ more)) others mid left
+suffix_of course i a others mid' mid left go e r = subst (λ c. ReadsPass plain c others mid left) (sym go) (subst (λ b. ReadsPass plain (after plain course a) others b left) e r)
 
 module _ {V E : Type 0} (sees : V → Call → Result (Unit {0}) E → V → Type 0) where
   -- a field that was peeked at, shown and passed
@@ -144,7 +144,7 @@ module _ {V E : Type 0} (sees : V → Call → Result (Unit {0}) E → V → Typ
 
   pub unshown_here : (c c' : Cursor) (v v' : V) (table : List Row) (a b : ℕ) (spec : FieldSpec) (t : Taken) (e : E) → c' ≡ c → IsTaken c spec t (past c spec) → sees v (item_call (view_of table spec (content_in spec (take spec.width (rest_of c))))) (Err e) v' → IsUnshown sees (stage c v table a b) spec e (stage c' v' table a b)
   unshown_here c c' v v' table a b spec t e same h w = record {
-    told = t;
+    answer = t;
     is_taken = h;
     call = subst (λ x. sees v (item_call (view_of table spec x)) (Err e) v') (content_is spec (rest_of c) (rest_of (past c spec)) h.content h.field) w;
     cursor = same;
@@ -216,8 +216,8 @@ module _ {V E : Type 0} (sees : V → Call → Result (Unit {0}) E → V → Typ
     shown_so table before course s (i ∷ items) s' h t [] left more r = absurd (no_item course i.spec h.1 r.1)
     shown_so table before course s (i ∷ items) s' h t (a ∷ others) left more r =
         let is = same_item course i.spec a h.2.is_taken.content (rest_of (on s).cursor) (rest_of (on h.0).cursor) r.0.0 h.1 r.0.1 h.2.is_taken.field r.0.2 in
-        let go = course_is course i a h.2.is_taken.content h.2.is_taken.tells is.0 in
-        let l = shown_so table before (λ answer_of. course (i.taken ∷ answer_of)) h.0 items s' h.3 (h.2.table ∙ t) others left more (behind_of course i a others r.0.0 (rest_of (on h.0).cursor) left go is.1 (r.0.3, r.1)) in
+        let go = course_is course i a h.2.is_taken.content h.2.is_taken.gives is.0 in
+        let l = shown_so table before (λ answer_of. course (i.taken ∷ answer_of)) h.0 items s' h.3 (h.2.table ∙ t) others left more (suffix_of course i a others r.0.0 (rest_of (on h.0).cursor) left go is.1 (r.0.3, r.1)) in
         record {
           rest = l.rest;
           further = l.further;
@@ -248,13 +248,13 @@ module _ {V E : Type 0} (sees : V → Call → Result (Unit {0}) E → V → Typ
     }
 
     -- the item at which a showing ends
-    ends_here : (table : List Row) (course further : Course) (answer_of : List Taken) (before c c' turns : ℕ) (rest : List (Item Content)) (left : List Bool) (more : List Timed) (spec : FieldSpec) (content : Content) (behind : List Bool) (why : ShowFault E) (mid : S) (v' : V) → further [] ≡ course answer_of → (course answer_of).next ≡ take_next spec → ReadsPass plain further rest (rest_of (on mid).cursor) left → plain_field spec (rest_of (on mid).cursor) ≡ Ok (found content behind) → EndsAt sees (on mid).visitor (item_call (view_of table spec content)) why v'
+    ends_here : (table : List Row) (course further : Course) (answer_of : List Taken) (before c c' turns : ℕ) (rest : List (Item Content)) (left : List Bool) (more : List Timed) (spec : FieldSpec) (content : Content) (suffix : List Bool) (why : ShowFault E) (mid : S) (v' : V) → further [] ≡ course answer_of → (course answer_of).next ≡ take_next spec → ReadsPass plain further rest (rest_of (on mid).cursor) left → plain_field spec (rest_of (on mid).cursor) ≡ Ok (found content suffix) → EndsAt sees (on mid).visitor (item_call (view_of table spec content)) why v'
         → c ≡ ticked 0 before → c' ≡ ticked c (course answer_of).turns → Shows sees (on mid).visitor (item_calls table before further rest ++ more) turns (Err why) v' c'
-    ends_here table course further answer_of before c c' turns [] left more spec content behind why mid v' e n r f ends now ticks_are = absurd (no_item further spec (ap (λ a. a.next) e ∙ n) r.1)
-    ends_here table course further answer_of before c c' turns (x ∷ xs) left more spec content behind why mid v' e n r f ends now ticks_are =
+    ends_here table course further answer_of before c c' turns [] left more spec content suffix why mid v' e n r f ends now ticks_are = absurd (no_item further spec (ap (λ a. a.next) e ∙ n) r.1)
+    ends_here table course further answer_of before c c' turns (x ∷ xs) left more spec content suffix why mid v' e n r f ends now ticks_are =
         let spec_is : take_next spec ≡ take_next x.spec = sym n ∙ sym (ap (λ a. a.next) e) ∙ r.0.1 in
         let same_spec : spec ≡ x.spec = cc in
-        let g : found content behind ≡ found x.content r.0.0 = same_found _ _ (sym f ∙ ap (λ z. plain_field z (rest_of (on mid).cursor)) same_spec ∙ r.0.2) in
+        let g : found content suffix ≡ found x.content r.0.0 = same_found _ _ (sym f ∙ ap (λ z. plain_field z (rest_of (on mid).cursor)) same_spec ∙ r.0.2) in
         inl (
           subst (λ z. EndsAt sees (on mid).visitor (item_call (view_of table z x.content)) why v') same_spec (subst (λ z. EndsAt sees (on mid).visitor (item_call (view_of table spec z)) why v') (ap (λ (z : FieldRead Content). z.content) g) ends),
           ticks_are ∙ ap (λ k. ticked k (course answer_of).turns) now ∙ ticked_more before (course answer_of).turns ∙ ap (λ a. ticked 0 (before + a.turns)) (sym e),

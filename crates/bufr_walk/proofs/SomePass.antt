@@ -9,9 +9,9 @@ use Rattle.bufr_tables.specs.declared.kind.Kind.TheVariants as kind
 use Rattle.bufr_walk.specs.declared.spec.Role.{Role}
 use Rattle.bufr_walk.specs.declared.spec.Role.TheVariants as role
 use Rattle.bufr_walk.specs.FieldSpec.{FieldSpec, IsFor, IsForRole}
-use Rattle.bufr_walk.specs.Content.{Content, content_in, told_by_role}
+use Rattle.bufr_walk.specs.Content.{Content, content_in, answer_by_role}
 use Rattle.bufr_walk.specs.Course.{Course, Next, take_next, at_end, astray, refused}
-use Rattle.bufr_walk.specs.PackedField.{increments, increment_bits_of, contents_of, varied, varied_by, numbers_of, all_increased, increased, and_contents, if_equal, all_same, with_behind, item_by, packed_field, told_first}
+use Rattle.bufr_walk.specs.PackedField.{increments, increment_bits_of, contents_of, varied, varied_by, numbers_of, all_increased, increased, and_contents, if_equal, all_same, with_suffix, item_by, packed_field, answer_first}
 use Rattle.bufr_walk.specs.PlainField.{FieldFault, data_end, increment, unequal_factor, FieldRead, found, plain_field}
 use Rattle.bufr_walk.specs.Reading.{Item, DataCoding, plain, packed, next_after, after}
 use Rattle.bufr_walk.specs.Refusal.{walk_stop, too_many, field_stop, field_stop_of}
@@ -20,7 +20,7 @@ use Rattle.bufr_walk.proofs.SomeSteps.{IsSane}
 
 -- a field that was found takes bits, and its answer fits its role
 pub record Forth {C : Type 0} (form : DataCoding C) (spec : FieldSpec) (bits : List Bool) (c : C) (mid : List Bool) : Type 0 where
-  pub tells : IsFor spec (form.tells spec c)
+  pub gives : IsFor spec (form.gives spec c)
   pub size : ℕ
   pub some : 1 ≤ size
   pub within : size ≤ length bits
@@ -77,8 +77,8 @@ module _ {C : Type 0} (form : DataCoding C) (many : ℕ → Bool) (forth : (spec
           at_once course from bits (stopped (field_stop spec.fxy why)) (ap (λ x. outcome_of form (many (from + 0)) x bits) e ∙ ap (λ b. outcome_of form b (take_next spec) bits) m ∙ ap (λ r. stopped_by (field_stop_of spec.fxy r)) q)
       at_field spec e false m (Ok f) q go =
           let k = sane.1 spec e in
-          let w = forth spec bits f.content f.behind k.0 q in
-          one_more course from bits f.behind spec f.content m e q w (go (after form course (record { spec = spec; content = f.content })) f.behind (k.1 (form.tells spec f.content) w.tells) (omega (arith, lt, w.some, w.within, length-drop w.size bits, ap length w.left_is)))
+          let w = forth spec bits f.content f.suffix k.0 q in
+          one_more course from bits f.suffix spec f.content m e q w (go (after form course (record { spec = spec; content = f.content })) f.suffix (k.1 (form.gives spec f.content) w.gives) (omega (arith, lt, w.some, w.within, length-drop w.size bits, ap length w.left_is)))
 
       by : (next : Next) → (course []).next ≡ next → ((c : Course) (bs : List Bool) → IsSane n c → length bs < n → SomeOutcome form many c (from + 1) bs) → SomeOutcome form many course from bits
       by at_end e go = at_once course from bits ended (ap (λ x. outcome_of form (many (from + 0)) x bits) e)
@@ -86,11 +86,11 @@ module _ {C : Type 0} (form : DataCoding C) (many : ℕ → Bool) (forth : (spec
       by (refused why) e go = at_once course from bits (stopped (walk_stop why)) (ap (λ x. outcome_of form (many (from + 0)) x bits) e)
       by (take_next spec) e go = at_field spec e (many (from + 0)) refl (form.field spec bits) refl go
 
-told_for : (r : Role) (c : Content) → IsForRole r (told_by_role r c)
-told_for role.Element c = tt
-told_for role.Inserted c = tt
-told_for role.Factor c = tt
-told_for role.Reference c = tt
+answer_for : (r : Role) (c : Content) → IsForRole r (answer_by_role r c)
+answer_for role.Element c = tt
+answer_for role.Inserted c = tt
+answer_for role.Factor c = tt
+answer_for role.Reference c = tt
 
 not_less : (a b : ℕ) → nat_lt a b ≡ false → b ≤ a
 not_less a b e = grind (arith, nat_tests)
@@ -98,8 +98,8 @@ not_less a b e = grind (arith, nat_tests)
 same_found : {C : Type 0} (a b : FieldRead C) → ◌≡◌ {A = Result (FieldRead C) FieldFault} (Ok a) (Ok b) → a ≡ b
 same_found a b e = cc
 
-behind_is : {C : Type 0} (a b : C) (l m : List Bool) → ◌≡◌ {A = Result (FieldRead C) FieldFault} (Ok (found a l)) (Ok (found b m)) → m ≡ l
-behind_is {C} a b l m e = sym (ap (λ (z : FieldRead C). z.behind) (same_found (found a l) (found b m) e))
+suffix_is : {C : Type 0} (a b : C) (l m : List Bool) → ◌≡◌ {A = Result (FieldRead C) FieldFault} (Ok (found a l)) (Ok (found b m)) → m ≡ l
+suffix_is {C} a b l m e = sym (ap (λ (z : FieldRead C). z.suffix) (same_found (found a l) (found b m) e))
 
 contents_are : {C : Type 0} (a b : C) (l m : List Bool) → ◌≡◌ {A = Result (FieldRead C) FieldFault} (Ok (found a l)) (Ok (found b m)) → a ≡ b
 contents_are {C} a b l m e = ap (λ (z : FieldRead C). z.content) (same_found (found a l) (found b m) e)
@@ -109,7 +109,7 @@ plain_forth spec bits c mid some e = by (nat_lt (length bits) spec.width) refl e
   where
     by : (b : Bool) → nat_lt (length bits) spec.width ≡ b → (if b then Err data_end else Ok (found (content_in spec (take spec.width bits)) (drop spec.width bits))) ≡ Ok (found c mid) → Forth plain spec bits c mid
     by true p q = absurd cc
-    by false p q = record { tells = told_for spec.role c; size = spec.width; some = some; within = not_less (length bits) spec.width p; left_is = behind_is (content_in spec (take spec.width bits)) c (drop spec.width bits) mid q }
+    by false p q = record { gives = answer_for spec.role c; size = spec.width; some = some; within = not_less (length bits) spec.width p; left_is = suffix_is (content_in spec (take spec.width bits)) c (drop spec.width bits) mid q }
 
 -- some subsets have some contents
 none_more : (r : Result Content FieldFault) (more : Result (List Content) FieldFault) → and_contents r more ≡ Ok [] → ⊥
@@ -151,22 +151,22 @@ no_role role.Reference spec k base i is e = cc
 no_contents : (spec : FieldSpec) (k : ℕ) (base i : List Bool) (is : List (List Bool)) → contents_of spec k base (i ∷ is) ≡ Ok [] → ⊥
 no_contents spec k base i is e = none_if (k == 0) _ _ (varied spec.role spec k base (i ∷ is)) e (λ q. no_role spec.role spec k base i is q)
 
-first_for : (spec : FieldSpec) (cs : List Content) → (cs ≡ [] → ⊥) → IsFor spec (told_first spec cs)
+first_for : (spec : FieldSpec) (cs : List Content) → (cs ≡ [] → ⊥) → IsFor spec (answer_first spec cs)
 first_for spec [] h = absurd (h refl)
-first_for spec (c ∷ cs) h = told_for spec.role c
+first_for spec (c ∷ cs) h = answer_for spec.role c
 
 module _ (n : ℕ) (spec : FieldSpec) (bits : List Bool) (cs : List Content) (mid : List Bool) (some : 1 ≤ spec.width) where
   at_contents : (k step : ℕ) → spec.width + 6 ≤ length bits → suc n * step ≤ length (drop (spec.width + 6) bits) → (r : Result (List Content) FieldFault)
-      → contents_of spec k (take spec.width bits) (increments (suc n) step (drop (spec.width + 6) bits)) ≡ r → with_behind r (drop (suc n * step) (drop (spec.width + 6) bits)) ≡ Ok (found cs mid) → Forth (packed (suc n)) spec bits cs mid
+      → contents_of spec k (take spec.width bits) (increments (suc n) step (drop (spec.width + 6) bits)) ≡ r → with_suffix r (drop (suc n * step) (drop (spec.width + 6) bits)) ≡ Ok (found cs mid) → Forth (packed (suc n)) spec bits cs mid
   at_contents k step h g (Err why) q z = absurd cc
   at_contents k step h g (Ok xs) q z =
       let is : xs ≡ cs = contents_are xs cs (drop (suc n * step) (drop (spec.width + 6) bits)) mid z in
       record {
-        tells = first_for spec cs (λ none. no_contents spec k (take spec.width bits) (take step (drop (spec.width + 6) bits)) (increments n step (drop step (drop (spec.width + 6) bits))) (q ∙ ap Ok (is ∙ none)));
+        gives = first_for spec cs (λ none. no_contents spec k (take spec.width bits) (take step (drop (spec.width + 6) bits)) (increments n step (drop step (drop (spec.width + 6) bits))) (q ∙ ap Ok (is ∙ none)));
         size = spec.width + 6 + suc n * step;
         some = positive spec.width (suc n * step);
         within = within (spec.width + 6) (suc n * step) (length bits) (length (drop (spec.width + 6) bits)) h g (length-drop (spec.width + 6) bits);
-        left_is = behind_is xs cs (drop (suc n * step) (drop (spec.width + 6) bits)) mid z ∙ drop-drop (suc n * step) (spec.width + 6) bits;
+        left_is = suffix_is xs cs (drop (suc n * step) (drop (spec.width + 6) bits)) mid z ∙ drop-drop (suc n * step) (spec.width + 6) bits;
       }
     where
       positive : (w x : ℕ) → 1 ≤ w + 6 + x
@@ -176,15 +176,15 @@ module _ (n : ℕ) (spec : FieldSpec) (bits : List Bool) (cs : List Content) (mi
       within w x all left h g e = omega arith
 
   at_item : (k : ℕ) → spec.width + 6 ≤ length bits → (b : Bool) → nat_lt (length (drop (spec.width + 6) bits)) (suc n * increment_bits_of spec.role spec.kind k) ≡ b
-      → (if b then Err data_end else with_behind (contents_of spec k (take spec.width bits) (increments (suc n) (increment_bits_of spec.role spec.kind k) (drop (spec.width + 6) bits))) (drop (suc n * increment_bits_of spec.role spec.kind k) (drop (spec.width + 6) bits))) ≡ Ok (found cs mid)
+      → (if b then Err data_end else with_suffix (contents_of spec k (take spec.width bits) (increments (suc n) (increment_bits_of spec.role spec.kind k) (drop (spec.width + 6) bits))) (drop (suc n * increment_bits_of spec.role spec.kind k) (drop (spec.width + 6) bits))) ≡ Ok (found cs mid)
       → Forth (packed (suc n)) spec bits cs mid
   at_item k h true p q = absurd cc
   at_item k h false p q =
       at_contents k (increment_bits_of spec.role spec.kind k) h (not_less (length (drop (spec.width + 6) bits)) (suc n * increment_bits_of spec.role spec.kind k) p) (contents_of spec k (take spec.width bits) (increments (suc n) (increment_bits_of spec.role spec.kind k) (drop (spec.width + 6) bits))) refl q
 
-  at_front : (k : ℕ) (b : Bool) → nat_lt (length bits) (spec.width + 6) ≡ b → (if b then Err data_end else item_by spec (suc n) k bits) ≡ Ok (found cs mid) → Forth (packed (suc n)) spec bits cs mid
-  at_front k true p q = absurd cc
-  at_front k false p q = at_item k (not_less (length bits) (spec.width + 6) p) (nat_lt (length (drop (spec.width + 6) bits)) (suc n * increment_bits_of spec.role spec.kind k)) refl q
+  at_prefix : (k : ℕ) (b : Bool) → nat_lt (length bits) (spec.width + 6) ≡ b → (if b then Err data_end else item_by spec (suc n) k bits) ≡ Ok (found cs mid) → Forth (packed (suc n)) spec bits cs mid
+  at_prefix k true p q = absurd cc
+  at_prefix k false p q = at_item k (not_less (length bits) (spec.width + 6) p) (nat_lt (length (drop (spec.width + 6) bits)) (suc n * increment_bits_of spec.role spec.kind k)) refl q
 
 pub packed_forth : (n : ℕ) (spec : FieldSpec) (bits : List Bool) (cs : List Content) (mid : List Bool) → 1 ≤ spec.width → packed_field (suc n) spec bits ≡ Ok (found cs mid) → Forth (packed (suc n)) spec bits cs mid
-packed_forth n spec bits cs mid some e = at_front n spec bits cs mid some (number_of (take 6 (drop spec.width bits))) (nat_lt (length bits) (spec.width + 6)) refl e
+packed_forth n spec bits cs mid some e = at_prefix n spec bits cs mid some (number_of (take 6 (drop spec.width bits))) (nat_lt (length bits) (spec.width + 6)) refl e

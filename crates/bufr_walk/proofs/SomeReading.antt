@@ -222,10 +222,10 @@ rows_within : (records : List Record) (table : List Row) → map row_of records 
 rows_within records [] e fxy row q = absurd cc
 rows_within [] (first ∷ table) e fxy row q = absurd cc
 rows_within (r ∷ records) (first ∷ table) e fxy row q =
-    by (first.fxy == fxy) (row-limits r first (front (row_of r) (map row_of records) first (map Some table) e)).width (λ z. rows_within records table (others (row_of r) (map row_of records) first (map Some table) e) fxy row z) q
+    by (first.fxy == fxy) (row-limits r first (prefix (row_of r) (map row_of records) first (map Some table) e)).width (λ z. rows_within records table (others (row_of r) (map row_of records) first (map Some table) e) fxy row z) q
   where
-    front : (o : Option Row) (os : List (Option Row)) (x : Row) (xs : List (Option Row)) → ◌≡◌ {A = List (Option Row)} (o ∷ os) (Some x ∷ xs) → o ≡ Some x
-    front o os x xs e = cc
+    prefix : (o : Option Row) (os : List (Option Row)) (x : Row) (xs : List (Option Row)) → ◌≡◌ {A = List (Option Row)} (o ∷ os) (Some x ∷ xs) → o ≡ Some x
+    prefix o os x xs e = cc
 
     others : (o : Option Row) (os : List (Option Row)) (x : Row) (xs : List (Option Row)) → ◌≡◌ {A = List (Option Row)} (o ∷ os) (Some x ∷ xs) → os ≡ xs
     others o os x xs e = cc

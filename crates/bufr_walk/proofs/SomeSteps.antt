@@ -29,13 +29,13 @@ abbrev pub IsSane : ℕ → Course → Type 0
 IsSane zero course = Unit {0}
 IsSane (suc n) course =
     ((course []).next ≡ astray → ⊥)
-    × ((spec : FieldSpec) → (course []).next ≡ take_next spec → (1 ≤ spec.width) × ((t : Taken) → IsFor spec t → IsSane n (λ told. course (t ∷ told))))
+    × ((spec : FieldSpec) → (course []).next ≡ take_next spec → (1 ≤ spec.width) × ((t : Taken) → IsFor spec t → IsSane n (λ answers. course (t ∷ answers))))
 
-sane_same : (n : ℕ) (c d : Course) → ((told : List Taken) → (c told).next ≡ (d told).next) → IsSane n c → IsSane n d
+sane_same : (n : ℕ) (c d : Course) → ((answers : List Taken) → (c answers).next ≡ (d answers).next) → IsSane n c → IsSane n d
 sane_same zero c d same h = tt
 sane_same (suc n) c d same h = (
   λ e. h.0 (same [] ∙ e),
-  λ spec e. let k = h.1 spec (same [] ∙ e) in (k.0, λ t f. sane_same n (λ told. c (t ∷ told)) (λ told. d (t ∷ told)) (λ told. same (t ∷ told)) (k.1 t f)),
+  λ spec e. let k = h.1 spec (same [] ∙ e) in (k.0, λ t f. sane_same n (λ answers. c (t ∷ answers)) (λ answers. d (t ∷ answers)) (λ answers. same (t ∷ answers)) (k.1 t f)),
 )
 
 sane_end : (n : ℕ) (c : Course) (x : Next) → (c []).next ≡ x → (x ≡ astray → ⊥) → ((spec : FieldSpec) → x ≡ take_next spec → ⊥) → IsSane n c
@@ -51,15 +51,15 @@ asked_first : (r : Result FieldSpec TurnRefusal) (go : Taken → List Taken → 
 asked_first (Ok spec) go = refl
 asked_first (Err why) go = refl
 
-asked_next : (r : Result FieldSpec TurnRefusal) (go : Taken → List Taken → NextTurn) (spec : FieldSpec) (t : Taken) (told : List Taken) → r ≡ Ok spec → (asked r go (t ∷ told)).next ≡ (go t told).next
-asked_next (Ok s) go spec t told e = refl
-asked_next (Err why) go spec t told e = absurd cc
+asked_next : (r : Result FieldSpec TurnRefusal) (go : Taken → List Taken → NextTurn) (spec : FieldSpec) (t : Taken) (answers : List Taken) → r ≡ Ok spec → (asked r go (t ∷ answers)).next ≡ (go t answers).next
+asked_next (Ok s) go spec t answers e = refl
+asked_next (Err why) go spec t answers e = absurd cc
 
 same_take : (a b : FieldSpec) → take_next a ≡ take_next b → a ≡ b
 same_take a b e = cc
 
 field_sane : (n : ℕ) (r : Result FieldSpec TurnRefusal) (c : Course) → (c []).next ≡ first_next r → ((spec : FieldSpec) → r ≡ Ok spec → 1 ≤ spec.width)
-    → ((spec : FieldSpec) → r ≡ Ok spec → (t : Taken) → IsFor spec t → (m : ℕ) → IsSane m (λ told. c (t ∷ told))) → IsSane n c
+    → ((spec : FieldSpec) → r ≡ Ok spec → (t : Taken) → IsFor spec t → (m : ℕ) → IsSane m (λ answers. c (t ∷ answers))) → IsSane n c
 field_sane n (Err why) c e w h = sane_end n c (refused why) e (λ q. absurd cc) (λ spec q. absurd cc)
 field_sane zero (Ok spec) c e w h = tt
 field_sane (suc n) (Ok spec) c e w h = (
@@ -167,65 +167,65 @@ module _ (table : List Row) (rows : (fxy : ℕ) (row : Row) → entry_of table f
       by false None q = absurd cc
       by false (Some row) q = let f = fitted (factor_field row fxy) spec q in (f.1, ap (λ z. z.role) f.0)
 
-  finish_goes : (n : ℕ) (s : OperatorModel) → IsSane n (λ told. ahead table finish s told)
-  finish_goes n s = sane_end n (λ told. ahead table finish s told) at_end refl (λ q. absurd cc) (λ spec q. absurd cc)
+  finish_goes : (n : ℕ) (s : OperatorModel) → IsSane n (λ answers. ahead table finish s answers)
+  finish_goes n s = sane_end n (λ answers. ahead table finish s answers) at_end refl (λ q. absurd cc) (λ spec q. absurd cc)
 
-  pass_goes : (rest : Rest) → ((n : ℕ) (s : OperatorModel) → IsSane n (λ told. ahead table (rest (counts_of told)) s told)) → (n : ℕ) (s : OperatorModel) → IsSane n (λ told. ahead table (pass_end (rest (counts_of told))) s told)
-  pass_goes rest h n s = sane_same n (λ told. ahead table (rest (counts_of told)) s told) (λ told. ahead table (pass_end (rest (counts_of told))) s told) (λ told. refl) (h n s)
+  pass_goes : (rest : Rest) → ((n : ℕ) (s : OperatorModel) → IsSane n (λ answers. ahead table (rest (counts_of answers)) s answers)) → (n : ℕ) (s : OperatorModel) → IsSane n (λ answers. ahead table (pass_end (rest (counts_of answers))) s answers)
+  pass_goes rest h n s = sane_same n (λ answers. ahead table (rest (counts_of answers)) s answers) (λ answers. ahead table (pass_end (rest (counts_of answers))) s answers) (λ answers. refl) (h n s)
 
-  group_goes : (rest : Rest) → ((n : ℕ) (s : OperatorModel) → IsSane n (λ told. ahead table (rest (counts_of told)) s told)) → (n : ℕ) (s : OperatorModel) → IsSane n (λ told. ahead table (group (rest (counts_of told))) s told)
-  group_goes rest h n s = sane_same n (λ told. ahead table (rest (counts_of told)) s told) (λ told. ahead table (group (rest (counts_of told))) s told) (λ told. refl) (h n s)
+  group_goes : (rest : Rest) → ((n : ℕ) (s : OperatorModel) → IsSane n (λ answers. ahead table (rest (counts_of answers)) s answers)) → (n : ℕ) (s : OperatorModel) → IsSane n (λ answers. ahead table (group (rest (counts_of answers))) s answers)
+  group_goes rest h n s = sane_same n (λ answers. ahead table (rest (counts_of answers)) s answers) (λ answers. ahead table (group (rest (counts_of answers))) s answers) (λ answers. refl) (h n s)
 
   -- a field that returns no count
-  uncounted_goes : (r : Result FieldSpec TurnRefusal) (s : OperatorModel) (fxy : ℕ) (rest : Rest) → ((spec : FieldSpec) → r ≡ Ok spec → IsUncounted spec) → ((n : ℕ) (s : OperatorModel) → IsSane n (λ told. ahead table (rest (counts_of told)) s told))
-      → (n : ℕ) → IsSane n (λ told. asked r (λ t more. ahead table (rest (counts_of told)) (after_field s fxy t) more) told)
+  uncounted_goes : (r : Result FieldSpec TurnRefusal) (s : OperatorModel) (fxy : ℕ) (rest : Rest) → ((spec : FieldSpec) → r ≡ Ok spec → IsUncounted spec) → ((n : ℕ) (s : OperatorModel) → IsSane n (λ answers. ahead table (rest (counts_of answers)) s answers))
+      → (n : ℕ) → IsSane n (λ answers. asked r (λ t more. ahead table (rest (counts_of answers)) (after_field s fxy t) more) answers)
   uncounted_goes r s fxy rest good h n =
-      field_sane n r (λ told. asked r (λ t more. ahead table (rest (counts_of told)) (after_field s fxy t) more) told) (asked_first r _) (λ spec e. (good spec e).0)
-      (λ spec e t f m. sane_same m (λ told. ahead table (rest (counts_of told)) (after_field s fxy t) told) (λ told. asked r (λ u more. ahead table (rest (counts_of (t ∷ told))) (after_field s fxy u) more) (t ∷ told))
-      (λ told. sym (asked_next r (λ u more. ahead table (rest (counts_of (t ∷ told))) (after_field s fxy u) more) spec t told e ∙ ap (λ cs. (ahead table (rest cs) (after_field s fxy t) told).next) (uncounted spec.role t (counts_of told) (good spec e).1 f)))
+      field_sane n r (λ answers. asked r (λ t more. ahead table (rest (counts_of answers)) (after_field s fxy t) more) answers) (asked_first r _) (λ spec e. (good spec e).0)
+      (λ spec e t f m. sane_same m (λ answers. ahead table (rest (counts_of answers)) (after_field s fxy t) answers) (λ answers. asked r (λ u more. ahead table (rest (counts_of (t ∷ answers))) (after_field s fxy u) more) (t ∷ answers))
+      (λ answers. sym (asked_next r (λ u more. ahead table (rest (counts_of (t ∷ answers))) (after_field s fxy u) more) spec t answers e ∙ ap (λ cs. (ahead table (rest cs) (after_field s fxy t) answers).next) (uncounted spec.role t (counts_of answers) (good spec e).1 f)))
       (h m (after_field s fxy t)))
 
-  element_goes : (fxy : ℕ) (rest : Rest) → ((n : ℕ) (s : OperatorModel) → IsSane n (λ told. ahead table (rest (counts_of told)) s told)) → (n : ℕ) (s : OperatorModel) → IsSane n (λ told. ahead table (element_turn fxy (rest (counts_of told))) s told)
+  element_goes : (fxy : ℕ) (rest : Rest) → ((n : ℕ) (s : OperatorModel) → IsSane n (λ answers. ahead table (rest (counts_of answers)) s answers)) → (n : ℕ) (s : OperatorModel) → IsSane n (λ answers. ahead table (element_turn fxy (rest (counts_of answers))) s answers)
   element_goes fxy rest h n s = uncounted_goes (element_spec table s fxy) s fxy rest (λ spec e. element_steps s fxy spec e) h n
 
-  operated_goes : (r : Result OperatorModel TurnRefusal) (rest : Rest) → ((n : ℕ) (s : OperatorModel) → IsSane n (λ told. ahead table (rest (counts_of told)) s told)) → (n : ℕ) → IsSane n (λ told. operated r (λ s'. ahead table (rest (counts_of told)) s' told))
-  operated_goes (Err why) rest h n = sane_end n (λ told. operated (Err why) (λ s'. ahead table (rest (counts_of told)) s' told)) (refused why) refl (λ q. absurd cc) (λ spec q. absurd cc)
-  operated_goes (Ok s') rest h n = sane_same n (λ told. ahead table (rest (counts_of told)) s' told) (λ told. operated (Ok s') (λ s'. ahead table (rest (counts_of told)) s' told)) (λ told. refl) (h n s')
+  operated_goes : (r : Result OperatorModel TurnRefusal) (rest : Rest) → ((n : ℕ) (s : OperatorModel) → IsSane n (λ answers. ahead table (rest (counts_of answers)) s answers)) → (n : ℕ) → IsSane n (λ answers. operated r (λ s'. ahead table (rest (counts_of answers)) s' answers))
+  operated_goes (Err why) rest h n = sane_end n (λ answers. operated (Err why) (λ s'. ahead table (rest (counts_of answers)) s' answers)) (refused why) refl (λ q. absurd cc) (λ spec q. absurd cc)
+  operated_goes (Ok s') rest h n = sane_same n (λ answers. ahead table (rest (counts_of answers)) s' answers) (λ answers. operated (Ok s') (λ s'. ahead table (rest (counts_of answers)) s' answers)) (λ answers. refl) (h n s')
 
-  operator_goes : (fxy : ℕ) (rest : Rest) → is_legal_operator fxy ≡ true → ((n : ℕ) (s : OperatorModel) → IsSane n (λ told. ahead table (rest (counts_of told)) s told)) → (n : ℕ) (s : OperatorModel) → IsSane n (λ told. ahead table (operator_turn fxy (rest (counts_of told))) s told)
+  operator_goes : (fxy : ℕ) (rest : Rest) → is_legal_operator fxy ≡ true → ((n : ℕ) (s : OperatorModel) → IsSane n (λ answers. ahead table (rest (counts_of answers)) s answers)) → (n : ℕ) (s : OperatorModel) → IsSane n (λ answers. ahead table (operator_turn fxy (rest (counts_of answers))) s answers)
   operator_goes fxy rest legal h n s = by (is_inserted_text fxy) refl
     where
-      by : (b : Bool) → is_inserted_text fxy ≡ b → IsSane n (λ told. if b then asked (inserted_spec s fxy) (λ t more. ahead table (rest (counts_of told)) (after_field s fxy t) more) told else operated (after_operator s fxy) (λ s'. ahead table (rest (counts_of told)) s' told))
+      by : (b : Bool) → is_inserted_text fxy ≡ b → IsSane n (λ answers. if b then asked (inserted_spec s fxy) (λ t more. ahead table (rest (counts_of answers)) (after_field s fxy t) more) answers else operated (after_operator s fxy) (λ s'. ahead table (rest (counts_of answers)) s' answers))
       by true p = uncounted_goes (inserted_spec s fxy) s fxy rest (λ spec e. inserted_steps s fxy spec legal p e) h n
       by false p = operated_goes (after_operator s fxy) rest h n
 
-  passes_go : (k : ℕ) (body : Rest → Rest) (rest : Rest) → ((r : Rest) → ((n : ℕ) (s : OperatorModel) → IsSane n (λ told. ahead table (r (counts_of told)) s told)) → (n : ℕ) (s : OperatorModel) → IsSane n (λ told. ahead table (body r (counts_of told)) s told))
-      → ((n : ℕ) (s : OperatorModel) → IsSane n (λ told. ahead table (rest (counts_of told)) s told)) → (n : ℕ) (s : OperatorModel) → IsSane n (λ told. ahead table (passes k body rest (counts_of told)) s told)
+  passes_go : (k : ℕ) (body : Rest → Rest) (rest : Rest) → ((r : Rest) → ((n : ℕ) (s : OperatorModel) → IsSane n (λ answers. ahead table (r (counts_of answers)) s answers)) → (n : ℕ) (s : OperatorModel) → IsSane n (λ answers. ahead table (body r (counts_of answers)) s answers))
+      → ((n : ℕ) (s : OperatorModel) → IsSane n (λ answers. ahead table (rest (counts_of answers)) s answers)) → (n : ℕ) (s : OperatorModel) → IsSane n (λ answers. ahead table (passes k body rest (counts_of answers)) s answers)
   passes_go zero body rest f h n s = h n s
   passes_go (suc k) body rest f h n s = f (λ later. pass_end (passes k body rest later)) (pass_goes (passes k body rest) (λ m z. passes_go k body rest f h m z)) n s
 
   counted_goes : (fxy : ℕ) (body more : Rest → Rest) (rest : Rest) (s : OperatorModel) (spec : FieldSpec) (t : Taken) (c : Course)
-      → ((k : ℕ) (n : ℕ) (z : OperatorModel) → IsSane n (λ told. ahead table (passes k body (more rest) (counts_of told)) z told))
-      → role.Factor ≡ spec.role → IsFor spec t → ((k : ℕ) (told : List Taken) → (c (taken.Count k ∷ told)).next ≡ (ahead table (passes k body (more rest) (counts_of told)) (after_field s fxy (taken.Count k)) told).next)
-      → (m : ℕ) → IsSane m (λ told. c (t ∷ told))
+      → ((k : ℕ) (n : ℕ) (z : OperatorModel) → IsSane n (λ answers. ahead table (passes k body (more rest) (counts_of answers)) z answers))
+      → role.Factor ≡ spec.role → IsFor spec t → ((k : ℕ) (answers : List Taken) → (c (taken.Count k ∷ answers)).next ≡ (ahead table (passes k body (more rest) (counts_of answers)) (after_field s fxy (taken.Count k)) answers).next)
+      → (m : ℕ) → IsSane m (λ answers. c (t ∷ answers))
   counted_goes fxy body more rest s spec t c h r f e m = by t (subst (λ x. IsForRole x t) (sym r) f)
     where
-      by : (t : Taken) → IsForRole role.Factor t → IsSane m (λ told. c (t ∷ told))
+      by : (t : Taken) → IsForRole role.Factor t → IsSane m (λ answers. c (t ∷ answers))
       by taken.Plain g = absurd g
       by (taken.Reference z) g = absurd g
-      by (taken.Count k) g = sane_same m (λ told. ahead table (passes k body (more rest) (counts_of told)) (after_field s fxy (taken.Count k)) told) (λ told. c (taken.Count k ∷ told)) (λ told. sym (e k told)) (h k m (after_field s fxy (taken.Count k)))
+      by (taken.Count k) g = sane_same m (λ answers. ahead table (passes k body (more rest) (counts_of answers)) (after_field s fxy (taken.Count k)) answers) (λ answers. c (taken.Count k ∷ answers)) (λ answers. sym (e k answers)) (h k m (after_field s fxy (taken.Count k)))
 
-  unroll_goes : (tree : Tree) (rest : Rest) → IsLegal tree → ((n : ℕ) (s : OperatorModel) → IsSane n (λ told. ahead table (rest (counts_of told)) s told)) → (n : ℕ) (s : OperatorModel) → IsSane n (λ told. ahead table (unroll tree rest (counts_of told)) s told)
+  unroll_goes : (tree : Tree) (rest : Rest) → IsLegal tree → ((n : ℕ) (s : OperatorModel) → IsSane n (λ answers. ahead table (rest (counts_of answers)) s answers)) → (n : ℕ) (s : OperatorModel) → IsSane n (λ answers. ahead table (unroll tree rest (counts_of answers)) s answers)
   unroll_goes bare rest legal h n s = h n s
   unroll_goes (element fxy more) rest legal h n s = element_goes fxy (unroll more rest) (λ m z. unroll_goes more rest legal.1 h m z) n s
   unroll_goes (operator fxy more) rest legal h n s = operator_goes fxy (unroll more rest) legal.1.0 (λ m z. unroll_goes more rest legal.1.1.1 h m z) n s
   unroll_goes (fixed k body more) rest legal h n s =
       group_goes (passes k (unroll body) (unroll more rest)) (λ m z. passes_go k (unroll body) (unroll more rest) (λ r g i y. unroll_goes body r legal.0 g i y) (λ i y. unroll_goes more rest legal.1 h i y) m z) n s
   unroll_goes (delayed fxy body more) rest legal h n s =
-      field_sane n (factor_spec table s fxy) (λ told. ahead table (unroll (delayed fxy body more) rest (counts_of told)) s told) (asked_first (factor_spec table s fxy) (λ t more. ahead table open_end (after_field s fxy t) more)) (λ spec e. (factor_steps s fxy spec e).0)
-      (λ spec e t f m. counted_goes fxy (unroll body) (unroll more) rest s spec t (λ told. ahead table (unroll (delayed fxy body more) rest (counts_of told)) s told)
+      field_sane n (factor_spec table s fxy) (λ answers. ahead table (unroll (delayed fxy body more) rest (counts_of answers)) s answers) (asked_first (factor_spec table s fxy) (λ t more. ahead table open_end (after_field s fxy t) more)) (λ spec e. (factor_steps s fxy spec e).0)
+      (λ spec e t f m. counted_goes fxy (unroll body) (unroll more) rest s spec t (λ answers. ahead table (unroll (delayed fxy body more) rest (counts_of answers)) s answers)
       (λ k i z. passes_go k (unroll body) (unroll more rest) (λ r g j y. unroll_goes body r legal.1.0 g j y) (λ j y. unroll_goes more rest legal.1.1 h j y) i z) (factor_steps s fxy spec e).1 f
-      (λ k told. asked_next (factor_spec table s fxy) (λ u later. ahead table (passes k (unroll body) (unroll more rest) (counts_of told)) (after_field s fxy u) later) spec (taken.Count k) told e) m)
+      (λ k answers. asked_next (factor_spec table s fxy) (λ u later. ahead table (passes k (unroll body) (unroll more rest) (counts_of answers)) (after_field s fxy u) later) spec (taken.Count k) answers e) m)
 
   pub template_sane : (tree : Tree) → IsLegal tree → (n : ℕ) → IsSane n (next_item table tree)
   unfolding next_item

@@ -19,9 +19,9 @@ module _ {V E : Type 0} (sees : V → Call → Result (Unit {0}) E → V → Typ
   pub subset_goes : (number : ℕ) (c c' : Cursor) (s s1 s' : V) (steps steps' : ℕ) (r : Result (Unit {0}) (ShowFault E)) → sees s (subset_call number) (Ok tt) s1 → ItemsGo sees table course c s1 steps r c' s' steps' → SubsetGoes sees table course number c s steps r c' s' steps'
   subset_goes number c c' s s1 s' steps steps' (Ok u) h g = record {
     shown = λ before items subsets left r e.
-        let behind : List Timed = subset_calls table course (before + turns_after plain course items) (number + 1) subsets in
-        sofar_then sees s s1 s' _ (item_calls table before course items ++ behind) behind
-        (sofar_call sees s s1 (timed before (subset_call number)) (item_calls table before course items ++ behind) h) (g.shown before items left behind r);
+        let suffix : List Timed = subset_calls table course (before + turns_after plain course items) (number + 1) subsets in
+        sofar_then sees s s1 s' _ (item_calls table before course items ++ suffix) suffix
+        (sofar_call sees s s1 (timed before (subset_call number)) (item_calls table before course items ++ suffix) h) (g.shown before items left suffix r);
     left_is = g.left_is;
   }
   subset_goes number c c' s s1 s' steps steps' (Err why) h g = record {

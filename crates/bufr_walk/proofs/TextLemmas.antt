@@ -29,11 +29,11 @@ octet_put bits at i octet kept h so is =
 pub two : (a b : ℕ) (xs ys : List ℕ) → a ≡ b → xs ≡ ys → a ∷ xs ≡ b ∷ ys
 two a b xs ys p q = ap (λ x. x ∷ xs) p ∙ ap (λ zs. b ∷ zs) q
 
-pub octets_front : (n : ℕ) (bits : List Bool) → octets_in n (take (8 * n) bits) ≡ octets_in n bits
-octets_front zero bits = refl
-octets_front (suc n) bits =
+pub octets_prefix : (n : ℕ) (bits : List Bool) → octets_in n (take (8 * n) bits) ≡ octets_in n bits
+octets_prefix zero bits = refl
+octets_prefix (suc n) bits =
     ap (λ k. octets_in (suc n) (take k bits)) (eight n)
-    ∙ two _ _ _ _ (ap number_of (take-take 8 (8 + 8 * n) bits (omega arith))) (ap (octets_in n) (drop-take 8 (8 * n) bits) ∙ octets_front n (drop 8 bits))
+    ∙ two _ _ _ _ (ap number_of (take-take 8 (8 + 8 * n) bits (omega arith))) (ap (octets_in n) (drop-take 8 (8 * n) bits) ∙ octets_prefix n (drop 8 bits))
   where
     eight : (n : ℕ) → 8 * suc n ≡ 8 + 8 * n
     eight n = omega arith
@@ -43,8 +43,8 @@ pub whole_octets : (spec : FieldSpec) → spec.width % 8 ≡ 0 → 8 * (spec.wid
 whole_octets spec e = omega (arith, e)
 
 -- the octets of a field of whole octets
-pub text_front : (spec : FieldSpec) (bits : List Bool) → spec.width % 8 ≡ 0 → octets_in (spec.width / 8) (take spec.width bits) ≡ octets_in (spec.width / 8) bits
-text_front spec bits e = ap (λ w. octets_in (spec.width / 8) (take w bits)) (whole spec.width e) ∙ octets_front (spec.width / 8) bits
+pub text_prefix : (spec : FieldSpec) (bits : List Bool) → spec.width % 8 ≡ 0 → octets_in (spec.width / 8) (take spec.width bits) ≡ octets_in (spec.width / 8) bits
+text_prefix spec bits e = ap (λ w. octets_in (spec.width / 8) (take w bits)) (whole spec.width e) ∙ octets_prefix (spec.width / 8) bits
   where
     whole : (w : ℕ) → w % 8 ≡ 0 → w ≡ 8 * (w / 8)
     whole w e = omega arith
@@ -85,7 +85,7 @@ borrowed octets at count xs whole within is small =
     let same : xs ≡ take count (drop first octets) = is ∙ ap (λ n. take n (drop first octets)) size in
     let long : length xs ≡ count = ap length same ∙ length-take-le count (drop first octets) (omega (arith, length-drop first octets, within)) in
     let bits : bits_of xs ≡ take (8 * count) (drop at (bits_of octets)) = ap bits_of same ∙ sym (take-bits_of count (drop first octets)) ∙ ap (take (8 * count)) (sym (drop-bits_of first octets) ∙ ap (λ p. drop p (bits_of octets)) place) in
-    sym (octets_of_bits xs small) ∙ ap (λ n. octets_in n (bits_of xs)) long ∙ ap (octets_in count) bits ∙ octets_front count (drop at (bits_of octets))
+    sym (octets_of_bits xs small) ∙ ap (λ n. octets_in n (bits_of xs)) long ∙ ap (octets_in count) bits ∙ octets_prefix count (drop at (bits_of octets))
 
 pub borrowed_some : {S : Type 0} (now : S → List ℕ) (r : Option S) (octets want : List ℕ) (at count : ℕ) → SomeIff (option_map now r) ((at % 8 ≡ 0) × (at + 8 * count ≤ 8 * length octets)) (slice_range octets (at / 8) (at / 8 + count)) → IfSome r (λ s. (k : ℕ) → slice_index (now s) k < 256) → octets_in count (drop at (bits_of octets)) ≡ want → IfSome r (λ s. now s ≡ want)
 borrowed_some now None octets want at count h small e = tt

@@ -24,13 +24,13 @@ later_twice t u a = ap (λ k. let r : NextTurn = record { turns = k; next = a.ne
 pub later_none : (a : NextTurn) → later 0 a ≡ a
 later_none a = ap (λ k. let r : NextTurn = record { turns = k; next = a.next } in r) (zero-add a.turns)
 
-pub told_then : (a b : List TakenField) (more : List Taken) → answers_of (a ++ b) ++ more ≡ answers_of a ++ (answers_of b ++ more)
-told_then [] b more = refl
-told_then (i ∷ a) b more = ap (λ ts. i.taken ∷ ts) (told_then a b more)
+pub answer_then : (a b : List TakenField) (more : List Taken) → answers_of (a ++ b) ++ more ≡ answers_of a ++ (answers_of b ++ more)
+answer_then [] b more = refl
+answer_then (i ∷ a) b more = ap (λ ts. i.taken ∷ ts) (answer_then a b more)
 
-pub told_both : (a b : List TakenField) → answers_of (a ++ b) ≡ answers_of a ++ answers_of b
-told_both [] b = refl
-told_both (i ∷ a) b = ap (λ ts. i.taken ∷ ts) (told_both a b)
+pub answer_both : (a b : List TakenField) → answers_of (a ++ b) ≡ answers_of a ++ answers_of b
+answer_both [] b = refl
+answer_both (i ∷ a) b = ap (λ ts. i.taken ∷ ts) (answer_both a b)
 
 module _ {S : Type 0} (takes : S → FieldSpec → Taken → S → Type 0) where
   -- a course with the same things next
@@ -52,12 +52,12 @@ module _ {S E : Type 0} (takes : S → FieldSpec → Result Taken E → S → Ty
   goes_then {n} {m} {o} {s} {mid} {s'} {t} {u} a b = record {
     items = a.items ++ b.items;
     taken = takes_then (oks takes) n m s a.items mid b.items s' a.taken (λ more. ap (λ x. x.next) (a.leads more)) b.taken;
-    leads = λ more. ap n (told_then a.items b.items more) ∙ a.leads (answers_of b.items ++ more) ∙ ap (later t) (b.leads more) ∙ later_twice t u (o more);
+    leads = λ more. ap n (answer_then a.items b.items more) ∙ a.leads (answers_of b.items ++ more) ∙ ap (later t) (b.leads more) ∙ later_twice t u (o more);
   }
 
   pub goes_stops : {n m : Course} {s mid s' : S} {t u : ℕ} {why : WalkStop E} → WalkGoes takes n s t m mid → Stops takes m mid u why s' → Stops takes n s (t + u) why s'
   goes_stops {n} {m} {s} {mid} {s'} {t} {u} {why} a b =
-      let same : n (answers_of (a.items ++ b.items)) ≡ later t (m (answers_of b.items)) = ap n (told_both a.items b.items) ∙ a.leads (answers_of b.items) in
+      let same : n (answers_of (a.items ++ b.items)) ≡ later t (m (answers_of b.items)) = ap n (answer_both a.items b.items) ∙ a.leads (answers_of b.items) in
       record {
         items = a.items ++ b.items;
         mid = b.mid;
@@ -81,5 +81,5 @@ module _ {S E : Type 0} (takes : S → FieldSpec → Result Taken E → S → Ty
   came_stops {c = c} why x w = record { turns = x.turns + w.turns; ticks = w.ticks ∙ ap (λ k. ticked k w.turns) x.ticks ∙ ticked_twice c x.turns w.turns; way = λ rest. goes_stops takes (x.way rest) (w.way rest) }
 
   -- one turn with no field
-  pub came_turn : (over left : Rest → Rest) (s : OperatorModel) (f : S) (c c' : ℕ) → c' ≡ ticked c 1 → ((rest : Rest) (counts : List ℕ) (told : List Taken) → ahead table (over rest counts) s told ≡ later 1 (ahead table (left rest counts) s told)) → HasWalked takes table over left s f c s f c'
+  pub came_turn : (over left : Rest → Rest) (s : OperatorModel) (f : S) (c c' : ℕ) → c' ≡ ticked c 1 → ((rest : Rest) (counts : List ℕ) (answers : List Taken) → ahead table (over rest counts) s answers ≡ later 1 (ahead table (left rest counts) s answers)) → HasWalked takes table over left s f c s f c'
   came_turn over left s f c c' tick e = record { turns = 1; ticks = tick; way = λ rest. goes_turn takes _ _ f (λ more. e rest (counts_of more) more) }

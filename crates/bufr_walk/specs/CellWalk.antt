@@ -39,13 +39,13 @@ tail_of [] = cell.Finish ∷ []
 tail_of (s ∷ outer) = cell.PassEnd ∷ cells_of s.more s.frame.after (tail_of outer)
 
 -- each open group is in the cells, no deeper than 32
-abbrev pub AllStand : List Cell → List OpenGroup → Type 0
-AllStand cells [] = Unit {0}
-AllStand cells (s ∷ outer) =
+abbrev pub AllGroupsFit : List Cell → List OpenGroup → Type 0
+AllGroupsFit cells [] = Unit {0}
+AllGroupsFit cells (s ∷ outer) =
     (drop s.frame.start cells ≡ cells_of s.body s.frame.start (tail_of (s ∷ outer)))
     × (drop s.frame.after cells ≡ cells_of s.more s.frame.after (tail_of outer))
     × (length outer + 1 + depth s.body ≤ 32) × (length outer + depth s.more ≤ 32)
-    × IsLegal s.body × IsLegal s.more × AllStand cells outer
+    × IsLegal s.body × IsLegal s.more × AllGroupsFit cells outer
 
 -- A walk is at a place before these nodes, with these open groups; `left` is the rest of its turns.
 pub record IsAtNodes (cells : List Cell) (place : ℕ) (stack : List Frame) (left : Rest → Rest)
@@ -54,7 +54,7 @@ pub record IsAtNodes (cells : List Cell) (place : ℕ) (stack : List Frame) (lef
   pub here : drop place cells ≡ cells_of more place (tail_of groups)
   pub deep : length groups + depth more ≤ 32
   pub legal : IsLegal more
-  pub outer : AllStand cells groups
+  pub outer : AllGroupsFit cells groups
   pub left_is : (k : Rest) (counts : List ℕ) → left k counts
       ≡ unroll more (turns_after_pass groups k) counts
 

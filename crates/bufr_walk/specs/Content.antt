@@ -81,15 +81,15 @@ reference_in missing = pos 0
 reference_in (reference value) = value
 
 -- what a content returns to the walk, by role
-abbrev pub told_by_role : Role → Content → Taken
-told_by_role role.Element c = taken.Plain
-told_by_role role.Inserted c = taken.Plain
-told_by_role role.Factor c = taken.Count (count_in c)
-told_by_role role.Reference c = taken.Reference (reference_in c)
+abbrev pub answer_by_role : Role → Content → Taken
+answer_by_role role.Element c = taken.Plain
+answer_by_role role.Inserted c = taken.Plain
+answer_by_role role.Factor c = taken.Count (count_in c)
+answer_by_role role.Reference c = taken.Reference (reference_in c)
 
 -- what a field returns to the walk
 abbrev pub answer_of : FieldSpec → Content → Taken
-answer_of spec c = told_by_role spec.role c
+answer_of spec c = answer_by_role spec.role c
 
 -- what an item shows: a number with its scale, a text, missing, or a reference
 pub data ShownValue : Type 0 where

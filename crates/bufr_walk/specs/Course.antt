@@ -20,7 +20,7 @@ counts_in (taken.Reference r) counts = counts
 -- the counts that items returned
 abbrev pub counts_of : List Taken → List ℕ
 counts_of [] = []
-counts_of (t ∷ told) = counts_in t (counts_of told)
+counts_of (t ∷ answers) = counts_in t (counts_of answers)
 
 -- what comes next: a field, the end, or a refusal
 pub data Next : Type 0 where
@@ -46,30 +46,30 @@ stop next = record { turns = 1; next = next }
 -- a field: an item was taken there, or it comes next
 abbrev pub asked : Result FieldSpec TurnRefusal → (Taken → List Taken → NextTurn) → List Taken
     → NextTurn
-asked (Err why) go told = stop (refused why)
+asked (Err why) go answers = stop (refused why)
 asked (Ok spec) go [] = stop (take_next spec)
-asked (Ok spec) go (t ∷ told) = later 1 (go t told)
+asked (Ok spec) go (t ∷ answers) = later 1 (go t answers)
 
 -- an operator: it is applied, or refused
 abbrev pub operated : Result OperatorModel TurnRefusal → (OperatorModel → NextTurn) → NextTurn
 operated (Err why) go = stop (refused why)
 operated (Ok settings) go = later 1 (go settings)
 
--- what comes next in these turns, after items that returned `told`
+-- what comes next in these turns, after items that returned `answers`
 -- rule: defining-fixed-groups, 2-03-255-alone
 abbrev pub ahead : List Row → Turns → OperatorModel → List Taken → NextTurn
-ahead table finish s told = stop at_end
-ahead table open_end s told = stop astray
-ahead table (group next) s told = later 1 (ahead table next s told)
-ahead table (pass_end next) s told = later 1 (ahead table next s told)
-ahead table (factor_turn fxy next) s told =
-    asked (factor_spec table s fxy) (λ t more. ahead table next (after_field s fxy t) more) told
-ahead table (element_turn fxy next) s told =
-    asked (element_spec table s fxy) (λ t more. ahead table next (after_field s fxy t) more) told
-ahead table (operator_turn fxy next) s told =
+ahead table finish s answers = stop at_end
+ahead table open_end s answers = stop astray
+ahead table (group next) s answers = later 1 (ahead table next s answers)
+ahead table (pass_end next) s answers = later 1 (ahead table next s answers)
+ahead table (factor_turn fxy next) s answers =
+    asked (factor_spec table s fxy) (λ t more. ahead table next (after_field s fxy t) more) answers
+ahead table (element_turn fxy next) s answers =
+    asked (element_spec table s fxy) (λ t more. ahead table next (after_field s fxy t) more) answers
+ahead table (operator_turn fxy next) s answers =
     if is_inserted_text fxy
-    then asked (inserted_spec s fxy) (λ t more. ahead table next (after_field s fxy t) more) told
-    else operated (after_operator s fxy) (λ s'. ahead table next s' told)
+    then asked (inserted_spec s fxy) (λ t more. ahead table next (after_field s fxy t) more) answers
+    else operated (after_operator s fxy) (λ s'. ahead table next s' answers)
 
 -- what comes next after any items, by what these returned
 abbrev pub Course : Type 0
@@ -77,4 +77,4 @@ Course = List Taken → NextTurn
 
 -- what comes next in a whole template
 unfoldable pub next_item : List Row → Tree → Course
-next_item table template told = ahead table (turns_of template (counts_of told)) begin told
+next_item table template answers = ahead table (turns_of template (counts_of answers)) begin answers

@@ -50,7 +50,7 @@ pub record IsPut (specs : List FieldSpec) (spec : FieldSpec) (place : ℕ)
   pub more : List FieldSpec
   pub grows : specs' ≡ specs ++ more
   pub few : length more ≤ 1
-  pub stands : HasSpecAt specs' place spec
+  pub fits : HasSpecAt specs' place spec
 
 -- each location has its field; there is room for the items until room is made again, and for a
 -- field with each

@@ -18,7 +18,7 @@ use Rattle.bufr_walk.specs.Content.{Content, number, missing}
 use Rattle.bufr_walk.specs.PlainField.{FieldFault, found}
 use Rattle.bufr_walk.specs.PackedIn.{PackedCursor, wrong_of, IsPackedWrong}
 use Rattle.bufr_walk.specs.Reading.{max_values}
-use Rattle.bufr_walk.specs.PackedField.{ones, increments, increment_bits_of, padded_text, contents_of, packed_field, told_first}
+use Rattle.bufr_walk.specs.PackedField.{ones, increments, increment_bits_of, padded_text, contents_of, packed_field, answer_first}
 
 -- whether a base is missing: all ones, where that is allowed
 abbrev pub is_missing : FieldSpec → (base : List Bool) → Bool
@@ -44,15 +44,15 @@ increased_to m width base k i =
     else number (base + i)
 
 -- whether the increments of numbers are valid
-abbrev pub numbers_hold : FieldSpec → (k subsets : ℕ) → (base behind : List Bool) → Bool
-numbers_hold spec k n base behind =
-    is_missing spec base || all_within spec.may_be_missing spec.width (number_of base) k n behind
+abbrev pub numbers_hold : FieldSpec → (k subsets : ℕ) → (base suffix : List Bool) → Bool
+numbers_hold spec k n base suffix =
+    is_missing spec base || all_within spec.may_be_missing spec.width (number_of base) k n suffix
 
 -- whether the increments of an item are valid
-abbrev pub holds_by : Kind → FieldSpec → (k subsets : ℕ) → (base behind : List Bool) → Bool
-holds_by kind.Character spec k n base behind = not (nat_lt (spec.width / 8) k)
-holds_by kind.Coded spec k n base behind = numbers_hold spec k n base behind
-holds_by kind.Numeric spec k n base behind = numbers_hold spec k n base behind
+abbrev pub holds_by : Kind → FieldSpec → (k subsets : ℕ) → (base suffix : List Bool) → Bool
+holds_by kind.Character spec k n base suffix = not (nat_lt (spec.width / 8) k)
+holds_by kind.Coded spec k n base suffix = numbers_hold spec k n base suffix
+holds_by kind.Numeric spec k n base suffix = numbers_hold spec k n base suffix
 
 -- the content of a number with an increment
 abbrev pub number_from : FieldSpec → (k : ℕ) → (base bits : List Bool) → Content
@@ -76,27 +76,28 @@ kind_step kind.Character k = 8 * k
 kind_step kind.Coded k = k
 kind_step kind.Numeric k = k
 
--- an item with this base, k and the bits `behind` has contents, and returns `t`
-pub record IsTold (spec : FieldSpec) (k n : ℕ) (base behind : List Bool) (t : Taken) : Type 0 where
+-- an item with this base, k and the bits `suffix` has contents, and returns `t`
+pub record IsItemAnswer (spec : FieldSpec) (k n : ℕ) (base suffix : List Bool)
+    (t : Taken) : Type 0 where
   pub contents : List Content
   pub are : contents_of spec k base
-      (increments n (increment_bits_of spec.role spec.kind k) behind) ≡ Ok contents
-  pub tells : t ≡ told_first spec contents
+      (increments n (increment_bits_of spec.role spec.kind k) suffix) ≡ Ok contents
+  pub gives : t ≡ answer_first spec contents
 
 -- such an item is at fault
-pub record IsWrong (spec : FieldSpec) (k n : ℕ) (base behind : List Bool)
+pub record IsWrong (spec : FieldSpec) (k n : ℕ) (base suffix : List Bool)
     (e : PackedFault) : Type 0 where
   pub why : FieldFault
-  pub is : contents_of spec k base (increments n (increment_bits_of spec.role spec.kind k) behind)
+  pub is : contents_of spec k base (increments n (increment_bits_of spec.role spec.kind k) suffix)
       ≡ Err why
   pub fault : e ≡ wrong_of spec.fxy why
 
 -- what an item of known k at a bit returns to the walk, or its fault
-abbrev pub TellsAt : (bits : List Bool) (at subsets : ℕ) → FieldSpec → (k : ℕ)
+abbrev pub AnswersAt : (bits : List Bool) (at subsets : ℕ) → FieldSpec → (k : ℕ)
     → Result Taken PackedFault → Type 0
-TellsAt bits at n spec k (Ok t) =
-    IsTold spec k n (take spec.width (drop at bits)) (drop (at + (spec.width + 6)) bits) t
-TellsAt bits at n spec k (Err e) =
+AnswersAt bits at n spec k (Ok t) =
+    IsItemAnswer spec k n (take spec.width (drop at bits)) (drop (at + (spec.width + 6)) bits) t
+AnswersAt bits at n spec k (Err e) =
     IsWrong spec k n (take spec.width (drop at bits)) (drop (at + (spec.width + 6)) bits) e
 
 -- whether a role returns nothing to the walk
@@ -110,7 +111,7 @@ is_plain_role role.Reference = false
 pub record IsSeen (bits : List Bool) (at n : ℕ) (spec : FieldSpec) (s : ItemBits) : Type 0 where
   pub contents : List Content
   pub field : packed_field n spec (drop at bits) ≡ Ok (found contents (drop s.end bits))
-  pub tells : s.told ≡ told_first spec contents
+  pub gives : s.answer ≡ answer_first spec contents
   pub step : s.step ≡ number_of (take 6 (drop (at + spec.width) bits))
   pub base : is_character spec.kind ≡ false → s.base ≡ number_of (take spec.width (drop at bits))
   pub within : s.end ≤ length bits

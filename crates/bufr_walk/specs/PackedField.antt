@@ -117,10 +117,10 @@ contents_of spec k base is =
     if k == 0 then Ok (map (λ i. content_in spec base) is) else varied spec.role spec k base is
 
 -- contents, and the bits after the item
-abbrev pub with_behind : Result (List Content) FieldFault → List Bool
+abbrev pub with_suffix : Result (List Content) FieldFault → List Bool
     → Result (FieldRead (List Content)) FieldFault
-with_behind (Err why) bits = Err why
-with_behind (Ok cs) bits = Ok (found cs bits)
+with_suffix (Err why) bits = Err why
+with_suffix (Ok cs) bits = Ok (found cs bits)
 
 -- an item whose k is known
 -- rule: compressed-item, compressed-increments-there, fault-30-before-34
@@ -128,10 +128,10 @@ abbrev pub item_by : FieldSpec → (subsets k : ℕ) → List Bool → Result (F
     FieldFault
 item_by spec n k bits =
     let step = increment_bits_of spec.role spec.kind k in
-    let behind = drop (spec.width + 6) bits in
-    if nat_lt (length behind) (n * step) then Err data_end
-    else with_behind (contents_of spec k (take spec.width bits) (increments n step behind))
-    (drop (n * step) behind)
+    let suffix = drop (spec.width + 6) bits in
+    if nat_lt (length suffix) (n * step) then Err data_end
+    else with_suffix (contents_of spec k (take spec.width bits) (increments n step suffix))
+    (drop (n * step) suffix)
 
 -- the item that begins the bits, for n subsets
 -- rule: compressed-item
@@ -142,6 +142,6 @@ packed_field n spec bits =
     else item_by spec n (number_of (take 6 (drop spec.width bits))) bits
 
 -- what an item returns to the walk: factors are the same in all subsets, and so are references
-abbrev pub told_first : FieldSpec → List Content → Taken
-told_first spec [] = taken.Plain
-told_first spec (c ∷ cs) = answer_of spec c
+abbrev pub answer_first : FieldSpec → List Content → Taken
+answer_first spec [] = taken.Plain
+answer_first spec (c ∷ cs) = answer_of spec c

@@ -16,7 +16,7 @@ use Rattle.bufr_walk.specs.Fault.{spot}
 use Rattle.bufr_walk.specs.FieldSpec.{FieldSpec}
 use Rattle.bufr_walk.specs.Content.{Content}
 use Rattle.bufr_walk.specs.PlainField.{FieldFault, data_end, increment, unequal_factor, FieldRead, found}
-use Rattle.bufr_walk.specs.PackedField.{packed_field, told_first}
+use Rattle.bufr_walk.specs.PackedField.{packed_field, answer_first}
 use Rattle.bufr_walk.specs.Reading.{Item, max_values, items_at_once}
 
 -- the reader: the bits, how many of them were read, the number of subsets, and the items read
@@ -65,8 +65,8 @@ has_base bits e =
     is_character e.spec.kind || (e.base == number_of (take e.spec.width (drop e.at bits)))
 
 -- whether an item is at the location of an entry, with its k and base
-abbrev pub stands_at : (bits : List Bool) (subsets : ℕ) → IndexedItem → Bool
-stands_at bits n e =
+abbrev pub fits_at : (bits : List Bool) (subsets : ℕ) → IndexedItem → Bool
+fits_at bits n e =
     was_found (packed_field n e.spec (drop e.at bits))
     && ((e.step == number_of (take 6 (drop (e.at + e.spec.width) bits))) && has_base bits e)
 
@@ -81,7 +81,7 @@ pub record IsPackedIn (bits : List Bool) (at subsets : ℕ) (kept : List Indexed
   pub some : 1 ≤ subsets
   pub few : length kept * subsets ≤ max_values
   pub held : 7 * length kept ≤ at
-  pub stand : list_all (stands_at bits subsets) kept ≡ true
+  pub fit : list_all (fits_at bits subsets) kept ≡ true
 
 -- the fault of a field with this descriptor
 abbrev pub wrong_of : (fxy : ℕ) → FieldFault → PackedFault
@@ -96,7 +96,7 @@ pub record IsPackedTaken (s : PackedCursor) (spec : FieldSpec) (t : Taken)
   pub few : (length s.items + 1) * s.subsets ≤ max_values
   pub field : packed_field s.subsets spec (remaining_bits s)
       ≡ Ok (found contents (remaining_bits s'))
-  pub tells : t ≡ told_first spec contents
+  pub gives : t ≡ answer_first spec contents
   pub bits : s'.bits ≡ s.bits
   pub subsets : s'.subsets ≡ s.subsets
   pub items : s'.items ≡ s.items ++ item_with_contents spec contents ∷ []

@@ -14,11 +14,11 @@ pub data FieldFault : Type 0 where
 -- the content of a field, and the bits after it
 pub record FieldRead (C : Type 0) : Type 0 where
   pub content : C
-  pub behind : List Bool
+  pub suffix : List Bool
 
 -- a field from its content and the bits after it
 abbrev pub found : {C : Type 0} → C → List Bool → FieldRead C
-found content behind = record { content = content; behind = behind }
+found content suffix = record { content = content; suffix = suffix }
 
 -- the field that begins the bits
 -- rule: field-past-end

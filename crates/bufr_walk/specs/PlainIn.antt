@@ -30,7 +30,7 @@ pub record IsTaken (s : Cursor) (spec : FieldSpec) (t : Taken) (s' : Cursor) : T
   pub content : Content
   pub some : 1 ≤ spec.width
   pub field : plain_field spec (rest_of s) ≡ Ok (found content (rest_of s'))
-  pub tells : t ≡ answer_of spec content
+  pub gives : t ≡ answer_of spec content
   pub next : s' ≡ past s spec
 
 -- one call: a field was read, or the bits end in it

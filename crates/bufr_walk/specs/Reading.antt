@@ -7,7 +7,7 @@ use Rattle.bufr_walk.specs.FieldSpec.{FieldSpec}
 use Rattle.bufr_walk.specs.Course.{Course, Next, take_next, at_end}
 use Rattle.bufr_walk.specs.Content.{Content, answer_of}
 use Rattle.bufr_walk.specs.PlainField.{FieldFault, FieldRead, found, plain_field}
-use Rattle.bufr_walk.specs.PackedField.{packed_field, told_first}
+use Rattle.bufr_walk.specs.PackedField.{packed_field, answer_first}
 
 -- an item: its specification, and its content for one subset or for all
 pub record Item (C : Type 0) : Type 0 where
@@ -17,32 +17,32 @@ pub record Item (C : Type 0) : Type 0 where
 -- how a field is read, and what its content returns to the walk
 pub record DataCoding (C : Type 0) : Type 0 where
   pub field : FieldSpec → List Bool → Result (FieldRead C) FieldFault
-  pub tells : FieldSpec → C → Taken
+  pub gives : FieldSpec → C → Taken
 
 -- the coding of one subset
 abbrev pub plain : DataCoding Content
-plain = record { field = plain_field; tells = answer_of }
+plain = record { field = plain_field; gives = answer_of }
 
 -- the coding of n compressed subsets
 abbrev pub packed : ℕ → DataCoding (List Content)
-packed n = record { field = packed_field n; tells = told_first }
+packed n = record { field = packed_field n; gives = answer_first }
 
 -- what an item returns to the walk
-abbrev pub tells_of : {C : Type 0} → DataCoding C → Item C → Taken
-tells_of form i = form.tells i.spec i.content
+abbrev pub item_answer : {C : Type 0} → DataCoding C → Item C → Taken
+item_answer form i = form.gives i.spec i.content
 
 -- a course after one more item
 abbrev pub after : {C : Type 0} → DataCoding C → Course → Item C → Course
-after form course i answer_of = course (tells_of form i ∷ answer_of)
+after form course i answer_of = course (item_answer form i ∷ answer_of)
 
 -- each item is the content of the field that comes next, at the bits after the one before
 abbrev pub ReadsItems : {C : Type 0} → DataCoding C → Course → List (Item C)
-    → (bits behind : List Bool) → Type 0
-ReadsItems form course [] bits behind = bits ≡ behind
-ReadsItems form course (i ∷ items) bits behind =
+    → (bits suffix : List Bool) → Type 0
+ReadsItems form course [] bits suffix = bits ≡ suffix
+ReadsItems form course (i ∷ items) bits suffix =
     (mid : List Bool) × ((course []).next ≡ take_next i.spec)
     × (form.field i.spec bits ≡ Ok (found i.content mid))
-    × ReadsItems form (after form course i) items mid behind
+    × ReadsItems form (after form course i) items mid suffix
 
 -- what comes next after items
 abbrev pub next_after : {C : Type 0} → DataCoding C → Course → List (Item C) → Next
@@ -51,9 +51,9 @@ next_after form course (i ∷ items) = next_after form (after form course i) ite
 
 -- one pass over a template, to its end
 abbrev pub ReadsPass : {C : Type 0} → DataCoding C → Course → List (Item C)
-    → (bits behind : List Bool) → Type 0
-ReadsPass form course items bits behind =
-    ReadsItems form course items bits behind × (next_after form course items ≡ at_end)
+    → (bits suffix : List Bool) → Type 0
+ReadsPass form course items bits suffix =
+    ReadsItems form course items bits suffix × (next_after form course items ≡ at_end)
 
 -- the turns of a pass with these items, up to what comes after them
 abbrev pub turns_after : {C : Type 0} → DataCoding C → Course → List (Item C) → ℕ
@@ -67,11 +67,11 @@ turns_in course (items ∷ subsets) = turns_after plain course items + turns_in 
 
 -- subsets one after another, each from the beginning of the template
 -- rule: operators-end-with-subset, subsets-without-padding
-abbrev pub ReadsSubsets : Course → List (List (Item Content)) → (bits behind : List Bool) → Type 0
-ReadsSubsets course [] bits behind = bits ≡ behind
-ReadsSubsets course (items ∷ subsets) bits behind =
+abbrev pub ReadsSubsets : Course → List (List (Item Content)) → (bits suffix : List Bool) → Type 0
+ReadsSubsets course [] bits suffix = bits ≡ suffix
+ReadsSubsets course (items ∷ subsets) bits suffix =
     (mid : List Bool) × ReadsPass plain course items bits mid
-    × ReadsSubsets course subsets mid behind
+    × ReadsSubsets course subsets mid suffix
 
 -- the most values of a compressed message
 -- rule: too-many-values
@@ -85,16 +85,16 @@ items_at_once = 64
 -- compressed data: one pass for all subsets; with no subset nothing is read
 -- rule: no-subsets
 abbrev pub IsPackedReading : (subsets : ℕ) → Course → List (Item (List Content))
-    → (bits behind : List Bool) → Type 0
-IsPackedReading zero course items bits behind = (items ≡ []) × (bits ≡ behind)
-IsPackedReading (suc n) course items bits behind =
-    ReadsPass (packed (suc n)) course items bits behind × (length items * suc n ≤ max_values)
+    → (bits suffix : List Bool) → Type 0
+IsPackedReading zero course items bits suffix = (items ≡ []) × (bits ≡ suffix)
+IsPackedReading (suc n) course items bits suffix =
+    ReadsPass (packed (suc n)) course items bits suffix × (length items * suc n ≤ max_values)
 
 -- data that are not compressed: the subsets, n of them
 abbrev pub IsPlainReading : (subsets : ℕ) → Course → List (List (Item Content))
-    → (bits behind : List Bool) → Type 0
-IsPlainReading n course subsets bits behind =
-    ReadsSubsets course subsets bits behind × (length subsets ≡ n)
+    → (bits suffix : List Bool) → Type 0
+IsPlainReading n course subsets bits suffix =
+    ReadsSubsets course subsets bits suffix × (length subsets ≡ n)
 
 -- the data: the number of subsets, whether they are compressed, and their bits
 pub record Data : Type 0 where

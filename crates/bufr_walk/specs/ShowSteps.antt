@@ -43,8 +43,8 @@ pub record IsShown {V E : Type 0} (sees : V → Call → Result (Unit {0}) E →
 -- a field was found, and the visitor refused it
 pub record IsUnshown {V E : Type 0} (sees : V → Call → Result (Unit {0}) E → V → Type 0)
     (s : Stage V) (spec : FieldSpec) (e : E) (s' : Stage V) : Type 0 where
-  pub told : Taken
-  pub is_taken : IsTaken s.cursor spec told (past s.cursor spec)
+  pub answer : Taken
+  pub is_taken : IsTaken s.cursor spec answer (past s.cursor spec)
   pub call : sees s.visitor (item_call (view_of s.table spec is_taken.content)) (Err e) s'.visitor
   pub cursor : s'.cursor ≡ s.cursor
   pub names : s'.names ≡ s.names

@@ -10,7 +10,7 @@ use Rattle.bufr_walk.specs.Calls.{Call, item_call, view_of, content_at}
 use Rattle.bufr_walk.specs.Content.{Content}
 use Rattle.bufr_walk.specs.Course.{Course}
 use Rattle.bufr_walk.specs.PackedField.{packed_field}
-use Rattle.bufr_walk.specs.PackedIn.{contents_found, items_at, stands_at}
+use Rattle.bufr_walk.specs.PackedIn.{contents_found, items_at, fits_at}
 use Rattle.bufr_walk.specs.Reading.{Item, Data, Values, apart, together, IsReading, max_values}
 use Rattle.bufr_walk.specs.Outcome.{Read, course_of, IsRead}
 
@@ -18,7 +18,7 @@ use Rattle.bufr_walk.specs.Outcome.{Read, course_of, IsRead}
 abbrev pub AreKept : Data → List IndexedItem → List (Item (List Content)) → Type 0
 AreKept d entries items =
     (items_at d.bits d.subsets entries ≡ items)
-    × (list_all (stands_at d.bits d.subsets) entries ≡ true)
+    × (list_all (fits_at d.bits d.subsets) entries ≡ true)
 
 -- compressed data were read, and each item is kept
 abbrev pub IsReadAndKept : Course → Data → List IndexedItem → (used steps : ℕ) → Type 0
@@ -32,7 +32,7 @@ content_kept bits n e j = content_at j (contents_found (packed_field n e.spec (d
 
 -- a kept item has increments, and the subset, counted from 0, has one of them
 pub record HasIncrement (bits : List Bool) (n : ℕ) (e : IndexedItem) (j : ℕ) : Type 0 where
-  pub stands : stands_at bits n e ≡ true
+  pub fits : fits_at bits n e ≡ true
   pub below : j < n
   pub some : 1 ≤ e.step
 

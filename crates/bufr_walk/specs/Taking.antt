@@ -16,9 +16,10 @@ abbrev pub Takes : {S : Type 0} → (S → FieldSpec → Taken → S → Type 0)
 Takes takes course s [] s' = s' ≡ s
 Takes {S} takes course s (i ∷ items) s' =
     (mid : S) × ((course []).next ≡ take_next i.spec) × takes s i.spec i.taken mid
-    × Takes takes (λ told. course (i.taken ∷ told)) mid items s'
+    × Takes takes (λ answers. course (i.taken ∷ answers)) mid items s'
 
 -- a course after some fields
 abbrev pub course_after : Course → List TakenField → Course
-course_after course [] told = course told
-course_after course (i ∷ items) told = course_after (λ more. course (i.taken ∷ more)) items told
+course_after course [] answers = course answers
+course_after course (i ∷ items) answers =
+    course_after (λ more. course (i.taken ∷ more)) items answers

@@ -18,7 +18,7 @@ use Rattle.bufr_walk.specs.Walked.{oks, answers_of, StopsWalk}
 
 -- the course of turns whose counts are among those returned
 abbrev pub course : List Row → Rest → OperatorModel → Course
-course table rest s told = ahead table (rest (counts_of told)) s told
+course table rest s answers = ahead table (rest (counts_of answers)) s answers
 
 -- a walk from one course and state to another, in t turns
 pub record WalkGoes {S E : Type 0} (takes : S → FieldSpec → Result Taken E → S → Type 0)

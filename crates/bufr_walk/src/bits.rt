@@ -74,7 +74,7 @@ pub(crate) fn signed_at(bits: &BitSlice<'_>, at: u64, width: u32) -> i64
 
 /// What a field that is inside the data returns to the walk.
 #[inline(always)]
-#[tactic(auto, using(crate::proofs::PlainNumbers::plain_told, crate::proofs::PlainNumbers::plain_for, crate::proofs::PlainLemmas::told_element, crate::proofs::PlainLemmas::told_inserted, crate::proofs::PlainLemmas::told_factor, crate::proofs::PlainLemmas::told_reference, crate::proofs::PlainLemmas::some_width, crate::proofs::PlainLemmas::factor_width, crate::proofs::PlainLemmas::reference_width))]
+#[tactic(auto, using(crate::proofs::PlainNumbers::plain_answer, crate::proofs::PlainNumbers::plain_for, crate::proofs::PlainLemmas::answer_element, crate::proofs::PlainLemmas::answer_inserted, crate::proofs::PlainLemmas::answer_factor, crate::proofs::PlainLemmas::answer_reference, crate::proofs::PlainLemmas::some_width, crate::proofs::PlainLemmas::factor_width, crate::proofs::PlainLemmas::reference_width))]
 pub(crate) fn answer_at(bits: &BitSlice<'_>, at: u64, spec: &Spec) -> Taken
     requires { at + spec.now.width ≤ 8 * length (octets_of bits.now) }
     ensures value { result ≡ answer_of spec.now
@@ -134,7 +134,7 @@ pub(crate) fn copy_octets(bits: &BitSlice<'_>, at: u64, count: usize, text: &mut
 }
 
 /// The first octets of a text.
-pub(crate) fn front(text: &[u8; 255], count: usize) -> &[u8]
+pub(crate) fn prefix(text: &[u8; 255], count: usize) -> &[u8]
     requires { count ≤ 255 }
     ensures { result.now ≡ take count text.now }
 {

@@ -26,7 +26,7 @@ pub(crate) struct ItemLocation {
 
 /// Whether a field has an index among others.
 #[inline(always)]
-fn stands(specs: &[Spec], place: u32, spec: &Spec) -> bool
+fn fits(specs: &[Spec], place: u32, spec: &Spec) -> bool
     ensures { result ≡ true → HasSpecAt specs.now place spec.now }
 {
     let place = place as usize;
@@ -76,7 +76,7 @@ fn place_of(specs: &mut Vec<Spec>, guess: u32, spec: &Spec) -> u32
     ensures put { IsPut specs.old.items spec.now result specs.new.items }
     ensures room { vec_capacity specs.old ≤ vec_capacity specs.new }
 {
-    if stands(specs, guess, spec) {
+    if fits(specs, guess, spec) {
         return guess;
     }
     let place = specs.len() as u32;

@@ -568,9 +568,9 @@ impl OperatorState {
         ensures kept { IfOk result (λ t. self.new ≡ after_field self.old fxy t) }
     {
         match fields.take(spec) {
-            Ok(told) => {
+            Ok(answer) => {
                 self.end_given();
-                Ok(told)
+                Ok(answer)
             }
             Err(fault) => Err(WalkStop::Field(fault)),
         }

@@ -7,7 +7,7 @@ ghost use Rattle.bufr_walk.specs.FieldSpec.{IsFor, IsForRole};
 ghost use Rattle.bufr_walk.specs.PackedField.{ones, increment_bits_of};
 ghost use Rattle.bufr_walk.specs.declared.spec.Role.TheVariants as role;
 ghost use Rattle.bufr_walk.specs.declared.spec.Taken.TheVariants as taken;
-ghost use Rattle.bufr_walk.specs.PackedBits.{stays_within, all_within, all_equal, numbers_hold, holds_by, is_plain_role, TellsAt, IsSeen, IsUnseen};
+ghost use Rattle.bufr_walk.specs.PackedBits.{stays_within, all_within, all_equal, numbers_hold, holds_by, is_plain_role, AnswersAt, IsSeen, IsUnseen};
 
 use crate::base::{Base, base_at};
 use crate::bits::{answer_at, number_at};
@@ -191,7 +191,7 @@ fn plain_at(
     requires within { at + (spec.now.width + 6) + subsets
         * increment_bits_of spec.now.role spec.now.kind k
         ≤ 8 * length (octets_of bits.now) }
-    ensures told { TellsAt (bits_of (octets_of bits.now)) at subsets spec.now k result }
+    ensures answer { AnswersAt (bits_of (octets_of bits.now)) at subsets spec.now k result }
     ensures plain { IfOk result (λ t. t ≡ taken.Plain) }
 {
     let can_be = holds(bits, at, subsets, spec, k);
@@ -216,7 +216,7 @@ fn factor_at(
     requires subsets { 1 ≤ subsets }
     requires role { spec.now.role ≡ role.Factor }
     requires within { at + (spec.now.width + 6) + subsets * k ≤ 8 * length (octets_of bits.now) }
-    ensures told { TellsAt (bits_of (octets_of bits.now)) at subsets spec.now k result }
+    ensures answer { AnswersAt (bits_of (octets_of bits.now)) at subsets spec.now k result }
     ensures count { IfOk result (λ t. IsForRole role.Factor t) }
 {
     let width = spec.width();
@@ -224,9 +224,9 @@ fn factor_at(
     if !can_be {
         return Err(PackedFault::Increment(spec.fxy()));
     }
-    let behind = at + (u64::from(width) + 6);
-    let first = number_at(bits, behind, k);
-    let equal = are_equal(bits, behind, subsets, k, first);
+    let suffix = at + (u64::from(width) + 6);
+    let first = number_at(bits, suffix, k);
+    let equal = are_equal(bits, suffix, subsets, k, first);
     if !equal {
         return Err(PackedFault::UnequalFactor(spec.fxy()));
     }
@@ -236,7 +236,7 @@ fn factor_at(
 
 /// What an item whose `k` is known returns to the walk.
 // rule: compressed-equal, compressed-references
-fn item_told_at(
+fn item_answer_at(
     bits: &BitSlice<'_>,
     at: u64,
     subsets: u16,
@@ -248,7 +248,7 @@ fn item_told_at(
     requires within { at + (spec.now.width + 6) + subsets
         * increment_bits_of spec.now.role spec.now.kind k
         ≤ 8 * length (octets_of bits.now) }
-    ensures told { TellsAt (bits_of (octets_of bits.now)) at subsets spec.now k result }
+    ensures answer { AnswersAt (bits_of (octets_of bits.now)) at subsets spec.now k result }
     ensures shape { IfOk result (λ t. IsFor spec.now t) }
 {
     if k == 0 {
@@ -266,7 +266,7 @@ fn item_told_at(
 /// text), and the bit after it.
 #[derive(Clone, Copy)]
 struct ItemBits {
-    told: Taken,
+    answer: Taken,
     step: u8,
     base: u64,
     end: u64,
@@ -296,7 +296,7 @@ fn item_bits_at(
     requires within { at ≤ 8 * length (octets_of bits.now) }
     ensures seen { MatchResult result (λ s. IsSeen (bits_of (octets_of bits.now)) at subsets
         spec.now s) (λ e. IsUnseen (bits_of (octets_of bits.now)) at subsets spec.now e) }
-    ensures shape { IfOk result (λ s. IsFor spec.now s.told) }
+    ensures shape { IfOk result (λ s. IsFor spec.now s.answer) }
 {
     let width = u64::from(spec.width());
     let left = bits.len_bits() - at;
@@ -308,9 +308,9 @@ fn item_bits_at(
     if left < size {
         return Err(PackedFault::DataEnd(spec.fxy()));
     }
-    match item_told_at(bits, at, subsets, spec, k) {
-        Ok(told) => Ok(ItemBits {
-            told,
+    match item_answer_at(bits, at, subsets, spec, k) {
+        Ok(answer) => Ok(ItemBits {
+            answer,
             step: k as u8,
             base: number_there(bits, at, spec),
             end: at + size,
@@ -355,7 +355,7 @@ impl<'a> PackedIn<'a> {
     ghost use Rattle.bufr_bits.specs.BitSlice.{octets_of};
     ghost use Rattle.bufr_walk.specs.FieldSpec.{IsFor};
     ghost use Rattle.bufr_walk.specs.PackedBits.{IsLooked, IsUnlooked};
-    ghost use Rattle.bufr_walk.specs.PackedIn.{items_at, stands_at, new_packed_in};
+    ghost use Rattle.bufr_walk.specs.PackedIn.{items_at, fits_at, new_packed_in};
     ghost use Rattle.bufr_walk.specs.Reading.{max_values};
 
     /// A reader of compressed data from bit 0 on, for at least one subset.
@@ -387,7 +387,7 @@ impl<'a> PackedIn<'a> {
     pub(crate) fn into_read(self) -> PackedRead
         ensures used { result.used ≡ self.entry.at }
         ensures kept { items_at self.entry.bits self.entry.subsets result.kept ≡ self.entry.items }
-        ensures stand { list_all (stands_at self.entry.bits self.entry.subsets) result.kept ≡ true }
+        ensures fit { list_all (fits_at self.entry.bits self.entry.subsets) result.kept ≡ true }
         ensures held { 7 * length result.kept ≤ result.used }
     {
         let PackedIn {
@@ -405,7 +405,7 @@ impl<'a> PackedIn<'a> {
     fn look(&self, spec: &Spec) -> Result<ItemBits, PackedFault>
         ensures seen { MatchResult result (λ s. IsLooked self.now spec.now s)
             (λ e. IsUnlooked self.now spec.now e) }
-        ensures shape { IfOk result (λ s. IsFor spec.now s.told) }
+        ensures shape { IfOk result (λ s. IsFor spec.now s.answer) }
     {
         let items = self.kept.len() as u64 + 1;
         if items * u64::from(self.subsets) > MAX_VALUES {
@@ -435,7 +435,7 @@ impl<'a> Fields for PackedIn<'a> {
         let place = self.kept.keep(self.next, item)?;
         self.next = place.saturating_add(1);
         self.at = seen.end;
-        Ok(seen.told)
+        Ok(seen.answer)
     }
 
     fn look_at(&mut self, place: u32) {

@@ -150,7 +150,7 @@ impl<'a> PlainIn<'a> {
     }
 
     /// Copies the octets of the next field, which is text.
-    #[tactic(auto, using(crate::proofs::TextLemmas::text_front, crate::proofs::TextLemmas::whole_octets, crate::proofs::PlainLemmas::bits_length))]
+    #[tactic(auto, using(crate::proofs::TextLemmas::text_prefix, crate::proofs::TextLemmas::whole_octets, crate::proofs::PlainLemmas::bits_length))]
     pub(crate) fn copy_text(&self, spec: &Spec, text: &mut [u8; 255])
         requires within { self.now.at + spec.now.width ≤ length self.now.bits }
         requires text { is_character spec.now.kind ≡ true }
@@ -214,9 +214,9 @@ impl<'a> Fields for PlainIn<'a> {
 
     #[inline(always)]
     fn take(&mut self, spec: &Spec) -> Result<Taken, DataEnd> {
-        let told = self.peek(spec)?;
+        let answer = self.peek(spec)?;
         self.at += u64::from(spec.width());
-        Ok(told)
+        Ok(answer)
     }
 
     fn bits(&self) -> u64 {

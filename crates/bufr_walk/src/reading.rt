@@ -196,7 +196,7 @@ impl<'a> Reading<'a> {
     }
 
     /// Shows each subset and its items to a visitor, from what is kept.
-    #[tactic(auto, using(crate::proofs::ReadingLemmas::readable_of, crate::proofs::PackedShowing::entries_stand, crate::proofs::PackedShowing::packed_shown))]
+    #[tactic(auto, using(crate::proofs::ReadingLemmas::readable_of, crate::proofs::PackedShowing::entries_fit, crate::proofs::PackedShowing::packed_shown))]
     fn show_kept<V: Visitor>(
         &self,
         alloc: Global,

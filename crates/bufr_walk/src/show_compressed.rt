@@ -9,12 +9,12 @@ ghost use Rattle.bufr_walk.specs.Content.{octets_in, shown};
 ghost use Rattle.bufr_walk.specs.Numbers.{IsPlainNumber};
 ghost use Rattle.bufr_walk.specs.StoredItems.{HasIncrement, call_kept, content_kept};
 ghost use Rattle.bufr_walk.specs.PackedBits.{increased_to, is_missing, number_from, sum_content, text_at};
-ghost use Rattle.bufr_walk.specs.PackedIn.{items_at, stands_at};
+ghost use Rattle.bufr_walk.specs.PackedIn.{items_at, fits_at};
 ghost use Rattle.bufr_walk.specs.ViewModel.{seen_value};
 ghost use Rattle.bufr_walk.specs.CallsInTurn.{Shows};
 
 use crate::base::Base;
-use crate::bits::{copy_octets, front, number_at, ones_at};
+use crate::bits::{copy_octets, prefix, number_at, ones_at};
 use crate::fault::ShowFault;
 use crate::item_index::ItemIndex;
 use crate::kept::IndexedItem;
@@ -49,7 +49,7 @@ fn increased(base: Base, k: u32, increment: u64) -> Option<u64>
 /// Whether the base of a kept item that is a number is all ones.
 #[inline(always)]
 fn is_full(bits: &BitSlice<'_>, subsets: u16, item: &IndexedItem) -> bool
-    requires stands { stands_at (bits_of (octets_of bits.now)) subsets item.now ≡ true }
+    requires fits { fits_at (bits_of (octets_of bits.now)) subsets item.now ≡ true }
     requires number { is_character item.now.spec.kind ≡ false }
     ensures { result ≡ are_all_ones (bits_at (octets_of bits.now) item.now.at item.now.spec.width) }
 {
@@ -61,7 +61,7 @@ fn is_full(bits: &BitSlice<'_>, subsets: u16, item: &IndexedItem) -> bool
 #[tactic(auto, using(crate::proofs::PackedAt::kept_number))]
 #[inline(always)]
 fn base_of(bits: &BitSlice<'_>, subsets: u16, item: &IndexedItem) -> Option<Base>
-    requires stands { stands_at (bits_of (octets_of bits.now)) subsets item.now ≡ true }
+    requires fits { fits_at (bits_of (octets_of bits.now)) subsets item.now ≡ true }
     requires number { is_character item.now.spec.kind ≡ false }
     ensures missing { IfNone result (is_missing item.now.spec
         (bits_at (octets_of bits.now) item.now.at item.now.spec.width) ≡ true) }
@@ -98,7 +98,7 @@ fn number_in(
     k: u32,
     subset: u16,
 ) -> Option<u64>
-    requires stands { stands_at (bits_of (octets_of bits.now)) subsets item.now ≡ true }
+    requires fits { fits_at (bits_of (octets_of bits.now)) subsets item.now ≡ true }
     requires increment { k ≤ 63 }
     requires number { is_character item.now.spec.kind ≡ false }
     requires within { item.now.at + (item.now.spec.width + 6) + (subset + 1) * k
@@ -163,8 +163,8 @@ fn text_place(bits: &BitSlice<'_>, item: &IndexedItem, subset: u16) -> u64
         ≤ 8 * length (octets_of bits.now) }
     ensures { result ≡ item.now.at + (item.now.spec.width + 6) + subset * (8 * item.now.step) }
 {
-    let behind = item.at + (u64::from(item.spec.width()) + 6);
-    behind + u64::from(subset) * (8 * u64::from(item.step))
+    let suffix = item.at + (u64::from(item.spec.width()) + 6);
+    suffix + u64::from(subset) * (8 * u64::from(item.step))
 }
 
 /// The location of the text of a kept item with increments for one subset, counted from 0.
@@ -217,7 +217,7 @@ fn text_value<'t>(
     if all_missing {
         Value::Missing
     } else {
-        Value::Text(front(text, count))
+        Value::Text(prefix(text, count))
     }
 }
 
@@ -274,7 +274,7 @@ fn show_base<V: Visitor>(
     subset: u16,
     visitor: &mut V,
 ) -> Result<(), V::Fault>
-    requires stands { stands_at (bits_of (octets_of bits.now)) subsets item.now ≡ true }
+    requires fits { fits_at (bits_of (octets_of bits.now)) subsets item.now ≡ true }
     requires subset { subset < subsets }
     requires none { item.now.step ≡ 0 }
     ensures { V.sees visitor.old (call_kept table.now (bits_of (octets_of bits.now)) subsets
@@ -294,7 +294,7 @@ fn show_other<V: Visitor>(
     subset: u16,
     visitor: &mut V,
 ) -> Result<(), V::Fault>
-    requires stands { stands_at (bits_of (octets_of bits.now)) subsets item.now ≡ true }
+    requires fits { fits_at (bits_of (octets_of bits.now)) subsets item.now ≡ true }
     requires subset { subset < subsets }
     ensures { V.sees visitor.old (call_kept table.now (bits_of (octets_of bits.now)) subsets
         item.now subset) result visitor.new }
@@ -312,7 +312,7 @@ fn show_other<V: Visitor>(
 /// missing.
 #[inline(always)]
 fn common_number(bits: &BitSlice<'_>, subsets: u16, item: &IndexedItem, subset: u16) -> Option<u64>
-    requires stands { stands_at (bits_of (octets_of bits.now)) subsets item.now ≡ true }
+    requires fits { fits_at (bits_of (octets_of bits.now)) subsets item.now ≡ true }
     requires subset { subset < subsets }
     requires none { item.now.step ≡ 0 }
     requires plain { IsPlainNumber item.now.spec }
@@ -334,7 +334,7 @@ fn plain_value<'t>(
     item: &IndexedItem,
     subset: u16,
 ) -> Option<Value<'t>>
-    requires stands { stands_at (bits_of (octets_of bits.now)) subsets item.now ≡ true }
+    requires fits { fits_at (bits_of (octets_of bits.now)) subsets item.now ≡ true }
     requires subset { subset < subsets }
     requires plain { IsPlainNumber item.now.spec }
     ensures { IfSome result (λ value. seen_value value ≡ shown item.now.spec
@@ -364,7 +364,7 @@ fn show_item<V: Visitor>(
     subset: u16,
     visitor: &mut V,
 ) -> Result<(), V::Fault>
-    requires stands { stands_at (bits_of (octets_of bits.now)) subsets item.now ≡ true }
+    requires fits { fits_at (bits_of (octets_of bits.now)) subsets item.now ≡ true }
     requires subset { subset < subsets }
     ensures { V.sees visitor.old (call_kept table.now (bits_of (octets_of bits.now)) subsets
         item.now subset) result visitor.new }
@@ -387,7 +387,7 @@ fn show_items<V: Visitor>(
     subset: u16,
     visitor: &mut V,
 ) -> Result<(), ShowFault<V::Fault>>
-    requires stand { list_all (stands_at (bits_of (octets_of bits.now)) subsets) kept.now ≡ true }
+    requires fit { list_all (fits_at (bits_of (octets_of bits.now)) subsets) kept.now ≡ true }
     requires subset { subset < subsets }
     ensures { Shows V.sees visitor.old (compressed_item_calls table.now subset
         (items_at (bits_of (octets_of bits.now)) subsets kept.now)) 0 result visitor.new 0 }
@@ -411,7 +411,7 @@ fn show_subset<V: Visitor>(
     subset: u16,
     visitor: &mut V,
 ) -> Result<(), ShowFault<V::Fault>>
-    requires stand { list_all (stands_at (bits_of (octets_of bits.now)) subsets) kept.now ≡ true }
+    requires fit { list_all (fits_at (bits_of (octets_of bits.now)) subsets) kept.now ≡ true }
     requires subset { subset < subsets }
     ensures { Shows V.sees visitor.old (timed 0 (subset_call (subset + 1))
         ∷ compressed_item_calls table.now subset
@@ -432,7 +432,7 @@ pub(crate) fn show_packed<V: Visitor>(
     kept: &ItemIndex,
     visitor: &mut V,
 ) -> Result<(), ShowFault<V::Fault>>
-    requires { list_all (stands_at (bits_of (octets_of bits.now)) subsets) kept.now ≡ true }
+    requires { list_all (fits_at (bits_of (octets_of bits.now)) subsets) kept.now ≡ true }
     ensures { Shows V.sees visitor.old (compressed_subset_calls table.now subsets 0
         (items_at (bits_of (octets_of bits.now)) subsets kept.now)) 0 result visitor.new 0 }
 {

@@ -16,7 +16,7 @@ ghost use Rattle.bufr_walk.specs.Reading.{Item, plain, ReadsPass, ReadsSubsets, 
 ghost use Rattle.bufr_walk.specs.ShowSteps.{IsEnd, MayEnd, ItemsGo, SubsetGoes};
 ghost use Rattle.bufr_walk.specs.CallsInTurn.{Shows};
 
-use crate::bits::front;
+use crate::bits::prefix;
 use crate::fault::ShowFault;
 use crate::fields::Fields;
 use crate::plain_in::PlainIn;
@@ -111,7 +111,7 @@ fn show_copied<V: Visitor>(
 {
     let mut text = [0u8; 255];
     input.copy_text(spec, &mut text);
-    let octets = front(&text, (spec.width() / 8) as usize);
+    let octets = prefix(&text, (spec.width() / 8) as usize);
     show_with(spec, found, Value::Text(octets), visitor)
 }
 
@@ -224,7 +224,7 @@ impl<'i, 't, 'v, 'b, V: Visitor> Fields for ShowFields<'i, 't, 'v, 'b, V> {
         (stage s.input.now s.visitor.now s.table.now s.input.ghost_name s.visitor.ghost_name) spec r
         (stage t.input.now t.visitor.now t.table.now t.input.ghost_name t.visitor.ghost_name) };
 
-    ghost advances = { λ s spec told next h.
+    ghost advances = { λ s spec answer next h.
         Prim.omega (arith, h.is_taken.some, ap (λ c. c.at) h.is_taken.next) };
 
     ghost refuses = { λ s spec e next h. refusal_keeps V.sees
@@ -234,14 +234,14 @@ impl<'i, 't, 'v, 'b, V: Visitor> Fields for ShowFields<'i, 't, 'v, 'b, V> {
 
     #[inline(always)]
     fn take(&mut self, spec: &Spec) -> Result<Taken, ShowStop<V::Fault>> {
-        let told = match self.input.peek(spec) {
-            Ok(told) => told,
+        let answer = match self.input.peek(spec) {
+            Ok(answer) => answer,
             Err(_) => return Err(ShowStop::DataEnd),
         };
         match show_field(self.input, self.table, spec, self.visitor) {
             Ok(()) => {
                 self.input.skip(spec);
-                Ok(told)
+                Ok(answer)
             }
             Err(fault) => Err(ShowStop::Visitor(fault)),
         }

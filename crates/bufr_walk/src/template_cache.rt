@@ -266,7 +266,7 @@ impl<'a> TemplateCache<'a> {
     pub fn answer(&self) -> &Result<Template, TemplateFault>
         ensures answer { tree_of (tables_of self.now.table_b self.now.table_d)
             self.now.list ≡ result.now }
-        ensures told { IfErr result.now (λ why. why ≢ TemplateFault.Memory) }
+        ensures reported { IfErr result.now (λ why. why ≢ TemplateFault.Memory) }
     {
         self.last.templates.answer()
     }

@@ -166,9 +166,9 @@ fn take_element<S: Fields>(
     ensures same { cache.new ≡ cache.old }
 {
     look_for(place, cache, fields);
-    let told = take_found_element(table, place, fxy, cache, fields, in_force, steps);
+    let answer = take_found_element(table, place, fxy, cache, fields, in_force, steps);
     note_place(place, cache, fields);
-    told
+    answer
 }
 
 /// Takes a factor whose spec is not cached, and caches it.
@@ -247,9 +247,9 @@ fn take_factor<S: Fields>(
     ensures same { cache.new ≡ cache.old }
 {
     look_for(place, cache, fields);
-    let told = take_found_factor(table, place, fxy, cache, fields, in_force, steps);
+    let answer = take_found_factor(table, place, fxy, cache, fields, in_force, steps);
     note_place(place, cache, fields);
-    told
+    answer
 }
 
 /// Makes one step, and returns the place after it, or `None` at the end.
@@ -267,7 +267,7 @@ fn turn<S: Fields>(
 ) -> Result<Option<u32>, WalkStop<S::Fault>>
     requires within { length cells.now ≤ 65535 }
     requires same { cache.old ≡ table.now }
-    requires stands { (left : Rest → Rest) × IsAtCell cells.now place stack.old.items left }
+    requires fits { (left : Rest → Rest) × IsAtCell cells.now place stack.old.items left }
     ensures same { cache.new ≡ cache.old }
     ensures turned { (left : Rest → Rest) → IsAtCell cells.now place stack.old.items left →
         Turned S.takes table.now cells.now left place stack.old.items in_force.old fields.old
@@ -297,8 +297,8 @@ fn turn<S: Fields>(
             let Cell::Factor(fxy) = cell_at(cells, place + 1) else {
                 unreachable!()
             };
-            let told = take_factor(table, place + 1, fxy, cache, fields, in_force, steps)?;
-            match told {
+            let answer = take_factor(table, place + 1, fxy, cache, fields, in_force, steps)?;
+            match answer {
                 Taken::Count(count) => Ok(Some(open_group(count, place + 2, after, stack))),
                 _ => unreachable!(),
             }
@@ -328,7 +328,7 @@ fn walk_cells<S: Fields>(
     steps: &mut Steps,
 ) -> Result<(), WalkStop<S::Fault>>
     requires same { cache.old ≡ table.now }
-    requires laid { (template : Tree) × AreCellsOf cells.now template }
+    requires flattened { (template : Tree) × AreCellsOf cells.now template }
     ensures same { cache.new ≡ cache.old }
     ensures walked { (template : Tree) → AreCellsOf cells.now template →
         Walked S.takes (next_item table.now template) fields.old steps.old result

@@ -11,9 +11,9 @@ pub enum Cell {
     Element(Fxy),
     /// An operator of Table C, with its operand.
     Operator(Fxy),
-    /// A group of so many passes, 1 to 255, and the place behind the group's `PassEnd`.
+    /// A group of so many passes, 1 to 255, and the place after the group's `PassEnd`.
     Fixed(u8, u32),
-    /// A group of as many passes as the value of its factor, and the place behind the group's
+    /// A group of as many passes as the value of its factor, and the place after the group's
     /// `PassEnd`.
     Delayed(u32),
     /// The factor of the delayed group before it: 0 31 000, 0 31 001 or 0 31 002.

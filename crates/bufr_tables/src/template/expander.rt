@@ -1,9 +1,9 @@
 //! The expansion of descriptors, depth first, from left to right.
 //!
 //! Each descriptor that is looked at takes a place, opens a group or a sequence, or is a fault. A
-//! sequence has a member at least, and at most 32 groups and sequences are open together, so that
-//! few are looked at for each place, and 65,535 places are the most: a hostile list is refused
-//! soon, whatever the tables hold. The recursion ends by `room` alone.
+//! sequence has a member at least, and at most 32 groups and sequences are open together. So few
+//! descriptors are looked at for each place, and 65,535 places are the most. A hostile list is
+//! refused soon, whatever the tables hold. The recursion ends by `room` alone.
 ghost use Rattle.std.specs.Prelude.{◌≡◌, ◌≤◌, length, IfOk};
 ghost use Rattle.bufr_tables.specs.Fxy.{x_of};
 ghost use Rattle.bufr_tables.specs.Expansion.{part_of, element_part, operator_part, group_part, fixed_part, delayed_part, sequence_part};
@@ -14,7 +14,7 @@ ghost use Rattle.bufr_tables.specs.Expander.{tables_in, inner_in, list_in, group
 use super::fault::TemplateFault;
 use super::growing::TemplateBuilder;
 use super::passes::Passes;
-use super::shapes::{before, begins_with_element, behind};
+use super::shapes::{before, begins_with_element, suffix};
 use crate::fxy::Fxy;
 use crate::sequences::TableD;
 use crate::table_b::TableB;
@@ -34,7 +34,7 @@ impl Expander<'_> {
         self.table_b.get(fxy).is_some()
     }
 
-    /// Expands a list behind what has grown, with room to open so many groups and sequences more.
+    /// Expands a list after what has grown, with room to open so many groups and sequences more.
     #[cycle(expansion)]
     pub(crate) fn list(
         &self,
@@ -51,12 +51,12 @@ impl Expander<'_> {
         while let Some((fxy, after)) = rest.split_first() {
             let taken = self.part(*fxy, after, width_given, room, growing)?;
             width_given = fxy.gives_width();
-            rest = behind(after, taken);
+            rest = suffix(after, taken);
         }
         Ok(())
     }
 
-    /// Expands one descriptor, and tells how many of those behind it it takes.
+    /// Expands one descriptor, and returns how many of those after it it takes.
     #[cycle(expansion)]
     // rule: descriptor-kinds
     fn part(
@@ -148,7 +148,7 @@ impl Expander<'_> {
         Ok(usize::from(fxy.x()))
     }
 
-    /// A group of as many passes as its factor tells, which stands before the X descriptors.
+    /// A group of as many passes as its factor says, which comes before the X descriptors.
     #[cycle(expansion)]
     // rule: delayed-replication
     fn delayed(
@@ -164,7 +164,7 @@ impl Expander<'_> {
             result (builder_model growing.new) }
         ensures within { IfOk result (λ taken. taken ≤ length after.now) }
     {
-        let Some((factor, behind_factor)) = after.split_first() else {
+        let Some((factor, after_factor)) = after.split_first() else {
             return Err(TemplateFault::NoFactor(fxy));
         };
         if !factor.is_factor() {
@@ -174,7 +174,7 @@ impl Expander<'_> {
             return Err(TemplateFault::UnknownElement(*factor));
         }
         let passes = Passes::Delayed(*factor);
-        self.group_of(fxy, &passes, behind_factor, room, growing)?;
+        self.group_of(fxy, &passes, after_factor, room, growing)?;
         Ok(1 + usize::from(fxy.x()))
     }
 
@@ -211,7 +211,7 @@ impl Expander<'_> {
         growing.close(place, passes)
     }
 
-    /// A sequence: its members stand in its place.
+    /// A sequence: its members are in its place.
     #[cycle(expansion)]
     fn sequence(
         &self,
@@ -236,7 +236,7 @@ impl Expander<'_> {
     }
 }
 
-/// An operator; one that gives a width stands before an element.
+/// An operator; one that gives a width comes before an element.
 // rule: 2-06-y-before-an-element
 fn operator(fxy: Fxy, after: &[Fxy], growing: &mut TemplateBuilder) -> Result<usize, TemplateFault>
     ensures gives { GivesPart (builder_model growing.old)

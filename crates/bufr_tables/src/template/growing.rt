@@ -45,7 +45,7 @@ fn check_places(places: u32, more: u32, fxy: Fxy) -> Result<(), TemplateFault>
     Ok(())
 }
 
-/// Puts a cell behind others.
+/// Puts a cell after others.
 pub(crate) fn push_cell(cells: &mut Vec<Cell>, cell: Cell) -> Result<(), TemplateFault>
     ensures ok { OnOk result (cells.new.items ≡ cells.old.items ++ cell ∷ []) }
     ensures err { IfErr result (λ why. why ≡ TemplateFault.Memory) }
@@ -54,7 +54,7 @@ pub(crate) fn push_cell(cells: &mut Vec<Cell>, cell: Cell) -> Result<(), Templat
     cells.push(cell).map_err(|_| TemplateFault::Memory)
 }
 
-/// Puts the cells between a group's first one and its body behind others.
+/// Puts the cells between a group's first one and its body after others.
 fn push_factor(cells: &mut Vec<Cell>, passes: &Passes) -> Result<(), TemplateFault>
     ensures ok { OnOk result (cells.new.items ≡ cells.old.items ++ factor_cells passes.now) }
     ensures err { IfErr result (λ why. why ≡ TemplateFault.Memory) }
@@ -99,7 +99,7 @@ impl TemplateBuilder {
         self.cells.len() as u32 + self.open_groups + 1
     }
 
-    /// Puts an element behind the cells.
+    /// Puts an element after the cells.
     pub(crate) fn push_element(&mut self, fxy: Fxy) -> Result<(), TemplateFault>
         ensures { GivesGrowth (with_cell (builder_model self.old) fxy (element fxy bare)) result
             (builder_model self.new) }
@@ -110,7 +110,7 @@ impl TemplateBuilder {
         Ok(())
     }
 
-    /// Puts an operator behind the cells.
+    /// Puts an operator after the cells.
     pub(crate) fn push_operator(&mut self, fxy: Fxy) -> Result<(), TemplateFault>
         ensures { GivesGrowth (with_cell (builder_model self.old) fxy (operator fxy bare)) result
             (builder_model self.new) }
@@ -121,7 +121,7 @@ impl TemplateBuilder {
         Ok(())
     }
 
-    /// Begins a group behind the cells, and tells the place of its first cell. What is behind the
+    /// Begins a group after the cells, and returns the place of its first cell. What is after the
     /// group is not known yet.
     pub(crate) fn open(&mut self, fxy: Fxy, passes: &Passes) -> Result<usize, TemplateFault>
         ensures { GivesPlace (builder_model self.old) passes.now fxy result
@@ -138,8 +138,8 @@ impl TemplateBuilder {
         Ok(place)
     }
 
-    /// Ends the innermost group, whose first cell stands at a place, and writes there what is
-    /// behind the group.
+    /// Ends the innermost group, whose first cell is at a place, and writes there what is
+    /// after the group.
     pub(crate) fn close(&mut self, place: usize, passes: &Passes) -> Result<(), TemplateFault>
         requires inside { place < length self.old.cells.items }
         requires around { 0 < self.old.open_groups }

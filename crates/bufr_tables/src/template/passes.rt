@@ -25,7 +25,7 @@ impl Passes {
         }
     }
 
-    /// The group's first cell, where `after` is the place behind its end.
+    /// The group's first cell, where `after` is the place after its end.
     pub(crate) fn first_cell(&self, after: u32) -> Cell
         ensures { result ≡ first_cell self.now after }
     {

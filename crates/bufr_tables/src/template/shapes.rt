@@ -4,8 +4,8 @@ ghost use Rattle.bufr_tables.specs.Expansion.{begins_with_element as element_beg
 
 use crate::fxy::Fxy;
 
-/// The descriptors behind the first so many.
-pub(crate) fn behind(list: &[Fxy], count: usize) -> &[Fxy]
+/// The descriptors after the first so many.
+pub(crate) fn suffix(list: &[Fxy], count: usize) -> &[Fxy]
     requires { count ≤ length list.now }
     ensures { result.now ≡ drop count list.now }
 {

@@ -21,6 +21,6 @@ returns-clause-number c =
     let after = c.read_digits-number.ensures in
     let before : count < length body = omega (arith, whole.count, c.if-count-body.false) in
     let some : 0 < count = omega (arith, c.if-count-eq0.false) in
-    let some_behind : 0 < c.read_digits-number.result.1 = omega (arith, c.if-places-eq0.false) in
+    let some_after : 0 < c.read_digits-number.result.1 = omega (arith, c.if-places-eq0.false) in
     let all : c.read_digits-number.result.1 ≡ length (take (length body - (count + 1)) (drop (count + 1) body)) = omega (arith, after.count, c.if-places-fraction.false) in
-    short_pointed body _ count _ _ _ some before c.if-body-count-ne46.false (rest_is body (count + 1)) some_behind all whole.digits whole.value after.digits after.value
+    short_pointed body _ count _ _ _ some before c.if-body-count-ne46.false (rest_is body (count + 1)) some_after all whole.digits whole.value after.digits after.value

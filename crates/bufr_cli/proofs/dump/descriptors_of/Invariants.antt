@@ -2,6 +2,6 @@ use Rattle.std.proofs.Common.{◌≡◌, ◌++◌}
 use Rattle.bufr_frame.specs.Words.{words_left}
 use Rattle.bufr_cli.proofs.dump.descriptors_of.Given as goal
 
--- the words so far were put behind one another, and the others are left
+-- the words so far were put one after another, and the others are left
 abbrev pub invariant-loop-word : goal.invariant-loop-word
 invariant-loop-word l = l.message.descriptors ≡ l.descriptors.items ++ words_left l.word-iterator

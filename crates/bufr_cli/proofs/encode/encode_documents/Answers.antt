@@ -19,35 +19,35 @@ loop-reader-init g c = record {
 
 pub returns-in_err-verdict-clause-run : goal.returns-in_err-verdict-clause-run
 returns-in_err-verdict-clause-run g c =
-    let tells = rw (c.loop-reader.invariant.table_b, c.loop-reader.invariant.table_d) at c.encode_next.ensures.tells in
+    let reports = rw (c.loop-reader.invariant.table_b, c.loop-reader.invariant.table_d) at c.encode_next.ensures.reports in
     let p = err_from_is_err_and c.from_residual.result c.from_residual.ensures.1 in
     let ran = c.loop-reader.invariant.ran in
     stops _ _ _ _ _ _ _ _ _ _ _ _ _ _ _ _ _ ran (c.next_document-next.ensures.next ran.sound) c.next_document-next.ensures.counts _ _ c.encode_next.result _ c.from_residual.result
-    tells c.in_err-verdict.was (p.1 ∙ ap Err p.2)
+    reports c.in_err-verdict.was (p.1 ∙ ap Err p.2)
 
 pub returns-in_err-verdict-clause-reader : goal.returns-in_err-verdict-clause-reader
 returns-in_err-verdict-clause-reader g c =
-    let tells = rw (c.loop-reader.invariant.table_b, c.loop-reader.invariant.table_d) at c.encode_next.ensures.tells in
+    let reports = rw (c.loop-reader.invariant.table_b, c.loop-reader.invariant.table_d) at c.encode_next.ensures.reports in
     let p = err_from_is_err_and c.from_residual.result c.from_residual.ensures.1 in
     let before = c.loop-reader.invariant in
-    stop-failures _ _ _ _ _ c.next_document-next.result c.encode_next.result _ c.from_residual.result _ _ tells c.in_err-verdict.was (p.1 ∙ ap Err p.2)
+    stop-failures _ _ _ _ _ c.next_document-next.result c.encode_next.result _ c.from_residual.result _ _ reports c.in_err-verdict.was (p.1 ∙ ap Err p.2)
     (c.next_document-next.ensures.failed before.ran.sound ∙ ap (λ n. failures_by n c.next_document-next.result) before.reader)
 
 pub returns-in_err-verdict-clause-reads : goal.returns-in_err-verdict-clause-reads
 returns-in_err-verdict-clause-reads g c =
-    let tells = rw (c.loop-reader.invariant.table_b, c.loop-reader.invariant.table_d) at c.encode_next.ensures.tells in
+    let reports = rw (c.loop-reader.invariant.table_b, c.loop-reader.invariant.table_d) at c.encode_next.ensures.reports in
     let p = err_from_is_err_and c.from_residual.result c.from_residual.ensures.1 in
     let ran = c.loop-reader.invariant.ran in
     reads-made _ _ c.next_document-next.new.self c.from_residual.result (counts-then _ _ _ _ _ _ ran.counts c.next_document-next.ensures.counts)
     (stop-reads _ _ _ c.next_document-next.new.self _ _ _ _ _ c.next_document-next.result c.encode_next.result _ c.from_residual.result (c.next_document-next.ensures.next ran.sound)
-    tells c.in_err-verdict.was (p.1 ∙ ap Err p.2))
+    reports c.in_err-verdict.was (p.1 ∙ ap Err p.2))
 
 pub returns-in_default-clause-run : goal.returns-in_default-clause-run
 returns-in_default-clause-run g c =
-    let tells = rw (c.loop-reader.invariant.table_b, c.loop-reader.invariant.table_d) at c.encode_next.ensures.tells in
+    let reports = rw (c.loop-reader.invariant.table_b, c.loop-reader.invariant.table_d) at c.encode_next.ensures.reports in
     let ran = c.loop-reader.invariant.ran in
     done-last _ _ _ _ _ _ _ _ _ _ _ _ _ _ _ _ _ ran (c.next_document-next.ensures.next ran.sound) c.next_document-next.ensures.counts _ _ c.encode_next.result
-    tells (c.in_ok-verdict.was ∙ ap Ok (none-else c.in_ok-verdict.field-0 c.in_default.not-Some))
+    reports (c.in_ok-verdict.was ∙ ap Ok (none-else c.in_ok-verdict.field-0 c.in_default.not-Some))
 
 pub returns-in_default-clause-reads : goal.returns-in_default-clause-reads
 returns-in_default-clause-reads g c =
@@ -58,10 +58,10 @@ count-requires g c = record { few = ran-few _ _ _ _ _ _ _ _ _ _ _ _ _ c.loop-rea
 
 pub returns-in-Refused-clause-run : goal.returns-in-Refused-clause-run
 returns-in-Refused-clause-run g c =
-    let tells = rw (c.loop-reader.invariant.table_b, c.loop-reader.invariant.table_d) at c.encode_next.ensures.tells in
+    let reports = rw (c.loop-reader.invariant.table_b, c.loop-reader.invariant.table_d) at c.encode_next.ensures.reports in
     let ran = c.loop-reader.invariant.ran in
     done-at-refused _ _ _ _ _ _ _ _ _ _ _ _ _ _ _ _ _ ran (c.next_document-next.ensures.next ran.sound) c.next_document-next.ensures.counts _ _ c.encode_next.result c.in-Some.verdict _
-    tells (c.in_ok-verdict.was ∙ ap Ok c.in-Some.is) c.in-Refused.is c.count.ensures.value
+    reports (c.in_ok-verdict.was ∙ ap Ok c.in-Some.is) c.in-Refused.is c.count.ensures.value
 
 pub returns-in-Refused-clause-reads : goal.returns-in-Refused-clause-reads
 returns-in-Refused-clause-reads g c =
@@ -72,15 +72,15 @@ loop-reader-smaller g c = falls _ _ (2 ^ 63) (ran-few _ _ _ _ _ _ _ _ _ _ _ _ _ 
 
 pub loop-reader-preserved : goal.loop-reader-preserved
 loop-reader-preserved g c =
-    let tells = rw (c.loop-reader.invariant.table_b, c.loop-reader.invariant.table_d) at c.encode_next.ensures.tells in
+    let reports = rw (c.loop-reader.invariant.table_b, c.loop-reader.invariant.table_d) at c.encode_next.ensures.reports in
     let before = c.loop-reader.invariant in
     let is = c.in_ok-verdict.was ∙ ap Ok c.in-Some.is in
     let counts = rw c.in_ok-verdict.was at c.encode_next.ensures.counts in record {
       ran = ran-by-equal _ _ _ _ _ _ _ _ _ _ _ _ _ _ c.encode_next.ensures.reader (turn-on _ _ _ _ _ _ _ _ _ _ _ _ _ _ _ _ _ before.ran (c.next_document-next.ensures.next before.ran.sound) c.next_document-next.ensures.counts _ _ c.encode_next.result c.in-Some.verdict _
-          tells is c.in_default-verdict.not-Refused c.count.ensures.value);
+          reports is c.in_default-verdict.not-Refused c.count.ensures.value);
       table_b = c.encode_next.ensures.table_b ∙ before.table_b;
       table_d = c.encode_next.ensures.table_d ∙ before.table_d;
-      reader = c.next_document-next.ensures.failed before.ran.sound ∙ verdict-keeps _ _ _ _ _ _ c.next_document-next.result c.encode_next.result c.in-Some.verdict tells is ∙ before.reader;
+      reader = c.next_document-next.ensures.failed before.ran.sound ∙ verdict-keeps _ _ _ _ _ _ c.next_document-next.result c.encode_next.result c.in-Some.verdict reports is ∙ before.reader;
       output_flushes = c.encode_next.ensures.output_flushes ∙ before.output_flushes;
       errors_flushes = c.encode_next.ensures.errors_flushes ∙ before.errors_flushes;
       output = (counts.0.0 ∙ before.output.0, counts.0.1 ∙ before.output.1);

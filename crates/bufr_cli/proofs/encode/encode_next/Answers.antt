@@ -4,23 +4,23 @@ use Rattle.bufr_frame.specs.declared.fault.RunFault.{RunFault}
 use Rattle.bufr_text.specs.Documents.{Complete}
 use Rattle.bufr_text.specs.Reader.{parse_results}
 use Rattle.bufr_text.specs.declared.fault.ReadFault.TheVariants.{Run}
-use Rattle.bufr_cli.specs.EncodePieces.{told_piece}
+use Rattle.bufr_cli.specs.EncodePieces.{result_piece}
 use Rattle.bufr_cli.specs.declared.tally.Verdict.{Verdict}
 use Rattle.bufr_cli.proofs.EncodeLemmas.{blames-none, line-cut, line-written, next-stopped, run-ended}
 use Rattle.bufr_cli.proofs.encode.encode_next.Goals as goal
 
-pub returns-in_err-verdict-in-Ok-Some-clause-tells : goal.returns-in_err-verdict-in-Ok-Some-clause-tells
-returns-in_err-verdict-in-Ok-Some-clause-tells g c =
+pub returns-in_err-verdict-in-Ok-Some-clause-reports : goal.returns-in_err-verdict-in-Ok-Some-clause-reports
+returns-in_err-verdict-in-Ok-Some-clause-reports g c =
     let p = err_from_is_err_and c.from_residual.result c.from_residual.ensures.1 in
-    next-stopped _ _ _ _ _ c.args.next _ c.encode_one.result _ c.from_residual.result (c.in-Ok-Some.is ∙ ap Ok c.in-Ok-Some.field-0-is) c.encode_one.ensures.tells c.encode_one.ensures.stops c.in_err-verdict-in-Ok-Some.was (p.1 ∙ ap Err p.2)
+    next-stopped _ _ _ _ _ c.args.next _ c.encode_one.result _ c.from_residual.result (c.in-Ok-Some.is ∙ ap Ok c.in-Ok-Some.field-0-is) c.encode_one.ensures.reports c.encode_one.ensures.stops c.in_err-verdict-in-Ok-Some.was (p.1 ∙ ap Err p.2)
 
-pub returns-in_ok-verdict-in-Ok-Some-clause-tells : goal.returns-in_ok-verdict-in-Ok-Some-clause-tells
-returns-in_ok-verdict-in-Ok-Some-clause-tells g c = (Complete c.in-Ok-Some.document, ap parse_results (c.in-Ok-Some.is ∙ ap Ok c.in-Ok-Some.field-0-is), c.in_ok-verdict-in-Ok-Some.ensures.tells)
+pub returns-in_ok-verdict-in-Ok-Some-clause-reports : goal.returns-in_ok-verdict-in-Ok-Some-clause-reports
+returns-in_ok-verdict-in-Ok-Some-clause-reports g c = (Complete c.in-Ok-Some.document, ap parse_results (c.in-Ok-Some.is ∙ ap Ok c.in-Ok-Some.field-0-is), c.in_ok-verdict-in-Ok-Some.ensures.reports)
 
-pub returns-in-Err-Run-clause-tells : goal.returns-in-Err-Run-clause-tells
-returns-in-Err-Run-clause-tells g c =
+pub returns-in-Err-Run-clause-reports : goal.returns-in-Err-Run-clause-reports
+returns-in-Err-Run-clause-reports g c =
     let is : c.args.next ≡ Err (Run c.in-Err-Run.fault) = search rules in
-    run-ended _ _ (told_piece c.args.form c.args.templates.now.table_b c.args.templates.now.table_d) c.args.next c.in-Err-Run.fault is c.requires
+    run-ended _ _ (result_piece c.args.form c.args.templates.now.table_b c.args.templates.now.table_d) c.args.next c.in-Err-Run.fault is c.requires
 
 pub returns-in-Err-Run-clause-counts : goal.returns-in-Err-Run-clause-counts
 returns-in-Err-Run-clause-counts g c =
@@ -35,7 +35,7 @@ returns-in_err-write_read_fault-in-Err g c =
       reader = search rules;
       table_b = search rules;
       table_d = search rules;
-      tells = line-cut _ _ _ _ _ _ c.args.next c.in-Err.fault c.write_read_fault.result _ c.from_residual-in_err-write_read_fault-in-Err.result c.in-Err.is some c.write_read_fault.ensures.writes
+      reports = line-cut _ _ _ _ _ _ c.args.next c.in-Err.fault c.write_read_fault.result _ c.from_residual-in_err-write_read_fault-in-Err.result c.in-Err.is some c.write_read_fault.ensures.writes
           c.in_err-write_read_fault-in-Err.was (p.1 ∙ ap Err p.2);
       counts = search rules;
       output_flushes = search rules;
@@ -49,7 +49,7 @@ returns-in_ok-write_read_fault-in-Err g c =
       reader = search rules;
       table_b = search rules;
       table_d = search rules;
-      tells = line-written _ _ _ _ _ _ c.args.next c.in-Err.fault c.in-Err.is some c.in_ok-write_read_fault-in-Err.ensures.writes;
+      reports = line-written _ _ _ _ _ _ c.args.next c.in-Err.fault c.in-Err.is some c.in_ok-write_read_fault-in-Err.ensures.writes;
       counts = search rules;
       output_flushes = search rules;
       errors_flushes = search rules;

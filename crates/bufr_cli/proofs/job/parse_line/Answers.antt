@@ -1,14 +1,14 @@
 use Rattle.std.proofs.Common.{rules, ◌≡◌, inr, map, true, Some, refl, subst}
 use Rattle.clap.specs.Words.{App, HasKind, fault_of, found_of, is_simple_and_free, rows_of, subcommand_of}
 use Rattle.bufr_cli.specs.Line.{HasNoJob, bufr_app}
-use Rattle.bufr_cli.proofs.LineLemmas.{told-why, why-no-job}
+use Rattle.bufr_cli.proofs.LineLemmas.{reported-why, why-no-job}
 use Rattle.bufr_cli.proofs.job.parse_line.Goals as goal
 
 pub returns-in-Err-clause-fault : goal.returns-in-Err-clause-fault
 returns-in-Err-clause-fault g c =
     let words = map g.S.AsStr.text c.args.words.now in
     let P : App → Type 0 = λ app. is_simple_and_free app ≡ true → HasKind (fault_of app words) c.in-Err.error in
-    told-why (fault_of bufr_app words) c.in-Err.error (subcommand_of bufr_app words) c.line_fault.result (subst P c.in_ok-command.ensures c.in-Err.ensures.kinds refl) c.line_fault.ensures
+    reported-why (fault_of bufr_app words) c.in-Err.error (subcommand_of bufr_app words) c.line_fault.result (subst P c.in_ok-command.ensures c.in-Err.ensures.kinds refl) c.line_fault.ensures
 
 pub returns-in-Some-clause-fault : goal.returns-in-Some-clause-fault
 returns-in-Some-clause-fault g c =

@@ -3,8 +3,8 @@ use Rattle.bufr_text.proofs.PushLemmas.{all_written}
 use Rattle.bufr_cli.proofs.FaultLineLemmas.{prefix_written}
 use Rattle.bufr_cli.proofs.outcome.finish.Goals as goal
 
-pub returns-clause-front : goal.returns-clause-front
-returns-clause-front g c =
+pub returns-clause-prefix : goal.returns-clause-prefix
+returns-clause-prefix g c =
     let before = c.new-line.ensures in
     prefix_written _ _ c.hand_on.new.self.status
     (all_written tt c.push_last.ensures c.hand_on.ensures.pushes before.status before.held c.hand_on.ensures.none before.taken (search rules) refl)

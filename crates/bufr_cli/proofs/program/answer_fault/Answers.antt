@@ -11,4 +11,4 @@ returns-in-Help g c =
     let Q : List ℕ → Type 0 = λ text. WritesHelp text (writers_of g.W.Sink c.args.w.now g.E.Sink c.args.e.now) (writers_of g.W.Sink c.write_and_flush.new.w g.E.Sink c.finish.new.e) c.finish.result in
     subst P (sym c.in-Help.is)
     (subst Q c.as_bytes.ensures.value
-    (help-in-part c.as_bytes.result.now _ _ c.finish.result c.in-Err.fault c.in-Err.ensures.writes c.in-Err.ensures.counts (c.finish.ensures.front, c.finish.ensures.whole) c.finish.ensures.status))
+    (help-in-part c.as_bytes.result.now _ _ c.finish.result c.in-Err.fault c.in-Err.ensures.writes c.in-Err.ensures.counts (c.finish.ensures.prefix, c.finish.ensures.whole) c.finish.ensures.status))

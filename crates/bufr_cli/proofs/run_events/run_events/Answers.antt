@@ -1,7 +1,7 @@
 use Rattle.std.proofs.Common.{◌≡◌, ◌∙◌, Ok, Err, refl, ap}
 use Rattle.std.proofs.lemmas.Result.{err_from_is_err_and}
 use Rattle.std.proofs.KnownBytes.{Keeps-refl}
-use Rattle.bufr_cli.proofs.RunLemmas.{blames-tell, fails-then, flushed, is-event, ran-fresh, reader-tell, run-reads, run-reads-stop, run-reads-tell, stays-then, stop-flush, stop-next, stop-tell, turn}
+use Rattle.bufr_cli.proofs.RunLemmas.{blames-report, fails-then, flushed, is-event, ran-fresh, reader-report, run-reads, run-reads-stop, run-reads-report, stays-then, stop-flush, stop-next, stop-report, turn}
 use Rattle.bufr_frame.specs.declared.fault.RunFault.TheVariants.{Write}
 use Rattle.bufr_frame.proofs.FindingLemmas.{CountsReads-then}
 use Rattle.bufr_cli.proofs.run_events.run_events.Goals as goal
@@ -31,7 +31,7 @@ loop-finder-preserved g c =
     let some = is-event c.loop-finder.finder c.next.follows.lender-at-none c.in_ok-event.event (rw was at next.ends) c.in_default.not-Done in
     let counts = rw c.in_ok-verdict.was at c.write_event.ensures.counts in record {
       ran = turn (g.T.EventWriter.is_piece c.args.teller.now) _ _ _ _ _ _ _ _ _ _ _ _ _ _ before.ran next _ _ c.in_ok-verdict.verdict _ c.in_ok-event.event was some
-          (λ piece gives. (rw c.in_ok-verdict.was at c.write_event.ensures.tells) piece (before.same piece gives)) c.count.ensures.value c.count.ensures.one;
+          (λ piece gives. (rw c.in_ok-verdict.was at c.write_event.ensures.reports) piece (before.same piece gives)) c.count.ensures.value c.count.ensures.one;
       same = λ piece gives. c.write_event.ensures.same piece (before.same piece gives);
       memory = c.write_event.ensures.memory ∙ before.memory;
       reader = (rw was at c.next.ensures.failed) before.ran.sound ∙ before.reader;
@@ -46,29 +46,29 @@ returns-in_err-verdict-clause-run g c =
     let p = err_from_is_err_and c.from_residual-in_err-verdict.result c.from_residual-in_err-verdict.ensures.1 in
     let next = c.next.follows.holds-at-none in
     let some = is-event c.loop-finder.finder c.next.follows.lender-at-none c.in_ok-event.event (rw c.in_ok-event.was at next.ends) c.in_default.not-Done in
-    stop-tell (g.T.EventWriter.is_piece c.args.teller.now) _ _ _ _ _ _ _ _ _ _ _ _ _ _ c.loop-finder.invariant.ran next _
+    stop-report (g.T.EventWriter.is_piece c.args.teller.now) _ _ _ _ _ _ _ _ _ _ _ _ _ _ c.loop-finder.invariant.ran next _
     (c.write_event.ensures.output_flushes ∙ c.loop-finder.invariant.output_flushes, c.write_event.ensures.errors_flushes ∙ c.loop-finder.invariant.errors_flushes) _ _ c.in_ok-event.event _ c.write_event.result _ c.from_residual-in_err-verdict.result
-    c.in_ok-event.was some (λ piece gives. c.write_event.ensures.tells piece (c.loop-finder.invariant.same piece gives)) (rw c.loop-finder.invariant.memory at c.write_event.ensures.stops) c.in_err-verdict.was (p.1 ∙ ap Err p.2)
+    c.in_ok-event.was some (λ piece gives. c.write_event.ensures.reports piece (c.loop-finder.invariant.same piece gives)) (rw c.loop-finder.invariant.memory at c.write_event.ensures.stops) c.in_err-verdict.was (p.1 ∙ ap Err p.2)
 
 pub returns-in_err-verdict-clause-reader : goal.returns-in_err-verdict-clause-reader
 returns-in_err-verdict-clause-reader g c =
     let p = err_from_is_err_and c.from_residual-in_err-verdict.result c.from_residual-in_err-verdict.ensures.1 in
     let before = c.loop-finder.invariant in
-    reader-tell _ _ c.from_residual-in_err-verdict.result _ _ (rw (c.loop-finder.invariant.memory, c.in_err-verdict.was) at c.write_event.ensures.stops) (p.1 ∙ ap Err p.2)
+    reader-report _ _ c.from_residual-in_err-verdict.result _ _ (rw (c.loop-finder.invariant.memory, c.in_err-verdict.was) at c.write_event.ensures.stops) (p.1 ∙ ap Err p.2)
     ((rw c.in_ok-event.was at c.next.ensures.failed) before.ran.sound ∙ before.reader)
 
 pub returns-in_err-verdict-clause-reads : goal.returns-in_err-verdict-clause-reads
 returns-in_err-verdict-clause-reads g c =
     let p = err_from_is_err_and c.from_residual-in_err-verdict.result c.from_residual-in_err-verdict.ensures.1 in
     let next = c.next.follows.holds-at-none in
-    run-reads-tell _ _ _ c.next.follows.lender-at-none _ c.from_residual-in_err-verdict.result (CountsReads-then _ _ _ _ _ c.loop-finder.invariant.ran.counts next.counts)
+    run-reads-report _ _ _ c.next.follows.lender-at-none _ c.from_residual-in_err-verdict.result (CountsReads-then _ _ _ _ _ c.loop-finder.invariant.ran.counts next.counts)
     (rw (c.loop-finder.invariant.memory, c.in_err-verdict.was) at c.write_event.ensures.stops) (p.1 ∙ ap Err p.2)
 
 pub returns-in_err-verdict-clause-writers : goal.returns-in_err-verdict-clause-writers
 returns-in_err-verdict-clause-writers g c =
     let p = err_from_is_err_and c.from_residual-in_err-verdict.result c.from_residual-in_err-verdict.ensures.1 in
     let before = c.loop-finder.invariant in
-    blames-tell c.write_event.result _ c.from_residual-in_err-verdict.result c.in_err-verdict.was (p.1 ∙ ap Err p.2)
+    blames-report c.write_event.result _ c.from_residual-in_err-verdict.result c.in_err-verdict.was (p.1 ∙ ap Err p.2)
     (stays-then _ _ _ _ _ _ before.output) (fails-then _ _ _ _ _ _ before.output) (stays-then _ _ _ _ _ _ before.errors) (fails-then _ _ _ _ _ _ before.errors) c.write_event.ensures.counts
 
 pub returns-in_err-flush-clause-run : goal.returns-in_err-flush-clause-run

@@ -8,7 +8,7 @@ use Rattle.bufr_fill.specs.Entries.{subsets_of}
 use Rattle.bufr_fill.specs.Fault.{at_line, unequal_factors, uneven_increment}
 use Rattle.bufr_fill.specs.PackedRows.{contents_drawn}
 use Rattle.bufr_fill.proofs.Places.{count_cells}
-use Rattle.bufr_fill.proofs.AcrossSteps.{put_ok, put_unequal, put_uneven, tells_first}
+use Rattle.bufr_fill.proofs.AcrossSteps.{put_ok, put_unequal, put_uneven, answers_first}
 use Rattle.bufr_fill.proofs.packed_out.put_drawn.Goals as goal
 
 pub returns-in-Ok-clause-put : goal.returns-in-Ok-clause-put
@@ -19,7 +19,7 @@ returns-in-Ok-clause-put c =
         contents = contents_drawn (c.args.spec.now.width / 8) c.args.drawn.now;
         item = c.in-Ok.ensures.0;
         is = put_ok c.args.spec.now c.args.place (subsets_of c.args.entries.now) few (contents_drawn (c.args.spec.now.width / 8) c.args.drawn.now) c.in-Ok.ensures.0 c.requires.given c.in-Ok.ensures.1;
-        tells = tells_first c.args.spec.now (c.args.spec.now.width / 8) c.args.drawn.now (drawn.Number 0) c.taken_of.result (omega (arith, c.requires.many, c.requires.some)) c.taken_of.ensures.tells;
+        gives = answers_first c.args.spec.now (c.args.spec.now.width / 8) c.args.drawn.now (drawn.Number 0) c.taken_of.result (omega (arith, c.requires.many, c.requires.some)) c.taken_of.ensures.gives;
         bits = c.in-Ok.ensures.2;
         forth = c.in-Ok.ensures.4;
       };

@@ -1,5 +1,5 @@
-use Rattle.bufr_text.proofs.SpellingLemmas.{text-told}
+use Rattle.bufr_text.proofs.SpellingLemmas.{text-reported}
 use Rattle.bufr_text.proofs.law.lines_are_those_of_the_documents.Goals as goal
 
 pub returns : goal.returns
-returns c = text-told
+returns c = text-reported

@@ -2,7 +2,7 @@ use Rattle.std.proofs.Common.{◌≡◌, ◌+◌, false, refl, ap, take, drop}
 use Rattle.bufr_text.proofs.TakingLemmas.{taking-goes, taking-gives, taking-refuses}
 use Rattle.bufr_text.specs.Reading.{has_no_feed}
 use Rattle.bufr_text.specs.TakingLines.{WantsAt}
-use Rattle.bufr_text.proofs.FeedLemmas.{line-behind, refused-holds}
+use Rattle.bufr_text.proofs.FeedLemmas.{line-after, refused-holds}
 use Rattle.bufr_text.proofs.progress.take_lines.Goals as goal
 
 pub loop-length-preserved : goal.loop-length-preserved
@@ -37,7 +37,7 @@ returns-in-Refuses c = record {
 
 pub returns-in_err-turn-clause-wants : goal.returns-in_err-turn-clause-wants
 returns-in_err-turn-clause-wants c =
-    refused-holds c.from_residual.result (has_no_feed c.args.held.now ≡ false) (line-behind c.args.held.now c.loop-length.from c.in-Some.length (rw c.suffix.ensures at c.in-Some.ensures))
+    refused-holds c.from_residual.result (has_no_feed c.args.held.now ≡ false) (line-after c.args.held.now c.loop-length.from c.in-Some.length (rw c.suffix.ensures at c.in-Some.ensures))
 
 pub returns-in_err-turn-clause-adds : goal.returns-in_err-turn-clause-adds
 returns-in_err-turn-clause-adds c =
@@ -48,7 +48,7 @@ returns-in_err-turn-clause-adds c =
       taking = c.loop-length.invariant;
       line = take c.in-Some.length (drop c.loop-length.from c.args.held.now);
       rest = drop (c.in-Some.length + 1) (drop c.loop-length.from c.args.held.now);
-      stands = feed.2;
+      holds = feed.2;
       single = feed.1;
       adds_to = rw (c.ahead-line.ensures, c.suffix-in-Some.ensures) at c.in_err-turn.ensures.wants;
     })

@@ -11,11 +11,11 @@ number_in-requires-clause-within c =
     let item = c.args.item.now in
     let bits = bits_of (octets_of c.args.bits.now) in
     subst (λ k. item.at + (item.spec.width + 6) + (c.args.subset + 1) * k ≤ 8 * length (octets_of c.args.bits.now)) (sym c.from.ensures)
-    (omega (arith, number_within bits c.args.subsets item c.args.subset c.requires.increment.stands c.requires.increment.some c.requires.increment.below c.requires.number, bits_length (octets_of c.args.bits.now)))
+    (omega (arith, number_within bits c.args.subsets item c.args.subset c.requires.increment.fits c.requires.increment.some c.requires.increment.below c.requires.number, bits_length (octets_of c.args.bits.now)))
 
 pub returns : goal.returns
 returns c =
     let item = c.args.item.now in
     let bits = bits_of (octets_of c.args.bits.now) in
     c.number_in.ensures ∙ ap (λ k. number_from item.spec k (take item.spec.width (drop item.at bits)) (take k (drop (c.args.subset * k) (drop (item.at + (item.spec.width + 6)) bits)))) c.from.ensures
-    ∙ number_content bits c.args.subsets item c.args.subset c.requires.increment.stands c.requires.increment.some c.requires.increment.below c.requires.number
+    ∙ number_content bits c.args.subsets item c.args.subset c.requires.increment.fits c.requires.increment.some c.requires.increment.below c.requires.number

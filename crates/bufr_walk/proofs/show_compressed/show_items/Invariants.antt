@@ -2,7 +2,7 @@ use Rattle.std.proofs.Common.{◌≡◌, true, drop}
 use Rattle.std.specs.List.{list_all}
 use Rattle.bufr_bits.specs.Bits.{bits_of}
 use Rattle.bufr_bits.specs.BitSlice.{octets_of}
-use Rattle.bufr_walk.specs.PackedIn.{stands_at}
+use Rattle.bufr_walk.specs.PackedIn.{fits_at}
 use Rattle.bufr_walk.proofs.PackedCalls.{SoFar}
 use Rattle.bufr_walk.proofs.PackedSubsets.{calls_from}
 use Rattle.bufr_walk.proofs.show_compressed.show_items.Given as goal
@@ -10,4 +10,4 @@ use Rattle.bufr_walk.proofs.show_compressed.show_items.Given as goal
 abbrev pub invariant-items : goal.invariant-items
 invariant-items g l =
     SoFar g.V.Visitor.sees l.fn.visitor (calls_from g.V.Visitor.sees l.table (bits_of (octets_of l.bits)) l.subsets l.kept l.subset 0) l.visitor (calls_from g.V.Visitor.sees l.table (bits_of (octets_of l.bits)) l.subsets l.kept l.subset l.place)
-    × (list_all (stands_at (bits_of (octets_of l.bits)) l.subsets) (drop l.place l.kept) ≡ true)
+    × (list_all (fits_at (bits_of (octets_of l.bits)) l.subsets) (drop l.place l.kept) ≡ true)

@@ -4,4 +4,4 @@ use Rattle.bufr_walk.specs.WalkProgress.{TakesField}
 use Rattle.bufr_walk.proofs.walking.take_element.Goals as goal
 
 pub returns-clause-took : goal.returns-clause-took
-returns-clause-took g c = rw (← c.look_for.ensures) c.take_found_element-told.ensures.took
+returns-clause-took g c = rw (← c.look_for.ensures) c.take_found_element-answer.ensures.took

@@ -6,10 +6,10 @@ use Rattle.bufr_walk.proofs.FlatTurns.{in_range, no_factor, at_cell, turn_elemen
 use Rattle.bufr_walk.proofs.walking.turn.Goals as goal
 
 pub cell_at-requires-clause-inside : goal.cell_at-requires-clause-inside
-cell_at-requires-clause-inside g c = in_range c.args.cells.now c.args.place c.args.stack.now.items c.requires.stands.0 c.requires.stands.1
+cell_at-requires-clause-inside g c = in_range c.args.cells.now c.args.place c.args.stack.now.items c.requires.fits.0 c.requires.fits.1
 
 pub cell_at-requires-in-Delayed-clause-inside : goal.cell_at-requires-in-Delayed-clause-inside
-cell_at-requires-in-Delayed-clause-inside g c = (factor_next g.S.Fields.takes c.args.table.now c.args.cells.now c.args.place c.args.stack.now.items c.requires.stands.0 _ c.in-Delayed.after c.requires.stands.1 (c.cell_at.ensures.value ∙ c.in-Delayed.is)).0
+cell_at-requires-in-Delayed-clause-inside g c = (factor_next g.S.Fields.takes c.args.table.now c.args.cells.now c.args.place c.args.stack.now.items c.requires.fits.0 _ c.in-Delayed.after c.requires.fits.1 (c.cell_at.ensures.value ∙ c.in-Delayed.is)).0
 
 pub returns-in_err-take_element-in-Element-clause-turned : goal.returns-in_err-take_element-in-Element-clause-turned
 returns-in_err-take_element-in-Element-clause-turned g c = λ left st.
@@ -21,10 +21,10 @@ returns-in_ok-take_element-in-Element-clause-turned g c = λ left st.
     turn_element g.S.Fields.takes c.args.table.now c.args.cells.now c.args.place c.args.stack.now.items left _ c.in-Element.fxy _ _ _ _ _ _ _ _ st (c.cell_at.ensures.value ∙ c.in-Element.is) refl c.in_ok-take_element-in-Element.ensures.took c.in_ok-take_element-in-Element.ensures.tick c.in_ok-take_element-in-Element.ensures.kept
 
 pub inserted-spec-requires-clause-legal : goal.inserted-spec-requires-clause-legal
-inserted-spec-requires-clause-legal g c = operator_legal g.S.Fields.takes c.args.table.now c.args.cells.now c.args.place c.args.stack.now.items c.requires.stands.0 _ c.in-Operator.fxy c.requires.stands.1 (c.cell_at.ensures.value ∙ c.in-Operator.is)
+inserted-spec-requires-clause-legal g c = operator_legal g.S.Fields.takes c.args.table.now c.args.cells.now c.args.place c.args.stack.now.items c.requires.fits.0 _ c.in-Operator.fxy c.requires.fits.1 (c.cell_at.ensures.value ∙ c.in-Operator.is)
 
 pub apply-requires : goal.apply-requires
-apply-requires g c = operator_legal g.S.Fields.takes c.args.table.now c.args.cells.now c.args.place c.args.stack.now.items c.requires.stands.0 _ c.in-Operator.fxy c.requires.stands.1 (c.cell_at.ensures.value ∙ c.in-Operator.is)
+apply-requires g c = operator_legal g.S.Fields.takes c.args.table.now c.args.cells.now c.args.place c.args.stack.now.items c.requires.fits.0 _ c.in-Operator.fxy c.requires.fits.1 (c.cell_at.ensures.value ∙ c.in-Operator.is)
 
 pub returns-in_err-take_one-in-Operator-clause-turned : goal.returns-in_err-take_one-in-Operator-clause-turned
 returns-in_err-take_one-in-Operator-clause-turned g c = λ left st.
@@ -45,7 +45,7 @@ returns-in_ok-apply-in-Operator-clause-turned g c = λ left st.
     turn_operator g.S.Fields.takes c.args.table.now c.args.cells.now c.args.place c.args.stack.now.items left _ c.in-Operator.fxy c.args.in_force.now _ _ _ _ st (c.cell_at.ensures.value ∙ c.in-Operator.is) (five_is_not c.in-Operator.fxy _ c.x.ensures.value c.if-x-eq5.false) c.in_ok-apply-in-Operator.ensures.ok c.tick.ensures
 
 pub open_group-requires : goal.open_group-requires
-open_group-requires g c = fixed_room g.S.Fields.takes c.args.table.now c.args.cells.now c.args.place c.args.stack.now.items c.requires.stands.0 _ c.in-Fixed.count c.in-Fixed.after c.requires.stands.1 (c.cell_at.ensures.value ∙ c.in-Fixed.is)
+open_group-requires g c = fixed_room g.S.Fields.takes c.args.table.now c.args.cells.now c.args.place c.args.stack.now.items c.requires.fits.0 _ c.in-Fixed.count c.in-Fixed.after c.requires.fits.1 (c.cell_at.ensures.value ∙ c.in-Fixed.is)
 
 pub returns-in-Fixed-clause-turned : goal.returns-in-Fixed-clause-turned
 returns-in-Fixed-clause-turned g c = λ left st.
@@ -53,32 +53,32 @@ returns-in-Fixed-clause-turned g c = λ left st.
 
 pub unreachable-requires : goal.unreachable-requires
 unreachable-requires g c =
-    let n = factor_next g.S.Fields.takes c.args.table.now c.args.cells.now c.args.place c.args.stack.now.items c.requires.stands.0 _ c.in-Delayed.after c.requires.stands.1 (c.cell_at.ensures.value ∙ c.in-Delayed.is) in
+    let n = factor_next g.S.Fields.takes c.args.table.now c.args.cells.now c.args.place c.args.stack.now.items c.requires.fits.0 _ c.in-Delayed.after c.requires.fits.1 (c.cell_at.ensures.value ∙ c.in-Delayed.is) in
     c.in_default.not-Factor _ (sym c.cell_at-in-Delayed.ensures.value ∙ n.2 c.cell_at-in-Delayed.result)
 
-pub returns-in_err-told-in-Delayed-clause-turned : goal.returns-in_err-told-in-Delayed-clause-turned
-returns-in_err-told-in-Delayed-clause-turned g c = λ left st.
-    let p = err_from_is_err_and c.from_residual-in_err-told-in-Delayed.result c.from_residual-in_err-told-in-Delayed.ensures.1 in
-    rw (p.1, p.2) (fail_delayed g.S.Fields.takes c.args.table.now c.args.cells.now c.args.place c.args.stack.now.items left _ _ c.in-Delayed.after c.in-Factor-cell_at.fxy c.args.in_force.now _ _ _ _ _ _ _ st (c.cell_at.ensures.value ∙ c.in-Delayed.is) (c.cell_at-in-Delayed.ensures.value ∙ c.in-Factor-cell_at.is) refl c.in_err-told-in-Delayed.ensures.took c.tick-in-Delayed.ensures c.in_err-told-in-Delayed.ensures.tick)
+pub returns-in_err-answer-in-Delayed-clause-turned : goal.returns-in_err-answer-in-Delayed-clause-turned
+returns-in_err-answer-in-Delayed-clause-turned g c = λ left st.
+    let p = err_from_is_err_and c.from_residual-in_err-answer-in-Delayed.result c.from_residual-in_err-answer-in-Delayed.ensures.1 in
+    rw (p.1, p.2) (fail_delayed g.S.Fields.takes c.args.table.now c.args.cells.now c.args.place c.args.stack.now.items left _ _ c.in-Delayed.after c.in-Factor-cell_at.fxy c.args.in_force.now _ _ _ _ _ _ _ st (c.cell_at.ensures.value ∙ c.in-Delayed.is) (c.cell_at-in-Delayed.ensures.value ∙ c.in-Factor-cell_at.is) refl c.in_err-answer-in-Delayed.ensures.took c.tick-in-Delayed.ensures c.in_err-answer-in-Delayed.ensures.tick)
 
 pub open_group-requires-in-Count : goal.open_group-requires-in-Count
-open_group-requires-in-Count g c = delayed_room g.S.Fields.takes c.args.table.now c.args.cells.now c.args.place c.args.stack.now.items c.requires.stands.0 _ c.in-Delayed.after c.requires.stands.1 (c.cell_at.ensures.value ∙ c.in-Delayed.is)
+open_group-requires-in-Count g c = delayed_room g.S.Fields.takes c.args.table.now c.args.cells.now c.args.place c.args.stack.now.items c.requires.fits.0 _ c.in-Delayed.after c.requires.fits.1 (c.cell_at.ensures.value ∙ c.in-Delayed.is)
 
 pub returns-in-Count-clause-turned : goal.returns-in-Count-clause-turned
 returns-in-Count-clause-turned g c = λ left st.
-    turn_delayed g.S.Fields.takes c.args.table.now c.args.cells.now c.args.place c.args.stack.now.items left _ _ c.in-Delayed.after c.in-Count.count _ c.in-Factor-cell_at.fxy _ c.args.in_force.now _ _ _ _ _ _ _ c.in_ok-told-in-Delayed.told st (c.cell_at.ensures.value ∙ c.in-Delayed.is) (c.cell_at-in-Delayed.ensures.value ∙ c.in-Factor-cell_at.is) refl c.in_ok-told-in-Delayed.ensures.took c.in-Count.is c.in_ok-told-in-Delayed.ensures.kept (omega (arith, c.open_group-in-Count.ensures.fits)) c.open_group-in-Count.ensures.none c.open_group-in-Count.ensures.some c.tick-in-Delayed.ensures c.in_ok-told-in-Delayed.ensures.tick
+    turn_delayed g.S.Fields.takes c.args.table.now c.args.cells.now c.args.place c.args.stack.now.items left _ _ c.in-Delayed.after c.in-Count.count _ c.in-Factor-cell_at.fxy _ c.args.in_force.now _ _ _ _ _ _ _ c.in_ok-answer-in-Delayed.answer st (c.cell_at.ensures.value ∙ c.in-Delayed.is) (c.cell_at-in-Delayed.ensures.value ∙ c.in-Factor-cell_at.is) refl c.in_ok-answer-in-Delayed.ensures.took c.in-Count.is c.in_ok-answer-in-Delayed.ensures.kept (omega (arith, c.open_group-in-Count.ensures.fits)) c.open_group-in-Count.ensures.none c.open_group-in-Count.ensures.some c.tick-in-Delayed.ensures c.in_ok-answer-in-Delayed.ensures.tick
 
 pub unreachable-requires-in-Factor : goal.unreachable-requires-in-Factor
-unreachable-requires-in-Factor g c = no_factor c.requires.stands.1.0 c.requires.stands.1.1 c.args.place c.in-Factor.field-0 _ (at_cell c.args.cells.now c.args.place c.requires.stands.1.0 c.requires.stands.1.1 _ _ c.requires.stands.1.2.here (c.cell_at.ensures.value ∙ c.in-Factor.is))
+unreachable-requires-in-Factor g c = no_factor c.requires.fits.1.0 c.requires.fits.1.1 c.args.place c.in-Factor.field-0 _ (at_cell c.args.cells.now c.args.place c.requires.fits.1.0 c.requires.fits.1.1 _ _ c.requires.fits.1.2.here (c.cell_at.ensures.value ∙ c.in-Factor.is))
 
 pub open_group-requires-in-Some : goal.open_group-requires-in-Some
 open_group-requires-in-Some g c =
-    let o = pass_end_open g.S.Fields.takes c.args.table.now c.args.cells.now c.args.place c.args.stack.now.items c.requires.stands.0 _ c.requires.stands.1 (c.cell_at.ensures.value ∙ c.in-PassEnd.is) in
+    let o = pass_end_open g.S.Fields.takes c.args.table.now c.args.cells.now c.args.place c.args.stack.now.items c.requires.fits.0 _ c.requires.fits.1 (c.cell_at.ensures.value ∙ c.in-PassEnd.is) in
     omega (arith, o.0, o.1, c.in-Some.ensures.len)
 
 pub unreachable-requires-in-None : goal.unreachable-requires-in-None
 unreachable-requires-in-None g c =
-    let o = pass_end_open g.S.Fields.takes c.args.table.now c.args.cells.now c.args.place c.args.stack.now.items c.requires.stands.0 _ c.requires.stands.1 (c.cell_at.ensures.value ∙ c.in-PassEnd.is) in
+    let o = pass_end_open g.S.Fields.takes c.args.table.now c.args.cells.now c.args.place c.args.stack.now.items c.requires.fits.0 _ c.requires.fits.1 (c.cell_at.ensures.value ∙ c.in-PassEnd.is) in
     false≢true (c.in-None.ensures.variant.1 o.0)
 
 pub returns-in-Some-clause-turned : goal.returns-in-Some-clause-turned

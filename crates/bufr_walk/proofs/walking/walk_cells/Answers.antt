@@ -2,17 +2,17 @@ use Rattle.std.proofs.Common.{arith, ◌∙◌}
 use Rattle.std.proofs.lemmas.Result.{err_from_is_err_and}
 use Rattle.bufr_walk.specs.Turns.{unroll}
 use Rattle.bufr_walk.proofs.WaysLemmas.{came_then}
-use Rattle.bufr_walk.proofs.FlatTurns.{stands_first, led_on, led_out, led_off, laid_length, came_begun}
+use Rattle.bufr_walk.proofs.FlatTurns.{fits_first, led_on, led_out, led_off, flattened_length, came_begun}
 use Rattle.bufr_walk.proofs.walking.walk_cells.Goals as goal
 
 pub turn-requires-clause-within : goal.turn-requires-clause-within
-turn-requires-clause-within g c = let n = laid_length c.args.cells.now c.requires.laid.0 c.requires.laid.1 in omega (arith, n, c.requires.laid.1.within)
+turn-requires-clause-within g c = let n = flattened_length c.args.cells.now c.requires.flattened.0 c.requires.flattened.1 in omega (arith, n, c.requires.flattened.1.within)
 
-pub turn-requires-clause-stands : goal.turn-requires-clause-stands
-turn-requires-clause-stands g c = let i = c.turns.invariant.1 c.requires.laid.0 c.requires.laid.1 in (i.0, i.1)
+pub turn-requires-clause-fits : goal.turn-requires-clause-fits
+turn-requires-clause-fits g c = let i = c.turns.invariant.1 c.requires.flattened.0 c.requires.flattened.1 in (i.0, i.1)
 
 pub turns-init : goal.turns-init
-turns-init g c = (c.requires.same, λ template h. (unroll template, stands_first c.args.cells.now template c.new-stack.result.items h c.new-stack.ensures, came_begun g.S.Fields.takes c.args.table.now c.args.cells.now template _ _ _ c.new-in_force.ensures))
+turns-init g c = (c.requires.same, λ template h. (unroll template, fits_first c.args.cells.now template c.new-stack.result.items h c.new-stack.ensures, came_begun g.S.Fields.takes c.args.table.now c.args.cells.now template _ _ _ c.new-in_force.ensures))
 
 pub turns-preserved : goal.turns-preserved
 turns-preserved g c = (
@@ -25,7 +25,7 @@ turns-preserved g c = (
 
 pub turns-smaller : goal.turns-smaller
 turns-smaller g c =
-    let i = c.turns.invariant.1 c.requires.laid.0 c.requires.laid.1 in
+    let i = c.turns.invariant.1 c.requires.flattened.0 c.requires.flattened.1 in
     let t = led_on g.S.Fields.takes c.args.table.now c.args.cells.now i.0 _ _ _ _ _ c.in_ok-next.field-0 c.in-Some.next _ c.turn.new.in_force _ _ c.in-Some.is (c.in_ok-next.ensures.turned i.0 i.1) in
     t.3
 

@@ -4,7 +4,7 @@ use Rattle.bufr_frame.specs.FinderCalls.{StopsFinder, GrowsOnlyIfFull, RaisesLon
 use Rattle.bufr_frame.specs.declared.search.Candidate.{Candidate}
 use Rattle.bufr_frame.specs.Runs.{max_reads}
 use Rattle.bufr_frame.specs.declared.fault.RunFault.{RunFault}
-use Rattle.bufr_frame.proofs.AdvanceLemmas.{stopped-told, sound-unless, counts-none, counts-same, counts-read, reads-grow, passed-from, stop-open, turn-on, raised-on, stop-read, stops-read, wants-read, waits-by, waits-open}
+use Rattle.bufr_frame.proofs.AdvanceLemmas.{stopped-reported, sound-unless, counts-none, counts-same, counts-read, reads-grow, passed-from, stop-open, turn-on, raised-on, stop-read, stops-read, wants-read, waits-by, waits-open}
 use Rattle.bufr_frame.proofs.LongestLemmas.{found-sees}
 use Rattle.bufr_frame.proofs.EachReadLemmas.{none-waited, waits-still, waits-read}
 use Rattle.bufr_frame.proofs.FindingLemmas.{step-none, still-open, pass-step}
@@ -12,7 +12,7 @@ use Rattle.bufr_frame.proofs.finder.Finder.advance.Goals as goal
 
 pub returns-in-Stopped-clause-steps : goal.returns-in-Stopped-clause-steps
 returns-in-Stopped-clause-steps g c =
-    ([], step-none _ c.args.self.now, λ sound. absurd (stopped-told c.self.inside.phase c.in-Stopped.fault c.in-Stopped.is (ap (λ s. s.fault) c.self.view_is ∙ sound)), none-waited c.args.self.now)
+    ([], step-none _ c.args.self.now, λ sound. absurd (stopped-reported c.self.inside.phase c.in-Stopped.fault c.in-Stopped.is (ap (λ s. s.fault) c.self.view_is ∙ sound)), none-waited c.args.self.now)
 
 pub loop-found-init : goal.loop-found-init
 loop-found-init g c = record {

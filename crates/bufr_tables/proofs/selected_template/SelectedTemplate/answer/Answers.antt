@@ -11,7 +11,7 @@ returns c =
     let fine = answer_fine (tables_of inside.table_b.now inside.table_d.now) kept.descriptors.items kept.answer is.is_defined in
     rw (sym c.self.view_is) (record {
       answer = is.is_defined;
-      told = is.told;
+      reported = is.reported;
       leaves = fine.says;
       known = of_fine (λ tree f. f.is_known) kept.answer fine.fine;
       sound = of_fine (λ tree f. f.sound) kept.answer fine.fine;

@@ -36,13 +36,13 @@ pub returns-clause-known : goal.returns-clause-known
 returns-clause-known c = (tree_fine (tables_of c.args.table_b.now c.args.table_d.now) c.args.descriptors.now (trees_of_cells c.push_cell.new.cells.items) (built c).is_defined).is_known
 
 pub returns-clause-sound : goal.returns-clause-sound
-returns-clause-sound c = (built c).is_kept.is_laid.sound
+returns-clause-sound c = (built c).is_kept.is_flattened.sound
 
 pub returns-clause-legal : goal.returns-clause-legal
-returns-clause-legal c = (built c).is_kept.is_laid.legal
+returns-clause-legal c = (built c).is_kept.is_flattened.legal
 
 pub returns-clause-within : goal.returns-clause-within
-returns-clause-within c = (built c).is_kept.is_laid.within
+returns-clause-within c = (built c).is_kept.is_flattened.within
 
 pub returns-clause-shallow : goal.returns-clause-shallow
-returns-clause-shallow c = (built c).is_kept.is_laid.shallow
+returns-clause-shallow c = (built c).is_kept.is_flattened.shallow

@@ -8,7 +8,7 @@ use Rattle.bufr_text.specs.Filling.{FillsBuffer, stopped}
 use Rattle.bufr_text.specs.declared.fault.ReadFault.{ReadFault}
 use Rattle.bufr_text.specs.declared.fault.ReadFault.TheVariants as fault
 use Rattle.bufr_text.proofs.ReadingLemmas.{Reads}
-use Rattle.bufr_text.proofs.ReaderLemmas.{place-sound, reads-place, long-tells}
+use Rattle.bufr_text.proofs.ReaderLemmas.{place-sound, reads-place, long-reports}
 use Rattle.bufr_text.proofs.dump_reader.DumpReader.fill.Goals as goal
 
 pub returns-then-self-gt-MAX_LINE-clause-read : goal.returns-then-self-gt-MAX_LINE-clause-read
@@ -20,8 +20,8 @@ returns-then-self-gt-MAX_LINE-clause-read g c =
     let place = ap (λ s. s.place) (sym c.self.view_is) ∙ place-sound v.fault v.progress sound in
     let R : ParserState → Type 0 = λ p. Reads p in
     let long : 4096 < length s.held = omega (arith, c.if-self-gt-MAX_LINE.true, part-length v.buffer.items v.start v.filled (omega (arith, c.self.invariant, v.buffer.ok.0)), ap (λ s. length s.held) c.self.view_is) in
-    let tells = long-tells s (subst R (sym place) (reads-place v.progress.place v.progress.parts)) c.requires.none long in
+    let reports = long-reports s (subst R (sym place) (reads-place v.progress.place v.progress.parts)) c.requires.none long in
     let F : ReadFault → Type 0 = λ f. FillsBuffer left left s c.stop.new.self (Err f) [] in
     let N : ReaderModel → Type 0 = λ n. FillsBuffer left left s n (Err (fault.Line v.progress.at)) [] in
     let K : ℕ → Type 0 = λ k. FillsBuffer left left s (stopped s (fault.Line k)) (Err (fault.Line k)) [] in
-    ([], subst F (sym c.stop.ensures.value) (subst N (sym c.stop.ensures.new) (subst K (ap (λ s. s.at) (sym c.self.view_is)) (Consumes-nil left, refl, tells, refl, refl, refl))))
+    ([], subst F (sym c.stop.ensures.value) (subst N (sym c.stop.ensures.new) (subst K (ap (λ s. s.at) (sym c.self.view_is)) (Consumes-nil left, refl, reports, refl, refl, refl))))

@@ -4,8 +4,8 @@ use Rattle.bufr_frame.specs.Runs.{max_reads}
 use Rattle.bufr_text.specs.Reader.{ReadsLines, ReadsOnlyIfNoLine, CountsTextReads}
 use Rattle.bufr_text.proofs.dump_reader.DumpReader.next_document.Given as goal
 
--- what was done so far in this call: octets were read and tell nothing yet, each time that no line
--- was held
+-- what was done so far in this call: octets were read and report nothing yet, each time that no
+-- line was held
 abbrev pub invariant-loop-document : goal.invariant-loop-document
 invariant-loop-document g l = record {
   octets : List ℕ;

@@ -8,7 +8,7 @@ use Rattle.bufr_text.specs.Filling.{place_now, ParsesHeldLines, WantsHere, Takes
 use Rattle.bufr_text.specs.Reading.{has_no_feed, TakesEndLine}
 use Rattle.bufr_text.specs.Step.{place_with}
 use Rattle.bufr_text.specs.declared.progress.TakeResult.TheVariants as taken
-use Rattle.bufr_text.proofs.ReaderLemmas.{state, place-sound, wants-here, takes-tells, takes-end, rest-clean, taken-within, taken-ends, progress-more, progress-between, refuses-went}
+use Rattle.bufr_text.proofs.ReaderLemmas.{state, place-sound, wants-here, takes-reports, takes-end, rest-clean, taken-within, taken-ends, progress-more, progress-between, refuses-went}
 use Rattle.bufr_text.proofs.dump_reader.DumpReader.take_held.Goals as goal
 
 pub invariant_of-self-in-More : goal.invariant_of-self-in-More
@@ -65,7 +65,7 @@ returns-in-More-clause-went c =
     let sound = ap (λ s. s.fault) c.self.view_is ∙ c.requires.sound in
     let inside : v.filled ≤ length v.buffer.items = omega (arith, c.self.invariant, v.buffer.ok.0) in
     let P : ReaderModel → Type 0 = λ s. ParsesHeldLines s (state n.at (place_now v.fault n) (slice_range v.buffer.items (v.start + c.in-Ok.len) v.filled) v.ended v.fault v.reads) [] in (
-      subst P c.self.view_is (takes-tells v.progress n v.fault v.fault v.buffer.items _ v.start v.filled c.in-Ok.len v.ended v.reads taken.More (place_now v.fault n) takes sound is inside (place-sound v.fault n sound)),
+      subst P c.self.view_is (takes-reports v.progress n v.fault v.fault v.buffer.items _ v.start v.filled c.in-Ok.len v.ended v.reads taken.More (place_now v.fault n) takes sound is inside (place-sound v.fault n sound)),
       sound,
       rest-clean v.progress n v.buffer.items _ v.start v.filled c.in-Ok.len takes is inside,
     )
@@ -86,7 +86,7 @@ returns-in-Gives-clause-went c =
     let E : ReaderModel → Type 0 = λ s. TakesEndLine s.at s.held d.at held in
     let F : ℕ → Type 0 = λ k. TakesEndLine v.progress.at (slice_range v.buffer.items v.start v.filled) k held in
     let between = place-sound v.fault d sound ∙ ap (λ p. place_with p d.parts) c.take_parts-parts.ensures.place in (
-      subst P c.self.view_is (subst A (sym c.take_parts-parts.ensures.at) (subst D (sym (c.whole.ensures ∙ c.take_parts-parts.ensures.parts)) (takes-tells v.progress n v.fault v.fault v.buffer.items _ v.start v.filled c.in-Ok.len v.ended v.reads taken.Gives (place_now v.fault d) takes sound is inside between))),
+      subst P c.self.view_is (subst A (sym c.take_parts-parts.ensures.at) (subst D (sym (c.whole.ensures ∙ c.take_parts-parts.ensures.parts)) (takes-reports v.progress n v.fault v.fault v.buffer.items _ v.start v.filled c.in-Ok.len v.ended v.reads taken.Gives (place_now v.fault d) takes sound is inside between))),
       sound,
       subst E c.self.view_is (subst F (sym c.take_parts-parts.ensures.at) (takes-end v.progress n v.buffer.items _ v.start v.filled c.in-Ok.len takes is inside)),
     )
@@ -103,7 +103,7 @@ returns-in-Refuses-clause-went c =
     let old = state v.progress.at (place_now v.fault v.progress) (slice_range v.buffer.items v.start v.filled) v.ended v.fault v.reads in
     let f = c.at-fault.result in
     let W : ReaderModel → Type 0 = λ s. TakesHeldLines s (state n.at (place_now (Some f) n) held v.ended (Some f) v.reads) (Err f) in
-    subst W c.self.view_is (refuses-went old n.at c.in-Refuses.line n held v.ended v.reads c.in-Refuses.refusal f c.at-fault.ensures (λ g. takes-tells v.progress n v.fault g v.buffer.items _ v.start v.filled c.in-Ok.len v.ended v.reads (taken.Refuses c.in-Refuses.line c.in-Refuses.refusal) documents.Stopped takes sound is inside refl))
+    subst W c.self.view_is (refuses-went old n.at c.in-Refuses.line n held v.ended v.reads c.in-Refuses.refusal f c.at-fault.ensures (λ g. takes-reports v.progress n v.fault g v.buffer.items _ v.start v.filled c.in-Ok.len v.ended v.reads (taken.Refuses c.in-Refuses.line c.in-Refuses.refusal) documents.Stopped takes sound is inside refl))
 
 pub returns-in_default-clause-went : goal.returns-in_default-clause-went
 returns-in_default-clause-went c =
@@ -116,4 +116,4 @@ returns-in_default-clause-went c =
 pub returns-in-Gives-clause-proper : goal.returns-in-Gives-clause-proper
 returns-in-Gives-clause-proper c =
     let takes = rw c.in-Gives.is at c.in-Ok.ensures.takes in
-    subst (λ (d : spec.Document). IsProper d) (sym (c.whole.ensures ∙ c.take_parts-parts.ensures.parts)) takes.stands.0
+    subst (λ (d : spec.Document). IsProper d) (sym (c.whole.ensures ∙ c.take_parts-parts.ensures.parts)) takes.holds.0

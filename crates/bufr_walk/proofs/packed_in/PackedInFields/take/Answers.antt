@@ -28,6 +28,6 @@ returns-clause-step c =
     let bits = bits_of (octets_of c.self.inside.bits) in
     let entry : IndexedItem = record { spec = c.args.spec.now; at = c.self.inside.at; base = c.in_ok-seen.seen.base; step = c.in_ok-seen.seen.step } in
     let more : c.keep.new.self ≡ c.self.inside.kept ++ entry ∷ [] = c.in_ok-place.ensures.kept ∙ ap (λ x. c.self.inside.kept ++ x ∷ []) c.new-item.ensures in
-    subst (λ s. IsPackedTaken s c.args.spec.now c.in_ok-seen.seen.told (packed_view bits c.in_ok-seen.seen.end c.self.inside.subsets c.keep.new.self)) c.self.view_is
+    subst (λ s. IsPackedTaken s c.args.spec.now c.in_ok-seen.seen.answer (packed_view bits c.in_ok-seen.seen.end c.self.inside.subsets c.keep.new.self)) c.self.view_is
     (takes_one bits c.self.inside.at c.self.inside.subsets c.self.inside.kept c.keep.new.self entry c.in_ok-seen.seen refl
     (subst (λ s. IsLooked s c.args.spec.now c.in_ok-seen.seen) (sym c.self.view_is) c.in_ok-seen.ensures.seen) more)

@@ -9,4 +9,4 @@ returns-clause-few g c = few_items c.args.self.now c.self.inside.kept (subst (λ
 
 pub returns-clause-bounded : goal.returns-clause-bounded
 returns-clause-bounded g c =
-    steps_within g.V.Visitor.sees c.args.self.now c.self.inside.kept c.args.visitor.now c.show_kept.new.visitor c.show_kept.result c.show_kept.new.steps (subst (λ r. IsSound r.template) c.self.view_is c.cells.ensures.laid.sound) (subst (λ r. IsStoredReading r c.self.inside.kept) c.self.view_is c.self.invariant) c.show_kept.ensures.shown
+    steps_within g.V.Visitor.sees c.args.self.now c.self.inside.kept c.args.visitor.now c.show_kept.new.visitor c.show_kept.result c.show_kept.new.steps (subst (λ r. IsSound r.template) c.self.view_is c.cells.ensures.flattened.sound) (subst (λ r. IsStoredReading r c.self.inside.kept) c.self.view_is c.self.invariant) c.show_kept.ensures.shown

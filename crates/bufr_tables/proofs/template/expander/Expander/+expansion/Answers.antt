@@ -14,7 +14,7 @@ list-loop-fxy-init t c = came_none _ _ _ _ c.args.growing.now.around
 pub list-loop-fxy-preserved : goal.list-loop-fxy-preserved
 list-loop-fxy-preserved t c =
     let came = subst (λ (l : List ℕ). Came (tables_in c.args.self.now) (inner_of (tables_in c.args.self.now) c.args.room) c.args.list.now (builder_model c.args.growing.now) c.loop-fxy.width_given l (builder_model c.loop-fxy.growing)) c.in-Some.ensures.cases.0 c.loop-fxy.invariant in
-    rw (c.gives_width-width_given.ensures, c.behind-rest.ensures) (came_part _ _ _ _ _ _ _ _ _ _ came c.in_ok-taken.ensures.gives)
+    rw (c.gives_width-width_given.ensures, c.suffix-rest.ensures) (came_part _ _ _ _ _ _ _ _ _ _ came c.in_ok-taken.ensures.gives)
 
 pub list-returns : goal.list-returns
 list-returns t c = came_end _ _ _ _ _ _ _ c.in_default.ensures.cases c.loop-fxy.invariant

@@ -13,8 +13,8 @@ use Rattle.bufr_cli.specs.Pieces.{Piece}
 use Rattle.bufr_cli.specs.WritingPieces.{LeavesPieces}
 use Rattle.bufr_cli.specs.declared.tally.Verdict.{Verdict}
 
--- the piece of what the reader told was written and counted, or a front of it; at the end of the
--- text there is none
+-- the piece of what the reader reported was written and counted, or a prefix of it; at the end of
+-- the text there is none
 abbrev pub LeavesNext : (output output' errors errors' : Option (List ℕ)) → (ParseResult → Piece)
     → Result (Option Document) ReadFault → Result (Option Verdict) RunFault → Type 0
 LeavesNext output output' errors errors' piece next (Ok None) =
@@ -35,8 +35,8 @@ LeavesNext output output' errors errors' piece next (Err Memory) =
     × LeavesPieces output output' errors errors' (piece x ∷ []) (Err Memory))
 
 -- the same of two writers
-abbrev pub TellsNext : (before after : Writers) → (ParseResult → Piece)
+abbrev pub ReportsNext : (before after : Writers) → (ParseResult → Piece)
     → Result (Option Document) ReadFault → Result (Option Verdict) RunFault → Type 0
-TellsNext before after piece next result =
+ReportsNext before after piece next result =
     LeavesNext before.output.taken after.output.taken before.errors.taken after.errors.taken
     piece next result

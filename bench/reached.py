@@ -1,0 +1,158 @@
+#!/usr/bin/env python3
+"""Prints what one has to believe of `run`: each definition that its contract reaches, in reading order.
+
+    bench/reached.py [--text] [CALL]        CALL is a public function of bufr_cli, `run` by default
+
+A line is FILE:LINE NAME and how many lines the definition has, its comment among them. With --text it is the definitions
+themselves. The last line counts definitions, lines and files. A definition stands before those that it uses. A name of
+std, or of another crate of the kit, is not followed.
+"""
+import pathlib
+import re
+import sys
+
+TOP = pathlib.Path(__file__).resolve().parent.parent
+HEAD = re.compile(r"^ {0,2}(?:abbrev |unfoldable |rec )*(?:pub )?(?:record |data )?([^\s:(){}]+) *(?:\([^:]*|\{[^:]*)?:(?: |$)")
+USE = re.compile(r"^use Rattle\.(bufr_\w+)\.specs\.([\w.]+?)(?:\.\{([^}]*)\}| as ([\w-]+))$")
+GHOST = re.compile(r"ghost use Rattle\.(bufr_\w+)\.specs\.([\w.]+?)(?:\.\{([^}]*)\}| as ([\w-]+));")
+TOKEN = re.compile(r"[^\s()\[\]{};,.:]+")
+
+
+class Item:
+    """A definition or a declared type: its file, its name, its lines, and what it may name."""
+
+    def __init__(self, path, line, name, lines, scope):
+        self.path, self.line, self.name, self.lines, self.scope = path, line, name, lines, scope
+
+    def uses(self):
+        """The items that its text names, in the order of the text, comments left out."""
+        text = "\n".join(one for one in self.lines if not re.match(r"\s*(?:--|//)", one))
+        for token in TOKEN.findall(text):
+            if token in self.scope and token != self.name:
+                yield self.scope[token]
+
+
+def read(path):
+    return path.read_text(encoding="utf-8").split("\n")
+
+
+def comment_before(lines, at):
+    """Where the comment above a line begins."""
+    while at and re.match(r"\s*(?:--|//)", lines[at - 1]):
+        at -= 1
+    return at
+
+
+class House:
+    """The files that were read so far, by path."""
+
+    def __init__(self):
+        self.files = {}
+
+    def specs(self, path):
+        """The definitions of a file of specs/, by name."""
+        if path in self.files:
+            return self.files[path]
+        items = self.files[path] = {}
+        lines, scope, heads = read(path), {}, []
+        in_module = False
+        for at, line in enumerate(lines):
+            if line[:1].strip():
+                in_module = line.startswith("module ")
+            found = HEAD.match(line)
+            if found and (in_module or line[0] != " ") and not line.startswith(("use ", "--", "module ")) and "=" not in line.split(":")[0]:
+                heads.append((comment_before(lines, at), at, found[1]))
+        for (begin, at, name), after in zip(heads, [head[0] for head in heads[1:]] + [len(lines)]):
+            if name in items:
+                items[name].lines += lines[begin:after]
+                continue
+            items[name] = Item(path, at + 1, name, [one for one in lines[begin:after] if one.strip()], scope)
+        scope.update(self.imported([USE.match(line) for line in lines]))
+        scope.update(items)
+        return items
+
+    def imported(self, uses):
+        """What lines `use` bring into scope."""
+        scope = {}
+        for use in uses:
+            if not use:
+                continue
+            crate, module, names, alias = use.groups()
+            for name in re.split(r",\s*", names) if names else [module.rpartition(".")[2]]:
+                found = self.find(crate, module, name)
+                if found:
+                    scope[name] = found
+            if alias:
+                scope[alias] = scope.get(module.rpartition(".")[2])
+        return {name: item for name, item in scope.items() if item}
+
+    def find(self, crate, module, name):
+        """The definition or type of a module of specs, if it has one of this name."""
+        declared = re.match(r"declared\.([\w.]+?)(?:\.TheVariants)?$", module)
+        if declared:
+            return self.declared(crate, declared[1].split("."))
+        path = TOP / "crates" / crate / "specs" / (module.replace(".", "/") + ".antt")
+        return self.specs(path).get(name) if path.is_file() else None
+
+    def declared(self, crate, parts):
+        """A struct, enum or trait of src/, with the value by which clauses speak of it."""
+        path = TOP / "crates" / crate / "src" / ("/".join(parts[:-1]) + ".rt")
+        key = (path, parts[-1])
+        if key in self.files or not path.is_file():
+            return self.files.get(key)
+        lines = read(path)
+        at = next((n for n, one in enumerate(lines) if re.match(rf"pub(?:\(crate\))? (?:struct|enum|trait) {parts[-1]}\b", one)), None)
+        if at is None:
+            return None
+        begin = at
+        while begin and re.match(r"(?://|#\[)", lines[begin - 1]):
+            begin -= 1
+        end = next(n for n in range(at, len(lines)) if re.search(r"^\}|;$", lines[n])) + 1
+        scope = {}
+        item = self.files[key] = Item(path, at + 1, parts[-1], lines[begin:end], scope)
+        model = next((n for n, one in enumerate(lines) if re.match(rf"impl.* Model for {parts[-1]}\b", one)), None)
+        if model is not None:
+            item.lines = item.lines + lines[model : lines.index("}", model) + 1]
+        scope.update(self.imported(GHOST.match(one.strip()) for one in item.lines))
+        return item
+
+
+def contract(call):
+    """The clauses of a function of bufr_cli, as an item."""
+    for path in sorted((TOP / "crates/bufr_cli/src").glob("*.rt")):
+        lines = read(path)
+        at = next((n for n, one in enumerate(lines) if re.match(rf"pub fn {call}\b", one)), None)
+        if at is None:
+            continue
+        end = next(n for n in range(at, len(lines)) if lines[n] == "{" or lines[n].endswith("{}"))
+        house = House()
+        scope = house.imported(GHOST.match(one) for one in lines if one.startswith("ghost use"))
+        return Item(path, at + 1, call, lines[comment_before(lines, at) : end], scope)
+    sys.exit(f"{sys.argv[0]}: bufr_cli has no public function {call}")
+
+
+def reach(item, seen):
+    """Items in the order in which a reader meets them."""
+    if item in seen:
+        return
+    seen.append(item)
+    for used in item.uses():
+        reach(used, seen)
+
+
+def main():
+    words = [word for word in sys.argv[1:] if word != "--text"]
+    seen = []
+    sys.setrecursionlimit(10_000)
+    reach(contract(words[0] if words else "run"), seen)
+    for item in seen:
+        if "--text" in sys.argv:
+            print("\n".join(item.lines), end="\n\n")
+        else:
+            print(f"{item.path.relative_to(TOP)}:{item.line} {item.name} {len(item.lines)}")
+    files = {item.path for item in seen}
+    print(f"{len(seen)} definitions, {sum(len(item.lines) for item in seen)} lines, {len(files)} files")
+
+
+if __name__ == "__main__":
+    main()

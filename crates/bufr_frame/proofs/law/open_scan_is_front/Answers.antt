@@ -1,5 +1,0 @@
-use Rattle.bufr_frame.proofs.LookLemmas.{open-front}
-use Rattle.bufr_frame.proofs.law.open_scan_is_front.Goals as goal
-
-pub returns : goal.returns
-returns c = open-front

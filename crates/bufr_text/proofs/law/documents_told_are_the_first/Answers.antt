@@ -1,5 +1,0 @@
-use Rattle.bufr_text.proofs.NextLemmas.{told-first}
-use Rattle.bufr_text.proofs.law.documents_told_are_the_first.Goals as goal
-
-pub returns : goal.returns
-returns c = told-first

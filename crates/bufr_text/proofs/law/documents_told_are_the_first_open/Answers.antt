@@ -1,5 +1,0 @@
-use Rattle.bufr_text.proofs.NextLemmas.{told-first-openly}
-use Rattle.bufr_text.proofs.law.documents_told_are_the_first_open.Goals as goal
-
-pub returns : goal.returns
-returns c = told-first-openly

@@ -1,5 +1,0 @@
-use Rattle.bufr_text.proofs.OpenLemmas.{open-front}
-use Rattle.bufr_text.proofs.law.open_documents_are_front.Goals as goal
-
-pub returns : goal.returns
-returns c = open-front

@@ -1,5 +1,0 @@
-use Rattle.bufr_walk.proofs.PackedContents.{told_base}
-use Rattle.bufr_walk.proofs.packed_in.item_told_at.Goals as goal
-
-pub returns-then-k-eq0-clause-told : goal.returns-then-k-eq0-clause-told
-returns-then-k-eq0-clause-told c = told_base c.args.spec.now c.args.k c.args.subsets _ _ _ c.if-k-eq0.true c.requires.subsets c.answer_at.ensures.value
