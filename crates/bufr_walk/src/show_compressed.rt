@@ -179,8 +179,8 @@ fn text_span(data: &PackedData<'_>, item: &IndexedItem, subset: u16) -> TextSpan
     ensures within { result.place + 8 * result.octets ≤ 8 * length (octets_of data.now.bits) }
     ensures few { result.octets ≤ item.now.spec.width / 8 }
     ensures text { text_at (bits_of (octets_of data.now.bits)) (item.now.spec.width / 8)
-        result.place result.octets ≡ content_kept (bits_of (octets_of data.now.bits)) data.now.subsets item.now
-        subset }
+        result.place result.octets
+        ≡ content_kept (bits_of (octets_of data.now.bits)) data.now.subsets item.now subset }
 {
     TextSpan {
         place: text_place(&data.bits, item, subset),
