@@ -9,7 +9,7 @@ use crate::fault::{ShowFault, WalkFault};
 use crate::item_index::ItemIndex;
 use crate::read_packed::read_packed;
 use crate::read_plain::read_plain;
-use crate::show_compressed::show_packed;
+use crate::show_compressed::{PackedData, show_packed};
 use crate::show_plain::show_plain;
 use crate::spec_cache::SpecCache;
 use crate::steps::Steps;
@@ -221,7 +221,12 @@ impl<'a> Reading<'a> {
                 steps,
             ),
             StoredItems::Together(items) => {
-                show_packed(&self.bits, self.subsets, self.table, items, visitor)
+                let data = PackedData {
+                    bits: self.bits,
+                    subsets: self.subsets,
+                    table: self.table,
+                };
+                show_packed(&data, items, visitor)
             }
         }
     }
