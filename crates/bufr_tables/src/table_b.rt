@@ -23,8 +23,8 @@ use std::marker::Model;
 /// The fields of the header.
 const HEADER: [&[u8]; 6] = [b"fxy", b"name", b"unit", b"scale", b"reference", b"width"];
 
-/// An element as the table keeps it. The octets of its comment, `  # NAME [UNIT]` and a line feed,
-/// go from `start` to `end`, and those of its name end at `middle`.
+/// An element as the table keeps it. Its comment, `  # NAME [UNIT]` and a line feed, goes from
+/// `start` to `end`. Its name ends at `middle`.
 #[derive(Clone, Copy)]
 struct Stored {
     fxy: Fxy,
