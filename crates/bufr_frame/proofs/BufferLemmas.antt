@@ -3,7 +3,6 @@ use Rattle.std.proofs.Common.{◌≡◌, ℕ, ◌+◌, ◌-◌, ◌≤◌, List,
 use Rattle.std.specs.Prelude.{slice_range}
 use Rattle.std.specs.Io.KnownBytes.{Consumes, IsAtEnd}
 use Rattle.std.proofs.lemmas.List.{drop-take, take_at, drop-append-le}
-use Rattle.std.proofs.lemmas.Grind.{common_steps}
 use Rattle.std.proofs.Math.Seq.{take-add}
 use Rattle.bufr_frame.specs.Input.{ReadsOnce}
 use Rattle.bufr_frame.proofs.ScanLemmas.{drop-twice}
@@ -14,19 +13,6 @@ part-prefix s a b order =
     let e : a + (b - a) ≡ b = omega arith in
     sym (drop-take a (b - a) s) ∙ ap (λ n. drop a (take n s)) e
 
-pub part-longer : (s : List ℕ) (a b n : ℕ) → a ≤ b → slice_range s a (b + n) ≡ slice_range s a b ++ take n (drop b s)
-part-longer s a b n order =
-    let e : b + n - a ≡ b - a + n = omega arith in
-    let d : a + (b - a) ≡ b = omega arith in
-    ap (λ k. take k (drop a s)) e ∙ take-add (b - a) n (drop a s)
-    ∙ ap (λ l. take (b - a) (drop a s) ++ take n l) (drop-twice (b - a) a s ∙ ap (λ k. drop k s) d)
-
-take-take : (n k : ℕ) (l : List ℕ) → n ≤ k → take n (take k l) ≡ take n l
-take-take n k l order = grind (arith, common_steps)
-
-pub part-take : (s : List ℕ) (b c n : ℕ) → n ≤ c - b → take n (slice_range s b c) ≡ take n (drop b s)
-part-take s b c n order = take-take n (c - b) (drop b s) order
-
 pub part-drop : (s : List ℕ) (b c n : ℕ) → n ≤ c - b → drop n (slice_range s b c) ≡ slice_range s (b + n) c
 part-drop s b c n order =
     let e : c - b ≡ n + (c - (b + n)) = omega arith in
@@ -35,16 +21,11 @@ part-drop s b c n order =
 pub part-length : (s : List ℕ) (a b : ℕ) → b ≤ length s → length (slice_range s a b) ≡ b - a
 part-length s a b within = omega (arith, length-take (b - a) (drop a s), length-drop a s)
 
--- the last n octets of a part
-pub part-last : (s l before : List ℕ) (a b n : ℕ) → l ≡ s → a ≤ b → b ≤ length s → slice_range s a b ≡ before → n ≤ length before
-    → take (b - (b - n)) (drop (b - n) l) ≡ drop (length before - n) before
-part-last s l before a b n same order within is fits =
-    let long : length before ≡ b - a = sym (ap length is) ∙ part-length s a b within in
-    let k : a + (b - a - n) ≡ b - n = omega (arith, long, fits, order) in
-    let less : b - a - n ≤ b - a = omega arith in
-    ap (λ t. take (b - (b - n)) (drop (b - n) t)) same
-    ∙ ap (λ i. slice_range s i b) (sym k) ∙ sym (part-drop s a b (b - a - n) less)
-    ∙ ap (λ i. drop (i - n) (slice_range s a b)) (sym long) ∙ ap (drop (length before - n)) is
+-- the last n octets of a prefix
+pub prefix-last : (s held before : List ℕ) (b n : ℕ) → held ≡ s → b ≤ length s → take b s ≡ before → n ≤ length before → slice_range held (b - n) b ≡ drop (length before - n) before
+prefix-last s held before b n same within is fits =
+    let long : b ≡ length before = omega (arith, ap length is, length-take b s, within) in
+    part-prefix held (b - n) b (omega arith) ∙ ap (λ l. drop (b - n) (take b l)) same ∙ ap (drop (b - n)) is ∙ ap (λ k. drop (k - n) before) long
 
 -- what was read follows what was held, where the buffer was lent as a slice
 pub after-read : (a b : Option (List ℕ)) (items lent room : List ℕ) (filled to size n : ℕ) → lent ≡ items → size ≡ length items → length room ≡ length lent → take filled room ≡ take filled lent
@@ -64,19 +45,11 @@ after-read a b items lent room filled to size n same sizes long prefix fits with
       },
     )
 
--- what is left after a read, where the octets first slid
-pub rest-read : (items items1 items2 rest bs : List ℕ) (place filled slid n : ℕ) → slice_range items place filled ≡ rest → slid ≤ place → place ≤ filled → filled - slid ≤ length items1
-    → slice_range items1 (place - slid) (filled - slid) ≡ slice_range items place filled
-    → take (filled - slid + length bs) items2 ≡ take (filled - slid) items1 ++ bs → n ≡ length bs
-    → slice_range items2 (place - slid) (filled - slid + n) ≡ rest ++ bs
-rest-read items items1 items2 rest bs place filled slid n is less order within kept held count =
-    let p = place - slid in
-    let f = filled - slid in
-    let fits : p ≤ length (take f items1) = omega (arith, length-take f items1) in
-    part-prefix items2 p (f + n) (omega arith)
-    ∙ ap (λ k. drop p (take (f + k) items2)) count
-    ∙ ap (drop p) held ∙ drop-append-le p (take f items1) bs fits
-    ∙ ap (λ l. l ++ bs) (sym (part-prefix items1 p f (omega arith)) ∙ kept ∙ is)
+-- octets after those of a part
+pub part-append : (s s' bs : List ℕ) (a b n : ℕ) → a ≤ b → b ≤ length s → take (b + n) s' ≡ take b s ++ bs → slice_range s' a (b + n) ≡ slice_range s a b ++ bs
+part-append s s' bs a b n order within same =
+    let fits : a ≤ length (take b s) = omega (arith, length-take b s) in
+    part-prefix s' a (b + n) (omega arith) ∙ ap (drop a) same ∙ drop-append-le a (take b s) bs fits ∙ ap (λ l. l ++ bs) (sym (part-prefix s a b order))
 
 pub empty-of : (l : List ℕ) → length l ≡ 0 → l ≡ []
 empty-of [] none = refl

@@ -1,15 +1,16 @@
 -- The reads of a call, each with what was certain before it.
-use Rattle.std.proofs.Common.{◌≡◌, ◌∙◌, ℕ, ◌+◌, ◌≤◌, false, List, [], ◌∷◌, ◌++◌, length, refl, sym, ap, subst, arith, append-nil, append_assoc, length-append, drop, Option}
+use Rattle.std.proofs.Common.{◌≡◌, ◌∙◌, ℕ, ◌+◌, ◌*◌, ◌<◌, ◌≤◌, false, List, [], ◌∷◌, ◌++◌, length, refl, sym, ap, subst, arith, append-nil, append_assoc, length-append, drop, Option}
 use Rattle.std.specs.Prelude.{Result, Ok, Err, max, take_while}
 use Rattle.std.specs.List.{concat}
 use Rattle.std.proofs.lemmas.List.Folds.{concat-append}
 use Rattle.bufr_frame.specs.declared.fault.RunFault.{RunFault}
 use Rattle.bufr_frame.specs.declared.fault.RunFault.TheVariants.{Read, Write, InputTooLong, Memory}
+use Rattle.bufr_frame.specs.Input.{FillEnds}
 use Rattle.bufr_frame.specs.Scan.{scan_from, is_decided}
 use Rattle.bufr_frame.specs.Lookahead.{NoEventCertain}
 use Rattle.bufr_frame.specs.Search.{IsIncomplete}
 use Rattle.bufr_frame.specs.FinderCalls.{FinderModel, ReadsAndPasses, held, EachReadIsNeeded, CallReadsAreNeeded}
-use Rattle.bufr_frame.specs.FinderSteps.{gone_to, ReadsMore, ReadEnds}
+use Rattle.bufr_frame.specs.FinderSteps.{input_left, gone_to, ReadsMore}
 
 wider : (most most' at : ℕ) (left : List ℕ) (given : List (List ℕ)) → most ≤ most' → EachReadIsNeeded most at left given → EachReadIsNeeded most' at left given
 wider most most' at left [] more all = tt
@@ -59,18 +60,21 @@ module _ (left mid : Option (List ℕ)) (old s s1 s2 : FinderModel) (place size 
         made = omega (arith, reads, ap (λ x. x.reads) is, each.made, length-append each.given (bs' ∷ []));
         waited = one-more most old.at old.rest each.given bs' (wider (max 4096 s.longest) most old.at old.rest each.given (omega (arith, longer)) each.waited)
             (subst N each.octets (none-in-all left mid old s bs place size step going open'))
-            (omega (arith, bound, ap length read.rest, length-append s1.rest bs'));
+            (omega (arith, bound, ap length read.fills.held, length-append s1.rest bs'));
       }
 
-  -- the read gave octets, or was refused its room, or failed
+  -- the read gave octets, or failed, or was not made
   pub waits-read : CallReadsAreNeeded old s2 (bs ++ bs')
-  waits-read = by result read.ends
+  waits-read = by result read.fills.ends
     where
-      by : (r : Result (Unit {0}) RunFault) → ReadEnds left' s1 s2 bs' r → CallReadsAreNeeded old s2 (bs ++ bs')
-      by (Ok u) ends = waits-more ends.0
-      by (Err Read) ends = waits-more ends.0
-      by (Err Write) ends = absurd ends
-      by (Err InputTooLong) ends = absurd ends
-      by (Err Memory) ends =
+      none : bs' ≡ [] → s2.reads ≡ s1.reads → CallReadsAreNeeded old s2 (bs ++ bs')
+      none nothing same =
           let E : List ℕ → Type 0 = λ l. CallReadsAreNeeded old s2 l in
-          subst E (sym (ap (λ l. bs ++ l) ends.1 ∙ append-nil bs)) (waits-still old s s2 bs each (ends.0 ∙ ap (λ x. x.reads) is) longer)
+          subst E (sym (ap (λ l. bs ++ l) nothing ∙ append-nil bs)) (waits-still old s s2 bs each (same ∙ ap (λ x. x.reads) is) longer)
+
+      by : (r : Result (Unit {0}) RunFault) → FillEnds (s1.room < 2 * max 4096 s1.longest) (input_left s1) (input_left s2) bs' r → CallReadsAreNeeded old s2 (bs ++ bs')
+      by (Ok u) ends = waits-more ends.0
+      by (Err Read) ends = waits-more ends.2
+      by (Err Write) ends = absurd ends.2
+      by (Err InputTooLong) ends = none ends.0 ends.2.0
+      by (Err Memory) ends = none ends.0 ends.2.0

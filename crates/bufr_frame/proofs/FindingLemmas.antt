@@ -1,23 +1,20 @@
 -- Steps of a finder, one after another.
 use Rattle.std.proofs.Common.{inl, inr, ◌≡◌, ℕ, ◌+◌, ◌-◌, ◌≤◌, Bool, true, false, List, [], ◌∷◌, ◌++◌, length, take, drop, refl, sym, ◌∙◌, ap, subst, arith, Option, length-drop, length-take, length-append, append_assoc, append-nil}
-use Rattle.std.specs.Prelude.{take_while, Result, Ok, Err}
-use Rattle.std.specs.Io.KnownBytes.{IsAtEnd}
+use Rattle.std.specs.Prelude.{take_while, Result}
 use Rattle.std.specs.List.{list_all}
 use Rattle.std.proofs.lemmas.Bool.{true≢false, cases_Bool}
 use Rattle.std.proofs.lemmas.List.{drop_at, drop-append-le}
 use Rattle.std.proofs.lemmas.Grind.{common_steps}
 use Rattle.std.proofs.KnownBytes.{Consumes-nil, Consumes-trans}
 use Rattle.bufr_frame.specs.declared.fault.RunFault.{RunFault}
-use Rattle.bufr_frame.specs.declared.fault.RunFault.TheVariants.{Read, Write, InputTooLong, Memory}
-use Rattle.bufr_bits.specs.Counts.{counted}
-use Rattle.bufr_bits.proofs.CountLemmas.{counted-counted}
 use Rattle.bufr_frame.specs.declared.search.Candidate.{Candidate}
 use Rattle.bufr_frame.specs.declared.search.Candidate.TheVariants.{Nothing, Stray, Frame}
 use Rattle.bufr_frame.specs.Scan.{StreamEvent, FrameAt, scan, scan_from, open_scan, stated_length, stream_event, candidate_len, is_decided}
 use Rattle.bufr_frame.specs.Lookahead.{Advances}
 use Rattle.bufr_frame.specs.Search.{IsNextEvent, IsIncomplete}
 use Rattle.bufr_frame.specs.FinderCalls.{FinderModel, ReadsAndPasses, Follows, CountsReads, new_finder}
-use Rattle.bufr_frame.specs.FinderSteps.{event_by, gone_to, ReadsMore, ReadEnds}
+use Rattle.bufr_frame.specs.FinderSteps.{event_by, gone_to, ReadsMore}
+use Rattle.bufr_frame.proofs.InputLemmas.{adds-then}
 use Rattle.bufr_frame.proofs.ScanLemmas.{drop-twice}
 use Rattle.bufr_frame.proofs.LookLemmas.{take_while-all}
 
@@ -93,28 +90,21 @@ module _ (left mid : Option (List ℕ)) (old s s' : FinderModel) (bs : List ℕ)
   read-step left' result bs' step going next =
       let whole : old.rest ++ (bs ++ bs') ≡ (old.rest ++ bs) ++ bs' = sym (append_assoc old.rest bs bs') in
       let F : List ℕ → Type 0 = λ l. Follows old.at l s'.at s'.rest in
-      let same : Follows s.at (s.rest ++ bs') s'.at s'.rest = record { passed = 0; within = omega arith; offset = omega (arith, next.at); left = next.rest } in
+      let same : Follows s.at (s.rest ++ bs') s'.at s'.rest = record { passed = 0; within = omega arith; offset = omega (arith, next.at); left = next.fills.held } in
       record {
-        read = Consumes-trans left mid left' bs bs' step.read next.read;
+        read = Consumes-trans left mid left' bs bs' step.read next.fills.read;
         advances = record {
           whole = λ t none.
               ap (scan_from 0 old.at) (ap (λ l. l ++ t) whole ∙ append_assoc (old.rest ++ bs) bs' t)
               ∙ step.advances.whole (bs' ++ t) (λ end. absurd (true≢false (sym end ∙ going)))
-              ∙ ap (λ l. es ++ scan_from 0 s.at l) (sym (append_assoc s.rest bs' t) ∙ ap (λ l. l ++ t) (sym next.rest))
+              ∙ ap (λ l. es ++ scan_from 0 s.at l) (sym (append_assoc s.rest bs' t) ∙ ap (λ l. l ++ t) (sym next.fills.held))
               ∙ ap (λ n. es ++ scan_from 0 n (s'.rest ++ t)) (sym next.at);
           decided = λ _. step.advances.decided going;
         };
         follows = subst F (sym whole) (Follows-then old.at s.at s'.at (old.rest ++ bs) s.rest s'.rest bs' step.follows same);
         kept = λ end. absurd (true≢false (sym (step.kept end).0 ∙ going));
-        end = λ before ended. reached result next.ends ended;
+        end = λ _. next.fills.end;
       }
-    where
-      reached : (result : Result (Unit {0}) RunFault) → ReadEnds left' s s' bs' result → s'.ended ≡ true → IsAtEnd left'
-      reached (Ok u) out ended = (out.1 ended).1
-      reached (Err Read) out ended = absurd (true≢false (sym ended ∙ out.2))
-      reached (Err Write) out ended = absurd out
-      reached (Err InputTooLong) out ended = absurd out
-      reached (Err Memory) out ended = absurd (true≢false (sym ended ∙ out.2))
 
 last-taken : (before m : List ℕ) (k : ℕ) → k ≤ length m → drop (length (before ++ take k m) - k) (before ++ take k m) ≡ take k m
 last-taken before m k within =
@@ -163,17 +153,6 @@ module _ (left mid : Option (List ℕ)) (old s s' : FinderModel) (bs : List ℕ)
       pass-step left mid old s s' bs [] [] step (ap (λ x. x.ended) is) (ap (λ x. x.reads) is) (subst A (sym is) (subst E (sym going) (open'.advances s.at)))
       (subst F (sym is) (record { passed = place; within = open'.within; offset = refl; left = refl }))
 
-  pub turn-stop : (fault : Option RunFault) → s' ≡ record s { fault = fault } → ReadsAndPasses left mid old s' bs []
-  turn-stop fault is =
-      let A : FinderModel → Type 0 = λ x. ReadsAndPasses left mid old x bs [] in
-      let same : ReadsAndPasses left mid old (record s { fault = fault }) bs [] = record { read = step.read; advances = step.advances; follows = step.follows; kept = step.kept; end = step.end } in
-      subst A (sym is) same
-
--- an end that was reached stays
-pub still-open : (e e' : Bool) → (e ≡ true → e' ≡ true) → e' ≡ false → e ≡ false
-still-open true e' kept going = absurd (true≢false (sym (kept refl) ∙ going))
-still-open false e' kept going = refl
-
 -- the scan of octets is the events that were passed and those of what is left
 pub whole-scan : (ended : Bool) (s rest : List ℕ) (events : List StreamEvent) (at : ℕ) → Advances ended 0 s events at rest → scan s ≡ events ++ scan_from 0 at rest
 whole-scan ended s rest events at advances =
@@ -213,9 +192,4 @@ ReadsAndPasses-then left mid left' = steps-compose left mid left' new_finder
 
 -- the reads of more calls
 pub CountsReads-then : (a b c : ℕ) (s s' : FinderModel) → CountsReads a b new_finder s → CountsReads b c s s' → CountsReads a c new_finder s'
-CountsReads-then a b c s s' one u16_at = record {
-  made = u16_at.made ∙ ap (λ n. counted n (s'.reads - s.reads)) one.made ∙ counted-counted a (s.reads - 0) (s'.reads - s.reads)
-      ∙ (let e : s.reads - 0 + (s'.reads - s.reads) ≡ s'.reads - 0 = omega (arith, u16_at.order) in ap (counted a) e);
-  order = omega arith;
-  most = u16_at.most;
-}
+CountsReads-then a b c s s' = adds-then a b c 0 s.reads s'.reads

@@ -1,10 +1,11 @@
 -- An input, read by read.
-use Rattle.std.proofs.Common.{◌≡◌, ℕ, ◌+◌, ◌-◌, ◌≤◌, List, [], ◌++◌, sym, ◌∙◌, ap, arith, Option, Ok, Err, append_assoc, append-nil}
+use Rattle.std.proofs.Common.{◌≡◌, ℕ, ◌+◌, ◌-◌, ◌<◌, ◌≤◌, List, [], ◌++◌, sym, ◌∙◌, ap, subst, arith, Option, Ok, Err, append_assoc, append-nil}
 use Rattle.std.specs.Prelude.{Result}
 use Rattle.std.specs.Io.KnownBytes.{Consumes, IsAtEnd}
 use Rattle.std.proofs.KnownBytes.{Consumes-nil, Consumes-trans}
 use Rattle.bufr_bits.specs.Counts.{counted}
-use Rattle.bufr_bits.proofs.CountLemmas.{counted-counted}
+use Rattle.bufr_bits.proofs.CountLemmas.{counted-counted, counted-none}
+use Rattle.bufr_frame.specs.Runs.{AddsReads, max_reads}
 use Rattle.bufr_frame.specs.Input.{ReadsOnce, ReadsInput, InputEnds}
 use Rattle.bufr_frame.specs.declared.fault.RunFault.{RunFault}
 use Rattle.bufr_frame.specs.declared.fault.RunFault.TheVariants.{Read}
@@ -31,11 +32,26 @@ pub reads-input : {X : Type 0} (left left' : Option (List ℕ)) (old now : List 
     → ReadSoFar left left' old now → InputEnds left' reads result → (bs : List ℕ) × ReadsInput left left' old now reads result bs
 reads-input left left' old now reads result so_far ends = (so_far.octets, record { read = so_far.read; held = so_far.held; ends = ends })
 
+-- no read, no more reads, and reads after others
+pub adds-none : (reads made : ℕ) → made ≤ max_reads → AddsReads reads reads made made
+adds-none reads made most = record { made = (let e : made - made ≡ 0 = omega arith in rw e (sym (counted-none reads))); order = omega arith; most = most }
+
+pub adds-same : (reads reads' before after after' : ℕ) → AddsReads reads reads' before after → after' ≡ after → AddsReads reads reads' before after'
+adds-same reads reads' before after after' adds same = let A : ℕ → Type 0 = λ n. AddsReads reads reads' before n in subst A (sym same) adds
+
+pub adds-then : (a b c before made after : ℕ) → AddsReads a b before made → AddsReads b c made after → AddsReads a c before after
+adds-then a b c before made after one more = record {
+  made = more.made ∙ ap (λ n. counted n (after - made)) one.made ∙ counted-counted a (made - before) (after - made)
+      ∙ (let e : made - before + (after - made) ≡ after - before = omega (arith, one.order, more.order) in ap (counted a) e);
+  order = omega (arith, one.order, more.order);
+  most = more.most;
+}
+
 -- one more read
-pub counted-one-more : (start before after reads now : ℕ) → before ≡ counted start (now - reads) → after ≡ counted before 1 → reads ≤ now → after ≡ counted start (now + 1 - reads)
-counted-one-more start before after reads now is more order =
-    let e : now - reads + 1 ≡ now + 1 - reads = omega arith in
-    more ∙ ap (λ n. counted n 1) is ∙ counted-counted start (now - reads) 1 ∙ ap (counted start) e
+pub adds-one : (a b c before made : ℕ) → AddsReads a b before made → c ≡ counted b 1 → made < max_reads → AddsReads a c before (made + 1)
+adds-one a b c before made one more few =
+    let e : 1 ≡ made + 1 - made = omega arith in
+    adds-then a b c before made (made + 1) one (record { made = more ∙ ap (counted b) e; order = omega arith; most = omega (arith, few) })
 
 -- a read failed
 pub read-fault : (mid left' : Option (List ℕ)) (now now' bs : List ℕ) (result : Result ℕ RunFault) (fault : RunFault) → result ≡ Err fault → ReadsOnce mid left' now now' result bs → fault ≡ Read

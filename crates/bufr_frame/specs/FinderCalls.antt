@@ -1,17 +1,14 @@
 -- What a finder does, call by call.
 -- Cited by public contracts.
-use Rattle.std.specs.Prelude.{◌≡◌, ◌≢◌, ℕ, ◌+◌, ◌-◌, ◌*◌, ◌<◌, ◌≤◌, max, Bool, true, false, List, [], ◌∷◌, ◌++◌, Option, Some, None, length, drop}
+use Rattle.std.specs.Prelude.{◌≡◌, ◌≢◌, ℕ, ◌+◌, ◌*◌, ◌<◌, ◌≤◌, max, Bool, true, false, List, [], ◌∷◌, ◌++◌, Option, Some, None, length, drop}
 use Rattle.std.specs.List.{concat}
 use Rattle.std.specs.Io.KnownBytes.{Consumes, IsAtEnd}
-use Rattle.bufr_bits.specs.Counts.{counted}
 use Rattle.bufr_frame.specs.Scan.{StreamEvent, scan_from}
 use Rattle.bufr_frame.specs.Lookahead.{Advances, NoEventCertain}
 use Rattle.bufr_frame.specs.Longest.{longest_of}
-use Rattle.bufr_frame.specs.Runs.{max_reads}
+use Rattle.bufr_frame.specs.Runs.{AddsReads, max_reads}
 use Rattle.bufr_frame.specs.declared.fault.RunFault.{RunFault}
 use Rattle.bufr_frame.specs.declared.fault.RunFault.TheVariants.{Read, Write, InputTooLong, Memory}
-use Rattle.bufr_frame.specs.declared.finder.Phase.{Phase}
-use Rattle.bufr_frame.specs.declared.finder.Phase.TheVariants as phase
 
 -- the model of a finder
 pub record FinderModel : Type 0 where
@@ -50,18 +47,6 @@ new_finder =
       room = 0;
     }
 
--- whether the end was reached
-abbrev pub ended_in : Phase → Bool
-ended_in phase.Reading = false
-ended_in phase.Ended = true
-ended_in (phase.Stopped fault) = false
-
--- the fault that stopped it
-abbrev pub fault_in : Phase → Option RunFault
-fault_in phase.Reading = None
-fault_in phase.Ended = None
-fault_in (phase.Stopped fault) = Some fault
-
 -- `rest`, from offset `at'`, is a suffix of s, whose first octet is at offset `at`.
 pub record Follows (at : ℕ) (s : List ℕ) (at' : ℕ) (rest : List ℕ) : Type 0 where
   pub passed : ℕ
@@ -84,10 +69,8 @@ RaisesLongest old new bs seen = new.longest
     ≡ max old.longest (longest_of old.at (old.rest ++ bs) seen)
 
 -- The reads of a call are counted, by the reader and by the finder.
-pub record CountsReads (reads reads' : ℕ) (old new : FinderModel) : Type 0 where
-  pub made : reads' ≡ counted reads (new.reads - old.reads)
-  pub order : old.reads ≤ new.reads
-  pub most : new.reads ≤ max_reads
+abbrev pub CountsReads : (reads reads' : ℕ) → FinderModel → FinderModel → Type 0
+CountsReads reads reads' old new = AddsReads reads reads' old.reads new.reads
 
 -- what is held has no further event
 abbrev pub HasNoMoreEvents : FinderModel → Type 0

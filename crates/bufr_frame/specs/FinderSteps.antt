@@ -1,12 +1,11 @@
 -- What the steps of a finder do.
 -- Cited by private steps only.
-use Rattle.std.specs.Prelude.{◌≡◌, ◌≢◌, ℕ, ◌+◌, ◌-◌, ◌*◌, ◌<◌, ◌≤◌, true, false, List, [], ◌∷◌, ◌++◌, Option, Some, None, Result, Ok, Err, length, take, drop, max}
-use Rattle.std.specs.Io.KnownBytes.{Consumes, IsAtEnd}
+use Rattle.std.specs.Prelude.{◌≡◌, ◌≢◌, ℕ, ◌+◌, ◌-◌, ◌*◌, ◌<◌, ◌≤◌, false, List, [], ◌∷◌, ◌++◌, Option, Some, None, Result, Ok, Err, MatchResult, length, take, drop, max}
 use Rattle.bufr_frame.specs.Scan.{StreamEvent, FrameAt, StrayAt, scan_from}
 use Rattle.bufr_frame.specs.FinderCalls.{FinderModel, HasNoMoreEvents, StopsFinder, GrowsOnlyIfFull}
+use Rattle.bufr_frame.specs.Input.{InputModel, FillsInput}
 use Rattle.bufr_frame.specs.Longest.{first_event}
 use Rattle.bufr_frame.specs.declared.fault.RunFault.{RunFault}
-use Rattle.bufr_frame.specs.declared.fault.RunFault.TheVariants.{Read, Write, InputTooLong, Memory}
 use Rattle.bufr_frame.specs.declared.search.Candidate.{Candidate}
 use Rattle.bufr_frame.specs.declared.search.Candidate.TheVariants.{Nothing, Stray, Frame}
 use Rattle.bufr_frame.specs.declared.finder.PassedEvent.{PassedEvent}
@@ -52,29 +51,18 @@ AdvancesFinder old new (Err fault) =
     (old.ended ≡ false) × (old.fault ≡ None → StopsFinder new fault)
     × (old.fault ≡ None → GrowsOnlyIfFull old new fault)
 
--- how a read ends: octets came, or the end was reached, or it failed, or memory was refused before
--- it
-abbrev pub ReadEnds : (left' : Option (List ℕ)) → FinderModel → FinderModel → List ℕ
-    → Result (Unit {0}) RunFault → Type 0
-ReadEnds left' old new bs (Ok u) =
-    (new.reads ≡ old.reads + 1) × (new.ended ≡ true → (bs ≡ []) × IsAtEnd left')
-ReadEnds left' old new bs (Err Read) = (new.reads ≡ old.reads + 1) × (bs ≡ []) × (new.ended ≡ false)
-ReadEnds left' old new bs (Err Write) = ⊥
-ReadEnds left' old new bs (Err InputTooLong) = ⊥
-ReadEnds left' old new bs (Err Memory) =
-    (new.reads ≡ old.reads) × (bs ≡ []) × (new.ended ≡ false)
-    × (old.room < 2 * max 4096 old.longest)
+-- the input of a finder as far as it is left
+abbrev pub input_left : FinderModel → InputModel
+input_left s = record { held = s.rest; ended = s.ended; reads = s.reads; room = s.room; free = 0 }
 
--- One read: octets come after those that are left, or the end was reached.
+-- One read: octets come after those that are left, or the end was reached, or a fault stops it.
 pub record ReadsMore (left left' : Option (List ℕ)) (old new : FinderModel)
     (result : Result (Unit {0}) RunFault) (bs : List ℕ) : Type 0 where
-  pub read : Consumes left left' bs
-  pub rest : new.rest ≡ old.rest ++ bs
+  pub fills : FillsInput left left' (input_left old) (input_left new)
+      (old.room < 2 * max 4096 old.longest) result bs
   pub at : new.at ≡ old.at
-  pub fault : new.fault ≡ None
+  pub fault : MatchResult result (λ _. new.fault ≡ None) (λ fault. new.fault ≡ Some fault)
   pub longest : new.longest ≡ old.longest
-  pub room : old.room ≤ new.room
-  pub ends : ReadEnds left' old new bs result
 
 -- the end, the fault and the reads stay
 pub record KeepsRun (old new : FinderModel) : Type 0 where

@@ -1,10 +1,52 @@
--- Reading an input to its end. (a choice of this project)
+-- Reading an input, piece by piece or to its end. (a choice of this project)
 -- Cited by public contracts.
-use Rattle.std.specs.Prelude.{◌≡◌, ◌<◌, ℕ, List, [], ◌++◌, length, Option, Result, Ok, Err, MatchResult}
+use Rattle.std.specs.Prelude.{◌≡◌, ◌+◌, ◌<◌, ◌≤◌, ℕ, Bool, true, false, List, [], ◌++◌, length, Option, Result, Ok, Err, MatchResult}
 use Rattle.std.specs.Io.KnownBytes.{Consumes, IsAtEnd}
 use Rattle.bufr_frame.specs.Runs.{max_reads}
 use Rattle.bufr_frame.specs.declared.fault.RunFault.{RunFault}
 use Rattle.bufr_frame.specs.declared.fault.RunFault.TheVariants.{Read, Write, InputTooLong, Memory}
+
+-- the model of a buffer of an input
+pub record InputModel : Type 0 where
+  -- the octets that were read and not skipped
+  pub held : List ℕ
+  -- whether the end was reached
+  pub ended : Bool
+  -- how many reads were made
+  pub reads : ℕ
+  -- how many octets there is room for without taking memory
+  pub room : ℕ
+  -- how many places are free after the octets held
+  pub free : ℕ
+
+-- a buffer of an input that was not read
+abbrev pub new_input : InputModel
+new_input = record { held = []; ended = false; reads = 0; room = 0; free = 0 }
+
+-- why no octets come: the read failed; or none was made, after 2^32 of them, or where memory was
+-- refused
+abbrev pub FillFails : (refused : Type 0) → InputModel → InputModel → RunFault → Type 0
+FillFails refused old new Read = new.reads ≡ old.reads + 1
+FillFails refused old new Write = ⊥
+FillFails refused old new InputTooLong = (new.reads ≡ old.reads) × (new.reads ≡ max_reads)
+FillFails refused old new Memory = (new.reads ≡ old.reads) × (new.reads < max_reads) × refused
+
+-- how a read ends: octets came, or the end was reached; or there is a fault
+abbrev pub FillEnds : (refused : Type 0) → InputModel → InputModel → List ℕ
+    → Result (Unit {0}) RunFault → Type 0
+FillEnds refused old new bs (Ok u) = (new.reads ≡ old.reads + 1) × (new.ended ≡ true → bs ≡ [])
+FillEnds refused old new bs (Err fault) =
+    (bs ≡ []) × (new.ended ≡ false) × FillFails refused old new fault
+
+-- One read: octets come after those that are held, or the end was reached, or there is a fault.
+-- Memory is refused only where `refused` holds.
+pub record FillsInput (left left' : Option (List ℕ)) (old new : InputModel) (refused : Type 0)
+    (result : Result (Unit {0}) RunFault) (bs : List ℕ) : Type 0 where
+  pub read : Consumes left left' bs
+  pub held : new.held ≡ old.held ++ bs
+  pub end : new.ended ≡ true → IsAtEnd left'
+  pub room : old.room ≤ new.room
+  pub ends : FillEnds refused old new bs result
 
 -- One read: its octets follow those that were held, and none come only at the end.
 pub record ReadsOnce (left left' : Option (List ℕ)) (old new : List ℕ) (result : Result ℕ RunFault)

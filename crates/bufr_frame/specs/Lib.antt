@@ -1,6 +1,4 @@
 -- The definitions of this crate, a file for each idea.
--- a buffer that slides over a stream
-pub mod Buffer
 -- the editions as the type of the code
 pub mod Editions
 -- the meaning of an event of the code
@@ -9,7 +7,7 @@ pub mod Events
 pub mod FinderCalls
 -- how a finder keeps the octets that it holds
 pub mod FinderInvariant
--- what reading an input to its end gives
+-- what reading an input gives, piece by piece or to its end
 pub mod Input
 -- the layout of a message, and which heads can be written
 pub mod Layout

@@ -1,8 +1,7 @@
 //! The finder: the messages of a stream, one after another.
 
-use crate::buffer::{make_room, read_after};
 use crate::fault::{Cause, RunFault};
-use crate::input::MAX_READS;
+use crate::input::InputBuffer;
 use crate::search::{Candidate, NextEvent, SearchResult, find_event, stated_len};
 use bufr_bits::Source;
 use memchr::memmem;
@@ -31,17 +30,6 @@ struct PassedEvent {
     len: usize,
 }
 
-/// The state of a finder with its input.
-#[derive(Clone, Copy)]
-enum Phase {
-    /// More octets may come.
-    Reading,
-    /// The input was read to its end.
-    Ended,
-    /// A fault ended the run.
-    Stopped(RunFault),
-}
-
 /// Finds the messages of a stream. Each `BUFR` gives a frame or a stray word. The search goes on
 /// after the frame, or after the four octets of the stray word.
 ///
@@ -66,35 +54,32 @@ enum Phase {
 pub struct Finder {
     /// The search for `BUFR`.
     word: memmem::Finder<'static>,
-    /// The octets from `start` to `filled` are held; those from `place` on are left.
-    buffer: Vec<u8>,
-    start: usize,
-    place: usize,
-    filled: usize,
-    /// The offset of the buffer's first octet.
-    base: u64,
-    phase: Phase,
-    /// How many reads were made, at most 2^32.
-    reads: u64,
+    /// The first `passed` octets that it holds were passed; the others are left.
+    input: InputBuffer,
+    passed: usize,
+    /// The offset of the first octet that is left.
+    offset: u64,
+    /// The fault that ended the run.
+    fault: Option<RunFault>,
     /// The greatest length that was stated, in octets.
     longest: usize,
 }
 
 impl Model for Finder {
-    ghost use Rattle.std.specs.Prelude.{◌+◌, slice_range, vec_capacity};
-    ghost use Rattle.bufr_frame.specs.FinderCalls.{FinderModel, ended_in, fault_in};
+    ghost use Rattle.std.specs.Prelude.{take, drop};
+    ghost use Rattle.bufr_frame.specs.FinderCalls.{FinderModel};
 
     ghost Value = { FinderModel };
 
     ghost view = { λ f. record {
-      before = slice_range f.buffer.items f.start f.place;
-      rest = slice_range f.buffer.items f.place f.filled;
-      at = f.base + f.place;
-      ended = ended_in f.phase;
-      fault = fault_in f.phase;
-      reads = f.reads;
+      before = take f.passed f.input.held;
+      rest = drop f.passed f.input.held;
+      at = f.offset;
+      ended = f.input.ended;
+      fault = f.fault;
+      reads = f.input.reads;
       longest = f.longest;
-      room = vec_capacity f.buffer;
+      room = f.input.room;
     } };
 
     ghost use Rattle.bufr_frame.specs.FinderInvariant.{IsFinder};
@@ -124,13 +109,10 @@ impl Finder {
     {
         Finder {
             word: memmem::Finder::new(b"BUFR"),
-            buffer: Vec::new(alloc),
-            start: 0,
-            place: 0,
-            filled: 0,
-            base: 0,
-            phase: Phase::Reading,
-            reads: 0,
+            input: InputBuffer::new(alloc),
+            passed: 0,
+            offset: 0,
+            fault: None,
             longest: 0,
         }
     }
@@ -141,7 +123,7 @@ impl Finder {
         ensures value { result ≡ held self.now }
         ensures bound { result ≤ max 4096 self.now.longest }
     {
-        self.filled - self.start
+        self.input.held().len()
     }
 
     /// The greatest length in octets that was stated after a `BUFR`, 0 at first. After an event it
@@ -153,17 +135,20 @@ impl Finder {
         self.longest
     }
 
+    /// The octets that are left.
+    fn rest(&self) -> &[u8]
+        ensures { result.now ≡ self.now.rest }
+    {
+        &self.input.held()[self.passed..]
+    }
+
     /// What the octets that are left show.
     fn find_event(&self) -> SearchResult
         ensures looks { IsSearchResult self.now.ended self.now.rest result }
         ensures near { self.now.at < 2 ^ 63 }
         ensures bound { held self.now ≤ max 4096 self.now.longest }
     {
-        find_event(
-            &self.word,
-            &self.buffer[self.place..self.filled],
-            matches!(self.phase, Phase::Ended),
-        )
+        find_event(&self.word, self.rest(), self.input.ended())
     }
 
     /// Passes the first `n` octets that are left. `stated_length` is a length that was stated, or
@@ -173,7 +158,8 @@ impl Finder {
         requires most { stated_length < 2 ^ 24 }
         ensures { self.new ≡ gone_to self.old n stated_length }
     {
-        self.place += n;
+        self.passed += n;
+        self.offset += n as u64;
         self.longest = self.longest.max(stated_length);
     }
 
@@ -182,7 +168,7 @@ impl Finder {
         ensures value { result ≡ self.now.at }
         ensures within { result < 2 ^ 63 }
     {
-        self.base + self.place as u64
+        self.offset
     }
 
     /// How many octets the first event takes.
@@ -195,7 +181,7 @@ impl Finder {
         match here {
             Candidate::Nothing => unreachable!(),
             Candidate::Stray(_) => 4,
-            Candidate::Frame => stated_len(&self.buffer[self.place..self.filled]),
+            Candidate::Frame => stated_len(self.rest()),
         }
     }
 
@@ -221,7 +207,7 @@ impl Finder {
         let len = self.event_len(found.here);
         self.advance_to(len, 0);
         // The struct's model is known only where one of its fields is used.
-        let _ = &self.buffer;
+        let _ = &self.input;
         PassedEvent {
             offset,
             here: found.here,
@@ -229,45 +215,30 @@ impl Finder {
         }
     }
 
-    /// Reads once, after the octets that are left. Those that were passed are dropped.
+    /// Reads once, after the octets that are left. Those that were passed are dropped. A fault is
+    /// kept, and each further call returns it.
     fn read_more<R: Source>(&mut self, r: &mut R) -> Result<(), RunFault>
         requires room { length self.old.rest < max 4096 self.old.longest }
-        requires few { self.old.reads < max_reads }
         requires going { self.old.ended ≡ false }
         requires sound { self.old.fault ≡ None }
         ensures read { (bs : List ℕ)
             × ReadsMore (R.left r.old) (R.left r.new) self.old self.new result bs }
-        ensures bound { held self.new ≤ max 4096 self.new.longest }
-        ensures failed { R.failures r.new ≡ read_failures_after (R.failures r.old) result }
-        ensures made { R.reads r.new ≡ counted (R.reads r.old) (self.new.reads - self.old.reads) }
-    {
-        self.start = self.place;
-        let limit = self.longest.max(MIN_HELD);
-        let slid = make_room(&mut self.buffer, self.start, self.filled, limit)?;
-        self.base += slid as u64;
-        self.start -= slid;
-        self.place -= slid;
-        self.filled -= slid;
-        self.reads += 1;
-        let most = self.buffer.len().min(self.start + limit);
-        let n = read_after(r, &mut self.buffer, self.filled, most)?;
-        self.filled += n;
-        if n == 0 {
-            self.phase = Phase::Ended;
-        }
-        Ok(())
-    }
-
-    /// Stops the finder with a fault, which each further call returns.
-    fn stop(&mut self, fault: RunFault) -> RunFault
-        requires { self.old.ended ≡ false }
-        ensures new { self.new ≡ record self.old { fault = Some fault } }
-        ensures value { result ≡ fault }
         ensures near { self.new.at < 2 ^ 63 }
         ensures bound { held self.new ≤ max 4096 self.new.longest }
+        ensures failed { R.failures r.new ≡ read_failures_after (R.failures r.old) result }
+        ensures counts { CountsReads (R.reads r.old) (R.reads r.new) self.old self.new }
     {
-        self.phase = Phase::Stopped(fault);
-        fault
+        self.input.skip(self.passed);
+        self.passed = 0;
+        let limit = self.longest.max(MIN_HELD);
+        let most = limit - self.input.held().len();
+        match self.input.fill(r, most, 2 * limit) {
+            Ok(()) => Ok(()),
+            Err(fault) => {
+                self.fault = Some(fault);
+                Err(fault)
+            }
+        }
     }
 
     /// Passes the next event, where there is one.
@@ -285,7 +256,7 @@ impl Finder {
         ensures near { self.new.at < 2 ^ 63 }
         ensures bound { held self.new ≤ max 4096 self.new.longest }
     {
-        if let Phase::Stopped(fault) = self.phase {
+        if let Some(fault) = self.fault {
             return Err(fault);
         }
         loop {
@@ -294,12 +265,7 @@ impl Finder {
                 SearchResult::Found(found) => return Ok(Some(self.take_event(found))),
                 SearchResult::NeedsMore(wanted) => {
                     self.advance_to(wanted.place, wanted.stated_length);
-                    if self.reads == MAX_READS {
-                        return Err(self.stop(RunFault::InputTooLong));
-                    }
-                    if let Err(fault) = self.read_more(r) {
-                        return Err(self.stop(fault));
-                    }
+                    self.read_more(r)?;
                 }
             }
         }
@@ -310,7 +276,7 @@ impl Finder {
         requires { n ≤ length self.now.before }
         ensures { result.now ≡ drop (length self.now.before - n) self.now.before }
     {
-        &self.buffer[self.place - n..self.place]
+        &self.input.held()[self.passed - n..self.passed]
     }
 
     /// The event that was passed.

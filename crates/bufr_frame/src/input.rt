@@ -1,19 +1,224 @@
-//! An input read to its end.
-ghost use Rattle.std.specs.Prelude.{◌≡◌, ◌≤◌, ◌<◌, ◌+◌, ◌-◌, ℕ, List, ◌++◌, take, length, Ok, IfOk, IfErr, vec_len};
-ghost use Rattle.std.specs.Io.KnownBytes.{Consumes, IsAtEnd};
-ghost use Rattle.bufr_bits.specs.Counts.{counted};
+//! An input, read piece by piece or to its end.
+ghost use Rattle.std.specs.Prelude.{◌≡◌, ◌≤◌, ◌<◌, ◌+◌, ◌-◌, ◌*◌, ◌^◌, ℕ, List, ◌++◌, take, length, drop, slice_range, Ok, IfOk, IfErr, OnErr, vec_len, vec_capacity};
+ghost use Rattle.std.specs.Io.KnownBytes.{Consumes, Keeps, IsAtEnd};
+ghost use Rattle.bufr_bits.specs.Counts.{counted, failures_after};
 ghost use Rattle.bufr_frame.specs.Runs.{read_failures_after, max_reads};
 ghost use Rattle.bufr_frame.specs.Input.{ReadsOnce, ReadsInput};
 
-use crate::buffer::read_after;
 use crate::fault::RunFault;
-use bufr_bits::Source;
+use bufr_bits::{Failed, Source};
+use std::alloc::Global;
+use std::marker::Model;
 
 /// The most reads of one input, 2^32; no further one is made.
-pub const MAX_READS: u64 = 1 << 32;
+const MAX_READS: u64 = 1 << 32;
 
-/// How many octets one read asks for.
+/// How many octets one read asks for, where an input is read to its end.
 const CHUNK: usize = 65536;
+
+/// The octets of an input that were read and not yet skipped. [`crate::Finder`] reads its stream by
+/// it, and a reader of lines its text. An input that is needed whole is read by [`read_to_end`].
+///
+/// They slide to the start of its buffer only where at least as many were skipped. So each octet is
+/// moved about once.
+///
+/// ```
+/// let mut input = InputBuffer::new(rt.alloc());
+/// input.fill(&mut r, 4096, 8192)?;
+/// let len = line_len(input.held());
+/// input.skip(len);
+/// ```
+#[derive(Drop)]
+pub struct InputBuffer {
+    /// The octets from `start` to `filled` are held.
+    octets: Vec<u8>,
+    start: usize,
+    filled: usize,
+    /// How many reads were made, at most 2^32.
+    reads: u64,
+    /// Whether the end was reached.
+    ended: bool,
+}
+
+impl Model for InputBuffer {
+    ghost use Rattle.std.specs.Prelude.{◌≡◌, ◌≤◌, ◌-◌, slice_range, vec_len, vec_capacity};
+    ghost use Rattle.bufr_frame.specs.Runs.{max_reads};
+    ghost use Rattle.bufr_frame.specs.Input.{InputModel};
+
+    ghost Value = { InputModel };
+
+    ghost view = { λ f. record {
+      held = slice_range f.octets.items f.start f.filled;
+      ended = f.ended;
+      reads = f.reads;
+      room = vec_capacity f.octets;
+      free = vec_len f.octets - f.filled;
+    } };
+
+    ghost invariant = { λ f. (f.start ≤ f.filled) × (f.filled ≤ vec_len f.octets)
+        × (f.reads ≤ max_reads) × (f.reads ≡ 0 → vec_len f.octets ≡ 0) };
+}
+
+impl InputBuffer {
+    ghost use Rattle.std.specs.Prelude.{◌≡◌, ◌≤◌, ◌<◌, ◌+◌, ◌-◌, ◌*◌, ◌^◌, ℕ, List, [], ◌∷◌, ◌++◌, length, drop, true, false, IfOk};
+    ghost use Rattle.bufr_frame.specs.Runs.{read_failures_after, AddsReads, max_reads};
+    ghost use Rattle.bufr_frame.specs.Input.{InputModel, FillsInput, new_input};
+
+    /// A buffer of an input that was not read. It takes no memory.
+    pub fn new(alloc: Global) -> InputBuffer
+        ensures { result ≡ new_input }
+    {
+        InputBuffer {
+            octets: Vec::new(alloc),
+            start: 0,
+            filled: 0,
+            reads: 0,
+            ended: false,
+        }
+    }
+
+    /// The octets that were read and not yet skipped.
+    pub fn held(&self) -> &[u8]
+        ensures { result.now ≡ self.now.held }
+    {
+        &self.octets[self.start..self.filled]
+    }
+
+    /// Whether the end of the input was reached.
+    pub fn ended(&self) -> bool
+        ensures { result ≡ self.now.ended }
+    {
+        self.ended
+    }
+
+    /// Skips the first `n` octets that are held.
+    pub fn skip(&mut self, n: usize)
+        requires { n ≤ length self.old.held }
+        ensures { self.new ≡ record self.old { held = drop n self.old.held } }
+    {
+        self.start += n;
+    }
+
+    /// Puts an octet after those that are held, where a place is free: after a read that reached
+    /// the end one is.
+    pub fn push(&mut self, octet: u8)
+        requires { 0 < self.old.free }
+        ensures { self.new
+            ≡ record self.old { held = self.old.held ++ octet ∷ []; free = self.old.free - 1 } }
+    {
+        self.octets[self.filled] = octet;
+        self.filled += 1;
+    }
+
+    /// Reads once after the octets that are held, at most `most` octets. Where no place is free for
+    /// them the buffer grows to `room` octets, at least twice those that are held.
+    ///
+    /// # Errors
+    ///
+    /// [`RunFault::Read`] where the read failed. [`RunFault::InputTooLong`] where 2^32 reads were
+    /// made, and [`RunFault::Memory`] where the buffer had to grow and was refused; then no read is
+    /// made. The octets that are held stay.
+    pub fn fill<R: Source>(&mut self, r: &mut R, most: usize, room: usize) -> Result<(), RunFault>
+        requires some { 0 < most }
+        requires small { most ≤ 2 ^ 24 }
+        requires fits { 2 * length self.old.held ≤ room }
+        requires any { 0 < room }
+        requires going { self.old.ended ≡ false }
+        ensures fills { (bs : List ℕ) × FillsInput (R.left r.old) (R.left r.new) self.old self.new
+            (self.old.room < room) result bs × (length bs ≤ most) }
+        ensures grown { self.old.reads ≡ 0 → 0 < self.new.reads → room ≤ self.new.room }
+        ensures free { self.new.ended ≡ true → 0 < self.new.free }
+        ensures failed { R.failures r.new ≡ read_failures_after (R.failures r.old) result }
+        ensures counts { AddsReads (R.reads r.old) (R.reads r.new) self.old.reads self.new.reads }
+    {
+        if self.reads == MAX_READS {
+            return Err(RunFault::InputTooLong);
+        }
+        let slid = make_room(&mut self.octets, self.start, self.filled, room)?;
+        self.start -= slid;
+        self.filled -= slid;
+        self.reads += 1;
+        let to = self.octets.len().min(self.filled + most);
+        let n = read_after(r, &mut self.octets, self.filled, to)?;
+        self.filled += n;
+        self.ended = n == 0;
+        Ok(())
+    }
+}
+
+/// Makes a place free after the octets from `start` to `filled`. Returns by how many places they
+/// slide to the start.
+fn make_room(
+    octets: &mut Vec<u8>,
+    start: usize,
+    filled: usize,
+    room: usize,
+) -> Result<usize, RunFault>
+    requires order { start ≤ filled }
+    requires within { filled ≤ vec_len octets.old }
+    requires fits { 2 * (filled - start) ≤ room }
+    requires any { 0 < room }
+    ensures free { IfOk result (λ slid. (slid ≤ start) × (filled - slid < vec_len octets.new)) }
+    ensures held { IfOk result (λ slid. slice_range octets.new.items (start - slid) (filled - slid)
+        ≡ slice_range octets.old.items start filled) }
+    ensures grown { IfOk result (λ _. vec_len octets.old ≡ 0 → vec_len octets.new ≡ room) }
+    ensures refused { IfErr result (λ fault. (fault ≡ RunFault.Memory)
+        × (vec_capacity octets.old < room) × (octets.new.items ≡ octets.old.items)
+        × (vec_len octets.new ≡ vec_len octets.old)) }
+    ensures room { vec_capacity octets.old ≤ vec_capacity octets.new }
+{
+    if start > 0 && filled - start <= start {
+        octets.copy_within(start..filled, 0);
+        return Ok(start);
+    }
+    if filled < octets.len() {
+        return Ok(0);
+    }
+    match octets.resize(room, 0) {
+        Ok(()) => Ok(0),
+        Err(_) => Err(RunFault::Memory),
+    }
+}
+
+/// Reads once into the octets of `buf` from index `from` up to index `to`.
+fn read_range<R: Source>(r: &mut R, buf: &mut [u8], from: usize, to: usize) -> Result<usize, Failed>
+    requires order { from < to }
+    requires within { to ≤ length buf.old }
+    ensures prefix { take from buf.new ≡ take from buf.old }
+    ensures fits { IfOk result (λ n. from + n ≤ to) }
+    ensures ok { IfOk result
+        (λ n. Consumes (R.left r.old) (R.left r.new) (take n (drop from buf.new))) }
+    ensures err { OnErr result (Keeps (R.left r.old) (R.left r.new)) }
+    ensures end { IfOk result (λ n. n ≡ 0 → IsAtEnd (R.left r.new)) }
+    ensures failed { R.failures r.new ≡ failures_after (R.failures r.old) result }
+    ensures made { R.reads r.new ≡ counted (R.reads r.old) 1 }
+{
+    r.read(&mut buf[from..to])
+}
+
+/// Reads once after the first `filled` octets of a buffer, up to index `to` (from 0, not written).
+/// Returns how many octets came; none come only at the end of the input.
+fn read_after<R: Source>(
+    r: &mut R,
+    buffer: &mut Vec<u8>,
+    filled: usize,
+    to: usize,
+) -> Result<usize, RunFault>
+    requires order { filled < to }
+    requires within { to ≤ vec_len buffer.old }
+    ensures read { (bs : List ℕ) × ReadsOnce (R.left r.old) (R.left r.new)
+        (take filled buffer.old.items) (take (filled + length bs) buffer.new.items) result bs }
+    ensures len { vec_len buffer.new ≡ vec_len buffer.old }
+    ensures room { vec_capacity buffer.new ≡ vec_capacity buffer.old }
+    ensures fits { IfOk result (λ n. filled + n ≤ to) }
+    ensures failed { R.failures r.new ≡ read_failures_after (R.failures r.old) result }
+    ensures made { R.reads r.new ≡ counted (R.reads r.old) 1 }
+{
+    match read_range(r, buffer.as_mut_slice(), filled, to) {
+        Ok(n) => Ok(n),
+        Err(_) => Err(RunFault::Read),
+    }
+}
 
 /// Makes room of `CHUNK` octets after those that are held, and returns how many are held.
 fn make_room_after(octets: &mut Vec<u8>) -> Result<usize, RunFault>

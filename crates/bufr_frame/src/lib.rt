@@ -7,7 +7,6 @@
 //! `streams`, `reads_a_message` and `parts_written_again` show each.
 #![tactic(auto)]
 
-mod buffer;
 mod edition;
 mod ends;
 mod fault;
@@ -22,11 +21,10 @@ mod search;
 mod words;
 mod write;
 
-pub use buffer::read_after;
 pub use fault::{Cause, RunFault, SectionFault, WriteFault};
 pub use finder::{Event, Finder};
 pub use head::Head;
-pub use input::{MAX_READS, read_to_end};
+pub use input::{InputBuffer, read_to_end};
 pub use message::Message;
 pub use words::Words;
 pub use write::write_message;

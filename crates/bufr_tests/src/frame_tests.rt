@@ -7,7 +7,7 @@ use crate::messages::{
 use crate::support::{Runtime, assert_same, assert_that, joined, ok, parsed, repeated, some};
 use bufr_bits::ScriptIn;
 use bufr_frame::{
-    Cause, Event, Finder, Head, Message, RunFault, SectionFault, WriteFault, law, read_after,
+    Cause, Event, Finder, Head, InputBuffer, Message, RunFault, SectionFault, WriteFault, law,
     read_to_end, write_message,
 };
 use std::alloc::Global;
@@ -433,16 +433,35 @@ fn reads_to_the_end(rt: HostRuntime) {
     assert_same(&rt, &octets.as_slice(), &LOCAL_USE, &"octets");
 }
 
-/// A read after octets that are held, and one that fails.
+/// Reads with some octets skipped between them.
 #[test]
-fn reads_into_a_part_of_a_buffer(rt: HostRuntime) {
-    let mut r = ScriptIn::new(b"bcde", 9, Some(2));
-    let mut buffer = joined(&rt, &[b"a\0\0\0"]);
-    assert!(rt; buffer.len() == 4);
-    let read = read_after(&mut r, &mut buffer, 1, 3);
-    assert_same(&rt, &read, &Ok(2), &"first read");
-    assert!(rt; buffer.len() == 4);
-    let read = read_after(&mut r, &mut buffer, 3, 4);
-    assert_same(&rt, &read, &Err(RunFault::Read), &"second read");
-    assert_same(&rt, &buffer.as_slice(), &b"abc\0".as_slice(), &"octets");
+fn reads_piece_by_piece(rt: HostRuntime) {
+    let mut r = ScriptIn::new(b"abcd", 3, None);
+    let mut input = InputBuffer::new(rt.alloc());
+    assert_same(&rt, &input.fill(&mut r, 4, 8), &Ok(()), &"first read");
+    assert!(rt; !input.ended());
+    assert!(rt; input.held().len() == 3);
+    input.skip(2);
+    assert_same(&rt, &input.fill(&mut r, 4, 8), &Ok(()), &"second read");
+    assert_same(&rt, &input.held(), &b"cd".as_slice(), &"octets");
+}
+
+/// The end of an input, and an octet put there.
+#[test]
+fn pushes_an_octet_at_the_end(rt: HostRuntime) {
+    let mut r = ScriptIn::new(b"", 3, None);
+    let mut input = InputBuffer::new(rt.alloc());
+    assert_same(&rt, &input.fill(&mut r, 4, 8), &Ok(()), &"read");
+    assert!(rt; input.ended());
+    input.push(b'a');
+    assert_same(&rt, &input.held(), &b"a".as_slice(), &"octets");
+}
+
+#[test]
+fn a_piece_that_is_not_read(rt: HostRuntime) {
+    let mut r = ScriptIn::new(b"a", 1, Some(0));
+    let mut input = InputBuffer::new(rt.alloc());
+    let read = input.fill(&mut r, 4, 8);
+    assert_same(&rt, &read, &Err(RunFault::Read), &"read");
+    assert_same(&rt, &input.held(), &b"".as_slice(), &"octets");
 }

@@ -192,7 +192,7 @@ module _ (left left' : Option (List ℕ)) (s s' : ReaderModel) (bs : List ℕ) (
   unfolding lines_of
   held-lines t none (inl e) = ap (λ (z : List ℕ). lines_of (z ++ t)) (sym (append-nil (s.held ++ bs)) ∙ ap (λ (z : List ℕ). (s.held ++ bs) ++ z) (sym e))
   held-lines t none (inr (ended, e, some)) =
-      let nothing = (read.ends.1 ended).0 in
+      let nothing = read.fills.ends.1 ended in
       let held : s.held ++ bs ≡ s.held = ap (λ (z : List ℕ). s.held ++ z) nothing ∙ append-nil s.held in
       ap (λ (z : List ℕ). lines_of ((s.held ++ bs) ++ z)) (none ended) ∙ ap lines_of (append-nil (s.held ++ bs) ∙ held)
       ∙ one-line s.held clean some
@@ -212,9 +212,9 @@ module _ (left left' : Option (List ℕ)) (s s' : ReaderModel) (bs : List ℕ) (
       let P : List ℕ → Type 0 = λ h. TakesWholeLines s.at h s'.at s'.held in
       let A : ℕ → Type 0 = λ k. TakesWholeLines s.at s'.held k s'.held in
       record {
-        read = read.read;
-        order = omega (arith, read.ends.0);
-        few = omega (arith, read.few, read.ends.0);
+        read = read.fills.read;
+        order = omega (arith, read.fills.ends.0);
+        few = omega (arith, read.few, read.fills.ends.0);
         goes = record {
           whole = λ t none. ap (parse_lines s.at s.place) (held-lines t none read.missing) ∙ ap (λ (z : List ℕ). parse_lines s.at s.place (lines_of (z ++ t))) (sym read.held) ∙ same-hold s'.held t;
           openly = λ unended t.
@@ -224,7 +224,7 @@ module _ (left left' : Option (List ℕ)) (s s' : ReaderModel) (bs : List ℕ) (
         };
         lines = (read.feed, feed-missing read.missing, subst P read.held (subst A (sym read.at) (passes-none s.at s'.held)));
         kept = λ e. absurd (true≢false (sym e ∙ open'));
-        end = λ before ended. (read.ends.1 ended).1;
+        end = λ _. read.fills.end;
         fed = λ before ended none.
-            read.held ∙ ap (λ (z : List ℕ). (s.held ++ bs) ++ z) none ∙ append-nil (s.held ++ bs) ∙ ap (λ (z : List ℕ). z ++ bs) (read.fed ended none) ∙ (read.ends.1 ended).0;
+            read.held ∙ ap (λ (z : List ℕ). (s.held ++ bs) ++ z) none ∙ append-nil (s.held ++ bs) ∙ ap (λ (z : List ℕ). z ++ bs) (read.fed ended none) ∙ read.fills.ends.1 ended;
       }

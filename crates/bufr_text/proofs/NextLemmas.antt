@@ -4,17 +4,18 @@ use Rattle.std.specs.Prelude.{Option, Some, None, Result, Ok, Err, IfOk, IfSome}
 use Rattle.std.specs.Io.KnownBytes.{Consumes}
 use Rattle.std.proofs.KnownBytes.{Consumes-trans}
 use Rattle.std.proofs.lemmas.Bool.{true≢false}
-use Rattle.bufr_bits.specs.Counts.{counted}
-use Rattle.bufr_bits.proofs.CountLemmas.{counted-counted, counted-none}
 use Rattle.bufr_frame.specs.Runs.{max_reads}
+use Rattle.bufr_frame.specs.Input.{FillEnds, FillFails}
+use Rattle.bufr_frame.specs.declared.fault.RunFault.{RunFault}
 use Rattle.bufr_frame.specs.declared.fault.RunFault.TheVariants.{Read, Write, InputTooLong, Memory}
+use Rattle.bufr_frame.proofs.InputLemmas.{adds-none, adds-then}
 use Rattle.bufr_text.specs.Document.{Document}
 use Rattle.bufr_text.specs.Documents.{ParserState, ParseResult, Complete, Refused, NotAllowed, parse_lines, parse_open_lines, lines_of, split_of, documents_of, open_documents_of}
 use Rattle.bufr_text.specs.Dump.{text_of_lines}
 use Rattle.bufr_text.specs.Proper.{IsProper}
 use Rattle.bufr_text.specs.Reading.{has_no_feed, ContinuesParse, TakesWholeLines, parse, parse_open}
 use Rattle.bufr_text.specs.Reader.{ReaderModel, new_reader, position_of, IsMissingFeed, HasNoMoreLines, KeepsUnread, ReadsLines, ReadsOnlyIfNoLine, ReturnsNextDocument, HasNoWholeLine, CountsTextReads}
-use Rattle.bufr_text.specs.Filling.{ParsesHeldLines, TakesHeldLines, HandlesEnd, FillsBuffer, stopped}
+use Rattle.bufr_text.specs.Filling.{ParsesHeldLines, TakesHeldLines, HandlesEnd, FillsBuffer, text_input, stopped}
 use Rattle.bufr_text.specs.declared.fault.ReadFault.{ReadFault}
 use Rattle.bufr_text.specs.declared.fault.ReadFault.TheVariants.{Line, SubsetCount, HeaderRange, Run}
 use Rattle.bufr_text.proofs.ReadingLemmas.{nothing-yet}
@@ -23,20 +24,12 @@ use Rattle.bufr_text.proofs.TakingLemmas.{passes-none}
 use Rattle.bufr_text.proofs.UnfedLemmas.{call-keeps, keeps-same}
 use Rattle.bufr_text.proofs.CallLemmas.{call-then, closes-then, takes-call, read-call}
 
--- the reads of a turn
+-- the reads of a call
 pub counts-none : (a : ℕ) (s : ReaderModel) → s.reads ≤ max_reads → CountsTextReads a a s s
-counts-none a s most = record { made = (let e : s.reads - s.reads ≡ 0 = omega arith in rw e (sym (counted-none a))); order = omega arith; most = most }
+counts-none a s = adds-none a s.reads
 
 pub counts-then : (a b c : ℕ) (old s s' : ReaderModel) → CountsTextReads a b old s → CountsTextReads b c s s' → CountsTextReads a c old s'
-counts-then a b c old s s' one two = record {
-  made = two.made ∙ ap (λ n. counted n (s'.reads - s.reads)) one.made ∙ counted-counted a (s.reads - old.reads) (s'.reads - s.reads)
-      ∙ (let e : s.reads - old.reads + (s'.reads - s.reads) ≡ s'.reads - old.reads = omega (arith, one.order, two.order) in ap (counted a) e);
-  order = omega (arith, one.order, two.order);
-  most = two.most;
-}
-
-pub counts-same : (a b : ℕ) (old s s' : ReaderModel) → CountsTextReads a b old s → s'.reads ≡ s.reads → CountsTextReads a b old s'
-counts-same a b old s s' before same = record { made = before.made ∙ ap (λ n. counted a (n - old.reads)) (sym same); order = omega (arith, before.order, same); most = omega (arith, before.most, same) }
+counts-then a b c old s s' = adds-then a b c old.reads s.reads s'.reads
 
 pub waits-same : (left : Option (List ℕ)) (old s s' : ReaderModel) (bs bs' : List ℕ) → ((s.reads ≡ old.reads) ⊎ ReadsOnlyIfNoLine left old s.reads bs) → s'.reads ≡ s.reads → bs ≡ bs' → (s'.reads ≡ old.reads) ⊎ ReadsOnlyIfNoLine left old s'.reads bs'
 waits-same left old s s' bs bs' (inl e) same is = inl (same ∙ e)
@@ -156,7 +149,7 @@ module _ (left mid left' : Option (List ℕ)) (old s s' : ReaderModel) (bs bs' :
   fill-call so = call-then left mid left' old s s' [] [] bs bs' call (read-call mid left' s s' bs' so.0 open' clean)
 
   pub fill-waits : FillsBuffer mid left' s s' (Ok tt) bs' → (s'.reads ≡ old.reads) ⊎ ReadsOnlyIfNoLine left old s'.reads (bs ++ bs')
-  fill-waits so = inr (waited s'.reads so.0.ends.0 so.1 so.0.few)
+  fill-waits so = inr (waited s'.reads so.0.fills.ends.0 so.1 so.0.few)
 
   no-feed : (x : ReaderModel) (feed : List ℕ) → x.ended ≡ false → ((feed ≡ []) ⊎ ((x.ended ≡ true) × (feed ≡ 10 ∷ []) × (0 < length s.held))) → feed ≡ []
   no-feed x feed unended (inl e) = e
@@ -189,41 +182,35 @@ module _ (left mid left' : Option (List ℕ)) (old s s' : ReaderModel) (bs bs' :
       }
   fill-fault (SubsetCount line) so = absurd so
   fill-fault (HeaderRange line) so = absurd so
-  fill-fault (Run Read) (x, read, is, short) =
-      let N : ReaderModel → Type 0 = λ n. ReturnsNextDocument left left' old n (Err (Run Read)) in
-      let held = same-held x read.feed read.ends.1 (no-feed x read.feed read.ends.2 read.missing) read.held in
-      let whole = quiet-call (stopped x (Run Read)) read.ends.1 read.read read.at read.place held read.ends.2 (omega (arith, read.ends.0)) in
-      subst N (sym is) (record {
-        octets = bs ++ bs';
-        reads = whole;
-        keeps = call-keeps left left' old (stopped x (Run Read)) [] (bs ++ bs') whole;
-        waits = inr (waited x.reads read.ends.0 short read.few);
-        ends = (refl, still-open (stopped x (Run Read)) read.ends.2 held short);
-      })
-  fill-fault (Run Write) so = absurd so
-  fill-fault (Run InputTooLong) (read, none, is, short, most) =
-      let N : ReaderModel → Type 0 = λ n. ReturnsNextDocument left left' old n (Err (Run InputTooLong)) in
-      subst N (sym is) (record {
-        octets = bs ++ bs';
-        reads = quiet-call (stopped s (Run InputTooLong)) none read refl refl refl open' (omega arith);
-        keeps = call-keeps left left' old (stopped s (Run InputTooLong)) [] (bs ++ bs') (quiet-call (stopped s (Run InputTooLong)) none read refl refl refl open' (omega arith));
-        waits = waits-same left old s (stopped s (Run InputTooLong)) bs (bs ++ bs') waits refl (nothing none);
-        ends = (refl, still-open (stopped s (Run InputTooLong)) open' refl short, most);
-      })
-  fill-fault (Run Memory) (x, read, is, short) =
-      let N : ReaderModel → Type 0 = λ n. ReturnsNextDocument left left' old n (Err (Run Memory)) in
-      subst N (sym is) (record {
-        octets = bs ++ bs';
-        reads = (Consumes-trans left mid left' bs bs' call.read read.read, omega (arith, call.few, ap length read.ends.1, length-append bs bs', read.ends.0), λ e. absurd (true≢false (sym (call.kept e).0 ∙ open')), inl read.ends.3);
-        keeps = call-keeps left left' old (stopped x (Run Memory)) [] (bs ++ bs')
-            (quiet-call (stopped x (Run Memory)) read.ends.1 read.read read.at read.place (same-held x read.feed read.ends.1 (no-feed x read.feed read.ends.2 read.missing) read.held) read.ends.2 (omega (arith, read.ends.0)));
-        waits = waits-same left old s (stopped x (Run Memory)) bs (bs ++ bs') waits read.ends.0 (nothing read.ends.1);
-        ends = (refl, inr read.ends.3);
-      })
+  fill-fault (Run f) (x, read, is, short) = let N : ReaderModel → Type 0 = λ n. ReturnsNextDocument left left' old n (Err (Run f)) in subst N (sym is) (by f read.fills.ends)
+    where
+      by : (f : RunFault) → FillEnds (s.reads ≡ 0) (text_input s s.held) (text_input x (s.held ++ bs')) bs' (Err f) → ReturnsNextDocument left left' old (stopped x (Run f)) (Err (Run f))
+      by f (none, unended, fails) = ends f fails
+        where
+          held : x.held ≡ s.held
+          held = same-held x read.feed none (no-feed x read.feed unended read.missing) read.held
 
-pub none-unless : {A : Type 0} → (x : Option A) → ((a : A) → x ≡ Some a → ⊥) → x ≡ None
-none-unless None not = refl
-none-unless (Some a) not = absurd (not a refl)
+          quiet : (f : RunFault) → s.reads ≤ x.reads → ReadsLines left left' old (stopped x (Run f)) [] (bs ++ bs')
+          quiet f = quiet-call (stopped x (Run f)) none read.fills.read read.at read.place held unended
+
+          keeps : (f : RunFault) → s.reads ≤ x.reads → KeepsUnread old (stopped x (Run f)) (bs ++ bs')
+          keeps f order = call-keeps left left' old (stopped x (Run f)) [] (bs ++ bs') (quiet f order)
+
+          same : x.reads ≡ s.reads → (x.reads ≡ old.reads) ⊎ ReadsOnlyIfNoLine left old x.reads (bs ++ bs')
+          same reads = waits-same left old s x bs (bs ++ bs') waits reads (nothing none)
+
+          ends : (f : RunFault) → FillFails (s.reads ≡ 0) (text_input s s.held) (text_input x (s.held ++ bs')) f → ReturnsNextDocument left left' old (stopped x (Run f)) (Err (Run f))
+          ends Read made = record { octets = bs ++ bs'; reads = quiet Read (omega (arith, made)); keeps = keeps Read (omega (arith, made)); waits = inr (waited x.reads made short read.few); ends = (refl, still-open x unended held short) }
+          ends Write fails = absurd fails
+          ends InputTooLong fails = record { octets = bs ++ bs'; reads = quiet InputTooLong (omega (arith, fails.0)); keeps = keeps InputTooLong (omega (arith, fails.0)); waits = same fails.0; ends = (refl, still-open x unended held short, fails.1) }
+          ends Memory fails =
+              let first : x.reads ≡ 0 = fails.0 ∙ fails.2 in record {
+                octets = bs ++ bs';
+                reads = (Consumes-trans left mid left' bs bs' call.read read.fills.read, omega (arith, call.few, ap length none, length-append bs bs', fails.0), λ e. absurd (true≢false (sym (call.kept e).0 ∙ open')), inl first);
+                keeps = keeps Memory (omega (arith, fails.0));
+                waits = same fails.0;
+                ends = (refl, inr first);
+              }
 
 -- after the end was reported it is reported again
 none-reported : (left : Option (List ℕ)) (old new : ReaderModel) (results : List ParseResult) (bs : List ℕ) (left' : Option (List ℕ)) → ReadsLines left left' old new results bs → HasNoMoreLines old → results ≡ []

@@ -1,8 +1,9 @@
 -- What the steps of a reader do, one by one.
 -- Cited by private steps only.
 use Rattle.std.specs.Prelude.{◌≡◌, ◌⊎◌, ℕ, ◌+◌, ◌*◌, ◌<◌, ◌≤◌, ◌==◌, Bool, true, false, List, [], ◌∷◌, ◌++◌, length, Option, Some, None, Result, Ok, Err}
-use Rattle.std.specs.Io.KnownBytes.{Consumes, IsAtEnd}
+use Rattle.std.specs.Io.KnownBytes.{Consumes}
 use Rattle.bufr_frame.specs.Runs.{max_reads}
+use Rattle.bufr_frame.specs.Input.{InputModel, FillsInput}
 use Rattle.bufr_frame.specs.declared.fault.RunFault.{RunFault}
 use Rattle.bufr_frame.specs.declared.fault.RunFault.TheVariants.{Read, Write, InputTooLong, Memory}
 use Rattle.bufr_text.specs.Document.{Document}
@@ -36,6 +37,15 @@ pub record IsProgress (progress : Progress) (held reads : ℕ) : Type 0 where
   pub holds : IsParserState progress.at (place_with progress.place progress.parts)
   pub some : 0 < progress.at
   pub near : progress.at + held ≤ 4096 * reads + 1
+
+-- how a reader keeps its input: it holds few octets, its last line is ended at the end, and its
+-- buffer is made at the first read
+abbrev pub IsReader : Option ReadFault → Progress → InputModel → Type 0
+IsReader fault progress input =
+    (length input.held ≤ 8192) × (input.reads ≤ max_reads)
+    × (input.ended ≡ true → ends_by_feed input.held ≡ true)
+    × (fault ≡ None → IsProgress progress (length input.held) input.reads)
+    × (0 < input.reads → 8192 ≤ input.room)
 
 -- Lines were taken and report something.
 pub record ParsesHeldLines (old new : ReaderModel) (results : List ParseResult) : Type 0 where
@@ -73,24 +83,16 @@ TakesHeldLines old new (Err (Run Read)) = ⊥
 TakesHeldLines old new (Err (Run Write)) = ⊥
 TakesHeldLines old new (Err (Run InputTooLong)) = ⊥
 
--- how a read ends: octets came, or the end was reached, or it failed, or memory was refused before
--- the first one
-abbrev pub ReadEndsText : (left' : Option (List ℕ)) → ReaderModel → ReaderModel → List ℕ
-    → Result (Unit {0}) RunFault → Type 0
-ReadEndsText left' old new bs (Ok u) =
-    (new.reads ≡ old.reads + 1) × (new.ended ≡ true → (bs ≡ []) × IsAtEnd left')
-ReadEndsText left' old new bs (Err Read) = (new.reads ≡ old.reads + 1) × (bs ≡ [])
-    × (new.ended ≡ false)
-ReadEndsText left' old new bs (Err Write) = ⊥
-ReadEndsText left' old new bs (Err InputTooLong) = ⊥
-ReadEndsText left' old new bs (Err Memory) =
-    (new.reads ≡ old.reads) × (bs ≡ []) × (new.ended ≡ false) × (new.reads ≡ 0)
+-- the input of a reader that holds these octets
+abbrev pub text_input : ReaderModel → List ℕ → InputModel
+text_input s held = record { held = held; ended = s.ended; reads = s.reads; room = 0; free = 0 }
 
 -- One read: octets come after those that are held, or the end was reached, which ends the last
--- line.
+-- line. Memory is refused only before the first one.
 pub record ReadsMoreText (left left' : Option (List ℕ)) (old new : ReaderModel)
     (result : Result (Unit {0}) RunFault) (bs : List ℕ) : Type 0 where
-  pub read : Consumes left left' bs
+  pub fills : FillsInput left left' (text_input old old.held) (text_input new (old.held ++ bs))
+      (old.reads ≡ 0) result bs
   pub few : length bs ≤ 4096
   pub feed : List ℕ
   pub missing : (feed ≡ []) ⊎ ((new.ended ≡ true) × (feed ≡ 10 ∷ []) × (0 < length old.held))
@@ -99,7 +101,6 @@ pub record ReadsMoreText (left left' : Option (List ℕ)) (old new : ReaderModel
   pub at : new.at ≡ old.at
   pub place : new.place ≡ old.place
   pub fault : new.fault ≡ None
-  pub ends : ReadEndsText left' old new bs result
 
 -- the fault of a refused line
 abbrev pub read_fault_at : (line : ℕ) → LineRefusal → ReadFault
@@ -137,14 +138,6 @@ FillsBuffer left left' old new (Err (Line line)) bs =
     × (new.fault ≡ Some (Line line)) × (new.ended ≡ old.ended) × (new.reads ≡ old.reads)
 FillsBuffer left left' old new (Err (SubsetCount line)) bs = ⊥
 FillsBuffer left left' old new (Err (HeaderRange line)) bs = ⊥
-FillsBuffer left left' old new (Err (Run Read)) bs =
-    (s : ReaderModel) × ReadsMoreText left left' old s (Err Read) bs × (new ≡ stopped s (Run Read))
-    × (length old.held ≤ 4096)
-FillsBuffer left left' old new (Err (Run Write)) bs = ⊥
-FillsBuffer left left' old new (Err (Run InputTooLong)) bs =
-    Consumes left left' bs × (bs ≡ []) × (new ≡ stopped old (Run InputTooLong))
-    × (length old.held ≤ 4096) × (old.reads ≡ max_reads)
-FillsBuffer left left' old new (Err (Run Memory)) bs =
-    (s : ReaderModel) × ReadsMoreText left left' old s (Err Memory) bs
-    × (new ≡ stopped s (Run Memory))
-    × (length old.held ≤ 4096)
+FillsBuffer left left' old new (Err (Run fault)) bs =
+    (s : ReaderModel) × ReadsMoreText left left' old s (Err fault) bs
+    × (new ≡ stopped s (Run fault)) × (length old.held ≤ 4096)

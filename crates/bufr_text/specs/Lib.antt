@@ -53,8 +53,6 @@ pub mod Step
 -- private: what taking the lines that are held comes to
 pub mod TakingLines
 -- ---- how a reader goes on
--- private: the buffer of a reader, which slides over its input
-pub mod Buffer
 -- private: what the steps of a reader do, one by one
 pub mod Filling
 -- how a reading of documents goes on, piece by piece

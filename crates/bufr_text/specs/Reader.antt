@@ -2,8 +2,7 @@
 -- Cited by public contracts.
 use Rattle.std.specs.Prelude.{◌≡◌, ◌⊎◌, ℕ, ◌+◌, ◌-◌, ◌*◌, ◌<◌, ◌≤◌, Bool, true, false, if◌then◌else◌, List, [], ◌∷◌, ◌++◌, length, take, Option, Some, None, Result, Ok, Err}
 use Rattle.std.specs.Io.KnownBytes.{Consumes, IsAtEnd}
-use Rattle.bufr_bits.specs.Counts.{counted}
-use Rattle.bufr_frame.specs.Runs.{max_reads}
+use Rattle.bufr_frame.specs.Runs.{AddsReads, max_reads, read_failures_after}
 use Rattle.bufr_frame.specs.declared.fault.RunFault.TheVariants.{Read, Write, InputTooLong, Memory}
 use Rattle.bufr_text.specs.Document.{Document}
 use Rattle.bufr_text.specs.Documents as documents
@@ -176,19 +175,13 @@ pub record ReturnsNextDocument (left left' : Option (List ℕ)) (old new : Reade
   pub ends : LeavesReader new result
 
 -- the reads of a call are counted, by the reader of octets and by the reader of documents
-pub record CountsTextReads (reads reads' : ℕ) (old new : ReaderModel) : Type 0 where
-  pub made : reads' ≡ counted reads (new.reads - old.reads)
-  pub order : old.reads ≤ new.reads
-  pub most : new.reads ≤ max_reads
+abbrev pub CountsTextReads : (reads reads' : ℕ) → ReaderModel → ReaderModel → Type 0
+CountsTextReads reads reads' old new = AddsReads reads reads' old.reads new.reads
 
--- the reader's count of failures after a call: a read fault is one more failure, and nothing else
--- changes it
+-- the reader's count of failures after a call: a refused line leaves it
 abbrev pub failures_by : {X : Type 0} → ℕ → Result X ReadFault → ℕ
 failures_by count (Ok x) = count
 failures_by count (Err (Line line)) = count
 failures_by count (Err (SubsetCount line)) = count
 failures_by count (Err (HeaderRange line)) = count
-failures_by count (Err (Run Read)) = counted count 1
-failures_by count (Err (Run Write)) = count
-failures_by count (Err (Run InputTooLong)) = count
-failures_by count (Err (Run Memory)) = count
+failures_by count (Err (Run fault)) = read_failures_after {X = Unit {0}} count (Err fault)

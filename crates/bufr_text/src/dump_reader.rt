@@ -1,13 +1,12 @@
 //! The documents of an input.
 
-use crate::buffer::{CHUNK, make_room, push_line_feed};
 use crate::document::{Document, DocumentParts};
 use crate::fault::ReadFault;
 use crate::line::MAX_LINE;
 use crate::progress::{Progress, TakeResult, take_lines, take_parts};
 use crate::step::{LineRefusal, ParserState};
 use bufr_bits::Source;
-use bufr_frame::{MAX_READS, RunFault, read_after};
+use bufr_frame::{InputBuffer, RunFault};
 use std::alloc::Global;
 use std::marker::Model;
 
@@ -27,45 +26,33 @@ use std::marker::Model;
 #[derive(Drop)]
 pub struct DumpReader {
     alloc: Global,
-    /// Its octets from `start` to `filled` are held.
-    buffer: Vec<u8>,
-    start: usize,
-    filled: usize,
+    /// The octets that were read and not yet taken as lines. The last line ends by a line feed,
+    /// where the end was reached.
+    input: InputBuffer,
     /// Where the octets of a line are put that it writes by digits or in quotes.
     scratch: [u8; MAX_LINE],
     /// How far the lines have come that were taken.
     progress: Progress,
-    /// Whether the end was reached. The last line ends by a line feed then.
-    ended: bool,
     /// The fault that stopped the reading.
     fault: Option<ReadFault>,
-    /// How many reads were made.
-    reads: u64,
 }
 
 impl Model for DumpReader {
-    ghost use Rattle.std.specs.Prelude.{◌≡◌, ◌<◌, ◌≤◌, ◌-◌, None, true, vec_len, slice_range};
-    ghost use Rattle.bufr_frame.specs.Runs.{max_reads};
     ghost use Rattle.bufr_text.specs.Reader.{ReaderModel};
-    ghost use Rattle.bufr_text.specs.Filling.{place_now, ends_by_feed, IsProgress};
+    ghost use Rattle.bufr_text.specs.Filling.{place_now, IsReader};
 
     ghost Value = { ReaderModel };
 
     ghost view = { λ f. record {
       at = f.progress.at;
       place = place_now f.fault f.progress;
-      held = slice_range f.buffer.items f.start f.filled;
-      ended = f.ended;
+      held = f.input.held;
+      ended = f.input.ended;
       fault = f.fault;
-      reads = f.reads;
+      reads = f.input.reads;
     } };
 
-    ghost invariant = { λ f. (f.start ≤ f.filled) × (f.filled ≤ vec_len f.buffer)
-        × (vec_len f.buffer ≤ 8192)
-        × (f.reads ≤ max_reads)
-        × (f.ended ≡ true → ends_by_feed (slice_range f.buffer.items f.start f.filled) ≡ true)
-        × (f.fault ≡ None → IsProgress f.progress (f.filled - f.start) f.reads)
-        × (0 < f.reads → vec_len f.buffer ≡ 8192) };
+    ghost invariant = { λ f. IsReader f.fault f.progress f.input };
 }
 
 impl LineRefusal {
@@ -99,18 +86,14 @@ impl DumpReader {
     {
         DumpReader {
             alloc,
-            buffer: Vec::new(alloc),
-            start: 0,
-            filled: 0,
+            input: InputBuffer::new(alloc),
             scratch: [0; MAX_LINE],
             progress: Progress {
                 place: ParserState::Between,
                 at: 1,
                 parts: DocumentParts::blank(alloc, 0),
             },
-            ended: false,
             fault: None,
-            reads: 0,
         }
     }
 
@@ -130,9 +113,9 @@ impl DumpReader {
         ensures value { result ≡ length (unfed self.now) }
         ensures bound { result ≤ 8192 }
     {
-        let held = self.filled - self.start;
-        // Behind the end what is held ends by the line feed that the text lacks.
-        if self.ended {
+        let held = self.input.held().len();
+        // After the end what is held ends by the line feed that the text lacks.
+        if self.input.ended() {
             held.saturating_sub(1)
         } else {
             held
@@ -159,13 +142,13 @@ impl DumpReader {
         ensures ended { self.new.ended ≡ self.old.ended }
         ensures reads { self.new.reads ≡ self.old.reads }
     {
-        let held = &self.buffer[self.start..self.filled];
+        let held = self.input.held();
         let Ok((len, taken)) = take_lines(&mut self.progress, held, &mut self.scratch) else {
             let fault = ReadFault::Run(RunFault::Memory);
             self.fault = Some(fault);
             return Err(fault);
         };
-        self.start += len;
+        self.input.skip(len);
         match taken {
             TakeResult::More => Ok(None),
             TakeResult::Gives => {
@@ -204,29 +187,19 @@ impl DumpReader {
         requires sound { self.old.fault ≡ None }
         requires going { self.old.ended ≡ false }
         requires short { length self.old.held ≤ 4096 }
-        requires few { self.old.reads < max_reads }
         ensures read { (bs : List ℕ)
             × ReadsMoreText (R.left r.old) (R.left r.new) self.old self.new result bs }
         ensures failed { R.failures r.new ≡ read_failures_after (R.failures r.old) result }
-        ensures made { R.reads r.new ≡ counted (R.reads r.old) (self.new.reads - self.old.reads) }
+        ensures counts { CountsTextReads (R.reads r.old) (R.reads r.new) self.old self.new }
     {
-        let slid = make_room(&mut self.buffer, self.start, self.filled)?;
-        self.start -= slid;
-        self.filled -= slid;
-        self.reads += 1;
-        let n = read_after(r, &mut self.buffer, self.filled, self.filled + CHUNK)?;
-        self.filled += n;
-        if n == 0 {
-            self.ended = true;
-            if self.start < self.filled {
-                push_line_feed(&mut self.buffer, self.filled);
-                self.filled += 1;
-            }
+        self.input.fill(r, MAX_LINE, 2 * MAX_LINE)?;
+        if self.input.ended() && !self.input.held().is_empty() {
+            self.input.push(b'\n');
         }
         Ok(())
     }
 
-    /// Reads once, where no line is held that is too long and not too many reads were made.
+    /// Reads once, where no line is held that is too long.
     fn fill<R: Source>(&mut self, r: &mut R) -> Result<(), ReadFault>
         requires sound { self.old.fault ≡ None }
         requires going { self.old.ended ≡ false }
@@ -237,12 +210,9 @@ impl DumpReader {
         ensures counts { CountsTextReads (R.reads r.old) (R.reads r.new) self.old self.new }
         ensures bound { length self.new.held ≤ 8192 }
     {
-        if self.filled - self.start > MAX_LINE {
+        if self.input.held().len() > MAX_LINE {
             let fault = ReadFault::Line(self.progress.at);
             return Err(self.stop(fault));
-        }
-        if self.reads == MAX_READS {
-            return Err(self.stop(ReadFault::Run(RunFault::InputTooLong)));
         }
         match self.read_more(r) {
             Ok(()) => Ok(()),
@@ -283,7 +253,7 @@ impl DumpReader {
             if let Some(document) = self.take_held()? {
                 return Ok(Some(document));
             }
-            if self.ended {
+            if self.input.ended() {
                 return self.finish();
             }
             self.fill(r)?;

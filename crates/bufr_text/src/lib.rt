@@ -2,7 +2,6 @@
 //! reading.
 #![tactic(auto)]
 
-mod buffer;
 mod descriptors;
 mod digits;
 mod document;

@@ -1,16 +1,14 @@
-use Rattle.std.proofs.Common.{◌≡◌, ◌-◌, ◌∙◌, Err, ap, sym, refl, arith, take}
+use Rattle.std.proofs.Common.{◌∙◌, Err, ap, refl, arith, take}
 use Rattle.std.proofs.lemmas.Result.{err_from_is_err_and}
-use Rattle.bufr_bits.proofs.CountLemmas.{counted-none}
 use Rattle.bufr_bits.specs.Counts.{counted}
-use Rattle.bufr_frame.proofs.InputLemmas.{read-none, read-more, reads-input, counted-one-more, read-fault, read-end}
+use Rattle.bufr_frame.proofs.InputLemmas.{read-none, read-more, reads-input, adds-none, adds-one, read-fault, read-end}
 use Rattle.bufr_frame.proofs.input.read_to_end.Goals as goal
 
 pub loop-reads-init : goal.loop-reads-init
 loop-reads-init g c = record {
   so_far = read-none _ _;
   failed = refl;
-  made = let e : c.args.reads.now - c.args.reads.now ≡ 0 = omega arith in rw e (sym (counted-none _));
-  within = omega (arith, c.requires);
+  counts = adds-none _ _ c.requires;
 }
 
 pub returns-in_err-held : goal.returns-in_err-held
@@ -21,8 +19,8 @@ returns-in_err-held g c =
     let before = c.loop-reads.invariant in record {
       read = reads-input _ _ _ _ _ c.from_residual.result (rw (refused.1) before.so_far) (rw is (omega (arith, c.loop-reads-test.true)));
       failed = rw is before.failed;
-      made = before.made;
-      within = before.within;
+      made = before.counts.made;
+      within = (before.counts.order, before.counts.most);
     }
 
 pub returns-in_err-read_once : goal.returns-in_err-read_once
@@ -32,11 +30,12 @@ returns-in_err-read_once g c =
     let fault = read-fault _ _ _ _ _ c.read_once.result _ c.in_err-read_once.was once in
     let is = p.1 ∙ ap Err (p.2 ∙ fault) in
     let before = c.loop-reads.invariant in
+    let counts = adds-one _ _ _ _ _ before.counts c.read_once.ensures.made c.loop-reads-test.true in
     let failed = rw (c.in_err-read_once.was, fault) at c.read_once.ensures.failed in record {
       read = reads-input _ _ _ _ _ c.from_residual-in_err-read_once.result (read-more _ _ _ _ (take c.in_ok-held.held c.make_room_after.new.octets.items) _ _ c.read_once.result (rw (c.in_ok-held.ensures.held) before.so_far) once) (rw is tt);
       failed = rw is (failed ∙ ap (λ n. counted n 1) before.failed);
-      made = counted-one-more _ _ _ _ _ before.made c.read_once.ensures.made before.within.0;
-      within = omega (arith, before.within, c.loop-reads-test.true);
+      made = counts.made;
+      within = (counts.order, counts.most);
     }
 
 pub returns-then-branch-eq0 : goal.returns-then-branch-eq0
@@ -44,11 +43,12 @@ returns-then-branch-eq0 g c =
     let once = c.read_once.ensures.read.1 in
     let end = read-end _ _ _ _ _ c.read_once.result _ c.in_ok-read_once.was c.if-branch-eq0.true once in
     let before = c.loop-reads.invariant in
+    let counts = adds-one _ _ _ _ _ before.counts c.read_once.ensures.made c.loop-reads-test.true in
     let failed = rw c.in_ok-read_once.was at c.read_once.ensures.failed in record {
       read = reads-input _ _ _ _ _ _ (read-more _ _ _ _ (take c.in_ok-held.held c.make_room_after.new.octets.items) _ _ c.read_once.result (rw (c.in_ok-held.ensures.held) before.so_far) once) end;
       failed = failed ∙ before.failed;
-      made = counted-one-more _ _ _ _ _ before.made c.read_once.ensures.made before.within.0;
-      within = omega (arith, before.within, c.loop-reads-test.true);
+      made = counts.made;
+      within = (counts.order, counts.most);
     }
 
 pub loop-reads-preserved : goal.loop-reads-preserved
@@ -58,15 +58,14 @@ loop-reads-preserved g c =
     let failed = rw c.in_ok-read_once.was at c.read_once.ensures.failed in record {
       so_far = read-more _ _ _ _ (take c.in_ok-held.held c.make_room_after.new.octets.items) _ _ c.read_once.result (rw (c.in_ok-held.ensures.held) before.so_far) once;
       failed = failed ∙ before.failed;
-      made = counted-one-more _ _ _ _ _ before.made c.read_once.ensures.made before.within.0;
-      within = omega (arith, before.within, c.loop-reads-test.true);
+      counts = adds-one _ _ _ _ _ before.counts c.read_once.ensures.made c.loop-reads-test.true;
     }
 
 pub returns : goal.returns
 returns g c =
     let before = c.loop-reads.invariant in record {
-      read = reads-input _ _ _ _ _ _ before.so_far (omega (arith, before.within, c.loop-reads-test.false));
+      read = reads-input _ _ _ _ _ _ before.so_far (omega (arith, before.counts.most, c.loop-reads-test.false));
       failed = before.failed;
-      made = before.made;
-      within = before.within;
+      made = before.counts.made;
+      within = (before.counts.order, before.counts.most);
     }

@@ -1,6 +1,5 @@
-use Rattle.std.proofs.Common.{◌≡◌, ◌≤◌, ◌-◌}
-use Rattle.bufr_bits.specs.Counts.{counted}
-use Rattle.bufr_frame.specs.Runs.{max_reads}
+use Rattle.std.proofs.Common.{◌≡◌, ◌-◌}
+use Rattle.bufr_frame.specs.Runs.{AddsReads, max_reads}
 use Rattle.bufr_frame.proofs.InputLemmas.{ReadSoFar}
 use Rattle.bufr_frame.proofs.input.read_to_end.Given as goal
 
@@ -9,8 +8,7 @@ abbrev pub invariant-loop-reads : goal.invariant-loop-reads
 invariant-loop-reads g l = record {
   so_far : ReadSoFar (g.R.Source.left l.fn.r) (g.R.Source.left l.r) l.fn.octets.items l.octets.items;
   failed : g.R.Source.failures l.r ≡ g.R.Source.failures l.fn.r;
-  made : g.R.Source.reads l.r ≡ counted (g.R.Source.reads l.fn.r) (l.reads - l.fn.reads);
-  within : (l.fn.reads ≤ l.reads) × (l.reads ≤ max_reads);
+  counts : AddsReads (g.R.Source.reads l.fn.r) (g.R.Source.reads l.r) l.fn.reads l.reads;
 }
 
 abbrev pub decreases-loop-reads : goal.decreases-loop-reads

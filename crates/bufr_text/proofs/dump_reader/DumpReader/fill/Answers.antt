@@ -1,7 +1,6 @@
 use Rattle.std.proofs.Common.{◌∙◌, ◌<◌, ℕ, [], length, refl, sym, ap, subst, arith}
 use Rattle.std.specs.Prelude.{Err}
 use Rattle.std.proofs.KnownBytes.{Consumes-nil}
-use Rattle.bufr_frame.proofs.BufferLemmas.{part-length}
 use Rattle.bufr_text.specs.Documents.{ParserState}
 use Rattle.bufr_text.specs.Reader.{ReaderModel}
 use Rattle.bufr_text.specs.Filling.{FillsBuffer, stopped}
@@ -11,15 +10,15 @@ use Rattle.bufr_text.proofs.ReadingLemmas.{Reads}
 use Rattle.bufr_text.proofs.ReaderLemmas.{place-sound, reads-place, long-reports}
 use Rattle.bufr_text.proofs.dump_reader.DumpReader.fill.Goals as goal
 
-pub returns-then-self-gt-MAX_LINE-clause-read : goal.returns-then-self-gt-MAX_LINE-clause-read
-returns-then-self-gt-MAX_LINE-clause-read g c =
+pub returns-then-held-gt-MAX_LINE-clause-read : goal.returns-then-held-gt-MAX_LINE-clause-read
+returns-then-held-gt-MAX_LINE-clause-read g c =
     let v = c.self.inside in
     let s = c.args.self.now in
     let left = g.R.Source.left c.args.r.now in
     let sound = ap (λ s. s.fault) c.self.view_is ∙ c.requires.sound in
     let place = ap (λ s. s.place) (sym c.self.view_is) ∙ place-sound v.fault v.progress sound in
     let R : ParserState → Type 0 = λ p. Reads p in
-    let long : 4096 < length s.held = omega (arith, c.if-self-gt-MAX_LINE.true, part-length v.buffer.items v.start v.filled (omega (arith, c.self.invariant, v.buffer.ok.0)), ap (λ s. length s.held) c.self.view_is) in
+    let long : 4096 < length s.held = omega (arith, c.if-held-gt-MAX_LINE.true, ap length c.held.ensures, ap (λ s. length s.held) c.self.view_is) in
     let reports = long-reports s (subst R (sym place) (reads-place v.progress.place v.progress.parts)) c.requires.none long in
     let F : ReadFault → Type 0 = λ f. FillsBuffer left left s c.stop.new.self (Err f) [] in
     let N : ReaderModel → Type 0 = λ n. FillsBuffer left left s n (Err (fault.Line v.progress.at)) [] in

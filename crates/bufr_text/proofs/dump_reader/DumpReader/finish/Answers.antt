@@ -13,7 +13,7 @@ pub returns-in-Between-clause-end : goal.returns-in-Between-clause-end
 returns-in-Between-clause-end c =
     let v = c.self.inside in
     let sound = ap (λ s. s.fault) c.self.view_is ∙ c.requires.sound in
-    let held = none-held c.args.self.now c.requires.ended (λ e. ap (λ s. ends_by_feed s.held) (sym c.self.view_is) ∙ c.self.invariant.4 (ap (λ s. s.ended) c.self.view_is ∙ e)) c.requires.none in
+    let held = none-held c.args.self.now c.requires.ended (λ e. ap (λ s. ends_by_feed s.held) (sym c.self.view_is) ∙ c.self.invariant.2 (ap (λ s. s.ended) c.self.view_is ∙ e)) c.requires.none in
     let place = ap (λ s. s.place) (sym c.self.view_is) ∙ place-sound v.fault v.progress sound ∙ ap (λ p. place_with p v.progress.parts) c.in-Between.is in
     (refl, held, done-between c.args.self.now place held)
 
@@ -22,7 +22,7 @@ returns-in_default c =
     let v = c.self.inside in
     let s = c.args.self.now in
     let sound = ap (λ s. s.fault) c.self.view_is ∙ c.requires.sound in
-    let held = none-held s c.requires.ended (λ e. ap (λ s. ends_by_feed s.held) (sym c.self.view_is) ∙ c.self.invariant.4 (ap (λ s. s.ended) c.self.view_is ∙ e)) c.requires.none in
+    let held = none-held s c.requires.ended (λ e. ap (λ s. ends_by_feed s.held) (sym c.self.view_is) ∙ c.self.invariant.2 (ap (λ s. s.ended) c.self.view_is ∙ e)) c.requires.none in
     let place = ap (λ s. s.place) (sym c.self.view_is) ∙ place-sound v.fault v.progress sound in
     let results = ap (reported_at_end s.at) place ∙ reported-inside v.progress.place v.progress.parts s.at c.in_default.not-Between in
     let F : ReadFault → Type 0 = λ f. HandlesEnd s c.stop.new.self (Err f) in

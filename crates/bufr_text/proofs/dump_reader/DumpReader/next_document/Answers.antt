@@ -1,11 +1,13 @@
 use Rattle.std.proofs.Common.{inl, ◌∙◌, ◌++◌, [], refl, ap, sym, subst, arith}
 use Rattle.std.specs.Prelude.{Err, Result, Option}
 use Rattle.std.proofs.lemmas.Result.{err_from_is_err_and}
+use Rattle.bufr_frame.proofs.InputLemmas.{adds-none, adds-same, adds-then}
+use Rattle.bufr_frame.proofs.AdvanceLemmas.{none-unless}
 use Rattle.bufr_text.specs.Document.{Document}
 use Rattle.bufr_text.specs.Reader.{ReturnsNextDocument}
 use Rattle.bufr_text.specs.declared.fault.ReadFault.{ReadFault}
 use Rattle.bufr_text.proofs.CallLemmas.{call-none}
-use Rattle.bufr_text.proofs.NextLemmas.{counts-none, counts-then, counts-same, waits-same, call-takes, went-document, went-fault, end-next, fill-call, fill-waits, fill-fault, end-proper, none-unless}
+use Rattle.bufr_text.proofs.NextLemmas.{waits-same, call-takes, went-document, went-fault, end-next, fill-call, fill-waits, fill-fault, end-proper}
 use Rattle.bufr_text.proofs.dump_reader.DumpReader.next_document.Goals as goal
 
 pub loop-document-init : goal.loop-document-init
@@ -13,7 +15,7 @@ loop-document-init g c = record {
   octets = [];
   call = call-none _ c.args.self.now;
   waits = inl refl;
-  counts = counts-none _ c.args.self.now (omega (arith, c.self.invariant, ap (λ s. s.reads) c.self.view_is));
+  counts = adds-none _ _ (omega (arith, c.self.invariant, ap (λ s. s.reads) c.self.view_is));
   failed = refl;
   sound = sym (ap (λ s. s.fault) c.self.view_is) ∙ none-unless c.self.inside.fault c.in_default.not-Some;
 }
@@ -30,14 +32,14 @@ returns-in-Some-2-clause-next g c =
     let before = c.loop-document.invariant in
     λ _. went-document _ _ c.args.self.now c.loop-document.self c.take_held.new.self before.octets before.call before.waits c.take_held.ensures.ended c.take_held.ensures.reads c.in-Some-2.document (rw (c.in_ok-document.was, c.in-Some-2.is) at c.take_held.ensures.went)
 
-pub returns-then-self-clause-next : goal.returns-then-self-clause-next
-returns-then-self-clause-next g c =
+pub returns-then-ended-clause-next : goal.returns-then-ended-clause-next
+returns-then-ended-clause-next g c =
     let before = c.loop-document.invariant in
     let s = c.take_held.new.self in
     let went = rw (c.in_ok-document.was, none-unless c.in_ok-document.field-0 c.in_default-2.not-Some) at c.take_held.ensures.went in
     let call = call-takes _ _ c.args.self.now c.loop-document.self s before.octets [] before.call went.0 c.take_held.ensures.ended c.take_held.ensures.reads in
     let waits = waits-same _ c.args.self.now c.loop-document.self s before.octets before.octets before.waits c.take_held.ensures.reads refl in
-    λ _. end-next _ _ c.args.self.now s c.finish.new.self before.octets call waits went.1 (sym (ap (λ x. x.ended) c.self-in-loop-document.view_is) ∙ c.if-self.true) c.finish.result c.finish.ensures.end
+    λ _. end-next _ _ c.args.self.now s c.finish.new.self before.octets call waits went.1 (sym (ap (λ x. x.ended) c.self-in-loop-document.view_is) ∙ sym c.ended.ensures ∙ c.if-ended.true) c.finish.result c.finish.ensures.end
 
 pub loop-document-preserved : goal.loop-document-preserved
 loop-document-preserved g c =
@@ -46,13 +48,13 @@ loop-document-preserved g c =
     let went = rw (c.in_ok-document.was, none-unless c.in_ok-document.field-0 c.in_default-2.not-Some) at c.take_held.ensures.went in
     let call = call-takes _ _ c.args.self.now c.loop-document.self s before.octets [] before.call went.0 c.take_held.ensures.ended c.take_held.ensures.reads in
     let waits = waits-same _ c.args.self.now c.loop-document.self s before.octets before.octets before.waits c.take_held.ensures.reads refl in
-    let open' = sym (ap (λ x. x.ended) c.self-in-loop-document.view_is) ∙ c.if-self.false in
+    let open' = sym (ap (λ x. x.ended) c.self-in-loop-document.view_is) ∙ sym c.ended.ensures ∙ c.if-ended.false in
     let filled = rw c.in_ok-fill.was at c.fill.ensures.read.1 in
     let bs = c.fill.ensures.read.0 in record {
       octets = before.octets ++ bs;
       call = fill-call _ _ _ c.args.self.now s c.fill.new.self before.octets bs call waits open' went.2 filled;
       waits = fill-waits _ _ _ c.args.self.now s c.fill.new.self before.octets bs call waits open' went.2 filled;
-      counts = counts-then _ _ _ c.args.self.now s c.fill.new.self (counts-same _ _ c.args.self.now c.loop-document.self s before.counts c.take_held.ensures.reads) c.fill.ensures.counts;
+      counts = adds-then _ _ _ _ _ _ (adds-same _ _ _ _ _ before.counts c.take_held.ensures.reads) c.fill.ensures.counts;
       failed = (rw c.in_ok-fill.was at c.fill.ensures.failed) ∙ before.failed;
       sound = filled.0.fault;
     }
@@ -64,7 +66,7 @@ returns-in_err-fill-clause-next g c =
     let went = rw (c.in_ok-document.was, none-unless c.in_ok-document.field-0 c.in_default-2.not-Some) at c.take_held.ensures.went in
     let call = call-takes _ _ c.args.self.now c.loop-document.self s before.octets [] before.call went.0 c.take_held.ensures.ended c.take_held.ensures.reads in
     let waits = waits-same _ c.args.self.now c.loop-document.self s before.octets before.octets before.waits c.take_held.ensures.reads refl in
-    let open' = sym (ap (λ x. x.ended) c.self-in-loop-document.view_is) ∙ c.if-self.false in
+    let open' = sym (ap (λ x. x.ended) c.self-in-loop-document.view_is) ∙ sym c.ended.ensures ∙ c.if-ended.false in
     let p = err_from_is_err_and c.from_residual-in_err-fill.result c.from_residual-in_err-fill.ensures.1 in
     let N : Result (Option Document) ReadFault → Type 0 = λ r. ReturnsNextDocument (g.R.Source.left c.args.r.now) (g.R.Source.left c.fill.new.r) c.args.self.now c.fill.new.self r in
     λ _. subst N (sym (p.1 ∙ ap Err p.2)) (fill-fault _ _ _ c.args.self.now s c.fill.new.self before.octets c.fill.ensures.read.0 call waits open' went.2 _ (rw c.in_err-fill.was at c.fill.ensures.read.1))
@@ -72,5 +74,5 @@ returns-in_err-fill-clause-next g c =
 pub returns-in-Some-2-clause-proper : goal.returns-in-Some-2-clause-proper
 returns-in-Some-2-clause-proper g c = rw (c.in_ok-document.was, c.in-Some-2.is) at c.take_held.ensures.proper
 
-pub returns-then-self-clause-proper : goal.returns-then-self-clause-proper
-returns-then-self-clause-proper g c = end-proper _ _ c.finish.result c.finish.ensures.end
+pub returns-then-ended-clause-proper : goal.returns-then-ended-clause-proper
+returns-then-ended-clause-proper g c = end-proper _ _ c.finish.result c.finish.ensures.end

@@ -1,5 +1,5 @@
 use Rattle.bufr_frame.proofs.BufferLemmas.{after-read}
-use Rattle.bufr_frame.proofs.buffer.read_after.Goals as goal
+use Rattle.bufr_frame.proofs.input.read_after.Goals as goal
 
 pub returns-in-Ok-clause-read : goal.returns-in-Ok-clause-read
 returns-in-Ok-clause-read g c =
