@@ -5,4 +5,4 @@ use Rattle.bufr_text.proofs.PushLemmas.{retold}
 use Rattle.bufr_text.proofs.item_line.push_comment.Goals as goal
 
 pub returns-in-Some : goal.returns-in-Some
-returns-in-Some g c = rw c.in-Some.is (retold c.push-in-Some.ensures (c.comment.ensures ∙ comment-ready (row_of_entry c.in-Some.entry)))
+returns-in-Some g c = rw c.in-Some.is (retold c.push.ensures (c.comment.ensures ∙ comment-ready (row_of_entry c.in-Some.entry)))
