@@ -1,4 +1,4 @@
--- How Table B is kept: the comments of its rows one after another in one block of octets, and for
+-- How Table B is kept: the texts of its rows one after another in one block of octets, and for
 -- each element the places in it.
 -- Cited by private steps only.
 use Rattle.std.specs.Prelude.{◌≡◌, ℕ, ◌<◌, List, ◌++◌, map}

@@ -9,7 +9,7 @@ use Rattle.bufr_tables.specs.declared.fault.TableFault.{TableFault}
 use Rattle.bufr_tables.specs.declared.fault.TableFault.TheVariants.{Row as RowFault, Duplicate, Csv}
 use Rattle.bufr_tables.specs.declared.kind.Kind.{Kind}
 use Rattle.bufr_tables.specs.declared.kind.Kind.TheVariants.{Character, Coded, Numeric}
-use Rattle.bufr_tables.specs.Fxy.{f_of, fxy_of, is_factor, y_of}
+use Rattle.bufr_tables.specs.Fxy.{f_of, fxy_of, fxy_text, is_factor, y_of}
 use Rattle.bufr_tables.specs.Kind.{kind_of}
 use Rattle.bufr_tables.specs.Number.{i64_of}
 use Rattle.bufr_tables.specs.Records.{Record, field_of}
@@ -25,6 +25,10 @@ pub record Row : Type 0 where
   pub scale : ℤ
   pub reference : ℤ
   pub width : ℕ
+
+-- the start of an item's line: the six digits of the descriptor and a space
+abbrev pub row_line_start : Row → List ℕ
+row_line_start row = fxy_text row.fxy ++ codes " "
 
 -- the comment at the end of an item's line: `  # NAME [UNIT]` and a line feed
 abbrev pub row_comment : Row → List ℕ

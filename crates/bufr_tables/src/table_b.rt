@@ -23,7 +23,7 @@ use std::marker::Model;
 /// The fields of the header.
 const HEADER: [&[u8]; 6] = [b"fxy", b"name", b"unit", b"scale", b"reference", b"width"];
 
-/// An element as the table keeps it. Its comment, `  # NAME [UNIT]` and a line feed, goes from
+/// An element as the table keeps it. Its octets, `FXXYYY   # NAME [UNIT]` and a line feed, go from
 /// `start` to `end`. Its name ends at `middle`.
 #[derive(Clone, Copy)]
 struct Stored {
@@ -44,7 +44,7 @@ struct Stored {
 /// entries are equal where their rows are.
 #[derive(Clone, Copy)]
 pub struct Entry<'a> {
-    /// The texts of all rows.
+    /// The octets of all rows.
     octets: &'a [u8],
     stored: &'a Stored,
     ghost kept: { IsRowKept octets.now stored.now },
@@ -53,7 +53,7 @@ pub struct Entry<'a> {
 impl<'a> Entry<'a> {
     ghost use Rattle.std.specs.Prelude.{◌≡◌};
     ghost use Rattle.bufr_tables.specs.Entry.{row_of_entry};
-    ghost use Rattle.bufr_tables.specs.TableB.{row_comment};
+    ghost use Rattle.bufr_tables.specs.TableB.{row_comment, row_line_start};
 
     /// The descriptor of the element.
     #[inline(always)]
@@ -70,7 +70,7 @@ impl<'a> Entry<'a> {
         ensures { result.now ≡ (row_of_entry self.now).name }
     {
         let stored = self.stored;
-        &self.octets[stored.start + 4..stored.middle]
+        &self.octets[stored.start + 11..stored.middle]
     }
 
     /// The unit, within the same limits.
@@ -82,13 +82,22 @@ impl<'a> Entry<'a> {
         &self.octets[stored.middle + 2..stored.end - 2]
     }
 
+    /// The start of an item's line: the six digits of the descriptor and a space.
+    #[inline(always)]
+    pub fn line_start(&self) -> &'a [u8]
+        ensures { result.now ≡ row_line_start (row_of_entry self.now) }
+    {
+        let start = self.stored.start;
+        &self.octets[start..start + 7]
+    }
+
     /// The comment at the end of an item's line: `  # NAME [UNIT]` and a line feed.
     #[inline(always)]
     pub fn comment(&self) -> &'a [u8]
         ensures { result.now ≡ row_comment (row_of_entry self.now) }
     {
         let stored = self.stored;
-        &self.octets[stored.start..stored.end]
+        &self.octets[stored.start + 7..stored.end]
     }
 
     /// What the values are, as the unit says.
@@ -320,7 +329,7 @@ fn row(fields: &ByteRecord) -> Option<ParsedRow<'_>>
 /// ```
 #[derive(Drop)]
 pub struct TableB {
-    /// The comments of the elements, one after another.
+    /// The octets of the elements, one after another.
     octets: Vec<u8>,
     stored: Vec<Stored>,
     /// The descriptors of `stored`.
@@ -432,12 +441,14 @@ impl TableB {
     }
 }
 
-/// Pushes the comment of a row onto a block of octets.
+/// Pushes the octets of a row onto a block of octets.
 fn store(octets: &mut Vec<u8>, row: &ParsedRow) -> Result<Stored, AllocError>
     ensures grows { ExtendsBlock octets.old.items octets.new.items }
     ensures ok { IfOk result (λ s. IsStored octets.new.items row.now s) }
 {
     let start = octets.len();
+    octets.extend_from_slice(&row.fxy.text())?;
+    octets.extend_from_slice(b" ")?;
     octets.extend_from_slice(b"  # ")?;
     octets.extend_from_slice(row.name)?;
     let middle = octets.len();

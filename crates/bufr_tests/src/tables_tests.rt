@@ -97,8 +97,15 @@ fn elements(rt: HostRuntime) {
 fn entries(rt: HostRuntime) {
     let (table, again) = (table_b(&rt), table_b(&rt));
     let found = entry_of(&table, 0x0c65);
+    let entry = some(&rt, found);
+    let start: &[u8] = b"012101 ";
     let comment: &[u8] = b"  # AIR TEMPERATURE [K]\n";
-    assert_same(&rt, &some(&rt, found).comment(), &comment, &"comment");
+    assert_same(
+        &rt,
+        &(entry.line_start(), entry.comment()),
+        &(start, comment),
+        &"line",
+    );
     assert_same(&rt, &entry_of(&again, 0x0c65), &found, &"another table");
     assert_that(&rt, entry_of(&table, 0x0101) != found, &"another element");
 }

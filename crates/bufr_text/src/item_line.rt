@@ -13,38 +13,62 @@ use bufr_bits::Sink;
 use bufr_tables::{Entry, Fxy};
 use bufr_walk::{ItemView, Value};
 
+/// Pushes a descriptor and a space. An entry of this descriptor has them ready.
+#[inline(always)]
+fn push_descriptor<W: Sink>(lines: &mut LineWriter<'_, '_, W>, fxy: Fxy, entry: Option<Entry<'_>>)
+    ensures { Pushes lines.old (fxy_text fxy ++ 32 ∷ []) lines.new }
+{
+    match entry {
+        Some(entry) if entry.fxy() == fxy => lines.push(entry.line_start()),
+        _ => {
+            lines.push(&fxy.text());
+            lines.push(b" ");
+        }
+    }
+}
+
 /// Pushes a descriptor, a space and a number.
 #[inline(always)]
 // rule: text-number
-fn push_number<W: Sink>(lines: &mut LineWriter<'_, '_, W>, fxy: Fxy, value: i128, scale: i16)
+fn push_number<W: Sink>(
+    lines: &mut LineWriter<'_, '_, W>,
+    fxy: Fxy,
+    entry: Option<Entry<'_>>,
+    value: i128,
+    scale: i16,
+)
     ensures { Pushes lines.old (fxy_text fxy ++ 32 ∷ decimal_text_of value scale) lines.new }
 {
-    lines.push(&fxy.text());
-    lines.push(b" ");
+    push_descriptor(lines, fxy, entry);
     lines.push_scaled(value, scale);
 }
 
 /// Pushes a descriptor and the text of a value.
 #[inline(always)]
 // rule: text-missing, text-reference
-fn push_form<W: Sink>(lines: &mut LineWriter<'_, '_, W>, fxy: Fxy, value: Value<'_>)
+fn push_form<W: Sink>(
+    lines: &mut LineWriter<'_, '_, W>,
+    fxy: Fxy,
+    entry: Option<Entry<'_>>,
+    value: Value<'_>,
+)
     ensures { Pushes lines.old
         (form_text fxy (dump_value_of (value_of (seen_value value.entry)))) lines.new }
 {
     match value {
-        Value::Number(number, scale) => push_number(lines, fxy, number, scale),
+        Value::Number(number, scale) => push_number(lines, fxy, entry, number, scale),
         Value::Text(octets) => {
-            lines.push(&fxy.text());
-            lines.push(b" \"");
+            push_descriptor(lines, fxy, entry);
+            lines.push(b"\"");
             lines.push_quoted(octets);
         }
         Value::Missing => {
-            lines.push(&fxy.text());
-            lines.push(b" MISSING");
+            push_descriptor(lines, fxy, entry);
+            lines.push(b"MISSING");
         }
         Value::Reference(reference) => {
             lines.push(b"R ");
-            push_number(lines, fxy, i128::from(reference), 0);
+            push_number(lines, fxy, entry, i128::from(reference), 0);
         }
     }
 }
@@ -68,6 +92,6 @@ fn push_comment<W: Sink>(lines: &mut LineWriter<'_, '_, W>, entry: Option<Entry<
 pub(crate) fn push_item<W: Sink>(lines: &mut LineWriter<'_, '_, W>, item: &ItemView<'_>)
     ensures { Pushes lines.old (item_text (dump_item_of (seen item.now)) ++ 10 ∷ []) lines.new }
 {
-    push_form(lines, item.fxy, item.value);
+    push_form(lines, item.fxy, item.entry, item.value);
     push_comment(lines, item.entry);
 }

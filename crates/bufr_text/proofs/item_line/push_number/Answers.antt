@@ -3,4 +3,4 @@ use Rattle.bufr_text.proofs.PushLemmas.{◌⨾◌, retold}
 use Rattle.bufr_text.proofs.item_line.push_number.Goals as goal
 
 pub returns : goal.returns
-returns g c = retold (c.push.ensures ⨾ (c.push-2.ensures ⨾ c.push_scaled.ensures)) (search rules)
+returns g c = retold (c.push_descriptor.ensures ⨾ c.push_scaled.ensures) (search rules)
