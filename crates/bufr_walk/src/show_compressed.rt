@@ -56,11 +56,11 @@ fn increased(base: Base, k: u32, increment: u64) -> Option<u64>
 
 /// Whether the base of a kept item that is a number is all ones.
 #[inline(always)]
-fn is_full(data: &PackedData<'_>, item: &IndexedItem) -> bool
-    requires fits { fits_at (bits_of (octets_of data.now.bits)) data.now.subsets item.now ≡ true }
+fn is_full(pack: &PackedData<'_>, item: &IndexedItem) -> bool
+    requires fits { fits_at (bits_of (octets_of pack.now.bits)) pack.now.subsets item.now ≡ true }
     requires number { is_character item.now.spec.kind ≡ false }
     ensures { result
-        ≡ are_all_ones (bits_at (octets_of data.now.bits) item.now.at item.now.spec.width) }
+        ≡ are_all_ones (bits_at (octets_of pack.now.bits) item.now.at item.now.spec.width) }
 {
     item.base == (1 << item.spec.width()) - 1
 }
@@ -69,15 +69,15 @@ fn is_full(data: &PackedData<'_>, item: &IndexedItem) -> bool
 /// subset is missing too.
 #[tactic(auto, using(crate::proofs::PackedAt::kept_number))]
 #[inline(always)]
-fn base_of(data: &PackedData<'_>, item: &IndexedItem) -> Option<Base>
-    requires fits { fits_at (bits_of (octets_of data.now.bits)) data.now.subsets item.now ≡ true }
+fn base_of(pack: &PackedData<'_>, item: &IndexedItem) -> Option<Base>
+    requires fits { fits_at (bits_of (octets_of pack.now.bits)) pack.now.subsets item.now ≡ true }
     requires number { is_character item.now.spec.kind ≡ false }
     ensures missing { IfNone result (is_missing item.now.spec
-        (bits_at (octets_of data.now.bits) item.now.at item.now.spec.width) ≡ true) }
+        (bits_at (octets_of pack.now.bits) item.now.at item.now.spec.width) ≡ true) }
     ensures there { OnSome result (is_missing item.now.spec
-        (bits_at (octets_of data.now.bits) item.now.at item.now.spec.width) ≡ false) }
+        (bits_at (octets_of pack.now.bits) item.now.at item.now.spec.width) ≡ false) }
     ensures value { IfSome result (λ b. b.value
-        ≡ number_of (bits_at (octets_of data.now.bits) item.now.at item.now.spec.width)) }
+        ≡ number_of (bits_at (octets_of pack.now.bits) item.now.at item.now.spec.width)) }
     ensures width { IfSome result (λ b. b.width ≡ item.now.spec.width) }
     ensures may_be_missing { IfSome result
         (λ b. b.may_be_missing ≡ item.now.spec.may_be_missing) }
@@ -86,7 +86,7 @@ fn base_of(data: &PackedData<'_>, item: &IndexedItem) -> Option<Base>
 {
     let width = item.spec.width();
     let may_be_missing = item.spec.may_be_missing();
-    let full = is_full(data, item);
+    let full = is_full(pack, item);
     if full && may_be_missing {
         return None;
     }
@@ -100,22 +100,22 @@ fn base_of(data: &PackedData<'_>, item: &IndexedItem) -> Option<Base>
 /// The number of one subset, counted from 0; `None` where it is missing.
 #[inline(always)]
 // rule: compressed-all-missing
-fn number_in(data: &PackedData<'_>, item: &IndexedItem, k: u32, subset: u16) -> Option<u64>
-    requires fits { fits_at (bits_of (octets_of data.now.bits)) data.now.subsets item.now ≡ true }
+fn number_in(pack: &PackedData<'_>, item: &IndexedItem, k: u32, subset: u16) -> Option<u64>
+    requires fits { fits_at (bits_of (octets_of pack.now.bits)) pack.now.subsets item.now ≡ true }
     requires increment { k ≤ 63 }
     requires number { is_character item.now.spec.kind ≡ false }
     requires within { item.now.at + (item.now.spec.width + 6) + (subset + 1) * k
-        ≤ 8 * length (octets_of data.now.bits) }
+        ≤ 8 * length (octets_of pack.now.bits) }
     ensures { sum_content result ≡ number_from item.now.spec k
-        (bits_at (octets_of data.now.bits) item.now.at item.now.spec.width)
+        (bits_at (octets_of pack.now.bits) item.now.at item.now.spec.width)
         (take k (drop (subset * k)
-        (drop (item.now.at + (item.now.spec.width + 6)) (bits_of (octets_of data.now.bits))))) }
+        (drop (item.now.at + (item.now.spec.width + 6)) (bits_of (octets_of pack.now.bits))))) }
 {
-    let Some(base) = base_of(data, item) else {
+    let Some(base) = base_of(pack, item) else {
         return None;
     };
     let place = item.at + (u64::from(base.width) + 6) + u64::from(subset) * u64::from(k);
-    increased(base, k, number_at(&data.bits, place, k))
+    increased(base, k, number_at(&pack.bits, place, k))
 }
 
 /// A number as it is shown.
@@ -144,14 +144,14 @@ fn pad(text: &mut [u8; 255], from: usize, count: usize)
 /// missing.
 #[tactic(auto, using(crate::proofs::PackedAt::number_content, crate::proofs::PackedAt::step_small))]
 #[inline(always)]
-fn number_of(data: &PackedData<'_>, item: &IndexedItem, subset: u16) -> Option<u64>
-    requires increment { HasIncrement (bits_of (octets_of data.now.bits)) data.now.subsets
+fn number_of(pack: &PackedData<'_>, item: &IndexedItem, subset: u16) -> Option<u64>
+    requires increment { HasIncrement (bits_of (octets_of pack.now.bits)) pack.now.subsets
         item.now subset }
     requires number { is_character item.now.spec.kind ≡ false }
     ensures { sum_content result
-        ≡ content_kept (bits_of (octets_of data.now.bits)) data.now.subsets item.now subset }
+        ≡ content_kept (bits_of (octets_of pack.now.bits)) pack.now.subsets item.now subset }
 {
-    number_in(data, item, u32::from(item.step), subset)
+    number_in(pack, item, u32::from(item.step), subset)
 }
 
 /// Location of the text of one subset: its first bit, and how many octets, which spaces follow.
@@ -172,18 +172,18 @@ fn text_place(bits: &BitSlice<'_>, item: &IndexedItem, subset: u16) -> u64
 }
 
 /// The location of the text of a kept item with increments for one subset, counted from 0.
-fn text_span(data: &PackedData<'_>, item: &IndexedItem, subset: u16) -> TextSpan
-    requires increment { HasIncrement (bits_of (octets_of data.now.bits)) data.now.subsets
+fn text_span(pack: &PackedData<'_>, item: &IndexedItem, subset: u16) -> TextSpan
+    requires increment { HasIncrement (bits_of (octets_of pack.now.bits)) pack.now.subsets
         item.now subset }
     requires text { is_character item.now.spec.kind ≡ true }
-    ensures within { result.place + 8 * result.octets ≤ 8 * length (octets_of data.now.bits) }
+    ensures within { result.place + 8 * result.octets ≤ 8 * length (octets_of pack.now.bits) }
     ensures few { result.octets ≤ item.now.spec.width / 8 }
-    ensures text { text_at (bits_of (octets_of data.now.bits)) (item.now.spec.width / 8)
+    ensures text { text_at (bits_of (octets_of pack.now.bits)) (item.now.spec.width / 8)
         result.place result.octets
-        ≡ content_kept (bits_of (octets_of data.now.bits)) data.now.subsets item.now subset }
+        ≡ content_kept (bits_of (octets_of pack.now.bits)) pack.now.subsets item.now subset }
 {
     TextSpan {
-        place: text_place(&data.bits, item, subset),
+        place: text_place(&pack.bits, item, subset),
         octets: usize::from(item.step),
     }
 }
@@ -231,95 +231,95 @@ fn text_value<'t>(
 /// of its own, so that only texts pay for its array.
 #[inline(never)]
 fn show_text<V: Visitor>(
-    data: &PackedData<'_>,
+    pack: &PackedData<'_>,
     item: &IndexedItem,
     subset: u16,
     visitor: &mut V,
 ) -> Result<(), V::Fault>
-    requires increment { HasIncrement (bits_of (octets_of data.now.bits)) data.now.subsets
+    requires increment { HasIncrement (bits_of (octets_of pack.now.bits)) pack.now.subsets
         item.now subset }
     requires text { is_character item.now.spec.kind ≡ true }
-    ensures { V.sees visitor.old (call_kept data.now.table.now (bits_of (octets_of data.now.bits))
-        data.now.subsets item.now subset) result visitor.new }
+    ensures { V.sees visitor.old (call_kept pack.now.table.now (bits_of (octets_of pack.now.bits))
+        pack.now.subsets item.now subset) result visitor.new }
 {
     let mut text = [0u8; 255];
-    let span = text_span(data, item, subset);
+    let span = text_span(pack, item, subset);
     let count = (item.spec.width() / 8) as usize;
-    copy_text(&data.bits, span, count, &mut text);
-    let value = text_value(&data.bits, &item.spec, span, count, &text);
-    show_value(data.table, &item.spec, value, visitor)
+    copy_text(&pack.bits, span, count, &mut text);
+    let value = text_value(&pack.bits, &item.spec, span, count, &text);
+    show_value(pack.table, &item.spec, value, visitor)
 }
 
 /// Shows the number of a kept item with increments for one subset, counted from 0.
 fn show_number<V: Visitor>(
-    data: &PackedData<'_>,
+    pack: &PackedData<'_>,
     item: &IndexedItem,
     subset: u16,
     visitor: &mut V,
 ) -> Result<(), V::Fault>
-    requires increment { HasIncrement (bits_of (octets_of data.now.bits)) data.now.subsets
+    requires increment { HasIncrement (bits_of (octets_of pack.now.bits)) pack.now.subsets
         item.now subset }
     requires number { is_character item.now.spec.kind ≡ false }
-    ensures { V.sees visitor.old (call_kept data.now.table.now (bits_of (octets_of data.now.bits))
-        data.now.subsets item.now subset) result visitor.new }
+    ensures { V.sees visitor.old (call_kept pack.now.table.now (bits_of (octets_of pack.now.bits))
+        pack.now.subsets item.now subset) result visitor.new }
 {
-    let raw = number_of(data, item, subset);
+    let raw = number_of(pack, item, subset);
     let value = number_value(&item.spec, raw);
-    show_value(data.table, &item.spec, value, visitor)
+    show_value(pack.table, &item.spec, value, visitor)
 }
 
 /// Shows the base of a kept item with no increments, which all subsets have.
 // rule: compressed-equal
 fn show_base<V: Visitor>(
-    data: &PackedData<'_>,
+    pack: &PackedData<'_>,
     item: &IndexedItem,
     subset: u16,
     visitor: &mut V,
 ) -> Result<(), V::Fault>
-    requires fits { fits_at (bits_of (octets_of data.now.bits)) data.now.subsets item.now ≡ true }
-    requires subset { subset < data.now.subsets }
+    requires fits { fits_at (bits_of (octets_of pack.now.bits)) pack.now.subsets item.now ≡ true }
+    requires subset { subset < pack.now.subsets }
     requires none { item.now.step ≡ 0 }
-    ensures { V.sees visitor.old (call_kept data.now.table.now (bits_of (octets_of data.now.bits))
-        data.now.subsets item.now subset) result visitor.new }
+    ensures { V.sees visitor.old (call_kept pack.now.table.now (bits_of (octets_of pack.now.bits))
+        pack.now.subsets item.now subset) result visitor.new }
 {
-    let input = PlainIn::from_bit(data.bits, item.at);
-    show_field(&input, data.table, &item.spec, visitor)
+    let input = PlainIn::from_bit(pack.bits, item.at);
+    show_field(&input, pack.table, &item.spec, visitor)
 }
 
 /// Shows a kept item for one subset, counted from 0, plain or not.
 #[inline(never)]
 fn show_other<V: Visitor>(
-    data: &PackedData<'_>,
+    pack: &PackedData<'_>,
     item: &IndexedItem,
     subset: u16,
     visitor: &mut V,
 ) -> Result<(), V::Fault>
-    requires fits { fits_at (bits_of (octets_of data.now.bits)) data.now.subsets item.now ≡ true }
-    requires subset { subset < data.now.subsets }
-    ensures { V.sees visitor.old (call_kept data.now.table.now (bits_of (octets_of data.now.bits))
-        data.now.subsets item.now subset) result visitor.new }
+    requires fits { fits_at (bits_of (octets_of pack.now.bits)) pack.now.subsets item.now ≡ true }
+    requires subset { subset < pack.now.subsets }
+    ensures { V.sees visitor.old (call_kept pack.now.table.now (bits_of (octets_of pack.now.bits))
+        pack.now.subsets item.now subset) result visitor.new }
 {
     if item.step == 0 {
-        return show_base(data, item, subset, visitor);
+        return show_base(pack, item, subset, visitor);
     }
     if item.spec.is_text() {
-        return show_text(data, item, subset, visitor);
+        return show_text(pack, item, subset, visitor);
     }
-    show_number(data, item, subset, visitor)
+    show_number(pack, item, subset, visitor)
 }
 
 /// The number of a plain kept item with no increments, which all subsets have; `None` where it is
 /// missing.
 #[inline(always)]
-fn common_number(data: &PackedData<'_>, item: &IndexedItem, subset: u16) -> Option<u64>
-    requires fits { fits_at (bits_of (octets_of data.now.bits)) data.now.subsets item.now ≡ true }
-    requires subset { subset < data.now.subsets }
+fn common_number(pack: &PackedData<'_>, item: &IndexedItem, subset: u16) -> Option<u64>
+    requires fits { fits_at (bits_of (octets_of pack.now.bits)) pack.now.subsets item.now ≡ true }
+    requires subset { subset < pack.now.subsets }
     requires none { item.now.step ≡ 0 }
     requires plain { IsPlainNumber item.now.spec }
     ensures { sum_content result
-        ≡ content_kept (bits_of (octets_of data.now.bits)) data.now.subsets item.now subset }
+        ≡ content_kept (bits_of (octets_of pack.now.bits)) pack.now.subsets item.now subset }
 {
-    match base_of(data, item) {
+    match base_of(pack, item) {
         Some(base) => Some(base.value),
         None => None,
     }
@@ -328,17 +328,17 @@ fn common_number(data: &PackedData<'_>, item: &IndexedItem, subset: u16) -> Opti
 /// The value of a plain kept item for one subset, counted from 0; `None` for a number of more than
 /// 62 bits, which none is.
 #[inline(always)]
-fn plain_value<'t>(data: &PackedData<'_>, item: &IndexedItem, subset: u16) -> Option<Value<'t>>
-    requires fits { fits_at (bits_of (octets_of data.now.bits)) data.now.subsets item.now ≡ true }
-    requires subset { subset < data.now.subsets }
+fn plain_value<'t>(pack: &PackedData<'_>, item: &IndexedItem, subset: u16) -> Option<Value<'t>>
+    requires fits { fits_at (bits_of (octets_of pack.now.bits)) pack.now.subsets item.now ≡ true }
+    requires subset { subset < pack.now.subsets }
     requires plain { IsPlainNumber item.now.spec }
     ensures { IfSome result (λ value. seen_value value ≡ shown item.now.spec
-        (content_kept (bits_of (octets_of data.now.bits)) data.now.subsets item.now subset)) }
+        (content_kept (bits_of (octets_of pack.now.bits)) pack.now.subsets item.now subset)) }
 {
     let raw = if item.step == 0 {
-        common_number(data, item, subset)
+        common_number(pack, item, subset)
     } else {
-        number_of(data, item, subset)
+        number_of(pack, item, subset)
     };
     let Some(raw) = raw else {
         return Some(Value::Missing);
@@ -352,42 +352,42 @@ fn plain_value<'t>(data: &PackedData<'_>, item: &IndexedItem, subset: u16) -> Op
 /// Shows a kept item for one subset, counted from 0.
 #[inline(always)]
 fn show_item<V: Visitor>(
-    data: &PackedData<'_>,
+    pack: &PackedData<'_>,
     item: &IndexedItem,
     subset: u16,
     visitor: &mut V,
 ) -> Result<(), V::Fault>
-    requires fits { fits_at (bits_of (octets_of data.now.bits)) data.now.subsets item.now ≡ true }
-    requires subset { subset < data.now.subsets }
-    ensures { V.sees visitor.old (call_kept data.now.table.now (bits_of (octets_of data.now.bits))
-        data.now.subsets item.now subset) result visitor.new }
+    requires fits { fits_at (bits_of (octets_of pack.now.bits)) pack.now.subsets item.now ≡ true }
+    requires subset { subset < pack.now.subsets }
+    ensures { V.sees visitor.old (call_kept pack.now.table.now (bits_of (octets_of pack.now.bits))
+        pack.now.subsets item.now subset) result visitor.new }
 {
     if item.spec.is_plain()
-        && let Some(value) = plain_value(data, item, subset)
-        && let Some(entry) = data.table.get(item.spec.fxy())
+        && let Some(value) = plain_value(pack, item, subset)
+        && let Some(entry) = pack.table.get(item.spec.fxy())
     {
         return show_plain_value(&item.spec, entry, value, visitor);
     }
-    show_other(data, item, subset, visitor)
+    show_other(pack, item, subset, visitor)
 }
 
 /// Shows the items of one subset, counted from 0.
 fn show_items<V: Visitor>(
-    data: &PackedData<'_>,
+    pack: &PackedData<'_>,
     kept: &ItemIndex,
     subset: u16,
     visitor: &mut V,
 ) -> Result<(), ShowFault<V::Fault>>
-    requires fit { list_all (fits_at (bits_of (octets_of data.now.bits)) data.now.subsets) kept.now
+    requires fit { list_all (fits_at (bits_of (octets_of pack.now.bits)) pack.now.subsets) kept.now
         ≡ true }
-    requires subset { subset < data.now.subsets }
-    ensures { Shows V.sees visitor.old (compressed_item_calls data.now.table.now subset
-        (items_at (bits_of (octets_of data.now.bits)) data.now.subsets kept.now)) 0 result
+    requires subset { subset < pack.now.subsets }
+    ensures { Shows V.sees visitor.old (compressed_item_calls pack.now.table.now subset
+        (items_at (bits_of (octets_of pack.now.bits)) pack.now.subsets kept.now)) 0 result
         visitor.new 0 }
 {
     'items: for place in 0..kept.len() {
         let item = kept.item(place);
-        match show_item(data, &item, subset, visitor) {
+        match show_item(pack, &item, subset, visitor) {
             Ok(()) => {}
             Err(fault) => return Err(ShowFault::Visitor(fault)),
         }
@@ -397,21 +397,21 @@ fn show_items<V: Visitor>(
 
 /// Shows one subset, counted from 0, and its items.
 fn show_subset<V: Visitor>(
-    data: &PackedData<'_>,
+    pack: &PackedData<'_>,
     kept: &ItemIndex,
     subset: u16,
     visitor: &mut V,
 ) -> Result<(), ShowFault<V::Fault>>
-    requires fit { list_all (fits_at (bits_of (octets_of data.now.bits)) data.now.subsets) kept.now
+    requires fit { list_all (fits_at (bits_of (octets_of pack.now.bits)) pack.now.subsets) kept.now
         ≡ true }
-    requires subset { subset < data.now.subsets }
+    requires subset { subset < pack.now.subsets }
     ensures { Shows V.sees visitor.old (timed 0 (subset_call (subset + 1))
-        ∷ compressed_item_calls data.now.table.now subset
-        (items_at (bits_of (octets_of data.now.bits)) data.now.subsets kept.now)) 0 result
+        ∷ compressed_item_calls pack.now.table.now subset
+        (items_at (bits_of (octets_of pack.now.bits)) pack.now.subsets kept.now)) 0 result
         visitor.new 0 }
 {
     match visitor.subset(subset + 1) {
-        Ok(()) => show_items(data, kept, subset, visitor),
+        Ok(()) => show_items(pack, kept, subset, visitor),
         Err(fault) => Err(ShowFault::Visitor(fault)),
     }
 }
@@ -419,18 +419,18 @@ fn show_subset<V: Visitor>(
 /// Shows each subset, and its items.
 #[tactic(auto, using(crate::proofs::PackedSubsets::subsets_start, crate::proofs::PackedSubsets::subsets_done))]
 pub(crate) fn show_packed<V: Visitor>(
-    data: &PackedData<'_>,
+    pack: &PackedData<'_>,
     kept: &ItemIndex,
     visitor: &mut V,
 ) -> Result<(), ShowFault<V::Fault>>
-    requires { list_all (fits_at (bits_of (octets_of data.now.bits)) data.now.subsets) kept.now
+    requires { list_all (fits_at (bits_of (octets_of pack.now.bits)) pack.now.subsets) kept.now
         ≡ true }
-    ensures { Shows V.sees visitor.old (compressed_subset_calls data.now.table.now data.now.subsets
-        0 (items_at (bits_of (octets_of data.now.bits)) data.now.subsets kept.now)) 0 result
+    ensures { Shows V.sees visitor.old (compressed_subset_calls pack.now.table.now pack.now.subsets
+        0 (items_at (bits_of (octets_of pack.now.bits)) pack.now.subsets kept.now)) 0 result
         visitor.new 0 }
 {
-    'subsets: for subset in 0..data.subsets {
-        match show_subset(data, kept, subset, visitor) {
+    'subsets: for subset in 0..pack.subsets {
+        match show_subset(pack, kept, subset, visitor) {
             Ok(()) => {}
             Err(fault) => return Err(fault),
         }

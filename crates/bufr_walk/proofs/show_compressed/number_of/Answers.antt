@@ -9,13 +9,13 @@ use Rattle.bufr_walk.proofs.show_compressed.number_of.Goals as goal
 pub number_in-requires-clause-within : goal.number_in-requires-clause-within
 number_in-requires-clause-within c =
     let item = c.args.item.now in
-    let bits = bits_of (octets_of c.args.data.now.bits) in
-    subst (λ k. item.at + (item.spec.width + 6) + (c.args.subset + 1) * k ≤ 8 * length (octets_of c.args.data.now.bits)) (sym c.from.ensures)
-    (omega (arith, number_within bits c.args.data.now.subsets item c.args.subset c.requires.increment.fits c.requires.increment.some c.requires.increment.below c.requires.number, bits_length (octets_of c.args.data.now.bits)))
+    let bits = bits_of (octets_of c.args.pack.now.bits) in
+    subst (λ k. item.at + (item.spec.width + 6) + (c.args.subset + 1) * k ≤ 8 * length (octets_of c.args.pack.now.bits)) (sym c.from.ensures)
+    (omega (arith, number_within bits c.args.pack.now.subsets item c.args.subset c.requires.increment.fits c.requires.increment.some c.requires.increment.below c.requires.number, bits_length (octets_of c.args.pack.now.bits)))
 
 pub returns : goal.returns
 returns c =
     let item = c.args.item.now in
-    let bits = bits_of (octets_of c.args.data.now.bits) in
+    let bits = bits_of (octets_of c.args.pack.now.bits) in
     c.number_in.ensures ∙ ap (λ k. number_from item.spec k (take item.spec.width (drop item.at bits)) (take k (drop (c.args.subset * k) (drop (item.at + (item.spec.width + 6)) bits)))) c.from.ensures
-    ∙ number_content bits c.args.data.now.subsets item c.args.subset c.requires.increment.fits c.requires.increment.some c.requires.increment.below c.requires.number
+    ∙ number_content bits c.args.pack.now.subsets item c.args.subset c.requires.increment.fits c.requires.increment.some c.requires.increment.below c.requires.number

@@ -7,8 +7,8 @@ use Rattle.bufr_walk.proofs.show_compressed.show_items.Goals as goal
 
 pub items-preserved : goal.items-preserved
 items-preserved g c =
-    let bits = bits_of (octets_of c.args.data.now.bits) in
+    let bits = bits_of (octets_of c.args.pack.now.bits) in
     let below : c.items.place < length c.args.kept.now = omega (arith, c.items-test.true, c.len-place-end.ensures) in (
-      items_go g.V.Visitor.sees c.args.data.now.table.now bits c.args.data.now.subsets c.args.kept.now c.args.subset c.args.visitor.now c.items.visitor c.show_item.new.visitor c.items.place c.item-item.result below c.item-item.ensures c.items.invariant.0 c.in-Ok.ensures,
-      fit_after bits c.args.data.now.subsets c.args.kept.now c.items.place c.item-item.result below c.item-item.ensures c.items.invariant.1,
+      items_go g.V.Visitor.sees c.args.pack.now.table.now bits c.args.pack.now.subsets c.args.kept.now c.args.subset c.args.visitor.now c.items.visitor c.show_item.new.visitor c.items.place c.item-item.result below c.item-item.ensures c.items.invariant.0 c.in-Ok.ensures,
+      fit_after bits c.args.pack.now.subsets c.args.kept.now c.items.place c.item-item.result below c.item-item.ensures c.items.invariant.1,
     )

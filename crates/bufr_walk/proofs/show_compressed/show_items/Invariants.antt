@@ -9,5 +9,5 @@ use Rattle.bufr_walk.proofs.show_compressed.show_items.Given as goal
 
 abbrev pub invariant-items : goal.invariant-items
 invariant-items g l =
-    SoFar g.V.Visitor.sees l.fn.visitor (calls_from g.V.Visitor.sees l.data.table.now (bits_of (octets_of l.data.bits)) l.data.subsets l.kept l.subset 0) l.visitor (calls_from g.V.Visitor.sees l.data.table.now (bits_of (octets_of l.data.bits)) l.data.subsets l.kept l.subset l.place)
-    × (list_all (fits_at (bits_of (octets_of l.data.bits)) l.data.subsets) (drop l.place l.kept) ≡ true)
+    SoFar g.V.Visitor.sees l.fn.visitor (calls_from g.V.Visitor.sees l.pack.table.now (bits_of (octets_of l.pack.bits)) l.pack.subsets l.kept l.subset 0) l.visitor (calls_from g.V.Visitor.sees l.pack.table.now (bits_of (octets_of l.pack.bits)) l.pack.subsets l.kept l.subset l.place)
+    × (list_all (fits_at (bits_of (octets_of l.pack.bits)) l.pack.subsets) (drop l.place l.kept) ≡ true)

@@ -7,4 +7,4 @@ use Rattle.bufr_walk.proofs.show_compressed.show_packed.Given as goal
 
 abbrev pub invariant-subsets : goal.invariant-subsets
 invariant-subsets g l =
-    SoFar g.V.Visitor.sees l.fn.visitor (all_calls g.V.Visitor.sees l.data.table.now l.data.subsets (items_at (bits_of (octets_of l.data.bits)) l.data.subsets l.kept)) l.visitor (subsets_from g.V.Visitor.sees l.data.table.now l.data.subsets (items_at (bits_of (octets_of l.data.bits)) l.data.subsets l.kept) l.subset)
+    SoFar g.V.Visitor.sees l.fn.visitor (all_calls g.V.Visitor.sees l.pack.table.now l.pack.subsets (items_at (bits_of (octets_of l.pack.bits)) l.pack.subsets l.kept)) l.visitor (subsets_from g.V.Visitor.sees l.pack.table.now l.pack.subsets (items_at (bits_of (octets_of l.pack.bits)) l.pack.subsets l.kept) l.subset)
