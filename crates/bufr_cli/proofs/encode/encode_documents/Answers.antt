@@ -1,6 +1,6 @@
 use Rattle.std.proofs.Common.{◌∙◌, Err, Ok, ap, refl, ◌^◌}
 use Rattle.std.proofs.lemmas.Result.{err_from_is_err_and}
-use Rattle.bufr_text.specs.Reader.{failures_by}
+use Rattle.bufr_text.specs.Reader.{failures_by, new_reader}
 use Rattle.bufr_text.proofs.NextLemmas.{counts-then}
 use Rattle.bufr_cli.proofs.EncodeLemmas.{done-at-refused, done-last, falls, none-else, ran-by-equal, ran-few, ran-fresh, reads-made, stop-failures, stop-reads, stops, turn-on, verdict-keeps}
 use Rattle.bufr_cli.proofs.encode.encode_documents.Goals as goal
@@ -38,7 +38,7 @@ returns-in_err-verdict-clause-reads g c =
     let reports = rw (c.loop-reader.invariant.table_b, c.loop-reader.invariant.table_d) at c.encode_next.ensures.reports in
     let p = err_from_is_err_and c.from_residual.result c.from_residual.ensures.1 in
     let ran = c.loop-reader.invariant.ran in
-    reads-made _ _ c.next_document-next.new.self c.from_residual.result (counts-then _ _ _ _ _ _ ran.counts c.next_document-next.ensures.counts)
+    reads-made _ _ c.next_document-next.new.self c.from_residual.result (counts-then _ _ _ new_reader c.loop-reader.reader c.next_document-next.new.self ran.counts c.next_document-next.ensures.counts)
     (stop-reads _ _ _ c.next_document-next.new.self _ _ _ _ _ c.next_document-next.result c.encode_next.result _ c.from_residual.result (c.next_document-next.ensures.next ran.sound)
     reports c.in_err-verdict.was (p.1 ∙ ap Err p.2))
 
@@ -51,7 +51,7 @@ returns-in_default-clause-run g c =
 
 pub returns-in_default-clause-reads : goal.returns-in_default-clause-reads
 returns-in_default-clause-reads g c =
-    reads-made _ _ c.next_document-next.new.self _ (counts-then _ _ _ _ _ _ c.loop-reader.invariant.ran.counts c.next_document-next.ensures.counts) (λ long. cc)
+    reads-made _ _ c.next_document-next.new.self _ (counts-then _ _ _ new_reader c.loop-reader.reader c.next_document-next.new.self c.loop-reader.invariant.ran.counts c.next_document-next.ensures.counts) (λ long. cc)
 
 pub count-requires : goal.count-requires
 count-requires g c = record { few = ran-few _ _ _ _ _ _ _ _ _ _ _ _ _ c.loop-reader.invariant.ran }
@@ -65,7 +65,7 @@ returns-in-Refused-clause-run g c =
 
 pub returns-in-Refused-clause-reads : goal.returns-in-Refused-clause-reads
 returns-in-Refused-clause-reads g c =
-    reads-made _ _ c.next_document-next.new.self _ (counts-then _ _ _ _ _ _ c.loop-reader.invariant.ran.counts c.next_document-next.ensures.counts) (λ long. cc)
+    reads-made _ _ c.next_document-next.new.self _ (counts-then _ _ _ new_reader c.loop-reader.reader c.next_document-next.new.self c.loop-reader.invariant.ran.counts c.next_document-next.ensures.counts) (λ long. cc)
 
 pub loop-reader-smaller : goal.loop-reader-smaller
 loop-reader-smaller g c = falls _ _ (2 ^ 63) (ran-few _ _ _ _ _ _ _ _ _ _ _ _ _ c.loop-reader.invariant.ran) c.count.ensures.one

@@ -61,7 +61,7 @@ pub returns-in_err-verdict-clause-reads : goal.returns-in_err-verdict-clause-rea
 returns-in_err-verdict-clause-reads g c =
     let p = err_from_is_err_and c.from_residual-in_err-verdict.result c.from_residual-in_err-verdict.ensures.1 in
     let next = c.next.follows.holds-at-none in
-    run-reads-report _ _ _ c.next.follows.lender-at-none _ c.from_residual-in_err-verdict.result (CountsReads-then _ _ _ _ _ c.loop-finder.invariant.ran.counts next.counts)
+    run-reads-report _ _ _ c.next.follows.lender-at-none _ c.from_residual-in_err-verdict.result (CountsReads-then _ _ _ c.loop-finder.finder c.next.follows.lender-at-none c.loop-finder.invariant.ran.counts next.counts)
     (rw (c.loop-finder.invariant.memory, c.in_err-verdict.was) at c.write_event.ensures.stops) (p.1 ∙ ap Err p.2)
 
 pub returns-in_err-verdict-clause-writers : goal.returns-in_err-verdict-clause-writers
@@ -99,16 +99,16 @@ returns-in_err-flush-clause-reads g c =
     let p = err_from_is_err_and c.from_residual-in_err-flush.result c.from_residual-in_err-flush.ensures.1 in
     let next = c.next.follows.holds-at-none in
     let f : c.from_residual-in_err-flush.result ≡ Err Write = p.1 ∙ ap Err (p.2 ∙ (rw c.in_err-flush.was at c.flush.ensures.err)) in
-    run-reads _ _ _ c.next.follows.lender-at-none c.from_residual-in_err-flush.result (CountsReads-then _ _ _ _ _ c.loop-finder.invariant.ran.counts next.counts) (λ long. cc) (λ none wanted. cc)
+    run-reads _ _ _ c.next.follows.lender-at-none c.from_residual-in_err-flush.result (CountsReads-then _ _ _ c.loop-finder.finder c.next.follows.lender-at-none c.loop-finder.invariant.ran.counts next.counts) (λ long. cc) (λ none wanted. cc)
 
 pub returns-in_err-flush-2-clause-reads : goal.returns-in_err-flush-2-clause-reads
 returns-in_err-flush-2-clause-reads g c =
     let p = err_from_is_err_and c.from_residual-in_err-flush-2.result c.from_residual-in_err-flush-2.ensures.1 in
     let next = c.next.follows.holds-at-none in
     let f : c.from_residual-in_err-flush-2.result ≡ Err Write = p.1 ∙ ap Err (p.2 ∙ (rw c.in_err-flush-2.was at c.flush-2.ensures.err)) in
-    run-reads _ _ _ c.next.follows.lender-at-none c.from_residual-in_err-flush-2.result (CountsReads-then _ _ _ _ _ c.loop-finder.invariant.ran.counts next.counts) (λ long. cc) (λ none wanted. cc)
+    run-reads _ _ _ c.next.follows.lender-at-none c.from_residual-in_err-flush-2.result (CountsReads-then _ _ _ c.loop-finder.finder c.next.follows.lender-at-none c.loop-finder.invariant.ran.counts next.counts) (λ long. cc) (λ none wanted. cc)
 
 pub returns-clause-reads : goal.returns-clause-reads
 returns-clause-reads g c =
     let next = c.next.follows.holds-at-none in
-    run-reads _ _ _ c.next.follows.lender-at-none _ (CountsReads-then _ _ _ _ _ c.loop-finder.invariant.ran.counts next.counts) (λ long. cc) (λ none wanted. cc)
+    run-reads _ _ _ c.next.follows.lender-at-none _ (CountsReads-then _ _ _ c.loop-finder.finder c.next.follows.lender-at-none c.loop-finder.invariant.ran.counts next.counts) (λ long. cc) (λ none wanted. cc)
