@@ -62,11 +62,11 @@ impl BitWriter {
         8 * self.octets.len() as u64 + u64::from(self.count)
     }
 
-    /// Makes room for so many more bits. With these there are at most 2^63 bits.
+    /// Makes room for so many more bits. There must be at most 2^63 bits with these.
     ///
     /// # Errors
     ///
-    /// [`AllocError`] where the writer could not grow.
+    /// [`AllocError`] where the writer could not grow; its bits stay.
     #[inline(always)]
     pub fn reserve(&mut self, bits: u64) -> Result<(), AllocError>
         requires { length self.old.bits + bits ≤ 2 ^ 63 }
@@ -79,7 +79,7 @@ impl BitWriter {
         self.grow(bits)
     }
 
-    /// The same, where the bits after the octets do not have the room.
+    /// [`BitWriter::reserve`] where the last number has too few free bits.
     fn grow(&mut self, bits: u64) -> Result<(), AllocError>
         requires { length self.old.bits + bits ≤ 2 ^ 63 }
         ensures bits { self.new.bits ≡ self.old.bits }
@@ -90,8 +90,9 @@ impl BitWriter {
         Ok(())
     }
 
-    /// Appends the `width` bits that write `value`, most significant first, where there is room for
-    /// them. The width is at most 63, and the value is below 2^`width`.
+    /// Appends the `width` bits that write `value`, most significant first.
+    /// [`BitWriter::reserve`] must have made room for them. The width is at most 63, and the value
+    /// is below 2^`width`.
     #[inline(always)]
     pub fn put(&mut self, value: u64, width: u32)
         requires width { width ≤ 63 }
@@ -110,7 +111,7 @@ impl BitWriter {
         }
     }
 
-    /// The same, where the bits fill a number of 64 bits.
+    /// [`BitWriter::put`] where the last number has too few free bits.
     #[inline(never)]
     fn put_over(&mut self, value: u64, width: u32)
         requires width { width ≤ 63 }
@@ -126,7 +127,7 @@ impl BitWriter {
         self.count = count;
     }
 
-    /// Appends the bits of octets, where there is room for them.
+    /// Appends the bits of octets. [`BitWriter::reserve`] must have made room for them.
     pub fn put_octets(&mut self, octets: &[u8])
         requires { 8 * length octets.now ≤ self.old.room }
         ensures bits { self.new.bits ≡ self.old.bits ++ bits_of octets.now }
@@ -169,7 +170,7 @@ impl BitWriter {
         Ok(())
     }
 
-    /// The same, where the bits fill a number of 64 bits.
+    /// [`BitWriter::push`] where the last number has too few free bits: the writer grows first.
     #[inline(never)]
     fn push_over(&mut self, value: u64, width: u32) -> Result<(), AllocError>
         requires width { width ≤ 63 }

@@ -127,8 +127,8 @@ fn push_last<E: Sink>(line: &mut LineWriter<'_, '_, E>, outcome: &Outcome<'_>)
 }
 
 /// Writes the line that goes before status 2, or the usage text, or nothing where the run went
-/// through, and answers the exit status: 0 where nothing was refused, 1 where something was, and 2
-/// for all else. A write that fails leaves the status as it is. It takes no memory.
+/// through. Returns the exit status: 0 where nothing was refused, 1 where something was, and 2 for
+/// all else. A write that fails leaves the status as it is. It takes no memory.
 pub fn finish<E: Sink>(outcome: &Outcome<'_>, e: &mut E) -> u8
     ensures status { result ≡ status_of outcome.now }
     // A prefix of the line is written, and all of it where no call of the writer failed or took

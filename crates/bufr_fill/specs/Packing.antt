@@ -1,4 +1,5 @@
--- The packing of the contents of one item for all subsets: the least base, and the least k.
+-- The packing of the contents of one item for all subsets: the least number as the base (zero bits
+-- for texts), and the least k.
 -- (WMO-No. 306, Volume I.2, FM 94: section 4, compression; that both are the least is a choice of
 -- this project)
 -- Cited by public contracts.

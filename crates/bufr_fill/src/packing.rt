@@ -21,7 +21,7 @@ use std::alloc::AllocError;
 pub(crate) enum PackingFault {
     /// Its counts differ.
     Unequal,
-    /// Its references differ, or its texts only after octet 63.
+    /// Its references differ, or its texts differ and one needs over 63 octets.
     Uneven,
     /// Memory ran out.
     Memory,
@@ -179,7 +179,7 @@ fn least_bits(spread: u64, may_be_missing: bool) -> u32
     64
 }
 
-/// The number of the bits that write an increment.
+/// The increment of a content over a base: all ones of `k` bits where it is no number.
 #[tactic(auto, using(crate::proofs::DrawnLemmas::ones_bits))]
 fn increment_of(drawn: FieldContent<'_>, base: u64, k: u32) -> u64
     requires narrow { k ≤ 63 }
@@ -265,7 +265,7 @@ fn trimmed_len(octets: &[u8]) -> usize
     0
 }
 
-/// How many octets determine a text.
+/// How many octets determine a text, and one more where all are 255, so that none reads as missing.
 // rule: packs-texts-not-missing
 fn text_need(octets: &[u8]) -> usize
     requires { length octets.now ≤ 255 }
@@ -427,8 +427,8 @@ fn pack_unlike(
     }
 }
 
-/// Writes the contents of an item for all subsets: the least base and the least `k` that they can
-/// be read from.
+/// Writes the contents of an item for all subsets, with the least number as the base (zero bits for
+/// texts) and the least `k`.
 #[tactic(auto, using(crate::proofs::PackSteps::drawn_at))]
 pub(crate) fn pack(
     out: &mut BitWriter,

@@ -30,8 +30,8 @@ struct PassedEvent {
     len: usize,
 }
 
-/// Finds the messages of a stream. Each `BUFR` gives a frame or a stray word. The search goes on
-/// after the frame, or after the four octets of the stray word.
+/// Finds the messages of a stream. Each `BUFR` that is not inside a frame begins one or is a stray
+/// word. The search goes on after the frame, or after the four octets of the stray word.
 ///
 /// It reads only while the next event is not certain, so the first message is returned before the
 /// second is read. It holds at most 4,096 octets or, where that is more, the greatest length stated
@@ -151,8 +151,8 @@ impl Finder {
         find_event(&self.word, self.rest(), self.input.ended())
     }
 
-    /// Passes the first `n` octets that are left. `stated_length` is a length that was stated, or
-    /// 0.
+    /// Passes the first `n` octets that are left, and raises the greatest length to
+    /// `stated_length`.
     fn advance_to(&mut self, n: usize, stated_length: usize)
         requires within { n ≤ length self.old.rest }
         requires most { stated_length < 2 ^ 24 }

@@ -19,8 +19,8 @@ const CHUNK: usize = 65536;
 /// The octets of an input that were read and not yet skipped. [`crate::Finder`] reads its stream by
 /// it, and a reader of lines its text. An input that is needed whole is read by [`read_to_end`].
 ///
-/// They slide to the start of its buffer only where at least as many were skipped. So each octet is
-/// moved about once.
+/// They slide to the start of its buffer only where at least as many were skipped. So on average
+/// each octet is moved at most once.
 ///
 /// ```
 /// let mut input = InputBuffer::new(rt.alloc());
@@ -99,8 +99,8 @@ impl InputBuffer {
         self.start += n;
     }
 
-    /// Puts an octet after those that are held, where a place is free: after a read that reached
-    /// the end one is.
+    /// Puts an octet after those that are held. A place must be free, as it is after the read that
+    /// reached the end.
     pub fn push(&mut self, octet: u8)
         requires { 0 < self.old.free }
         ensures { self.new

@@ -73,7 +73,7 @@ impl<'a> Entry<'a> {
         &self.octets[stored.start + 11..stored.middle]
     }
 
-    /// The unit, within the same limits.
+    /// The unit: at most 512 octets, none of them a control character of ASCII.
     #[inline(always)]
     pub fn unit(&self) -> &'a [u8]
         ensures { result.now ≡ (row_of_entry self.now).unit }
@@ -116,7 +116,7 @@ impl<'a> Entry<'a> {
         self.stored.scale
     }
 
-    /// The reference value.
+    /// The reference value, which is added to the raw value before the scale.
     #[inline(always)]
     pub fn reference(&self) -> i64
         ensures { result ≡ (row_of_entry self.now).reference }
@@ -307,7 +307,7 @@ fn parse_row(fields: &ByteRecord) -> Option<ParsedRow<'_>>
     Some(row)
 }
 
-/// The same row, which is within the limits of a row.
+/// For the proof alone: what [`parse_row`] returns is within the limits of a row.
 // rule: fault-41-of-table-b
 fn row(fields: &ByteRecord) -> Option<ParsedRow<'_>>
     ensures value { option_map row_parsed result ≡ row_of (fields_of fields.now) }
@@ -325,7 +325,7 @@ fn row(fields: &ByteRecord) -> Option<ParsedRow<'_>>
 /// let text = b"fxy,name,unit,scale,reference,width\n012101,AIR TEMPERATURE,K,2,0,16\n";
 /// let table = TableB::read(rt.alloc(), text)?;
 /// let entry = table.get(Fxy::from_word(0x0c65)).ok_or("lacks the element")?;
-/// assert_eq!(rt; (entry.scale, entry.width), (2, 16));
+/// assert_eq!(rt; (entry.scale(), entry.width()), (2, 16));
 /// ```
 #[derive(Drop)]
 pub struct TableB {

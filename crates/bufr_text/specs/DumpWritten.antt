@@ -12,7 +12,7 @@ use Rattle.bufr_walk.specs.Reading.{Values, IsReading}
 use Rattle.bufr_walk.specs.Ticks.{ticked}
 use Rattle.bufr_text.specs.Writing.{GrowsByPrefix, Stays, Fails}
 
--- a reading is of a message: of its data, which it has items of
+-- a reading is one of this message's data
 pub record ReadsMessage (s : Sections) (r : outcome.Read) : Type 0 where
   pub source : r.source ≡ data_of s
   pub values : Values
@@ -24,8 +24,8 @@ abbrev pub WritesPrefix : {X : Type 0} → (old new : Option (List ℕ)) → Lis
 WritesPrefix old new text (Ok x) = Appends old new text
 WritesPrefix old new text (Err fault) = GrowsByPrefix old new text
 
--- a write fault comes only from a call that the writer counts; nothing else changes its counts, and
--- there is no fault but that and want of memory
+-- a write fault comes only from a call that the writer counts; the only other fault is want of
+-- memory, and nothing else changes the counts
 abbrev pub CountsFaults : {X : Type 0} → (failures failures' empty empty' : ℕ)
     → Result X RunFault → Type 0
 CountsFaults failures failures' empty empty' (Ok x) = Stays failures failures' empty empty'

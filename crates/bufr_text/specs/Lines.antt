@@ -44,6 +44,7 @@ pub record StaysFailed (fault : RunFault) (before after : LineModel) : Type 0 wh
   pub failures : after.failures ≡ before.failures
   pub empty_writes : after.empty_writes ≡ before.empty_writes
 
+-- a text was pushed, or nothing was done since a write had failed
 abbrev pub PushesFrom : Result Unit RunFault → (before : LineModel) → List ℕ
     → (after : LineModel) → Type 0
 PushesFrom (Ok x) before text after = MovesOn before text after

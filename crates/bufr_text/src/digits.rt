@@ -5,7 +5,7 @@ ghost use Rattle.bufr_text.specs.Writing.{zero_padded};
 
 use itoa::write_digits;
 
-/// The digits of the longest number.
+/// The digits of the greatest `u64`.
 const DIGITS: usize = 20;
 
 /// How many digits a number has.
@@ -87,6 +87,7 @@ fn fill_fraction(value: u64, digits: &mut [u8]) -> u64
 /// Fills a prefix with the digits of a number and a point before the last `places` of them, and
 /// returns how many octets these are; `None` where there is no room.
 #[inline(always)]
+// rule: decimal-point
 pub(crate) fn fill_pointed(value: u64, places: u16, free: &mut [u8]) -> Option<usize>
     ensures within { IfSome result (λ len. len ≤ length free.new) }
     ensures text { IfSome result (λ len. take len free.new ≡ pointed places (decimal value)) }

@@ -18,8 +18,8 @@ use bufr_tables::TableB;
 use bufr_walk::{ItemView, Reading, ShowFault, SpecCache, Steps, Visitor};
 use std::alloc::{AllocError, Global};
 
-/// The octets of the longest line: a name and a unit of 512 each, and a text of 255 that takes four
-/// for each.
+/// Room for a line. The longest has 2,061 octets: a text of 255, four for each, and a name and a
+/// unit of 512 each.
 const LINE: usize = 2_560;
 
 /// What dumps by one table keep from message to message: the specs that are cached, and a block of
@@ -35,14 +35,14 @@ pub struct DumpMemory<'t> {
     pub alloc: Global,
     /// The specs of the cells of a template.
     pub specs: SpecCache<'t>,
-    /// Nothing, or the block.
+    /// Empty until the first dump.
     block: Vec<u8>,
 }
 
 impl<'t> DumpMemory<'t> {
     ghost use Rattle.std.specs.Prelude.{◌≡◌};
 
-    /// No spec, and no block yet. Takes no memory.
+    /// What dumps by `table` keep, empty at first. It takes no memory.
     pub fn new(alloc: Global, table: &'t TableB) -> DumpMemory<'t>
         ensures { result.specs ≡ table.now }
     {
@@ -119,15 +119,11 @@ fn push_subsets<W: Sink>(
     }
 }
 
-/// Writes the dump text of a message: the line `message`; twenty lines of a key and a number; its
-/// octets for local use and
-/// those of section 2 in hexadecimal, 32 on a line; its descriptors, eight on a line; for each
-/// subset its number and a line
-/// for each item; and the line `end`. An item that was read by an entry of Table B has the entry's
-/// name and unit as a
-/// comment. Lines are gathered: a write ends at the end of a line, after at least 65,536 octets or
-/// at the end of the text. The steps are set to the
-/// turns that the reading is walked for, as [`Reading::show`] counts them.
+/// Writes the dump text of a message: header, local octets, section 2, descriptors, the subsets
+/// with a line for each item, and `end`. An item that was read by an entry of Table B has the
+/// entry's name and unit as a comment. Lines are gathered. A write ends at the end of a line, after
+/// at least 65,536 octets or at the end of the text. The steps are set to the turns that the
+/// reading is walked for, as [`Reading::show`] counts them.
 ///
 /// ```
 /// let reading = read_message(alloc, &message, &template, &table, &mut steps)?;
@@ -136,8 +132,8 @@ fn push_subsets<W: Sink>(
 ///
 /// # Errors
 ///
-/// [`RunFault::Write`] where the writer fails or takes nothing, and [`RunFault::Memory`]; a prefix
-/// of the text was taken.
+/// [`RunFault::Write`] where the writer fails or takes nothing, and [`RunFault::Memory`] where
+/// memory ran out; a prefix of the text was taken.
 pub fn write_dump<W: Sink>(
     alloc: Global,
     message: &Message<'_>,
@@ -151,7 +147,7 @@ pub fn write_dump<W: Sink>(
         → IsReading (course_of reading.now) reading.now.source values reading.now.bits →
         WritesPrefix (W.taken w.old) (W.taken w.new)
         (dump_text_of message.now (dump_items_of reading.now values)) result }
-    // At `Ok` the steps are all turns of the reading, at a fault those before an item or all.
+    // At `Ok` the steps are all turns of the reading, at a fault those before a call or all.
     ensures steps { (values : Values)
         → IsReading (course_of reading.now) reading.now.source values reading.now.bits →
         MakesSteps (calls_of reading.now values) (turns_shown reading.now values)
@@ -170,7 +166,7 @@ pub fn write_dump<W: Sink>(
 ///
 /// # Errors
 ///
-/// Those of [`write_dump`].
+/// [`RunFault::Write`] and [`RunFault::Memory`], as [`write_dump`].
 // rule: text-lines-in-order
 pub fn write_dump_by<W: Sink>(
     memory: &mut DumpMemory<'_>,
@@ -187,7 +183,7 @@ pub fn write_dump_by<W: Sink>(
         → IsReading (course_of reading.now) reading.now.source values reading.now.bits →
         WritesPrefix (W.taken w.old) (W.taken w.new)
         (dump_text_of message.now (dump_items_of reading.now values)) result }
-    // At `Ok` the steps are all turns of the reading, at a fault those before an item or all.
+    // At `Ok` the steps are all turns of the reading, at a fault those before a call or all.
     ensures steps { (values : Values)
         → IsReading (course_of reading.now) reading.now.source values reading.now.bits →
         MakesSteps (calls_of reading.now values) (turns_shown reading.now values)

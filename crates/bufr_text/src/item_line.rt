@@ -43,7 +43,7 @@ fn push_number<W: Sink>(
     lines.push_scaled(value, scale);
 }
 
-/// Pushes a descriptor and the text of a value.
+/// Pushes an item but for its comment: `R ` before a redefined reference, descriptor and value.
 #[inline(always)]
 // rule: text-missing, text-reference
 fn push_form<W: Sink>(

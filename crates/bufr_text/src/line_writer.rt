@@ -12,12 +12,13 @@ use bufr_frame::RunFault;
 use itoa::Buffer;
 use std::marker::Model;
 
-/// How many octets are handed on at once, at the end of a line. The program's output holds as many:
-/// it passes so many on without a copy.
+/// At the end of a line, so many octets or more are handed on. The program's output holds as many,
+/// so it passes these on without a copy.
 pub(crate) const PAGE: usize = 65_536;
 
-/// A writer of lines over a block of memory and a sink. What does not fit the block is handed on
-/// first, so the block may have any size. The first fault is kept, and nothing is written after it.
+/// A writer of lines over a block of memory and a sink. Where a text does not fit, what is held is
+/// written, then the text. So the block may have any size. [`LineWriter::status`] reports the first
+/// fault; after it nothing is written.
 #[derive(Drop)]
 pub struct LineWriter<'b, 'w, W: Sink> {
     octets: &'b mut [u8],
@@ -95,7 +96,7 @@ fn write_decimal_after<W: Sink>(
 }
 
 impl<'b, 'w, W: Sink> LineWriter<'b, 'w, W> {
-    /// The writer over a block and a sink that holds nothing.
+    /// A writer that holds nothing yet, over a block and a sink.
     pub fn new(octets: &'b mut [u8], w: &'w mut W) -> LineWriter<'b, 'w, W>
         ensures held { result.held ≡ [] }
         ensures taken { result.taken ≡ W.taken w.old }
@@ -264,7 +265,7 @@ impl<'b, 'w, W: Sink> LineWriter<'b, 'w, W> {
         self.status
     }
 
-    /// The sink, which took all but what is held.
+    /// Gives the sink back. What is still held is lost: call [`LineWriter::hand_on`] first.
     pub fn into_sink(self) -> &'w mut W
         ensures taken { W.taken result.now ≡ self.entry.taken }
         ensures failures { W.failures result.now ≡ self.entry.failures }

@@ -8,6 +8,7 @@ use bufr_bits::Sink;
 use itoa::Buffer;
 
 /// How many zeros come after the digits of a number at a negative scale: none after 0.
+// rule: decimal-zeros-after
 fn trailing_zeros(size: u128, count: usize) -> usize
     ensures { result ≡ (if size == 0 then 0 else count) }
 {
@@ -16,6 +17,7 @@ fn trailing_zeros(size: u128, count: usize) -> usize
 
 impl<'b, 'w, W: Sink> LineWriter<'b, 'w, W> {
     /// Pushes digits with a point before the last `places` of them.
+    // rule: decimal-point
     fn push_point(&mut self, digits: &[u8], places: usize)
         ensures { Pushes self.old (pointed places digits.now) self.new }
     {
@@ -80,6 +82,7 @@ impl<'b, 'w, W: Sink> LineWriter<'b, 'w, W> {
 
     /// Pushes a minus before a number below zero.
     #[inline(always)]
+    // rule: decimal-sign
     fn push_sign(&mut self, value: i128)
         ensures { Pushes self.old (sign_of value) self.new }
     {

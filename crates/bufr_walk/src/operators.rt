@@ -172,6 +172,7 @@ fn scale_change_of(scale_change: u8) -> i16
 
 /// The scale of a quantity with the changes in force (2 02 Y, 2 07 Y).
 #[inline(always)]
+// rule: 2-02-y, 2-07-y
 fn scale_change(scale: i16, change: i16, precision_increase: u8) -> i16
     requires scale { unsigned_abs scale ≤ 127 }
     requires change { unsigned_abs change ≤ 128 }
