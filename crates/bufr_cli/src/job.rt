@@ -140,7 +140,7 @@ standard error, with its offset in octets and its number:
   30-35  data that do not fit the template
   70-73  reading, writing, an endless input, memory
 Of a message that is refused nothing goes to standard output. A table at fault
-is results before the input is opened:
+is told before the input is opened:
   40-45  header, row, duplicate, cycle, size, number of fields
 
 The tables are CSV files whose first line names these columns:
@@ -163,8 +163,8 @@ Example:
 const ENCODE_NOTES: &str = "\
 The message of each document goes to standard output, when its end line was
 read. The first document that is refused ends the run, with a line on standard
-error that reports the line of the text, from 1, and the fault's number:
-  50     a line that may not position_of there, is too long, or is missing at the end
+error that tells the line of the text, from 1, and the fault's number:
+  50     a line that may not stand there, is too long, or is missing at the end
   51     another item, or none, where one is expected, or one too many
   52-55  a value: number, out of range, text long, missing forbidden
   56     descriptors that the tables do not know, or that make no template
@@ -174,7 +174,7 @@ error that reports the line of the text, from 1, and the fault's number:
   62     data that the template cannot hold
   70-73  reading, writing, an endless input, memory
 Of a document that is refused nothing goes to standard output. A table at fault
-is results before the input is opened:
+is told before the input is opened:
   40-45  header, row, duplicate, cycle, size, number of fields
 
 The tables are CSV files whose first line names these columns:
@@ -183,7 +183,7 @@ The tables are CSV files whose first line names these columns:
 They have to be those that the text was dumped by.
 
 With --form plain or --form compressed each message is written in that form,
-whatever its document says. Compressed, 58 reports a replication factor that
+whatever its document says. Compressed, 58 tells a replication factor that
 differs between subsets, 59 texts that differ where one has more than 63 octets
 without the spaces at its end, or reference values that differ: such data can
 be written plain alone. Plain data may be too long (60).
