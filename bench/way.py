@@ -14,7 +14,7 @@ import sys
 
 TOP = pathlib.Path(__file__).resolve().parent.parent
 # What an octet of plain data does not pass: compressed data, the list of descriptors, the header lines, stray words.
-BESIDE = "read_packed show_packed descriptors_of select take_specs put_specs write_head_lines push_head_lines write_stray".split()
+BESIDE = "read_packed show_packed descriptors_of select take_specs put_specs write_head_lines push_head_lines write_fault".split()
 CRATES = "bits tables frame walk fill text cli".split()
 IMPL = re.compile(r"^impl(?:<.*?>)? (?:([\w:]+)(?:<.*?>)? for )?(\w+)")
 FN = re.compile(r"^( *)(?:pub(?:\(crate\))? )?(?:const )?fn (\w+)")

@@ -142,7 +142,7 @@ SOURCES = [
     ("other.csv", "", 2, "source holds no tables that are known here\n", None),
     # wreport's layout: units without spaces, a sign apart, a name that fills its columns, letters of two octets.
     (
-        "B13.txt",
+        "Bmade.txt",
         wreport_row("001210", "MADE UP", "CCITTIA5", "0", "0", "72")
         + wreport_row("001211", "A CODE", "CODETABLE 1211", "0", "0", "8")
         + wreport_row("001212", "A FLAG", "FLAG TABLE 1212", "0", "0", "8", "\r\r")
@@ -159,7 +159,7 @@ SOURCES = [
     ),
     # The same sequence twice: the first counts. Counts of one, two and three digits; what stands behind a member.
     (
-        "D13.txt",
+        "Dmade.txt",
         " 307210  2 001210  of this centre\n           001211\r\n 307211  1 307210\n 307210  1 001212\n"
         " 307212100 001210\n" + "           001211\n" * 99 + " 307213 101 001210\n" + "            001212\n" * 100,
         0,
@@ -169,14 +169,14 @@ SOURCES = [
         + "307213,001210\n"
         + "307213,001212\n" * 100,
     ),
-    ("D13.txt", " 307210  2 001210\n", 2, "source/D13.txt: 307210 states 2 members and has 1\n", None),
-    ("D13.txt", "           001210\n", 2, "source/D13.txt, line 1: no member of a sequence\n", None),
-    ("D13.txt", " D07210  1 B01210\n", 2, "source/D13.txt, line 1: no member of a sequence\n", None),
+    ("Dmade.txt", " 307210  2 001210\n", 2, "source/Dmade.txt: 307210 states 2 members and has 1\n", None),
+    ("Dmade.txt", "           001210\n", 2, "source/Dmade.txt, line 1: no member of a sequence\n", None),
+    ("Dmade.txt", " D07210  1 B01210\n", 2, "source/Dmade.txt, line 1: no member of a sequence\n", None),
     (
-        "B13.txt",
+        "Bmade.txt",
         " 012101 NAME K 2 0 16\n",
         2,
-        "source/B13.txt, line 1: no scale, reference and width in columns 98 to 118\n",
+        "source/Bmade.txt, line 1: no scale, reference and width in columns 98 to 118\n",
         None,
     ),
 ]

@@ -7,6 +7,7 @@ pub mod PushLemmas
 pub mod RoundLemmas
 pub mod ScaledLemmas
 pub mod ShortLemmas
+pub mod ShortTextLemmas
 pub mod TextLemmas
 pub mod WriterLemmas
 pub mod WindowLemmas

@@ -125,7 +125,7 @@ decimal_some n h = (decimal_is_IsNumeral_wide n h).0.0
 decimal_value : (n : ℕ) → n < 10 ^ 64 → digits_value 10 (decimal n) ≡ n
 decimal_value n h = (decimal_is_IsNumeral_wide n h).1
 
-padded_value : (count : ℕ) (d : List ℕ) (n : ℕ) → digits_value 10 d ≡ n → digits_value 10 (replicate count 48 ++ d) ≡ n
+pub padded_value : (count : ℕ) (d : List ℕ) (n : ℕ) → digits_value 10 d ≡ n → digits_value 10 (replicate count 48 ++ d) ≡ n
 padded_value count d n e =
     let none : digits_value 10 (replicate count 48) * 10 ^ length d ≡ 0 = ap (λ (m : ℕ). m * 10 ^ length d) (zeros_value count) ∙ omega arith in
     value-append (replicate count 48) d ∙ omega (arith, none)

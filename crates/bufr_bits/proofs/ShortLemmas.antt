@@ -157,7 +157,7 @@ pointed_below whole fraction n hw hf e =
     let more : 10 ^ length (whole ++ fraction) ≤ 10 ^ length (whole ++ 46 ∷ fraction) = pow-le-pow_right (omega arith) (omega (arith, short, long)) in
     omega (arith, below, more, e)
 
-short_parts : (whole fraction : List ℕ) (m n : ℕ) → 0 < length whole → 0 < length fraction → all_digits whole ≡ true → all_digits fraction ≡ true → m ≡ digits_value_after 10 0 whole → n ≡ digits_value_after 10 m fraction → IsShortDecimal (whole ++ 46 ∷ fraction) n (length fraction)
+pub short_parts : (whole fraction : List ℕ) (m n : ℕ) → 0 < length whole → 0 < length fraction → all_digits whole ≡ true → all_digits fraction ≡ true → m ≡ digits_value_after 10 0 whole → n ≡ digits_value_after 10 m fraction → IsShortDecimal (whole ++ 46 ∷ fraction) n (length fraction)
 short_parts whole fraction m n sw sf hw hf hm hn =
     let w = whole_with_point whole fraction hw in
     let f = fraction_with_point whole fraction hw in
@@ -203,7 +203,7 @@ short_fits text n places up h few =
     omega (arith, below, split, most, literal, some)
 
 -- what reading a short text answers
-value_short : (text body : List ℕ) (scale : ℤ) (up down n places : ℕ) → body ≡ unsigned_part text → IsShortDecimal body n places → up ≡ positive_scale scale → down ≡ negative_scale scale → decimal_value_of text scale ≡ and_then (whole_quotient (n * 10 ^ up) (10 ^ (places + down))) (signed (starts_with_minus text))
+pub value_short : (text body : List ℕ) (scale : ℤ) (up down n places : ℕ) → body ≡ unsigned_part text → IsShortDecimal body n places → up ≡ positive_scale scale → down ≡ negative_scale scale → decimal_value_of text scale ≡ and_then (whole_quotient (n * 10 ^ up) (10 ^ (places + down))) (signed (starts_with_minus text))
 unfolding decimal_value_of
 value_short text body scale up down n places b h hu hd =
     let short : IsShortDecimal (unsigned_part text) n places = subst (λ (t : List ℕ). IsShortDecimal t n places) b h in

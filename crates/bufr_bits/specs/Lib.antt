@@ -15,6 +15,8 @@ pub mod DecimalValue
 pub mod Device
 -- what the test devices in memory are about to do
 pub mod Script
+-- a short decimal text as its digits
+pub mod ShortDecimal
 -- eight octets read as one number
 pub mod Window
 -- the state of a writer of bits

@@ -71,7 +71,7 @@ fn trailing_zeros(size: u128, power: usize) -> usize
 }
 
 /// How often ten multiplies and how often it divides a number at a scale.
-fn powers_of(scale: i16) -> (usize, usize)
+pub(crate) fn powers_of(scale: i16) -> (usize, usize)
     ensures up { result.0 ≡ positive_scale scale }
     ensures down { result.1 ≡ negative_scale scale }
     ensures few { result.0 + result.1 ≤ 2 ^ 15 }
@@ -154,7 +154,7 @@ fn long_read(text: &[u8], scale: i16) -> Result<i128, NumberFault>
 }
 
 /// Whether a text begins with a minus sign, and the text after it.
-fn without_sign(text: &[u8]) -> (bool, &[u8])
+pub(crate) fn without_sign(text: &[u8]) -> (bool, &[u8])
     ensures sign { result.0 ≡ starts_with_minus text.now }
     ensures body { result.1.now ≡ unsigned_part text.now }
 {
@@ -243,7 +243,7 @@ fn extend_with_digits(number: u128, digits: &[u8]) -> u128
 }
 
 /// A number times ten so often, up to the greatest `u128`.
-fn times_ten(number: u128, times: usize) -> u128
+pub(crate) fn times_ten(number: u128, times: usize) -> u128
     ensures { (n : ℕ) → number ≡ capped n → result ≡ capped (n * 10 ^ times) }
 {
     let mut value = number;
@@ -254,7 +254,7 @@ fn times_ten(number: u128, times: usize) -> u128
 }
 
 /// A number with its sign, if it is within `i128`.
-fn apply_sign(negative: bool, number: u128) -> Result<i128, NumberFault>
+pub(crate) fn apply_sign(negative: bool, number: u128) -> Result<i128, NumberFault>
     ensures { (n : ℕ) → number ≡ capped n → result ≡ signed negative n }
 {
     let signed = if negative {

@@ -1,17 +1,22 @@
 -- The lines that report the faults of a stream and of its messages. (a choice of this project)
 -- Cited by public contracts.
-use Rattle.std.specs.Prelude.{ℕ, List, [], ◌∷◌, ◌++◌, codes, decimal}
+use Rattle.std.specs.Prelude.{◌≢◌, ℕ, List, [], ◌∷◌, ◌++◌, codes, decimal}
 use Rattle.bufr_frame.specs.declared.fault.Cause.{Cause}
 use Rattle.bufr_frame.specs.declared.fault.Cause.TheVariants.{Cut, ShortLength, NoEnd}
 use Rattle.bufr_frame.specs.declared.fault.SectionFault.{SectionFault}
 use Rattle.bufr_frame.specs.declared.fault.SectionFault.TheVariants.{Edition, SectionShort, SectionPast, SectionsEnd, Edition3Long}
+use Rattle.bufr_frame.specs.Numbers.{number_of_cause, number_of_section_fault}
+use Rattle.bufr_tables.specs.FaultNumber.{number_of_template_fault}
 use Rattle.bufr_tables.specs.Fxy.{fxy_text}
 use Rattle.bufr_tables.specs.declared.template.fault.TemplateFault.{TemplateFault}
 use Rattle.bufr_tables.specs.declared.template.fault.TemplateFault.TheVariants as template
 use Rattle.bufr_walk.specs.declared.fault.Spot.{Spot}
 use Rattle.bufr_walk.specs.declared.fault.WalkFault.{WalkFault}
 use Rattle.bufr_walk.specs.declared.fault.WalkFault.TheVariants as walk
+use Rattle.bufr_walk.specs.Fault.{number_of_walk_fault}
 use Rattle.bufr_text.specs.Writing.{joined}
+use Rattle.bufr_cli.specs.declared.fault_line.StreamFault.{StreamFault}
+use Rattle.bufr_cli.specs.declared.fault_line.StreamFault.TheVariants as stream
 
 -- the text of a stray word
 -- rule: fault-1, fault-2, fault-3
@@ -61,6 +66,27 @@ walk_fault_text (walk.UnequalFactor spot) = spot_text (codes "unequal factor") s
 walk_fault_text (walk.Increment spot) = spot_text (codes "increment") spot
 walk_fault_text (walk.TooManyValues spot) = spot_text (codes "too many values") spot
 walk_fault_text walk.Memory = []
+
+-- the number of a fault of a stream
+abbrev pub number_of_stream_fault : StreamFault → ℕ
+number_of_stream_fault (stream.Stray cause) = number_of_cause cause
+number_of_stream_fault (stream.Section fault) = number_of_section_fault fault
+number_of_stream_fault (stream.Template fault) = number_of_template_fault fault.now
+number_of_stream_fault (stream.Data fault) = number_of_walk_fault fault.now
+
+-- its text
+abbrev pub stream_fault_text : StreamFault → List (List ℕ)
+stream_fault_text (stream.Stray cause) = cause_text cause ∷ []
+stream_fault_text (stream.Section fault) = section_fault_text fault
+stream_fault_text (stream.Template fault) = template_fault_text fault.now
+stream_fault_text (stream.Data fault) = walk_fault_text fault.now
+
+-- it is not want of memory, which has no line
+abbrev pub HasLine : StreamFault → Type 0
+HasLine (stream.Stray cause) = Unit {0}
+HasLine (stream.Section fault) = Unit {0}
+HasLine (stream.Template fault) = fault.now ≢ template.Memory
+HasLine (stream.Data fault) = fault.now ≢ walk.Memory
 
 -- the beginning of a line: a word, the place that it counts, and the fault's number
 abbrev pub place_texts : (word : List ℕ) (place number : ℕ) → List (List ℕ)

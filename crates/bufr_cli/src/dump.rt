@@ -14,7 +14,7 @@ ghost use Rattle.bufr_cli.specs.Running.{RunsEvents, GivesPieces, ReadsAtMost};
 ghost use Rattle.bufr_cli.specs.Whole.{WritesAndCounts};
 ghost use Rattle.bufr_cli.specs.WritingPieces.{StopsPiece, ReportsPieces};
 
-use crate::fault_line::{write_section_fault, write_stray, write_template_fault, write_walk_fault};
+use crate::fault_line::{StreamFault, write_fault};
 use crate::run_events::{EventWriter, run_events};
 use crate::tally::{Tally, Verdict};
 use bufr_bits::{Sink, Source};
@@ -39,8 +39,8 @@ fn descriptors_of(alloc: Global, message: &Message<'_>) -> Result<Vec<Fxy>, Allo
 
 /// Reads the data of a message. It says less than the call that it makes, so that what is proved of
 /// a run does not carry the bounds on steps.
-fn read_data<'a>(
-    memory: &mut DumpMemory<'_>,
+fn read_data<'a, 't: 'a>(
+    memory: &mut DumpMemory<'t>,
     message: &Message<'a>,
     template: &'a Template,
     table: &'a TableB,
@@ -53,32 +53,41 @@ fn read_data<'a>(
     ensures fault { IfErr result
         (λ why. IsFault (next_item table.now template.now) (data_of message.now) why steps.new) }
 {
-    read_by(
-        memory.alloc,
-        message,
-        template,
-        table,
-        &mut memory.specs,
-        steps,
-    )
+    read_by(message, template, &mut memory.specs, steps)
+}
+
+/// What a run keeps from message to message: the last templates with the specs of their cells, and
+/// the memory of its dumps. Messages repeat their descriptors, and few of these can make a template
+/// of many places.
+#[derive(Drop)]
+struct DumpRun<'a> {
+    templates: TemplateCache<'a>,
+    memory: DumpMemory<'a>,
+}
+
+/// A message of a stream at its offset, Table B, and the template of its descriptors.
+#[derive(Clone, Copy)]
+struct Expanded<'a, 'o> {
+    offset: u64,
+    message: &'a Message<'o>,
+    template: &'a Template,
+    table: &'a TableB,
 }
 
 /// Writes the text of a message by its template and the specs that are cached. Where its data are
 /// refused, it writes the line of their fault.
 // rule: refused-messages-write-nothing
 fn dump_data<W: Sink, E: Sink>(
-    offset: u64,
-    message: &Message<'_>,
-    template: &Template,
-    table: &TableB,
+    expanded: &Expanded<'_, '_>,
     memory: &mut DumpMemory<'_>,
     w: &mut W,
     e: &mut E,
 ) -> Result<Verdict, RunFault>
-    requires { memory.old.specs ≡ table.now }
+    requires { memory.old.specs ≡ expanded.now.table.now }
     ensures same { memory.new.specs ≡ memory.old.specs }
     ensures reports { (piece : Piece)
-        → IsDataPiece table.now offset message.now template.now piece
+        → IsDataPiece expanded.now.table.now expanded.now.offset expanded.now.message.now
+        expanded.now.template.now piece
         → ReportsPieces (writers_of W.Sink w.old E.Sink e.old)
         (writers_of W.Sink w.new E.Sink e.new) (piece ∷ []) result }
     ensures stops { StopsPiece true result }
@@ -87,6 +96,12 @@ fn dump_data<W: Sink, E: Sink>(
     ensures output_flushes { W.flushes w.new ≡ W.flushes w.old }
     ensures errors_flushes { E.flushes e.new ≡ E.flushes e.old }
 {
+    let Expanded {
+        offset,
+        message,
+        template,
+        table,
+    } = *expanded;
     let mut steps = Steps::new();
     match read_data(memory, message, template, table, &mut steps) {
         Ok(reading) => {
@@ -95,7 +110,7 @@ fn dump_data<W: Sink, E: Sink>(
         }
         Err(WalkFault::Memory) => Err(RunFault::Memory),
         Err(fault) => {
-            write_walk_fault(offset, &fault, e)?;
+            write_fault(offset, StreamFault::Data(&fault), e)?;
             Ok(Verdict::Refused)
         }
     }
@@ -106,16 +121,17 @@ fn dump_data<W: Sink, E: Sink>(
 fn dump_selected<W: Sink, E: Sink>(
     offset: u64,
     message: &Message<'_>,
-    templates: &TemplateCache<'_>,
-    memory: &mut DumpMemory<'_>,
+    run: &mut DumpRun<'_>,
     w: &mut W,
     e: &mut E,
 ) -> Result<Verdict, RunFault>
-    requires list { templates.now.list ≡ message.now.descriptors }
-    requires cached { memory.old.specs ≡ templates.now.table_b }
-    ensures same { memory.new.specs ≡ memory.old.specs }
+    requires list { run.old.templates.list ≡ message.now.descriptors }
+    requires cached { run.old.memory.specs ≡ run.old.templates.table_b }
+    ensures specs { run.new.memory.specs ≡ run.old.memory.specs }
+    ensures templates { run.new.templates ≡ run.old.templates }
     ensures reports { (piece : Piece)
-        → IsMessagePiece templates.now.table_b templates.now.table_d offset (Ok message.now) piece
+        → IsMessagePiece run.old.templates.table_b run.old.templates.table_d offset
+        (Ok message.now) piece
         → ReportsPieces (writers_of W.Sink w.old E.Sink e.old)
         (writers_of W.Sink w.new E.Sink e.new) (piece ∷ []) result }
     ensures stops { StopsPiece true result }
@@ -124,23 +140,22 @@ fn dump_selected<W: Sink, E: Sink>(
     ensures output_flushes { W.flushes w.new ≡ W.flushes w.old }
     ensures errors_flushes { E.flushes e.new ≡ E.flushes e.old }
 {
-    let table = templates.table_b();
-    match templates.answer() {
-        Ok(template) => dump_data(offset, message, template, table, memory, w, e),
+    let table = run.templates.table_b();
+    match run.templates.answer() {
+        Ok(template) => {
+            let expanded = Expanded {
+                offset,
+                message,
+                template,
+                table,
+            };
+            dump_data(&expanded, &mut run.memory, w, e)
+        }
         Err(fault) => {
-            write_template_fault(offset, fault, e)?;
+            write_fault(offset, StreamFault::Template(fault), e)?;
             Ok(Verdict::Refused)
         }
     }
-}
-
-/// What a run keeps from message to message: the last templates with the specs of their cells, and
-/// the memory of its dumps. Messages repeat their descriptors, and few of these can make a template
-/// of many places.
-#[derive(Drop)]
-struct DumpRun<'a> {
-    templates: TemplateCache<'a>,
-    memory: DumpMemory<'a>,
 }
 
 /// Writes the text of a message, or the line of the fault that its descriptors or its data are
@@ -170,7 +185,7 @@ fn dump_message<W: Sink, E: Sink>(
     run.templates.select(&descriptors)?;
     let mut specs = run.templates.take_specs();
     mem::swap(&mut run.memory.specs, &mut specs);
-    let outcome = dump_selected(offset, message, &run.templates, &mut run.memory, w, e);
+    let outcome = dump_selected(offset, message, run, w, e);
     mem::swap(&mut run.memory.specs, &mut specs);
     run.templates.put_specs(specs);
     outcome
@@ -203,7 +218,7 @@ fn dump_frame<W: Sink, E: Sink>(
     match Message::parse(octets) {
         Ok(message) => dump_message(offset, &message, run, w, e),
         Err(fault) => {
-            write_section_fault(offset, fault, e)?;
+            write_fault(offset, StreamFault::Section(fault), e)?;
             Ok(Verdict::Refused)
         }
     }
@@ -233,7 +248,7 @@ fn dump_event<W: Sink, E: Sink>(
     match event {
         Event::Frame(offset, octets) => dump_frame(offset, octets, run, w, e),
         Event::Stray(offset, cause) => {
-            write_stray(offset, cause, e)?;
+            write_fault(offset, StreamFault::Stray(cause), e)?;
             Ok(Verdict::Refused)
         }
         Event::Done => unreachable!(),

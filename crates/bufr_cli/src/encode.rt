@@ -14,7 +14,7 @@ ghost use Rattle.bufr_cli.specs.Running.{ReadsAtMost};
 ghost use Rattle.bufr_cli.specs.Whole.{Encodes};
 ghost use Rattle.bufr_cli.specs.WritingPieces.{StopsPiece, ReportsPieces};
 
-use crate::document_line::{write_document_fault, write_read_fault};
+use crate::fault_line::{write_document_fault, write_read_fault};
 use crate::run_events::flush;
 use crate::tally::{Tally, Verdict};
 use bufr_bits::{Sink, Source};
@@ -45,29 +45,35 @@ fn octets_of(
     encode_by(alloc, document, form, templates, &mut Steps::new())
 }
 
-/// Writes the message of a document in a form, whole, or the line of the fault that it is refused
-/// for.
-fn encode_one<W: Sink, E: Sink>(
+/// The form that the documents of a run are encoded in, and what is kept from one to the next.
+#[derive(Drop)]
+struct EncodeRun<'a> {
     alloc: Global,
-    document: &Document,
     form: Form,
-    templates: &mut TemplateCache<'_>,
+    templates: TemplateCache<'a>,
+}
+
+/// Writes the message of a document, whole, or the line of the fault that it is refused for.
+fn encode_one<W: Sink, E: Sink>(
+    run: &mut EncodeRun<'_>,
+    document: &Document,
     w: &mut W,
     e: &mut E,
 ) -> Result<Verdict, RunFault>
     ensures reports { ReportsPieces (writers_of W.Sink w.old E.Sink e.old)
         (writers_of W.Sink w.new E.Sink e.new)
-        (result_piece form templates.old.table_b templates.old.table_d (Complete document.now) ∷ [])
-        result }
+        (result_piece run.old.form run.old.templates.table_b run.old.templates.table_d
+        (Complete document.now) ∷ []) result }
     ensures stops { StopsPiece true result }
-    ensures table_b { templates.new.table_b ≡ templates.old.table_b }
-    ensures table_d { templates.new.table_d ≡ templates.old.table_d }
+    ensures form { run.new.form ≡ run.old.form }
+    ensures table_b { run.new.templates.table_b ≡ run.old.templates.table_b }
+    ensures table_d { run.new.templates.table_d ≡ run.old.templates.table_d }
     ensures counts { BlamesWriter (writers_of W.Sink w.old E.Sink e.old)
         (writers_of W.Sink w.new E.Sink e.new) result }
     ensures output_flushes { W.flushes w.new ≡ W.flushes w.old }
     ensures errors_flushes { E.flushes e.new ≡ E.flushes e.old }
 {
-    match octets_of(alloc, document, form, templates) {
+    match octets_of(run.alloc, document, run.form, &mut run.templates) {
         Ok(octets) => {
             write_all(octets.as_slice(), w)?;
             Ok(Verdict::Accepted)
@@ -85,21 +91,21 @@ fn encode_one<W: Sink, E: Sink>(
 /// the text there is nothing. The document's memory goes back to its reader.
 // rule: document-read-first
 fn encode_next<W: Sink, E: Sink>(
-    alloc: Global,
+    run: &mut EncodeRun<'_>,
     reader: &mut DumpReader,
     next: Result<Option<Document>, ReadFault>,
-    form: Form,
-    templates: &mut TemplateCache<'_>,
     w: &mut W,
     e: &mut E,
 ) -> Result<Option<Verdict>, RunFault>
     requires { next ≢ Err (ReadFault.Run RunFault.Write) }
     ensures reader { reader.new ≡ reader.old }
-    ensures table_b { templates.new.table_b ≡ templates.old.table_b }
-    ensures table_d { templates.new.table_d ≡ templates.old.table_d }
+    ensures form { run.new.form ≡ run.old.form }
+    ensures table_b { run.new.templates.table_b ≡ run.old.templates.table_b }
+    ensures table_d { run.new.templates.table_d ≡ run.old.templates.table_d }
     ensures reports { ReportsNext (writers_of W.Sink w.old E.Sink e.old)
         (writers_of W.Sink w.new E.Sink e.new)
-        (result_piece form templates.old.table_b templates.old.table_d) next result }
+        (result_piece run.old.form run.old.templates.table_b run.old.templates.table_d) next
+        result }
     ensures counts { BlamesWriter (writers_of W.Sink w.old E.Sink e.old)
         (writers_of W.Sink w.new E.Sink e.new) result }
     ensures output_flushes { W.flushes w.new ≡ W.flushes w.old }
@@ -108,7 +114,7 @@ fn encode_next<W: Sink, E: Sink>(
     match next {
         Ok(None) => Ok(None),
         Ok(Some(document)) => {
-            let verdict = encode_one(alloc, &document, form, templates, w, e)?;
+            let verdict = encode_one(run, &document, w, e)?;
             reader.reuse(document);
             Ok(Some(verdict))
         }
@@ -120,19 +126,25 @@ fn encode_next<W: Sink, E: Sink>(
     }
 }
 
-/// Encodes the documents of `r` in a form, up to the first one that is refused, and flushes
-/// nothing.
+/// The tables and the form that documents are encoded by.
+#[derive(Clone, Copy)]
+struct EncodeBy<'a> {
+    alloc: Global,
+    table_b: &'a TableB,
+    table_d: &'a TableD,
+    form: Form,
+}
+
+/// Encodes the documents of `r`, up to the first one that is refused, and flushes nothing.
 // rule: first-refusal-ends
 fn encode_documents<R: Source, W: Sink, E: Sink>(
-    alloc: Global,
+    by: EncodeBy<'_>,
     r: &mut R,
     w: &mut W,
     e: &mut E,
-    table_b: &TableB,
-    table_d: &TableD,
-    form: Form,
 ) -> Result<Tally, RunFault>
-    ensures run { (bs : List ℕ) × EncodesSoFar (encode_pieces form table_b.now table_d.now)
+    ensures run { (bs : List ℕ)
+        × EncodesSoFar (encode_pieces by.entry.form by.entry.table_b.now by.entry.table_d.now)
         (input_of R.Source r.old) (input_of R.Source r.new)
         (writers_of W.Sink w.old E.Sink e.old) (writers_of W.Sink w.new E.Sink e.new) bs result }
     ensures reader { R.failures r.new ≡ read_failures_after (R.failures r.old) result }
@@ -142,16 +154,20 @@ fn encode_documents<R: Source, W: Sink, E: Sink>(
     ensures output_flushes { W.flushes w.new ≡ W.flushes w.old }
     ensures errors_flushes { E.flushes e.new ≡ E.flushes e.old }
 {
-    let mut templates = TemplateCache::new(alloc, table_b, table_d);
-    let mut reader = DumpReader::new(alloc);
+    let templates = TemplateCache::new(by.alloc, by.table_b, by.table_d);
+    let mut run = EncodeRun {
+        alloc: by.alloc,
+        form: by.form,
+        templates,
+    };
+    let mut reader = DumpReader::new(by.alloc);
     let mut tally = Tally {
         accepted: 0,
         refused: 0,
     };
     loop {
         let next = reader.next_document(r);
-        let Some(verdict) = encode_next(alloc, &mut reader, next, form, &mut templates, w, e)?
-        else {
+        let Some(verdict) = encode_next(&mut run, &mut reader, next, w, e)? else {
             return Ok(tally);
         };
         tally.count(verdict);
@@ -161,10 +177,9 @@ fn encode_documents<R: Source, W: Sink, E: Sink>(
     }
 }
 
-/// Encodes the documents of the text `r` in a form, by these tables: for each its message on `w`,
-/// in the order of the text, each as soon as its `end` was read. The first document that is refused
-/// ends the run, with its fault line on `e` and nothing of it on `w`. At the end `w`, then `e` is
-/// flushed.
+/// Encodes the documents of the text `r` in a form, by these tables. Each message is on `w` as soon
+/// as its `end` was read, in the order of the text. The first document that is refused ends the
+/// run, with its fault line on `e` and nothing of it on `w`. At the end `w`, then `e` is flushed.
 ///
 /// ```
 /// let table_b = TableB::read(rt.alloc(), b"fxy,name,unit,scale,reference,width\n")?;
@@ -209,7 +224,13 @@ pub fn run_encode_form<R: Source, W: Sink, E: Sink>(
     ensures writers { BlamesWriter (writers_of W.Sink w.old E.Sink e.old)
         (writers_of W.Sink w.new E.Sink e.new) result }
 {
-    let tally = encode_documents(alloc, r, w, e, table_b, table_d, form)?;
+    let by = EncodeBy {
+        alloc,
+        table_b,
+        table_d,
+        form,
+    };
+    let tally = encode_documents(by, r, w, e)?;
     flush(w)?;
     flush(e)?;
     Ok(tally)

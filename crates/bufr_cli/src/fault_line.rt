@@ -1,32 +1,59 @@
-//! The lines that report the faults of a stream, of a message, of its template and of its data.
-ghost use Rattle.std.specs.Prelude.{◌≡◌, ◌≢◌, [], ◌∷◌};
+//! The lines that report the faults of a stream and of the messages in it, and of a text and its
+//! documents.
+ghost use Rattle.std.specs.Prelude.{◌≡◌, ◌≢◌, ℕ, [], ◌∷◌, Err, IfErr, IfSome};
 ghost use Rattle.bufr_tables.specs.Fxy.{fxy_text};
-ghost use Rattle.bufr_tables.specs.FaultNumber.{number_of_template_fault};
-ghost use Rattle.bufr_walk.specs.Fault.{number_of_walk_fault};
-ghost use Rattle.bufr_frame.specs.Numbers.{number_of_cause, number_of_section_fault};
+ghost use Rattle.bufr_text.specs.Documents.{TextLineFault, Refused};
+ghost use Rattle.bufr_text.specs.Reader.{parse_results};
+ghost use Rattle.bufr_text.specs.EncodingFault.{number_of_document_fault, reported_refusal, walk_report};
 ghost use Rattle.bufr_text.specs.Lines.{Pushes};
 ghost use Rattle.bufr_text.specs.Writing.{Writes, joined};
-ghost use Rattle.bufr_cli.specs.FaultLine.{fault_line, place_texts, cause_text, section_fault_text, template_fault_text, walk_fault_text, spot_text};
+ghost use Rattle.bufr_cli.specs.FaultLine.{HasLine, cause_text, fault_line, number_of_stream_fault, place_texts, section_fault_text, spot_text, stream_fault_text, template_fault_text, walk_fault_text};
+ghost use Rattle.bufr_cli.specs.DocumentLine.{document_line, item_fault_line, line_of_read_fault, line_of_refusal, refusal_line, refused_line};
 ghost use Rattle.bufr_cli.specs.Counting.{OnlyWrites};
 ghost use Rattle.bufr_cli.specs.Devices.{writer_of};
 
 use bufr_bits::Sink;
+use bufr_fill::Expected;
 use bufr_frame::{Cause, RunFault, SectionFault};
 use bufr_tables::{Fxy, TemplateFault};
-use bufr_text::LineWriter;
+use bufr_text::{DocumentFault, LineWriter, ReadFault, WalkRefusal};
 use bufr_walk::{Spot, WalkFault};
 
 /// The octets in which a line is put together. The longest, of a fault of the data, has 107.
 const LINE: usize = 112;
 
+/// Why a message of a stream is refused, or why a `BUFR` begins none.
+#[derive(Clone, Copy)]
+pub(crate) enum StreamFault<'f> {
+    /// A `BUFR` begins no message.
+    Stray(Cause),
+    /// The message cannot be taken apart.
+    Section(SectionFault),
+    /// Its descriptors make no template.
+    Template(&'f TemplateFault),
+    /// Its data cannot be read.
+    Data(&'f WalkFault),
+}
+
+impl StreamFault<'_> {
+    ghost use Rattle.std.specs.Prelude.{◌≡◌};
+
+    fn number(&self) -> u8
+        ensures { result ≡ number_of_stream_fault self.now }
+    {
+        match self {
+            StreamFault::Stray(cause) => cause.number(),
+            StreamFault::Section(fault) => fault.number(),
+            StreamFault::Template(fault) => fault.number(),
+            StreamFault::Data(fault) => fault.number(),
+        }
+    }
+}
+
 /// Pushes the beginning of a fault line: a word, the place that it counts, and the fault's number.
+#[inline(always)]
 // rule: stream-fault-line
-pub(crate) fn push_place<E: Sink>(
-    line: &mut LineWriter<'_, '_, E>,
-    word: &[u8],
-    place: u64,
-    number: u8,
-)
+fn push_place<E: Sink>(line: &mut LineWriter<'_, '_, E>, word: &[u8], place: u64, number: u8)
     ensures { Pushes line.old (joined (place_texts word.now place number)) line.new }
 {
     line.push(word);
@@ -36,7 +63,7 @@ pub(crate) fn push_place<E: Sink>(
 }
 
 /// Pushes a text and a descriptor after it.
-pub(crate) fn push_descriptor<E: Sink>(line: &mut LineWriter<'_, '_, E>, text: &[u8], fxy: Fxy)
+fn push_descriptor<E: Sink>(line: &mut LineWriter<'_, '_, E>, text: &[u8], fxy: Fxy)
     ensures { Pushes line.old (joined (text.now ∷ fxy_text fxy ∷ [])) line.new }
 {
     line.push(text);
@@ -44,6 +71,7 @@ pub(crate) fn push_descriptor<E: Sink>(line: &mut LineWriter<'_, '_, E>, text: &
 }
 
 /// The text of a stray word.
+// rule: fault-1, fault-2, fault-3
 fn stray_text(cause: Cause) -> &'static [u8]
     ensures { result.now ≡ cause_text cause }
 {
@@ -54,29 +82,8 @@ fn stray_text(cause: Cause) -> &'static [u8]
     }
 }
 
-/// Writes the line of a stray `BUFR` at `offset`, in octets from 0. It takes no memory.
-///
-/// # Errors
-///
-/// [`RunFault::Write`] where the writer fails or takes nothing; a prefix of the line was taken.
-// rule: fault-1, fault-2, fault-3
-pub fn write_stray<E: Sink>(offset: u64, cause: Cause, e: &mut E) -> Result<(), RunFault>
-    ensures writes { Writes (E.taken e.old) (E.taken e.new)
-        (fault_line offset (number_of_cause cause) (cause_text cause ∷ [])) result }
-    ensures counts { OnlyWrites (writer_of E.Sink e.old) (writer_of E.Sink e.new) result }
-{
-    let mut block = [0; LINE];
-    let mut line = LineWriter::new(&mut block, e);
-    push_place(&mut line, b"offset ", offset, cause.number());
-    line.push(stray_text(cause));
-    line.push(b"\n");
-    line.hand_on();
-    let outcome = line.status();
-    let _ = line.into_sink();
-    outcome
-}
-
 /// Pushes the text of a section fault.
+// rule: fault-10, fault-11, fault-12, fault-13, fault-14
 fn push_section_fault<E: Sink>(line: &mut LineWriter<'_, '_, E>, fault: SectionFault)
     ensures { Pushes line.old (joined (section_fault_text fault)) line.new }
 {
@@ -95,35 +102,9 @@ fn push_section_fault<E: Sink>(line: &mut LineWriter<'_, '_, E>, fault: SectionF
     }
 }
 
-/// Writes the line of a message at `offset`, in octets from 0, that cannot be taken apart. It takes
-/// no memory.
-///
-/// # Errors
-///
-/// [`RunFault::Write`] where the writer fails or takes nothing; a prefix of the line was taken.
-// rule: fault-10, fault-11, fault-12, fault-13, fault-14
-pub fn write_section_fault<E: Sink>(
-    offset: u64,
-    fault: SectionFault,
-    e: &mut E,
-) -> Result<(), RunFault>
-    ensures writes { Writes (E.taken e.old) (E.taken e.new)
-        (fault_line offset (number_of_section_fault fault) (section_fault_text fault)) result }
-    ensures counts { OnlyWrites (writer_of E.Sink e.old) (writer_of E.Sink e.new) result }
-{
-    let mut block = [0; LINE];
-    let mut line = LineWriter::new(&mut block, e);
-    push_place(&mut line, b"offset ", offset, fault.number());
-    push_section_fault(&mut line, fault);
-    line.push(b"\n");
-    line.hand_on();
-    let outcome = line.status();
-    let _ = line.into_sink();
-    outcome
-}
-
 /// Pushes the text of a template fault.
-pub(crate) fn push_template_fault<E: Sink>(line: &mut LineWriter<'_, '_, E>, fault: &TemplateFault)
+// rule: fault-20, fault-21, fault-22, fault-23, fault-24, fault-25, fault-26, fault-27, fault-28
+fn push_template_fault<E: Sink>(line: &mut LineWriter<'_, '_, E>, fault: &TemplateFault)
     requires { fault.now ≢ TemplateFault.Memory }
     ensures { Pushes line.old (joined (template_fault_text fault.now)) line.new }
 {
@@ -141,35 +122,6 @@ pub(crate) fn push_template_fault<E: Sink>(line: &mut LineWriter<'_, '_, E>, fau
     }
 }
 
-/// Writes the line of a message at `offset`, in octets from 0, whose descriptors make no template.
-/// Want of memory has no line. It takes no memory.
-///
-/// # Errors
-///
-/// [`RunFault::Write`] where the writer fails or takes nothing; a prefix of the line was taken.
-// rule: fault-20, fault-21, fault-22, fault-23, fault-24, fault-25, fault-26, fault-27, fault-28
-pub fn write_template_fault<E: Sink>(
-    offset: u64,
-    fault: &TemplateFault,
-    e: &mut E,
-) -> Result<(), RunFault>
-    requires { fault.now ≢ TemplateFault.Memory }
-    ensures writes { Writes (E.taken e.old) (E.taken e.new)
-        (fault_line offset (number_of_template_fault fault.now) (template_fault_text fault.now))
-        result }
-    ensures counts { OnlyWrites (writer_of E.Sink e.old) (writer_of E.Sink e.new) result }
-{
-    let mut block = [0; LINE];
-    let mut line = LineWriter::new(&mut block, e);
-    push_place(&mut line, b"offset ", offset, fault.number());
-    push_template_fault(&mut line, fault);
-    line.push(b"\n");
-    line.hand_on();
-    let outcome = line.status();
-    let _ = line.into_sink();
-    outcome
-}
-
 /// Pushes the name of a fault of the data, and where in the data it is.
 // rule: stream-fault-place
 fn push_spot<E: Sink>(line: &mut LineWriter<'_, '_, E>, name: &[u8], spot: Spot)
@@ -182,6 +134,7 @@ fn push_spot<E: Sink>(line: &mut LineWriter<'_, '_, E>, name: &[u8], spot: Spot)
 }
 
 /// Pushes the text of a fault of the data.
+// rule: fault-30, fault-31, fault-32, fault-33, fault-34, fault-35
 fn push_walk_fault<E: Sink>(line: &mut LineWriter<'_, '_, E>, fault: &WalkFault)
     requires { fault.now ≢ WalkFault.Memory }
     ensures { Pushes line.old (joined (walk_fault_text fault.now)) line.new }
@@ -197,24 +150,182 @@ fn push_walk_fault<E: Sink>(line: &mut LineWriter<'_, '_, E>, fault: &WalkFault)
     }
 }
 
-/// Writes the line of a message at `offset`, in octets from 0, whose data cannot be read. Want of
-/// memory has no line. It takes no memory.
+/// Pushes the text of a fault.
+fn push_fault<E: Sink>(line: &mut LineWriter<'_, '_, E>, fault: StreamFault<'_>)
+    requires { HasLine fault }
+    ensures { Pushes line.old (joined (stream_fault_text fault.entry)) line.new }
+{
+    match fault {
+        StreamFault::Stray(cause) => line.push(stray_text(cause)),
+        StreamFault::Section(fault) => push_section_fault(line, fault),
+        StreamFault::Template(fault) => push_template_fault(line, fault),
+        StreamFault::Data(fault) => push_walk_fault(line, fault),
+    }
+}
+
+/// Writes the line of a fault at `offset`, in octets from 0. Want of memory has no line. It takes
+/// no memory.
 ///
 /// # Errors
 ///
 /// [`RunFault::Write`] where the writer fails or takes nothing; a prefix of the line was taken.
-// rule: fault-30, fault-31, fault-32, fault-33, fault-34, fault-35
-pub fn write_walk_fault<E: Sink>(offset: u64, fault: &WalkFault, e: &mut E) -> Result<(), RunFault>
-    requires { fault.now ≢ WalkFault.Memory }
+pub(crate) fn write_fault<E: Sink>(
+    offset: u64,
+    fault: StreamFault<'_>,
+    e: &mut E,
+) -> Result<(), RunFault>
+    requires { HasLine fault }
     ensures writes { Writes (E.taken e.old) (E.taken e.new)
-        (fault_line offset (number_of_walk_fault fault.now) (walk_fault_text fault.now)) result }
+        (fault_line offset (number_of_stream_fault fault.entry) (stream_fault_text fault.entry))
+        result }
     ensures counts { OnlyWrites (writer_of E.Sink e.old) (writer_of E.Sink e.new) result }
 {
     let mut block = [0; LINE];
     let mut line = LineWriter::new(&mut block, e);
     push_place(&mut line, b"offset ", offset, fault.number());
-    push_walk_fault(&mut line, fault);
+    push_fault(&mut line, fault);
     line.push(b"\n");
+    line.hand_on();
+    let outcome = line.status();
+    let _ = line.into_sink();
+    outcome
+}
+
+/// Pushes a fault line: the line of the text, from 1, the fault's number and its text.
+fn push_line<E: Sink>(line: &mut LineWriter<'_, '_, E>, place: u64, number: u8, text: &[u8])
+    ensures { Pushes line.old (document_line place number (text.now ∷ [])) line.new }
+{
+    push_place(line, b"line ", place, number);
+    line.push(text);
+    line.push(b"\n");
+}
+
+/// Pushes a fault line whose text ends with a descriptor.
+fn push_descriptor_line<E: Sink>(
+    line: &mut LineWriter<'_, '_, E>,
+    place: u64,
+    number: u8,
+    text: &[u8],
+    fxy: Fxy,
+)
+    ensures { Pushes line.old (document_line place number (text.now ∷ fxy_text fxy ∷ [])) line.new }
+{
+    push_place(line, b"line ", place, number);
+    push_descriptor(line, text, fxy);
+    line.push(b"\n");
+}
+
+/// Pushes the line of a document whose walk over the template is refused.
+fn push_walk<E: Sink>(
+    line: &mut LineWriter<'_, '_, E>,
+    place: u64,
+    number: u8,
+    refusal: WalkRefusal,
+)
+    requires { number ≡ number_of_document_fault (DocumentFault.Walk place refusal) }
+    ensures { Pushes line.old (item_fault_line place (walk_report refusal)) line.new }
+{
+    push_place(line, b"line ", place, number);
+    line.push_named(b"walk ", u64::from(refusal.number()));
+    match &refusal {
+        WalkRefusal::Width(fxy) | WalkRefusal::Defining(fxy) | WalkRefusal::TooManyValues(fxy) => {
+            push_descriptor(line, b" descriptor ", *fxy);
+            line.push(b"\n");
+        }
+    }
+}
+
+/// Pushes the line of a document that cannot be encoded.
+fn push_document_fault<E: Sink>(line: &mut LineWriter<'_, '_, E>, fault: DocumentFault)
+    requires some { fault ≢ DocumentFault.Memory }
+    requires template { (line : ℕ) → fault ≢ DocumentFault.Template line TemplateFault.Memory }
+    ensures { Pushes line.old (line_of_refusal (reported_refusal fault)) line.new }
+{
+    let number = fault.number();
+    match &fault {
+        DocumentFault::WrongDescriptor(place, expected) => match expected {
+            Expected::Item(fxy) => push_descriptor_line(line, *place, number, b"expected ", *fxy),
+            Expected::Reference(fxy) => {
+                push_descriptor_line(line, *place, number, b"expected R ", *fxy)
+            }
+            Expected::EndOfSubset => push_line(line, *place, number, b"expected end of subset"),
+        },
+        DocumentFault::Number(place) => push_line(line, *place, number, b"number"),
+        DocumentFault::OutOfRange(place) => push_line(line, *place, number, b"out of range"),
+        DocumentFault::TextLong(place) => push_line(line, *place, number, b"text long"),
+        DocumentFault::MissingForbidden(place) => {
+            push_line(line, *place, number, b"missing forbidden")
+        }
+        DocumentFault::Template(place, why) => {
+            push_place(line, b"line ", *place, number);
+            line.push_named(b"template ", u64::from(why.number()));
+            line.push(b" ");
+            push_template_fault(line, why);
+            line.push(b"\n");
+        }
+        DocumentFault::UnequalFactor(place) => push_line(line, *place, number, b"unequal factor"),
+        DocumentFault::Increment(place) => push_line(line, *place, number, b"increment"),
+        DocumentFault::TooLong(place) => push_line(line, *place, number, b"too long"),
+        DocumentFault::Walk(place, why) => push_walk(line, *place, number, *why),
+        DocumentFault::Memory => unreachable!(),
+    }
+}
+
+/// Writes the line of a document that cannot be encoded. Want of memory has no line. It takes no
+/// memory.
+///
+/// # Errors
+///
+/// [`RunFault::Write`] where the writer fails or takes nothing; a prefix of the line was taken.
+// rule: fault-lines-of-encoding
+pub fn write_document_fault<E: Sink>(fault: DocumentFault, e: &mut E) -> Result<(), RunFault>
+    requires some { fault ≢ DocumentFault.Memory }
+    requires template { (line : ℕ) → fault ≢ DocumentFault.Template line TemplateFault.Memory }
+    ensures writes { IfSome (reported_refusal fault) (λ refused.
+        Writes (E.taken e.old) (E.taken e.new) (refusal_line refused.line refused.why) result) }
+    ensures counts { OnlyWrites (writer_of E.Sink e.old) (writer_of E.Sink e.new) result }
+{
+    let mut block = [0; LINE];
+    let mut line = LineWriter::new(&mut block, e);
+    push_document_fault(&mut line, fault);
+    line.hand_on();
+    let outcome = line.status();
+    let _ = line.into_sink();
+    outcome
+}
+
+/// Pushes the line of a text line that is refused.
+fn push_read_fault<E: Sink>(line: &mut LineWriter<'_, '_, E>, fault: ReadFault)
+    requires { (run : RunFault) → fault ≢ ReadFault.Run run }
+    ensures { Pushes line.old (line_of_read_fault fault) line.new }
+{
+    let number = fault.number();
+    match fault {
+        ReadFault::Line(place) => push_line(line, place, number, b"line"),
+        ReadFault::SubsetCount(place) => push_line(line, place, number, b"subset count"),
+        ReadFault::HeaderRange(place) => push_line(line, place, number, b"header range"),
+        ReadFault::Run(_) => unreachable!(),
+    }
+}
+
+/// Writes the line of a text line that is refused. A fault of the reading itself has no line. It
+/// takes no memory.
+///
+/// # Errors
+///
+/// [`RunFault::Write`] where the writer fails or takes nothing; a prefix of the line was taken.
+// rule: fault-lines-of-reading
+pub fn write_read_fault<E: Sink>(fault: ReadFault, e: &mut E) -> Result<(), RunFault>
+    requires { (run : RunFault) → fault ≢ ReadFault.Run run }
+    ensures writes { (line : ℕ) (why : TextLineFault) → parse_results (Err fault) ≡ Refused line why
+        ∷ []
+        → Writes (E.taken e.old) (E.taken e.new) (refused_line line why) result }
+    ensures err { IfErr result (λ why. why ≡ RunFault.Write) }
+    ensures counts { OnlyWrites (writer_of E.Sink e.old) (writer_of E.Sink e.new) result }
+{
+    let mut block = [0; LINE];
+    let mut line = LineWriter::new(&mut block, e);
+    push_read_fault(&mut line, fault);
     line.hand_on();
     let outcome = line.status();
     let _ = line.into_sink();

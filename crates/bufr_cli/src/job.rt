@@ -2,7 +2,7 @@
 ghost use Rattle.std.specs.Prelude.{◌≡◌, IfErr, IfNone, IfOk, IfSome, codes, map, false, Some};
 ghost use Rattle.clap.specs.declared.builder.command.Command.TheViews.{out-Command};
 ghost use Rattle.clap.specs.Values.{kind_of};
-ghost use Rattle.clap.specs.Words.{app_of, fault_of, first_of, found_of, new_app, new_rule, rows_of, rule_of, subcommand_of, with_subcommand};
+ghost use Rattle.clap.specs.Words.{app_of, fault_of, first_of, found_of, new_app, new_rule, rows_of, rule_of, subcommand_of};
 ghost use Rattle.bufr_text.specs.declared.form.Form.{Form};
 ghost use Rattle.bufr_cli.specs.Line.{bufr_app, encode_app, form_rule, ls_app, name_of, no_job_text, table_rule, tables_app, top_app, word_of};
 ghost use Rattle.bufr_cli.specs.Line.{AreNamed, HasTables, IsJobOf, IsWhyNoJob, LacksForm, LacksTables, SaysWhy, ReportsKind};
@@ -313,44 +313,18 @@ fn top_command<'a>(alloc: Global) -> Result<clap::Command<'a>, AllocError>
     Ok(command.version(VERSION).subcommand_required(true))
 }
 
-/// A command and the subcommand `ls`.
-fn with_ls<'a>(alloc: Global, command: clap::Command<'a>) -> Result<clap::Command<'a>, AllocError>
-    ensures { IfOk result (λ c. app_of c ≡ with_subcommand (app_of command.entry) ls_app.top) }
-{
-    let ls = ls_command(alloc)?;
-    command.subcommand(ls)
-}
-
-/// A command and the subcommand `dump`.
-fn with_dump<'a>(alloc: Global, command: clap::Command<'a>) -> Result<clap::Command<'a>, AllocError>
-    ensures { IfOk result (λ c. app_of c
-        ≡ with_subcommand (app_of command.entry) (tables_app (codes "dump")).top) }
-{
-    let dump = dump_command(alloc)?;
-    command.subcommand(dump)
-}
-
-/// A command and the subcommand `encode`.
-fn with_encode<'a>(
-    alloc: Global,
-    command: clap::Command<'a>,
-) -> Result<clap::Command<'a>, AllocError>
-    ensures { IfOk result (λ c. app_of c
-        ≡ with_subcommand (app_of command.entry) encode_app.top) }
-{
-    let encode = encode_command(alloc)?;
-    command.subcommand(encode)
-}
-
 /// The command line of `bufr`.
 // rule: version
 fn command_line<'a>(alloc: Global) -> Result<clap::Command<'a>, AllocError>
     ensures { IfOk result (λ c. app_of c ≡ bufr_app) }
 {
     let command = top_command(alloc)?;
-    let command = with_ls(alloc, command)?;
-    let command = with_dump(alloc, command)?;
-    with_encode(alloc, command)
+    let ls = ls_command(alloc)?;
+    let command = command.subcommand(ls)?;
+    let dump = dump_command(alloc)?;
+    let command = command.subcommand(dump)?;
+    let encode = encode_command(alloc)?;
+    command.subcommand(encode)
 }
 
 /// The fault that an error of clap means, with its text.

@@ -19,7 +19,6 @@
 #![tactic(auto)]
 
 mod buffered;
-mod document_line;
 mod dump;
 mod encode;
 mod fault_line;
@@ -31,7 +30,6 @@ mod program;
 mod round_trip;
 mod run_events;
 mod tally;
-mod whole_input;
 
 pub use buffered::Buffered;
 pub use dump::run_dump;
@@ -39,7 +37,6 @@ pub use encode::{run_encode, run_encode_form};
 pub use job::{Job, LineFault, Subcommand, TableNames, parse_line};
 pub use ls::run_ls;
 pub use outcome::{Outcome, finish};
-pub use program::{BUFFERED, CannotOpenFile, Inputs, run};
+pub use program::{BUFFERED, CannotOpenFile, Inputs, read_all, run};
 pub use round_trip::{Round, RunInMemory, dump_encode_dump};
 pub use tally::Tally;
-pub use whole_input::read_all;

@@ -10,7 +10,7 @@ ghost use Rattle.bufr_cli.specs.Running.{RunsEvents};
 ghost use Rattle.bufr_cli.specs.Whole.{WritesAndCounts};
 ghost use Rattle.bufr_cli.specs.WritingPieces.{StopsPiece, ReportsPieces};
 
-use crate::fault_line::{write_section_fault, write_stray};
+use crate::fault_line::{StreamFault, write_fault};
 use crate::run_events::{EventWriter, run_events};
 use crate::tally::{Tally, Verdict};
 use bufr_bits::{Sink, Source};
@@ -43,7 +43,7 @@ fn list_frame<W: Sink, E: Sink>(
             Ok(Verdict::Accepted)
         }
         Err(fault) => {
-            write_section_fault(offset, fault, e)?;
+            write_fault(offset, StreamFault::Section(fault), e)?;
             Ok(Verdict::Refused)
         }
     }
@@ -64,7 +64,7 @@ fn list_event<W: Sink, E: Sink>(event: Event<'_>, w: &mut W, e: &mut E) -> Resul
     match event {
         Event::Frame(offset, octets) => list_frame(offset, octets, w, e),
         Event::Stray(offset, cause) => {
-            write_stray(offset, cause, e)?;
+            write_fault(offset, StreamFault::Stray(cause), e)?;
             Ok(Verdict::Refused)
         }
         Event::Done => unreachable!(),

@@ -1,5 +1,6 @@
 //! The program below `main`: what it does with a command line, its inputs and its writers.
 ghost use Rattle.std.specs.Prelude.{◌≡◌, ℕ, true, List, Option, None, Ok, IfOk, IfErr, IfSome, OnOk, map};
+ghost use Rattle.bufr_frame.specs.Runs.{read_failures_after, MakesReads};
 ghost use Rattle.bufr_tables.specs.Chain.{ReadsTableD};
 ghost use Rattle.bufr_tables.specs.Records.{Record, records_of};
 ghost use Rattle.bufr_tables.specs.TableB.{AreRows, table_b_of};
@@ -9,6 +10,7 @@ ghost use Rattle.bufr_cli.specs.Counting.{BlamesWriter, CountsCalls};
 ghost use Rattle.bufr_cli.specs.Devices.{input_of, writer_of, writers_of};
 ghost use Rattle.bufr_cli.specs.Ending.{AreFlushed, BlamesInput, EndsRun, FlushesRest};
 ghost use Rattle.bufr_cli.specs.Program.{AreTables, AreUnread, DumpOutcome, EncodeOutcome, FileOutcome, IsClosed, RunsJob, RunOutcome};
+ghost use Rattle.bufr_cli.specs.ReadAll.{ReadsAll};
 ghost use Rattle.bufr_cli.specs.Program.{TableBOutcome, TableDOutcome, known, promise_of, ran_outcome};
 
 use crate::dump::run_dump;
@@ -17,9 +19,8 @@ use crate::job::{Job, LineFault, Subcommand, TableNames, parse_line};
 use crate::ls::run_ls;
 use crate::outcome::{Outcome, finish};
 use crate::tally::Tally;
-use crate::whole_input::read_all;
 use bufr_bits::{Device, Sink, Source};
-use bufr_frame::RunFault;
+use bufr_frame::{RunFault, read_to_end};
 use bufr_tables::{TableB, TableD};
 use bufr_text::{Form, write_all};
 use std::alloc::Global;
@@ -63,6 +64,23 @@ pub trait Inputs {
         ensures octets { IfOk result
             (λ file. Self.File.remaining file ≡ file_octets self.now name.now) }
         ensures unknown { IfErr result (λ _. file_octets self.now name.now ≡ None) };
+}
+
+/// The octets of `r` to its end.
+///
+/// # Errors
+///
+/// [`RunFault::Read`] where a read failed, [`RunFault::InputTooLong`] where the end was not
+/// reached in 2^32 reads, and [`RunFault::Memory`].
+pub fn read_all<R: Source>(alloc: Global, r: &mut R) -> Result<Vec<u8>, RunFault>
+    ensures read { (bs : List ℕ) × ReadsAll (R.left r.old) (R.left r.new) result bs }
+    ensures failed { R.failures r.new ≡ read_failures_after (R.failures r.old) result }
+    ensures reads { MakesReads (R.reads r.old) (R.reads r.new) result }
+{
+    let mut octets = Vec::new(alloc);
+    let mut reads = 0;
+    read_to_end(r, &mut octets, &mut reads)?;
+    Ok(octets)
 }
 
 /// Does what the words of a command line ask for, the first of which is the program's name. It
@@ -119,6 +137,15 @@ fn write_and_flush<W: Sink>(text: &[u8], w: &mut W) -> Result<(), RunFault>
     }
 }
 
+/// What a command works with: memory, the inputs, and the name of its input, standard input where
+/// there is none.
+#[derive(Drop)]
+struct Call<'a, 'i, I: Inputs> {
+    alloc: Global,
+    inputs: &'i I,
+    file: Option<&'a str>,
+}
+
 /// Opens what a job names, and does it.
 fn run_job<'a, I: Inputs, W: Sink, E: Sink>(
     alloc: Global,
@@ -131,31 +158,35 @@ fn run_job<'a, I: Inputs, W: Sink, E: Sink>(
         (writers_of W.Sink w.old E.Sink e.old) (writers_of W.Sink w.new E.Sink e.new) result }
 {
     let Job { command, file } = job;
+    let call = Call {
+        alloc,
+        inputs,
+        file,
+    };
     match command {
-        Subcommand::Ls => run_input(alloc, Command::Ls, file, inputs, w, e),
-        Subcommand::Dump(names) => dump_job(alloc, names, file, inputs, w, e),
-        Subcommand::Encode(names, form) => encode_job(alloc, names, form, file, inputs, w, e),
+        Subcommand::Ls => run_input(&call, Command::Ls, w, e),
+        Subcommand::Dump(names) => dump_job(&call, names, w, e),
+        Subcommand::Encode(names, form) => encode_job(&call, names, form, w, e),
     }
 }
 
 /// Reads the tables of these names, and dumps the messages of an input by them.
 // rule: tables-before-input
 fn dump_job<'a, I: Inputs, W: Sink, E: Sink>(
-    alloc: Global,
+    call: &Call<'a, '_, I>,
     names: TableNames<'a>,
-    file: Option<&'a str>,
-    inputs: &I,
     w: &mut W,
     e: &mut E,
 ) -> Outcome<'a>
-    ensures { DumpOutcome (known (I.standard_octets inputs.now) (I.file_octets inputs.now))
-        names.entry file.entry (writers_of W.Sink w.old E.Sink e.old)
+    ensures { DumpOutcome
+        (known (I.standard_octets call.now.inputs.now) (I.file_octets call.now.inputs.now))
+        names.entry call.now.file (writers_of W.Sink w.old E.Sink e.old)
         (writers_of W.Sink w.new E.Sink e.new) result }
 {
-    match read_tables(alloc, names, inputs) {
+    match read_tables(call.alloc, names, call.inputs) {
         Ok(tables) => {
             let command = Command::Dump(&tables.table_b, &tables.table_d);
-            run_input(alloc, command, file, inputs, w, e)
+            run_input(call, command, w, e)
         }
         Err(outcome) => outcome,
     }
@@ -164,22 +195,21 @@ fn dump_job<'a, I: Inputs, W: Sink, E: Sink>(
 /// Reads the tables of these names, and encodes the documents of an input by them in a form.
 // rule: tables-before-input
 fn encode_job<'a, I: Inputs, W: Sink, E: Sink>(
-    alloc: Global,
+    call: &Call<'a, '_, I>,
     names: TableNames<'a>,
     form: Form,
-    file: Option<&'a str>,
-    inputs: &I,
     w: &mut W,
     e: &mut E,
 ) -> Outcome<'a>
-    ensures { EncodeOutcome (known (I.standard_octets inputs.now) (I.file_octets inputs.now))
-        names.entry form file.entry (writers_of W.Sink w.old E.Sink e.old)
+    ensures { EncodeOutcome
+        (known (I.standard_octets call.now.inputs.now) (I.file_octets call.now.inputs.now))
+        names.entry form call.now.file (writers_of W.Sink w.old E.Sink e.old)
         (writers_of W.Sink w.new E.Sink e.new) result }
 {
-    match read_tables(alloc, names, inputs) {
+    match read_tables(call.alloc, names, call.inputs) {
         Ok(tables) => {
             let command = Command::Encode(form, &tables.table_b, &tables.table_d);
-            run_input(alloc, command, file, inputs, w, e)
+            run_input(call, command, w, e)
         }
         Err(outcome) => outcome,
     }
@@ -333,21 +363,20 @@ enum Command<'t> {
 /// Runs a command over a file, or over standard input.
 // rule: dash-is-a-name
 fn run_input<'a, I: Inputs, W: Sink, E: Sink>(
-    alloc: Global,
+    call: &Call<'a, '_, I>,
     command: Command<'_>,
-    file: Option<&'a str>,
-    inputs: &I,
     w: &mut W,
     e: &mut E,
 ) -> Outcome<'a>
     ensures { RunOutcome (promise_of command.entry)
-        (known (I.standard_octets inputs.now) (I.file_octets inputs.now)) file.entry
+        (known (I.standard_octets call.now.inputs.now) (I.file_octets call.now.inputs.now))
+        call.now.file
         (writers_of W.Sink w.old E.Sink e.old) (writers_of W.Sink w.new E.Sink e.new) result }
 {
-    match file {
-        None => outcome_of(run_reader(alloc, command, inputs.standard(), w, e)),
-        Some(name) => match open_file(name, inputs) {
-            Ok(input) => outcome_of(run_reader(alloc, command, input, w, e)),
+    match call.file {
+        None => outcome_of(run_reader(call.alloc, command, call.inputs.standard(), w, e)),
+        Some(name) => match open_file(name, call.inputs) {
+            Ok(input) => outcome_of(run_reader(call.alloc, command, input, w, e)),
             Err(outcome) => outcome,
         },
     }

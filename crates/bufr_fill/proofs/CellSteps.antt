@@ -1,17 +1,14 @@
 -- Steps of the loops over a row.
 use Rattle.std.proofs.Common.{◌≡◌, ℕ, zero, suc, ◌+◌, ◌<◌, ◌≤◌, Bool, true, false, List, [], ◌∷◌, ◌++◌, length, drop, get_or, Option, Some, None, Result, Ok, Err, refl, sym, ◌∙◌, ap, arith, append_assoc}
-use Rattle.std.specs.Prelude.{map, option_map, slice_get, take, if◌then◌else◌}
-use Rattle.std.proofs.lemmas.List.{append-nil, length-append, length-map, map-append, take_all}
-use Rattle.std.proofs.lemmas.Option.{slice_get-get_or, slice_get-map}
+use Rattle.std.specs.Prelude.{slice_get, if◌then◌else◌, option_map}
+use Rattle.std.proofs.lemmas.List.{append-nil, length-append}
 use Rattle.bufr_fill.specs.declared.field_value.FieldContent.{FieldContent}
-use Rattle.bufr_fill.specs.declared.entries.EntryRef.{EntryRef}
 use Rattle.bufr_walk.specs.FieldSpec.{FieldSpec}
 use Rattle.bufr_walk.specs.Content.{Content}
 use Rattle.bufr_fill.specs.Draft.{Draft}
 use Rattle.bufr_fill.specs.Entries.{DraftEntry, Holds, Ends}
 use Rattle.bufr_fill.specs.Fault.{FaultAt, at_line, item_too_many}
 use Rattle.bufr_fill.specs.FieldContent.{content_drawn, IsDrawn}
-use Rattle.bufr_fill.specs.Kept.{entry_found}
 use Rattle.bufr_fill.specs.Encoding.{RowCell, content_here, contents_here, first_unlike, unlike_line, cell_line, line_in, first_line, ◌>>=◌}
 use Rattle.bufr_fill.specs.PackedRows.{entry_or_end, cell_entry, entry_here, entry_line, AllDrawn, contents_drawn, with_contents_before, IsGathering, unlike_from}
 use Rattle.bufr_fill.specs.PlainOut.{IfDraftFault}
@@ -60,6 +57,9 @@ contents_before_more : (cs : List Content) (x : Content) (r : Result (List Conte
 contents_before_more cs x (Ok more) = ap Ok (sym (append_assoc cs (x ∷ []) more))
 contents_before_more cs x (Err f) = refl
 
+is_some : {r s : Result Content FaultAt} → Some r ≡ Some s → s ≡ r
+is_some h = cc
+
 module _ (count : ℕ) (spec : FieldSpec) (cells : List RowCell) (j : ℕ) (ds : List FieldContent) (e : DraftEntry) (inv : IsGathering count spec cells j ds) (within : j < length cells)
     (here : (c : RowCell) → slice_get cells j ≡ Some c → e ≡ cell_entry c) where
   -- the contents of the row, by the next cell
@@ -68,14 +68,14 @@ module _ (count : ℕ) (spec : FieldSpec) (cells : List RowCell) (j : ℕ) (ds :
       inv.so ∙ ap (λ cs. with_contents_before (contents_drawn count ds) (contents_here spec cs)) k.left
       ∙ ap (λ r. with_contents_before (contents_drawn count ds) (r >>= λ first. contents_here spec (drop (j + 1) cells) >>= λ rest. Ok (first ∷ rest))) (sym (entry_same spec k.cell.draft k.cell.end_line) ∙ ap (entry_here spec) (sym (here k.cell k.is)))
 
-  pub gather_fault : (o : Option FaultAt) → IfDraftFault o (λ f. entry_here spec e ≡ Err f) → IfDraftFault o (λ f. contents_here spec cells ≡ Err f)
+  pub gather_fault : (o : Option FaultAt) → option_map Err o ≡ Some (entry_here spec e) → IfDraftFault o (λ f. contents_here spec cells ≡ Err f)
   gather_fault None h = tt
   gather_fault (Some f) h =
-      next_is (cell_at cells j within) ∙ ap (λ r. with_contents_before (contents_drawn count ds) (r >>= λ first. contents_here spec (drop (j + 1) cells) >>= λ rest. Ok (first ∷ rest))) h
+      next_is (cell_at cells j within) ∙ ap (λ r. with_contents_before (contents_drawn count ds) (r >>= λ first. contents_here spec (drop (j + 1) cells) >>= λ rest. Ok (first ∷ rest))) (is_some h)
 
-  pub gather_more : (d : FieldContent) → entry_here spec e ≡ Ok (content_drawn count d) → IsDrawn spec d → IsGathering count spec cells (j + 1) (ds ++ d ∷ [])
+  pub gather_more : (d : FieldContent) → Some (Ok (content_drawn count d)) ≡ Some (entry_here spec e) → IsDrawn spec d → IsGathering count spec cells (j + 1) (ds ++ d ∷ [])
   gather_more d h g = record {
-    so = next_is (cell_at cells j within) ∙ ap (λ r. with_contents_before (contents_drawn count ds) (r >>= λ first. contents_here spec (drop (j + 1) cells) >>= λ rest. Ok (first ∷ rest))) h
+    so = next_is (cell_at cells j within) ∙ ap (λ r. with_contents_before (contents_drawn count ds) (r >>= λ first. contents_here spec (drop (j + 1) cells) >>= λ rest. Ok (first ∷ rest))) (is_some h)
         ∙ contents_before_more (contents_drawn count ds) (content_drawn count d) (contents_here spec (drop (j + 1) cells)) ∙ ap (λ cs. with_contents_before cs (contents_here spec (drop (j + 1) cells))) (sym (contents_more count ds d));
     all = all_more spec ds d inv.all g;
     many = omega (arith, length-append ds (d ∷ []), inv.many);
@@ -83,34 +83,6 @@ module _ (count : ℕ) (spec : FieldSpec) (cells : List RowCell) (j : ℕ) (ds :
 
 pub gathered : (count : ℕ) (spec : FieldSpec) (cells : List RowCell) (j : ℕ) (ds : List FieldContent) → IsGathering count spec cells j ds → length cells ≤ j → contents_here spec cells ≡ Ok (contents_drawn count ds)
 gathered count spec cells j ds inv h = inv.so ∙ ap (λ cs. with_contents_before (contents_drawn count ds) (contents_here spec cs)) (drop_none cells j h) ∙ ap Ok (append-nil (contents_drawn count ds))
-
--- the entries that were found are those of the first cells, one more or all
-pub found_more : (cells : List RowCell) (j : ℕ) (fs : List EntryRef) (e : EntryRef) → j < length cells → map entry_found fs ≡ map cell_entry (take j cells) → ((c : RowCell) → slice_get cells j ≡ Some c → entry_found e ≡ cell_entry c)
-    → map entry_found (fs ++ e ∷ []) ≡ map cell_entry (take (j + 1) cells)
-found_more cells j fs e h inv here =
-    let k = cell_at cells j h in
-    map-append entry_found fs (e ∷ []) ∙ ap (λ es. es ++ entry_found e ∷ []) inv ∙ ap (λ x. map cell_entry (take j cells) ++ x ∷ []) (here k.cell k.is) ∙ taken cells j k.cell k.is
-  where
-    taken : (cells : List RowCell) (j : ℕ) (c : RowCell) → slice_get cells j ≡ Some c → map cell_entry (take j cells) ++ cell_entry c ∷ [] ≡ map cell_entry (take (j + 1) cells)
-    taken [] j c h = absurd cc
-    taken (x ∷ cells) zero c h = let same : x ≡ c = cc in ap (λ z. cell_entry z ∷ []) (sym same)
-    taken (x ∷ cells) (suc j) c h =
-        let n : suc (j + 1) ≡ suc j + 1 = omega arith in
-        ap (λ es. cell_entry x ∷ es) (taken cells j c h) ∙ ap (λ k. map cell_entry (take k (x ∷ cells))) n
-
-pub found_all : (cells : List RowCell) (j : ℕ) (fs : List EntryRef) → length cells ≤ j → map entry_found fs ≡ map cell_entry (take j cells) → map entry_found fs ≡ map cell_entry cells
-found_all cells j fs h inv = inv ∙ ap (map cell_entry) (take_all j cells h)
-
-pub count_found : (cells : List RowCell) (fs : List EntryRef) → map entry_found fs ≡ map cell_entry cells → length fs ≡ length cells
-count_found cells fs h = sym (length-map fs entry_found) ∙ ap length h ∙ length-map cells cell_entry
-
-pub found_at : (cells : List RowCell) (fs : List EntryRef) (j : ℕ) (z : EntryRef) → map entry_found fs ≡ map cell_entry cells → j < length fs → (c : RowCell) → slice_get cells j ≡ Some c → entry_found (get_or fs j z) ≡ cell_entry c
-found_at cells fs j z is h c here =
-    some_same (entry_found (get_or fs j z)) (cell_entry c)
-    (ap (option_map entry_found) (sym (slice_get-get_or fs j z h)) ∙ sym (slice_get-map entry_found fs j) ∙ ap (λ es. slice_get es j) is ∙ slice_get-map cell_entry cells j ∙ ap (option_map cell_entry) here)
-  where
-    some_same : (a b : DraftEntry) → ◌≡◌ {A = Option DraftEntry} (Some a) (Some b) → a ≡ b
-    some_same a b h = cc
 
 -- whether all subsets end
 pub end_item : (cells : List RowCell) (j : ℕ) (e : DraftEntry) (d : Draft) → j < length cells → ((c : RowCell) → slice_get cells j ≡ Some c → e ≡ cell_entry c) → e ≡ Holds d → all_at_end cells ≡ all_at_end (drop j cells) → all_at_end cells ≡ Err (at_line d.line item_too_many)

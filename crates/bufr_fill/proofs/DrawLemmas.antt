@@ -1,5 +1,5 @@
 -- An item as the content of its field, as the code converts it.
-use Rattle.std.proofs.Common.{◌≡◌, ℕ, ◌^◌, ◌<◌, ◌&&◌, Bool, true, false, not, ℤ, Result, Err, refl, sym, ◌∙◌, ap, arith}
+use Rattle.std.proofs.Common.{◌≡◌, ℕ, ◌^◌, ◌<◌, ◌&&◌, Bool, true, false, not, ℤ, Err, refl, sym, ◌∙◌, ap, arith}
 use Rattle.std.specs.Prelude.{◌==◌, if◌then◌else◌}
 use Rattle.bufr_walk.specs.FieldSpec.{FieldSpec, is_reference}
 use Rattle.bufr_walk.specs.Content.{Content, answer_of, answer_by_role, count_in, reference_in}
@@ -7,7 +7,6 @@ use Rattle.bufr_walk.specs.declared.spec.Role.TheVariants as role
 use Rattle.bufr_walk.specs.declared.spec.Taken.TheVariants as taken
 use Rattle.bufr_fill.specs.Packing.{raw_limit}
 use Rattle.bufr_fill.specs.Draft.{Draft}
-use Rattle.bufr_fill.specs.Fault.{DraftFaultKind}
 use Rattle.bufr_fill.specs.DraftContent.{is_of, is_marked, wrong_for, content_of, content_by_form}
 
 and_second : (a b : Bool) → (a && b) ≡ true → b ≡ true
@@ -24,8 +23,8 @@ marks spec d h = by (is_reference spec.role) (is_marked d.form) (and_second (d.f
     by false false q = refl
 
 -- an item of a field has its value's content
-pub content_there : (spec : FieldSpec) (d : Draft) (r : Result Content DraftFaultKind) → is_of spec d ≡ true → r ≡ content_by_form d.form spec → r ≡ content_of spec d
-content_there spec d r h e = e ∙ ap (λ b. if b then content_by_form d.form spec else Err (wrong_for spec)) (sym h)
+pub content_there : (spec : FieldSpec) (d : Draft) → is_of spec d ≡ true → content_of spec d ≡ content_by_form d.form spec
+content_there spec d h = ap (λ b. if b then content_by_form d.form spec else Err (wrong_for spec)) h
 
 pub content_wrong : (spec : FieldSpec) (d : Draft) → is_of spec d ≡ false → content_of spec d ≡ Err (wrong_for spec)
 content_wrong spec d h = ap (λ b. if b then content_by_form d.form spec else Err (wrong_for spec)) h

@@ -5,7 +5,9 @@ use Rattle.std.proofs.lemmas.List.{take-append-le, drop-append-le, length-drop, 
 use Rattle.std.proofs.lemmas.Option.{slice_get-map, slice_get-get_or, slice_get_past}
 use Rattle.std.proofs.Math.Seq.{drop-append_seam}
 use Rattle.bufr_fill.specs.Entries.{DraftEntry}
-use Rattle.bufr_fill.specs.Kept.{entry_by, entry_kept, entries_kept, IsEntryInside, AreInside}
+use Rattle.bufr_fill.specs.Kept.{entry_by, entry_stored, entries_stored, IsPlaced, IsEntryInside, AreInside}
+use Rattle.bufr_fill.specs.declared.entries.EntryKind.{EntryKind}
+use Rattle.bufr_fill.specs.declared.entries.EntryKind.TheVariants as kind
 use Rattle.bufr_fill.specs.declared.entries.StoredEntry.{StoredEntry}
 
 -- octets after the block leave the entries unchanged
@@ -16,45 +18,53 @@ range-append xs ys i j before inside =
 range-after : (xs ys : List ℕ) (j : ℕ) → j ≡ length xs + length ys → slice_range (xs ++ ys) (length xs) j ≡ ys
 range-after xs ys j e = rw (drop-append_seam xs ys) (take_all (j - length xs) ys (omega arith))
 
-entry-append : (octets more : List ℕ) (one : StoredEntry) → IsEntryInside (length octets) one → entry_kept (octets ++ more) one ≡ entry_kept octets one
-entry-append octets more one (order, inside) = ap (entry_by one.kind one.line one.fxy) (range-append octets more one.start one.end order inside)
+placed-append : (k : EntryKind) (line fxy : ℕ) (octets more : List ℕ) (start end : ℕ) → IsPlaced k (length octets) start end → entry_by k line fxy start (slice_range (octets ++ more) start end) ≡ entry_by k line fxy start (slice_range octets start end)
+placed-append (kind.Decimal places negative) line fxy octets more start end h = refl
+placed-append kind.Number line fxy octets more start end h = ap (λ (t : List ℕ). entry_by kind.Number line fxy start t) (range-append octets more start end h.0 h.1)
+placed-append kind.Text line fxy octets more start end h = ap (λ (t : List ℕ). entry_by kind.Text line fxy start t) (range-append octets more start end h.0 h.1)
+placed-append kind.Missing line fxy octets more start end h = refl
+placed-append kind.Reference line fxy octets more start end h = ap (λ (t : List ℕ). entry_by kind.Reference line fxy start t) (range-append octets more start end h.0 h.1)
+placed-append kind.End line fxy octets more start end h = refl
 
-entries-append : (octets more : List ℕ) (cells : List StoredEntry) → AreInside (length octets) cells → entries_kept (octets ++ more) cells ≡ entries_kept octets cells
+entry-append : (octets more : List ℕ) (one : StoredEntry) → IsEntryInside (length octets) one → entry_stored (octets ++ more) one ≡ entry_stored octets one
+entry-append octets more one inside = placed-append one.kind one.line one.fxy octets more one.start one.end inside
+
+entries-append : (octets more : List ℕ) (cells : List StoredEntry) → AreInside (length octets) cells → entries_stored (octets ++ more) cells ≡ entries_stored octets cells
 entries-append octets more [] all = refl
 entries-append octets more (one ∷ cells) (here, all) = rw (entry-append octets more one here, entries-append octets more cells all) refl
 
 -- one more entry, with its octets after the block
-pub entries-push : (octets more new : List ℕ) (cells : List StoredEntry) (one : StoredEntry) (e : DraftEntry) → AreInside (length octets) cells → new ≡ octets ++ more → one.start ≡ length octets → one.end ≡ length new → entry_by one.kind one.line one.fxy more ≡ e
-    → entries_kept new (cells ++ one ∷ []) ≡ entries_kept octets cells ++ e ∷ []
+pub entries-push : (octets more new : List ℕ) (cells : List StoredEntry) (one : StoredEntry) (e : DraftEntry) → AreInside (length octets) cells → new ≡ octets ++ more → one.start ≡ length octets → one.end ≡ length new → entry_by one.kind one.line one.fxy one.start more ≡ e
+    → entries_stored new (cells ++ one ∷ []) ≡ entries_stored octets cells ++ e ∷ []
 entries-push octets more new cells one e all is from at said =
     let stop : one.end ≡ length octets + length more = at ∙ ap length is ∙ length-append octets more in
     let range : slice_range new one.start one.end ≡ more = ap (λ (t : List ℕ). slice_range t one.start one.end) is ∙ ap (λ n. slice_range (octets ++ more) n one.end) from ∙ range-after octets more one.end stop in
-    map-append (entry_kept new) cells (one ∷ [])
-    ∙ ap (λ (t : List ℕ). map (entry_kept new) cells ++ entry_by one.kind one.line one.fxy t ∷ []) range
-    ∙ ap (λ (x : DraftEntry). map (entry_kept new) cells ++ x ∷ []) said
-    ∙ ap (λ (t : List ℕ). map (entry_kept t) cells ++ e ∷ []) is
+    map-append (entry_stored new) cells (one ∷ [])
+    ∙ ap (λ (t : List ℕ). map (entry_stored new) cells ++ entry_by one.kind one.line one.fxy one.start t ∷ []) range
+    ∙ ap (λ (x : DraftEntry). map (entry_stored new) cells ++ x ∷ []) said
+    ∙ ap (λ (t : List ℕ). map (entry_stored t) cells ++ e ∷ []) is
     ∙ ap (λ (t : List DraftEntry). t ++ e ∷ []) (entries-append octets more cells all)
 
 -- no more entry, though octets were put after the block
-pub entries-same : (octets more new : List ℕ) (cells same : List StoredEntry) → AreInside (length octets) cells → new ≡ octets ++ more → same ≡ cells → entries_kept new same ≡ entries_kept octets cells
+pub entries-same : (octets more new : List ℕ) (cells same : List StoredEntry) → AreInside (length octets) cells → new ≡ octets ++ more → same ≡ cells → entries_stored new same ≡ entries_stored octets cells
 entries-same octets more new cells same all is kept =
-    ap (entries_kept new) kept
-    ∙ ap (λ (t : List ℕ). entries_kept t cells) is
+    ap (entries_stored new) kept
+    ∙ ap (λ (t : List ℕ). entries_stored t cells) is
     ∙ entries-append octets more cells all
 
 -- the entry at an index
-pub kept-there : (octets block : List ℕ) (cells : List StoredEntry) (entries : List DraftEntry) (place : ℕ) (one : StoredEntry) (e : DraftEntry) → entries_kept octets cells ≡ entries → place < length cells → one ≡ get_or cells place one → block ≡ octets → e ≡ entry_kept block one
+pub kept-there : (octets block : List ℕ) (cells : List StoredEntry) (entries : List DraftEntry) (place : ℕ) (one : StoredEntry) (e : DraftEntry) → entries_stored octets cells ≡ entries → place < length cells → one ≡ get_or cells place one → block ≡ octets → e ≡ entry_stored block one
     → Some e ≡ slice_get entries place
 kept-there octets block cells entries place one e are within here is said =
     sym (ap (λ (t : List DraftEntry). slice_get t place) (sym are)
-    ∙ slice_get-map (entry_kept octets) cells place
-    ∙ ap (option_map (entry_kept octets)) (slice_get-get_or cells place one within)
-    ∙ ap (λ (k : StoredEntry). Some (entry_kept octets k)) (sym here)
-    ∙ ap (λ (t : List ℕ). Some (entry_kept t one)) (sym is)
+    ∙ slice_get-map (entry_stored octets) cells place
+    ∙ ap (option_map (entry_stored octets)) (slice_get-get_or cells place one within)
+    ∙ ap (λ (k : StoredEntry). Some (entry_stored octets k)) (sym here)
+    ∙ ap (λ (t : List ℕ). Some (entry_stored t one)) (sym is)
     ∙ ap (λ (x : DraftEntry). Some x) (sym said))
 
 -- and none after the last
-pub kept-past : (octets : List ℕ) (cells : List StoredEntry) (entries : List DraftEntry) (place : ℕ) → entries_kept octets cells ≡ entries → length cells ≤ place → None ≡ slice_get entries place
+pub kept-past : (octets : List ℕ) (cells : List StoredEntry) (entries : List DraftEntry) (place : ℕ) → entries_stored octets cells ≡ entries → length cells ≤ place → None ≡ slice_get entries place
 kept-past octets cells entries place are past =
     sym (ap (λ (t : List DraftEntry). slice_get t place) (sym are)
-    ∙ slice_get_past (entries_kept octets cells) place (omega (arith, length-map cells (entry_kept octets))))
+    ∙ slice_get_past (entries_stored octets cells) place (omega (arith, length-map cells (entry_stored octets))))

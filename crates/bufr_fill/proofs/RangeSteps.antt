@@ -1,5 +1,5 @@
 -- The least and the greatest number of an item, gathered content after content.
-use Rattle.std.proofs.Common.{◌≡◌, ℕ, ◌-◌, ◌&&◌, max, min, Bool, true, false, List, [], ◌∷◌, ◌++◌, Option, Some, None, refl, sym, ◌∙◌, ap, arith}
+use Rattle.std.proofs.Common.{◌≡◌, ◌≤◌, ◌<◌, ℕ, ◌-◌, ◌&&◌, max, min, Bool, true, false, List, [], ◌∷◌, ◌++◌, Option, Some, None, refl, sym, ◌∙◌, ap, arith}
 use Rattle.std.specs.Prelude.{◌==◌, unwrap_or}
 use Rattle.std.proofs.lemmas.Bool.Decides.{nat_tests}
 use Rattle.bufr_fill.specs.declared.field_value.FieldContent.{FieldContent}
@@ -8,29 +8,62 @@ use Rattle.bufr_walk.specs.Content.{Content, number, text, missing, reference}
 use Rattle.bufr_fill.specs.FieldContent.{content_drawn}
 use Rattle.bufr_fill.specs.PackedRows.{contents_drawn}
 use Rattle.bufr_fill.specs.Packing.{same, are_same, smaller, lowest}
-use Rattle.bufr_fill.specs.Packs.{over_of, spread, lesser, number_in}
-
-smaller_of_lesser : (m : ℕ) (o p : Option ℕ) → smaller m (lesser o p) ≡ smaller (smaller m o) p
-smaller_of_lesser m None p = refl
-smaller_of_lesser m (Some n) None = refl
-smaller_of_lesser m (Some n) (Some q) = let e : min m (min n q) ≡ min (min m n) q = omega arith in e
+use Rattle.bufr_fill.specs.Packs.{over_of, spread, number_or, least_number}
 
 -- the least number, with one more content
-pub lowest_with : (count : ℕ) (ds : List FieldContent) (d : FieldContent) → lowest (contents_drawn count (ds ++ d ∷ [])) ≡ lesser (lowest (contents_drawn count ds)) (number_in d)
-lowest_with count [] (drawn.Number n) = refl
-lowest_with count [] (drawn.Text t) = refl
-lowest_with count [] drawn.Missing = refl
-lowest_with count [] (drawn.Reference v) = refl
-lowest_with count (drawn.Number m ∷ ds) d =
-    ap (λ o. Some (smaller m o)) (lowest_with count ds d) ∙ ap Some (smaller_of_lesser m (lowest (contents_drawn count ds)) (number_in d))
-lowest_with count (drawn.Text t ∷ ds) d = lowest_with count ds d
-lowest_with count (drawn.Missing ∷ ds) d = lowest_with count ds d
-lowest_with count (drawn.Reference v ∷ ds) d = lowest_with count ds d
+pub least_with : (ds : List FieldContent) (d : FieldContent) → least_number (ds ++ d ∷ []) ≡ min (number_or 18446744073709551615 d) (least_number ds)
+least_with [] d = refl
+least_with (x ∷ ds) d = omega (arith, least_with ds d)
+
+least_most : (ds : List FieldContent) → least_number ds ≤ 18446744073709551615
+least_most [] = omega arith
+least_most (d ∷ ds) = omega (arith, least_most ds)
+
+-- the least number, if there is one, by the least and the greatest
+abbrev IsLowest : Option ℕ → (least most : ℕ) → Type 0
+IsLowest None least most = (least ≡ 18446744073709551615) × (most ≡ 0)
+IsLowest (Some n) least most = (least ≡ n) × (n ≤ most)
+
+lowest_same : (o : Option ℕ) (least most : ℕ) → least ≤ 18446744073709551615 → IsLowest o least most → IsLowest o (min 18446744073709551615 least) (max 0 most)
+lowest_same None least most h g = (omega (arith, g.0), omega (arith, g.1))
+lowest_same (Some n) least most h g = (omega (arith, g.0, h), omega (arith, g.1))
+
+lowest_more : (m : ℕ) (o : Option ℕ) (least most : ℕ) → max (m - 0) most ≤ 18446744073709551615 → IsLowest o least most → IsLowest (Some (smaller m o)) (min m least) (max (m - 0) most)
+lowest_more m None least most h g = (omega (arith, g.0, h), omega arith)
+lowest_more m (Some n) least most h g = (omega (arith, g.0), omega (arith, g.1))
+
+lowest_is : (count : ℕ) (ds : List FieldContent) → spread 0 ds ≤ 18446744073709551615 → IsLowest (lowest (contents_drawn count ds)) (least_number ds) (spread 0 ds)
+lowest_is count [] h = (refl, refl)
+lowest_is count (drawn.Number m ∷ ds) h = lowest_more m (lowest (contents_drawn count ds)) (least_number ds) (spread 0 ds) h (lowest_is count ds (omega (arith, h)))
+lowest_is count (drawn.Text t ∷ ds) h = lowest_same (lowest (contents_drawn count ds)) (least_number ds) (spread 0 ds) (least_most ds) (lowest_is count ds (omega (arith, h)))
+lowest_is count (drawn.Missing ∷ ds) h = lowest_same (lowest (contents_drawn count ds)) (least_number ds) (spread 0 ds) (least_most ds) (lowest_is count ds (omega (arith, h)))
+lowest_is count (drawn.Reference v ∷ ds) h = lowest_same (lowest (contents_drawn count ds)) (least_number ds) (spread 0 ds) (least_most ds) (lowest_is count ds (omega (arith, h)))
+
+-- the base of an item, by the least and the greatest
+pub base_some : (count : ℕ) (ds : List FieldContent) → spread 0 ds ≤ 18446744073709551615 → least_number ds ≤ spread 0 ds → least_number ds ≡ unwrap_or (lowest (contents_drawn count ds)) 0
+base_some count ds h g = by (lowest (contents_drawn count ds)) (lowest_is count ds h)
+  where
+    by : (o : Option ℕ) → IsLowest o (least_number ds) (spread 0 ds) → least_number ds ≡ unwrap_or o 0
+    by None q = absurd (omega (arith, q.0, q.1, g))
+    by (Some n) q = q.0
+
+pub base_none : (count : ℕ) (ds : List FieldContent) → spread 0 ds ≤ 18446744073709551615 → spread 0 ds < least_number ds → 0 ≡ unwrap_or (lowest (contents_drawn count ds)) 0
+base_none count ds h g = by (lowest (contents_drawn count ds)) (lowest_is count ds h)
+  where
+    by : (o : Option ℕ) → IsLowest o (least_number ds) (spread 0 ds) → 0 ≡ unwrap_or o 0
+    by None q = refl
+    by (Some n) q = absurd (omega (arith, q.0, q.1, g))
 
 -- the greatest number, with one more content
 pub most_with : (ds : List FieldContent) (d : FieldContent) → spread 0 (ds ++ d ∷ []) ≡ max (over_of 0 d) (spread 0 ds)
 most_with [] d = refl
 most_with (x ∷ ds) d = omega (arith, most_with ds d)
+
+pub number_is : (d : FieldContent) → number_or 0 d ≡ over_of 0 d
+number_is (drawn.Number n) = omega arith
+number_is (drawn.Text t) = refl
+number_is drawn.Missing = refl
+number_is (drawn.Reference v) = refl
 
 -- the greatest increment is that of the greatest number
 pub spread_over : (base : ℕ) (ds : List FieldContent) → spread base ds ≡ spread 0 ds - base

@@ -5,8 +5,6 @@ use Rattle.bufr_fill.specs.declared.fault.Expected.{Expected}
 use Rattle.bufr_fill.specs.declared.fault.Expected.TheVariants as expected
 use Rattle.bufr_fill.specs.declared.fault.DraftFault.{DraftFault}
 use Rattle.bufr_fill.specs.declared.fault.DraftFault.TheVariants as fault
-use Rattle.bufr_fill.specs.declared.fault.Wrong.{Wrong}
-use Rattle.bufr_fill.specs.declared.fault.Wrong.TheVariants as wrong
 use Rattle.bufr_fill.specs.Fault.{DraftFaultKind, wrong_descriptor, wrong_number, out_of_range, text_long, missing_forbidden, unequal_factors, uneven_increment, item_too_many, too_many_values, FaultAt, at_line}
 
 -- the fault of another item than the expected one
@@ -26,14 +24,6 @@ draft_fault (fault.UnequalFactor line) = Some (at_line line unequal_factors)
 draft_fault (fault.Increment line) = Some (at_line line uneven_increment)
 draft_fault (fault.TooManyValues line fxy) = Some (at_line line (too_many_values fxy))
 draft_fault fault.Memory = None
-
--- the fault of an item, without its line
-abbrev pub item_fault_of : Wrong → DraftFaultKind
-item_fault_of (wrong.Descriptor e) = other_than e
-item_fault_of wrong.Number = wrong_number
-item_fault_of wrong.OutOfRange = out_of_range
-item_fault_of wrong.TextLong = text_long
-item_fault_of wrong.MissingForbidden = missing_forbidden
 
 -- the number of a fault
 abbrev pub number_of_draft_fault : DraftFault → ℕ

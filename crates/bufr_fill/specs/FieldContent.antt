@@ -1,26 +1,22 @@
 -- The content of a field from an item, as the code has it.
 -- Cited by private steps only.
-use Rattle.std.specs.Prelude.{ℕ, ◌≡◌, ◌≤◌, ◌<◌, ◌-◌, ◌/◌, ◌^◌, ◌==◌, true, false, List, ◌++◌, length, replicate, unsigned_abs, ℤ, Result, Ok, Err}
+use Rattle.std.specs.Prelude.{ℕ, ◌≡◌, ◌≤◌, ◌<◌, ◌-◌, ◌/◌, ◌^◌, ◌==◌, true, false, List, ◌++◌, length, replicate, unsigned_abs, Option, Some, option_map, Result, Ok, Err}
 use Rattle.std.specs.List.{list_all}
 use Rattle.bufr_tables.specs.TableB.{is_character}
-use Rattle.bufr_fill.specs.declared.fault.Wrong.{Wrong}
+use Rattle.bufr_fill.specs.declared.fault.DraftFault.{DraftFault}
 use Rattle.bufr_fill.specs.declared.field_value.FieldContent.{FieldContent}
 use Rattle.bufr_fill.specs.declared.field_value.FieldContent.TheVariants as drawn
 use Rattle.bufr_walk.specs.FieldSpec.{FieldSpec, is_reference}
 use Rattle.bufr_walk.specs.Content.{Content, number, text, missing, reference}
-use Rattle.bufr_fill.specs.Fault.{DraftFaultKind}
+use Rattle.bufr_fill.specs.Fault.{FaultAt}
 use Rattle.bufr_fill.specs.Packing.{raw_limit}
-use Rattle.bufr_fill.specs.DraftFaults.{item_fault_of}
+use Rattle.bufr_fill.specs.DraftFaults.{draft_fault}
 
--- the content of a number, or its fault
-abbrev pub number_answer : Result ℕ Wrong → Result Content DraftFaultKind
-number_answer (Ok raw) = Ok (number raw)
-number_answer (Err why) = Err (item_fault_of why)
-
--- the content of a reference, or its fault
-abbrev pub reference_answer : Result ℤ Wrong → Result Content DraftFaultKind
-reference_answer (Ok value) = Ok (reference value)
-reference_answer (Err why) = Err (item_fault_of why)
+-- the content that a call returned, or its fault; nothing where memory ran out
+abbrev pub returned : {A : Type 0} → (A → Content) → Result A DraftFault
+    → Option (Result Content FaultAt)
+returned content (Ok a) = Some (Ok (content a))
+returned content (Err e) = option_map Err (draft_fault e)
 
 -- a text followed by spaces, up to `count` octets
 abbrev pub spaced : (count : ℕ) → List ℕ → List ℕ
@@ -32,11 +28,6 @@ content_drawn count (drawn.Number raw) = number raw
 content_drawn count (drawn.Text octets) = text (spaced count octets.now)
 content_drawn count drawn.Missing = missing
 content_drawn count (drawn.Reference value) = reference value
-
--- the content of a field, or its fault
-abbrev pub drawn_answer : (count : ℕ) → Result FieldContent Wrong → Result Content DraftFaultKind
-drawn_answer count (Ok d) = Ok (content_drawn count d)
-drawn_answer count (Err why) = Err (item_fault_of why)
 
 -- a text that the field has room for, and that does not read as missing
 abbrev pub HasRoom : (count : ℕ) → List ℕ → Type 0

@@ -5,10 +5,6 @@ use Rattle.bufr_fill.specs.declared.draft.DraftValue.TheVariants as form
 use Rattle.bufr_fill.specs.declared.draft.DraftItem.{DraftItem}
 use Rattle.bufr_fill.specs.Draft.{Draft, draft, number_token, text_form, missing_form, reference_token}
 use Rattle.bufr_fill.specs.Draft as drafts
-use Rattle.bufr_fill.specs.declared.draft.DraftEntry.{DraftEntry}
-use Rattle.bufr_fill.specs.declared.draft.DraftEntry.TheVariants as entry
-use Rattle.bufr_fill.specs.Entries.{Holds, Ends}
-use Rattle.bufr_fill.specs.Entries as entries
 
 -- the value of an item
 abbrev pub form_in : DraftValue → drafts.DraftValue
@@ -20,8 +16,3 @@ form_in (form.Reference digits) = reference_token digits.now
 -- an item
 abbrev pub draft_in : DraftItem → Draft
 draft_in item = draft item.line item.fxy (form_in item.form)
-
--- an entry
-abbrev pub entry_in : DraftEntry → entries.DraftEntry
-entry_in (entry.Item item) = Holds (draft_in item)
-entry_in (entry.End line) = Ends line

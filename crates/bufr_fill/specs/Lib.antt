@@ -2,7 +2,7 @@
 pub mod Draft
 -- the items of a dump text one after another, and its subsets
 pub mod Entries
--- the items of the code, as drafts and entries
+-- the items of the code, as drafts
 pub mod Given
 -- the stored entries, in one block of octets
 pub mod Kept

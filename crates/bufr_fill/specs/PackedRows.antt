@@ -1,9 +1,8 @@
 -- The rows of all subsets, as the code reads them.
 -- Cited by private steps only.
-use Rattle.std.specs.Prelude.{ℕ, zero, suc, ◌≡◌, ◌≤◌, ◌++◌, List, [], ◌∷◌, length, drop, map, slice_get, Option, Some, None, Result, Ok, Err}
+use Rattle.std.specs.Prelude.{ℕ, zero, suc, ◌≡◌, ◌≤◌, ◌++◌, List, [], ◌∷◌, length, drop, slice_get, Option, Some, None, Result, Ok, Err}
 use Rattle.bufr_fill.specs.declared.fault.DraftFault.{DraftFault}
 use Rattle.bufr_fill.specs.declared.field_value.FieldContent.{FieldContent}
-use Rattle.bufr_fill.specs.declared.entries.EntryRef.{EntryRef}
 use Rattle.bufr_fill.specs.declared.packing.NumberRange.{NumberRange}
 use Rattle.bufr_walk.specs.FieldSpec.{FieldSpec}
 use Rattle.bufr_walk.specs.Content.{Content}
@@ -13,9 +12,7 @@ use Rattle.bufr_fill.specs.Fault.{FaultAt}
 use Rattle.bufr_fill.specs.FieldContent.{content_drawn, IsDrawn}
 use Rattle.bufr_fill.specs.Encoding.{RowCell, cells_at, content_here, contents_here, first_unlike}
 use Rattle.bufr_fill.specs.PlainOut.{IfDraftFault}
-use Rattle.bufr_fill.specs.Packing.{lowest}
-use Rattle.bufr_fill.specs.Packs.{spread, least_from, AreShort}
-use Rattle.bufr_fill.specs.Kept.{entry_found}
+use Rattle.bufr_fill.specs.Packs.{spread, least_number, least_from, AreShort}
 use Rattle.bufr_fill.specs.DraftFaults.{draft_fault}
 
 -- the index where a subset's entries begin, by the indices of the ends
@@ -43,12 +40,6 @@ abbrev pub entry_line : DraftEntry → ℕ
 entry_line (Holds d) = d.line
 entry_line (Ends line) = line
 
--- the content of an entry is the one expected, or its fault is
-abbrev pub ReturnsContent : (count : ℕ) → FieldSpec → Result Content FaultAt
-    → Result FieldContent DraftFault → Type 0
-ReturnsContent count spec expected (Ok d) = (expected ≡ Ok (content_drawn count d)) × IsDrawn spec d
-ReturnsContent count spec expected (Err e) = IfDraftFault (draft_fault e) (λ f. expected ≡ Err f)
-
 -- an entry is that of a subset in a row
 abbrev pub IsAt : (place subset : ℕ) → List DraftEntry → DraftEntry → Type 0
 IsAt place subset entries e =
@@ -60,10 +51,6 @@ pub record LineAt (place subset : ℕ) (entries : List DraftEntry) (line : ℕ) 
   pub e : DraftEntry
   pub there : IsAt place subset entries e
   pub so : line ≡ entry_line e
-
--- the entries that were found are those of the cells
-abbrev pub AreFound : List RowCell → List EntryRef → Type 0
-AreFound cells found = map entry_found found ≡ map cell_entry cells
 
 -- each content is one that the field can have
 abbrev pub AllDrawn : FieldSpec → List FieldContent → Type 0
@@ -89,9 +76,9 @@ pub record IsGathering (count : ℕ) (spec : FieldSpec) (cells : List RowCell) (
   pub all : AllDrawn spec drawn
   pub many : length drawn ≡ number
 
--- the least number among contents, if there is one, and the greatest, or 0
+-- the least number among contents, or the greatest of 64 bits, and the greatest, or 0
 pub record IsRangeOf (range : NumberRange) (drawn : List FieldContent) : Type 0 where
-  pub least : (count : ℕ) → range.least ≡ lowest (contents_drawn count drawn)
+  pub least : range.least ≡ least_number drawn
   pub greatest : range.greatest ≡ spread 0 drawn
 
 -- the least k whose bits write the increments of numbers over a base

@@ -1,12 +1,12 @@
 -- How the code finds the least k of an item, and what it writes.
 -- Cited by private steps only.
-use Rattle.std.specs.Prelude.{ℕ, zero, suc, ◌≡◌, ◌≤◌, ◌<◌, ◌-◌, ◌^◌, ◌==◌, ◌&&◌, nat_lt, max, Bool, if◌then◌else◌, List, [], ◌∷◌, ◌++◌, length, take, Option, Some, None, Result, Ok, Err}
+use Rattle.std.specs.Prelude.{ℕ, zero, suc, ◌≡◌, ◌≤◌, ◌<◌, ◌-◌, ◌^◌, ◌==◌, ◌&&◌, nat_lt, max, min, Bool, if◌then◌else◌, List, [], ◌∷◌, ◌++◌, length, take, Result, Ok, Err}
 use Rattle.std.specs.List.{list_all}
 use Rattle.bufr_fill.specs.declared.packing.PackingFault.{PackingFault}
 use Rattle.bufr_fill.specs.declared.packing.PackingFault.TheVariants as unpacked
 use Rattle.bufr_fill.specs.declared.field_value.FieldContent.{FieldContent}
 use Rattle.bufr_fill.specs.declared.field_value.FieldContent.TheVariants as drawn
-use Rattle.bufr_fill.specs.Packing.{raw_limit, smaller, first_from}
+use Rattle.bufr_fill.specs.Packing.{raw_limit, first_from}
 use Rattle.bufr_walk.specs.declared.spec.Taken.{Taken}
 use Rattle.bufr_fill.specs.declared.fault.DraftFault.{DraftFault}
 use Rattle.bufr_walk.specs.FieldSpec.{FieldSpec}
@@ -26,15 +26,15 @@ abbrev pub spread : (base : ℕ) → List FieldContent → ℕ
 spread base [] = 0
 spread base (d ∷ ds) = max (over_of base d) (spread base ds)
 
--- the lesser of two numbers, where there are any
-abbrev pub lesser : Option ℕ → Option ℕ → Option ℕ
-lesser None o = o
-lesser (Some n) o = Some (smaller n o)
+-- the number of a content, or another where it is none
+abbrev pub number_or : (other : ℕ) → FieldContent → ℕ
+number_or other (drawn.Number n) = n
+number_or other _ = other
 
--- the number of a content, if it is one
-abbrev pub number_in : FieldContent → Option ℕ
-number_in (drawn.Number n) = Some n
-number_in _ = None
+-- the least number, or the greatest of 64 bits
+abbrev pub least_number : List FieldContent → ℕ
+least_number [] = 18446744073709551615
+least_number (d ∷ ds) = min (number_or 18446744073709551615 d) (least_number ds)
 
 -- the least k from some k on, under 64, whose bits write an increment, else 64
 unfoldable pub least_from : (may_be_missing : Bool) (spread from : ℕ) → ℕ

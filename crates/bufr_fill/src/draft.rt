@@ -24,12 +24,3 @@ pub struct DraftItem<'a> {
     /// The value after the descriptor.
     pub form: DraftValue<'a>,
 }
-
-/// An item of a subset, or the end of the subset.
-#[derive(Clone, Copy, Debug, PartialEq, Eq)]
-pub enum DraftEntry<'a> {
-    /// An item.
-    Item(DraftItem<'a>),
-    /// The number of the line that ends the subset: that of the next `subset`, or of `end`.
-    End(u64),
-}

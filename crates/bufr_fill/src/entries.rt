@@ -1,18 +1,20 @@
 //! The entries of a document, kept in one block.
-ghost use Rattle.std.specs.Prelude.{◌≡◌, ℕ, List, length, option_map, slice_get};
+ghost use Rattle.std.specs.Prelude.{◌≡◌, ◌≤◌, ℕ, List, length, option_map, slice_get};
 ghost use Rattle.bufr_fill.specs.Draft.{draft};
 ghost use Rattle.bufr_fill.specs.Entries.{DraftEntry, Holds};
-ghost use Rattle.bufr_fill.specs.Given.{entry_in, form_in};
-ghost use Rattle.bufr_fill.specs.Kept.{entry_by, entry_found, entry_kept, IsEntryInside};
+ghost use Rattle.bufr_fill.specs.Given.{form_in};
+ghost use Rattle.bufr_fill.specs.Kept.{entry_by, entry_stored, kept_entry, IsEntryInside, IsPlaced};
 
-use crate::draft::{DraftEntry, DraftItem, DraftValue};
+use crate::draft::{DraftItem, DraftValue};
+use bufr_bits::ShortDecimal;
 use bufr_tables::Fxy;
 use std::alloc::{AllocError, Global};
 use std::marker::Model;
 
-/// The kind of a line: an item with a value of this form, or the end of a subset.
+/// The kind of a stored entry.
 #[derive(Clone, Copy)]
 enum EntryKind {
+    Decimal { places: u8, negative: bool },
     Number,
     Text,
     Missing,
@@ -20,7 +22,8 @@ enum EntryKind {
     End,
 }
 
-/// A stored entry: its octets go from `start` to `end` of one block.
+/// A stored entry. Its octets go from `start` to `end` of one block; of a short decimal `start` has
+/// the digits.
 #[derive(Clone, Copy)]
 struct StoredEntry {
     line: u64,
@@ -30,11 +33,43 @@ struct StoredEntry {
     kind: EntryKind,
 }
 
+/// The value of an item, as it is kept.
+#[derive(Clone, Copy)]
+pub(crate) enum KeptValue<'a> {
+    /// A number whose digits were read.
+    Decimal(ShortDecimal),
+    /// The octets of another number; its syntax is checked later.
+    Number(&'a [u8]),
+    /// The octets of a text.
+    Text(&'a [u8]),
+    /// All ones.
+    Missing,
+    /// The octets of a redefined reference.
+    Reference(&'a [u8]),
+}
+
+/// An item, as it is kept.
+#[derive(Clone, Copy)]
+pub(crate) struct KeptItem<'a> {
+    pub(crate) value: KeptValue<'a>,
+    pub(crate) line: u64,
+    pub(crate) word: u16,
+}
+
+/// An item, or the line that ends a subset.
+#[derive(Clone, Copy)]
+pub(crate) enum KeptEntry<'a> {
+    Item(KeptItem<'a>),
+    End(u64),
+}
+
 /// The kind of a value, and its octets.
 #[inline(always)]
 fn parts_of<'a>(form: DraftValue<'a>) -> (EntryKind, &'a [u8])
-    ensures { (line fxy : ℕ) → entry_by result.0 line fxy result.1.now
+    ensures is { (line fxy digits : ℕ) → entry_by result.0 line fxy digits result.1.now
         ≡ Holds (draft line fxy (form_in form.entry)) }
+    ensures placed { (size start end : ℕ) → start ≤ end → end ≤ size
+        → IsPlaced result.0 size start end }
 {
     match form {
         DraftValue::Number(octets) => (EntryKind::Number, octets),
@@ -44,68 +79,43 @@ fn parts_of<'a>(form: DraftValue<'a>) -> (EntryKind, &'a [u8])
     }
 }
 
-/// The value of this kind.
+/// A stored entry, with its octets in this block.
 #[inline(always)]
-fn item<'a>(line: u64, fxy: Fxy, form: DraftValue<'a>) -> DraftEntry<'a>
-    ensures { entry_in result ≡ Holds (draft line fxy (form_in form.entry)) }
+fn kept_in<'a>(octets: &'a [u8], stored: StoredEntry) -> KeptEntry<'a>
+    requires { IsEntryInside (length octets.now) stored }
+    ensures { kept_entry result ≡ entry_stored octets.now stored }
 {
-    DraftEntry::Item(DraftItem { line, fxy, form })
+    let value = match stored.kind {
+        EntryKind::Decimal { places, negative } => KeptValue::Decimal(ShortDecimal {
+            digits: stored.start as u64,
+            places,
+            negative,
+        }),
+        EntryKind::Number => KeptValue::Number(&octets[stored.start..stored.end]),
+        EntryKind::Text => KeptValue::Text(&octets[stored.start..stored.end]),
+        EntryKind::Missing => KeptValue::Missing,
+        EntryKind::Reference => KeptValue::Reference(&octets[stored.start..stored.end]),
+        EntryKind::End => return KeptEntry::End(stored.line),
+    };
+    KeptEntry::Item(KeptItem {
+        value,
+        line: stored.line,
+        word: stored.fxy.word(),
+    })
 }
 
-/// Reference to an entry, with its octets.
-#[derive(Clone, Copy)]
-pub(crate) struct EntryRef<'a> {
-    octets: &'a [u8],
-    line: u64,
-    word: u16,
-    kind: EntryKind,
-}
-
-impl<'a> EntryRef<'a> {
-    ghost use Rattle.std.specs.Prelude.{◌≡◌};
-    ghost use Rattle.bufr_fill.specs.Given.{entry_in};
-    ghost use Rattle.bufr_fill.specs.Kept.{entry_found};
-
-    /// The entry.
-    #[inline(always)]
-    pub(crate) fn entry(self) -> DraftEntry<'a>
-        ensures { entry_in result ≡ entry_found self.entry }
-    {
-        let fxy = Fxy::from_word(self.word);
-        match self.kind {
-            EntryKind::Number => item(self.line, fxy, DraftValue::Number(self.octets)),
-            EntryKind::Text => item(self.line, fxy, DraftValue::Text(self.octets)),
-            EntryKind::Missing => item(self.line, fxy, DraftValue::Missing),
-            EntryKind::Reference => item(self.line, fxy, DraftValue::Reference(self.octets)),
-            EntryKind::End => DraftEntry::End(self.line),
-        }
-    }
-}
-
-/// The stored entry, with its octets in this block.
-#[inline(always)]
-fn found_in<'a>(octets: &'a [u8], kept: StoredEntry) -> EntryRef<'a>
-    requires { IsEntryInside (length octets.now) kept }
-    ensures { entry_found result ≡ entry_kept octets.now kept }
-{
-    EntryRef {
-        octets: &octets[kept.start..kept.end],
-        line: kept.line,
-        word: kept.fxy.word(),
-        kind: kept.kind,
-    }
-}
-
-/// The items of all subsets and the lines that end them, one after another. Their tokens and texts
-/// are in one block, so an entry takes 32 octets and those of its value.
+/// The items of all subsets and the lines that end them, one after another. A short number is kept
+/// as its digits, other numbers and texts in one block. So an entry takes 32 octets and those of
+/// its text.
 ///
 /// A contract sees the list of the entries.
 ///
 /// ```
 /// let mut entries = Entries::new(alloc);
-/// entries.push_item(9, Fxy::from_word(257), DraftValue::Number(b"10"))?;
+/// let (fxy, form) = (Fxy::from_word(257), DraftValue::Number(b"10"));
+/// entries.push_item(DraftItem { line: 9, fxy, form })?;
 /// entries.push_end(10)?;
-/// assert_eq!(rt; entries.get(1), Some(DraftEntry::End(10)));
+/// assert_eq!(rt; entries.len(), 2);
 /// ```
 #[derive(Drop)]
 pub struct Entries {
@@ -117,21 +127,22 @@ pub struct Entries {
 impl Model for Entries {
     ghost use Rattle.std.specs.Prelude.{List, length};
     ghost use Rattle.bufr_fill.specs.Entries.{DraftEntry};
-    ghost use Rattle.bufr_fill.specs.Kept.{entries_kept, AreInside};
+    ghost use Rattle.bufr_fill.specs.Kept.{entries_stored, AreInside};
 
     ghost Value = { List DraftEntry };
 
-    ghost view = { λ e. entries_kept e.octets.items e.kept.items };
+    ghost view = { λ e. entries_stored e.octets.items e.kept.items };
 
     ghost invariant = { λ e. AreInside (length e.octets.items) e.kept.items };
 }
 
 impl Entries {
     ghost use Rattle.std.specs.Prelude.{◌≡◌, ◌<◌, [], ◌∷◌, ◌++◌, length, option_map, slice_get, Some, OnOk, OnErr};
-    ghost use Rattle.bufr_fill.specs.Draft.{draft};
+    ghost use Rattle.bufr_fill.specs.Draft.{draft, number_token};
+    ghost use Rattle.bufr_bits.specs.ShortDecimal.{short_text};
     ghost use Rattle.bufr_fill.specs.Entries.{Holds, Ends};
-    ghost use Rattle.bufr_fill.specs.Kept.{entry_found, is_end};
-    ghost use Rattle.bufr_fill.specs.Given.{entry_in, form_in};
+    ghost use Rattle.bufr_fill.specs.Kept.{kept_entry, is_end};
+    ghost use Rattle.bufr_fill.specs.Given.{draft_in};
 
     /// No entries. It takes no memory.
     pub fn new(alloc: Global) -> Entries
@@ -157,21 +168,49 @@ impl Entries {
     ///
     /// [`AllocError`] where the list could not grow; then the entries do not change.
     #[inline(always)]
-    pub fn push_item(&mut self, line: u64, fxy: Fxy, form: DraftValue<'_>) -> Result<(), AllocError>
-        ensures item { OnOk result
-            (self.new ≡ self.old ++ Holds (draft line fxy (form_in form.entry)) ∷ []) }
+    pub fn push_item(&mut self, item: DraftItem<'_>) -> Result<(), AllocError>
+        ensures item { OnOk result (self.new ≡ self.old ++ Holds (draft_in item.entry) ∷ []) }
         ensures same { OnErr result (self.new ≡ self.old) }
     {
-        let (kind, octets) = parts_of(form);
+        let (kind, octets) = parts_of(item.form);
         let start = self.octets.len();
         self.octets.extend_from_slice(octets)?;
         let end = self.octets.len();
         self.kept.push(StoredEntry {
-            line,
+            line: item.line,
             start,
             end,
-            fxy,
+            fxy: item.fxy,
             kind,
+        })?;
+        Ok(())
+    }
+
+    /// Appends an item whose value is a short decimal: [`Entries::push_item`] with its text.
+    ///
+    /// # Errors
+    ///
+    /// [`AllocError`] where the list could not grow; then the entries do not change.
+    #[inline(always)]
+    pub fn push_decimal(
+        &mut self,
+        line: u64,
+        fxy: Fxy,
+        number: ShortDecimal,
+    ) -> Result<(), AllocError>
+        ensures item { OnOk result (self.new
+            ≡ self.old ++ Holds (draft line fxy (number_token (short_text number))) ∷ []) }
+        ensures same { OnErr result (self.new ≡ self.old) }
+    {
+        self.kept.push(StoredEntry {
+            line,
+            start: number.digits as usize,
+            end: 0,
+            fxy,
+            kind: EntryKind::Decimal {
+                places: number.places,
+                negative: number.negative,
+            },
         })?;
         Ok(())
     }
@@ -203,22 +242,13 @@ impl Entries {
         self.kept.len()
     }
 
-    /// The entry at an index, from 0, or `None` after the last.
+    /// The entry at an index, from 0, or `None` after the last. Its octets are not read.
     #[inline(always)]
-    pub fn get(&self, place: usize) -> Option<DraftEntry<'_>>
-        ensures { option_map entry_in result ≡ slice_get self.now place }
-    {
-        Some(self.find(place)?.entry())
-    }
-
-    /// The entry at an index, from 0, with its octets, or `None` after the last. Its octets are not
-    /// read.
-    #[inline(always)]
-    pub(crate) fn find(&self, place: usize) -> Option<EntryRef<'_>>
-        ensures { option_map entry_found result ≡ slice_get self.now place }
+    pub(crate) fn get(&self, place: usize) -> Option<KeptEntry<'_>>
+        ensures { option_map kept_entry result ≡ slice_get self.now place }
     {
         if place < self.kept.len() {
-            Some(found_in(self.octets.as_slice(), self.kept[place]))
+            Some(kept_in(self.octets.as_slice(), self.kept[place]))
         } else {
             None
         }

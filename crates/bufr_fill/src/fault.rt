@@ -1,6 +1,5 @@
 //! Faults in the items of a dump text. (Their numbers and their order are a choice of this
 //! project.)
-ghost use Rattle.std.specs.Prelude.{◌≡◌, Some};
 
 use bufr_tables::Fxy;
 use thiserror::Error;
@@ -69,35 +68,6 @@ impl DraftFault {
             DraftFault::Increment(_) => 59,
             DraftFault::TooManyValues(_, _) => 35,
             DraftFault::Memory => 73,
-        }
-    }
-}
-
-/// The fault of an item, without its line.
-#[derive(Clone, Copy)]
-pub(crate) enum Wrong {
-    Descriptor(Expected),
-    Number,
-    OutOfRange,
-    TextLong,
-    MissingForbidden,
-}
-
-impl Wrong {
-    ghost use Rattle.std.specs.Prelude.{◌≡◌, Some};
-    ghost use Rattle.bufr_fill.specs.Fault.{at_line};
-    ghost use Rattle.bufr_fill.specs.DraftFaults.{draft_fault, item_fault_of};
-
-    /// The same fault with its line.
-    pub(crate) fn at(self, line: u64) -> DraftFault
-        ensures { draft_fault result ≡ Some (at_line line (item_fault_of self)) }
-    {
-        match self {
-            Wrong::Descriptor(expected) => DraftFault::WrongDescriptor(line, expected),
-            Wrong::Number => DraftFault::Number(line),
-            Wrong::OutOfRange => DraftFault::OutOfRange(line),
-            Wrong::TextLong => DraftFault::TextLong(line),
-            Wrong::MissingForbidden => DraftFault::MissingForbidden(line),
         }
     }
 }

@@ -1,18 +1,24 @@
 //! Converts an item of a dump text to the content of its field.
-ghost use Rattle.std.specs.Prelude.{◌≡◌, ◌≤◌, ◌<◌, ◌-ℤ◌, ◌-◌, ◌/◌, ◌^◌, ◌==◌, ◌++◌, false, pos, length, replicate, unsigned_abs, IfOk, OnOk, OnErr};
+ghost use Rattle.std.specs.Prelude.{◌≡◌, ◌≤◌, ◌<◌, ◌-ℤ◌, ◌-◌, ◌/◌, ◌^◌, ◌==◌, ◌++◌, false, pos, length, replicate, unsigned_abs, Some, IfOk};
 ghost use Rattle.std.specs.List.{list_all};
 ghost use Rattle.bufr_bits.specs.DecimalValue.{decimal_value_of};
 ghost use Rattle.bufr_tables.specs.TableB.{is_character};
 ghost use Rattle.bufr_walk.specs.FieldSpec.{is_reference};
+ghost use Rattle.bufr_walk.specs.Content.{number, reference};
 ghost use Rattle.bufr_fill.specs.DraftContent.{raw_within, raw_of, reference_of, text_within, is_of, is_marked, wrong_for, content_of, content_by_form};
-ghost use Rattle.bufr_fill.specs.FieldContent.{number_answer, reference_answer, spaced, HasRoom, drawn_answer, IsDrawn, IsTextOf};
+ghost use Rattle.bufr_fill.specs.FieldContent.{returned, content_drawn, IsDrawn, IsTextOf};
 ghost use Rattle.bufr_fill.specs.Packing.{raw_limit};
-ghost use Rattle.bufr_fill.specs.Given.{draft_in, form_in};
-ghost use Rattle.bufr_fill.specs.DraftFaults.{item_fault_of};
+ghost use Rattle.bufr_bits.specs.ShortDecimal.{short_text};
+ghost use Rattle.bufr_fill.specs.Draft.{draft, number_token};
+ghost use Rattle.bufr_fill.specs.Kept.{kept_item, kept_value};
+ghost use Rattle.bufr_fill.specs.DraftFaults.{draft_fault};
+ghost use Rattle.bufr_fill.specs.Encoding.{at_line_if_fault};
+ghost use Rattle.bufr_fill.specs.Fault.{at_line};
 
-use crate::draft::{DraftItem, DraftValue};
-use crate::fault::{Expected, Wrong};
-use bufr_bits::{NumberFault, decimal_read};
+use crate::entries::{KeptItem, KeptValue};
+use crate::fault::{DraftFault, Expected};
+use bufr_bits::{NumberFault, ShortDecimal, decimal_read};
+use bufr_tables::Fxy;
 use bufr_walk::Spec;
 
 /// The content of a field, from an item.
@@ -43,58 +49,58 @@ pub(crate) fn raw_limit(may_be_missing: bool, width: u32) -> u64
 /// The number in the bits of a value, where it fits them and does not read as missing.
 #[inline(always)]
 // rule: fault-53
-fn raw_in(value: i128, spec: &Spec) -> Result<u64, Wrong>
-    requires narrow { spec.now.width ≤ 63 }
-    ensures is { number_answer result
-        ≡ raw_within spec.now.may_be_missing spec.now.width (value -ℤ spec.now.reference) }
+fn raw_in(value: i128, spec: &Spec, line: u64) -> Result<u64, DraftFault>
+    requires { is_character spec.now.kind ≡ false }
+    ensures is { returned number result ≡ Some (at_line_if_fault line
+        (raw_within spec.now.may_be_missing spec.now.width (value -ℤ spec.now.reference))) }
     ensures below { IfOk result (λ raw. raw < raw_limit spec.now.may_be_missing spec.now.width) }
 {
+    let limit = raw_limit(spec.may_be_missing(), spec.width());
     let Some(raw) = value.checked_sub(spec.reference()) else {
-        return Err(Wrong::OutOfRange);
+        return Err(DraftFault::OutOfRange(line));
     };
     let Ok(raw) = u64::try_from(raw) else {
-        return Err(Wrong::OutOfRange);
+        return Err(DraftFault::OutOfRange(line));
     };
-    if raw < raw_limit(spec.may_be_missing(), spec.width()) {
+    if raw < limit {
         Ok(raw)
     } else {
-        Err(Wrong::OutOfRange)
+        Err(DraftFault::OutOfRange(line))
     }
 }
 
-/// The number in the bits of a token.
+/// The number in the bits of a value that was read at the field's scale.
 #[inline(always)]
 // rule: fault-52
-fn raw_of_token(token: &[u8], spec: &Spec) -> Result<u64, Wrong>
-    requires narrow { spec.now.width ≤ 63 }
-    ensures is { number_answer result
-        ≡ raw_of spec.now (decimal_value_of token.now spec.now.scale) }
+fn raw_of_read(read: Result<i128, NumberFault>, spec: &Spec, line: u64) -> Result<u64, DraftFault>
+    requires { is_character spec.now.kind ≡ false }
+    ensures is { returned number result ≡ Some (at_line_if_fault line (raw_of spec.now read)) }
     ensures below { IfOk result (λ raw. raw < raw_limit spec.now.may_be_missing spec.now.width) }
 {
-    match decimal_read(token, spec.scale()) {
-        Ok(value) => raw_in(value, spec),
-        Err(NumberFault::Syntax) => Err(Wrong::Number),
-        Err(NumberFault::Inexact) => Err(Wrong::Number),
-        Err(NumberFault::Large) => Err(Wrong::OutOfRange),
+    match read {
+        Ok(value) => raw_in(value, spec, line),
+        Err(NumberFault::Syntax) => Err(DraftFault::Number(line)),
+        Err(NumberFault::Inexact) => Err(DraftFault::Number(line)),
+        Err(NumberFault::Large) => Err(DraftFault::OutOfRange(line)),
     }
 }
 
 /// The reference of a token, where its magnitude fits the bits after the sign.
-fn reference_of_token(token: &[u8], spec: &Spec) -> Result<i64, Wrong>
+fn reference_of_token(token: &[u8], spec: &Spec, line: u64) -> Result<i64, DraftFault>
     requires some { 1 ≤ spec.now.width }
     requires narrow { spec.now.width ≤ 63 }
-    ensures is { reference_answer result
-        ≡ reference_of spec.now (decimal_value_of token.now (pos 0)) }
+    ensures is { returned reference result ≡ Some (at_line_if_fault line
+        (reference_of spec.now (decimal_value_of token.now (pos 0)))) }
     ensures fits { IfOk result (λ value. unsigned_abs value < 2 ^ (spec.now.width - 1)) }
 {
     let value = match decimal_read(token, 0) {
         Ok(value) => value,
-        Err(NumberFault::Syntax) => return Err(Wrong::Number),
-        Err(NumberFault::Inexact) => return Err(Wrong::Number),
-        Err(NumberFault::Large) => return Err(Wrong::OutOfRange),
+        Err(NumberFault::Syntax) => return Err(DraftFault::Number(line)),
+        Err(NumberFault::Inexact) => return Err(DraftFault::Number(line)),
+        Err(NumberFault::Large) => return Err(DraftFault::OutOfRange(line)),
     };
     if value.unsigned_abs() >= 1u128 << (spec.width() - 1) {
-        return Err(Wrong::OutOfRange);
+        return Err(DraftFault::OutOfRange(line));
     }
     Ok(value as i64)
 }
@@ -119,75 +125,108 @@ fn reads_as_missing(octets: &[u8], count: usize) -> bool
 
 /// A text of at most `count` octets.
 // rule: fault-53, fault-54
-fn text_for<'a>(octets: &'a [u8], count: usize) -> Result<FieldContent<'a>, Wrong>
-    ensures is { drawn_answer count result ≡ text_within count octets.now }
+fn text_for<'a>(octets: &'a [u8], count: usize, line: u64) -> Result<FieldContent<'a>, DraftFault>
+    ensures is { returned (content_drawn count) result
+        ≡ Some (at_line_if_fault line (text_within count octets.now)) }
     ensures text { IfOk result (λ d. IsTextOf count octets.now d) }
 {
     if octets.len() > count {
-        return Err(Wrong::TextLong);
+        return Err(DraftFault::TextLong(line));
     }
     if reads_as_missing(octets, count) {
-        return Err(Wrong::OutOfRange);
+        return Err(DraftFault::OutOfRange(line));
     }
     Ok(FieldContent::Text(octets))
 }
 
-/// Converts a value to the content of its field.
+/// Converts the value of an item to the content of its field.
 #[inline(always)]
 // rule: fault-52, fault-55, fault-order-of-an-item
-fn draw_form<'a>(form: DraftValue<'a>, spec: &Spec) -> Result<FieldContent<'a>, Wrong>
-    requires mark { is_reference spec.now.role ≡ is_marked (form_in form) }
-    ensures is { drawn_answer (spec.now.width / 8) result
-        ≡ content_by_form (form_in form.entry) spec.now }
+fn draw_form<'a>(item: &KeptItem<'a>, spec: &Spec) -> Result<FieldContent<'a>, DraftFault>
+    requires mark { is_reference spec.now.role ≡ is_marked (kept_value item.now.value) }
+    ensures is { returned (content_drawn (spec.now.width / 8)) result ≡ Some
+        (at_line_if_fault item.now.line (content_by_form (kept_value item.now.value) spec.now)) }
     ensures drawn { IfOk result (λ d. IsDrawn spec.now d) }
 {
     let count = (spec.width() / 8) as usize;
-    match form {
-        DraftValue::Number(token) => {
+    match item.value {
+        KeptValue::Decimal(number) => {
             if spec.is_text() {
-                return Err(Wrong::Number);
+                return Err(DraftFault::Number(item.line));
             }
-            Ok(FieldContent::Number(raw_of_token(token, spec)?))
+            let read = number.scaled(spec.scale());
+            Ok(FieldContent::Number(raw_of_read(read, spec, item.line)?))
         }
-        DraftValue::Text(octets) => {
+        KeptValue::Number(token) => {
             if spec.is_text() {
-                text_for(octets, count)
+                return Err(DraftFault::Number(item.line));
+            }
+            let read = decimal_read(token, spec.scale());
+            Ok(FieldContent::Number(raw_of_read(read, spec, item.line)?))
+        }
+        KeptValue::Text(octets) => {
+            if spec.is_text() {
+                text_for(octets, count, item.line)
             } else {
-                Err(Wrong::Number)
+                Err(DraftFault::Number(item.line))
             }
         }
-        DraftValue::Missing => {
+        KeptValue::Missing => {
             if spec.may_be_missing() {
                 Ok(FieldContent::Missing)
             } else {
-                Err(Wrong::MissingForbidden)
+                Err(DraftFault::MissingForbidden(item.line))
             }
         }
-        DraftValue::Reference(token) => Ok(FieldContent::Reference(reference_of_token(
-            token, spec,
-        )?)),
+        KeptValue::Reference(token) => {
+            let value = reference_of_token(token, spec, item.line)?;
+            Ok(FieldContent::Reference(value))
+        }
     }
 }
 
 /// Whether an item has the descriptor and the mark of a field.
 #[inline(always)]
 // rule: fault-51
-fn is_item_of(item: &DraftItem<'_>, spec: &Spec) -> bool
-    ensures { result ≡ is_of spec.now (draft_in item.now) }
+fn is_item_of(item: &KeptItem<'_>, spec: &Spec) -> bool
+    ensures { result ≡ is_of spec.now (kept_item item.now) }
 {
-    let marked = matches!(item.form, DraftValue::Reference(_));
-    item.fxy == spec.fxy() && marked == spec.is_reference()
+    let marked = matches!(item.value, KeptValue::Reference(_));
+    Fxy::from_word(item.word) == spec.fxy() && marked == spec.is_reference()
 }
 
 /// The fault of another item than the expected one.
-pub(crate) fn wrong_item(spec: &Spec) -> Wrong
-    ensures { item_fault_of result ≡ wrong_for spec.now }
+pub(crate) fn wrong_item(spec: &Spec, line: u64) -> DraftFault
+    ensures { draft_fault result ≡ Some (at_line line (wrong_for spec.now)) }
 {
-    Wrong::Descriptor(if spec.is_reference() {
+    let expected = if spec.is_reference() {
         Expected::Reference(spec.fxy())
     } else {
         Expected::Item(spec.fxy())
-    })
+    };
+    DraftFault::WrongDescriptor(line, expected)
+}
+
+/// Converts a short decimal to the content of its field.
+#[inline(always)]
+fn decimal_content<'a>(
+    item: &KeptItem<'a>,
+    number: ShortDecimal,
+    spec: &Spec,
+) -> Result<FieldContent<'a>, DraftFault>
+    ensures is { returned (content_drawn (spec.now.width / 8)) result
+        ≡ Some (at_line_if_fault item.now.line (content_of spec.now
+        (draft item.now.line item.now.word (number_token (short_text number))))) }
+    ensures drawn { IfOk result (λ d. IsDrawn spec.now d) }
+{
+    if Fxy::from_word(item.word) != spec.fxy() || spec.is_reference() {
+        return Err(wrong_item(spec, item.line));
+    }
+    if spec.is_text() {
+        return Err(DraftFault::Number(item.line));
+    }
+    let read = number.scaled(spec.scale());
+    Ok(FieldContent::Number(raw_of_read(read, spec, item.line)?))
 }
 
 /// Converts an item to the content of its field.
@@ -195,15 +234,18 @@ pub(crate) fn wrong_item(spec: &Spec) -> Wrong
 #[tactic(auto, using(crate::proofs::DrawLemmas::marks, crate::proofs::DrawLemmas::content_wrong, crate::proofs::DrawLemmas::content_there))]
 // rule: fault-order-of-an-item
 pub(crate) fn field_content<'a>(
-    item: &DraftItem<'a>,
+    item: &KeptItem<'a>,
     spec: &Spec,
-) -> Result<FieldContent<'a>, Wrong>
-    ensures is { drawn_answer (spec.now.width / 8) result
-        ≡ content_of spec.now (draft_in item.now) }
+) -> Result<FieldContent<'a>, DraftFault>
+    ensures is { returned (content_drawn (spec.now.width / 8)) result
+        ≡ Some (at_line_if_fault item.now.line (content_of spec.now (kept_item item.now))) }
     ensures drawn { IfOk result (λ d. IsDrawn spec.now d) }
 {
-    if !is_item_of(item, spec) {
-        return Err(wrong_item(spec));
+    if let KeptValue::Decimal(number) = item.value {
+        return decimal_content(item, number, spec);
     }
-    draw_form(item.form, spec)
+    if !is_item_of(item, spec) {
+        return Err(wrong_item(spec, item.line));
+    }
+    draw_form(item, spec)
 }

@@ -16,7 +16,7 @@ mod packing;
 mod plain_out;
 mod put;
 
-pub use draft::{DraftEntry, DraftItem, DraftValue};
+pub use draft::{DraftItem, DraftValue};
 pub use entries::Entries;
 pub use fault::{DraftFault, Expected};
 pub use packed_out::PackedOut;

@@ -8,10 +8,10 @@ ghost use Rattle.bufr_fill.specs.PackedRows.{AllDrawn, contents_drawn, IsRangeOf
 ghost use Rattle.bufr_fill.specs.Packs.{PutAcross};
 ghost use Rattle.bufr_fill.specs.PackedOut.{ends_of};
 
-use crate::entries::{Entries, EntryRef};
+use crate::entries::Entries;
 use crate::fault::DraftFault;
 use crate::field_value::FieldContent;
-use crate::packed_rows::{all_at_end, first_line, read_row, unlike_line};
+use crate::packed_rows::{Row, all_at_end, first_line, read_row, unlike_line};
 use crate::packing::{NumberRange, PackingFault, pack};
 use crate::put::taken_of;
 use bufr_bits::BitWriter;
@@ -30,9 +30,7 @@ pub struct PackedOut<'s> {
     entries: &'s Entries,
     ends: Vec<usize>,
     place: usize,
-    /// The row of the item that is packed: its entries and its contents. Each item uses their
-    /// memory again.
-    found: Vec<EntryRef<'s>>,
+    /// The contents of the item that is packed. Each item uses their memory again.
     drawn: Vec<FieldContent<'s>>,
     out: BitWriter,
 }
@@ -69,36 +67,41 @@ fn ends_in(alloc: Global, entries: &Entries) -> Result<Vec<usize>, AllocError>
 /// Writes the contents of an item for all subsets.
 #[tactic(auto, using(crate::proofs::PackSteps::drawn_at))]
 fn put_drawn(
-    entries: &Entries,
-    ends: &[usize],
-    place: usize,
-    spec: &Spec,
+    row: Row<'_, '_>,
     drawn: &[FieldContent<'_>],
     range: NumberRange,
     out: &mut BitWriter,
 ) -> Result<Taken, DraftFault>
-    requires ends { ends.now ≡ ends_of 0 entries.now }
-    requires few { length entries.now ≤ 2 ^ 45 }
-    requires some { 0 < length ends.now }
-    requires values { (place + 1) * length ends.now ≤ max_values }
-    requires near { place ≤ 2 ^ 45 }
-    requires given { contents_here spec.now (cells_at place (subsets_of entries.now))
-        ≡ Ok (contents_drawn (spec.now.width / 8) drawn.now) }
-    requires all { AllDrawn spec.now drawn.now }
+    requires ends { row.ends.now ≡ ends_of 0 row.entries.now }
+    requires few { length row.entries.now ≤ 2 ^ 45 }
+    requires some { 0 < length row.ends.now }
+    requires values { (row.place + 1) * length row.ends.now ≤ max_values }
+    requires near { row.place ≤ 2 ^ 45 }
+    requires given { contents_here row.spec.now (cells_at row.place (subsets_of row.entries.now))
+        ≡ Ok (contents_drawn (row.spec.now.width / 8) drawn.now) }
+    requires all { AllDrawn row.spec.now drawn.now }
     requires range { IsRangeOf range drawn.now }
-    requires many { length drawn.now ≡ length ends.now }
-    requires room { length out.old.bits + (2046 + 504 * length ends.now) ≤ 2 ^ 63 }
-    ensures put { PutAcross out.old.bits out.new.bits spec.now
-        (item_row place (subsets_of entries.now))
-        (2046 + 504 * length ends.now) result }
-    ensures shape { IfOk result (λ t. IsFor spec.now t) }
+    requires many { length drawn.now ≡ length row.ends.now }
+    requires room { length out.old.bits + (2046 + 504 * length row.ends.now) ≤ 2 ^ 63 }
+    ensures put { PutAcross out.old.bits out.new.bits row.entry.spec.now
+        (item_row row.entry.place (subsets_of row.entry.entries.now))
+        (2046 + 504 * length row.entry.ends.now) result }
+    ensures shape { IfOk result (λ t. IsFor row.entry.spec.now t) }
 {
-    match pack(out, drawn, range, spec) {
-        Ok(()) => Ok(taken_of(drawn[0], spec)),
+    match pack(out, drawn, range, row.spec) {
+        Ok(()) => Ok(taken_of(drawn[0], row.spec)),
         Err(PackingFault::Unequal) => Err(DraftFault::UnequalFactor(unlike_line(
-            entries, ends, place, spec, drawn,
+            row.entries,
+            row.ends,
+            row.place,
+            row.spec,
+            drawn,
         ))),
-        Err(PackingFault::Uneven) => Err(DraftFault::Increment(first_line(entries, ends, place))),
+        Err(PackingFault::Uneven) => Err(DraftFault::Increment(first_line(
+            row.entries,
+            row.ends,
+            row.place,
+        ))),
         Err(PackingFault::Memory) => Err(DraftFault::Memory),
     }
 }
@@ -106,34 +109,29 @@ fn put_drawn(
 /// Writes the next item of all subsets.
 // rule: fault-order-of-subsets
 fn pack_next<'a>(
-    entries: &'a Entries,
-    ends: &[usize],
-    place: usize,
-    spec: &Spec,
-    found: &mut Vec<EntryRef<'a>>,
+    row: Row<'a, '_>,
     drawn: &mut Vec<FieldContent<'a>>,
     out: &mut BitWriter,
 ) -> Result<Taken, DraftFault>
-    requires ends { ends.now ≡ ends_of 0 entries.now }
-    requires few { length entries.now ≤ 2 ^ 45 }
-    requires some { 0 < length ends.now }
-    requires values { place * length ends.now ≤ max_values }
-    requires near { place ≤ 2 ^ 45 }
-    requires room { length out.old.bits + (2046 + 504 * length ends.now) ≤ 2 ^ 63 }
-    ensures put { PutAcross out.old.bits out.new.bits spec.now
-        (item_row place (subsets_of entries.now))
-        (2046 + 504 * length ends.now) result }
-    ensures shape { IfOk result (λ t. IsFor spec.now t) }
-    ensures values { IfOk result (λ t. (place + 1) * length ends.now ≤ max_values) }
+    requires ends { row.ends.now ≡ ends_of 0 row.entries.now }
+    requires few { length row.entries.now ≤ 2 ^ 45 }
+    requires some { 0 < length row.ends.now }
+    requires values { row.place * length row.ends.now ≤ max_values }
+    requires near { row.place ≤ 2 ^ 45 }
+    requires room { length out.old.bits + (2046 + 504 * length row.ends.now) ≤ 2 ^ 63 }
+    ensures put { PutAcross out.old.bits out.new.bits row.entry.spec.now
+        (item_row row.entry.place (subsets_of row.entry.entries.now))
+        (2046 + 504 * length row.entry.ends.now) result }
+    ensures shape { IfOk result (λ t. IsFor row.entry.spec.now t) }
+    ensures values { IfOk result
+        (λ t. (row.entry.place + 1) * length row.entry.ends.now ≤ max_values) }
 {
-    if (place as u64 + 1) * ends.len() as u64 > MAX_VALUES {
-        let line = first_line(entries, ends, place);
-        return Err(DraftFault::TooManyValues(line, spec.fxy()));
+    if (row.place as u64 + 1) * row.ends.len() as u64 > MAX_VALUES {
+        let line = first_line(row.entries, row.ends, row.place);
+        return Err(DraftFault::TooManyValues(line, row.spec.fxy()));
     }
-    match read_row(entries, ends, place, spec, found, drawn) {
-        Ok(range) => put_drawn(entries, ends, place, spec, drawn, range, out),
-        Err(why) => Err(why),
-    }
+    let range = read_row(row, drawn)?;
+    put_drawn(row, drawn, range, out)
 }
 
 impl<'s> PackedOut<'s> {
@@ -160,7 +158,6 @@ impl<'s> PackedOut<'s> {
             entries,
             ends,
             place: 0,
-            found: Vec::new(alloc),
             drawn: Vec::new(alloc),
             out: BitWriter::new(alloc),
         }))
@@ -194,7 +191,6 @@ impl<'s> PackedOut<'s> {
             entries: _,
             ends: _,
             place: _,
-            found: _,
             drawn: _,
             out,
         } = self;
@@ -218,15 +214,13 @@ impl<'s> Fields for PackedOut<'s> {
     ghost refuses = { λ s spec e next h. ap (λ c. length c.bits) h.1 };
 
     fn take(&mut self, spec: &Spec) -> Result<Taken, DraftFault> {
-        match pack_next(
-            self.entries,
-            &self.ends,
-            self.place,
+        let row = Row {
+            entries: self.entries,
+            ends: &self.ends,
             spec,
-            &mut self.found,
-            &mut self.drawn,
-            &mut self.out,
-        ) {
+            place: self.place,
+        };
+        match pack_next(row, &mut self.drawn, &mut self.out) {
             Ok(taken) => {
                 self.place += 1;
                 Ok(taken)

@@ -1,19 +1,27 @@
 //! The rows of compressed data: the entries of all subsets at one index.
-ghost use Rattle.std.specs.Prelude.{◌≡◌, ◌≤◌, ◌<◌, ◌+◌, ◌/◌, ◌^◌, ℕ, List, length, slice_get, get_or, Some, IfOk};
+ghost use Rattle.std.specs.Prelude.{◌≡◌, ◌≤◌, ◌<◌, ◌+◌, ◌/◌, ◌^◌, ℕ, length, slice_get, get_or, Some, IfOk};
 ghost use Rattle.bufr_fill.specs.Encoding.{RowCell, cells_at, unlike_line};
-ghost use Rattle.bufr_fill.specs.Entries.{Holds, subsets_of};
-ghost use Rattle.bufr_fill.specs.PackedRows.{begin_of, cell_entry, entry_here, LineAt, ReturnsContent, AreFound, AllDrawn, contents_drawn, ReturnsRow};
-ghost use Rattle.bufr_fill.specs.Given.{draft_in, entry_in};
-ghost use Rattle.bufr_fill.specs.Kept.{entry_found};
+ghost use Rattle.bufr_fill.specs.Entries.{subsets_of};
+ghost use Rattle.bufr_fill.specs.PackedRows.{begin_of, cell_entry, entry_here, LineAt, AllDrawn, contents_drawn, ReturnsRow};
+ghost use Rattle.bufr_fill.specs.FieldContent.{returned, content_drawn, IsDrawn};
+ghost use Rattle.bufr_fill.specs.Kept.{kept_entry};
 ghost use Rattle.bufr_fill.specs.PackedOut.{ends_of, first_line_at, EndsAllSubsets};
 
-use crate::draft::{DraftEntry, DraftItem};
-use crate::entries::{Entries, EntryRef};
-use crate::fault::{DraftFault, Expected, Wrong};
+use crate::entries::{Entries, KeptEntry};
+use crate::fault::{DraftFault, Expected};
 use crate::field_value::{FieldContent, field_content, wrong_item};
 use crate::packing::{NumberRange, is_same};
 use bufr_walk::Spec;
-use std::alloc::AllocError;
+
+/// A row that a field is written of: the entries of all subsets at an index. `ends` has the indices
+/// of the entries that end the subsets.
+#[derive(Clone, Copy)]
+pub(crate) struct Row<'a, 'b> {
+    pub(crate) entries: &'a Entries,
+    pub(crate) ends: &'b [usize],
+    pub(crate) spec: &'b Spec,
+    pub(crate) place: usize,
+}
 
 /// The index where a subset's entries begin, by the indices of the entries that end subsets.
 #[tactic(auto, using(crate::proofs::Places::begin_more, crate::proofs::Places::begin_none))]
@@ -29,31 +37,31 @@ fn begin_of(ends: &[usize], subset: usize) -> usize
 /// Finds a subset's entry at an index, counted from its first: its item, or its end where that
 /// comes first.
 #[inline(always)]
-fn find_at<'s>(entries: &'s Entries, ends: &[usize], subset: usize, place: usize) -> EntryRef<'s>
+fn find_at<'s>(entries: &'s Entries, ends: &[usize], subset: usize, place: usize) -> KeptEntry<'s>
     requires ends { ends.now ≡ ends_of 0 entries.now }
     requires few { length entries.now ≤ 2 ^ 45 }
     requires subset { subset < length ends.now }
     requires near { place ≤ 2 ^ 45 }
     ensures { (c : RowCell) → slice_get (cells_at place (subsets_of entries.now)) subset
-        ≡ Some c → entry_found result ≡ cell_entry c }
+        ≡ Some c → kept_entry result ≡ cell_entry c }
 {
     let start = begin_of(ends, subset);
-    match entries.find(ends[subset].min(start + place)) {
+    match entries.get(ends[subset].min(start + place)) {
         Some(found) => found,
         None => unreachable!(),
     }
 }
 
 /// A subset's entry at an index.
-fn entry_of<'s>(entries: &'s Entries, ends: &[usize], subset: usize, place: usize) -> DraftEntry<'s>
+fn entry_of<'s>(entries: &'s Entries, ends: &[usize], subset: usize, place: usize) -> KeptEntry<'s>
     requires ends { ends.now ≡ ends_of 0 entries.now }
     requires few { length entries.now ≤ 2 ^ 45 }
     requires subset { subset < length ends.now }
     requires near { place ≤ 2 ^ 45 }
     ensures { (c : RowCell) → slice_get (cells_at place (subsets_of entries.now)) subset
-        ≡ Some c → entry_in result ≡ cell_entry c }
+        ≡ Some c → kept_entry result ≡ cell_entry c }
 {
-    find_at(entries, ends, subset, place).entry()
+    find_at(entries, ends, subset, place)
 }
 
 /// The line of a subset's entry at an index.
@@ -65,70 +73,40 @@ fn line_at(entries: &Entries, ends: &[usize], subset: usize, place: usize) -> u6
     ensures { LineAt place subset entries.now result }
 {
     match entry_of(entries, ends, subset, place) {
-        DraftEntry::Item(item) => item.line,
-        DraftEntry::End(line) => line,
+        KeptEntry::Item(item) => item.line,
+        KeptEntry::End(line) => line,
     }
 }
 
-/// Converts an item to the content of its field, or its fault with the line.
-fn item_content<'a>(item: &DraftItem<'a>, spec: &Spec) -> Result<FieldContent<'a>, DraftFault>
-    ensures { ReturnsContent (spec.now.width / 8) spec.now
-        (entry_here spec.now (Holds (draft_in item.now))) result }
+/// Converts an entry to the content of its field.
+fn draw_found<'a>(found: KeptEntry<'a>, spec: &Spec) -> Result<FieldContent<'a>, DraftFault>
+    ensures is { returned (content_drawn (spec.now.width / 8)) result
+        ≡ Some (entry_here spec.now (kept_entry found.entry)) }
+    ensures drawn { IfOk result (λ d. IsDrawn spec.now d) }
 {
-    match field_content(item, spec) {
-        Ok(drawn) => Ok(drawn),
-        Err(why) => Err(why.at(item.line)),
+    match found {
+        KeptEntry::Item(item) => field_content(&item, spec),
+        KeptEntry::End(line) => Err(wrong_item(spec, line)),
     }
 }
 
-/// Converts an entry to the content of its field, or its fault with the line.
-fn draw_found<'a>(found: EntryRef<'a>, spec: &Spec) -> Result<FieldContent<'a>, DraftFault>
-    ensures { ReturnsContent (spec.now.width / 8) spec.now
-        (entry_here spec.now (entry_found found.entry)) result }
-{
-    match found.entry() {
-        DraftEntry::Item(item) => item_content(&item, spec),
-        DraftEntry::End(line) => Err(wrong_item(spec).at(line)),
-    }
-}
-
-/// Finds each subset's entry at an index. The entries are far apart in memory: reads of them one
-/// right after another wait together, and reads between those of the values would each wait.
-fn entries_of_row<'a>(
-    entries: &'a Entries,
-    ends: &[usize],
-    place: usize,
-    found: &mut Vec<EntryRef<'a>>,
-) -> Result<(), AllocError>
-    requires ends { ends.now ≡ ends_of 0 entries.now }
-    requires few { length entries.now ≤ 2 ^ 45 }
-    requires near { place ≤ 2 ^ 45 }
-    ensures { IfOk result
-        (λ _. AreFound (cells_at place (subsets_of entries.now)) found.new.items) }
-{
-    found.clear();
-    for subset in 0..ends.len() {
-        found.push(find_at(entries, ends, subset, place))?;
-    }
-    Ok(())
-}
-
-/// Converts a row to the contents of a field, and returns the range of the numbers among them.
-fn contents_of_row<'a>(
-    found: &[EntryRef<'a>],
-    spec: &Spec,
+/// Converts a row to the contents of its field, and returns the range of the numbers among them.
+pub(crate) fn read_row<'a>(
+    row: Row<'a, '_>,
     drawn: &mut Vec<FieldContent<'a>>,
 ) -> Result<NumberRange, DraftFault>
-    ensures { (cells : List RowCell) → AreFound cells found.now →
-        ReturnsRow (spec.now.width / 8) spec.now cells drawn.new.items result }
+    requires ends { row.ends.now ≡ ends_of 0 row.entries.now }
+    requires few { length row.entries.now ≤ 2 ^ 45 }
+    requires near { row.place ≤ 2 ^ 45 }
+    ensures { ReturnsRow (row.entry.spec.now.width / 8) row.entry.spec.now
+        (cells_at row.entry.place (subsets_of row.entry.entries.now)) drawn.new.items result }
 {
+    let spec = *row.spec;
     drawn.clear();
     let mut range = NumberRange::new();
-    for one in found {
-        let content = match draw_found(*one, spec) {
-            Ok(content) => content,
-            Err(why) => return Err(why),
-        };
+    for subset in 0..row.ends.len() {
+        let found = find_at(row.entries, row.ends, subset, row.place);
+        let content = draw_found(found, &spec)?;
         range = range.with(content);
         match drawn.push(content) {
             Ok(()) => {}
@@ -136,28 +114,6 @@ fn contents_of_row<'a>(
         }
     }
     Ok(range)
-}
-
-/// Converts the row at an index to the contents of a field, and returns the range of the numbers
-/// among them; `ends` has the indices of the entries that end the subsets.
-pub(crate) fn read_row<'a>(
-    entries: &'a Entries,
-    ends: &[usize],
-    place: usize,
-    spec: &Spec,
-    found: &mut Vec<EntryRef<'a>>,
-    drawn: &mut Vec<FieldContent<'a>>,
-) -> Result<NumberRange, DraftFault>
-    requires ends { ends.now ≡ ends_of 0 entries.now }
-    requires few { length entries.now ≤ 2 ^ 45 }
-    requires near { place ≤ 2 ^ 45 }
-    ensures { ReturnsRow (spec.now.width / 8) spec.now
-        (cells_at place (subsets_of entries.now)) drawn.new.items result }
-{
-    match entries_of_row(entries, ends, place, found) {
-        Ok(()) => contents_of_row(found, spec, drawn),
-        Err(_) => Err(DraftFault::Memory),
-    }
 }
 
 /// The line of the first subset whose content differs from that of the first subset.
@@ -205,10 +161,10 @@ pub(crate) fn all_at_end(entries: &Entries, ends: &[usize], place: usize) -> Res
 {
     for subset in 0..ends.len() {
         match entry_of(entries, ends, subset, place) {
-            DraftEntry::Item(item) => {
-                return Err(Wrong::Descriptor(Expected::EndOfSubset).at(item.line));
+            KeptEntry::Item(item) => {
+                return Err(DraftFault::WrongDescriptor(item.line, Expected::EndOfSubset));
             }
-            DraftEntry::End(_) => {}
+            KeptEntry::End(_) => {}
         }
     }
     Ok(())

@@ -8,7 +8,7 @@ ghost use Rattle.bufr_fill.specs.FieldContent.{content_drawn, spaced, IsDrawn};
 ghost use Rattle.bufr_fill.specs.PackedRows.{AllDrawn, contents_drawn, IsRangeOf, IsIncrementWidth};
 ghost use Rattle.bufr_fill.specs.declared.field_value.FieldContent.{FieldContent};
 ghost use Rattle.bufr_fill.specs.Packing.{raw_limit, same, same_octets, are_same, lowest, first_from, least_k, has_bits, has_octets, increment_bits, octet_bits, packed_bits, numbers_over, packed_numbers, packed_texts, packed_by, packed_unlike, packing};
-ghost use Rattle.bufr_fill.specs.Packs.{over_of, spread, lesser, number_in, trimmed, need, need_of, most_need, octet_in, PacksItem, FitsIncrement, AreShort, least_from};
+ghost use Rattle.bufr_fill.specs.Packs.{number_or, spread, trimmed, need, need_of, most_need, octet_in, PacksItem, FitsIncrement, AreShort, least_from};
 ghost use Rattle.bufr_walk.specs.Content.{bits_for};
 
 use crate::field_value::{FieldContent, is_all_255, raw_limit};
@@ -95,7 +95,7 @@ fn are_alike(
     ensures { result ≡ are_same (content_drawn (spec.now.width / 8) first.entry)
         (contents_drawn (spec.now.width / 8) drawn.now) }
 {
-    if range.least.unwrap_or(0) != range.greatest {
+    if range.base() != range.greatest {
         return false;
     }
     for other in drawn {
@@ -106,47 +106,36 @@ fn are_alike(
     true
 }
 
-/// The lesser of a number, if there is one, and of a content, if that is a number.
+/// The number of a content, or another where it is none.
 #[inline(always)]
-fn min_number(found: Option<u64>, drawn: FieldContent<'_>) -> Option<u64>
-    ensures { result ≡ lesser found (number_in drawn.entry) }
-{
-    match (found, drawn) {
-        (Some(least), FieldContent::Number(raw)) => Some(least.min(raw)),
-        (None, FieldContent::Number(raw)) => Some(raw),
-        (found, _) => found,
-    }
-}
-
-/// The number of a content, or 0.
-#[inline(always)]
-fn number_or_0(drawn: FieldContent<'_>) -> u64
-    ensures { result ≡ over_of 0 drawn.entry }
+fn number_or(other: u64, drawn: FieldContent<'_>) -> u64
+    ensures { result ≡ number_or other drawn.entry }
 {
     match drawn {
         FieldContent::Number(raw) => raw,
-        FieldContent::Text(_) | FieldContent::Missing | FieldContent::Reference(_) => 0,
+        FieldContent::Text(_) | FieldContent::Missing | FieldContent::Reference(_) => other,
     }
 }
 
-/// The least of the numbers of an item, if there is one, and the greatest, or 0.
+/// The least of the numbers of an item, or 2^64 - 1, and the greatest, or 0.
 #[derive(Clone, Copy)]
 pub(crate) struct NumberRange {
-    least: Option<u64>,
+    least: u64,
     greatest: u64,
 }
 
 impl NumberRange {
-    ghost use Rattle.std.specs.Prelude.{List, [], ◌∷◌, ◌++◌};
+    ghost use Rattle.std.specs.Prelude.{ℕ, List, ◌≡◌, [], ◌∷◌, ◌++◌, unwrap_or};
     ghost use Rattle.bufr_fill.specs.declared.field_value.FieldContent.{FieldContent};
-    ghost use Rattle.bufr_fill.specs.PackedRows.{IsRangeOf};
+    ghost use Rattle.bufr_fill.specs.PackedRows.{IsRangeOf, contents_drawn};
+    ghost use Rattle.bufr_fill.specs.Packing.{lowest};
 
     /// The range of no contents.
     pub(crate) fn new() -> NumberRange
         ensures { IsRangeOf result [] }
     {
         NumberRange {
-            least: None,
+            least: u64::MAX,
             greatest: 0,
         }
     }
@@ -158,8 +147,20 @@ impl NumberRange {
             → IsRangeOf result (contents ++ drawn.entry ∷ []) }
     {
         NumberRange {
-            least: min_number(self.least, drawn),
-            greatest: number_or_0(drawn).max(self.greatest),
+            least: number_or(u64::MAX, drawn).min(self.least),
+            greatest: number_or(0, drawn).max(self.greatest),
+        }
+    }
+
+    /// The least of the numbers, or 0.
+    fn base(self) -> u64
+        ensures { (count : ℕ) (contents : List FieldContent) → IsRangeOf self contents
+            → result ≡ unwrap_or (lowest (contents_drawn count contents)) 0 }
+    {
+        if self.least <= self.greatest {
+            self.least
+        } else {
+            0
         }
     }
 }
@@ -215,13 +216,13 @@ fn put_increments(out: &mut BitWriter, drawn: &[FieldContent<'_>], base: u64, k:
 fn increment_width(range: NumberRange, spec: &Spec) -> u32
     requires number { is_character spec.now.kind ≡ false }
     requires element { is_reference spec.now.role ≡ false }
-    ensures { (contents : List FieldContent) → AllDrawn spec.now contents
-        → IsRangeOf range contents
-        → IsIncrementWidth spec.now (unwrap_or range.least 0) contents result }
+    ensures { (count : ℕ) (contents : List FieldContent) → AllDrawn spec.now contents
+        → IsRangeOf range contents → IsIncrementWidth spec.now
+        (unwrap_or (lowest (contents_drawn count contents)) 0) contents result }
 {
     // For the proof alone: a number has at most 63 bits.
     let _width = spec.width();
-    let most = range.greatest.saturating_sub(range.least.unwrap_or(0));
+    let most = range.greatest.saturating_sub(range.base());
     least_bits(most, spec.may_be_missing())
 }
 
@@ -242,7 +243,7 @@ fn pack_numbers(
         (contents_drawn (spec.now.width / 8) drawn.now)) (69 + 63 * length drawn.now) result }
 {
     let width = spec.width();
-    let base = range.least.unwrap_or(0);
+    let base = range.base();
     let k = increment_width(range, spec);
     out.reserve(u64::from(width) + 6 + drawn.len() as u64 * u64::from(k))?;
     out.put(base, width);

@@ -1,9 +1,7 @@
 //! The writer of data that are not compressed, from the items of a dump text.
-ghost use Rattle.std.specs.Prelude.{◌≡◌, ◌≤◌, ◌+◌, ◌^◌, length};
 
-use crate::draft::DraftEntry;
-use crate::entries::Entries;
-use crate::fault::{DraftFault, Expected, Wrong};
+use crate::entries::{Entries, KeptEntry};
+use crate::fault::{DraftFault, Expected};
 use crate::field_value::{FieldContent, field_content, wrong_item};
 use crate::put::{push_content, taken_of};
 use bufr_bits::BitWriter;
@@ -40,7 +38,7 @@ impl<'s> Model for PlainOut<'s> {
 }
 
 impl<'s> PlainOut<'s> {
-    ghost use Rattle.std.specs.Prelude.{◌≡◌, ◌≤◌, ◌+◌, ◌/◌, ◌^◌, ◌++◌, [], length, vec_len, MatchResult};
+    ghost use Rattle.std.specs.Prelude.{◌≡◌, ◌≤◌, ◌+◌, ◌/◌, ◌^◌, ◌++◌, [], length, vec_len};
     ghost use Rattle.bufr_bits.specs.Bits.{bits_of, padding};
     ghost use Rattle.bufr_fill.specs.PlainOut.{plain_out_model, line_at, EndsSubset};
 
@@ -62,8 +60,8 @@ impl<'s> PlainOut<'s> {
         ensures { result ≡ line_at self.now.left }
     {
         match self.entries.get(self.place) {
-            Some(DraftEntry::Item(item)) => item.line,
-            Some(DraftEntry::End(line)) => line,
+            Some(KeptEntry::Item(item)) => item.line,
+            Some(KeptEntry::End(line)) => line,
             None => 0,
         }
     }
@@ -77,14 +75,15 @@ impl<'s> PlainOut<'s> {
     pub fn end_subset(&mut self) -> Result<(), DraftFault>
         ensures { EndsSubset self.old result self.new }
     {
-        let wrong = Wrong::Descriptor(Expected::EndOfSubset);
         match self.entries.get(self.place) {
-            Some(DraftEntry::End(_)) => {
+            Some(KeptEntry::End(_)) => {
                 self.place += 1;
                 Ok(())
             }
-            Some(DraftEntry::Item(item)) => Err(wrong.at(item.line)),
-            None => Err(wrong.at(0)),
+            Some(KeptEntry::Item(item)) => {
+                Err(DraftFault::WrongDescriptor(item.line, Expected::EndOfSubset))
+            }
+            None => Err(DraftFault::WrongDescriptor(0, Expected::EndOfSubset)),
         }
     }
 
@@ -122,14 +121,11 @@ impl<'s> Fields for PlainOut<'s> {
     #[inline(always)]
     fn take(&mut self, spec: &Spec) -> Result<Taken, DraftFault> {
         let item = match self.entries.get(self.place) {
-            Some(DraftEntry::Item(item)) => item,
-            Some(DraftEntry::End(line)) => return Err(wrong_item(spec).at(line)),
-            None => return Err(wrong_item(spec).at(0)),
+            Some(KeptEntry::Item(item)) => item,
+            Some(KeptEntry::End(line)) => return Err(wrong_item(spec, line)),
+            None => return Err(wrong_item(spec, 0)),
         };
-        let drawn = match field_content(&item, spec) {
-            Ok(drawn) => drawn,
-            Err(why) => return Err(why.at(item.line)),
-        };
+        let drawn = field_content(&item, spec)?;
         match push_content(&mut self.out, drawn, spec) {
             Ok(()) => {
                 self.place += 1;

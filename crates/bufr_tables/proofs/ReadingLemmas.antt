@@ -14,7 +14,7 @@ use Rattle.csv.specs.declared.parser.Action.{Action}
 use Rattle.csv.specs.declared.reader.Reader.{Reader}
 use Rattle.bufr_tables.specs.Records.{Record}
 use Rattle.bufr_tables.specs.Reading.{GivesNext, IsBetween, count_of, record_given, records_after, text_left}
-use Rattle.bufr_tables.specs.declared.records.RecordReader.{RecordReader}
+use Rattle.bufr_tables.specs.declared.rows.RecordReader.{RecordReader}
 
 -- after the octet that ends a record no record has begun
 after_end-between : (t : Terminator) (c : ℕ) → ends_at_end (after_end t c) ≡ false

@@ -10,7 +10,7 @@ use Rattle.bufr_tables.specs.Directory.{place_of}
 use Rattle.bufr_tables.specs.Fxy.{f_of, key_of}
 use Rattle.bufr_tables.specs.Runs.{IsMemberRange, LastEnds, run_key, sequence_kept, sequences_kept}
 use Rattle.bufr_tables.specs.TableD.{Sequence, extended, fxys_of, is_last, members_of}
-use Rattle.bufr_tables.specs.declared.sequences.MemberRange.{MemberRange}
+use Rattle.bufr_tables.specs.declared.table_d.MemberRange.{MemberRange}
 
 abbrev pub IsSequence : MemberRange → Type 0
 IsSequence run = (49152 ≤ run.fxy) × (run.fxy < 65536)

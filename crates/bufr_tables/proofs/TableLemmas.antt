@@ -8,7 +8,7 @@ use Rattle.bufr_tables.specs.Reading.{GivesNext, IsOpened, record_given, records
 use Rattle.bufr_tables.specs.Table.{has_fields, has_header, table_from, table_of}
 use Rattle.bufr_tables.specs.declared.fault.TableFault.{TableFault}
 use Rattle.bufr_tables.specs.declared.fault.TableFault.TheVariants.{Header}
-use Rattle.bufr_tables.specs.declared.records.RecordReader.{RecordReader}
+use Rattle.bufr_tables.specs.declared.rows.RecordReader.{RecordReader}
 
 -- records of other lengths
 pub other-length : (names : List (Bor (List ℕ))) (r : Record) → (length r ≡ length names → ⊥) → has_fields (field_texts names) r ≡ false

@@ -3,7 +3,7 @@
 use Rattle.std.specs.Prelude.{ℕ, ◌+◌, ◌-◌, ◌≡◌, ◌≢◌, max, Bool, false, ◌||◌, List, [], ◌∷◌, ◌++◌, length, slice_set, Result, Ok, Err}
 use Rattle.bufr_tables.specs.declared.template.cell.Cell.{Cell}
 use Rattle.bufr_tables.specs.declared.template.cell.Cell.TheVariants as cell
-use Rattle.bufr_tables.specs.declared.template.passes.Passes.{Passes}
+use Rattle.bufr_tables.specs.declared.template.expand.Passes.{Passes}
 use Rattle.bufr_tables.specs.declared.template.fault.TemplateFault.{TemplateFault}
 use Rattle.bufr_tables.specs.declared.template.fault.TemplateFault.TheVariants as fault
 use Rattle.bufr_tables.specs.Tree.{Tree, depth, consumes}
@@ -11,8 +11,8 @@ use Rattle.bufr_tables.specs.Cells.{cells_of}
 use Rattle.bufr_tables.specs.Passes.{own_places, first_cell, factor_cells}
 use Rattle.bufr_tables.specs.Expansion.{ExpandedPart, part, with_places, ◌>>=◌}
 
--- the cells so far, how many groups are open after them, and the most that were open together; and
--- whether a node of the innermost open list takes bits
+-- the cells so far, how many groups are open after them, and the most that were open together.
+-- Whether a node of the innermost open list takes bits
 pub record BuilderModel : Type 0 where
   pub cells : List Cell
   pub groups : ℕ

@@ -3,8 +3,8 @@
 use Rattle.std.specs.Prelude.{ℕ, List, [], ◌∷◌}
 use Rattle.bufr_tables.specs.declared.template.cell.Cell.{Cell}
 use Rattle.bufr_tables.specs.declared.template.cell.Cell.TheVariants as cell
-use Rattle.bufr_tables.specs.declared.template.passes.Passes.{Passes}
-use Rattle.bufr_tables.specs.declared.template.passes.Passes.TheVariants as passes
+use Rattle.bufr_tables.specs.declared.template.expand.Passes.{Passes}
+use Rattle.bufr_tables.specs.declared.template.expand.Passes.TheVariants as passes
 use Rattle.bufr_tables.specs.Tree.{Tree, bare, fixed, delayed}
 
 -- the places of a group beside those of its body

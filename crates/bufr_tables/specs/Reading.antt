@@ -10,7 +10,7 @@ use Rattle.csv.specs.declared.reader.Reader.{Reader}
 use Rattle.csv.specs.declared.reader.Trim.TheVariants as trim
 use Rattle.bufr_tables.specs.Records.{Record}
 use Rattle.bufr_tables.specs.Table.{has_header}
-use Rattle.bufr_tables.specs.declared.records.RecordReader.{RecordReader}
+use Rattle.bufr_tables.specs.declared.rows.RecordReader.{RecordReader}
 
 -- the octets after the records that were given
 abbrev pub text_left : Reader (Bor (List ℕ)) → Option (List ℕ)

@@ -4,8 +4,8 @@ use Rattle.std.specs.Prelude.{◌≡◌, ℕ, ◌≤◌, ◌<◌, List, [], ◌�
 use Rattle.std.specs.List.{AllByRecursion}
 use Rattle.bufr_tables.specs.Fxy.{key_of}
 use Rattle.bufr_tables.specs.TableD.{Sequence}
-use Rattle.bufr_tables.specs.declared.sequences.MemberRange.{MemberRange}
-use Rattle.bufr_tables.specs.declared.sequences.TableD.TheInside.{Inside}
+use Rattle.bufr_tables.specs.declared.table_d.MemberRange.{MemberRange}
+use Rattle.bufr_tables.specs.declared.table_d.TableD.TheInside.{Inside}
 
 -- the sequence of a run of members
 abbrev pub sequence_kept : List ℕ → MemberRange → Sequence

@@ -4,11 +4,10 @@
 //! sequences. A list of descriptors is expanded to a [`Template`], the tree that says what a
 //! message's data hold.
 //!
-//! `bufr_cli` reads the two tables once. `bufr_cli` asks [`SelectedTemplate`] for the template of
-//! each message that it dumps, which keeps the last one, for messages that repeat their
-//! descriptors; `bufr_text` builds one for each document that it encodes. `bufr_walk` goes through
-//! the cells of the template, and asks Table B for each element. The tests `elements`, `sequences`,
-//! `cells_of_worked_lists` and `lists_that_are_repeated` show it.
+//! `bufr_cli` reads the two tables once. `TemplateCache` of `bufr_walk` asks [`SelectedTemplate`]
+//! for the template of each message and document. `bufr_walk` goes through its cells, and asks
+//! Table B for each element. The tests `elements`, `sequences`, `cells_of_templates` and
+//! `lists_of_descriptors` show it.
 #![tactic(auto)]
 
 mod cycle;
@@ -16,11 +15,8 @@ mod fault;
 mod fxy;
 mod index;
 mod kind;
-mod number;
-mod ranks;
-mod records;
+mod rows;
 mod selected_template;
-mod sequences;
 mod table_b;
 mod table_d;
 mod template;
@@ -29,6 +25,6 @@ pub use fault::TableFault;
 pub use fxy::Fxy;
 pub use kind::Kind;
 pub use selected_template::SelectedTemplate;
-pub use sequences::TableD;
 pub use table_b::{Entry, TableB};
+pub use table_d::TableD;
 pub use template::{Cell, Template, TemplateFault};

@@ -1,4 +1,4 @@
-//! Templates by two tables, of which the last one is kept: the messages of an archive repeat their
+//! Templates by two tables, of which the last one is kept. Messages of an archive repeat their
 //! descriptors, and few of them can make a template of many places.
 ghost use Rattle.std.specs.Prelude.{◌≡◌, ◌≢◌, ◌≤◌, [], true, false, IfErr, IfOk, OnOk, is_some};
 ghost use Rattle.bufr_tables.specs.TableB.{entry_of};
@@ -13,8 +13,8 @@ ghost use Rattle.bufr_tables.specs.TemplateTables.{tables_of};
 ghost use Rattle.bufr_tables.specs.Templates.{IsAnswer};
 
 use crate::fxy::Fxy;
-use crate::sequences::TableD;
 use crate::table_b::TableB;
+use crate::table_d::TableD;
 use crate::template::{Template, TemplateFault};
 use std::alloc::{AllocError, Global};
 use std::marker::Model;

@@ -1,16 +1,95 @@
-//! Table D read from CSV, and refused where a sequence reaches itself.
+//! Table D, the sequences, read from CSV, and refused where a sequence reaches itself.
+ghost use Rattle.std.specs.Prelude.{◌≡◌, ◌≢◌, ◌≤◌, ◌<◌, [], ◌∷◌, ◌++◌, None, length, slice_index, OnOk, IfErr, IfOk, IfSome, is_some, option_map, Ok, Err};
+ghost use Rattle.csv.specs.Records.{fields_of};
+ghost use Rattle.bufr_tables.specs.declared.fault.TableFault.TheVariants.{Memory};
+ghost use Rattle.bufr_tables.specs.Chain.{ReadsTableD};
+ghost use Rattle.bufr_tables.specs.MemberRow.{member_with};
+ghost use Rattle.bufr_tables.specs.Records.{records_of};
+ghost use Rattle.bufr_tables.specs.Steps.{ReturnsUnlessMemory};
+ghost use Rattle.bufr_tables.specs.TableD.{AreSequences, extended, fxys_of, is_last, members_or_none, member_of, members_of, sequence_of, table_d_of, with_record_d};
 
 use crate::cycle::first_cycle;
 use crate::fault::TableFault;
-use crate::sequences::TableD;
-use std::alloc::Global;
+use crate::fxy::Fxy;
+use crate::index::FxyIndex;
+use crate::rows::{RecordReader, field};
+use csv::ByteRecord;
+use std::alloc::{AllocError, Global};
+use std::marker::Model;
+
+/// The fields of the header.
+const HEADER: [&[u8]; 2] = [b"fxy", b"member"];
+
+/// How many rows the table may have.
+const ROWS: u64 = 65536;
+
+/// The descriptor of a sequence.
+#[tactic(auto, unfolding(crate::specs::TableD::sequence_of))]
+fn read_sequence(text: &[u8]) -> Option<Fxy>
+    ensures value { result ≡ sequence_of text.now }
+    ensures sequence { IfSome result (λ fxy. (49152 ≤ fxy) × (fxy < 65536)) }
+{
+    let fxy = Fxy::read(text)?;
+    if fxy.f() != 3 {
+        return None;
+    }
+    Some(fxy)
+}
+
+/// The sequence and the member that a record writes, where it writes a row.
+#[tactic(auto, unfolding(crate::specs::TableD::member_of))]
+// rule: fault-41-of-table-d
+fn row(fields: &ByteRecord) -> Option<(Fxy, Fxy)>
+    ensures value { option_map (λ p. member_with p.0 p.1) result
+        ≡ member_of (fields_of fields.now) }
+    ensures sequence { IfSome result (λ p. (49152 ≤ p.0) × (p.0 < 65536)) }
+{
+    let sequence = read_sequence(field(fields, 0))?;
+    let member = Fxy::read(field(fields, 1))?;
+    Some((sequence, member))
+}
+
+/// The members of a sequence, from `start` to `end` of all members.
+#[derive(Clone, Copy)]
+struct MemberRange {
+    fxy: Fxy,
+    start: usize,
+    end: usize,
+}
+
+/// Table D: the sequences, by their descriptors.
+///
+/// A clause sees the table as the list of its sequences, in the order of the file.
+///
+/// ```
+/// let text = b"fxy,member\n360192,001001\n360192,012101\n";
+/// let table = TableD::read(rt.alloc(), text)?;
+/// let members = table.members(Fxy::from_word(0xfcc0)).ok_or("lacks the sequence")?;
+/// assert_eq!(rt; members.len(), 2);
+/// ```
+#[derive(Drop)]
+pub struct TableD {
+    /// The members of all sequences, one after another.
+    members: Vec<Fxy>,
+    runs: Vec<MemberRange>,
+    /// X and Y of the sequences of `runs`.
+    directory: FxyIndex,
+}
+
+impl Model for TableD {
+    ghost use Rattle.std.specs.Prelude.{List};
+    ghost use Rattle.bufr_tables.specs.TableD.{Sequence};
+
+    ghost Value = { List Sequence };
+
+    ghost use Rattle.bufr_tables.specs.Runs.{IsTableD, table_d_rows};
+
+    ghost view = { table_d_rows };
+
+    ghost invariant = { IsTableD };
+}
 
 impl TableD {
-    ghost use Rattle.std.specs.Prelude.{IfOk};
-    ghost use Rattle.bufr_tables.specs.Chain.{ReadsTableD};
-    ghost use Rattle.bufr_tables.specs.Records.{records_of};
-    ghost use Rattle.bufr_tables.specs.TableD.{AreSequences};
-
     /// Reads Table D from the octets of a CSV file.
     ///
     /// Its header is `fxy,member`. Each further record is one member of a sequence: `fxy` six
@@ -32,5 +111,144 @@ impl TableD {
             Some(sequence) => Err(TableFault::Cycle(sequence)),
             None => Ok(table),
         }
+    }
+
+    /// Reads the rows, whatever sequences reach themselves.
+    // rule: first-record-decides
+    pub(crate) fn read_rows(alloc: Global, text: &[u8]) -> Result<TableD, TableFault>
+        ensures { ReturnsUnlessMemory (table_d_of (records_of text.now)) result }
+    {
+        let mut records = RecordReader::open(alloc, text, &HEADER)?;
+        let mut table = TableD {
+            members: Vec::new(alloc),
+            runs: Vec::new(alloc),
+            directory: FxyIndex::new(alloc)?,
+        };
+        while records.advance()? {
+            table.add(records.number(), records.record())?;
+        }
+        Ok(table)
+    }
+
+    /// The members of a sequence in order, if the table has it.
+    pub fn members(&self, fxy: Fxy) -> Option<&[Fxy]>
+        ensures { option_map (λ s. s.now) result ≡ members_of self.now fxy }
+    {
+        let directory = &self.directory;
+        if fxy.f() != 3 {
+            return None;
+        }
+        let place = directory.place(fxy.key())?;
+        let run = &self.runs[place];
+        Some(&self.members[run.start..run.end])
+    }
+
+    /// The members of a sequence in order, or none where the table lacks it.
+    pub(crate) fn members_or_none(&self, fxy: Fxy) -> &[Fxy]
+        ensures { result.now ≡ members_or_none self.now fxy }
+    {
+        self.members(fxy).unwrap_or(&[])
+    }
+
+    /// Whether a descriptor is a sequence of the table.
+    pub(crate) fn is_sequence(&self, fxy: Fxy) -> bool
+        ensures { result ≡ is_some (members_of self.now fxy) }
+    {
+        self.members(fxy).is_some()
+    }
+
+    /// How many sequences the table has.
+    pub(crate) fn count(&self) -> usize
+        ensures { result ≡ length self.now }
+    {
+        self.runs.len()
+    }
+
+    /// How many turns it takes at most to look at every row and every sequence.
+    pub(crate) fn turns(&self) -> usize {
+        self.members
+            .len()
+            .saturating_add(self.runs.len().saturating_mul(2))
+    }
+
+    /// The descriptor of the sequence at a place of the file, counted from 0.
+    pub(crate) fn sequence_at(&self, place: usize) -> Fxy
+        requires { place < length self.now }
+        ensures { result ≡ slice_index (fxys_of self.now) place }
+    {
+        self.runs[place].fxy
+    }
+
+    /// Adds the row of record `number`.
+    #[tactic(auto, unfolding(crate::specs::TableD::with_record_d, crate::specs::TableD::added))]
+    // rule: fault-42, fault-44, fault-45
+    fn add(&mut self, number: u64, fields: &ByteRecord) -> Result<(), TableFault>
+        ensures ok { OnOk result
+            (with_record_d number self.old (fields_of fields.now) ≡ Ok self.new) }
+        ensures err { IfErr result
+            (λ e. (e ≢ Memory) → with_record_d number self.old (fields_of fields.now) ≡ Err e) }
+    {
+        if fields.len() != 2 {
+            return Err(TableFault::Csv);
+        }
+        let Some((sequence, member)) = row(fields) else {
+            return Err(TableFault::Row(number));
+        };
+        let continues = self.is_last(sequence);
+        if !continues && self.is_sequence(sequence) {
+            return Err(TableFault::Duplicate(sequence));
+        }
+        if number.saturating_sub(2) >= ROWS {
+            return Err(TableFault::TableSize);
+        }
+        if continues {
+            self.extend(member)?;
+        } else {
+            self.begin(sequence, member)?;
+        }
+        Ok(())
+    }
+
+    /// Whether the last sequence is this one.
+    fn is_last(&self, sequence: Fxy) -> bool
+        ensures { result ≡ is_last self.now sequence }
+    {
+        match self.runs.last() {
+            Some(run) => run.fxy == sequence,
+            None => false,
+        }
+    }
+
+    /// Adds a member to the last sequence.
+    fn extend(&mut self, member: Fxy) -> Result<(), AllocError>
+        requires { self.old ≢ [] }
+        ensures ok { OnOk result (self.new ≡ extended self.old member) }
+    {
+        let last = self.runs.len() - 1;
+        self.members.push(member)?;
+        self.runs[last].end += 1;
+        Ok(())
+    }
+
+    /// Adds a sequence that the table lacks, with one member.
+    fn begin(&mut self, sequence: Fxy, member: Fxy) -> Result<(), AllocError>
+        requires low { 49152 ≤ sequence }
+        requires high { sequence < 65536 }
+        requires absent { members_of self.old sequence ≡ None }
+        ensures ok { OnOk result
+            (self.new ≡ self.old ++ record { fxy = sequence; members = member ∷ [] } ∷ []) }
+    {
+        self.runs.reserve(1)?;
+        let start = self.members.len();
+        self.members.push(member)?;
+        self.runs
+            .push(MemberRange {
+                fxy: sequence,
+                start,
+                end: start + 1,
+            })
+            .unwrap();
+        self.directory.add(sequence.key());
+        Ok(())
     }
 }

@@ -13,20 +13,15 @@ ghost use Rattle.bufr_tables.specs.Expansion.{tree_of};
 ghost use Rattle.bufr_tables.specs.TemplateTables.{tables_of};
 
 mod cell;
-mod expander;
+mod expand;
 mod fault;
-mod growing;
-mod passes;
-mod shapes;
 
 use crate::fxy::Fxy;
-use crate::sequences::TableD;
 use crate::table_b::TableB;
+use crate::table_d::TableD;
 pub use cell::Cell;
-use expander::Expander;
+use expand::{Expander, TemplateBuilder, first_of, push_cell};
 pub use fault::TemplateFault;
-use growing::{TemplateBuilder, push_cell};
-use shapes::first_of;
 use std::alloc::Global;
 use std::marker::Model;
 
@@ -122,9 +117,13 @@ impl Template {
         ensures within { IfOk result (λ template. places_of template ≤ 65535) }
         ensures shallow { IfOk result (λ template. depth_of template ≤ 32) }
     {
-        let expander = Expander { table_b, table_d };
+        let expander = Expander {
+            table_b,
+            table_d,
+            room: MAX_OPEN,
+        };
         let mut growing = TemplateBuilder::with_room(alloc, descriptors.len())?;
-        expander.list(descriptors, MAX_OPEN, &mut growing)?;
+        expander.list(descriptors, &mut growing)?;
         if !growing.consumes {
             return Err(TemplateFault::EmptyGroup(first_of(descriptors)));
         }

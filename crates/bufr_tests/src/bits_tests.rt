@@ -3,8 +3,8 @@ ghost use Rattle.std.specs.Prelude.{◌≤◌, length};
 
 use crate::support::{Runtime, assert_same, joined, ok, repeated};
 use bufr_bits::{
-    BitSlice, BitWriter, Device, End, Failed, NumberFault, ScriptIn, ScriptOut, Sink, Source,
-    decimal_read, decimal_text,
+    BitSlice, BitWriter, Device, End, Failed, NumberFault, ScriptIn, ScriptOut, ShortDecimal, Sink,
+    Source, decimal_read, decimal_text,
 };
 use std::io::{self, Read, Write};
 
@@ -152,7 +152,6 @@ fn pushed_at_each_width(rt: &impl Runtime) -> BitWriter {
     writer
 }
 
-/// Asserts the values of a width and the nine octets at a bit. Returns the next bit.
 fn assert_width(rt: &impl Runtime, octets: &[u8], at: u64, width: u32) -> u64
     requires few { length octets.now ≤ 100000 }
     requires narrow { width ≤ 63 }
@@ -286,7 +285,6 @@ fn push_text(rt: &impl Runtime, v: i128, scale: i16, out: &mut Vec<u8>) {
     ok(rt, decimal_text(v, scale, out));
 }
 
-/// Asserts that a number has this text at a scale, also after itself, and that it is read back.
 fn assert_text(rt: &impl Runtime, v: i128, scale: i16, want: &[u8]) {
     let mut out = Vec::new(rt.alloc());
     push_text(rt, v, scale, &mut out);
@@ -312,7 +310,6 @@ const ENDS_OF_NUMBERS: &[(i128, &[u8], &[u8])] = &[
     (i128::MAX, b"", b"170141183460469231731687303715884105727"),
 ];
 
-/// Asserts the texts of a number of 39 digits at the ends of the scales.
 fn assert_long_texts(rt: &impl Runtime, v: i128, sign: &[u8], digits: &[u8]) {
     let zeros = repeated(rt, b"0", 300);
     assert_text(rt, v, -300, &joined(rt, &[sign, digits, &zeros]));
@@ -386,5 +383,34 @@ fn decimal_readings(rt: HostRuntime) {
         for (text, scale) in *texts {
             assert_read(&rt, text, *scale, Err(*fault));
         }
+    }
+}
+
+/// Texts, and how many octets write the short decimal that comes first in each, or none.
+#[rattlefmt::skip]
+const PREFIXES: &[(&[u8], usize)] = &[
+    (b"0", 1), (b"10  # K", 2), (b"-0.50 ", 5), (b"0.05x", 4), (b"1-2", 1), (b"1.5.", 3),
+    (b"999999999999999999", 18), (b"0.99999999999999999", 19),
+    (b"12345678901234567890", 19), (b"123456789012345678.5", 0),
+    (b"", 0), (b"-", 0), (b"MISSING", 0), (b"00", 0), (b"01.5", 0), (b"-0", 0), (b"-0.0", 0),
+    (b".5", 0), (b"1.", 0), (b"1. ", 0),
+];
+
+/// The number that a short decimal writes, read as its text.
+fn assert_prefix(rt: &impl Runtime, text: &[u8], want: usize) {
+    let Some((number, len)) = ShortDecimal::prefix(text) else {
+        return assert_same(rt, &want, &0, &text);
+    };
+    assert_same(rt, &len, &want, &text);
+    for scale in [-1, 0, 1, 2, 20] {
+        let read = decimal_read(&text[..len], scale);
+        assert_same(rt, &number.scaled(scale), &read, &(text, scale));
+    }
+}
+
+#[test]
+fn short_decimals(rt: HostRuntime) {
+    for (text, want) in PREFIXES {
+        assert_prefix(&rt, text, *want);
     }
 }

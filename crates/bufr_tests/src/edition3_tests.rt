@@ -1,57 +1,41 @@
 //! Messages of edition 3, read and written.
 
-use crate::encode_tests::octets_for;
 use crate::messages::{EDITION_3, EDITION_3_ODD, ONE_BLOCK_NUMBER, line_of_one, text_of_one};
 use crate::runs::Command::{Dump, Encode, EncodeIn, Ls};
-use crate::runs::{accepted, assert_cut_anywhere, assert_run, refused, run_whole};
-use crate::support::{Runtime, assert_same, assert_that, from_hex, joined, ok};
-use crate::text_tests::assert_dumped;
+use crate::runs::{accepted, assert_run, refused, run_whole};
+use crate::support::{Runtime, assert_that, from_hex, joined, ok};
 use bufr_text::Form;
 
-/// A message of edition 3 with one block number.
-struct Layout {
-    name: &'static str,
-    /// Whether there is a section 2.
-    optional: u8,
-    /// The lines of sections 1 and 2.
-    local: &'static str,
-    /// Whether its text is encoded to its octets, or to those of `EDITION_3`.
-    is_even: bool,
-    /// Hexadecimal digits.
-    octets: &'static str,
-}
+/// A message of edition 3 with one block number: a name, whether it has a section 2, and the lines
+/// of sections 1 and 2. Then whether its text is encoded to its octets, else to those of
+/// `EDITION_3`, and its octets after the word.
+type Layout = (&'static str, u8, &'static str, bool, &'static str);
 
 #[rattlefmt::skip]
 static LAYOUTS: &[Layout] = &[
-    Layout { name: "even sections", optional: 0, local: "local1 00\n", is_even: true,
-        octets: "425546520000 2E03 000012000062000000000E001801020304 00 \
-        00000A00000180010100 000006001400 37373737" },
-    Layout { name: "odd sections 3 and 4", optional: 0, local: "local1 00\n", is_even: false,
-        octets: "425546520000 2C03 000012000062000000000E001801020304 00 \
-        000009000001800101 0000050014 37373737" },
-    Layout { name: "an odd section 3", optional: 0, local: "local1 00\n", is_even: false,
-        octets: "425546520000 2D03 000012000062000000000E001801020304 00 \
-        000009000001800101 000006001400 37373737" },
-    Layout { name: "an odd section 4", optional: 0, local: "local1 00\n", is_even: false,
-        octets: "425546520000 2D03 000012000062000000000E001801020304 00 \
-        00000A00000180010100 0000050014 37373737" },
-    Layout { name: "octets after the data", optional: 0, local: "local1 00\n", is_even: false,
-        octets: "425546520000 3003 000012000062000000000E001801020304 00 \
-        00000A00000180010100 0000080014FFFFFF 37373737" },
-    Layout { name: "no octet for local use", optional: 0, local: "", is_even: true,
-        octets: "425546520000 2D03 000011000062000000000E001801020304 \
-        00000A00000180010100 000006001400 37373737" },
-    Layout { name: "two octets for local use", optional: 0, local: "local1 ABCD\n", is_even: true,
-        octets: "425546520000 2F03 000013000062000000000E001801020304 ABCD \
-        00000A00000180010100 000006001400 37373737" },
-    Layout { name: "an odd section 2", optional: 1, local: "local1 00\nsection2 01\n",
-        is_even: true,
-        octets: "425546520000 3303 000012000062008000000E001801020304 00 0000050001 \
-        00000A00000180010100 000006001400 37373737" },
-    Layout { name: "an even section 2", optional: 1, local: "local1 00\nsection2 0102\n",
-        is_even: true,
-        octets: "425546520000 3403 000012000062008000000E001801020304 00 000006000102 \
-        00000A00000180010100 000006001400 37373737" },
+    ("even sections", 0, "local1 00\n", true,
+        "00002E03 000012000062000000000E001801020304 00 00000A00000180010100 000006001400 \
+        37373737"),
+    ("odd sections 3 and 4", 0, "local1 00\n", false,
+        "00002C03 000012000062000000000E001801020304 00 000009000001800101 0000050014 37373737"),
+    ("an odd section 3", 0, "local1 00\n", false,
+        "00002D03 000012000062000000000E001801020304 00 000009000001800101 000006001400 37373737"),
+    ("an odd section 4", 0, "local1 00\n", false,
+        "00002D03 000012000062000000000E001801020304 00 00000A00000180010100 0000050014 37373737"),
+    ("octets after the data", 0, "local1 00\n", false,
+        "00003003 000012000062000000000E001801020304 00 00000A00000180010100 0000080014FFFFFF \
+        37373737"),
+    ("no octet for local use", 0, "", true,
+        "00002D03 000011000062000000000E001801020304 00000A00000180010100 000006001400 37373737"),
+    ("two octets for local use", 0, "local1 ABCD\n", true,
+        "00002F03 000013000062000000000E001801020304 ABCD 00000A00000180010100 000006001400 \
+        37373737"),
+    ("an odd section 2", 1, "local1 00\nsection2 01\n", true,
+        "00003303 000012000062008000000E001801020304 00 0000050001 00000A00000180010100 \
+        000006001400 37373737"),
+    ("an even section 2", 1, "local1 00\nsection2 0102\n", true,
+        "00003403 000012000062008000000E001801020304 00 000006000102 00000A00000180010100 \
+        000006001400 37373737"),
 ];
 
 /// The lines of a dump up to the minute.
@@ -77,23 +61,21 @@ fn text_of_even(rt: &impl Runtime) -> String {
     text_with(rt, 0, "local1 00\n")
 }
 
-/// Asserts what a message is dumped to, and what that is encoded to.
 fn assert_round(rt: &impl Runtime, name: &str, message: &[u8], text: &str, again: &[u8]) {
-    assert_dumped(rt, name, message, text);
-    let text = text.as_bytes();
-    assert_run(rt, accepted(Dump, name, message, text));
-    let encoded = octets_for(rt, text);
-    assert_same(rt, &encoded.as_slice(), &again, &name);
-    assert_run(rt, accepted(Encode, name, text, again))
+    assert_run(rt, accepted(Dump, name, message, text.as_bytes()));
+    assert_run(rt, accepted(Encode, name, text.as_bytes(), again))
 }
 
-fn assert_layout(rt: &impl Runtime, row: &Layout) {
-    let octets = from_hex(rt, row.octets);
-    let text = text_with(rt, row.optional, row.local);
-    if row.is_even {
-        assert_round(rt, row.name, &octets, text.as_str(), &octets)
+fn octets_of(rt: &impl Runtime, digits: &str) -> Vec<u8> {
+    joined(rt, &[b"BUFR", &from_hex(rt, digits)])
+}
+
+fn assert_layout(rt: &impl Runtime, (name, optional, local, is_even, digits): Layout) {
+    let (octets, text) = (octets_of(rt, digits), text_with(rt, optional, local));
+    if is_even {
+        assert_round(rt, name, &octets, text.as_str(), &octets)
     } else {
-        assert_round(rt, row.name, &octets, text.as_str(), EDITION_3)
+        assert_round(rt, name, &octets, text.as_str(), EDITION_3)
     }
 }
 
@@ -103,14 +85,7 @@ fn assert_layout(rt: &impl Runtime, row: &Layout) {
 // rule: becomes-canonical, text-header-of-edition-3
 fn dumps_and_encodes_each_layout(rt: HostRuntime) {
     for row in LAYOUTS {
-        assert_layout(&rt, row);
-    }
-}
-
-#[test]
-fn refuses_each_layout_cut_anywhere(rt: HostRuntime) {
-    for row in LAYOUTS {
-        assert_cut_anywhere(&rt, Dump, row.name, &from_hex(&rt, row.octets));
+        assert_layout(&rt, *row);
     }
 }
 
@@ -163,10 +138,8 @@ fn encodes_in_each_form(rt: HostRuntime) {
     let packed = from_hex(&rt, COMPRESSED_EVEN);
     let text = text_of_even(&rt);
     let command = EncodeIn(Form::Compressed);
-    assert_run(
-        &rt,
-        accepted(command, "compressed", text.as_bytes(), &packed),
-    );
+    let run = accepted(command, "compressed", text.as_bytes(), &packed);
+    assert_run(&rt, run);
     let text = with_line(&rt, "compressed 0", "compressed 1");
     assert_run(&rt, accepted(Dump, "dumped", &packed, text.as_bytes()));
     let command = EncodeIn(Form::Plain);
@@ -224,7 +197,6 @@ fn with_line(rt: &impl Runtime, old: &str, new: &str) -> String {
     ok(rt, text.as_str().replacen(rt.alloc(), old, new, 1))
 }
 
-/// Asserts that the text with another line is refused at this line, or accepted where it is 0.
 fn assert_value(rt: &impl Runtime, old: &str, new: &str, line: u8) {
     let text = with_line(rt, old, new);
     let ran = run_whole(rt, Encode, text.as_bytes());

@@ -1,31 +1,32 @@
-//! The items of documents written as data, plain and compressed, and the faults of items.
+//! Items written as data, plain and compressed, and the faults of items.
 
-use crate::encode_tests::{Row, Want, document_of, parts};
-use crate::messages::{PACKED, text_of};
-use crate::support::{
-    Runtime, assert_same, assert_that, build, descriptors_of, from_hex, ok, table_b, table_d,
-    template_of,
-};
-use bufr_fill::{DraftEntry, DraftFault, Entries, Expected, PackedOut, PlainOut, law};
+use crate::support::{Runtime, assert_same, assert_that, from_hex, ok, table_b, template_of};
+use bufr_bits::ShortDecimal;
+use bufr_fill::{DraftFault, DraftItem, DraftValue, Entries, Expected, PackedOut, PlainOut, law};
 use bufr_tables::{Fxy, TableB, Template};
-use bufr_text::Document;
 use bufr_walk::{Fields, Steps, WalkStop, walk};
 
-/// Pushes an entry of a document.
-fn push_entry(rt: &impl Runtime, entries: &mut Entries, document: &Document, place: usize) {
-    assert!(rt; place < document.entries());
-    match document.entry(place) {
-        DraftEntry::Item(item) => ok(rt, entries.push_item(item.line, item.fxy, item.form)),
-        DraftEntry::End(line) => ok(rt, entries.push_end(line)),
-    }
-}
-
-/// The items of a document.
-fn entries_of(rt: &impl Runtime, document: &Document) -> Entries {
+/// Items of one element of seven bits, in two subsets: a short decimal, and octets.
+fn two_items(rt: &impl Runtime, digits: u64) -> Entries {
     let mut entries = Entries::new(rt.alloc());
-    for place in 0..document.entries() {
-        push_entry(rt, &mut entries, document, place);
-    }
+    let fxy = Fxy::from_word(257);
+    let number = ShortDecimal {
+        digits,
+        places: 0,
+        negative: false,
+    };
+    ok(rt, entries.push_decimal(22, fxy, number));
+    ok(rt, entries.push_end(23));
+    let form = DraftValue::Number(b"011");
+    ok(
+        rt,
+        entries.push_item(DraftItem {
+            line: 24,
+            fxy,
+            form,
+        }),
+    );
+    ok(rt, entries.push_end(25));
     entries
 }
 
@@ -55,7 +56,7 @@ fn stop_of(stop: WalkStop<DraftFault>, next: u64) -> (u8, u64) {
     }
 }
 
-/// Writes the items, one subset after another, and counts the bits of whole subsets.
+/// Writes the items of two subsets, one after another, and counts the bits of whole subsets.
 fn write_plain(
     rt: &impl Runtime,
     entries: &Entries,
@@ -65,10 +66,7 @@ fn write_plain(
     assert!(rt; entries.len() <= 100);
     let (mut out, mut bits) = (PlainOut::new(rt.alloc(), entries), 0);
     let mut steps = Steps::new();
-    for place in 0..entries.len() {
-        if !matches!(entries.get(place), Some(DraftEntry::End(_))) {
-            continue;
-        }
+    for _subset in 0..2 {
         match walk(rt.alloc(), template, table, &mut out, &mut steps) {
             Ok(()) => bits = out.bits(),
             Err(stop) => return (Err(stop_of(stop, out.line())), bits),
@@ -104,40 +102,6 @@ fn write_compressed(
     }
 }
 
-/// Asserts what is written of the items of a row; of a list without a template nothing is.
-fn assert_written(rt: &impl Runtime, row: &Row) {
-    let (table, descriptors) = (table_b(rt), descriptors_of(rt, row.3));
-    let Ok(template) = build(rt.alloc(), &descriptors, &table, &table_d(rt)) else {
-        return assert_that(
-            rt,
-            row.fault(rt).as_str().starts_with("line 1: 56 "),
-            &row.name(),
-        );
-    };
-    let entries = entries_of(rt, &document_of(rt, row.text(rt).as_bytes()));
-    let written = if row.2 == PACKED {
-        write_compressed(rt, &entries, &template, &table)
-    } else {
-        write_plain(rt, &entries, &template, &table)
-    };
-    assert_outcome(rt, &written.0, row)
-}
-
-/// Asserts the data of a row, or the line and the number of its fault.
-fn assert_outcome(rt: &impl Runtime, written: &Result<Vec<u8>, (u8, u64)>, row: &Row) {
-    match (written, row.5) {
-        (Ok(octets), Want::Data(digits)) => {
-            assert_same(rt, octets, &from_hex(rt, digits), &row.name())
-        }
-        (Err((number, line)), Want::Fault(fault)) => {
-            let walk = if *number < 50 { "62 walk " } else { "" };
-            let text = ok(rt, format!(in rt.alloc(); "{line}: {walk}{number} "));
-            assert_that(rt, fault.starts_with(text.as_str()), &(row.name(), text))
-        }
-        _ => assert_that(rt, false, &row.name()),
-    }
-}
-
 /// What is proved of plain data. A test that calls it does not carry the contracts.
 fn plain_laws() {
     law::plain_data_round_trip();
@@ -161,33 +125,41 @@ fn packed_laws() {
     law::packed_fault_is_as_defined();
 }
 
-fn assert_rows(rt: &impl Runtime, rows: &[Row]) {
-    for row in rows {
-        assert_written(rt, row);
+/// Asserts what is written of an item, and how many bits it takes.
+fn assert_written(
+    rt: &impl Runtime,
+    written: &(Result<Vec<u8>, (u8, u64)>, u64),
+    digits: &str,
+    bits: u64,
+) {
+    match &written.0 {
+        Ok(octets) => assert_same(rt, octets, &from_hex(rt, digits), &"octets"),
+        Err(fault) => assert_that(rt, false, fault),
     }
+    assert_same(rt, &written.1, &bits, &"bits");
 }
 
 #[test]
-// rule: class-31-never-missing, writes-plus-zero, packs-numbers, packs-class-31, packs-equal
-// rule: packs-all-missing, packs-texts, packs-texts-not-missing, packs-factors-and-references
-// rule: fault-54, fault-55, fault-58, fault-59, fault-order-of-an-item, fault-order-of-subsets
 fn writes_items(rt: HostRuntime) {
     plain_laws();
     packed_laws();
-    for rows in parts() {
-        assert_rows(&rt, rows);
-    }
+    let (template, table) = (template_of(&rt, "001001"), table_b(&rt));
+    let entries = two_items(&rt, 10);
+    assert_same(&rt, &entries.len(), &4, &"entries");
+    let plain = write_plain(&rt, &entries, &template, &table);
+    assert_written(&rt, &plain, "142C", 14);
+    let compressed = write_compressed(&rt, &entries, &template, &table);
+    assert_written(&rt, &compressed, "141080", 17);
 }
 
 #[test]
-fn counts_bits_of_whole_items(rt: HostRuntime) {
+fn refuses_an_item(rt: HostRuntime) {
     let (template, table) = (template_of(&rt, "001001"), table_b(&rt));
-    let items = "subset 1\n001001 10\nsubset 2\n001001 11\n";
-    let text = text_of(&rt, 2, PACKED, "001001", items);
-    let entries = entries_of(&rt, &document_of(&rt, text.as_bytes()));
+    let entries = two_items(&rt, 127);
     let plain = write_plain(&rt, &entries, &template, &table);
+    assert_that(&rt, plain.0 == Err((53, 22)), &plain.1);
     let compressed = write_compressed(&rt, &entries, &template, &table);
-    assert_same(&rt, &(plain.1, compressed.1), &(14, 17), &"bits");
+    assert_that(&rt, compressed.0 == Err((53, 22)), &compressed.1);
 }
 
 #[test]

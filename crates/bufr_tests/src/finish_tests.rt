@@ -14,7 +14,6 @@ fn finished(rt: &impl Runtime, run: &Outcome<'_>, room: (usize, End)) -> (u8, Ve
     (status, joined(rt, &[e.taken()]))
 }
 
-/// Asserts the status and the line of a run, and the status where the line cannot be written.
 fn assert_finished(rt: &impl Runtime, run: &Outcome<'_>, line: &str, status: u8) {
     let (found, octets) = finished(rt, run, (100, End::Fail));
     assert_same(rt, &found, &status, &line);
@@ -45,12 +44,10 @@ fn finishes(rt: HostRuntime) {
     }
 }
 
-/// Asserts the line of a fault of Table B.
 fn assert_b(rt: &impl Runtime, fault: TableFault, line: &str) {
     assert_finished(rt, &Outcome::TableB(fault), line, 2);
 }
 
-/// Asserts the line of a fault of Table D.
 fn assert_d(rt: &impl Runtime, fault: TableFault, line: &str) {
     assert_finished(rt, &Outcome::TableD(fault), line, 2);
 }

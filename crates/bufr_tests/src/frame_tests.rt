@@ -59,7 +59,6 @@ fn measures_of(finder: &Finder) -> (usize, usize) {
     (finder.held(), finder.longest())
 }
 
-/// Asserts the next event, and the bound on what the finder holds.
 fn assert_event(
     rt: &impl Runtime,
     stream: &[u8],
@@ -106,7 +105,6 @@ fn assert_events_by(
 /// How many octets the readers give a read.
 const STEPS: &[usize] = &[1, 3, 65536];
 
-/// Asserts the events of a stream, and the greatest length stated, however it is read.
 fn assert_events(
     rt: &impl Runtime,
     stream: &[u8],
@@ -135,36 +133,18 @@ const STREAMS: &[(&[&[u8]], Option<usize>, &[Want], usize)] = &[
     (&[ONE_BLOCK_NUMBER, ONE_BLOCK_NUMBER], Some(58), &[Frame(0, 48)], 48),
     (&[ONE_BLOCK_NUMBER, b"xxBUFR\x00\x01\x00\x04abc"], Some(60), &[Frame(0, 48)], 256),
     (&[STRAY, ONE_BLOCK_NUMBER], Some(56), &[], 64),
+    (&[b"BUF"], None, &[], 0),
+    (&[b"BUFR\x00\x00\x30"], None, &[Stray(0, Cause::Cut)], 0),
+    (&[b"BUFR\x00\x00\x30\x04"], None, &[Stray(0, Cause::Cut)], 48),
 ];
 
 #[test]
-// rule: first-bufr, stray-short-length, stray-no-end
+// rule: first-bufr, stray-cut, stray-short-length, stray-no-end
 fn events_of_streams(rt: HostRuntime) {
     for (parts, fails_at, wanted, longest) in STREAMS {
         let stream = joined(&rt, parts);
         assert_events(&rt, &stream, *fails_at, wanted, *longest);
     }
-}
-
-/// The first octets of the message with one block number.
-fn prefix(len: usize) -> &'static [u8] {
-    ONE_BLOCK_NUMBER.get(..len).unwrap_or(b"")
-}
-
-#[test]
-// rule: stray-cut
-fn a_message_cut_anywhere(rt: HostRuntime) {
-    for len in 0..48usize {
-        let wanted: &[Want] = if len < 4 {
-            &[]
-        } else {
-            &[Stray(0, Cause::Cut)]
-        };
-        let longest = if len < 8 { 0 } else { 48 };
-        assert_events(&rt, prefix(len), None, wanted, longest);
-    }
-    let other_end = joined(&rt, &[prefix(47), b"6"]);
-    assert_events(&rt, &other_end, None, &[Stray(0, Cause::NoEnd)], 48);
 }
 
 /// The events of 1,024 words so many octets apart: the first ones have no end, the others are cut.
@@ -268,8 +248,7 @@ type Parts = (
 #[rattlefmt::skip]
 const MESSAGES: &[(&[u8], Parts, &[u8])] = &[
     (ONE_BLOCK_NUMBER, (HEAD_4, b"", None, (1, true, false), 0x0101, b"\x14"), ONE_BLOCK_NUMBER),
-    (LOCAL_USE, (HEAD_4, b"\xAB\xCD", Some(b"\x01\x02"), (1, true, false), 0x0101, b"\x14"),
-        LOCAL_USE),
+    (LOCAL_USE, (HEAD_4, b"\xAB\xCD", Some(b"\x01\x02"), (1, true, false), 0x0101, b"\x14"), LOCAL_USE),
     (COMPRESSED, (HEAD_4, b"", None, (2, true, true), 0x0c65, b"\x70\x8F\x05"), COMPRESSED),
     (EDITION_3, (HEAD_3, b"\0", None, (1, true, false), 0x0101, b"\x14\0"), EDITION_3),
     // odd sections become even
@@ -455,13 +434,8 @@ fn pushes_an_octet_at_the_end(rt: HostRuntime) {
     assert!(rt; input.ended());
     input.push(b'a');
     assert_same(&rt, &input.held(), &b"a".as_slice(), &"octets");
-}
-
-#[test]
-fn a_piece_that_is_not_read(rt: HostRuntime) {
     let mut r = ScriptIn::new(b"a", 1, Some(0));
     let mut input = InputBuffer::new(rt.alloc());
     let read = input.fill(&mut r, 4, 8);
     assert_same(&rt, &read, &Err(RunFault::Read), &"read");
-    assert_same(&rt, &input.held(), &b"".as_slice(), &"octets");
 }

@@ -170,7 +170,6 @@ static LINES: &[(&[&str], &str)] = &[
     (&["bufr", "ls", "a", "b"], "For more information, try '--help'.\n"),
 ];
 
-/// Asserts that a line gives what ends so, or wants memory.
 fn assert_line(rt: &impl Runtime, words: &[&str], end: &str) {
     match parse_line(rt.alloc(), words) {
         Ok(job) => assert_same(rt, &job.file, &Some(end), &words),

@@ -198,7 +198,66 @@ fn push_descriptors(rt: &impl Runtime, text: &mut String, descriptors: &str) {
     }
 }
 
-/// The dump text of a message from `message_of`, with these lines of its subsets.
+/// The comments of elements in a dump.
+#[rattlefmt::skip]
+const COMMENTS: &[(&str, &str)] = &[
+    ("001001", "  # WMO BLOCK NUMBER [Numeric]"), ("001015", "  # STATION OR SITE NAME [CCITT IA5]"),
+    ("005002", "  # LATITUDE (COARSE ACCURACY) [degree]"), ("012101", "  # AIR TEMPERATURE [K]"),
+    ("020003", "  # PRESENT WEATHER [Code table]"),
+    ("031000", "  # SHORT DELAYED DESCRIPTOR REPLICATION FACTOR [Numeric]"),
+    ("031001", "  # DELAYED DESCRIPTOR REPLICATION FACTOR [Numeric]"),
+];
+
+fn comment_of(item: &str) -> &'static str {
+    for (digits, comment) in COMMENTS {
+        if item.starts_with(*digits) {
+            return comment;
+        }
+    }
+    ""
+}
+
+/// Appends the lines of a subset. A ; separates its items.
+fn push_subset(rt: &impl Runtime, text: &mut String, subset: u16, items: &str, dumped: bool) {
+    let line = ok(rt, format!(in rt.alloc(); "subset {subset}\n"));
+    ok(rt, text.push_str(line.as_str()));
+    for item in items.split(';') {
+        if !item.is_empty() {
+            ok(rt, text.push_str(item));
+            ok(
+                rt,
+                text.push_str(if dumped { comment_of(item) } else { "" }),
+            );
+            ok(rt, text.push('\n'));
+        }
+    }
+}
+
+/// The text of a message from `message_of`. A | separates the items of its subsets, which have the
+/// comments of a dump or none.
+fn text_with(
+    rt: &impl Runtime,
+    subsets: u16,
+    flags: u8,
+    (descriptors, items): (&str, &str),
+    dumped: bool,
+) -> String {
+    let mut text = ok(rt, String::from_str(rt.alloc(), HEAD));
+    let counts = counts_of(rt, subsets, flags);
+    ok(rt, text.push_str(counts.as_str()));
+    push_descriptors(rt, &mut text, descriptors);
+    let mut subset = 0u16;
+    for items in items.split('|') {
+        subset = subset.saturating_add(1);
+        if subset <= subsets {
+            push_subset(rt, &mut text, subset, items, dumped);
+        }
+    }
+    ok(rt, text.push_str("end\n"));
+    text
+}
+
+/// The text of a message with these items.
 pub(crate) fn text_of(
     rt: &impl Runtime,
     subsets: u16,
@@ -206,13 +265,18 @@ pub(crate) fn text_of(
     descriptors: &str,
     items: &str,
 ) -> String {
-    let mut text = ok(rt, String::from_str(rt.alloc(), HEAD));
-    let counts = counts_of(rt, subsets, flags);
-    ok(rt, text.push_str(counts.as_str()));
-    push_descriptors(rt, &mut text, descriptors);
-    ok(rt, text.push_str(items));
-    ok(rt, text.push_str("end\n"));
-    text
+    text_with(rt, subsets, flags, (descriptors, items), false)
+}
+
+/// The dump text of a message with these items.
+pub(crate) fn dump_of(
+    rt: &impl Runtime,
+    subsets: u16,
+    flags: u8,
+    descriptors: &str,
+    items: &str,
+) -> String {
+    text_with(rt, subsets, flags, (descriptors, items), true)
 }
 
 /// The line of `ls` for the message with one block number, less its offset.
@@ -227,8 +291,7 @@ pub(crate) fn line_of_one(rt: &impl Runtime, offset: &str) -> String {
 
 /// The dump text of the message with one block number.
 pub(crate) fn text_of_one(rt: &impl Runtime) -> String {
-    let items = "subset 1\n001001 10  # WMO BLOCK NUMBER [Numeric]\n";
-    text_of(rt, 1, PLAIN, "001001", items)
+    dump_of(rt, 1, PLAIN, "001001", "001001 10")
 }
 
 /// A message with a delayed group of two block numbers, 54 octets.
@@ -262,30 +325,27 @@ pub(crate) fn bulletins(rt: &impl Runtime) -> Vec<u8> {
     joined(rt, &[&first, &second, LOCAL_USE, short])
 }
 
-/// A worked message.
-pub(crate) struct Worked {
-    pub(crate) name: &'static str,
-    pub(crate) subsets: u16,
-    /// Octet 7 of section 3.
-    pub(crate) flags: u8,
-    pub(crate) descriptors: &'static str,
-    /// The octets of its data, in hexadecimal digits.
-    pub(crate) payload: &'static str,
-    /// What reading the data gives: bits, steps and items, as `walk_tests` writes them.
-    pub(crate) reading: &'static str,
-    /// The lines of its dump text from `subset 1` to `end`.
-    pub(crate) items: &'static str,
-}
+/// A worked message: name, subsets, octet 7 of section 3, descriptors, and its data in hexadecimal
+/// digits. Then what reading the data gives, as `walk_tests` writes it, and the items of its text.
+pub(crate) struct Worked(
+    pub(crate) &'static str,
+    pub(crate) u16,
+    pub(crate) u8,
+    pub(crate) &'static str,
+    pub(crate) &'static str,
+    pub(crate) &'static str,
+    &'static str,
+);
 
 impl Worked {
     /// Its octets.
     pub(crate) fn message(&self, rt: &impl Runtime) -> Vec<u8> {
-        message_of_hex(rt, self.subsets, self.flags, self.descriptors, self.payload)
+        message_of_hex(rt, self.1, self.2, self.3, self.4)
     }
 
     /// Its dump text.
     pub(crate) fn text(&self, rt: &impl Runtime) -> String {
-        text_of(rt, self.subsets, self.flags, self.descriptors, self.items)
+        dump_of(rt, self.1, self.2, self.3, self.6)
     }
 }
 
@@ -297,124 +357,46 @@ pub(crate) const THIRTY_TWO_GROUPS: &str = "\
 
 #[rattlefmt::skip]
 static ROWS: &[Worked] = &[
-    Worked { name: "one_block_number", subsets: 1, flags: PLAIN,
-        descriptors: "001001", payload: "14",
-        reading: "bits 7 steps 2; 1: 001001 10e0 #",
-        items: "subset 1\n001001 10  # WMO BLOCK NUMBER [Numeric]\n" },
-    Worked { name: "one_temperature", subsets: 1, flags: PLAIN,
-        descriptors: "012101", payload: "708F",
-        reading: "bits 16 steps 2; 1: 012101 28815e2 #",
-        items: "subset 1\n012101 288.15  # AIR TEMPERATURE [K]\n" },
-    Worked { name: "one_temperature_missing", subsets: 1, flags: PLAIN,
-        descriptors: "012101", payload: "FFFF",
-        reading: "bits 16 steps 2; 1: 012101 missing #",
-        items: "subset 1\n012101 MISSING  # AIR TEMPERATURE [K]\n" },
-    Worked { name: "delayed_twice", subsets: 1, flags: PLAIN,
-        descriptors: "101000 031001 001001", payload: "02142C",
-        reading: "bits 22 steps 7; 1: 031001 2e0 # 001001 10e0 # 001001 11e0 #",
-        items: "\
-            subset 1\n\
-            031001 2  # DELAYED DESCRIPTOR REPLICATION FACTOR [Numeric]\n\
-            001001 10  # WMO BLOCK NUMBER [Numeric]\n\
-            001001 11  # WMO BLOCK NUMBER [Numeric]\n" },
-    Worked { name: "delayed_none", subsets: 1, flags: PLAIN,
-        descriptors: "101000 031001 001001", payload: "00",
-        reading: "bits 8 steps 3; 1: 031001 0e0 #",
-        items: "\
-            subset 1\n\
-            031001 0  # DELAYED DESCRIPTOR REPLICATION FACTOR [Numeric]\n" },
-    Worked { name: "short_factor", subsets: 1, flags: PLAIN,
-        descriptors: "101000 031000 001001", payload: "8A",
-        reading: "bits 8 steps 5; 1: 031000 1e0 # 001001 10e0 #",
-        items: "\
-            subset 1\n\
-            031000 1  # SHORT DELAYED DESCRIPTOR REPLICATION FACTOR [Numeric]\n\
-            001001 10  # WMO BLOCK NUMBER [Numeric]\n" },
-    Worked { name: "width_and_scale_changed", subsets: 1, flags: PLAIN,
-        descriptors: "201132 202129 012101 201000 202000 012101", payload: "46599708F0",
-        reading: "bits 36 steps 7; 1: 012101 288153e3 # 012101 28815e2 #",
-        items: "\
-            subset 1\n\
-            012101 288.153  # AIR TEMPERATURE [K]\n\
-            012101 288.15  # AIR TEMPERATURE [K]\n" },
-    Worked { name: "redefined_reference", subsets: 1, flags: PLAIN,
-        descriptors: "203010 012101 203255 012101", payload: "E41C23C0",
-        reading: "bits 26 steps 5; 1: 012101 R-400 012101 28415e2 #",
-        items: "\
-            subset 1\n\
-            R 012101 -400\n\
-            012101 284.15  # AIR TEMPERATURE [K]\n" },
-    Worked { name: "increased_precision", subsets: 1, flags: PLAIN,
-        descriptors: "207001 012101 020003", payload: "46599028",
-        reading: "bits 29 steps 4; 1: 012101 288153e3 # 020003 5e0 #",
-        items: "\
-            subset 1\n\
-            012101 288.153  # AIR TEMPERATURE [K]\n\
-            020003 5  # PRESENT WEATHER [Code table]\n" },
-    Worked { name: "width_of_one", subsets: 1, flags: PLAIN,
-        descriptors: "201122 001001", payload: "00",
-        reading: "bits 1 steps 3; 1: 001001 0e0 #",
-        items: "subset 1\n001001 0  # WMO BLOCK NUMBER [Numeric]\n" },
-    Worked { name: "width_of_one_missing", subsets: 1, flags: PLAIN,
-        descriptors: "201122 001001", payload: "80",
-        reading: "bits 1 steps 3; 1: 001001 missing #",
-        items: "subset 1\n001001 MISSING  # WMO BLOCK NUMBER [Numeric]\n" },
-    Worked { name: "sequence", subsets: 1, flags: PLAIN, descriptors: "360192", payload: "14E11E",
-        reading: "bits 23 steps 3; 1: 001001 10e0 # 012101 28815e2 #",
-        items: "\
-            subset 1\n\
-            001001 10  # WMO BLOCK NUMBER [Numeric]\n\
-            012101 288.15  # AIR TEMPERATURE [K]\n" },
-    Worked { name: "local_descriptor", subsets: 1, flags: PLAIN,
-        descriptors: "206012 063255", payload: "0F50",
-        reading: "bits 12 steps 3; 1: 063255 245e0",
-        items: "subset 1\n063255 245\n" },
-    Worked { name: "inserted_text", subsets: 1, flags: PLAIN,
-        descriptors: "205004", payload: "225C0AFE",
-        reading: "bits 32 steps 2; 1: 205004 \"225C0AFE\"",
-        items: "subset 1\n205004 \"\\\"\\\\\\x0A\\xFE\"\n" },
-    Worked { name: "thirty_two_groups", subsets: 1, flags: PLAIN,
-        descriptors: THIRTY_TWO_GROUPS, payload: "14",
-        reading: "bits 7 steps 66; 1: 001001 10e0 #",
-        items: "subset 1\n001001 10  # WMO BLOCK NUMBER [Numeric]\n" },
-    Worked { name: "negative_latitude", subsets: 1, flags: PLAIN,
-        descriptors: "005002", payload: "4646",
-        reading: "bits 15 steps 2; 1: 005002 -5e2 #",
-        items: "subset 1\n005002 -0.05  # LATITUDE (COARSE ACCURACY) [degree]\n" },
-    Worked { name: "no_subsets", subsets: 0, flags: PLAIN, descriptors: "001001", payload: "",
-        reading: "bits 0 steps 0",
-        items: "" },
-    Worked { name: "text_width", subsets: 1, flags: PLAIN,
-        descriptors: "208003 001015", payload: "414243",
-        reading: "bits 24 steps 3; 1: 001015 \"414243\" #",
-        items: "subset 1\n001015 \"ABC\"  # STATION OR SITE NAME [CCITT IA5]\n" },
-    Worked { name: "compressed_missing", subsets: 2, flags: PACKED,
-        descriptors: "012101", payload: "708F05",
-        reading: "bits 24 steps 2 held 1; 1: 012101 28815e2 # 2: 012101 missing #",
-        items: "\
-            subset 1\n\
-            012101 288.15  # AIR TEMPERATURE [K]\n\
-            subset 2\n\
-            012101 MISSING  # AIR TEMPERATURE [K]\n" },
-    Worked { name: "compressed_name", subsets: 2, flags: PACKED,
-        descriptors: "001015",
-        payload: "00000000000000000000000000000000000000001105090C83FFFFFFFC",
-        reading: "\
-            bits 230 steps 2 held 1; \
-            1: 001015 \"4142432020202020202020202020202020202020\" # 2: 001015 missing #",
-        items: "\
-            subset 1\n\
-            001015 \"ABC                 \"  # STATION OR SITE NAME [CCITT IA5]\n\
-            subset 2\n\
-            001015 MISSING  # STATION OR SITE NAME [CCITT IA5]\n" },
-    Worked { name: "increment_to_missing", subsets: 2, flags: PACKED,
-        descriptors: "001001", payload: "FC1080",
-        reading: "bits 17 steps 2 held 1; 1: 001001 126e0 # 2: 001001 missing #",
-        items: "\
-            subset 1\n\
-            001001 126  # WMO BLOCK NUMBER [Numeric]\n\
-            subset 2\n\
-            001001 MISSING  # WMO BLOCK NUMBER [Numeric]\n" },
+    Worked("one_block_number", 1, PLAIN, "001001", "14", "bits 7 steps 2; 1: 001001 10e0 #", "001001 10"),
+    Worked("one_temperature", 1, PLAIN, "012101", "708F", "bits 16 steps 2; 1: 012101 28815e2 #", "012101 288.15"),
+    Worked("one_temperature_missing", 1, PLAIN, "012101", "FFFF",
+        "bits 16 steps 2; 1: 012101 missing #", "012101 MISSING"),
+    Worked("delayed_twice", 1, PLAIN, "101000 031001 001001", "02142C",
+        "bits 22 steps 7; 1: 031001 2e0 # 001001 10e0 # 001001 11e0 #",
+        "031001 2;001001 10;001001 11"),
+    Worked("delayed_none", 1, PLAIN, "101000 031001 001001", "00", "bits 8 steps 3; 1: 031001 0e0 #", "031001 0"),
+    Worked("short_factor", 1, PLAIN, "101000 031000 001001", "8A",
+        "bits 8 steps 5; 1: 031000 1e0 # 001001 10e0 #", "031000 1;001001 10"),
+    Worked("width_and_scale_changed", 1, PLAIN, "201132 202129 012101 201000 202000 012101",
+        "46599708F0", "bits 36 steps 7; 1: 012101 288153e3 # 012101 28815e2 #",
+        "012101 288.153;012101 288.15"),
+    Worked("redefined_reference", 1, PLAIN, "203010 012101 203255 012101", "E41C23C0",
+        "bits 26 steps 5; 1: 012101 R-400 012101 28415e2 #", "R 012101 -400;012101 284.15"),
+    Worked("increased_precision", 1, PLAIN, "207001 012101 020003", "46599028",
+        "bits 29 steps 4; 1: 012101 288153e3 # 020003 5e0 #", "012101 288.153;020003 5"),
+    Worked("width_of_one", 1, PLAIN, "201122 001001", "00", "bits 1 steps 3; 1: 001001 0e0 #", "001001 0"),
+    Worked("width_of_one_missing", 1, PLAIN, "201122 001001", "80",
+        "bits 1 steps 3; 1: 001001 missing #", "001001 MISSING"),
+    Worked("sequence", 1, PLAIN, "360192", "14E11E",
+        "bits 23 steps 3; 1: 001001 10e0 # 012101 28815e2 #", "001001 10;012101 288.15"),
+    Worked("local_descriptor", 1, PLAIN, "206012 063255", "0F50", "bits 12 steps 3; 1: 063255 245e0", "063255 245"),
+    Worked("inserted_text", 1, PLAIN, "205004", "225C0AFE",
+        "bits 32 steps 2; 1: 205004 \"225C0AFE\"", "205004 \"\\\"\\\\\\x0A\\xFE\""),
+    Worked("thirty_two_groups", 1, PLAIN, THIRTY_TWO_GROUPS, "14", "bits 7 steps 66; 1: 001001 10e0 #", "001001 10"),
+    Worked("negative_latitude", 1, PLAIN, "005002", "4646", "bits 15 steps 2; 1: 005002 -5e2 #", "005002 -0.05"),
+    Worked("no_subsets", 0, PLAIN, "001001", "", "bits 0 steps 0", ""),
+    Worked("text_width", 1, PLAIN, "208003 001015", "414243",
+        "bits 24 steps 3; 1: 001015 \"414243\" #", "001015 \"ABC\""),
+    Worked("compressed_missing", 2, PACKED, "012101", "708F05",
+        "bits 24 steps 2 held 1; 1: 012101 28815e2 # 2: 012101 missing #",
+        "012101 288.15|012101 MISSING"),
+    Worked("compressed_name", 2, PACKED, "001015",
+        "00000000000000000000000000000000000000001105090C83FFFFFFFC",
+        "bits 230 steps 2 held 1; 1: 001015 \"4142432020202020202020202020202020202020\" # 2: 001015 missing #",
+        "001015 \"ABC                 \"|001015 MISSING"),
+    Worked("increment_to_missing", 2, PACKED, "001001", "FC1080",
+        "bits 17 steps 2 held 1; 1: 001001 126e0 # 2: 001001 missing #",
+        "001001 126|001001 MISSING"),
 ];
 
 /// The worked messages. A caller does not carry their texts through its proof.

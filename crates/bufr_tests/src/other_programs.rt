@@ -2,7 +2,9 @@
 
 use crate::messages::{LOCAL_USE, ONE_BLOCK_NUMBER, STRAY, line_of_one, text_of_one};
 use crate::runs::writer;
-use crate::support::{Runtime, assert_same, build, joined, ok, parsed, some, table_b, table_d};
+use crate::support::{
+    Runtime, assert_same, joined, ok, parsed, some, table_b, table_d, template_for,
+};
 use bufr_bits::{End, ScriptIn, ScriptOut};
 use bufr_frame::{Event, Finder, Message};
 use bufr_tables::Fxy;
@@ -69,12 +71,7 @@ impl Visitor for Numbers {
 /// Shows the data of a message to a visitor.
 fn show(rt: &impl Runtime, octets: &[u8], numbers: &mut Numbers) {
     let message = parsed(rt, octets);
-    let (b, d) = (table_b(rt), table_d(rt));
-    let mut descriptors = Vec::new(rt.alloc());
-    for word in message.descriptors() {
-        ok(rt, descriptors.push(Fxy::from_word(word)));
-    }
-    let template = ok(rt, build(rt.alloc(), &descriptors, &b, &d));
+    let (template, b) = (template_for(rt, &message), table_b(rt));
     let mut steps = Steps::new();
     let answer = read_message(rt.alloc(), &message, &template, &b, &mut steps);
     let reading = ok(rt, answer);

@@ -26,7 +26,6 @@ fn line_of(
     words
 }
 
-/// Asserts that words are understood as this command with this FILE.
 fn assert_parsed(rt: &impl Runtime, words: &[&str], command: Subcommand<'_>, file: Option<&str>) {
     let job = ok(rt, parse_line(rt.alloc(), words));
     assert_that(rt, job.command == command, &words);
@@ -48,7 +47,15 @@ static ARGUMENTS: &[(&[&str], Option<&str>)] = &[
     (&["-B", "b.csv", "-D", "d.csv", "--", "-B"], Some("-B")),
 ];
 
+// Arguments of `encode`, and the form that it is asked for.
+#[rattlefmt::skip]
+static FORMS: &[(&[&str], Form)] = &[
+    (&["-B", "b.csv", "-D", "d.csv", "--form", "plain"], Form::Plain),
+    (&["--form=compressed", "-B", "b.csv", "-D", "d.csv"], Form::Compressed),
+];
+
 #[test]
+// rule: form-words
 fn parses_lines(rt: HostRuntime) {
     let (none, one) = (["bufr", "ls"], ["bufr", "ls", "bulletins.bufr"]);
     assert_parsed(&rt, none.as_slice(), Subcommand::Ls, None);
@@ -60,18 +67,6 @@ fn parses_lines(rt: HostRuntime) {
         let words = line_of(&rt, "encode", *arguments);
         assert_parsed(&rt, words.as_slice(), encode, *file);
     }
-}
-
-// Arguments of `encode`, and the form that it is asked for.
-#[rattlefmt::skip]
-static FORMS: &[(&[&str], Form)] = &[
-    (&["-B", "b.csv", "-D", "d.csv", "--form", "plain"], Form::Plain),
-    (&["--form=compressed", "-B", "b.csv", "-D", "d.csv"], Form::Compressed),
-];
-
-#[test]
-// rule: form-words
-fn parses_forms(rt: HostRuntime) {
     for (arguments, form) in FORMS {
         let words = line_of(&rt, "encode", *arguments);
         let encode = Subcommand::Encode(TABLES, *form);
@@ -87,7 +82,6 @@ fn usage_of(rt: &impl Runtime, words: &[&str]) -> String {
     }
 }
 
-/// Asserts that a command line is not understood, and that its text says so.
 fn assert_usage(rt: &impl Runtime, words: &[&str], part: &str) {
     let text = usage_of(rt, words);
     assert_that(rt, text.as_str().contains(part), &text);
@@ -102,10 +96,8 @@ static MISTAKEN: &[(&[&str], &str)] = &[
     (&["bufr", "ls", "a", "b"], "unexpected argument 'b' found"),
     (&["bufr", "ls", "--long"], "unexpected argument '--long' found"),
     (&["bufr", "ls", "-B", "b.csv"], "unexpected argument '-B' found"),
-    (&["bufr", "dump", "-B", "b", "-D", "d", "--form", "plain"],
-        "unexpected argument '--form' found"),
-    (&["bufr", "encode", "-B", "b", "-D", "d", "--form", "plain", "--form", "plain"],
-        "cannot be used multiple times"),
+    (&["bufr", "dump", "-B", "b", "-D", "d", "--form", "plain"], "unexpected argument '--form' found"),
+    (&["bufr", "encode", "-B", "b", "-D", "d", "--form", "plain", "--form", "plain"], "cannot be used multiple times"),
 ];
 
 // Words of `--form` that name none.
@@ -157,7 +149,6 @@ static HELP: &[(&[&str], &[&str])] = &[
         "--form <WORD>", "Exit status:", "bufr encode -B b.csv -D d.csv"]),
 ];
 
-/// Asserts that a command line asks for help, and that its text has these parts.
 fn assert_help(rt: &impl Runtime, words: &[&str], parts: &[&str]) {
     let text = match parse_line(rt.alloc(), words) {
         Err(LineFault::Help(text)) => text,
@@ -210,13 +201,11 @@ fn reply_to<'a, I: Inputs>(
     }
 }
 
-/// Asserts that a text has a part, and that it is empty where the part is.
 fn assert_holds(rt: &impl Runtime, text: &str, part: &str) {
     assert_that(rt, text.contains(part), &text);
     assert_that(rt, text.is_empty() == part.is_empty(), &text);
 }
 
-/// Asserts the status of a call, its output, and a part of its errors.
 fn assert_called<'a, I: Inputs>(
     rt: &impl Runtime,
     words: &'a [&'static str],
@@ -295,7 +284,6 @@ const ONE: Library<'static> = Library {
 /// The line of a write that failed.
 const WRITE_FAILED: &str = "bufr: 71 write failed\n";
 
-/// Asserts that help is written, and that the status and a line say so where it is not flushed.
 fn assert_shown(rt: &impl Runtime, words: &'static [&'static str]) {
     let reply = reply_to(rt, words, &ONE, End::Zero);
     assert_same(rt, &reply.status, &0, &words);
@@ -340,14 +328,6 @@ fn runs_lines(rt: HostRuntime) {
     for (words, status, output, errors) in CALLED {
         assert_called(&rt, *words, &library, (*status, output.as_bytes()), *errors);
     }
-}
-
-/// A file that is torn after its message: the message is listed, and the fault is written.
-#[test]
-fn lists_a_torn_file(rt: HostRuntime) {
-    let (words, line) = (["bufr", "ls", "torn.bufr"], line_of_one(&rt, "0"));
-    let fault = "bufr: 70 read failed\n";
-    assert_called(&rt, words.as_slice(), &ONE, (2, line.as_bytes()), fault)
 }
 
 // Arguments of a command that takes tables, the status, whether its output is written, and a part
@@ -423,7 +403,6 @@ fn status_on(
     call(rt.alloc(), words, inputs, &mut w, &mut e)
 }
 
-/// Asserts that a call of a command whose input is torn hands on all that it wrote before.
 fn assert_handed_on(
     rt: &impl Runtime,
     command: &'static str,
@@ -489,7 +468,6 @@ fn status_if_full(
     status
 }
 
-/// Asserts that a command makes one call of a full writer, through one that holds so many octets.
 fn assert_one_call(
     rt: &impl Runtime,
     words: &[&'static str],
@@ -501,7 +479,6 @@ fn assert_one_call(
     assert_same(rt, &(status, calls.get()), &(2, 1), &capacity);
 }
 
-/// Asserts the same of a command, where its output is held and where it is not.
 fn assert_tried_once(
     rt: &impl Runtime,
     command: &'static str,

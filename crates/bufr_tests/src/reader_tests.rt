@@ -6,14 +6,13 @@ use crate::runs::Command::Encode;
 use crate::runs::{assert_run, refused};
 use crate::support::{Runtime, assert_same, assert_that, joined, ok, repeated, some, words_of};
 use bufr_bits::{Device, ScriptIn, Source};
-use bufr_fill::DraftValue;
 use bufr_frame::{Message, RunFault};
-use bufr_text::{Document, DraftEntry, DumpReader, ReadFault, law};
+use bufr_text::{Document, DumpReader, ReadFault, law};
 
 /// How many octets a read gives.
 const STEPS: [usize; 3] = [1, 3, 4096];
 
-/// What a call returns: how many entries a document has and the line that ends it, or a fault.
+/// What a call returns: how many entries a document has and the line that begins it, or a fault.
 #[derive(Clone, Copy, Debug, PartialEq, Eq)]
 enum Next {
     Read(usize, u64),
@@ -44,14 +43,7 @@ fn with_line(rt: &impl Runtime, number: usize, text: &[u8]) -> Vec<u8> {
 
 /// What a document is.
 fn read_as(document: &Document) -> Next {
-    let entries = document.entries();
-    if entries == 0 {
-        return Read(0, 0);
-    }
-    match document.entry(entries - 1) {
-        DraftEntry::Item(item) => Read(entries, item.line),
-        DraftEntry::End(line) => Read(entries, line),
-    }
+    Read(document.entries(), document.line())
 }
 
 /// What comes next.
@@ -63,14 +55,12 @@ fn next_of<R: Source>(reader: &mut DumpReader, r: &mut R) -> Next {
     }
 }
 
-/// Asserts what comes next, and that few octets are held.
 fn assert_next<R: Source>(rt: &impl Runtime, reader: &mut DumpReader, r: &mut R, want: Next) {
     assert_same(rt, &next_of(reader, r), &want, &"next");
     let held = reader.held();
     assert_that(rt, held <= 8192, &held);
 }
 
-/// Asserts what is read of a text in steps. The last of it, an end or a fault, comes again.
 fn assert_read_in_steps(
     rt: &impl Runtime,
     text: &[u8],
@@ -90,7 +80,6 @@ fn assert_read_in_steps(
     assert_next(rt, &mut reader, &mut r, last);
 }
 
-/// Asserts what is read of a text, however few octets a read gives.
 fn assert_read(rt: &impl Runtime, text: &[u8], fails_at: Option<usize>, wanted: &[Next]) {
     for step in STEPS {
         assert_read_in_steps(rt, text, step, fails_at, wanted);
@@ -108,7 +97,6 @@ fn line_of(rt: &impl Runtime, fault: &ReadFault) -> String {
     ok(rt, format!(in rt.alloc(); "line {line}: {text}\n"))
 }
 
-/// Asserts what is read of a document, and that `encode` refuses it at its fault.
 fn assert_document(rt: &impl Runtime, text: &[u8], want: Next) {
     match want {
         Refused(fault) => {
@@ -120,96 +108,64 @@ fn assert_document(rt: &impl Runtime, text: &[u8], want: Next) {
     }
 }
 
-// A text in place of a line, and what the document then is. Beside each rule is its nearest wrong
-// neighbour.
+// What the document is with another text in place of a line: the line's number, and texts. Beside
+// what is read are its nearest wrong neighbours.
 #[rattlefmt::skip]
-static RULES: &[(usize, &[u8], Next)] = &[
-    (24, b"001001 10\n", Read(2, 25)),
-    (24, b"001001\t10\n", Refused(Line(24))),
-    (24, b"001001  10\n", Refused(Line(24))),
-    (24, b"\n001001 10\n", Read(2, 26)),
-    (24, b"  \n001001 10\n", Refused(Line(24))),
-    (24, b"# note\r\n001001 10\n", Read(2, 26)),
-    (24, b" # note\n001001 10\n", Refused(Line(24))),
-    (24, b"\r\n001001 10\n", Refused(Line(24))),
-    (24, b"001001 10 # note\r\n", Read(2, 25)),
-    (24, b"001001 10 #x\n", Read(2, 25)),
-    (24, b"001001 10\r\n", Refused(Line(24))),
-    (24, b"001001 10   #\n", Read(2, 25)),
-    (24, b"001001 10# note\n", Refused(Line(24))),
-    (24, b"001001 10 note\n", Refused(Line(24))),
-    (24, b"001001 10 \n", Refused(Line(24))),
-    (24, b"001001 --.1.\n", Read(2, 25)),
-    (24, b"001001 +1\n", Refused(Line(24))),
-    (24, b"001001 x\n", Refused(Line(24))),
-    (24, b"001001 MISSING\n", Read(2, 25)),
-    (24, b"001001 MISSING2\n", Refused(Line(24))),
-    (24, b"R 012101 -400\n", Read(2, 25)),
-    (24, b"R 012101 MISSING\n", Refused(Line(24))),
-    (24, b"R 012101 \"x\"\n", Refused(Line(24))),
-    (24, b"363255 1\n", Read(2, 25)),
-    (24, b"364255 1\n", Refused(Line(24))),
-    (24, b"363256 1\n", Refused(Line(24))),
-    (24, b"463255 1\n", Refused(Line(24))),
-    (24, b"205004 \"a\\\"\\\\\\x0A\"\n", Read(2, 25)),
-    (24, b"205004 \"\\xFE\"\n", Read(2, 25)),
-    (24, b"205004 \"\\xfe\"\n", Refused(Line(24))),
-    (24, b"205004 \"\\n\"\n", Refused(Line(24))),
-    (24, b"205004 \"~ \"\n", Read(2, 25)),
-    (24, b"205004 \"\x7F\"\n", Refused(Line(24))),
-    (24, b"205004 \"\xFE\"\n", Refused(Line(24))),
-    (24, b"205004 \"a\n", Refused(Line(24))),
-    (24, b"205004 \"a\"  # note\n", Read(2, 25)),
-    (24, b"205004 \"a\"# note\n", Refused(Line(24))),
-    (24, b"205004 \"a\"x\n", Refused(Line(24))),
-    // A document is read whole before its items are looked at: this one is not whole.
-    (24, b"001001 1.5\nx\n", Refused(Line(25))),
-    (22, b"local1 abCD\n", Read(2, 25)),
-    (22, b"local1 abC\n", Refused(Line(22))),
-    (22, b"local1 \n", Refused(Line(22))),
-    (22, b"local1 01\nlocal1 0203\n", Read(2, 26)),
-    (22, b"section2 01\n", Refused(Line(22))),
-    (22, b"descriptors 001001\ndescriptors 001001\n", Read(2, 26)),
-    (22, b"descriptors 001001\nlocal1 01\n", Refused(Line(23))),
-    (22, b"descriptors 001001 001001 001001 001001 001001 001001 001001 001001\n", Read(2, 25)),
-    (22, b"descriptors 001001 001001 001001 001001 001001 001001 001001 001001 001001\n",
-        Refused(Line(22))),
-    (22, b"descriptors 0010010\n", Refused(Line(22))),
-    (22, b"descriptors  001001\n", Refused(Line(22))),
-    (22, b"descriptors\n", Refused(Line(22))),
-    (4, b"\n# note\ncentre 98\n", Read(2, 27)),
-    (4, b"centre \n", Refused(Line(4))),
-    (4, b"centre +98\n", Refused(Line(4))),
-    (4, b"centre -98\n", Refused(Line(4))),
-    (4, b"centre  98\n", Refused(Line(4))),
-    (4, b"centre 65535\n", Read(2, 25)),
-    (4, b"centre 65536\n", Refused(HeaderRange(4))),
-    (4, b"centre 65536x\n", Refused(Line(4))),
-    (4, b"subcentre 65536\n", Refused(Line(4))),
-    (3, b"master 255\n", Read(2, 25)),
-    (3, b"master 256\n", Refused(HeaderRange(3))),
-    (2, b"edition 2\n", Refused(HeaderRange(2))),
-    (2, b"edition 3\n", Refused(HeaderRange(12))),
-    (2, b"edition 5\n", Refused(HeaderRange(2))),
-    (18, b"observed 2\n", Refused(HeaderRange(18))),
-    (19, b"compressed 2\n", Refused(HeaderRange(19))),
-    (20, b"optional 2\n", Refused(HeaderRange(20))),
-    (21, b"subsets 65536\n", Refused(HeaderRange(21))),
-    (21, b"subsets 2\n", Refused(SubsetCount(25))),
-    (21, b"subsets 0\n", Refused(SubsetCount(23))),
-    (23, b"subset 2\n", Refused(SubsetCount(23))),
-    (23, b"subset x\n", Refused(Line(23))),
-    (23, b"subset \n", Refused(Line(23))),
-    (23, b"subset 01\n", Read(2, 25)),
-    (25, b"subset 2\n001001 10\nend\n", Refused(SubsetCount(25))),
-    (25, b"", Refused(Line(25))),
-    (25, b"end", Read(2, 25)),
+static RULES: &[(usize, Next, &[&[u8]])] = &[
+    (25, Refused(SubsetCount(25)), &[b"subset 2\n001001 10\nend\n"]),
+    (25, Refused(Line(25)), &[b""]),
+    (25, Read(2, 1), &[b"end"]),
+    (24, Read(2, 1), &[
+        b"001001 10\n", b"001001 10 # note\r\n", b"001001 10 #x\n", b"001001 10   #\n",
+        b"001001 --.1.\n", b"001001 MISSING\n", b"R 012101 -400\n", b"363255 1\n",
+        b"205004 \"a\\\"\\\\\\x0A\"\n", b"205004 \"\\xFE\"\n", b"205004 \"~ \"\n",
+        b"205004 \"a\"  # note\n",
+    ]),
+    (24, Refused(Line(24)), &[
+        b"001001\t10\n", b"001001  10\n", b"  \n001001 10\n", b" # note\n001001 10\n",
+        b"\r\n001001 10\n", b"001001 10\r\n", b"001001 10# note\n", b"001001 10 note\n",
+        b"001001 10 \n", b"001001 +1\n", b"001001 x\n", b"001001 MISSING2\n",
+        b"R 012101 MISSING\n", b"R 012101 \"x\"\n", b"364255 1\n", b"363256 1\n", b"463255 1\n",
+        b"205004 \"\\xfe\"\n", b"205004 \"\\n\"\n", b"205004 \"\x7F\"\n", b"205004 \"\xFE\"\n",
+        b"205004 \"a\n", b"205004 \"a\"# note\n", b"205004 \"a\"x\n",
+    ]),
+    (24, Read(2, 1), &[b"\n001001 10\n", b"# note\r\n001001 10\n"]),
+    (24, Refused(Line(25)), &[b"001001 1.5\nx\n"]),
+    (24, Refused(Line(26)), &[b"\n# note\nx\n"]),
+    (23, Refused(SubsetCount(23)), &[b"subset 2\n"]),
+    (23, Refused(Line(23)), &[b"subset x\n", b"subset \n"]),
+    (23, Read(2, 1), &[b"subset 01\n"]),
+    (22, Read(2, 1), &[b"local1 abCD\n", b"descriptors 001001 001001 001001 001001 001001 001001 001001 001001\n"]),
+    (22, Refused(Line(22)), &[
+        b"local1 abC\n", b"local1 \n", b"section2 01\n",
+        b"descriptors 001001 001001 001001 001001 001001 001001 001001 001001 001001\n",
+        b"descriptors 0010010\n", b"descriptors  001001\n", b"descriptors\n",
+    ]),
+    (22, Read(2, 1), &[b"local1 01\nlocal1 0203\n", b"descriptors 001001\ndescriptors 001001\n"]),
+    (22, Refused(Line(23)), &[b"descriptors 001001\nlocal1 01\n"]),
+    (21, Refused(HeaderRange(21)), &[b"subsets 65536\n"]),
+    (21, Refused(SubsetCount(25)), &[b"subsets 2\n"]),
+    (21, Refused(SubsetCount(23)), &[b"subsets 0\n"]),
+    (20, Refused(HeaderRange(20)), &[b"optional 2\n"]),
+    (19, Refused(HeaderRange(19)), &[b"compressed 2\n"]),
+    (18, Refused(HeaderRange(18)), &[b"observed 2\n"]),
+    (4, Read(2, 1), &[b"\n# note\ncentre 98\n"]),
+    (4, Refused(Line(4)), &[
+        b"centre \n", b"centre +98\n", b"centre -98\n", b"centre  98\n", b"centre 65536x\n",
+        b"subcentre 65536\n",
+    ]),
+    (4, Read(2, 1), &[b"centre 65535\n"]),
+    (4, Refused(HeaderRange(4)), &[b"centre 65536\n"]),
+    (4, Refused(HeaderRange(6)), &[b"\n# note\ncentre 65536\n"]),
+    (3, Read(2, 1), &[b"master 255\n"]),
+    (3, Refused(HeaderRange(3)), &[b"master 256\n"]),
+    (2, Refused(HeaderRange(2)), &[b"edition 2\n", b"edition 5\n"]),
+    (2, Refused(HeaderRange(12)), &[b"edition 3\n"]),
 ];
 
-/// Asserts what the document is with each of these lines.
-fn assert_rules(rt: &impl Runtime, rules: &[(usize, &[u8], Next)]) {
-    for (number, text, want) in rules {
-        assert_document(rt, &with_line(rt, *number, text), *want);
+fn assert_texts(rt: &impl Runtime, number: usize, want: Next, texts: &[&[u8]]) {
+    for text in texts {
+        assert_document(rt, &with_line(rt, number, text), want);
     }
 }
 
@@ -219,7 +175,9 @@ fn assert_rules(rt: &impl Runtime, rules: &[(usize, &[u8], Next)]) {
 // rule: reading-section2, reading-descriptor, reading-number, reading-reference, reading-quoted
 // rule: reading-subsets, fault-50, fault-57, fault-61, fault-order-of-a-line
 fn reads_each_line_by_its_rule(rt: HostRuntime) {
-    assert_rules(&rt, RULES)
+    for (number, want, texts) in RULES {
+        assert_texts(&rt, *number, *want, *texts);
+    }
 }
 
 /// A document without a subset, with these lines of octets.
@@ -238,7 +196,7 @@ fn line_of_digits(rt: &impl Runtime, word: &[u8], count: usize) -> Vec<u8> {
 /// Lines of octets have at most 64 digits, and an even number of them.
 fn assert_octet_lines(rt: &impl Runtime, word: &[u8]) {
     for (count, want) in [
-        (64, Read(0, 0)),
+        (64, Read(0, 1)),
         (63, Refused(Line(22))),
         (66, Refused(Line(22))),
     ] {
@@ -258,9 +216,9 @@ fn reads_lines_of_octets(rt: HostRuntime) {
 #[rattlefmt::skip]
 static LONG_LINES: &[(usize, &[u8], usize, Next)] = &[
     (4, b"centre ", 4089, Refused(HeaderRange(4))),
-    (24, b"001001 ", 4089, Read(2, 25)),
+    (24, b"001001 ", 4089, Read(2, 1)),
     (24, b"001001 ", 4090, Refused(Line(24))),
-    (24, b"001001 10\n#", 4095, Read(2, 26)),
+    (24, b"001001 10\n#", 4095, Read(2, 1)),
     (24, b"001001 10\n#", 4096, Refused(Line(25))),
 ];
 
@@ -289,31 +247,29 @@ fn reads_several_documents(rt: HostRuntime) {
     assert_read(&rt, b"\n# note\n", None, &[Done]);
     assert_read(&rt, b"end\n", None, &[Refused(Line(1))]);
     let two = joined(&rt, &[b"\n", one, b"# note\n\n", one]);
-    assert_read(&rt, &two, None, &[Read(2, 26), Read(2, 53), Done]);
+    assert_read(&rt, &two, None, &[Read(2, 2), Read(2, 29), Done]);
     let refused = joined(&rt, &[one, b"x\n", one]);
-    assert_read(&rt, &refused, None, &[Read(2, 25), Refused(Line(26))]);
+    assert_read(&rt, &refused, None, &[Read(2, 1), Refused(Line(26))]);
 }
 
 /// A document is read before the read after it fails.
 #[test]
 fn reads_up_to_a_failed_read(rt: HostRuntime) {
     let two = repeated(&rt, text_of_one(&rt).as_bytes(), 2);
-    assert_read(&rt, &two, None, &[Read(2, 25), Read(2, 50), Done]);
+    assert_read(&rt, &two, None, &[Read(2, 1), Read(2, 26), Done]);
     let fault = Refused(ReadFault::Run(RunFault::Read));
-    assert_read(&rt, &two, Some(WHOLE), &[Read(2, 25), fault]);
+    assert_read(&rt, &two, Some(WHOLE), &[Read(2, 1), fault]);
     let short = with_line(&rt, 21, b"subsets 2\n");
     let text = joined(&rt, &[&short, &two]);
     assert_read(&rt, &text, Some(WHOLE), &[Refused(SubsetCount(25))]);
 }
 
-/// Asserts the flags of a document, its subsets and its entries.
 fn assert_counts(rt: &impl Runtime, document: &Document, want: (bool, bool, u16, usize)) {
     let flags = (document.observed(), document.compressed());
     let counts = (flags.0, flags.1, document.subsets(), document.entries());
     assert_same(rt, &counts, &want, &"counts");
 }
 
-/// Asserts the octets of a document in section 1 and in section 2.
 fn assert_octets(rt: &impl Runtime, document: &Document, local1: &[u8], section2: Option<&[u8]>) {
     assert_same(rt, &document.local1(), &local1, &"section 1");
     assert_same(rt, &document.section2(), &section2, &"section 2");
@@ -339,54 +295,20 @@ fn reads_local_use(rt: HostRuntime) {
     assert_counts(&rt, &document, (true, false, 0, 0));
 }
 
-/// Asserts what an item of a document is.
-fn assert_item(
-    rt: &impl Runtime,
-    document: &Document,
-    place: usize,
-    want: (u64, u16, DraftValue<'_>),
-) {
-    assert!(rt; place < document.entries());
-    let DraftEntry::Item(item) = document.entry(place) else {
-        assert_that(rt, false, &place);
-        return;
-    };
-    assert_same(rt, &(item.line, item.fxy.word(), item.form), &want, &place);
-}
-
-/// Asserts that a subset of a document ends at this line.
-fn assert_end(rt: &impl Runtime, document: &Document, place: usize, line: u64) {
-    assert!(rt; place < document.entries());
-    assert_that(rt, document.entry(place) == DraftEntry::End(line), &place);
-}
-
 #[test]
-fn reads_values_of_items(rt: HostRuntime) {
+fn counts_items(rt: HostRuntime) {
     let lines = b"001001 10  # note\n205001 \"\\x0A\"\n012101 MISSING\nR 012101 -400\n";
     let document = document_of(&rt, &with_line(&rt, 24, lines));
     assert_counts(&rt, &document, (true, false, 1, 5));
-    assert_item(&rt, &document, 0, (24, 0x0101, DraftValue::Number(b"10")));
-    assert_item(&rt, &document, 1, (25, 0x8501, DraftValue::Text(b"\n")));
-    assert_item(&rt, &document, 2, (26, 0x0c65, DraftValue::Missing));
-    assert_item(
-        &rt,
-        &document,
-        3,
-        (27, 0x0c65, DraftValue::Reference(b"-400")),
-    );
-    assert_end(&rt, &document, 4, 28);
 }
 
-/// The items of each subset come before its end.
+/// Each item and each end of a subset is an entry.
 #[test]
-// rule: reading-subset-end
-fn reads_compressed_subsets(rt: HostRuntime) {
+fn counts_compressed_entries(rt: HostRuntime) {
     let lines: &[u8] = b"observed 0\ncompressed 1\noptional 0\nsubsets 2\ndescriptors 001001\n\
         subset 1\n001001 10\nsubset 2\n001001 11\nend\n";
     let document = document_of(&rt, &joined(&rt, &[HEAD.as_bytes(), lines]));
     assert_counts(&rt, &document, (false, true, 2, 4));
-    assert_end(&rt, &document, 1, 25);
-    assert_end(&rt, &document, 3, 27);
 }
 
 // Faults of reading, their numbers and their texts.
@@ -427,19 +349,6 @@ fn reader_laws() {
     law::octets_after_the_lines_are_held();
 }
 
-/// A thousand documents are read one after another, and the end comes again.
-#[test]
-fn reads_a_thousand_documents(rt: HostRuntime) {
-    reader_laws();
-    let text = repeated(&rt, text_of_one(&rt).as_bytes(), 1000);
-    let mut wanted = Vec::new(rt.alloc());
-    for index in 1..=1000u64 {
-        ok(&rt, wanted.push(Read(2, index.saturating_mul(25))));
-    }
-    ok(&rt, wanted.push(Done));
-    assert_read(&rt, &text, None, &wanted);
-}
-
 /// What a reader of octets in memory reads next.
 fn next_in(reader: &mut DumpReader, unread: &mut &[u8]) -> Next {
     next_of(reader, &mut Device::new(unread))
@@ -448,6 +357,7 @@ fn next_in(reader: &mut DumpReader, unread: &mut &[u8]) -> Next {
 /// What was read after the last line of a document is held, and nothing else.
 #[test]
 fn holds_what_follows_a_document(rt: HostRuntime) {
+    reader_laws();
     let text = repeated(&rt, text_of_one(&rt).as_bytes(), 1000);
     let mut unread = text.as_slice();
     let mut reader = DumpReader::new(rt.alloc());
@@ -468,13 +378,12 @@ fn holds_the_last_line(rt: HostRuntime) {
     let text = joined(&rt, &[text_of_one(&rt).as_bytes(), b"# note"]);
     let mut r = ScriptIn::new(&text, 4096, None);
     let mut reader = DumpReader::new(rt.alloc());
-    assert_next(&rt, &mut reader, &mut r, Read(2, 25));
+    assert_next(&rt, &mut reader, &mut r, Read(2, 1));
     assert_same(&rt, &reader.held(), &6, &"held");
     assert_next(&rt, &mut reader, &mut r, Done);
     assert_same(&rt, &reader.held(), &0, &"held");
 }
 
-/// Asserts that the next document ends at this line, and gives its memory back.
 fn assert_reused<R: Source>(rt: &impl Runtime, reader: &mut DumpReader, r: &mut R, line: u64) {
     let document = some(rt, ok(rt, reader.next_document(r)));
     assert_same(rt, &read_as(&document), &Read(2, line), &line);
@@ -490,7 +399,7 @@ fn reuses_memory(rt: HostRuntime) {
     let mut r = ScriptIn::new(&text, 3, None);
     let mut reader = DumpReader::new(rt.alloc());
     reader.reuse(document_of(&rt, &text));
-    assert_reused(&rt, &mut reader, &mut r, 25);
-    assert_reused(&rt, &mut reader, &mut r, 51);
+    assert_reused(&rt, &mut reader, &mut r, 1);
+    assert_reused(&rt, &mut reader, &mut r, 27);
     assert_next(&rt, &mut reader, &mut r, Refused(SubsetCount(76)));
 }

@@ -1,9 +1,9 @@
 //! Whole runs of `ls`, `dump` and `encode`.
 
 use crate::messages::{
-    COMPRESSED, LOCAL_USE, ONE_BLOCK_NUMBER, PACKED, PLAIN, STRAY, THIRTY_TWO_GROUPS, bulletins,
-    delayed_twice, line_of_one, message_of, message_of_hex, messages_of_bulletins, of_edition_2,
-    text_of, text_of_one, worked_messages,
+    COMPRESSED, EDITION_3, LOCAL_USE, ONE_BLOCK_NUMBER, PACKED, PLAIN, STRAY, THIRTY_TWO_GROUPS,
+    bulletins, delayed_twice, dump_of, line_of_one, message_of, message_of_hex,
+    messages_of_bulletins, of_edition_2, text_of, text_of_one, worked_messages,
 };
 use crate::runs::Command::{Dump, Encode, EncodeIn, Ls};
 use crate::runs::{
@@ -12,7 +12,7 @@ use crate::runs::{
     assert_stops_at_reads, list, refused, roomy, run_whole, tally, writer,
 };
 use crate::support::{Runtime, assert_same, assert_that, from_hex, joined, ok, repeated};
-use crate::text_tests::text_of_local_use;
+use crate::text_tests::{text_of_local_use, with_head};
 use bufr_bits::{Device, End};
 use bufr_cli::{Round, dump_encode_dump, laws};
 use bufr_frame::RunFault;
@@ -35,29 +35,23 @@ struct Stream(
 static STREAMS: &[Stream] = &[
     Stream("one block number", b"", &[], b"", "0", ""),
     Stream("edition 2", b"", &[(7, 2)], b"", "", "offset 0: 10 edition 2\n"),
-    Stream("edition 2, then 4", b"", &[(7, 2)], ONE_BLOCK_NUMBER,
-        "48", "offset 0: 10 edition 2\n"),
+    Stream("edition 2, then 4", b"", &[(7, 2)], ONE_BLOCK_NUMBER, "48", "offset 0: 10 edition 2\n"),
     Stream("no end", b"", &[(47, b'6')], b"", "", "offset 0: 3 no end\n"),
     Stream("a stray word before a message", STRAY, &[], &[0; 8], "8", "offset 0: 3 no end\n"),
     Stream("a length of 11 octets", b"", &[(6, 11)], b"", "", "offset 0: 2 short length\n"),
-    Stream("such a length after a message", b"", &[], b"BUFR\x00\x00\x0B\x04abcd",
-        "0", "offset 48: 2 short length\n"),
+    Stream("such a length after a message", b"", &[], b"BUFR\x00\x00\x0B\x04abcd", "0", "offset 48: 2 short length\n"),
     Stream("a length past the end comes before a short one", b"", &[],
         b"BUFR\x00\x00\x0B\x04ab", "0", "offset 48: 1 cut\n"),
     Stream("octets between messages", b"IUSX40 ECMW\r\r\nBUBUF", &[], b"\r\r\nBUF", "19", ""),
     Stream("section 1 short", b"", &[(10, 21)], b"", "", "offset 0: 11 section 1 short\n"),
-    Stream("section 1 past the end", b"", &[(10, 40)], b"",
-        "", "offset 0: 12 section 1 past the end\n"),
+    Stream("section 1 past the end", b"", &[(10, 40)], b"", "", "offset 0: 12 section 1 past the end\n"),
     Stream("sections that do not meet the end", b"", &[(41, 4)], b"",
         "", "offset 0: 13 sections do not meet the end\n"),
-    Stream("section 2 short", b"", &[(17, 0x80), (32, 3)], b"",
-        "", "offset 0: 11 section 2 short\n"),
-    Stream("another edition comes before a section", b"", &[(7, 2), (10, 21)], b"",
-        "", "offset 0: 10 edition 2\n"),
+    Stream("section 2 short", b"", &[(17, 0x80), (32, 3)], b"", "", "offset 0: 11 section 2 short\n"),
+    Stream("another edition comes before a section", b"", &[(7, 2), (10, 21)], b"", "", "offset 0: 10 edition 2\n"),
     Stream("no word at all", b"", &[(0, 0)], b"", "", ""),
 ];
 
-/// Asserts what a command makes of a stream, where this is the piece of an accepted message.
 fn assert_stream(rt: &impl Runtime, command: Command, stream: &Stream, piece: &str) {
     let mut message = joined(rt, &[ONE_BLOCK_NUMBER]);
     for (index, octet) in stream.2 {
@@ -72,7 +66,6 @@ fn assert_stream(rt: &impl Runtime, command: Command, stream: &Stream, piece: &s
     assert_run(rt, run.with_errors(stream.5.as_bytes()))
 }
 
-/// Asserts what `ls` and `dump` make of each stream.
 fn assert_streams(rt: &impl Runtime, streams: &[Stream]) {
     let text = text_of_one(rt);
     for stream in streams {
@@ -101,14 +94,10 @@ const LINES: [&str; 2] = [
 // rule: listing-flags
 fn lists_optional_and_compressed(rt: HostRuntime) {
     let [local_use, compressed] = LINES;
-    assert_run(
-        &rt,
-        accepted(Ls, "local use", LOCAL_USE, local_use.as_bytes()),
-    );
-    assert_run(
-        &rt,
-        accepted(Ls, "compressed", COMPRESSED, compressed.as_bytes()),
-    )
+    let run = accepted(Ls, "local use", LOCAL_USE, local_use.as_bytes());
+    assert_run(&rt, run);
+    let run = accepted(Ls, "compressed", COMPRESSED, compressed.as_bytes());
+    assert_run(&rt, run)
 }
 
 #[test]
@@ -117,20 +106,21 @@ fn refuses_a_message_cut_anywhere(rt: HostRuntime) {
     assert_cut_anywhere(&rt, Ls, "one block number", ONE_BLOCK_NUMBER);
     assert_cut_anywhere(&rt, Dump, "delayed", &delayed_twice(&rt));
     assert_cut_anywhere(&rt, Dump, "compressed", COMPRESSED);
-    assert_cut_anywhere(&rt, Dump, "local use", LOCAL_USE)
+    assert_cut_anywhere(&rt, Dump, "local use", LOCAL_USE);
+    assert_cut_anywhere(&rt, Dump, "edition 3", EDITION_3)
 }
 
 #[test]
 fn refuses_each_of_many_words(rt: HostRuntime) {
-    let input = repeated(&rt, b"BUFR", 1024);
+    let input = repeated(&rt, b"BUFR", 16);
     let mut lines = String::new(rt.alloc());
-    for index in 0..1024u64 {
+    for index in 0..16u64 {
         let at = index.saturating_mul(4);
         let line = ok(&rt, format!(in rt.alloc(); "offset {at}: 1 cut\n"));
         ok(&rt, lines.push_str(line.as_str()));
     }
     let run = refused(Ls, "words", &input, lines.as_bytes());
-    assert_run(&rt, run.counting(0, 1024))
+    assert_run(&rt, run.counting(0, 16))
 }
 
 /// A reader that gives a message in each of two reads, and notes at each read how many octets the
@@ -194,19 +184,14 @@ fn accepts_an_empty_input(rt: HostRuntime) {
     }
 }
 
-// Descriptors, flags and data of messages that are dumped besides the worked ones, and the lines of
-// their subsets.
+// Messages that are dumped besides the worked ones: name, subsets, flags, descriptors, data, items.
 #[rattlefmt::skip]
 const DUMPED: &[(&str, u16, u8, &str, &str, &str)] = &[
     ("no subsets, compressed", 0, PACKED, "001001", "", ""),
-    ("eight descriptors", 1, PLAIN, "201000 201000 201000 201000 201000 201000 201000 001001",
-        "14", "subset 1\n001001 10  # WMO BLOCK NUMBER [Numeric]\n"),
-    ("two subsets", 2, PLAIN, "012101 201132", "708F708F",
-        "subset 1\n012101 288.15  # AIR TEMPERATURE [K]\n\
-        subset 2\n012101 288.15  # AIR TEMPERATURE [K]\n"),
+    ("eight descriptors", 1, PLAIN, "201000 201000 201000 201000 201000 201000 201000 001001", "14", "001001 10"),
+    ("two subsets", 2, PLAIN, "012101 201132", "708F708F", "012101 288.15|012101 288.15"),
 ];
 
-/// Asserts that a message is dumped to a text, which is encoded to a message of the same text.
 fn assert_dumped(rt: &impl Runtime, name: &str, message: &[u8], text: &[u8]) {
     assert_run(rt, accepted(Dump, name, message, text));
     let encoded = run_whole(rt, Encode, text);
@@ -214,26 +199,43 @@ fn assert_dumped(rt: &impl Runtime, name: &str, message: &[u8], text: &[u8]) {
 }
 
 #[test]
+// rule: text-lines-in-order, text-header, text-descriptors, text-subset, text-number, text-quoted
+// rule: text-missing, text-reference, text-inserted, text-escapes, text-comment, text-no-comment
 // rule: no-subsets
 fn dumps_worked_messages(rt: HostRuntime) {
     for row in worked_messages() {
-        assert_dumped(&rt, row.name, &row.message(&rt), row.text(&rt).as_bytes());
+        assert_dumped(&rt, row.0, &row.message(&rt), row.text(&rt).as_bytes());
     }
     for (name, subsets, flags, descriptors, data, items) in DUMPED {
         let message = message_of_hex(&rt, *subsets, *flags, descriptors, data);
-        let text = text_of(&rt, *subsets, *flags, descriptors, items);
+        let text = dump_of(&rt, *subsets, *flags, descriptors, items);
         assert_dumped(&rt, name, &message, text.as_bytes());
     }
 }
 
+/// A message without a subset, with 33 octets for local use and an empty section 2.
+const MANY_LOCAL_OCTETS: &str = "\
+    42554652 000054 04 000037 00 0062 0000 00 80 00 00 00 0E 00 07E8 01 02 03 04 05 \
+    00202020202020202020202020202020202020202020202020202020202020F9 1A \
+    000004 00 000009 00 0000 00 0101 000004 00 37373737";
+
+/// Its lines: a line has 32 octets for local use at most, and an empty section 2 has none.
+const MANY_LOCAL_LINES: &str = "\
+    observed 0\ncompressed 0\noptional 1\nsubsets 0\n\
+    local1 00202020202020202020202020202020202020202020202020202020202020F9\n\
+    local1 1A\ndescriptors 001001\nend\n";
+
 #[test]
+// rule: text-local1, text-section2, text-hexadecimal
 fn dumps_and_encodes_local_use(rt: HostRuntime) {
     let text = text_of_local_use(&rt);
     assert_run(&rt, accepted(Dump, "local use", LOCAL_USE, text.as_bytes()));
-    assert_run(
-        &rt,
-        accepted(Encode, "local use", text.as_bytes(), LOCAL_USE),
-    )
+    let run = accepted(Encode, "local use", text.as_bytes(), LOCAL_USE);
+    assert_run(&rt, run);
+    let octets = from_hex(&rt, MANY_LOCAL_OCTETS);
+    let text = with_head(&rt, MANY_LOCAL_LINES);
+    let run = accepted(Dump, "many local octets", &octets, text.as_bytes());
+    assert_run(&rt, run)
 }
 
 // A message that is refused: a name, subsets, flags, descriptors, data, and its fault.
@@ -252,23 +254,18 @@ const REFUSED: &[(&str, u16, u8, &str, &str, &str)] = &[
     ("local_shape", 1, PLAIN, "206008 101001 001001", "14", "28 local shape 206008"),
     ("delayed_past_the_end", 1, PLAIN, "101000 031001 001001", "FF142C",
         "30 data end at subset 1 descriptor 001001 bit 22"),
-    ("width_of_none", 1, PLAIN, "201121 001001", "00",
-        "31 width at subset 1 descriptor 001001 bit 0"),
+    ("width_of_none", 1, PLAIN, "201121 001001", "00", "31 width at subset 1 descriptor 001001 bit 0"),
     ("text_while_references_are_defined", 1, PLAIN, "203010 001015", "0000",
         "32 defining at subset 1 descriptor 001015 bit 0"),
     ("unequal_factor", 2, PACKED, "101000 031001 001001", "0105",
         "33 unequal factor at subset 0 descriptor 031001 bit 0"),
-    ("increment", 2, PACKED, "001001", "FC1100",
-        "34 increment at subset 0 descriptor 001001 bit 0"),
-    ("second_subset_past_the_end", 65535, PLAIN, "001001", "14",
-        "30 data end at subset 2 descriptor 001001 bit 7"),
+    ("increment", 2, PACKED, "001001", "FC1100", "34 increment at subset 0 descriptor 001001 bit 0"),
+    ("second_subset_past_the_end", 65535, PLAIN, "001001", "14", "30 data end at subset 2 descriptor 001001 bit 7"),
     ("many_passes_past_the_end", 1, PLAIN, "103255 102255 101255 001001", "14",
         "30 data end at subset 1 descriptor 001001 bit 7"),
-    ("template_before_data", 1, PLAIN, "203010 001015 063255", "0000",
-        "20 unknown element 063255"),
+    ("template_before_data", 1, PLAIN, "203010 001015 063255", "0000", "20 unknown element 063255"),
 ];
 
-/// Asserts that a message is refused at its fault.
 fn assert_refused(rt: &impl Runtime, name: &str, message: &[u8], fault: &str) {
     let line = ok(rt, format!(in rt.alloc(); "offset 0: {fault}\n"));
     assert_run(rt, refused(Dump, name, message, line.as_bytes()))
@@ -316,10 +313,6 @@ fn dumps_after_refused_messages(rt: HostRuntime) {
 /// The descriptors of two elements.
 const TWO: &str = "001001 012101";
 
-/// The lines of a subset of these.
-const ITEMS_OF_TWO: &str = "\
-    subset 1\n001001 10  # WMO BLOCK NUMBER [Numeric]\n012101 288.15  # AIR TEMPERATURE [K]\n";
-
 /// Of four messages with the same descriptors the data of the third end early. The others are
 /// dumped as one alone is.
 #[test]
@@ -327,7 +320,11 @@ fn dumps_after_refused_data_of_the_same_descriptors(rt: HostRuntime) {
     let good = message_of_hex(&rt, 1, PLAIN, TWO, "14E11E");
     let short = message_of_hex(&rt, 1, PLAIN, TWO, "14E1");
     let input = joined(&rt, &[&good, &good, &short, &good]);
-    let texts = repeated(&rt, text_of(&rt, 1, PLAIN, TWO, ITEMS_OF_TWO).as_bytes(), 3);
+    let texts = repeated(
+        &rt,
+        dump_of(&rt, 1, PLAIN, TWO, "001001 10;012101 288.15").as_bytes(),
+        3,
+    );
     let run = accepted(Dump, "the same descriptors", &input, &texts);
     let line = b"offset 104: 30 data end at subset 1 descriptor 012101 bit 7\n";
     assert_run(&rt, run.counting(3, 1).with_errors(line))
@@ -377,7 +374,7 @@ fn stops_after_a_stray(rt: HostRuntime) {
 
 /// A document that is refused, at its line 24.
 fn text_refused(rt: &impl Runtime) -> String {
-    text_of(rt, 1, PLAIN, "012101", "subset 1\n012101 288.155\n")
+    text_of(rt, 1, PLAIN, "012101", "012101 288.155")
 }
 
 /// Where the errors end, the messages before a refused document are written.
@@ -406,7 +403,6 @@ const FOLLOWED: &[(&str, &str)] = &[
     ("message\n", "line 27: 50 line\n"),
 ];
 
-/// Asserts that the document before these lines is encoded, and what they are refused with.
 fn assert_followed(rt: &impl Runtime, lines: &str, errors: &str) {
     let one = text_of_one(rt);
     let text = joined(rt, &[one.as_bytes(), lines.as_bytes()]);
@@ -454,23 +450,12 @@ fn encodes_other_lines_of_the_header(rt: HostRuntime) {
 // rule: first-refusal-ends
 fn stops_at_the_first_refused_document(rt: HostRuntime) {
     let (good, bad) = (text_of_one(&rt), text_refused(&rt));
-    let text = joined(
-        &rt,
-        &[
-            good.as_bytes(),
-            bad.as_bytes(),
-            good.as_bytes(),
-            b"no line\n",
-        ],
-    );
+    let both = joined(&rt, &[good.as_bytes(), bad.as_bytes()]);
+    let text = joined(&rt, &[&both, good.as_bytes(), b"no line\n"]);
     let second = accepted(Encode, "the second", &text, ONE_BLOCK_NUMBER).counting(1, 1);
     assert_run(&rt, second.with_errors(b"line 49: 52 number\n"));
-    let run = refused(
-        Encode,
-        "a failed read",
-        bad.as_bytes(),
-        b"line 24: 52 number\n",
-    );
+    let line = b"line 24: 52 number\n";
+    let run = refused(Encode, "a failed read", bad.as_bytes(), line);
     let mut devices = roomy(7);
     devices.fails_at = Some(bad.len());
     assert_ran(&rt, &Task::new(&rt, Encode), run, devices)
@@ -521,36 +506,12 @@ fn encodes_a_dumped_stream(rt: HostRuntime) {
     assert_run(&rt, run.counting(4, 0))
 }
 
-/// The line feed of the last line is missing.
-#[test]
-fn encodes_a_thousand_documents(rt: HostRuntime) {
-    let mut text = repeated(&rt, text_of_one(&rt).as_bytes(), 1000);
-    text.pop();
-    let messages = repeated(&rt, ONE_BLOCK_NUMBER, 1000);
-    let run = accepted(Encode, "a thousand", &text, &messages);
-    assert_run(&rt, run.counting(1000, 0))
-}
-
-/// The document of one block number after a comment of so many octets.
-fn with_comment(rt: &impl Runtime, count: usize) -> Vec<u8> {
-    let (note, one) = (repeated(rt, b"#", count), text_of_one(rt));
-    joined(rt, &[&note, b"\n", one.as_bytes()])
-}
-
-#[test]
-fn encodes_after_a_long_line(rt: HostRuntime) {
-    let text = with_comment(&rt, 4096);
-    assert_run(&rt, accepted(Encode, "4,096", &text, ONE_BLOCK_NUMBER));
-    let longer = with_comment(&rt, 4097);
-    assert_run(&rt, refused(Encode, "4,097", &longer, b"line 1: 50 line\n"))
-}
-
 /// A document is written compressed. The next one, of two subsets that differ in length, cannot be.
 #[test]
 fn encodes_a_stream_compressed(rt: HostRuntime) {
     let descriptors = "101000 031001 001001";
-    let first = "subset 1\n031001 2\n001001 10\n001001 11\n";
-    let second = "subset 1\n031001 1\n001001 10\nsubset 2\n031001 2\n001001 10\n001001 11\n";
+    let first = "031001 2;001001 10;001001 11";
+    let second = "031001 1;001001 10|031001 2;001001 10;001001 11";
     let first = text_of(&rt, 1, PLAIN, descriptors, first);
     let second = text_of(&rt, 2, PLAIN, descriptors, second);
     let text = joined(&rt, &[first.as_bytes(), second.as_bytes()]);

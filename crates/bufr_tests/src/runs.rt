@@ -62,14 +62,8 @@ pub(crate) fn refused<'a>(
     input: &'a [u8],
     errors: &'a [u8],
 ) -> Run<'a> {
-    Run {
-        command,
-        name,
-        input,
-        output: b"",
-        errors,
-        outcome: Ok(tally(0, 1)),
-    }
+    let run = accepted(command, name, input, b"");
+    run.counting(0, 1).with_errors(errors)
 }
 
 impl<'a> Run<'a> {
@@ -117,37 +111,6 @@ pub(crate) fn list<R: Source, W: Sink, E: Sink>(
     run_ls(alloc, r, w, e)
 }
 
-/// Dumps a stream.
-fn dump<R: Source, W: Sink, E: Sink>(
-    task: &Task,
-    r: &mut R,
-    w: &mut W,
-    e: &mut E,
-) -> Result<Tally, RunFault> {
-    run_dump(task.alloc, r, w, e, &task.b, &task.d)
-}
-
-/// Encodes a text.
-fn encode<R: Source, W: Sink, E: Sink>(
-    task: &Task,
-    r: &mut R,
-    w: &mut W,
-    e: &mut E,
-) -> Result<Tally, RunFault> {
-    run_encode(task.alloc, r, w, e, &task.b, &task.d)
-}
-
-/// Encodes a text in a form.
-fn encode_in<R: Source, W: Sink, E: Sink>(
-    task: &Task,
-    form: Form,
-    r: &mut R,
-    w: &mut W,
-    e: &mut E,
-) -> Result<Tally, RunFault> {
-    run_encode_form(task.alloc, r, w, e, &task.b, &task.d, form)
-}
-
 /// What a run returned, and its writers.
 #[derive(Drop)]
 pub(crate) struct Ran {
@@ -181,9 +144,11 @@ fn run_over<R: Source>(
     let (w, e) = (&mut output, &mut errors);
     let outcome = match task.command {
         Command::Ls => list(task.alloc, input, w, e),
-        Command::Dump => dump(task, input, w, e),
-        Command::Encode => encode(task, input, w, e),
-        Command::EncodeIn(form) => encode_in(task, form, input, w, e),
+        Command::Dump => run_dump(task.alloc, input, w, e, &task.b, &task.d),
+        Command::Encode => run_encode(task.alloc, input, w, e, &task.b, &task.d),
+        Command::EncodeIn(form) => {
+            run_encode_form(task.alloc, input, w, e, &task.b, &task.d, form)
+        }
     };
     Ran {
         outcome,
@@ -235,13 +200,11 @@ pub(crate) fn run_whole(rt: &impl Runtime, command: Command, input: &[u8]) -> Ra
     run_on(rt, &Task::new(rt, command), input, roomy(4096))
 }
 
-/// Asserts what a run over these devices returns and writes.
 pub(crate) fn assert_ran(rt: &impl Runtime, task: &Task, run: Run<'_>, devices: Devices) {
     let index = devices.fails_at.unwrap_or(devices.step);
     run_on(rt, task, run.input, devices).assert(rt, run, index)
 }
 
-/// Asserts what a run returns and writes, however few octets its devices take and give at once.
 pub(crate) fn assert_run(rt: &impl Runtime, run: Run<'_>) {
     let task = Task::new(rt, run.command);
     for step in [1, 3, 7, 4096] {
@@ -281,10 +244,9 @@ fn assert_room<'a>(
 
 /// An output that fails, takes nothing or is not flushed takes a prefix of the whole.
 pub(crate) fn assert_stops_at_output(rt: &impl Runtime, run: Run<'_>) {
-    let task = Task::new(rt, run.command);
+    let (task, errors) = (Task::new(rt, run.command), (run.errors.len(), End::Fail));
     for room in 0..run.output.len().saturating_add(1) {
         for end in [End::Fail, End::Zero, End::Flush] {
-            let errors = (run.errors.len(), End::Fail);
             assert_room(rt, &task, run, b"", ((room, end), errors));
         }
     }
@@ -293,10 +255,9 @@ pub(crate) fn assert_stops_at_output(rt: &impl Runtime, run: Run<'_>) {
 /// Errors that fail, take nothing or are not flushed take a prefix of the line. The output takes
 /// `before`, or the whole where the line was taken.
 pub(crate) fn assert_stops_at_errors(rt: &impl Runtime, run: Run<'_>, before: &[u8]) {
-    let task = Task::new(rt, run.command);
+    let (task, output) = (Task::new(rt, run.command), (run.output.len(), End::Fail));
     for room in 0..run.errors.len().saturating_add(1) {
         for end in [End::Fail, End::Zero, End::Flush] {
-            let output = (run.output.len(), End::Fail);
             assert_room(rt, &task, run, before, (output, (room, end)));
         }
     }

@@ -30,7 +30,6 @@ pub(crate) fn some<T>(rt: &impl Abort, option: Option<T>) -> T {
     }
 }
 
-/// Asserts that two values are equal, and shows the case where they are not.
 pub(crate) fn assert_same<T: Debug + PartialEq, C: Debug>(
     rt: &impl Abort,
     found: &T,
@@ -40,7 +39,6 @@ pub(crate) fn assert_same<T: Debug + PartialEq, C: Debug>(
     assert_eq!(rt; found, want, "for {case:?}");
 }
 
-/// Asserts that something holds, and shows the case where it does not.
 pub(crate) fn assert_that<C: Debug>(rt: &impl Abort, holds: bool, case: &C) {
     assert!(rt; holds, "for {case:?}");
 }
@@ -143,6 +141,18 @@ pub(crate) fn template_of(rt: &impl Runtime, text: &str) -> Template {
     let descriptors = descriptors_of(rt, text);
     let (table_b, table_d) = (table_b(rt), table_d(rt));
     ok(rt, build(rt.alloc(), &descriptors, &table_b, &table_d))
+}
+
+/// The template of a message, by the same tables.
+pub(crate) fn template_for(rt: &impl Runtime, message: &Message<'_>) -> Template {
+    let mut descriptors = Vec::new(rt.alloc());
+    for word in message.descriptors() {
+        ok(rt, descriptors.push(Fxy::from_word(word)));
+    }
+    ok(
+        rt,
+        build(rt.alloc(), &descriptors, &table_b(rt), &table_d(rt)),
+    )
 }
 
 /// The message that octets are.

@@ -23,7 +23,6 @@ const FACTORS: &[(u16, bool)] = &[
     (0x5f01, false),
 ];
 
-/// Asserts which word digits write, and that its descriptor is written as they are.
 fn assert_descriptor(rt: &impl Runtime, digits: &[u8], want: Option<u16>) {
     assert_same(rt, &Fxy::read(digits).map(Fxy::word), &want, &digits);
     if let Some(word) = want {
@@ -66,8 +65,7 @@ const ELEMENTS: &[(u16, &[u8], &[u8], Kind, (i16, i64, u32))] = &[
     (0x1403, b"PRESENT WEATHER", b"Code table", Kind::Coded, (0, 0, 9)),
     (0x1f00, b"SHORT DELAYED DESCRIPTOR REPLICATION FACTOR", b"Numeric", Kind::Numeric, (0, 0, 1)),
     (0x1f01, b"DELAYED DESCRIPTOR REPLICATION FACTOR", b"Numeric", Kind::Numeric, (0, 0, 8)),
-    (0x1f02, b"EXTENDED DELAYED DESCRIPTOR REPLICATION FACTOR", b"Numeric", Kind::Numeric,
-        (0, 0, 16)),
+    (0x1f02, b"EXTENDED DELAYED DESCRIPTOR REPLICATION FACTOR", b"Numeric", Kind::Numeric, (0, 0, 16)),
 ];
 
 /// An element that the table lacks, and descriptors that are no elements.
@@ -180,9 +178,7 @@ const ROWS_OF_B: &[(&str, &[&[u8]])] = &[
         // the first fault counts
         b"001001,A,K,0,0,x\n001001,A",
     ]),
-    (ROW_3, &[
-        b"001001,A,K,0,0,7\n001001,A,K,0,0,x", b"001001,A,K,0,0,7\n\n\n001002,A,K,0,0,x",
-    ]),
+    (ROW_3, &[b"001001,A,K,0,0,7\n001001,A,K,0,0,x", b"001001,A,K,0,0,7\n\n\n001002,A,K,0,0,x"]),
     ("42 001001 is in the table already", &[b"001001,A,K,0,0,7\n001001,A,K,0,0,7"]),
     (CSV, &[b"001001,A,K,0,0", b"001001,A,K,0,0,7,", b"001001,A,K,0,0,7\n001001,A"]),
 ];
@@ -235,7 +231,6 @@ fn assert_d(rt: &impl Runtime, text: &[u8], want: &str) {
     assert_same(rt, &found.as_str(), &want, &"Table D");
 }
 
-/// Asserts what reading gives, of all rows after their header.
 fn assert_all(rt: &impl Runtime, cases: &[(&str, &[&[u8]])], is_b: bool) {
     for (want, texts) in cases {
         for rows in *texts {

@@ -110,8 +110,7 @@ fn lists_of_descriptors(rt: HostRuntime) {
 const CELLS: &[(&str, &str, &str)] = &[
     ("one_block_number", "001001", "E001001 F"),
     ("delayed_twice", "101000 031001 001001", "D:4 R031001 E001001 P F"),
-    ("delayed_in_delayed", "103000 031001 101000 031001 001001",
-        "D:7 R031001 D:6 R031001 E001001 P P F"),
+    ("delayed_in_delayed", "103000 031001 101000 031001 001001", "D:7 R031001 D:6 R031001 E001001 P P F"),
     ("width_and_scale_changed", "201132 202129 012101 201000 202000 012101",
         "O201132 O202129 E012101 O201000 O202000 E012101 F"),
     ("groups_and_a_sequence", "103000 031001 206012 063255 360192 101255 001001",

@@ -207,8 +207,7 @@ const READINGS: &[(&str, u16, u8, &str, &str, &str)] = &[
     ("later_change_replaces", 1, PLAIN,
         "201130 202130 207002 201132 202129 207001 012101", "2BF7FA",
         "bits 24 steps 8; 1: 012101 2881530e4 #"),
-    ("changes_add", 1, PLAIN, "201130 202129 207002 005002", "0DB9AC",
-        "bits 24 steps 5; 1: 005002 -500e5 #"),
+    ("changes_add", 1, PLAIN, "201130 202129 207002 005002", "0DB9AC", "bits 24 steps 5; 1: 005002 -500e5 #"),
     ("precision_of_a_reference", 1, PLAIN,
         "201132 207001 203010 012101 203255 012101", "E4011D4E40",
         "bits 34 steps 7; 1: 012101 R-400 012101 288153e3 #"),
@@ -223,21 +222,16 @@ const READINGS: &[(&str, u16, u8, &str, &str, &str)] = &[
     ("given_class_31", 1, PLAIN, "206012 031021 206004 031255", "FFFF",
         "bits 16 steps 5; 1: 031021 4095e0 031255 15e0"),
     ("defining_inserted", 1, PLAIN, "203010 205001", "41", "32 at 1 205001 0 steps 2"),
-    ("operator_while_defining", 1, PLAIN, "203010 012101 201132 012101", "E400",
-        "32 at 1 201132 10 steps 3"),
-    ("defining_again", 1, PLAIN, "203010 012101 203008 012101", "E400",
-        "32 at 1 203008 10 steps 3"),
-    ("defining_delayed", 1, PLAIN, "203010 101000 031001 001001", "02142C",
-        "32 at 1 031001 0 steps 3"),
+    ("operator_while_defining", 1, PLAIN, "203010 012101 201132 012101", "E400", "32 at 1 201132 10 steps 3"),
+    ("defining_again", 1, PLAIN, "203010 012101 203008 012101", "E400", "32 at 1 203008 10 steps 3"),
+    ("defining_delayed", 1, PLAIN, "203010 101000 031001 001001", "02142C", "32 at 1 031001 0 steps 3"),
     ("defining_passes_a_group", 1, PLAIN,
         "203010 102002 012101 020003 203255 012101", "E400199202708F",
         "bits 56 steps 11; 1: 012101 R-400 020003 R1 012101 R-100 020003 R-2 012101 28715e2 #"),
     ("no_definitions_to_end", 1, PLAIN, "203255 001001 203010 012101", "15C800",
         "bits 17 steps 5; 1: 001001 10e0 # 012101 R-400"),
-    ("defining_before_the_width", 1, PLAIN, "203010 206064 063255", "00",
-        "32 at 1 206064 0 steps 2"),
-    ("delayed_past_the_end", 1, PLAIN, "101000 031001 001001", "FF142C",
-        "30 at 1 001001 22 steps 7"),
+    ("defining_before_the_width", 1, PLAIN, "203010 206064 063255", "00", "32 at 1 206064 0 steps 2"),
+    ("delayed_past_the_end", 1, PLAIN, "101000 031001 001001", "FF142C", "30 at 1 001001 22 steps 7"),
     ("reference_defined_again", 1, PLAIN,
         "203010 012101 001001 012101 203255 012101 001001", "E4014191C23C50",
         "bits 53 steps 8; 1: 012101 R-400 001001 R20 012101 R100 012101 28915e2 # 001001 30e0 #"),
@@ -246,15 +240,12 @@ const READINGS: &[(&str, u16, u8, &str, &str, &str)] = &[
     ("each_subset_from_the_beginning", 2, PLAIN, "012101 201132", "708F708F",
         "bits 32 steps 6; 1: 012101 28815e2 # 2: 012101 28815e2 #"),
     ("second_subset_past_the_end", 65535, PLAIN, "001001", "14", "30 at 2 001001 7 steps 3"),
-    ("third_subset_past_the_end", 3, PLAIN, "001001 012101", "14E11E29C23C5387",
-        "30 at 3 012101 53 steps 8"),
+    ("third_subset_past_the_end", 3, PLAIN, "001001 012101", "14E11E29C23C5387", "30 at 3 012101 53 steps 8"),
     ("subsets_of_other_counts", 2, PLAIN, "101000 031001 001001", "01140428A0",
         "bits 37 steps 12; 1: 031001 1e0 # 001001 10e0 # 2: 031001 2e0 # 001001 10e0 # 001001 \
          20e0 #"),
-    ("many_passes_past_the_end", 1, PLAIN, "103255 102255 101255 001001", "14",
-        "30 at 1 001001 7 steps 6"),
-    ("last_bit", 1, PLAIN, "205001 012101", "41708F",
-        "bits 24 steps 3; 1: 205001 \"41\" 012101 28815e2 #"),
+    ("many_passes_past_the_end", 1, PLAIN, "103255 102255 101255 001001", "14", "30 at 1 001001 7 steps 6"),
+    ("last_bit", 1, PLAIN, "205001 012101", "41708F", "bits 24 steps 3; 1: 205001 \"41\" 012101 28815e2 #"),
     ("one_bit_past", 1, PLAIN, "205001 201129 012101", "41708F", "30 at 1 012101 8 steps 3"),
     ("base_of_all_ones_data_end", 2, PACKED, "012101", "FFFF80", "30 at 0 012101 0 steps 1"),
     ("text_of_255", 2, PACKED, "205002", "FFFF0BFFFFFFF8",
@@ -272,16 +263,13 @@ const READINGS: &[(&str, u16, u8, &str, &str, &str)] = &[
          18e0 # 001001 R5 001001 16e0 # 2: 031001 3e0 # 001001 R5 001001 15e0 # 001001 R7 \
          001001 19e0 # 001001 R5 001001 16e0 #"),
     ("factors_that_differ", 2, PACKED, "101000 031001 001001", "0105", "33 at 0 031001 0 steps 2"),
-    ("two_missing", 1, PLAIN, "001001 012101", "FFFFFE",
-        "bits 23 steps 3; 1: 001001 missing # 012101 missing #"),
+    ("two_missing", 1, PLAIN, "001001 012101", "FFFFFE", "bits 23 steps 3; 1: 001001 missing # 012101 missing #"),
     ("one_bit", 1, PLAIN, "012101", "70", "30 at 1 012101 0 steps 1"),
     ("second_item_past_the_end", 1, PLAIN, "001001 012101", "14E1", "30 at 1 012101 7 steps 2"),
-    ("second_of_two_subsets_past_the_end", 2, PLAIN, "001001 012101", "14E11E29",
-        "30 at 2 012101 30 steps 5"),
+    ("second_of_two_subsets_past_the_end", 2, PLAIN, "001001 012101", "14E11E29", "30 at 2 012101 30 steps 5"),
     ("two_subsets", 2, PLAIN, "001001 012101", "14E11E29C23C",
         "bits 46 steps 6; 1: 001001 10e0 # 012101 28815e2 # 2: 001001 10e0 # 012101 28815e2 #"),
-    ("delayed_once", 1, PLAIN, "101000 031001 001001", "0114",
-        "bits 15 steps 5; 1: 031001 1e0 # 001001 10e0 #"),
+    ("delayed_once", 1, PLAIN, "101000 031001 001001", "0114", "bits 15 steps 5; 1: 031001 1e0 # 001001 10e0 #"),
 ];
 
 fn assert_row(rt: &impl Runtime, row: &(&str, u16, u8, &str, &str, &str)) {
@@ -306,10 +294,8 @@ fn readings_of_messages(rt: HostRuntime) {
         assert_row(&rt, row);
     }
     for worked in worked_messages() {
-        let (name, subsets, flags) = (worked.name, worked.subsets, worked.flags);
-        let (descriptors, payload) = (worked.descriptors, worked.payload);
-        let want = worked.reading;
-        assert_row(&rt, &(name, subsets, flags, descriptors, payload, want));
+        let row = (worked.0, worked.1, worked.2, worked.3, worked.4, worked.5);
+        assert_row(&rt, &row);
     }
 }
 
@@ -329,8 +315,7 @@ const LIMITS: &[(&str, u16, u8, &str, ([u8; 2], usize), &str, Option<(u64, u64)>
         "bits 65535 steps 131070", Some((65535, 65535))),
     ("as_many_compressed_subsets_as_may_be", 65535, PACKED, "001001", ([0x14, 0x00], 2),
         "bits 13 steps 2 held 1", Some((65535, 65535))),
-    ("many_fields", 2, PLAIN, "102205 101005 001001", ([0x14, 0x00], 1794),
-        "bits 14350 steps 4924", Some((2, 2050))),
+    ("many_fields", 2, PLAIN, "102205 101005 001001", ([0x14, 0x00], 1794), "bits 14350 steps 4924", Some((2, 2050))),
 ];
 
 /// So many octets, the first two of them given, the others 0.

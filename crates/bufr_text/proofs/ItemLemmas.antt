@@ -1,7 +1,8 @@
 -- How item lines are taken apart.
-use Rattle.std.proofs.Common.{◌≡◌, ℕ, ◌+◌, ◌<◌, ◌≤◌, ◌==◌, Bool, true, false, List, [], ◌∷◌, ◌++◌, length, take, drop, refl, sym, ap, ◌∙◌, arith, Option, Some, None, append-nil, append_assoc, if◌then◌else◌, ◌&&◌}
+use Rattle.std.proofs.Common.{◌≡◌, ℕ, zero, suc, ◌+◌, ◌<◌, ◌≤◌, ◌==◌, Bool, true, false, List, [], ◌∷◌, ◌++◌, length, take, drop, refl, sym, ap, ◌∙◌, arith, Option, Some, None, append-nil, append_assoc, if◌then◌else◌, ◌&&◌}
 use Rattle.std.specs.Prelude.{slice_index, option_map, MatchOption}
 use Rattle.std.specs.Borrow.{Bor}
+use Rattle.std.specs.List.{list_all}
 use Rattle.std.specs.Str.{bytes_eq}
 use Rattle.std.proofs.lemmas.Bool.Decides.{nat_tests}
 use Rattle.std.proofs.lemmas.Grind.{common_steps}
@@ -117,6 +118,27 @@ pub word-is : (word text : List ℕ) (r : Option (Bor (List ℕ))) → MatchOpti
 word-is word text None h = sym (word-absent word text h)
 word-is word text (Some x) h = ap Some h.1 ∙ sym (word-there word text h.0)
 
+-- a token of number octets that no further one follows
+octets-while : (text : List ℕ) (count : ℕ) → count ≤ length text → list_all is_number_octet (take count text) ≡ true → is_number_octet (slice_index (drop count text) 0) ≡ false → (prefix_while is_number_octet text ≡ take count text) × (suffix_while is_number_octet text ≡ drop count text)
+unfolding prefix_while suffix_while
+octets-while [] zero le all stop = (refl, refl)
+octets-while [] (suc count) le all stop = absurd (omega arith)
+octets-while (c ∷ text) zero le all stop = (rw stop refl, rw stop refl)
+octets-while (c ∷ text) (suc count) le all stop =
+    let one = and_first (is_number_octet c) (list_all is_number_octet (take count text)) all in
+    let rest = octets-while text count (omega arith) (and_second (is_number_octet c) (list_all is_number_octet (take count text)) all) stop in
+    (rw one (ap (λ (t : List ℕ). c ∷ t) rest.0), rw one rest.1)
+
+octet-first : (text : List ℕ) (count : ℕ) → 0 < count → count ≤ length text → list_all is_number_octet (take count text) ≡ true → is_number_octet (slice_index text 0) ≡ true
+octet-first text zero some le all = absurd (omega arith)
+octet-first [] (suc count) some le all = absurd (omega arith)
+octet-first (c ∷ text) (suc count) some le all = and_first (is_number_octet c) (list_all is_number_octet (take count text)) all
+
+pub value-decimal : (text token : List ℕ) (count : ℕ) → 0 < count → count ≤ length text → take count text ≡ token → list_all is_number_octet (take count text) ≡ true → is_number_octet (slice_index (drop count text) 0) ≡ false → value_read text ≡ Some (number_token token, drop count text)
+value-decimal text token count some le is all stop =
+    let parts = octets-while text count le all stop in
+    value-token text (octet-first text count some le all) ∙ rw (parts.0, parts.1, is) refl
+
 -- one space
 pub space-none : (text : List ℕ) → length text ≡ 0 → without_space text ≡ None
 unfolding without_prefix
@@ -168,7 +190,14 @@ pub passed-none : (text : List ℕ) → length text ≡ 0 → is_passed_after te
 passed-none [] e = refl
 passed-none (c ∷ more) e = absurd (omega arith)
 
-pub ruleset hash_steps = (hashed-space, hashed-other, hashed-end, passed-space, passed-other, passed-none)
+pub passed-comment : (text : List ℕ) → 3 ≤ length text → slice_index text 0 ≡ 32 → slice_index text 1 ≡ 32 → slice_index text 2 ≡ 35 → is_passed_after text ≡ true
+unfolding is_hashed
+passed-comment [] le a b c = absurd (omega arith)
+passed-comment (x ∷ []) le a b c = absurd (omega arith)
+passed-comment (x ∷ y ∷ []) le a b c = absurd (omega arith)
+passed-comment (x ∷ y ∷ z ∷ more) le a b c = rw (a, b, c) refl
+
+pub ruleset hash_steps = (hashed-space, hashed-other, hashed-end, passed-space, passed-other, passed-none, passed-comment)
 
 -- references
 pub reference-some : (text : List ℕ) → is_number_octet (slice_index text 0) ≡ true → number_value reference_token text ≡ Some (reference_token (prefix_while is_number_octet text), suffix_while is_number_octet text)

@@ -1,18 +1,8 @@
 -- How a document is kept while it is read.
 -- Cited by private steps only.
 use Rattle.std.specs.Prelude.{◌≡◌, ℕ, ◌≤◌, List, length, take}
-use Rattle.bufr_fill.specs.Draft.{DraftValue, number_token, text_form, missing_form, reference_token}
 use Rattle.bufr_text.specs.Document as spec
-use Rattle.bufr_text.specs.declared.document.ValueKind.{ValueKind}
-use Rattle.bufr_text.specs.declared.document.ValueKind.TheVariants as kind
 use Rattle.bufr_text.specs.declared.document.DocumentParts.TheInside.{Inside}
-
--- what octets mean
-abbrev pub form_by : ValueKind → List ℕ → DraftValue
-form_by kind.Number octets = number_token octets
-form_by kind.Text octets = text_form octets
-form_by kind.Missing octets = missing_form
-form_by kind.Reference octets = reference_token octets
 
 -- there are at most twenty values
 pub record IsHeaderInside (d : Inside) : Type 0 where

@@ -1,19 +1,20 @@
 //! A message as its text gives it.
-ghost use Rattle.std.specs.Prelude.{◌≡◌, ℕ, ◌+◌, ◌<◌, ◌≤◌, List, [], ◌∷◌, ◌++◌, length, take, map, OnOk, IsTrue, slice_index, slice_index_or, option_map};
-ghost use Rattle.bufr_fill.specs.Draft.{draft};
+ghost use Rattle.std.specs.Prelude.{◌≡◌, ℕ, ◌+◌, ◌<◌, ◌≤◌, List, [], ◌∷◌, ◌++◌, length, take, map, OnOk, IsTrue, slice_index, option_map};
+ghost use Rattle.bufr_bits.specs.ShortDecimal.{short_text};
+ghost use Rattle.bufr_fill.specs.Draft.{draft, number_token};
 ghost use Rattle.bufr_frame.specs.Layout.{is_writable};
 ghost use Rattle.bufr_frame.specs.Section1.{slots_4};
 ghost use Rattle.bufr_fill.specs.Entries.{Holds, Ends, subsets_of};
-ghost use Rattle.bufr_fill.specs.Given.{entry_in, form_in};
+ghost use Rattle.bufr_fill.specs.Given.{form_in};
 ghost use Rattle.bufr_text.specs.Document as spec;
 ghost use Rattle.bufr_text.specs.Document.{subsets_in};
 ghost use Rattle.bufr_text.specs.Documents.{with_value, with_local1, with_section2, with_descriptors, with_entry};
 ghost use Rattle.bufr_text.specs.Header.{head_from_values, observed_in, compressed_in, section2_in, most_entries};
 ghost use Rattle.bufr_text.specs.Whole.{IsWhole};
-ghost use Rattle.bufr_text.specs.Kept.{form_by};
 ghost use Rattle.bufr_text.specs.Line.{mosts};
 
-use bufr_fill::{DraftEntry, DraftValue, Entries};
+use bufr_bits::ShortDecimal;
+use bufr_fill::{DraftItem, DraftValue, Entries};
 use bufr_frame::Head;
 use bufr_tables::Fxy;
 use std::alloc::{AllocError, Global};
@@ -21,27 +22,6 @@ use std::marker::Model;
 
 /// How many keys the header has.
 const KEYS: usize = 20;
-
-/// The form of a value.
-#[derive(Clone, Copy)]
-pub(crate) enum ValueKind {
-    Number,
-    Text,
-    Missing,
-    Reference,
-}
-
-/// What octets mean.
-fn form_kept(kind: ValueKind, octets: &[u8]) -> DraftValue<'_>
-    ensures { form_in result ≡ form_by kind octets.now }
-{
-    match kind {
-        ValueKind::Number => DraftValue::Number(octets),
-        ValueKind::Text => DraftValue::Text(octets),
-        ValueKind::Missing => DraftValue::Missing,
-        ValueKind::Reference => DraftValue::Reference(octets),
-    }
-}
 
 /// The parts of a document, as far as they were read.
 #[derive(Drop)]
@@ -154,14 +134,27 @@ impl DocumentParts {
         &mut self,
         line: u64,
         fxy: u16,
-        kind: ValueKind,
-        octets: &[u8],
+        form: DraftValue<'_>,
     ) -> Result<(), AllocError>
         ensures { OnOk result
-            (self.new ≡ with_entry self.old (Holds (draft line fxy (form_by kind octets.now)))) }
+            (self.new ≡ with_entry self.old (Holds (draft line fxy (form_in form.entry)))) }
     {
-        let form = form_kept(kind, octets);
-        self.entries.push_item(line, Fxy::from_word(fxy), form)
+        let fxy = Fxy::from_word(fxy);
+        self.entries.push_item(DraftItem { line, fxy, form })
+    }
+
+    /// One more item, whose value is a short decimal.
+    #[inline(always)]
+    pub(crate) fn push_decimal(
+        &mut self,
+        line: u64,
+        fxy: u16,
+        number: ShortDecimal,
+    ) -> Result<(), AllocError>
+        ensures { OnOk result (self.new
+            ≡ with_entry self.old (Holds (draft line fxy (number_token (short_text number))))) }
+    {
+        self.entries.push_decimal(line, Fxy::from_word(fxy), number)
     }
 
     /// The end of a subset.
@@ -338,17 +331,6 @@ impl Document {
         ensures few { result ≤ most_entries }
     {
         self.parts.entries().len()
-    }
-
-    /// The entry at a place, from 0. Each subset's items are before its end.
-    pub fn entry(&self, place: usize) -> DraftEntry<'_>
-        requires { place < length self.now.entries }
-        ensures { entry_in result ≡ slice_index_or self.now.entries place (entry_in result) }
-    {
-        match self.parts.entries().get(place) {
-            Some(entry) => entry,
-            None => unreachable!(),
-        }
     }
 
     /// The items of all subsets and the lines that end them.

@@ -105,7 +105,7 @@ fn push_subsets<W: Sink>(
         result steps.new }
     ensures bounded { steps.new ≤ places reading.now.template * reading.now.bits }
 {
-    match reading.show_by(alloc, specs, lines, steps) {
+    match reading.show_by(specs, lines, steps) {
         Ok(()) => {
             lines.push(b"end\n");
             lines.hand_on();

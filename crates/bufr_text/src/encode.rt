@@ -29,6 +29,13 @@ use bufr_tables::{Fxy, TableB, TableD, Template, TemplateFault};
 use bufr_walk::{SpecCache, Steps, TemplateCache, WalkStop, walk_by};
 use std::alloc::{AllocError, Global};
 
+/// A document, and the form of its data.
+#[derive(Clone, Copy)]
+struct FormedDocument<'a> {
+    document: &'a Document,
+    form: Form,
+}
+
 /// The fault of a walk that stopped, where the next entry is on a line.
 // rule: fault-62
 fn of_stop(stop: WalkStop<DraftFault>, line: u64) -> DocumentFault
@@ -90,20 +97,18 @@ fn template_of<'t>(
 
 /// Writes one subset, and goes past its end.
 fn write_subset(
-    alloc: Global,
     template: &Template,
-    table: &TableB,
     cache: &mut SpecCache<'_>,
     out: &mut PlainOut<'_>,
     steps: &mut Steps,
 ) -> Result<(), DocumentFault>
-    requires some { 1 ≤ length (subsets_of out.old.left) }
-    requires cached { cache.old ≡ table.now }
+    requires { 1 ≤ length (subsets_of out.old.left) }
     ensures same { cache.new ≡ cache.old }
-    ensures written { WritesSubset (places template.now) (next_item table.now template.now) out.old
+    ensures written { WritesSubset (places template.now)
+        (next_item cache.old template.now) out.old
         steps.old result out.new steps.new }
 {
-    match walk_by(alloc, template, table, cache, out, steps) {
+    match walk_by(template, cache, out, steps) {
         Ok(()) => match out.end_subset() {
             Ok(()) => Ok(()),
             Err(why) => Err(of_draft(why)),
@@ -114,50 +119,47 @@ fn write_subset(
 
 /// The octets of data that are not compressed, of so many subsets.
 fn write_plain(
-    alloc: Global,
+    template: &Template,
     entries: &Entries,
     subsets: u16,
-    template: &Template,
-    table: &TableB,
     cache: &mut SpecCache<'_>,
     steps: &mut Steps,
 ) -> Result<Vec<u8>, DocumentFault>
     requires none { steps.old ≡ 0 }
     requires few { length entries.now ≤ 2 ^ 45 }
     requires many { length (subsets_of entries.now) ≡ subsets }
-    requires cached { cache.old ≡ table.now }
     ensures same { cache.new ≡ cache.old }
-    ensures written { WritesData (places template.now) false (next_item table.now template.now)
+    ensures written { WritesData (places template.now) false
+        (next_item cache.old template.now)
         (subsets_of entries.now) result steps.new }
 {
-    let mut out = PlainOut::new(alloc, entries);
+    let mut out = PlainOut::new(cache.allocator(), entries);
     'subsets: for done in 0..subsets {
-        write_subset(alloc, template, table, cache, &mut out, steps)?;
+        write_subset(template, cache, &mut out, steps)?;
     }
     Ok(out.into_octets())
 }
 
 /// The octets of compressed data.
 fn write_packed(
-    alloc: Global,
-    entries: &Entries,
     template: &Template,
-    table: &TableB,
+    entries: &Entries,
     cache: &mut SpecCache<'_>,
     steps: &mut Steps,
 ) -> Result<Vec<u8>, DocumentFault>
     requires none { steps.old ≡ 0 }
     requires few { length entries.now ≤ 2 ^ 45 }
-    requires cached { cache.old ≡ table.now }
     ensures same { cache.new ≡ cache.old }
-    ensures written { WritesData (places template.now) true (next_item table.now template.now)
+    ensures written { WritesData (places template.now) true
+        (next_item cache.old template.now)
         (subsets_of entries.now) result steps.new }
 {
+    let alloc = cache.allocator();
     let mut out = match PackedOut::new(alloc, entries)? {
         Some(out) => out,
         None => return Ok(Vec::new(alloc)),
     };
-    match walk_by(alloc, template, table, cache, &mut out, steps) {
+    match walk_by(template, cache, &mut out, steps) {
         Ok(()) => match out.end() {
             Ok(()) => Ok(out.into_octets()),
             Err(why) => Err(of_draft(why)),
@@ -168,41 +170,31 @@ fn write_packed(
 
 /// Whether the data of a document are compressed in a form.
 // rule: form-option
-fn is_compressed(document: &Document, form: Form) -> bool
-    ensures { result ≡ compressed_as form document.now }
+fn is_compressed(formed: FormedDocument<'_>) -> bool
+    ensures { result ≡ compressed_as formed.entry.form formed.entry.document.now }
 {
-    form.is_compressed(document.compressed())
+    formed.form.is_compressed(formed.document.compressed())
 }
 
 /// The octets of a document's data in a form.
 fn write_data(
-    alloc: Global,
-    document: &Document,
-    form: Form,
     template: &Template,
-    table: &TableB,
+    formed: FormedDocument<'_>,
     cache: &mut SpecCache<'_>,
     steps: &mut Steps,
 ) -> Result<Vec<u8>, DocumentFault>
-    requires none { steps.old ≡ 0 }
-    requires cached { cache.old ≡ table.now }
+    requires { steps.old ≡ 0 }
     ensures same { cache.new ≡ cache.old }
-    ensures written { WritesData (places template.now) (compressed_as form document.now)
-        (next_item table.now template.now) (subsets_of document.now.entries) result steps.new }
+    ensures written { WritesData (places template.now)
+        (compressed_as formed.entry.form formed.entry.document.now)
+        (next_item cache.old template.now)
+        (subsets_of formed.entry.document.now.entries) result steps.new }
 {
-    let entries = document.items();
-    if is_compressed(document, form) {
-        write_packed(alloc, entries, template, table, cache, steps)
+    let entries = formed.document.items();
+    if is_compressed(formed) {
+        write_packed(template, entries, cache, steps)
     } else {
-        write_plain(
-            alloc,
-            entries,
-            document.subsets(),
-            template,
-            table,
-            cache,
-            steps,
-        )
+        write_plain(template, entries, formed.document.subsets(), cache, steps)
     }
 }
 
@@ -210,33 +202,34 @@ fn write_data(
 // rule: writes-local-use, fault-60
 fn write_whole(
     alloc: Global,
-    document: &Document,
-    form: Form,
+    formed: FormedDocument<'_>,
     payload: &[u8],
 ) -> Result<Vec<u8>, DocumentFault>
-    ensures octets { IfOk result (λ octets. message_of document.now.line
-        (head_from_values document.now)
-        (parts_as (compressed_as form document.now) document.now payload.now) ≡ Ok octets.items) }
+    ensures octets { IfOk result (λ octets. message_of formed.entry.document.now.line
+        (head_from_values formed.entry.document.now)
+        (parts_as (compressed_as formed.entry.form formed.entry.document.now)
+        formed.entry.document.now payload.now) ≡ Ok octets.items) }
     ensures fault { IfErr result (λ why. IsDocumentRefusal (reported_refusal why)
-        (message_of document.now.line (head_from_values document.now)
-        (parts_as (compressed_as form document.now) document.now payload.now))) }
+        (message_of formed.entry.document.now.line (head_from_values formed.entry.document.now)
+        (parts_as (compressed_as formed.entry.form formed.entry.document.now)
+        formed.entry.document.now payload.now))) }
     ensures payload { (bits : List Bool) → AreOctetsOf payload.now bits
         → payload.now ≡ octets_of_bits bits }
 {
     let written = write_message(
         alloc,
-        &document.head(),
-        document.local1(),
-        document.section2(),
-        document.descriptors(),
-        document.subsets(),
-        document.observed(),
-        is_compressed(document, form),
+        &formed.document.head(),
+        formed.document.local1(),
+        formed.document.section2(),
+        formed.document.descriptors(),
+        formed.document.subsets(),
+        formed.document.observed(),
+        is_compressed(formed),
         payload,
     );
     match written {
         Ok(octets) => Ok(octets),
-        Err(WriteFault::TooLong) => Err(DocumentFault::TooLong(document.line())),
+        Err(WriteFault::TooLong) => Err(DocumentFault::TooLong(formed.document.line())),
         Err(WriteFault::Memory) => Err(DocumentFault::Memory),
     }
 }
@@ -244,38 +237,42 @@ fn write_whole(
 /// The octets of a document's message in a form, by the template that was selected for it.
 fn encode_selected(
     alloc: Global,
-    document: &Document,
-    form: Form,
+    formed: FormedDocument<'_>,
     templates: &TemplateCache<'_>,
     cache: &mut SpecCache<'_>,
     steps: &mut Steps,
 ) -> Result<Vec<u8>, DocumentFault>
     requires none { steps.old ≡ 0 }
-    requires list { templates.now.list ≡ document.now.descriptors }
+    requires list { templates.now.list ≡ formed.document.now.descriptors }
     requires cached { cache.old ≡ templates.now.table_b }
     ensures same { cache.new ≡ cache.old }
     ensures octets { IfOk result (λ octets.
-        encoding_in form templates.now.table_b templates.now.table_d document.now
+        encoding_in formed.entry.form templates.now.table_b templates.now.table_d
+        formed.entry.document.now
         ≡ Ok octets.items) }
     ensures fault { IfErr result (λ why. IsDocumentRefusal (reported_refusal why)
-        (encoding_in form templates.now.table_b templates.now.table_d document.now)) }
+        (encoding_in formed.entry.form templates.now.table_b templates.now.table_d
+        formed.entry.document.now)) }
     ensures memory { IfErr result
         (λ why. (line : ℕ) → why ≢ DocumentFault.Template line TemplateFault.Memory) }
     ensures made { OnOk result (steps.new
-        ≡ ticked 0 (turns_by form templates.now.table_b templates.now.table_d document.now)) }
+        ≡ ticked 0 (turns_by formed.entry.form templates.now.table_b templates.now.table_d
+        formed.entry.document.now)) }
     ensures made_refused { IfErr result (λ why. CountsSteps (reported_refusal why) 0
-        (turns_by form templates.now.table_b templates.now.table_d document.now) steps.new) }
+        (turns_by formed.entry.form templates.now.table_b templates.now.table_d
+        formed.entry.document.now) steps.new) }
     ensures accepted { OnOk result (steps.new
-        ≤ places_by templates.now.table_b templates.now.table_d document.now
-        * bits_by form templates.now.table_b templates.now.table_d document.now) }
+        ≤ places_by templates.now.table_b templates.now.table_d formed.entry.document.now
+        * bits_by formed.entry.form templates.now.table_b templates.now.table_d
+        formed.entry.document.now) }
     ensures refused { OnErr result (steps.new
-        ≤ places_by templates.now.table_b templates.now.table_d document.now
-        * (bits_by form templates.now.table_b templates.now.table_d document.now + 1)) }
+        ≤ places_by templates.now.table_b templates.now.table_d formed.entry.document.now
+        * (bits_by formed.entry.form templates.now.table_b templates.now.table_d
+        formed.entry.document.now + 1)) }
 {
-    let template = template_of(document.line(), templates)?;
-    let table = templates.table_b();
-    let payload = write_data(alloc, document, form, template, table, cache, steps)?;
-    write_whole(alloc, document, form, &payload)
+    let template = template_of(formed.document.line(), templates)?;
+    let payload = write_data(template, formed, cache, steps)?;
+    write_whole(alloc, formed, &payload)
 }
 
 /// The octets of a document's message in a form, by the tables of `templates`, which keeps the last
@@ -324,7 +321,8 @@ pub fn encode_by(
     *steps = Steps::new();
     select(alloc, document, templates)?;
     let mut cache = templates.take_specs();
-    let outcome = encode_selected(alloc, document, form, templates, &mut cache, steps);
+    let formed = FormedDocument { document, form };
+    let outcome = encode_selected(alloc, formed, templates, &mut cache, steps);
     templates.put_specs(cache);
     outcome
 }
@@ -332,8 +330,8 @@ pub fn encode_by(
 /// The octets of a document's message in a form, by the tables: its template first, then its items
 /// in the order of the template, then the length (WMO-No. 306, Volume I.2, FM 94: sections 0 to 5).
 /// The form says whether the data are compressed, in the flag and in the data, whatever the
-/// document says; so the document of a message that was read gives the same message in the other
-/// form, where this can hold it.
+/// document says. So the document of a message gives the same message in the other form, where this
+/// can hold it.
 ///
 /// It sets the steps to those that are made for it, up to the greatest `u64`. There is one for each
 /// turn of the template, subset after subset, or once for all subsets where the data are

@@ -1,22 +1,25 @@
 //! Item lines.
-ghost use Rattle.std.specs.Prelude.{◌≡◌, ℕ, ◌+◌, ◌-◌, ◌<◌, ◌≤◌, List, length, drop, take, slice_index, option_map, IfSome, IsTrue};
-ghost use Rattle.bufr_fill.specs.Draft.{reference_token};
+ghost use Rattle.std.specs.Prelude.{◌≡◌, ℕ, ◌+◌, ◌-◌, ◌<◌, ◌≤◌, List, length, drop, take, slice_index, option_map, IfSome, IsTrue, Some};
+ghost use Rattle.bufr_bits.specs.ShortDecimal.{short_text};
+ghost use Rattle.bufr_fill.specs.Draft.{number_token, reference_token};
+ghost use Rattle.bufr_fill.specs.Given.{form_in};
 ghost use Rattle.bufr_text.specs.Grammar.{prefix_while, suffix_while, without_prefix, fxy_read, is_number_octet, is_hashed, is_passed_after};
 ghost use Rattle.bufr_text.specs.Line.{made, value_read, item_line, number_value};
-ghost use Rattle.bufr_text.specs.Kept.{form_by};
 ghost use Rattle.bufr_text.specs.Step.{meaning};
 
 use crate::descriptors::fxy_prefix;
-use crate::document::ValueKind;
 use crate::quoted::decode_quoted;
 use crate::slice::{ahead, octet_at, suffix, without_prefix, without_space};
 use crate::step::ParsedLine;
+use bufr_bits::ShortDecimal;
+use bufr_fill::DraftValue;
 
 /// Whether an octet may be in a number token.
 fn is_number_octet(octet: u8) -> bool
     ensures { result ≡ is_number_octet octet }
 {
-    octet.is_ascii_digit() || octet == b'-' || octet == b'.'
+    // After a number there is mostly a space, which is ruled out first.
+    octet > b' ' && (octet.is_ascii_digit() || octet == b'-' || octet == b'.')
 }
 
 /// How many octets of a number token come first.
@@ -33,24 +36,39 @@ fn token(text: &[u8]) -> usize
     at
 }
 
+/// A number in the one spelling that a dump has of it, and the rest after it.
+#[inline(always)]
+// rule: reading-number
+fn decimal<'a>(text: &'a [u8]) -> Option<(ShortDecimal, &'a [u8])>
+    ensures value { IfSome result (λ read.
+        value_read text.now ≡ Some (number_token (short_text read.0), read.1.now)) }
+    ensures within { IfSome result (λ read. length read.1.now ≤ length text.now) }
+{
+    let (number, count) = ShortDecimal::prefix(text)?;
+    let rest = suffix(text, count);
+    if is_number_octet(octet_at(rest, 0)) {
+        return None;
+    }
+    Some((number, rest))
+}
+
 /// A value, and the rest after it; the octets of a text are put into `scratch`.
 #[tactic(auto, using(crate::proofs::ItemLemmas::value_steps))]
-fn value<'a>(text: &'a [u8], scratch: &'a mut [u8]) -> Option<(ValueKind, &'a [u8], &'a [u8])>
+fn value<'a>(text: &'a [u8], scratch: &'a mut [u8]) -> Option<(DraftValue<'a>, &'a [u8])>
     requires { length text.now ≤ length scratch.old }
-    ensures { option_map (λ read. (form_by read.0 read.1.now, read.2.now)) result
-        ≡ value_read text.now }
+    ensures { option_map (λ read. (form_in read.0, read.1.now)) result ≡ value_read text.now }
 {
     let first = octet_at(text, 0);
     if first == b'"' {
         let text = suffix(text, 1);
         let (count, at) = decode_quoted(text, scratch)?;
-        Some((ValueKind::Text, ahead(scratch, count), suffix(text, at)))
+        Some((DraftValue::Text(ahead(scratch, count)), suffix(text, at)))
     } else if is_number_octet(first) {
         let count = token(text);
-        Some((ValueKind::Number, ahead(text, count), suffix(text, count)))
+        Some((DraftValue::Number(ahead(text, count)), suffix(text, count)))
     } else {
         let rest = without_prefix(text, b"MISSING")?;
-        Some((ValueKind::Missing, ahead(text, 0), rest))
+        Some((DraftValue::Missing, rest))
     }
 }
 
@@ -73,6 +91,9 @@ fn is_hashed(text: &[u8]) -> bool
 fn is_passed_after(text: &[u8]) -> bool
     ensures { result ≡ is_passed_after text.now }
 {
+    if let [b' ', b' ', b'#', ..] = text {
+        return true;
+    }
     text.is_empty() || text[0] == b' ' && is_hashed(text)
 }
 
@@ -82,11 +103,18 @@ pub(crate) fn item<'a>(text: &'a [u8], scratch: &'a mut [u8]) -> Option<ParsedLi
     ensures { made meaning result ≡ item_line value_read text.now }
 {
     let (fxy, rest) = fxy_prefix(text)?;
-    let (kind, octets, rest) = value(without_space(rest)?, scratch)?;
+    let text = without_space(rest)?;
+    if let Some((number, rest)) = decimal(text) {
+        if !is_passed_after(rest) {
+            return None;
+        }
+        return Some(ParsedLine::Decimal { fxy, number });
+    }
+    let (form, rest) = value(text, scratch)?;
     if !is_passed_after(rest) {
         return None;
     }
-    Some(ParsedLine::Item { fxy, kind, octets })
+    Some(ParsedLine::Item { fxy, form })
 }
 
 /// What a line says of a redefined reference, after `R` and a space.
@@ -104,9 +132,6 @@ pub(crate) fn reference<'a>(text: &'a [u8]) -> Option<ParsedLine<'a>>
     if !is_passed_after(suffix(rest, count)) {
         return None;
     }
-    Some(ParsedLine::Item {
-        fxy,
-        kind: ValueKind::Reference,
-        octets: ahead(rest, count),
-    })
+    let form = DraftValue::Reference(ahead(rest, count));
+    Some(ParsedLine::Item { fxy, form })
 }

@@ -13,6 +13,15 @@ use bufr_bits::Sink;
 use bufr_tables::{Entry, Fxy};
 use bufr_walk::{ItemView, Value};
 
+/// Pushes a descriptor and a space.
+#[inline(never)]
+fn push_fxy<W: Sink>(lines: &mut LineWriter<'_, '_, W>, fxy: Fxy)
+    ensures { Pushes lines.old (fxy_text fxy ++ 32 ∷ []) lines.new }
+{
+    lines.push(&fxy.text());
+    lines.push(b" ");
+}
+
 /// Pushes a descriptor and a space. An entry of this descriptor has them ready.
 #[inline(always)]
 fn push_descriptor<W: Sink>(lines: &mut LineWriter<'_, '_, W>, fxy: Fxy, entry: Option<Entry<'_>>)
@@ -20,10 +29,7 @@ fn push_descriptor<W: Sink>(lines: &mut LineWriter<'_, '_, W>, fxy: Fxy, entry: 
 {
     match entry {
         Some(entry) if entry.fxy() == fxy => lines.push(entry.line_start()),
-        _ => {
-            lines.push(&fxy.text());
-            lines.push(b" ");
-        }
+        _ => push_fxy(lines, fxy),
     }
 }
 
@@ -43,10 +49,11 @@ fn push_number<W: Sink>(
     lines.push_scaled(value, scale);
 }
 
-/// Pushes an item but for its comment: `R ` before a redefined reference, descriptor and value.
-#[inline(always)]
+/// Pushes an item that need not be a number, but for its comment: `R ` before a redefined
+/// reference, descriptor and value. It is a function of its own, so that numbers stay in one loop.
+#[inline(never)]
 // rule: text-missing, text-reference
-fn push_form<W: Sink>(
+fn push_any_form<W: Sink>(
     lines: &mut LineWriter<'_, '_, W>,
     fxy: Fxy,
     entry: Option<Entry<'_>>,
@@ -70,6 +77,23 @@ fn push_form<W: Sink>(
             lines.push(b"R ");
             push_number(lines, fxy, entry, i128::from(reference), 0);
         }
+    }
+}
+
+/// Pushes an item but for its comment. Most are numbers.
+#[inline(always)]
+fn push_form<W: Sink>(
+    lines: &mut LineWriter<'_, '_, W>,
+    fxy: Fxy,
+    entry: Option<Entry<'_>>,
+    value: Value<'_>,
+)
+    ensures { Pushes lines.old
+        (form_text fxy (dump_value_of (value_of (seen_value value.entry)))) lines.new }
+{
+    match value {
+        Value::Number(number, scale) => push_number(lines, fxy, entry, number, scale),
+        other => push_any_form(lines, fxy, entry, other),
     }
 }
 

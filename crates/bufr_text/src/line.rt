@@ -147,14 +147,14 @@ fn line_said<'a>(
     ensures { made meaning result ≡ line_of line.now }
 {
     let first = octet_at(line, 0);
+    if first.is_ascii_digit() {
+        return item(line, octets.as_mut_slice());
+    }
     if line.is_empty() {
         return Some(ParsedLine::Passed);
     }
     if first == b'#' {
         return Some(ParsedLine::Passed);
-    }
-    if first.is_ascii_digit() {
-        return item(line, octets.as_mut_slice());
     }
     if let Some(value) = value_after_space(line, next) {
         return Some(ParsedLine::Header { key: next, value });

@@ -5,8 +5,10 @@ ghost use Rattle.bufr_text.specs.Line as line;
 ghost use Rattle.bufr_text.specs.Documents.{heading, before_subsets, filling, beginning, closing, opening, turn, adds};
 ghost use Rattle.bufr_text.specs.Step.{meaning, part_number, place_with, turned, IsParserState};
 
-use crate::document::{DocumentParts, ValueKind};
+use crate::document::DocumentParts;
 use crate::key::in_range;
+use bufr_bits::ShortDecimal;
+use bufr_fill::DraftValue;
 use std::alloc::AllocError;
 
 /// What a line says. Octets of hexadecimal digits and of texts are those that they mean.
@@ -14,19 +16,13 @@ use std::alloc::AllocError;
 pub(crate) enum ParsedLine<'a> {
     Passed,
     Opens,
-    Header {
-        key: usize,
-        value: u32,
-    },
+    Header { key: usize, value: u32 },
     Local1(&'a [u8]),
     Section2(&'a [u8]),
     Descriptors(&'a [u16]),
     Begins(u32),
-    Item {
-        fxy: u16,
-        kind: ValueKind,
-        octets: &'a [u8],
-    },
+    Decimal { fxy: u16, number: ShortDecimal },
+    Item { fxy: u16, form: DraftValue<'a> },
     Closes,
     Wrong,
 }
@@ -176,8 +172,12 @@ fn filling(
         (adds (place_with (ParserState.Filling subset) parts.old) (meaning said.entry) ≡ true) }
 {
     let turn = match said {
-        ParsedLine::Item { fxy, kind, octets } => {
-            parts.push_item(at, fxy, kind, octets)?;
+        ParsedLine::Decimal { fxy, number } => {
+            parts.push_decimal(at, fxy, number)?;
+            LineEffect::WalkGoes(ParserState::Filling(subset))
+        }
+        ParsedLine::Item { fxy, form } => {
+            parts.push_item(at, fxy, form)?;
             LineEffect::WalkGoes(ParserState::Filling(subset))
         }
         ParsedLine::Begins(next) => {
@@ -221,6 +221,13 @@ pub(crate) fn step(
         (λ t. turned t parts.new ≡ turn at (place_with place parts.old) (meaning said.entry)) }
     ensures wants { OnErr result (adds (place_with place parts.old) (meaning said.entry) ≡ true) }
 {
+    // Most lines by far are such items.
+    if let ParsedLine::Decimal { fxy, number } = said
+        && let ParserState::Filling(subset) = place
+    {
+        parts.push_decimal(at, fxy, number)?;
+        return Ok(LineEffect::WalkGoes(ParserState::Filling(subset)));
+    }
     if matches!(said, ParsedLine::Passed) {
         return Ok(LineEffect::WalkGoes(place));
     }

@@ -1,5 +1,6 @@
 //! Octets as hexadecimal digits and as texts in quotes, pushed.
 ghost use Rattle.std.specs.Prelude.{◌≡◌, ◌<◌, false};
+ghost use Rattle.std.specs.List.{list_all};
 ghost use Rattle.bufr_text.specs.Grammar.{escaped, hex_digit, hex_pair, hex_text, is_unescaped, quoted};
 ghost use Rattle.bufr_text.specs.Lines.{Pushes};
 
@@ -13,6 +14,13 @@ fn hex_digit(n: u8) -> u8
     ensures { result ≡ hex_digit n }
 {
     if n < 10 { b'0' + n } else { b'A' - 10 + n }
+}
+
+/// Whether no octet needs an escape.
+fn are_unescaped(octets: &[u8]) -> bool
+    ensures { result ≡ list_all is_unescaped octets.now }
+{
+    octets.iter().all(|octet| is_unescaped(*octet))
 }
 
 impl<'b, 'w, W: Sink> LineWriter<'b, 'w, W> {
@@ -57,14 +65,26 @@ impl<'b, 'w, W: Sink> LineWriter<'b, 'w, W> {
         self.push_escape(octet);
     }
 
-    /// Pushes the octets of a text, and the quote that closes it.
-    // rule: text-quoted, text-inserted
-    pub(crate) fn push_quoted(&mut self, octets: &[u8])
+    /// Pushes the octets of a text one by one, and the quote that closes it.
+    #[inline(never)]
+    fn push_each_quoted(&mut self, octets: &[u8])
         ensures { Pushes self.old (quoted octets.now) self.new }
     {
         for octet in octets {
             self.push_escaped(*octet);
         }
+        self.push(b"\"");
+    }
+
+    /// Pushes the octets of a text, and the quote that closes it. Few texts have escapes.
+    // rule: text-quoted, text-inserted
+    pub(crate) fn push_quoted(&mut self, octets: &[u8])
+        ensures { Pushes self.old (quoted octets.now) self.new }
+    {
+        if !are_unescaped(octets) {
+            return self.push_each_quoted(octets);
+        }
+        self.push(octets);
         self.push(b"\"");
     }
 }

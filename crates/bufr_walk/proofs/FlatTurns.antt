@@ -140,6 +140,14 @@ is_finish (operator word m) groups place cs h = absurd cc
 is_finish (fixed k body m) groups place cs h = absurd cc
 is_finish (delayed word body m) groups place cs h = absurd cc
 
+-- the groups round the innermost, and that
+pub innermost : (groups : List Frame) → 0 < length groups → (outer : List Frame) × (frame : Frame) × (groups ≡ outer ++ frame ∷ [])
+innermost [] some = absurd (omega (arith, some))
+innermost (frame ∷ []) some = ([], frame, refl)
+innermost (frame ∷ next ∷ more) some =
+    let rest = innermost (next ∷ more) (omega arith) in
+    (frame ∷ rest.0, rest.1, ap (λ l. frame ∷ l) rest.2)
+
 -- the last of two lists
 last_is : (A : Type 0) (xs ys : List A) (x y : A) → xs ++ x ∷ [] ≡ ys ++ y ∷ [] → (xs ≡ ys) × (x ≡ y)
 last_is A [] [] x y h = (refl, cc)

@@ -1,9 +1,9 @@
 -- Calls that show compressed data, joined.
-use Rattle.std.proofs.Common.{◌≡◌, ℕ, suc, ◌+◌, ◌-◌, ◌<◌, ◌≤◌, Bool, true, length, take, drop, get_or, set, replicate, Result, Ok, Err, List, [], ◌∷◌, ◌++◌, inl, inr, sym, ◌∙◌, ap, subst, add-one, append_assoc, arith}
+use Rattle.std.proofs.Common.{◌≡◌, ℕ, zero, suc, ◌+◌, ◌-◌, ◌<◌, ◌≤◌, Bool, true, length, take, drop, get_or, set, replicate, Result, Ok, Err, List, [], ◌∷◌, ◌++◌, inl, inr, refl, sym, ◌∙◌, ap, subst, add-one, append_assoc, arith}
 use Rattle.std.specs.List.{list_all}
 use Rattle.std.proofs.Math.Seq.{drop-cons}
-use Rattle.std.proofs.lemmas.List.{append-nil, take_more_set, replicate-append-replicate}
-use Rattle.bufr_bits.proofs.ScaledLemmas.{and_second}
+use Rattle.std.proofs.lemmas.List.{append-nil, get_or_default, take_more_set, replicate-append-replicate}
+use Rattle.bufr_bits.proofs.ScaledLemmas.{and_first, and_second}
 use Rattle.bufr_tables.specs.TableB.{Row}
 use Rattle.bufr_walk.specs.declared.fault.ShowFault.{ShowFault}
 use Rattle.bufr_walk.specs.declared.kept.IndexedItem.{IndexedItem}
@@ -52,6 +52,18 @@ next_entry kept i k h e = drop-cons kept i k h ∙ ap (λ x. x ∷ drop (suc i) 
 pub next_call : (table : List Row) (bits : List Bool) (n j : ℕ) (kept : List IndexedItem) (i : ℕ) (k : IndexedItem) → i < length kept → k ≡ get_or kept i k
     → compressed_item_calls table j (items_at bits n (drop i kept)) ≡ timed 0 (call_kept table bits n k j) ∷ compressed_item_calls table j (items_at bits n (drop (i + 1) kept))
 next_call table bits n j kept i k h e = ap (λ ks. compressed_item_calls table j (items_at bits n ks)) (next_entry kept i k h (sym e))
+
+pub fit_here : (bits : List Bool) (n : ℕ) (kept : List IndexedItem) (i : ℕ) (k : IndexedItem) → i < length kept → k ≡ get_or kept i k → list_all (fits_at bits n) (drop i kept) ≡ true → fits_at bits n k ≡ true
+fit_here bits n kept i k h e w = and_first (fits_at bits n k) (list_all (fits_at bits n) (drop (i + 1) kept)) (subst (λ ks. list_all (fits_at bits n) ks ≡ true) (next_entry kept i k h (sym e)) w)
+
+-- there is an item at an index, and one only
+pub item_there : (kept : List IndexedItem) (i : ℕ) → i < length kept → (k : IndexedItem) × (k ≡ get_or kept i k)
+item_there [] i h = absurd (omega (arith, h))
+item_there (k ∷ kept) zero h = (k, refl)
+item_there (k ∷ kept) (suc i) h = item_there kept i (omega (arith, h))
+
+pub item_same : (kept : List IndexedItem) (i : ℕ) (j k : IndexedItem) → i < length kept → j ≡ get_or kept i j → k ≡ get_or kept i k → j ≡ k
+item_same kept i j k h first second = first ∙ get_or_default kept i j k h ∙ sym second
 
 pub fit_after : (bits : List Bool) (n : ℕ) (kept : List IndexedItem) (i : ℕ) (k : IndexedItem) → i < length kept → k ≡ get_or kept i k → list_all (fits_at bits n) (drop i kept) ≡ true → list_all (fits_at bits n) (drop (i + 1) kept) ≡ true
 fit_after bits n kept i k h e w = and_second (fits_at bits n k) (list_all (fits_at bits n) (drop (i + 1) kept)) (subst (λ ks. list_all (fits_at bits n) ks ≡ true) (next_entry kept i k h (sym e)) w)

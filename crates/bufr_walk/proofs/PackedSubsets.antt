@@ -1,7 +1,8 @@
 -- Subsets of compressed data that are shown one after another.
-use Rattle.std.proofs.Common.{◌≡◌, ℕ, suc, ◌+◌, ◌-◌, ◌<◌, ◌≤◌, Bool, length, drop, get_or, Result, Ok, Err, List, [], ◌∷◌, ◌++◌, refl, ap, subst, arith}
+use Rattle.std.proofs.Common.{◌≡◌, ℕ, suc, inl, ◌+◌, ◌-◌, ◌<◌, ◌≤◌, Bool, length, drop, get_or, Result, Ok, Err, List, [], ◌∷◌, ◌++◌, refl, ap, subst, arith}
 use Rattle.bufr_tables.specs.TableB.{Row}
 use Rattle.bufr_walk.specs.declared.fault.ShowFault.{ShowFault}
+use Rattle.bufr_walk.specs.declared.fault.ShowFault.TheVariants as fault
 use Rattle.bufr_walk.specs.declared.kept.IndexedItem.{IndexedItem}
 use Rattle.bufr_walk.specs.Calls.{Call, subset_call, Timed, timed, compressed_item_calls, compressed_subset_calls}
 use Rattle.bufr_walk.specs.Content.{Content}
@@ -25,6 +26,12 @@ module _ {S E : Type 0} (sees : S → Call → Result (Unit {0}) E → S → Typ
   items_go s s1 s2 i k h e so call =
       let so_far : SoFar sees s (calls_from 0) s1 (timed 0 (call_at k) ∷ calls_from (i + 1)) = subst (SoFar sees s (calls_from 0) s1) (next_call table bits n j kept i k h e) so in
       sofar_then sees so_far (sofar_call sees s1 s2 (call_at k) (calls_from (i + 1)) call)
+
+  -- an entry whose call is refused
+  pub items_end : (s s1 s2 : S) (i : ℕ) (k : IndexedItem) (f : E) → i < length kept → k ≡ get_or kept i k → SoFar sees s (calls_from 0) s1 (calls_from i) → sees s1 (call_at k) (Err f) s2 → Shows sees s (calls_from 0) 0 (Err (fault.Visitor f)) s2 0
+  items_end s s1 s2 i k f h e so call =
+      let so_far : SoFar sees s (calls_from 0) s1 (timed 0 (call_at k) ∷ calls_from (i + 1)) = subst (SoFar sees s (calls_from 0) s1) (next_call table bits n j kept i k h e) so in
+      so_far.on (Err (fault.Visitor f)) s2 (inl (call, refl))
 
 module _ {S E : Type 0} (sees : S → Call → Result (Unit {0}) E → S → Type 0) (table : List Row) (n : ℕ) (items : List (Item (List Content))) where
   -- the calls of a subset

@@ -1,51 +1,40 @@
 -- The specs that are cached, and their keys.
-use Rattle.std.proofs.Common.{◌≡◌, ℕ, ◌+◌, ◌<◌, ◌^◌, ◌&&◌, Bool, true, false, List, Option, Some, None, Result, Ok, Err, arith, refl, sym, ◌∙◌, ap, subst}
+use Rattle.std.proofs.Common.{◌≡◌, ℕ, ◌<◌, ◌^◌, Bool, true, false, List, Option, Some, None, Ok, Err, arith, sym, ap, subst}
 use Rattle.std.specs.Prelude.{◌==◌, nat_lt, if◌then◌else◌}
 use Rattle.std.proofs.lemmas.Bool.Decides.{nat_tests}
 use Rattle.bufr_tables.specs.declared.kind.Kind.{Kind}
 use Rattle.bufr_tables.specs.declared.kind.Kind.TheVariants as kind
 use Rattle.bufr_tables.specs.TableB.{Row, entry_of}
-use Rattle.bufr_walk.specs.declared.spec.Role.{Role}
 use Rattle.bufr_walk.specs.declared.spec.Role.TheVariants as role
-use Rattle.bufr_walk.specs.declared.spec.TurnRefusal.{TurnRefusal}
 use Rattle.bufr_walk.specs.declared.spec.TurnRefusal.TheVariants as refusal
 use Rattle.bufr_walk.specs.FieldSpec.{FieldSpec, is_reference}
 use Rattle.bufr_walk.specs.Operators.{OperatorModel, is_defining}
 use Rattle.bufr_walk.specs.Rules.{element_spec, factor_spec, factor_by, factor_field, spec_by_kind, new_reference_spec, numeric_spec, coded_spec, text_spec, text_width, local_width_spec, listed_by, unsigned_of, unsigned_field, untouched}
-use Rattle.bufr_walk.specs.SpecKey.{IsKey, IsElementKey, IsFactorKey}
+use Rattle.bufr_walk.specs.SpecKey.{IsFieldKey, descriptor_of, key_word, spec_of}
+use Rattle.bufr_walk.specs.declared.operators.TableField.{TableField}
+use Rattle.bufr_walk.specs.declared.operators.TableField.TheVariants as field
 use Rattle.bufr_walk.specs.SpecCache.{IsSpecBy}
 use Rattle.bufr_walk.proofs.FieldWays.{fitted_role}
 use Rattle.bufr_walk.proofs.SpecKeyLemmas.{same_key}
 
--- a spec that is found under the key of an element is the element's
-pub element_got : (table : List Row) (s : OperatorModel) (fxy key : ℕ) (spec : FieldSpec) → IsElementKey s fxy key → IsSpecBy table key spec → element_spec table s fxy ≡ Ok spec
-element_got table s fxy key spec h g = g.element s fxy h.word (h.is g.few)
+-- a spec that is found under the key of a field is the field's
+pub spec_got : (table : List Row) (s : OperatorModel) (f : TableField) (key : ℕ) (spec : FieldSpec) → IsFieldKey s f key → IsSpecBy table key spec → spec_of table s f ≡ Ok spec
+spec_got table s f key spec h g = g.is s f h.word (h.is g.few)
 
-pub factor_got : (table : List Row) (s : OperatorModel) (fxy key : ℕ) (spec : FieldSpec) → IsFactorKey s fxy key → IsSpecBy table key spec → factor_spec table s fxy ≡ Ok spec
-factor_got table s fxy key spec h g = g.factor s fxy (h.is g.few)
+-- fields with the same word are the same
+same_field : (f g : TableField) → descriptor_of f < 65536 → descriptor_of g < 65536 → key_word f ≡ key_word g → f ≡ g
+same_field (field.Element v) (field.Element w) p q e = ap field.Element e
+same_field (field.Element v) (field.Factor w) p q e = absurd (omega (arith, e, p))
+same_field (field.Factor v) (field.Element w) p q e = absurd (omega (arith, e, q))
+same_field (field.Factor v) (field.Factor w) p q e = let same : v ≡ w = omega (arith, e) in ap field.Factor same
 
--- the spec of an element may be cached under its key
-pub element_cached : (table : List Row) (s : OperatorModel) (fxy key : ℕ) (spec : FieldSpec) → IsElementKey s fxy key → element_spec table s fxy ≡ Ok spec → key < 2 ^ 62 → IsSpecBy table key spec
-element_cached table s fxy key spec h found few = record {
+-- the spec of a field may be cached under its key
+pub spec_cached : (table : List Row) (s : OperatorModel) (f : TableField) (key : ℕ) (spec : FieldSpec) → IsFieldKey s f key → spec_of table s f ≡ Ok spec → key < 2 ^ 62 → IsSpecBy table key spec
+spec_cached table s f key spec h found few = record {
   few = few;
-  element = λ t other word k.
-      let e = same_key s t fxy other key (h.is few) k in
-      subst (λ x. element_spec table x other ≡ Ok spec) e.0 (subst (λ f. element_spec table s f ≡ Ok spec) e.1 found);
-  factor = λ t other k.
-      let e = same_key s t fxy (other + 65536) key (h.is few) k in
-      absurd (omega (arith, e.1, h.word));
-}
-
-pub factor_cached : (table : List Row) (s : OperatorModel) (fxy key : ℕ) (spec : FieldSpec) → IsFactorKey s fxy key → factor_spec table s fxy ≡ Ok spec → key < 2 ^ 62 → IsSpecBy table key spec
-factor_cached table s fxy key spec h found few = record {
-  few = few;
-  element = λ t other word k.
-      let e = same_key s t (fxy + 65536) other key (h.is few) k in
-      absurd (omega (arith, e.1, word));
-  factor = λ t other k.
-      let e = same_key s t (fxy + 65536) (other + 65536) key (h.is few) k in
-      let same : fxy ≡ other = omega (arith, e.1) in
-      subst (λ x. factor_spec table x other ≡ Ok spec) e.0 (subst (λ f. factor_spec table s f ≡ Ok spec) same found);
+  is = λ t g word k.
+      let e = same_key s t (key_word f) (key_word g) key (h.is few) k in
+      subst (λ x. spec_of table x g ≡ Ok spec) e.0 (subst (λ x. spec_of table s x ≡ Ok spec) (same_field f g h.word word e.1) found);
 }
 
 kind_plain : (k : Kind) (s : OperatorModel) (row : Row) (spec : FieldSpec) → spec_by_kind k s row ≡ Ok spec → is_reference spec.role ≡ false
@@ -75,7 +64,7 @@ element_plain table s fxy spec none e = by_given (nat_lt 0 s.local_width) (entry
     by_given false (Some row) q = by_defining (is_defining s) row (none_defining s.new_reference_width none) q
 
 -- no factor is one
-pub factor_plain : (table : List Row) (s : OperatorModel) (fxy : ℕ) (spec : FieldSpec) → factor_spec table s fxy ≡ Ok spec → is_reference spec.role ≡ false
+factor_plain : (table : List Row) (s : OperatorModel) (fxy : ℕ) (spec : FieldSpec) → factor_spec table s fxy ≡ Ok spec → is_reference spec.role ≡ false
 factor_plain table s fxy spec e = by (is_defining s) (entry_of table fxy) e
   where
     by : (b : Bool) (o : Option Row) → (if b then Err (refusal.Defining fxy) else factor_by o fxy) ≡ Ok spec → is_reference spec.role ≡ false
@@ -84,8 +73,6 @@ factor_plain table s fxy spec e = by (is_defining s) (entry_of table fxy) e
     by false (Some row) q = ap is_reference (sym (fitted_role (factor_field row fxy) spec q))
 
 -- what is cached is no reference
-pub element_got_plain : (table : List Row) (s : OperatorModel) (fxy key : ℕ) (spec : FieldSpec) → IsElementKey s fxy key → IsSpecBy table key spec → is_reference spec.role ≡ false
-element_got_plain table s fxy key spec h g = element_plain table s fxy spec (h.is g.few).new_reference_width (element_got table s fxy key spec h g)
-
-pub factor_got_plain : (table : List Row) (s : OperatorModel) (fxy key : ℕ) (spec : FieldSpec) → IsFactorKey s fxy key → IsSpecBy table key spec → is_reference spec.role ≡ false
-factor_got_plain table s fxy key spec h g = factor_plain table s fxy spec (factor_got table s fxy key spec h g)
+pub spec_got_plain : (table : List Row) (s : OperatorModel) (f : TableField) (key : ℕ) (spec : FieldSpec) → IsFieldKey s f key → IsSpecBy table key spec → is_reference spec.role ≡ false
+spec_got_plain table s (field.Element fxy) key spec h g = element_plain table s fxy spec (h.is g.few).new_reference_width (spec_got table s (field.Element fxy) key spec h g)
+spec_got_plain table s (field.Factor fxy) key spec h g = factor_plain table s fxy spec (spec_got table s (field.Factor fxy) key spec h g)

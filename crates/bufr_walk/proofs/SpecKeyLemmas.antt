@@ -1,7 +1,7 @@
 -- Operators and a word in one number.
-use Rattle.std.proofs.Common.{◌≡◌, ℕ, ◌+◌, ◌*◌, ◌<◌, ◌≤◌, ◌^◌, List, [], arith, ◌∙◌, sym, refl}
-use Rattle.bufr_walk.specs.Operators.{OperatorModel, Redefined}
-use Rattle.bufr_walk.specs.SpecKey.{spec_key, IsKey, IsOperatorKey, IsElementKey, IsFactorKey}
+use Rattle.std.proofs.Common.{◌≡◌, ℕ, ◌+◌, ◌*◌, ◌<◌, arith, ◌∙◌, sym}
+use Rattle.bufr_walk.specs.Operators.{OperatorModel}
+use Rattle.bufr_walk.specs.SpecKey.{IsKey}
 
 -- a word is added to the key of the operators
 pub with_word : (s : OperatorModel) (key word : ℕ) → IsKey s 0 key → IsKey s word (key + 1099511627776 * word)

@@ -21,6 +21,7 @@ use Rattle.bufr_tables.specs.declared.kind.Kind.{Kind}
 use Rattle.bufr_tables.specs.declared.kind.Kind.TheVariants as kind
 use Rattle.bufr_tables.specs.TableB.{is_character}
 use Rattle.bufr_walk.specs.declared.spec.Role.{Role}
+use Rattle.bufr_walk.specs.declared.spec.NumberParts.{NumberParts}
 use Rattle.bufr_walk.specs.declared.spec.Role.TheVariants as role
 use Rattle.bufr_walk.specs.FieldSpec.{FieldSpec, IsSpec, HasWidth, HasRole, HasMissing, is_reference}
 use Rattle.bufr_walk.specs.Rules.{text_spec}
@@ -36,9 +37,9 @@ number_missing kind.Character m e = absurd cc
 number_missing kind.Coded m e = tt
 number_missing kind.Numeric m e = tt
 
-pub number_good : (fxy : ℕ) (r : Role) (k : Kind) (w : ℕ) (scale reference : ℤ) (m listed : Bool) → is_character k ≡ false → HasRole r k m → unsigned_abs scale ≤ 300 → unsigned_abs reference ≤ 2 ^ 125 → 1 ≤ w → w ≤ 63 → IsSpec (number_field fxy r k w scale reference m listed)
-number_good fxy r k w scale reference m listed e role small near some most =
-    record { width = number_width k w e some most; role = role; missing = number_missing k m e; scale = small; reference = near }
+pub number_good : (fxy : ℕ) (r : Role) (n : NumberParts) → is_character n.kind ≡ false → HasRole r n.kind n.may_be_missing → unsigned_abs n.scale ≤ 300 → unsigned_abs n.reference ≤ 2 ^ 125 → 1 ≤ n.width → n.width ≤ 63 → IsSpec (number_field fxy r n)
+number_good fxy r n e role small near some most =
+    record { width = number_width n.kind n.width e some most; role = role; missing = number_missing n.kind n.may_be_missing e; scale = small; reference = near }
 
 pub text_good : (r : Role) (fxy w : ℕ) (listed : Bool) → HasWidth kind.Character w → HasRole r kind.Character true → IsSpec (text_spec r fxy w listed)
 text_good r fxy w listed h g = record { width = h; role = g; missing = refl; scale = omega arith; reference = omega arith }

@@ -49,27 +49,6 @@ text_prefix spec bits e = ap (λ w. octets_in (spec.width / 8) (take w bits)) (w
     whole : (w : ℕ) → w % 8 ≡ 0 → w ≡ 8 * (w / 8)
     whole w e = omega arith
 
--- one octet of a few that were read as one number
-window_octet : (bits : List Bool) (p few i : ℕ) → i < few → p + 8 * few ≤ length bits → number_of (take 8 (drop (p + 8 * i) bits)) ≡ number_of (take (8 * few) (drop p bits)) / 2 ^ (8 * (few - i - 1)) % 256
-window_octet bits p few i lt within =
-    let xs = take (8 * few) (drop p bits) in
-    let long : length xs ≡ 8 * few = length-take-le (8 * few) (drop p bits) (omega (arith, length-drop p bits, within)) in
-    let parts : 8 * few ≡ 8 * i + 8 * (few - i) = omega (arith, lt) in
-    let shift : 8 * few - 8 * i - 8 ≡ 8 * (few - i - 1) = omega (arith, lt) in
-    let there : take 8 (drop (8 * i) xs) ≡ take 8 (drop (p + 8 * i) bits) =
-    ap (λ n. take 8 (drop (8 * i) (take n (drop p bits)))) parts ∙ ap (take 8) (drop-take (8 * i) (8 * (few - i)) (drop p bits)) ∙ take-take 8 (8 * (few - i)) (drop (8 * i) (drop p bits)) (omega (arith, lt)) ∙ ap (take 8) (drop-drop (8 * i) p bits) in
-    ap number_of (sym there) ∙ number_of_middle xs (8 * few) (8 * i) 8 long (omega (arith, lt)) ∙ ap (λ k. number_of xs / 2 ^ k % 256) shift
-
--- that octet after those before it
-pub window_put : (bits : List Bool) (at done few i window : ℕ) (text : List ℕ) → i < few → done + few ≤ length text → at + 8 * (done + few) ≤ length bits → window ≡ number_of (take (8 * few) (drop (at + 8 * done) bits)) → take (done + i) text ≡ octets_in (done + i) (drop at bits)
-    → take (done + (i + 1)) (set text (done + i) (window / 2 ^ (8 * (few - i - 1)) % 256)) ≡ octets_in (done + (i + 1)) (drop at bits)
-window_put bits at done few i window text lt room within is before =
-    let place : at + 8 * done + 8 * i ≡ at + 8 * (done + i) = omega arith in
-    let more : done + i + 1 ≡ done + (i + 1) = omega arith in
-    let octet : window / 2 ^ (8 * (few - i - 1)) % 256 ≡ number_of (take 8 (drop (at + 8 * (done + i)) bits)) =
-    ap (λ n. n / 2 ^ (8 * (few - i - 1)) % 256) is ∙ sym (window_octet bits (at + 8 * done) few i lt (omega (arith, within))) ∙ ap (λ p. number_of (take 8 (drop p bits))) place in
-    subst (λ n. take n (set text (done + i) (window / 2 ^ (8 * (few - i - 1)) % 256)) ≡ octets_in n (drop at bits)) more (octet_put bits at (done + i) (window / 2 ^ (8 * (few - i - 1)) % 256) text (omega (arith, lt, room)) before octet)
-
 -- the octets of the bits of octets
 octets_of_bits : (xs : List ℕ) → ((k : ℕ) → slice_index xs k < 256) → octets_in (length xs) (bits_of xs) ≡ xs
 unfolding bits_of

@@ -1,25 +1,24 @@
 -- Fields that are numbers.
 -- Cited by private steps only.
 use Rattle.std.specs.Prelude.{ℕ, ◌≡◌, ◌≤◌, ◌<◌, ◌^◌, ◌&&◌, nat_le, nat_lt, not, Bool, true, false, ℤ, unsigned_abs}
-use Rattle.bufr_tables.specs.declared.kind.Kind.{Kind}
 use Rattle.bufr_tables.specs.TableB.{is_character}
+use Rattle.bufr_walk.specs.declared.spec.NumberParts.{NumberParts}
 use Rattle.bufr_walk.specs.declared.spec.Role.{Role}
 use Rattle.bufr_walk.specs.declared.spec.Role.TheVariants as role
 use Rattle.bufr_walk.specs.FieldSpec.{FieldSpec, IsSpec}
 
 -- a field that is a number, from its parts
-abbrev pub number_field : (fxy : ℕ) → Role → Kind → (width : ℕ) → (scale reference : ℤ)
-    → (may_be_missing listed : Bool) → FieldSpec
-number_field fxy role kind width scale reference may_be_missing listed =
+abbrev pub number_field : (fxy : ℕ) → Role → NumberParts → FieldSpec
+number_field fxy role n =
     record {
       fxy = fxy;
       role = role;
-      kind = kind;
-      width = width;
-      scale = scale;
-      reference = reference;
-      may_be_missing = may_be_missing;
-      listed = listed;
+      kind = n.kind;
+      width = n.width;
+      scale = n.scale;
+      reference = n.reference;
+      may_be_missing = n.may_be_missing;
+      listed = n.listed;
     }
 
 -- whether a number is plain: of an element that is read by a row of Table B, of at most 62 bits,

@@ -104,32 +104,14 @@ pub(crate) fn ones_at(bits: &BitSlice<'_>, at: u64, width: u32) -> bool
     }
 }
 
-/// Copies a few octets, at most seven, after the first `done` of those that begin with bit `at`.
-fn copy_window(bits: &BitSlice<'_>, at: u64, done: usize, few: usize, text: &mut [u8; 255])
-    requires most { few ≤ 7 }
-    requires room { done + few ≤ 255 }
-    requires within { at + 8 * (done + few) ≤ 8 * length (octets_of bits.now) }
-    requires before { take done text.old ≡ octets_in done (drop at (bits_of (octets_of bits.now))) }
-    ensures { take (done + few) text.new
-        ≡ octets_in (done + few) (drop at (bits_of (octets_of bits.now))) }
-{
-    let window = number_at(bits, at + 8 * done as u64, 8 * few as u32);
-    'octets: for place in 0..few {
-        text[done + place] = ((window >> (8 * (few - place - 1))) % 256) as u8;
-    }
-}
-
 /// Copies `count` octets that begin at any bit.
 pub(crate) fn copy_octets(bits: &BitSlice<'_>, at: u64, count: usize, text: &mut [u8; 255])
     requires few { count ≤ 255 }
     requires within { at + 8 * count ≤ 8 * length (octets_of bits.now) }
     ensures { take count text.new ≡ octets_in count (drop at (bits_of (octets_of bits.now))) }
 {
-    let mut done = 0;
-    'windows: while done < count {
-        let few = (count - done).min(7);
-        copy_window(bits, at, done, few, text);
-        done += few;
+    'octets: for place in 0..count {
+        text[place] = bits.number(at + 8 * place as u64, 8) as u8;
     }
 }
 

@@ -14,7 +14,7 @@ ghost use Rattle.bufr_walk.specs.declared.operators.OperatorOperands.{OperatorOp
 ghost use Rattle.bufr_tables.specs.declared.kind.Kind.TheVariants as kinds;
 
 use crate::fields::Fields;
-use crate::spec::{Role, Spec, Taken, TurnRefusal};
+use crate::spec::{NumberParts, Role, Spec, Taken, TurnRefusal};
 use crate::spec_cache::NO_KEY;
 use crate::stop::WalkStop;
 use bufr_tables::{Entry, Fxy, Kind, TableB};
@@ -58,6 +58,41 @@ fn no_operators() -> OperatorOperands
         precision_increase: 0,
         character_octets: 0,
         local_width: 0,
+    }
+}
+
+/// A field that is read by an entry of Table B: an element, or the factor of a replication.
+#[derive(Clone, Copy)]
+pub(crate) enum TableField {
+    Element(Fxy),
+    Factor(Fxy),
+}
+
+impl TableField {
+    ghost use Rattle.std.specs.Prelude.{◌≡◌, ◌<◌};
+    ghost use Rattle.bufr_walk.specs.SpecKey.{descriptor_of, key_word};
+
+    /// Its descriptor.
+    #[inline(always)]
+    pub(crate) fn fxy(&self) -> Fxy
+        ensures { result ≡ descriptor_of self.now }
+    {
+        match *self {
+            TableField::Element(fxy) => fxy,
+            TableField::Factor(fxy) => fxy,
+        }
+    }
+
+    /// The word of its descriptor; for a factor a greater number.
+    #[inline(always)]
+    fn key_word(&self) -> u64
+        ensures value { result ≡ key_word self.now }
+        ensures word { descriptor_of self.now < 65536 }
+    {
+        match *self {
+            TableField::Element(fxy) => u64::from(fxy.word()),
+            TableField::Factor(fxy) => u64::from(fxy.word()) + 0x1_0000,
+        }
     }
 }
 
@@ -229,20 +264,22 @@ fn numeric_spec(
     Spec::number(
         entry.fxy(),
         Role::Element,
-        Kind::Numeric,
-        operator_width(
-            entry.width(),
-            operands.precision_increase,
-            operands.width_change,
-        ),
-        scale_change(
-            entry.scale(),
-            scale_change_of(operands.scale_change),
-            operands.precision_increase,
-        ),
-        scaled(reference, operands.precision_increase),
-        entry.fxy().x() != 31,
-        true,
+        NumberParts {
+            kind: Kind::Numeric,
+            width: operator_width(
+                entry.width(),
+                operands.precision_increase,
+                operands.width_change,
+            ),
+            scale: scale_change(
+                entry.scale(),
+                scale_change_of(operands.scale_change),
+                operands.precision_increase,
+            ),
+            reference: scaled(reference, operands.precision_increase),
+            may_be_missing: entry.fxy().x() != 31,
+            listed: true,
+        },
     )
 }
 
@@ -260,12 +297,14 @@ fn coded_spec(reference: i64, entry: &Entry<'_>) -> Result<Spec, TurnRefusal>
     Spec::number(
         entry.fxy(),
         Role::Element,
-        Kind::Coded,
-        entry.width(),
-        entry.scale(),
-        i128::from(reference),
-        entry.fxy().x() != 31,
-        true,
+        NumberParts {
+            kind: Kind::Coded,
+            width: entry.width(),
+            scale: entry.scale(),
+            reference: i128::from(reference),
+            may_be_missing: entry.fxy().x() != 31,
+            listed: true,
+        },
     )
 }
 
@@ -321,12 +360,14 @@ fn new_reference_spec(new_reference_width: u8, fxy: Fxy, kind: Kind) -> Result<S
         Kind::Coded | Kind::Numeric => Spec::number(
             fxy,
             Role::Reference,
-            Kind::Numeric,
-            u32::from(new_reference_width),
-            0,
-            0,
-            false,
-            false,
+            NumberParts {
+                kind: Kind::Numeric,
+                width: u32::from(new_reference_width),
+                scale: 0,
+                reference: 0,
+                may_be_missing: false,
+                listed: false,
+            },
         ),
     }
 }
@@ -340,12 +381,14 @@ fn unsigned_of(fxy: Fxy, width: u8) -> Result<Spec, TurnRefusal>
     Spec::number(
         fxy,
         Role::Element,
-        Kind::Numeric,
-        u32::from(width),
-        0,
-        0,
-        fxy.x() != 31,
-        false,
+        NumberParts {
+            kind: Kind::Numeric,
+            width: u32::from(width),
+            scale: 0,
+            reference: 0,
+            may_be_missing: fxy.x() != 31,
+            listed: false,
+        },
     )
 }
 
@@ -373,12 +416,14 @@ fn factor_by(fxy: Fxy, entry: &Entry<'_>) -> Result<Spec, TurnRefusal>
     Spec::number(
         fxy,
         Role::Factor,
-        Kind::Numeric,
-        entry.width(),
-        entry.scale(),
-        i128::from(entry.reference()),
-        false,
-        true,
+        NumberParts {
+            kind: Kind::Numeric,
+            width: entry.width(),
+            scale: entry.scale(),
+            reference: i128::from(entry.reference()),
+            may_be_missing: false,
+            listed: true,
+        },
     )
 }
 
@@ -391,7 +436,7 @@ impl OperatorState {
     ghost use Rattle.std.specs.Prelude.{IfOk};
     ghost use Rattle.bufr_walk.specs.FieldSpec.{is_reference};
     ghost use Rattle.bufr_walk.specs.WalkProgress.{TakesField};
-    ghost use Rattle.bufr_walk.specs.SpecKey.{IsElementKey, IsFactorKey};
+    ghost use Rattle.bufr_walk.specs.SpecKey.{IsFieldKey, spec_of};
 
     /// No operator is in force.
     pub(crate) fn new(alloc: Global) -> OperatorState
@@ -404,22 +449,24 @@ impl OperatorState {
         }
     }
 
-    /// The key for the spec of an element.
+    /// The key for the spec of a field.
     #[tactic(auto, using(crate::proofs::SpecKeyLemmas::with_word))]
     #[inline(always)]
-    pub(crate) fn element_key(&self, fxy: Fxy) -> u64
-        ensures { IsElementKey self.now fxy result }
+    pub(crate) fn key(&self, field: &TableField) -> u64
+        ensures { IsFieldKey self.now field.now result }
     {
-        self.key + 0x100_0000_0000 * u64::from(fxy.word())
+        self.key + 0x100_0000_0000 * field.key_word()
     }
 
-    /// The key for the spec of a factor.
-    #[tactic(auto, using(crate::proofs::SpecKeyLemmas::with_word))]
+    /// The specification of a field.
     #[inline(always)]
-    pub(crate) fn factor_key(&self, fxy: Fxy) -> u64
-        ensures { IsFactorKey self.now fxy result }
+    pub(crate) fn spec(&self, table: &TableB, field: &TableField) -> Result<Spec, TurnRefusal>
+        ensures { result ≡ spec_of table.now self.now field.now }
     {
-        self.key + 0x100_0000_0000 * (u64::from(fxy.word()) + 0x1_0000)
+        match *field {
+            TableField::Element(fxy) => self.element(table, fxy),
+            TableField::Factor(fxy) => self.factor(table, fxy),
+        }
     }
 
     /// Ends a given width, which holds for one element.
@@ -436,7 +483,7 @@ impl OperatorState {
     /// The specification of an element. (WMO-No. 306, Volume I.2, FM 94: Tables B and C)
     #[inline(always)]
     // rule: fault-32-before-31
-    pub(crate) fn element(&self, table: &TableB, fxy: Fxy) -> Result<Spec, TurnRefusal>
+    fn element(&self, table: &TableB, fxy: Fxy) -> Result<Spec, TurnRefusal>
         ensures { result ≡ element_spec table.now self.now fxy }
     {
         let operands = self.operands;
@@ -464,7 +511,7 @@ impl OperatorState {
     /// The specification of the factor of a delayed replication.
     #[inline(always)]
     // rule: factor-by-entry, defining-no-delayed-group
-    pub(crate) fn factor(&self, table: &TableB, fxy: Fxy) -> Result<Spec, TurnRefusal>
+    fn factor(&self, table: &TableB, fxy: Fxy) -> Result<Spec, TurnRefusal>
         ensures { result ≡ factor_spec table.now self.now fxy }
     {
         if self.operands.new_reference_width > 0 {
@@ -579,7 +626,7 @@ impl OperatorState {
 
     /// Takes a field, and changes the operators in force by it: a given width ends, and a reference
     /// is kept.
-    #[inline(always)]
+    #[inline(never)]
     pub(crate) fn take<S: Fields>(
         &mut self,
         fxy: Fxy,

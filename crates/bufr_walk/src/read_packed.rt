@@ -19,8 +19,7 @@ use crate::steps::Steps;
 use crate::stop::WalkStop;
 use crate::walking::walk_by;
 use bufr_bits::BitSlice;
-use bufr_tables::{TableB, Template};
-use std::alloc::Global;
+use bufr_tables::Template;
 
 /// The fault of an item, after `bit` bits.
 fn field_fault(wrong: PackedFault, bit: u64) -> WalkFault
@@ -50,36 +49,31 @@ fn fault_at(why: WalkStop<PackedFault>, bit: u64) -> WalkFault
 /// Reads all items, each for all subsets; where there are no subsets nothing is read.
 // rule: no-subsets
 pub(crate) fn read_packed(
-    alloc: Global,
     bits: BitSlice<'_>,
     subsets: u16,
     template: &Template,
-    table: &TableB,
     cache: &mut SpecCache<'_>,
     steps: &mut Steps,
 ) -> Result<PackedRead, WalkFault>
-    requires steps { steps.old ≡ 0 }
-    requires same { cache.old ≡ table.now }
+    requires { steps.old ≡ 0 }
     ensures same { cache.new ≡ cache.old }
-    ensures reading { IfOk result (λ r. IsReadAndKept (next_item table.now template.now)
+    ensures reading { IfOk result (λ r. IsReadAndKept (next_item cache.old template.now)
         (data_in true subsets (octets_of bits.entry)) r.kept r.used steps.new) }
     ensures held { IfOk result (λ r. 7 * length r.kept ≤ r.used) }
-    ensures fault { IfErr result (λ why. IsFault (next_item table.now template.now)
+    ensures fault { IfErr result (λ why. IsFault (next_item cache.old template.now)
         (data_in true subsets (octets_of bits.entry)) why steps.new) }
     ensures accepted { IfOk result (λ r. steps.new ≤ places template.now * r.used) }
     ensures refused { IfErr result (λ why. steps.new
         ≤ places template.now * (bits_before why (length (bits_of (octets_of bits.entry))) + 1)) }
 {
     if subsets == 0 {
-        return Ok(PackedRead::new(0, ItemIndex::new(alloc)));
+        return Ok(PackedRead::new(0, ItemIndex::new(cache.allocator())));
     }
-    let mut fields = PackedIn::new(alloc, bits, subsets);
-    match walk_by(alloc, template, table, cache, &mut fields, steps) {
-        Ok(()) => {
-            // For the proof alone: the items were read within the bits.
-            let _ = fields.place();
-            Ok(fields.into_read())
-        }
-        Err(why) => Err(fault_at(why, fields.place())),
+    let mut fields = PackedIn::new(cache.allocator(), bits, subsets);
+    let outcome = walk_by(template, cache, &mut fields, steps);
+    let at = fields.place();
+    match outcome {
+        Ok(()) => Ok(fields.into_read()),
+        Err(why) => Err(fault_at(why, at)),
     }
 }

@@ -18,8 +18,7 @@ use crate::steps::Steps;
 use crate::stop::WalkStop;
 use crate::walking::walk_by;
 use bufr_bits::BitSlice;
-use bufr_tables::{TableB, Template};
-use std::alloc::Global;
+use bufr_tables::Template;
 
 /// The fault of the stop of a walk.
 fn plain_fault(why: WalkStop<DataEnd>, subset: u16, bit: u64) -> WalkFault
@@ -36,19 +35,16 @@ fn plain_fault(why: WalkStop<DataEnd>, subset: u16, bit: u64) -> WalkFault
 /// Reads the subset of this number, from 1.
 // rule: operators-end-with-subset
 fn read_subset(
-    alloc: Global,
     template: &Template,
-    table: &TableB,
     cache: &mut SpecCache<'_>,
     subset: u16,
     fields: &mut PlainIn<'_>,
     steps: &mut Steps,
 ) -> Result<(), WalkFault>
-    requires { cache.old ≡ table.now }
     ensures same { cache.new ≡ cache.old }
     ensures read { OnOk result
-        (PassReads (next_item table.now template.now) fields.old steps.old fields.new steps.new) }
-    ensures fault { IfErr result (λ why. PassStops (next_item table.now template.now) fields.old
+        (PassReads (next_item cache.old template.now) fields.old steps.old fields.new steps.new) }
+    ensures fault { IfErr result (λ why. PassStops (next_item cache.old template.now) fields.old
         steps.old subset why fields.new steps.new) }
     ensures accepted { OnOk result
         (steps.new ≤ steps.old + places template.now * (fields.new.at - fields.old.at)) }
@@ -57,33 +53,28 @@ fn read_subset(
     ensures within { fields.new.at ≤ length fields.new.bits }
     ensures forth { fields.old.at ≤ fields.new.at }
 {
-    match walk_by(alloc, template, table, cache, fields, steps) {
-        Ok(()) => {
-            // For the proof alone: the subset was read within the bits.
-            let _ = fields.place();
-            Ok(())
-        }
-        Err(why) => Err(plain_fault(why, subset, fields.place())),
+    let outcome = walk_by(template, cache, fields, steps);
+    let at = fields.place();
+    match outcome {
+        Ok(()) => Ok(()),
+        Err(why) => Err(plain_fault(why, subset, at)),
     }
 }
 
 /// Reads all subsets, and returns how many bits they take.
 // rule: subsets-without-padding, bits-left-over
 pub(crate) fn read_plain(
-    alloc: Global,
     bits: BitSlice<'_>,
     subsets: u16,
     template: &Template,
-    table: &TableB,
     cache: &mut SpecCache<'_>,
     steps: &mut Steps,
 ) -> Result<u64, WalkFault>
-    requires steps { steps.old ≡ 0 }
-    requires same { cache.old ≡ table.now }
+    requires { steps.old ≡ 0 }
     ensures same { cache.new ≡ cache.old }
-    ensures reading { IfOk result (λ used. IsReadAndPaid (next_item table.now template.now)
+    ensures reading { IfOk result (λ used. IsReadAndPaid (next_item cache.old template.now)
         (data_in false subsets (octets_of bits.entry)) used steps.new) }
-    ensures fault { IfErr result (λ why. IsFault (next_item table.now template.now)
+    ensures fault { IfErr result (λ why. IsFault (next_item cache.old template.now)
         (data_in false subsets (octets_of bits.entry)) why steps.new) }
     ensures accepted { IfOk result (λ used. steps.new ≤ places template.now * used) }
     ensures refused { IfErr result (λ why. steps.new
@@ -91,7 +82,7 @@ pub(crate) fn read_plain(
 {
     let mut fields = PlainIn::new(bits);
     'subsets: for done in 0..subsets {
-        read_subset(alloc, template, table, cache, done + 1, &mut fields, steps)?;
+        read_subset(template, cache, done + 1, &mut fields, steps)?;
     }
     Ok(fields.place())
 }

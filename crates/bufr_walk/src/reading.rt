@@ -10,7 +10,7 @@ use crate::item_index::ItemIndex;
 use crate::read_packed::read_packed;
 use crate::read_plain::read_plain;
 use crate::show_compressed::{PackedData, show_packed};
-use crate::show_plain::show_plain;
+use crate::show_plain::{PlainData, show_plain};
 use crate::spec_cache::SpecCache;
 use crate::steps::Steps;
 use crate::visitor::Visitor;
@@ -98,7 +98,7 @@ pub fn read_message<'a>(
         ≤ places template.now * (bits_before why (length (data_of message.now).bits) + 1)) }
 {
     let mut cache = SpecCache::new(alloc, table);
-    read_by(alloc, message, template, table, &mut cache, steps)
+    read_by(message, template, &mut cache, steps)
 }
 
 /// Reads the data of a message as [`read_message`] does, with the specs that are cached.
@@ -106,20 +106,17 @@ pub fn read_message<'a>(
 /// # Errors
 ///
 /// Those of [`read_message`].
-pub fn read_by<'a>(
-    alloc: Global,
+pub fn read_by<'a, 't: 'a>(
     message: &Message<'a>,
     template: &'a Template,
-    table: &'a TableB,
-    cache: &mut SpecCache<'_>,
+    cache: &mut SpecCache<'t>,
     steps: &mut Steps,
 ) -> Result<Reading<'a>, WalkFault>
-    requires { cache.old ≡ table.now }
     ensures same { cache.new ≡ cache.old }
     ensures reading { IfOk result
-        (λ r. IsReadingOf table.now template.now (data_of message.now) r steps.new) }
+        (λ r. IsReadingOf cache.old template.now (data_of message.now) r steps.new) }
     ensures fault { IfErr result
-        (λ why. IsFault (next_item table.now template.now) (data_of message.now) why steps.new) }
+        (λ why. IsFault (next_item cache.old template.now) (data_of message.now) why steps.new) }
     ensures accepted { IfOk result (λ r. steps.new ≤ places template.now * r.bits) }
     ensures refused { IfErr result (λ why. steps.new
         ≤ places template.now * (bits_before why (length (data_of message.now).bits) + 1)) }
@@ -127,8 +124,9 @@ pub fn read_by<'a>(
     *steps = Steps::new();
     let bits = message.payload();
     let subsets = message.subsets();
+    let table = cache.table();
     if message.compressed() {
-        let read = read_packed(alloc, bits, subsets, template, table, cache, steps)?;
+        let read = read_packed(bits, subsets, template, cache, steps)?;
         return Ok(Reading {
             bits,
             template,
@@ -139,7 +137,7 @@ pub fn read_by<'a>(
             kept: StoredItems::Together(read.kept),
         });
     }
-    let used = read_plain(alloc, bits, subsets, template, table, cache, steps)?;
+    let used = read_plain(bits, subsets, template, cache, steps)?;
     Ok(Reading {
         bits,
         template,
@@ -199,7 +197,6 @@ impl<'a> Reading<'a> {
     #[tactic(auto, using(crate::proofs::ReadingLemmas::readable_of, crate::proofs::PackedShowing::entries_fit, crate::proofs::PackedShowing::packed_shown))]
     fn show_kept<V: Visitor>(
         &self,
-        alloc: Global,
         cache: &mut SpecCache<'_>,
         visitor: &mut V,
         steps: &mut Steps,
@@ -210,16 +207,14 @@ impl<'a> Reading<'a> {
     {
         *steps = Steps::new();
         match &self.kept {
-            StoredItems::Apart => show_plain(
-                alloc,
-                self.bits,
-                self.subsets,
-                self.template,
-                self.table,
-                cache,
-                visitor,
-                steps,
-            ),
+            StoredItems::Apart => {
+                let data = PlainData {
+                    bits: self.bits,
+                    subsets: self.subsets,
+                    template: self.template,
+                };
+                show_plain(&data, cache, visitor, steps)
+            }
             StoredItems::Together(items) => {
                 let data = PackedData {
                     bits: self.bits,
@@ -252,7 +247,7 @@ impl<'a> Reading<'a> {
         ensures bounded { steps.new ≤ places self.now.template * self.now.bits }
     {
         let mut cache = SpecCache::new(alloc, self.table);
-        self.show_by(alloc, &mut cache, visitor, steps)
+        self.show_by(&mut cache, visitor, steps)
     }
 
     /// Shows each subset and its items to a visitor as [`Reading::show`] does, with the specs that
@@ -263,7 +258,6 @@ impl<'a> Reading<'a> {
     /// Those of [`Reading::show`].
     pub fn show_by<V: Visitor>(
         &self,
-        alloc: Global,
         cache: &mut SpecCache<'_>,
         visitor: &mut V,
         steps: &mut Steps,
@@ -277,6 +271,6 @@ impl<'a> Reading<'a> {
     {
         // For the proof alone: what a template ensures of its groups bounds the steps.
         let _ = self.template.cells();
-        self.show_kept(alloc, cache, visitor, steps)
+        self.show_kept(cache, visitor, steps)
     }
 }

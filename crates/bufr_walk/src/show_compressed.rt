@@ -1,5 +1,5 @@
 //! The showing of compressed data: subset after subset, each item from its location.
-ghost use Rattle.std.specs.Prelude.{◌≡◌, ◌∷◌, ◌≤◌, ◌<◌, ◌+◌, ◌-◌, ◌*◌, ◌/◌, ◌^◌, ◌++◌, true, false, length, take, drop, replicate, IfNone, IfSome, OnSome};
+ghost use Rattle.std.specs.Prelude.{◌≡◌, ◌∷◌, ◌≤◌, ◌<◌, ◌+◌, ◌-◌, ◌*◌, ◌/◌, ◌^◌, ◌++◌, true, false, length, take, drop, get_or, replicate, IfNone, IfSome, OnSome};
 ghost use Rattle.std.specs.List.{list_all};
 ghost use Rattle.bufr_bits.specs.Bits.{are_all_ones, bits_of, bits_at, number_of};
 ghost use Rattle.bufr_bits.specs.BitSlice.{octets_of};
@@ -7,6 +7,7 @@ ghost use Rattle.bufr_tables.specs.TableB.{is_character};
 ghost use Rattle.bufr_walk.specs.Calls.{compressed_item_calls, subset_call, compressed_subset_calls, timed};
 ghost use Rattle.bufr_walk.specs.Content.{octets_in, shown};
 ghost use Rattle.bufr_walk.specs.Numbers.{IsPlainNumber};
+ghost use Rattle.bufr_walk.specs.declared.kept.IndexedItem.{IndexedItem};
 ghost use Rattle.bufr_walk.specs.StoredItems.{HasIncrement, call_kept, content_kept};
 ghost use Rattle.bufr_walk.specs.PackedBits.{increased_to, is_missing, number_from, sum_content, text_at};
 ghost use Rattle.bufr_walk.specs.PackedIn.{items_at, fits_at};
@@ -287,8 +288,7 @@ fn show_base<V: Visitor>(
 }
 
 /// Shows a kept item for one subset, counted from 0, plain or not.
-#[inline(never)]
-fn show_other<V: Visitor>(
+fn show_any<V: Visitor>(
     pack: &PackedData<'_>,
     item: &IndexedItem,
     subset: u16,
@@ -306,6 +306,27 @@ fn show_other<V: Visitor>(
         return show_text(pack, item, subset, visitor);
     }
     show_number(pack, item, subset, visitor)
+}
+
+/// Shows the kept item of an index for one subset, counted from 0, plain or not. It finds the item
+/// itself, so that a plain one is never copied.
+#[inline(never)]
+fn show_other<V: Visitor>(
+    pack: &PackedData<'_>,
+    kept: &ItemIndex,
+    place: usize,
+    subset: u16,
+    visitor: &mut V,
+) -> Result<(), V::Fault>
+    requires place { place < length kept.now }
+    requires fit { list_all (fits_at (bits_of (octets_of pack.now.bits)) pack.now.subsets)
+        (drop place kept.now) ≡ true }
+    requires subset { subset < pack.now.subsets }
+    ensures { (item : IndexedItem) → item ≡ get_or kept.now place item → V.sees visitor.old
+        (call_kept pack.now.table.now (bits_of (octets_of pack.now.bits)) pack.now.subsets item
+        subset) result visitor.new }
+{
+    show_any(pack, &kept.item(place), subset, visitor)
 }
 
 /// The number of a plain kept item with no increments, which all subsets have; `None` where it is
@@ -349,26 +370,31 @@ fn plain_value<'t>(pack: &PackedData<'_>, item: &IndexedItem, subset: u16) -> Op
     Some(plain_number(&item.spec, raw))
 }
 
-/// Shows a kept item for one subset, counted from 0.
+/// Shows the kept item of an index for one subset, counted from 0.
 #[inline(always)]
 fn show_item<V: Visitor>(
     pack: &PackedData<'_>,
-    item: &IndexedItem,
+    kept: &ItemIndex,
+    place: usize,
     subset: u16,
     visitor: &mut V,
 ) -> Result<(), V::Fault>
-    requires fits { fits_at (bits_of (octets_of pack.now.bits)) pack.now.subsets item.now ≡ true }
+    requires place { place < length kept.now }
+    requires fit { list_all (fits_at (bits_of (octets_of pack.now.bits)) pack.now.subsets)
+        (drop place kept.now) ≡ true }
     requires subset { subset < pack.now.subsets }
-    ensures { V.sees visitor.old (call_kept pack.now.table.now (bits_of (octets_of pack.now.bits))
-        pack.now.subsets item.now subset) result visitor.new }
+    ensures { (item : IndexedItem) → item ≡ get_or kept.now place item → V.sees visitor.old
+        (call_kept pack.now.table.now (bits_of (octets_of pack.now.bits)) pack.now.subsets item
+        subset) result visitor.new }
 {
+    let item = kept.item(place);
     if item.spec.is_plain()
-        && let Some(value) = plain_value(pack, item, subset)
+        && let Some(value) = plain_value(pack, &item, subset)
         && let Some(entry) = pack.table.get(item.spec.fxy())
     {
         return show_plain_value(&item.spec, entry, value, visitor);
     }
-    show_other(pack, item, subset, visitor)
+    show_other(pack, kept, place, subset, visitor)
 }
 
 /// Shows the items of one subset, counted from 0.
@@ -386,8 +412,7 @@ fn show_items<V: Visitor>(
         visitor.new 0 }
 {
     'items: for place in 0..kept.len() {
-        let item = kept.item(place);
-        match show_item(pack, &item, subset, visitor) {
+        match show_item(pack, kept, place, subset, visitor) {
             Ok(()) => {}
             Err(fault) => return Err(ShowFault::Visitor(fault)),
         }

@@ -28,7 +28,6 @@ use crate::visitor::{ItemView, Value, Visitor};
 use crate::walking::walk_by;
 use bufr_bits::BitSlice;
 use bufr_tables::{Entry, TableB, Template};
-use std::alloc::Global;
 
 /// The row of Table B of the field's element, where the field is read by it.
 // rule: text-no-comment
@@ -266,25 +265,22 @@ fn fault_of<E>(why: WalkStop<ShowStop<E>>) -> ShowFault<E>
 
 /// Walks over one subset, and shows each item.
 fn walk_showing<V: Visitor>(
-    alloc: Global,
     template: &Template,
-    table: &TableB,
     cache: &mut SpecCache<'_>,
     fields: &mut ShowFields<'_, '_, '_, '_, V>,
     steps: &mut Steps,
 ) -> Result<(), ShowFault<V::Fault>>
-    requires cache { cache.old ≡ table.now }
-    requires same { fields.old.table.now ≡ table.now }
+    requires same { fields.old.table.now ≡ cache.old }
     requires readable { (items : List (Item Content)) × (left : List Bool) × ReadsPass plain
-        (next_item table.now template.now) items (rest_of fields.old.input.now) left }
+        (next_item cache.old template.now) items (rest_of fields.old.input.now) left }
     ensures same { cache.new ≡ cache.old }
     ensures input { fields.new.input.ghost_name ≡ fields.old.input.ghost_name }
     ensures visitor { fields.new.visitor.ghost_name ≡ fields.old.visitor.ghost_name }
-    ensures shown { ItemsGo V.sees table.now (next_item table.now template.now) fields.old.input.now
+    ensures shown { ItemsGo V.sees cache.old (next_item cache.old template.now) fields.old.input.now
         fields.old.visitor.now steps.old result fields.new.input.now
         fields.new.visitor.now steps.new }
 {
-    match walk_by(alloc, template, table, cache, fields, steps) {
+    match walk_by(template, cache, fields, steps) {
         Ok(()) => Ok(()),
         Err(why) => Err(fault_of(why)),
     }
@@ -292,27 +288,25 @@ fn walk_showing<V: Visitor>(
 
 /// Shows the items of one subset.
 fn show_items<V: Visitor>(
-    alloc: Global,
     template: &Template,
-    table: &TableB,
     cache: &mut SpecCache<'_>,
     input: &mut PlainIn<'_>,
     visitor: &mut V,
     steps: &mut Steps,
 ) -> Result<(), ShowFault<V::Fault>>
-    requires cache { cache.old ≡ table.now }
-    requires readable { (items : List (Item Content)) × (left : List Bool)
-        × ReadsPass plain (next_item table.now template.now) items (rest_of input.old) left }
+    requires { (items : List (Item Content)) × (left : List Bool)
+        × ReadsPass plain (next_item cache.old template.now) items (rest_of input.old) left }
     ensures same { cache.new ≡ cache.old }
-    ensures shown { ItemsGo V.sees table.now (next_item table.now template.now) input.old
+    ensures shown { ItemsGo V.sees cache.old (next_item cache.old template.now) input.old
         visitor.old steps.old result input.new visitor.new steps.new }
 {
+    let table = cache.table();
     let mut fields = ShowFields {
         input,
         table,
         visitor,
     };
-    let outcome = walk_showing(alloc, template, table, cache, &mut fields, steps);
+    let outcome = walk_showing(template, cache, &mut fields, steps);
     let ShowFields {
         input: _,
         table: _,
@@ -321,66 +315,40 @@ fn show_items<V: Visitor>(
     outcome
 }
 
-/// Shows the subset of this number, from 1.
-#[tactic(auto, using(crate::proofs::SubsetLemmas::subset_goes, crate::proofs::SubsetLemmas::subset_refused))]
-fn show_subset<V: Visitor>(
-    alloc: Global,
-    template: &Template,
-    table: &TableB,
-    cache: &mut SpecCache<'_>,
-    number: u16,
-    input: &mut PlainIn<'_>,
-    visitor: &mut V,
-    steps: &mut Steps,
-) -> Result<(), ShowFault<V::Fault>>
-    requires cache { cache.old ≡ table.now }
-    requires readable { (items : List (Item Content)) × (left : List Bool)
-        × ReadsPass plain (next_item table.now template.now) items (rest_of input.old) left }
-    ensures same { cache.new ≡ cache.old }
-    ensures shown { SubsetGoes V.sees table.now (next_item table.now template.now) number input.old
-        visitor.old steps.old result input.new visitor.new steps.new }
-{
-    match visitor.subset(number) {
-        Ok(()) => show_items(alloc, template, table, cache, input, visitor, steps),
-        Err(fault) => Err(ShowFault::Visitor(fault)),
-    }
+/// Data that are not compressed, their subsets and their template.
+#[derive(Drop)]
+pub(crate) struct PlainData<'a> {
+    pub bits: BitSlice<'a>,
+    pub subsets: u16,
+    pub template: &'a Template,
 }
 
-/// Shows all subsets.
+/// Shows each subset, and its items.
 pub(crate) fn show_plain<V: Visitor>(
-    alloc: Global,
-    bits: BitSlice<'_>,
-    subsets: u16,
-    template: &Template,
-    table: &TableB,
+    data: &PlainData<'_>,
     cache: &mut SpecCache<'_>,
     visitor: &mut V,
     steps: &mut Steps,
 ) -> Result<(), ShowFault<V::Fault>>
     requires steps { steps.old ≡ 0 }
-    requires cache { cache.old ≡ table.now }
     requires readable { (all : List (List (Item Content))) × (left : List Bool)
-        × ReadsSubsets (next_item table.now template.now) all (bits_of (octets_of bits)) left
-        × (length all ≡ subsets) }
+        × ReadsSubsets (next_item cache.old data.now.template.now) all
+        (bits_of (octets_of data.now.bits)) left × (length all ≡ data.now.subsets) }
     ensures same { cache.new ≡ cache.old }
     ensures shown { (all : List (List (Item Content))) (left : List Bool)
-        → ReadsSubsets (next_item table.now template.now) all (bits_of (octets_of bits.entry)) left
-        → length all ≡ subsets →
-        Shows V.sees visitor.old (subset_calls table.now (next_item table.now template.now) 0 1 all)
-        (turns_in (next_item table.now template.now) all) result visitor.new steps.new }
+        → ReadsSubsets (next_item cache.old data.now.template.now) all
+        (bits_of (octets_of data.now.bits)) left
+        → length all ≡ data.now.subsets
+        → Shows V.sees visitor.old
+        (subset_calls cache.old (next_item cache.old data.now.template.now) 0 1 all)
+        (turns_in (next_item cache.old data.now.template.now) all) result visitor.new steps.new }
 {
-    let mut input = PlainIn::new(bits);
-    'subsets: for done in 0..subsets {
-        show_subset(
-            alloc,
-            template,
-            table,
-            cache,
-            done + 1,
-            &mut input,
-            visitor,
-            steps,
-        )?;
+    let mut input = PlainIn::new(data.bits);
+    'subsets: for done in 0..data.subsets {
+        match visitor.subset(done + 1) {
+            Ok(()) => show_items(data.template, cache, &mut input, visitor, steps)?,
+            Err(fault) => return Err(ShowFault::Visitor(fault)),
+        }
     }
     Ok(())
 }

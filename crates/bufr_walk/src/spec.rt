@@ -58,6 +58,17 @@ pub struct Spec {
     plain: bool,
 }
 
+/// How a field that is a number is read.
+#[derive(Clone, Copy)]
+pub(crate) struct NumberParts {
+    pub(crate) kind: Kind,
+    pub(crate) width: u32,
+    pub(crate) scale: i16,
+    pub(crate) reference: i128,
+    pub(crate) may_be_missing: bool,
+    pub(crate) listed: bool,
+}
+
 impl Model for Spec {
     ghost use Rattle.bufr_walk.specs.FieldSpec.{FieldSpec};
     ghost use Rattle.bufr_walk.specs.Numbers.{IsSpecWith, is_plain};
@@ -135,34 +146,24 @@ impl Spec {
     #[tactic(auto, using(crate::proofs::SpecLemmas::number_good))]
     #[inline(always)]
     // rule: widths
-    pub(crate) fn number(
-        fxy: Fxy,
-        role: Role,
-        kind: Kind,
-        width: u32,
-        scale: i16,
-        reference: i128,
-        may_be_missing: bool,
-        listed: bool,
-    ) -> Result<Spec, TurnRefusal>
-        requires number { is_character kind ≡ false }
-        requires role { HasRole role kind may_be_missing }
-        requires scale { unsigned_abs scale ≤ 300 }
-        requires reference { unsigned_abs reference ≤ 2 ^ 125 }
-        ensures { result ≡ if_valid_width
-            (number_field fxy role kind width scale reference may_be_missing listed) }
+    pub(crate) fn number(fxy: Fxy, role: Role, number: NumberParts) -> Result<Spec, TurnRefusal>
+        requires number { is_character number.kind ≡ false }
+        requires role { HasRole role number.kind number.may_be_missing }
+        requires scale { unsigned_abs number.scale ≤ 300 }
+        requires reference { unsigned_abs number.reference ≤ 2 ^ 125 }
+        ensures { result ≡ if_valid_width (number_field fxy role number) }
     {
-        if 1 <= width && width <= 63 {
+        if 1 <= number.width && number.width <= 63 {
             Ok(Spec {
                 fxy,
                 role,
-                kind,
-                width,
-                scale,
-                reference,
-                may_be_missing,
-                listed,
-                plain: is_plain_number(role, width, reference, listed),
+                kind: number.kind,
+                width: number.width,
+                scale: number.scale,
+                reference: number.reference,
+                may_be_missing: number.may_be_missing,
+                listed: number.listed,
+                plain: is_plain_number(role, number.width, number.reference, number.listed),
             })
         } else {
             Err(TurnRefusal::Width(fxy))

@@ -32,10 +32,11 @@ struct CachedSpec {
 /// ```
 /// let mut cache = SpecCache::new(alloc, &table_b);
 /// cache.reset(template.cells().len())?;
-/// walk_by(alloc, &template, &table_b, &mut cache, &mut fields, &mut steps)?;
+/// walk_by(&template, &mut cache, &mut fields, &mut steps)?;
 /// ```
 #[derive(Drop)]
 pub struct SpecCache<'a> {
+    alloc: Global,
     table: &'a TableB,
     entries: Vec<CachedSpec>,
 }
@@ -62,9 +63,24 @@ impl<'a> SpecCache<'a> {
         ensures { result ≡ table.now }
     {
         SpecCache {
+            alloc,
             table,
             entries: Vec::new(alloc),
         }
+    }
+
+    /// The table that the specs are found by.
+    #[inline(always)]
+    pub fn table(&self) -> &'a TableB
+        ensures { result.now ≡ self.now }
+    {
+        self.table
+    }
+
+    /// Where the cache takes memory.
+    #[inline(always)]
+    pub fn allocator(&self) -> Global {
+        self.alloc
     }
 
     /// Drops all specs, and makes room for those of a template of this number of cells.

@@ -1,21 +1,20 @@
 //! The walk over the cells of a template, with a place and a stack of open groups.
-ghost use Rattle.std.specs.Prelude.{◌≡◌, ◌<◌, ◌≤◌, ◌+◌, ◌-◌, ◌*◌, ◌^◌, ◌++◌, ◌∷◌, [], length, IfOk, IfErr, OnOk, OnErr, Result, Ok, Err};
+ghost use Rattle.std.specs.Prelude.{◌≡◌, ◌<◌, ◌≤◌, ◌+◌, ◌-◌, ◌*◌, ◌^◌, ◌++◌, ◌∷◌, [], List, length, IfOk, IfErr, OnOk, OnErr, Result, Ok, Err};
 ghost use Rattle.arrayvec.specs.ArrayVec.{array_vec_len};
 ghost use Rattle.bufr_tables.specs.Tree.{Tree, places};
 ghost use Rattle.bufr_walk.specs.Course.{next_item};
-ghost use Rattle.bufr_walk.specs.Rules.{element_spec, factor_spec};
 ghost use Rattle.bufr_walk.specs.Operators.{OperatorModel, after_field};
-ghost use Rattle.bufr_walk.specs.SpecKey.{IsElementKey, IsFactorKey};
+ghost use Rattle.bufr_walk.specs.SpecKey.{descriptor_of, spec_of};
 ghost use Rattle.bufr_walk.specs.Turns.{Rest};
+ghost use Rattle.bufr_walk.specs.declared.walking.Frame.{Frame};
 ghost use Rattle.bufr_tables.specs.Cells.{AreCellsOf};
 ghost use Rattle.bufr_walk.specs.CellWalk.{IsAtCell, Turned};
-ghost use Rattle.bufr_walk.specs.Ticks.{ticked};
 ghost use Rattle.bufr_walk.specs.Walked.{Walked};
 ghost use Rattle.bufr_walk.specs.WalkProgress.{TakesField};
 
 use crate::cells::cell_at;
 use crate::fields::Fields;
-use crate::operators::OperatorState;
+use crate::operators::{OperatorState, TableField};
 use crate::spec::{Spec, Taken, TurnRefusal};
 use crate::spec_cache::SpecCache;
 use crate::steps::Steps;
@@ -52,6 +51,29 @@ fn open_group(count: u64, start: u32, after: u32, stack: &mut ArrayVec<Frame, 32
     start
 }
 
+/// Goes to the next pass of the innermost open group, or past the group after its last pass.
+#[inline(always)]
+fn end_pass(groups: &mut ArrayVec<Frame, 32>) -> u32
+    requires { 0 < array_vec_len groups.old }
+    ensures last { (outer : List Frame) (frame : Frame) → groups.old.items ≡ outer ++ frame ∷ []
+        → frame.left ≡ 0 → (result ≡ frame.after) × (groups.new.items ≡ outer) }
+    ensures more { (outer : List Frame) (frame : Frame) → groups.old.items ≡ outer ++ frame ∷ []
+        → 0 < frame.left → (result ≡ frame.start) × (groups.new.items ≡ outer
+        ++ record { start = frame.start; after = frame.after; left = frame.left - 1 } ∷ []) }
+{
+    let last = groups.len() - 1;
+    let frame = groups[last];
+    if frame.left == 0 {
+        groups.pop();
+        return frame.after;
+    }
+    groups[last] = Frame {
+        left: frame.left - 1,
+        ..frame
+    };
+    frame.start
+}
+
 /// Takes the field of a specification, and changes the operators in force by it.
 #[inline(always)]
 fn take_one<S: Fields>(
@@ -59,13 +81,10 @@ fn take_one<S: Fields>(
     fxy: Fxy,
     fields: &mut S,
     in_force: &mut OperatorState,
-    steps: &mut Steps,
 ) -> Result<Taken, WalkStop<S::Fault>>
-    ensures tick { steps.new ≡ ticked steps.old 1 }
     ensures took { TakesField S.takes spec fields.old result fields.new }
     ensures kept { IfOk result (λ t. in_force.new ≡ after_field in_force.old fxy t) }
 {
-    steps.tick();
     let spec = spec?;
     in_force.take(fxy, &spec, fields)
 }
@@ -90,261 +109,177 @@ fn note_place<S: Fields>(place: u32, cache: &mut SpecCache<'_>, fields: &S)
     }
 }
 
-/// Takes an element whose spec is not cached, and caches it.
-#[tactic(auto, using(crate::proofs::SpecCacheLemmas::element_cached))]
+/// Takes a field whose spec is not cached, and caches it.
+#[tactic(auto, using(crate::proofs::SpecCacheLemmas::spec_cached))]
 #[inline(never)]
-fn take_new_element<S: Fields>(
-    table: &TableB,
+fn take_new<S: Fields>(
+    field: TableField,
     place: u32,
-    fxy: Fxy,
-    key: u64,
     cache: &mut SpecCache<'_>,
     fields: &mut S,
     in_force: &mut OperatorState,
-    steps: &mut Steps,
 ) -> Result<Taken, WalkStop<S::Fault>>
-    requires key { IsElementKey in_force.old fxy key }
-    requires same { cache.old ≡ table.now }
-    ensures tick { steps.new ≡ ticked steps.old 1 }
-    ensures took { TakesField S.takes (element_spec table.now in_force.old fxy) fields.old result
+    ensures took { TakesField S.takes (spec_of cache.old in_force.old field) fields.old result
         fields.new }
-    ensures kept { IfOk result (λ t. in_force.new ≡ after_field in_force.old fxy t) }
+    ensures kept { IfOk result
+        (λ t. in_force.new ≡ after_field in_force.old (descriptor_of field) t) }
     ensures same { cache.new ≡ cache.old }
 {
-    let spec = in_force.element(table, fxy);
+    let fxy = field.fxy();
+    let key = in_force.key(&field);
+    let spec = in_force.spec(cache.table(), &field);
     if let Ok(spec) = &spec {
         cache.insert(place, key, spec);
     }
-    take_one(spec, fxy, fields, in_force, steps)
+    take_one(spec, fxy, fields, in_force)
 }
 
-/// Takes an element by the spec cached for its cell, if there is one.
-#[tactic(auto, using(crate::proofs::SpecCacheLemmas::element_got, crate::proofs::SpecCacheLemmas::element_got_plain))]
+/// Takes a field by the spec cached for its cell, if there is one.
+#[tactic(auto, using(crate::proofs::SpecCacheLemmas::spec_got, crate::proofs::SpecCacheLemmas::spec_got_plain))]
 #[inline(always)]
-fn take_found_element<S: Fields>(
-    table: &TableB,
+fn take_found<S: Fields>(
+    field: TableField,
     place: u32,
-    fxy: Fxy,
     cache: &mut SpecCache<'_>,
     fields: &mut S,
     in_force: &mut OperatorState,
-    steps: &mut Steps,
 ) -> Result<Taken, WalkStop<S::Fault>>
-    requires { cache.old ≡ table.now }
-    ensures tick { steps.new ≡ ticked steps.old 1 }
-    ensures took { TakesField S.takes (element_spec table.now in_force.old fxy) fields.old result
+    ensures took { TakesField S.takes (spec_of cache.old in_force.old field) fields.old result
         fields.new }
-    ensures kept { IfOk result (λ t. in_force.new ≡ after_field in_force.old fxy t) }
+    ensures kept { IfOk result
+        (λ t. in_force.new ≡ after_field in_force.old (descriptor_of field) t) }
     ensures same { cache.new ≡ cache.old }
 {
-    let key = in_force.element_key(fxy);
+    let fxy = field.fxy();
+    let key = in_force.key(&field);
     match cache.get(place, key) {
-        Some(spec) => {
-            steps.tick();
-            in_force.take_other(fxy, spec, fields)
-        }
-        None => take_new_element(table, place, fxy, key, cache, fields, in_force, steps),
+        Some(spec) => in_force.take_other(fxy, spec, fields),
+        None => take_new(field, place, cache, fields, in_force),
     }
 }
 
-/// Takes the element of a cell, by the spec that is cached for it, if there is one.
+/// Takes the field of a cell, by the spec that is cached for it, if there is one.
 #[inline(always)]
-fn take_element<S: Fields>(
-    table: &TableB,
+fn take_field<S: Fields>(
+    field: TableField,
     place: u32,
-    fxy: Fxy,
     cache: &mut SpecCache<'_>,
     fields: &mut S,
     in_force: &mut OperatorState,
-    steps: &mut Steps,
 ) -> Result<Taken, WalkStop<S::Fault>>
-    requires { cache.old ≡ table.now }
-    ensures tick { steps.new ≡ ticked steps.old 1 }
-    ensures took { TakesField S.takes (element_spec table.now in_force.old fxy) fields.old result
+    ensures took { TakesField S.takes (spec_of cache.old in_force.old field) fields.old result
         fields.new }
-    ensures kept { IfOk result (λ t. in_force.new ≡ after_field in_force.old fxy t) }
+    ensures kept { IfOk result
+        (λ t. in_force.new ≡ after_field in_force.old (descriptor_of field) t) }
     ensures same { cache.new ≡ cache.old }
 {
     look_for(place, cache, fields);
-    let answer = take_found_element(table, place, fxy, cache, fields, in_force, steps);
+    let answer = take_found(field, place, cache, fields, in_force);
     note_place(place, cache, fields);
     answer
 }
 
-/// Takes a factor whose spec is not cached, and caches it.
-#[tactic(auto, using(crate::proofs::SpecCacheLemmas::factor_cached))]
-#[inline(never)]
-fn take_new_factor<S: Fields>(
-    table: &TableB,
-    place: u32,
-    fxy: Fxy,
-    key: u64,
-    cache: &mut SpecCache<'_>,
-    fields: &mut S,
-    in_force: &mut OperatorState,
-    steps: &mut Steps,
-) -> Result<Taken, WalkStop<S::Fault>>
-    requires key { IsFactorKey in_force.old fxy key }
-    requires same { cache.old ≡ table.now }
-    ensures tick { steps.new ≡ ticked steps.old 1 }
-    ensures took { TakesField S.takes (factor_spec table.now in_force.old fxy) fields.old result
-        fields.new }
-    ensures kept { IfOk result (λ t. in_force.new ≡ after_field in_force.old fxy t) }
-    ensures same { cache.new ≡ cache.old }
-{
-    let spec = in_force.factor(table, fxy);
-    if let Ok(spec) = &spec {
-        cache.insert(place, key, spec);
-    }
-    take_one(spec, fxy, fields, in_force, steps)
+/// A place in the cells of a template.
+#[derive(Clone, Copy)]
+struct CellPlace<'c> {
+    cells: &'c [Cell],
+    index: u32,
 }
 
-/// Takes a factor by the spec cached for its cell, if there is one.
-#[tactic(auto, using(crate::proofs::SpecCacheLemmas::factor_got, crate::proofs::SpecCacheLemmas::factor_got_plain))]
-#[inline(always)]
-fn take_found_factor<S: Fields>(
-    table: &TableB,
-    place: u32,
-    fxy: Fxy,
-    cache: &mut SpecCache<'_>,
-    fields: &mut S,
-    in_force: &mut OperatorState,
-    steps: &mut Steps,
-) -> Result<Taken, WalkStop<S::Fault>>
-    requires { cache.old ≡ table.now }
-    ensures tick { steps.new ≡ ticked steps.old 1 }
-    ensures took { TakesField S.takes (factor_spec table.now in_force.old fxy) fields.old result
-        fields.new }
-    ensures kept { IfOk result (λ t. in_force.new ≡ after_field in_force.old fxy t) }
-    ensures same { cache.new ≡ cache.old }
-{
-    let key = in_force.factor_key(fxy);
-    match cache.get(place, key) {
-        Some(spec) => {
-            steps.tick();
-            in_force.take_other(fxy, spec, fields)
-        }
-        None => take_new_factor(table, place, fxy, key, cache, fields, in_force, steps),
-    }
-}
-
-/// Takes the factor of a cell, by the spec that is cached for it, if there is one.
-#[inline(always)]
-fn take_factor<S: Fields>(
-    table: &TableB,
-    place: u32,
-    fxy: Fxy,
-    cache: &mut SpecCache<'_>,
-    fields: &mut S,
-    in_force: &mut OperatorState,
-    steps: &mut Steps,
-) -> Result<Taken, WalkStop<S::Fault>>
-    requires { cache.old ≡ table.now }
-    ensures tick { steps.new ≡ ticked steps.old 1 }
-    ensures took { TakesField S.takes (factor_spec table.now in_force.old fxy) fields.old result
-        fields.new }
-    ensures kept { IfOk result (λ t. in_force.new ≡ after_field in_force.old fxy t) }
-    ensures same { cache.new ≡ cache.old }
-{
-    look_for(place, cache, fields);
-    let answer = take_found_factor(table, place, fxy, cache, fields, in_force, steps);
-    note_place(place, cache, fields);
-    answer
+/// What a walk keeps from cell to cell: the open groups, the outermost first, and the operators in
+/// force.
+#[derive(Drop)]
+struct WalkState {
+    open_groups: ArrayVec<Frame, 32>,
+    in_force: OperatorState,
 }
 
 /// Makes one step, and returns the place after it, or `None` at the end.
 #[inline(always)]
 // rule: defining-fixed-groups, fault-62-first
 fn turn<S: Fields>(
-    cells: &[Cell],
-    table: &TableB,
+    at: CellPlace<'_>,
+    walk: &mut WalkState,
     cache: &mut SpecCache<'_>,
-    place: u32,
-    stack: &mut ArrayVec<Frame, 32>,
     fields: &mut S,
-    in_force: &mut OperatorState,
     steps: &mut Steps,
 ) -> Result<Option<u32>, WalkStop<S::Fault>>
-    requires within { length cells.now ≤ 65535 }
-    requires same { cache.old ≡ table.now }
-    requires fits { (left : Rest → Rest) × IsAtCell cells.now place stack.old.items left }
+    requires within { length at.cells.now ≤ 65535 }
+    requires fits { (left : Rest → Rest)
+        × IsAtCell at.cells.now at.index walk.old.open_groups.items left }
     ensures same { cache.new ≡ cache.old }
-    ensures turned { (left : Rest → Rest) → IsAtCell cells.now place stack.old.items left →
-        Turned S.takes table.now cells.now left place stack.old.items in_force.old fields.old
-        steps.old result stack.new.items in_force.new fields.new steps.new }
+    ensures turned { (left : Rest → Rest)
+        → IsAtCell at.entry.cells.now at.entry.index walk.old.open_groups.items left
+        → Turned S.takes cache.old at.entry.cells.now left at.entry.index
+        walk.old.open_groups.items walk.old.in_force fields.old steps.old result
+        walk.new.open_groups.items walk.new.in_force fields.new steps.new }
 {
-    match cell_at(cells, place) {
+    let place = at.index;
+    steps.tick();
+    match cell_at(at.cells, place) {
         Cell::Element(fxy) => {
-            take_element(table, place, fxy, cache, fields, in_force, steps)?;
+            let element = TableField::Element(fxy);
+            take_field(element, place, cache, fields, &mut walk.in_force)?;
             Ok(Some(place + 1))
         }
         Cell::Operator(fxy) => {
             if fxy.x() == 5 {
-                let spec = in_force.inserted(fxy);
-                take_one(spec, fxy, fields, in_force, steps)?;
+                let spec = walk.in_force.inserted(fxy);
+                take_one(spec, fxy, fields, &mut walk.in_force)?;
                 return Ok(Some(place + 1));
             }
-            steps.tick();
-            in_force.apply(fxy)?;
+            walk.in_force.apply(fxy)?;
             Ok(Some(place + 1))
         }
         Cell::Fixed(count, after) => {
-            steps.tick();
-            Ok(Some(open_group(u64::from(count), place + 1, after, stack)))
+            let groups = &mut walk.open_groups;
+            Ok(Some(open_group(u64::from(count), place + 1, after, groups)))
         }
         Cell::Delayed(after) => {
-            steps.tick();
-            let Cell::Factor(fxy) = cell_at(cells, place + 1) else {
+            let Cell::Factor(fxy) = cell_at(at.cells, place + 1) else {
                 unreachable!()
             };
-            let answer = take_factor(table, place + 1, fxy, cache, fields, in_force, steps)?;
+            steps.tick();
+            let factor = TableField::Factor(fxy);
+            let answer = take_field(factor, place + 1, cache, fields, &mut walk.in_force)?;
+            let groups = &mut walk.open_groups;
             match answer {
-                Taken::Count(count) => Ok(Some(open_group(count, place + 2, after, stack))),
+                Taken::Count(count) => Ok(Some(open_group(count, place + 2, after, groups))),
                 _ => unreachable!(),
             }
         }
         Cell::Factor(_) => unreachable!(),
-        Cell::PassEnd => {
-            steps.tick();
-            match stack.pop() {
-                Some(frame) => Ok(Some(open_group(frame.left, frame.start, frame.after, stack))),
-                None => unreachable!(),
-            }
-        }
-        Cell::Finish => {
-            steps.tick();
-            Ok(None)
-        }
+        Cell::PassEnd => Ok(Some(end_pass(&mut walk.open_groups))),
+        Cell::Finish => Ok(None),
     }
 }
 
 /// Walks over a template's cells.
 fn walk_cells<S: Fields>(
-    alloc: Global,
     cells: &[Cell],
-    table: &TableB,
     cache: &mut SpecCache<'_>,
     fields: &mut S,
     steps: &mut Steps,
 ) -> Result<(), WalkStop<S::Fault>>
-    requires same { cache.old ≡ table.now }
-    requires flattened { (template : Tree) × AreCellsOf cells.now template }
+    requires { (template : Tree) × AreCellsOf cells.now template }
     ensures same { cache.new ≡ cache.old }
     ensures walked { (template : Tree) → AreCellsOf cells.now template →
-        Walked S.takes (next_item table.now template) fields.old steps.old result
+        Walked S.takes (next_item cache.old template) fields.old steps.old result
         fields.new steps.new }
 {
-    let mut in_force = OperatorState::new(alloc);
-    let mut stack: ArrayVec<Frame, 32> = ArrayVec::new();
+    let mut walk = WalkState {
+        open_groups: ArrayVec::new(),
+        in_force: OperatorState::new(cache.allocator()),
+    };
     let mut place: u32 = 0;
     'turns: while let Some(next) = turn(
-        cells,
-        table,
+        CellPlace {
+            cells,
+            index: place,
+        },
+        &mut walk,
         cache,
-        place,
-        &mut stack,
         fields,
-        &mut in_force,
         steps,
     )? {
         place = next;
@@ -385,7 +320,7 @@ pub fn walk<S: Fields>(
         ≤ steps.old + places template.now * (S.used fields.new - S.used fields.old + 1)) }
 {
     let mut cache = SpecCache::new(alloc, table);
-    walk_by(alloc, template, table, &mut cache, fields, steps)
+    walk_by(template, &mut cache, fields, steps)
 }
 
 /// Walks over the cells of a template once, as [`walk`] does. A field whose spec is cached is taken
@@ -395,23 +330,20 @@ pub fn walk<S: Fields>(
 ///
 /// Those of [`walk`].
 pub fn walk_by<S: Fields>(
-    alloc: Global,
     template: &Template,
-    table: &TableB,
     cache: &mut SpecCache<'_>,
     fields: &mut S,
     steps: &mut Steps,
 ) -> Result<(), WalkStop<S::Fault>>
-    requires { cache.old ≡ table.now }
     ensures same { cache.new ≡ cache.old }
-    ensures walked { Walked S.takes (next_item table.now template.now) fields.old steps.old result
+    ensures walked { Walked S.takes (next_item cache.old template.now) fields.old steps.old result
         fields.new steps.new }
     ensures accepted { OnOk result
         (steps.new ≤ steps.old + places template.now * (S.used fields.new - S.used fields.old)) }
     ensures refused { OnErr result (steps.new
         ≤ steps.old + places template.now * (S.used fields.new - S.used fields.old + 1)) }
 {
-    match walk_cells(alloc, template.cells(), table, cache, fields, steps) {
+    match walk_cells(template.cells(), cache, fields, steps) {
         Ok(()) => Ok(()),
         Err(why) => Err(why),
     }

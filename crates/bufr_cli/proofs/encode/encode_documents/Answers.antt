@@ -8,6 +8,7 @@ use Rattle.bufr_cli.proofs.encode.encode_documents.Goals as goal
 pub loop-reader-init : goal.loop-reader-init
 loop-reader-init g c = record {
   ran = ran-fresh _ _ _ _ _ _ _ _ _ c.new-reader.ensures refl refl;
+  form = refl;
   table_b = ap (λ by. by.table_b) c.new-templates.ensures;
   table_d = ap (λ by. by.table_d) c.new-templates.ensures;
   reader = refl;
@@ -19,7 +20,7 @@ loop-reader-init g c = record {
 
 pub returns-in_err-verdict-clause-run : goal.returns-in_err-verdict-clause-run
 returns-in_err-verdict-clause-run g c =
-    let reports = rw (c.loop-reader.invariant.table_b, c.loop-reader.invariant.table_d) at c.encode_next.ensures.reports in
+    let reports = rw (c.loop-reader.invariant.form, c.loop-reader.invariant.table_b, c.loop-reader.invariant.table_d) at c.encode_next.ensures.reports in
     let p = err_from_is_err_and c.from_residual.result c.from_residual.ensures.1 in
     let ran = c.loop-reader.invariant.ran in
     stops _ _ _ _ _ _ _ _ _ _ _ _ _ _ _ _ _ ran (c.next_document-next.ensures.next ran.sound) c.next_document-next.ensures.counts _ _ c.encode_next.result _ c.from_residual.result
@@ -27,7 +28,7 @@ returns-in_err-verdict-clause-run g c =
 
 pub returns-in_err-verdict-clause-reader : goal.returns-in_err-verdict-clause-reader
 returns-in_err-verdict-clause-reader g c =
-    let reports = rw (c.loop-reader.invariant.table_b, c.loop-reader.invariant.table_d) at c.encode_next.ensures.reports in
+    let reports = rw (c.loop-reader.invariant.form, c.loop-reader.invariant.table_b, c.loop-reader.invariant.table_d) at c.encode_next.ensures.reports in
     let p = err_from_is_err_and c.from_residual.result c.from_residual.ensures.1 in
     let before = c.loop-reader.invariant in
     stop-failures _ _ _ _ _ c.next_document-next.result c.encode_next.result _ c.from_residual.result _ _ reports c.in_err-verdict.was (p.1 ∙ ap Err p.2)
@@ -35,7 +36,7 @@ returns-in_err-verdict-clause-reader g c =
 
 pub returns-in_err-verdict-clause-reads : goal.returns-in_err-verdict-clause-reads
 returns-in_err-verdict-clause-reads g c =
-    let reports = rw (c.loop-reader.invariant.table_b, c.loop-reader.invariant.table_d) at c.encode_next.ensures.reports in
+    let reports = rw (c.loop-reader.invariant.form, c.loop-reader.invariant.table_b, c.loop-reader.invariant.table_d) at c.encode_next.ensures.reports in
     let p = err_from_is_err_and c.from_residual.result c.from_residual.ensures.1 in
     let ran = c.loop-reader.invariant.ran in
     reads-made _ _ c.next_document-next.new.self c.from_residual.result (counts-then _ _ _ new_reader c.loop-reader.reader c.next_document-next.new.self ran.counts c.next_document-next.ensures.counts)
@@ -44,7 +45,7 @@ returns-in_err-verdict-clause-reads g c =
 
 pub returns-in_default-clause-run : goal.returns-in_default-clause-run
 returns-in_default-clause-run g c =
-    let reports = rw (c.loop-reader.invariant.table_b, c.loop-reader.invariant.table_d) at c.encode_next.ensures.reports in
+    let reports = rw (c.loop-reader.invariant.form, c.loop-reader.invariant.table_b, c.loop-reader.invariant.table_d) at c.encode_next.ensures.reports in
     let ran = c.loop-reader.invariant.ran in
     done-last _ _ _ _ _ _ _ _ _ _ _ _ _ _ _ _ _ ran (c.next_document-next.ensures.next ran.sound) c.next_document-next.ensures.counts _ _ c.encode_next.result
     reports (c.in_ok-verdict.was ∙ ap Ok (none-else c.in_ok-verdict.field-0 c.in_default.not-Some))
@@ -58,7 +59,7 @@ count-requires g c = record { few = ran-few _ _ _ _ _ _ _ _ _ _ _ _ _ c.loop-rea
 
 pub returns-in-Refused-clause-run : goal.returns-in-Refused-clause-run
 returns-in-Refused-clause-run g c =
-    let reports = rw (c.loop-reader.invariant.table_b, c.loop-reader.invariant.table_d) at c.encode_next.ensures.reports in
+    let reports = rw (c.loop-reader.invariant.form, c.loop-reader.invariant.table_b, c.loop-reader.invariant.table_d) at c.encode_next.ensures.reports in
     let ran = c.loop-reader.invariant.ran in
     done-at-refused _ _ _ _ _ _ _ _ _ _ _ _ _ _ _ _ _ ran (c.next_document-next.ensures.next ran.sound) c.next_document-next.ensures.counts _ _ c.encode_next.result c.in-Some.verdict _
     reports (c.in_ok-verdict.was ∙ ap Ok c.in-Some.is) c.in-Refused.is c.count.ensures.value
@@ -72,12 +73,13 @@ loop-reader-smaller g c = falls _ _ (2 ^ 63) (ran-few _ _ _ _ _ _ _ _ _ _ _ _ _ 
 
 pub loop-reader-preserved : goal.loop-reader-preserved
 loop-reader-preserved g c =
-    let reports = rw (c.loop-reader.invariant.table_b, c.loop-reader.invariant.table_d) at c.encode_next.ensures.reports in
+    let reports = rw (c.loop-reader.invariant.form, c.loop-reader.invariant.table_b, c.loop-reader.invariant.table_d) at c.encode_next.ensures.reports in
     let before = c.loop-reader.invariant in
     let is = c.in_ok-verdict.was ∙ ap Ok c.in-Some.is in
     let counts = rw c.in_ok-verdict.was at c.encode_next.ensures.counts in record {
       ran = ran-by-equal _ _ _ _ _ _ _ _ _ _ _ _ _ _ c.encode_next.ensures.reader (turn-on _ _ _ _ _ _ _ _ _ _ _ _ _ _ _ _ _ before.ran (c.next_document-next.ensures.next before.ran.sound) c.next_document-next.ensures.counts _ _ c.encode_next.result c.in-Some.verdict _
           reports is c.in_default-verdict.not-Refused c.count.ensures.value);
+      form = c.encode_next.ensures.form ∙ before.form;
       table_b = c.encode_next.ensures.table_b ∙ before.table_b;
       table_d = c.encode_next.ensures.table_d ∙ before.table_d;
       reader = c.next_document-next.ensures.failed before.ran.sound ∙ verdict-keeps _ _ _ _ _ _ c.next_document-next.result c.encode_next.result c.in-Some.verdict reports is ∙ before.reader;

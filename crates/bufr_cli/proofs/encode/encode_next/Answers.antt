@@ -20,7 +20,7 @@ returns-in_ok-verdict-in-Ok-Some-clause-reports g c = (Complete c.in-Ok-Some.doc
 pub returns-in-Err-Run-clause-reports : goal.returns-in-Err-Run-clause-reports
 returns-in-Err-Run-clause-reports g c =
     let is : c.args.next ≡ Err (Run c.in-Err-Run.fault) = search rules in
-    run-ended _ _ (result_piece c.args.form c.args.templates.now.table_b c.args.templates.now.table_d) c.args.next c.in-Err-Run.fault is c.requires
+    run-ended _ _ (result_piece c.args.run.now.form c.args.run.now.templates.table_b c.args.run.now.templates.table_d) c.args.next c.in-Err-Run.fault is c.requires
 
 pub returns-in-Err-Run-clause-counts : goal.returns-in-Err-Run-clause-counts
 returns-in-Err-Run-clause-counts g c =
@@ -33,6 +33,7 @@ returns-in_err-write_read_fault-in-Err g c =
     let some : (run : RunFault) → c.in-Err.fault ≡ Run run → ⊥ = λ run is. search rules in
     record {
       reader = search rules;
+      form = search rules;
       table_b = search rules;
       table_d = search rules;
       reports = line-cut _ _ _ _ _ _ c.args.next c.in-Err.fault c.write_read_fault.result _ c.from_residual-in_err-write_read_fault-in-Err.result c.in-Err.is some c.write_read_fault.ensures.writes
@@ -47,6 +48,7 @@ returns-in_ok-write_read_fault-in-Err g c =
     let some : (run : RunFault) → c.in-Err.fault ≡ Run run → ⊥ = λ run is. search rules in
     record {
       reader = search rules;
+      form = search rules;
       table_b = search rules;
       table_d = search rules;
       reports = line-written _ _ _ _ _ _ c.args.next c.in-Err.fault c.in-Err.is some c.in_ok-write_read_fault-in-Err.ensures.writes;

@@ -10,12 +10,12 @@ use Rattle.bufr_text.proofs.encode.write_packed.Goals as goal
 pub returns-in-None-clause-written : goal.returns-in-None-clause-written
 returns-in-None-clause-written c =
     let ss = subsets_of c.args.entries.now in
-    none_packed (places c.args.template.now) (next_item c.args.table.now c.args.template.now) ss c.args.steps.now c.new-in-None.result.items (subst (StartsPackedOut ss) c.in-None.is c.in_ok-out.ensures) c.new-in-None.ensures.items c.requires.none
+    none_packed (places c.args.template.now) (next_item c.args.cache.now c.args.template.now) ss c.args.steps.now c.new-in-None.result.items (subst (StartsPackedOut ss) c.in-None.is c.in_ok-out.ensures) c.new-in-None.ensures.items c.requires.none
 
 pub returns-in-Ok-end-clause-written : goal.returns-in-Ok-end-clause-written
 returns-in-Ok-end-clause-written c =
     let ss = subsets_of c.args.entries.now in
-    let course = next_item c.args.table.now c.args.template.now in
+    let course = next_item c.args.cache.now c.args.template.now in
     let at = subst (StartsPackedOut ss) c.in-Some.is c.in_ok-out.ensures in
     let after = some_ends c.out.inside.entries.now c.out.inside.ends.items (length c.walk_by.new.fields.subsets) c.out.invariant.ends_are c.out.invariant.some (ap (λ (p : PackedOutModel). length p.subsets) (sym c.out.view_is)) in
     packed_written (places c.args.template.now) course ss c.in-Some.out c.args.steps.now c.walk_by.new.fields c.walk_by.new.steps c.into_octets.result.items at (some_before course ss c.in-Some.out c.args.steps.now (Ok tt) c.walk_by.new.fields c.walk_by.new.steps c.in-Ok.ensures.walked at after) c.requires.none c.in-Ok.ensures.walked c.in-Ok-end.ensures c.in-Ok.ensures.accepted
@@ -24,7 +24,7 @@ returns-in-Ok-end-clause-written c =
 pub returns-in-Err-end-clause-written : goal.returns-in-Err-end-clause-written
 returns-in-Err-end-clause-written c =
     let ss = subsets_of c.args.entries.now in
-    let course = next_item c.args.table.now c.args.template.now in
+    let course = next_item c.args.cache.now c.args.template.now in
     let at = subst (StartsPackedOut ss) c.in-Some.is c.in_ok-out.ensures in
     let after = some_ends c.out.inside.entries.now c.out.inside.ends.items (length c.walk_by.new.fields.subsets) c.out.invariant.ends_are c.out.invariant.some (ap (λ (p : PackedOutModel). length p.subsets) (sym c.out.view_is)) in
     packed_over (places c.args.template.now) course ss c.in-Some.out c.args.steps.now c.walk_by.new.fields c.walk_by.new.steps c.in-Err-end.why c.of_draft.result at (some_before course ss c.in-Some.out c.args.steps.now (Ok tt) c.walk_by.new.fields c.walk_by.new.steps c.in-Ok.ensures.walked at after) c.requires.none c.in-Ok.ensures.walked c.in-Err-end.ensures c.of_draft.ensures c.in-Ok.ensures.accepted
@@ -32,7 +32,7 @@ returns-in-Err-end-clause-written c =
 pub returns-in-Err-clause-written : goal.returns-in-Err-clause-written
 returns-in-Err-clause-written c =
     let ss = subsets_of c.args.entries.now in
-    let course = next_item c.args.table.now c.args.template.now in
+    let course = next_item c.args.cache.now c.args.template.now in
     let at = subst (StartsPackedOut ss) c.in-Some.is c.in_ok-out.ensures in
     let after = some_ends c.out-in-Err.inside.entries.now c.out-in-Err.inside.ends.items (length c.walk_by.new.fields.subsets) c.out-in-Err.invariant.ends_are c.out-in-Err.invariant.some (ap (λ (p : PackedOutModel). length p.subsets) (sym c.out-in-Err.view_is)) in
-    packed_stopped (places c.args.template.now) course ss c.in-Some.out c.args.steps.now c.walk_by.new.fields c.walk_by.new.steps c.line.result c.in-Err.why c.of_stop.result (template_adds c.args.table.now c.args.template.now) at (some_before course ss c.in-Some.out c.args.steps.now (Err c.in-Err.why) c.walk_by.new.fields c.walk_by.new.steps c.in-Err.ensures.walked at after) c.requires.none c.in-Err.ensures.walked c.line.ensures c.of_stop.ensures c.in-Err.ensures.refused
+    packed_stopped (places c.args.template.now) course ss c.in-Some.out c.args.steps.now c.walk_by.new.fields c.walk_by.new.steps c.line.result c.in-Err.why c.of_stop.result (template_adds c.args.cache.now c.args.template.now) at (some_before course ss c.in-Some.out c.args.steps.now (Err c.in-Err.why) c.walk_by.new.fields c.walk_by.new.steps c.in-Err.ensures.walked at after) c.requires.none c.in-Err.ensures.walked c.line.ensures c.of_stop.ensures c.in-Err.ensures.refused

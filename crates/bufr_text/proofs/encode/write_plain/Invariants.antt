@@ -6,4 +6,4 @@ use Rattle.bufr_text.proofs.EncodePlain.{PlainSoFar}
 use Rattle.bufr_text.proofs.encode.write_plain.Given as goal
 
 abbrev pub invariant-subsets : goal.invariant-subsets
-invariant-subsets l = (l.cache ≡ l.table) × PlainSoFar (places l.template) (next_item l.table l.template) (subsets_of l.entries) l.done l.out.left l.out.bits l.steps
+invariant-subsets l = (l.cache ≡ l.fn.cache) × PlainSoFar (places l.template) (next_item l.fn.cache l.template) (subsets_of l.entries) l.done l.out.left l.out.bits l.steps

@@ -1,4 +1,4 @@
-use Rattle.std.proofs.Common.{arith, ◌∙◌}
+use Rattle.std.proofs.Common.{arith, refl, ◌∙◌}
 use Rattle.std.proofs.lemmas.Result.{err_from_is_err_and}
 use Rattle.bufr_walk.specs.Turns.{unroll}
 use Rattle.bufr_walk.proofs.WaysLemmas.{came_then}
@@ -6,36 +6,36 @@ use Rattle.bufr_walk.proofs.FlatTurns.{fits_first, led_on, led_out, led_off, fla
 use Rattle.bufr_walk.proofs.walking.walk_cells.Goals as goal
 
 pub turn-requires-clause-within : goal.turn-requires-clause-within
-turn-requires-clause-within g c = let n = flattened_length c.args.cells.now c.requires.flattened.0 c.requires.flattened.1 in omega (arith, n, c.requires.flattened.1.within)
+turn-requires-clause-within g c = let n = flattened_length c.args.cells.now c.requires.0 c.requires.1 in omega (arith, n, c.requires.1.within)
 
 pub turn-requires-clause-fits : goal.turn-requires-clause-fits
-turn-requires-clause-fits g c = let i = c.turns.invariant.1 c.requires.flattened.0 c.requires.flattened.1 in (i.0, i.1)
+turn-requires-clause-fits g c = let i = c.turns.invariant.1 c.requires.0 c.requires.1 in (i.0, i.1)
 
 pub turns-init : goal.turns-init
-turns-init g c = (c.requires.same, λ template h. (unroll template, fits_first c.args.cells.now template c.new-stack.result.items h c.new-stack.ensures, came_begun g.S.Fields.takes c.args.table.now c.args.cells.now template _ _ _ c.new-in_force.ensures))
+turns-init g c = (refl, λ template h. (unroll template, fits_first c.args.cells.now template c.new.result.items h c.new.ensures, came_begun g.S.Fields.takes c.args.cache.now c.args.cells.now template _ _ _ c.new-2.ensures))
 
 pub turns-preserved : goal.turns-preserved
 turns-preserved g c = (
   c.in_ok-next.ensures.same ∙ c.turns.invariant.0,
   λ template h.
       let i = c.turns.invariant.1 template h in
-      let t = led_on g.S.Fields.takes c.args.table.now c.args.cells.now i.0 _ _ _ _ _ c.in_ok-next.field-0 c.in-Some.next _ c.turn.new.in_force _ _ c.in-Some.is (c.in_ok-next.ensures.turned i.0 i.1) in
-      (t.0, t.1, came_then g.S.Fields.takes c.args.table.now i.2 t.2),
+      let t = led_on g.S.Fields.takes c.turns.cache c.args.cells.now i.0 _ _ _ _ _ c.in_ok-next.field-0 c.in-Some.next _ c.turn.new.walk.in_force _ _ c.in-Some.is (c.in_ok-next.ensures.turned i.0 i.1) in
+      (t.0, t.1, rw (← c.turns.invariant.0) (came_then g.S.Fields.takes c.turns.cache (rw (← c.turns.invariant.0) at i.2) t.2)),
 )
 
 pub turns-smaller : goal.turns-smaller
 turns-smaller g c =
-    let i = c.turns.invariant.1 c.requires.flattened.0 c.requires.flattened.1 in
-    let t = led_on g.S.Fields.takes c.args.table.now c.args.cells.now i.0 _ _ _ _ _ c.in_ok-next.field-0 c.in-Some.next _ c.turn.new.in_force _ _ c.in-Some.is (c.in_ok-next.ensures.turned i.0 i.1) in
+    let i = c.turns.invariant.1 c.requires.0 c.requires.1 in
+    let t = led_on g.S.Fields.takes c.turns.cache c.args.cells.now i.0 _ _ _ _ _ c.in_ok-next.field-0 c.in-Some.next _ c.turn.new.walk.in_force _ _ c.in-Some.is (c.in_ok-next.ensures.turned i.0 i.1) in
     t.3
 
 pub returns-clause-walked : goal.returns-clause-walked
 returns-clause-walked g c = λ template h.
     let i = c.turns.invariant.1 template h in
-    led_out g.S.Fields.takes c.args.table.now c.args.cells.now template i.0 _ _ _ _ _ _ _ c.in_ok-next.field-0 _ c.turn.new.in_force _ _ c.in_default.not-Some i.2 (c.in_ok-next.ensures.turned i.0 i.1)
+    rw (← c.turns.invariant.0) (led_out g.S.Fields.takes c.turns.cache c.args.cells.now template i.0 _ _ _ _ _ _ _ c.in_ok-next.field-0 _ c.turn.new.walk.in_force _ _ c.in_default.not-Some (rw (← c.turns.invariant.0) at i.2) (c.in_ok-next.ensures.turned i.0 i.1))
 
 pub returns-in_err-next-clause-walked : goal.returns-in_err-next-clause-walked
 returns-in_err-next-clause-walked g c = λ template h.
     let i = c.turns.invariant.1 template h in
     let p = err_from_is_err_and c.from_residual.result c.from_residual.ensures.1 in
-    rw (p.1, p.2) (led_off g.S.Fields.takes c.args.table.now c.args.cells.now template i.0 _ _ _ _ _ _ _ _ i.2 (c.in_err-next.ensures.turned i.0 i.1))
+    rw (← c.turns.invariant.0, p.1, p.2) (led_off g.S.Fields.takes c.turns.cache c.args.cells.now template i.0 _ _ _ _ _ _ _ _ (rw (← c.turns.invariant.0) at i.2) (c.in_err-next.ensures.turned i.0 i.1))

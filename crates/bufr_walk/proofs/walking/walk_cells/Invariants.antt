@@ -8,9 +8,9 @@ use Rattle.bufr_walk.specs.WalkProgress.{HasWalked}
 use Rattle.bufr_walk.proofs.walking.walk_cells.Given as goal
 
 abbrev pub invariant-turns : goal.invariant-turns
-invariant-turns g l = (l.cache ≡ l.table) × ((template : Tree) → AreCellsOf l.cells template →
-    (left : Rest → Rest) × IsAtCell l.cells l.place l.stack.items left
-    × HasWalked g.S.Fields.takes l.table (unroll template) left begin l.fn.fields l.fn.steps l.in_force l.fields l.steps)
+invariant-turns g l = (l.cache ≡ l.fn.cache) × ((template : Tree) → AreCellsOf l.cells template →
+    (left : Rest → Rest) × IsAtCell l.cells l.place l.walk.open_groups.items left
+    × HasWalked g.S.Fields.takes l.fn.cache (unroll template) left begin l.fn.fields l.fn.steps l.walk.in_force l.fields l.steps)
 
 abbrev pub decreases-turns : goal.decreases-turns
-decreases-turns g l = weight l.cells l.place l.stack.items
+decreases-turns g l = weight l.cells l.place l.walk.open_groups.items

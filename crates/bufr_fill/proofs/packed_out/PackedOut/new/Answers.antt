@@ -25,9 +25,9 @@ invariant_of-result c = record {
   few = c.requires.few;
   ends_are = c.in_ok-ends.ensures;
   some = omega (arith, some_there _ c.if-is_empty.ensures, c.in_ok-ends.ends.ok.0);
-  room = omega (arith, ap length c.new-3.ensures);
+  room = omega (arith, ap length c.new-2.ensures);
   values = none_within (length c.in_ok-ends.ends.items);
 }
 
 pub returns : goal.returns
-returns c = ap (at_start (subsets_of c.args.entries.now)) c.new-3.ensures
+returns c = ap (at_start (subsets_of c.args.entries.now)) c.new-2.ensures

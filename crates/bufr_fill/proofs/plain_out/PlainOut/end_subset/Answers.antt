@@ -1,7 +1,7 @@
 use Rattle.std.proofs.Common.{ap, refl}
 use Rattle.bufr_fill.specs.Entries.{Holds, Ends}
 use Rattle.bufr_fill.specs.Fault.{at_line, item_too_many}
-use Rattle.bufr_fill.specs.Given.{draft_in, entry_in}
+use Rattle.bufr_fill.specs.Kept.{kept_item, kept_entry}
 use Rattle.bufr_fill.specs.PlainOut.{PlainOutModel, after_end}
 use Rattle.bufr_fill.proofs.PlainSteps.{left_there, left_none}
 use Rattle.bufr_fill.proofs.plain_out.PlainOut.end_subset.Goals as goal
@@ -9,7 +9,7 @@ use Rattle.bufr_fill.proofs.plain_out.PlainOut.end_subset.Goals as goal
 pub returns-in-Some-End : goal.returns-in-Some-End
 returns-in-Some-End c =
     let d = c.self.inside in (
-      ap after_end (left_there d.entries.now d.place d.out.bits c.args.self.now (entry_in c.in-Some-End.field-0) (Ends c.in-Some-End.field-0-0) c.self.view_is c.in-Some-End.ensures (ap entry_in c.in-Some-End.field-0-is)),
+      ap after_end (left_there d.entries.now d.place d.out.bits c.args.self.now (kept_entry c.in-Some-End.field-0) (Ends c.in-Some-End.field-0-0) c.self.view_is c.in-Some-End.ensures (ap kept_entry c.in-Some-End.field-0-is)),
       ap (λ (p : PlainOutModel). p.bits) c.self.view_is,
     )
 
@@ -18,8 +18,8 @@ returns-in-Some-Item c =
     let d = c.self.inside in (
       (
         at_line c.in-Some-Item.item.line item_too_many,
-        c.at.ensures,
-        ap after_end (left_there d.entries.now d.place d.out.bits c.args.self.now (entry_in c.in-Some-Item.field-0) (Holds (draft_in c.in-Some-Item.item)) c.self.view_is c.in-Some-Item.ensures (ap entry_in c.in-Some-Item.field-0-is)),
+        refl,
+        ap after_end (left_there d.entries.now d.place d.out.bits c.args.self.now (kept_entry c.in-Some-Item.field-0) (Holds (kept_item c.in-Some-Item.item)) c.self.view_is c.in-Some-Item.ensures (ap kept_entry c.in-Some-Item.field-0-is)),
       ),
       refl,
     )
@@ -29,7 +29,7 @@ returns-in-None c =
     let d = c.self.inside in (
       (
         at_line 0 item_too_many,
-        c.at-in-None.ensures,
+        refl,
         ap after_end (left_none d.entries.now d.place d.out.bits c.args.self.now c.self.view_is c.in-None.ensures),
       ),
       refl,

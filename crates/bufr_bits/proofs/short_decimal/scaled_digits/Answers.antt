@@ -1,0 +1,34 @@
+use Rattle.std.proofs.Common.{◌≡◌, pos, Ok, Err, ◌∙◌, sym, ap, arith, to_z, to_z-of_z}
+use Rattle.std.specs.Int.{w16, w128}
+use Rattle.std.proofs.lemmas.Result.{err_from_is_err_and}
+use Rattle.bufr_bits.specs.DecimalValue.{positive_scale, negative_scale}
+use Rattle.bufr_bits.proofs.ShortTextLemmas.{value_own, value_up, value_down}
+use Rattle.bufr_bits.proofs.short_decimal.scaled_digits.Goals as goal
+
+pub returns-then-from-scale : goal.returns-then-from-scale
+returns-then-from-scale c =
+    let places : c.args.scale ≡ pos c.args.places = sym (to_z-of_z c.ranges.scale) ∙ ap (to_z w16) (sym c.if-from-scale.true) ∙ to_z-of_z {w = w16} {z = c.from.result} (record { sfits = c.from.type_inv }) ∙ c.from.ensures in
+    ap Ok (to_z-of_z {w = w128} {z = c.short_signed.result} (record { sfits = c.short_signed.type_inv })) ∙ c.short_signed.ensures
+    ∙ sym (value_own c.args.negative c.args.digits c.args.places c.args.scale c.ranges.digits.fits places)
+
+pub returns-then-less-up : goal.returns-then-less-up
+returns-then-less-up c =
+    let up = c.powers_of-up.ensures.up ∙ ap positive_scale (to_z-of_z c.ranges.scale) in
+    let down = c.powers_of-up.ensures.down ∙ ap negative_scale (to_z-of_z c.ranges.scale) in
+    let number = c.times_ten.ensures c.args.digits (omega (arith, c.from-then-less-up.ensures, c.ranges.digits.fits)) in
+    value_up c.args.negative c.args.digits c.args.places c.args.scale c.ranges.digits.fits _ _ c.apply_sign.result up down (omega (arith, c.if-less-up.true, c.from-2.ensures)) (rw c.from-2.ensures at (c.apply_sign.ensures _ number))
+
+pub returns-in_err-size : goal.returns-in_err-size
+returns-in_err-size c =
+    let up = c.powers_of-up.ensures.up ∙ ap positive_scale (to_z-of_z c.ranges.scale) in
+    let down = c.powers_of-up.ensures.down ∙ ap negative_scale (to_z-of_z c.ranges.scale) in
+    let passed = err_from_is_err_and c.from_residual.result c.from_residual.ensures.1 in
+    passed.1 ∙ ap Err passed.2 ∙ value_down c.args.negative c.args.digits c.args.places c.args.scale c.ranges.digits.fits _ _ (Err c.in_err-size.field-0.0) up down (omega (arith, c.if-less-up.false, c.from-2.ensures)) (rw c.from-2.ensures at c.in_err-size.ensures)
+
+pub returns-in_ok-size : goal.returns-in_ok-size
+returns-in_ok-size c =
+    let up = c.powers_of-up.ensures.up ∙ ap positive_scale (to_z-of_z c.ranges.scale) in
+    let down = c.powers_of-up.ensures.down ∙ ap negative_scale (to_z-of_z c.ranges.scale) in
+    let signed = c.short_signed-else-less-up in
+    ap Ok (to_z-of_z {w = w128} {z = signed.result} (record { sfits = signed.type_inv })) ∙ signed.ensures
+    ∙ value_down c.args.negative c.args.digits c.args.places c.args.scale c.ranges.digits.fits _ _ (Ok c.in_ok-size.size) up down (omega (arith, c.if-less-up.false, c.from-2.ensures)) (rw c.from-2.ensures at c.in_ok-size.ensures)

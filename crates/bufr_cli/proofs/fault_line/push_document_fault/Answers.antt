@@ -1,0 +1,25 @@
+use Rattle.std.proofs.Common.{◌∙◌, ◌∷◌, [], ap, codes}
+use Rattle.std.specs.Prelude.{decimal}
+use Rattle.bufr_tables.specs.FaultNumber.{number_of_template_fault}
+use Rattle.bufr_text.specs.EncodingFault.{number_of_document_fault}
+use Rattle.bufr_text.proofs.PushLemmas.{◌⨾◌, nothing_pushed}
+use Rattle.bufr_text.proofs.LsLineLemmas.{joined_then}
+use Rattle.bufr_cli.specs.FaultLine.{template_fault_text}
+use Rattle.bufr_cli.proofs.FaultLineLemmas.{line_pushed}
+use Rattle.bufr_cli.proofs.fault_line.push_document_fault.Goals as goal
+
+pub returns-in-MissingForbidden : goal.returns-in-MissingForbidden
+returns-in-MissingForbidden g c =
+    let number = c.number-number.ensures ∙ ap number_of_document_fault c.in-MissingForbidden.is in
+    rw c.in-MissingForbidden.is (rw number at c.push_line-in-MissingForbidden.ensures)
+
+pub returns-in-Template : goal.returns-in-Template
+returns-in-Template g c =
+    let number = c.number-number.ensures ∙ ap number_of_document_fault c.in-Template.is in
+    let place = rw number at c.push_place.ensures in
+    let named = rw (c.from.ensures, c.number.ensures) at c.push_named.ensures in
+    let why = c.in-Template.why in
+    let first = codes "template " ∷ decimal (number_of_template_fault why) ∷ codes " " ∷ [] in
+    let text = joined_then first (template_fault_text why) (named ⨾ (c.push.ensures ⨾ nothing_pushed)) c.push_template_fault.ensures in
+    rw c.in-Template.is
+    (line_pushed (codes "line ") c.in-Template.place 56 (codes "template " ∷ decimal (number_of_template_fault why) ∷ codes " " ∷ template_fault_text why) place text c.push-in-Template.ensures)

@@ -1,6 +1,0 @@
-use Rattle.std.proofs.Common.{arith}
-use Rattle.bufr_tables.proofs.NumberLemmas.{number_more}
-use Rattle.bufr_tables.proofs.number.magnitude.Goals as goal
-
-pub loop-octet-preserved : goal.loop-octet-preserved
-loop-octet-preserved c = number_more c.args.digits.now c.loop-octet.octet-index _ _ _ _ _ (omega arith) c.loop-octet.invariant c.saturating_mul.ensures c.from.ensures c.saturating_add-number.ensures

@@ -1,0 +1,184 @@
+//! The rows of a table's text: its records, one after another, and the whole numbers in them.
+ghost use Rattle.std.specs.Prelude.{◌≡◌, ◌≢◌, ◌-◌, ◌^◌, ◌<◌, ◌≤◌, ◌==◌, IfOk, IfErr, List, ℕ, drop, false, length, min, option_map, pos, slice_index};
+ghost use Rattle.bufr_tables.specs.Number.{if_i64, i64_of, natural_of, negated};
+ghost use Rattle.bufr_tables.specs.Reading.{GivesNext, IsBetween, IsOpened, record_given, records_left, field_texts};
+ghost use Rattle.bufr_tables.specs.Records.{field_of, records_of};
+ghost use Rattle.bufr_tables.specs.declared.fault.TableFault.TheVariants.{Header, Memory};
+ghost use Rattle.csv.specs.Records.{fields_of};
+ghost use Rattle.bufr_tables.specs.Table.{has_fields, has_header};
+
+use crate::fault::TableFault;
+use crate::fxy::are_digits;
+use csv::{ByteRecord, ErrorKind, Reader, ReaderBuilder};
+use std::alloc::Global;
+
+/// Reads the records of a text, and counts them from 1.
+#[derive(Drop)]
+pub(crate) struct RecordReader<'a> {
+    reader: Reader<&'a [u8]>,
+    row: ByteRecord,
+    number: u64,
+}
+
+impl<'a> RecordReader<'a> {
+    /// A reader before the first record of a text.
+    fn new(alloc: Global, text: &'a [u8]) -> RecordReader<'a>
+        ensures between { IsBetween result }
+        ensures number { result.number ≡ 0 }
+        ensures records { records_left result ≡ records_of text.now }
+    {
+        let reader = ReaderBuilder::new()
+            .has_headers(false)
+            .flexible(true)
+            .from_reader(alloc, text);
+        RecordReader {
+            reader,
+            row: ByteRecord::new(alloc),
+            number: 0,
+        }
+    }
+
+    /// A reader after the header of a text: a first record of these fields.
+    pub(crate) fn open(
+        alloc: Global,
+        text: &'a [u8],
+        header: &[&[u8]],
+    ) -> Result<RecordReader<'a>, TableFault>
+        ensures ok { IfOk result (IsOpened (field_texts header.now) (records_of text.now)) }
+        ensures err { IfErr result
+            (λ e. e ≢ Memory
+            → (e ≡ Header) × (has_header (field_texts header.now) (records_of text.now) ≡ false)) }
+    {
+        let mut records = RecordReader::new(alloc, text);
+        if !records.advance()? || !has_fields(records.record(), header) {
+            return Err(TableFault::Header);
+        }
+        Ok(records)
+    }
+
+    /// Reads the next record, if there is one.
+    pub(crate) fn advance(&mut self) -> Result<bool, TableFault>
+        requires { IsBetween self.old }
+        ensures memory { IfErr result (λ e. e ≡ Memory) }
+        ensures next { IfOk result (λ found. GivesNext self.old self.new found) }
+    {
+        match self.reader.read_byte_record(&mut self.row) {
+            Ok(false) => Ok(false),
+            Ok(true) => {
+                self.number += 1;
+                Ok(true)
+            }
+            Err(error) => match error.into_kind() {
+                // A slice is read without fail.
+                ErrorKind::OutOfMemory | ErrorKind::Io(_) => Err(TableFault::Memory),
+                _ => unreachable!(),
+            },
+        }
+    }
+
+    /// How many records were given.
+    pub(crate) fn number(&self) -> u64
+        ensures { result ≡ self.now.number }
+    {
+        self.number
+    }
+
+    /// The record that was given last.
+    pub(crate) fn record(&self) -> &ByteRecord
+        ensures { fields_of result.now ≡ record_given self.now }
+    {
+        &self.row
+    }
+}
+
+/// A field of a record, counted from 0, or no octets where there is none.
+pub(crate) fn field(fields: &ByteRecord, place: usize) -> &[u8]
+    ensures { result.now ≡ field_of (fields_of fields.now) place }
+{
+    fields.get(place).unwrap_or(&[])
+}
+
+/// Whether a record has these fields, and no other.
+// rule: fault-40
+fn has_fields(fields: &ByteRecord, names: &[&[u8]]) -> bool
+    ensures { result ≡ has_fields (field_texts names.now) (fields_of fields.now) }
+{
+    if fields.len() != names.len() {
+        return false;
+    }
+    for (place, name) in names.iter().enumerate() {
+        if field(fields, place) != *name {
+            return false;
+        }
+    }
+    true
+}
+
+/// The number that an optional `-` and one or more digits write, where an `i64` holds it.
+#[tactic(auto, unfolding(crate::specs::Number::i64_of, crate::specs::Number::integer_of))]
+pub(crate) fn integer(text: &[u8]) -> Option<i64>
+    ensures { result ≡ i64_of text.now }
+{
+    if is_negative(text) {
+        negative(magnitude(without_first(text))?)
+    } else {
+        positive(magnitude(text)?)
+    }
+}
+
+/// Whether a text begins with `-`.
+fn is_negative(text: &[u8]) -> bool
+    ensures { result ≡ (slice_index text.now 0 == 45) }
+{
+    !text.is_empty() && text[0] == b'-'
+}
+
+/// The octets after the first.
+fn without_first(text: &[u8]) -> &[u8]
+    requires { 0 < length text.now }
+    ensures { result.now ≡ drop 1 text.now }
+{
+    &text[1..]
+}
+
+/// The number of this size, where an `i64` holds it.
+#[tactic(auto, unfolding(crate::specs::Number::if_i64))]
+fn positive(size: u64) -> Option<i64>
+    ensures { result ≡ if_i64 (pos size) }
+{
+    if size >= 1 << 63 {
+        return None;
+    }
+    Some(size as i64)
+}
+
+/// The number below zero of this size, where an `i64` holds it.
+#[tactic(auto, unfolding(crate::specs::Number::if_i64))]
+fn negative(size: u64) -> Option<i64>
+    ensures { result ≡ if_i64 (negated size) }
+{
+    if size == 0 {
+        return Some(0);
+    }
+    if size > 1 << 63 {
+        return None;
+    }
+    Some(-((size - 1) as i64) - 1)
+}
+
+/// The number that one or more digits write, or the greatest `u64` where it is over that.
+#[tactic(auto, unfolding(crate::specs::Number::natural_of))]
+fn magnitude(digits: &[u8]) -> Option<u64>
+    ensures { result ≡ option_map (λ n. min n (2 ^ 64 - 1)) (natural_of digits.now) }
+{
+    if digits.is_empty() || !are_digits(digits) {
+        return None;
+    }
+    let mut number: u64 = 0;
+    for octet in digits {
+        number = number
+            .saturating_mul(10)
+            .saturating_add(u64::from(*octet - b'0'));
+    }
+    Some(number)
+}

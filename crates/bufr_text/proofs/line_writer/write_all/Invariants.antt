@@ -1,0 +1,15 @@
+use Rattle.std.proofs.Common.{◌≡◌, length}
+use Rattle.bufr_text.specs.Lines.{MovesPrefix}
+use Rattle.bufr_text.proofs.line_writer.write_all.Given as goal
+
+-- a prefix was written, the rest is left, and no call failed
+abbrev pub invariant-loop-rest : goal.invariant-loop-rest
+invariant-loop-rest g l = record {
+  so_far : MovesPrefix (g.W.Sink.taken l.fn.w) (g.W.Sink.taken l.w) l.octets l.rest;
+  failures : g.W.Sink.failures l.w ≡ g.W.Sink.failures l.fn.w;
+  empty : g.W.Sink.empty_writes l.w ≡ g.W.Sink.empty_writes l.fn.w;
+  flushes : g.W.Sink.flushes l.w ≡ g.W.Sink.flushes l.fn.w;
+}
+
+abbrev pub decreases-loop-rest : goal.decreases-loop-rest
+decreases-loop-rest g l = length l.rest

@@ -1,8 +1,0 @@
-use Rattle.std.proofs.Common.{◌≡◌, ◌+◌, take, drop}
-use Rattle.bufr_bits.specs.Bits.{bits_of}
-use Rattle.bufr_bits.specs.BitSlice.{octets_of}
-use Rattle.bufr_walk.specs.Content.{octets_in}
-use Rattle.bufr_walk.proofs.bits.copy_window.Given as goal
-
-abbrev pub invariant-octets : goal.invariant-octets
-invariant-octets l = take (l.done + l.place) l.text ≡ octets_in (l.done + l.place) (drop l.at (bits_of (octets_of l.bits)))
