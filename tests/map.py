@@ -5,10 +5,11 @@
 
 A rule of docs/map.md has a tag. In the sources a comment `rule: TAG, TAG` is on the line above what has these rules: a
 definition of specs/, an example of proofs/, a function, a test of bufr_tests; or among the first lines of a file of
-tests/. The first two cells of a row are written by hand, the others are made from the tags. Each heading of
+tests/. The last column of tests/vectors/cases.tsv has the rules of a vector. The first two cells of a row are written by hand, the others are made from the tags. Each heading of
 docs/format.md and docs/texts.md has its part, and each fault of docs/texts.md a row. In docs/design.md the part of a
 crate names each of its modules. A name of the code in a page is somewhere in the crates.
 """
+import csv
 import pathlib
 import re
 import sys
@@ -21,6 +22,7 @@ OF_DOCS = "DECISIONS design format proof texts".split()
 PAGES = ["CONTRIBUTING.md", *(f"docs/{page}.md" for page in OF_DOCS)]
 COLUMNS = ["definition", "function", "example", "test"]
 MAP = TOP / "docs/map.md"
+VECTORS = TOP / "tests/vectors/cases.tsv"
 TAG = re.compile(r"^ *(?://|--|#) rule: (.+)$")
 NAMED = {
     ".rt": re.compile(r"^ *(?:pub(?:\(\w+\))? )?(?:const )?fn (\w+)"),
@@ -82,6 +84,9 @@ def places() -> list:
                         found.append((tag, column, crate, "/".join(parts) + f".{name[1]}"))
     for path in sorted((TOP / "tests").glob("*.*")):
         found += ((tag, "test", "", f"tests/{path.name}") for tag, _ in tagged(path))
+    with open(VECTORS, encoding="ascii", newline="") as file:
+        for case in csv.DictReader(file, delimiter="\t"):
+            found += ((tag, "test", "", f"vector {case['case']}") for tag in case["rules"].split(", ") if tag != "-")
     return found
 
 

@@ -3,7 +3,7 @@
 use crate::encode_tests::{document_of, encoded};
 use crate::messages::{PLAIN, message_of, text_of};
 use crate::runs::Command::{Dump, Encode};
-use crate::runs::{Task, accepted, assert_run, run_whole};
+use crate::runs::{Task, run_whole};
 use crate::support::{Runtime, assert_same, ok, repeated};
 use bufr_text::{Form, encode_by};
 use bufr_walk::{Steps, TemplateCache};
@@ -25,58 +25,6 @@ fn list_of(rt: &impl Runtime, index: u16) -> String {
 /// A message of a list.
 fn message_with(rt: &impl Runtime, list: &str) -> Vec<u8> {
     message_of(rt, 1, PLAIN, list, &repeated(rt, b"\x15", 12))
-}
-
-/// What runs over the messages of the lists are to take and to write.
-#[derive(Drop)]
-struct Pieces {
-    stream: Vec<u8>,
-    text: Vec<u8>,
-    errors: String,
-    messages: Vec<u8>,
-}
-
-impl Pieces {
-    /// Appends what runs over the message of a list alone write.
-    fn push(&mut self, rt: &impl Runtime, list: &str) {
-        let message = message_with(rt, list);
-        let text = run_whole(rt, Dump, &message);
-        if text.output().is_empty() {
-            let offset = self.stream.len();
-            let line = format!(in rt.alloc(); "offset {offset}: 20 unknown element {list}\n");
-            ok(rt, self.errors.push_str(ok(rt, line).as_str()));
-        }
-        let again = run_whole(rt, Encode, text.output());
-        ok(rt, self.stream.extend_from_slice(&message));
-        ok(rt, self.text.extend_from_slice(text.output()));
-        ok(rt, self.messages.extend_from_slice(again.output()));
-    }
-}
-
-/// The pieces of all lists in turn, twice over.
-fn pieces_of(rt: &impl Runtime) -> Pieces {
-    let alloc = rt.alloc();
-    let (stream, text, messages) = (Vec::new(alloc), Vec::new(alloc), Vec::new(alloc));
-    let errors = String::new(alloc);
-    let mut pieces = Pieces {
-        stream,
-        text,
-        errors,
-        messages,
-    };
-    for index in 0..LISTS.saturating_mul(2) {
-        pieces.push(rt, list_of(rt, index % LISTS).as_str());
-    }
-    pieces
-}
-
-#[test]
-fn runs_over_many_lists_of_descriptors(rt: HostRuntime) {
-    let pieces = pieces_of(&rt);
-    let run = accepted(Dump, "lists", &pieces.stream, &pieces.text).counting(38, 2);
-    assert_run(&rt, run.with_errors(pieces.errors.as_bytes()));
-    let run = accepted(Encode, "lists", &pieces.text, &pieces.messages);
-    assert_run(&rt, run.counting(38, 0))
 }
 
 /// The text of the message of a list; of the one with a fault a text of this list.

@@ -102,18 +102,14 @@ fn write_compressed(
     }
 }
 
-/// What is proved of plain data. A test that calls it does not carry the contracts.
-fn plain_laws() {
+#[test]
+fn laws() {
     law::plain_data_round_trip();
     law::written_plain_data_are_read();
     law::plain_data_are_fixed_by_what_is_said();
     law::alike_drafts_have_the_same_plain_data();
     law::plain_walk_writes_as_defined();
     law::plain_fault_is_as_defined();
-}
-
-/// What is proved of compressed data.
-fn packed_laws() {
     law::packed_data_round_trip();
     law::written_packed_data_are_read();
     law::packed_data_are_fixed_by_what_is_said();
@@ -141,8 +137,6 @@ fn assert_written(
 
 #[test]
 fn writes_items(rt: HostRuntime) {
-    plain_laws();
-    packed_laws();
     let (template, table) = (template_of(&rt, "001001"), table_b(&rt));
     let entries = two_items(&rt, 10);
     assert_same(&rt, &entries.len(), &4, &"entries");

@@ -8,8 +8,6 @@ mod bits_tests;
 #[cfg(test)]
 mod cache_tests;
 #[cfg(test)]
-mod edition3_tests;
-#[cfg(test)]
 mod encode_tests;
 #[cfg(test)]
 mod fill_tests;

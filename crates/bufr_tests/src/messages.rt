@@ -325,81 +325,8 @@ pub(crate) fn bulletins(rt: &impl Runtime) -> Vec<u8> {
     joined(rt, &[&first, &second, LOCAL_USE, short])
 }
 
-/// A worked message: name, subsets, octet 7 of section 3, descriptors, and its data in hexadecimal
-/// digits. Then what reading the data gives, as `walk_tests` writes it, and the items of its text.
-pub(crate) struct Worked(
-    pub(crate) &'static str,
-    pub(crate) u16,
-    pub(crate) u8,
-    pub(crate) &'static str,
-    pub(crate) &'static str,
-    pub(crate) &'static str,
-    &'static str,
-);
-
-impl Worked {
-    /// Its octets.
-    pub(crate) fn message(&self, rt: &impl Runtime) -> Vec<u8> {
-        message_of_hex(rt, self.1, self.2, self.3, self.4)
-    }
-
-    /// Its dump text.
-    pub(crate) fn text(&self, rt: &impl Runtime) -> String {
-        dump_of(rt, self.1, self.2, self.3, self.6)
-    }
-}
-
 /// The descriptors of 32 groups, one in another.
 pub(crate) const THIRTY_TWO_GROUPS: &str = "\
     132001 131001 130001 129001 128001 127001 126001 125001 124001 123001 122001 121001 120001 \
     119001 118001 117001 116001 115001 114001 113001 112001 111001 110001 109001 108001 107001 \
     106001 105001 104001 103001 102001 101001 001001";
-
-#[rattlefmt::skip]
-static ROWS: &[Worked] = &[
-    Worked("one_block_number", 1, PLAIN, "001001", "14", "bits 7 steps 2; 1: 001001 10e0 #", "001001 10"),
-    Worked("one_temperature", 1, PLAIN, "012101", "708F", "bits 16 steps 2; 1: 012101 28815e2 #", "012101 288.15"),
-    Worked("one_temperature_missing", 1, PLAIN, "012101", "FFFF",
-        "bits 16 steps 2; 1: 012101 missing #", "012101 MISSING"),
-    Worked("delayed_twice", 1, PLAIN, "101000 031001 001001", "02142C",
-        "bits 22 steps 7; 1: 031001 2e0 # 001001 10e0 # 001001 11e0 #",
-        "031001 2;001001 10;001001 11"),
-    Worked("delayed_none", 1, PLAIN, "101000 031001 001001", "00", "bits 8 steps 3; 1: 031001 0e0 #", "031001 0"),
-    Worked("short_factor", 1, PLAIN, "101000 031000 001001", "8A",
-        "bits 8 steps 5; 1: 031000 1e0 # 001001 10e0 #", "031000 1;001001 10"),
-    Worked("width_and_scale_changed", 1, PLAIN, "201132 202129 012101 201000 202000 012101",
-        "46599708F0", "bits 36 steps 7; 1: 012101 288153e3 # 012101 28815e2 #",
-        "012101 288.153;012101 288.15"),
-    Worked("redefined_reference", 1, PLAIN, "203010 012101 203255 012101", "E41C23C0",
-        "bits 26 steps 5; 1: 012101 R-400 012101 28415e2 #", "R 012101 -400;012101 284.15"),
-    Worked("increased_precision", 1, PLAIN, "207001 012101 020003", "46599028",
-        "bits 29 steps 4; 1: 012101 288153e3 # 020003 5e0 #", "012101 288.153;020003 5"),
-    Worked("width_of_one", 1, PLAIN, "201122 001001", "00", "bits 1 steps 3; 1: 001001 0e0 #", "001001 0"),
-    Worked("width_of_one_missing", 1, PLAIN, "201122 001001", "80",
-        "bits 1 steps 3; 1: 001001 missing #", "001001 MISSING"),
-    Worked("sequence", 1, PLAIN, "360192", "14E11E",
-        "bits 23 steps 3; 1: 001001 10e0 # 012101 28815e2 #", "001001 10;012101 288.15"),
-    Worked("local_descriptor", 1, PLAIN, "206012 063255", "0F50", "bits 12 steps 3; 1: 063255 245e0", "063255 245"),
-    Worked("inserted_text", 1, PLAIN, "205004", "225C0AFE",
-        "bits 32 steps 2; 1: 205004 \"225C0AFE\"", "205004 \"\\\"\\\\\\x0A\\xFE\""),
-    Worked("thirty_two_groups", 1, PLAIN, THIRTY_TWO_GROUPS, "14", "bits 7 steps 66; 1: 001001 10e0 #", "001001 10"),
-    Worked("negative_latitude", 1, PLAIN, "005002", "4646", "bits 15 steps 2; 1: 005002 -5e2 #", "005002 -0.05"),
-    Worked("no_subsets", 0, PLAIN, "001001", "", "bits 0 steps 0", ""),
-    Worked("text_width", 1, PLAIN, "208003 001015", "414243",
-        "bits 24 steps 3; 1: 001015 \"414243\" #", "001015 \"ABC\""),
-    Worked("compressed_missing", 2, PACKED, "012101", "708F05",
-        "bits 24 steps 2 held 1; 1: 012101 28815e2 # 2: 012101 missing #",
-        "012101 288.15|012101 MISSING"),
-    Worked("compressed_name", 2, PACKED, "001015",
-        "00000000000000000000000000000000000000001105090C83FFFFFFFC",
-        "bits 230 steps 2 held 1; 1: 001015 \"4142432020202020202020202020202020202020\" # 2: 001015 missing #",
-        "001015 \"ABC                 \"|001015 MISSING"),
-    Worked("increment_to_missing", 2, PACKED, "001001", "FC1080",
-        "bits 17 steps 2 held 1; 1: 001001 126e0 # 2: 001001 missing #",
-        "001001 126|001001 MISSING"),
-];
-
-/// The worked messages. A caller does not carry their texts through its proof.
-pub(crate) fn worked_messages() -> &'static [Worked] {
-    ROWS
-}

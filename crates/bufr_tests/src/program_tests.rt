@@ -92,8 +92,6 @@ fn assert_usage(rt: &impl Runtime, words: &[&str], part: &str) {
 static MISTAKEN: &[(&[&str], &str)] = &[
     (&["bufr"], "Usage: bufr <COMMAND>"),
     (&["/usr/bin/other"], "Usage: bufr <COMMAND>"),
-    (&["bufr", "lst"], "unrecognized subcommand 'lst'"),
-    (&["bufr", "ls", "a", "b"], "unexpected argument 'b' found"),
     (&["bufr", "ls", "--long"], "unexpected argument '--long' found"),
     (&["bufr", "ls", "-B", "b.csv"], "unexpected argument '-B' found"),
     (&["bufr", "dump", "-B", "b", "-D", "d", "--form", "plain"], "unexpected argument '--form' found"),
@@ -121,8 +119,6 @@ fn refuses_lines(rt: HostRuntime) {
 static MISTAKEN_ARGUMENTS: &[(&[&str], &str)] = &[
     (&["-B", "b", "-D", "d", "--long"], "unexpected argument '--long' found"),
     (&[], "required arguments were not provided:\n  -B <FILE>\n  -D <FILE>\n"),
-    (&["-B", "b.csv"], "required arguments were not provided:\n  -D <FILE>\n"),
-    (&["-D", "d.csv", "x.bufr"], "required arguments were not provided:\n  -B <FILE>\n"),
     (&["-D", "d.csv", "-B"], "value is required"),
     (&["-B", "b", "-D", "d", "-B", "c"], "cannot be used multiple times"),
     (&["-B", "b", "-D", "d", "x", "y"], "unexpected argument 'y' found"),
@@ -134,28 +130,6 @@ fn refuses_lines_with_tables(rt: HostRuntime) {
     for (arguments, part) in MISTAKEN_ARGUMENTS {
         assert_usage(&rt, line_of(&rt, "dump", *arguments).as_slice(), *part);
         assert_usage(&rt, line_of(&rt, "encode", *arguments).as_slice(), *part);
-    }
-}
-
-// Lines that ask for help, and parts of it.
-#[rattlefmt::skip]
-static HELP: &[(&[&str], &[&str])] = &[
-    (&["bufr", "--help"], &["Usage: bufr <COMMAND>", "Exit status:"]),
-    (&["bufr", "ls", "--help"], &["Usage: bufr ls [FILE]", "Exit status:"]),
-    (&["bufr", "dump", "--help"], &["Usage: bufr dump -B <FILE> -D <FILE> [FILE]",
-        "-B <FILE>", "-D <FILE>", "Exit status:", "bufr dump -B b.csv -D d.csv"]),
-    (&["bufr", "encode", "--help"],
-        &["Usage: bufr encode [OPTIONS] -B <FILE> -D <FILE> [FILE]", "-B <FILE>", "-D <FILE>",
-        "--form <WORD>", "Exit status:", "bufr encode -B b.csv -D d.csv"]),
-];
-
-fn assert_help(rt: &impl Runtime, words: &[&str], parts: &[&str]) {
-    let text = match parse_line(rt.alloc(), words) {
-        Err(LineFault::Help(text)) => text,
-        _ => panic!(rt; "{words:?} gave no help"),
-    };
-    for part in parts {
-        assert_that(rt, text.as_str().contains(*part), &text);
     }
 }
 
@@ -297,10 +271,8 @@ fn assert_shown(rt: &impl Runtime, words: &'static [&'static str]) {
 #[test]
 // rule: status-of-help, help
 fn shows_help(rt: HostRuntime) {
-    for (words, parts) in HELP {
-        assert_help(&rt, *words, *parts);
-        assert_shown(&rt, *words);
-    }
+    assert_shown(&rt, &["bufr", "--help"]);
+    assert_shown(&rt, &["bufr", "encode", "--help"]);
 }
 
 // Lines, the status, the output, and a part of the errors.

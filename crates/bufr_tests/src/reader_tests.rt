@@ -143,23 +143,12 @@ static RULES: &[(usize, Next, &[&[u8]])] = &[
     ]),
     (22, Read(2, 1), &[b"local1 01\nlocal1 0203\n", b"descriptors 001001\ndescriptors 001001\n"]),
     (22, Refused(Line(23)), &[b"descriptors 001001\nlocal1 01\n"]),
-    (21, Refused(HeaderRange(21)), &[b"subsets 65536\n"]),
-    (21, Refused(SubsetCount(25)), &[b"subsets 2\n"]),
-    (21, Refused(SubsetCount(23)), &[b"subsets 0\n"]),
-    (20, Refused(HeaderRange(20)), &[b"optional 2\n"]),
-    (19, Refused(HeaderRange(19)), &[b"compressed 2\n"]),
-    (18, Refused(HeaderRange(18)), &[b"observed 2\n"]),
     (4, Read(2, 1), &[b"\n# note\ncentre 98\n"]),
     (4, Refused(Line(4)), &[
         b"centre \n", b"centre +98\n", b"centre -98\n", b"centre  98\n", b"centre 65536x\n",
         b"subcentre 65536\n",
     ]),
-    (4, Read(2, 1), &[b"centre 65535\n"]),
-    (4, Refused(HeaderRange(4)), &[b"centre 65536\n"]),
     (4, Refused(HeaderRange(6)), &[b"\n# note\ncentre 65536\n"]),
-    (3, Read(2, 1), &[b"master 255\n"]),
-    (3, Refused(HeaderRange(3)), &[b"master 256\n"]),
-    (2, Refused(HeaderRange(2)), &[b"edition 2\n", b"edition 5\n"]),
     (2, Refused(HeaderRange(12)), &[b"edition 3\n"]),
 ];
 
@@ -295,16 +284,12 @@ fn reads_local_use(rt: HostRuntime) {
     assert_counts(&rt, &document, (true, false, 0, 0));
 }
 
+/// Each item and each end of a subset is an entry.
 #[test]
-fn counts_items(rt: HostRuntime) {
+fn counts_entries(rt: HostRuntime) {
     let lines = b"001001 10  # note\n205001 \"\\x0A\"\n012101 MISSING\nR 012101 -400\n";
     let document = document_of(&rt, &with_line(&rt, 24, lines));
     assert_counts(&rt, &document, (true, false, 1, 5));
-}
-
-/// Each item and each end of a subset is an entry.
-#[test]
-fn counts_compressed_entries(rt: HostRuntime) {
     let lines: &[u8] = b"observed 0\ncompressed 1\noptional 0\nsubsets 2\ndescriptors 001001\n\
         subset 1\n001001 10\nsubset 2\n001001 11\nend\n";
     let document = document_of(&rt, &joined(&rt, &[HEAD.as_bytes(), lines]));
@@ -333,8 +318,8 @@ fn read_faults_have_texts(rt: HostRuntime) {
     }
 }
 
-/// What is proved of readers. A test that calls it does not carry the contracts.
-fn reader_laws() {
+#[test]
+fn laws() {
     law::dump_text_spells_its_document();
     law::dump_text_is_one_document();
     law::documents_are_proper();
@@ -357,7 +342,6 @@ fn next_in(reader: &mut DumpReader, unread: &mut &[u8]) -> Next {
 /// What was read after the last line of a document is held, and nothing else.
 #[test]
 fn holds_what_follows_a_document(rt: HostRuntime) {
-    reader_laws();
     let text = repeated(&rt, text_of_one(&rt).as_bytes(), 1000);
     let mut unread = text.as_slice();
     let mut reader = DumpReader::new(rt.alloc());

@@ -1,7 +1,7 @@
 //! The line of `ls` and the dump text of a message.
 
 use crate::messages::{
-    HEAD, ONE_BLOCK_NUMBER, PLAIN, Worked, delayed_twice, line_of_one, message_of, worked_messages,
+    COMPRESSED, HEAD, ONE_BLOCK_NUMBER, PLAIN, delayed_twice, line_of_one, message_of,
 };
 use crate::runs::{Watched, writer};
 use crate::support::{Runtime, assert_same, joined, ok, repeated, some, table_b, template_for};
@@ -53,37 +53,11 @@ fn push_each(rt: &impl Runtime, room: usize, w: &mut ScriptOut) {
 fn pushes_a_line_at_each_room(rt: HostRuntime) {
     for room in 0..64 {
         let mut w = writer(&rt, 3, (4096, End::Fail));
+        ok(&rt, write_all(b"first ", &mut w));
         push_each(&rt, room, &mut w);
-        assert_same(
-            &rt,
-            &w.taken(),
-            &b"a b=7 c=1024006118446744073709551615".as_slice(),
-            &room,
-        );
+        let want: &[u8] = b"first a b=7 c=1024006118446744073709551615";
+        assert_same(&rt, &w.taken(), &want, &room);
     }
-}
-
-/// Pushes a text, and the greatest number after it, to a block of 64 octets.
-fn push_long(rt: &impl Runtime, text: &[u8], w: &mut ScriptOut) {
-    let mut block = [0; 64];
-    let mut line = LineWriter::new(&mut block, w);
-    line.push(b"<");
-    line.push(text);
-    line.push(b">");
-    line.push_decimal(u64::MAX);
-    line.hand_on();
-    ok(rt, line.status());
-}
-
-/// A text that is longer than the block is written in its order, after what was written before.
-#[test]
-fn pushes_a_text_longer_than_the_block(rt: HostRuntime) {
-    let text = [0x61; 300];
-    let mut w = writer(&rt, 3, (4096, End::Fail));
-    ok(&rt, write_all(b"ten octets ", &mut w));
-    push_long(&rt, &text, &mut w);
-    let want = joined(&rt, &[b"ten octets <", &text, b">18446744073709551615"]);
-    assert_same(&rt, &w.taken(), &want.as_slice(), &"written");
 }
 
 /// Reads the data of a message and dumps it.
@@ -114,16 +88,6 @@ pub(crate) fn dumped(rt: &impl Runtime, octets: &[u8]) -> ScriptOut {
     w
 }
 
-/// The lines of the message with local use, from `observed` on.
-const LOCAL_USE_LINES: &str = "\
-    observed 1\ncompressed 0\noptional 1\nsubsets 1\nlocal1 ABCD\nsection2 0102\n\
-    descriptors 001001\nsubset 1\n001001 10  # WMO BLOCK NUMBER [Numeric]\nend\n";
-
-/// The dump text of the message with local use.
-pub(crate) fn text_of_local_use(rt: &impl Runtime) -> String {
-    with_head(rt, LOCAL_USE_LINES)
-}
-
 /// The lines of the header, then others.
 pub(crate) fn with_head(rt: &impl Runtime, lines: &str) -> String {
     ok(rt, format!(in rt.alloc(); "{HEAD}{lines}"))
@@ -135,27 +99,23 @@ fn long_message(rt: &impl Runtime) -> Vec<u8> {
     message_of(rt, 1, PLAIN, "101000 031002 001001", &payload)
 }
 
-/// A worked message or the long one, the room of the writer, and the steps up to where it stops.
+/// A message, the room of the writer, and the steps up to where it stops.
 const STOPS: &[(&str, usize, u64)] = &[
     ("delayed_twice", 65_536, 7),
     ("delayed_twice", 200, 7),
     ("long", 65_536, 3345),
     ("long", 131_072, 4003),
-    ("compressed_missing", 65_536, 0),
+    ("compressed", 65_536, 0),
 ];
 
 /// The steps of the dump of a message to a writer with this room.
 fn steps_to(rt: &impl Runtime, name: &str, room: usize) -> u64 {
-    let message = match row_named(name) {
-        Some(row) => row.message(rt),
-        None => long_message(rt),
+    let message = match name.as_bytes() {
+        b"delayed_twice" => delayed_twice(rt),
+        b"compressed" => joined(rt, &[COMPRESSED]),
+        _ => long_message(rt),
     };
     dump_to(rt, &message, &mut writer(rt, 131_072, (room, End::Fail))).1
-}
-
-/// The worked message of this name.
-fn row_named(name: &str) -> Option<&'static Worked> {
-    worked_messages().iter().find(|row| row.0 == name)
 }
 
 /// An operator, a factor, an item and an end of a pass are steps. A text goes out in blocks, so the

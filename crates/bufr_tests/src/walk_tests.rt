@@ -2,7 +2,7 @@
 
 ghost use Rattle.std.specs.Prelude.{◌≤◌, length};
 
-use crate::messages::{PACKED, PLAIN, message_of, worked_messages};
+use crate::messages::{PACKED, PLAIN, THIRTY_TWO_GROUPS, message_of};
 use crate::support::{Runtime, assert_same, from_hex, joined, ok, parsed, table_b, template_of};
 use bufr_bits::BitSlice;
 use bufr_tables::{Fxy, TableB, Template};
@@ -196,6 +196,27 @@ impl Case {
 /// steps, items held and items; or a fault's number, subset, descriptor, bit and the steps.
 #[rattlefmt::skip]
 const READINGS: &[(&str, u16, u8, &str, &str, &str)] = &[
+    ("one_block_number", 1, PLAIN, "001001", "14", "bits 7 steps 2; 1: 001001 10e0 #"),
+    ("one_temperature", 1, PLAIN, "012101", "708F", "bits 16 steps 2; 1: 012101 28815e2 #"),
+    ("one_temperature_missing", 1, PLAIN, "012101", "FFFF", "bits 16 steps 2; 1: 012101 missing #"),
+    ("delayed_twice", 1, PLAIN, "101000 031001 001001", "02142C", "bits 22 steps 7; 1: 031001 2e0 # 001001 10e0 # 001001 11e0 #"),
+    ("delayed_none", 1, PLAIN, "101000 031001 001001", "00", "bits 8 steps 3; 1: 031001 0e0 #"),
+    ("short_factor", 1, PLAIN, "101000 031000 001001", "8A", "bits 8 steps 5; 1: 031000 1e0 # 001001 10e0 #"),
+    ("width_and_scale_changed", 1, PLAIN, "201132 202129 012101 201000 202000 012101", "46599708F0", "bits 36 steps 7; 1: 012101 288153e3 # 012101 28815e2 #"),
+    ("redefined_reference", 1, PLAIN, "203010 012101 203255 012101", "E41C23C0", "bits 26 steps 5; 1: 012101 R-400 012101 28415e2 #"),
+    ("increased_precision", 1, PLAIN, "207001 012101 020003", "46599028", "bits 29 steps 4; 1: 012101 288153e3 # 020003 5e0 #"),
+    ("width_of_one", 1, PLAIN, "201122 001001", "00", "bits 1 steps 3; 1: 001001 0e0 #"),
+    ("width_of_one_missing", 1, PLAIN, "201122 001001", "80", "bits 1 steps 3; 1: 001001 missing #"),
+    ("sequence", 1, PLAIN, "360192", "14E11E", "bits 23 steps 3; 1: 001001 10e0 # 012101 28815e2 #"),
+    ("local_descriptor", 1, PLAIN, "206012 063255", "0F50", "bits 12 steps 3; 1: 063255 245e0"),
+    ("inserted_text", 1, PLAIN, "205004", "225C0AFE", "bits 32 steps 2; 1: 205004 \"225C0AFE\""),
+    ("thirty_two_groups", 1, PLAIN, THIRTY_TWO_GROUPS, "14", "bits 7 steps 66; 1: 001001 10e0 #"),
+    ("negative_latitude", 1, PLAIN, "005002", "4646", "bits 15 steps 2; 1: 005002 -5e2 #"),
+    ("no_subsets", 0, PLAIN, "001001", "", "bits 0 steps 0"),
+    ("text_width", 1, PLAIN, "208003 001015", "414243", "bits 24 steps 3; 1: 001015 \"414243\" #"),
+    ("compressed_missing", 2, PACKED, "012101", "708F05", "bits 24 steps 2 held 1; 1: 012101 28815e2 # 2: 012101 missing #"),
+    ("compressed_name", 2, PACKED, "001015", "00000000000000000000000000000000000000001105090C83FFFFFFFC", "bits 230 steps 2 held 1; 1: 001015 \"4142432020202020202020202020202020202020\" # 2: 001015 missing #"),
+    ("increment_to_missing", 2, PACKED, "001001", "FC1080", "bits 17 steps 2 held 1; 1: 001001 126e0 # 2: 001001 missing #"),
     ("inserted_missing", 1, PLAIN, "205001", "FF", "bits 8 steps 2; 1: 205001 missing"),
     ("references_dropped", 1, PLAIN,
         "203010 012101 001001 203255 203000 012101 001001", "E4005708F140",
@@ -231,20 +252,15 @@ const READINGS: &[(&str, u16, u8, &str, &str, &str)] = &[
     ("no_definitions_to_end", 1, PLAIN, "203255 001001 203010 012101", "15C800",
         "bits 17 steps 5; 1: 001001 10e0 # 012101 R-400"),
     ("defining_before_the_width", 1, PLAIN, "203010 206064 063255", "00", "32 at 1 206064 0 steps 2"),
-    ("delayed_past_the_end", 1, PLAIN, "101000 031001 001001", "FF142C", "30 at 1 001001 22 steps 7"),
     ("reference_defined_again", 1, PLAIN,
         "203010 012101 001001 012101 203255 012101 001001", "E4014191C23C50",
         "bits 53 steps 8; 1: 012101 R-400 001001 R20 012101 R100 012101 28915e2 # 001001 30e0 #"),
-    ("width_of_none", 1, PLAIN, "201121 001001", "00", "31 at 1 001001 0 steps 2"),
-    ("defining_text", 1, PLAIN, "203010 001015", "0000", "32 at 1 001015 0 steps 2"),
     ("each_subset_from_the_beginning", 2, PLAIN, "012101 201132", "708F708F",
         "bits 32 steps 6; 1: 012101 28815e2 # 2: 012101 28815e2 #"),
-    ("second_subset_past_the_end", 65535, PLAIN, "001001", "14", "30 at 2 001001 7 steps 3"),
     ("third_subset_past_the_end", 3, PLAIN, "001001 012101", "14E11E29C23C5387", "30 at 3 012101 53 steps 8"),
     ("subsets_of_other_counts", 2, PLAIN, "101000 031001 001001", "01140428A0",
         "bits 37 steps 12; 1: 031001 1e0 # 001001 10e0 # 2: 031001 2e0 # 001001 10e0 # 001001 \
          20e0 #"),
-    ("many_passes_past_the_end", 1, PLAIN, "103255 102255 101255 001001", "14", "30 at 1 001001 7 steps 6"),
     ("last_bit", 1, PLAIN, "205001 012101", "41708F", "bits 24 steps 3; 1: 205001 \"41\" 012101 28815e2 #"),
     ("one_bit_past", 1, PLAIN, "205001 201129 012101", "41708F", "30 at 1 012101 8 steps 3"),
     ("base_of_all_ones_data_end", 2, PACKED, "012101", "FFFF80", "30 at 0 012101 0 steps 1"),
@@ -262,14 +278,10 @@ const READINGS: &[(&str, u16, u8, &str, &str, &str)] = &[
         "bits 105 steps 18 held 7; 1: 031001 3e0 # 001001 R5 001001 15e0 # 001001 R7 001001 \
          18e0 # 001001 R5 001001 16e0 # 2: 031001 3e0 # 001001 R5 001001 15e0 # 001001 R7 \
          001001 19e0 # 001001 R5 001001 16e0 #"),
-    ("factors_that_differ", 2, PACKED, "101000 031001 001001", "0105", "33 at 0 031001 0 steps 2"),
-    ("two_missing", 1, PLAIN, "001001 012101", "FFFFFE", "bits 23 steps 3; 1: 001001 missing # 012101 missing #"),
-    ("one_bit", 1, PLAIN, "012101", "70", "30 at 1 012101 0 steps 1"),
     ("second_item_past_the_end", 1, PLAIN, "001001 012101", "14E1", "30 at 1 012101 7 steps 2"),
     ("second_of_two_subsets_past_the_end", 2, PLAIN, "001001 012101", "14E11E29", "30 at 2 012101 30 steps 5"),
     ("two_subsets", 2, PLAIN, "001001 012101", "14E11E29C23C",
         "bits 46 steps 6; 1: 001001 10e0 # 012101 28815e2 # 2: 001001 10e0 # 012101 28815e2 #"),
-    ("delayed_once", 1, PLAIN, "101000 031001 001001", "0114", "bits 15 steps 5; 1: 031001 1e0 # 001001 10e0 #"),
 ];
 
 fn assert_row(rt: &impl Runtime, row: &(&str, u16, u8, &str, &str, &str)) {
@@ -292,10 +304,6 @@ fn assert_row(rt: &impl Runtime, row: &(&str, u16, u8, &str, &str, &str)) {
 fn readings_of_messages(rt: HostRuntime) {
     for row in READINGS {
         assert_row(&rt, row);
-    }
-    for worked in worked_messages() {
-        let row = (worked.0, worked.1, worked.2, worked.3, worked.4, worked.5);
-        assert_row(&rt, &row);
     }
 }
 
