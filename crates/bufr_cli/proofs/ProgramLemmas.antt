@@ -15,7 +15,7 @@ use Rattle.bufr_cli.specs.Pieces.{Piece}
 use Rattle.bufr_cli.specs.Program.{IsReadFault}
 use Rattle.bufr_cli.specs.ReadAll.{ReadsAll}
 use Rattle.bufr_cli.specs.Running.{ReadsAtMost}
-use Rattle.bufr_cli.specs.declared.tally.Tally.{Tally}
+use Rattle.bufr_cli.specs.declared.outcome.Tally.{Tally}
 
 -- a run over the octets of its input, and then the flush of the rest
 pub ends-run : (promise : Promise) (octets : Option (List ℕ)) (from to : Input) (before between after : Writers) (ran ran' : Result Tally RunFault)

@@ -6,7 +6,7 @@
 use Rattle.std.specs.Prelude.{◌≡◌, ℕ, ◌+◌, ◌-◌, ◌%◌, ◌==◌, ◌&&◌, ◌||◌, Bool, not, nat_lt, nat_le, List, Option, Some, None, Result, Ok, Err, length, slice_index, slice_range, if◌then◌else◌}
 use Rattle.bufr_frame.specs.Octets.{u24_at, u16_at, words}
 use Rattle.bufr_frame.specs.Section1.{Slot, Flags, slots_of, is_edition, first_least, slot_value, head_in}
-use Rattle.bufr_frame.specs.declared.head.Head.{Head}
+use Rattle.bufr_frame.specs.declared.section1.Head.{Head}
 use Rattle.bufr_frame.specs.declared.fault.SectionFault.{SectionFault}
 use Rattle.bufr_frame.specs.declared.fault.SectionFault.TheVariants.{Edition, SectionShort, SectionPast, SectionsEnd, Edition3Long}
 

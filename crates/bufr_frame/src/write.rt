@@ -6,13 +6,12 @@ ghost use Rattle.bufr_frame.specs.Sections.{sections_of};
 ghost use Rattle.bufr_frame.specs.Layout.{data_flags, even_size, with_even_length, is_writable, message_octets, message_size, max_octets, with_pad_octet, parts_of, sections_from, head_octets, section0_octets, section1_octets, section2_octets, section3_octets, section4_octets, section2_size, size_from};
 ghost use Rattle.bufr_frame.specs.Section1.{first_least, is_edition, slot_octets, head_value, slots_3, slots_4};
 
-use crate::edition::Edition;
 use crate::fault::WriteFault;
-use crate::head::Head;
-use crate::least::{
-    SECTION_0, SECTION_2, SECTION_3, SECTION_4, SECTION_5, even_len, is_padded, section_1,
+use crate::message::{high, low, three_octets_of};
+use crate::section1::{
+    Edition, Head, SECTION_0, SECTION_2, SECTION_3, SECTION_4, SECTION_5, even_len, is_padded,
+    section_1,
 };
-use crate::octets::{high, low, three_octets_of};
 use std::alloc::{AllocError, Global};
 
 /// The most octets that a message has, since three octets state its length.

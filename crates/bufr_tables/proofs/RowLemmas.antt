@@ -7,7 +7,7 @@ use Rattle.bufr_tables.specs.Kind.{kind_of}
 use Rattle.bufr_tables.specs.Number.{i64_of}
 use Rattle.bufr_tables.specs.Records.{Record, field_of}
 use Rattle.bufr_tables.specs.Steps.{only_if}
-use Rattle.bufr_tables.specs.declared.kind.Kind.{Kind}
+use Rattle.bufr_tables.specs.declared.table_b.Kind.{Kind}
 use Rattle.bufr_tables.specs.declared.table_b.ParsedRow.{ParsedRow}
 use Rattle.bufr_tables.specs.Kept.{ExtendsBlock, row_parsed, rows_kept}
 use Rattle.bufr_tables.specs.RowKept.{IsRowKept}
