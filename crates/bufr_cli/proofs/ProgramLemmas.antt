@@ -42,10 +42,6 @@ ok-any (Ok tally) None gives ran so = tt
 ok-any (Ok tally) (Some s) gives ran so = so
 ok-any (Err fault) octets gives ran so = tt
 
--- reads of which the last was not the last that may be made
-pub at-most : (reads reads' : ℕ) (r : Result Tally RunFault) → MakesReads reads reads' r → ReadsAtMost reads reads' r
-at-most reads reads' r made = (made.0, made.1, made.2, made.3)
-
 -- a fault of reading an input whole
 pub read-fault : (left left' : Option (List ℕ)) (fault : RunFault) (bs : List ℕ) → ReadsAll left left' (Err fault) bs → IsReadFault fault
 read-fault left left' Read bs so = tt
