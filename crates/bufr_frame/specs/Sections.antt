@@ -107,9 +107,3 @@ sections_of m = if not (is_edition (edition_of m)) then Err (Edition (edition_of
   p3 ← section_end m 3 7 p2
   p4 ← section_end m 4 4 p3
   parts_if_end_matches m p1 p2 p3 p4
-
--- what a function returns, seen by view, is the definition's value
-abbrev pub ReturnsView : {X Y : Type 0} → (X → Y) → Result X SectionFault → Result Y SectionFault
-    → Type 0
-ReturnsView view (Ok x) stated_length = stated_length ≡ Ok (view x)
-ReturnsView view (Err e) stated_length = stated_length ≡ Err e

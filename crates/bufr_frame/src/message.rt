@@ -3,12 +3,12 @@
 ghost use Rattle.std.specs.Prelude.{◌≡◌, ◌≤◌, ◌+◌, length, IsTrue, Some, None, slice_range, if◌then◌else◌, ◌<◌, ◌*◌, ◌/◌, ◌%◌, ◌^◌, ◌-◌, ℕ, Ok, IfOk};
 ghost use Rattle.std.specs.Option.{option_map};
 ghost use Rattle.bufr_frame.specs.Section1.{first_least, head_in, is_edition, slots_3, slots_4, Flags, slot_value};
-ghost use Rattle.bufr_frame.specs.Sections.{edition_of, head_of, has_section2, slots_in, section_end, sections_of, parts, ReturnsView, is_long_edition_3};
+ghost use Rattle.bufr_frame.specs.Sections.{edition_of, head_of, has_section2, slots_in, section_end, sections_of, parts, is_long_edition_3};
 ghost use Rattle.bufr_frame.specs.Octets.{u16_at, u24_at, three_octets};
 
 use crate::fault::SectionFault;
 use crate::section1::{
-    Edition, Head, SECTION_0, SECTION_2, SECTION_3, SECTION_4, SECTION_5, is_padded, section_1,
+    Head, SECTION_0, SECTION_2, SECTION_3, SECTION_4, SECTION_5, is_padded, section_1,
 };
 use bufr_bits::BitSlice;
 use std::marker::Model;
@@ -117,21 +117,16 @@ fn head_4(m: &[u8]) -> Head
 /// The values of octet 8 of section 0 and of section 1 after its length.
 // rule: odd-values-kept
 fn head_at(m: &[u8]) -> Head
-    requires known { IsTrue (is_edition (edition_of m.now)) }
     requires long { 8 ≤ length m.now }
     requires first { 8 + first_least (edition_of m.now) ≤ length m.now }
     ensures { result ≡ head_of m.now }
 {
-    match Edition::of(m[7]) {
-        Edition::Third => head_3(m),
-        Edition::Fourth => head_4(m),
-    }
+    if m[7] == 3 { head_3(m) } else { head_4(m) }
 }
 
 /// The octets of section 2 from its octet 5 on, where there is a section 2.
 // rule: section-2
 fn section2_of(m: &[u8], first: usize, second: usize) -> Option<&[u8]>
-    requires known { IsTrue (is_edition (edition_of m.now)) }
     requires long { 18 ≤ length m.now }
     requires within { second ≤ length m.now }
     requires section2 { IsTrue (has_section2 m.now) → first + 4 ≤ second }
@@ -164,35 +159,39 @@ impl<'a> Message<'a> {
     /// or 4. [`SectionFault::SectionsEnd`] where section 4 does not end at the last four octets.
     /// [`SectionFault::Edition3Long`] where section 3 or 4 of edition 3 has an odd number of octets
     /// and the message has more than 16,777,213.
+    // rule: edition-first, sections-in-order, section-4-end, local-use, section-3, section-4
+    // rule: reserved-ignored
+    #[tactic(auto, unfolding(crate::specs::Sections::sections_of))]
     pub fn parse(octets: &'a [u8]) -> Result<Message<'a>, SectionFault>
         requires { 12 ≤ length octets.now }
         ensures { result ≡ sections_of octets.now }
     {
-        let ends = ends_of(octets)?;
-        Ok(Message::between(octets, ends))
-    }
-
-    /// The message with these ends of its sections.
-    // rule: local-use, section-3, section-4, reserved-ignored
-    fn between(octets: &'a [u8], ends: Ends) -> Message<'a>
-        requires known { IsTrue (is_edition (edition_of octets.now)) }
-        requires within { ends.fourth ≤ length octets.now }
-        requires first { 8 + first_least (edition_of octets.now) ≤ ends.first }
-        requires section2 { IsTrue (has_section2 octets.now) → ends.first + 4 ≤ ends.second }
-        ensures { result ≡ parts octets.now ends.first ends.second ends.third ends.fourth }
-    {
-        let flags = octets[ends.second + 6];
-        Message {
+        let edition = octets[7];
+        if edition != 3 && edition != 4 {
+            return Err(SectionFault::Edition(edition));
+        }
+        let first = section_end_at(octets, 1, section_1(edition), SECTION_0)?;
+        let second = second_end(octets, first)?;
+        let third = section_end_at(octets, 3, SECTION_3, second)?;
+        let fourth = section_end_at(octets, 4, SECTION_4, third)?;
+        if fourth != octets.len() - SECTION_5 {
+            return Err(SectionFault::SectionsEnd);
+        }
+        if is_long(octets, second, third, fourth) {
+            return Err(SectionFault::Edition3Long);
+        }
+        let flags = octets[second + 6];
+        Ok(Message {
             octets,
             head: head_at(octets),
-            local1: &octets[SECTION_0 + section_1(octets[7])..ends.first],
-            section2: section2_of(octets, ends.first, ends.second),
-            descriptors: &octets[ends.second + SECTION_3..ends.third],
-            subsets: two_at(octets, ends.second + 4),
+            local1: &octets[SECTION_0 + section_1(edition)..first],
+            section2: section2_of(octets, first, second),
+            descriptors: &octets[second + SECTION_3..third],
+            subsets: two_at(octets, second + 4),
             observed: flags >= 128,
             compressed: flags % 128 >= 64,
-            payload: &octets[ends.third + SECTION_4..ends.fourth],
-        }
+            payload: &octets[third + SECTION_4..fourth],
+        })
     }
 
     /// The edition and the values of section 1.
@@ -374,20 +373,6 @@ impl<'a> Iterator for Words<'a> {
     }
 }
 
-/// The indices after the last octets of sections 1 to 4, from 0. A section 2 that is absent ends
-/// where section 1 does.
-#[derive(Clone, Copy, Debug)]
-pub(crate) struct Ends {
-    pub(crate) first: usize,
-    pub(crate) second: usize,
-    pub(crate) third: usize,
-    pub(crate) fourth: usize,
-    ghost ordered: { (25 ≤ first) × (first ≤ second) × (second + 7 ≤ third)
-        × (third + 4 ≤ fourth) },
-    ghost near: { fourth < 2 ^ 34 },
-    ghost short: { fourth < third + 2 ^ 24 },
-}
-
 /// The end of section `k`, which begins at `p` and has at least `least` octets.
 #[tactic(auto, unfolding(crate::specs::Sections::section_end))]
 // rule: odd-sections-read, length-past-end, length-under-least, section-past-end
@@ -413,31 +398,18 @@ fn section_end_at(m: &[u8], k: u8, least: usize, p: usize) -> Result<usize, Sect
     Ok(p + len)
 }
 
-/// The flags of section 1.
-fn flags_at(m: &[u8]) -> u8
-    requires known { IsTrue (is_edition (edition_of m.now)) }
-    requires long { 18 ≤ length m.now }
-    ensures { result ≡ slot_value (slots_in m.now) m.now 11 Flags }
-{
-    match Edition::of(m[7]) {
-        Edition::Third => m[15],
-        Edition::Fourth => m[17],
-    }
-}
-
 /// Whether there is a section 2.
 // rule: section-2-flag
-pub(crate) fn has_second(m: &[u8]) -> bool
-    requires known { IsTrue (is_edition (edition_of m.now)) }
-    requires long { 18 ≤ length m.now }
+fn has_second(m: &[u8]) -> bool
+    requires { 18 ≤ length m.now }
     ensures { result ≡ has_section2 m.now }
 {
-    flags_at(m) >= 128
+    let flags = if m[7] == 3 { m[15] } else { m[17] };
+    flags >= 128
 }
 
 /// The end of section 2, or of section 1 where there is no section 2.
 fn second_end(m: &[u8], first: usize) -> Result<usize, SectionFault>
-    requires known { IsTrue (is_edition (edition_of m.now)) }
     requires long { 18 ≤ length m.now }
     requires near { first < 2 ^ 31 }
     ensures value { result ≡ (if has_section2 m.now
@@ -461,52 +433,10 @@ const MOST_ODD: usize = 16_777_213;
 /// Whether a message with these ends of sections is too long for its sections 3 and 4 to be padded.
 // rule: edition-3-length
 fn is_long(m: &[u8], second: usize, third: usize, fourth: usize) -> bool
-    requires known { IsTrue (is_edition (edition_of m.now)) }
     requires long { 8 ≤ length m.now }
     requires third { second ≤ third }
     requires fourth { third ≤ fourth }
     ensures { result ≡ is_long_edition_3 m.now second third fourth }
 {
     m.len() > MOST_ODD && (is_padded(m[7], third - second) || is_padded(m[7], fourth - third))
-}
-
-/// Whether messages of this edition are read.
-// rule: edition-first
-fn is_known(edition: u8) -> bool
-    ensures { result ≡ is_edition edition }
-{
-    edition == 3 || edition == 4
-}
-
-/// The ends of the sections of `m`, or the first fault.
-#[tactic(auto, unfolding(crate::specs::Sections::sections_of))]
-// rule: edition-first, sections-in-order, section-4-end
-pub(crate) fn ends_of(m: &[u8]) -> Result<Ends, SectionFault>
-    requires long { 12 ≤ length m.now }
-    ensures value { ReturnsView (λ e. parts m.now e.first e.second e.third e.fourth) result
-        (sections_of m.now) }
-    ensures known { IfOk result (λ _. IsTrue (is_edition (edition_of m.now))) }
-    ensures within { IfOk result (λ e. e.fourth ≤ length m.now - 4) }
-    ensures first { IfOk result (λ e. 8 + first_least (edition_of m.now) ≤ e.first) }
-    ensures section2 { IfOk result (λ e. IsTrue (has_section2 m.now) → e.first + 4 ≤ e.second) }
-{
-    if !is_known(m[7]) {
-        return Err(SectionFault::Edition(m[7]));
-    }
-    let first = section_end_at(m, 1, section_1(m[7]), SECTION_0)?;
-    let second = second_end(m, first)?;
-    let third = section_end_at(m, 3, SECTION_3, second)?;
-    let fourth = section_end_at(m, 4, SECTION_4, third)?;
-    if fourth != m.len() - SECTION_5 {
-        return Err(SectionFault::SectionsEnd);
-    }
-    if is_long(m, second, third, fourth) {
-        return Err(SectionFault::Edition3Long);
-    }
-    Ok(Ends {
-        first,
-        second,
-        third,
-        fourth,
-    })
 }

@@ -1,4 +1,4 @@
-//! Section 1 of a message: its values, the two editions, and the least octets of each section.
+//! The values of section 1, and the least octets of each section by edition.
 //! (WMO-No. 306, Volume I.2, FM 94: sections 0 to 5)
 ghost use Rattle.std.specs.Prelude.{◌≡◌, ◌<◌, ◌-◌, ◌^◌, IsTrue};
 ghost use Rattle.bufr_frame.specs.Layout.{even_size};
@@ -46,47 +46,15 @@ pub struct Head {
     pub second: u8,
 }
 
-/// An edition of FM 94. What differs between editions is matched on it, so the compiler finds each
-/// place that a new edition needs.
-#[derive(Clone, Copy, Debug)]
-pub(crate) enum Edition {
-    /// Edition 3.
-    Third,
-    /// Edition 4.
-    Fourth,
-}
-
-impl Edition {
-    ghost use Rattle.std.specs.Prelude.{IsTrue};
-    ghost use Rattle.bufr_frame.specs.Editions.{IsNumbered};
-    ghost use Rattle.bufr_frame.specs.Section1.{is_edition};
-
-    /// The edition of this number, octet 8 of section 0.
-    pub(crate) fn of(number: u8) -> Edition
-        requires { IsTrue (is_edition number) }
-        ensures { IsNumbered result number }
-    {
-        if number == 3 {
-            Edition::Third
-        } else {
-            Edition::Fourth
-        }
-    }
-}
-
 /// Section 0, which always has this length.
 pub(crate) const SECTION_0: usize = 8;
 
 /// Section 1 of an edition, without octets for local use.
 // rule: length-under-least
 pub(crate) fn section_1(edition: u8) -> usize
-    requires { IsTrue (is_edition edition) }
     ensures { result ≡ first_least edition }
 {
-    match Edition::of(edition) {
-        Edition::Third => 17,
-        Edition::Fourth => 22,
-    }
+    if edition == 3 { 17 } else { 22 }
 }
 
 /// Section 2, where there is one.
@@ -104,20 +72,15 @@ pub(crate) const SECTION_5: usize = 4;
 /// Whether a section 3 or 4 of `len` octets is written with a zero octet more.
 // rule: least-lengths
 pub(crate) fn is_padded(edition: u8, len: usize) -> bool
-    requires { IsTrue (is_edition edition) }
     ensures { result ≡ is_padded edition len }
 {
-    match Edition::of(edition) {
-        Edition::Third => len % 2 == 1,
-        Edition::Fourth => false,
-    }
+    edition == 3 && len % 2 == 1
 }
 
 /// The octets of a section 3 or 4 with the zero octet of its padding.
 // rule: least-lengths
 pub(crate) fn even_len(edition: u8, len: usize) -> usize
-    requires known { IsTrue (is_edition edition) }
-    requires room { len < 2 ^ 64 - 1 }
+    requires { len < 2 ^ 64 - 1 }
     ensures { result ≡ even_size edition len }
 {
     if is_padded(edition, len) {
