@@ -279,6 +279,7 @@ fn is_valid_factor(row: &ParsedRow) -> bool
 }
 
 /// The row that a record writes, where it writes one.
+// rule: fault-41-of-table-b
 #[tactic(auto, unfolding(crate::specs::TableB::row_of))]
 fn parse_row(fields: &ByteRecord) -> Option<ParsedRow<'_>>
     ensures value { option_map row_parsed result ≡ row_of (fields_of fields.now) }
@@ -304,16 +305,6 @@ fn parse_row(fields: &ByteRecord) -> Option<ParsedRow<'_>>
         return None;
     }
     Some(row)
-}
-
-/// For the proof alone: what [`parse_row`] returns is within the limits of a row.
-// rule: fault-41-of-table-b
-fn row(fields: &ByteRecord) -> Option<ParsedRow<'_>>
-    ensures value { option_map row_parsed result ≡ row_of (fields_of fields.now) }
-    ensures element { IfSome result (λ row. row.fxy < 16384) }
-    ensures limits { IfSome result (λ row. IsRow (row_parsed row)) }
-{
-    parse_row(fields)
 }
 
 /// Table B: the elements, by their descriptors.
@@ -416,7 +407,7 @@ impl TableB {
         if fields.len() != 6 {
             return Err(TableFault::Csv);
         }
-        let Some(row) = row(fields) else {
+        let Some(row) = parse_row(fields) else {
             return Err(TableFault::Row(number));
         };
         if self.get(row.fxy).is_some() {

@@ -240,26 +240,6 @@ impl CachedList {
     {
         self.descriptors.as_slice() == descriptors
     }
-
-    /// Keeps this list, if it is not the one that is kept.
-    fn select(
-        &mut self,
-        alloc: Global,
-        descriptors: &[Fxy],
-        table_b: &TableB,
-        table_d: &TableD,
-    ) -> Result<(), AllocError>
-        requires { IsAnswer (tables_of table_b.now table_d.now)
-            self.old.descriptors.items self.old.answer }
-        ensures list { OnOk result (self.new.descriptors.items ≡ descriptors.now) }
-        ensures answer { IsAnswer (tables_of table_b.now table_d.now)
-            self.new.descriptors.items self.new.answer }
-    {
-        if self.holds(descriptors) {
-            return Ok(());
-        }
-        self.replace(alloc, descriptors, table_b, table_d)
-    }
 }
 
 /// Templates by two tables: a list that is asked for again, with no other one between, is not
@@ -357,8 +337,11 @@ impl<'a> SelectedTemplate<'a> {
         ensures table_d { self.new.table_d ≡ self.old.table_d }
         ensures list { OnOk result (self.new.list ≡ descriptors.now) }
     {
+        if self.kept.holds(descriptors) {
+            return Ok(());
+        }
         self.kept
-            .select(self.alloc, descriptors, self.table_b, self.table_d)
+            .replace(self.alloc, descriptors, self.table_b, self.table_d)
     }
 
     /// What the list that is kept is expanded to by these tables: the template that

@@ -1,7 +1,7 @@
 use Rattle.std.proofs.Common.{◌≡◌, Bool, ◌<◌, false, length, replicate, get_or, sym, ◌∙◌, arith}
 use Rattle.std.proofs.lemmas.List.{take_at, get_or_read, length-replicate}
 use Rattle.std.specs.Prelude.{slice_index}
-use Rattle.bufr_tables.proofs.CycleLemmas.{none-set, searched-chain, searched-end, searched-fewer, searched-more, searched-start}
+use Rattle.bufr_tables.proofs.CycleLemmas.{none-set, searched-chain, searched-end, searched-more, searched-start}
 use Rattle.bufr_tables.proofs.table_d.reaches_itself.Goals as goal
 
 pub loop-next-init : goal.loop-next-init
@@ -22,17 +22,6 @@ loop-next-preserved c =
     let v = rw (c.deref_mut-in-loop-next.ensures.value, at) at c.in_ok-visit-2.ensures in
     rw (take_at c.visit-in-loop-next.new.seen _ c.loop-next.seen.len (omega (arith, v.flags)))
     (searched-more c.args.table.now c.args.sequence seen c.visit-in-loop-next.new.seen queue c.visit-in-loop-next.new.queue.items next c.loop-next.invariant below v)
-
-pub loop-next-smaller : goal.loop-next-smaller
-loop-next-smaller c =
-    let seen = c.loop-next.seen.items in
-    let queue = c.loop-next.queue.items in
-    let next = c.loop-next.next in
-    let below : next < length queue = omega arith in
-    let at : c.index-member.result.now ≡ slice_index queue next = get_or_read queue next _ below c.index-member.ensures 0 in
-    let v = rw (c.deref_mut-in-loop-next.ensures.value, at) at c.in_ok-visit-2.ensures in
-    rw (take_at c.visit-in-loop-next.new.seen _ c.loop-next.seen.len (omega (arith, v.flags)))
-    (searched-fewer c.args.table.now c.args.sequence seen c.visit-in-loop-next.new.seen queue c.visit-in-loop-next.new.queue.items next c.loop-next.invariant below v)
 
 pub returns : goal.returns
 returns c =

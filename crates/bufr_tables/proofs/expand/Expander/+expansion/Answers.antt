@@ -4,12 +4,9 @@ use Rattle.bufr_tables.specs.Expansion.{inner_of}
 use Rattle.bufr_tables.specs.Growing.{builder_model}
 use Rattle.bufr_tables.specs.Expander.{tables_in}
 use Rattle.bufr_tables.specs.Growth.{places_so_far}
-use Rattle.bufr_tables.proofs.LevelLemmas.{Came, came_none, came_part, came_fault, came_end}
+use Rattle.bufr_tables.proofs.LevelLemmas.{Came, came_part, came_fault, came_end}
 use Rattle.bufr_tables.proofs.PartLemmas.{gives_same, part-element, part-group, part-operator, part-sequence, group-depth, group-places, group-list-fault, group-list-empty, group-closed, sequence-depth, sequence-fault, sequence-ok}
 use Rattle.bufr_tables.proofs.expand.Expander.+expansion.Goals as goal
-
-pub list-loop-fxy-init : goal.list-loop-fxy-init
-list-loop-fxy-init t c = came_none _ _ _ _ c.args.growing.now.around
 
 pub list-loop-fxy-preserved : goal.list-loop-fxy-preserved
 list-loop-fxy-preserved t c =
