@@ -134,15 +134,6 @@ module _ (old s s' : FinderModel) (place len size : ℕ) (here : Candidate) (fou
       (subst D (sym (event-is (gone_to (gone_to old place size) k 0) m (old.before ++ take place old.rest) (old.at + place) here refl (omega (arith, found.within, length-drop place old.rest))))
       (subst R (sym (drop-twice k place old.rest)) (found.advances old.at)))))
 
-  pub found-follows : Follows old.at old.rest s'.at s'.rest
-  found-follows =
-      let m = drop place old.rest in
-      let k = candidate_len m here in
-      let A : FinderModel → Type 0 = λ x. Follows old.at old.rest x.at x.rest in
-      let B : ℕ → Type 0 = λ n. Follows old.at old.rest (s.at + n) (drop n s.rest) in
-      let C : FinderModel → Type 0 = λ x. Follows old.at old.rest (x.at + candidate_len x.rest here) (drop (candidate_len x.rest here) x.rest) in
-      subst A (sym is') (subst B (sym takes) (subst C (sym is) (record { passed = place + k; within = found.within; offset = omega arith; left = drop-twice k place old.rest })))
-
 module _ (left mid : Option (List ℕ)) (old s s' : FinderModel) (bs : List ℕ) (step : ReadsAndPasses left mid old s bs []) where
   -- a turn that needs more octets passes those that are no event's
   pub turn-pass : (place size : ℕ) → s.ended ≡ false → IsIncomplete s.rest place size → s' ≡ gone_to s place size → ReadsAndPasses left mid old s' bs []
