@@ -274,15 +274,6 @@ unfolding decimal_text_of
 minus_text text body count zero places h e d some = absurd (omega arith)
 minus_text text body count (suc n) places h e d some = minus_then text body count h e ∙ ap (λ (t : List ℕ). 45 ∷ t) d.is
 
-pub minus_octets : (text body : List ℕ) (count n places : ℕ) → true ≡ starts_with_minus text → body ≡ unsigned_part text → IsPlainDecimal (take count body) n places → list_all is_decimal_octet (take (count + 1) text) ≡ true
-minus_octets text body count n places h e d = ap (list_all is_decimal_octet) (minus_then text body count h e) ∙ d.octets
-
-pub minus_within : (text body : List ℕ) (count : ℕ) → true ≡ starts_with_minus text → body ≡ unsigned_part text → count ≤ length body → count + 1 ≤ length text
-minus_within [] body count h e le = absurd cc
-minus_within (c ∷ text) body count h e le =
-    let rest : body ≡ text = e ∙ ap (λ (b : Bool). if b then text else c ∷ text) (sym h) in
-    omega (arith, ap length rest)
-
 pub plain_text : (text body : List ℕ) (count n places : ℕ) → false ≡ starts_with_minus text → body ≡ unsigned_part text → IsPlainDecimal (take count body) n places → take count text ≡ decimal_text_of (signed_number false n) (pos places)
 unfolding decimal_text_of
 plain_text text body count n places h e d =

@@ -10,8 +10,8 @@ use Rattle.bufr_frame.specs.declared.fault.Cause.TheVariants.{Cut}
 use Rattle.bufr_tables.specs.Expansion.{tree_of, inner_of, level, part_of}
 use Rattle.bufr_tables.specs.FaultNumber.{number_of_template_fault}
 use Rattle.bufr_tables.specs.TableB.{Row}
-use Rattle.bufr_tables.specs.declared.kind.Kind.TheVariants.{Numeric}
-use Rattle.bufr_tables.specs.declared.template.fault.TemplateFault.TheVariants as template
+use Rattle.bufr_tables.specs.declared.table_b.Kind.TheVariants.{Numeric}
+use Rattle.bufr_tables.specs.declared.fault.TemplateFault.TheVariants as template
 use Rattle.bufr_walk.specs.Content.{number}
 use Rattle.bufr_walk.specs.Course.{next_item, take_next}
 use Rattle.bufr_walk.specs.PlainField.{data_end}

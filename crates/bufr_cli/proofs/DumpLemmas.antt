@@ -12,7 +12,7 @@ use Rattle.bufr_tables.specs.TableB.{Row, AreRows}
 use Rattle.bufr_tables.specs.TableD.{Sequence}
 use Rattle.bufr_tables.specs.TemplateTables.{tables_of}
 use Rattle.bufr_tables.specs.Tree.{Tree}
-use Rattle.bufr_tables.specs.declared.template.fault.TemplateFault.{TemplateFault}
+use Rattle.bufr_tables.specs.declared.fault.TemplateFault.{TemplateFault}
 use Rattle.bufr_tables.proofs.SoundLemmas.{tree_fine}
 use Rattle.bufr_walk.specs.Course.{Course, next_item}
 use Rattle.bufr_walk.specs.Fault.{number_of_walk_fault}
@@ -31,8 +31,8 @@ use Rattle.bufr_cli.specs.FaultLine.{fault_line, walk_fault_text}
 use Rattle.bufr_cli.specs.Pieces.{Piece, OnOutput, OnErrors, stray_piece, section_piece}
 use Rattle.bufr_cli.specs.Running.{GivesPieces}
 use Rattle.bufr_cli.specs.WritingPieces.{LeavesPieces}
-use Rattle.bufr_cli.specs.declared.tally.Verdict.{Verdict}
-use Rattle.bufr_cli.specs.declared.tally.Verdict.TheVariants.{Accepted, Refused}
+use Rattle.bufr_cli.specs.declared.outcome.Verdict.{Verdict}
+use Rattle.bufr_cli.specs.declared.outcome.Verdict.TheVariants.{Accepted, Refused}
 
 -- of a text nothing was written
 grows-none : (w : Option (List ℕ)) (text : List ℕ) → GrowsByPrefix w w text

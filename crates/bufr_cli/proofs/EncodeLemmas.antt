@@ -28,9 +28,9 @@ use Rattle.bufr_cli.specs.Pieces.{Piece, OnOutput, OnErrors, errors_of, is_accep
 use Rattle.bufr_cli.specs.Counting.{Blames}
 use Rattle.bufr_cli.specs.Running.{ReadsAtMost, Tallies, WritesPieces, WrittenInPart}
 use Rattle.bufr_cli.specs.WritingPieces.{LeavesPieces, StopsPiece, counted_accepted, counted_refused, tally_after}
-use Rattle.bufr_cli.specs.declared.tally.Tally.{Tally}
-use Rattle.bufr_cli.specs.declared.tally.Verdict.{Verdict}
-use Rattle.bufr_cli.specs.declared.tally.Verdict.TheVariants as verdict
+use Rattle.bufr_cli.specs.declared.outcome.Tally.{Tally}
+use Rattle.bufr_cli.specs.declared.outcome.Verdict.{Verdict}
+use Rattle.bufr_cli.specs.declared.outcome.Verdict.TheVariants as verdict
 use Rattle.bufr_text.proofs.CallLemmas.{call-none, call-then}
 use Rattle.bufr_text.proofs.NextLemmas.{counts-none, counts-then, reported-first, reported-first-openly, reported-at-end, reported-at-fault}
 use Rattle.bufr_cli.proofs.RunLemmas.{Written-nil, Written-then, grows-nil}

@@ -10,7 +10,7 @@ use Rattle.bufr_cli.specs.Ending.{EndsRun, FlushesRest, Promise, WantsMemory, Wa
 use Rattle.bufr_cli.specs.Finish.{ran_status, status_of}
 use Rattle.bufr_cli.specs.Program.{IsReadFault, ls_promise}
 use Rattle.bufr_cli.specs.declared.outcome.Outcome.TheVariants.{Ran}
-use Rattle.bufr_cli.specs.declared.tally.Tally.{Tally}
+use Rattle.bufr_cli.specs.declared.outcome.Tally.{Tally}
 
 -- what a result is
 IsOk : Result Tally RunFault → Type 0

@@ -7,7 +7,7 @@ use Rattle.bufr_tables.specs.declared.fault.TableFault.TheVariants as table
 use Rattle.bufr_text.specs.Writing.{joined}
 use Rattle.bufr_cli.specs.Finish.{last_line, status_of}
 use Rattle.bufr_cli.specs.declared.outcome.Outcome.TheVariants.{Ran, Usage, CannotOpen, TableB, TableD, Run}
-use Rattle.bufr_cli.specs.declared.tally.Tally.{Tally}
+use Rattle.bufr_cli.specs.declared.outcome.Tally.{Tally}
 
 -- a run that went through has no last line
 ran-line : (tally : Tally) → last_line (Ran tally) ≡ []

@@ -15,7 +15,7 @@ use Rattle.bufr_cli.specs.Pieces.{Piece}
 use Rattle.bufr_cli.specs.Program.{IsReadFault}
 use Rattle.bufr_cli.specs.ReadAll.{ReadsAll}
 use Rattle.bufr_cli.specs.Running.{ReadsAtMost}
-use Rattle.bufr_cli.specs.declared.tally.Tally.{Tally}
+use Rattle.bufr_cli.specs.declared.outcome.Tally.{Tally}
 
 -- a run over the octets of its input, and then the flush of the rest
 pub ends-run : (promise : Promise) (octets : Option (List ℕ)) (from to : Input) (before between after : Writers) (ran ran' : Result Tally RunFault)
@@ -41,10 +41,6 @@ pub ok-any : (r : Result Tally RunFault) (octets : Option (List ℕ)) (gives : (
 ok-any (Ok tally) None gives ran so = tt
 ok-any (Ok tally) (Some s) gives ran so = so
 ok-any (Err fault) octets gives ran so = tt
-
--- reads of which the last was not the last that may be made
-pub at-most : (reads reads' : ℕ) (r : Result Tally RunFault) → MakesReads reads reads' r → ReadsAtMost reads reads' r
-at-most reads reads' r made = (made.0, made.1, made.2, made.3)
 
 -- a fault of reading an input whole
 pub read-fault : (left left' : Option (List ℕ)) (fault : RunFault) (bs : List ℕ) → ReadsAll left left' (Err fault) bs → IsReadFault fault

@@ -8,7 +8,7 @@ use Rattle.bufr_frame.specs.Scan.{StreamEvent, FrameAt, StrayAt, scan_from}
 use Rattle.bufr_frame.specs.Sections.{sections_of, section_end}
 use Rattle.bufr_tables.specs.Expansion.{tree_of, inner_of, level, part_of}
 use Rattle.bufr_tables.specs.TableB.{Row}
-use Rattle.bufr_tables.specs.declared.kind.Kind.TheVariants.{Numeric}
+use Rattle.bufr_tables.specs.declared.table_b.Kind.TheVariants.{Numeric}
 use Rattle.bufr_walk.specs.Course.{next_item}
 use Rattle.bufr_text.specs.Documents.{lines_of, parse_lines, turn}
 use Rattle.bufr_text.specs.Encoding.{encoding_in}

@@ -9,7 +9,7 @@ use Rattle.bufr_tables.specs.TableB.{Row, AreRows}
 use Rattle.bufr_tables.specs.TableD.{Sequence}
 use Rattle.bufr_tables.specs.TemplateTables.{tables_of}
 use Rattle.bufr_tables.specs.Tree.{Tree}
-use Rattle.bufr_tables.specs.declared.template.fault.TemplateFault.{TemplateFault}
+use Rattle.bufr_tables.specs.declared.fault.TemplateFault.{TemplateFault}
 use Rattle.bufr_tables.proofs.SoundLemmas.{tree_fine}
 use Rattle.bufr_frame.specs.Layout.{max_octets}
 use Rattle.bufr_frame.specs.Scan.{StreamEvent, FrameAt, StrayAt, scan, scan_from}

@@ -24,8 +24,8 @@ use Rattle.bufr_cli.specs.Pieces.{Piece, OnErrors, output_of, errors_of, is_acce
 use Rattle.bufr_cli.specs.Counting.{Blames}
 use Rattle.bufr_cli.specs.Running.{WritesPieces, Tallies, LeavesEvents, RunDone, RunStopped, RunCut, ReadsFewer, read_events, GivesPieces}
 use Rattle.bufr_cli.specs.WritingPieces.{LeavesPieces, StopsPiece, RunReads, counted_accepted, counted_refused, tally_after}
-use Rattle.bufr_cli.specs.declared.tally.Tally.{Tally}
-use Rattle.bufr_cli.specs.declared.tally.Verdict.{Verdict}
+use Rattle.bufr_cli.specs.declared.outcome.Tally.{Tally}
+use Rattle.bufr_cli.specs.declared.outcome.Verdict.{Verdict}
 
 pub grows-nil : (w : Option (List ℕ)) → GrowsByPrefix w w []
 grows-nil w = record { prefix = []; back = []; parts = refl; gains = Appends-nil w }

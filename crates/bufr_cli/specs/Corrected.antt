@@ -8,7 +8,7 @@ use Rattle.bufr_tables.specs.TableB.{Row}
 use Rattle.bufr_tables.specs.TableD.{Sequence}
 use Rattle.bufr_tables.specs.TemplateTables.{tables_of}
 use Rattle.bufr_tables.specs.Tree.{Tree}
-use Rattle.bufr_tables.specs.declared.template.fault.TemplateFault.{TemplateFault}
+use Rattle.bufr_tables.specs.declared.fault.TemplateFault.{TemplateFault}
 use Rattle.bufr_text.specs.Document.{Document}
 use Rattle.bufr_text.specs.Documents.{ParseResult, Complete, Refused, documents_of}
 use Rattle.bufr_text.specs.Encoding.{RefusedAt, encoding_in}

@@ -10,7 +10,7 @@ use Rattle.bufr_tables.specs.TableB.{Row}
 use Rattle.bufr_tables.specs.TableD.{Sequence}
 use Rattle.bufr_tables.specs.TemplateTables.{tables_of}
 use Rattle.bufr_tables.specs.Tree.{Tree}
-use Rattle.bufr_tables.specs.declared.template.fault.TemplateFault.{TemplateFault}
+use Rattle.bufr_tables.specs.declared.fault.TemplateFault.{TemplateFault}
 use Rattle.bufr_walk.specs.Course.{next_item}
 use Rattle.bufr_walk.specs.Fault.{number_of_walk_fault}
 use Rattle.bufr_walk.specs.Outcome.{data_of, read_by, IsRefused}

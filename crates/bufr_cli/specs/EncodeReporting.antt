@@ -11,7 +11,7 @@ use Rattle.bufr_text.specs.declared.fault.ReadFault.TheVariants.{Run}
 use Rattle.bufr_cli.specs.Devices.{Writers}
 use Rattle.bufr_cli.specs.Pieces.{Piece}
 use Rattle.bufr_cli.specs.WritingPieces.{LeavesPieces}
-use Rattle.bufr_cli.specs.declared.tally.Verdict.{Verdict}
+use Rattle.bufr_cli.specs.declared.outcome.Verdict.{Verdict}
 
 -- the piece of what the reader reported was written and counted, or a prefix of it; at the end of
 -- the text there is none

@@ -8,7 +8,7 @@ use Rattle.bufr_text.specs.Documents.{ParseResult, documents_of, open_documents_
 use Rattle.bufr_cli.specs.Devices.{Input, Writers}
 use Rattle.bufr_cli.specs.Pieces.{Piece, is_refused}
 use Rattle.bufr_cli.specs.Running.{AreUnflushed, WritesPieces, WrittenInPart, Tallies}
-use Rattle.bufr_cli.specs.declared.tally.Tally.{Tally}
+use Rattle.bufr_cli.specs.declared.outcome.Tally.{Tally}
 
 -- what the octets that were read spell: to their end, where it was reached
 abbrev pub read_documents : (ended : Bool) → List ℕ → List ParseResult

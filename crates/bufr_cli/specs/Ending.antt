@@ -10,7 +10,7 @@ use Rattle.bufr_text.specs.Writing.{GrowsByPrefix}
 use Rattle.bufr_cli.specs.Counting.{BlamesWriter, IsSame}
 use Rattle.bufr_cli.specs.Devices.{Input, Writer, Writers}
 use Rattle.bufr_cli.specs.Running.{ReadsAtMost}
-use Rattle.bufr_cli.specs.declared.tally.Tally.{Tally}
+use Rattle.bufr_cli.specs.declared.outcome.Tally.{Tally}
 
 -- a writer was flushed once: all that it took is handed on, or the flush failed
 abbrev pub IsFlushed : (before after : Writer) → Type 0

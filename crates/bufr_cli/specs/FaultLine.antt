@@ -8,8 +8,8 @@ use Rattle.bufr_frame.specs.declared.fault.SectionFault.TheVariants.{Edition, Se
 use Rattle.bufr_frame.specs.Numbers.{number_of_cause, number_of_section_fault}
 use Rattle.bufr_tables.specs.FaultNumber.{number_of_template_fault}
 use Rattle.bufr_tables.specs.Fxy.{fxy_text}
-use Rattle.bufr_tables.specs.declared.template.fault.TemplateFault.{TemplateFault}
-use Rattle.bufr_tables.specs.declared.template.fault.TemplateFault.TheVariants as template
+use Rattle.bufr_tables.specs.declared.fault.TemplateFault.{TemplateFault}
+use Rattle.bufr_tables.specs.declared.fault.TemplateFault.TheVariants as template
 use Rattle.bufr_walk.specs.declared.fault.Spot.{Spot}
 use Rattle.bufr_walk.specs.declared.fault.WalkFault.{WalkFault}
 use Rattle.bufr_walk.specs.declared.fault.WalkFault.TheVariants as walk

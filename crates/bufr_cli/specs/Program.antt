@@ -28,7 +28,7 @@ use Rattle.bufr_cli.specs.declared.job.TableNames.{TableNames}
 use Rattle.bufr_cli.specs.declared.program.Command.{Command}
 use Rattle.bufr_cli.specs.declared.program.Command.TheVariants as command
 use Rattle.bufr_cli.specs.Whole.{Encodes, WritesAndCounts}
-use Rattle.bufr_cli.specs.declared.tally.Tally.{Tally}
+use Rattle.bufr_cli.specs.declared.outcome.Tally.{Tally}
 
 -- What is known of the inputs: the octets of standard input, and those of each file of which it is
 -- known that it can be opened.

@@ -17,9 +17,9 @@ use Rattle.bufr_cli.specs.DumpPieces.{IsDumpPiece}
 use Rattle.bufr_cli.specs.EncodePieces.{encode_pieces}
 use Rattle.bufr_cli.specs.Pieces.{Piece, OnOutput, OnErrors, output_of, errors_of, is_accepted, is_refused}
 use Rattle.bufr_cli.specs.Running.{GivesPieces, Tallies}
-use Rattle.bufr_cli.specs.declared.round_trip.Round.{Round}
-use Rattle.bufr_cli.specs.declared.round_trip.RunInMemory.{RunInMemory}
-use Rattle.bufr_cli.specs.declared.tally.Tally.{Tally}
+use Rattle.bufr_cli.specs.declared.laws.Round.{Round}
+use Rattle.bufr_cli.specs.declared.laws.RunInMemory.{RunInMemory}
+use Rattle.bufr_cli.specs.declared.outcome.Tally.{Tally}
 
 -- what `dump` writes for a stream, each event by its piece, and what of that is on its output
 abbrev pub dump_pieces : (StreamEvent → Piece) → List ℕ → List Piece

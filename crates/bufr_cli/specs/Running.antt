@@ -10,7 +10,7 @@ use Rattle.bufr_frame.specs.declared.fault.RunFault.TheVariants.{Read, Write, In
 use Rattle.bufr_text.specs.Writing.{GrowsByPrefix}
 use Rattle.bufr_cli.specs.Devices.{Input, Writers}
 use Rattle.bufr_cli.specs.Pieces.{Piece, output_of, errors_of, is_accepted, is_refused}
-use Rattle.bufr_cli.specs.declared.tally.Tally.{Tally}
+use Rattle.bufr_cli.specs.declared.outcome.Tally.{Tally}
 
 -- All of the pieces were written, each on its writer, in order.
 -- rule: output-in-order

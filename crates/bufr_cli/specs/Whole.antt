@@ -11,7 +11,7 @@ use Rattle.bufr_cli.specs.DumpPieces.{IsDumpPiece}
 use Rattle.bufr_cli.specs.EncodePieces.{encode_pieces}
 use Rattle.bufr_cli.specs.Pieces.{Piece}
 use Rattle.bufr_cli.specs.Running.{WritesPieces, GivesPieces, Tallies}
-use Rattle.bufr_cli.specs.declared.tally.Tally.{Tally}
+use Rattle.bufr_cli.specs.declared.outcome.Tally.{Tally}
 
 -- the pieces were written and counted
 abbrev pub WritesAndCounts : (before after : Writers) → Tally → List Piece → Type 0

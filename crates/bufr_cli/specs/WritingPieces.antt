@@ -8,9 +8,9 @@ use Rattle.bufr_cli.specs.Devices.{Writers}
 use Rattle.bufr_cli.specs.Pieces.{Piece, output_of, errors_of, is_accepted, is_refused}
 use Rattle.bufr_cli.specs.Running.{WritesPieces, ReadsAtMost}
 use Rattle.bufr_text.specs.Writing.{GrowsByPrefix}
-use Rattle.bufr_cli.specs.declared.tally.Tally.{Tally}
-use Rattle.bufr_cli.specs.declared.tally.Verdict.{Verdict}
-use Rattle.bufr_cli.specs.declared.tally.Verdict.TheVariants.{Accepted, Refused}
+use Rattle.bufr_cli.specs.declared.outcome.Tally.{Tally}
+use Rattle.bufr_cli.specs.declared.outcome.Verdict.{Verdict}
+use Rattle.bufr_cli.specs.declared.outcome.Verdict.TheVariants.{Accepted, Refused}
 
 -- how many pieces a verdict counts on the output, and on the errors
 abbrev pub counted_accepted : Verdict → ℕ

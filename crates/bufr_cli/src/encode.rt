@@ -15,8 +15,8 @@ ghost use Rattle.bufr_cli.specs.Whole.{Encodes};
 ghost use Rattle.bufr_cli.specs.WritingPieces.{StopsPiece, ReportsPieces};
 
 use crate::fault_line::{write_document_fault, write_read_fault};
+use crate::outcome::{Tally, Verdict};
 use crate::run_events::flush;
-use crate::tally::{Tally, Verdict};
 use bufr_bits::{Sink, Source};
 use bufr_frame::RunFault;
 use bufr_tables::{TableB, TableD, TemplateFault};

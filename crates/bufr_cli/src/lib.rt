@@ -27,16 +27,13 @@ pub mod laws;
 mod ls;
 mod outcome;
 mod program;
-mod round_trip;
 mod run_events;
-mod tally;
 
 pub use buffered::Buffered;
 pub use dump::run_dump;
 pub use encode::{run_encode, run_encode_form};
 pub use job::{Job, LineFault, Subcommand, TableNames, parse_line};
+pub use laws::{Round, RunInMemory, dump_encode_dump};
 pub use ls::run_ls;
-pub use outcome::{Outcome, finish};
+pub use outcome::{Outcome, Tally, finish};
 pub use program::{BUFFERED, CannotOpenFile, Inputs, read_all, run};
-pub use round_trip::{Round, RunInMemory, dump_encode_dump};
-pub use tally::Tally;

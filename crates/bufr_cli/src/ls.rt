@@ -11,8 +11,8 @@ ghost use Rattle.bufr_cli.specs.Whole.{WritesAndCounts};
 ghost use Rattle.bufr_cli.specs.WritingPieces.{StopsPiece, ReportsPieces};
 
 use crate::fault_line::{StreamFault, write_fault};
+use crate::outcome::{Tally, Verdict};
 use crate::run_events::{EventWriter, run_events};
-use crate::tally::{Tally, Verdict};
 use bufr_bits::{Sink, Source};
 use bufr_frame::{Event, Message, RunFault};
 use bufr_text::write_ls;

@@ -9,16 +9,14 @@ ghost use Rattle.bufr_cli.specs.Calling.{AnswersFault, RunsProgram};
 ghost use Rattle.bufr_cli.specs.Counting.{BlamesWriter, CountsCalls};
 ghost use Rattle.bufr_cli.specs.Devices.{input_of, writer_of, writers_of};
 ghost use Rattle.bufr_cli.specs.Ending.{AreFlushed, BlamesInput, EndsRun, FlushesRest};
-ghost use Rattle.bufr_cli.specs.Program.{AreTables, AreUnread, DumpOutcome, EncodeOutcome, FileOutcome, IsClosed, RunsJob, RunOutcome};
+ghost use Rattle.bufr_cli.specs.Program.{AreTables, AreUnread, DumpOutcome, EncodeOutcome, FileOutcome, IsClosed, RunsJob, RunOutcome, TableBOutcome, TableDOutcome, known, promise_of, ran_outcome};
 ghost use Rattle.bufr_cli.specs.ReadAll.{ReadsAll};
-ghost use Rattle.bufr_cli.specs.Program.{TableBOutcome, TableDOutcome, known, promise_of, ran_outcome};
 
 use crate::dump::run_dump;
 use crate::encode::run_encode_form;
 use crate::job::{Job, LineFault, Subcommand, TableNames, parse_line};
 use crate::ls::run_ls;
-use crate::outcome::{Outcome, finish};
-use crate::tally::Tally;
+use crate::outcome::{Outcome, Tally, finish};
 use bufr_bits::{Device, Sink, Source};
 use bufr_frame::{RunFault, read_to_end};
 use bufr_tables::{TableB, TableD};

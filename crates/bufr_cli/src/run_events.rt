@@ -11,7 +11,7 @@ ghost use Rattle.bufr_cli.specs.Devices.{input_of, writer_of, writers_of};
 ghost use Rattle.bufr_cli.specs.Running.{RunsEvents, GivesPieces};
 ghost use Rattle.bufr_cli.specs.WritingPieces.{RunReads, StopsPiece, ReportsPieces};
 
-use crate::tally::{Tally, Verdict};
+use crate::outcome::{Tally, Verdict};
 use bufr_bits::{Sink, Source};
 use bufr_frame::{Event, Finder, RunFault};
 use std::alloc::Global;

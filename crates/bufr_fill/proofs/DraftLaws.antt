@@ -9,18 +9,17 @@ use lib.Signed.{mag}
 use Rattle.bufr_bits.specs.DecimalText.{decimal_text_of}
 use Rattle.bufr_bits.specs.DecimalValue.{decimal_value_of}
 use Rattle.bufr_bits.proofs.RoundLemmas.{reads_back}
-use Rattle.bufr_tables.specs.declared.kind.Kind.{Kind}
-use Rattle.bufr_tables.specs.declared.kind.Kind.TheVariants as kind
+use Rattle.bufr_tables.specs.declared.table_b.Kind.{Kind}
+use Rattle.bufr_tables.specs.declared.table_b.Kind.TheVariants as kind
 use Rattle.bufr_tables.specs.TableB.{is_character}
 use Rattle.bufr_walk.specs.declared.spec.Role.{Role}
 use Rattle.bufr_walk.specs.declared.spec.Role.TheVariants as role
-use Rattle.bufr_walk.specs.FieldSpec.{FieldSpec, IsSpec, HasWidth, HasRole, HasMissing}
+use Rattle.bufr_walk.specs.FieldSpec.{FieldSpec, IsSpec, HasWidth, HasRole, HasMissing, is_reference}
 use Rattle.bufr_walk.specs.Content.{Content, number, text, missing, reference}
 use Rattle.bufr_fill.specs.Fits.{FitsText, FitsKind, FitsRole, Fits}
 use Rattle.bufr_fill.specs.Packing.{raw_limit}
 use Rattle.bufr_fill.specs.Fault.{wrong_number, out_of_range, text_long}
 use Rattle.bufr_fill.specs.DraftContent.{content_of, content_by_form, raw_within, raw_of, reference_of, text_within, missing_of, draft_value_of, is_marked, wrong_for}
-use Rattle.bufr_walk.specs.FieldSpec.{is_reference}
 
 below_test : (a b : ℕ) → a < b → nat_lt a b ≡ true
 below_test a b h = grind (arith, nat_tests)

@@ -10,8 +10,8 @@ use Rattle.bufr_bits.specs.Bits.{bits_of, bits_of_octet, bits_in, number_after_b
 use Rattle.bufr_bits.proofs.BitLemmas.{bit, number_after_bits-is, number_of-below, number-bits_of_octet, length-bits_of}
 use Rattle.bufr_bits.proofs.PushLemmas.{bits_in-above, bits_in-octet, length-bits_in, number_of-bits_in}
 use Rattle.bufr_bits.proofs.OnesLemmas.{are_all_ones-number, are_all_ones-bits_of}
-use Rattle.bufr_tables.specs.declared.kind.Kind.{Kind}
-use Rattle.bufr_tables.specs.declared.kind.Kind.TheVariants as kind
+use Rattle.bufr_tables.specs.declared.table_b.Kind.{Kind}
+use Rattle.bufr_tables.specs.declared.table_b.Kind.TheVariants as kind
 use Rattle.bufr_walk.specs.FieldSpec.{HasWidth, HasMissing}
 use Rattle.bufr_walk.specs.Content.{Content, number, text, missing, reference, octets_in, signed_by, said_by, sign_bit, bits_for}
 use Rattle.bufr_fill.specs.Fits.{AreOctets, FitsKind}

@@ -7,8 +7,8 @@ use Rattle.std.proofs.lemmas.Bool.Decides.{nat_tests}
 use Rattle.bufr_bits.proofs.ScaledLemmas.{and_second}
 use Rattle.bufr_bits.specs.DecimalValue.{decimal_value_of}
 use Rattle.bufr_bits.specs.declared.decimal.NumberFault.{NumberFault}
-use Rattle.bufr_tables.specs.declared.kind.Kind.{Kind}
-use Rattle.bufr_tables.specs.declared.kind.Kind.TheVariants as kind
+use Rattle.bufr_tables.specs.declared.table_b.Kind.{Kind}
+use Rattle.bufr_tables.specs.declared.table_b.Kind.TheVariants as kind
 use Rattle.bufr_tables.specs.TableB.{is_character}
 use Rattle.bufr_walk.specs.declared.spec.Role.{Role}
 use Rattle.bufr_walk.specs.declared.spec.Role.TheVariants as role

@@ -1,7 +1,7 @@
 -- The fields of the items of a reading are specifications.
 use Rattle.std.proofs.Common.{◌≡◌, ℕ, ◌-◌, ◌^◌, ◌≤◌, Bool, List, [], ◌∷◌, Ok, arith, pow_mono}
-use Rattle.bufr_tables.specs.declared.kind.Kind.{Kind}
-use Rattle.bufr_tables.specs.declared.kind.Kind.TheVariants as kind
+use Rattle.bufr_tables.specs.declared.table_b.Kind.{Kind}
+use Rattle.bufr_tables.specs.declared.table_b.Kind.TheVariants as kind
 use Rattle.bufr_tables.specs.TableB.{Row}
 use Rattle.bufr_tables.specs.Tree.{Tree}
 use Rattle.bufr_tables.specs.Legal.{IsLegal}

@@ -3,7 +3,7 @@ use Rattle.std.proofs.Common.{◌≡◌, Bool, [], ◌∷◌, ◌++◌, replicat
 use Rattle.std.specs.Prelude.{codes, take}
 use Rattle.bufr_bits.specs.Bits.{bits_of, bits_in}
 use Rattle.bufr_bits.specs.DecimalValue.{decimal_value_of}
-use Rattle.bufr_tables.specs.declared.kind.Kind.TheVariants as kind
+use Rattle.bufr_tables.specs.declared.table_b.Kind.TheVariants as kind
 use Rattle.bufr_walk.specs.declared.spec.TurnRefusal.TheVariants as refusal
 use Rattle.bufr_walk.specs.declared.spec.Role.TheVariants as role
 use Rattle.bufr_walk.specs.FieldSpec.{FieldSpec}

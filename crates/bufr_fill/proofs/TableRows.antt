@@ -7,7 +7,7 @@ use Rattle.bufr_tables.specs.Kind.{kind_of}
 use Rattle.bufr_tables.specs.Number.{i64_of, fits_i64, if_i64, integer_of}
 use Rattle.bufr_tables.specs.Records.{Record, field_of}
 use Rattle.bufr_tables.specs.Steps.{only_if}
-use Rattle.bufr_tables.specs.declared.kind.Kind.{Kind}
+use Rattle.bufr_tables.specs.declared.table_b.Kind.{Kind}
 use Rattle.bufr_tables.specs.TableB.{AreRows, Row, allows_width, element_of, natural_part, plain_of, row_of, scale_of, width_of}
 use Rattle.bufr_fill.proofs.Limits.{IsRow, AreGoodRows}
 

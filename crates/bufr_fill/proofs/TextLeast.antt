@@ -3,8 +3,8 @@ use Rattle.std.proofs.Common.{◌≡◌, ℕ, zero, suc, ◌+◌, ◌-◌, ◌/�
 use Rattle.std.specs.Prelude.{◌==◌, nat_le, min, if◌then◌else◌}
 use Rattle.std.specs.List.{list_all, flat_map}
 use Rattle.std.proofs.lemmas.Bool.Decides.{nat_tests}
-use Rattle.bufr_tables.specs.declared.kind.Kind.{Kind}
-use Rattle.bufr_tables.specs.declared.kind.Kind.TheVariants as kind
+use Rattle.bufr_tables.specs.declared.table_b.Kind.{Kind}
+use Rattle.bufr_tables.specs.declared.table_b.Kind.TheVariants as kind
 use Rattle.bufr_tables.specs.TableB.{is_character}
 use Rattle.bufr_fill.specs.declared.field_value.FieldContent.{FieldContent}
 use Rattle.bufr_fill.specs.declared.field_value.FieldContent.TheVariants as drawn

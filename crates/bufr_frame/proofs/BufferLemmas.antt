@@ -21,12 +21,6 @@ part-drop s b c n order =
 pub part-length : (s : List ℕ) (a b : ℕ) → b ≤ length s → length (slice_range s a b) ≡ b - a
 part-length s a b within = omega (arith, length-take (b - a) (drop a s), length-drop a s)
 
--- the last n octets of a prefix
-pub prefix-last : (s held before : List ℕ) (b n : ℕ) → held ≡ s → b ≤ length s → take b s ≡ before → n ≤ length before → slice_range held (b - n) b ≡ drop (length before - n) before
-prefix-last s held before b n same within is fits =
-    let long : b ≡ length before = omega (arith, ap length is, length-take b s, within) in
-    part-prefix held (b - n) b (omega arith) ∙ ap (λ l. drop (b - n) (take b l)) same ∙ ap (drop (b - n)) is ∙ ap (λ k. drop (k - n) before) long
-
 -- what was read follows what was held, where the buffer was lent as a slice
 pub after-read : (a b : Option (List ℕ)) (items lent room : List ℕ) (filled to size n : ℕ) → lent ≡ items → size ≡ length items → length room ≡ length lent → take filled room ≡ take filled lent
     → filled + n ≤ to → to ≤ size → Consumes a b (take n (drop filled room)) → (n ≡ 0 → IsAtEnd b)

@@ -4,8 +4,8 @@ use Rattle.std.specs.Prelude.{Result, Ok, Err, max, take_while}
 use Rattle.std.specs.List.{list_all}
 use Rattle.std.proofs.lemmas.Bool.{true≢false, false≢true, cases_lt, cases_Bool, and_parts}
 use Rattle.std.proofs.lemmas.List.{drop-append-le}
-use Rattle.bufr_frame.specs.declared.search.Candidate.{Candidate}
-use Rattle.bufr_frame.specs.declared.search.Candidate.TheVariants.{Nothing, Stray, Frame}
+use Rattle.bufr_frame.specs.declared.finder.Candidate.{Candidate}
+use Rattle.bufr_frame.specs.declared.finder.Candidate.TheVariants.{Nothing, Stray, Frame}
 use Rattle.bufr_frame.specs.declared.fault.Cause.TheVariants.{Cut}
 use Rattle.bufr_frame.specs.declared.fault.RunFault.{RunFault}
 use Rattle.bufr_frame.specs.declared.finder.Event.{Event}
@@ -14,7 +14,7 @@ use Rattle.bufr_frame.specs.Scan.{StreamEvent, FrameAt, StrayAt, scan_from, open
 use Rattle.bufr_frame.specs.Longest.{length_here, longest_of, offset_of, first_event}
 use Rattle.bufr_frame.specs.Lookahead.{Advances, NoEventCertain}
 use Rattle.bufr_frame.specs.FinderCalls.{FinderModel, new_finder, ReadsAndPasses, RaisesLongest, HasNoMoreEvents}
-use Rattle.bufr_frame.specs.Next.{ReturnsNextEvent, LeavesFinder, HoldsUnread, events_returned}
+use Rattle.bufr_frame.specs.Next.{ReturnsNextEvent, LeavesFinder, events_returned}
 use Rattle.bufr_frame.proofs.ScanLemmas.{drop-twice, scan_from-nil, scan_from-here, scan_from-nothing, verdict-nothing}
 use Rattle.bufr_frame.proofs.LookLemmas.{take_while-all, taken-bounds, cut-so, length-eight, stated-prefix}
 use Rattle.bufr_frame.proofs.FindingLemmas.{whole-scan}
@@ -24,18 +24,6 @@ pub events-are-open : (s rest : List ℕ) (events : List StreamEvent) (at : ℕ)
 events-are-open s rest events at advances none =
     ap (take_while is_decided) (whole-scan false s rest events at advances) ∙ take_while-all events (scan_from 0 at rest) (advances.decided refl)
     ∙ ap (λ l. events ++ l) none ∙ append-nil events
-
--- what was read from a frame on, or after a stray word, is held
-pub is-held : (left left' : Option (List ℕ)) (reads reads' : ℕ) (old new : FinderModel) (result : Result Event RunFault) → (next : ReturnsNextEvent left left' reads reads' old new result)
-    → HoldsUnread (old.at + length (old.rest ++ next.steps.0)) new result
-is-held left left' reads reads' old new (Ok (event.Frame offset octets)) next =
-    let f = next.steps.1.follows in
-    omega (arith, f.offset, f.within, ap length f.left, length-drop f.passed (old.rest ++ next.steps.0), next.ends)
-is-held left left' reads reads' old new (Ok (event.Stray offset cause)) next =
-    let f = next.steps.1.follows in
-    omega (arith, f.offset, f.within, ap length f.left, length-drop f.passed (old.rest ++ next.steps.0), next.ends)
-is-held left left' reads reads' old new (Ok event.Done) next = tt
-is-held left left' reads reads' old new (Err fault) next = tt
 
 -- the offsets of the events of octets
 abbrev Placed : ℕ → List ℕ → StreamEvent → Type 0

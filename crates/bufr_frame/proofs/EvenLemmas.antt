@@ -3,7 +3,7 @@ use Rattle.std.proofs.Common.{◌≡◌, ◌≢◌, ◌==◌, ℕ, ◌+◌, ◌*
 use Rattle.std.specs.Prelude.{if◌then◌else◌, is_some, codes}
 use Rattle.std.proofs.lemmas.Bool.Decides.{nat_tests}
 use Rattle.bufr_bits.specs.Bits.{bits_of, bits_of_octet}
-use Rattle.bufr_frame.specs.declared.head.Head.{Head}
+use Rattle.bufr_frame.specs.declared.section1.Head.{Head}
 use Rattle.bufr_frame.specs.Layout.{even_size, with_even_length, with_pad_octet, size_from, message_octets, parts_of, section0_octets, section1_octets, section2_octets, section2_size, section3_octets, section4_octets, data_flags}
 use Rattle.bufr_frame.specs.Octets.{octets_of_words}
 use Rattle.bufr_frame.specs.Section1.{first_least}

@@ -7,8 +7,8 @@ use Rattle.std.proofs.lemmas.List.{drop_at, drop-append-le}
 use Rattle.std.proofs.lemmas.Grind.{common_steps}
 use Rattle.std.proofs.KnownBytes.{Consumes-nil, Consumes-trans}
 use Rattle.bufr_frame.specs.declared.fault.RunFault.{RunFault}
-use Rattle.bufr_frame.specs.declared.search.Candidate.{Candidate}
-use Rattle.bufr_frame.specs.declared.search.Candidate.TheVariants.{Nothing, Stray, Frame}
+use Rattle.bufr_frame.specs.declared.finder.Candidate.{Candidate}
+use Rattle.bufr_frame.specs.declared.finder.Candidate.TheVariants.{Nothing, Stray, Frame}
 use Rattle.bufr_frame.specs.Scan.{StreamEvent, FrameAt, scan, scan_from, open_scan, stated_length, stream_event, candidate_len, is_decided}
 use Rattle.bufr_frame.specs.Lookahead.{Advances}
 use Rattle.bufr_frame.specs.Search.{IsNextEvent, IsIncomplete}
@@ -133,15 +133,6 @@ module _ (old s s' : FinderModel) (place len size : ℕ) (here : Candidate) (fou
       subst A (sym is') (subst B (sym takes) (subst C (sym is)
       (subst D (sym (event-is (gone_to (gone_to old place size) k 0) m (old.before ++ take place old.rest) (old.at + place) here refl (omega (arith, found.within, length-drop place old.rest))))
       (subst R (sym (drop-twice k place old.rest)) (found.advances old.at)))))
-
-  pub found-follows : Follows old.at old.rest s'.at s'.rest
-  found-follows =
-      let m = drop place old.rest in
-      let k = candidate_len m here in
-      let A : FinderModel → Type 0 = λ x. Follows old.at old.rest x.at x.rest in
-      let B : ℕ → Type 0 = λ n. Follows old.at old.rest (s.at + n) (drop n s.rest) in
-      let C : FinderModel → Type 0 = λ x. Follows old.at old.rest (x.at + candidate_len x.rest here) (drop (candidate_len x.rest here) x.rest) in
-      subst A (sym is') (subst B (sym takes) (subst C (sym is) (record { passed = place + k; within = found.within; offset = omega arith; left = drop-twice k place old.rest })))
 
 module _ (left mid : Option (List ℕ)) (old s s' : FinderModel) (bs : List ℕ) (step : ReadsAndPasses left mid old s bs []) where
   -- a turn that needs more octets passes those that are no event's

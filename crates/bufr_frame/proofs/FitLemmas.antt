@@ -3,7 +3,7 @@ use Rattle.std.proofs.Common.{◌≡◌, ◌==◌, ℕ, ◌+◌, ◌/◌, ◌%�
 use Rattle.std.specs.Prelude.{nat_le, slice_index, if◌then◌else◌, ◌||◌}
 use Rattle.std.specs.List.{AllByRecursion}
 use Rattle.std.proofs.lemmas.Bool.Decides.{nat_tests}
-use Rattle.bufr_frame.specs.declared.head.Head.{Head}
+use Rattle.bufr_frame.specs.declared.section1.Head.{Head}
 use Rattle.bufr_frame.specs.Layout.{IsFitting, is_writable, fits_3, head_octets}
 use Rattle.bufr_frame.specs.Section1.{Field, Master, Centre, Subcentre, Update, Flags, Category, Subcategory, LocalSubcategory, MasterVersion, LocalVersion, Year, Month, Day, Hour, Minute, Second, Slot, Single, Double, is_for, width, read_slot, most, most_in, slots_of, slots_3, slots_4, is_edition, head_value, slot_value, head_in, slot_octets}
 use Rattle.bufr_frame.specs.Sections.{Sections, sections_of, head_of, edition_of, slots_in}

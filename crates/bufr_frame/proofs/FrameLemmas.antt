@@ -4,8 +4,8 @@ use Rattle.std.specs.Prelude.{slice_index}
 use Rattle.std.specs.List.{AllByRecursion}
 use Rattle.bufr_frame.specs.Layout.{max_octets}
 use Rattle.bufr_frame.specs.Scan.{StreamEvent, FrameAt, StrayAt, scan_from, classify, has_word_at, stated_length, stream_event, candidate_len}
-use Rattle.bufr_frame.specs.declared.search.Candidate.{Candidate}
-use Rattle.bufr_frame.specs.declared.search.Candidate.TheVariants.{Nothing, Stray, Frame}
+use Rattle.bufr_frame.specs.declared.finder.Candidate.{Candidate}
+use Rattle.bufr_frame.specs.declared.finder.Candidate.TheVariants.{Nothing, Stray, Frame}
 use Rattle.bufr_frame.proofs.LookLemmas.{taken-bounds}
 use Rattle.bufr_frame.proofs.ScanLemmas.{verdict-nothing}
 

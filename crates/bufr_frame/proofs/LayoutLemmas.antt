@@ -8,7 +8,7 @@ use Rattle.bufr_frame.specs.Octets.{u24_at, u16_at, words, three_octets, two_oct
 use Rattle.bufr_frame.specs.Section1.{Slot, Field, Flags, Single, Double, slots_of, is_edition, first_least, octets_of_slots, slot_octets, slot_value, head_value, head_in}
 use Rattle.bufr_frame.specs.Sections.{sections_of, section_end, parts, edition_of, has_section2, head_of, Sections, is_long_edition_3, is_padded}
 use Rattle.bufr_frame.specs.Layout.{MessageParts, message_octets, message_size, section0_octets, section1_octets, section2_octets, section2_size, section3_octets, section4_octets, data_flags, sections_from, head_octets, even_size, with_even_length, with_pad_octet, is_writable}
-use Rattle.bufr_frame.specs.declared.head.Head.{Head}
+use Rattle.bufr_frame.specs.declared.section1.Head.{Head}
 use Rattle.bufr_frame.proofs.SectionLemmas.{sections-are}
 
 -- octets write their number

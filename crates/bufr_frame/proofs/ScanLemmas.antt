@@ -7,8 +7,8 @@ use Rattle.std.proofs.lemmas.Grind.{common_steps}
 use Rattle.std.specs.Prelude.{MatchOption, nat_lt, not, ◌≢◌, if◌then◌else◌}
 use Rattle.memchr.specs.Find.{OccursAt, FindsNeedle}
 use Rattle.memchr.proofs.lemmas.MatchLemmas.{OccursAt-from_part, OccursAt-part}
-use Rattle.bufr_frame.specs.declared.search.Candidate.{Candidate}
-use Rattle.bufr_frame.specs.declared.search.Candidate.TheVariants.{Nothing, Stray, Frame}
+use Rattle.bufr_frame.specs.declared.finder.Candidate.{Candidate}
+use Rattle.bufr_frame.specs.declared.finder.Candidate.TheVariants.{Nothing, Stray, Frame}
 use Rattle.bufr_frame.specs.declared.fault.Cause.TheVariants.{Cut, ShortLength, NoEnd}
 use Rattle.bufr_frame.specs.Scan.{scan_from, classify, has_word_at, stated_length, stream_event, candidate_len}
 

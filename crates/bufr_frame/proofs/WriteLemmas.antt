@@ -1,15 +1,10 @@
 -- Octets appended, part by part.
 use Rattle.std.proofs.Common.{◌≡◌, ◌∙◌, ℕ, ◌+◌, ◌*◌, Bool, true, false, List, [], ◌∷◌, ◌++◌, length, ap, sym, refl, Option, Some, None, Ok, Err, append_assoc}
-use Rattle.std.specs.Prelude.{Result, OnOk, is_ok, is_some, option_map, if◌then◌else◌}
+use Rattle.std.specs.Prelude.{Result, OnOk, is_some, option_map}
 use Rattle.bufr_frame.specs.Octets.{three_octets, two_octets, octets_of_words}
 use Rattle.bufr_frame.specs.Layout.{even_size, with_even_length, with_pad_octet, section3_octets}
 use Rattle.bufr_frame.specs.Sections.{is_padded}
 use Rattle.bufr_frame.proofs.LayoutLemmas.{length-evened, length-octets_of_words}
-
--- three parts, the last of which may be refused
-pub three-parts : {X E : Type 0} (r : Result X E) (old a b c one u16_at new : List ℕ) → one ≡ old ++ a → u16_at ≡ one ++ b → new ≡ (if is_ok r then u16_at ++ c else u16_at) → OnOk r (new ≡ old ++ (a ++ (b ++ c)))
-three-parts (Ok x) old a b c one u16_at new p q r = r ∙ ap (λ l. l ++ c) (q ∙ ap (λ l. l ++ b) p ∙ append_assoc old a b) ∙ append_assoc old (a ++ b) c ∙ ap (λ l. old ++ l) (append_assoc a b c)
-three-parts (Err e) old a b c one u16_at new p q r = tt
 
 -- six parts
 pub six-parts : (a b c d e f u v w x y z : List ℕ) → u ≡ a → v ≡ u ++ b → w ≡ v ++ c → x ≡ w ++ d → y ≡ x ++ e → z ≡ y ++ f → z ≡ a ++ (b ++ (c ++ (d ++ (e ++ f))))

@@ -6,8 +6,8 @@ use Rattle.bufr_frame.specs.FinderCalls.{FinderModel, HasNoMoreEvents, StopsFind
 use Rattle.bufr_frame.specs.Input.{InputModel, FillsInput}
 use Rattle.bufr_frame.specs.Longest.{first_event}
 use Rattle.bufr_frame.specs.declared.fault.RunFault.{RunFault}
-use Rattle.bufr_frame.specs.declared.search.Candidate.{Candidate}
-use Rattle.bufr_frame.specs.declared.search.Candidate.TheVariants.{Nothing, Stray, Frame}
+use Rattle.bufr_frame.specs.declared.finder.Candidate.{Candidate}
+use Rattle.bufr_frame.specs.declared.finder.Candidate.TheVariants.{Nothing, Stray, Frame}
 use Rattle.bufr_frame.specs.declared.finder.PassedEvent.{PassedEvent}
 
 -- the event that was passed last

@@ -6,7 +6,7 @@ use Rattle.std.specs.Prelude.{◌≡◌, ℕ, ◌≤◌, ◌+◌, ◌*◌, ◌==
 use Rattle.bufr_frame.specs.Octets.{three_octets, two_octets, octets_of_words}
 use Rattle.bufr_frame.specs.Section1.{Field, is_edition, Centre, Subcentre, Year, LocalSubcategory, Second, slots_of, slots_3, first_least, most_in, slot_octets, head_value}
 use Rattle.bufr_frame.specs.Sections.{Sections, is_padded}
-use Rattle.bufr_frame.specs.declared.head.Head.{Head}
+use Rattle.bufr_frame.specs.declared.section1.Head.{Head}
 
 -- what is written besides the head
 pub record MessageParts : Type 0 where

@@ -1,6 +1,4 @@
 -- The definitions of this crate, a file for each idea.
--- the editions as the type of the code
-pub mod Editions
 -- the meaning of an event of the code
 pub mod Events
 -- the model of a finder, and what a call of it does

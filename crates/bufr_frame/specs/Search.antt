@@ -4,10 +4,10 @@ use Rattle.std.specs.Prelude.{◌≡◌, ◌≢◌, ◌⊎◌, ℕ, ◌+◌, ◌
 use Rattle.bufr_frame.specs.Scan.{scan_from, classify, stream_event, candidate_len, stated_length, has_word_at}
 use Rattle.bufr_frame.specs.Lookahead.{Advances, NoEventCertain}
 use Rattle.bufr_frame.specs.Longest.{length_here}
-use Rattle.bufr_frame.specs.declared.search.Candidate.{Candidate}
-use Rattle.bufr_frame.specs.declared.search.Candidate.TheVariants.{Nothing, Frame}
-use Rattle.bufr_frame.specs.declared.search.SearchResult.{SearchResult}
-use Rattle.bufr_frame.specs.declared.search.SearchResult.TheVariants.{Found, NeedsMore, End}
+use Rattle.bufr_frame.specs.declared.finder.Candidate.{Candidate}
+use Rattle.bufr_frame.specs.declared.finder.Candidate.TheVariants.{Nothing, Frame}
+use Rattle.bufr_frame.specs.declared.finder.SearchResult.{SearchResult}
+use Rattle.bufr_frame.specs.declared.finder.SearchResult.TheVariants.{Found, NeedsMore, End}
 
 -- the octets begin with `BUFR`
 abbrev pub StartsWithBufr : List ℕ → Type 0

@@ -5,7 +5,7 @@
 -- fit.
 use Rattle.std.specs.Prelude.{ℕ, ◌+◌, ◌==◌, ◌||◌, Bool, List, [], ◌∷◌, ◌++◌, slice_index, if◌then◌else◌}
 use Rattle.bufr_frame.specs.Octets.{u16_at, two_octets}
-use Rattle.bufr_frame.specs.declared.head.Head.{Head}
+use Rattle.bufr_frame.specs.declared.section1.Head.{Head}
 
 -- the fields of section 1 after its length
 pub data Field : Type 0 where

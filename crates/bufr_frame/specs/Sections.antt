@@ -3,10 +3,10 @@
 -- Octets count from 0 here: section 1 begins at 8. Three choices of this project: reserved octets
 -- and bits are ignored, bits after the data stay in the payload, and odd sections are read in
 -- edition 3.
-use Rattle.std.specs.Prelude.{◌≡◌, ℕ, ◌+◌, ◌-◌, ◌%◌, ◌==◌, ◌&&◌, ◌||◌, Bool, not, nat_lt, nat_le, List, Option, Some, None, Result, Ok, Err, length, slice_index, slice_range, if◌then◌else◌}
+use Rattle.std.specs.Prelude.{ℕ, ◌+◌, ◌-◌, ◌%◌, ◌==◌, ◌&&◌, ◌||◌, Bool, not, nat_lt, nat_le, List, Option, Some, None, Result, Ok, Err, length, slice_index, slice_range, if◌then◌else◌}
 use Rattle.bufr_frame.specs.Octets.{u24_at, u16_at, words}
 use Rattle.bufr_frame.specs.Section1.{Slot, Flags, slots_of, is_edition, first_least, slot_value, head_in}
-use Rattle.bufr_frame.specs.declared.head.Head.{Head}
+use Rattle.bufr_frame.specs.declared.section1.Head.{Head}
 use Rattle.bufr_frame.specs.declared.fault.SectionFault.{SectionFault}
 use Rattle.bufr_frame.specs.declared.fault.SectionFault.TheVariants.{Edition, SectionShort, SectionPast, SectionsEnd, Edition3Long}
 
@@ -107,9 +107,3 @@ sections_of m = if not (is_edition (edition_of m)) then Err (Edition (edition_of
   p3 ← section_end m 3 7 p2
   p4 ← section_end m 4 4 p3
   parts_if_end_matches m p1 p2 p3 p4
-
--- what a function returns, seen by view, is the definition's value
-abbrev pub ReturnsView : {X Y : Type 0} → (X → Y) → Result X SectionFault → Result Y SectionFault
-    → Type 0
-ReturnsView view (Ok x) stated_length = stated_length ≡ Ok (view x)
-ReturnsView view (Err e) stated_length = stated_length ≡ Err e

@@ -2,7 +2,7 @@
 -- Cited by public contracts.
 use Rattle.std.specs.Prelude.{ℕ, List}
 use Rattle.bufr_frame.specs.Octets.{words}
-use Rattle.bufr_frame.specs.declared.words.Words.{Words}
+use Rattle.bufr_frame.specs.declared.message.Words.{Words}
 
 -- the words that are left
 abbrev pub words_left : Words → List ℕ

@@ -11,7 +11,7 @@ ghost use Rattle.bufr_frame.specs.Plain.{IsPlain, section3_begins, section4_begi
 ghost use Rattle.bufr_frame.specs.Sections.{Sections, edition_of, sections_of};
 ghost use Rattle.bufr_frame.specs.declared.fault.RunFault.{RunFault};
 ghost use Rattle.bufr_frame.specs.declared.finder.Event.{Event};
-ghost use Rattle.bufr_frame.specs.declared.head.Head.{Head};
+ghost use Rattle.bufr_frame.specs.declared.section1.Head.{Head};
 
 /// Law: the events that are certain before the end is known stay the first ones, whatever comes
 /// after.

@@ -7,24 +7,17 @@
 //! `events_of_streams`, `parts_of_messages`, `messages_are_built` and `reads_to_the_end` show each.
 #![tactic(auto)]
 
-mod edition;
-mod ends;
 mod fault;
 mod finder;
-mod head;
 mod input;
 pub mod law;
-mod least;
 mod message;
-mod octets;
-mod search;
-mod words;
+mod section1;
 mod write;
 
 pub use fault::{Cause, RunFault, SectionFault, WriteFault};
 pub use finder::{Event, Finder};
-pub use head::Head;
 pub use input::{InputBuffer, read_to_end};
-pub use message::Message;
-pub use words::Words;
+pub use message::{Message, Words};
+pub use section1::Head;
 pub use write::write_message;

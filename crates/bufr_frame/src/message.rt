@@ -1,16 +1,15 @@
-//! A message divided into its sections.
-ghost use Rattle.std.specs.Prelude.{◌≡◌, ◌≤◌, ◌+◌, length, IsTrue, Some, None, slice_range, if◌then◌else◌};
+//! A message divided into its sections. Numbers have their most significant octet first.
+//! (WMO-No. 306, Volume I.2, FM 94)
+ghost use Rattle.std.specs.Prelude.{◌≡◌, ◌≤◌, ◌+◌, length, IsTrue, Some, None, slice_range, if◌then◌else◌, ◌<◌, ◌*◌, ◌/◌, ◌%◌, ◌^◌, ◌-◌, ℕ, Ok, IfOk};
 ghost use Rattle.std.specs.Option.{option_map};
-ghost use Rattle.bufr_frame.specs.Section1.{first_least, head_in, is_edition, slots_3, slots_4};
-ghost use Rattle.bufr_frame.specs.Sections.{edition_of, head_of, has_section2};
+ghost use Rattle.bufr_frame.specs.Section1.{first_least, head_in, is_edition, slots_3, slots_4, Flags, slot_value};
+ghost use Rattle.bufr_frame.specs.Sections.{edition_of, head_of, has_section2, slots_in, section_end, sections_of, parts, is_long_edition_3};
+ghost use Rattle.bufr_frame.specs.Octets.{u16_at, u24_at, three_octets};
 
-use crate::edition::Edition;
-use crate::ends::{Ends, ends_of, has_second};
 use crate::fault::SectionFault;
-use crate::head::Head;
-use crate::least::{SECTION_0, SECTION_2, SECTION_3, SECTION_4, section_1};
-use crate::octets::two_at;
-use crate::words::Words;
+use crate::section1::{
+    Head, SECTION_0, SECTION_2, SECTION_3, SECTION_4, SECTION_5, is_padded, section_1,
+};
 use bufr_bits::BitSlice;
 use std::marker::Model;
 
@@ -118,21 +117,16 @@ fn head_4(m: &[u8]) -> Head
 /// The values of octet 8 of section 0 and of section 1 after its length.
 // rule: odd-values-kept
 fn head_at(m: &[u8]) -> Head
-    requires known { IsTrue (is_edition (edition_of m.now)) }
     requires long { 8 ≤ length m.now }
     requires first { 8 + first_least (edition_of m.now) ≤ length m.now }
     ensures { result ≡ head_of m.now }
 {
-    match Edition::of(m[7]) {
-        Edition::Third => head_3(m),
-        Edition::Fourth => head_4(m),
-    }
+    if m[7] == 3 { head_3(m) } else { head_4(m) }
 }
 
 /// The octets of section 2 from its octet 5 on, where there is a section 2.
 // rule: section-2
 fn section2_of(m: &[u8], first: usize, second: usize) -> Option<&[u8]>
-    requires known { IsTrue (is_edition (edition_of m.now)) }
     requires long { 18 ≤ length m.now }
     requires within { second ≤ length m.now }
     requires section2 { IsTrue (has_section2 m.now) → first + 4 ≤ second }
@@ -165,35 +159,39 @@ impl<'a> Message<'a> {
     /// or 4. [`SectionFault::SectionsEnd`] where section 4 does not end at the last four octets.
     /// [`SectionFault::Edition3Long`] where section 3 or 4 of edition 3 has an odd number of octets
     /// and the message has more than 16,777,213.
+    // rule: edition-first, sections-in-order, section-4-end, local-use, section-3, section-4
+    // rule: reserved-ignored
+    #[tactic(auto, unfolding(crate::specs::Sections::sections_of))]
     pub fn parse(octets: &'a [u8]) -> Result<Message<'a>, SectionFault>
         requires { 12 ≤ length octets.now }
         ensures { result ≡ sections_of octets.now }
     {
-        let ends = ends_of(octets)?;
-        Ok(Message::between(octets, ends))
-    }
-
-    /// The message with these ends of its sections.
-    // rule: local-use, section-3, section-4, reserved-ignored
-    fn between(octets: &'a [u8], ends: Ends) -> Message<'a>
-        requires known { IsTrue (is_edition (edition_of octets.now)) }
-        requires within { ends.fourth ≤ length octets.now }
-        requires first { 8 + first_least (edition_of octets.now) ≤ ends.first }
-        requires section2 { IsTrue (has_section2 octets.now) → ends.first + 4 ≤ ends.second }
-        ensures { result ≡ parts octets.now ends.first ends.second ends.third ends.fourth }
-    {
-        let flags = octets[ends.second + 6];
-        Message {
+        let edition = octets[7];
+        if edition != 3 && edition != 4 {
+            return Err(SectionFault::Edition(edition));
+        }
+        let first = section_end_at(octets, 1, section_1(edition), SECTION_0)?;
+        let second = second_end(octets, first)?;
+        let third = section_end_at(octets, 3, SECTION_3, second)?;
+        let fourth = section_end_at(octets, 4, SECTION_4, third)?;
+        if fourth != octets.len() - SECTION_5 {
+            return Err(SectionFault::SectionsEnd);
+        }
+        if is_long(octets, second, third, fourth) {
+            return Err(SectionFault::Edition3Long);
+        }
+        let flags = octets[second + 6];
+        Ok(Message {
             octets,
             head: head_at(octets),
-            local1: &octets[SECTION_0 + section_1(octets[7])..ends.first],
-            section2: section2_of(octets, ends.first, ends.second),
-            descriptors: &octets[ends.second + SECTION_3..ends.third],
-            subsets: two_at(octets, ends.second + 4),
+            local1: &octets[SECTION_0 + section_1(edition)..first],
+            section2: section2_of(octets, first, second),
+            descriptors: &octets[second + SECTION_3..third],
+            subsets: two_at(octets, second + 4),
             observed: flags >= 128,
             compressed: flags % 128 >= 64,
-            payload: &octets[ends.third + SECTION_4..ends.fourth],
-        }
+            payload: &octets[third + SECTION_4..fourth],
+        })
     }
 
     /// The edition and the values of section 1.
@@ -270,4 +268,175 @@ impl<'a> Message<'a> {
     {
         self.octets.len() as u64
     }
+}
+
+/// The number that two octets write.
+pub(crate) fn word_of(high: u8, low: u8) -> u16
+    ensures { result ≡ 256 * high + low }
+{
+    256 * u16::from(high) + u16::from(low)
+}
+
+/// The number that the two octets from `p` write.
+pub(crate) fn two_at(m: &[u8], p: usize) -> u16
+    requires { p + 2 ≤ length m.now }
+    ensures { result ≡ u16_at m.now p }
+{
+    word_of(m[p], m[p + 1])
+}
+
+/// The number that the three octets from `p` write.
+pub(crate) fn u24_from(m: &[u8], p: usize) -> usize
+    requires { p + 3 ≤ length m.now }
+    ensures value { result ≡ u24_at m.now p }
+    ensures most { result < 2 ^ 24 }
+{
+    65536 * (m[p] as usize) + 256 * (m[p + 1] as usize) + m[p + 2] as usize
+}
+
+/// The first of the two octets that write a number.
+pub(crate) fn high(word: u16) -> u8
+    ensures { result ≡ word / 256 }
+{
+    (word / 256) as u8
+}
+
+/// The second of the two octets that write a number.
+pub(crate) fn low(word: u16) -> u8
+    ensures { result ≡ word % 256 }
+{
+    (word % 256) as u8
+}
+
+/// The three octets that write a number.
+pub(crate) fn three_octets_of(n: usize) -> [u8; 3]
+    requires { n < 2 ^ 24 }
+    ensures { result ≡ three_octets n }
+{
+    [(n / 65536) as u8, (n / 256 % 256) as u8, (n % 256) as u8]
+}
+
+/// An iterator over the words of two octets each, most significant octet first. An octet left over
+/// at the end is ignored.
+#[derive(Debug, Drop)]
+pub struct Words<'a> {
+    octets: &'a [u8],
+}
+
+impl<'a> Words<'a> {
+    ghost use Rattle.std.specs.Prelude.{◌≡◌, ◌↔◌, [], length, IsTrue};
+    ghost use Rattle.bufr_frame.specs.Octets.{words};
+    ghost use Rattle.bufr_frame.specs.Words.{words_left};
+
+    /// The words of `octets`.
+    pub(crate) fn new(octets: &'a [u8]) -> Words<'a>
+        ensures { words_left result ≡ words octets.now }
+    {
+        Words { octets }
+    }
+
+    /// How many words are left.
+    pub fn len(&self) -> usize
+        ensures { result ≡ length (words_left self.now) }
+    {
+        self.octets.len() / 2
+    }
+
+    /// Whether no word is left.
+    pub fn is_empty(&self) -> bool
+        ensures { IsTrue result ↔ (words_left self.now ≡ []) }
+    {
+        self.octets.len() < 2
+    }
+}
+
+impl<'a> Iterator for Words<'a> {
+    ghost use Rattle.std.specs.Iterator.{YieldsFirst, item_count};
+    ghost use Rattle.bufr_frame.specs.Words.{words_left};
+
+    type Item = u16;
+
+    ghost next_gives = { YieldsFirst words_left };
+
+    ghost remaining = { item_count words_left };
+
+    // rule: descriptors-of-section-3
+    fn next(&mut self) -> Option<u16> {
+        match self.octets {
+            [first, second, rest @ ..] => {
+                let word = word_of(*first, *second);
+                self.octets = rest;
+                Some(word)
+            }
+            _ => None,
+        }
+    }
+}
+
+/// The end of section `k`, which begins at `p` and has at least `least` octets.
+#[tactic(auto, unfolding(crate::specs::Sections::section_end))]
+// rule: odd-sections-read, length-past-end, length-under-least, section-past-end
+fn section_end_at(m: &[u8], k: u8, least: usize, p: usize) -> Result<usize, SectionFault>
+    requires long { 12 ≤ length m.now }
+    requires near { p < 2 ^ 33 }
+    ensures value { result ≡ section_end m.now k least p }
+    ensures end { IfOk result (λ q. q ≤ length m.now - 4) }
+    ensures least { IfOk result (λ q. p + least ≤ q) }
+    ensures most { IfOk result (λ q. q < p + 2 ^ 24) }
+{
+    let end = m.len() - SECTION_5;
+    if end < p + 3 {
+        return Err(SectionFault::SectionPast(k));
+    }
+    let len = u24_from(m, p);
+    if len < least {
+        return Err(SectionFault::SectionShort(k));
+    }
+    if end < p + len {
+        return Err(SectionFault::SectionPast(k));
+    }
+    Ok(p + len)
+}
+
+/// Whether there is a section 2.
+// rule: section-2-flag
+fn has_second(m: &[u8]) -> bool
+    requires { 18 ≤ length m.now }
+    ensures { result ≡ has_section2 m.now }
+{
+    let flags = if m[7] == 3 { m[15] } else { m[17] };
+    flags >= 128
+}
+
+/// The end of section 2, or of section 1 where there is no section 2.
+fn second_end(m: &[u8], first: usize) -> Result<usize, SectionFault>
+    requires long { 18 ≤ length m.now }
+    requires near { first < 2 ^ 31 }
+    ensures value { result ≡ (if has_section2 m.now
+        then section_end m.now 2 4 first else Ok first) }
+    ensures end { first ≤ length m.now - 4 → IfOk result (λ q. q ≤ length m.now - 4) }
+    ensures least { IfOk result (λ q. first ≤ q) }
+    ensures section2 { IsTrue (has_section2 m.now) → IfOk result (λ q. first + 4 ≤ q) }
+    ensures most { IfOk result (λ q. q < 2 ^ 32) }
+{
+    if has_second(m) {
+        section_end_at(m, 2, SECTION_2, first)
+    } else {
+        Ok(first)
+    }
+}
+
+/// The most octets of a message of edition 3 with an odd section 3 or 4. With two zero octets more,
+/// three octets can still state its length.
+const MOST_ODD: usize = 16_777_213;
+
+/// Whether a message with these ends of sections is too long for its sections 3 and 4 to be padded.
+// rule: edition-3-length
+fn is_long(m: &[u8], second: usize, third: usize, fourth: usize) -> bool
+    requires long { 8 ≤ length m.now }
+    requires third { second ≤ third }
+    requires fourth { third ≤ fourth }
+    ensures { result ≡ is_long_edition_3 m.now second third fourth }
+{
+    m.len() > MOST_ODD && (is_padded(m[7], third - second) || is_padded(m[7], fourth - third))
 }

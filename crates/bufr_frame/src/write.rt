@@ -6,13 +6,11 @@ ghost use Rattle.bufr_frame.specs.Sections.{sections_of};
 ghost use Rattle.bufr_frame.specs.Layout.{data_flags, even_size, with_even_length, is_writable, message_octets, message_size, max_octets, with_pad_octet, parts_of, sections_from, head_octets, section0_octets, section1_octets, section2_octets, section3_octets, section4_octets, section2_size, size_from};
 ghost use Rattle.bufr_frame.specs.Section1.{first_least, is_edition, slot_octets, head_value, slots_3, slots_4};
 
-use crate::edition::Edition;
 use crate::fault::WriteFault;
-use crate::head::Head;
-use crate::least::{
-    SECTION_0, SECTION_2, SECTION_3, SECTION_4, SECTION_5, even_len, is_padded, section_1,
+use crate::message::{high, low, three_octets_of};
+use crate::section1::{
+    Head, SECTION_0, SECTION_2, SECTION_3, SECTION_4, SECTION_5, even_len, is_padded, section_1,
 };
-use crate::octets::{high, low, three_octets_of};
 use std::alloc::{AllocError, Global};
 
 /// The most octets that a message has, since three octets state its length.
@@ -27,7 +25,6 @@ fn size_of(
     descriptors: &[u16],
     payload: &[u8],
 ) -> Option<usize>
-    requires { IsTrue (is_edition edition) }
     ensures { SomeIff result (size_from edition (length local1.now) (option_map (λ s. s.now)
         section2.entry) (length descriptors.now) (length payload.now) ≤ max_octets)
         (size_from edition (length local1.now) (option_map (λ s. s.now) section2.entry)
@@ -114,9 +111,10 @@ fn push_head(octets: &mut Vec<u8>, head: &Head, optional: bool) -> Result<(), Al
     requires { IsTrue (is_writable head.now) }
     ensures { OnOk result (octets.new.items ≡ octets.old.items ++ head_octets head.now optional) }
 {
-    match Edition::of(head.edition) {
-        Edition::Third => octets.extend_from_slice(&head_octets_3(head, optional)),
-        Edition::Fourth => octets.extend_from_slice(&head_octets_4(head, optional)),
+    if head.edition == 3 {
+        octets.extend_from_slice(&head_octets_3(head, optional))
+    } else {
+        octets.extend_from_slice(&head_octets_4(head, optional))
     }
 }
 
@@ -194,8 +192,7 @@ fn push_section3(
     subsets: u16,
     flags: u8,
 ) -> Result<(), AllocError>
-    requires known { IsTrue (is_edition edition) }
-    requires short { even_size edition (7 + 2 * length descriptors.now) < 2 ^ 24 }
+    requires { even_size edition (7 + 2 * length descriptors.now) < 2 ^ 24 }
     ensures { OnOk result (octets.new.items ≡ octets.old.items
         ++ section3_octets (with_even_length edition 7 (octets_of_words descriptors.now)) subsets
         flags) }
@@ -210,8 +207,7 @@ fn push_section3(
 /// Appends section 4.
 // rule: section-4
 fn push_section4(octets: &mut Vec<u8>, edition: u8, payload: &[u8]) -> Result<(), AllocError>
-    requires known { IsTrue (is_edition edition) }
-    requires short { even_size edition (4 + length payload.now) < 2 ^ 24 }
+    requires { even_size edition (4 + length payload.now) < 2 ^ 24 }
     ensures { OnOk result
         (octets.new.items ≡ octets.old.items
         ++ section4_octets (with_even_length edition 4 payload.now)) }

@@ -1,7 +1,7 @@
 -- What an answer that is kept says.
 use Rattle.std.proofs.Common.{◌≡◌, ℕ, Bool, List, [], Result, Ok, Err, IfOk, refl}
-use Rattle.bufr_tables.specs.declared.template.fault.TemplateFault.{TemplateFault}
-use Rattle.bufr_tables.specs.declared.template.fault.TemplateFault.TheVariants as fault
+use Rattle.bufr_tables.specs.declared.fault.TemplateFault.{TemplateFault}
+use Rattle.bufr_tables.specs.declared.fault.TemplateFault.TheVariants as fault
 use Rattle.bufr_tables.specs.Expansion.{Tables, level, tree_of}
 use Rattle.bufr_tables.specs.Leaves.{ListsLeaves, leaves}
 use Rattle.bufr_tables.specs.Templates.{IsAnswer}

@@ -132,12 +132,3 @@ module _ (X Y : Type 0) (f : X → Y) (p : Y → Bool) (k : X → ℕ) (key : �
       by true o e found more = rw (← same_Some _ _ found) refl
       by false None e found more = cc found
       by false (Some at) e found more = rw (← same_Some _ _ found) (more at d e)
-
--- what a search finds passes its test
-pub find-passes : (Y : Type 0) (p : Y → Bool) (ys : List Y) (y : Y) → find p ys ≡ Some y → p y ≡ true
-find-passes Y p [] y found = cc found
-find-passes Y p (z ∷ ys) y found = by (p z) refl found (find-passes Y p ys y)
-  where
-    by : (b : Bool) → p z ≡ b → cond b (Some z) (find p ys) ≡ Some y → (find p ys ≡ Some y → p y ≡ true) → p y ≡ true
-    by true e found more = rw (← same_Some _ _ found) e
-    by false e found more = more found

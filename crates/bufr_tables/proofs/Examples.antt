@@ -13,7 +13,7 @@ use Rattle.bufr_tables.specs.Table.{table_from, table_of}
 use Rattle.bufr_tables.specs.TableB as b
 use Rattle.bufr_tables.specs.TableD as d
 use Rattle.bufr_tables.specs.declared.fault.TableFault.TheVariants.{Header, Row, Duplicate, TableSize, Csv}
-use Rattle.bufr_tables.specs.declared.kind.Kind.TheVariants.{Character, Coded, Numeric}
+use Rattle.bufr_tables.specs.declared.table_b.Kind.TheVariants.{Character, Coded, Numeric}
 
 -- what the examples compute through
 unfoldable on_literals : ⊤

@@ -1,6 +1,6 @@
 -- The steps of the expansion.
 use Rattle.std.proofs.Common.{◌≡◌, ℕ, zero, suc, ◌+◌, ◌-◌, ◌<◌, Bool, false, List, [], ◌∷◌, drop, Option, Some, None, Result, Ok, Err, refl, sym, ◌∙◌, ap, arith, sub-one}
-use Rattle.bufr_tables.specs.declared.template.fault.TemplateFault.{TemplateFault}
+use Rattle.bufr_tables.specs.declared.fault.TemplateFault.{TemplateFault}
 use Rattle.bufr_tables.specs.Operators.{gives_width}
 use Rattle.bufr_tables.specs.Tree.{Tree, bare, join, size}
 use Rattle.bufr_tables.specs.Expansion.{Tables, Expansion, part, ◌>>=◌, part_of, level, inner_of}

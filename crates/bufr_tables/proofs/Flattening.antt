@@ -1,7 +1,7 @@
 -- Cells are read back as the tree that they hold.
 use Rattle.std.proofs.Common.{◌≡◌, ℕ, ◌+◌, List, [], ◌∷◌, ◌++◌, length, refl, sym, ◌∙◌, ap, subst, append_assoc, arith}
-use Rattle.bufr_tables.specs.declared.template.cell.Cell.{Cell}
-use Rattle.bufr_tables.specs.declared.template.cell.Cell.TheVariants as cell
+use Rattle.bufr_tables.specs.declared.template.Cell.{Cell}
+use Rattle.bufr_tables.specs.declared.template.Cell.TheVariants as cell
 use Rattle.bufr_tables.specs.Tree.{Tree, bare, element, operator, fixed, delayed, join, size, places}
 use Rattle.bufr_tables.specs.TreeCode.{first_tree}
 use Rattle.bufr_tables.specs.Cells.{cells_of, factor_first, prepend_cell, read_cells, trees_of_cells, AreCellsOf, IsTemplate}

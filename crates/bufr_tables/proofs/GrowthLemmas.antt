@@ -2,10 +2,10 @@
 use Rattle.std.proofs.Common.{◌≡◌, ℕ, ◌+◌, ◌≤◌, max, Bool, true, false, ◌||◌, List, [], ◌∷◌, ◌++◌, length, set, refl, sym, ◌∙◌, ap, arith, append_assoc}
 use Rattle.std.proofs.lemmas.List.{append-nil, length-append}
 use Rattle.std.proofs.Math.Seq.{set-append_seam}
-use Rattle.bufr_tables.specs.declared.template.cell.Cell.{Cell}
-use Rattle.bufr_tables.specs.declared.template.cell.Cell.TheVariants as cell
-use Rattle.bufr_tables.specs.declared.template.expand.Passes.{Passes}
-use Rattle.bufr_tables.specs.declared.template.expand.Passes.TheVariants as passes
+use Rattle.bufr_tables.specs.declared.template.Cell.{Cell}
+use Rattle.bufr_tables.specs.declared.template.Cell.TheVariants as cell
+use Rattle.bufr_tables.specs.declared.expand.Passes.{Passes}
+use Rattle.bufr_tables.specs.declared.expand.Passes.TheVariants as passes
 use Rattle.bufr_tables.specs.Tree.{Tree, bare, join, size, depth, consumes}
 use Rattle.bufr_tables.specs.Cells.{cells_of}
 use Rattle.bufr_tables.specs.Passes.{own_places, group_of, first_cell, factor_cells}

@@ -3,8 +3,8 @@ use Rattle.std.proofs.Common.{◌≡◌, ℕ, zero, suc, ◌+◌, ◌≤◌, ◌
 use Rattle.std.proofs.lemmas.Bool.{eqb-true}
 use Rattle.std.proofs.lemmas.List.{append-nil, take-append-drop}
 use Rattle.std.specs.Prelude.{nat_le, nat_lt, ok_or}
-use Rattle.bufr_tables.specs.declared.template.fault.TemplateFault.{TemplateFault}
-use Rattle.bufr_tables.specs.declared.template.fault.TemplateFault.TheVariants as fault
+use Rattle.bufr_tables.specs.declared.fault.TemplateFault.{TemplateFault}
+use Rattle.bufr_tables.specs.declared.fault.TemplateFault.TheVariants as fault
 use Rattle.bufr_tables.specs.Fxy.{f_of, x_of, y_of}
 use Rattle.bufr_tables.specs.Operators.{is_legal_operator, gives_width}
 use Rattle.bufr_tables.specs.Tree.{Tree, bare, element, operator, fixed, delayed, join, size, consumes}

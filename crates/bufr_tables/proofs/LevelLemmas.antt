@@ -1,6 +1,6 @@
 -- How far the expansion of one list has come.
 use Rattle.std.proofs.Common.{◌≡◌, ℕ, ◌+◌, ◌≤◌, Bool, false, List, [], ◌∷◌, length, drop, Option, Ok, refl, sym, ◌∙◌, ap, arith}
-use Rattle.bufr_tables.specs.declared.template.fault.TemplateFault.{TemplateFault}
+use Rattle.bufr_tables.specs.declared.fault.TemplateFault.{TemplateFault}
 use Rattle.bufr_tables.specs.Operators.{gives_width}
 use Rattle.bufr_tables.specs.Tree.{Tree, bare, join, size}
 use Rattle.bufr_tables.specs.Expansion.{Tables, Expansion, part_of, level}

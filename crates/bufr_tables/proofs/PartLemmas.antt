@@ -2,12 +2,12 @@
 use Rattle.std.proofs.Common.{◌≡◌, ◌≢◌, ℕ, zero, suc, ◌+◌, ◌-◌, ◌<◌, ◌≤◌, Bool, true, false, List, length, take, Option, Some, Result, Ok, Err, refl, sym, ◌∙◌, ap, subst}
 use Rattle.std.proofs.lemmas.Bool.{le-leb}
 use Rattle.std.specs.Prelude.{ok_or}
-use Rattle.bufr_tables.specs.declared.template.fault.TemplateFault.{TemplateFault}
-use Rattle.bufr_tables.specs.declared.template.fault.TemplateFault.TheVariants as fault
+use Rattle.bufr_tables.specs.declared.fault.TemplateFault.{TemplateFault}
+use Rattle.bufr_tables.specs.declared.fault.TemplateFault.TheVariants as fault
 use Rattle.bufr_tables.specs.Fxy.{f_of, x_of}
 use Rattle.bufr_tables.specs.Tree.{Tree, consumes}
 use Rattle.bufr_tables.specs.Expansion.{Tables, Expansion, ExpandedPart, part, ◌>>=◌, unless, opened, with_places, body_of, sequence_part, element_part, group_part, operator_part, part_by, part_of, level, inner_of}
-use Rattle.bufr_tables.specs.declared.template.expand.Passes.{Passes}
+use Rattle.bufr_tables.specs.declared.expand.Passes.{Passes}
 use Rattle.bufr_tables.specs.Passes.{own_places, group_of}
 use Rattle.bufr_tables.specs.Growth.{BuilderModel, places_so_far, push_tree, with_closed_group, PushesTree, PushesPart, IsFaultOrMemory, PushesTreeUnlessMemory, GivesPart, GivesGrowth, OpensGroup}
 use Rattle.bufr_tables.proofs.GrowthLemmas.{places_of-begun, ended-begun}

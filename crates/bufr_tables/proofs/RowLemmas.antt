@@ -1,15 +1,14 @@
 -- The limits of each row of Table B.
-use Rattle.std.proofs.Common.{◌≡◌, ℕ, nat_eq, Bool, true, false, ℤ, List, [], ◌∷◌, ◌++◌, sym, subst, refl, Some, None, Option}
-use Rattle.std.specs.Prelude.{IfSome, if◌then◌else◌, option_map}
+use Rattle.std.proofs.Common.{◌≡◌, ℕ, nat_eq, Bool, true, false, ℤ, List, [], ◌∷◌, ◌++◌, subst, refl, Some}
+use Rattle.std.specs.Prelude.{if◌then◌else◌}
 use Rattle.std.specs.List.{AllByRecursion}
 use Rattle.std.proofs.lemmas.Option.{option_and_then_some}
 use Rattle.bufr_tables.specs.Kind.{kind_of}
 use Rattle.bufr_tables.specs.Number.{i64_of}
 use Rattle.bufr_tables.specs.Records.{Record, field_of}
 use Rattle.bufr_tables.specs.Steps.{only_if}
-use Rattle.bufr_tables.specs.declared.kind.Kind.{Kind}
-use Rattle.bufr_tables.specs.declared.table_b.ParsedRow.{ParsedRow}
-use Rattle.bufr_tables.specs.Kept.{ExtendsBlock, row_parsed, rows_kept}
+use Rattle.bufr_tables.specs.declared.table_b.Kind.{Kind}
+use Rattle.bufr_tables.specs.Kept.{ExtendsBlock, rows_kept}
 use Rattle.bufr_tables.specs.RowKept.{IsRowKept}
 use Rattle.bufr_tables.specs.declared.table_b.Stored.{Stored}
 use Rattle.bufr_tables.proofs.KeptLemmas.{rows_kept-append}
@@ -54,10 +53,6 @@ row-limits r row is =
       width = width-allowed (kind_of unit) (field_of r 5) width width_is;
       factor = test;
     }))))))))
-
-pub written-limits : (r : Record) (o : Option ParsedRow) → option_map row_parsed o ≡ row_of r → IfSome o (λ row. IsRow (row_parsed row))
-written-limits r None is = tt
-written-limits r (Some row) is = row-limits r (row_parsed row) (sym is)
 
 -- one row more within the limits
 pub rows-push : (rows : List Row) (row : Row) → AllByRecursion IsRow rows → IsRow row → AllByRecursion IsRow (rows ++ row ∷ [])

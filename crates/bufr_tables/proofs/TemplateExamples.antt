@@ -1,9 +1,9 @@
 -- Worked examples of the expansion, computed.
 use Rattle.std.proofs.Common.{◌≡◌, ℕ, Option, zero, suc, ◌+◌, ◌*◌, ◌==◌, ◌||◌, Bool, false, cond, List, [], ◌∷◌, length, Some, None, Result, Ok, Err, refl}
-use Rattle.bufr_tables.specs.declared.template.fault.TemplateFault.{TemplateFault}
-use Rattle.bufr_tables.specs.declared.template.fault.TemplateFault.TheVariants as fault
-use Rattle.bufr_tables.specs.declared.template.cell.Cell.{Cell}
-use Rattle.bufr_tables.specs.declared.template.cell.Cell.TheVariants as cell
+use Rattle.bufr_tables.specs.declared.fault.TemplateFault.{TemplateFault}
+use Rattle.bufr_tables.specs.declared.fault.TemplateFault.TheVariants as fault
+use Rattle.bufr_tables.specs.declared.template.Cell.{Cell}
+use Rattle.bufr_tables.specs.declared.template.Cell.TheVariants as cell
 use Rattle.bufr_tables.specs.Fxy.{f_of, y_of}
 use Rattle.bufr_tables.specs.Cells.{cells_of, trees_of_cells}
 use Rattle.bufr_tables.specs.Tree.{Tree, bare, element, operator, fixed, delayed, places, depth}

@@ -1,8 +1,8 @@
 -- A template flattened to cells, and read back from them (the form is a choice of this project).
 -- Cited by public contracts.
 use Rattle.std.specs.Prelude.{ℕ, ◌+◌, ◌≡◌, ◌≤◌, List, [], ◌∷◌}
-use Rattle.bufr_tables.specs.declared.template.cell.Cell.{Cell}
-use Rattle.bufr_tables.specs.declared.template.cell.Cell.TheVariants as cell
+use Rattle.bufr_tables.specs.declared.template.Cell.{Cell}
+use Rattle.bufr_tables.specs.declared.template.Cell.TheVariants as cell
 use Rattle.bufr_tables.specs.Tree.{Tree, bare, element, operator, fixed, delayed, size, places, depth}
 use Rattle.bufr_tables.specs.TreeCode.{first_tree}
 use Rattle.bufr_tables.specs.Legal.{IsLegal}

@@ -7,8 +7,8 @@ use Rattle.std.specs.Ordering.{int_eq}
 use Rattle.std.specs.Str.{bytes_eq}
 use Rattle.bufr_tables.specs.RowKept.{row_kept}
 use Rattle.bufr_tables.specs.TableB.{Row}
-use Rattle.bufr_tables.specs.contracts.kind.KindEq.TheImpl.Laws as kind_law
-use Rattle.bufr_tables.specs.contracts.kind.KindPartialEq.TheImpl as kind
+use Rattle.bufr_tables.specs.contracts.table_b.KindEq.TheImpl.Laws as kind_law
+use Rattle.bufr_tables.specs.contracts.table_b.KindPartialEq.TheImpl as kind
 use Rattle.bufr_tables.specs.declared.table_b.Entry.{Entry}
 
 -- the row of an entry

@@ -1,9 +1,9 @@
 -- How an expander's tables make it expand.
 -- Cited by private steps only.
 use Rattle.std.specs.Prelude.{ℕ, false, List, Option, Result, Ok}
-use Rattle.bufr_tables.specs.declared.template.expand.Expander.{Expander}
-use Rattle.bufr_tables.specs.declared.template.fault.TemplateFault.{TemplateFault}
-use Rattle.bufr_tables.specs.declared.template.expand.Passes.{Passes}
+use Rattle.bufr_tables.specs.declared.expand.Expander.{Expander}
+use Rattle.bufr_tables.specs.declared.fault.TemplateFault.{TemplateFault}
+use Rattle.bufr_tables.specs.declared.expand.Passes.{Passes}
 use Rattle.bufr_tables.specs.Tree.{Tree}
 use Rattle.bufr_tables.specs.Passes.{own_places, group_of}
 use Rattle.bufr_tables.specs.Expansion.{Tables, Expansion, ◌>>=◌, body_of, inner_of, level}

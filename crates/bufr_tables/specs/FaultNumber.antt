@@ -3,8 +3,8 @@
 use Rattle.std.specs.Prelude.{ℕ}
 use Rattle.bufr_tables.specs.declared.fault.TableFault.{TableFault}
 use Rattle.bufr_tables.specs.declared.fault.TableFault.TheVariants as table
-use Rattle.bufr_tables.specs.declared.template.fault.TemplateFault.{TemplateFault}
-use Rattle.bufr_tables.specs.declared.template.fault.TemplateFault.TheVariants as template
+use Rattle.bufr_tables.specs.declared.fault.TemplateFault.{TemplateFault}
+use Rattle.bufr_tables.specs.declared.fault.TemplateFault.TheVariants as template
 
 -- the number of a fault of a table
 abbrev pub number_of_table_fault : TableFault → ℕ

@@ -1,6 +1,6 @@
 -- What cells in the making mean.
 -- Cited by private steps only.
-use Rattle.bufr_tables.specs.declared.template.expand.TemplateBuilder.{TemplateBuilder}
+use Rattle.bufr_tables.specs.declared.expand.TemplateBuilder.{TemplateBuilder}
 use Rattle.bufr_tables.specs.Growth.{BuilderModel, growth}
 
 abbrev pub builder_model : TemplateBuilder → BuilderModel

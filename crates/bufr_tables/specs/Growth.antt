@@ -1,11 +1,11 @@
 -- Cells in the making: those so far, and what is known of them.
 -- Cited by private steps only.
 use Rattle.std.specs.Prelude.{ℕ, ◌+◌, ◌-◌, ◌≡◌, ◌≢◌, max, Bool, false, ◌||◌, List, [], ◌∷◌, ◌++◌, length, slice_set, Result, Ok, Err}
-use Rattle.bufr_tables.specs.declared.template.cell.Cell.{Cell}
-use Rattle.bufr_tables.specs.declared.template.cell.Cell.TheVariants as cell
-use Rattle.bufr_tables.specs.declared.template.expand.Passes.{Passes}
-use Rattle.bufr_tables.specs.declared.template.fault.TemplateFault.{TemplateFault}
-use Rattle.bufr_tables.specs.declared.template.fault.TemplateFault.TheVariants as fault
+use Rattle.bufr_tables.specs.declared.template.Cell.{Cell}
+use Rattle.bufr_tables.specs.declared.template.Cell.TheVariants as cell
+use Rattle.bufr_tables.specs.declared.expand.Passes.{Passes}
+use Rattle.bufr_tables.specs.declared.fault.TemplateFault.{TemplateFault}
+use Rattle.bufr_tables.specs.declared.fault.TemplateFault.TheVariants as fault
 use Rattle.bufr_tables.specs.Tree.{Tree, depth, consumes}
 use Rattle.bufr_tables.specs.Cells.{cells_of}
 use Rattle.bufr_tables.specs.Passes.{own_places, first_cell, factor_cells}

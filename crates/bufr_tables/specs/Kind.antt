@@ -3,8 +3,8 @@
 -- Cited by public contracts.
 use Rattle.std.specs.Prelude.{ℕ, Bool, if◌then◌else◌, ◌||◌, List, length, take, codes}
 use Rattle.std.specs.Str.{str_eq_ignore_ascii_case}
-use Rattle.bufr_tables.specs.declared.kind.Kind.{Kind}
-use Rattle.bufr_tables.specs.declared.kind.Kind.TheVariants.{Character, Coded, Numeric}
+use Rattle.bufr_tables.specs.declared.table_b.Kind.{Kind}
+use Rattle.bufr_tables.specs.declared.table_b.Kind.TheVariants.{Character, Coded, Numeric}
 
 -- a text is these words
 unfoldable pub is_words : List ℕ → List ℕ → Bool

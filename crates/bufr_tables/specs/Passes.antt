@@ -1,10 +1,10 @@
 -- The two kinds of groups: of a fixed count, and of as many passes as a factor says.
 -- Cited by private steps only.
 use Rattle.std.specs.Prelude.{ℕ, List, [], ◌∷◌}
-use Rattle.bufr_tables.specs.declared.template.cell.Cell.{Cell}
-use Rattle.bufr_tables.specs.declared.template.cell.Cell.TheVariants as cell
-use Rattle.bufr_tables.specs.declared.template.expand.Passes.{Passes}
-use Rattle.bufr_tables.specs.declared.template.expand.Passes.TheVariants as passes
+use Rattle.bufr_tables.specs.declared.template.Cell.{Cell}
+use Rattle.bufr_tables.specs.declared.template.Cell.TheVariants as cell
+use Rattle.bufr_tables.specs.declared.expand.Passes.{Passes}
+use Rattle.bufr_tables.specs.declared.expand.Passes.TheVariants as passes
 use Rattle.bufr_tables.specs.Tree.{Tree, bare, fixed, delayed}
 
 -- the places of a group beside those of its body

@@ -7,8 +7,8 @@ use Rattle.std.specs.List.{IsDistinct, find, list_all}
 use Rattle.std.specs.Int.RustNames.{unsigned_abs}
 use Rattle.bufr_tables.specs.declared.fault.TableFault.{TableFault}
 use Rattle.bufr_tables.specs.declared.fault.TableFault.TheVariants.{Row as RowFault, Duplicate, Csv}
-use Rattle.bufr_tables.specs.declared.kind.Kind.{Kind}
-use Rattle.bufr_tables.specs.declared.kind.Kind.TheVariants.{Character, Coded, Numeric}
+use Rattle.bufr_tables.specs.declared.table_b.Kind.{Kind}
+use Rattle.bufr_tables.specs.declared.table_b.Kind.TheVariants.{Character, Coded, Numeric}
 use Rattle.bufr_tables.specs.Fxy.{f_of, fxy_of, fxy_text, is_factor, y_of}
 use Rattle.bufr_tables.specs.Kind.{kind_of}
 use Rattle.bufr_tables.specs.Number.{i64_of}

@@ -5,8 +5,8 @@ use Rattle.bufr_tables.specs.TableB.{Row}
 use Rattle.bufr_tables.specs.TableD.{Sequence}
 use Rattle.bufr_tables.specs.Tree.{Tree, places}
 use Rattle.bufr_tables.specs.Expansion.{Tables, tree_of}
-use Rattle.bufr_tables.specs.declared.template.fault.TemplateFault.{TemplateFault}
-use Rattle.bufr_tables.specs.declared.template.fault.TemplateFault.TheVariants.{Memory}
+use Rattle.bufr_tables.specs.declared.fault.TemplateFault.{TemplateFault}
+use Rattle.bufr_tables.specs.declared.fault.TemplateFault.TheVariants.{Memory}
 
 -- Table B and Table D, and the list of descriptors that was expanded last by them
 pub record ListByTables : Type 0 where

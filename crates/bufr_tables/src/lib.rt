@@ -10,21 +10,17 @@
 //! `lists_of_descriptors` show it.
 #![tactic(auto)]
 
-mod cycle;
+mod expand;
 mod fault;
 mod fxy;
 mod index;
-mod kind;
 mod rows;
-mod selected_template;
 mod table_b;
 mod table_d;
 mod template;
 
-pub use fault::TableFault;
+pub use fault::{TableFault, TemplateFault};
 pub use fxy::Fxy;
-pub use kind::Kind;
-pub use selected_template::SelectedTemplate;
-pub use table_b::{Entry, TableB};
+pub use table_b::{Entry, Kind, TableB};
 pub use table_d::TableD;
-pub use template::{Cell, Template, TemplateFault};
+pub use template::{Cell, SelectedTemplate, Template};

@@ -1,4 +1,4 @@
-//! Table B, the elements, read from CSV.
+//! Table B, the elements, read from CSV, and what the unit of an element says of its values.
 ghost use Rattle.std.specs.Prelude.{◌≡◌, ◌≢◌, ◌<◌, [], ◌∷◌, ◌++◌, None, length, OnOk, IfErr, IfOk, IfSome, option_map, Ok, Err};
 ghost use Rattle.std.specs.List.{list_all};
 ghost use Rattle.csv.specs.Records.{fields_of};
@@ -8,11 +8,11 @@ ghost use Rattle.bufr_tables.specs.Records.{records_of};
 ghost use Rattle.bufr_tables.specs.RowKept.{IsRowKept};
 ghost use Rattle.bufr_tables.specs.Steps.{ReturnsUnlessMemory};
 ghost use Rattle.bufr_tables.specs.TableB.{AreRows, IsRow, Row, element_of, entry_of, is_valid_factor, factor_width, is_printed, plain_of, row_of, scale_of, table_b_of, width_of, with_record_b};
+ghost use Rattle.bufr_tables.specs.Kind.{begins_with, is_words, kind_of, is_code_table};
 
 use crate::fault::TableFault;
 use crate::fxy::Fxy;
 use crate::index::FxyIndex;
-use crate::kind::Kind;
 use crate::rows::{RecordReader, field, integer};
 use csv::ByteRecord;
 use std::alloc::{AllocError, Global};
@@ -279,6 +279,7 @@ fn is_valid_factor(row: &ParsedRow) -> bool
 }
 
 /// The row that a record writes, where it writes one.
+// rule: fault-41-of-table-b
 #[tactic(auto, unfolding(crate::specs::TableB::row_of))]
 fn parse_row(fields: &ByteRecord) -> Option<ParsedRow<'_>>
     ensures value { option_map row_parsed result ≡ row_of (fields_of fields.now) }
@@ -304,16 +305,6 @@ fn parse_row(fields: &ByteRecord) -> Option<ParsedRow<'_>>
         return None;
     }
     Some(row)
-}
-
-/// For the proof alone: what [`parse_row`] returns is within the limits of a row.
-// rule: fault-41-of-table-b
-fn row(fields: &ByteRecord) -> Option<ParsedRow<'_>>
-    ensures value { option_map row_parsed result ≡ row_of (fields_of fields.now) }
-    ensures element { IfSome result (λ row. row.fxy < 16384) }
-    ensures limits { IfSome result (λ row. IsRow (row_parsed row)) }
-{
-    parse_row(fields)
 }
 
 /// Table B: the elements, by their descriptors.
@@ -416,7 +407,7 @@ impl TableB {
         if fields.len() != 6 {
             return Err(TableFault::Csv);
         }
-        let Some(row) = row(fields) else {
+        let Some(row) = parse_row(fields) else {
             return Err(TableFault::Row(number));
         };
         if self.get(row.fxy).is_some() {
@@ -465,4 +456,61 @@ fn store(octets: &mut Vec<u8>, row: &ParsedRow) -> Result<Stored, AllocError>
         reference: row.reference,
         width: row.width,
     })
+}
+
+/// What the values of an element are, by its unit.
+#[derive(Clone, Copy, Debug, PartialEq, Eq)]
+pub enum Kind {
+    /// Octets of text: the unit is `CCITT IA5`.
+    Character,
+    /// Figures of a code table, a common code table or a flag table.
+    Coded,
+    /// A quantity in the unit.
+    Numeric,
+}
+
+impl Kind {
+    /// The kind of the elements with this unit. ASCII case makes no difference.
+    #[tactic(auto, unfolding(crate::specs::Kind::kind_of))]
+    // rule: kind-by-unit
+    pub(crate) fn of(unit: &[u8]) -> Kind
+        ensures { result ≡ kind_of unit.now }
+    {
+        if eq_ignore_case(unit, b"CCITT IA5") {
+            Kind::Character
+        } else if is_code_table(unit) {
+            Kind::Coded
+        } else {
+            Kind::Numeric
+        }
+    }
+}
+
+/// Whether a unit names a table of figures.
+#[tactic(auto, unfolding(crate::specs::Kind::is_code_table))]
+fn is_code_table(unit: &[u8]) -> bool
+    ensures { result ≡ is_code_table unit.now }
+{
+    starts_with(unit, b"Code table")
+        || starts_with(unit, b"Common code table")
+        || starts_with(unit, b"Flag table")
+}
+
+/// Whether a text is these words, whatever their case.
+#[tactic(auto, unfolding(crate::specs::Kind::is_words))]
+fn eq_ignore_case(text: &[u8], words: &[u8]) -> bool
+    ensures { result ≡ is_words text.now words.now }
+{
+    text.eq_ignore_ascii_case(words)
+}
+
+/// Whether a text begins with these words, whatever their case.
+#[tactic(auto, unfolding(crate::specs::Kind::begins_with, crate::specs::Kind::is_words))]
+fn starts_with(text: &[u8], words: &[u8]) -> bool
+    ensures { result ≡ begins_with text.now words.now }
+{
+    if text.len() < words.len() {
+        return false;
+    }
+    eq_ignore_case(&text[..words.len()], words)
 }

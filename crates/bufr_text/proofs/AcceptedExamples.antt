@@ -4,11 +4,11 @@ use Rattle.std.proofs.Common.{◌≡◌, ◌∙◌, ℕ, zero, suc, ◌<◌, fal
 use Rattle.std.specs.Prelude.{◌&&◌, ◌||◌, ◌-◌, ◌==◌, if◌then◌else◌, nat_lt, not, slice_set}
 use Rattle.std.specs.List.{All, AllByRecursion}
 use Rattle.bufr_bits.specs.Bits.{bits_of, bits_in}
-use Rattle.bufr_tables.specs.declared.kind.Kind.TheVariants as kind
+use Rattle.bufr_tables.specs.declared.table_b.Kind.TheVariants as kind
 use Rattle.bufr_tables.specs.Expansion.{part_of, level, inner_of, tree_of}
 use Rattle.bufr_tables.specs.TableB.{Row}
 use Rattle.bufr_tables.specs.Tree.{element, bare}
-use Rattle.bufr_frame.specs.declared.head.Head.{Head}
+use Rattle.bufr_frame.specs.declared.section1.Head.{Head}
 use Rattle.bufr_frame.specs.declared.fault.SectionFault.TheVariants.{Edition3Long, SectionsEnd}
 use Rattle.bufr_frame.specs.Layout.{max_octets, size_from}
 use Rattle.bufr_frame.specs.Octets.{three_octets, u24_at}

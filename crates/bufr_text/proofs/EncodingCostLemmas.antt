@@ -1,5 +1,5 @@
 -- A walk that writes counts as the definition does.
-use Rattle.std.proofs.Common.{◌≡◌, ◌+◌, ℕ, suc, Bool, List, [], ◌∷◌, ◌++◌, length, length-append, Option, Some, None, Result, Ok, Err, refl, sym, ◌∙◌, ap, subst, arith}
+use Rattle.std.proofs.Common.{◌≡◌, ◌+◌, ℕ, suc, Bool, List, [], ◌∷◌, ◌++◌, length, length-append, Option, Some, None, Result, Ok, Err, refl, sym, ◌∙◌, ap, subst, arith, ◌<◌, get_or, true, false}
 use Rattle.bufr_walk.specs.declared.spec.TurnRefusal.TheVariants as refusal
 use Rattle.bufr_walk.specs.declared.spec.Taken.{Taken}
 use Rattle.bufr_walk.specs.FieldSpec.{FieldSpec}
@@ -9,23 +9,19 @@ use Rattle.bufr_walk.specs.Taking.{TakenField, Takes, course_after}
 use Rattle.bufr_fill.specs.Fault.{FaultAt, at_line, walk_refused}
 use Rattle.bufr_fill.specs.Filling.{WrittenItem, Filler, fill, fill_one, fill_none, filled, with_bits_before}
 use Rattle.bufr_fill.proofs.Filled.{HasFilled}
-use Rattle.bufr_text.specs.Encoding.{RefusedAt, report_of_items}
+use Rattle.bufr_text.specs.Encoding.{RefusedAt, report_of_items, octets_of_bits, message_of, refused_at, too_long}
 use Rattle.bufr_text.specs.EncodingFault.{IsDocumentRefusal, report_of_draft}
-use Rattle.bufr_text.specs.DataWritten.{reported_stop}
+use Rattle.bufr_text.specs.DataWritten.{reported_stop, AreOctetsOf}
 use Rattle.bufr_text.specs.EncodingCost.{counted_one, counted_at, count_filled}
 use Rattle.std.specs.Option.{option_map}
-use Rattle.std.proofs.Common.{◌<◌, get_or}
 use Rattle.bufr_bits.specs.Bits.{padding}
 use Rattle.bufr_walk.specs.Content.{octets_in}
 use Rattle.bufr_fill.specs.Fits.{AreOctets}
 use Rattle.bufr_fill.proofs.FieldBits.{octets_again}
-use Rattle.bufr_text.specs.Encoding.{octets_of_bits, message_of, refused_at, too_long}
-use Rattle.bufr_frame.specs.declared.head.Head.{Head}
+use Rattle.bufr_frame.specs.declared.section1.Head.{Head}
 use Rattle.bufr_frame.specs.Layout.{MessageParts, message_octets, message_size, max_octets}
 use Rattle.std.specs.Prelude.{nat_lt, if◌then◌else◌}
 use Rattle.std.proofs.lemmas.Bool.Decides.{nat_tests}
-use Rattle.std.proofs.Common.{true, false}
-use Rattle.bufr_text.specs.DataWritten.{AreOctetsOf}
 
 module _ {D C E S : Type 0} (filler : Filler D C E) (left : S → List D) (out : S → List Bool) (takes : S → FieldSpec → Taken → S → Type 0)
     (fills : (s : S) (spec : FieldSpec) (t : Taken) (s' : S) → takes s spec t s' → HasFilled filler (left s) (out s) spec t (left s') (out s')) where

@@ -5,7 +5,7 @@ use Rattle.std.specs.List.{AllByRecursion}
 use Rattle.std.specs.Str.{bytes_eq}
 use Rattle.std.proofs.lemmas.Bool.Decides.{nat_tests}
 use Rattle.std.proofs.lemmas.List.{take_at, drop_at}
-use Rattle.bufr_frame.specs.declared.head.Head.{Head}
+use Rattle.bufr_frame.specs.declared.section1.Head.{Head}
 use Rattle.bufr_frame.specs.Layout.{MessageParts, IsFitting, even_size, with_even_length, message_octets, message_size, size_from, max_octets, section0_octets, section1_octets, section2_octets, section3_octets, section4_octets, data_flags, head_octets}
 use Rattle.bufr_frame.specs.Octets.{three_octets, octets_of_words}
 use Rattle.bufr_frame.specs.Scan.{FrameAt, has_word_at, stated_length, classify, stream_event, candidate_len, scan_from}

@@ -3,7 +3,7 @@ use Rattle.std.proofs.Common.{◌≡◌, ◌∙◌, ℕ, ◌+◌, ◌-◌, ◌/�
 use Rattle.std.specs.Prelude.{decimal, is_some, option_map, replicate}
 use Rattle.std.proofs.lemmas.Fmt.{decimal_digit, decimal_step, decimal_nonempty}
 use Rattle.bufr_frame.specs.Sections.{Sections}
-use Rattle.bufr_frame.specs.declared.head.Head.{Head}
+use Rattle.bufr_frame.specs.declared.section1.Head.{Head}
 use Rattle.bufr_text.specs.Lines.{LineModel, Pushes}
 use Rattle.bufr_text.specs.LsLine.{category_texts, counts_texts, ls_line, origin_texts, tables_texts, time_texts}
 use Rattle.bufr_text.specs.Writing.{joined, zero_padded}

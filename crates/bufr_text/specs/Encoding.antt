@@ -2,13 +2,13 @@
 -- Cited by public contracts.
 use Rattle.std.specs.Prelude.{ℕ, ◌+◌, ◌/◌, nat_lt, Bool, true, false, if◌then◌else◌, List, ◌++◌, length, Result, Ok, Err}
 use Rattle.bufr_bits.specs.Bits.{padding}
-use Rattle.bufr_tables.specs.declared.template.fault.TemplateFault.{TemplateFault}
+use Rattle.bufr_tables.specs.declared.fault.TemplateFault.{TemplateFault}
 use Rattle.bufr_tables.specs.Expansion.{tree_of}
 use Rattle.bufr_tables.specs.TableB.{Row}
 use Rattle.bufr_tables.specs.TableD.{Sequence}
 use Rattle.bufr_tables.specs.TemplateTables.{tables_of}
 use Rattle.bufr_tables.specs.Tree.{Tree}
-use Rattle.bufr_frame.specs.declared.head.Head.{Head}
+use Rattle.bufr_frame.specs.declared.section1.Head.{Head}
 use Rattle.bufr_frame.specs.Layout.{MessageParts, parts_of, message_octets, message_size, max_octets}
 use Rattle.bufr_walk.specs.Content.{octets_in}
 use Rattle.bufr_walk.specs.Course.{Course, next_item}

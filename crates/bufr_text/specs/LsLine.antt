@@ -2,7 +2,7 @@
 -- Cited by public contracts.
 use Rattle.std.specs.Prelude.{ℕ, Bool, List, [], ◌∷◌, ◌++◌, codes, decimal, length, is_some}
 use Rattle.bufr_frame.specs.Sections.{Sections}
-use Rattle.bufr_frame.specs.declared.head.Head.{Head}
+use Rattle.bufr_frame.specs.declared.section1.Head.{Head}
 use Rattle.bufr_text.specs.Writing.{joined, zero_padded, flag}
 
 -- where the message is, and where it comes from

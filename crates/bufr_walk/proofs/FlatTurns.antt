@@ -16,8 +16,8 @@ use Rattle.bufr_walk.specs.Turns.{Rest, unroll, passes, turns_of}
 use Rattle.bufr_walk.specs.Course.{next_item}
 use Rattle.bufr_walk.specs.declared.stop.WalkStop.{WalkStop}
 use Rattle.bufr_walk.specs.declared.walking.Frame.{Frame}
-use Rattle.bufr_tables.specs.declared.template.cell.Cell.{Cell}
-use Rattle.bufr_tables.specs.declared.template.cell.Cell.TheVariants as cell
+use Rattle.bufr_tables.specs.declared.template.Cell.{Cell}
+use Rattle.bufr_tables.specs.declared.template.Cell.TheVariants as cell
 use Rattle.bufr_tables.specs.Cells.{cells_of, AreCellsOf}
 use Rattle.bufr_walk.specs.Walked.{Walked}
 use Rattle.bufr_walk.specs.WalkProgress.{course, HasWalked, StopsIn, TakesField}

@@ -9,8 +9,8 @@ use Rattle.bufr_walk.specs.FieldSpec.{FieldSpec}
 use Rattle.bufr_walk.specs.Operators.{OperatorModel}
 use Rattle.bufr_walk.specs.Turns.{Rest, unroll, passes, pass_end}
 use Rattle.bufr_walk.specs.declared.stop.WalkStop.{WalkStop}
-use Rattle.bufr_tables.specs.declared.template.cell.Cell.{Cell}
-use Rattle.bufr_tables.specs.declared.template.cell.Cell.TheVariants as cell
+use Rattle.bufr_tables.specs.declared.template.Cell.{Cell}
+use Rattle.bufr_tables.specs.declared.template.Cell.TheVariants as cell
 use Rattle.bufr_walk.specs.declared.walking.Frame.{Frame}
 use Rattle.bufr_tables.specs.Cells.{cells_of}
 use Rattle.bufr_walk.specs.WalkProgress.{HasWalked, StopsIn}

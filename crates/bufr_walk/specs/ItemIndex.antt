@@ -2,7 +2,7 @@
 -- Cited by private steps only.
 use Rattle.std.specs.Prelude.{ℕ, ◌≡◌, ◌≤◌, ◌<◌, ◌+◌, ◌-◌, ◌*◌, ◌/◌, List, ◌++◌, length, map, get_or, pos, false}
 use Rattle.std.specs.List.{All}
-use Rattle.bufr_tables.specs.declared.kind.Kind.TheVariants as kind
+use Rattle.bufr_tables.specs.declared.table_b.Kind.TheVariants as kind
 use Rattle.bufr_walk.specs.declared.kept.IndexedItem.{IndexedItem}
 use Rattle.bufr_walk.specs.declared.item_index.ItemLocation.{ItemLocation}
 use Rattle.bufr_walk.specs.declared.spec.Role.TheVariants as role

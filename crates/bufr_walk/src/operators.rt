@@ -11,7 +11,7 @@ ghost use Rattle.bufr_walk.specs.Operators.{OperatorModel, Redefined, begin, aft
 ghost use Rattle.bufr_walk.specs.OperatorState.{AreOperands, known_by, operator_model};
 ghost use Rattle.bufr_walk.specs.SpecKey.{IsOperatorKey};
 ghost use Rattle.bufr_walk.specs.declared.operators.OperatorOperands.{OperatorOperands};
-ghost use Rattle.bufr_tables.specs.declared.kind.Kind.TheVariants as kinds;
+ghost use Rattle.bufr_tables.specs.declared.table_b.Kind.TheVariants as kinds;
 
 use crate::fields::Fields;
 use crate::spec::{NumberParts, Role, Spec, Taken, TurnRefusal};

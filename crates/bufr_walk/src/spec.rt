@@ -1,10 +1,10 @@
 //! The specification of one field of the data.
 ghost use Rattle.std.specs.Prelude.{◌≡◌, ◌≤◌, ◌^◌, false, true, unsigned_abs};
 ghost use Rattle.bufr_tables.specs.TableB.{is_character};
-ghost use Rattle.bufr_tables.specs.declared.kind.Kind.TheVariants as kinds;
 ghost use Rattle.bufr_walk.specs.FieldSpec.{HasRole, HasWidth};
 ghost use Rattle.bufr_walk.specs.Rules.{if_valid_width, text_spec};
 ghost use Rattle.bufr_walk.specs.Numbers.{number_field, is_plain_number};
+ghost use Rattle.bufr_tables.specs.declared.table_b.Kind.TheVariants as kinds;
 
 use bufr_tables::{Fxy, Kind};
 use std::marker::Model;
@@ -137,7 +137,7 @@ fn is_plain_number(role: Role, width: u32, reference: i128, listed: bool) -> boo
 impl Spec {
     ghost use Rattle.std.specs.Prelude.{◌≡◌, ◌≤◌, ◌%◌, ◌^◌, true, false, unsigned_abs};
     ghost use Rattle.bufr_tables.specs.TableB.{is_character};
-    ghost use Rattle.bufr_tables.specs.declared.kind.Kind.TheVariants as kinds;
+    ghost use Rattle.bufr_tables.specs.declared.table_b.Kind.TheVariants as kinds;
     ghost use Rattle.bufr_walk.specs.FieldSpec.{HasRole, HasWidth, IsSpec, is_reference};
     ghost use Rattle.bufr_walk.specs.Rules.{if_valid_width, text_spec};
     ghost use Rattle.bufr_walk.specs.Numbers.{number_field, IsPlainNumber};

@@ -2,7 +2,7 @@ use Rattle.std.proofs.Common.{◌∙◌, [], ◌++◌, ap, sym, subst, refl, inl
 use Rattle.std.proofs.lemmas.Result.{err_from_is_err_and}
 use Rattle.bufr_frame.specs.FinderSteps.{passed_events, event_by}
 use Rattle.bufr_frame.specs.FinderCalls.{RaisesLongest}
-use Rattle.bufr_frame.specs.declared.search.Candidate.{Candidate}
+use Rattle.bufr_frame.specs.declared.finder.Candidate.{Candidate}
 use Rattle.bufr_frame.proofs.InputLemmas.{adds-none, adds-then}
 use Rattle.bufr_frame.proofs.AdvanceLemmas.{none-unless, some-none, turn-on, raised-on, stop-raises, waits-open}
 use Rattle.bufr_frame.proofs.LongestLemmas.{found-sees}

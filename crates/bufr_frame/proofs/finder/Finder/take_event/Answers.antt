@@ -1,7 +1,7 @@
 use Rattle.std.proofs.Common.{ℕ, subst, sym}
 use Rattle.bufr_frame.specs.FinderSteps.{event_by}
 use Rattle.bufr_frame.specs.Lookahead.{Advances}
-use Rattle.bufr_frame.proofs.FindingLemmas.{found-step, found-follows}
+use Rattle.bufr_frame.proofs.FindingLemmas.{found-step}
 use Rattle.bufr_frame.proofs.finder.Finder.take_event.Goals as goal
 
 pub returns-clause-advances : goal.returns-clause-advances
@@ -10,7 +10,3 @@ returns-clause-advances c =
     let s' = c.advance_to-2.new.self in
     let O : ℕ → Type 0 = λ o. Advances s'.ended old.at old.rest (event_by s' o c.event_len-len.result c.args.found.here) s'.at s'.rest in
     subst O (sym c.offset-offset.ensures.value) (found-step old c.advance_to.new.self s' c.args.found.place c.event_len-len.result c.args.found.stated_length c.args.found.here c.requires.found c.advance_to.ensures c.event_len-len.ensures c.advance_to-2.ensures)
-
-pub returns-clause-follows : goal.returns-clause-follows
-returns-clause-follows c =
-    found-follows c.args.self.now c.advance_to.new.self c.advance_to-2.new.self c.args.found.place c.event_len-len.result c.args.found.stated_length c.args.found.here c.requires.found c.advance_to.ensures c.event_len-len.ensures c.advance_to-2.ensures

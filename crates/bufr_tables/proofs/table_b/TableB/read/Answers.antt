@@ -37,11 +37,6 @@ returns-in_err-add-clause-read c =
     gives-fault TableB _ _ c.in_err-add.field-0.0 (p.1 ∙ ap Err p.2)
     (λ other. table-fault _ _ _ _ _ step _ c.loop-table.table c.loop-table.invariant.same _ c.if-branch.true (rw (c.number.ensures, c.«record».ensures) at (c.in_err-add.ensures.err other)))
 
-pub returns-in_err-add-clause-rows : goal.returns-in_err-add-clause-rows
-returns-in_err-add-clause-rows c =
-    let p = err_from_is_err_and c.from_residual-in_err-add.result c.from_residual-in_err-add.ensures.1 in
-    rw p.1 tt
-
 pub returns-clause-read : goal.returns-clause-read
 returns-clause-read c = table-end _ _ _ _ _ c.in_ok-advance.ensures.next _ c.loop-table.table c.loop-table.invariant.same c.if-branch.false
 

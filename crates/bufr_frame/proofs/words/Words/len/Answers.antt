@@ -1,6 +1,0 @@
-use Rattle.std.proofs.Common.{sym}
-use Rattle.bufr_frame.proofs.WordLemmas.{length-words}
-use Rattle.bufr_frame.proofs.words.Words.len.Goals as goal
-
-pub returns : goal.returns
-returns c = sym (length-words c.args.self.now.octets.now)

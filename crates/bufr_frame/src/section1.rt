@@ -1,0 +1,91 @@
+//! The values of section 1, and the least octets of each section by edition.
+//! (WMO-No. 306, Volume I.2, FM 94: sections 0 to 5)
+ghost use Rattle.std.specs.Prelude.{◌≡◌, ◌<◌, ◌-◌, ◌^◌, IsTrue};
+ghost use Rattle.bufr_frame.specs.Layout.{even_size};
+ghost use Rattle.bufr_frame.specs.Section1.{first_least, is_edition};
+ghost use Rattle.bufr_frame.specs.Sections.{is_padded};
+
+/// The edition (octet 8 of section 0) and the values of section 1 of a message, unchanged.
+///
+/// Values are not checked against each other: a month of 14 is kept. In edition 3 centre,
+/// sub-centre and year have one octet each. The local sub-category and the second, which it lacks,
+/// are 0. (WMO-No. 306, Volume I.2, FM 94: section 1)
+#[derive(Clone, Copy, Debug, PartialEq, Eq)]
+pub struct Head {
+    /// The edition of FM 94, octet 8 of section 0.
+    pub edition: u8,
+    /// The master table, octet 4.
+    pub master: u8,
+    /// The originating centre, octets 5 and 6; in edition 3 octet 6.
+    pub centre: u16,
+    /// The originating sub-centre, octets 7 and 8; in edition 3 octet 5.
+    pub subcentre: u16,
+    /// The update sequence number, octet 9; in edition 3 octet 7.
+    pub update: u8,
+    /// The data category, octet 11; in edition 3 octet 9.
+    pub category: u8,
+    /// The international data sub-category, octet 12; in edition 3 the data sub-category, octet 10.
+    pub subcategory: u8,
+    /// The local data sub-category, octet 13.
+    pub local_subcategory: u8,
+    /// The version of the master table, octet 14; in edition 3 octet 11.
+    pub master_version: u8,
+    /// The version of the local tables, octet 15; in edition 3 octet 12.
+    pub local_version: u8,
+    /// The year, four digits, octets 16 and 17; in edition 3 the year of the century, octet 13.
+    pub year: u16,
+    /// The month, octet 18; in edition 3 octet 14.
+    pub month: u8,
+    /// The day, octet 19; in edition 3 octet 15.
+    pub day: u8,
+    /// The hour, octet 20; in edition 3 octet 16.
+    pub hour: u8,
+    /// The minute, octet 21; in edition 3 octet 17.
+    pub minute: u8,
+    /// The second, octet 22.
+    pub second: u8,
+}
+
+/// Section 0, which always has this length.
+pub(crate) const SECTION_0: usize = 8;
+
+/// Section 1 of an edition, without octets for local use.
+// rule: length-under-least
+pub(crate) fn section_1(edition: u8) -> usize
+    ensures { result ≡ first_least edition }
+{
+    if edition == 3 { 17 } else { 22 }
+}
+
+/// Section 2, where there is one.
+pub(crate) const SECTION_2: usize = 4;
+
+/// Section 3, without descriptors.
+pub(crate) const SECTION_3: usize = 7;
+
+/// Section 4, without data.
+pub(crate) const SECTION_4: usize = 4;
+
+/// Section 5, which always has this length.
+pub(crate) const SECTION_5: usize = 4;
+
+/// Whether a section 3 or 4 of `len` octets is written with a zero octet more.
+// rule: least-lengths
+pub(crate) fn is_padded(edition: u8, len: usize) -> bool
+    ensures { result ≡ is_padded edition len }
+{
+    edition == 3 && len % 2 == 1
+}
+
+/// The octets of a section 3 or 4 with the zero octet of its padding.
+// rule: least-lengths
+pub(crate) fn even_len(edition: u8, len: usize) -> usize
+    requires { len < 2 ^ 64 - 1 }
+    ensures { result ≡ even_size edition len }
+{
+    if is_padded(edition, len) {
+        len + 1
+    } else {
+        len
+    }
+}

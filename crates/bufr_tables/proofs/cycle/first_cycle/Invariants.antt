@@ -1,5 +1,0 @@
-use Rattle.bufr_tables.specs.Cycle.{IsPassed}
-use Rattle.bufr_tables.proofs.cycle.first_cycle.Given as goal
-
-abbrev pub invariant-loop-place : goal.invariant-loop-place
-invariant-loop-place l = IsPassed l.table l.place

@@ -1,5 +1,0 @@
-use Rattle.bufr_tables.specs.Cycle.{NeverRisesFirst}
-use Rattle.bufr_tables.proofs.cycle.never_rises.Given as goal
-
-abbrev pub invariant-loop-place : goal.invariant-loop-place
-invariant-loop-place l = NeverRisesFirst l.table l.ranks l.place

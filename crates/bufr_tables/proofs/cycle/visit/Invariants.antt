@@ -1,5 +1,0 @@
-use Rattle.bufr_tables.specs.Cycle.{IsVisited}
-use Rattle.bufr_tables.proofs.cycle.visit.Given as goal
-
-abbrev pub invariant-loop-member : goal.invariant-loop-member
-invariant-loop-member l = IsVisited l.table l.fn.sequence l.member-index l.fn.seen l.fn.queue.items l.seen l.queue.items

@@ -1,0 +1,5 @@
+use Rattle.bufr_tables.specs.Cycle.{IsVisited}
+use Rattle.bufr_tables.proofs.table_d.visit.Given as goal
+
+abbrev pub invariant-loop-member : goal.invariant-loop-member
+invariant-loop-member l = IsVisited l.table l.fn.sequence l.member-index l.fn.seen l.fn.queue.items l.seen l.queue.items

@@ -1,0 +1,466 @@
+//! The expansion of descriptors, depth first, from left to right, and the cells that it builds.
+//!
+//! Each descriptor that is looked at takes a place, opens a group or a sequence, or is a fault. A
+//! sequence has a member at least, and at most 32 groups and sequences are open together. So few
+//! descriptors are looked at for each place, and 65,535 places are the most. A hostile list is
+//! refused soon, whatever the tables hold. The recursion ends by `room` alone.
+ghost use Rattle.std.specs.Prelude.{◌≡◌, ◌+◌, ◌<◌, ◌≤◌, ◌++◌, ◌∷◌, [], length, take, drop, Ok, Err, MatchResult, OnOk, OnErr, IfErr, IfOk};
+ghost use Rattle.bufr_tables.specs.Fxy.{x_of};
+ghost use Rattle.bufr_tables.specs.Expansion.{begins_with_element as element_begins, first_of as first_of_list, part_of, element_part, operator_part, group_part, fixed_part, delayed_part, sequence_part, with_places};
+ghost use Rattle.bufr_tables.specs.Growth.{places_so_far, PushesTreeUnlessMemory, GivesPart};
+ghost use Rattle.bufr_tables.specs.Expander.{tables_in, inner_in, list_in, group_in};
+ghost use Rattle.bufr_tables.specs.Passes.{factor_cells, first_cell, own_places};
+
+use crate::fault::TemplateFault;
+use crate::fxy::Fxy;
+use crate::table_b::TableB;
+use crate::table_d::TableD;
+use crate::template::Cell;
+use std::alloc::Global;
+
+/// What expands lists: the two tables, and how many groups and sequences more may be open.
+#[derive(Clone, Copy)]
+pub(crate) struct Expander<'a> {
+    pub(crate) table_b: &'a TableB,
+    pub(crate) table_d: &'a TableD,
+    pub(crate) room: u32,
+}
+
+impl Expander<'_> {
+    ghost use Rattle.std.specs.Prelude.{◌≡◌, ◌≤◌, length, IfOk};
+    ghost use Rattle.bufr_tables.specs.Growing.{builder_model};
+
+    /// Whether Table B knows an element.
+    fn knows(&self, fxy: Fxy) -> bool
+        ensures { result ≡ (tables_in self.now).known fxy }
+    {
+        self.table_b.get(fxy).is_some()
+    }
+
+    /// Expands a list after what has grown.
+    #[cycle(expansion)]
+    pub(crate) fn list(
+        &self,
+        list: &[Fxy],
+        growing: &mut TemplateBuilder,
+    ) -> Result<(), TemplateFault>
+        ensures { PushesTreeUnlessMemory (builder_model growing.old)
+            (list_in self.now (places_so_far (builder_model growing.old)) list.now)
+            result (builder_model growing.new) }
+    {
+        let mut rest = list;
+        let mut width_given = false;
+        while let Some((fxy, after)) = rest.split_first() {
+            let taken = self.part(*fxy, after, width_given, growing)?;
+            width_given = fxy.gives_width();
+            rest = suffix(after, taken);
+        }
+        Ok(())
+    }
+
+    /// Expands one descriptor, and returns how many of those after it it takes.
+    #[cycle(expansion)]
+    // rule: descriptor-kinds
+    fn part(
+        &self,
+        fxy: Fxy,
+        after: &[Fxy],
+        width_given: bool,
+        growing: &mut TemplateBuilder,
+    ) -> Result<usize, TemplateFault>
+        ensures gives { GivesPart (builder_model growing.old)
+            (part_of (tables_in self.now) (inner_in self.now) width_given
+            (places_so_far (builder_model growing.old)) fxy after.now)
+            result (builder_model growing.new) }
+        ensures within { IfOk result (λ taken. taken ≤ length after.now) }
+    {
+        match fxy.f() {
+            0 => self.element(fxy, width_given, growing),
+            1 => self.group(fxy, after, growing),
+            2 => Expander::operator(fxy, after, growing),
+            _ => self.sequence(fxy, growing),
+        }
+    }
+
+    /// An element: known to Table B, or of a width that the operator before it gives.
+    // rule: 2-06-y-unknown-element
+    fn element(
+        &self,
+        fxy: Fxy,
+        width_given: bool,
+        growing: &mut TemplateBuilder,
+    ) -> Result<usize, TemplateFault>
+        ensures gives { GivesPart (builder_model growing.old)
+            (element_part (tables_in self.now) width_given
+            (places_so_far (builder_model growing.old)) fxy)
+            result (builder_model growing.new) }
+        ensures none { IfOk result (λ taken. taken ≡ 0) }
+    {
+        if !width_given && !self.knows(fxy) {
+            return Err(TemplateFault::UnknownElement(fxy));
+        }
+        growing.push_element(fxy)?;
+        Ok(0)
+    }
+
+    /// A replication.
+    #[cycle(expansion)]
+    fn group(
+        &self,
+        fxy: Fxy,
+        after: &[Fxy],
+        growing: &mut TemplateBuilder,
+    ) -> Result<usize, TemplateFault>
+        ensures gives { GivesPart (builder_model growing.old)
+            (group_part (tables_in self.now) (inner_in self.now)
+            (places_so_far (builder_model growing.old)) fxy after.now)
+            result (builder_model growing.new) }
+        ensures within { IfOk result (λ taken. taken ≤ length after.now) }
+    {
+        if fxy.x() == 0 {
+            return Err(TemplateFault::GroupShape(fxy));
+        }
+        if fxy.y() == 0 {
+            self.delayed(fxy, after, growing)
+        } else {
+            self.fixed(fxy, after, growing)
+        }
+    }
+
+    /// A group of Y passes.
+    #[cycle(expansion)]
+    // rule: fixed-replication
+    fn fixed(
+        &self,
+        fxy: Fxy,
+        after: &[Fxy],
+        growing: &mut TemplateBuilder,
+    ) -> Result<usize, TemplateFault>
+        ensures gives { GivesPart (builder_model growing.old)
+            (fixed_part (inner_in self.now) (places_so_far (builder_model growing.old)) fxy
+            after.now)
+            result (builder_model growing.new) }
+        ensures within { IfOk result (λ taken. taken ≤ length after.now) }
+    {
+        let passes = Passes::Fixed(fxy.y());
+        self.group_of(fxy, &passes, after, growing)?;
+        Ok(usize::from(fxy.x()))
+    }
+
+    /// A group of as many passes as its factor says, which comes before the X descriptors.
+    #[cycle(expansion)]
+    // rule: delayed-replication
+    fn delayed(
+        &self,
+        fxy: Fxy,
+        after: &[Fxy],
+        growing: &mut TemplateBuilder,
+    ) -> Result<usize, TemplateFault>
+        ensures gives { GivesPart (builder_model growing.old)
+            (delayed_part (tables_in self.now) (inner_in self.now)
+            (places_so_far (builder_model growing.old)) fxy after.now)
+            result (builder_model growing.new) }
+        ensures within { IfOk result (λ taken. taken ≤ length after.now) }
+    {
+        let Some((factor, after_factor)) = after.split_first() else {
+            return Err(TemplateFault::NoFactor(fxy));
+        };
+        if !factor.is_factor() {
+            return Err(TemplateFault::NoFactor(fxy));
+        }
+        if !self.knows(*factor) {
+            return Err(TemplateFault::UnknownElement(*factor));
+        }
+        let passes = Passes::Delayed(*factor);
+        self.group_of(fxy, &passes, after_factor, growing)?;
+        Ok(1 + usize::from(fxy.x()))
+    }
+
+    /// A group whose body is the next X descriptors; some node of it takes bits.
+    #[cycle(expansion)]
+    // rule: replication-before-expansion, replication-nested, replication-in-one-list
+    // rule: groups-take-bits
+    fn group_of(
+        &self,
+        fxy: Fxy,
+        passes: &Passes,
+        after: &[Fxy],
+        growing: &mut TemplateBuilder,
+    ) -> Result<(), TemplateFault>
+        ensures gives { PushesTreeUnlessMemory (builder_model growing.old)
+            (group_in self.now passes.now (places_so_far (builder_model growing.old)) fxy
+            after.now)
+            result (builder_model growing.new) }
+        ensures taken { IfOk result (λ _. x_of fxy ≤ length after.now) }
+    {
+        let count = usize::from(fxy.x());
+        if after.len() < count {
+            return Err(TemplateFault::GroupShape(fxy));
+        }
+        if self.room == 0 {
+            return Err(TemplateFault::Depth(fxy));
+        }
+        let place = growing.open(fxy, passes)?;
+        let inner = Expander {
+            room: self.room - 1,
+            ..*self
+        };
+        inner.list(before(after, count), growing)?;
+        if !growing.consumes {
+            return Err(TemplateFault::EmptyGroup(fxy));
+        }
+        growing.close(place, passes)
+    }
+
+    /// An operator; one that gives a width comes before an element.
+    // rule: 2-06-y-before-an-element
+    fn operator(
+        fxy: Fxy,
+        after: &[Fxy],
+        growing: &mut TemplateBuilder,
+    ) -> Result<usize, TemplateFault>
+        ensures gives { GivesPart (builder_model growing.old)
+            (operator_part (places_so_far (builder_model growing.old)) fxy after.now)
+            result (builder_model growing.new) }
+        ensures none { IfOk result (λ taken. taken ≡ 0) }
+    {
+        if !fxy.is_legal_operator() {
+            return Err(TemplateFault::Operator(fxy));
+        }
+        if fxy.gives_width() && !begins_with_element(after) {
+            return Err(TemplateFault::LocalShape(fxy));
+        }
+        growing.push_operator(fxy)?;
+        Ok(0)
+    }
+
+    /// A sequence: its members are in its place.
+    #[cycle(expansion)]
+    fn sequence(&self, fxy: Fxy, growing: &mut TemplateBuilder) -> Result<usize, TemplateFault>
+        ensures gives { GivesPart (builder_model growing.old)
+            (sequence_part (tables_in self.now) (inner_in self.now)
+            (places_so_far (builder_model growing.old)) fxy)
+            result (builder_model growing.new) }
+        ensures none { IfOk result (λ taken. taken ≡ 0) }
+    {
+        let Some(members) = self.table_d.members(fxy) else {
+            return Err(TemplateFault::UnknownSequence(fxy));
+        };
+        if self.room == 0 {
+            return Err(TemplateFault::Depth(fxy));
+        }
+        let inner = Expander {
+            room: self.room - 1,
+            ..*self
+        };
+        inner.list(members, growing)?;
+        Ok(0)
+    }
+}
+
+/// The descriptors after the first so many.
+fn suffix(list: &[Fxy], count: usize) -> &[Fxy]
+    requires { count ≤ length list.now }
+    ensures { result.now ≡ drop count list.now }
+{
+    list.split_at(count).1
+}
+
+/// The first so many descriptors.
+fn before(list: &[Fxy], count: usize) -> &[Fxy]
+    requires { count ≤ length list.now }
+    ensures { result.now ≡ take count list.now }
+{
+    list.split_at(count).0
+}
+
+/// The first descriptor, or 000000.
+pub(crate) fn first_of(list: &[Fxy]) -> Fxy
+    ensures { result ≡ first_of_list list.now }
+{
+    list.first().copied().unwrap_or(Fxy::from_word(0))
+}
+
+/// Whether a list begins with an element.
+fn begins_with_element(list: &[Fxy]) -> bool
+    ensures { result ≡ element_begins list.now }
+{
+    list.first().is_some_and(|fxy| fxy.f() == 0)
+}
+
+/// How many passes a group makes.
+#[derive(Clone, Copy)]
+pub(crate) enum Passes {
+    /// So many.
+    Fixed(u8),
+    /// As many as the factor's value in the data.
+    Delayed(Fxy),
+}
+
+impl Passes {
+    /// The places of the group beside those of its body.
+    fn places(&self) -> u32
+        ensures { result ≡ own_places self.now }
+    {
+        match self {
+            Passes::Fixed(_) => 2,
+            Passes::Delayed(_) => 3,
+        }
+    }
+
+    /// The group's first cell, where `after` is the place after its end.
+    fn first_cell(&self, after: u32) -> Cell
+        ensures { result ≡ first_cell self.now after }
+    {
+        match self {
+            Passes::Fixed(count) => Cell::Fixed(*count, after),
+            Passes::Delayed(_) => Cell::Delayed(after),
+        }
+    }
+}
+
+/// The most places that a template may take.
+const MAX_PLACES: u32 = 65_535;
+
+/// The least room for cells that is made at the beginning: most templates fit in it, also those
+/// whose list is one sequence.
+const MIN_ROOM: usize = 128;
+
+/// The cells of a template, as far as its list has been expanded.
+#[derive(Drop)]
+pub(crate) struct TemplateBuilder {
+    /// The cells so far.
+    pub(crate) cells: Vec<Cell>,
+    /// How many groups are open; the end of each is still to come.
+    pub(crate) open_groups: u32,
+    /// The most groups that were open together.
+    pub(crate) depth: u32,
+    /// Whether some node of the innermost open list takes bits of the data.
+    pub(crate) consumes: bool,
+    pub(crate) ghost within: { length cells.items + open_groups < 65535 },
+    pub(crate) ghost around: { open_groups ≤ depth },
+}
+
+/// The fault of the descriptor that asks for so many places more, where they are too many.
+fn check_places(places: u32, more: u32, fxy: Fxy) -> Result<(), TemplateFault>
+    requires within { places ≤ 65535 }
+    requires few { more ≤ 3 }
+    ensures room { IfOk result (λ _. places + more ≤ 65535) }
+    ensures gives { MatchResult result (λ _. with_places places more fxy ≡ Ok tt)
+        (λ why. with_places places more fxy ≡ Err why) }
+{
+    if places + more > MAX_PLACES {
+        return Err(TemplateFault::TemplateSize(fxy));
+    }
+    Ok(())
+}
+
+/// Puts a cell after others.
+pub(crate) fn push_cell(cells: &mut Vec<Cell>, cell: Cell) -> Result<(), TemplateFault>
+    ensures ok { OnOk result (cells.new.items ≡ cells.old.items ++ cell ∷ []) }
+    ensures err { IfErr result (λ why. why ≡ TemplateFault.Memory) }
+    ensures unchanged { OnErr result (cells.new.items ≡ cells.old.items) }
+{
+    cells.push(cell).map_err(|_| TemplateFault::Memory)
+}
+
+/// Puts the cells between a group's first one and its body after others.
+fn push_factor(cells: &mut Vec<Cell>, passes: &Passes) -> Result<(), TemplateFault>
+    ensures ok { OnOk result (cells.new.items ≡ cells.old.items ++ factor_cells passes.now) }
+    ensures err { IfErr result (λ why. why ≡ TemplateFault.Memory) }
+    ensures unchanged { OnErr result (cells.new.items ≡ cells.old.items) }
+{
+    match passes {
+        Passes::Fixed(_) => Ok(()),
+        Passes::Delayed(factor) => push_cell(cells, Cell::Factor(*factor)),
+    }
+}
+
+impl TemplateBuilder {
+    ghost use Rattle.std.specs.Prelude.{◌≡◌, ◌+◌, ◌<◌, ◌≤◌, Ok, [], length, false, IfOk, IfErr};
+    ghost use Rattle.bufr_tables.specs.Tree.{bare, element, operator};
+    ghost use Rattle.bufr_tables.specs.Growth.{growth, places_so_far, with_cell, with_closed_group, GivesGrowth, GivesPlace};
+    ghost use Rattle.bufr_tables.specs.Growing.{builder_model};
+
+    /// No cells yet, with room for those of a list of so many elements and for the end.
+    pub(crate) fn with_room(
+        alloc: Global,
+        elements: usize,
+    ) -> Result<TemplateBuilder, TemplateFault>
+        ensures ok { IfOk result (λ growing. builder_model growing ≡ growth [] 0 0 false) }
+        ensures err { IfErr result (λ why. why ≡ TemplateFault.Memory) }
+    {
+        let room = elements.saturating_add(1).max(MIN_ROOM);
+        let room = room.min(MAX_PLACES as usize);
+        let cells = Vec::with_capacity(alloc, room).map_err(|_| TemplateFault::Memory)?;
+        Ok(TemplateBuilder {
+            cells,
+            open_groups: 0,
+            depth: 0,
+            consumes: false,
+        })
+    }
+
+    /// The places up to here, with those of the ends that are still to come.
+    fn places(&self) -> u32
+        ensures value { result ≡ places_so_far (builder_model self.now) }
+        ensures most { result ≤ 65535 }
+    {
+        self.cells.len() as u32 + self.open_groups + 1
+    }
+
+    /// Puts an element after the cells.
+    pub(crate) fn push_element(&mut self, fxy: Fxy) -> Result<(), TemplateFault>
+        ensures { GivesGrowth (with_cell (builder_model self.old) fxy (element fxy bare)) result
+            (builder_model self.new) }
+    {
+        check_places(self.places(), 1, fxy)?;
+        push_cell(&mut self.cells, Cell::Element(fxy))?;
+        self.consumes = true;
+        Ok(())
+    }
+
+    /// Puts an operator after the cells.
+    pub(crate) fn push_operator(&mut self, fxy: Fxy) -> Result<(), TemplateFault>
+        ensures { GivesGrowth (with_cell (builder_model self.old) fxy (operator fxy bare)) result
+            (builder_model self.new) }
+    {
+        check_places(self.places(), 1, fxy)?;
+        push_cell(&mut self.cells, Cell::Operator(fxy))?;
+        self.consumes |= fxy.x() == 5;
+        Ok(())
+    }
+
+    /// Begins a group after the cells, and returns the place of its first cell. What is after the
+    /// group is not known yet.
+    pub(crate) fn open(&mut self, fxy: Fxy, passes: &Passes) -> Result<usize, TemplateFault>
+        ensures { GivesPlace (builder_model self.old) passes.now fxy result
+            (builder_model self.new) }
+    {
+        check_places(self.places(), passes.places(), fxy)?;
+        let place = self.cells.len();
+        let head = passes.first_cell(0);
+        push_cell(&mut self.cells, head)?;
+        push_factor(&mut self.cells, passes)?;
+        self.open_groups += 1;
+        self.depth = self.depth.max(self.open_groups);
+        self.consumes = false;
+        Ok(place)
+    }
+
+    /// Ends the innermost group, whose first cell is at a place, and writes there what is
+    /// after the group.
+    pub(crate) fn close(&mut self, place: usize, passes: &Passes) -> Result<(), TemplateFault>
+        requires inside { place < length self.old.cells.items }
+        requires around { 0 < self.old.open_groups }
+        ensures { GivesGrowth (Ok (with_closed_group (builder_model self.old) place passes.now))
+            result
+            (builder_model self.new) }
+    {
+        push_cell(&mut self.cells, Cell::PassEnd)?;
+        let after = self.cells.len() as u32;
+        self.cells[place] = passes.first_cell(after);
+        self.open_groups -= 1;
+        Ok(())
+    }
+}
