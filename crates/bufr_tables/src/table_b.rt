@@ -50,7 +50,7 @@ pub struct Entry<'a> {
 }
 
 impl<'a> Entry<'a> {
-    ghost use Rattle.std.specs.Prelude.{◌≡◌};
+    ghost use Rattle.std.specs.Prelude.{◌≡◌, ◌≤◌, ◌+◌, drop, length, take};
     ghost use Rattle.bufr_tables.specs.Entry.{row_of_entry};
     ghost use Rattle.bufr_tables.specs.TableB.{row_comment, row_line_start};
 
@@ -97,6 +97,22 @@ impl<'a> Entry<'a> {
     {
         let stored = self.stored;
         &self.octets[stored.start + 7..stored.end]
+    }
+
+    /// The octets of the table from the start of an item's line on, and the length of its comment,
+    /// which begins at the eighth. Blocks of a fixed size are copied from them.
+    #[inline(always)]
+    pub fn line_on(&self) -> (&'a [u8], usize)
+        ensures within { 7 + result.1 ≤ length result.0.now }
+        ensures start { take 7 result.0.now ≡ row_line_start (row_of_entry self.now) }
+        ensures comment { take result.1 (drop 7 result.0.now)
+            ≡ row_comment (row_of_entry self.now) }
+    {
+        let stored = self.stored;
+        (
+            &self.octets[stored.start..],
+            stored.end - (stored.start + 7),
+        )
     }
 
     /// What the values are, as the unit says.

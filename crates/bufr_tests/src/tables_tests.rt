@@ -104,6 +104,13 @@ fn entries(rt: HostRuntime) {
         &(start, comment),
         &"line",
     );
+    let (octets, len) = entry.line_on();
+    assert_same(
+        &rt,
+        &(&octets[..7], &octets[7..7 + len]),
+        &(start, comment),
+        &"octets",
+    );
     assert_same(&rt, &entry_of(&again, 0x0c65), &found, &"another table");
     assert_that(&rt, entry_of(&table, 0x0101) != found, &"another element");
 }

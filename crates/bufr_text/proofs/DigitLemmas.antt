@@ -1,6 +1,9 @@
 -- How many digits a number has, numbers in at least so many digits, and with a point before the
 -- last of them.
-use Rattle.std.proofs.Common.{◌≡◌, ◌∙◌, ℕ, zero, suc, ◌+◌, ◌-◌, ◌/◌, ◌%◌, ◌^◌, ◌<◌, ◌≤◌, List, [], ◌∷◌, ◌++◌, length, max, take, drop, refl, ap, sym, inl, inr, arith, length-append, length-drop, append_assoc}
+use Rattle.std.proofs.Common.{◌≡◌, ◌∙◌, ℕ, zero, suc, ◌+◌, ◌-◌, ◌*◌, ◌/◌, ◌%◌, ◌^◌, ◌<◌, ◌≤◌, Bool, true, ◌&&◌, T, eqb, eqb→eq, eq-zero-or-pos, get_or, List, [], ◌∷◌, ◌++◌, length, max, take, drop, refl, ap, sym, inl, inr, arith, length-append, length-drop, append_assoc}
+use lib.Ieee.Fits.{and_l, and_r}
+use Rattle.itoa.proofs.Decimal.{decimal_pair}
+use Rattle.bufr_text.specs.declared.digits.TheConstants.{PAIRS}
 use Rattle.std.proofs.lemmas.Bool.{cases_lt}
 use Rattle.std.proofs.lemmas.List.{drop-set, length-replicate, length-set, length-take-le, take-append-drop}
 use Rattle.std.proofs.Math.ListN.{set}
@@ -41,17 +44,15 @@ four_more_digits n long fits =
 pub at_most_20_digits : (n : ℕ) → n < 2 ^ 64 → length (decimal n) ≤ 20
 at_most_20_digits n fits = length-decimal-le 20 n (omega arith) (omega (arith, fits)) fits
 
--- a name and digits fill a prefix
-pub named_digits : (name copied free line : List ℕ) (value count start : ℕ) → copied ≡ name → count ≡ length (decimal value) → start + length (decimal value) ≡ length name + count
-    → drop start line ≡ decimal value ++ drop (length name + count) (copied ++ drop (length name) free) → take start line ≡ take start (copied ++ drop (length name) free) → take (length name + count) line ≡ name ++ decimal value
-named_digits name copied free line value count start same digits sum written before =
-    let rest = drop (length name) free in
-    let after = drop (length name + count) (copied ++ rest) in
-    let is : start ≡ length name = omega (arith, sum, digits) in
-    let prefix : take start line ≡ name = before ∙ ap (λ l. take start (l ++ rest)) same ∙ ap (λ n. take n (name ++ rest)) is ∙ take-append_seam name rest in
-    let whole : line ≡ name ++ (decimal value ++ after) = sym (take-append-drop start line) ∙ ap (λ l. l ++ drop start line) prefix ∙ ap (λ l. name ++ l) written in
-    ap (take (length name + count)) whole ∙ take-append-add name (decimal value ++ after) count
-    ∙ ap (λ n. name ++ take n (decimal value ++ after)) digits ∙ ap (λ l. name ++ l) (take-append_seam (decimal value) after)
+-- digits after octets that stay
+pub digits_put : (free line : List ℕ) (value at count start : ℕ) → at ≤ length free → count ≡ length (decimal value) → start + length (decimal value) ≡ at + count
+    → drop start line ≡ decimal value ++ drop (at + count) free → take start line ≡ take start free → take (at + count) line ≡ take at free ++ decimal value
+digits_put free line value at count start within digits sum written before =
+    let rest = drop (at + count) free in
+    let is : start ≡ at = omega (arith, sum, digits) in
+    let whole : line ≡ (take at free ++ decimal value) ++ rest = sym (take-append-drop start line) ∙ ap (λ l. l ++ drop start line) (before ∙ ap (λ n. take n free) is) ∙ ap (λ l. take at free ++ l) written ∙ sym (append_assoc (take at free) (decimal value) rest) in
+    let long : at + count ≡ length (take at free ++ decimal value) = omega (arith, length-append (take at free) (decimal value), length-take-le at free within, digits) in
+    ap (take (at + count)) whole ∙ ap (λ n. take n ((take at free ++ decimal value) ++ rest)) long ∙ take-append_seam (take at free ++ decimal value) rest
 
 zeros_more : (count : ℕ) → replicate {A = ℕ} count 48 ++ 48 ∷ [] ≡ replicate (suc count) 48
 zeros_more zero = refl
@@ -166,3 +167,52 @@ pointed_filled value whole places point a k len start free fraction line split l
     let is : line ≡ text ++ rest = ap (λ n. drop n line) (sym zero_start) ∙ written ∙ ap (λ l. decimal whole ++ l) pointed_rest ∙ sym (append_assoc (decimal whole) (46 ∷ fraction) rest) in
     let text_long : len ≡ length text = omega (arith, length-append (decimal whole) (46 ∷ fraction), size, long, next, sum) in
     ap (take len) is ∙ ap (λ n. take n (text ++ rest)) text_long ∙ take-append_seam text rest ∙ point_before (decimal whole) fraction (zero_padded (places + 1) value) places split long
+
+-- octets that were put after others
+pub then_more : {first second : List ℕ} (before s t : List ℕ) {all : List ℕ} → second ≡ first ++ t → first ≡ before ++ s → s ++ t ≡ all → second ≡ before ++ all
+then_more before s t two one is = two ∙ ap (λ l. l ++ t) one ∙ append_assoc before s t ∙ ap (λ l. before ++ l) is
+
+-- the two digits of a number are in the table
+abbrev are_pairs : ℕ → Bool
+are_pairs zero = true
+are_pairs (suc p) = (eqb (get_or PAIRS (p * 2) 0) (48 + p / 10) && eqb (get_or PAIRS (p * 2 + 1) 0) (48 + p % 10)) && are_pairs p
+
+pairs_below : (n p : ℕ) → T (are_pairs n) → p < n → (get_or PAIRS (p * 2) 0 ≡ 48 + p / 10) × (get_or PAIRS (p * 2 + 1) 0 ≡ 48 + p % 10)
+pairs_below zero p t h = absurd (omega arith)
+pairs_below (suc n) p t h =
+    elim (eq-zero-or-pos (n - p)) [
+      | inl z ↦ let e : p ≡ n = omega arith in let a = and_l _ (are_pairs n) t in rw e (eqb→eq _ _ (and_l _ _ a), eqb→eq _ _ (and_r _ _ a))
+      | inr g ↦ pairs_below n p (and_r _ (are_pairs n) t) (omega arith)
+    ]
+
+pub pair_put : (p : ℕ) → p < 100 → get_or PAIRS (p * 2) 0 ∷ get_or PAIRS (p * 2 + 1) 0 ∷ [] ≡ (48 + p / 10) ∷ (48 + p % 10) ∷ []
+pair_put p h =
+    let pair = pairs_below 100 p tt h in
+    rw (pair.0, pair.1) refl
+
+-- four digits are two, and then two
+pub decimal_hundreds : (n : ℕ) → 10000 ≤ n → n < 2 ^ 64 → decimal (n / 10000) ++ (48 + n / 100 % 100 / 10) ∷ (48 + n / 100 % 100 % 10) ∷ [] ≡ decimal (n / 100)
+decimal_hundreds n long fits =
+    let same : n / 100 / 100 ≡ n / 10000 = omega arith in
+    ap (λ k. decimal k ++ (48 + n / 100 % 100 / 10) ∷ (48 + n / 100 % 100 % 10) ∷ []) (sym same) ∙ sym (decimal_pair (n / 100) (omega arith) (omega arith))
+
+-- tenths and hundredths
+pub tenths_put : (n : ℕ) → n < 2 ^ 64 → decimal (n / 10) ++ 46 ∷ (48 + n % 10) ∷ [] ≡ pointed 1 (decimal n)
+tenths_put n fits =
+    let last : List ℕ = (48 + n % 10) ∷ [] in
+    let split : decimal (n / 10) ++ last ≡ zero_padded (1 + 1) n = ap (λ t. t ++ last) (sym (zero_padded_one (n / 10) (omega arith))) ∙ sym (zero_padded_step 1 n (omega arith) fits) in
+    point_before (decimal (n / 10)) last (zero_padded (1 + 1) n) 1 split refl
+
+pub hundredths_put : (n : ℕ) → n < 2 ^ 64 → decimal (n / 100) ++ 46 ∷ (48 + n % 100 / 10) ∷ (48 + n % 100 % 10) ∷ [] ≡ pointed 2 (decimal n)
+hundredths_put n fits =
+    let last : List ℕ = (48 + n % 100 / 10) ∷ (48 + n % 100 % 10) ∷ [] in
+    let a : n / 100 ≡ n / 10 / 10 = omega arith in
+    let b : n % 100 / 10 ≡ n / 10 % 10 = omega arith in
+    let c : n % 100 % 10 ≡ n % 10 = omega arith in
+    let ten : List ℕ = (48 + n / 10 % 10) ∷ [] in
+    let one : List ℕ = (48 + n % 10) ∷ [] in
+    let split : decimal (n / 100) ++ last ≡ zero_padded (2 + 1) n =
+    ap (λ k. decimal k ++ last) a ∙ ap (λ k. decimal (n / 10 / 10) ++ (48 + k) ∷ (48 + n % 100 % 10) ∷ []) b ∙ ap (λ k. decimal (n / 10 / 10) ++ (48 + n / 10 % 10) ∷ (48 + k) ∷ []) c
+    ∙ sym (append_assoc (decimal (n / 10 / 10)) ten one) ∙ ap (λ t. (t ++ ten) ++ one) (sym (zero_padded_one (n / 10 / 10) (omega arith)))
+    ∙ ap (λ t. t ++ one) (sym (zero_padded_step 1 (n / 10) (omega arith) (omega arith))) ∙ sym (zero_padded_step 2 n (omega arith) fits) in
+    point_before (decimal (n / 100)) last (zero_padded (2 + 1) n) 2 split refl

@@ -1,6 +1,6 @@
 //! Digits that fill a prefix of some octets, where there is room for them.
-ghost use Rattle.std.specs.Prelude.{◌≡◌, ◌≤◌, ◌+◌, ◌++◌, decimal, length, take, IfSome};
-ghost use Rattle.bufr_bits.specs.DecimalText.{pointed};
+ghost use Rattle.std.specs.Prelude.{◌≡◌, ◌≤◌, ◌<◌, ◌+◌, ◌/◌, ◌%◌, ◌++◌, [], ◌∷◌, decimal, length, take, IfSome};
+ghost use Rattle.bufr_bits.specs.DecimalText.{pointed, sign_of, unsigned_text};
 ghost use Rattle.bufr_text.specs.Writing.{zero_padded};
 
 use itoa::write_digits;
@@ -32,24 +32,96 @@ pub(crate) fn count_digits(value: u64) -> usize
     count + 4
 }
 
-/// Fills a prefix with a name and the digits of a number after it, of which there are so many.
-/// Returns how many octets these are.
+/// The two digits of each number below 100.
+static PAIRS: [u8; 200] =
+    *b"00010203040506070809101112131415161718192021222324252627282930313233343536373839404142434445464748495051525354555657585960616263646566676869707172737475767778798081828384858687888990919293949596979899";
+
+/// Puts an octet after those before `at`, and returns the place after it.
 #[inline(always)]
-fn fill_digits(name: &[u8], value: u64, digits: usize, free: &mut [u8]) -> usize
-    requires digits { digits ≡ length (decimal value) }
-    requires room { length name.now + digits ≤ length free.old }
-    ensures within { result ≤ length free.new }
-    ensures text { take result free.new ≡ name.now ++ decimal value }
+fn put(octet: u8, free: &mut [u8], at: usize) -> usize
+    requires { at < length free.old }
+    ensures next { result ≡ at + 1 }
+    ensures text { take result free.new ≡ take at free.old ++ octet ∷ [] }
 {
-    free[..name.len()].copy_from_slice(name);
-    let len = name.len() + digits;
-    write_digits(value, free, len);
-    len
+    free[at] = octet;
+    at + 1
+}
+
+/// Puts the two digits of a number below 100.
+#[inline(always)]
+fn put_pair(pair: u64, free: &mut [u8], at: usize) -> usize
+    requires few { pair < 100 }
+    requires room { at + 2 ≤ length free.old }
+    ensures next { result ≡ at + 2 }
+    ensures text { take result free.new
+        ≡ take at free.old ++ (48 + pair / 10) ∷ (48 + pair % 10) ∷ [] }
+{
+    let from = pair as usize * 2;
+    let at = put(PAIRS[from], free, at);
+    put(PAIRS[from + 1], free, at)
+}
+
+/// Puts the digits of a number below 100.
+#[inline(always)]
+fn put_two(value: u64, free: &mut [u8], at: usize) -> usize
+    requires few { value < 100 }
+    requires room { at + 2 ≤ length free.old }
+    ensures most { result ≤ at + 2 }
+    ensures text { take result free.new ≡ take at free.old ++ decimal value }
+{
+    if value < 10 {
+        return put(b'0' + value as u8, free, at);
+    }
+    put_pair(value, free, at)
+}
+
+/// Puts the digits of a number below 10,000.
+#[inline(always)]
+fn put_four(value: u64, free: &mut [u8], at: usize) -> usize
+    requires few { value < 10000 }
+    requires room { at + 4 ≤ length free.old }
+    ensures most { result ≤ at + 4 }
+    ensures text { take result free.new ≡ take at free.old ++ decimal value }
+{
+    if value < 100 {
+        return put_two(value, free, at);
+    }
+    let at = put_two(value / 100, free, at);
+    put_pair(value % 100, free, at)
+}
+
+/// Puts the digits of a number that has nine or more.
+#[inline(never)]
+fn put_long(value: u64, free: &mut [u8], at: usize) -> usize
+    requires { at + 20 ≤ length free.old }
+    ensures most { result ≤ at + 20 }
+    ensures text { take result free.new ≡ take at free.old ++ decimal value }
+{
+    let end = at + count_digits(value);
+    write_digits(value, free, end);
+    end
+}
+
+/// Puts the digits of a number after the octets before `at`, and returns the place after them.
+#[inline(always)]
+pub(crate) fn put_decimal(value: u64, free: &mut [u8], at: usize) -> usize
+    requires { at + 20 ≤ length free.old }
+    ensures most { result ≤ at + 20 }
+    ensures text { take result free.new ≡ take at free.old ++ decimal value }
+{
+    if value < 10_000 {
+        return put_four(value, free, at);
+    }
+    if value >= 100_000_000 {
+        return put_long(value, free, at);
+    }
+    let at = put_four(value / 10_000, free, at);
+    let at = put_pair(value / 100 % 100, free, at);
+    put_pair(value % 100, free, at)
 }
 
 /// Fills a prefix with a name and the digits of a number after it, and returns how many octets
 /// these are; `None` where there is no room for each number of its type.
-#[tactic(auto, using(crate::proofs::DigitLemmas::one_digit, crate::proofs::DigitLemmas::two_digits, crate::proofs::DigitLemmas::at_most_20_digits))]
 #[inline(always)]
 pub(crate) fn fill_named(name: &[u8], value: u64, free: &mut [u8]) -> Option<usize>
     ensures within { IfSome result (λ len. len ≤ length free.new) }
@@ -58,14 +130,8 @@ pub(crate) fn fill_named(name: &[u8], value: u64, free: &mut [u8]) -> Option<usi
     if name.len() + DIGITS > free.len() {
         return None;
     }
-    // most numbers have one digit or two
-    if value < 10 {
-        return Some(fill_digits(name, value, 1, free));
-    }
-    if value < 100 {
-        return Some(fill_digits(name, value, 2, free));
-    }
-    Some(fill_digits(name, value, count_digits(value), free))
+    free[..name.len()].copy_from_slice(name);
+    Some(put_decimal(value, free, name.len()))
 }
 
 /// Fills all octets with the last digits of a number, and returns the number that the digits
@@ -102,4 +168,82 @@ pub(crate) fn fill_pointed(value: u64, places: u16, free: &mut [u8]) -> Option<u
     free[point] = b'.';
     write_digits(whole, free, point);
     Some(len)
+}
+
+/// Puts a minus where a number is below zero.
+#[inline(always)]
+// rule: decimal-sign
+pub(crate) fn put_sign(number: i64, free: &mut [u8], at: usize) -> usize
+    requires { at < length free.old }
+    ensures most { result ≤ at + 1 }
+    ensures text { take result free.new ≡ take at free.old ++ sign_of number }
+{
+    if number < 0 {
+        return put(b'-', free, at);
+    }
+    at
+}
+
+/// Puts a number with a point before the last `places` of its digits, where 40 octets hold it.
+#[inline(never)]
+fn put_pointed(value: u64, places: u16, free: &mut [u8], at: usize) -> Option<usize>
+    requires { at + 40 ≤ length free.old }
+    ensures most { IfSome result (λ end. end ≤ at + 40) }
+    ensures text { IfSome result
+        (λ end. take end free.new ≡ take at free.old ++ pointed places (decimal value)) }
+{
+    match fill_pointed(value, places, &mut free[at..at + 40]) {
+        Some(len) => Some(at + len),
+        None => None,
+    }
+}
+
+/// Puts tenths: a number with a point before the last of its digits.
+#[inline(always)]
+fn put_tenths(value: u64, free: &mut [u8], at: usize) -> usize
+    requires { at + 22 ≤ length free.old }
+    ensures most { result ≤ at + 22 }
+    ensures text { take result free.new ≡ take at free.old ++ pointed 1 (decimal value) }
+{
+    let at = put_decimal(value / 10, free, at);
+    let at = put(b'.', free, at);
+    put(b'0' + (value % 10) as u8, free, at)
+}
+
+/// Puts hundredths: a number with a point before the last two of its digits.
+#[inline(always)]
+fn put_hundredths(value: u64, free: &mut [u8], at: usize) -> usize
+    requires { at + 23 ≤ length free.old }
+    ensures most { result ≤ at + 23 }
+    ensures text { take result free.new ≡ take at free.old ++ pointed 2 (decimal value) }
+{
+    let at = put_decimal(value / 100, free, at);
+    let at = put(b'.', free, at);
+    put_pair(value % 100, free, at)
+}
+
+/// Puts a number at a scale; `None` for a scale that few elements have, and for no room.
+#[inline(always)]
+pub(crate) fn put_scaled(value: u64, scale: i16, free: &mut [u8], at: usize) -> Option<usize>
+    requires { at + 40 ≤ length free.old }
+    ensures most { IfSome result (λ end. end ≤ at + 40) }
+    ensures text { IfSome result
+        (λ end. take end free.new ≡ take at free.old ++ unsigned_text value scale) }
+{
+    if scale == 0 {
+        return Some(put_decimal(value, free, at));
+    }
+    if scale == 1 {
+        return Some(put_tenths(value, free, at));
+    }
+    if scale == 2 {
+        return Some(put_hundredths(value, free, at));
+    }
+    if scale > 2 {
+        return put_pointed(value, scale.unsigned_abs(), free, at);
+    }
+    if scale == -1 && value < 1 << 60 {
+        return Some(put_decimal(10 * value, free, at));
+    }
+    None
 }

@@ -49,9 +49,8 @@ fn push_number<W: Sink>(
     lines.push_scaled(value, scale);
 }
 
-/// Pushes an item that need not be a number, but for its comment: `R ` before a redefined
-/// reference, descriptor and value. It is a function of its own, so that numbers stay in one loop.
-#[inline(never)]
+/// Pushes an item but for its comment: `R ` before a redefined reference, descriptor and value.
+#[inline(always)]
 // rule: text-missing, text-reference
 fn push_any_form<W: Sink>(
     lines: &mut LineWriter<'_, '_, W>,
@@ -80,23 +79,6 @@ fn push_any_form<W: Sink>(
     }
 }
 
-/// Pushes an item but for its comment. Most are numbers.
-#[inline(always)]
-fn push_form<W: Sink>(
-    lines: &mut LineWriter<'_, '_, W>,
-    fxy: Fxy,
-    entry: Option<Entry<'_>>,
-    value: Value<'_>,
-)
-    ensures { Pushes lines.old
-        (form_text fxy (dump_value_of (value_of (seen_value value.entry)))) lines.new }
-{
-    match value {
-        Value::Number(number, scale) => push_number(lines, fxy, entry, number, scale),
-        other => push_any_form(lines, fxy, entry, other),
-    }
-}
-
 /// Pushes the comment of the entry of Table B by which an item was read, and a line feed.
 #[inline(always)]
 // rule: text-comment
@@ -111,11 +93,34 @@ fn push_comment<W: Sink>(lines: &mut LineWriter<'_, '_, W>, entry: Option<Entry<
     }
 }
 
-/// Pushes the line of an item: its descriptor, its value and its comment.
+/// Pushes the line of any item: its descriptor, its value and its comment.
+#[inline(never)]
+fn push_any_item<W: Sink>(
+    lines: &mut LineWriter<'_, '_, W>,
+    fxy: Fxy,
+    entry: Option<Entry<'_>>,
+    value: Value<'_>,
+)
+    ensures { Pushes lines.old (item_text (dump_item_of
+        (seen (record { fxy = fxy; entry = entry.entry; value = value.entry }))) ++ 10 ∷ [])
+        lines.new }
+{
+    push_any_form(lines, fxy, entry, value);
+    push_comment(lines, entry);
+}
+
+/// Pushes the line of an item. Most are numbers of 64 bits that were read by an entry.
 #[inline(always)]
 pub(crate) fn push_item<W: Sink>(lines: &mut LineWriter<'_, '_, W>, item: &ItemView<'_>)
     ensures { Pushes lines.old (item_text (dump_item_of (seen item.now)) ++ 10 ∷ []) lines.new }
 {
-    push_form(lines, item.fxy, item.entry, item.value);
-    push_comment(lines, item.entry);
+    let (fxy, entry, value) = (item.fxy, item.entry, item.value);
+    if let Value::Number(number, scale) = value
+        && let Some(entry) = entry
+        && entry.fxy() == fxy
+        && let Ok(number) = i64::try_from(number)
+    {
+        return lines.push_number_line(entry, number, scale);
+    }
+    push_any_item(lines, fxy, entry, value);
 }

@@ -22,6 +22,7 @@ mod line;
 mod line_writer;
 mod ls;
 mod number;
+mod number_line;
 mod progress;
 mod quoted;
 pub mod readback_law;

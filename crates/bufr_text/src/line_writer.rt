@@ -1,14 +1,18 @@
 //! A writer of lines: octets put into a block of memory, one text after another, and handed on to a
 //! sink.
 ghost use Rattle.std.specs.Prelude.{◌≡◌, ◌≤◌, ◌++◌, [], Ok, length, take, decimal, replicate};
-ghost use Rattle.bufr_bits.specs.DecimalText.{pointed};
+ghost use Rattle.bufr_bits.specs.DecimalText.{decimal_text_of};
+ghost use Rattle.bufr_tables.specs.Entry.{row_of_entry};
+ghost use Rattle.bufr_tables.specs.TableB.{row_comment, row_line_start};
 ghost use Rattle.bufr_text.specs.Lines.{Pushes};
 ghost use Rattle.bufr_text.specs.Writing.{Writes, CountsWrites, flag, zero_padded};
 
-use crate::digits::{count_digits, fill_named, fill_pointed};
+use crate::digits::{count_digits, fill_named};
+use crate::number_line::fill_number_line;
 use crate::slice::suffix;
 use bufr_bits::Sink;
 use bufr_frame::RunFault;
+use bufr_tables::Entry;
 use itoa::Buffer;
 use std::marker::Model;
 
@@ -236,15 +240,27 @@ impl<'b, 'w, W: Sink> LineWriter<'b, 'w, W> {
         self.push(buffer.format(value).as_bytes());
     }
 
-    /// Pushes a number with a point before the last `places` of its digits.
+    /// Pushes the line of a number that an entry reads.
     #[inline(always)]
-    pub(crate) fn push_pointed(&mut self, value: u64, places: u16)
-        ensures { Pushes self.old (pointed places (decimal value)) self.new }
+    pub(crate) fn push_number_line(&mut self, entry: Entry<'_>, number: i64, scale: i16)
+        ensures { Pushes self.old (row_line_start (row_of_entry entry.entry)
+            ++ (decimal_text_of number scale ++ row_comment (row_of_entry entry.entry))) self.new }
     {
-        match fill_pointed(value, places, &mut self.octets[self.len..]) {
+        match fill_number_line(entry, number, scale, &mut self.octets[self.len..]) {
             Some(len) => self.len += len,
-            None => self.push_wide_pointed(u128::from(value), places),
+            None => self.push_long_line(entry, number, scale),
         }
+    }
+
+    /// Pushes the line of a number that an entry reads, text by text.
+    #[inline(never)]
+    fn push_long_line(&mut self, entry: Entry<'_>, number: i64, scale: i16)
+        ensures { Pushes self.old (row_line_start (row_of_entry entry.entry)
+            ++ (decimal_text_of number scale ++ row_comment (row_of_entry entry.entry))) self.new }
+    {
+        self.push(entry.line_start());
+        self.push_scaled(i128::from(number), scale);
+        self.push(entry.comment());
     }
 
     /// Pushes digits `0`.

@@ -33,55 +33,27 @@ impl<'b, 'w, W: Sink> LineWriter<'b, 'w, W> {
         self.push(fraction);
     }
 
-    /// Pushes a number that may be 2^64 or more with a point before the last `places` of its
-    /// digits.
-    #[inline(never)]
-    pub(crate) fn push_wide_pointed(&mut self, value: u128, places: u16)
+    /// Pushes a number with a point before the last `places` of its digits.
+    fn push_pointed(&mut self, value: u128, places: u16)
         ensures { Pushes self.old (pointed places (decimal value)) self.new }
     {
         let mut buffer = Buffer::new();
         self.push_point(buffer.format(value).as_bytes(), usize::from(places));
     }
 
-    /// Pushes a number below 2^64 at a scale.
-    #[inline(always)]
-    fn push_size(&mut self, size: u64, scale: i16)
+    /// Pushes a number that is not below zero at a scale.
+    fn push_unsigned(&mut self, size: u128, scale: i16)
         ensures { Pushes self.old (unsigned_text size scale) self.new }
     {
         let places = scale.unsigned_abs();
         if scale > 0 {
             return self.push_pointed(size, places);
         }
-        self.push_decimal(size);
-        self.push_zeros(trailing_zeros(u128::from(size), usize::from(places)));
-    }
-
-    /// Pushes a number that may be 2^64 or more at a scale.
-    #[inline(never)]
-    fn push_wide_size(&mut self, size: u128, scale: i16)
-        ensures { Pushes self.old (unsigned_text size scale) self.new }
-    {
-        let places = scale.unsigned_abs();
-        if scale > 0 {
-            return self.push_wide_pointed(size, places);
-        }
         self.push_wide_decimal(size);
         self.push_zeros(trailing_zeros(size, usize::from(places)));
     }
 
-    /// Pushes a number that is not below zero at a scale.
-    #[inline(always)]
-    fn push_unsigned(&mut self, size: u128, scale: i16)
-        ensures { Pushes self.old (unsigned_text size scale) self.new }
-    {
-        match u64::try_from(size) {
-            Ok(size) => self.push_size(size, scale),
-            Err(_) => self.push_wide_size(size, scale),
-        }
-    }
-
     /// Pushes a minus before a number below zero.
-    #[inline(always)]
     // rule: decimal-sign
     fn push_sign(&mut self, value: i128)
         ensures { Pushes self.old (sign_of value) self.new }
@@ -92,7 +64,7 @@ impl<'b, 'w, W: Sink> LineWriter<'b, 'w, W> {
     }
 
     /// Pushes a number at a scale.
-    #[inline(always)]
+    #[inline(never)]
     pub(crate) fn push_scaled(&mut self, value: i128, scale: i16)
         ensures { Pushes self.old (decimal_text_of value scale) self.new }
     {

@@ -2,10 +2,10 @@ use Rattle.std.proofs.Common.{◌∙◌, ◌==◌, ap, to_z-of_z, unsigned_abs}
 use Rattle.std.specs.Prelude.{if◌then◌else◌}
 use Rattle.bufr_text.proofs.PushLemmas.{◌⨾◌, retold}
 use Rattle.bufr_text.proofs.ScaleLemmas.{unsigned_pointed, unsigned_plain}
-use Rattle.bufr_text.proofs.line_writer.LineWriter.push_wide_size.Goals as goal
+use Rattle.bufr_text.proofs.line_writer.LineWriter.push_unsigned.Goals as goal
 
 pub returns-then-scale-gt0 : goal.returns-then-scale-gt0
-returns-then-scale-gt0 g c = retold c.push_wide_pointed.ensures
+returns-then-scale-gt0 g c = retold c.push_pointed.ensures
     (let scale = to_z-of_z c.ranges.scale in
     unsigned_pointed c.args.size c.args.scale c.unsigned_abs-places.result (rw scale at c.if-scale-gt0.true) (c.unsigned_abs-places.ensures.value ∙ ap unsigned_abs scale))
 

@@ -4,11 +4,10 @@ use Rattle.bufr_walk.specs.ViewModel.{seen_value}
 use Rattle.bufr_text.proofs.PushLemmas.{◌⨾◌, retold}
 use Rattle.bufr_text.specs.Dump.{comment_text, dump_value_of, form_text}
 use Rattle.bufr_text.specs.DumpItems.{comment_of, value_of}
-use Rattle.bufr_text.proofs.item_line.push_item.Goals as goal
+use Rattle.bufr_text.proofs.item_line.push_any_item.Goals as goal
 
 pub returns : goal.returns
 returns g c =
-    let item = c.args.item.now in
-    let form = form_text item.fxy (dump_value_of (value_of (seen_value item.value))) in
-    let comment = comment_text (option_map comment_of (option_map row_of_entry item.entry)) in
-    retold (c.push_form.ensures ⨾ c.push_comment.ensures) (sym (append_assoc form comment (10 ∷ [])))
+    let form = form_text c.args.fxy (dump_value_of (value_of (seen_value c.args.value))) in
+    let comment = comment_text (option_map comment_of (option_map row_of_entry c.args.entry)) in
+    retold (c.push_any_form.ensures ⨾ c.push_comment.ensures) (sym (append_assoc form comment (10 ∷ [])))
