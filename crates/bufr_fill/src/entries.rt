@@ -3,7 +3,7 @@ ghost use Rattle.std.specs.Prelude.{◌≡◌, ◌≤◌, ℕ, List, length, opt
 ghost use Rattle.bufr_fill.specs.Draft.{draft};
 ghost use Rattle.bufr_fill.specs.Entries.{DraftEntry, Holds};
 ghost use Rattle.bufr_fill.specs.Given.{form_in};
-ghost use Rattle.bufr_fill.specs.Kept.{entry_by, entry_stored, kept_entry, IsEntryInside, IsPlaced};
+ghost use Rattle.bufr_fill.specs.Kept.{entry_by, entry_stored, entry_with, IsEntryInside, IsPlaced};
 
 use crate::draft::{DraftItem, DraftValue};
 use bufr_bits::ShortDecimal;
@@ -11,56 +11,43 @@ use bufr_tables::Fxy;
 use std::alloc::{AllocError, Global};
 use std::marker::Model;
 
-/// The kind of a stored entry.
+/// What an entry is: an item by its value, or the line that ends a subset.
 #[derive(Clone, Copy)]
-enum EntryKind {
+pub(crate) enum EntryKind {
+    /// A number whose digits were read.
     Decimal { places: u8, negative: bool },
+    /// The octets of another number; its syntax is checked later.
     Number,
+    /// The octets of a text.
     Text,
+    /// All ones.
     Missing,
+    /// The octets of a redefined reference.
     Reference,
     End,
 }
 
-/// A stored entry. Its octets go from `start` to `end` of one block; of a short decimal `start` has
-/// the digits.
+/// An entry, as it is kept. Its octets go from `start` to `end` of one block; of a short decimal
+/// `start` has the digits.
 #[derive(Clone, Copy)]
-struct StoredEntry {
-    line: u64,
-    start: usize,
-    end: usize,
-    fxy: Fxy,
-    kind: EntryKind,
-}
-
-/// The value of an item, as it is kept.
-#[derive(Clone, Copy)]
-pub(crate) enum KeptValue<'a> {
-    /// A number whose digits were read.
-    Decimal(ShortDecimal),
-    /// The octets of another number; its syntax is checked later.
-    Number(&'a [u8]),
-    /// The octets of a text.
-    Text(&'a [u8]),
-    /// All ones.
-    Missing,
-    /// The octets of a redefined reference.
-    Reference(&'a [u8]),
-}
-
-/// An item, as it is kept.
-#[derive(Clone, Copy)]
-pub(crate) struct KeptItem<'a> {
-    pub(crate) value: KeptValue<'a>,
+pub(crate) struct StoredEntry {
     pub(crate) line: u64,
-    pub(crate) word: u16,
+    pub(crate) start: usize,
+    end: usize,
+    pub(crate) fxy: Fxy,
+    pub(crate) kind: EntryKind,
 }
 
-/// An item, or the line that ends a subset.
-#[derive(Clone, Copy)]
-pub(crate) enum KeptEntry<'a> {
-    Item(KeptItem<'a>),
-    End(u64),
+impl StoredEntry {
+    ghost use Rattle.std.specs.Prelude.{◌≡◌, ℕ, List};
+    ghost use Rattle.bufr_fill.specs.Kept.{entry_with, is_end};
+
+    /// Whether it is the end of a subset.
+    pub(crate) fn is_end(&self) -> bool
+        ensures { (octets : List ℕ) → result ≡ is_end (entry_with self.now octets) }
+    {
+        matches!(self.kind, EntryKind::End)
+    }
 }
 
 /// The kind of a value, and its octets.
@@ -79,29 +66,20 @@ fn parts_of<'a>(form: DraftValue<'a>) -> (EntryKind, &'a [u8])
     }
 }
 
-/// A stored entry, with its octets in this block.
+/// The octets of an entry in this block.
 #[inline(always)]
-fn kept_in<'a>(octets: &'a [u8], stored: StoredEntry) -> KeptEntry<'a>
-    requires { IsEntryInside (length octets.now) stored }
-    ensures { kept_entry result ≡ entry_stored octets.now stored }
+fn octets_of<'a>(block: &'a [u8], entry: &StoredEntry) -> &'a [u8]
+    requires { IsEntryInside (length block.now) entry.now }
+    ensures { entry_with entry.now result.now ≡ entry_stored block.now entry.now }
 {
-    let value = match stored.kind {
-        EntryKind::Decimal { places, negative } => KeptValue::Decimal(ShortDecimal {
-            digits: stored.start as u64,
-            places,
-            negative,
-        }),
-        EntryKind::Number => KeptValue::Number(&octets[stored.start..stored.end]),
-        EntryKind::Text => KeptValue::Text(&octets[stored.start..stored.end]),
-        EntryKind::Missing => KeptValue::Missing,
-        EntryKind::Reference => KeptValue::Reference(&octets[stored.start..stored.end]),
-        EntryKind::End => return KeptEntry::End(stored.line),
-    };
-    KeptEntry::Item(KeptItem {
-        value,
-        line: stored.line,
-        word: stored.fxy.word(),
-    })
+    match entry.kind {
+        EntryKind::Number => &block[entry.start..entry.end],
+        EntryKind::Text => &block[entry.start..entry.end],
+        EntryKind::Reference => &block[entry.start..entry.end],
+        EntryKind::Decimal { .. } => &[],
+        EntryKind::Missing => &[],
+        EntryKind::End => &[],
+    }
 }
 
 /// The items of all subsets and the lines that end them, one after another. A short number is kept
@@ -141,7 +119,7 @@ impl Entries {
     ghost use Rattle.bufr_fill.specs.Draft.{draft, number_token};
     ghost use Rattle.bufr_bits.specs.ShortDecimal.{short_text};
     ghost use Rattle.bufr_fill.specs.Entries.{Holds, Ends};
-    ghost use Rattle.bufr_fill.specs.Kept.{kept_entry, is_end};
+    ghost use Rattle.bufr_fill.specs.Kept.{entry_with, is_end};
     ghost use Rattle.bufr_fill.specs.Given.{draft_in};
 
     /// No entries. It takes no memory.
@@ -242,13 +220,15 @@ impl Entries {
         self.kept.len()
     }
 
-    /// The entry at an index, from 0, or `None` after the last. Its octets are not read.
+    /// The entry at an index, from 0, and its octets; `None` after the last.
     #[inline(always)]
-    pub(crate) fn get(&self, place: usize) -> Option<KeptEntry<'_>>
-        ensures { option_map kept_entry result ≡ slice_get self.now place }
+    pub(crate) fn get(&self, place: usize) -> Option<(StoredEntry, &[u8])>
+        ensures { option_map (λ found. entry_with found.0 found.1.now) result
+            ≡ slice_get self.now place }
     {
         if place < self.kept.len() {
-            Some(kept_in(self.octets.as_slice(), self.kept[place]))
+            let entry = self.kept[place];
+            Some((entry, octets_of(self.octets.as_slice(), &entry)))
         } else {
             None
         }
@@ -259,6 +239,6 @@ impl Entries {
         requires { place < length self.now }
         ensures { Some result ≡ option_map is_end (slice_get self.now place) }
     {
-        matches!(self.kept[place].kind, EntryKind::End)
+        self.kept[place].is_end()
     }
 }

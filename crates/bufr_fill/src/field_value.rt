@@ -1,24 +1,22 @@
 //! Converts an item of a dump text to the content of its field.
-ghost use Rattle.std.specs.Prelude.{◌≡◌, ◌≤◌, ◌<◌, ◌-ℤ◌, ◌-◌, ◌/◌, ◌^◌, ◌==◌, ◌++◌, false, pos, length, replicate, unsigned_abs, Some, IfOk};
+ghost use Rattle.std.specs.Prelude.{◌≡◌, ℕ, List, ◌≤◌, ◌<◌, ◌-ℤ◌, ◌-◌, ◌/◌, ◌^◌, ◌==◌, ◌++◌, false, pos, length, replicate, unsigned_abs, Some, IfOk};
 ghost use Rattle.std.specs.List.{list_all};
 ghost use Rattle.bufr_bits.specs.DecimalValue.{decimal_value_of};
 ghost use Rattle.bufr_tables.specs.TableB.{is_character};
 ghost use Rattle.bufr_walk.specs.FieldSpec.{is_reference};
 ghost use Rattle.bufr_walk.specs.Content.{number, reference};
-ghost use Rattle.bufr_fill.specs.DraftContent.{raw_within, raw_of, reference_of, text_within, is_of, is_marked, wrong_for, content_of, content_by_form};
+ghost use Rattle.bufr_fill.specs.DraftContent.{raw_within, raw_of, reference_of, text_within, is_marked, wrong_for, content_by_form};
 ghost use Rattle.bufr_fill.specs.FieldContent.{returned, content_drawn, IsDrawn, IsTextOf};
 ghost use Rattle.bufr_fill.specs.Packing.{raw_limit};
-ghost use Rattle.bufr_bits.specs.ShortDecimal.{short_text};
-ghost use Rattle.bufr_fill.specs.Draft.{draft, number_token};
-ghost use Rattle.bufr_fill.specs.Kept.{kept_item, kept_value};
+ghost use Rattle.bufr_fill.specs.Kept.{entry_with, is_end, is_entry_of, value_by};
+ghost use Rattle.bufr_fill.specs.PackedRows.{entry_here};
 ghost use Rattle.bufr_fill.specs.DraftFaults.{draft_fault};
 ghost use Rattle.bufr_fill.specs.Encoding.{at_line_if_fault};
 ghost use Rattle.bufr_fill.specs.Fault.{at_line};
 
-use crate::entries::{KeptItem, KeptValue};
+use crate::entries::{EntryKind, StoredEntry};
 use crate::fault::{DraftFault, Expected};
 use bufr_bits::{NumberFault, ShortDecimal, decimal_read};
-use bufr_tables::Fxy;
 use bufr_walk::Spec;
 
 /// The content of a field, from an item.
@@ -142,57 +140,75 @@ fn text_for<'a>(octets: &'a [u8], count: usize, line: u64) -> Result<FieldConten
 /// Converts the value of an item to the content of its field.
 #[inline(always)]
 // rule: fault-52, fault-55, fault-order-of-an-item
-fn draw_form<'a>(item: &KeptItem<'a>, spec: &Spec) -> Result<FieldContent<'a>, DraftFault>
-    requires mark { is_reference spec.now.role ≡ is_marked (kept_value item.now.value) }
-    ensures is { returned (content_drawn (spec.now.width / 8)) result ≡ Some
-        (at_line_if_fault item.now.line (content_by_form (kept_value item.now.value) spec.now)) }
+fn draw_form<'a>(
+    entry: &StoredEntry,
+    octets: &'a [u8],
+    spec: &Spec,
+) -> Result<FieldContent<'a>, DraftFault>
+    requires item { is_end (entry_with entry.now octets.now) ≡ false }
+    requires mark { is_reference spec.now.role
+        ≡ is_marked (value_by entry.now.kind entry.now.start octets.now) }
+    ensures is { returned (content_drawn (spec.now.width / 8)) result
+        ≡ Some (at_line_if_fault entry.now.line (content_by_form
+        (value_by entry.now.kind entry.now.start octets.now) spec.now)) }
     ensures drawn { IfOk result (λ d. IsDrawn spec.now d) }
 {
     let count = (spec.width() / 8) as usize;
-    match item.value {
-        KeptValue::Decimal(number) => {
+    match entry.kind {
+        EntryKind::Decimal { places, negative } => {
             if spec.is_text() {
-                return Err(DraftFault::Number(item.line));
+                return Err(DraftFault::Number(entry.line));
             }
+            let digits = entry.start as u64;
+            let number = ShortDecimal {
+                digits,
+                places,
+                negative,
+            };
             let read = number.scaled(spec.scale());
-            Ok(FieldContent::Number(raw_of_read(read, spec, item.line)?))
+            Ok(FieldContent::Number(raw_of_read(read, spec, entry.line)?))
         }
-        KeptValue::Number(token) => {
+        EntryKind::Number => {
             if spec.is_text() {
-                return Err(DraftFault::Number(item.line));
+                return Err(DraftFault::Number(entry.line));
             }
-            let read = decimal_read(token, spec.scale());
-            Ok(FieldContent::Number(raw_of_read(read, spec, item.line)?))
+            let read = decimal_read(octets, spec.scale());
+            Ok(FieldContent::Number(raw_of_read(read, spec, entry.line)?))
         }
-        KeptValue::Text(octets) => {
+        EntryKind::Text => {
             if spec.is_text() {
-                text_for(octets, count, item.line)
+                text_for(octets, count, entry.line)
             } else {
-                Err(DraftFault::Number(item.line))
+                Err(DraftFault::Number(entry.line))
             }
         }
-        KeptValue::Missing => {
+        EntryKind::Missing => {
             if spec.may_be_missing() {
                 Ok(FieldContent::Missing)
             } else {
-                Err(DraftFault::MissingForbidden(item.line))
+                Err(DraftFault::MissingForbidden(entry.line))
             }
         }
-        KeptValue::Reference(token) => {
-            let value = reference_of_token(token, spec, item.line)?;
+        EntryKind::Reference => {
+            let value = reference_of_token(octets, spec, entry.line)?;
             Ok(FieldContent::Reference(value))
         }
+        EntryKind::End => unreachable!(),
     }
 }
 
-/// Whether an item has the descriptor and the mark of a field.
+/// Whether an entry is an item with the descriptor and the mark of a field.
 #[inline(always)]
 // rule: fault-51
-fn is_item_of(item: &KeptItem<'_>, spec: &Spec) -> bool
-    ensures { result ≡ is_of spec.now (kept_item item.now) }
+fn is_item_of(entry: &StoredEntry, spec: &Spec) -> bool
+    ensures { (octets : List ℕ)
+        → result ≡ is_entry_of spec.now (entry_with entry.now octets) }
 {
-    let marked = matches!(item.value, KeptValue::Reference(_));
-    Fxy::from_word(item.word) == spec.fxy() && marked == spec.is_reference()
+    match entry.kind {
+        EntryKind::End => false,
+        EntryKind::Reference => entry.fxy == spec.fxy() && spec.is_reference(),
+        _ => entry.fxy == spec.fxy() && !spec.is_reference(),
+    }
 }
 
 /// The fault of another item than the expected one.
@@ -207,45 +223,21 @@ pub(crate) fn wrong_item(spec: &Spec, line: u64) -> DraftFault
     DraftFault::WrongDescriptor(line, expected)
 }
 
-/// Converts a short decimal to the content of its field.
+/// Converts an entry to the content of its field.
 #[inline(always)]
-fn decimal_content<'a>(
-    item: &KeptItem<'a>,
-    number: ShortDecimal,
-    spec: &Spec,
-) -> Result<FieldContent<'a>, DraftFault>
-    ensures is { returned (content_drawn (spec.now.width / 8)) result
-        ≡ Some (at_line_if_fault item.now.line (content_of spec.now
-        (draft item.now.line item.now.word (number_token (short_text number))))) }
-    ensures drawn { IfOk result (λ d. IsDrawn spec.now d) }
-{
-    if Fxy::from_word(item.word) != spec.fxy() || spec.is_reference() {
-        return Err(wrong_item(spec, item.line));
-    }
-    if spec.is_text() {
-        return Err(DraftFault::Number(item.line));
-    }
-    let read = number.scaled(spec.scale());
-    Ok(FieldContent::Number(raw_of_read(read, spec, item.line)?))
-}
-
-/// Converts an item to the content of its field.
-#[inline(always)]
-#[tactic(auto, using(crate::proofs::DrawLemmas::marks, crate::proofs::DrawLemmas::content_wrong, crate::proofs::DrawLemmas::content_there))]
+#[tactic(auto, using(crate::proofs::DrawLemmas::no_end))]
 // rule: fault-order-of-an-item
 pub(crate) fn field_content<'a>(
-    item: &KeptItem<'a>,
+    entry: &StoredEntry,
+    octets: &'a [u8],
     spec: &Spec,
 ) -> Result<FieldContent<'a>, DraftFault>
     ensures is { returned (content_drawn (spec.now.width / 8)) result
-        ≡ Some (at_line_if_fault item.now.line (content_of spec.now (kept_item item.now))) }
+        ≡ Some (entry_here spec.now (entry_with entry.now octets.now)) }
     ensures drawn { IfOk result (λ d. IsDrawn spec.now d) }
 {
-    if let KeptValue::Decimal(number) = item.value {
-        return decimal_content(item, number, spec);
+    if !is_item_of(entry, spec) {
+        return Err(wrong_item(spec, entry.line));
     }
-    if !is_item_of(item, spec) {
-        return Err(wrong_item(spec, item.line));
-    }
-    draw_form(item, spec)
+    draw_form(entry, octets, spec)
 }

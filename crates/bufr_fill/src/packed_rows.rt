@@ -2,14 +2,13 @@
 ghost use Rattle.std.specs.Prelude.{◌≡◌, ◌≤◌, ◌<◌, ◌+◌, ◌/◌, ◌^◌, ℕ, length, slice_get, get_or, Some, IfOk};
 ghost use Rattle.bufr_fill.specs.Encoding.{RowCell, cells_at, unlike_line};
 ghost use Rattle.bufr_fill.specs.Entries.{subsets_of};
-ghost use Rattle.bufr_fill.specs.PackedRows.{begin_of, cell_entry, entry_here, LineAt, AllDrawn, contents_drawn, ReturnsRow};
-ghost use Rattle.bufr_fill.specs.FieldContent.{returned, content_drawn, IsDrawn};
-ghost use Rattle.bufr_fill.specs.Kept.{kept_entry};
+ghost use Rattle.bufr_fill.specs.PackedRows.{begin_of, cell_entry, LineAt, AllDrawn, contents_drawn, ReturnsRow};
+ghost use Rattle.bufr_fill.specs.Kept.{entry_with};
 ghost use Rattle.bufr_fill.specs.PackedOut.{ends_of, first_line_at, EndsAllSubsets};
 
-use crate::entries::{Entries, KeptEntry};
+use crate::entries::{Entries, StoredEntry};
 use crate::fault::{DraftFault, Expected};
-use crate::field_value::{FieldContent, field_content, wrong_item};
+use crate::field_value::{FieldContent, field_content};
 use crate::packing::{NumberRange, is_same};
 use bufr_walk::Spec;
 
@@ -37,31 +36,24 @@ fn begin_of(ends: &[usize], subset: usize) -> usize
 /// Finds a subset's entry at an index, counted from its first: its item, or its end where that
 /// comes first.
 #[inline(always)]
-fn find_at<'s>(entries: &'s Entries, ends: &[usize], subset: usize, place: usize) -> KeptEntry<'s>
+fn find_at<'s>(
+    entries: &'s Entries,
+    ends: &[usize],
+    subset: usize,
+    place: usize,
+) -> (StoredEntry, &'s [u8])
     requires ends { ends.now ≡ ends_of 0 entries.now }
     requires few { length entries.now ≤ 2 ^ 45 }
     requires subset { subset < length ends.now }
     requires near { place ≤ 2 ^ 45 }
     ensures { (c : RowCell) → slice_get (cells_at place (subsets_of entries.now)) subset
-        ≡ Some c → kept_entry result ≡ cell_entry c }
+        ≡ Some c → entry_with result.0 result.1.now ≡ cell_entry c }
 {
     let start = begin_of(ends, subset);
     match entries.get(ends[subset].min(start + place)) {
         Some(found) => found,
         None => unreachable!(),
     }
-}
-
-/// A subset's entry at an index.
-fn entry_of<'s>(entries: &'s Entries, ends: &[usize], subset: usize, place: usize) -> KeptEntry<'s>
-    requires ends { ends.now ≡ ends_of 0 entries.now }
-    requires few { length entries.now ≤ 2 ^ 45 }
-    requires subset { subset < length ends.now }
-    requires near { place ≤ 2 ^ 45 }
-    ensures { (c : RowCell) → slice_get (cells_at place (subsets_of entries.now)) subset
-        ≡ Some c → kept_entry result ≡ cell_entry c }
-{
-    find_at(entries, ends, subset, place)
 }
 
 /// The line of a subset's entry at an index.
@@ -72,22 +64,8 @@ fn line_at(entries: &Entries, ends: &[usize], subset: usize, place: usize) -> u6
     requires near { place ≤ 2 ^ 45 }
     ensures { LineAt place subset entries.now result }
 {
-    match entry_of(entries, ends, subset, place) {
-        KeptEntry::Item(item) => item.line,
-        KeptEntry::End(line) => line,
-    }
-}
-
-/// Converts an entry to the content of its field.
-fn draw_found<'a>(found: KeptEntry<'a>, spec: &Spec) -> Result<FieldContent<'a>, DraftFault>
-    ensures is { returned (content_drawn (spec.now.width / 8)) result
-        ≡ Some (entry_here spec.now (kept_entry found.entry)) }
-    ensures drawn { IfOk result (λ d. IsDrawn spec.now d) }
-{
-    match found {
-        KeptEntry::Item(item) => field_content(&item, spec),
-        KeptEntry::End(line) => Err(wrong_item(spec, line)),
-    }
+    let (entry, _octets) = find_at(entries, ends, subset, place);
+    entry.line
 }
 
 /// Converts a row to the contents of its field, and returns the range of the numbers among them.
@@ -105,8 +83,8 @@ pub(crate) fn read_row<'a>(
     drawn.clear();
     let mut range = NumberRange::new();
     for subset in 0..row.ends.len() {
-        let found = find_at(row.entries, row.ends, subset, row.place);
-        let content = draw_found(found, &spec)?;
+        let (entry, octets) = find_at(row.entries, row.ends, subset, row.place);
+        let content = field_content(&entry, octets, &spec)?;
         range = range.with(content);
         match drawn.push(content) {
             Ok(()) => {}
@@ -160,11 +138,9 @@ pub(crate) fn all_at_end(entries: &Entries, ends: &[usize], place: usize) -> Res
     ensures { EndsAllSubsets place (subsets_of entries.now) result }
 {
     for subset in 0..ends.len() {
-        match entry_of(entries, ends, subset, place) {
-            KeptEntry::Item(item) => {
-                return Err(DraftFault::WrongDescriptor(item.line, Expected::EndOfSubset));
-            }
-            KeptEntry::End(_) => {}
+        let (entry, _octets) = find_at(entries, ends, subset, place);
+        if !entry.is_end() {
+            return Err(DraftFault::WrongDescriptor(entry.line, Expected::EndOfSubset));
         }
     }
     Ok(())

@@ -9,8 +9,6 @@ use Rattle.bufr_text.specs.Line as line
 use Rattle.bufr_text.specs.Documents as documents
 use Rattle.bufr_text.specs.Header.{are_in_range, IsHeaded}
 use Rattle.bufr_text.specs.Bounds.{IsOctet, IsDescriptorWord}
-use Rattle.bufr_bits.specs.ShortDecimal.{short_text}
-use Rattle.bufr_fill.specs.Draft.{number_token}
 use Rattle.bufr_fill.specs.Given.{form_in}
 use Rattle.bufr_text.specs.Proper.{IsProper}
 use Rattle.bufr_text.specs.declared.step.ParsedLine.{ParsedLine}
@@ -33,7 +31,6 @@ meaning (said.Local1 octets) = line.Local1 octets.now
 meaning (said.Section2 octets) = line.Section2 octets.now
 meaning (said.Descriptors words) = line.Descriptors words.now
 meaning (said.Begins subset) = line.Begins subset
-meaning (said.Decimal fxy number) = line.Item fxy (number_token (short_text number))
 meaning (said.Item fxy form) = line.Item fxy (form_in form)
 meaning said.Closes = line.Closes
 meaning said.Wrong = line.Wrong

@@ -133,13 +133,12 @@ impl DocumentParts {
     pub(crate) fn push_item(
         &mut self,
         line: u64,
-        fxy: u16,
+        fxy: Fxy,
         form: DraftValue<'_>,
     ) -> Result<(), AllocError>
         ensures { OnOk result
             (self.new ≡ with_entry self.old (Holds (draft line fxy (form_in form.entry)))) }
     {
-        let fxy = Fxy::from_word(fxy);
         self.entries.push_item(DraftItem { line, fxy, form })
     }
 
@@ -148,13 +147,13 @@ impl DocumentParts {
     pub(crate) fn push_decimal(
         &mut self,
         line: u64,
-        fxy: u16,
+        fxy: Fxy,
         number: ShortDecimal,
     ) -> Result<(), AllocError>
         ensures { OnOk result (self.new
             ≡ with_entry self.old (Holds (draft line fxy (number_token (short_text number))))) }
     {
-        self.entries.push_decimal(line, Fxy::from_word(fxy), number)
+        self.entries.push_decimal(line, fxy, number)
     }
 
     /// The end of a subset.

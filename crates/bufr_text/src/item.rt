@@ -4,7 +4,7 @@ ghost use Rattle.bufr_bits.specs.ShortDecimal.{short_text};
 ghost use Rattle.bufr_fill.specs.Draft.{number_token, reference_token};
 ghost use Rattle.bufr_fill.specs.Given.{form_in};
 ghost use Rattle.bufr_text.specs.Grammar.{prefix_while, suffix_while, without_prefix, fxy_read, is_number_octet, is_hashed, is_passed_after};
-ghost use Rattle.bufr_text.specs.Line.{made, value_read, item_line, number_value};
+ghost use Rattle.bufr_text.specs.Line.{made, value_read, item_line, number_value, line_of, Item};
 ghost use Rattle.bufr_text.specs.Step.{meaning};
 
 use crate::descriptors::fxy_prefix;
@@ -13,6 +13,7 @@ use crate::slice::{ahead, octet_at, suffix, without_prefix, without_space};
 use crate::step::ParsedLine;
 use bufr_bits::ShortDecimal;
 use bufr_fill::DraftValue;
+use bufr_tables::Fxy;
 
 /// Whether an octet may be in a number token.
 fn is_number_octet(octet: u8) -> bool
@@ -97,6 +98,22 @@ fn is_passed_after(text: &[u8]) -> bool
     text.is_empty() || text[0] == b' ' && is_hashed(text)
 }
 
+/// The descriptor and the number of an item line that has a short decimal, as nearly all do.
+#[inline(always)]
+pub(crate) fn decimal_item(line: &[u8]) -> Option<(Fxy, ShortDecimal)>
+    ensures { IfSome result
+        (λ read. line_of line.now ≡ Item read.0 (number_token (short_text read.1))) }
+{
+    if line.len() < 6 {
+        return None;
+    }
+    let (number, rest) = decimal(without_space(suffix(line, 6))?)?;
+    if !is_passed_after(rest) {
+        return None;
+    }
+    Some((Fxy::read(ahead(line, 6))?, number))
+}
+
 /// What an item line says that begins with a descriptor.
 pub(crate) fn item<'a>(text: &'a [u8], scratch: &'a mut [u8]) -> Option<ParsedLine<'a>>
     requires { length text.now ≤ length scratch.old }
@@ -104,12 +121,6 @@ pub(crate) fn item<'a>(text: &'a [u8], scratch: &'a mut [u8]) -> Option<ParsedLi
 {
     let (fxy, rest) = fxy_prefix(text)?;
     let text = without_space(rest)?;
-    if let Some((number, rest)) = decimal(text) {
-        if !is_passed_after(rest) {
-            return None;
-        }
-        return Some(ParsedLine::Decimal { fxy, number });
-    }
     let (form, rest) = value(text, scratch)?;
     if !is_passed_after(rest) {
         return None;

@@ -9,6 +9,7 @@ ghost use Rattle.bufr_text.specs.TakingLines.{TakesLines, FeedAt, WantsAt};
 
 use crate::descriptors::MOST_WORDS;
 use crate::document::DocumentParts;
+use crate::item::decimal_item;
 use crate::line::{MAX_LINE, read_line};
 use crate::slice::{ahead, suffix};
 use crate::step::{LineEffect, LineRefusal, ParserState, step};
@@ -43,8 +44,36 @@ fn feed(held: &[u8]) -> Option<usize>
 }
 
 /// A line that is whole.
+#[inline(always)]
+fn take_line(
+    progress: &mut Progress,
+    line: &[u8],
+    octets: &mut [u8; MAX_LINE],
+    words: &mut [u16; MOST_WORDS],
+) -> Result<LineEffect, AllocError>
+    requires holds { IsParserState progress.old.at
+        (place_with progress.old.place progress.old.parts) }
+    ensures turns { IfOk result (λ t. turned t progress.new.parts ≡ documents.turn progress.old.at
+        (place_with progress.old.place progress.old.parts) (line_within_limit line.now)) }
+    ensures at { progress.new.at ≡ progress.old.at }
+    ensures wants { OnErr result
+        (adds (place_with progress.old.place progress.old.parts) (line_within_limit line.now)
+        ≡ true) }
+{
+    if let ParserState::Filling(_) = progress.place
+        && line.len() <= MAX_LINE
+        && let Some((fxy, number)) = decimal_item(line)
+    {
+        progress.parts.push_decimal(progress.at, fxy, number)?;
+        return Ok(LineEffect::WalkGoes(progress.place));
+    }
+    take_other(progress, line, octets, words)
+}
+
+/// A line that is whole, and mostly no item with a short decimal.
+#[inline(never)]
 // rule: reading-longest-line
-pub(crate) fn take_line(
+fn take_other(
     progress: &mut Progress,
     line: &[u8],
     octets: &mut [u8; MAX_LINE],

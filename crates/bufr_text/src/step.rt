@@ -7,8 +7,8 @@ ghost use Rattle.bufr_text.specs.Step.{meaning, part_number, place_with, turned,
 
 use crate::document::DocumentParts;
 use crate::key::in_range;
-use bufr_bits::ShortDecimal;
 use bufr_fill::DraftValue;
+use bufr_tables::Fxy;
 use std::alloc::AllocError;
 
 /// What a line says. Octets of hexadecimal digits and of texts are those that they mean.
@@ -21,7 +21,6 @@ pub(crate) enum ParsedLine<'a> {
     Section2(&'a [u8]),
     Descriptors(&'a [u16]),
     Begins(u32),
-    Decimal { fxy: u16, number: ShortDecimal },
     Item { fxy: u16, form: DraftValue<'a> },
     Closes,
     Wrong,
@@ -172,12 +171,8 @@ fn filling(
         (adds (place_with (ParserState.Filling subset) parts.old) (meaning said.entry) ≡ true) }
 {
     let turn = match said {
-        ParsedLine::Decimal { fxy, number } => {
-            parts.push_decimal(at, fxy, number)?;
-            LineEffect::WalkGoes(ParserState::Filling(subset))
-        }
         ParsedLine::Item { fxy, form } => {
-            parts.push_item(at, fxy, form)?;
+            parts.push_item(at, Fxy::from_word(fxy), form)?;
             LineEffect::WalkGoes(ParserState::Filling(subset))
         }
         ParsedLine::Begins(next) => {
@@ -221,13 +216,6 @@ pub(crate) fn step(
         (λ t. turned t parts.new ≡ turn at (place_with place parts.old) (meaning said.entry)) }
     ensures wants { OnErr result (adds (place_with place parts.old) (meaning said.entry) ≡ true) }
 {
-    // Most lines by far are such items.
-    if let ParsedLine::Decimal { fxy, number } = said
-        && let ParserState::Filling(subset) = place
-    {
-        parts.push_decimal(at, fxy, number)?;
-        return Ok(LineEffect::WalkGoes(ParserState::Filling(subset)));
-    }
     if matches!(said, ParsedLine::Passed) {
         return Ok(LineEffect::WalkGoes(place));
     }

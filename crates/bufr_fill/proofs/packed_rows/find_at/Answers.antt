@@ -1,6 +1,6 @@
 use Rattle.std.proofs.Common.{sym, ap, ◌∙◌, arith}
 use Rattle.std.specs.Prelude.{slice_get}
-use Rattle.bufr_fill.specs.Kept.{kept_entry}
+use Rattle.bufr_fill.specs.Kept.{entry_with}
 use Rattle.bufr_fill.proofs.Places.{end_within, none_there, found_entry}
 use Rattle.bufr_fill.proofs.packed_rows.find_at.Goals as goal
 
@@ -14,5 +14,5 @@ unreachable-requires c =
 
 pub returns : goal.returns
 returns c =
-    found_entry c.args.place c.args.subset c.args.entries.now c.args.ends.now 0 c.begin_of-start.result (kept_entry c.in-Some.found) c.requires.ends c.requires.subset c.begin_of-start.ensures.value
+    found_entry c.args.place c.args.subset c.args.entries.now c.args.ends.now 0 c.begin_of-start.result (entry_with c.in-Some.found.0 c.in-Some.found.1.now) c.requires.ends c.requires.subset c.begin_of-start.ensures.value
     (ap (slice_get c.args.entries.now) (sym c.min.ensures) ∙ sym c.in-Some.ensures)
