@@ -12,8 +12,8 @@ use Rattle.bufr_fill.specs.Encoding.{at_line_if_fault}
 use Rattle.bufr_fill.specs.Fault.{at_line}
 use Rattle.bufr_fill.specs.Kept.{entry_by, value_by, is_end, is_entry_of}
 use Rattle.bufr_fill.specs.PackedRows.{entry_here}
-use Rattle.bufr_fill.specs.declared.entries.EntryKind.{EntryKind}
-use Rattle.bufr_fill.specs.declared.entries.EntryKind.TheVariants as kind
+use Rattle.bufr_fill.specs.declared.draft.EntryKind.{EntryKind}
+use Rattle.bufr_fill.specs.declared.draft.EntryKind.TheVariants as kind
 use Rattle.bufr_fill.specs.DraftContent.{is_of, is_marked, wrong_for, content_of, content_by_form}
 
 and_second : (a b : Bool) → (a && b) ≡ true → b ≡ true

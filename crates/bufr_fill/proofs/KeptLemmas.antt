@@ -8,9 +8,9 @@ use Rattle.bufr_fill.specs.Entries.{DraftEntry, Holds, Ends}
 use Rattle.bufr_fill.specs.Kept.{entry_by, entry_with, entry_stored, entries_stored, IsPlaced, IsEntryInside, AreInside}
 use Rattle.bufr_fill.specs.PackedRows.{entry_line}
 use Rattle.bufr_fill.specs.PlainOut.{line_at}
-use Rattle.bufr_fill.specs.declared.entries.EntryKind.{EntryKind}
-use Rattle.bufr_fill.specs.declared.entries.EntryKind.TheVariants as kind
-use Rattle.bufr_fill.specs.declared.entries.StoredEntry.{StoredEntry}
+use Rattle.bufr_fill.specs.declared.draft.EntryKind.{EntryKind}
+use Rattle.bufr_fill.specs.declared.draft.EntryKind.TheVariants as kind
+use Rattle.bufr_fill.specs.declared.draft.StoredEntry.{StoredEntry}
 
 -- octets after the block leave the entries unchanged
 range-append : (xs ys : List ℕ) (i j : ℕ) → i ≤ j → j ≤ length xs → slice_range (xs ++ ys) i j ≡ slice_range xs i j

@@ -8,9 +8,9 @@ use Rattle.bufr_fill.specs.Draft.{DraftValue, draft, number_token, text_form, mi
 use Rattle.bufr_walk.specs.FieldSpec.{FieldSpec}
 use Rattle.bufr_fill.specs.DraftContent.{is_of}
 use Rattle.bufr_fill.specs.Entries.{DraftEntry, Holds, Ends}
-use Rattle.bufr_fill.specs.declared.entries.EntryKind.{EntryKind}
-use Rattle.bufr_fill.specs.declared.entries.EntryKind.TheVariants as kind
-use Rattle.bufr_fill.specs.declared.entries.StoredEntry.{StoredEntry}
+use Rattle.bufr_fill.specs.declared.draft.EntryKind.{EntryKind}
+use Rattle.bufr_fill.specs.declared.draft.EntryKind.TheVariants as kind
+use Rattle.bufr_fill.specs.declared.draft.StoredEntry.{StoredEntry}
 
 -- the text of a short decimal
 abbrev pub decimal_of : (digits places : ℕ) → (negative : Bool) → List ℕ

@@ -1,9 +1,7 @@
 //! The writer of data that are not compressed, from the items of a dump text.
-
-use crate::entries::Entries;
+use crate::draft::Entries;
 use crate::fault::{DraftFault, Expected};
-use crate::field_value::{FieldContent, field_content, wrong_item};
-use crate::put::{push_content, taken_of};
+use crate::field_value::{FieldContent, field_content, push_content, taken_of, wrong_item};
 use bufr_bits::BitWriter;
 use bufr_walk::{Fields, Spec, Taken};
 use std::alloc::Global;
