@@ -13,11 +13,11 @@ use Rattle.bufr_text.specs.Dump.{text_of_lines}
 use Rattle.bufr_text.specs.Reading.{has_no_feed, ReaderPosition, ContinuesParse, TakesWholeLines}
 use Rattle.bufr_text.specs.Step.{place_with, line_fault_of, turned, IsParserState, HoldsAfter}
 use Rattle.bufr_text.specs.TakingLines.{FeedAt, step_results, position_with, position_after_take, TakesLines, IsTaking}
-use Rattle.bufr_text.specs.declared.progress.Progress.{Progress}
-use Rattle.bufr_text.specs.declared.progress.TakeResult.TheVariants as taken
-use Rattle.bufr_text.specs.declared.step.LineEffect.TheVariants as turn
-use Rattle.bufr_text.specs.declared.step.ParserState.{ParserState}
-use Rattle.bufr_text.specs.declared.step.LineRefusal.{LineRefusal}
+use Rattle.bufr_text.specs.declared.document.Progress.{Progress}
+use Rattle.bufr_text.specs.declared.document.TakeResult.TheVariants as taken
+use Rattle.bufr_text.specs.declared.document.LineEffect.TheVariants as turn
+use Rattle.bufr_text.specs.declared.document.ParserState.{ParserState}
+use Rattle.bufr_text.specs.declared.document.LineRefusal.{LineRefusal}
 use Rattle.bufr_text.proofs.HeaderLemmas.{turn-holds}
 use Rattle.bufr_text.proofs.SoundLemmas.{said-sound}
 use Rattle.bufr_text.proofs.ClosingLemmas.{gives-end}

@@ -11,16 +11,16 @@ use Rattle.bufr_text.specs.Header.{are_in_range, IsHeaded}
 use Rattle.bufr_text.specs.Bounds.{IsOctet, IsDescriptorWord}
 use Rattle.bufr_fill.specs.Given.{form_in}
 use Rattle.bufr_text.specs.Proper.{IsProper}
-use Rattle.bufr_text.specs.declared.step.ParsedLine.{ParsedLine}
-use Rattle.bufr_text.specs.declared.step.ParsedLine.TheVariants as said
-use Rattle.bufr_text.specs.declared.step.LineGroup.{LineGroup}
-use Rattle.bufr_text.specs.declared.step.LineGroup.TheVariants as written
-use Rattle.bufr_text.specs.declared.step.ParserState.{ParserState}
-use Rattle.bufr_text.specs.declared.step.ParserState.TheVariants as place
-use Rattle.bufr_text.specs.declared.step.LineRefusal.{LineRefusal}
-use Rattle.bufr_text.specs.declared.step.LineRefusal.TheVariants as refusal
-use Rattle.bufr_text.specs.declared.step.LineEffect.{LineEffect}
-use Rattle.bufr_text.specs.declared.step.LineEffect.TheVariants as turn
+use Rattle.bufr_text.specs.declared.document.ParsedLine.{ParsedLine}
+use Rattle.bufr_text.specs.declared.document.ParsedLine.TheVariants as said
+use Rattle.bufr_text.specs.declared.document.LineGroup.{LineGroup}
+use Rattle.bufr_text.specs.declared.document.LineGroup.TheVariants as written
+use Rattle.bufr_text.specs.declared.document.ParserState.{ParserState}
+use Rattle.bufr_text.specs.declared.document.ParserState.TheVariants as place
+use Rattle.bufr_text.specs.declared.document.LineRefusal.{LineRefusal}
+use Rattle.bufr_text.specs.declared.document.LineRefusal.TheVariants as refusal
+use Rattle.bufr_text.specs.declared.document.LineEffect.{LineEffect}
+use Rattle.bufr_text.specs.declared.document.LineEffect.TheVariants as turn
 
 -- what a line that was read says
 abbrev pub meaning : ParsedLine → line.Line
