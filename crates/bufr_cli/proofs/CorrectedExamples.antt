@@ -11,7 +11,7 @@ use Rattle.bufr_text.specs.Dump.{header_lines}
 use Rattle.bufr_text.specs.Encoding.{encoding_in}
 use Rattle.bufr_text.specs.Grammar.{prefix_while, suffix_while, without_prefix, descriptors_read, descriptors_text, fxy_read, hex_read, hex_text, is_hashed, quoted_read, runs_after}
 use Rattle.bufr_text.specs.Line.{keys, line_of, place_from, value_read, worded}
-use Rattle.bufr_text.specs.declared.form.Form.TheVariants.{AsWritten}
+use Rattle.bufr_text.specs.declared.encode.Form.TheVariants.{AsWritten}
 use Rattle.bufr_cli.specs.Corrected.{normal_texts}
 use Rattle.bufr_cli.proofs.RoundTripExamples.{blocks}
 

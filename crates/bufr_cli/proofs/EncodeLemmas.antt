@@ -18,7 +18,7 @@ use Rattle.bufr_text.specs.Documents as documents
 use Rattle.bufr_text.specs.Reader.{ReaderModel, new_reader, position_of, parse_results, ReadsLines, ReturnsNextDocument, ReadsDocument, LeavesReader, CountsTextReads, HasNoWholeLine, failures_by}
 use Rattle.bufr_text.specs.Writing.{GrowsByPrefix, Writes}
 use Rattle.bufr_text.specs.declared.fault.ReadFault.{ReadFault}
-use Rattle.bufr_text.specs.declared.form.Form.{Form}
+use Rattle.bufr_text.specs.declared.encode.Form.{Form}
 use Rattle.bufr_text.specs.declared.fault.ReadFault.TheVariants.{Line, SubsetCount, HeaderRange, Run}
 use Rattle.bufr_cli.specs.DocumentLine.{refused_line}
 use Rattle.bufr_cli.specs.EncodePieces.{result_piece, encode_pieces, up_to_refused}

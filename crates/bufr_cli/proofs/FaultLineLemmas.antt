@@ -8,8 +8,8 @@ use Rattle.bufr_text.specs.EncodingFault.{number_of_walk_refusal, walk_report}
 use Rattle.bufr_text.specs.Lines.{LineModel, Pushes}
 use Rattle.bufr_text.specs.Reader.{parse_results}
 use Rattle.bufr_text.specs.Writing.{GrowsByPrefix, Writes, joined}
-use Rattle.bufr_text.specs.declared.encode_fault.WalkRefusal.{WalkRefusal}
-use Rattle.bufr_text.specs.declared.encode_fault.WalkRefusal.TheVariants as walk
+use Rattle.bufr_text.specs.declared.fault.WalkRefusal.{WalkRefusal}
+use Rattle.bufr_text.specs.declared.fault.WalkRefusal.TheVariants as walk
 use Rattle.bufr_text.specs.declared.fault.ReadFault.{ReadFault}
 use Rattle.bufr_text.specs.declared.fault.ReadFault.TheVariants as read
 use Rattle.bufr_text.proofs.PushLemmas.{retold}

@@ -29,7 +29,7 @@ use Rattle.bufr_text.proofs.RoundTripLemmas.{accepted_again, encoded_again, same
 use Rattle.bufr_text.proofs.LawLemmas.{text-spells}
 use Rattle.bufr_text.proofs.RowsLemmas.{rows-read, good-rows}
 use Rattle.bufr_cli.specs.DumpPieces.{IsDataPiece, IsTemplatePiece, IsMessagePiece, IsDumpPiece, dump_text}
-use Rattle.bufr_text.specs.declared.form.Form.TheVariants.{AsWritten}
+use Rattle.bufr_text.specs.declared.encode.Form.TheVariants.{AsWritten}
 use Rattle.bufr_cli.specs.EncodePieces.{encoded, result_piece, up_to_refused}
 use Rattle.bufr_cli.specs.Pieces.{Piece, OnOutput, OnErrors, output_of, errors_of, is_accepted, is_refused}
 use Rattle.bufr_cli.specs.RoundTrip.{accepted_in, accepted_messages, dump_pieces, dumped, longer_by, event_octets, rebuilding, rebuilt, text_pieces, IsBuiltAgain, IsWholeRound, IsCanonicalMessage, RoundTrips, Written}

@@ -5,7 +5,7 @@ use Rattle.bufr_tables.specs.TableB.{Row}
 use Rattle.bufr_tables.specs.TableD.{Sequence}
 use Rattle.bufr_text.specs.Documents.{ParseResult, Complete, Refused}
 use Rattle.bufr_text.specs.Encoding.{RefusedAt, encoding_in}
-use Rattle.bufr_text.specs.declared.form.Form.{Form}
+use Rattle.bufr_text.specs.declared.encode.Form.{Form}
 use Rattle.bufr_cli.specs.DocumentLine.{refused_line, refusal_line}
 use Rattle.bufr_cli.specs.Pieces.{Piece, OnOutput, OnErrors}
 

@@ -11,7 +11,7 @@ use Rattle.bufr_tables.specs.Steps.{ReturnsUnlessMemory}
 use Rattle.bufr_tables.specs.TableB.{Row, table_b_of}
 use Rattle.bufr_tables.specs.TableD.{Sequence}
 use Rattle.bufr_tables.specs.declared.fault.TableFault.{TableFault}
-use Rattle.bufr_text.specs.declared.form.Form.{Form}
+use Rattle.bufr_text.specs.declared.encode.Form.{Form}
 use Rattle.bufr_cli.specs.Devices.{Writers}
 use Rattle.bufr_cli.specs.DumpPieces.{IsDumpPiece}
 use Rattle.bufr_cli.specs.EncodePieces.{encode_pieces}

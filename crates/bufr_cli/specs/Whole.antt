@@ -4,7 +4,7 @@ use Rattle.std.specs.Prelude.{ℕ, List, map}
 use Rattle.bufr_frame.specs.Scan.{StreamEvent, scan}
 use Rattle.bufr_tables.specs.TableB.{Row}
 use Rattle.bufr_tables.specs.TableD.{Sequence}
-use Rattle.bufr_text.specs.declared.form.Form.{Form}
+use Rattle.bufr_text.specs.declared.encode.Form.{Form}
 use Rattle.bufr_text.specs.Documents.{documents_of}
 use Rattle.bufr_cli.specs.Devices.{Writers}
 use Rattle.bufr_cli.specs.DumpPieces.{IsDumpPiece}

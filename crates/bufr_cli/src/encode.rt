@@ -4,7 +4,7 @@ ghost use Rattle.bufr_frame.specs.Runs.{read_failures_after};
 ghost use Rattle.bufr_text.specs.Documents.{Complete};
 ghost use Rattle.bufr_text.specs.Encoding.{encoding_in};
 ghost use Rattle.bufr_text.specs.EncodingFault.{IsDocumentRefusal, reported_refusal};
-ghost use Rattle.bufr_text.specs.declared.form.Form.TheVariants.{AsWritten};
+ghost use Rattle.bufr_text.specs.declared.encode.Form.TheVariants.{AsWritten};
 ghost use Rattle.bufr_cli.specs.EncodePieces.{encode_pieces, result_piece};
 ghost use Rattle.bufr_cli.specs.EncodeRun.{EncodesSoFar, RunsEncode};
 ghost use Rattle.bufr_cli.specs.EncodeReporting.{ReportsNext};
@@ -20,7 +20,7 @@ use crate::run_events::flush;
 use bufr_bits::{Sink, Source};
 use bufr_frame::RunFault;
 use bufr_tables::{TableB, TableD, TemplateFault};
-use bufr_text::{Document, DocumentFault, DumpReader, Form, ReadFault, encode_by, write_all};
+use bufr_text::{encode_by, write_all, Document, DocumentFault, DumpReader, Form, ReadFault};
 use bufr_walk::{Steps, TemplateCache};
 use std::alloc::Global;
 

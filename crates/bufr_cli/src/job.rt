@@ -3,9 +3,8 @@ ghost use Rattle.std.specs.Prelude.{◌≡◌, IfErr, IfNone, IfOk, IfSome, code
 ghost use Rattle.clap.specs.declared.builder.command.Command.TheViews.{out-Command};
 ghost use Rattle.clap.specs.Values.{kind_of};
 ghost use Rattle.clap.specs.Words.{app_of, fault_of, first_of, found_of, new_app, new_rule, rows_of, rule_of, subcommand_of};
-ghost use Rattle.bufr_text.specs.declared.form.Form.{Form};
-ghost use Rattle.bufr_cli.specs.Line.{bufr_app, encode_app, form_rule, ls_app, name_of, no_job_text, table_rule, tables_app, top_app, word_of};
-ghost use Rattle.bufr_cli.specs.Line.{AreNamed, HasTables, IsJobOf, IsWhyNoJob, LacksForm, LacksTables, SaysWhy, ReportsKind};
+ghost use Rattle.bufr_text.specs.declared.encode.Form.{Form};
+ghost use Rattle.bufr_cli.specs.Line.{bufr_app, encode_app, form_rule, ls_app, name_of, no_job_text, table_rule, tables_app, top_app, word_of, AreNamed, HasTables, IsJobOf, IsWhyNoJob, LacksForm, LacksTables, SaysWhy, ReportsKind};
 
 use bufr_text::Form;
 use clap::error::ErrorKind;

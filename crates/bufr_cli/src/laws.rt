@@ -14,8 +14,8 @@ ghost use Rattle.bufr_tables.specs.Records.{Record};
 ghost use Rattle.bufr_tables.specs.TableB.{Row, AreRows};
 ghost use Rattle.bufr_tables.specs.TableD.{Sequence};
 ghost use Rattle.bufr_text.specs.Bounds.{IsOctet};
-ghost use Rattle.bufr_text.specs.declared.form.Form.{Form};
-ghost use Rattle.bufr_text.specs.declared.form.Form.TheVariants.{AsWritten};
+ghost use Rattle.bufr_text.specs.declared.encode.Form.{Form};
+ghost use Rattle.bufr_text.specs.declared.encode.Form.TheVariants.{AsWritten};
 ghost use Rattle.bufr_bits.specs.Script.{taken_of};
 
 use crate::dump::run_dump;

@@ -1,7 +1,9 @@
 -- One item of all subsets, as the code writes it.
-use Rattle.std.proofs.Common.{◌≡◌, ℕ, ◌+◌, ◌*◌, ◌<◌, ◌≤◌, ◌&&◌, Bool, true, false, List, [], ◌∷◌, length, get_or, Option, Some, None, Ok, Err, sym, ◌∙◌, ap, arith}
+use Rattle.std.proofs.Common.{◌≡◌, ◌⊎◌, inl, inr, ℕ, ◌+◌, ◌*◌, ◌<◌, ◌≤◌, ◌&&◌, Bool, true, false, List, [], ◌∷◌, ◌++◌, ◌/◌, length, get_or, Option, Some, None, Ok, Err, sym, ◌∙◌, ap, arith}
 use Rattle.std.specs.Prelude.{nat_lt, if◌then◌else◌}
 use Rattle.std.proofs.lemmas.Bool.Decides.{nat_tests}
+use Rattle.bufr_walk.specs.declared.spec.Role.{Role}
+use Rattle.bufr_walk.specs.declared.spec.Role.TheVariants as role
 use Rattle.bufr_walk.specs.declared.spec.Taken.{Taken}
 use Rattle.bufr_fill.specs.declared.field_value.FieldContent.{FieldContent}
 use Rattle.bufr_walk.specs.FieldSpec.{FieldSpec}
@@ -15,7 +17,8 @@ use Rattle.bufr_fill.specs.Filling.{written_item}
 use Rattle.bufr_fill.specs.FieldContent.{content_drawn}
 use Rattle.bufr_fill.specs.Encoding.{item_row, cells_at, contents_here, first_line, unlike_line, packed_to, pack_across, ◌>>=◌}
 use Rattle.bufr_fill.specs.PackedRows.{contents_drawn}
-use Rattle.bufr_fill.specs.Packing.{packing, packed_bits, packed_unlike, are_same}
+use Rattle.bufr_fill.specs.Packs.{IsPutWithin}
+use Rattle.bufr_fill.specs.Packing.{packing, packed_bits, packed_by, packed_unlike, are_same}
 use Rattle.bufr_fill.specs.PlainOut.{IfDraftFault}
 use Rattle.bufr_fill.proofs.LeastLemmas.{content_self}
 
@@ -73,3 +76,33 @@ packed_apart spec count [] z h e = absurd (omega (arith, h))
 packed_apart spec count (d ∷ ds) z h e =
     ap (λ b. if b then Ok (packed_bits (bits_for spec.width (content_drawn count d)) 0 []) else packed_unlike spec.role spec (contents_drawn count (d ∷ ds)))
     (ap (λ t. t && are_same (content_drawn count d) (contents_drawn count ds)) (sym (content_self (content_drawn count d))) ∙ e)
+
+-- elements that differ go by their kind
+pub apart_by : (spec : FieldSpec) (cs : List Content) (r : Role) → r ≡ spec.role → (r ≡ role.Element) ⊎ (r ≡ role.Inserted) → packed_unlike spec.role spec cs ≡ packed_by spec.kind spec cs
+apart_by spec cs r is (inl e) = ap (λ a. packed_unlike a spec cs) (sym is ∙ e)
+apart_by spec cs r is (inr e) = ap (λ a. packed_unlike a spec cs) (sym is ∙ e)
+
+-- the item was put, by its bits
+pub put_within : (spec : FieldSpec) (place : ℕ) (subsets : List Subset) (ds : List FieldContent) (z : FieldContent) (t : Taken) (old new bits : List Bool) (most : ℕ) → (place + 1) * length (cells_at place subsets) ≤ max_values
+    → contents_here spec (cells_at place subsets) ≡ Ok (contents_drawn (spec.width / 8) ds) → 0 < length ds → t ≡ answer_of spec (content_drawn (spec.width / 8) (get_or ds 0 z))
+    → packing spec (contents_drawn (spec.width / 8) ds) ≡ Ok bits → new ≡ old ++ bits → length bits ≤ most → length old < length new → IsPutWithin old new spec (item_row place subsets) most t
+put_within spec place subsets ds z t old new bits most few given some gives packed is fits forth = record {
+  put = record {
+    contents = contents_drawn (spec.width / 8) ds;
+    item = bits;
+    is = put_ok spec place subsets few (contents_drawn (spec.width / 8) ds) bits given packed;
+    gives = answers_first spec (spec.width / 8) ds z t some gives;
+    bits = is;
+    forth = forth;
+  };
+  few = fits;
+}
+
+-- the same by what packed it, where the contents differ
+pub put_packed : (spec : FieldSpec) (place : ℕ) (subsets : List Subset) (ds : List FieldContent) (z : FieldContent) (t : Taken) (old new : List Bool) (few most : ℕ) → (place + 1) * length (cells_at place subsets) ≤ max_values
+    → contents_here spec (cells_at place subsets) ≡ Ok (contents_drawn (spec.width / 8) ds) → 0 < length ds → t ≡ answer_of spec (content_drawn (spec.width / 8) (get_or ds 0 z))
+    → packing spec (contents_drawn (spec.width / 8) ds) ≡ packed_by spec.kind spec (contents_drawn (spec.width / 8) ds) → few ≤ most
+    → (bits : List Bool) × (packed_by spec.kind spec (contents_drawn (spec.width / 8) ds) ≡ Ok bits) × (new ≡ old ++ bits) × (length bits ≤ few) × (length old < length new)
+    → IsPutWithin old new spec (item_row place subsets) most t
+put_packed spec place subsets ds z t old new few most values given some gives apart within (bits, packed, is, fits, forth) =
+    put_within spec place subsets ds z t old new bits most values given some gives (apart ∙ packed) is (omega (arith, fits, within)) forth

@@ -14,6 +14,7 @@ use Rattle.bufr_fill.specs.PackedRows.{entry_or_end, cell_entry, entry_here, ent
 use Rattle.bufr_fill.specs.PlainOut.{IfDraftFault}
 use Rattle.bufr_fill.specs.Packing.{same}
 use Rattle.bufr_fill.specs.PackedOut.{and_end, all_at_end}
+use Rattle.bufr_fill.specs.Kept.{is_end}
 use Rattle.bufr_fill.proofs.PackSteps.{at_index}
 
 -- the cell at a number
@@ -85,25 +86,27 @@ pub gathered : (count : ℕ) (spec : FieldSpec) (cells : List RowCell) (j : ℕ)
 gathered count spec cells j ds inv h = inv.so ∙ ap (λ cs. with_contents_before (contents_drawn count ds) (contents_here spec cs)) (drop_none cells j h) ∙ ap Ok (append-nil (contents_drawn count ds))
 
 -- whether all subsets end
-pub end_item : (cells : List RowCell) (j : ℕ) (e : DraftEntry) (d : Draft) → j < length cells → ((c : RowCell) → slice_get cells j ≡ Some c → e ≡ cell_entry c) → e ≡ Holds d → all_at_end cells ≡ all_at_end (drop j cells) → all_at_end cells ≡ Err (at_line d.line item_too_many)
-end_item cells j e d h here is inv = by (cell_at cells j h)
+pub end_item : (cells : List RowCell) (j : ℕ) (e : DraftEntry) → j < length cells → ((c : RowCell) → slice_get cells j ≡ Some c → e ≡ cell_entry c) → is_end e ≡ false → all_at_end cells ≡ all_at_end (drop j cells) → all_at_end cells ≡ Err (at_line (entry_line e) item_too_many)
+end_item cells j (Ends line) h here is inv = absurd cc
+end_item cells j (Holds d) h here is inv = by (cell_at cells j h)
   where
     item : (o : Option Draft) (line : ℕ) → entry_or_end o line ≡ Holds d → (r : Result (Unit {0}) FaultAt) → and_end o r ≡ Err (at_line d.line item_too_many)
     item None line q r = absurd cc
     item (Some x) line q r = let same : x ≡ d = cc in ap (λ (z : Draft). Err (at_line z.line item_too_many)) same
 
     by : CellAt cells j → all_at_end cells ≡ Err (at_line d.line item_too_many)
-    by k = inv ∙ ap all_at_end k.left ∙ item k.cell.draft k.cell.end_line (sym (here k.cell k.is) ∙ is) (all_at_end (drop (j + 1) cells))
+    by k = inv ∙ ap all_at_end k.left ∙ item k.cell.draft k.cell.end_line (sym (here k.cell k.is)) (all_at_end (drop (j + 1) cells))
 
-pub end_more : (cells : List RowCell) (j : ℕ) (e : DraftEntry) (line : ℕ) → j < length cells → ((c : RowCell) → slice_get cells j ≡ Some c → e ≡ cell_entry c) → e ≡ Ends line → all_at_end cells ≡ all_at_end (drop j cells) → all_at_end cells ≡ all_at_end (drop (j + 1) cells)
-end_more cells j e line h here is inv = by (cell_at cells j h)
+pub end_more : (cells : List RowCell) (j : ℕ) (e : DraftEntry) → j < length cells → ((c : RowCell) → slice_get cells j ≡ Some c → e ≡ cell_entry c) → is_end e ≡ true → all_at_end cells ≡ all_at_end (drop j cells) → all_at_end cells ≡ all_at_end (drop (j + 1) cells)
+end_more cells j (Holds d) h here is inv = absurd cc
+end_more cells j (Ends line) h here is inv = by (cell_at cells j h)
   where
     ends : (o : Option Draft) (l : ℕ) → entry_or_end o l ≡ Ends line → (r : Result (Unit {0}) FaultAt) → and_end o r ≡ r
     ends None l q r = refl
     ends (Some x) l q r = absurd cc
 
     by : CellAt cells j → all_at_end cells ≡ all_at_end (drop (j + 1) cells)
-    by k = inv ∙ ap all_at_end k.left ∙ ends k.cell.draft k.cell.end_line (sym (here k.cell k.is) ∙ is) (all_at_end (drop (j + 1) cells))
+    by k = inv ∙ ap all_at_end k.left ∙ ends k.cell.draft k.cell.end_line (sym (here k.cell k.is)) (all_at_end (drop (j + 1) cells))
 
 pub end_done : (cells : List RowCell) (j : ℕ) → length cells ≤ j → all_at_end cells ≡ all_at_end (drop j cells) → all_at_end cells ≡ Ok tt
 end_done cells j h inv = inv ∙ ap all_at_end (drop_none cells j h)

@@ -4,11 +4,13 @@ use Rattle.std.specs.Prelude.{slice_range, slice_get, option_map}
 use Rattle.std.proofs.lemmas.List.{take-append-le, drop-append-le, length-drop, length-map, map-append, take_all}
 use Rattle.std.proofs.lemmas.Option.{slice_get-map, slice_get-get_or, slice_get_past}
 use Rattle.std.proofs.Math.Seq.{drop-append_seam}
-use Rattle.bufr_fill.specs.Entries.{DraftEntry}
-use Rattle.bufr_fill.specs.Kept.{entry_by, entry_stored, entries_stored, IsPlaced, IsEntryInside, AreInside}
-use Rattle.bufr_fill.specs.declared.entries.EntryKind.{EntryKind}
-use Rattle.bufr_fill.specs.declared.entries.EntryKind.TheVariants as kind
-use Rattle.bufr_fill.specs.declared.entries.StoredEntry.{StoredEntry}
+use Rattle.bufr_fill.specs.Entries.{DraftEntry, Holds, Ends}
+use Rattle.bufr_fill.specs.Kept.{entry_by, entry_with, entry_stored, entries_stored, IsPlaced, IsEntryInside, AreInside}
+use Rattle.bufr_fill.specs.PackedRows.{entry_line}
+use Rattle.bufr_fill.specs.PlainOut.{line_at}
+use Rattle.bufr_fill.specs.declared.draft.EntryKind.{EntryKind}
+use Rattle.bufr_fill.specs.declared.draft.EntryKind.TheVariants as kind
+use Rattle.bufr_fill.specs.declared.draft.StoredEntry.{StoredEntry}
 
 -- octets after the block leave the entries unchanged
 range-append : (xs ys : List ℕ) (i j : ℕ) → i ≤ j → j ≤ length xs → slice_range (xs ++ ys) i j ≡ slice_range xs i j
@@ -68,3 +70,23 @@ pub kept-past : (octets : List ℕ) (cells : List StoredEntry) (entries : List D
 kept-past octets cells entries place are past =
     sym (ap (λ (t : List DraftEntry). slice_get t place) (sym are)
     ∙ slice_get_past (entries_stored octets cells) place (omega (arith, length-map cells (entry_stored octets))))
+
+-- the line of an entry is the one that is stored
+pub line-is : (k : StoredEntry) (octets : List ℕ) → entry_line (entry_with k octets) ≡ k.line
+line-is k octets = by k.kind
+  where
+    by : (one : EntryKind) → entry_line (entry_by one k.line k.fxy k.start octets) ≡ k.line
+    by (kind.Decimal places negative) = refl
+    by kind.Number = refl
+    by kind.Text = refl
+    by kind.Missing = refl
+    by kind.Reference = refl
+    by kind.End = refl
+
+-- and so is that of the entries which it begins
+pub line-with : (k : StoredEntry) (octets : List ℕ) (more : List DraftEntry) → line_at (entry_with k octets ∷ more) ≡ k.line
+line-with k octets more = by (entry_with k octets) (line-is k octets)
+  where
+    by : (e : DraftEntry) → entry_line e ≡ k.line → line_at (e ∷ more) ≡ k.line
+    by (Holds d) h = h
+    by (Ends line) h = h

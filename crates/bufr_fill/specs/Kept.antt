@@ -4,38 +4,28 @@
 use Rattle.std.specs.Prelude.{ℕ, ◌≤◌, Bool, true, false, List, map, slice_range}
 use Rattle.std.specs.List.{AllByRecursion}
 use Rattle.bufr_bits.specs.ShortDecimal.{short_text}
-use Rattle.bufr_fill.specs.Draft.{Draft, DraftValue, draft, number_token, text_form, missing_form, reference_token}
+use Rattle.bufr_fill.specs.Draft.{DraftValue, draft, number_token, text_form, missing_form, reference_token}
+use Rattle.bufr_walk.specs.FieldSpec.{FieldSpec}
+use Rattle.bufr_fill.specs.DraftContent.{is_of}
 use Rattle.bufr_fill.specs.Entries.{DraftEntry, Holds, Ends}
-use Rattle.bufr_fill.specs.declared.entries.EntryKind.{EntryKind}
-use Rattle.bufr_fill.specs.declared.entries.EntryKind.TheVariants as kind
-use Rattle.bufr_fill.specs.declared.entries.KeptValue.{KeptValue}
-use Rattle.bufr_fill.specs.declared.entries.KeptValue.TheVariants as value
-use Rattle.bufr_fill.specs.declared.entries.KeptItem.{KeptItem}
-use Rattle.bufr_fill.specs.declared.entries.KeptEntry.{KeptEntry}
-use Rattle.bufr_fill.specs.declared.entries.KeptEntry.TheVariants as entry
-use Rattle.bufr_fill.specs.declared.entries.StoredEntry.{StoredEntry}
-
--- the value of a kept item
-abbrev pub kept_value : KeptValue → DraftValue
-kept_value (value.Decimal number) = number_token (short_text number)
-kept_value (value.Number octets) = number_token octets.now
-kept_value (value.Text octets) = text_form octets.now
-kept_value value.Missing = missing_form
-kept_value (value.Reference octets) = reference_token octets.now
-
--- a kept item
-abbrev pub kept_item : KeptItem → Draft
-kept_item item = draft item.line item.word (kept_value item.value)
-
--- a kept entry
-abbrev pub kept_entry : KeptEntry → DraftEntry
-kept_entry (entry.Item item) = Holds (kept_item item)
-kept_entry (entry.End line) = Ends line
+use Rattle.bufr_fill.specs.declared.draft.EntryKind.{EntryKind}
+use Rattle.bufr_fill.specs.declared.draft.EntryKind.TheVariants as kind
+use Rattle.bufr_fill.specs.declared.draft.StoredEntry.{StoredEntry}
 
 -- the text of a short decimal
 abbrev pub decimal_of : (digits places : ℕ) → (negative : Bool) → List ℕ
 decimal_of digits places negative = short_text
     (record { digits = digits; places = places; negative = negative })
+
+-- the value of a kind with digits or octets; the end of a subset has none
+abbrev pub value_by : EntryKind → (digits : ℕ) → List ℕ → DraftValue
+value_by (kind.Decimal places negative) digits octets = number_token
+    (decimal_of digits places negative)
+value_by kind.Number digits octets = number_token octets
+value_by kind.Text digits octets = text_form octets
+value_by kind.Missing digits octets = missing_form
+value_by kind.Reference digits octets = reference_token octets
+value_by kind.End digits octets = missing_form
 
 -- the entry of a line with a descriptor, and digits or octets
 abbrev pub entry_by : EntryKind → (line fxy digits : ℕ) → List ℕ → DraftEntry
@@ -47,9 +37,13 @@ entry_by kind.Missing line fxy digits octets = Holds (draft line fxy missing_for
 entry_by kind.Reference line fxy digits octets = Holds (draft line fxy (reference_token octets))
 entry_by kind.End line fxy digits octets = Ends line
 
--- the entry of a stored one
+-- the entry of a stored one with these octets
+abbrev pub entry_with : StoredEntry → List ℕ → DraftEntry
+entry_with k octets = entry_by k.kind k.line k.fxy k.start octets
+
+-- the entry of a stored one, whose octets are in a block
 abbrev pub entry_stored : List ℕ → StoredEntry → DraftEntry
-entry_stored octets k = entry_by k.kind k.line k.fxy k.start (slice_range octets k.start k.end)
+entry_stored block k = entry_with k (slice_range block k.start k.end)
 
 -- the entries of all stored ones
 abbrev pub entries_stored : List ℕ → List StoredEntry → List DraftEntry
@@ -59,6 +53,11 @@ entries_stored octets kept = map (entry_stored octets) kept
 abbrev pub is_end : DraftEntry → Bool
 is_end (Holds d) = false
 is_end (Ends line) = true
+
+-- whether an entry is an item of a field
+abbrev pub is_entry_of : FieldSpec → DraftEntry → Bool
+is_entry_of spec (Holds d) = is_of spec d
+is_entry_of spec (Ends line) = false
 
 -- the octets of an entry, if it has any, are in order and inside the block
 abbrev pub IsPlaced : EntryKind → (size start end : ℕ) → Type 0

@@ -3,7 +3,7 @@
 use Rattle.std.specs.Prelude.{ℕ, zero, suc, ◌≡◌, ◌≤◌, ◌++◌, List, [], ◌∷◌, length, drop, slice_get, Option, Some, None, Result, Ok, Err}
 use Rattle.bufr_fill.specs.declared.fault.DraftFault.{DraftFault}
 use Rattle.bufr_fill.specs.declared.field_value.FieldContent.{FieldContent}
-use Rattle.bufr_fill.specs.declared.packing.NumberRange.{NumberRange}
+use Rattle.bufr_fill.specs.declared.packed_out.NumberRange.{NumberRange}
 use Rattle.bufr_walk.specs.FieldSpec.{FieldSpec}
 use Rattle.bufr_walk.specs.Content.{Content}
 use Rattle.bufr_fill.specs.Draft.{Draft}

@@ -2,8 +2,6 @@
 -- Cited by private steps only.
 use Rattle.std.specs.Prelude.{ℕ, zero, suc, ◌≡◌, ◌≤◌, ◌<◌, ◌-◌, ◌^◌, ◌==◌, ◌&&◌, nat_lt, max, min, Bool, if◌then◌else◌, List, [], ◌∷◌, ◌++◌, length, take, Result, Ok, Err}
 use Rattle.std.specs.List.{list_all}
-use Rattle.bufr_fill.specs.declared.packing.PackingFault.{PackingFault}
-use Rattle.bufr_fill.specs.declared.packing.PackingFault.TheVariants as unpacked
 use Rattle.bufr_fill.specs.declared.field_value.FieldContent.{FieldContent}
 use Rattle.bufr_fill.specs.declared.field_value.FieldContent.TheVariants as drawn
 use Rattle.bufr_fill.specs.Packing.{raw_limit, first_from}
@@ -14,7 +12,7 @@ use Rattle.bufr_fill.specs.Encoding.{ItemRow, pack_across}
 use Rattle.bufr_fill.specs.PackedOut.{IsPutAcross}
 use Rattle.bufr_fill.specs.PlainOut.{IfDraftFault}
 use Rattle.bufr_fill.specs.DraftFaults.{draft_fault}
-use Rattle.bufr_walk.specs.PlainField.{FieldFault, increment, unequal_factor}
+use Rattle.bufr_walk.specs.PlainField.{FieldFault}
 
 -- an increment over a base
 abbrev pub over_of : (base : ℕ) → FieldContent → ℕ
@@ -67,16 +65,13 @@ octet_in [] i = 32
 octet_in (o ∷ os) zero = o
 octet_in (o ∷ os) (suc i) = octet_in os i
 
--- an item was packed in at most `most` bits, or it cannot be, or memory ran out
+-- an item was packed in at most `most` bits, or memory ran out
 abbrev pub PacksItem : (old new : List Bool) → (expected : Result (List Bool) FieldFault)
-    → (most : ℕ) → Result (Unit {0}) PackingFault → Type 0
+    → (most : ℕ) → {E : Type 0} → Result (Unit {0}) E → Type 0
 PacksItem old new expected most (Ok _) =
     (bits : List Bool) × (expected ≡ Ok bits) × (new ≡ old ++ bits) × (length bits ≤ most)
     × (length old < length new)
-PacksItem old new expected most (Err unpacked.Unequal) =
-    (expected ≡ Err unequal_factor) × (new ≡ old)
-PacksItem old new expected most (Err unpacked.Uneven) = (expected ≡ Err increment) × (new ≡ old)
-PacksItem old new expected most (Err unpacked.Memory) = new ≡ old
+PacksItem old new expected most (Err _) = new ≡ old
 
 -- a content's increment over a base fits k bits
 abbrev pub FitsIncrement : (base k : ℕ) → FieldContent → Type 0

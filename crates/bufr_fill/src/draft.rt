@@ -1,5 +1,14 @@
-//! The items of a dump text.
+//! The items of a dump text, and the entries of a document, which are kept in one block.
+ghost use Rattle.std.specs.Prelude.{◌≡◌, ◌≤◌, ℕ, List, length, option_map, slice_get};
+ghost use Rattle.bufr_fill.specs.Draft.{draft};
+ghost use Rattle.bufr_fill.specs.Entries.{DraftEntry, Holds};
+ghost use Rattle.bufr_fill.specs.Given.{form_in};
+ghost use Rattle.bufr_fill.specs.Kept.{entry_by, entry_stored, entry_with, IsEntryInside, IsPlaced};
+
+use bufr_bits::ShortDecimal;
 use bufr_tables::Fxy;
+use std::alloc::{AllocError, Global};
+use std::marker::Model;
 
 /// The value of an item, as the dump text writes it.
 #[derive(Clone, Copy, Debug, PartialEq, Eq)]
@@ -23,4 +32,236 @@ pub struct DraftItem<'a> {
     pub fxy: Fxy,
     /// The value after the descriptor.
     pub form: DraftValue<'a>,
+}
+
+/// What an entry is: an item by its value, or the line that ends a subset.
+#[derive(Clone, Copy)]
+pub(crate) enum EntryKind {
+    /// A number whose digits were read.
+    Decimal { places: u8, negative: bool },
+    /// The octets of another number; its syntax is checked later.
+    Number,
+    /// The octets of a text.
+    Text,
+    /// All ones.
+    Missing,
+    /// The octets of a redefined reference.
+    Reference,
+    End,
+}
+
+/// An entry, as it is kept. Its octets go from `start` to `end` of one block; of a short decimal
+/// `start` has the digits.
+#[derive(Clone, Copy)]
+pub(crate) struct StoredEntry {
+    pub(crate) line: u64,
+    pub(crate) start: usize,
+    end: usize,
+    pub(crate) fxy: Fxy,
+    pub(crate) kind: EntryKind,
+}
+
+impl StoredEntry {
+    ghost use Rattle.std.specs.Prelude.{◌≡◌, ℕ, List};
+    ghost use Rattle.bufr_fill.specs.Kept.{entry_with, is_end};
+
+    /// Whether it is the end of a subset.
+    pub(crate) fn is_end(&self) -> bool
+        ensures { (octets : List ℕ) → result ≡ is_end (entry_with self.now octets) }
+    {
+        matches!(self.kind, EntryKind::End)
+    }
+}
+
+/// The kind of a value, and its octets.
+#[inline(always)]
+fn parts_of<'a>(form: DraftValue<'a>) -> (EntryKind, &'a [u8])
+    ensures is { (line fxy digits : ℕ) → entry_by result.0 line fxy digits result.1.now
+        ≡ Holds (draft line fxy (form_in form.entry)) }
+    ensures placed { (size start end : ℕ) → start ≤ end → end ≤ size
+        → IsPlaced result.0 size start end }
+{
+    match form {
+        DraftValue::Number(octets) => (EntryKind::Number, octets),
+        DraftValue::Text(octets) => (EntryKind::Text, octets),
+        DraftValue::Missing => (EntryKind::Missing, &[]),
+        DraftValue::Reference(octets) => (EntryKind::Reference, octets),
+    }
+}
+
+/// The octets of an entry in this block.
+#[inline(always)]
+fn octets_of<'a>(block: &'a [u8], entry: &StoredEntry) -> &'a [u8]
+    requires { IsEntryInside (length block.now) entry.now }
+    ensures { entry_with entry.now result.now ≡ entry_stored block.now entry.now }
+{
+    match entry.kind {
+        EntryKind::Number => &block[entry.start..entry.end],
+        EntryKind::Text => &block[entry.start..entry.end],
+        EntryKind::Reference => &block[entry.start..entry.end],
+        EntryKind::Decimal { .. } => &[],
+        EntryKind::Missing => &[],
+        EntryKind::End => &[],
+    }
+}
+
+/// The items of all subsets and the lines that end them, one after another. A short number is kept
+/// as its digits, other numbers and texts in one block. So an entry takes 32 octets and those of
+/// its text.
+///
+/// A contract sees the list of the entries.
+///
+/// ```
+/// let mut entries = Entries::new(alloc);
+/// let (fxy, form) = (Fxy::from_word(257), DraftValue::Number(b"10"));
+/// entries.push_item(DraftItem { line: 9, fxy, form })?;
+/// entries.push_end(10)?;
+/// assert_eq!(rt; entries.len(), 2);
+/// ```
+#[derive(Drop)]
+pub struct Entries {
+    /// Tokens and texts, one after another.
+    octets: Vec<u8>,
+    kept: Vec<StoredEntry>,
+}
+
+impl Model for Entries {
+    ghost use Rattle.std.specs.Prelude.{List, length};
+    ghost use Rattle.bufr_fill.specs.Entries.{DraftEntry};
+    ghost use Rattle.bufr_fill.specs.Kept.{entries_stored, AreInside};
+
+    ghost Value = { List DraftEntry };
+
+    ghost view = { λ e. entries_stored e.octets.items e.kept.items };
+
+    ghost invariant = { λ e. AreInside (length e.octets.items) e.kept.items };
+}
+
+impl Entries {
+    ghost use Rattle.std.specs.Prelude.{◌≡◌, ◌<◌, [], ◌∷◌, ◌++◌, length, option_map, slice_get, Some, OnOk, OnErr};
+    ghost use Rattle.bufr_fill.specs.Draft.{draft, number_token};
+    ghost use Rattle.bufr_bits.specs.ShortDecimal.{short_text};
+    ghost use Rattle.bufr_fill.specs.Entries.{Holds, Ends};
+    ghost use Rattle.bufr_fill.specs.Kept.{entry_with, is_end};
+    ghost use Rattle.bufr_fill.specs.Given.{draft_in};
+
+    /// No entries. It takes no memory.
+    pub fn new(alloc: Global) -> Entries
+        ensures { result ≡ [] }
+    {
+        Entries {
+            octets: Vec::new(alloc),
+            kept: Vec::new(alloc),
+        }
+    }
+
+    /// Drops all entries, and keeps their memory.
+    pub fn clear(&mut self)
+        ensures { self.new ≡ [] }
+    {
+        self.octets.clear();
+        self.kept.clear();
+    }
+
+    /// Appends an item.
+    ///
+    /// # Errors
+    ///
+    /// [`AllocError`] where the list could not grow; then the entries do not change.
+    #[inline(always)]
+    pub fn push_item(&mut self, item: DraftItem<'_>) -> Result<(), AllocError>
+        ensures item { OnOk result (self.new ≡ self.old ++ Holds (draft_in item.entry) ∷ []) }
+        ensures same { OnErr result (self.new ≡ self.old) }
+    {
+        let (kind, octets) = parts_of(item.form);
+        let start = self.octets.len();
+        self.octets.extend_from_slice(octets)?;
+        let end = self.octets.len();
+        self.kept.push(StoredEntry {
+            line: item.line,
+            start,
+            end,
+            fxy: item.fxy,
+            kind,
+        })?;
+        Ok(())
+    }
+
+    /// Appends an item whose value is a short decimal: [`Entries::push_item`] with its text.
+    ///
+    /// # Errors
+    ///
+    /// [`AllocError`] where the list could not grow; then the entries do not change.
+    #[inline(always)]
+    pub fn push_decimal(
+        &mut self,
+        line: u64,
+        fxy: Fxy,
+        number: ShortDecimal,
+    ) -> Result<(), AllocError>
+        ensures item { OnOk result (self.new
+            ≡ self.old ++ Holds (draft line fxy (number_token (short_text number))) ∷ []) }
+        ensures same { OnErr result (self.new ≡ self.old) }
+    {
+        self.kept.push(StoredEntry {
+            line,
+            start: number.digits as usize,
+            end: 0,
+            fxy,
+            kind: EntryKind::Decimal {
+                places: number.places,
+                negative: number.negative,
+            },
+        })?;
+        Ok(())
+    }
+
+    /// Appends the end of a subset, by its line.
+    ///
+    /// # Errors
+    ///
+    /// [`AllocError`] where the list could not grow; then the entries do not change.
+    pub fn push_end(&mut self, line: u64) -> Result<(), AllocError>
+        ensures end { OnOk result (self.new ≡ self.old ++ Ends line ∷ []) }
+        ensures same { OnErr result (self.new ≡ self.old) }
+    {
+        let end = self.octets.len();
+        self.kept.push(StoredEntry {
+            line,
+            start: end,
+            end,
+            fxy: Fxy::from_word(0),
+            kind: EntryKind::End,
+        })?;
+        Ok(())
+    }
+
+    /// How many entries there are.
+    pub fn len(&self) -> usize
+        ensures { result ≡ length self.now }
+    {
+        self.kept.len()
+    }
+
+    /// The entry at an index, from 0, and its octets; `None` after the last.
+    #[inline(always)]
+    pub(crate) fn get(&self, place: usize) -> Option<(StoredEntry, &[u8])>
+        ensures { option_map (λ found. entry_with found.0 found.1.now) result
+            ≡ slice_get self.now place }
+    {
+        if place < self.kept.len() {
+            let entry = self.kept[place];
+            Some((entry, octets_of(self.octets.as_slice(), &entry)))
+        } else {
+            None
+        }
+    }
+
+    /// Whether the entry at an index is the end of a subset.
+    pub(crate) fn is_end(&self, place: usize) -> bool
+        requires { place < length self.now }
+        ensures { Some result ≡ option_map is_end (slice_get self.now place) }
+    {
+        self.kept[place].is_end()
+    }
 }

@@ -2,6 +2,7 @@
 //! project.)
 
 use bufr_tables::Fxy;
+use std::alloc::AllocError;
 use thiserror::Error;
 
 /// The expected item.
@@ -69,5 +70,16 @@ impl DraftFault {
             DraftFault::TooManyValues(_, _) => 35,
             DraftFault::Memory => 73,
         }
+    }
+}
+
+impl From<AllocError> for DraftFault {
+    ghost use Rattle.std.specs.Prelude.{◌≡◌};
+    ghost use Rattle.bufr_fill.specs.declared.fault.DraftFault.TheVariants.{Memory};
+
+    ghost from_gives = { λ _ e. e ≡ Memory };
+
+    fn from(_: AllocError) -> DraftFault {
+        DraftFault::Memory
     }
 }

@@ -1,25 +1,25 @@
-//! Converts an item of a dump text to the content of its field.
-ghost use Rattle.std.specs.Prelude.{◌≡◌, ◌≤◌, ◌<◌, ◌-ℤ◌, ◌-◌, ◌/◌, ◌^◌, ◌==◌, ◌++◌, false, pos, length, replicate, unsigned_abs, Some, IfOk};
+//! Converts an item of a dump text to the content of its field, and writes that as its bits.
+ghost use Rattle.std.specs.Prelude.{◌≡◌, ℕ, List, ◌≤◌, ◌<◌, ◌-ℤ◌, ◌-◌, ◌/◌, ◌^◌, ◌==◌, ◌++◌, false, pos, length, replicate, unsigned_abs, Some, IfOk, ◌+◌, ◌*◌, ◌∷◌, true, OnOk, OnErr};
 ghost use Rattle.std.specs.List.{list_all};
 ghost use Rattle.bufr_bits.specs.DecimalValue.{decimal_value_of};
 ghost use Rattle.bufr_tables.specs.TableB.{is_character};
-ghost use Rattle.bufr_walk.specs.FieldSpec.{is_reference};
-ghost use Rattle.bufr_walk.specs.Content.{number, reference};
-ghost use Rattle.bufr_fill.specs.DraftContent.{raw_within, raw_of, reference_of, text_within, is_of, is_marked, wrong_for, content_of, content_by_form};
-ghost use Rattle.bufr_fill.specs.FieldContent.{returned, content_drawn, IsDrawn, IsTextOf};
+ghost use Rattle.bufr_walk.specs.FieldSpec.{is_reference, IsFor};
+ghost use Rattle.bufr_walk.specs.Content.{number, reference, sign_bit, bits_for, answer_of, count_in, reference_in};
+ghost use Rattle.bufr_fill.specs.DraftContent.{raw_within, raw_of, reference_of, text_within, is_marked, wrong_for, content_by_form};
+ghost use Rattle.bufr_fill.specs.FieldContent.{returned, content_drawn, IsDrawn, IsTextOf, spaced};
 ghost use Rattle.bufr_fill.specs.Packing.{raw_limit};
-ghost use Rattle.bufr_bits.specs.ShortDecimal.{short_text};
-ghost use Rattle.bufr_fill.specs.Draft.{draft, number_token};
-ghost use Rattle.bufr_fill.specs.Kept.{kept_item, kept_value};
+ghost use Rattle.bufr_fill.specs.Kept.{entry_with, is_end, is_entry_of, value_by};
+ghost use Rattle.bufr_fill.specs.PackedRows.{entry_here};
 ghost use Rattle.bufr_fill.specs.DraftFaults.{draft_fault};
 ghost use Rattle.bufr_fill.specs.Encoding.{at_line_if_fault};
 ghost use Rattle.bufr_fill.specs.Fault.{at_line};
+ghost use Rattle.bufr_bits.specs.Bits.{bits_of, bits_in};
 
-use crate::entries::{KeptItem, KeptValue};
+use crate::draft::{EntryKind, StoredEntry};
 use crate::fault::{DraftFault, Expected};
-use bufr_bits::{NumberFault, ShortDecimal, decimal_read};
-use bufr_tables::Fxy;
-use bufr_walk::Spec;
+use bufr_bits::{BitWriter, NumberFault, ShortDecimal, decimal_read};
+use bufr_walk::{Role, Spec, Taken};
+use std::alloc::AllocError;
 
 /// The content of a field, from an item.
 #[derive(Clone, Copy)]
@@ -142,57 +142,75 @@ fn text_for<'a>(octets: &'a [u8], count: usize, line: u64) -> Result<FieldConten
 /// Converts the value of an item to the content of its field.
 #[inline(always)]
 // rule: fault-52, fault-55, fault-order-of-an-item
-fn draw_form<'a>(item: &KeptItem<'a>, spec: &Spec) -> Result<FieldContent<'a>, DraftFault>
-    requires mark { is_reference spec.now.role ≡ is_marked (kept_value item.now.value) }
-    ensures is { returned (content_drawn (spec.now.width / 8)) result ≡ Some
-        (at_line_if_fault item.now.line (content_by_form (kept_value item.now.value) spec.now)) }
+fn draw_form<'a>(
+    entry: &StoredEntry,
+    octets: &'a [u8],
+    spec: &Spec,
+) -> Result<FieldContent<'a>, DraftFault>
+    requires item { is_end (entry_with entry.now octets.now) ≡ false }
+    requires mark { is_reference spec.now.role
+        ≡ is_marked (value_by entry.now.kind entry.now.start octets.now) }
+    ensures is { returned (content_drawn (spec.now.width / 8)) result
+        ≡ Some (at_line_if_fault entry.now.line (content_by_form
+        (value_by entry.now.kind entry.now.start octets.now) spec.now)) }
     ensures drawn { IfOk result (λ d. IsDrawn spec.now d) }
 {
     let count = (spec.width() / 8) as usize;
-    match item.value {
-        KeptValue::Decimal(number) => {
+    match entry.kind {
+        EntryKind::Decimal { places, negative } => {
             if spec.is_text() {
-                return Err(DraftFault::Number(item.line));
+                return Err(DraftFault::Number(entry.line));
             }
+            let digits = entry.start as u64;
+            let number = ShortDecimal {
+                digits,
+                places,
+                negative,
+            };
             let read = number.scaled(spec.scale());
-            Ok(FieldContent::Number(raw_of_read(read, spec, item.line)?))
+            Ok(FieldContent::Number(raw_of_read(read, spec, entry.line)?))
         }
-        KeptValue::Number(token) => {
+        EntryKind::Number => {
             if spec.is_text() {
-                return Err(DraftFault::Number(item.line));
+                return Err(DraftFault::Number(entry.line));
             }
-            let read = decimal_read(token, spec.scale());
-            Ok(FieldContent::Number(raw_of_read(read, spec, item.line)?))
+            let read = decimal_read(octets, spec.scale());
+            Ok(FieldContent::Number(raw_of_read(read, spec, entry.line)?))
         }
-        KeptValue::Text(octets) => {
+        EntryKind::Text => {
             if spec.is_text() {
-                text_for(octets, count, item.line)
+                text_for(octets, count, entry.line)
             } else {
-                Err(DraftFault::Number(item.line))
+                Err(DraftFault::Number(entry.line))
             }
         }
-        KeptValue::Missing => {
+        EntryKind::Missing => {
             if spec.may_be_missing() {
                 Ok(FieldContent::Missing)
             } else {
-                Err(DraftFault::MissingForbidden(item.line))
+                Err(DraftFault::MissingForbidden(entry.line))
             }
         }
-        KeptValue::Reference(token) => {
-            let value = reference_of_token(token, spec, item.line)?;
+        EntryKind::Reference => {
+            let value = reference_of_token(octets, spec, entry.line)?;
             Ok(FieldContent::Reference(value))
         }
+        EntryKind::End => unreachable!(),
     }
 }
 
-/// Whether an item has the descriptor and the mark of a field.
+/// Whether an entry is an item with the descriptor and the mark of a field.
 #[inline(always)]
 // rule: fault-51
-fn is_item_of(item: &KeptItem<'_>, spec: &Spec) -> bool
-    ensures { result ≡ is_of spec.now (kept_item item.now) }
+fn is_item_of(entry: &StoredEntry, spec: &Spec) -> bool
+    ensures { (octets : List ℕ)
+        → result ≡ is_entry_of spec.now (entry_with entry.now octets) }
 {
-    let marked = matches!(item.value, KeptValue::Reference(_));
-    Fxy::from_word(item.word) == spec.fxy() && marked == spec.is_reference()
+    match entry.kind {
+        EntryKind::End => false,
+        EntryKind::Reference => entry.fxy == spec.fxy() && spec.is_reference(),
+        _ => entry.fxy == spec.fxy() && !spec.is_reference(),
+    }
 }
 
 /// The fault of another item than the expected one.
@@ -207,45 +225,174 @@ pub(crate) fn wrong_item(spec: &Spec, line: u64) -> DraftFault
     DraftFault::WrongDescriptor(line, expected)
 }
 
-/// Converts a short decimal to the content of its field.
+/// Converts an entry to the content of its field.
 #[inline(always)]
-fn decimal_content<'a>(
-    item: &KeptItem<'a>,
-    number: ShortDecimal,
-    spec: &Spec,
-) -> Result<FieldContent<'a>, DraftFault>
-    ensures is { returned (content_drawn (spec.now.width / 8)) result
-        ≡ Some (at_line_if_fault item.now.line (content_of spec.now
-        (draft item.now.line item.now.word (number_token (short_text number))))) }
-    ensures drawn { IfOk result (λ d. IsDrawn spec.now d) }
-{
-    if Fxy::from_word(item.word) != spec.fxy() || spec.is_reference() {
-        return Err(wrong_item(spec, item.line));
-    }
-    if spec.is_text() {
-        return Err(DraftFault::Number(item.line));
-    }
-    let read = number.scaled(spec.scale());
-    Ok(FieldContent::Number(raw_of_read(read, spec, item.line)?))
-}
-
-/// Converts an item to the content of its field.
-#[inline(always)]
-#[tactic(auto, using(crate::proofs::DrawLemmas::marks, crate::proofs::DrawLemmas::content_wrong, crate::proofs::DrawLemmas::content_there))]
+#[tactic(auto, using(crate::proofs::DrawLemmas::no_end))]
 // rule: fault-order-of-an-item
 pub(crate) fn field_content<'a>(
-    item: &KeptItem<'a>,
+    entry: &StoredEntry,
+    octets: &'a [u8],
     spec: &Spec,
 ) -> Result<FieldContent<'a>, DraftFault>
     ensures is { returned (content_drawn (spec.now.width / 8)) result
-        ≡ Some (at_line_if_fault item.now.line (content_of spec.now (kept_item item.now))) }
+        ≡ Some (entry_here spec.now (entry_with entry.now octets.now)) }
     ensures drawn { IfOk result (λ d. IsDrawn spec.now d) }
 {
-    if let KeptValue::Decimal(number) = item.value {
-        return decimal_content(item, number, spec);
+    if !is_item_of(entry, spec) {
+        return Err(wrong_item(spec, entry.line));
     }
-    if !is_item_of(item, spec) {
-        return Err(wrong_item(spec, item.line));
+    draw_form(entry, octets, spec)
+}
+
+/// Octets, followed by spaces.
+#[tactic(auto, using(crate::proofs::PutLemmas::spaced_whole))]
+pub(crate) fn with_spaces(octets: &[u8]) -> [u8; 255]
+    requires { length octets.now ≤ 255 }
+    ensures { result ≡ octets.now ++ replicate (255 - length octets.now) 32 }
+{
+    let mut all = [b' '; 255];
+    all[..octets.len()].copy_from_slice(octets);
+    all
+}
+
+/// Writes a text, followed by spaces up to `count` octets.
+#[tactic(auto, using(crate::proofs::PutLemmas::spaced_prefix))]
+fn put_text(out: &mut BitWriter, octets: &[u8], count: usize)
+    requires within { length octets.now ≤ count }
+    requires most { count ≤ 255 }
+    requires room { 8 * count ≤ out.old.room }
+    ensures bits { out.new.bits
+        ≡ out.old.bits ++ bits_of (octets.now ++ replicate (count - length octets.now) 32) }
+    ensures len { length out.new.bits ≡ length out.old.bits + 8 * count }
+    ensures room { out.old.room ≤ out.new.room + 8 * count }
+{
+    out.put_octets(&with_spaces(octets)[..count]);
+}
+
+/// The bits of a sign and a magnitude, as a number.
+#[tactic(auto, using(crate::proofs::PutLemmas::negative_bits, crate::proofs::PutLemmas::positive_bits))]
+// rule: writes-plus-zero
+fn signed_bits(value: i64, width: u32) -> u64
+    requires some { 1 ≤ width }
+    requires narrow { width ≤ 63 }
+    requires fits { unsigned_abs value < 2 ^ (width - 1) }
+    ensures bits { bits_in result width
+        ≡ sign_bit value ∷ bits_in (unsigned_abs value) (width - 1) }
+    ensures below { result < 2 ^ width }
+{
+    let size = value.unsigned_abs();
+    if value < 0 {
+        (1u64 << (width - 1)) + size
+    } else {
+        size
     }
-    draw_form(item, spec)
+}
+
+/// Writes `count` octets of ones.
+#[tactic(auto, using(crate::proofs::PutLemmas::full_bits))]
+pub(crate) fn put_full(out: &mut BitWriter, count: usize)
+    requires most { count ≤ 255 }
+    requires room { 8 * count ≤ out.old.room }
+    ensures bits { out.new.bits ≡ out.old.bits ++ replicate (8 * count) true }
+    ensures len { length out.new.bits ≡ length out.old.bits + 8 * count }
+    ensures room { out.old.room ≤ out.new.room + 8 * count }
+{
+    let ones = [255u8; 255];
+    out.put_octets(&ones[..count]);
+}
+
+/// Writes a missing value.
+#[tactic(auto, using(crate::proofs::PutLemmas::eighths_ones, crate::proofs::DrawnLemmas::ones_bits))]
+fn put_missing(out: &mut BitWriter, spec: &Spec)
+    requires room { spec.now.width ≤ out.old.room }
+    ensures bits { out.new.bits ≡ out.old.bits ++ replicate spec.now.width true }
+    ensures len { length out.new.bits ≡ length out.old.bits + spec.now.width }
+    ensures room { out.old.room ≤ out.new.room + spec.now.width }
+{
+    let width = spec.width();
+    if spec.is_text() {
+        put_full(out, (width / 8) as usize);
+    } else {
+        out.put((1u64 << width) - 1, width);
+    }
+}
+
+/// Writes the content of a field, in the field's bits.
+#[inline(always)]
+#[tactic(auto, using(crate::proofs::DrawLemmas::drawn_narrow))]
+pub(crate) fn put_content(out: &mut BitWriter, drawn: FieldContent<'_>, spec: &Spec)
+    requires drawn { IsDrawn spec.now drawn }
+    requires room { spec.now.width ≤ out.old.room }
+    ensures bits { out.new.bits
+        ≡ out.old.bits ++ bits_for spec.now.width (content_drawn (spec.now.width / 8) drawn.entry) }
+    ensures len { length out.new.bits ≡ length out.old.bits + spec.now.width }
+    ensures room { out.old.room ≤ out.new.room + spec.now.width }
+{
+    let width = spec.width();
+    match drawn {
+        FieldContent::Number(raw) => out.put(raw, width),
+        FieldContent::Text(octets) => put_text(out, octets, (width / 8) as usize),
+        FieldContent::Missing => put_missing(out, spec),
+        FieldContent::Reference(value) => out.put(signed_bits(value, width), width),
+    }
+}
+
+/// Makes room for the content of a field, and writes it in the field's bits.
+#[inline(always)]
+#[tactic(auto, using(crate::proofs::DrawLemmas::drawn_narrow))]
+pub(crate) fn push_content(
+    out: &mut BitWriter,
+    drawn: FieldContent<'_>,
+    spec: &Spec,
+) -> Result<(), AllocError>
+    requires drawn { IsDrawn spec.now drawn }
+    requires room { length out.old.bits + 2040 ≤ 2 ^ 63 }
+    ensures ok { OnOk result (out.new.bits ≡ out.old.bits
+        ++ bits_for spec.now.width (content_drawn (spec.now.width / 8) drawn.entry)) }
+    ensures some { OnOk result (length out.old.bits < length out.new.bits) }
+    ensures most { OnOk result (length out.new.bits ≤ length out.old.bits + 2040) }
+    ensures err { OnErr result (out.new.bits ≡ out.old.bits) }
+{
+    let width = spec.width();
+    if let FieldContent::Number(raw) = drawn {
+        return out.push(raw, width);
+    }
+    out.reserve(u64::from(width))?;
+    put_content(out, drawn, spec);
+    Ok(())
+}
+
+/// The count of a factor's content.
+fn count_of(drawn: FieldContent<'_>) -> u64
+    ensures { (count : ℕ) → result ≡ count_in (content_drawn count drawn.entry) }
+{
+    match drawn {
+        FieldContent::Number(raw) => raw,
+        FieldContent::Text(_) | FieldContent::Missing | FieldContent::Reference(_) => 0,
+    }
+}
+
+/// The reference of a content.
+fn reference_in(drawn: FieldContent<'_>) -> i64
+    ensures { (count : ℕ) → result ≡ reference_in (content_drawn count drawn.entry) }
+{
+    match drawn {
+        FieldContent::Reference(value) => value,
+        FieldContent::Number(_) | FieldContent::Text(_) | FieldContent::Missing => 0,
+    }
+}
+
+/// What a field returns to the walk.
+#[inline(always)]
+#[tactic(auto, using(crate::proofs::DrawLemmas::answer_count, crate::proofs::DrawLemmas::answer_reference, crate::proofs::DrawLemmas::answer_element, crate::proofs::DrawLemmas::answer_inserted))]
+pub(crate) fn taken_of(drawn: FieldContent<'_>, spec: &Spec) -> Taken
+    ensures gives { result ≡ answer_of spec.now (content_drawn (spec.now.width / 8) drawn.entry) }
+    ensures shape { IsFor spec.now result }
+{
+    match spec.role() {
+        Role::Factor => Taken::Count(count_of(drawn)),
+        Role::Reference => Taken::Reference(reference_in(drawn)),
+        Role::Element => Taken::Plain,
+        Role::Inserted => Taken::Plain,
+    }
 }

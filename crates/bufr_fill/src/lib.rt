@@ -6,18 +6,13 @@
 #![tactic(auto)]
 
 mod draft;
-mod entries;
 mod fault;
 mod field_value;
 pub mod law;
 mod packed_out;
-mod packed_rows;
-mod packing;
 mod plain_out;
-mod put;
 
-pub use draft::{DraftItem, DraftValue};
-pub use entries::Entries;
+pub use draft::{DraftItem, DraftValue, Entries};
 pub use fault::{DraftFault, Expected};
 pub use packed_out::PackedOut;
 pub use plain_out::PlainOut;

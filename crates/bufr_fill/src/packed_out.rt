@@ -1,21 +1,29 @@
 //! The writer of compressed data, from the items of a dump text.
-ghost use Rattle.std.specs.Prelude.{◌≡◌, ◌≤◌, ◌<◌, ◌+◌, ◌*◌, ◌/◌, ◌^◌, IfOk, Ok, length};
-ghost use Rattle.bufr_walk.specs.FieldSpec.{IsFor};
+ghost use Rattle.std.specs.Prelude.{◌≡◌, ◌≤◌, ◌<◌, ◌+◌, ◌*◌, ◌/◌, ◌^◌, IfOk, Ok, length, ℕ, slice_get, get_or, Some, List, ◌-◌, ◌++◌, ◌∷◌, [], true, false, map, take, replicate, nat_lt, OnOk, OnErr, unwrap_or};
+ghost use Rattle.bufr_walk.specs.FieldSpec.{IsFor, is_reference};
 ghost use Rattle.bufr_walk.specs.Reading.{max_values};
-ghost use Rattle.bufr_fill.specs.Encoding.{item_row, cells_at, contents_here};
+ghost use Rattle.bufr_fill.specs.Encoding.{item_row, cells_at, contents_here, RowCell, unlike_line};
 ghost use Rattle.bufr_fill.specs.Entries.{subsets_of};
-ghost use Rattle.bufr_fill.specs.PackedRows.{AllDrawn, contents_drawn, IsRangeOf};
-ghost use Rattle.bufr_fill.specs.Packs.{PutAcross};
-ghost use Rattle.bufr_fill.specs.PackedOut.{ends_of};
+ghost use Rattle.bufr_fill.specs.PackedRows.{AllDrawn, contents_drawn, IsRangeOf, begin_of, cell_entry, LineAt, ReturnsRow, IsIncrementWidth};
+ghost use Rattle.bufr_fill.specs.Packs.{PutAcross, number_or, spread, trimmed, need, need_of, most_need, octet_in, PacksItem, FitsIncrement, AreShort, least_from};
+ghost use Rattle.bufr_fill.specs.PackedOut.{ends_of, first_line_at, EndsAllSubsets};
+ghost use Rattle.bufr_fill.specs.Kept.{entry_with};
+ghost use Rattle.std.specs.List.{list_all, flat_map};
+ghost use Rattle.bufr_bits.specs.Bits.{bits_in, bits_of};
+ghost use Rattle.bufr_tables.specs.TableB.{is_character};
+ghost use Rattle.bufr_fill.specs.FieldContent.{content_drawn, spaced, IsDrawn};
+ghost use Rattle.bufr_fill.specs.declared.field_value.FieldContent.{FieldContent};
+ghost use Rattle.bufr_fill.specs.Packing.{raw_limit, same, same_octets, are_same, lowest, first_from, least_k, has_bits, has_octets, increment_bits, octet_bits, packed_bits, numbers_over, packed_numbers, packed_texts, packed_by, packed_unlike, packing};
+ghost use Rattle.bufr_walk.specs.Content.{bits_for};
 
-use crate::entries::Entries;
-use crate::fault::DraftFault;
-use crate::field_value::FieldContent;
-use crate::packed_rows::{Row, all_at_end, first_line, read_row, unlike_line};
-use crate::packing::{NumberRange, PackingFault, pack};
-use crate::put::taken_of;
+use crate::draft::{Entries, StoredEntry};
+use crate::fault::{DraftFault, Expected};
+use crate::field_value::{
+    FieldContent, field_content, is_all_255, put_content, put_full, raw_limit, taken_of,
+    with_spaces,
+};
 use bufr_bits::BitWriter;
-use bufr_walk::{Fields, MAX_VALUES, Spec, Taken};
+use bufr_walk::{Fields, MAX_VALUES, Role, Spec, Taken};
 use std::alloc::{AllocError, Global};
 use std::marker::Model;
 
@@ -64,8 +72,10 @@ fn ends_in(alloc: Global, entries: &Entries) -> Result<Vec<usize>, AllocError>
     Ok(ends)
 }
 
-/// Writes the contents of an item for all subsets.
+/// Writes the contents of an item for all subsets, with the least number as the base (zero bits for
+/// texts) and the least `k`.
 #[tactic(auto, using(crate::proofs::PackSteps::drawn_at))]
+// rule: packs-factors-and-references, fault-59
 fn put_drawn(
     row: Row<'_, '_>,
     drawn: &[FieldContent<'_>],
@@ -88,21 +98,30 @@ fn put_drawn(
         (2046 + 504 * length row.entry.ends.now) result }
     ensures shape { IfOk result (λ t. IsFor row.entry.spec.now t) }
 {
-    match pack(out, drawn, range, row.spec) {
-        Ok(()) => Ok(taken_of(drawn[0], row.spec)),
-        Err(PackingFault::Unequal) => Err(DraftFault::UnequalFactor(unlike_line(
-            row.entries,
-            row.ends,
-            row.place,
-            row.spec,
-            drawn,
-        ))),
-        Err(PackingFault::Uneven) => Err(DraftFault::Increment(first_line(
-            row.entries,
-            row.ends,
-            row.place,
-        ))),
-        Err(PackingFault::Memory) => Err(DraftFault::Memory),
+    let spec = row.spec;
+    if are_alike(drawn[0], drawn, range, spec) {
+        pack_alike(out, drawn[0], spec)?;
+        return Ok(taken_of(drawn[0], spec));
+    }
+    let line = first_line(row.entries, row.ends, row.place);
+    match spec.role() {
+        Role::Factor => {
+            let line = unlike_line(row.entries, row.ends, row.place, spec, drawn);
+            Err(DraftFault::UnequalFactor(line))
+        }
+        Role::Reference => Err(DraftFault::Increment(line)),
+        Role::Element | Role::Inserted => {
+            if spec.is_text() {
+                let k = octets_needed(drawn, spec);
+                if k > 63 {
+                    return Err(DraftFault::Increment(line));
+                }
+                pack_texts(out, drawn, k, spec)?;
+            } else {
+                pack_numbers(out, drawn, range, spec)?;
+            }
+            Ok(taken_of(drawn[0], spec))
+        }
     }
 }
 
@@ -232,4 +251,500 @@ impl<'s> Fields for PackedOut<'s> {
     fn bits(&self) -> u64 {
         self.out.len_bits()
     }
+}
+
+/// A row that a field is written of: the entries of all subsets at an index. `ends` has the indices
+/// of the entries that end the subsets.
+#[derive(Clone, Copy)]
+pub(crate) struct Row<'a, 'b> {
+    pub(crate) entries: &'a Entries,
+    pub(crate) ends: &'b [usize],
+    pub(crate) spec: &'b Spec,
+    pub(crate) place: usize,
+}
+
+/// The index where a subset's entries begin, by the indices of the entries that end subsets.
+#[tactic(auto, using(crate::proofs::Places::begin_more, crate::proofs::Places::begin_none))]
+fn begin_of(ends: &[usize], subset: usize) -> usize
+    requires subset { subset < length ends.now }
+    requires few { (i : ℕ) → i < length ends.now → get_or ends.now i 0 < 2 ^ 45 }
+    ensures value { result ≡ begin_of 0 ends.now subset }
+    ensures few { result ≤ 2 ^ 45 }
+{
+    if subset == 0 { 0 } else { ends[subset - 1] + 1 }
+}
+
+/// Finds a subset's entry at an index, counted from its first: its item, or its end where that
+/// comes first.
+#[inline(always)]
+fn find_at<'s>(
+    entries: &'s Entries,
+    ends: &[usize],
+    subset: usize,
+    place: usize,
+) -> (StoredEntry, &'s [u8])
+    requires ends { ends.now ≡ ends_of 0 entries.now }
+    requires few { length entries.now ≤ 2 ^ 45 }
+    requires subset { subset < length ends.now }
+    requires near { place ≤ 2 ^ 45 }
+    ensures { (c : RowCell) → slice_get (cells_at place (subsets_of entries.now)) subset
+        ≡ Some c → entry_with result.0 result.1.now ≡ cell_entry c }
+{
+    let start = begin_of(ends, subset);
+    match entries.get(ends[subset].min(start + place)) {
+        Some(found) => found,
+        None => unreachable!(),
+    }
+}
+
+/// The line of a subset's entry at an index.
+fn line_at(entries: &Entries, ends: &[usize], subset: usize, place: usize) -> u64
+    requires ends { ends.now ≡ ends_of 0 entries.now }
+    requires few { length entries.now ≤ 2 ^ 45 }
+    requires subset { subset < length ends.now }
+    requires near { place ≤ 2 ^ 45 }
+    ensures { LineAt place subset entries.now result }
+{
+    let (entry, _octets) = find_at(entries, ends, subset, place);
+    entry.line
+}
+
+/// Converts a row to the contents of its field, and returns the range of the numbers among them.
+pub(crate) fn read_row<'a>(
+    row: Row<'a, '_>,
+    drawn: &mut Vec<FieldContent<'a>>,
+) -> Result<NumberRange, DraftFault>
+    requires ends { row.ends.now ≡ ends_of 0 row.entries.now }
+    requires few { length row.entries.now ≤ 2 ^ 45 }
+    requires near { row.place ≤ 2 ^ 45 }
+    ensures { ReturnsRow (row.entry.spec.now.width / 8) row.entry.spec.now
+        (cells_at row.entry.place (subsets_of row.entry.entries.now)) drawn.new.items result }
+{
+    let spec = *row.spec;
+    drawn.clear();
+    let mut range = NumberRange::new();
+    for subset in 0..row.ends.len() {
+        let (entry, octets) = find_at(row.entries, row.ends, subset, row.place);
+        let content = field_content(&entry, octets, &spec)?;
+        range = range.with(content);
+        match drawn.push(content) {
+            Ok(()) => {}
+            Err(_) => return Err(DraftFault::Memory),
+        }
+    }
+    Ok(range)
+}
+
+/// The line of the first subset whose content differs from that of the first subset.
+// rule: fault-58
+pub(crate) fn unlike_line(
+    entries: &Entries,
+    ends: &[usize],
+    place: usize,
+    spec: &Spec,
+    drawn: &[FieldContent<'_>],
+) -> u64
+    requires ends { ends.now ≡ ends_of 0 entries.now }
+    requires few { length entries.now ≤ 2 ^ 45 }
+    requires near { place ≤ 2 ^ 45 }
+    requires all { AllDrawn spec.now drawn.now }
+    requires many { length drawn.now ≡ length ends.now }
+    ensures { result ≡ unlike_line (contents_drawn (spec.now.width / 8) drawn.now)
+        (cells_at place (subsets_of entries.now)) }
+{
+    for subset in 0..ends.len() {
+        if !is_same(drawn[0], drawn[subset], spec) {
+            return line_at(entries, ends, subset, place);
+        }
+    }
+    0
+}
+
+/// The line of the first subset's entry at an index.
+pub(crate) fn first_line(entries: &Entries, ends: &[usize], place: usize) -> u64
+    requires ends { ends.now ≡ ends_of 0 entries.now }
+    requires few { length entries.now ≤ 2 ^ 45 }
+    requires some { 0 < length ends.now }
+    requires near { place ≤ 2 ^ 45 }
+    ensures { result ≡ first_line_at place (subsets_of entries.now) }
+{
+    line_at(entries, ends, 0, place)
+}
+
+/// Checks that all subsets end at an index; else returns the first item there as the fault.
+pub(crate) fn all_at_end(entries: &Entries, ends: &[usize], place: usize) -> Result<(), DraftFault>
+    requires ends { ends.now ≡ ends_of 0 entries.now }
+    requires few { length entries.now ≤ 2 ^ 45 }
+    requires near { place ≤ 2 ^ 45 }
+    ensures { EndsAllSubsets place (subsets_of entries.now) result }
+{
+    for subset in 0..ends.len() {
+        let (entry, _octets) = find_at(entries, ends, subset, place);
+        if !entry.is_end() {
+            return Err(DraftFault::WrongDescriptor(entry.line, Expected::EndOfSubset));
+        }
+    }
+    Ok(())
+}
+
+/// The octet at an index of a text that spaces follow.
+#[tactic(auto, using(crate::proofs::TextSteps::octet_inside, crate::proofs::TextSteps::octet_outside))]
+fn octet_at(octets: &[u8], place: usize) -> u8
+    ensures { result ≡ octet_in octets.now place }
+{
+    match octets.get(place) {
+        Some(octet) => *octet,
+        None => b' ',
+    }
+}
+
+/// Whether two texts are the same, with spaces up to `count` octets.
+fn same_text(one: &[u8], other: &[u8], count: usize) -> bool
+    requires one { length one.now ≤ count }
+    requires other { length other.now ≤ count }
+    ensures { result ≡ same_octets (spaced count one.now) (spaced count other.now) }
+{
+    for place in 0..count {
+        if octet_at(one, place) != octet_at(other, place) {
+            return false;
+        }
+    }
+    true
+}
+
+/// Whether two contents of a field are the same.
+#[tactic(auto, using(crate::proofs::PackSteps::same_references, crate::proofs::PackSteps::other_references))]
+pub(crate) fn is_same(one: FieldContent<'_>, other: FieldContent<'_>, spec: &Spec) -> bool
+    requires one { IsDrawn spec.now one }
+    requires other { IsDrawn spec.now other }
+    ensures { result ≡ same (content_drawn (spec.now.width / 8) one.entry)
+        (content_drawn (spec.now.width / 8) other.entry) }
+{
+    let count = (spec.width() / 8) as usize;
+    match (one, other) {
+        (FieldContent::Number(a), FieldContent::Number(b)) => a == b,
+        (FieldContent::Text(a), FieldContent::Text(b)) => same_text(a, b, count),
+        (FieldContent::Missing, FieldContent::Missing) => true,
+        (FieldContent::Reference(a), FieldContent::Reference(b)) => a == b,
+        _ => false,
+    }
+}
+
+/// Whether all contents are the same as one.
+#[tactic(auto, using(crate::proofs::PackSteps::drawn_at, crate::proofs::PackSteps::alike_more, crate::proofs::PackSteps::alike_not, crate::proofs::PackSteps::alike_done))]
+fn are_alike(
+    first: FieldContent<'_>,
+    drawn: &[FieldContent<'_>],
+    range: NumberRange,
+    spec: &Spec,
+) -> bool
+    requires first { IsDrawn spec.now first }
+    requires drawn { AllDrawn spec.now drawn.now }
+    requires range { IsRangeOf range drawn.now }
+    ensures { result ≡ are_same (content_drawn (spec.now.width / 8) first.entry)
+        (contents_drawn (spec.now.width / 8) drawn.now) }
+{
+    if range.base() != range.greatest {
+        return false;
+    }
+    for other in drawn {
+        if !is_same(first, *other, spec) {
+            return false;
+        }
+    }
+    true
+}
+
+/// The number of a content, or another where it is none.
+#[inline(always)]
+fn number_or(other: u64, drawn: FieldContent<'_>) -> u64
+    ensures { result ≡ number_or other drawn.entry }
+{
+    match drawn {
+        FieldContent::Number(raw) => raw,
+        FieldContent::Text(_) | FieldContent::Missing | FieldContent::Reference(_) => other,
+    }
+}
+
+/// The least of the numbers of an item, or 2^64 - 1, and the greatest, or 0.
+#[derive(Clone, Copy)]
+pub(crate) struct NumberRange {
+    least: u64,
+    greatest: u64,
+}
+
+impl NumberRange {
+    ghost use Rattle.std.specs.Prelude.{ℕ, List, ◌≡◌, [], ◌∷◌, ◌++◌, unwrap_or};
+    ghost use Rattle.bufr_fill.specs.declared.field_value.FieldContent.{FieldContent};
+    ghost use Rattle.bufr_fill.specs.PackedRows.{IsRangeOf, contents_drawn};
+    ghost use Rattle.bufr_fill.specs.Packing.{lowest};
+
+    /// The range of no contents.
+    pub(crate) fn new() -> NumberRange
+        ensures { IsRangeOf result [] }
+    {
+        NumberRange {
+            least: u64::MAX,
+            greatest: 0,
+        }
+    }
+
+    /// The range with one more content.
+    #[inline(always)]
+    pub(crate) fn with(self, drawn: FieldContent<'_>) -> NumberRange
+        ensures { (contents : List FieldContent) → IsRangeOf self contents
+            → IsRangeOf result (contents ++ drawn.entry ∷ []) }
+    {
+        NumberRange {
+            least: number_or(u64::MAX, drawn).min(self.least),
+            greatest: number_or(0, drawn).max(self.greatest),
+        }
+    }
+
+    /// The least of the numbers, or 0.
+    fn base(self) -> u64
+        ensures { (count : ℕ) (contents : List FieldContent) → IsRangeOf self contents
+            → result ≡ unwrap_or (lowest (contents_drawn count contents)) 0 }
+    {
+        if self.least <= self.greatest {
+            self.least
+        } else {
+            0
+        }
+    }
+}
+
+/// The least `k` from 1 to 63 whose bits write an increment, without all ones where that is
+/// missing; 64 where none does.
+#[tactic(auto, using(crate::proofs::PackSteps::least_here, crate::proofs::PackSteps::least_later, crate::proofs::PackSteps::least_end))]
+// rule: packs-class-31
+fn least_bits(spread: u64, may_be_missing: bool) -> u32
+    ensures { result ≡ least_from may_be_missing spread 1 }
+{
+    for k in 1..64u32 {
+        if spread < raw_limit(may_be_missing, k) {
+            return k;
+        }
+    }
+    64
+}
+
+/// The increment of a content over a base: all ones of `k` bits where it is no number.
+#[tactic(auto, using(crate::proofs::DrawnLemmas::ones_bits))]
+fn increment_of(drawn: FieldContent<'_>, base: u64, k: u32) -> u64
+    requires narrow { k ≤ 63 }
+    requires short { FitsIncrement base k drawn }
+    ensures bits { (count : ℕ)
+        → bits_in result k ≡ increment_bits base k (content_drawn count drawn.entry) }
+    ensures below { result < 2 ^ k }
+{
+    match drawn {
+        FieldContent::Number(raw) => raw.saturating_sub(base),
+        FieldContent::Text(_) => (1u64 << k) - 1,
+        FieldContent::Missing => (1u64 << k) - 1,
+        FieldContent::Reference(_) => (1u64 << k) - 1,
+    }
+}
+
+/// Writes the increments over a base, each in `k` bits.
+#[tactic(auto, using(crate::proofs::PackSteps::short_at, crate::proofs::PackSteps::flat_done))]
+fn put_increments(out: &mut BitWriter, drawn: &[FieldContent<'_>], base: u64, k: u32)
+    requires narrow { k ≤ 63 }
+    requires short { AreShort base k drawn.now }
+    requires room { length drawn.now * k ≤ out.old.room }
+    ensures bits { (count : ℕ) → out.new.bits
+        ≡ out.old.bits ++ flat_map (increment_bits base k) (contents_drawn count drawn.now) }
+    ensures len { length out.new.bits ≡ length out.old.bits + length drawn.now * k }
+{
+    for d in drawn {
+        out.put(increment_of(*d, base, k), k);
+    }
+}
+
+/// The least `k` whose bits write the increments of numbers of this range.
+fn increment_width(range: NumberRange, spec: &Spec) -> u32
+    requires number { is_character spec.now.kind ≡ false }
+    requires element { is_reference spec.now.role ≡ false }
+    ensures { (count : ℕ) (contents : List FieldContent) → AllDrawn spec.now contents
+        → IsRangeOf range contents → IsIncrementWidth spec.now
+        (unwrap_or (lowest (contents_drawn count contents)) 0) contents result }
+{
+    // For the proof alone: a number has at most 63 bits.
+    let _width = spec.width();
+    let most = range.greatest.saturating_sub(range.base());
+    least_bits(most, spec.may_be_missing())
+}
+
+/// Writes numbers that differ: the least of them, `k`, and the increments over it.
+// rule: packs-numbers
+fn pack_numbers(
+    out: &mut BitWriter,
+    drawn: &[FieldContent<'_>],
+    range: NumberRange,
+    spec: &Spec,
+) -> Result<(), AllocError>
+    requires number { is_character spec.now.kind ≡ false }
+    requires element { is_reference spec.now.role ≡ false }
+    requires drawn { AllDrawn spec.now drawn.now }
+    requires range { IsRangeOf range drawn.now }
+    requires room { length out.old.bits + (69 + 63 * length drawn.now) ≤ 2 ^ 63 }
+    ensures { PacksItem out.old.bits out.new.bits (packed_by spec.now.kind spec.now
+        (contents_drawn (spec.now.width / 8) drawn.now)) (69 + 63 * length drawn.now) result }
+{
+    let width = spec.width();
+    let base = range.base();
+    let k = increment_width(range, spec);
+    out.reserve(u64::from(width) + 6 + drawn.len() as u64 * u64::from(k))?;
+    out.put(base, width);
+    out.put(u64::from(k), 6);
+    put_increments(out, drawn, base, k);
+    Ok(())
+}
+
+/// How many octets of a text come before the spaces at its end.
+#[tactic(auto, using(crate::proofs::TextSteps::trimmed_here, crate::proofs::TextSteps::trimmed_later, crate::proofs::TextSteps::trimmed_all))]
+fn trimmed_len(octets: &[u8]) -> usize
+    ensures value { result ≡ trimmed octets.now }
+    ensures within { result ≤ length octets.now }
+{
+    for spaces in 0..octets.len() {
+        if octets[octets.len() - 1 - spaces] != b' ' {
+            return octets.len() - spaces;
+        }
+    }
+    0
+}
+
+/// How many octets determine a text, and one more where all are 255, so that none reads as missing.
+// rule: packs-texts-not-missing
+fn text_need(octets: &[u8]) -> usize
+    requires { length octets.now ≤ 255 }
+    ensures { result ≡ need octets.now }
+{
+    let len = trimmed_len(octets);
+    if is_all_255(&octets[..len]) {
+        len + 1
+    } else {
+        len
+    }
+}
+
+/// How many octets determine a content, where that is a text.
+#[tactic(auto, using(crate::proofs::PackSteps::eighth_most))]
+fn drawn_need(drawn: FieldContent<'_>, spec: &Spec) -> usize
+    requires { IsDrawn spec.now drawn }
+    ensures value { result ≡ need_of drawn.entry }
+{
+    // For the proof alone: a text has at most 255 octets.
+    let _width = spec.width();
+    match drawn {
+        FieldContent::Text(octets) => text_need(octets),
+        FieldContent::Number(_) => 1,
+        FieldContent::Missing => 1,
+        FieldContent::Reference(_) => 1,
+    }
+}
+
+/// How many octets determine all texts.
+#[tactic(auto, using(crate::proofs::PackSteps::need_more, crate::proofs::PackSteps::need_done, crate::proofs::PackSteps::drawn_at))]
+fn octets_needed(drawn: &[FieldContent<'_>], spec: &Spec) -> usize
+    requires { AllDrawn spec.now drawn.now }
+    ensures { result ≡ most_need drawn.now }
+{
+    let mut most: usize = 1;
+    for d in drawn {
+        most = drawn_need(*d, spec).max(most);
+    }
+    most
+}
+
+/// Writes the first octets of a text that spaces follow, or ones where the text is missing.
+#[tactic(auto, using(crate::proofs::PackSteps::eighth_most))]
+fn put_prefix(out: &mut BitWriter, drawn: FieldContent<'_>, k: usize, spec: &Spec)
+    requires few { k ≤ spec.now.width / 8 }
+    requires drawn { IsDrawn spec.now drawn }
+    requires room { 8 * k ≤ out.old.room }
+    ensures bits { out.new.bits
+        ≡ out.old.bits ++ octet_bits k (content_drawn (spec.now.width / 8) drawn.entry) }
+    ensures len { length out.new.bits ≡ length out.old.bits + 8 * k }
+    ensures room { out.old.room ≤ out.new.room + 8 * k }
+{
+    // For the proof alone: a text has at most 255 octets.
+    let _width = spec.width();
+    match drawn {
+        FieldContent::Text(octets) => out.put_octets(&with_spaces(octets)[..k]),
+        FieldContent::Number(_) => put_full(out, k),
+        FieldContent::Missing => put_full(out, k),
+        FieldContent::Reference(_) => put_full(out, k),
+    }
+}
+
+/// Writes the first `k` octets of each text.
+fn put_prefixes(out: &mut BitWriter, drawn: &[FieldContent<'_>], k: usize, spec: &Spec)
+    requires few { k ≤ spec.now.width / 8 }
+    requires drawn { AllDrawn spec.now drawn.now }
+    requires room { length drawn.now * (8 * k) ≤ out.old.room }
+    ensures bits { out.new.bits ≡ out.old.bits
+        ++ flat_map (octet_bits k) (contents_drawn (spec.now.width / 8) drawn.now) }
+    ensures len { length out.new.bits ≡ length out.old.bits + length drawn.now * (8 * k) }
+{
+    for d in drawn {
+        put_prefix(out, *d, k, spec);
+    }
+}
+
+/// Writes zeros as wide as a text.
+#[tactic(auto, using(crate::proofs::PackSteps::zero_bits))]
+fn put_zeros(out: &mut BitWriter, spec: &Spec)
+    requires text { is_character spec.now.kind ≡ true }
+    requires room { spec.now.width ≤ out.old.room }
+    ensures bits { out.new.bits ≡ out.old.bits ++ replicate spec.now.width false }
+    ensures len { length out.new.bits ≡ length out.old.bits + spec.now.width }
+    ensures room { out.old.room ≤ out.new.room + spec.now.width }
+{
+    let zeros = [0u8; 255];
+    out.put_octets(&zeros[..(spec.width() / 8) as usize]);
+}
+
+/// Writes texts that differ: a base of zero bits, `k`, and the first `k` octets of each.
+// rule: packs-texts
+fn pack_texts(
+    out: &mut BitWriter,
+    drawn: &[FieldContent<'_>],
+    k: usize,
+    spec: &Spec,
+) -> Result<(), AllocError>
+    requires k { k ≡ most_need drawn.now }
+    requires short { k ≤ 63 }
+    requires text { is_character spec.now.kind ≡ true }
+    requires element { is_reference spec.now.role ≡ false }
+    requires drawn { AllDrawn spec.now drawn.now }
+    requires room { length out.old.bits + (2046 + 504 * length drawn.now) ≤ 2 ^ 63 }
+    ensures { PacksItem out.old.bits out.new.bits (packed_by spec.now.kind spec.now
+        (contents_drawn (spec.now.width / 8) drawn.now)) (2046 + 504 * length drawn.now) result }
+{
+    let width = spec.width();
+    out.reserve(u64::from(width) + 6 + drawn.len() as u64 * (8 * k as u64))?;
+    put_zeros(out, spec);
+    out.put(k as u64, 6);
+    put_prefixes(out, drawn, k, spec);
+    Ok(())
+}
+
+/// Writes contents that are all the same: the first of them, and no increments.
+// rule: packs-equal, packs-all-missing
+fn pack_alike(out: &mut BitWriter, first: FieldContent<'_>, spec: &Spec) -> Result<(), AllocError>
+    requires first { IsDrawn spec.now first }
+    requires room { length out.old.bits + 2046 ≤ 2 ^ 63 }
+    ensures bits { OnOk result (out.new.bits ≡ out.old.bits
+        ++ (bits_for spec.now.width (content_drawn (spec.now.width / 8) first.entry)
+        ++ (bits_in 0 6 ++ []))) }
+    ensures some { OnOk result (length out.old.bits < length out.new.bits) }
+    ensures most { OnOk result (length out.new.bits ≤ length out.old.bits + 2046) }
+    ensures err { OnErr result (out.new.bits ≡ out.old.bits) }
+{
+    out.reserve(u64::from(spec.width()) + 6)?;
+    put_content(out, first, spec);
+    out.put(0, 6);
+    Ok(())
 }

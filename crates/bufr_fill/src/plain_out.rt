@@ -1,9 +1,7 @@
 //! The writer of data that are not compressed, from the items of a dump text.
-
-use crate::entries::{Entries, KeptEntry};
+use crate::draft::Entries;
 use crate::fault::{DraftFault, Expected};
-use crate::field_value::{FieldContent, field_content, wrong_item};
-use crate::put::{push_content, taken_of};
+use crate::field_value::{FieldContent, field_content, push_content, taken_of, wrong_item};
 use bufr_bits::BitWriter;
 use bufr_walk::{Fields, Spec, Taken};
 use std::alloc::Global;
@@ -60,8 +58,7 @@ impl<'s> PlainOut<'s> {
         ensures { result ≡ line_at self.now.left }
     {
         match self.entries.get(self.place) {
-            Some(KeptEntry::Item(item)) => item.line,
-            Some(KeptEntry::End(line)) => line,
+            Some((entry, _)) => entry.line,
             None => 0,
         }
     }
@@ -75,16 +72,14 @@ impl<'s> PlainOut<'s> {
     pub fn end_subset(&mut self) -> Result<(), DraftFault>
         ensures { EndsSubset self.old result self.new }
     {
-        match self.entries.get(self.place) {
-            Some(KeptEntry::End(_)) => {
+        if let Some((entry, _)) = self.entries.get(self.place) {
+            if entry.is_end() {
                 self.place += 1;
-                Ok(())
+                return Ok(());
             }
-            Some(KeptEntry::Item(item)) => {
-                Err(DraftFault::WrongDescriptor(item.line, Expected::EndOfSubset))
-            }
-            None => Err(DraftFault::WrongDescriptor(0, Expected::EndOfSubset)),
         }
+        let line = self.line();
+        Err(DraftFault::WrongDescriptor(line, Expected::EndOfSubset))
     }
 
     /// Returns the octets of the bits that were written, with zero bits to the next octet. It takes
@@ -120,12 +115,11 @@ impl<'s> Fields for PlainOut<'s> {
 
     #[inline(always)]
     fn take(&mut self, spec: &Spec) -> Result<Taken, DraftFault> {
-        let item = match self.entries.get(self.place) {
-            Some(KeptEntry::Item(item)) => item,
-            Some(KeptEntry::End(line)) => return Err(wrong_item(spec, line)),
+        let (entry, octets) = match self.entries.get(self.place) {
+            Some(found) => found,
             None => return Err(wrong_item(spec, 0)),
         };
-        let drawn = field_content(&item, spec)?;
+        let drawn = field_content(&entry, octets, spec)?;
         match push_content(&mut self.out, drawn, spec) {
             Ok(()) => {
                 self.place += 1;

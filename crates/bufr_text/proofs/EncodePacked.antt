@@ -18,7 +18,7 @@ use Rattle.bufr_fill.proofs.Places.{length-subsets}
 use Rattle.bufr_fill.proofs.PackedFaults.{stays, fault_as_defined, written_as_defined}
 use Rattle.bufr_fill.proofs.PackedWalks.{fills}
 use Rattle.bufr_bits.specs.Bits.{bits_of}
-use Rattle.bufr_text.specs.declared.encode_fault.DocumentFault.{DocumentFault}
+use Rattle.bufr_text.specs.declared.fault.DocumentFault.{DocumentFault}
 use Rattle.bufr_text.specs.EncodingFault.{report_of_draft, reported_refusal}
 use Rattle.bufr_text.specs.DataWritten.{reported_stop, AreOctetsOf, IsData, IsNoData}
 use Rattle.bufr_text.specs.EncodingCost.{count_filled, count_packed, turns_filled, turns_packed}

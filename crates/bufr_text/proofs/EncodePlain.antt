@@ -18,7 +18,7 @@ use Rattle.bufr_fill.specs.PlainOut.{PlainOutModel, PlainFills, IfDraftFault, Is
 use Rattle.bufr_fill.specs.DraftFaults.{draft_fault}
 use Rattle.bufr_fill.proofs.PlainWalks.{fills, walk_of_items, fault_as_defined}
 use Rattle.bufr_fill.proofs.WalkFills.{after_answers}
-use Rattle.bufr_text.specs.declared.encode_fault.DocumentFault.{DocumentFault}
+use Rattle.bufr_text.specs.declared.fault.DocumentFault.{DocumentFault}
 use Rattle.bufr_text.specs.Encoding.{RefusedAt, report_of_items}
 use Rattle.bufr_text.specs.EncodingFault.{IsDocumentRefusal, report_of_draft, reported_refusal}
 use Rattle.bufr_text.specs.DataWritten.{reported_stop, left_after, fill_next, count_next, turns_next, IsSubset, IsNoSubset, AreOctetsOf, IsData, IsNoData}

@@ -8,7 +8,7 @@ use Rattle.bufr_tables.specs.TemplateTables.{tables_of}
 use Rattle.bufr_tables.specs.Tree.{Tree}
 use Rattle.bufr_walk.specs.Course.{next_item}
 use Rattle.bufr_fill.specs.Entries.{subsets_of}
-use Rattle.bufr_text.specs.declared.form.Form.{Form}
+use Rattle.bufr_text.specs.declared.encode.Form.{Form}
 use Rattle.bufr_text.specs.Document.{Document}
 use Rattle.bufr_text.specs.Encoding.{RefusedAt, ◌>>=◌, report_of_template, report_of_items, data_bits, octets_of_bits, compressed_as, parts_as, message_of, encoding_in}
 use Rattle.bufr_text.specs.DataWritten.{AreOctetsOf, IsData}

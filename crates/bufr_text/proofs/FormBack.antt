@@ -10,7 +10,7 @@ use Rattle.bufr_tables.specs.Tree.{Tree}
 use Rattle.bufr_frame.specs.Sections.{Sections}
 use Rattle.bufr_walk.specs.Reading.{Values}
 use Rattle.bufr_fill.proofs.Limits.{AreGoodRows}
-use Rattle.bufr_text.specs.declared.form.Form.{Form}
+use Rattle.bufr_text.specs.declared.encode.Form.{Form}
 use Rattle.bufr_text.specs.Canonical.{IsCanonical}
 use Rattle.bufr_text.specs.Dump.{DumpItem, document_of, dump_text_of}
 use Rattle.bufr_text.specs.RoundTrip.{IsAccepted, dump_items_in}

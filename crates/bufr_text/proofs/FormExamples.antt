@@ -7,8 +7,8 @@ use Rattle.bufr_walk.specs.Course.{next_item}
 use Rattle.bufr_fill.specs.Draft.{draft, reference_token}
 use Rattle.bufr_fill.specs.Fault.{unequal_factors, uneven_increment}
 use Rattle.bufr_fill.specs.Entries.{Holds, Ends}
-use Rattle.bufr_text.specs.declared.form.Form.{Form}
-use Rattle.bufr_text.specs.declared.form.Form.TheVariants.{Plain, Compressed}
+use Rattle.bufr_text.specs.declared.encode.Form.{Form}
+use Rattle.bufr_text.specs.declared.encode.Form.TheVariants.{Plain, Compressed}
 use Rattle.bufr_text.specs.Document.{Document}
 use Rattle.bufr_text.specs.Encoding.{RefusedAt, refused_at, by_item, encoding_in}
 use Rattle.bufr_text.proofs.EncodingExamples.{listed, table, document, number, missing}

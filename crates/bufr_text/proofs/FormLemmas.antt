@@ -1,9 +1,8 @@
 -- The document of an accepted message is encoded in a form to a message with the same reading, but
 -- for the flag.
 use Rattle.std.proofs.Common.{◌≡◌, ◌⊎◌, inl, inr, ℕ, zero, suc, ◌+◌, ◌*◌, ◌/◌, ◌≤◌, Bool, true, false, List, [], ◌∷◌, ◌++◌, length, drop, map, Some, Result, Ok, Err, refl, sym, ◌∙◌, ap, subst, arith, append_assoc}
-use Rattle.std.specs.Prelude.{nat_lt, if◌then◌else◌}
+use Rattle.std.specs.Prelude.{nat_lt, if◌then◌else◌, Vec, IfOk, IfErr}
 use Rattle.std.specs.Global.{Global}
-use Rattle.std.specs.Prelude.{Vec, IfOk, IfErr}
 use Rattle.std.proofs.lemmas.Bool.Decides.{nat_tests}
 use Rattle.bufr_bits.specs.Bits.{bits_of, padding}
 use Rattle.bufr_bits.proofs.BitLemmas.{length-bits_of}
@@ -34,9 +33,9 @@ use Rattle.bufr_fill.proofs.FieldBits.{octets_in-are}
 use Rattle.bufr_fill.proofs.OtherFormLaws.{template_apart, template_together}
 use Rattle.bufr_fill.proofs.WholeLaws.{plain_template_again, packed_template_again}
 use Rattle.bufr_fill.specs.Entries.{DraftEntry, subsets_of}
-use Rattle.bufr_text.specs.declared.encode_fault.DocumentFault.{DocumentFault}
-use Rattle.bufr_text.specs.declared.form.Form.{Form}
-use Rattle.bufr_text.specs.declared.form.Form.TheVariants as form
+use Rattle.bufr_text.specs.declared.fault.DocumentFault.{DocumentFault}
+use Rattle.bufr_text.specs.declared.encode.Form.{Form}
+use Rattle.bufr_text.specs.declared.encode.Form.TheVariants as form
 use Rattle.bufr_text.specs.Document.{Document}
 use Rattle.bufr_text.specs.Dump.{DumpItem, subset_entries, document_of, lines_before}
 use Rattle.bufr_text.specs.DumpItems.{items_apart, compressed_dump_items, compressed_dump_subsets}

@@ -1,7 +1,7 @@
 -- Which faults report want of memory.
 use Rattle.std.proofs.Common.{◌≡◌, ℕ, List, Option, Some, None, Result, Ok, refl}
-use Rattle.bufr_text.specs.declared.encode_fault.DocumentFault.{DocumentFault}
-use Rattle.bufr_text.specs.declared.encode_fault.DocumentFault.TheVariants as fault
+use Rattle.bufr_text.specs.declared.fault.DocumentFault.{DocumentFault}
+use Rattle.bufr_text.specs.declared.fault.DocumentFault.TheVariants as fault
 use Rattle.bufr_text.specs.Encoding.{RefusedAt}
 use Rattle.bufr_text.specs.EncodingFault.{IsDocumentRefusal, reported_refusal}
 

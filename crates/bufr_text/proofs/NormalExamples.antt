@@ -10,8 +10,8 @@ use Rattle.bufr_tables.specs.Tree.{Tree, bare, element, operator, delayed}
 use Rattle.bufr_walk.specs.Course.{next_item}
 use Rattle.bufr_fill.specs.Draft.{draft, text_form, reference_token}
 use Rattle.bufr_fill.specs.Entries.{DraftEntry, Holds, Ends, subsets_of}
-use Rattle.bufr_text.specs.declared.form.Form.{Form}
-use Rattle.bufr_text.specs.declared.form.Form.TheVariants.{AsWritten, Plain, Compressed}
+use Rattle.bufr_text.specs.declared.encode.Form.{Form}
+use Rattle.bufr_text.specs.declared.encode.Form.TheVariants.{AsWritten, Plain, Compressed}
 use Rattle.bufr_text.specs.Document.{Document}
 use Rattle.bufr_text.specs.Dump.{header_lines, text_of_lines}
 use Rattle.bufr_text.specs.Grammar.{runs_after, hex_text, descriptors_text, quoted}

@@ -31,8 +31,8 @@ use Rattle.bufr_fill.proofs.NormalLemmas.{normal_dumped, said_fxy}
 use Rattle.bufr_fill.proofs.PlainForm.{Follows, AllFollow}
 use Rattle.bufr_fill.proofs.SaidDumped.{subsets_said, together_said, said_from, plain_follows, packed_follows}
 use Rattle.bufr_fill.proofs.SaidWritten.{plain_said_alike, packed_said_alike}
-use Rattle.bufr_text.specs.declared.form.Form.{Form}
-use Rattle.bufr_text.specs.declared.form.Form.TheVariants.{AsWritten, Plain, Compressed}
+use Rattle.bufr_text.specs.declared.encode.Form.{Form}
+use Rattle.bufr_text.specs.declared.encode.Form.TheVariants.{AsWritten, Plain, Compressed}
 use Rattle.bufr_text.specs.Document.{Document, optional_in}
 use Rattle.bufr_text.specs.Documents.{Complete, documents_of}
 use Rattle.bufr_text.specs.Dump.{DumpItem, bit, header_lines, local1_line, section2_line, descriptors_line, head_lines, form_text, comment_text, item_text, subset_line, subset_lines, text_of_lines, dump_text_of, subset_entries, lines_before, document_of}

@@ -25,7 +25,7 @@ use Rattle.bufr_fill.specs.Fault.{FaultAt}
 use Rattle.bufr_fill.specs.ReadBack.{AllHaveOctets, AreSaid}
 use Rattle.bufr_fill.proofs.BackLaws.{plain_template_back, packed_template_back}
 use Rattle.bufr_fill.proofs.FieldBits.{octets_in-are}
-use Rattle.bufr_text.specs.declared.form.Form.{Form}
+use Rattle.bufr_text.specs.declared.encode.Form.{Form}
 use Rattle.bufr_text.specs.Document.{Document, optional_in}
 use Rattle.bufr_text.specs.Encoding.{too_long, refused_at, ◌>>=◌, report_of_template, report_of_items, data_bits, octets_of_bits, parts_as, compressed_as, message_of, encoding_in}
 use Rattle.bufr_text.specs.Bounds.{IsOctet}

@@ -10,13 +10,13 @@ use Rattle.bufr_text.specs.Reader.{ReaderModel, position_of}
 use Rattle.bufr_text.specs.Filling.{place_now, ends_by_feed, IsProgress, IsReader, ParsesHeldLines, WantsHere, TakesHeldLines, read_fault_at, stopped}
 use Rattle.bufr_text.specs.Step.{place_with, line_fault_of, IsParserState}
 use Rattle.bufr_text.specs.TakingLines.{step_results, place_following, TakesLines, WantsAt}
-use Rattle.bufr_text.specs.declared.progress.Progress.{Progress}
-use Rattle.bufr_text.specs.declared.progress.TakeResult.{TakeResult}
-use Rattle.bufr_text.specs.declared.progress.TakeResult.TheVariants as taken
-use Rattle.bufr_text.specs.declared.step.ParserState.{ParserState}
-use Rattle.bufr_text.specs.declared.step.ParserState.TheVariants as place
-use Rattle.bufr_text.specs.declared.step.LineRefusal.{LineRefusal}
-use Rattle.bufr_text.specs.declared.step.LineRefusal.TheVariants as refusal
+use Rattle.bufr_text.specs.declared.document.Progress.{Progress}
+use Rattle.bufr_text.specs.declared.document.TakeResult.{TakeResult}
+use Rattle.bufr_text.specs.declared.document.TakeResult.TheVariants as taken
+use Rattle.bufr_text.specs.declared.document.ParserState.{ParserState}
+use Rattle.bufr_text.specs.declared.document.ParserState.TheVariants as place
+use Rattle.bufr_text.specs.declared.document.LineRefusal.{LineRefusal}
+use Rattle.bufr_text.specs.declared.document.LineRefusal.TheVariants as refusal
 use Rattle.bufr_text.specs.declared.fault.ReadFault.{ReadFault}
 use Rattle.bufr_text.specs.declared.fault.ReadFault.TheVariants as fault
 use Rattle.bufr_text.proofs.ReadingLemmas.{ends-inside, refuses-long, Reads}

@@ -35,7 +35,7 @@ use Rattle.bufr_fill.specs.WrittenAgain.{IsDumped, AreDrafts, AreDumped, AreDump
 use Rattle.bufr_fill.specs.WrittenAgain as again
 use Rattle.bufr_fill.proofs.FieldBits.{octet_bits_again, octets_in-are, length-octets_in}
 use Rattle.bufr_fill.proofs.WholeLaws.{plain_template_again, packed_template_again}
-use Rattle.bufr_text.specs.declared.form.Form.TheVariants.{AsWritten}
+use Rattle.bufr_text.specs.declared.encode.Form.TheVariants.{AsWritten}
 use Rattle.bufr_text.specs.Document.{Document}
 use Rattle.bufr_text.specs.Dump.{DumpItem, bit, dump_value_of, item_entries, subset_entries, document_of, dump_text_of, lines_before}
 use Rattle.bufr_text.specs.DumpItems.{value_of, items_apart, compressed_dump_items, compressed_dump_subsets}

@@ -1,23 +1,35 @@
 -- Lines that are taken one after another.
-use Rattle.std.proofs.Common.{◌≡◌, ℕ, ◌+◌, ◌<◌, Bool, true, List, [], ◌∷◌, ◌++◌, take, drop, refl, sym, ap, ◌∙◌, arith, Some, subst, length-drop, length-append, append_assoc, append-nil}
+use Rattle.std.proofs.Common.{◌≡◌, ℕ, ◌+◌, ◌<◌, ◌≤◌, nat_lt, length, Bool, true, false, List, [], ◌∷◌, ◌++◌, take, drop, refl, sym, ap, ◌∙◌, arith, Some, subst, length-drop, length-append, append_assoc, append-nil}
 use Rattle.std.specs.List.{AllByRecursion}
 use Rattle.std.proofs.lemmas.Grind.{common_steps}
+use Rattle.std.proofs.lemmas.Bool.Decides.{nat_tests}
+use Rattle.bufr_fill.specs.Draft.{DraftValue, draft}
+use Rattle.bufr_fill.specs.Entries.{Holds}
+use Rattle.bufr_text.specs.Line.{Item, line_of}
 use Rattle.bufr_text.specs.Document as spec
 use Rattle.bufr_text.specs.Documents as documents
-use Rattle.bufr_text.specs.Documents.{line_within_limit, place_after, reported_at}
+use Rattle.bufr_text.specs.Documents.{line_within_limit, place_after, reported_at, with_entry}
 use Rattle.bufr_text.specs.Dump.{text_of_lines}
 use Rattle.bufr_text.specs.Reading.{has_no_feed, ReaderPosition, ContinuesParse, TakesWholeLines}
 use Rattle.bufr_text.specs.Step.{place_with, line_fault_of, turned, IsParserState, HoldsAfter}
 use Rattle.bufr_text.specs.TakingLines.{FeedAt, step_results, position_with, position_after_take, TakesLines, IsTaking}
-use Rattle.bufr_text.specs.declared.progress.Progress.{Progress}
-use Rattle.bufr_text.specs.declared.progress.TakeResult.TheVariants as taken
-use Rattle.bufr_text.specs.declared.step.LineEffect.TheVariants as turn
-use Rattle.bufr_text.specs.declared.step.ParserState.{ParserState}
-use Rattle.bufr_text.specs.declared.step.LineRefusal.{LineRefusal}
+use Rattle.bufr_text.specs.declared.document.Progress.{Progress}
+use Rattle.bufr_text.specs.declared.document.TakeResult.TheVariants as taken
+use Rattle.bufr_text.specs.declared.document.LineEffect.TheVariants as turn
+use Rattle.bufr_text.specs.declared.document.ParserState.{ParserState}
+use Rattle.bufr_text.specs.declared.document.LineRefusal.{LineRefusal}
 use Rattle.bufr_text.proofs.HeaderLemmas.{turn-holds}
 use Rattle.bufr_text.proofs.SoundLemmas.{said-sound}
 use Rattle.bufr_text.proofs.ClosingLemmas.{gives-end}
 use Rattle.bufr_text.proofs.ReadingLemmas.{takes-line, goes-further}
+
+-- a line with an item, in a subset
+pub item-turn : (at subset : ℕ) (line : List ℕ) (d new : spec.Document) (fxy : ℕ) (form : DraftValue) → length line ≤ 4096 → line_of line ≡ Item fxy form → new ≡ with_entry d (Holds (draft at fxy form))
+    → documents.WalkGoes (documents.Filling subset new) ≡ documents.turn at (documents.Filling subset d) (line_within_limit line)
+unfolding documents.turn
+item-turn at subset line d new fxy form short is added =
+    let within : nat_lt 4096 (length line) ≡ false = grind (arith, nat_tests, short) in
+    rw (added, within, is) refl
 
 drop-on : (a b : ℕ) (s : List ℕ) → drop a (drop b s) ≡ drop (b + a) s
 drop-on a b s = grind (arith, common_steps)

@@ -6,7 +6,7 @@ use Rattle.bufr_tables.specs.Expansion.{part_of, level, inner_of, tree_of}
 use Rattle.bufr_walk.specs.Course.{next_item}
 use Rattle.bufr_fill.specs.Entries.{DraftEntry, Ends}
 use Rattle.bufr_text.specs.Document.{Document}
-use Rattle.bufr_text.specs.declared.form.Form.TheVariants.{AsWritten}
+use Rattle.bufr_text.specs.declared.encode.Form.TheVariants.{AsWritten}
 use Rattle.bufr_text.specs.EncodingCost.{turns_by}
 use Rattle.bufr_text.proofs.EncodingExamples.{listed, table, document, number, missing}
 

@@ -1,12 +1,15 @@
 -- The first word of a line.
-use Rattle.std.proofs.Common.{◌≡◌, ℕ, zero, suc, ◌<◌, ◌≤◌, ◌==◌, not, Bool, true, false, List, [], ◌∷◌, length, take, drop, refl, ap, arith, Option, Some, None, codes}
+use Rattle.std.proofs.Common.{◌≡◌, ℕ, zero, suc, ◌<◌, ◌≤◌, ◌==◌, not, Bool, true, false, List, [], ◌∷◌, length, take, drop, refl, ap, arith, Option, Some, None, codes, ◌+◌, ◌*◌, ◌∙◌, sym, if◌then◌else◌}
 use Rattle.std.specs.Prelude.{slice_index}
 use Rattle.std.proofs.lemmas.Bool.Decides.{nat_tests}
 use Rattle.memchr.specs.Find.{IsFirstByte, is_byte}
 use Rattle.std.specs.Str.{bytes_eq}
 use Rattle.std.specs.Char.{is_ascii_digit}
-use Rattle.bufr_text.specs.Grammar.{prefix_while, suffix_while, without_space, hex_read}
-use Rattle.bufr_text.specs.Line.{Passed, Local1, Section2, made, with_one_to, value_read, item_line, worded, line_of, is_no_space}
+use Rattle.bufr_tables.specs.Fxy.{fxy_of, is_fxy, f_in, x_in, y_in}
+use Rattle.bufr_fill.specs.Draft.{DraftValue}
+use Rattle.bufr_text.specs.Grammar.{prefix_while, suffix_while, without_space, hex_read, is_passed_after}
+use Rattle.bufr_text.specs.Line.{Passed, Item, Local1, Section2, made, with_one_to, value_read, item_line, worded, line_of, is_no_space}
+use Rattle.bufr_text.proofs.ItemLemmas.{fxy-six}
 
 no-space : (c : ℕ) → ((c == 32) ≡ true → ⊥) → is_no_space c ≡ true
 no-space c h = by (c == 32) h
@@ -63,6 +66,24 @@ pub line-word : (line : List ℕ) → 0 < length line → (slice_index line 0 �
 unfolding line_of
 line-word [] some e d = absurd (omega (arith, some))
 line-word (c ∷ line) some e d = let q : (c == 35) ≡ false = grind (arith, nat_tests, e) in rw (q, d) refl
+
+-- an item line, by its parts
+is-fxy : (text : List ℕ) (fxy : ℕ) → Some fxy ≡ fxy_of text → is_fxy text ≡ true
+is-fxy text fxy h = by (is_fxy text) h
+  where
+    by : (b : Bool) → Some fxy ≡ (if b then Some (16384 * f_in text + 256 * x_in text + y_in text) else None) → b ≡ true
+    by true h = refl
+    by false h = absurd cc
+
+begins-by-digit : (line : List ℕ) (fxy : ℕ) → 6 ≤ length line → Some fxy ≡ fxy_of (take 6 line) → is_ascii_digit (slice_index line 0) ≡ true
+begins-by-digit [] fxy h is = absurd (omega arith)
+begins-by-digit (c ∷ more) fxy h is = grind (arith, nat_tests, is-fxy (take 6 (c ∷ more)) fxy is)
+
+pub decimal-line : (line text rest : List ℕ) (fxy : ℕ) (form : DraftValue) → 6 ≤ length line → Some text ≡ without_space (drop 6 line) → value_read text ≡ Some (form, rest) → is_passed_after rest ≡ true → Some fxy ≡ fxy_of (take 6 line) → line_of line ≡ Item fxy form
+decimal-line line text rest fxy form h space value passed is =
+    let digit = begins-by-digit line fxy h is in
+    line-item line (λ (e : slice_index line 0 ≡ 35). absurd (grind (arith, nat_tests, e, digit))) digit
+    ∙ rw (fxy-six line h, sym is, sym space, value, passed) refl
 
 pub ruleset read_steps = (line-none, line-note, line-item, line-word)
 

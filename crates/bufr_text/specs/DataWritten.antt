@@ -15,7 +15,7 @@ use Rattle.bufr_fill.specs.Fault.{FaultAt, at_line, walk_refused}
 use Rattle.bufr_fill.specs.Filling.{fill}
 use Rattle.bufr_fill.specs.PlainOut.{PlainOutModel, items_left, end_left}
 use Rattle.bufr_fill.specs.DraftFaults.{draft_fault}
-use Rattle.bufr_text.specs.declared.encode_fault.DocumentFault.{DocumentFault}
+use Rattle.bufr_text.specs.declared.fault.DocumentFault.{DocumentFault}
 use Rattle.bufr_text.specs.Encoding.{data_bits, report_of_items}
 use Rattle.bufr_text.specs.EncodingFault.{IsDocumentRefusal, reported_refusal}
 use Rattle.bufr_text.specs.EncodingCost.{count_filled, count_data, turns_filled, turns_data, CountsSteps}

@@ -15,8 +15,8 @@ use Rattle.bufr_walk.specs.Course.{Course, next_item}
 use Rattle.bufr_fill.specs.Encoding.{plain_data, packed_data}
 use Rattle.bufr_fill.specs.Entries.{Subset, subsets_of}
 use Rattle.bufr_fill.specs.Fault.{DraftFaultKind, FaultAt}
-use Rattle.bufr_text.specs.declared.form.Form.{Form}
-use Rattle.bufr_text.specs.declared.form.Form.TheVariants.{AsWritten}
+use Rattle.bufr_text.specs.declared.encode.Form.{Form}
+use Rattle.bufr_text.specs.declared.encode.Form.TheVariants.{AsWritten}
 use Rattle.bufr_text.specs.Document.{Document, subsets_in}
 use Rattle.bufr_text.specs.Form.{compressed_by}
 use Rattle.bufr_text.specs.Header.{head_from_values, observed_in, compressed_in, section2_in}

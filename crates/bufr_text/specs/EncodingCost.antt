@@ -16,7 +16,7 @@ use Rattle.bufr_fill.specs.Encoding.{packed_filler, rows, longest, are_many}
 use Rattle.bufr_fill.specs.Entries.{Subset, subsets_of}
 use Rattle.bufr_fill.specs.Fault.{FaultAt}
 use Rattle.bufr_fill.specs.Filling.{WrittenItem, Filler, fill}
-use Rattle.bufr_text.specs.declared.form.Form.{Form}
+use Rattle.bufr_text.specs.declared.encode.Form.{Form}
 use Rattle.bufr_text.specs.Document.{Document}
 use Rattle.bufr_text.specs.Encoding.{RefusedAt, compressed_as}
 

@@ -5,10 +5,10 @@ use Rattle.bufr_walk.specs.declared.spec.TurnRefusal.TheVariants as refusal
 use Rattle.bufr_fill.specs.Fault.{DraftFaultKind, FaultAt, wrong_number, out_of_range, text_long, missing_forbidden, unequal_factors, uneven_increment, walk_refused, too_many_values}
 use Rattle.bufr_fill.specs.DraftFaults.{other_than}
 use Rattle.bufr_text.specs.Encoding.{RefusedAt, refused_at, by_template, by_item, too_long}
-use Rattle.bufr_text.specs.declared.encode_fault.DocumentFault.{DocumentFault}
-use Rattle.bufr_text.specs.declared.encode_fault.DocumentFault.TheVariants as fault
-use Rattle.bufr_text.specs.declared.encode_fault.WalkRefusal.{WalkRefusal}
-use Rattle.bufr_text.specs.declared.encode_fault.WalkRefusal.TheVariants as walk
+use Rattle.bufr_text.specs.declared.fault.DocumentFault.{DocumentFault}
+use Rattle.bufr_text.specs.declared.fault.DocumentFault.TheVariants as fault
+use Rattle.bufr_text.specs.declared.fault.WalkRefusal.{WalkRefusal}
+use Rattle.bufr_text.specs.declared.fault.WalkRefusal.TheVariants as walk
 
 abbrev pub walk_report : WalkRefusal → DraftFaultKind
 walk_report (walk.Width fxy) = walk_refused (refusal.Width fxy)

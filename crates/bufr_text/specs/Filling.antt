@@ -12,9 +12,9 @@ use Rattle.bufr_text.specs.Documents.{ParserState, Between, Stopped, ParseResult
 use Rattle.bufr_text.specs.Reading.{has_no_feed, ContinuesParse, TakesWholeLines, TakesEndLine, parse}
 use Rattle.bufr_text.specs.Reader.{ReaderModel, position_of, AddsNext}
 use Rattle.bufr_text.specs.Step.{place_with, IsParserState}
-use Rattle.bufr_text.specs.declared.progress.Progress.{Progress}
-use Rattle.bufr_text.specs.declared.step.LineRefusal.{LineRefusal}
-use Rattle.bufr_text.specs.declared.step.LineRefusal.TheVariants as refusal
+use Rattle.bufr_text.specs.declared.document.Progress.{Progress}
+use Rattle.bufr_text.specs.declared.document.LineRefusal.{LineRefusal}
+use Rattle.bufr_text.specs.declared.document.LineRefusal.TheVariants as refusal
 use Rattle.bufr_text.specs.declared.fault.ReadFault.{ReadFault}
 use Rattle.bufr_text.specs.declared.fault.ReadFault.TheVariants.{Line, SubsetCount, HeaderRange, Run}
 

@@ -1,8 +1,8 @@
 -- The form in which the data of a document are written. (a choice of this project)
 -- Cited by public contracts.
 use Rattle.std.specs.Prelude.{Bool, true, false}
-use Rattle.bufr_text.specs.declared.form.Form.{Form}
-use Rattle.bufr_text.specs.declared.form.Form.TheVariants as form
+use Rattle.bufr_text.specs.declared.encode.Form.{Form}
+use Rattle.bufr_text.specs.declared.encode.Form.TheVariants as form
 
 -- whether data are compressed, where a document says so or not
 -- rule: writes-form

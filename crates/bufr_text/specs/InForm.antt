@@ -13,9 +13,9 @@ use Rattle.bufr_walk.specs.Course.{next_item}
 use Rattle.bufr_walk.specs.Outcome.{data_of}
 use Rattle.bufr_walk.specs.Reading.{Item, Values, apart, together, IsReading}
 use Rattle.bufr_fill.specs.OtherForm.{subsets_from, IsUnlike}
-use Rattle.bufr_text.specs.declared.encode_fault.DocumentFault.{DocumentFault}
-use Rattle.bufr_text.specs.declared.form.Form.{Form}
-use Rattle.bufr_text.specs.declared.form.Form.TheVariants as form
+use Rattle.bufr_text.specs.declared.fault.DocumentFault.{DocumentFault}
+use Rattle.bufr_text.specs.declared.encode.Form.{Form}
+use Rattle.bufr_text.specs.declared.encode.Form.TheVariants as form
 use Rattle.bufr_text.specs.RoundTrip.{SaySame, dump_items_in}
 use Rattle.bufr_text.specs.Encoding.{DocumentRefusal, by_template, by_item, too_long, RefusedAt}
 use Rattle.bufr_text.specs.EncodingFault.{reported_refusal}

@@ -13,8 +13,8 @@ use Rattle.bufr_fill.specs.DraftContent.{content_of}
 use Rattle.bufr_fill.specs.Entries.{Subset, subsets_of}
 use Rattle.bufr_fill.specs.Fault.{DraftFaultKind}
 use Rattle.bufr_fill.specs.Normal.{normal_form}
-use Rattle.bufr_text.specs.declared.form.Form.{Form}
-use Rattle.bufr_text.specs.declared.form.Form.TheVariants.{AsWritten, Plain, Compressed}
+use Rattle.bufr_text.specs.declared.encode.Form.{Form}
+use Rattle.bufr_text.specs.declared.encode.Form.TheVariants.{AsWritten, Plain, Compressed}
 use Rattle.bufr_text.specs.Document.{Document}
 use Rattle.bufr_text.specs.Dump.{Comment, header_lines, local1_line, section2_line, descriptors_line, form_text, comment_text, subset_line, text_of_lines}
 use Rattle.bufr_text.specs.DumpItems.{comment_of}

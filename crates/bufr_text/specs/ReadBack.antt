@@ -9,7 +9,7 @@ use Rattle.bufr_frame.specs.Sections.{Sections}
 use Rattle.bufr_walk.specs.Reading.{Values, apart, together}
 use Rattle.bufr_fill.specs.Entries.{Subset, subsets_of}
 use Rattle.bufr_fill.specs.ReadBack.{AreSaid, AreSaidFrom}
-use Rattle.bufr_text.specs.declared.form.Form.{Form}
+use Rattle.bufr_text.specs.declared.encode.Form.{Form}
 use Rattle.bufr_text.specs.Document.{Document, subsets_in}
 use Rattle.bufr_text.specs.RoundTrip.{IsAccepted}
 use Rattle.bufr_text.specs.Encoding.{compressed_as}

@@ -15,8 +15,8 @@ use Rattle.bufr_frame.specs.Sections.{Sections, sections_of, edition_of}
 use Rattle.bufr_walk.specs.Course.{next_item}
 use Rattle.bufr_walk.specs.Outcome.{read_by, data_of}
 use Rattle.bufr_walk.specs.Reading.{Values, IsReading}
-use Rattle.bufr_text.specs.declared.form.Form.{Form}
-use Rattle.bufr_text.specs.declared.form.Form.TheVariants.{AsWritten}
+use Rattle.bufr_text.specs.declared.encode.Form.{Form}
+use Rattle.bufr_text.specs.declared.encode.Form.TheVariants.{AsWritten}
 use Rattle.bufr_text.specs.Document.{Document}
 use Rattle.bufr_text.specs.Dump.{DumpItem}
 use Rattle.bufr_text.specs.DumpItems.{dump_items_of}

@@ -9,20 +9,18 @@ use Rattle.bufr_text.specs.Line as line
 use Rattle.bufr_text.specs.Documents as documents
 use Rattle.bufr_text.specs.Header.{are_in_range, IsHeaded}
 use Rattle.bufr_text.specs.Bounds.{IsOctet, IsDescriptorWord}
-use Rattle.bufr_bits.specs.ShortDecimal.{short_text}
-use Rattle.bufr_fill.specs.Draft.{number_token}
 use Rattle.bufr_fill.specs.Given.{form_in}
 use Rattle.bufr_text.specs.Proper.{IsProper}
-use Rattle.bufr_text.specs.declared.step.ParsedLine.{ParsedLine}
-use Rattle.bufr_text.specs.declared.step.ParsedLine.TheVariants as said
-use Rattle.bufr_text.specs.declared.step.LineGroup.{LineGroup}
-use Rattle.bufr_text.specs.declared.step.LineGroup.TheVariants as written
-use Rattle.bufr_text.specs.declared.step.ParserState.{ParserState}
-use Rattle.bufr_text.specs.declared.step.ParserState.TheVariants as place
-use Rattle.bufr_text.specs.declared.step.LineRefusal.{LineRefusal}
-use Rattle.bufr_text.specs.declared.step.LineRefusal.TheVariants as refusal
-use Rattle.bufr_text.specs.declared.step.LineEffect.{LineEffect}
-use Rattle.bufr_text.specs.declared.step.LineEffect.TheVariants as turn
+use Rattle.bufr_text.specs.declared.document.ParsedLine.{ParsedLine}
+use Rattle.bufr_text.specs.declared.document.ParsedLine.TheVariants as said
+use Rattle.bufr_text.specs.declared.document.LineGroup.{LineGroup}
+use Rattle.bufr_text.specs.declared.document.LineGroup.TheVariants as written
+use Rattle.bufr_text.specs.declared.document.ParserState.{ParserState}
+use Rattle.bufr_text.specs.declared.document.ParserState.TheVariants as place
+use Rattle.bufr_text.specs.declared.document.LineRefusal.{LineRefusal}
+use Rattle.bufr_text.specs.declared.document.LineRefusal.TheVariants as refusal
+use Rattle.bufr_text.specs.declared.document.LineEffect.{LineEffect}
+use Rattle.bufr_text.specs.declared.document.LineEffect.TheVariants as turn
 
 -- what a line that was read says
 abbrev pub meaning : ParsedLine → line.Line
@@ -33,7 +31,6 @@ meaning (said.Local1 octets) = line.Local1 octets.now
 meaning (said.Section2 octets) = line.Section2 octets.now
 meaning (said.Descriptors words) = line.Descriptors words.now
 meaning (said.Begins subset) = line.Begins subset
-meaning (said.Decimal fxy number) = line.Item fxy (number_token (short_text number))
 meaning (said.Item fxy form) = line.Item fxy (form_in form)
 meaning said.Closes = line.Closes
 meaning said.Wrong = line.Wrong

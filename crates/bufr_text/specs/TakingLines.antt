@@ -7,9 +7,9 @@ use Rattle.bufr_text.specs.Document as spec
 use Rattle.bufr_text.specs.Proper.{IsProper}
 use Rattle.bufr_text.specs.Reading.{has_no_feed, ReaderPosition, ContinuesParse, TakesWholeLines, TakesEndLine}
 use Rattle.bufr_text.specs.Step.{place_with, line_fault_of, IsParserState}
-use Rattle.bufr_text.specs.declared.progress.Progress.{Progress}
-use Rattle.bufr_text.specs.declared.progress.TakeResult.{TakeResult}
-use Rattle.bufr_text.specs.declared.progress.TakeResult.TheVariants as taken
+use Rattle.bufr_text.specs.declared.document.Progress.{Progress}
+use Rattle.bufr_text.specs.declared.document.TakeResult.{TakeResult}
+use Rattle.bufr_text.specs.declared.document.TakeResult.TheVariants as taken
 
 -- the first line feed, or there is none
 abbrev pub FeedAt : List ℕ → Option ℕ → Type 0

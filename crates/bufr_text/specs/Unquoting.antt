@@ -6,8 +6,8 @@ use Rattle.std.specs.Str.Parse.{digits_value}
 use Rattle.std.specs.Prelude.{◌≡◌, true, min, ℕ, ◌≤◌, List, ◌++◌, length, take, drop, Option, None, Some}
 use Rattle.bufr_text.specs.Grammar as grammar
 use Rattle.bufr_text.specs.Grammar.{quoted_read, prefix_while, suffix_while, is_number_octet}
-use Rattle.bufr_text.specs.declared.quoted.QuotedToken.{QuotedToken}
-use Rattle.bufr_text.specs.declared.quoted.QuotedToken.TheVariants as quoting
+use Rattle.bufr_text.specs.declared.line.QuotedToken.{QuotedToken}
+use Rattle.bufr_text.specs.declared.line.QuotedToken.TheVariants as quoting
 
 abbrev pub quoting_said : QuotedToken → grammar.QuotedToken
 quoting_said quoting.Closed = grammar.Closed

@@ -1,22 +1,32 @@
 //! A message as its text gives it.
-ghost use Rattle.std.specs.Prelude.{◌≡◌, ℕ, ◌+◌, ◌<◌, ◌≤◌, List, [], ◌∷◌, ◌++◌, length, take, map, OnOk, IsTrue, slice_index, option_map};
+ghost use Rattle.std.specs.Prelude.{◌≡◌, ℕ, ◌+◌, ◌<◌, ◌≤◌, List, [], ◌∷◌, ◌++◌, length, take, map, OnOk, IsTrue, slice_index, option_map, true, IfOk, OnErr, ◌^◌, drop, false};
 ghost use Rattle.bufr_bits.specs.ShortDecimal.{short_text};
 ghost use Rattle.bufr_fill.specs.Draft.{draft, number_token};
 ghost use Rattle.bufr_frame.specs.Layout.{is_writable};
 ghost use Rattle.bufr_frame.specs.Section1.{slots_4};
 ghost use Rattle.bufr_fill.specs.Entries.{Holds, Ends, subsets_of};
 ghost use Rattle.bufr_fill.specs.Given.{form_in};
-ghost use Rattle.bufr_text.specs.Document as spec;
 ghost use Rattle.bufr_text.specs.Document.{subsets_in};
-ghost use Rattle.bufr_text.specs.Documents.{with_value, with_local1, with_section2, with_descriptors, with_entry};
+ghost use Rattle.bufr_text.specs.Documents.{with_value, with_local1, with_section2, with_descriptors, with_entry, heading, before_subsets, filling, beginning, closing, opening, turn, adds, line_within_limit};
 ghost use Rattle.bufr_text.specs.Header.{head_from_values, observed_in, compressed_in, section2_in, most_entries};
 ghost use Rattle.bufr_text.specs.Whole.{IsWhole};
 ghost use Rattle.bufr_text.specs.Line.{mosts};
+ghost use Rattle.bufr_text.specs.Step.{meaning, part_number, place_with, turned, IsParserState};
+ghost use Rattle.bufr_text.specs.Reading.{has_no_feed};
+ghost use Rattle.bufr_text.specs.declared.document.ParserState.TheVariants.{Between};
+ghost use Rattle.bufr_text.specs.TakingLines.{TakesLines, FeedAt, WantsAt};
+ghost use Rattle.bufr_text.specs.Document as spec;
+ghost use Rattle.bufr_text.specs.Line as line;
+ghost use Rattle.bufr_text.specs.Documents as documents;
 
+use crate::header::{MOST_WORDS, in_range};
+use crate::line::{MAX_LINE, decimal_item, read_line};
+use crate::slice::{ahead, suffix};
 use bufr_bits::ShortDecimal;
 use bufr_fill::{DraftItem, DraftValue, Entries};
 use bufr_frame::Head;
 use bufr_tables::Fxy;
+use memchr::memchr;
 use std::alloc::{AllocError, Global};
 use std::marker::Model;
 
@@ -133,13 +143,12 @@ impl DocumentParts {
     pub(crate) fn push_item(
         &mut self,
         line: u64,
-        fxy: u16,
+        fxy: Fxy,
         form: DraftValue<'_>,
     ) -> Result<(), AllocError>
         ensures { OnOk result
             (self.new ≡ with_entry self.old (Holds (draft line fxy (form_in form.entry)))) }
     {
-        let fxy = Fxy::from_word(fxy);
         self.entries.push_item(DraftItem { line, fxy, form })
     }
 
@@ -148,13 +157,13 @@ impl DocumentParts {
     pub(crate) fn push_decimal(
         &mut self,
         line: u64,
-        fxy: u16,
+        fxy: Fxy,
         number: ShortDecimal,
     ) -> Result<(), AllocError>
         ensures { OnOk result (self.new
             ≡ with_entry self.old (Holds (draft line fxy (number_token (short_text number))))) }
     {
-        self.entries.push_decimal(line, Fxy::from_word(fxy), number)
+        self.entries.push_decimal(line, fxy, number)
     }
 
     /// The end of a subset.
@@ -341,4 +350,347 @@ impl Document {
     {
         self.parts.entries()
     }
+}
+
+/// What a line says. Octets of hexadecimal digits and of texts are those that they mean.
+#[derive(Clone, Copy)]
+pub(crate) enum ParsedLine<'a> {
+    Passed,
+    Opens,
+    Header { key: usize, value: u32 },
+    Local1(&'a [u8]),
+    Section2(&'a [u8]),
+    Descriptors(&'a [u16]),
+    Begins(u32),
+    Item { fxy: u16, form: DraftValue<'a> },
+    Closes,
+    Wrong,
+}
+
+/// How far the parts before the subsets have come: they are in this order.
+#[derive(Clone, Copy)]
+pub(crate) enum LineGroup {
+    Local1,
+    Section2,
+    Descriptors,
+}
+
+impl LineGroup {
+    ghost use Rattle.std.specs.Prelude.{◌≡◌};
+    ghost use Rattle.bufr_text.specs.Step.{part_number};
+
+    /// Its place in the order, from 0.
+    fn number(self) -> u8
+        ensures { result ≡ part_number self }
+    {
+        match self {
+            LineGroup::Local1 => 0,
+            LineGroup::Section2 => 1,
+            LineGroup::Descriptors => 2,
+        }
+    }
+}
+
+/// Where the reading is.
+#[derive(Clone, Copy)]
+pub(crate) enum ParserState {
+    Between,
+    Heading,
+    /// Behind the header, before the first subset.
+    BeforeSubsets(LineGroup),
+    /// In this subset.
+    Filling(u32),
+}
+
+/// Why a line is refused.
+#[derive(Clone, Copy)]
+pub(crate) enum LineRefusal {
+    NotAllowed,
+    SubsetCount,
+    HeaderRange,
+}
+
+/// What a line does.
+#[derive(Clone, Copy)]
+pub(crate) enum LineEffect {
+    WalkGoes(ParserState),
+    Gives,
+    Refuses(LineRefusal),
+}
+
+/// A header line.
+// rule: reading-header-order, fault-61, fault-order-of-a-line
+fn heading(parts: &mut DocumentParts, key: usize, value: u32) -> LineEffect
+    requires { length parts.old.header < 20 }
+    ensures turns { turned result parts.new ≡ heading parts.old (line.Header key value) }
+{
+    if key != parts.known() {
+        return LineEffect::Refuses(LineRefusal::NotAllowed);
+    }
+    // The edition is the first value; its own range goes by none.
+    if !in_range(parts.value(0), key, value) {
+        return LineEffect::Refuses(LineRefusal::HeaderRange);
+    }
+    parts.push_value(value as u16);
+    if key == 19 {
+        LineEffect::WalkGoes(ParserState::BeforeSubsets(LineGroup::Local1))
+    } else {
+        LineEffect::WalkGoes(ParserState::Heading)
+    }
+}
+
+/// `subset` and its number, where so many subsets were read.
+// rule: reading-subsets, fault-57
+fn beginning(parts: &DocumentParts, read: u32, subset: u32) -> LineEffect
+    requires { read < 65536 }
+    ensures turns { turned result parts.now ≡ beginning read parts.now subset }
+{
+    if subset == read + 1 && subset <= u32::from(parts.value(19)) {
+        LineEffect::WalkGoes(ParserState::Filling(subset))
+    } else {
+        LineEffect::Refuses(LineRefusal::SubsetCount)
+    }
+}
+
+/// `end`
+// rule: reading-subsets, fault-57
+fn closing(parts: &DocumentParts, read: u32) -> LineEffect
+    ensures turns { turned result parts.now ≡ closing read parts.now }
+{
+    if read == u32::from(parts.value(19)) {
+        LineEffect::Gives
+    } else {
+        LineEffect::Refuses(LineRefusal::SubsetCount)
+    }
+}
+
+/// A line after the header and before the first subset.
+// rule: reading-section2
+fn before_subsets(
+    parts: &mut DocumentParts,
+    part: LineGroup,
+    said: ParsedLine<'_>,
+) -> Result<LineEffect, AllocError>
+    ensures turns { IfOk result
+        (λ t. turned t parts.new
+        ≡ before_subsets (part_number part) parts.old (meaning said.entry)) }
+    ensures wants { OnErr result
+        (adds (place_with (ParserState.BeforeSubsets part) parts.old) (meaning said.entry) ≡ true) }
+{
+    let turn = match said {
+        ParsedLine::Local1(octets) if part.number() == 0 => {
+            parts.extend_local1(octets)?;
+            LineEffect::WalkGoes(ParserState::BeforeSubsets(LineGroup::Local1))
+        }
+        ParsedLine::Section2(octets) if part.number() <= 1 && parts.value(18) == 1 => {
+            parts.extend_section2(octets)?;
+            LineEffect::WalkGoes(ParserState::BeforeSubsets(LineGroup::Section2))
+        }
+        ParsedLine::Descriptors(words) => {
+            parts.extend_descriptors(words)?;
+            LineEffect::WalkGoes(ParserState::BeforeSubsets(LineGroup::Descriptors))
+        }
+        ParsedLine::Begins(subset) => beginning(parts, 0, subset),
+        ParsedLine::Closes => closing(parts, 0),
+        _ => LineEffect::Refuses(LineRefusal::NotAllowed),
+    };
+    Ok(turn)
+}
+
+/// A line in a subset.
+// rule: reading-subset-end
+fn filling(
+    parts: &mut DocumentParts,
+    at: u64,
+    subset: u32,
+    said: ParsedLine<'_>,
+) -> Result<LineEffect, AllocError>
+    requires { subset < 65536 }
+    ensures turns { IfOk result
+        (λ t. turned t parts.new ≡ filling at subset parts.old (meaning said.entry)) }
+    ensures wants { OnErr result
+        (adds (place_with (ParserState.Filling subset) parts.old) (meaning said.entry) ≡ true) }
+{
+    let turn = match said {
+        ParsedLine::Item { fxy, form } => {
+            parts.push_item(at, Fxy::from_word(fxy), form)?;
+            LineEffect::WalkGoes(ParserState::Filling(subset))
+        }
+        ParsedLine::Begins(next) => {
+            parts.push_end(at)?;
+            beginning(parts, subset, next)
+        }
+        ParsedLine::Closes => {
+            parts.push_end(at)?;
+            closing(parts, subset)
+        }
+        _ => LineEffect::Refuses(LineRefusal::NotAllowed),
+    };
+    Ok(turn)
+}
+
+/// A line between documents.
+// rule: reading-between-documents
+fn opening(parts: &mut DocumentParts, at: u64, said: ParsedLine<'_>) -> LineEffect
+    ensures turns { turned result parts.new ≡ opening at (meaning said.entry) }
+{
+    match said {
+        ParsedLine::Opens => {
+            parts.begin(at);
+            LineEffect::WalkGoes(ParserState::Heading)
+        }
+        _ => LineEffect::Refuses(LineRefusal::NotAllowed),
+    }
+}
+
+/// A line at a place.
+#[tactic(auto, unfolding(crate::specs::Documents::turn))]
+// rule: fault-50
+pub(crate) fn step(
+    place: ParserState,
+    parts: &mut DocumentParts,
+    at: u64,
+    said: ParsedLine<'_>,
+) -> Result<LineEffect, AllocError>
+    requires { IsParserState at (place_with place parts.old) }
+    ensures turns { IfOk result
+        (λ t. turned t parts.new ≡ turn at (place_with place parts.old) (meaning said.entry)) }
+    ensures wants { OnErr result (adds (place_with place parts.old) (meaning said.entry) ≡ true) }
+{
+    if matches!(said, ParsedLine::Passed) {
+        return Ok(LineEffect::WalkGoes(place));
+    }
+    match place {
+        ParserState::Between => Ok(opening(parts, at, said)),
+        ParserState::Heading => match said {
+            ParsedLine::Header { key, value } => Ok(heading(parts, key, value)),
+            _ => Ok(LineEffect::Refuses(LineRefusal::NotAllowed)),
+        },
+        ParserState::BeforeSubsets(part) => before_subsets(parts, part, said),
+        ParserState::Filling(subset) => filling(parts, at, subset, said),
+    }
+}
+
+/// How far the reading has come: where it is, and the document that is being read.
+#[derive(Drop)]
+pub(crate) struct Progress {
+    pub(crate) place: ParserState,
+    /// The number of the next line.
+    pub(crate) at: u64,
+    pub(crate) parts: DocumentParts,
+}
+
+/// What the lines that are held come to.
+#[derive(Clone, Copy)]
+pub(crate) enum TakeResult {
+    /// No whole line is held any more.
+    More,
+    /// A document is whole.
+    Gives,
+    /// This line is refused.
+    Refuses(u64, LineRefusal),
+}
+
+/// The place of the first line feed.
+fn feed(held: &[u8]) -> Option<usize>
+    ensures { FeedAt held.now result }
+{
+    memchr(b'\n', held)
+}
+
+/// A line that is whole.
+#[inline(always)]
+fn take_line(
+    progress: &mut Progress,
+    line: &[u8],
+    octets: &mut [u8; MAX_LINE],
+    words: &mut [u16; MOST_WORDS],
+) -> Result<LineEffect, AllocError>
+    requires holds { IsParserState progress.old.at
+        (place_with progress.old.place progress.old.parts) }
+    ensures turns { IfOk result (λ t. turned t progress.new.parts ≡ documents.turn progress.old.at
+        (place_with progress.old.place progress.old.parts) (line_within_limit line.now)) }
+    ensures at { progress.new.at ≡ progress.old.at }
+    ensures wants { OnErr result
+        (adds (place_with progress.old.place progress.old.parts) (line_within_limit line.now)
+        ≡ true) }
+{
+    if let ParserState::Filling(_) = progress.place
+        && line.len() <= MAX_LINE
+        && let Some((fxy, number)) = decimal_item(line)
+    {
+        progress.parts.push_decimal(progress.at, fxy, number)?;
+        return Ok(LineEffect::WalkGoes(progress.place));
+    }
+    take_other(progress, line, octets, words)
+}
+
+/// A line that is whole, and mostly no item with a short decimal.
+#[inline(never)]
+// rule: reading-longest-line
+fn take_other(
+    progress: &mut Progress,
+    line: &[u8],
+    octets: &mut [u8; MAX_LINE],
+    words: &mut [u16; MOST_WORDS],
+) -> Result<LineEffect, AllocError>
+    requires holds { IsParserState progress.old.at
+        (place_with progress.old.place progress.old.parts) }
+    ensures turns { IfOk result (λ t. turned t progress.new.parts ≡ documents.turn progress.old.at
+        (place_with progress.old.place progress.old.parts) (line_within_limit line.now)) }
+    ensures at { progress.new.at ≡ progress.old.at }
+    ensures wants { OnErr result
+        (adds (place_with progress.old.place progress.old.parts) (line_within_limit line.now)
+        ≡ true) }
+{
+    let line_within_limit = read_line(line, progress.parts.known(), octets, words);
+    step(
+        progress.place,
+        &mut progress.parts,
+        progress.at,
+        line_within_limit,
+    )
+}
+
+/// Takes lines that are held, up to the first that makes a document whole or is refused. Answers
+/// how many octets they took. What a line writes by digits or in quotes is put into `octets`.
+// rule: reading-line-numbers
+pub(crate) fn take_lines(
+    progress: &mut Progress,
+    held: &[u8],
+    octets: &mut [u8; MAX_LINE],
+) -> Result<(usize, TakeResult), AllocError>
+    requires holds { IsParserState progress.old.at
+        (place_with progress.old.place progress.old.parts) }
+    requires some { 0 < progress.old.at }
+    requires few { progress.old.at + length held.now < 2 ^ 63 }
+    ensures takes { IfOk result (λ r. TakesLines progress.old progress.new held.now r.0 r.1) }
+    ensures wants { OnErr result (has_no_feed held.now ≡ false) }
+    ensures adds { OnErr result (WantsAt progress.old held.now) }
+{
+    let mut words = [0; MOST_WORDS];
+    let mut from = 0;
+    while let Some(length) = feed(suffix(held, from)) {
+        let line = ahead(suffix(held, from), length);
+        let at = progress.at;
+        let turn = take_line(progress, line, octets, &mut words)?;
+        progress.at += 1;
+        from += length + 1;
+        match turn {
+            LineEffect::WalkGoes(place) => progress.place = place,
+            LineEffect::Gives => return Ok((from, TakeResult::Gives)),
+            LineEffect::Refuses(refusal) => return Ok((from, TakeResult::Refuses(at, refusal))),
+        }
+    }
+    Ok((from, TakeResult::More))
+}
+
+/// Takes a document that is whole out.
+pub(crate) fn take_parts(alloc: Global, progress: &mut Progress) -> DocumentParts
+    ensures parts { result ≡ progress.old.parts }
+    ensures place { progress.new.place ≡ Between }
+    ensures at { progress.new.at ≡ progress.old.at }
+{
+    progress.place = ParserState::Between;
+    std::mem::replace(&mut progress.parts, DocumentParts::blank(alloc, 0))
 }

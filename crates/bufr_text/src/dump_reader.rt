@@ -1,10 +1,9 @@
 //! The documents of an input.
-
-use crate::document::{Document, DocumentParts};
+use crate::document::{
+    Document, DocumentParts, LineRefusal, ParserState, Progress, TakeResult, take_lines, take_parts,
+};
 use crate::fault::ReadFault;
 use crate::line::MAX_LINE;
-use crate::progress::{Progress, TakeResult, take_lines, take_parts};
-use crate::step::{LineRefusal, ParserState};
 use bufr_bits::Source;
 use bufr_frame::{InputBuffer, RunFault};
 use std::alloc::Global;

@@ -18,11 +18,11 @@ ghost use Rattle.bufr_text.specs.EncodingFault.{IsDocumentRefusal, report_of_dra
 ghost use Rattle.bufr_text.specs.DataWritten.{AreOctetsOf, WritesData, WritesSubset, reported_stop};
 ghost use Rattle.bufr_text.specs.EncodingCost.{CountsSteps, places_by, bits_by, turns_by};
 ghost use Rattle.bufr_text.specs.Header.{head_from_values, most_entries};
-ghost use Rattle.bufr_text.specs.declared.form.Form.TheVariants.{AsWritten};
+ghost use Rattle.bufr_text.specs.declared.encode.Form.TheVariants.{AsWritten};
+ghost use Rattle.bufr_text.specs.Form.{compressed_by};
 
 use crate::document::Document;
-use crate::encode_fault::{DocumentFault, WalkRefusal, of_draft};
-use crate::form::Form;
+use crate::fault::{DocumentFault, WalkRefusal, of_draft};
 use bufr_fill::{DraftFault, Entries, PackedOut, PlainOut};
 use bufr_frame::{WriteFault, write_message};
 use bufr_tables::{Fxy, TableB, TableD, Template, TemplateFault};
@@ -431,4 +431,30 @@ pub fn encode_document(
         * (bits_by AsWritten table_b.now table_d.now document.now + 1)) }
 {
     encode_form(alloc, document, Form::AsWritten, table_b, table_d, steps)
+}
+
+/// How the data of a document are written: compressed or not (WMO-No. 306, Volume I.2, FM 94:
+/// section 4, compression; that it can be chosen is a choice of this project).
+#[derive(Clone, Copy, Debug, PartialEq, Eq)]
+pub enum Form {
+    /// As the document says by `compressed`.
+    AsWritten,
+    /// One subset after another.
+    Plain,
+    /// Each item once for all subsets.
+    Compressed,
+}
+
+impl Form {
+    /// Whether data are compressed, where a document says `written`.
+    // rule: writes-form
+    pub(crate) fn is_compressed(self, written: bool) -> bool
+        ensures { result ≡ compressed_by self written }
+    {
+        match self {
+            Form::AsWritten => written,
+            Form::Plain => false,
+            Form::Compressed => true,
+        }
+    }
 }

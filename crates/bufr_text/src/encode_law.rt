@@ -6,8 +6,8 @@ ghost use Rattle.bufr_tables.specs.TableB.{AreRows, Row};
 ghost use Rattle.bufr_tables.specs.TableD.{Sequence};
 ghost use Rattle.bufr_tables.specs.Tree.{Tree};
 ghost use Rattle.bufr_walk.specs.Reading.{Values};
-ghost use Rattle.bufr_text.specs.declared.encode_fault.DocumentFault.{DocumentFault};
-ghost use Rattle.bufr_text.specs.declared.encode_fault.DocumentFault.TheVariants.{Memory};
+ghost use Rattle.bufr_text.specs.declared.fault.DocumentFault.{DocumentFault};
+ghost use Rattle.bufr_text.specs.declared.fault.DocumentFault.TheVariants.{Memory};
 ghost use Rattle.bufr_text.specs.Canonical.{IsCanonical};
 ghost use Rattle.bufr_text.specs.Documents.{Complete, documents_of};
 ghost use Rattle.bufr_text.specs.Dump.{document_of, dump_text_of};
@@ -17,7 +17,7 @@ ghost use Rattle.bufr_text.specs.EncodingFault.{IsDocumentRefusal, reported_refu
 ghost use Rattle.bufr_text.specs.Bounds.{IsDumpable};
 ghost use Rattle.bufr_text.specs.Form.{compressed_by, form_of_flag};
 ghost use Rattle.bufr_text.specs.InForm.{HasReadingIn, IsFaultIn, IsFormed};
-ghost use Rattle.bufr_text.specs.declared.form.Form.{Form};
+ghost use Rattle.bufr_text.specs.declared.encode.Form.{Form};
 
 /// A message that is accepted can be dumped: its dump text spells its document.
 pub fn accepted_messages_are_dumpable()

@@ -1,6 +1,12 @@
 //! What can be wrong with a dump text.
+ghost use Rattle.std.specs.Prelude.{◌≡◌, option_map};
+ghost use Rattle.bufr_fill.specs.DraftFaults.{draft_fault};
+ghost use Rattle.bufr_text.specs.EncodingFault.{number_of_document_fault, number_of_walk_refusal, report_of_draft, reported_refusal};
 
+use bufr_fill::{DraftFault, Expected};
 use bufr_frame::RunFault;
+use bufr_tables::{Fxy, TemplateFault};
+use std::alloc::AllocError;
 use thiserror::Error;
 
 /// Why a dump text cannot be read on. Lines are counted from 1, over all documents of the input.
@@ -36,5 +42,145 @@ impl ReadFault {
             ReadFault::HeaderRange(_) => 61,
             ReadFault::Run(fault) => fault.number(),
         }
+    }
+}
+
+/// Why the walk over a template goes no further, with the descriptor that is refused.
+#[derive(Clone, Copy, Debug, PartialEq, Eq, Error)]
+pub enum WalkRefusal {
+    /// A field that is not text would be under 1 or over 63 bits wide.
+    #[error("width of {0}")]
+    Width(Fxy),
+    /// A descriptor that may not come while references are being defined (2 03 Y).
+    #[error("{0} while references are defined")]
+    Defining(Fxy),
+    /// Compressed data would have more than 134,217,728 values with this item.
+    #[error("too many values at {0}")]
+    TooManyValues(Fxy),
+}
+
+impl WalkRefusal {
+    /// Its number: 31, 32 or 35.
+    pub fn number(self) -> u8
+        ensures { result ≡ number_of_walk_refusal self }
+    {
+        match self {
+            WalkRefusal::Width(_) => 31,
+            WalkRefusal::Defining(_) => 32,
+            WalkRefusal::TooManyValues(_) => 35,
+        }
+    }
+}
+
+/// Why a document cannot be encoded, with the number of a line, from 1: that of the item, or of the
+/// line that ends its subset where there is none; that of `message` for its template and its
+/// length.
+#[derive(Clone, Copy, Debug, PartialEq, Eq, Error)]
+pub enum DocumentFault {
+    /// Another item, or none, is where this is expected.
+    #[error("line {0}: another item is expected")]
+    WrongDescriptor(u64, Expected),
+    /// No decimal, or one that is not whole at the field's scale, or a form of another kind than
+    /// the field.
+    #[error("line {0}: not a number of the field")]
+    Number(u64),
+    /// It does not fit the field's bits, or would read as missing.
+    #[error("line {0}: out of range")]
+    OutOfRange(u64),
+    /// A text with more octets than the field.
+    #[error("line {0}: a text that is too long")]
+    TextLong(u64),
+    /// A missing value where none may be.
+    #[error("line {0}: a missing value where none may be")]
+    MissingForbidden(u64),
+    /// The descriptors make no template.
+    #[error("line {0}: the descriptors make no template")]
+    Template(u64, TemplateFault),
+    /// A factor of compressed data that is not that of the first subset.
+    #[error("line {0}: a factor is not the same in all subsets")]
+    UnequalFactor(u64),
+    /// Texts of compressed data that no increments can distinguish, or references that differ.
+    #[error("line {0}: no increments can tell the values apart")]
+    Increment(u64),
+    /// The message would have more than 16,777,215 octets.
+    #[error("line {0}: the message would be too long")]
+    TooLong(u64),
+    /// The walk over the template is refused.
+    #[error("line {0}: the walk over the template is refused")]
+    Walk(u64, WalkRefusal),
+    /// Memory ran out.
+    #[error("out of memory")]
+    Memory,
+}
+
+impl DocumentFault {
+    /// Its number: 51 to 56, 58 to 60, 62, or 73.
+    pub fn number(self) -> u8
+        ensures { result ≡ number_of_document_fault self }
+    {
+        match self {
+            DocumentFault::WrongDescriptor(_, _) => 51,
+            DocumentFault::Number(_) => 52,
+            DocumentFault::OutOfRange(_) => 53,
+            DocumentFault::TextLong(_) => 54,
+            DocumentFault::MissingForbidden(_) => 55,
+            DocumentFault::Template(_, _) => 56,
+            DocumentFault::UnequalFactor(_) => 58,
+            DocumentFault::Increment(_) => 59,
+            DocumentFault::TooLong(_) => 60,
+            DocumentFault::Walk(_, _) => 62,
+            DocumentFault::Memory => 73,
+        }
+    }
+
+    /// The number of its line; none for want of memory.
+    pub fn line(self) -> Option<u64>
+        ensures { result ≡ option_map (λ r. r.line) (reported_refusal self) }
+    {
+        match self {
+            DocumentFault::WrongDescriptor(line, _) => Some(line),
+            DocumentFault::Number(line) => Some(line),
+            DocumentFault::OutOfRange(line) => Some(line),
+            DocumentFault::TextLong(line) => Some(line),
+            DocumentFault::MissingForbidden(line) => Some(line),
+            DocumentFault::Template(line, _) => Some(line),
+            DocumentFault::UnequalFactor(line) => Some(line),
+            DocumentFault::Increment(line) => Some(line),
+            DocumentFault::TooLong(line) => Some(line),
+            DocumentFault::Walk(line, _) => Some(line),
+            DocumentFault::Memory => None,
+        }
+    }
+}
+
+impl From<AllocError> for DocumentFault {
+    ghost use Rattle.std.specs.Prelude.{◌≡◌};
+    ghost use Rattle.bufr_text.specs.declared.fault.DocumentFault.TheVariants.{Memory};
+
+    ghost from_gives = { λ _ e. e ≡ Memory };
+
+    fn from(_fault: AllocError) -> DocumentFault {
+        DocumentFault::Memory
+    }
+}
+
+/// What is wrong with an item, as a fault of its document.
+pub(crate) fn of_draft(fault: DraftFault) -> DocumentFault
+    ensures { reported_refusal result ≡ option_map report_of_draft (draft_fault fault) }
+{
+    match fault {
+        DraftFault::WrongDescriptor(line, expected) => {
+            DocumentFault::WrongDescriptor(line, expected)
+        }
+        DraftFault::Number(line) => DocumentFault::Number(line),
+        DraftFault::OutOfRange(line) => DocumentFault::OutOfRange(line),
+        DraftFault::TextLong(line) => DocumentFault::TextLong(line),
+        DraftFault::MissingForbidden(line) => DocumentFault::MissingForbidden(line),
+        DraftFault::UnequalFactor(line) => DocumentFault::UnequalFactor(line),
+        DraftFault::Increment(line) => DocumentFault::Increment(line),
+        DraftFault::TooManyValues(line, fxy) => {
+            DocumentFault::Walk(line, WalkRefusal::TooManyValues(fxy))
+        }
+        DraftFault::Memory => DocumentFault::Memory,
     }
 }

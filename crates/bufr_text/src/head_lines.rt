@@ -6,7 +6,7 @@ ghost use Rattle.bufr_text.specs.Grammar.{descriptors_text, hex_text, runs_of};
 ghost use Rattle.bufr_text.specs.Key.{header_text};
 ghost use Rattle.bufr_text.specs.Lines.{Pushes};
 
-use crate::key::KEYS;
+use crate::header::KEYS;
 use crate::line_writer::{LineWriter, PAGE};
 use bufr_bits::Sink;
 use bufr_frame::{Message, Words};

@@ -1,19 +1,23 @@
 //! What a line says, by its first word.
-ghost use Rattle.std.specs.Prelude.{◌≡◌, ℕ, ◌<◌, ◌≤◌, ◌==◌, IfSome, List, length, take, drop, option_map, codes, if◌then◌else◌};
+ghost use Rattle.std.specs.Prelude.{◌≡◌, ℕ, ◌<◌, ◌≤◌, ◌==◌, IfSome, List, length, take, drop, option_map, codes, if◌then◌else◌, min, ◌+◌, ◌-◌, slice_index, IsTrue, Some, ◌*◌};
 ghost use Rattle.std.specs.Str.{bytes_eq};
 ghost use Rattle.bufr_text.specs.Documents.{line_within_limit};
-ghost use Rattle.bufr_text.specs.Grammar.{prefix_while, suffix_while, without_space, hex_read, number_read, descriptors_read};
-ghost use Rattle.bufr_text.specs.Line as spec;
-ghost use Rattle.bufr_text.specs.Line.{Line, made, with_one_to, place_from, keys, is_no_space, worded, line_of};
+ghost use Rattle.bufr_text.specs.Grammar.{prefix_while, suffix_while, without_space, hex_read, number_read, descriptors_read, without_prefix, fxy_read, is_number_octet, is_hashed, is_passed_after, is_unescaped, upper_value, pair_value, escape_of, quoting_of, either_value};
+ghost use Rattle.bufr_text.specs.Line.{Line, made, with_one_to, place_from, keys, is_no_space, worded, line_of, value_read, item_line, number_value, Item};
 ghost use Rattle.bufr_text.specs.Step.{meaning};
+ghost use Rattle.bufr_bits.specs.ShortDecimal.{short_text};
+ghost use Rattle.bufr_fill.specs.Draft.{number_token, reference_token};
+ghost use Rattle.bufr_fill.specs.Given.{form_in};
+ghost use Rattle.bufr_text.specs.Unquoting.{quoting_said, Unquotes};
+ghost use Rattle.bufr_text.specs.Unhexing.{Unhexes};
+ghost use Rattle.bufr_text.specs.Line as spec;
 
-use crate::descriptors::{MOST_WORDS, describe};
-use crate::hex::decode_hex;
-use crate::item::{item, reference};
-use crate::key::{place, word_at};
-use crate::number::{is, number};
+use crate::document::ParsedLine;
+use crate::header::{MOST_WORDS, describe, fxy_prefix, place, word_at};
 use crate::slice::{ahead, octet_at, suffix, without_prefix, without_space};
-use crate::step::ParsedLine;
+use bufr_bits::ShortDecimal;
+use bufr_fill::DraftValue;
+use bufr_tables::Fxy;
 use memchr::memchr;
 
 /// The most octets of a line, without its line feed.
@@ -180,5 +184,290 @@ pub(crate) fn read_line<'a>(
     match line_said(line, next, octets, words) {
         Some(line_within_limit) => line_within_limit,
         None => ParsedLine::Wrong,
+    }
+}
+
+/// A number, or 65,536 where it is past that.
+fn capped(number: u32) -> u32
+    ensures { result ≡ min number 65536 }
+{
+    if number < 65536 { number } else { 65536 }
+}
+
+/// The number that digits write; numbers past 65,535 are all alike.
+// rule: reading-header-number
+pub(crate) fn number(text: &[u8]) -> Option<u32>
+    ensures { result ≡ number_read text.now }
+{
+    if text.is_empty() {
+        return None;
+    }
+    let mut number = 0;
+    for octet in text {
+        if !octet.is_ascii_digit() {
+            return None;
+        }
+        number = capped(10 * number + u32::from(*octet - b'0'));
+    }
+    Some(number)
+}
+
+/// Whether a text is this word.
+pub(crate) fn is(text: &[u8], word: &[u8]) -> bool
+    ensures { result ≡ bytes_eq text.now word.now }
+{
+    text == word
+}
+
+/// Whether an octet may be in a number token.
+fn is_number_octet(octet: u8) -> bool
+    ensures { result ≡ is_number_octet octet }
+{
+    // After a number there is mostly a space, which is ruled out first.
+    octet > b' ' && (octet.is_ascii_digit() || octet == b'-' || octet == b'.')
+}
+
+/// How many octets of a number token come first.
+// rule: reading-number
+fn token(text: &[u8]) -> usize
+    ensures within { result ≤ length text.now }
+    ensures ahead { take result text.now ≡ prefix_while is_number_octet text.now }
+    ensures suffix_while { drop result text.now ≡ suffix_while is_number_octet text.now }
+{
+    let mut at = 0;
+    while at < text.len() && is_number_octet(text[at]) {
+        at += 1;
+    }
+    at
+}
+
+/// A number in the one spelling that a dump has of it, and the rest after it.
+#[inline(always)]
+// rule: reading-number
+fn decimal<'a>(text: &'a [u8]) -> Option<(ShortDecimal, &'a [u8])>
+    ensures value { IfSome result (λ read.
+        value_read text.now ≡ Some (number_token (short_text read.0), read.1.now)) }
+    ensures within { IfSome result (λ read. length read.1.now ≤ length text.now) }
+{
+    let (number, count) = ShortDecimal::prefix(text)?;
+    let rest = suffix(text, count);
+    if is_number_octet(octet_at(rest, 0)) {
+        return None;
+    }
+    Some((number, rest))
+}
+
+/// A value, and the rest after it; the octets of a text are put into `scratch`.
+#[tactic(auto, using(crate::proofs::ItemLemmas::value_steps))]
+fn value<'a>(text: &'a [u8], scratch: &'a mut [u8]) -> Option<(DraftValue<'a>, &'a [u8])>
+    requires { length text.now ≤ length scratch.old }
+    ensures { option_map (λ read. (form_in read.0, read.1.now)) result ≡ value_read text.now }
+{
+    let first = octet_at(text, 0);
+    if first == b'"' {
+        let text = suffix(text, 1);
+        let (count, at) = decode_quoted(text, scratch)?;
+        Some((DraftValue::Text(ahead(scratch, count)), suffix(text, at)))
+    } else if is_number_octet(first) {
+        let count = token(text);
+        Some((DraftValue::Number(ahead(text, count)), suffix(text, count)))
+    } else {
+        let rest = without_prefix(text, b"MISSING")?;
+        Some((DraftValue::Missing, rest))
+    }
+}
+
+/// Whether there are spaces and then `#` and anything.
+#[tactic(auto, using(crate::proofs::ItemLemmas::hash_steps))]
+fn is_hashed(text: &[u8]) -> bool
+    ensures { result ≡ is_hashed text.now }
+{
+    for octet in text {
+        if *octet != b' ' {
+            return *octet == b'#';
+        }
+    }
+    false
+}
+
+/// Whether nothing but a comment is after a value.
+#[tactic(auto, using(crate::proofs::ItemLemmas::hash_steps))]
+// rule: reading-after-a-value
+fn is_passed_after(text: &[u8]) -> bool
+    ensures { result ≡ is_passed_after text.now }
+{
+    if let [b' ', b' ', b'#', ..] = text {
+        return true;
+    }
+    text.is_empty() || text[0] == b' ' && is_hashed(text)
+}
+
+/// The descriptor and the number of an item line that has a short decimal, as nearly all do.
+#[inline(always)]
+pub(crate) fn decimal_item(line: &[u8]) -> Option<(Fxy, ShortDecimal)>
+    ensures { IfSome result
+        (λ read. line_of line.now ≡ Item read.0 (number_token (short_text read.1))) }
+{
+    if line.len() < 6 {
+        return None;
+    }
+    let (number, rest) = decimal(without_space(suffix(line, 6))?)?;
+    if !is_passed_after(rest) {
+        return None;
+    }
+    Some((Fxy::read(ahead(line, 6))?, number))
+}
+
+/// What an item line says that begins with a descriptor.
+pub(crate) fn item<'a>(text: &'a [u8], scratch: &'a mut [u8]) -> Option<ParsedLine<'a>>
+    requires { length text.now ≤ length scratch.old }
+    ensures { made meaning result ≡ item_line value_read text.now }
+{
+    let (fxy, rest) = fxy_prefix(text)?;
+    let text = without_space(rest)?;
+    let (form, rest) = value(text, scratch)?;
+    if !is_passed_after(rest) {
+        return None;
+    }
+    Some(ParsedLine::Item { fxy, form })
+}
+
+/// What a line says of a redefined reference, after `R` and a space.
+#[tactic(auto, using(crate::proofs::ItemLemmas::reference_steps))]
+// rule: reading-reference
+pub(crate) fn reference<'a>(text: &'a [u8]) -> Option<ParsedLine<'a>>
+    ensures { made meaning result ≡ item_line (number_value reference_token) text.now }
+{
+    let (fxy, rest) = fxy_prefix(text)?;
+    let rest = without_space(rest)?;
+    if !is_number_octet(octet_at(rest, 0)) {
+        return None;
+    }
+    let count = token(rest);
+    if !is_passed_after(suffix(rest, count)) {
+        return None;
+    }
+    let form = DraftValue::Reference(ahead(rest, count));
+    Some(ParsedLine::Item { fxy, form })
+}
+
+/// How a text begins.
+#[derive(Clone, Copy)]
+pub(crate) enum QuotedToken {
+    /// The quote that ends it.
+    Closed,
+    /// An octet, and how many octets write it.
+    ListsLeaves { octet: u8, written: usize },
+    /// Nothing that a text can hold.
+    Nothing,
+}
+
+/// The number of an upper-case hexadecimal digit.
+fn upper_value(octet: u8) -> Option<u8>
+    ensures value { result ≡ upper_value octet }
+    ensures few { IfSome result (λ n. n < 16) }
+{
+    match octet {
+        b'0'..=b'9' => Some(octet - b'0'),
+        b'A'..=b'F' => Some(octet - b'A' + 10),
+        _ => None,
+    }
+}
+
+/// Whether an octet of a text is unescaped.
+pub(crate) fn is_unescaped(octet: u8) -> bool
+    ensures { result ≡ is_unescaped octet }
+{
+    octet >= 32 && octet <= 126 && octet != b'"' && octet != b'\\'
+}
+
+/// What begins with a backslash.
+fn escape(text: &[u8]) -> QuotedToken
+    ensures { quoting_said result ≡ escape_of text.now }
+{
+    let octet = octet_at(text, 1);
+    if octet == b'"' || octet == b'\\' {
+        return QuotedToken::ListsLeaves { octet, written: 2 };
+    }
+    if octet != b'x' {
+        return QuotedToken::Nothing;
+    }
+    let Some(high) = upper_value(octet_at(text, 2)) else {
+        return QuotedToken::Nothing;
+    };
+    let Some(low) = upper_value(octet_at(text, 3)) else {
+        return QuotedToken::Nothing;
+    };
+    QuotedToken::ListsLeaves {
+        octet: 16 * high + low,
+        written: 4,
+    }
+}
+
+/// How a text begins.
+// rule: reading-quoted
+fn first_part(text: &[u8]) -> QuotedToken
+    ensures { quoting_said result ≡ quoting_of text.now }
+{
+    match octet_at(text, 0) {
+        b'"' => QuotedToken::Closed,
+        b'\\' => escape(text),
+        octet if is_unescaped(octet) => QuotedToken::ListsLeaves { octet, written: 1 },
+        _ => QuotedToken::Nothing,
+    }
+}
+
+/// Puts the octets of a text to the start of `out`; answers how many they are, and where the text
+/// goes on after its closing quote.
+pub(crate) fn decode_quoted(text: &[u8], out: &mut [u8]) -> Option<(usize, usize)>
+    requires { length text.now ≤ length out.old }
+    ensures { Unquotes text.now out.new result }
+{
+    let mut at = 0;
+    let mut count = 0;
+    while at < text.len() {
+        match first_part(suffix(text, at)) {
+            QuotedToken::Closed => return Some((count, at + 1)),
+            QuotedToken::ListsLeaves { octet, written } => {
+                out[count] = octet;
+                count += 1;
+                at += written;
+            }
+            QuotedToken::Nothing => return None,
+        }
+    }
+    None
+}
+
+/// The number of a hexadecimal digit of either case.
+// rule: reading-hexadecimal
+fn either_value(octet: u8) -> Option<u8>
+    ensures value { result ≡ either_value octet }
+    ensures few { IfSome result (λ n. n < 16) }
+{
+    match octet {
+        b'0'..=b'9' => Some(octet - b'0'),
+        b'A'..=b'F' => Some(octet - b'A' + 10),
+        b'a'..=b'f' => Some(octet - b'a' + 10),
+        _ => None,
+    }
+}
+
+/// Puts the octets that digits write to the start of `out`; answers how many they are.
+pub(crate) fn decode_hex(text: &[u8], out: &mut [u8]) -> Option<usize>
+    requires { length text.now ≤ 2 * length out.old }
+    ensures { Unhexes text.now out.new result }
+{
+    let mut count = 0;
+    while 2 * count + 1 < text.len() {
+        let high = either_value(text[2 * count])?;
+        let low = either_value(text[2 * count + 1])?;
+        out[count] = 16 * high + low;
+        count += 1;
+    }
+    if 2 * count == text.len() {
+        Some(count)
+    } else {
+        None
     }
 }

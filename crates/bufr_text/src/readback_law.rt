@@ -12,8 +12,8 @@ ghost use Rattle.bufr_text.specs.Encoding.{encoding_in, encoding_of};
 ghost use Rattle.bufr_text.specs.Normal.{normal};
 ghost use Rattle.bufr_text.specs.Proper.{IsProper};
 ghost use Rattle.bufr_text.specs.ReadBack.{IsReadAs};
-ghost use Rattle.bufr_text.specs.declared.form.Form.{Form};
-ghost use Rattle.bufr_text.specs.declared.form.Form.TheVariants.{AsWritten};
+ghost use Rattle.bufr_text.specs.declared.encode.Form.{Form};
+ghost use Rattle.bufr_text.specs.declared.encode.Form.TheVariants.{AsWritten};
 
 /// The message that a document is encoded to, in a form, is accepted, and it says what the document
 /// says: the same head, local octets, section 2, descriptors, number of subsets and flags, but that

@@ -4,8 +4,8 @@ ghost use Rattle.std.specs.List.{list_all};
 ghost use Rattle.bufr_text.specs.Grammar.{escaped, hex_digit, hex_pair, hex_text, is_unescaped, quoted};
 ghost use Rattle.bufr_text.specs.Lines.{Pushes};
 
+use crate::line::is_unescaped;
 use crate::line_writer::LineWriter;
-use crate::quoted::is_unescaped;
 use bufr_bits::Sink;
 
 /// The upper-case hexadecimal digit of a number.

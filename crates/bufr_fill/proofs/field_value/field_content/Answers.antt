@@ -1,11 +1,21 @@
-use Rattle.std.proofs.Common.{◌∙◌, ap, sym, Some}
-use Rattle.bufr_fill.specs.Draft.{draft}
-use Rattle.bufr_fill.specs.Encoding.{at_line_if_fault}
-use Rattle.bufr_fill.specs.DraftContent.{content_of}
-use Rattle.bufr_fill.specs.Kept.{kept_value}
+use Rattle.std.proofs.Common.{◌∙◌, ap, sym, Some, Err}
+use Rattle.std.specs.Prelude.{option_map}
+use Rattle.bufr_fill.proofs.DrawLemmas.{content_at, wrong_at, marks_at}
 use Rattle.bufr_fill.proofs.field_value.field_content.Goals as goal
 
-pub returns-in-Decimal-clause-is : goal.returns-in-Decimal-clause-is
-returns-in-Decimal-clause-is c =
-    let item = c.args.item.now in
-    c.decimal_content.ensures.is ∙ ap (λ v. Some (at_line_if_fault item.line (content_of c.args.spec.now (draft item.line item.word (kept_value v))))) (sym c.in-Decimal.is)
+pub returns-then-not-is_item_of-clause-is : goal.returns-then-not-is_item_of-clause-is
+returns-then-not-is_item_of-clause-is c =
+    let e = c.args.entry.now in
+    ap (option_map Err) c.wrong_item.ensures
+    ∙ ap Some (wrong_at c.args.spec.now e.kind e.line e.fxy e.start c.args.octets.now (sym (c.is_item_of.ensures c.args.octets.now) ∙ c.if-not-is_item_of.true))
+
+pub draw_form-requires-clause-mark : goal.draw_form-requires-clause-mark
+draw_form-requires-clause-mark c =
+    let e = c.args.entry.now in
+    marks_at c.args.spec.now e.kind e.line e.fxy e.start c.args.octets.now (sym (c.is_item_of.ensures c.args.octets.now) ∙ c.if-not-is_item_of.false)
+
+pub returns-clause-is : goal.returns-clause-is
+returns-clause-is c =
+    let e = c.args.entry.now in
+    c.draw_form.ensures.is
+    ∙ ap Some (content_at c.args.spec.now e.kind e.line e.fxy e.start c.args.octets.now (sym (c.is_item_of.ensures c.args.octets.now) ∙ c.if-not-is_item_of.false))

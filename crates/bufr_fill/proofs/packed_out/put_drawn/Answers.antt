@@ -1,47 +1,87 @@
-use Rattle.std.proofs.Common.{◌≤◌, ◌+◌, ◌*◌, ◌/◌, Err, length, sym, subst, arith, ap, ◌∙◌}
-use Rattle.bufr_fill.specs.declared.field_value.FieldContent.TheVariants as drawn
-use Rattle.bufr_fill.specs.declared.packing.PackingFault.TheVariants as unpacked
-use Rattle.bufr_fill.specs.Packing.{packing}
-use Rattle.bufr_fill.specs.Packs.{PacksItem}
+use Rattle.std.proofs.Common.{◌≡◌, ◌+◌, ◌*◌, ◌/◌, ◌≤◌, ◌∙◌, [], Err, length, get_or, refl, sym, subst, arith, ap}
+use Rattle.bufr_walk.specs.Content.{bits_for}
 use Rattle.bufr_walk.specs.Reading.{max_values}
+use Rattle.bufr_fill.specs.declared.field_value.FieldContent.TheVariants as drawn
+use Rattle.bufr_fill.specs.Encoding.{item_row}
 use Rattle.bufr_fill.specs.Entries.{subsets_of}
 use Rattle.bufr_fill.specs.Fault.{at_line, unequal_factors, uneven_increment}
+use Rattle.bufr_fill.specs.FieldContent.{content_drawn}
 use Rattle.bufr_fill.specs.PackedRows.{contents_drawn}
+use Rattle.bufr_fill.specs.Packing.{packed_bits, packed_by, packed_unlike}
+use Rattle.bufr_fill.specs.Packs.{IsPutWithin}
+use Rattle.bufr_fill.proofs.NumberSteps.{parts_length}
+use Rattle.bufr_fill.proofs.PackSteps.{most_some}
 use Rattle.bufr_fill.proofs.Places.{count_cells}
-use Rattle.bufr_fill.proofs.AcrossSteps.{put_ok, put_unequal, put_uneven, answers_first}
+use Rattle.bufr_fill.proofs.TextLeast.{texts_apart}
+use Rattle.bufr_fill.proofs.AcrossSteps.{apart_by, packed_alike, packed_apart, put_packed, put_unequal, put_uneven, put_within}
 use Rattle.bufr_fill.proofs.packed_out.put_drawn.Goals as goal
+use Rattle.bufr_fill.proofs.packed_out.put_drawn.Goals.{then-is_text+else-k-gt63+in_ok-pack_texts-in-Element, else-is_text+in_ok-pack_numbers-in-Element}
 
-pub returns-in-Ok-clause-put : goal.returns-in-Ok-clause-put
-returns-in-Ok-clause-put c =
-    let few = subst (λ n. (c.args.row.place + 1) * n ≤ max_values) (sym (count_cells c.args.row.place c.args.row.entries.now c.args.row.ends.now c.requires.ends)) c.requires.values in
-    record {
-      put = record {
-        contents = contents_drawn (c.args.row.spec.now.width / 8) c.args.drawn.now;
-        item = c.in-Ok.ensures.0;
-        is = put_ok c.args.row.spec.now c.args.row.place (subsets_of c.args.row.entries.now) few (contents_drawn (c.args.row.spec.now.width / 8) c.args.drawn.now) c.in-Ok.ensures.0 c.requires.given c.in-Ok.ensures.1;
-        gives = answers_first c.args.row.spec.now (c.args.row.spec.now.width / 8) c.args.drawn.now (drawn.Number 0) c.taken_of.result (omega (arith, c.requires.many, c.requires.some)) c.taken_of.ensures.gives;
-        bits = c.in-Ok.ensures.2;
-        forth = c.in-Ok.ensures.4;
-      };
-      few = omega (arith, c.in-Ok.ensures.3, c.requires.many);
-    }
+pub returns-then-are_alike-clause-put : goal.returns-then-are_alike-clause-put
+returns-then-are_alike-clause-put c =
+    let row = c.args.row in
+    let spec = row.spec.now in
+    let values = subst (λ n. (row.place + 1) * n ≤ max_values) (sym (count_cells row.place row.entries.now row.ends.now c.requires.ends)) c.requires.values in
+    let put = c.in_ok-pack_alike.ensures in
+    put_within spec row.place (subsets_of row.entries.now) c.args.drawn.now (drawn.Number 0) c.taken_of.result c.args.out.now.bits c.pack_alike.new.out.bits
+    (packed_bits (bits_for spec.width (content_drawn (spec.width / 8) (get_or c.args.drawn.now 0 (drawn.Number 0)))) 0 []) (2046 + 504 * length row.ends.now) values c.requires.given
+    (omega (arith, c.requires.many, c.requires.some)) c.taken_of.ensures.gives
+    (packed_alike spec (spec.width / 8) c.args.drawn.now (drawn.Number 0) (omega (arith, c.requires.many, c.requires.some)) (sym c.are_alike.ensures ∙ c.if-are_alike.true))
+    put.bits (parts_length c.args.out.now.bits c.pack_alike.new.out.bits _ _ put.bits (omega (arith, put.most))) put.some
 
-pub returns-in-Err-Unequal-clause-put : goal.returns-in-Err-Unequal-clause-put
-returns-in-Err-Unequal-clause-put c =
-    let few = subst (λ n. (c.args.row.place + 1) * n ≤ max_values) (sym (count_cells c.args.row.place c.args.row.entries.now c.args.row.ends.now c.requires.ends)) c.requires.values in
-    let cs = contents_drawn (c.args.row.spec.now.width / 8) c.args.drawn.now in
-    let p : PacksItem c.args.out.now.bits c.pack.new.out.bits (packing c.args.row.spec.now cs) (2046 + 504 * length c.args.drawn.now) (Err unpacked.Unequal) =
-    subst (λ f. PacksItem c.args.out.now.bits c.pack.new.out.bits (packing c.args.row.spec.now cs) (2046 + 504 * length c.args.drawn.now) (Err f)) c.in-Err-Unequal.field-0-is c.in-Err-Unequal.ensures in (
-      put_unequal c.args.row.spec.now c.args.row.place (subsets_of c.args.row.entries.now) few cs c.requires.given p.0 ∙ ap (λ n. Err (at_line n unequal_factors)) (sym c.unlike_line.ensures),
-      p.1,
+pub returns-in-Factor-clause-put : goal.returns-in-Factor-clause-put
+returns-in-Factor-clause-put c =
+    let row = c.args.row in
+    let spec = row.spec.now in
+    let values = subst (λ n. (row.place + 1) * n ≤ max_values) (sym (count_cells row.place row.entries.now row.ends.now c.requires.ends)) c.requires.values in
+    let cs = contents_drawn (spec.width / 8) c.args.drawn.now in
+    let apart = packed_apart spec (spec.width / 8) c.args.drawn.now (drawn.Number 0) (omega (arith, c.requires.many, c.requires.some)) (sym c.are_alike.ensures ∙ c.if-are_alike.false) in (
+      put_unequal spec row.place (subsets_of row.entries.now) values cs c.requires.given (apart ∙ ap (λ r. packed_unlike r spec cs) (sym c.role.ensures ∙ c.in-Factor.is))
+          ∙ ap (λ n. Err (at_line n unequal_factors)) (sym c.unlike_line-line.ensures),
+      refl,
     )
 
-pub returns-in-Err-Uneven-clause-put : goal.returns-in-Err-Uneven-clause-put
-returns-in-Err-Uneven-clause-put c =
-    let few = subst (λ n. (c.args.row.place + 1) * n ≤ max_values) (sym (count_cells c.args.row.place c.args.row.entries.now c.args.row.ends.now c.requires.ends)) c.requires.values in
-    let cs = contents_drawn (c.args.row.spec.now.width / 8) c.args.drawn.now in
-    let p : PacksItem c.args.out.now.bits c.pack.new.out.bits (packing c.args.row.spec.now cs) (2046 + 504 * length c.args.drawn.now) (Err unpacked.Uneven) =
-    subst (λ f. PacksItem c.args.out.now.bits c.pack.new.out.bits (packing c.args.row.spec.now cs) (2046 + 504 * length c.args.drawn.now) (Err f)) c.in-Err-Uneven.field-0-is c.in-Err-Uneven.ensures in (
-      put_uneven c.args.row.spec.now c.args.row.place (subsets_of c.args.row.entries.now) few cs c.requires.given p.0 ∙ ap (λ n. Err (at_line n uneven_increment)) (sym c.first_line.ensures),
-      p.1,
+pub returns-in-Reference-clause-put : goal.returns-in-Reference-clause-put
+returns-in-Reference-clause-put c =
+    let row = c.args.row in
+    let spec = row.spec.now in
+    let values = subst (λ n. (row.place + 1) * n ≤ max_values) (sym (count_cells row.place row.entries.now row.ends.now c.requires.ends)) c.requires.values in
+    let cs = contents_drawn (spec.width / 8) c.args.drawn.now in
+    let apart = packed_apart spec (spec.width / 8) c.args.drawn.now (drawn.Number 0) (omega (arith, c.requires.many, c.requires.some)) (sym c.are_alike.ensures ∙ c.if-are_alike.false) in (
+      put_uneven spec row.place (subsets_of row.entries.now) values cs c.requires.given (apart ∙ ap (λ r. packed_unlike r spec cs) (sym c.role.ensures ∙ c.in-Reference.is))
+          ∙ ap (λ n. Err (at_line n uneven_increment)) (sym c.first_line-line.ensures),
+      refl,
     )
+
+pub returns-then-k-gt63-clause-put : goal.returns-then-k-gt63-clause-put
+returns-then-k-gt63-clause-put c =
+    let row = c.args.row in
+    let spec = row.spec.now in
+    let values = subst (λ n. (row.place + 1) * n ≤ max_values) (sym (count_cells row.place row.entries.now row.ends.now c.requires.ends)) c.requires.values in
+    let cs = contents_drawn (spec.width / 8) c.args.drawn.now in
+    let apart = packed_apart spec (spec.width / 8) c.args.drawn.now (drawn.Number 0) (omega (arith, c.requires.many, c.requires.some)) (sym c.are_alike.ensures ∙ c.if-are_alike.false) in
+    let by : packed_unlike spec.role spec cs ≡ packed_by spec.kind spec cs = apart_by spec cs c.role.result c.role.ensures c.in-Element.is in (
+      put_uneven spec row.place (subsets_of row.entries.now) values cs c.requires.given
+          (apart ∙ by ∙ texts_apart spec c.args.drawn.now c.octets_needed-k.result (sym c.is_text.ensures ∙ c.if-is_text.true) (most_some c.args.drawn.now) c.requires.all c.octets_needed-k.ensures c.if-k-gt63.true)
+          ∙ ap (λ n. Err (at_line n uneven_increment)) (sym c.first_line-line.ensures),
+      refl,
+    )
+
+pub returns-after-is_text-clause-put : goal.returns-after-is_text-clause-put
+returns-after-is_text-clause-put c =
+    let row = c.args.row in
+    let spec = row.spec.now in
+    let most = 2046 + 504 * length row.ends.now in
+    let values = subst (λ n. (row.place + 1) * n ≤ max_values) (sym (count_cells row.place row.entries.now row.ends.now c.requires.ends)) c.requires.values in
+    let cs = contents_drawn (spec.width / 8) c.args.drawn.now in
+    let apart = packed_apart spec (spec.width / 8) c.args.drawn.now (drawn.Number 0) (omega (arith, c.requires.many, c.requires.some)) (sym c.are_alike.ensures ∙ c.if-are_alike.false) in
+    let by : packed_unlike spec.role spec cs ≡ packed_by spec.kind spec cs = apart_by spec cs c.role.result c.role.ensures c.in-Element.is in
+    let put = put_packed spec row.place (subsets_of row.entries.now) c.args.drawn.now (drawn.Number 0) c.taken_of-in-Element.result c.args.out.now.bits in
+    elim c.if-is_text.branch [
+      | then-is_text+else-k-gt63+in_ok-pack_texts-in-Element w ↦
+          subst (λ bits. IsPutWithin c.args.out.now.bits bits spec (item_row row.place (subsets_of row.entries.now)) most c.taken_of-in-Element.result) (ap (λ o. o.bits) (sym w.out-is))
+          (put w.pack_texts.new.out.bits (2046 + 504 * length c.args.drawn.now) most values c.requires.given (omega (arith, c.requires.many, c.requires.some)) c.taken_of-in-Element.ensures.gives (apart ∙ by) (omega (arith, c.requires.many)) w.in_ok-pack_texts-in-Element.ensures)
+      | else-is_text+in_ok-pack_numbers-in-Element w ↦
+          subst (λ bits. IsPutWithin c.args.out.now.bits bits spec (item_row row.place (subsets_of row.entries.now)) most c.taken_of-in-Element.result) (ap (λ o. o.bits) (sym w.out-is))
+          (put w.pack_numbers.new.out.bits (69 + 63 * length c.args.drawn.now) most values c.requires.given (omega (arith, c.requires.many, c.requires.some)) c.taken_of-in-Element.ensures.gives (apart ∙ by) (omega (arith, c.requires.many)) w.in_ok-pack_numbers-in-Element.ensures)
+    ]

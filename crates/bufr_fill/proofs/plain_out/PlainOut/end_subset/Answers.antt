@@ -1,36 +1,28 @@
-use Rattle.std.proofs.Common.{ap, refl}
-use Rattle.bufr_fill.specs.Entries.{Holds, Ends}
+use Rattle.std.proofs.Common.{◌≡◌, ◌∙◌, Err, sym, ap, refl}
 use Rattle.bufr_fill.specs.Fault.{at_line, item_too_many}
-use Rattle.bufr_fill.specs.Kept.{kept_item, kept_entry}
-use Rattle.bufr_fill.specs.PlainOut.{PlainOutModel, after_end}
-use Rattle.bufr_fill.proofs.PlainSteps.{left_there, left_none}
+use Rattle.bufr_fill.specs.Kept.{entry_with}
+use Rattle.bufr_fill.specs.PlainOut.{PlainOutModel, line_at, after_end}
+use Rattle.bufr_fill.proofs.PlainSteps.{end_next, item_next, none_next}
 use Rattle.bufr_fill.proofs.plain_out.PlainOut.end_subset.Goals as goal
+use Rattle.bufr_fill.proofs.plain_out.PlainOut.end_subset.Goals.{in-Some+else-is_end, in_default}
 
-pub returns-in-Some-End : goal.returns-in-Some-End
-returns-in-Some-End c =
-    let d = c.self.inside in (
-      ap after_end (left_there d.entries.now d.place d.out.bits c.args.self.now (kept_entry c.in-Some-End.field-0) (Ends c.in-Some-End.field-0-0) c.self.view_is c.in-Some-End.ensures (ap kept_entry c.in-Some-End.field-0-is)),
+pub returns-then-is_end : goal.returns-then-is_end
+returns-then-is_end c =
+    let d = c.self.inside in
+    let octets = c.in-Some.field-0-1.now in (
+      end_next d.entries.now d.place d.out.bits c.args.self.now (entry_with c.in-Some.entry octets) c.self.view_is c.in-Some.ensures (sym (c.is_end.ensures octets) ∙ c.if-is_end.true),
       ap (λ (p : PlainOutModel). p.bits) c.self.view_is,
     )
 
-pub returns-in-Some-Item : goal.returns-in-Some-Item
-returns-in-Some-Item c =
-    let d = c.self.inside in (
-      (
-        at_line c.in-Some-Item.item.line item_too_many,
-        refl,
-        ap after_end (left_there d.entries.now d.place d.out.bits c.args.self.now (kept_entry c.in-Some-Item.field-0) (Holds (kept_item c.in-Some-Item.item)) c.self.view_is c.in-Some-Item.ensures (ap kept_entry c.in-Some-Item.field-0-is)),
-      ),
-      refl,
-    )
-
-pub returns-in-None : goal.returns-in-None
-returns-in-None c =
-    let d = c.self.inside in (
-      (
-        at_line 0 item_too_many,
-        refl,
-        ap after_end (left_none d.entries.now d.place d.out.bits c.args.self.now c.self.view_is c.in-None.ensures),
-      ),
+pub returns : goal.returns
+returns c =
+    let d = c.self.inside in
+    let s = c.args.self.now in
+    let next : after_end s.left ≡ Err (at_line (line_at s.left) item_too_many) = elim c.match-get.branch [
+      | in-Some+else-is_end w ↦
+          item_next d.entries.now d.place d.out.bits s (entry_with w.in-Some.entry w.in-Some.field-0-1.now) c.self.view_is w.in-Some.ensures (sym (w.is_end.ensures w.in-Some.field-0-1.now) ∙ w.if-is_end.false)
+      | in_default w ↦ none_next d.entries.now d.place d.out.bits s c.self.view_is w.in_default.ensures
+    ] in (
+      (at_line c.line-line.result item_too_many, refl, next ∙ ap (λ line. Err (at_line line item_too_many)) (sym c.line-line.ensures)),
       refl,
     )

@@ -1,36 +1,30 @@
-use Rattle.std.proofs.Common.{ap, ◌+◌, ◌∙◌, drop, sym, arith, refl, Some, Err}
+use Rattle.std.proofs.Common.{ap, ◌+◌, ◌∙◌, drop, sym, arith, refl, Err}
 use Rattle.std.proofs.lemmas.Option.{slice_get_within}
 use Rattle.std.proofs.lemmas.Result.{err_from_is_err_and}
-use Rattle.bufr_fill.specs.Entries.{Holds, Ends}
-use Rattle.bufr_fill.specs.Kept.{kept_item, kept_entry}
+use Rattle.bufr_fill.specs.Kept.{entry_with}
 use Rattle.bufr_fill.specs.DraftFaults.{draft_fault}
 use Rattle.bufr_fill.proofs.PlainSteps.{filled_here, left_there, left_none, item_fault}
 use Rattle.bufr_fill.proofs.plain_out.PlainOutFields.take.Goals as goal
 
 pub invariant_of-self : goal.invariant_of-self
 invariant_of-self c =
-    let within = slice_get_within c.self.inside.entries.now c.self.inside.place (kept_entry c.in-Some-Item.field-0) (sym c.in-Some-Item.ensures) in
+    let within = slice_get_within c.self.inside.entries.now c.self.inside.place (entry_with c.in-Some.found.0 c.in-Some.found.1.now) (sym c.in-Some.ensures) in
     record { within = omega (arith, within); few = c.self.invariant.few; room = omega (arith, c.self.invariant.room, c.in-Ok.ensures.most) }
 
 pub returns-in-Ok-clause-step : goal.returns-in-Ok-clause-step
 returns-in-Ok-clause-step c =
-    filled_here c.self.inside.entries.now c.self.inside.place (kept_item c.in-Some-Item.item) c.args.spec.now c.in_ok-drawn.drawn c.taken_of.result c.self.inside.out.bits c.push_content.new.out.bits c.args.self.now
-    c.self.view_is (sym c.in-Some-Item.ensures ∙ ap (λ e. Some (kept_entry e)) c.in-Some-Item.field-0-is) c.in_ok-drawn.ensures.is c.taken_of.ensures.gives c.in-Ok.ensures.ok c.in-Ok.ensures.some
-
-pub returns-in-Some-End-clause-step : goal.returns-in-Some-End-clause-step
-returns-in-Some-End-clause-step c =
-    let d = c.self.inside in
-    let left = left_there d.entries.now d.place d.out.bits c.args.self.now (kept_entry c.in-Some-End.field-0) (Ends c.in-Some-End.line) c.self.view_is c.in-Some-End.ensures (ap kept_entry c.in-Some-End.field-0-is) in
-    (rw (c.wrong_item.ensures, left) refl, refl)
+    filled_here c.self.inside.entries.now c.self.inside.place (entry_with c.in-Some.found.0 c.in-Some.found.1.now) c.args.spec.now c.in_ok-drawn.drawn c.taken_of.result c.self.inside.out.bits c.push_content.new.out.bits c.args.self.now
+    c.self.view_is (sym c.in-Some.ensures) c.in_ok-drawn.ensures.is c.taken_of.ensures.gives c.in-Ok.ensures.ok c.in-Ok.ensures.some
 
 pub returns-in-None-clause-step : goal.returns-in-None-clause-step
 returns-in-None-clause-step c =
     let d = c.self.inside in
-    (rw (c.wrong_item-in-None.ensures, left_none d.entries.now d.place d.out.bits c.args.self.now c.self.view_is c.in-None.ensures) refl, refl)
+    (rw (c.wrong_item.ensures, left_none d.entries.now d.place d.out.bits c.args.self.now c.self.view_is c.in-None.ensures) refl, refl)
 
 pub returns-in_err-drawn-clause-step : goal.returns-in_err-drawn-clause-step
 returns-in_err-drawn-clause-step c =
     let d = c.self.inside in
+    let e = entry_with c.in-Some.found.0 c.in-Some.found.1.now in
     let passed = err_from_is_err_and c.from_residual.result c.from_residual.ensures.1 in
-    let left = left_there d.entries.now d.place d.out.bits c.args.self.now (kept_entry c.in-Some-Item.field-0) (Holds (kept_item c.in-Some-Item.item)) c.self.view_is c.in-Some-Item.ensures (ap kept_entry c.in-Some-Item.field-0-is) in
-    rw (passed.1 ∙ ap Err passed.2) (rw left (item_fault c.args.spec.now (drop (d.place + 1) d.entries.now) (draft_fault c.in_err-drawn.field-0.0) (kept_item c.in-Some-Item.item) c.in_err-drawn.ensures.is), refl)
+    let left = left_there d.entries.now d.place d.out.bits c.args.self.now e c.self.view_is c.in-Some.ensures in
+    rw (passed.1 ∙ ap Err passed.2) (rw left (item_fault c.args.spec.now (drop (d.place + 1) d.entries.now) (draft_fault c.in_err-drawn.field-0.0) e c.in_err-drawn.ensures.is), refl)

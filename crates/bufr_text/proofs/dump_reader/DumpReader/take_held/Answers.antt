@@ -9,7 +9,7 @@ use Rattle.bufr_text.specs.Filling.{place_now, IsReader, ParsesHeldLines, WantsH
 use Rattle.bufr_text.specs.Reading.{has_no_feed, TakesEndLine}
 use Rattle.bufr_text.specs.Step.{place_with}
 use Rattle.bufr_text.specs.TakingLines.{TakesLines}
-use Rattle.bufr_text.specs.declared.progress.TakeResult.TheVariants as taken
+use Rattle.bufr_text.specs.declared.document.TakeResult.TheVariants as taken
 use Rattle.bufr_text.proofs.ReaderLemmas.{state, place-sound, wants-here, takes-reports, reader-skips, progress-more, progress-between, refuses-went}
 use Rattle.bufr_text.proofs.dump_reader.DumpReader.take_held.Goals as goal
 

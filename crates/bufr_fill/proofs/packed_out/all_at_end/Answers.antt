@@ -1,0 +1,31 @@
+use Rattle.std.proofs.Common.{◌∙◌, sym, Err, arith, ap, refl}
+use Rattle.bufr_fill.specs.Encoding.{cells_at}
+use Rattle.bufr_fill.specs.Entries.{subsets_of}
+use Rattle.bufr_fill.specs.Fault.{at_line, item_too_many}
+use Rattle.bufr_fill.specs.Kept.{entry_with}
+use Rattle.bufr_fill.proofs.KeptLemmas.{line-is}
+use Rattle.bufr_fill.proofs.Places.{count_cells}
+use Rattle.bufr_fill.proofs.CellSteps.{end_item, end_more, end_done}
+use Rattle.bufr_fill.proofs.packed_out.all_at_end.Goals as goal
+
+pub returns-then-not-is_end : goal.returns-then-not-is_end
+returns-then-not-is_end c =
+    let octets = c.find_at-entry.result.1.now in
+    let e = entry_with c.find_at-entry.result.0 octets in (
+      at_line c.find_at-entry.result.0.line item_too_many,
+      refl,
+      end_item (cells_at c.args.place (subsets_of c.args.entries.now)) c.loop-subset.subset e
+          (omega (arith, c.loop-subset-test.true, count_cells c.args.place c.args.entries.now c.args.ends.now c.requires.ends)) c.find_at-entry.ensures (sym (c.is_end.ensures octets) ∙ c.if-not-is_end.true) c.loop-subset.invariant
+          ∙ ap (λ line. Err (at_line line item_too_many)) (line-is c.find_at-entry.result.0 octets),
+    )
+
+pub loop-subset-preserved : goal.loop-subset-preserved
+loop-subset-preserved c =
+    let octets = c.find_at-entry.result.1.now in
+    end_more (cells_at c.args.place (subsets_of c.args.entries.now)) c.loop-subset.subset (entry_with c.find_at-entry.result.0 octets)
+    (omega (arith, c.loop-subset-test.true, count_cells c.args.place c.args.entries.now c.args.ends.now c.requires.ends)) c.find_at-entry.ensures (sym (c.is_end.ensures octets) ∙ c.if-not-is_end.false) c.loop-subset.invariant
+
+pub returns : goal.returns
+returns c =
+    end_done (cells_at c.args.place (subsets_of c.args.entries.now)) c.loop-subset.subset
+    (omega (arith, c.loop-subset-test.false, count_cells c.args.place c.args.entries.now c.args.ends.now c.requires.ends)) c.loop-subset.invariant

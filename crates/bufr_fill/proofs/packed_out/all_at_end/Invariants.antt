@@ -1,0 +1,8 @@
+use Rattle.std.proofs.Common.{◌≡◌, drop}
+use Rattle.bufr_fill.specs.Encoding.{cells_at}
+use Rattle.bufr_fill.specs.Entries.{subsets_of}
+use Rattle.bufr_fill.specs.PackedOut.{all_at_end}
+use Rattle.bufr_fill.proofs.packed_out.all_at_end.Given as goal
+
+abbrev pub invariant-loop-subset : goal.invariant-loop-subset
+invariant-loop-subset l = all_at_end (cells_at l.place (subsets_of l.entries)) ≡ all_at_end (drop l.subset (cells_at l.place (subsets_of l.entries)))

@@ -1,0 +1,45 @@
+use Rattle.std.proofs.Common.{◌*◌, ◌/◌, ◌++◌, ◌∙◌, false, ap, arith, length, replicate}
+use Rattle.std.specs.List.{flat_map}
+use Rattle.bufr_bits.specs.Bits.{bits_in}
+use Rattle.bufr_fill.specs.PackedRows.{contents_drawn}
+use Rattle.bufr_fill.specs.Packing.{octet_bits, packed_bits}
+use Rattle.bufr_fill.proofs.NumberSteps.{parts_put, parts_length}
+use Rattle.bufr_fill.proofs.PackSteps.{few_bits, most_some}
+use Rattle.bufr_fill.proofs.TextLeast.{most_room, texts_packed}
+use Rattle.bufr_fill.proofs.packed_out.pack_texts.Goals as goal
+
+pub overflow_mul-drawn : goal.overflow_mul-drawn
+overflow_mul-drawn c =
+    let few = few_bits (length c.args.drawn.now) (8 * c.args.k) 504 (omega (arith, c.requires.short)) in
+    omega (arith, few, c.requires.room)
+
+pub overflow_add-from-2 : goal.overflow_add-from-2
+overflow_add-from-2 c =
+    let few = few_bits (length c.args.drawn.now) (8 * c.args.k) 504 (omega (arith, c.requires.short)) in
+    omega (arith, few, c.from.ensures, c.width-width.ensures.most, c.requires.room)
+
+pub reserve-requires : goal.reserve-requires
+reserve-requires c =
+    let few = few_bits (length c.args.drawn.now) (8 * c.args.k) 504 (omega (arith, c.requires.short)) in
+    omega (arith, few, c.from.ensures, c.width-width.ensures.most, c.requires.room)
+
+pub put_prefixes-requires-clause-few : goal.put_prefixes-requires-clause-few
+put_prefixes-requires-clause-few c = omega (arith, c.requires.k, most_room c.args.spec.now c.args.drawn.now (omega (arith, c.width-width.ensures.some, c.width-width.ensures.whole c.requires.text)) c.requires.drawn)
+
+pub put_prefixes-requires-clause-room : goal.put_prefixes-requires-clause-room
+put_prefixes-requires-clause-room c = omega (arith, c.from.ensures, c.width-width.ensures.value, c.in_ok-reserve.ensures.room, c.put_zeros.ensures.room, c.put.ensures.room)
+
+pub returns : goal.returns
+returns c =
+    let count = c.args.spec.now.width / 8 in
+    let k = c.args.k in
+    let put = parts_put c.args.out.now.bits c.put_zeros.new.out.bits c.put.new.self.bits c.put_prefixes.new.out.bits (replicate c.args.spec.now.width false) (bits_in k 6)
+    (flat_map (octet_bits k) (contents_drawn count c.args.drawn.now))
+    (c.put_zeros.ensures.bits ∙ ap (λ bits. bits ++ replicate c.args.spec.now.width false) c.in_ok-reserve.ensures.bits) c.put.ensures.bits c.put_prefixes.ensures.bits in
+    let few = few_bits (length c.args.drawn.now) (8 * k) 504 (omega (arith, c.requires.short)) in (
+      packed_bits (replicate c.args.spec.now.width false) k (flat_map (octet_bits k) (contents_drawn count c.args.drawn.now)),
+      texts_packed c.args.spec.now c.args.drawn.now k c.requires.text (most_some c.args.drawn.now) c.requires.drawn c.requires.k c.requires.short,
+      put,
+      parts_length c.args.out.now.bits c.put_prefixes.new.out.bits _ _ put (omega (arith, ap length c.in_ok-reserve.ensures.bits, c.put_zeros.ensures.len, c.put.ensures.len, c.put_prefixes.ensures.len, c.width-width.ensures.most, few)),
+      omega (arith, ap length c.in_ok-reserve.ensures.bits, c.put_zeros.ensures.len, c.put.ensures.len, c.put_prefixes.ensures.len),
+    )

@@ -1,0 +1,46 @@
+use Rattle.std.proofs.Common.{◌+◌, ◌/◌, Err, sym, ap, ◌∙◌, subst, arith}
+use Rattle.std.proofs.lemmas.Result.{err_from_is_err_and}
+use Rattle.bufr_fill.specs.Encoding.{cells_at}
+use Rattle.bufr_fill.specs.Entries.{subsets_of}
+use Rattle.bufr_fill.specs.Kept.{entry_with}
+use Rattle.bufr_fill.specs.PackedRows.{IsGathering, IsRangeOf}
+use Rattle.bufr_fill.specs.DraftFaults.{draft_fault}
+use Rattle.bufr_fill.proofs.CellSteps.{gather_fault, gather_more, gathered}
+use Rattle.bufr_fill.proofs.Places.{count_cells}
+use Rattle.bufr_fill.proofs.packed_out.read_row.Goals as goal
+
+pub returns-in_err-content : goal.returns-in_err-content
+returns-in_err-content c =
+    let passed = err_from_is_err_and c.from_residual.result c.from_residual.ensures.1 in
+    let row = c.args.row in
+    let many = count_cells row.place row.entries.now row.ends.now c.requires.ends in
+    let cells = cells_at row.place (subsets_of row.entries.now) in
+    rw (passed.1 ∙ ap Err passed.2)
+    (gather_fault (row.spec.now.width / 8) row.spec.now cells c.loop-subset.subset c.loop-subset.drawn.items (entry_with c.find_at-entry.result.0 c.find_at-entry.result.1.now)
+    c.loop-subset.invariant.gathered (omega (arith, c.loop-subset-test.true, many)) c.find_at-entry.ensures
+    (draft_fault c.in_err-content.field-0.0) c.in_err-content.ensures.is)
+
+pub loop-subset-preserved : goal.loop-subset-preserved
+loop-subset-preserved c =
+    let row = c.args.row in
+    let cells = cells_at row.place (subsets_of row.entries.now) in
+    let many = count_cells row.place row.entries.now row.ends.now c.requires.ends in
+    record {
+      gathered = subst (IsGathering (row.spec.now.width / 8) row.spec.now cells (c.loop-subset.subset + 1)) (sym c.in-Ok.ensures.items)
+          (gather_more (row.spec.now.width / 8) row.spec.now cells c.loop-subset.subset c.loop-subset.drawn.items (entry_with c.find_at-entry.result.0 c.find_at-entry.result.1.now)
+          c.loop-subset.invariant.gathered (omega (arith, c.loop-subset-test.true, many)) c.find_at-entry.ensures
+          c.in_ok-content.content c.in_ok-content.ensures.is c.in_ok-content.ensures.drawn);
+      range = subst (IsRangeOf c.with-range.result) (sym c.in-Ok.ensures.items) (c.with-range.ensures c.loop-subset.drawn.items c.loop-subset.invariant.range);
+    }
+
+pub returns : goal.returns
+returns c =
+    let row = c.args.row in
+    let cells = cells_at row.place (subsets_of row.entries.now) in
+    let many = count_cells row.place row.entries.now row.ends.now c.requires.ends in
+    let done = c.loop-subset.invariant.gathered in (
+      gathered (row.spec.now.width / 8) row.spec.now cells c.loop-subset.subset c.loop-subset.drawn.items done (omega (arith, c.loop-subset-test.false, many)),
+      done.all,
+      omega (arith, done.many, c.loop-subset.auto.subset-end, c.loop-subset-test.false, many),
+      c.loop-subset.invariant.range,
+    )

@@ -1,0 +1,11 @@
+use Rattle.std.proofs.Common.{◌/◌}
+use Rattle.bufr_fill.specs.Encoding.{cells_at}
+use Rattle.bufr_fill.specs.Entries.{subsets_of}
+use Rattle.bufr_fill.specs.PackedRows.{IsGathering, IsRangeOf}
+use Rattle.bufr_fill.proofs.packed_out.read_row.Given as goal
+
+abbrev pub invariant-loop-subset : goal.invariant-loop-subset
+invariant-loop-subset l = record {
+  gathered : IsGathering (l.row.spec.now.width / 8) l.row.spec.now (cells_at l.row.place (subsets_of l.row.entries.now)) l.subset l.drawn.items;
+  range : IsRangeOf l.range l.drawn.items;
+}

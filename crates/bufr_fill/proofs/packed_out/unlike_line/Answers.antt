@@ -1,0 +1,22 @@
+use Rattle.std.proofs.Common.{◌/◌, sym, arith, ◌∙◌}
+use Rattle.bufr_fill.specs.declared.field_value.FieldContent.TheVariants as drawn
+use Rattle.bufr_fill.specs.Encoding.{cells_at}
+use Rattle.bufr_fill.specs.Entries.{subsets_of}
+use Rattle.bufr_fill.proofs.Places.{count_cells}
+use Rattle.bufr_fill.proofs.PackSteps.{drawn_at}
+use Rattle.bufr_fill.proofs.CellSteps.{unlike_here, unlike_more}
+use Rattle.bufr_fill.proofs.packed_out.unlike_line.Goals as goal
+
+pub is_same-requires-clause-other : goal.is_same-requires-clause-other
+is_same-requires-clause-other c = drawn_at c.args.spec.now c.args.drawn.now c.loop-subset.subset (drawn.Number 0) (omega (arith, c.loop-subset-test.true, c.requires.many)) c.requires.all
+
+pub returns-then-not-is_same : goal.returns-then-not-is_same
+returns-then-not-is_same c =
+    unlike_here (c.args.spec.now.width / 8) c.args.drawn.now (cells_at c.args.place (subsets_of c.args.entries.now)) c.loop-subset.subset (drawn.Number 0) (omega (arith, c.loop-subset-test.true, c.requires.many))
+    (count_cells c.args.place c.args.entries.now c.args.ends.now c.requires.ends ∙ sym c.requires.many) c.loop-subset.invariant (sym c.is_same.ensures ∙ c.if-not-is_same.true)
+    c.line_at.ensures.e c.line_at.result c.line_at.ensures.there c.line_at.ensures.so
+
+pub loop-subset-preserved : goal.loop-subset-preserved
+loop-subset-preserved c =
+    unlike_more (c.args.spec.now.width / 8) c.args.drawn.now (cells_at c.args.place (subsets_of c.args.entries.now)) c.loop-subset.subset (drawn.Number 0) (omega (arith, c.loop-subset-test.true, c.requires.many))
+    (count_cells c.args.place c.args.entries.now c.args.ends.now c.requires.ends ∙ sym c.requires.many) c.loop-subset.invariant (sym c.is_same.ensures ∙ c.if-not-is_same.false)

@@ -1,0 +1,10 @@
+use Rattle.std.proofs.Common.{◌≡◌, ◌/◌, drop}
+use Rattle.bufr_fill.specs.Encoding.{cells_at, unlike_line}
+use Rattle.bufr_fill.specs.Entries.{subsets_of}
+use Rattle.bufr_fill.specs.PackedRows.{contents_drawn, unlike_from}
+use Rattle.bufr_fill.proofs.packed_out.unlike_line.Given as goal
+
+abbrev pub invariant-loop-subset : goal.invariant-loop-subset
+invariant-loop-subset l =
+    unlike_line (contents_drawn (l.spec.width / 8) l.drawn) (cells_at l.place (subsets_of l.entries))
+    ≡ unlike_from (contents_drawn (l.spec.width / 8) l.drawn) (contents_drawn (l.spec.width / 8) (drop l.subset l.drawn)) (drop l.subset (cells_at l.place (subsets_of l.entries)))

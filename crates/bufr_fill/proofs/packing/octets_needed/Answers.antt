@@ -1,6 +1,0 @@
-use Rattle.std.proofs.Common.{arith}
-use Rattle.bufr_fill.proofs.PackSteps.{most_some}
-use Rattle.bufr_fill.proofs.packing.octets_needed.Goals as goal
-
-pub loop-d-init : goal.loop-d-init
-loop-d-init c = (omega (arith, most_some c.args.drawn.now), omega arith)

@@ -1,6 +1,0 @@
-use Rattle.std.proofs.Common.{◌≡◌, ◌≤◌, drop, max}
-use Rattle.bufr_fill.specs.Packs.{most_need}
-use Rattle.bufr_fill.proofs.packing.octets_needed.Given as goal
-
-abbrev pub invariant-loop-d : goal.invariant-loop-d
-invariant-loop-d l = (max l.most (most_need (drop l.d-index l.drawn)) ≡ most_need l.drawn) × (1 ≤ l.most)

@@ -1,6 +1,0 @@
-use Rattle.std.proofs.Common.{◌≡◌, ◌-◌, length, take}
-use Rattle.bufr_fill.specs.Packs.{trimmed}
-use Rattle.bufr_fill.proofs.packing.trimmed_len.Given as goal
-
-abbrev pub invariant-loop-spaces : goal.invariant-loop-spaces
-invariant-loop-spaces l = trimmed (take (length l.octets - l.spaces) l.octets) ≡ trimmed l.octets

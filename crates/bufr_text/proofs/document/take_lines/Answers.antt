@@ -1,0 +1,54 @@
+use Rattle.std.proofs.Common.{◌≡◌, ◌+◌, false, refl, ap, take, drop}
+use Rattle.bufr_text.proofs.TakingLemmas.{taking-goes, taking-gives, taking-refuses}
+use Rattle.bufr_text.specs.Reading.{has_no_feed}
+use Rattle.bufr_text.specs.TakingLines.{WantsAt}
+use Rattle.bufr_text.proofs.FeedLemmas.{line-after, refused-holds}
+use Rattle.bufr_text.proofs.document.take_lines.Goals as goal
+
+pub loop-length-preserved : goal.loop-length-preserved
+loop-length-preserved c =
+    rw c.in_ok-turn.ensures.at
+    (taking-goes c.args.progress.now c.loop-length.progress c.args.held.now c.loop-length.from c.in-Some.length c.in-WalkGoes.place c.take_line.new.progress.parts c.loop-length.invariant
+    (rw c.suffix.ensures at c.in-Some.ensures)
+    (rw (c.in-WalkGoes.is, c.ahead-line.ensures, c.suffix-in-Some.ensures) at c.in_ok-turn.ensures.turns))
+
+pub returns-in-Gives : goal.returns-in-Gives
+returns-in-Gives c = record {
+  takes =
+      taking-gives c.args.progress.now c.loop-length.progress c.args.held.now c.loop-length.from c.in-Some.length _ c.loop-length.invariant
+      (rw c.suffix.ensures at c.in-Some.ensures)
+      (ap (λ n. n + 1) c.in_ok-turn.ensures.at)
+      (rw (c.in-Gives.is, c.ahead-line.ensures, c.suffix-in-Some.ensures) at c.in_ok-turn.ensures.turns);
+  wants = tt;
+  adds = tt;
+}
+
+pub returns-in-Refuses : goal.returns-in-Refuses
+returns-in-Refuses c = record {
+  takes =
+      taking-refuses c.args.progress.now c.loop-length.progress c.args.held.now c.loop-length.from c.in-Some.length c.loop-length.progress.at c.in-Refuses.refusal _ c.loop-length.invariant
+      (rw c.suffix.ensures at c.in-Some.ensures)
+      (ap (λ n. n + 1) c.in_ok-turn.ensures.at)
+      (let same : c.loop-length.progress.at ≡ c.loop-length.progress.at = refl in same)
+      (rw (c.in-Refuses.is, c.ahead-line.ensures, c.suffix-in-Some.ensures) at c.in_ok-turn.ensures.turns);
+  wants = tt;
+  adds = tt;
+}
+
+pub returns-in_err-turn-clause-wants : goal.returns-in_err-turn-clause-wants
+returns-in_err-turn-clause-wants c =
+    refused-holds c.from_residual.result (has_no_feed c.args.held.now ≡ false) (line-after c.args.held.now c.loop-length.from c.in-Some.length (rw c.suffix.ensures at c.in-Some.ensures))
+
+pub returns-in_err-turn-clause-adds : goal.returns-in_err-turn-clause-adds
+returns-in_err-turn-clause-adds c =
+    let feed = rw c.suffix.ensures at c.in-Some.ensures in
+    refused-holds c.from_residual.result (WantsAt c.args.progress.now c.args.held.now) (record {
+      progress = c.loop-length.progress;
+      place = c.loop-length.from;
+      taking = c.loop-length.invariant;
+      line = take c.in-Some.length (drop c.loop-length.from c.args.held.now);
+      rest = drop (c.in-Some.length + 1) (drop c.loop-length.from c.args.held.now);
+      holds = feed.2;
+      single = feed.1;
+      adds_to = rw (c.ahead-line.ensures, c.suffix-in-Some.ensures) at c.in_err-turn.ensures.wants;
+    })

@@ -1,0 +1,25 @@
+use Rattle.std.proofs.Common.{arith, rules}
+use Rattle.bufr_text.proofs.UnquoteLemmas.{unquoting-says, unquoting-within, unquoting-closed, unquoting-nothing, unquoting-end}
+use Rattle.bufr_text.proofs.line.decode_quoted.Goals as goal
+
+pub returns-in-Closed : goal.returns-in-Closed
+returns-in-Closed c = unquoting-closed c.args.text.now c.loop-at.out c.loop-at.count c.loop-at.at c.loop-at.invariant c.loop-at-test.true (rw c.suffix.ensures at c.in-Closed.ensures)
+
+pub overflow_add-at : goal.overflow_add-at
+overflow_add-at c =
+    let w = unquoting-within c.args.text.now c.loop-at.at c.in-ListsLeaves.octet c.in-ListsLeaves.written c.loop-at-test.true (rw c.suffix.ensures at c.in-ListsLeaves.ensures) in
+    search (rules, w)
+
+pub loop-at-smaller : goal.loop-at-smaller
+loop-at-smaller c =
+    let w = unquoting-within c.args.text.now c.loop-at.at c.in-ListsLeaves.octet c.in-ListsLeaves.written c.loop-at-test.true (rw c.suffix.ensures at c.in-ListsLeaves.ensures) in
+    omega (arith, w)
+
+pub loop-at-preserved : goal.loop-at-preserved
+loop-at-preserved c = unquoting-says c.args.text.now c.loop-at.out c.loop-at.count c.loop-at.at c.in-ListsLeaves.octet c.in-ListsLeaves.written c.loop-at.invariant c.loop-at-test.true (rw c.suffix.ensures at c.in-ListsLeaves.ensures)
+
+pub returns-in-Nothing : goal.returns-in-Nothing
+returns-in-Nothing c = unquoting-nothing c.args.text.now c.loop-at.out c.loop-at.count c.loop-at.at c.loop-at.invariant c.loop-at-test.true (rw c.suffix.ensures at c.in-Nothing.ensures)
+
+pub returns : goal.returns
+returns c = unquoting-end c.args.text.now c.loop-at.out c.loop-at.count c.loop-at.at c.loop-at.invariant c.loop-at-test.false

@@ -1,5 +1,0 @@
-use Rattle.bufr_text.specs.Unquoting.{IsNumberTo}
-use Rattle.bufr_text.proofs.number.number.Given as goal
-
-abbrev pub invariant-loop-octet : goal.invariant-loop-octet
-invariant-loop-octet l = IsNumberTo l.text l.octet-index l.number

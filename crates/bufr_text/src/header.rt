@@ -1,0 +1,166 @@
+//! The twenty keys of the header of a dump text, and the descriptors of a line.
+ghost use Rattle.std.specs.Prelude.{◌≡◌, ◌<◌, ◌++◌, [], ◌∷◌, length, map, position, slice_index, true, IfSome, ℕ, ◌+◌, ◌*◌, ◌≤◌, List, take, drop, option_map};
+ghost use Rattle.bufr_frame.specs.Section1.{slots_3, slots_4, slots_of};
+ghost use Rattle.bufr_text.specs.Documents.{in_range};
+ghost use Rattle.bufr_text.specs.Key.{is_named, lead_of};
+ghost use Rattle.bufr_text.specs.Line.{key_in, keys, leasts, mosts, place_from};
+ghost use Rattle.bufr_text.specs.Grammar.{fxy_read, descriptors_read};
+ghost use Rattle.bufr_text.specs.Describing.{Describes};
+
+use crate::line::is;
+use crate::slice::{ahead, octet_at, suffix};
+use bufr_tables::Fxy;
+
+/// A key: what is before its value (a line feed, its name and a space), and its least value. Then
+/// its greatest value in edition 3 and in edition 4.
+pub(crate) struct Key(pub(crate) &'static [u8], u16, u16, u16);
+
+/// The table of the keys, in their order.
+pub(crate) static KEYS: [Key; 20] = [
+    Key(b"\nedition ", 3, 4, 4),
+    Key(b"\nmaster ", 0, 255, 255),
+    Key(b"\ncentre ", 0, 255, 65535),
+    Key(b"\nsubcentre ", 0, 255, 65535),
+    Key(b"\nupdate ", 0, 255, 255),
+    Key(b"\ncategory ", 0, 255, 255),
+    Key(b"\nsubcategory ", 0, 255, 255),
+    Key(b"\nlocalsubcategory ", 0, 0, 255),
+    Key(b"\nmasterversion ", 0, 255, 255),
+    Key(b"\nlocalversion ", 0, 255, 255),
+    Key(b"\nyear ", 0, 255, 65535),
+    Key(b"\nmonth ", 0, 255, 255),
+    Key(b"\nday ", 0, 255, 255),
+    Key(b"\nhour ", 0, 255, 255),
+    Key(b"\nminute ", 0, 255, 255),
+    Key(b"\nsecond ", 0, 0, 255),
+    Key(b"\nobserved ", 0, 1, 1),
+    Key(b"\ncompressed ", 0, 1, 1),
+    Key(b"\noptional ", 0, 1, 1),
+    Key(b"\nsubsets ", 0, 65535, 65535),
+];
+
+/// The keys, in their order.
+fn keys() -> &'static [Key]
+    ensures count { length result.now ≡ 20 }
+    ensures leads { map (λ key. key.0.now) result.now ≡ map lead_of keys }
+    ensures leasts { map (λ key. key.1) result.now ≡ leasts }
+    ensures mosts_3 { map (λ key. key.2) result.now ≡ mosts slots_3 }
+    ensures mosts_4 { map (λ key. key.3) result.now ≡ mosts slots_4 }
+{
+    &KEYS
+}
+
+/// Whether what is before a key's value has this name.
+fn is_named(lead: &[u8], name: &[u8]) -> bool
+    ensures { result ≡ is_named lead.now name.now }
+{
+    match lead {
+        [_, own @ .., _] => is(name, own),
+        _ => false,
+    }
+}
+
+/// The place of the first key of this name.
+fn position(keys: &[Key], name: &[u8]) -> Option<usize>
+    ensures { result ≡ position (λ key. is_named key.0.now name.now) keys.now }
+{
+    keys.iter().position(|key| is_named(key.0, name))
+}
+
+/// The name of the key at a place, and the space after it.
+pub(crate) fn word_at(place: usize) -> Option<&'static [u8]>
+    ensures few { IfSome result (λ _. place < 20) }
+    ensures word { IfSome result (λ word. word.now ≡ (key_in keys place).name ++ 32 ∷ []) }
+{
+    match keys().get(place)?.0 {
+        [_, word @ ..] => Some(word),
+        [] => None,
+    }
+}
+
+/// The place of a key of this name.
+pub(crate) fn place(name: &[u8]) -> Option<usize>
+    ensures value { result ≡ place_from 0 name.now keys }
+    ensures few { IfSome result (λ place. place < 20) }
+{
+    position(keys(), name)
+}
+
+/// The least value of a key.
+fn least(key: usize) -> u16
+    requires { key < 20 }
+    ensures { result ≡ slice_index leasts key }
+{
+    keys()[key].1
+}
+
+/// The greatest value of a key.
+fn most(edition: u16, key: usize) -> u16
+    requires { key < 20 }
+    ensures { result ≡ slice_index (mosts (slots_of edition)) key }
+{
+    if edition == 3 {
+        keys()[key].2
+    } else {
+        keys()[key].3
+    }
+}
+
+/// Whether a value is in the range of its key, which goes by the edition.
+#[tactic(auto, unfolding(crate::specs::Line::keys))]
+// rule: reading-header-ranges
+pub(crate) fn in_range(edition: u16, key: usize, value: u32) -> bool
+    requires { key < 20 }
+    ensures value { result ≡ in_range edition key value }
+    ensures few { result ≡ true → value < 65536 }
+{
+    u32::from(least(key)) <= value && value <= u32::from(most(edition, key))
+}
+
+/// How many octets a descriptor takes in a line, with the space before it.
+const SPACED: usize = 7;
+
+/// The most descriptors of a line.
+pub(crate) const MOST_WORDS: usize = 8;
+
+/// The descriptor that six digits write first, and what is after it.
+#[tactic(auto, using(crate::proofs::ItemLemmas::by_six))]
+pub(crate) fn fxy_prefix<'a>(text: &'a [u8]) -> Option<(u16, &'a [u8])>
+    ensures value { option_map (λ read. (read.0, read.1.now)) result ≡ fxy_read text.now }
+    ensures within { IfSome result (λ read. length read.1.now ≤ length text.now) }
+{
+    if text.len() < 6 {
+        return None;
+    }
+    let fxy = Fxy::read(ahead(text, 6))?;
+    Some((fxy.word(), suffix(text, 6)))
+}
+
+/// Puts descriptors, each after one space, to the start of `out`; answers how many they are, 1 to
+/// 8.
+// rule: reading-descriptor
+pub(crate) fn describe(text: &[u8], out: &mut [u16]) -> Option<usize>
+    requires { length out.old ≡ 8 }
+    ensures { Describes text.now out.new result }
+{
+    if text.is_empty() {
+        return None;
+    }
+    if text.len() > SPACED * MOST_WORDS {
+        return None;
+    }
+    let mut count = 0;
+    while SPACED * count < text.len() {
+        let next = suffix(text, SPACED * count);
+        if next.len() < SPACED {
+            return None;
+        }
+        if octet_at(next, 0) != b' ' {
+            return None;
+        }
+        let fxy = Fxy::read(ahead(suffix(next, 1), 6))?;
+        out[count] = fxy.word();
+        count += 1;
+    }
+    Some(count)
+}
