@@ -216,3 +216,25 @@ hundredths_put n fits =
     ∙ sym (append_assoc (decimal (n / 10 / 10)) ten one) ∙ ap (λ t. (t ++ ten) ++ one) (sym (zero_padded_one (n / 10 / 10) (omega arith)))
     ∙ ap (λ t. t ++ one) (sym (zero_padded_step 1 (n / 10) (omega arith) (omega arith))) ∙ sym (zero_padded_step 2 n (omega arith) fits) in
     point_before (decimal (n / 100)) last (zero_padded (2 + 1) n) 2 split refl
+
+-- two more digits after the point
+pub pointed_pair : (p n : ℕ) → n < 2 ^ 64 → pointed p (decimal (n / 100)) ++ (48 + n % 100 / 10) ∷ (48 + n % 100 % 10) ∷ [] ≡ pointed (p + 2) (decimal n)
+pointed_pair p n fits =
+    let pair : List ℕ = (48 + n % 100 / 10) ∷ (48 + n % 100 % 10) ∷ [] in
+    let ten : List ℕ = (48 + n / 10 % 10) ∷ [] in
+    let one : List ℕ = (48 + n % 10) ∷ [] in
+    let short = zero_padded (p + 1) (n / 100) in
+    let k = length short - p in
+    let a : n / 10 / 10 ≡ n / 100 = omega arith in
+    let b : n / 10 % 10 ≡ n % 100 / 10 = omega arith in
+    let c : n % 10 ≡ n % 100 % 10 = omega arith in
+    let e : p + 2 ≡ p + 1 + 1 = omega arith in
+    let long : p + 1 ≤ length short = omega (arith, length_zero_padded (p + 1) (n / 100)) in
+    let size : length (drop k short) ≡ p = omega (arith, length-drop k short, long) in
+    let more : length (drop k short ++ pair) ≡ p + 2 = omega (arith, length-append (drop k short) pair, size) in
+    let split : short ++ pair ≡ zero_padded (p + 2 + 1) n =
+    ap (λ t. short ++ (48 + t) ∷ (48 + n % 100 % 10) ∷ []) (sym b) ∙ ap (λ t. short ++ (48 + n / 10 % 10) ∷ (48 + t) ∷ []) (sym c) ∙ sym (append_assoc short ten one)
+    ∙ ap (λ t. (zero_padded (p + 1) t ++ ten) ++ one) (sym a) ∙ ap (λ t. t ++ one) (sym (zero_padded_step (p + 1) (n / 10) (omega arith) (omega arith)))
+    ∙ ap (λ t. zero_padded t (n / 10) ++ one) (sym e) ∙ sym (zero_padded_step (p + 2) n (omega arith) fits) in
+    let whole : take k short ++ (drop k short ++ pair) ≡ zero_padded (p + 2 + 1) n = sym (append_assoc (take k short) (drop k short) pair) ∙ ap (λ t. t ++ pair) (take-append-drop k short) ∙ split in
+    append_assoc (take k short) (46 ∷ drop k short) pair ∙ point_before (take k short) (drop k short ++ pair) (zero_padded (p + 2 + 1) n) (p + 2) whole more

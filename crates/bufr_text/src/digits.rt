@@ -222,6 +222,28 @@ fn put_hundredths(value: u64, free: &mut [u8], at: usize) -> usize
     put_pair(value % 100, free, at)
 }
 
+/// Puts thousandths: a number with a point before the last three of its digits.
+#[inline(always)]
+fn put_thousandths(value: u64, free: &mut [u8], at: usize) -> usize
+    requires { at + 24 ≤ length free.old }
+    ensures most { result ≤ at + 24 }
+    ensures text { take result free.new ≡ take at free.old ++ pointed 3 (decimal value) }
+{
+    let at = put_tenths(value / 100, free, at);
+    put_pair(value % 100, free, at)
+}
+
+/// Puts a number with a point before the last five of its digits, as high accuracy has them.
+#[inline(never)]
+fn put_five_places(value: u64, free: &mut [u8], at: usize) -> usize
+    requires { at + 26 ≤ length free.old }
+    ensures most { result ≤ at + 26 }
+    ensures text { take result free.new ≡ take at free.old ++ pointed 5 (decimal value) }
+{
+    let at = put_thousandths(value / 100, free, at);
+    put_pair(value % 100, free, at)
+}
+
 /// Puts a number at a scale; `None` for a scale that few elements have, and for no room.
 #[inline(always)]
 pub(crate) fn put_scaled(value: u64, scale: i16, free: &mut [u8], at: usize) -> Option<usize>
@@ -238,6 +260,9 @@ pub(crate) fn put_scaled(value: u64, scale: i16, free: &mut [u8], at: usize) -> 
     }
     if scale == 2 {
         return Some(put_hundredths(value, free, at));
+    }
+    if scale == 5 {
+        return Some(put_five_places(value, free, at));
     }
     if scale > 2 {
         return put_pointed(value, scale.unsigned_abs(), free, at);

@@ -109,7 +109,7 @@ fn push_any_item<W: Sink>(
     push_comment(lines, entry);
 }
 
-/// Pushes the line of an item. Most are numbers of 64 bits that were read by an entry.
+/// Pushes the line of an item. Most are numbers of 64 bits, or missing, and were read by an entry.
 #[inline(always)]
 pub(crate) fn push_item<W: Sink>(lines: &mut LineWriter<'_, '_, W>, item: &ItemView<'_>)
     ensures { Pushes lines.old (item_text (dump_item_of (seen item.now)) ++ 10 ∷ []) lines.new }
@@ -121,6 +121,12 @@ pub(crate) fn push_item<W: Sink>(lines: &mut LineWriter<'_, '_, W>, item: &ItemV
         && let Ok(number) = i64::try_from(number)
     {
         return lines.push_number_line(entry, number, scale);
+    }
+    if let Value::Missing = value
+        && let Some(entry) = entry
+        && entry.fxy() == fxy
+    {
+        return lines.push_missing_line(entry);
     }
     push_any_item(lines, fxy, entry, value);
 }

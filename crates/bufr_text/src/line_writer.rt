@@ -1,6 +1,6 @@
 //! A writer of lines: octets put into a block of memory, one text after another, and handed on to a
 //! sink.
-ghost use Rattle.std.specs.Prelude.{◌≡◌, ◌≤◌, ◌++◌, [], Ok, length, take, decimal, replicate};
+ghost use Rattle.std.specs.Prelude.{◌≡◌, ◌≤◌, ◌++◌, [], Ok, codes, length, take, decimal, replicate};
 ghost use Rattle.bufr_bits.specs.DecimalText.{decimal_text_of};
 ghost use Rattle.bufr_tables.specs.Entry.{row_of_entry};
 ghost use Rattle.bufr_tables.specs.TableB.{row_comment, row_line_start};
@@ -8,7 +8,7 @@ ghost use Rattle.bufr_text.specs.Lines.{Pushes};
 ghost use Rattle.bufr_text.specs.Writing.{Writes, CountsWrites, flag, zero_padded};
 
 use crate::digits::{count_digits, fill_named};
-use crate::number_line::fill_number_line;
+use crate::number_line::{fill_missing_line, fill_number_line};
 use crate::slice::suffix;
 use bufr_bits::Sink;
 use bufr_frame::RunFault;
@@ -260,6 +260,29 @@ impl<'b, 'w, W: Sink> LineWriter<'b, 'w, W> {
     {
         self.push(entry.line_start());
         self.push_scaled(i128::from(number), scale);
+        self.push(entry.comment());
+    }
+
+    /// Pushes the line of a missing item that an entry reads.
+    #[inline(never)]
+    // rule: text-missing
+    pub(crate) fn push_missing_line(&mut self, entry: Entry<'_>)
+        ensures { Pushes self.old (row_line_start (row_of_entry entry.entry)
+            ++ (codes "MISSING" ++ row_comment (row_of_entry entry.entry))) self.new }
+    {
+        match fill_missing_line(entry, &mut self.octets[self.len..]) {
+            Some(len) => self.len += len,
+            None => self.push_long_missing(entry),
+        }
+    }
+
+    /// Pushes the line of a missing item that an entry reads, text by text.
+    fn push_long_missing(&mut self, entry: Entry<'_>)
+        ensures { Pushes self.old (row_line_start (row_of_entry entry.entry)
+            ++ (codes "MISSING" ++ row_comment (row_of_entry entry.entry))) self.new }
+    {
+        self.push(entry.line_start());
+        self.push(b"MISSING");
         self.push(entry.comment());
     }
 

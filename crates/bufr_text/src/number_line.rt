@@ -1,5 +1,5 @@
-//! The line of an item that is a number, put into octets block by block.
-ghost use Rattle.std.specs.Prelude.{◌≡◌, ◌≤◌, ◌+◌, ◌++◌, length, take, IfSome};
+//! The line of an item that is a number or missing, put into octets block by block.
+ghost use Rattle.std.specs.Prelude.{◌≡◌, ◌≤◌, ◌+◌, ◌++◌, codes, length, take, IfSome};
 ghost use Rattle.bufr_bits.specs.DecimalText.{decimal_text_of};
 ghost use Rattle.bufr_tables.specs.Entry.{row_of_entry};
 ghost use Rattle.bufr_tables.specs.TableB.{row_comment, row_line_start};
@@ -39,7 +39,11 @@ fn put_comment(text: &[u8], len: usize, free: &mut [u8], at: usize) -> usize
     ensures within { result ≤ length free.new }
     ensures text { take result free.new ≡ take at free.old ++ take len text.now }
 {
-    free[at..at + COMMENT].copy_from_slice(&text[..COMMENT]);
+    let Some((block, _)) = text.split_first_chunk::<80>() else {
+        unreachable!()
+    };
+    let block = *block;
+    free[at..at + COMMENT].copy_from_slice(&block);
     at + len
 }
 
@@ -64,5 +68,35 @@ pub(crate) fn fill_number_line(
     put_start(row, free);
     let at = put_sign(number, free, 7);
     let at = put_scaled(number.unsigned_abs(), scale, free, at)?;
+    Some(put_comment(&row[7..], len, free, at))
+}
+
+/// Copies a word after the octets before `at`, and returns the place after it.
+#[inline(always)]
+fn put_word(word: &[u8], free: &mut [u8], at: usize) -> usize
+    requires { at + length word.now ≤ length free.old }
+    ensures next { result ≡ at + length word.now }
+    ensures text { take result free.new ≡ take at free.old ++ word.now }
+{
+    let end = at + word.len();
+    free[at..end].copy_from_slice(word);
+    end
+}
+
+/// Fills a prefix with the line of a missing item that an entry reads, as [`fill_number_line`] does
+/// with that of a number.
+#[inline(always)]
+pub(crate) fn fill_missing_line(entry: Entry<'_>, free: &mut [u8]) -> Option<usize>
+    ensures within { IfSome result (λ len. len ≤ length free.new) }
+    ensures text { IfSome result
+        (λ len. take len free.new ≡ row_line_start (row_of_entry entry.entry)
+        ++ (codes "MISSING" ++ row_comment (row_of_entry entry.entry))) }
+{
+    let (row, len) = entry.line_on();
+    if row.len() < 7 + COMMENT || len > COMMENT || free.len() < LINE {
+        return None;
+    }
+    put_start(row, free);
+    let at = put_word(b"MISSING", free, 7);
     Some(put_comment(&row[7..], len, free, at))
 }

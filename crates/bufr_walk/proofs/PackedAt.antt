@@ -15,10 +15,10 @@ use Rattle.bufr_walk.specs.declared.spec.Role.TheVariants as role
 use Rattle.bufr_walk.specs.declared.kept.IndexedItem.{IndexedItem}
 use Rattle.bufr_walk.specs.FieldSpec.{FieldSpec}
 use Rattle.bufr_walk.specs.Calls.{content_at}
-use Rattle.bufr_walk.specs.Content.{Content, content_in}
+use Rattle.bufr_walk.specs.Content.{Content, content_in, missing, number}
 use Rattle.bufr_walk.specs.PlainField.{FieldFault, FieldRead, data_end, increment, unequal_factor}
 use Rattle.bufr_walk.specs.StoredItems.{content_kept}
-use Rattle.bufr_walk.specs.PackedField.{increments, increment_bits_of, padded_text, varied_by, if_equal, varied, contents_of, all_same, with_suffix, item_by, packed_field}
+use Rattle.bufr_walk.specs.PackedField.{ones, increments, increment_bits_of, padded_text, varied_by, if_equal, varied, contents_of, all_same, with_suffix, item_by, packed_field}
 use Rattle.bufr_walk.specs.PackedBits.{holds_by, content_from, number_from, kind_step}
 use Rattle.bufr_walk.specs.PackedIn.{contents_found, was_found, has_base, fits_at}
 use Rattle.bufr_walk.proofs.PlainLemmas.{bits_length, ones_by_number}
@@ -231,3 +231,28 @@ kept_number octets n e h k =
     let low : number_of (bits_at octets e.at e.spec.width) < 2 ^ length (bits_at octets e.at e.spec.width) = number_of-below (bits_at octets e.at e.spec.width) in
     let long : length (bits_at octets e.at e.spec.width) ≡ e.spec.width = length-bits_at octets e.at e.spec.width (omega (arith, p.within, bits_length octets)) in
     (is, subst (λ w. e.base < 2 ^ w) long (subst (λ v. v < 2 ^ length (bits_at octets e.at e.spec.width)) (sym is) low))
+
+-- the content of a number where a base and the greatest increment stay below all ones
+pub roomy_number : (spec : FieldSpec) (k b i : ℕ) (base incr : List Bool) → are_all_ones base ≡ false → b ≡ number_of base → i ≡ number_of incr → i < 2 ^ k → b + ones k < ones spec.width
+    → (if spec.may_be_missing && (i == ones k) then missing else number (b + i)) ≡ number_from spec k base incr
+roomy_number spec k b i base incr none is same low room =
+    let below : b + i < ones spec.width = omega (arith, low, room) in
+    let past : (b + i == ones spec.width) ≡ false = grind (arith, nat_tests, below) in
+    rw (none, ← is, ← same, past) (either spec.may_be_missing (i == ones k) (number (b + i)))
+  where
+    either : (m c : Bool) (x : Content) → (if m && c then missing else x) ≡ (if m && c then missing else if m && false then missing else x)
+    either true c x = refl
+    either false c x = refl
+
+pub roomy_base : (octets : List ℕ) (n k : ℕ) (e : IndexedItem) → fits_at (bits_of octets) n e ≡ true → is_character e.spec.kind ≡ false → e.base + ones k < ones e.spec.width → are_all_ones (bits_at octets e.at e.spec.width) ≡ false
+roomy_base octets n k e h c room =
+    let less : e.base < 2 ^ e.spec.width - 1 = omega (arith, room) in
+    let other : (e.base == 2 ^ e.spec.width - 1) ≡ false = grind (arith, nat_tests, less) in
+    sym (kept_ones octets n e h c) ∙ other
+
+-- the bits of an increment, at the place that is reached in 64 bits
+pub increment_at : (octets : List ℕ) (at w k j width subset step raw : ℕ) → width ≡ w → subset ≡ j → step ≡ k → raw ≡ number_of (bits_at octets (at + (width + 6) + subset * step) k)
+    → raw ≡ number_of (take k (drop (j * k) (drop (at + (w + 6)) (bits_of octets))))
+increment_at octets at w k j width subset step raw a b c is =
+    is ∙ ap (λ n. number_of (bits_at octets n k)) (ap (λ x. at + (x + 6) + subset * step) a ∙ ap (λ x. at + (w + 6) + x * step) b ∙ ap (λ x. at + (w + 6) + j * x) c)
+    ∙ sym (ap (λ l. number_of (take k l)) (drop-drop (j * k) (at + (w + 6)) (bits_of octets)))

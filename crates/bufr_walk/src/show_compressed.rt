@@ -1,11 +1,12 @@
 //! The showing of compressed data: subset after subset, each item from its location.
-ghost use Rattle.std.specs.Prelude.{◌≡◌, ◌∷◌, ◌≤◌, ◌<◌, ◌+◌, ◌-◌, ◌*◌, ◌/◌, ◌^◌, ◌++◌, true, false, length, take, drop, get_or, replicate, IfNone, IfSome, OnSome};
+ghost use Rattle.std.specs.Prelude.{◌≡◌, ◌==◌, ◌&&◌, if◌then◌else◌, ◌∷◌, ◌≤◌, ◌<◌, ◌+◌, ◌-◌, ◌*◌, ◌/◌, ◌^◌, ◌++◌, true, false, length, take, drop, get_or, replicate, IfNone, IfSome, OnSome};
 ghost use Rattle.std.specs.List.{list_all};
 ghost use Rattle.bufr_bits.specs.Bits.{are_all_ones, bits_of, bits_at, number_of};
 ghost use Rattle.bufr_bits.specs.BitSlice.{octets_of};
 ghost use Rattle.bufr_tables.specs.TableB.{is_character};
 ghost use Rattle.bufr_walk.specs.Calls.{compressed_item_calls, subset_call, compressed_subset_calls, timed};
-ghost use Rattle.bufr_walk.specs.Content.{octets_in, shown};
+ghost use Rattle.bufr_walk.specs.Content.{missing, number, octets_in, shown};
+ghost use Rattle.bufr_walk.specs.PackedField.{ones};
 ghost use Rattle.bufr_walk.specs.Numbers.{IsPlainNumber};
 ghost use Rattle.bufr_walk.specs.declared.kept.IndexedItem.{IndexedItem};
 ghost use Rattle.bufr_walk.specs.StoredItems.{HasIncrement, call_kept, content_kept};
@@ -346,8 +347,73 @@ fn common_number(pack: &PackedData<'_>, item: &IndexedItem, subset: u16) -> Opti
     }
 }
 
-/// The value of a plain kept item for one subset, counted from 0; `None` for a number of more than
-/// 62 bits, which none is.
+/// Whether a base and the greatest increment of `k` bits stay below all ones: nearly always.
+#[inline(always)]
+fn is_roomy(base: u64, width: u32, k: u32) -> bool
+    requires k { k ≤ 63 }
+    requires width { width ≤ 63 }
+    requires base { base < 2 ^ width }
+    ensures { result ≡ true → base + ones k < ones width }
+{
+    base + ((1 << k) - 1) < (1 << width) - 1
+}
+
+/// The sum of a base and an increment of `k` bits that stays below all ones; `None` where the
+/// increment is missing.
+#[inline(always)]
+fn added(may_be_missing: bool, base: u64, k: u32, increment: u64) -> Option<u64>
+    requires k { k ≤ 63 }
+    requires base { base < 2 ^ 63 }
+    requires increment { increment < 2 ^ k }
+    ensures { sum_content result
+        ≡ (if may_be_missing && (increment == ones k) then missing else number (base + increment)) }
+{
+    if may_be_missing && increment == (1 << k) - 1 {
+        return None;
+    }
+    Some(base + increment)
+}
+
+/// The number of one subset, counted from 0, where no sum is as great as all ones; `None` where it
+/// is missing.
+#[tactic(auto, using(crate::proofs::PackedAt::kept_number))]
+#[inline(always)]
+fn roomy_number_in(pack: &PackedData<'_>, item: &IndexedItem, k: u32, subset: u16) -> Option<u64>
+    requires fits { fits_at (bits_of (octets_of pack.now.bits)) pack.now.subsets item.now ≡ true }
+    requires increment { k ≤ 63 }
+    requires number { is_character item.now.spec.kind ≡ false }
+    requires within { item.now.at + (item.now.spec.width + 6) + (subset + 1) * k
+        ≤ 8 * length (octets_of pack.now.bits) }
+    requires room { item.now.base + ones k < ones item.now.spec.width }
+    ensures { sum_content result ≡ number_from item.now.spec k
+        (bits_at (octets_of pack.now.bits) item.now.at item.now.spec.width)
+        (take k (drop (subset * k)
+        (drop (item.now.at + (item.now.spec.width + 6)) (bits_of (octets_of pack.now.bits))))) }
+{
+    let width = item.spec.width();
+    let place = item.at + (u64::from(width) + 6) + u64::from(subset) * u64::from(k);
+    let increment = number_at(&pack.bits, place, k);
+    added(item.spec.may_be_missing(), item.base, k, increment)
+}
+
+/// The number of a kept item with increments for one subset, counted from 0, where no sum is as
+/// great as all ones; `None` where it is missing.
+#[tactic(auto, using(crate::proofs::PackedAt::step_small))]
+#[inline(always)]
+fn roomy_number(pack: &PackedData<'_>, item: &IndexedItem, subset: u16) -> Option<u64>
+    requires increment { HasIncrement (bits_of (octets_of pack.now.bits)) pack.now.subsets
+        item.now subset }
+    requires number { is_character item.now.spec.kind ≡ false }
+    requires room { item.now.base + ones item.now.step < ones item.now.spec.width }
+    ensures { sum_content result
+        ≡ content_kept (bits_of (octets_of pack.now.bits)) pack.now.subsets item.now subset }
+{
+    roomy_number_in(pack, item, u32::from(item.step), subset)
+}
+
+/// The value of a plain kept item for one subset, counted from 0; `None` where a sum may be as
+/// great as all ones, and for a number of more than 62 bits, which none is.
+#[tactic(auto, using(crate::proofs::PackedAt::kept_number, crate::proofs::PackedAt::step_small))]
 #[inline(always)]
 fn plain_value<'t>(pack: &PackedData<'_>, item: &IndexedItem, subset: u16) -> Option<Value<'t>>
     requires fits { fits_at (bits_of (octets_of pack.now.bits)) pack.now.subsets item.now ≡ true }
@@ -358,8 +424,10 @@ fn plain_value<'t>(pack: &PackedData<'_>, item: &IndexedItem, subset: u16) -> Op
 {
     let raw = if item.step == 0 {
         common_number(pack, item, subset)
+    } else if is_roomy(item.base, item.spec.width(), u32::from(item.step)) {
+        roomy_number(pack, item, subset)
     } else {
-        number_of(pack, item, subset)
+        return None;
     };
     let Some(raw) = raw else {
         return Some(Value::Missing);

@@ -14,6 +14,10 @@ pub returns-then-scale-eq2-clause-text : goal.returns-then-scale-eq2-clause-text
 returns-then-scale-eq2-clause-text c =
     c.put_hundredths.ensures.text ∙ ap (λ l. take c.args.at c.args.free.now ++ l) (unsigned_places c.args.value 1 c.args.scale (sym (to_z-of_z c.ranges.scale) ∙ ap (to_z w16) c.if-scale-eq2.true))
 
+pub returns-then-scale-eq5-clause-text : goal.returns-then-scale-eq5-clause-text
+returns-then-scale-eq5-clause-text c =
+    c.put_five_places.ensures.text ∙ ap (λ l. take c.args.at c.args.free.now ++ l) (unsigned_places c.args.value 4 c.args.scale (sym (to_z-of_z c.ranges.scale) ∙ ap (to_z w16) c.if-scale-eq5.true))
+
 pub returns-then-scale-gt2-clause-text : goal.returns-then-scale-gt2-clause-text
 returns-then-scale-gt2-clause-text c =
     let scale = to_z-of_z c.ranges.scale in
