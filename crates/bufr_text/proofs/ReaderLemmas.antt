@@ -1,11 +1,11 @@
 -- What the steps of a reader of dump texts do.
-use Rattle.std.proofs.Common.{◌≡◌, ℕ, zero, suc, ◌+◌, ◌-◌, ◌<◌, ◌≤◌, Bool, true, List, [], ◌∷◌, ◌++◌, length, take, drop, refl, sym, ap, subst, ◌∙◌, arith, length-drop}
+use Rattle.std.proofs.Common.{◌≡◌, ℕ, zero, suc, ◌+◌, ◌<◌, ◌≤◌, Bool, true, List, [], ◌∷◌, ◌++◌, length, drop, refl, sym, ap, subst, ◌∙◌, arith, length-drop}
 use Rattle.std.specs.Prelude.{Option, Some, None, Err}
 use Rattle.bufr_frame.specs.Input.{InputModel}
 use Rattle.bufr_text.specs.Document as spec
 use Rattle.bufr_text.specs.Documents as documents
 use Rattle.bufr_text.specs.Documents.{Between, Heading, BeforeSubsets, Filling, Stopped, ParseResult, Refused, NotAllowed, parse_lines, lines_of, reported_at_end}
-use Rattle.bufr_text.specs.Reading.{has_no_feed, ContinuesParse, TakesWholeLines, TakesEndLine, parse}
+use Rattle.bufr_text.specs.Reading.{has_no_feed, ContinuesParse, parse}
 use Rattle.bufr_text.specs.Reader.{ReaderModel, position_of}
 use Rattle.bufr_text.specs.Filling.{place_now, ends_by_feed, IsProgress, IsReader, ParsesHeldLines, WantsHere, TakesHeldLines, read_fault_at, stopped}
 use Rattle.bufr_text.specs.Step.{place_with, line_fault_of, IsParserState}

@@ -1,6 +1,6 @@
 -- How a document is kept while it is read.
 -- Cited by private steps only.
-use Rattle.std.specs.Prelude.{◌≡◌, ℕ, ◌≤◌, List, length, take}
+use Rattle.std.specs.Prelude.{◌≡◌, ◌≤◌, length, take}
 use Rattle.bufr_text.specs.Document as spec
 use Rattle.bufr_text.specs.declared.document.DocumentParts.TheInside.{Inside}
 

@@ -1,4 +1,4 @@
-//! A message as its text gives it.
+//! A message as its text gives it, and how its lines build it.
 ghost use Rattle.std.specs.Prelude.{◌≡◌, ℕ, ◌+◌, ◌<◌, ◌≤◌, List, [], ◌∷◌, ◌++◌, length, take, map, OnOk, IsTrue, slice_index, option_map, true, IfOk, OnErr, ◌^◌, drop, false};
 ghost use Rattle.bufr_bits.specs.ShortDecimal.{short_text};
 ghost use Rattle.bufr_fill.specs.Draft.{draft, number_token};
@@ -598,8 +598,9 @@ fn feed(held: &[u8]) -> Option<usize>
     memchr(b'\n', held)
 }
 
-/// A line that is whole.
+/// A line that is whole, mostly an item with a short decimal.
 #[inline(always)]
+// rule: reading-longest-line
 fn take_line(
     progress: &mut Progress,
     line: &[u8],
@@ -622,34 +623,8 @@ fn take_line(
         progress.parts.push_decimal(progress.at, fxy, number)?;
         return Ok(LineEffect::WalkGoes(progress.place));
     }
-    take_other(progress, line, octets, words)
-}
-
-/// A line that is whole, and mostly no item with a short decimal.
-#[inline(never)]
-// rule: reading-longest-line
-fn take_other(
-    progress: &mut Progress,
-    line: &[u8],
-    octets: &mut [u8; MAX_LINE],
-    words: &mut [u16; MOST_WORDS],
-) -> Result<LineEffect, AllocError>
-    requires holds { IsParserState progress.old.at
-        (place_with progress.old.place progress.old.parts) }
-    ensures turns { IfOk result (λ t. turned t progress.new.parts ≡ documents.turn progress.old.at
-        (place_with progress.old.place progress.old.parts) (line_within_limit line.now)) }
-    ensures at { progress.new.at ≡ progress.old.at }
-    ensures wants { OnErr result
-        (adds (place_with progress.old.place progress.old.parts) (line_within_limit line.now)
-        ≡ true) }
-{
-    let line_within_limit = read_line(line, progress.parts.known(), octets, words);
-    step(
-        progress.place,
-        &mut progress.parts,
-        progress.at,
-        line_within_limit,
-    )
+    let said = read_line(line, progress.parts.known(), octets, words);
+    step(progress.place, &mut progress.parts, progress.at, said)
 }
 
 /// Takes lines that are held, up to the first that makes a document whole or is refused. Answers

@@ -1,4 +1,4 @@
-//! The message of a document.
+//! The message of a document, in a form.
 ghost use Rattle.std.specs.Prelude.{ℕ, ◌≡◌, ◌≢◌, ◌≤◌, ◌*◌, ◌+◌, ◌^◌, List, [], Bool, length, IfOk, IfErr, OnOk, OnErr, Ok, option_map, false, true};
 ghost use Rattle.bufr_tables.specs.Expansion.{tree_of};
 ghost use Rattle.bufr_tables.specs.TemplateTables.{tables_of};

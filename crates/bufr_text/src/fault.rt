@@ -1,4 +1,5 @@
-//! What can be wrong with a dump text.
+//! What can be wrong with a dump text, and why a document cannot be encoded. (The numbers and
+//! their order are a choice of this project.)
 ghost use Rattle.std.specs.Prelude.{◌≡◌, option_map};
 ghost use Rattle.bufr_fill.specs.DraftFaults.{draft_fault};
 ghost use Rattle.bufr_text.specs.EncodingFault.{number_of_document_fault, number_of_walk_refusal, report_of_draft, reported_refusal};

@@ -1,4 +1,4 @@
-//! What a line says, by its first word.
+//! What a line says: its first word, numbers, items, texts in quotes and octets.
 ghost use Rattle.std.specs.Prelude.{◌≡◌, ℕ, ◌<◌, ◌≤◌, ◌==◌, IfSome, List, length, take, drop, option_map, codes, if◌then◌else◌, min, ◌+◌, ◌-◌, slice_index, IsTrue, Some, ◌*◌};
 ghost use Rattle.std.specs.Str.{bytes_eq};
 ghost use Rattle.bufr_text.specs.Documents.{line_within_limit};
@@ -187,13 +187,6 @@ pub(crate) fn read_line<'a>(
     }
 }
 
-/// A number, or 65,536 where it is past that.
-fn capped(number: u32) -> u32
-    ensures { result ≡ min number 65536 }
-{
-    if number < 65536 { number } else { 65536 }
-}
-
 /// The number that digits write; numbers past 65,535 are all alike.
 // rule: reading-header-number
 pub(crate) fn number(text: &[u8]) -> Option<u32>
@@ -207,7 +200,7 @@ pub(crate) fn number(text: &[u8]) -> Option<u32>
         if !octet.is_ascii_digit() {
             return None;
         }
-        number = capped(10 * number + u32::from(*octet - b'0'));
+        number = (10 * number + u32::from(*octet - b'0')).min(65536);
     }
     Some(number)
 }

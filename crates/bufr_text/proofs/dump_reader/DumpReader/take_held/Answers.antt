@@ -1,4 +1,4 @@
-use Rattle.std.proofs.Common.{◌≡◌, ◌∙◌, ℕ, List, [], ◌∷◌, drop, refl, sym, ap, subst}
+use Rattle.std.proofs.Common.{◌∙◌, ℕ, [], ◌∷◌, drop, refl, sym, ap, subst}
 use Rattle.std.specs.Prelude.{Some, Err}
 use Rattle.bufr_frame.specs.Input.{InputModel}
 use Rattle.bufr_text.specs.Document as spec
