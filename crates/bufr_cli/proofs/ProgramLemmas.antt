@@ -1,7 +1,6 @@
 -- What comes of a job, from what its run answers.
 use Rattle.std.proofs.Common.{◌≡◌, ℕ, List, Option, Some, None, Result, Ok, Err, refl, sym, ap, subst, ◌∙◌}
 use Rattle.std.specs.Prelude.{IfOk, IfSome, OnOk}
-use Rattle.bufr_frame.specs.Runs.{MakesReads}
 use Rattle.bufr_frame.specs.Scan.{StreamEvent}
 use Rattle.bufr_frame.specs.declared.fault.RunFault.{RunFault}
 use Rattle.bufr_frame.specs.declared.fault.RunFault.TheVariants.{Read, Write, InputTooLong, Memory}
@@ -14,7 +13,6 @@ use Rattle.bufr_cli.specs.Finish.{run_line}
 use Rattle.bufr_cli.specs.Pieces.{Piece}
 use Rattle.bufr_cli.specs.Program.{IsReadFault}
 use Rattle.bufr_cli.specs.ReadAll.{ReadsAll}
-use Rattle.bufr_cli.specs.Running.{ReadsAtMost}
 use Rattle.bufr_cli.specs.declared.outcome.Tally.{Tally}
 
 -- a run over the octets of its input, and then the flush of the rest

@@ -224,37 +224,6 @@ fn dump_frame<W: Sink, E: Sink>(
     }
 }
 
-/// Writes the text of an event's message, or its fault line.
-// rule: one-fault-a-message
-fn dump_event<W: Sink, E: Sink>(
-    event: Event<'_>,
-    run: &mut DumpRun<'_>,
-    w: &mut W,
-    e: &mut E,
-) -> Result<Verdict, RunFault>
-    requires { IsEvent event }
-    ensures reports { (piece : StreamEvent → Piece)
-        → GivesPieces (IsDumpPiece run.old.templates.table_b run.old.templates.table_d) piece
-        → ReportsPieces (writers_of W.Sink w.old E.Sink e.old)
-        (writers_of W.Sink w.new E.Sink e.new) (map piece (events_of event.entry)) result }
-    ensures stops { StopsPiece true result }
-    ensures table_b { run.new.templates.table_b ≡ run.old.templates.table_b }
-    ensures table_d { run.new.templates.table_d ≡ run.old.templates.table_d }
-    ensures counts { BlamesWriter (writers_of W.Sink w.old E.Sink e.old)
-        (writers_of W.Sink w.new E.Sink e.new) result }
-    ensures output_flushes { W.flushes w.new ≡ W.flushes w.old }
-    ensures errors_flushes { E.flushes e.new ≡ E.flushes e.old }
-{
-    match event {
-        Event::Frame(offset, octets) => dump_frame(offset, octets, run, w, e),
-        Event::Stray(offset, cause) => {
-            write_fault(offset, StreamFault::Stray(cause), e)?;
-            Ok(Verdict::Refused)
-        }
-        Event::Done => unreachable!(),
-    }
-}
-
 impl<'a> EventWriter for DumpRun<'a> {
     ghost use Rattle.std.specs.Prelude.{true};
     ghost use Rattle.bufr_cli.specs.DumpPieces.{IsDumpPiece};
@@ -263,13 +232,21 @@ impl<'a> EventWriter for DumpRun<'a> {
 
     ghost takes_memory = { λ _. true };
 
+    // rule: one-fault-a-message
     fn write_event<W: Sink, E: Sink>(
         &mut self,
         event: Event<'_>,
         w: &mut W,
         e: &mut E,
     ) -> Result<Verdict, RunFault> {
-        dump_event(event, self, w, e)
+        match event {
+            Event::Frame(offset, octets) => dump_frame(offset, octets, self, w, e),
+            Event::Stray(offset, cause) => {
+                write_fault(offset, StreamFault::Stray(cause), e)?;
+                Ok(Verdict::Refused)
+            }
+            Event::Done => unreachable!(),
+        }
     }
 }
 

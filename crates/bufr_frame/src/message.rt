@@ -159,9 +159,9 @@ impl<'a> Message<'a> {
     /// or 4. [`SectionFault::SectionsEnd`] where section 4 does not end at the last four octets.
     /// [`SectionFault::Edition3Long`] where section 3 or 4 of edition 3 has an odd number of octets
     /// and the message has more than 16,777,213.
+    #[tactic(auto, unfolding(crate::specs::Sections::sections_of))]
     // rule: edition-first, sections-in-order, section-4-end, local-use, section-3, section-4
     // rule: reserved-ignored
-    #[tactic(auto, unfolding(crate::specs::Sections::sections_of))]
     pub fn parse(octets: &'a [u8]) -> Result<Message<'a>, SectionFault>
         requires { 12 ≤ length octets.now }
         ensures { result ≡ sections_of octets.now }

@@ -279,8 +279,8 @@ fn is_valid_factor(row: &ParsedRow) -> bool
 }
 
 /// The row that a record writes, where it writes one.
-// rule: fault-41-of-table-b
 #[tactic(auto, unfolding(crate::specs::TableB::row_of))]
+// rule: fault-41-of-table-b
 fn parse_row(fields: &ByteRecord) -> Option<ParsedRow<'_>>
     ensures value { option_map row_parsed result ≡ row_of (fields_of fields.now) }
     ensures element { IfSome result (λ row. row.fxy < 16384) }
