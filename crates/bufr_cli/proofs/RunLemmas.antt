@@ -21,7 +21,7 @@ use Rattle.bufr_frame.specs.Next.{ReturnsNextEvent, LeavesFinder}
 use Rattle.bufr_frame.proofs.FindingLemmas.{Advances-none, Follows-none, ReadsAndPasses-then, CountsReads-then, whole-scan, events-are-certain}
 use Rattle.bufr_text.specs.Writing.{GrowsByPrefix, Stays, Fails}
 use Rattle.bufr_cli.specs.Pieces.{Piece, output_of, errors_of, is_accepted, is_refused}
-use Rattle.bufr_cli.specs.Counting.{Blames}
+use Rattle.bufr_cli.specs.Devices.{Blames}
 use Rattle.bufr_cli.specs.Running.{WritesPieces, Tallies, LeavesEvents, RunDone, RunStopped, RunCut, ReadsFewer, read_events, GivesPieces}
 use Rattle.bufr_cli.specs.WritingPieces.{LeavesPieces, StopsPiece, RunReads, counted_accepted, counted_refused, tally_after}
 use Rattle.bufr_cli.specs.declared.outcome.Tally.{Tally}

@@ -6,12 +6,9 @@ ghost use Rattle.bufr_frame.specs.Scan.{StreamEvent, scan};
 ghost use Rattle.bufr_frame.specs.Sections.{sections_of};
 ghost use Rattle.bufr_walk.specs.Course.{next_item};
 ghost use Rattle.bufr_walk.specs.Outcome.{data_of, IsFault, IsReadingOf};
-ghost use Rattle.bufr_cli.specs.DumpPieces.{IsDataPiece, IsDumpPiece, IsMessagePiece};
-ghost use Rattle.bufr_cli.specs.Pieces.{Piece};
-ghost use Rattle.bufr_cli.specs.Counting.{BlamesWriter};
-ghost use Rattle.bufr_cli.specs.Devices.{input_of, writers_of};
-ghost use Rattle.bufr_cli.specs.Running.{RunsEvents, GivesPieces, ReadsAtMost};
-ghost use Rattle.bufr_cli.specs.Whole.{WritesAndCounts};
+ghost use Rattle.bufr_cli.specs.Pieces.{IsDataPiece, IsDumpPiece, IsMessagePiece, Piece};
+ghost use Rattle.bufr_cli.specs.Devices.{BlamesWriter, input_of, writers_of};
+ghost use Rattle.bufr_cli.specs.Running.{RunsEvents, GivesPieces, ReadsAtMost, WritesAndCounts};
 ghost use Rattle.bufr_cli.specs.WritingPieces.{StopsPiece, ReportsPieces};
 
 use crate::fault_line::{StreamFault, write_fault};
@@ -226,7 +223,7 @@ fn dump_frame<W: Sink, E: Sink>(
 
 impl<'a> EventWriter for DumpRun<'a> {
     ghost use Rattle.std.specs.Prelude.{true};
-    ghost use Rattle.bufr_cli.specs.DumpPieces.{IsDumpPiece};
+    ghost use Rattle.bufr_cli.specs.Pieces.{IsDumpPiece};
 
     ghost is_piece = { λ d. IsDumpPiece d.templates.table_b d.templates.table_d };
 

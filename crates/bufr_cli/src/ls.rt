@@ -4,10 +4,8 @@ ghost use Rattle.bufr_frame.specs.Events.{events_of, IsEvent};
 ghost use Rattle.bufr_frame.specs.Runs.{read_failures_after, MakesReads};
 ghost use Rattle.bufr_frame.specs.Sections.{sections_of};
 ghost use Rattle.bufr_cli.specs.Pieces.{ls_or_fault, ls_piece, ls_pieces};
-ghost use Rattle.bufr_cli.specs.Counting.{BlamesWriter};
-ghost use Rattle.bufr_cli.specs.Devices.{input_of, writers_of};
-ghost use Rattle.bufr_cli.specs.Running.{RunsEvents};
-ghost use Rattle.bufr_cli.specs.Whole.{WritesAndCounts};
+ghost use Rattle.bufr_cli.specs.Devices.{BlamesWriter, input_of, writers_of};
+ghost use Rattle.bufr_cli.specs.Running.{RunsEvents, WritesAndCounts};
 ghost use Rattle.bufr_cli.specs.WritingPieces.{StopsPiece, ReportsPieces};
 
 use crate::fault_line::{StreamFault, write_fault};
