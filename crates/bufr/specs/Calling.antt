@@ -5,8 +5,7 @@ use Rattle.std.specs.Borrow.{Bor}
 use Rattle.bufr_frame.specs.declared.fault.RunFault.TheVariants.{Memory}
 use Rattle.bufr_cli.specs.Calling.{RunsProgram}
 use Rattle.bufr_cli.specs.Devices.{Writers}
-use Rattle.bufr_cli.specs.Ending.{WritesLine}
-use Rattle.bufr_cli.specs.Finish.{last_line, status_of}
+use Rattle.bufr_cli.specs.Ending.{WritesLine, last_line, status_of}
 use Rattle.bufr_cli.specs.Program.{known}
 use Rattle.bufr_cli.specs.declared.outcome.Outcome.{Outcome}
 use Rattle.bufr_cli.specs.declared.outcome.Outcome.TheVariants.{Usage, Run}

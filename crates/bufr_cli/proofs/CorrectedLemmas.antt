@@ -29,9 +29,7 @@ use Rattle.bufr_text.proofs.ReadBackLemmas.{encoded_read}
 use Rattle.bufr_text.proofs.RowsLemmas.{rows-read}
 use Rattle.bufr_text.proofs.SpelledProper.{spelled-proper}
 use Rattle.bufr_cli.specs.Corrected.{IsDumpedInOneSpelling, before_refused, built, form_pieces, normal_by, normal_text, normal_texts}
-use Rattle.bufr_cli.specs.DumpPieces.{IsDumpPiece}
-use Rattle.bufr_cli.specs.EncodePieces.{encoded, result_piece, up_to_refused}
-use Rattle.bufr_cli.specs.Pieces.{Piece, OnOutput, OnErrors, output_of, errors_of, is_accepted, is_refused}
+use Rattle.bufr_cli.specs.Pieces.{IsDumpPiece, Piece, OnOutput, OnErrors, output_of, errors_of, is_accepted, is_refused, encoded, result_piece, up_to_refused}
 use Rattle.bufr_cli.specs.RoundTrip.{dump_pieces, dumped, text_pieces}
 use Rattle.bufr_cli.specs.Running.{GivesPieces}
 use Rattle.bufr_cli.proofs.DumpLemmas.{one-piece}

@@ -23,9 +23,8 @@ use Rattle.bufr_walk.specs.declared.spec.Role.TheVariants.{Element}
 use Rattle.bufr_text.specs.Dump.{header_lines, subset_lines}
 use Rattle.bufr_text.specs.Grammar.{descriptors_text, hex_text, runs_after}
 use Rattle.bufr_text.specs.Line.{keys}
-use Rattle.bufr_cli.specs.DumpPieces.{IsDumpPiece}
+use Rattle.bufr_cli.specs.Pieces.{IsDumpPiece, OnOutput, OnErrors}
 use Rattle.bufr_cli.specs.FaultLine.{fault_line, template_fault_text, walk_fault_text}
-use Rattle.bufr_cli.specs.Pieces.{OnOutput, OnErrors}
 use Rattle.bufr_cli.proofs.Examples.{one_block_number}
 
 -- faults of templates: each number, and each name

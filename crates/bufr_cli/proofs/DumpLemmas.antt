@@ -26,9 +26,8 @@ use Rattle.bufr_text.specs.Dump.{dump_text_of}
 use Rattle.bufr_text.specs.DumpItems.{dump_items_of, compressed_dump_subsets}
 use Rattle.bufr_text.specs.DumpWritten.{WritesPrefix}
 use Rattle.bufr_text.specs.Writing.{GrowsByPrefix, Writes}
-use Rattle.bufr_cli.specs.DumpPieces.{IsDataPiece, IsTemplatePiece, IsMessagePiece, IsDumpPiece, dump_text, template_piece}
+use Rattle.bufr_cli.specs.Pieces.{IsDataPiece, IsTemplatePiece, IsMessagePiece, IsDumpPiece, dump_text, template_piece, Piece, OnOutput, OnErrors, stray_piece, section_piece}
 use Rattle.bufr_cli.specs.FaultLine.{fault_line, walk_fault_text}
-use Rattle.bufr_cli.specs.Pieces.{Piece, OnOutput, OnErrors, stray_piece, section_piece}
 use Rattle.bufr_cli.specs.Running.{GivesPieces}
 use Rattle.bufr_cli.specs.WritingPieces.{LeavesPieces}
 use Rattle.bufr_cli.specs.declared.outcome.Verdict.{Verdict}

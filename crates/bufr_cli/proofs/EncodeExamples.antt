@@ -6,10 +6,9 @@ use Rattle.bufr_tables.specs.declared.fault.TemplateFault.TheVariants as templat
 use Rattle.bufr_walk.specs.declared.spec.TurnRefusal.TheVariants as walk
 use Rattle.bufr_text.specs.Documents.{Refused, NotAllowed, SubsetCount, HeaderRange}
 use Rattle.bufr_text.specs.Encoding.{by_template, by_item, too_long}
-use Rattle.bufr_cli.specs.DocumentLine.{refused_line, refusal_line}
+use Rattle.bufr_cli.specs.FaultLine.{refused_line, refusal_line}
 use Rattle.bufr_text.specs.declared.encode.Form.TheVariants.{AsWritten}
-use Rattle.bufr_cli.specs.EncodePieces.{encode_pieces, up_to_refused}
-use Rattle.bufr_cli.specs.Pieces.{OnOutput, OnErrors}
+use Rattle.bufr_cli.specs.Pieces.{encode_pieces, up_to_refused, OnOutput, OnErrors}
 
 -- rule: fault-lines-of-reading
 not-a-line : refused_line 26 NotAllowed ≡ codes "line 26: 50 line\n"

@@ -20,14 +20,11 @@ use Rattle.bufr_text.specs.Writing.{GrowsByPrefix, Writes}
 use Rattle.bufr_text.specs.declared.fault.ReadFault.{ReadFault}
 use Rattle.bufr_text.specs.declared.encode.Form.{Form}
 use Rattle.bufr_text.specs.declared.fault.ReadFault.TheVariants.{Line, SubsetCount, HeaderRange, Run}
-use Rattle.bufr_cli.specs.DocumentLine.{refused_line}
-use Rattle.bufr_cli.specs.EncodePieces.{result_piece, encode_pieces, up_to_refused}
-use Rattle.bufr_cli.specs.EncodeRun.{EncodeDone, EncodeStopped, LeavesDocuments, read_documents}
-use Rattle.bufr_cli.specs.EncodeReporting.{LeavesNext}
-use Rattle.bufr_cli.specs.Pieces.{Piece, OnOutput, OnErrors, errors_of, is_accepted, is_refused, output_of}
-use Rattle.bufr_cli.specs.Counting.{Blames}
-use Rattle.bufr_cli.specs.Running.{ReadsAtMost, Tallies, WritesPieces, WrittenInPart}
-use Rattle.bufr_cli.specs.WritingPieces.{LeavesPieces, StopsPiece, counted_accepted, counted_refused, tally_after}
+use Rattle.bufr_cli.specs.FaultLine.{refused_line}
+use Rattle.bufr_cli.specs.Pieces.{result_piece, encode_pieces, up_to_refused, Piece, OnOutput, OnErrors, errors_of, is_accepted, is_refused, output_of}
+use Rattle.bufr_cli.specs.Running.{EncodeDone, EncodeStopped, LeavesDocuments, read_documents, ReadsAtMost, Tallies, WritesPieces, WrittenInPart}
+use Rattle.bufr_cli.specs.WritingPieces.{LeavesNext, LeavesPieces, StopsPiece, counted_accepted, counted_refused, tally_after}
+use Rattle.bufr_cli.specs.Devices.{Blames}
 use Rattle.bufr_cli.specs.declared.outcome.Tally.{Tally}
 use Rattle.bufr_cli.specs.declared.outcome.Verdict.{Verdict}
 use Rattle.bufr_cli.specs.declared.outcome.Verdict.TheVariants as verdict

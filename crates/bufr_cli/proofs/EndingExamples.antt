@@ -4,10 +4,8 @@ use Rattle.bufr_frame.specs.Scan.{scan_from}
 use Rattle.bufr_frame.specs.Sections.{sections_of, section_end}
 use Rattle.bufr_frame.specs.declared.fault.RunFault.{RunFault}
 use Rattle.bufr_frame.specs.declared.fault.RunFault.TheVariants.{Read, Write, Memory}
-use Rattle.bufr_cli.specs.Counting.{BlamesWriter}
-use Rattle.bufr_cli.specs.Devices.{Writer, Writers, holding}
-use Rattle.bufr_cli.specs.Ending.{EndsRun, FlushesRest, Promise, WantsMemory, WasEnded, WentThrough}
-use Rattle.bufr_cli.specs.Finish.{ran_status, status_of}
+use Rattle.bufr_cli.specs.Devices.{BlamesWriter, Writer, Writers, holding}
+use Rattle.bufr_cli.specs.Ending.{EndsRun, FlushesRest, Promise, WantsMemory, WasEnded, WentThrough, ran_status, status_of}
 use Rattle.bufr_cli.specs.Program.{IsReadFault, ls_promise}
 use Rattle.bufr_cli.specs.declared.outcome.Outcome.TheVariants.{Ran}
 use Rattle.bufr_cli.specs.declared.outcome.Tally.{Tally}

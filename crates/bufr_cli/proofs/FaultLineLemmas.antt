@@ -14,8 +14,7 @@ use Rattle.bufr_text.specs.declared.fault.ReadFault.{ReadFault}
 use Rattle.bufr_text.specs.declared.fault.ReadFault.TheVariants as read
 use Rattle.bufr_text.proofs.PushLemmas.{retold}
 use Rattle.bufr_text.proofs.LsLineLemmas.{joined_then}
-use Rattle.bufr_cli.specs.DocumentLine.{document_line, item_fault_line, line_of_read_fault, line_of_refusal, refusal_line, refused_line, walk_text}
-use Rattle.bufr_cli.specs.FaultLine.{place_texts}
+use Rattle.bufr_cli.specs.FaultLine.{document_line, item_fault_line, line_of_read_fault, line_of_refusal, refusal_line, refused_line, walk_text, place_texts}
 
 -- one text
 pub one_text : {a b : LineModel} {text : List ℕ} → Pushes a text b → Pushes a (joined (text ∷ [])) b

@@ -5,7 +5,7 @@ use Rattle.std.specs.Fmt.{digits}
 use Rattle.bufr_frame.specs.declared.fault.RunFault.TheVariants.{Read, Write, InputTooLong, Memory}
 use Rattle.bufr_tables.specs.declared.fault.TableFault.TheVariants as table
 use Rattle.bufr_text.specs.Writing.{joined}
-use Rattle.bufr_cli.specs.Finish.{last_line, status_of}
+use Rattle.bufr_cli.specs.Ending.{last_line, status_of}
 use Rattle.bufr_cli.specs.declared.outcome.Outcome.TheVariants.{Ran, Usage, CannotOpen, TableB, TableD, Run}
 use Rattle.bufr_cli.specs.declared.outcome.Tally.{Tally}
 

@@ -1,20 +1,16 @@
 -- What comes of a job, from what its run answers.
 use Rattle.std.proofs.Common.{◌≡◌, ℕ, List, Option, Some, None, Result, Ok, Err, refl, sym, ap, subst, ◌∙◌}
 use Rattle.std.specs.Prelude.{IfOk, IfSome, OnOk}
-use Rattle.bufr_frame.specs.Runs.{MakesReads}
 use Rattle.bufr_frame.specs.Scan.{StreamEvent}
 use Rattle.bufr_frame.specs.declared.fault.RunFault.{RunFault}
 use Rattle.bufr_frame.specs.declared.fault.RunFault.TheVariants.{Read, Write, InputTooLong, Memory}
 use Rattle.bufr_text.specs.Writing.{Writes}
 use Rattle.bufr_cli.specs.Calling.{InPart, WritesHelp}
-use Rattle.bufr_cli.specs.Counting.{BlamesWriter, CountsCalls}
-use Rattle.bufr_cli.specs.Devices.{Input, Writers}
-use Rattle.bufr_cli.specs.Ending.{AreFlushed, BlamesInput, EndsRun, FlushesRest, Promise, WasEnded, WentThrough, WritesLine}
-use Rattle.bufr_cli.specs.Finish.{run_line}
+use Rattle.bufr_cli.specs.Devices.{BlamesWriter, CountsCalls, Input, Writers}
+use Rattle.bufr_cli.specs.Ending.{AreFlushed, BlamesInput, EndsRun, FlushesRest, Promise, WasEnded, WentThrough, WritesLine, run_line}
 use Rattle.bufr_cli.specs.Pieces.{Piece}
 use Rattle.bufr_cli.specs.Program.{IsReadFault}
-use Rattle.bufr_cli.specs.ReadAll.{ReadsAll}
-use Rattle.bufr_cli.specs.Running.{ReadsAtMost}
+use Rattle.bufr_cli.specs.Running.{ReadsAll}
 use Rattle.bufr_cli.specs.declared.outcome.Tally.{Tally}
 
 -- a run over the octets of its input, and then the flush of the rest

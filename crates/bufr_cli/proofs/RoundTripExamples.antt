@@ -14,8 +14,7 @@ use Rattle.bufr_text.specs.Documents.{lines_of, parse_lines, turn}
 use Rattle.bufr_text.specs.Encoding.{encoding_in}
 use Rattle.bufr_text.specs.Grammar.{prefix_while, suffix_while, without_prefix, descriptors_read, fxy_read, hex_read, is_hashed, quoted_read}
 use Rattle.bufr_text.specs.Line.{keys, line_of, place_from, value_read, worded}
-use Rattle.bufr_cli.specs.EncodePieces.{up_to_refused}
-use Rattle.bufr_cli.specs.Pieces.{Piece, OnOutput, OnErrors, ls_piece}
+use Rattle.bufr_cli.specs.Pieces.{up_to_refused, Piece, OnOutput, OnErrors, ls_piece}
 use Rattle.bufr_cli.specs.RoundTrip.{accepted_messages, dumped, longer_by, rebuilt}
 use Rattle.bufr_cli.proofs.Examples.{edition_3, one_block_number}
 

@@ -28,14 +28,11 @@ use Rattle.bufr_text.proofs.DumpableLemmas.{dumpable}
 use Rattle.bufr_text.proofs.RoundTripLemmas.{accepted_again, encoded_again, same_text}
 use Rattle.bufr_text.proofs.LawLemmas.{text-spells}
 use Rattle.bufr_text.proofs.RowsLemmas.{rows-read, good-rows}
-use Rattle.bufr_cli.specs.DumpPieces.{IsDataPiece, IsTemplatePiece, IsMessagePiece, IsDumpPiece, dump_text}
+use Rattle.bufr_cli.specs.Pieces.{IsDataPiece, IsTemplatePiece, IsMessagePiece, IsDumpPiece, dump_text, Piece, OnOutput, OnErrors, output_of, errors_of, is_accepted, is_refused, encoded, result_piece, up_to_refused}
 use Rattle.bufr_text.specs.declared.encode.Form.TheVariants.{AsWritten}
-use Rattle.bufr_cli.specs.EncodePieces.{encoded, result_piece, up_to_refused}
-use Rattle.bufr_cli.specs.Pieces.{Piece, OnOutput, OnErrors, output_of, errors_of, is_accepted, is_refused}
 use Rattle.bufr_cli.specs.RoundTrip.{accepted_in, accepted_messages, dump_pieces, dumped, longer_by, event_octets, rebuilding, rebuilt, text_pieces, IsBuiltAgain, IsWholeRound, IsCanonicalMessage, RoundTrips, Written}
 use Rattle.bufr_cli.specs.Devices.{holding}
-use Rattle.bufr_cli.specs.Whole.{Dumps, Encodes}
-use Rattle.bufr_cli.specs.Running.{GivesPieces, Tallies}
+use Rattle.bufr_cli.specs.Running.{Dumps, Encodes, GivesPieces, Tallies}
 use Rattle.bufr_cli.proofs.DumpLemmas.{one-piece}
 
 -- the numbers of a slice of octets

@@ -19,9 +19,9 @@ use Rattle.bufr_frame.specs.Events.{events_of, IsEvent}
 use Rattle.bufr_frame.specs.FinderCalls.{FinderModel, ReadsAndPasses, CountsReads, StopsFinder, IsUndecided, new_finder}
 use Rattle.bufr_frame.specs.Next.{ReturnsNextEvent, LeavesFinder}
 use Rattle.bufr_frame.proofs.FindingLemmas.{Advances-none, Follows-none, ReadsAndPasses-then, CountsReads-then, whole-scan, events-are-certain}
-use Rattle.bufr_text.specs.Writing.{Writes, GrowsByPrefix, Stays, Fails}
-use Rattle.bufr_cli.specs.Pieces.{Piece, OnErrors, output_of, errors_of, is_accepted, is_refused}
-use Rattle.bufr_cli.specs.Counting.{Blames}
+use Rattle.bufr_text.specs.Writing.{GrowsByPrefix, Stays, Fails}
+use Rattle.bufr_cli.specs.Pieces.{Piece, output_of, errors_of, is_accepted, is_refused}
+use Rattle.bufr_cli.specs.Devices.{Blames}
 use Rattle.bufr_cli.specs.Running.{WritesPieces, Tallies, LeavesEvents, RunDone, RunStopped, RunCut, ReadsFewer, read_events, GivesPieces}
 use Rattle.bufr_cli.specs.WritingPieces.{LeavesPieces, StopsPiece, RunReads, counted_accepted, counted_refused, tally_after}
 use Rattle.bufr_cli.specs.declared.outcome.Tally.{Tally}
@@ -29,14 +29,6 @@ use Rattle.bufr_cli.specs.declared.outcome.Verdict.{Verdict}
 
 pub grows-nil : (w : Option (List ℕ)) → GrowsByPrefix w w []
 grows-nil w = record { prefix = []; back = []; parts = refl; gains = Appends-nil w }
-
--- a fault line stopped
-pub errors-stop : {X : Type 0} (w e e' : Option (List ℕ)) (text : List ℕ) (first : Result X RunFault) (r : Result Verdict RunFault) (f : RunFault)
-    → first ≡ Err f → r ≡ Err f → Writes e e' text first → LeavesPieces w w e e' (OnErrors text ∷ []) r
-errors-stop w e e' text first r f is same writes =
-    let here = rw is at writes in
-    let P : List ℕ → Type 0 = λ t. GrowsByPrefix e e' t in
-    rw same (grows-nil w, subst P (sym (append-nil text)) here.1)
 
 pub Written-then : (w w' w'' e e' e'' : Option (List ℕ)) (pieces more : List Piece) → WritesPieces w w' e e' pieces → WritesPieces w' w'' e' e'' more → WritesPieces w w'' e e'' (pieces ++ more)
 Written-then w w' w'' e e' e'' pieces more one two = record {

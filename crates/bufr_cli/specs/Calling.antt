@@ -5,10 +5,8 @@ use Rattle.std.specs.Io.KnownBytes.{Appends}
 use Rattle.clap.specs.Words.{Text, fault_of, subcommand_of}
 use Rattle.bufr_frame.specs.declared.fault.RunFault.TheVariants as fault
 use Rattle.bufr_text.specs.Writing.{GrowsByPrefix}
-use Rattle.bufr_cli.specs.Counting.{HasFailed, IsSame}
-use Rattle.bufr_cli.specs.Devices.{Writers}
-use Rattle.bufr_cli.specs.Ending.{WritesLine}
-use Rattle.bufr_cli.specs.Finish.{last_line, run_line, status_of}
+use Rattle.bufr_cli.specs.Devices.{HasFailed, IsSame, Writers}
+use Rattle.bufr_cli.specs.Ending.{WritesLine, last_line, run_line, status_of}
 use Rattle.bufr_cli.specs.Line.{IsJobOf, SaysWhy, bufr_app}
 use Rattle.bufr_cli.specs.Program.{Known, RunsJob}
 use Rattle.bufr_cli.specs.declared.outcome.Outcome.{Outcome}

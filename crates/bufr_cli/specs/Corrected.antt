@@ -14,8 +14,7 @@ use Rattle.bufr_text.specs.Documents.{ParseResult, Complete, Refused, documents_
 use Rattle.bufr_text.specs.Encoding.{RefusedAt, encoding_in}
 use Rattle.bufr_text.specs.Normal.{normal}
 use Rattle.bufr_text.specs.declared.encode.Form.{Form}
-use Rattle.bufr_cli.specs.EncodePieces.{encode_pieces}
-use Rattle.bufr_cli.specs.Pieces.{Piece, OnOutput, output_of, errors_of, is_accepted, is_refused}
+use Rattle.bufr_cli.specs.Pieces.{encode_pieces, Piece, OnOutput, output_of, errors_of, is_accepted, is_refused}
 use Rattle.bufr_cli.specs.RoundTrip.{dump_pieces, dumped, rebuilt}
 
 -- the text of a document in the one spelling that a dump has, by the template that its descriptors

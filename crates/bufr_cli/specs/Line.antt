@@ -134,20 +134,12 @@ ReportsKind kind (Usage text) =
     (kind ≢ OutOfMemory) × (kind ≢ DisplayHelp) × (kind ≢ DisplayVersion)
 ReportsKind kind Memory = Unit {0}
 
--- help or the version is asked for
--- rule: help
-abbrev pub AsksHelp : Kinds → Type 0
-AsksHelp kinds = IsAmong DisplayHelp kinds ⊎ IsAmong DisplayVersion kinds
-
--- the line is refused, or met no job
--- rule: usage
-abbrev pub IsMistaken : Kinds → Option (Text × List Row) → Type 0
-IsMistaken kinds subcommand =
+-- why a line whose parse may fail by these kinds, and meets this subcommand, gives no job: help or
+-- the version is asked for, or the line is refused or met no job
+-- rule: help, usage
+abbrev pub SaysWhy : Kinds → Option (Text × List Row) → LineFault → Type 0
+SaysWhy kinds subcommand (Help text) = IsAmong DisplayHelp kinds ⊎ IsAmong DisplayVersion kinds
+SaysWhy kinds subcommand (Usage text) =
     ((kind : ErrorKind) × IsAmong kind kinds × (kind ≢ DisplayHelp) × (kind ≢ DisplayVersion))
     ⊎ HasNoJob subcommand
-
--- why a line whose parse may fail by these kinds, and meets this subcommand, gives no job
-abbrev pub SaysWhy : Kinds → Option (Text × List Row) → LineFault → Type 0
-SaysWhy kinds subcommand (Help text) = AsksHelp kinds
-SaysWhy kinds subcommand (Usage text) = IsMistaken kinds subcommand
 SaysWhy kinds subcommand Memory = Unit {0}

@@ -13,12 +13,9 @@ use Rattle.bufr_tables.specs.TableD.{Sequence}
 use Rattle.bufr_tables.specs.declared.fault.TableFault.{TableFault}
 use Rattle.bufr_text.specs.declared.encode.Form.{Form}
 use Rattle.bufr_cli.specs.Devices.{Writers}
-use Rattle.bufr_cli.specs.DumpPieces.{IsDumpPiece}
-use Rattle.bufr_cli.specs.EncodePieces.{encode_pieces}
-use Rattle.bufr_cli.specs.EncodeRun.{RunsEncode}
+use Rattle.bufr_cli.specs.Pieces.{IsDumpPiece, Piece, ls_piece, ls_pieces, encode_pieces}
+use Rattle.bufr_cli.specs.Running.{RunsEncode, GivesPieces, RunsEvents, Encodes, WritesAndCounts}
 use Rattle.bufr_cli.specs.Ending.{EndsRun, Promise}
-use Rattle.bufr_cli.specs.Pieces.{Piece, ls_piece, ls_pieces}
-use Rattle.bufr_cli.specs.Running.{GivesPieces, RunsEvents}
 use Rattle.bufr_cli.specs.declared.outcome.Outcome.{Outcome}
 use Rattle.bufr_cli.specs.declared.outcome.Outcome.TheVariants.{Ran, CannotOpen, TableB, TableD, Run}
 use Rattle.bufr_cli.specs.declared.job.Job.{Job}
@@ -27,7 +24,6 @@ use Rattle.bufr_cli.specs.declared.job.Subcommand.TheVariants.{Ls, Dump, Encode}
 use Rattle.bufr_cli.specs.declared.job.TableNames.{TableNames}
 use Rattle.bufr_cli.specs.declared.program.Command.{Command}
 use Rattle.bufr_cli.specs.declared.program.Command.TheVariants as command
-use Rattle.bufr_cli.specs.Whole.{Encodes, WritesAndCounts}
 use Rattle.bufr_cli.specs.declared.outcome.Tally.{Tally}
 
 -- What is known of the inputs: the octets of standard input, and those of each file of which it is
@@ -156,31 +152,19 @@ pub data TablesOutcome (run : List Row → List Sequence → Outcome → Type 0)
   ByTables : (b : List Row) (d : List Sequence) → AreTables named tables b d → run b d outcome
       → TablesOutcome run named tables before after outcome
 
--- what comes of a dump; there are pieces for it to write
-abbrev pub DumpOutcome : Known → TableNames → (file : Option (Bor (List ℕ)))
-    → (before after : Writers) → Outcome → Type 0
-DumpOutcome inputs tables file before after outcome =
-    TablesOutcome (λ b d ends. ((piece : StreamEvent → Piece)
-    × GivesPieces (IsDumpPiece b d) piece)
-    × RunOutcome (dump_promise b d) inputs file before after ends)
-    inputs.named tables before after outcome
-
--- what comes of an encoding
-abbrev pub EncodeOutcome : Known → TableNames → Form → (file : Option (Bor (List ℕ)))
-    → (before after : Writers) → Outcome → Type 0
-EncodeOutcome inputs tables form file before after outcome =
-    TablesOutcome (λ b d ends. RunOutcome (encode_promise form b d) inputs file before after ends)
-    inputs.named tables before after outcome
-
--- what comes of a command
+-- what comes of a command; there are pieces for a dump to write
 abbrev pub CommandOutcome : Known → Subcommand → (file : Option (Bor (List ℕ)))
     → (before after : Writers) → Outcome → Type 0
 CommandOutcome inputs Ls file before after outcome =
     RunOutcome ls_promise inputs file before after outcome
 CommandOutcome inputs (Dump tables) file before after outcome =
-    DumpOutcome inputs tables file before after outcome
+    TablesOutcome (λ b d ends. ((piece : StreamEvent → Piece)
+    × GivesPieces (IsDumpPiece b d) piece)
+    × RunOutcome (dump_promise b d) inputs file before after ends)
+    inputs.named tables before after outcome
 CommandOutcome inputs (Encode tables form) file before after outcome =
-    EncodeOutcome inputs tables form file before after outcome
+    TablesOutcome (λ b d ends. RunOutcome (encode_promise form b d) inputs file before after ends)
+    inputs.named tables before after outcome
 
 -- what comes of a job
 abbrev pub RunsJob : Known → Job → (before after : Writers) → Outcome → Type 0

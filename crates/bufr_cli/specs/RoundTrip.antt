@@ -13,9 +13,7 @@ use Rattle.bufr_text.specs.Canonical.{IsCanonical}
 use Rattle.bufr_text.specs.Documents.{documents_of}
 use Rattle.bufr_text.specs.RoundTrip.{IsAccepted, HasSameReading, extra_octets}
 use Rattle.bufr_text.specs.declared.encode.Form.TheVariants.{AsWritten}
-use Rattle.bufr_cli.specs.DumpPieces.{IsDumpPiece}
-use Rattle.bufr_cli.specs.EncodePieces.{encode_pieces}
-use Rattle.bufr_cli.specs.Pieces.{Piece, OnOutput, OnErrors, output_of, errors_of, is_accepted, is_refused}
+use Rattle.bufr_cli.specs.Pieces.{IsDumpPiece, Piece, OnOutput, OnErrors, output_of, errors_of, is_accepted, is_refused, encode_pieces}
 use Rattle.bufr_cli.specs.Running.{GivesPieces, Tallies}
 use Rattle.bufr_cli.specs.declared.laws.Round.{Round}
 use Rattle.bufr_cli.specs.declared.laws.RunInMemory.{RunInMemory}

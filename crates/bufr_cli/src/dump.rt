@@ -6,12 +6,9 @@ ghost use Rattle.bufr_frame.specs.Scan.{StreamEvent, scan};
 ghost use Rattle.bufr_frame.specs.Sections.{sections_of};
 ghost use Rattle.bufr_walk.specs.Course.{next_item};
 ghost use Rattle.bufr_walk.specs.Outcome.{data_of, IsFault, IsReadingOf};
-ghost use Rattle.bufr_cli.specs.DumpPieces.{IsDataPiece, IsDumpPiece, IsMessagePiece};
-ghost use Rattle.bufr_cli.specs.Pieces.{Piece};
-ghost use Rattle.bufr_cli.specs.Counting.{BlamesWriter};
-ghost use Rattle.bufr_cli.specs.Devices.{input_of, writers_of};
-ghost use Rattle.bufr_cli.specs.Running.{RunsEvents, GivesPieces, ReadsAtMost};
-ghost use Rattle.bufr_cli.specs.Whole.{WritesAndCounts};
+ghost use Rattle.bufr_cli.specs.Pieces.{IsDataPiece, IsDumpPiece, IsMessagePiece, Piece};
+ghost use Rattle.bufr_cli.specs.Devices.{BlamesWriter, input_of, writers_of};
+ghost use Rattle.bufr_cli.specs.Running.{RunsEvents, GivesPieces, ReadsAtMost, WritesAndCounts};
 ghost use Rattle.bufr_cli.specs.WritingPieces.{StopsPiece, ReportsPieces};
 
 use crate::fault_line::{StreamFault, write_fault};
@@ -224,52 +221,29 @@ fn dump_frame<W: Sink, E: Sink>(
     }
 }
 
-/// Writes the text of an event's message, or its fault line.
-// rule: one-fault-a-message
-fn dump_event<W: Sink, E: Sink>(
-    event: Event<'_>,
-    run: &mut DumpRun<'_>,
-    w: &mut W,
-    e: &mut E,
-) -> Result<Verdict, RunFault>
-    requires { IsEvent event }
-    ensures reports { (piece : StreamEvent → Piece)
-        → GivesPieces (IsDumpPiece run.old.templates.table_b run.old.templates.table_d) piece
-        → ReportsPieces (writers_of W.Sink w.old E.Sink e.old)
-        (writers_of W.Sink w.new E.Sink e.new) (map piece (events_of event.entry)) result }
-    ensures stops { StopsPiece true result }
-    ensures table_b { run.new.templates.table_b ≡ run.old.templates.table_b }
-    ensures table_d { run.new.templates.table_d ≡ run.old.templates.table_d }
-    ensures counts { BlamesWriter (writers_of W.Sink w.old E.Sink e.old)
-        (writers_of W.Sink w.new E.Sink e.new) result }
-    ensures output_flushes { W.flushes w.new ≡ W.flushes w.old }
-    ensures errors_flushes { E.flushes e.new ≡ E.flushes e.old }
-{
-    match event {
-        Event::Frame(offset, octets) => dump_frame(offset, octets, run, w, e),
-        Event::Stray(offset, cause) => {
-            write_fault(offset, StreamFault::Stray(cause), e)?;
-            Ok(Verdict::Refused)
-        }
-        Event::Done => unreachable!(),
-    }
-}
-
 impl<'a> EventWriter for DumpRun<'a> {
     ghost use Rattle.std.specs.Prelude.{true};
-    ghost use Rattle.bufr_cli.specs.DumpPieces.{IsDumpPiece};
+    ghost use Rattle.bufr_cli.specs.Pieces.{IsDumpPiece};
 
     ghost is_piece = { λ d. IsDumpPiece d.templates.table_b d.templates.table_d };
 
     ghost takes_memory = { λ _. true };
 
+    // rule: one-fault-a-message
     fn write_event<W: Sink, E: Sink>(
         &mut self,
         event: Event<'_>,
         w: &mut W,
         e: &mut E,
     ) -> Result<Verdict, RunFault> {
-        dump_event(event, self, w, e)
+        match event {
+            Event::Frame(offset, octets) => dump_frame(offset, octets, self, w, e),
+            Event::Stray(offset, cause) => {
+                write_fault(offset, StreamFault::Stray(cause), e)?;
+                Ok(Verdict::Refused)
+            }
+            Event::Done => unreachable!(),
+        }
     }
 }
 

@@ -5,14 +5,10 @@ ghost use Rattle.bufr_text.specs.Documents.{Complete};
 ghost use Rattle.bufr_text.specs.Encoding.{encoding_in};
 ghost use Rattle.bufr_text.specs.EncodingFault.{IsDocumentRefusal, reported_refusal};
 ghost use Rattle.bufr_text.specs.declared.encode.Form.TheVariants.{AsWritten};
-ghost use Rattle.bufr_cli.specs.EncodePieces.{encode_pieces, result_piece};
-ghost use Rattle.bufr_cli.specs.EncodeRun.{EncodesSoFar, RunsEncode};
-ghost use Rattle.bufr_cli.specs.EncodeReporting.{ReportsNext};
-ghost use Rattle.bufr_cli.specs.Counting.{BlamesWriter};
-ghost use Rattle.bufr_cli.specs.Devices.{input_of, writers_of};
-ghost use Rattle.bufr_cli.specs.Running.{ReadsAtMost};
-ghost use Rattle.bufr_cli.specs.Whole.{Encodes};
-ghost use Rattle.bufr_cli.specs.WritingPieces.{StopsPiece, ReportsPieces};
+ghost use Rattle.bufr_cli.specs.Pieces.{encode_pieces, result_piece};
+ghost use Rattle.bufr_cli.specs.Running.{EncodesSoFar, RunsEncode, ReadsAtMost, Encodes};
+ghost use Rattle.bufr_cli.specs.WritingPieces.{ReportsNext, StopsPiece, ReportsPieces};
+ghost use Rattle.bufr_cli.specs.Devices.{BlamesWriter, input_of, writers_of};
 
 use crate::fault_line::{write_document_fault, write_read_fault};
 use crate::outcome::{Tally, Verdict};
@@ -20,7 +16,7 @@ use crate::run_events::flush;
 use bufr_bits::{Sink, Source};
 use bufr_frame::RunFault;
 use bufr_tables::{TableB, TableD, TemplateFault};
-use bufr_text::{encode_by, write_all, Document, DocumentFault, DumpReader, Form, ReadFault};
+use bufr_text::{Document, DocumentFault, DumpReader, Form, ReadFault, encode_by, write_all};
 use bufr_walk::{Steps, TemplateCache};
 use std::alloc::Global;
 
@@ -126,25 +122,17 @@ fn encode_next<W: Sink, E: Sink>(
     }
 }
 
-/// The tables and the form that documents are encoded by.
-#[derive(Clone, Copy)]
-struct EncodeBy<'a> {
-    alloc: Global,
-    table_b: &'a TableB,
-    table_d: &'a TableD,
-    form: Form,
-}
-
 /// Encodes the documents of `r`, up to the first one that is refused, and flushes nothing.
 // rule: first-refusal-ends
 fn encode_documents<R: Source, W: Sink, E: Sink>(
-    by: EncodeBy<'_>,
+    run: &mut EncodeRun<'_>,
     r: &mut R,
     w: &mut W,
     e: &mut E,
 ) -> Result<Tally, RunFault>
     ensures run { (bs : List ℕ)
-        × EncodesSoFar (encode_pieces by.entry.form by.entry.table_b.now by.entry.table_d.now)
+        × EncodesSoFar (encode_pieces run.old.form run.old.templates.table_b
+        run.old.templates.table_d)
         (input_of R.Source r.old) (input_of R.Source r.new)
         (writers_of W.Sink w.old E.Sink e.old) (writers_of W.Sink w.new E.Sink e.new) bs result }
     ensures reader { R.failures r.new ≡ read_failures_after (R.failures r.old) result }
@@ -154,20 +142,14 @@ fn encode_documents<R: Source, W: Sink, E: Sink>(
     ensures output_flushes { W.flushes w.new ≡ W.flushes w.old }
     ensures errors_flushes { E.flushes e.new ≡ E.flushes e.old }
 {
-    let templates = TemplateCache::new(by.alloc, by.table_b, by.table_d);
-    let mut run = EncodeRun {
-        alloc: by.alloc,
-        form: by.form,
-        templates,
-    };
-    let mut reader = DumpReader::new(by.alloc);
+    let mut reader = DumpReader::new(run.alloc);
     let mut tally = Tally {
         accepted: 0,
         refused: 0,
     };
     loop {
         let next = reader.next_document(r);
-        let Some(verdict) = encode_next(&mut run, &mut reader, next, w, e)? else {
+        let Some(verdict) = encode_next(run, &mut reader, next, w, e)? else {
             return Ok(tally);
         };
         tally.count(verdict);
@@ -224,13 +206,12 @@ pub fn run_encode_form<R: Source, W: Sink, E: Sink>(
     ensures writers { BlamesWriter (writers_of W.Sink w.old E.Sink e.old)
         (writers_of W.Sink w.new E.Sink e.new) result }
 {
-    let by = EncodeBy {
+    let mut run = EncodeRun {
         alloc,
-        table_b,
-        table_d,
         form,
+        templates: TemplateCache::new(alloc, table_b, table_d),
     };
-    let tally = encode_documents(by, r, w, e)?;
+    let tally = encode_documents(&mut run, r, w, e)?;
     flush(w)?;
     flush(e)?;
     Ok(tally)

@@ -272,16 +272,6 @@ fn command_with_tables<'a>(
     command.arg(file_argument(alloc, file))
 }
 
-/// `bufr dump -B FILE -D FILE [FILE]`.
-fn dump_command<'a>(alloc: Global) -> Result<clap::Command<'a>, AllocError>
-    ensures app { IfOk result (λ c. app_of c ≡ tables_app (codes "dump")) }
-    ensures local { IfOk result (λ c. (out-Command c).has_globals ≡ false) }
-{
-    let about = "Writes each BUFR message as text";
-    let file = "The file to dump; standard input without it";
-    command_with_tables(alloc, "dump", about, DUMP_NOTES, file)
-}
-
 /// The option of the form.
 fn form_option<'a>(alloc: Global) -> Arg<'a>
     ensures rule { rule_of result ≡ form_rule }
@@ -320,7 +310,9 @@ fn command_line<'a>(alloc: Global) -> Result<clap::Command<'a>, AllocError>
     let command = top_command(alloc)?;
     let ls = ls_command(alloc)?;
     let command = command.subcommand(ls)?;
-    let dump = dump_command(alloc)?;
+    let about = "Writes each BUFR message as text";
+    let file = "The file to dump; standard input without it";
+    let dump = command_with_tables(alloc, "dump", about, DUMP_NOTES, file)?;
     let command = command.subcommand(dump)?;
     let encode = encode_command(alloc)?;
     command.subcommand(encode)

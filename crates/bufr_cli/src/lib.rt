@@ -18,7 +18,6 @@
 //! one another's output come to.
 #![tactic(auto)]
 
-mod buffered;
 mod dump;
 mod encode;
 mod fault_line;
@@ -29,11 +28,10 @@ mod outcome;
 mod program;
 mod run_events;
 
-pub use buffered::Buffered;
 pub use dump::run_dump;
 pub use encode::{run_encode, run_encode_form};
 pub use job::{Job, LineFault, Subcommand, TableNames, parse_line};
 pub use laws::{Round, RunInMemory, dump_encode_dump};
 pub use ls::run_ls;
 pub use outcome::{Outcome, Tally, finish};
-pub use program::{BUFFERED, CannotOpenFile, Inputs, read_all, run};
+pub use program::{BUFFERED, Buffered, CannotOpenFile, Inputs, read_all, run};

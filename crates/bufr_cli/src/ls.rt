@@ -4,10 +4,8 @@ ghost use Rattle.bufr_frame.specs.Events.{events_of, IsEvent};
 ghost use Rattle.bufr_frame.specs.Runs.{read_failures_after, MakesReads};
 ghost use Rattle.bufr_frame.specs.Sections.{sections_of};
 ghost use Rattle.bufr_cli.specs.Pieces.{ls_or_fault, ls_piece, ls_pieces};
-ghost use Rattle.bufr_cli.specs.Counting.{BlamesWriter};
-ghost use Rattle.bufr_cli.specs.Devices.{input_of, writers_of};
-ghost use Rattle.bufr_cli.specs.Running.{RunsEvents};
-ghost use Rattle.bufr_cli.specs.Whole.{WritesAndCounts};
+ghost use Rattle.bufr_cli.specs.Devices.{BlamesWriter, input_of, writers_of};
+ghost use Rattle.bufr_cli.specs.Running.{RunsEvents, WritesAndCounts};
 ghost use Rattle.bufr_cli.specs.WritingPieces.{StopsPiece, ReportsPieces};
 
 use crate::fault_line::{StreamFault, write_fault};
@@ -49,29 +47,7 @@ fn list_frame<W: Sink, E: Sink>(
     }
 }
 
-/// Writes the line of an event.
-// rule: one-fault-a-message
-fn list_event<W: Sink, E: Sink>(event: Event<'_>, w: &mut W, e: &mut E) -> Result<Verdict, RunFault>
-    requires { IsEvent event }
-    ensures reports { ReportsPieces (writers_of W.Sink w.old E.Sink e.old)
-        (writers_of W.Sink w.new E.Sink e.new) (map ls_piece (events_of event.entry)) result }
-    ensures stops { StopsPiece false result }
-    ensures counts { BlamesWriter (writers_of W.Sink w.old E.Sink e.old)
-        (writers_of W.Sink w.new E.Sink e.new) result }
-    ensures output_flushes { W.flushes w.new ≡ W.flushes w.old }
-    ensures errors_flushes { E.flushes e.new ≡ E.flushes e.old }
-{
-    match event {
-        Event::Frame(offset, octets) => list_frame(offset, octets, w, e),
-        Event::Stray(offset, cause) => {
-            write_fault(offset, StreamFault::Stray(cause), e)?;
-            Ok(Verdict::Refused)
-        }
-        Event::Done => unreachable!(),
-    }
-}
-
-/// Tells events by their listing.
+/// Writes an event by its line.
 #[derive(Drop)]
 struct LsRun;
 
@@ -83,13 +59,21 @@ impl EventWriter for LsRun {
 
     ghost takes_memory = { λ _. false };
 
+    // rule: one-fault-a-message
     fn write_event<W: Sink, E: Sink>(
         &mut self,
         event: Event<'_>,
         w: &mut W,
         e: &mut E,
     ) -> Result<Verdict, RunFault> {
-        list_event(event, w, e)
+        match event {
+            Event::Frame(offset, octets) => list_frame(offset, octets, w, e),
+            Event::Stray(offset, cause) => {
+                write_fault(offset, StreamFault::Stray(cause), e)?;
+                Ok(Verdict::Refused)
+            }
+            Event::Done => unreachable!(),
+        }
     }
 }
 

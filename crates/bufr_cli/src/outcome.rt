@@ -3,9 +3,8 @@ ghost use Rattle.std.specs.Prelude.{◌≡◌, ◌<◌, ◌-◌, ◌^◌, ◌∷
 ghost use Rattle.std.specs.Io.KnownBytes.{Appends};
 ghost use Rattle.bufr_text.specs.Lines.{Pushes};
 ghost use Rattle.bufr_text.specs.Writing.{GrowsByPrefix, joined};
-ghost use Rattle.bufr_cli.specs.Finish.{last_line, run_fault_text, run_line, status_of, table_line};
-ghost use Rattle.bufr_cli.specs.Counting.{IsSame};
-ghost use Rattle.bufr_cli.specs.Devices.{writer_of};
+ghost use Rattle.bufr_cli.specs.Ending.{last_line, run_fault_text, run_line, status_of, table_line};
+ghost use Rattle.bufr_cli.specs.Devices.{IsSame, writer_of};
 
 use bufr_bits::Sink;
 use bufr_frame::RunFault;

@@ -6,24 +6,24 @@ ghost use Rattle.bufr_tables.specs.Records.{Record, records_of};
 ghost use Rattle.bufr_tables.specs.TableB.{AreRows, table_b_of};
 ghost use Rattle.bufr_text.specs.Writing.{Writes};
 ghost use Rattle.bufr_cli.specs.Calling.{AnswersFault, RunsProgram};
-ghost use Rattle.bufr_cli.specs.Counting.{BlamesWriter, CountsCalls};
-ghost use Rattle.bufr_cli.specs.Devices.{input_of, writer_of, writers_of};
+ghost use Rattle.bufr_cli.specs.Devices.{BlamesWriter, CountsCalls, input_of, writer_of, writers_of};
 ghost use Rattle.bufr_cli.specs.Ending.{AreFlushed, BlamesInput, EndsRun, FlushesRest};
-ghost use Rattle.bufr_cli.specs.Program.{AreTables, AreUnread, DumpOutcome, EncodeOutcome, FileOutcome, IsClosed, RunsJob, RunOutcome, TableBOutcome, TableDOutcome, known, promise_of, ran_outcome};
-ghost use Rattle.bufr_cli.specs.ReadAll.{ReadsAll};
+ghost use Rattle.bufr_cli.specs.Program.{AreTables, AreUnread, FileOutcome, IsClosed, RunsJob, RunOutcome, TableBOutcome, TableDOutcome, known, promise_of, ran_outcome};
+ghost use Rattle.bufr_cli.specs.Running.{ReadsAll};
 
 use crate::dump::run_dump;
 use crate::encode::run_encode_form;
 use crate::job::{Job, LineFault, Subcommand, TableNames, parse_line};
 use crate::ls::run_ls;
 use crate::outcome::{Outcome, Tally, finish};
+use crate::run_events::flush;
 use bufr_bits::{Device, Sink, Source};
 use bufr_frame::{RunFault, read_to_end};
 use bufr_tables::{TableB, TableD};
 use bufr_text::{Form, write_all};
 use std::alloc::Global;
 use std::convert::AsStr;
-use std::io::{BufReader, Read};
+use std::io::{self, BufReader, BufWriter, ErrorKind, Read, Write};
 use thiserror::Error;
 
 /// How many octets the program's own reader and writers hold. So one call of the system serves many
@@ -129,10 +129,7 @@ fn write_and_flush<W: Sink>(text: &[u8], w: &mut W) -> Result<(), RunFault>
     ensures counts { CountsCalls (writer_of W.Sink w.old) (writer_of W.Sink w.new) result }
 {
     write_all(text, w)?;
-    match w.flush() {
-        Ok(()) => Ok(()),
-        Err(_) => Err(RunFault::Write),
-    }
+    flush(w)
 }
 
 /// What a command works with: memory, the inputs, and the name of its input, standard input where
@@ -144,7 +141,8 @@ struct Call<'a, 'i, I: Inputs> {
     file: Option<&'a str>,
 }
 
-/// Opens what a job names, and does it.
+/// Opens what a job names, the tables first, and does it.
+// rule: tables-before-input
 fn run_job<'a, I: Inputs, W: Sink, E: Sink>(
     alloc: Global,
     job: Job<'a>,
@@ -163,53 +161,20 @@ fn run_job<'a, I: Inputs, W: Sink, E: Sink>(
     };
     match command {
         Subcommand::Ls => run_input(&call, Command::Ls, w, e),
-        Subcommand::Dump(names) => dump_job(&call, names, w, e),
-        Subcommand::Encode(names, form) => encode_job(&call, names, form, w, e),
-    }
-}
-
-/// Reads the tables of these names, and dumps the messages of an input by them.
-// rule: tables-before-input
-fn dump_job<'a, I: Inputs, W: Sink, E: Sink>(
-    call: &Call<'a, '_, I>,
-    names: TableNames<'a>,
-    w: &mut W,
-    e: &mut E,
-) -> Outcome<'a>
-    ensures { DumpOutcome
-        (known (I.standard_octets call.now.inputs.now) (I.file_octets call.now.inputs.now))
-        names.entry call.now.file (writers_of W.Sink w.old E.Sink e.old)
-        (writers_of W.Sink w.new E.Sink e.new) result }
-{
-    match read_tables(call.alloc, names, call.inputs) {
-        Ok(tables) => {
-            let command = Command::Dump(&tables.table_b, &tables.table_d);
-            run_input(call, command, w, e)
-        }
-        Err(outcome) => outcome,
-    }
-}
-
-/// Reads the tables of these names, and encodes the documents of an input by them in a form.
-// rule: tables-before-input
-fn encode_job<'a, I: Inputs, W: Sink, E: Sink>(
-    call: &Call<'a, '_, I>,
-    names: TableNames<'a>,
-    form: Form,
-    w: &mut W,
-    e: &mut E,
-) -> Outcome<'a>
-    ensures { EncodeOutcome
-        (known (I.standard_octets call.now.inputs.now) (I.file_octets call.now.inputs.now))
-        names.entry form call.now.file (writers_of W.Sink w.old E.Sink e.old)
-        (writers_of W.Sink w.new E.Sink e.new) result }
-{
-    match read_tables(call.alloc, names, call.inputs) {
-        Ok(tables) => {
-            let command = Command::Encode(form, &tables.table_b, &tables.table_d);
-            run_input(call, command, w, e)
-        }
-        Err(outcome) => outcome,
+        Subcommand::Dump(names) => match read_tables(alloc, names, inputs) {
+            Ok(tables) => {
+                let command = Command::Dump(&tables.table_b, &tables.table_d);
+                run_input(&call, command, w, e)
+            }
+            Err(outcome) => outcome,
+        },
+        Subcommand::Encode(names, form) => match read_tables(alloc, names, inputs) {
+            Ok(tables) => {
+                let command = Command::Encode(form, &tables.table_b, &tables.table_d);
+                run_input(&call, command, w, e)
+            }
+            Err(outcome) => outcome,
+        },
     }
 }
 
@@ -448,4 +413,53 @@ fn flush_rest<W: Sink>(ran: Result<Tally, RunFault>, w: &mut W) -> Result<Tally,
         }
     }
     ran
+}
+
+/// A buffered writer that tries nothing again. After a call that failed each further one fails at
+/// once. At its end it writes nothing, where `std`'s would try to write what it still holds.
+pub struct Buffered<W: Write + Drop> {
+    writer: BufWriter<W>,
+    failed: bool,
+}
+
+impl<W: Write + Drop> Buffered<W> {
+    /// The writer by way of this one.
+    pub fn new(writer: BufWriter<W>) -> Buffered<W> {
+        Buffered {
+            writer,
+            failed: false,
+        }
+    }
+}
+
+impl<W: Write + Drop> Drop for Buffered<W> {
+    fn drop(self) {
+        let Buffered { writer, failed: _ } = self;
+        let (_inner, _unwritten) = writer.into_parts();
+    }
+}
+
+impl<W: Write + Drop> Write for Buffered<W> {
+    ghost use Rattle.std.specs.Io.Buffered.{writer_contents};
+
+    ghost contents = { λ b. writer_contents W.contents b.writer };
+
+    #[inline]
+    fn write(&mut self, buf: &[u8]) -> io::Result<usize> {
+        if self.failed {
+            return Err(ErrorKind::Other.into());
+        }
+        let written = self.writer.write(buf);
+        self.failed = written.is_err();
+        written
+    }
+
+    fn flush(&mut self) -> io::Result<()> {
+        if self.failed {
+            return Err(ErrorKind::Other.into());
+        }
+        let flushed = self.writer.flush();
+        self.failed = flushed.is_err();
+        flushed
+    }
 }

@@ -6,8 +6,7 @@ ghost use Rattle.bufr_frame.specs.Events.{events_of, IsEvent};
 ghost use Rattle.bufr_frame.specs.Runs.{read_failures_after};
 ghost use Rattle.bufr_frame.specs.Scan.{StreamEvent};
 ghost use Rattle.bufr_cli.specs.Pieces.{Piece};
-ghost use Rattle.bufr_cli.specs.Counting.{BlamesWriter, CountsCalls};
-ghost use Rattle.bufr_cli.specs.Devices.{input_of, writer_of, writers_of};
+ghost use Rattle.bufr_cli.specs.Devices.{BlamesWriter, CountsCalls, input_of, writer_of, writers_of};
 ghost use Rattle.bufr_cli.specs.Running.{RunsEvents, GivesPieces};
 ghost use Rattle.bufr_cli.specs.WritingPieces.{RunReads, StopsPiece, ReportsPieces};
 

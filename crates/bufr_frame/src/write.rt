@@ -204,21 +204,6 @@ fn push_section3(
     push_padding(octets, is_padded(edition, len))
 }
 
-/// Appends section 4.
-// rule: section-4
-fn push_section4(octets: &mut Vec<u8>, edition: u8, payload: &[u8]) -> Result<(), AllocError>
-    requires { even_size edition (4 + length payload.now) < 2 ^ 24 }
-    ensures { OnOk result
-        (octets.new.items ≡ octets.old.items
-        ++ section4_octets (with_even_length edition 4 payload.now)) }
-{
-    push_plain(
-        octets,
-        payload,
-        is_padded(edition, SECTION_4 + payload.len()),
-    )
-}
-
 /// Octet 7 of section 3.
 // rule: reserved-zero
 fn flags_of(observed: bool, compressed: bool) -> u8
@@ -263,7 +248,7 @@ fn push_section0(octets: &mut Vec<u8>, size: usize, edition: u8) -> Result<(), A
 ///
 /// [`WriteFault::TooLong`] exactly where the message would have more than 16,777,215 octets.
 /// [`WriteFault::Memory`] where memory ran out.
-// rule: section-5
+// rule: section-4, section-5
 pub fn write_message(
     alloc: Global,
     head: &Head,
@@ -302,7 +287,8 @@ pub fn write_message(
         subsets,
         flags_of(observed, compressed),
     )?;
-    push_section4(&mut octets, head.edition, payload)?;
+    let pads = is_padded(head.edition, SECTION_4 + payload.len());
+    push_plain(&mut octets, payload, pads)?;
     octets.extend_from_slice(b"7777")?;
     Ok(octets)
 }

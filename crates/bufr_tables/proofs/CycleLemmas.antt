@@ -1,5 +1,5 @@
 -- Chains of members, and what the search for a cycle knows of them.
-use Rattle.std.proofs.Common.{◌≡◌, ℕ, ◌+◌, ◌-◌, ◌<◌, ◌≤◌, ◌⊎◌, inl, inr, Bool, true, false, List, [], ◌∷◌, ◌++◌, length, set, take, drop, Option, Some, None, refl, sym, ap, ◌∙◌, arith, suc, zero, get_or, length-append, replicate}
+use Rattle.std.proofs.Common.{◌≡◌, ℕ, ◌+◌, ◌<◌, ◌≤◌, ◌⊎◌, inl, inr, Bool, true, false, List, [], ◌∷◌, ◌++◌, length, set, take, drop, Option, Some, None, refl, sym, ap, ◌∙◌, arith, suc, zero, get_or, length-append, replicate}
 use Rattle.std.specs.Prelude.{◌==◌, cond, option_map, slice_index, IsSome, Contains}
 use Rattle.std.proofs.lemmas.Bool.{eqb-true}
 use Rattle.std.proofs.lemmas.List.{append_assoc, get_or_append_left, get_or-set_same, get_or_default, length-set, drop_more, take-append-drop, get_or-map, get_or-take, length-take-le}
@@ -177,10 +177,6 @@ module _ (table : List Sequence) (start : ℕ) where
           (λ k under. rw (v.queued, get_or_append_left queue v.more 0 k (omega arith)) (seen-kept table old new (slice_index queue k) v.kept (was.visited k under)))
           (rw (v.queued, get_or_append_left queue v.more 0 next below) (visited-all table (slice_index queue next) old queue new longer v));
     }
-
-    -- fewer turns are left
-    pub searched-fewer : unset new + (length longer - (next + 1)) < unset old + (length queue - next)
-    searched-fewer = rw v.queued (omega (arith, v.balance, length-append queue v.more))
 
   module _ (seen : List Bool) (queue : List ℕ) (next : ℕ) (s : IsSearched table start seen queue next) (all : length queue ≤ next) where
     -- what was seen has its members seen

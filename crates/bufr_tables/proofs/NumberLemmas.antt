@@ -1,5 +1,5 @@
 -- Digits one after another, and numbers past their bits.
-use Rattle.std.proofs.Common.{◌≡◌, ℕ, ◌+◌, ◌-◌, ◌*◌, ◌^◌, ◌<◌, ◌≤◌, min, true, false, nat_lt, List, [], ◌∷◌, ◌++◌, length, take, get_or, refl, arith, Option, Some, None, ℤ, pos, negsuc, option_map, drop, sym, ◌∙◌, inl, inr, ◌==◌, suc, zero, ap, rules, tests}
+use Rattle.std.proofs.Common.{◌≡◌, ℕ, ◌+◌, ◌-◌, ◌*◌, ◌^◌, ◌<◌, min, true, false, nat_lt, List, [], ◌∷◌, ◌++◌, length, take, get_or, refl, arith, Option, Some, None, ℤ, pos, option_map, drop, sym, ◌∙◌, inl, inr, ◌==◌, suc, zero, ap, rules, tests}
 use Rattle.std.specs.Prelude.{option_and_then}
 use Rattle.std.proofs.lemmas.List.{take_more}
 use Rattle.std.proofs.lemmas.Bool.{cases_lt}
@@ -19,14 +19,6 @@ pub number_more : (digits : List ℕ) (i number m tens digit more : ℕ) → i <
     → more ≡ min (number_after_digits 0 (take (i + 1) digits)) m
 number_more digits i number m tens digit more inside is by_ten last sum =
     rw (take_more digits i 0 inside, number_after-push 0 (take i digits) (get_or digits i 0)) (omega arith)
-
--- a number below zero that fits
-pub fitting-negated : (m : ℕ) (z : ℤ) → 0 < m → m ≤ 2 ^ 63 → z ≡ negsuc (m - 1) → Some z ≡ if_i64 (negated m)
-unfolding if_i64
-fitting-negated zero z above within is = absurd (omega arith)
-fitting-negated (suc m) z above within is =
-    let small : nat_lt m (2 ^ 63) ≡ true = search (rules, tests) in
-    rw (is, small) (ap (λ (k : ℕ). Some (negsuc k)) (omega arith))
 
 -- a magnitude past 64 bits fits no more than the greatest of 64 bits
 pub fitting-capped : (n : ℕ) → if_i64 (pos (min n (2 ^ 64 - 1))) ≡ if_i64 (pos n)

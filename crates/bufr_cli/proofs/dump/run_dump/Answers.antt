@@ -1,6 +1,6 @@
 use Rattle.std.proofs.Common.{map, subst, sym}
 use Rattle.bufr_walk.specs.TemplateCache.{Lists}
-use Rattle.bufr_cli.specs.DumpPieces.{IsDumpPiece}
+use Rattle.bufr_cli.specs.Pieces.{IsDumpPiece}
 use Rattle.bufr_cli.specs.Running.{GivesPieces}
 use Rattle.bufr_cli.proofs.RunLemmas.{all-known}
 use Rattle.bufr_cli.proofs.dump.run_dump.Goals as goal

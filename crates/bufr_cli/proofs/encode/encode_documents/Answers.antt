@@ -9,8 +9,8 @@ pub loop-reader-init : goal.loop-reader-init
 loop-reader-init g c = record {
   ran = ran-fresh _ _ _ _ _ _ _ _ _ c.new-reader.ensures refl refl;
   form = refl;
-  table_b = ap (λ by. by.table_b) c.new-templates.ensures;
-  table_d = ap (λ by. by.table_d) c.new-templates.ensures;
+  table_b = refl;
+  table_d = refl;
   reader = refl;
   output_flushes = refl;
   errors_flushes = refl;

@@ -6,11 +6,11 @@ use Rattle.bufr_cli.proofs.encode.encode_documents.Given as goal
 -- documents were read and their messages written, and no device failed
 abbrev pub invariant-loop-reader : goal.invariant-loop-reader
 invariant-loop-reader g l = record {
-  ran : EncodedSoFar l.fn.by.form l.fn.by.table_b.now l.fn.by.table_d.now (g.R.Source.left l.fn.r) (g.R.Source.left l.r) (g.R.Source.reads l.fn.r) (g.R.Source.reads l.r)
+  ran : EncodedSoFar l.fn.run.form l.fn.run.templates.table_b l.fn.run.templates.table_d (g.R.Source.left l.fn.r) (g.R.Source.left l.r) (g.R.Source.reads l.fn.r) (g.R.Source.reads l.r)
       (g.W.Sink.taken l.fn.w) (g.W.Sink.taken l.w) (g.E.Sink.taken l.fn.e) (g.E.Sink.taken l.e) l.reader l.tally;
-  form : l.run.form ≡ l.fn.by.form;
-  table_b : l.run.templates.table_b ≡ l.fn.by.table_b.now;
-  table_d : l.run.templates.table_d ≡ l.fn.by.table_d.now;
+  form : l.run.form ≡ l.fn.run.form;
+  table_b : l.run.templates.table_b ≡ l.fn.run.templates.table_b;
+  table_d : l.run.templates.table_d ≡ l.fn.run.templates.table_d;
   reader : g.R.Source.failures l.r ≡ g.R.Source.failures l.fn.r;
   output_flushes : g.W.Sink.flushes l.w ≡ g.W.Sink.flushes l.fn.w;
   errors_flushes : g.E.Sink.flushes l.e ≡ g.E.Sink.flushes l.fn.e;

@@ -4,7 +4,7 @@ use Rattle.bufr_frame.specs.declared.fault.RunFault.{RunFault}
 use Rattle.bufr_text.specs.Documents.{Complete}
 use Rattle.bufr_text.specs.Reader.{parse_results}
 use Rattle.bufr_text.specs.declared.fault.ReadFault.TheVariants.{Run}
-use Rattle.bufr_cli.specs.EncodePieces.{result_piece}
+use Rattle.bufr_cli.specs.Pieces.{result_piece}
 use Rattle.bufr_cli.specs.declared.outcome.Verdict.{Verdict}
 use Rattle.bufr_cli.proofs.EncodeLemmas.{blames-none, line-cut, line-written, next-stopped, run-ended}
 use Rattle.bufr_cli.proofs.encode.encode_next.Goals as goal

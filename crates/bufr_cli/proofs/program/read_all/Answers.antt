@@ -6,7 +6,7 @@ use Rattle.bufr_frame.specs.Input.{InputEnds, ReadsInput}
 use Rattle.bufr_frame.specs.Runs.{MakesReads, max_reads}
 use Rattle.bufr_frame.specs.declared.fault.RunFault.{RunFault}
 use Rattle.bufr_frame.specs.declared.fault.RunFault.TheVariants.{Read, Write, InputTooLong, Memory}
-use Rattle.bufr_cli.specs.ReadAll.{ReadsAll}
+use Rattle.bufr_cli.specs.Running.{ReadsAll}
 use Rattle.bufr_cli.proofs.program.read_all.Goals as goal
 
 -- what was read before a fault

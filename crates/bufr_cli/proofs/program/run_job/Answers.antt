@@ -1,23 +1,33 @@
-use Rattle.std.proofs.Common.{sym, subst}
-use Rattle.bufr_cli.specs.Devices.{writers_of}
-use Rattle.bufr_cli.specs.Program.{CommandOutcome, known}
+use Rattle.std.proofs.Common.{◌≡◌, refl, sym, subst}
+use Rattle.bufr_cli.specs.Devices.{Writers}
+use Rattle.bufr_cli.specs.Program.{ByTables, CommandOutcome, Known, NoTables, RunsJob}
+use Rattle.bufr_cli.specs.declared.job.Job.{Job}
 use Rattle.bufr_cli.specs.declared.job.Subcommand.{Subcommand}
+use Rattle.bufr_cli.specs.declared.outcome.Outcome.{Outcome}
+use Rattle.bufr_cli.proofs.DumpLemmas.{some-pieces}
 use Rattle.bufr_cli.proofs.program.run_job.Goals as goal
 
+-- what comes of the command that a job has
+job-runs : (inputs : Known) (job : Job) (command : Subcommand) (before after : Writers) (outcome : Outcome) → job.command ≡ command → CommandOutcome inputs command job.file before after outcome
+    → RunsJob inputs job before after outcome
+job-runs inputs job command before after outcome is comes = subst (λ command. CommandOutcome inputs command job.file before after outcome) (sym is) comes
+
 pub returns-in-Ls : goal.returns-in-Ls
-returns-in-Ls g c =
-    let P : Subcommand → Type 0 = λ command. CommandOutcome (known (g.I.Inputs.standard_octets c.args.inputs.now) (g.I.Inputs.file_octets c.args.inputs.now)) command c.args.job.file
-    (writers_of g.W.Sink c.args.w.now g.E.Sink c.args.e.now) (writers_of g.W.Sink c.run_input.new.w g.E.Sink c.run_input.new.e) c.run_input.result in
-    subst P (sym c.in-Ls.is) c.run_input.ensures
+returns-in-Ls g c = job-runs _ c.args.job _ _ _ _ c.in-Ls.is c.run_input.ensures
 
-pub returns-in-Dump : goal.returns-in-Dump
-returns-in-Dump g c =
-    let P : Subcommand → Type 0 = λ command. CommandOutcome (known (g.I.Inputs.standard_octets c.args.inputs.now) (g.I.Inputs.file_octets c.args.inputs.now)) command c.args.job.file
-    (writers_of g.W.Sink c.args.w.now g.E.Sink c.args.e.now) (writers_of g.W.Sink c.dump_job.new.w g.E.Sink c.dump_job.new.e) c.dump_job.result in
-    subst P (sym c.in-Dump.is) c.dump_job.ensures
+pub returns-in-Ok : goal.returns-in-Ok
+returns-in-Ok g c =
+    let b = c.in-Ok.tables.table_b in
+    let d = c.in-Ok.tables.table_d in
+    let rows = c.in-Ok.ensures.rows in
+    job-runs _ c.args.job _ _ _ _ c.in-Dump.is (ByTables b d c.in-Ok.ensures.tables (some-pieces rows.0 b d rows.1, c.run_input-in-Ok.ensures))
 
-pub returns-in-Encode : goal.returns-in-Encode
-returns-in-Encode g c =
-    let P : Subcommand → Type 0 = λ command. CommandOutcome (known (g.I.Inputs.standard_octets c.args.inputs.now) (g.I.Inputs.file_octets c.args.inputs.now)) command c.args.job.file
-    (writers_of g.W.Sink c.args.w.now g.E.Sink c.args.e.now) (writers_of g.W.Sink c.encode_job.new.w g.E.Sink c.encode_job.new.e) c.encode_job.result in
-    subst P (sym c.in-Encode.is) c.encode_job.ensures
+pub returns-in-Err : goal.returns-in-Err
+returns-in-Err g c = job-runs _ c.args.job _ _ _ _ c.in-Dump.is (NoTables refl c.in-Err.ensures.unread)
+
+pub returns-in-Ok-read_tables : goal.returns-in-Ok-read_tables
+returns-in-Ok-read_tables g c =
+    job-runs _ c.args.job _ _ _ _ c.in-Encode.is (ByTables c.in-Ok-read_tables.tables.table_b c.in-Ok-read_tables.tables.table_d c.in-Ok-read_tables.ensures.tables c.run_input-in-Ok-read_tables.ensures)
+
+pub returns-in-Err-read_tables : goal.returns-in-Err-read_tables
+returns-in-Err-read_tables g c = job-runs _ c.args.job _ _ _ _ c.in-Encode.is (NoTables refl c.in-Err-read_tables.ensures.unread)

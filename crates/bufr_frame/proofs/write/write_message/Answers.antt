@@ -1,6 +1,6 @@
 use Rattle.std.proofs.Common.{◌≡◌, ◌∙◌, ◌++◌, ap, codes}
 use Rattle.bufr_frame.specs.Sections.{sections_of}
-use Rattle.bufr_frame.specs.Layout.{MessageParts, parts_of, message_size, section0_octets, section1_octets, section2_octets, section3_octets, section4_octets, data_flags, with_even_length}
+use Rattle.bufr_frame.specs.Layout.{MessageParts, parts_of, message_size, section0_octets, section1_octets, section2_octets, section3_octets, section4_octets, data_flags, with_even_length, with_pad_octet}
 use Rattle.bufr_frame.specs.Octets.{octets_of_words}
 use Rattle.std.specs.Prelude.{is_some, option_map}
 use Rattle.bufr_frame.proofs.LayoutLemmas.{read-back}
@@ -15,12 +15,12 @@ returns-clause-layout c =
     let optional = c.is_some.ensures ∙ is_some-map (λ s. s.now) c.args.section2 in
     six-parts (section0_octets (message_size h.edition p) h.edition) (section1_octets h p.local1 (is_some p.section2)) (section2_octets p.section2)
     (section3_octets (with_even_length h.edition 7 (octets_of_words p.descriptors)) p.subsets (data_flags p.observed p.compressed)) (section4_octets (with_even_length h.edition 4 p.payload)) (codes "7777")
-    c.push_section0.new.octets.items c.push_section1.new.octets.items c.push_section2.new.octets.items c.push_section3.new.octets.items c.push_section4.new.octets.items c.extend_from_slice.new.self.items
+    c.push_section0.new.octets.items c.push_section1.new.octets.items c.push_section2.new.octets.items c.push_section3.new.octets.items c.push_plain.new.octets.items c.extend_from_slice.new.self.items
     (c.in_ok-push_section0.ensures ∙ ap (λ l. l ++ section0_octets c.in-Some.size h.edition) c.in_ok-octets.ensures.items ∙ ap (λ n. section0_octets n h.edition) size)
     (c.in_ok-push_section1.ensures ∙ ap (λ b. c.push_section0.new.octets.items ++ section1_octets h p.local1 b) optional)
     c.in_ok-push_section2.ensures
     (c.in_ok-push_section3.ensures ∙ ap (λ n. c.push_section2.new.octets.items ++ section3_octets (with_even_length h.edition 7 (octets_of_words p.descriptors)) p.subsets n) c.flags_of.ensures)
-    c.in_ok-push_section4.ensures
+    (c.in_ok-push_plain.ensures ∙ ap (λ b. c.push_section3.new.octets.items ++ section4_octets (with_pad_octet b p.payload)) c.is_padded-pads.ensures)
     c.in_ok-extend_from_slice.ensures.items
 
 pub returns-clause-read_back : goal.returns-clause-read_back
