@@ -90,9 +90,9 @@ fn put_four(value: u64, free: &mut [u8], at: usize) -> usize
     put_pair(value % 100, free, at)
 }
 
-/// Puts the digits of a number that has nine or more.
+/// Puts the digits of any number.
 #[inline(never)]
-fn put_long(value: u64, free: &mut [u8], at: usize) -> usize
+fn put_any(value: u64, free: &mut [u8], at: usize) -> usize
     requires { at + 20 ≤ length free.old }
     ensures most { result ≤ at + 20 }
     ensures text { take result free.new ≡ take at free.old ++ decimal value }
@@ -100,6 +100,22 @@ fn put_long(value: u64, free: &mut [u8], at: usize) -> usize
     let end = at + count_digits(value);
     write_digits(value, free, end);
     end
+}
+
+/// Puts the digits of a number that has five or more.
+#[inline(never)]
+fn put_long(value: u64, free: &mut [u8], at: usize) -> usize
+    requires long { 10000 ≤ value }
+    requires room { at + 20 ≤ length free.old }
+    ensures most { result ≤ at + 20 }
+    ensures text { take result free.new ≡ take at free.old ++ decimal value }
+{
+    if value >= 100_000_000 {
+        return put_any(value, free, at);
+    }
+    let at = put_four(value / 10_000, free, at);
+    let at = put_pair(value / 100 % 100, free, at);
+    put_pair(value % 100, free, at)
 }
 
 /// Puts the digits of a number after the octets before `at`, and returns the place after them.
@@ -112,12 +128,7 @@ pub(crate) fn put_decimal(value: u64, free: &mut [u8], at: usize) -> usize
     if value < 10_000 {
         return put_four(value, free, at);
     }
-    if value >= 100_000_000 {
-        return put_long(value, free, at);
-    }
-    let at = put_four(value / 10_000, free, at);
-    let at = put_pair(value / 100 % 100, free, at);
-    put_pair(value % 100, free, at)
+    put_long(value, free, at)
 }
 
 /// Fills a prefix with a name and the digits of a number after it, and returns how many octets
