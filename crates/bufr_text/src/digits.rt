@@ -61,6 +61,17 @@ fn put_pair(pair: u64, free: &mut [u8], at: usize) -> usize
     put(PAIRS[from + 1], free, at)
 }
 
+/// Puts the digit of a number below 10.
+#[inline(always)]
+fn put_digit(value: u64, free: &mut [u8], at: usize) -> usize
+    requires few { value < 10 }
+    requires room { at < length free.old }
+    ensures next { result ≡ at + 1 }
+    ensures text { take result free.new ≡ take at free.old ++ decimal value }
+{
+    put(b'0' + value as u8, free, at)
+}
+
 /// Puts the digits of a number below 100.
 #[inline(always)]
 fn put_two(value: u64, free: &mut [u8], at: usize) -> usize
@@ -70,7 +81,7 @@ fn put_two(value: u64, free: &mut [u8], at: usize) -> usize
     ensures text { take result free.new ≡ take at free.old ++ decimal value }
 {
     if value < 10 {
-        return put(b'0' + value as u8, free, at);
+        return put_digit(value, free, at);
     }
     put_pair(value, free, at)
 }
@@ -142,6 +153,10 @@ pub(crate) fn fill_named(name: &[u8], value: u64, free: &mut [u8]) -> Option<usi
         return None;
     }
     free[..name.len()].copy_from_slice(name);
+    // most numbers of a header have one digit
+    if value < 10 {
+        return Some(put_digit(value, free, name.len()));
+    }
     Some(put_decimal(value, free, name.len()))
 }
 
