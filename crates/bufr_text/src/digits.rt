@@ -61,6 +61,17 @@ fn put_pair(pair: u64, free: &mut [u8], at: usize) -> usize
     put(PAIRS[from + 1], free, at)
 }
 
+/// Puts the digit of a number below 10.
+#[inline(always)]
+fn put_digit(value: u64, free: &mut [u8], at: usize) -> usize
+    requires few { value < 10 }
+    requires room { at < length free.old }
+    ensures next { result ≡ at + 1 }
+    ensures text { take result free.new ≡ take at free.old ++ decimal value }
+{
+    put(b'0' + value as u8, free, at)
+}
+
 /// Puts the digits of a number below 100.
 #[inline(always)]
 fn put_two(value: u64, free: &mut [u8], at: usize) -> usize
@@ -70,7 +81,7 @@ fn put_two(value: u64, free: &mut [u8], at: usize) -> usize
     ensures text { take result free.new ≡ take at free.old ++ decimal value }
 {
     if value < 10 {
-        return put(b'0' + value as u8, free, at);
+        return put_digit(value, free, at);
     }
     put_pair(value, free, at)
 }
@@ -90,9 +101,9 @@ fn put_four(value: u64, free: &mut [u8], at: usize) -> usize
     put_pair(value % 100, free, at)
 }
 
-/// Puts the digits of a number that has nine or more.
+/// Puts the digits of any number.
 #[inline(never)]
-fn put_long(value: u64, free: &mut [u8], at: usize) -> usize
+fn put_any(value: u64, free: &mut [u8], at: usize) -> usize
     requires { at + 20 ≤ length free.old }
     ensures most { result ≤ at + 20 }
     ensures text { take result free.new ≡ take at free.old ++ decimal value }
@@ -100,6 +111,22 @@ fn put_long(value: u64, free: &mut [u8], at: usize) -> usize
     let end = at + count_digits(value);
     write_digits(value, free, end);
     end
+}
+
+/// Puts the digits of a number that has five or more.
+#[inline(never)]
+fn put_long(value: u64, free: &mut [u8], at: usize) -> usize
+    requires long { 10000 ≤ value }
+    requires room { at + 20 ≤ length free.old }
+    ensures most { result ≤ at + 20 }
+    ensures text { take result free.new ≡ take at free.old ++ decimal value }
+{
+    if value >= 100_000_000 {
+        return put_any(value, free, at);
+    }
+    let at = put_four(value / 10_000, free, at);
+    let at = put_pair(value / 100 % 100, free, at);
+    put_pair(value % 100, free, at)
 }
 
 /// Puts the digits of a number after the octets before `at`, and returns the place after them.
@@ -112,12 +139,7 @@ pub(crate) fn put_decimal(value: u64, free: &mut [u8], at: usize) -> usize
     if value < 10_000 {
         return put_four(value, free, at);
     }
-    if value >= 100_000_000 {
-        return put_long(value, free, at);
-    }
-    let at = put_four(value / 10_000, free, at);
-    let at = put_pair(value / 100 % 100, free, at);
-    put_pair(value % 100, free, at)
+    put_long(value, free, at)
 }
 
 /// Fills a prefix with a name and the digits of a number after it, and returns how many octets
@@ -131,6 +153,10 @@ pub(crate) fn fill_named(name: &[u8], value: u64, free: &mut [u8]) -> Option<usi
         return None;
     }
     free[..name.len()].copy_from_slice(name);
+    // most numbers of a header have one digit
+    if value < 10 {
+        return Some(put_digit(value, free, name.len()));
+    }
     Some(put_decimal(value, free, name.len()))
 }
 
