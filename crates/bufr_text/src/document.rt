@@ -172,41 +172,6 @@ impl DocumentParts {
     {
         self.entries.push_end(line)
     }
-
-    /// The line of `message`.
-    fn line(&self) -> u64
-        ensures { result ≡ self.now.line }
-    {
-        self.line
-    }
-
-    /// The octets of local use.
-    fn local1(&self) -> &[u8]
-        ensures { result.now ≡ self.now.local1 }
-    {
-        &self.local1
-    }
-
-    /// The octets of section 2.
-    fn section2(&self) -> &[u8]
-        ensures { result.now ≡ self.now.section2 }
-    {
-        &self.section2
-    }
-
-    /// The descriptors.
-    fn descriptors(&self) -> &[u16]
-        ensures { result.now ≡ self.now.descriptors }
-    {
-        &self.descriptors
-    }
-
-    /// The items and the ends of subsets.
-    fn entries(&self) -> &Entries
-        ensures { result.now ≡ self.now.entries }
-    {
-        &self.entries
-    }
 }
 
 /// A message as its text gives it: the header, the octets of local use, the descriptors, and the
@@ -250,7 +215,7 @@ impl Document {
     pub fn line(&self) -> u64
         ensures { result ≡ self.now.line }
     {
-        self.parts.line()
+        self.parts.line
     }
 
     /// The value of a key that has one octet; none has more in edition 3.
@@ -313,7 +278,7 @@ impl Document {
     pub fn local1(&self) -> &[u8]
         ensures { result.now ≡ self.now.local1 }
     {
-        self.parts.local1()
+        &self.parts.local1
     }
 
     /// The octets of section 2 from octet 5 on, where there is a section 2.
@@ -321,7 +286,7 @@ impl Document {
         ensures { option_map (λ octets. octets.now) result ≡ section2_in self.now }
     {
         if self.parts.value(18) == 1 {
-            Some(self.parts.section2())
+            Some(&self.parts.section2)
         } else {
             None
         }
@@ -331,7 +296,7 @@ impl Document {
     pub fn descriptors(&self) -> &[u16]
         ensures { result.now ≡ self.now.descriptors }
     {
-        self.parts.descriptors()
+        &self.parts.descriptors
     }
 
     /// How many entries there are: the items of all subsets, and the end of each.
@@ -339,7 +304,7 @@ impl Document {
         ensures value { result ≡ length self.now.entries }
         ensures few { result ≤ most_entries }
     {
-        self.parts.entries().len()
+        self.parts.entries.len()
     }
 
     /// The items of all subsets and the lines that end them.
@@ -348,7 +313,7 @@ impl Document {
         ensures few { length result.now ≤ most_entries }
         ensures many { length (subsets_of result.now) ≡ subsets_in self.now }
     {
-        self.parts.entries()
+        &self.parts.entries
     }
 }
 

@@ -60,20 +60,6 @@ fn descriptors_of(alloc: Global, words: &[u16]) -> Result<Vec<Fxy>, AllocError>
     Ok(descriptors)
 }
 
-/// Selects the template of a document.
-fn select(
-    alloc: Global,
-    document: &Document,
-    templates: &mut TemplateCache<'_>,
-) -> Result<(), AllocError>
-    ensures table_b { templates.new.table_b ≡ templates.old.table_b }
-    ensures table_d { templates.new.table_d ≡ templates.old.table_d }
-    ensures list { OnOk result (templates.new.list ≡ document.now.descriptors) }
-{
-    let descriptors = descriptors_of(alloc, document.descriptors())?;
-    templates.select(&descriptors)
-}
-
 /// The template that is selected, for the document of this line.
 // rule: fault-56
 fn template_of<'t>(
@@ -319,7 +305,8 @@ pub fn encode_by(
         * (bits_by form templates.old.table_b templates.old.table_d document.now + 1)) }
 {
     *steps = Steps::new();
-    select(alloc, document, templates)?;
+    let descriptors = descriptors_of(alloc, document.descriptors())?;
+    templates.select(&descriptors)?;
     let mut cache = templates.take_specs();
     let formed = FormedDocument { document, form };
     let outcome = encode_selected(alloc, formed, templates, &mut cache, steps);
