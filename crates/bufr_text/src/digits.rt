@@ -142,6 +142,17 @@ pub(crate) fn put_decimal(value: u64, free: &mut [u8], at: usize) -> usize
     put_long(value, free, at)
 }
 
+/// Puts the digits of a number as [`put_decimal`] does. It is a function of its own, so that the
+/// many numbers of a header take little room.
+#[inline(never)]
+fn put_more(value: u64, free: &mut [u8], at: usize) -> usize
+    requires { at + 20 ≤ length free.old }
+    ensures most { result ≤ at + 20 }
+    ensures text { take result free.new ≡ take at free.old ++ decimal value }
+{
+    put_decimal(value, free, at)
+}
+
 /// Fills a prefix with a name and the digits of a number after it, and returns how many octets
 /// these are; `None` where there is no room for each number of its type.
 #[inline(always)]
@@ -153,11 +164,14 @@ pub(crate) fn fill_named(name: &[u8], value: u64, free: &mut [u8]) -> Option<usi
         return None;
     }
     free[..name.len()].copy_from_slice(name);
-    // most numbers of a header have one digit
+    // most numbers of a header have one digit or two
     if value < 10 {
         return Some(put_digit(value, free, name.len()));
     }
-    Some(put_decimal(value, free, name.len()))
+    if value < 100 {
+        return Some(put_two(value, free, name.len()));
+    }
+    Some(put_more(value, free, name.len()))
 }
 
 /// Fills all octets with the last digits of a number, and returns the number that the digits
