@@ -1,4 +1,4 @@
-//! Fronts and ends of a line.
+//! Prefixes and suffixes of a line.
 ghost use Rattle.std.specs.Prelude.{◌≡◌, ◌≤◌, length, drop, take, slice_index, option_map, IfSome};
 ghost use Rattle.bufr_text.specs.Grammar.{without_space, without_prefix};
 
