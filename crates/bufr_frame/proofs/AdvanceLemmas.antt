@@ -4,11 +4,10 @@ use Rattle.std.specs.Prelude.{Result, Err, Some, None, take_while, max}
 use Rattle.bufr_frame.specs.declared.fault.RunFault.{RunFault}
 use Rattle.bufr_frame.specs.Scan.{scan_from, is_decided}
 use Rattle.bufr_frame.specs.Lookahead.{NoEventCertain}
-use Rattle.bufr_frame.specs.Search.{IsIncomplete, IsStatedLength, Raised}
+use Rattle.bufr_frame.specs.FinderSteps.{IsIncomplete, IsStatedLength, Raised, input_left, gone_to, ReadsMore}
 use Rattle.bufr_frame.specs.Longest.{first_event}
 use Rattle.bufr_frame.specs.Input.{FillFails}
 use Rattle.bufr_frame.specs.FinderCalls.{FinderModel, ReadsAndPasses, RaisesLongest}
-use Rattle.bufr_frame.specs.FinderSteps.{input_left, gone_to, ReadsMore}
 use Rattle.bufr_frame.proofs.FindingLemmas.{turn-pass, read-step}
 use Rattle.bufr_frame.proofs.LongestLemmas.{open-sees, raised-open, raised-read}
 

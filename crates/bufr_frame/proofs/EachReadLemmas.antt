@@ -8,9 +8,8 @@ use Rattle.bufr_frame.specs.declared.fault.RunFault.TheVariants.{Read, Write, In
 use Rattle.bufr_frame.specs.Input.{FillEnds}
 use Rattle.bufr_frame.specs.Scan.{scan_from, is_decided}
 use Rattle.bufr_frame.specs.Lookahead.{NoEventCertain}
-use Rattle.bufr_frame.specs.Search.{IsIncomplete}
+use Rattle.bufr_frame.specs.FinderSteps.{IsIncomplete, input_left, gone_to, ReadsMore}
 use Rattle.bufr_frame.specs.FinderCalls.{FinderModel, ReadsAndPasses, held, EachReadIsNeeded, CallReadsAreNeeded}
-use Rattle.bufr_frame.specs.FinderSteps.{input_left, gone_to, ReadsMore}
 
 wider : (most most' at : ℕ) (left : List ℕ) (given : List (List ℕ)) → most ≤ most' → EachReadIsNeeded most at left given → EachReadIsNeeded most' at left given
 wider most most' at left [] more all = tt

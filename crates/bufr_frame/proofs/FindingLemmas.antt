@@ -11,9 +11,8 @@ use Rattle.bufr_frame.specs.declared.finder.Candidate.{Candidate}
 use Rattle.bufr_frame.specs.declared.finder.Candidate.TheVariants.{Nothing, Stray, Frame}
 use Rattle.bufr_frame.specs.Scan.{StreamEvent, FrameAt, scan, scan_from, open_scan, stated_length, stream_event, candidate_len, is_decided}
 use Rattle.bufr_frame.specs.Lookahead.{Advances}
-use Rattle.bufr_frame.specs.Search.{IsNextEvent, IsIncomplete}
+use Rattle.bufr_frame.specs.FinderSteps.{IsNextEvent, IsIncomplete, event_by, gone_to, ReadsMore}
 use Rattle.bufr_frame.specs.FinderCalls.{FinderModel, ReadsAndPasses, Follows, CountsReads, new_finder}
-use Rattle.bufr_frame.specs.FinderSteps.{event_by, gone_to, ReadsMore}
 use Rattle.bufr_frame.proofs.InputLemmas.{adds-then}
 use Rattle.bufr_frame.proofs.ScanLemmas.{drop-twice}
 use Rattle.bufr_frame.proofs.LookLemmas.{take_while-all}

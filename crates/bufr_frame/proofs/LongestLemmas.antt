@@ -8,9 +8,8 @@ use Rattle.bufr_frame.specs.declared.finder.Candidate.TheVariants.{Nothing, Stra
 use Rattle.bufr_frame.specs.declared.fault.Cause.TheVariants.{Cut}
 use Rattle.bufr_frame.specs.Scan.{scan_from, stated_length, stream_event, candidate_len}
 use Rattle.bufr_frame.specs.Longest.{length_here, longest_of, first_event}
-use Rattle.bufr_frame.specs.Search.{StartsWithBufr, IsIncomplete, IsNextEvent, Raised}
+use Rattle.bufr_frame.specs.FinderSteps.{StartsWithBufr, IsIncomplete, IsNextEvent, Raised, event_by}
 use Rattle.bufr_frame.specs.FinderCalls.{FinderModel, Follows, RaisesLongest}
-use Rattle.bufr_frame.specs.FinderSteps.{event_by}
 use Rattle.bufr_frame.proofs.ScanLemmas.{drop-twice, scan_from-here, scan_from-found}
 use Rattle.bufr_frame.proofs.LookLemmas.{holds-prefix, stated-prefix, length-eight, cut-here, four-long}
 

@@ -15,7 +15,7 @@ use Rattle.bufr_frame.specs.declared.finder.Candidate.TheVariants.{Nothing, Stra
 use Rattle.bufr_frame.specs.declared.fault.Cause.TheVariants.{Cut, ShortLength, NoEnd}
 use Rattle.bufr_frame.specs.Scan.{StreamEvent, scan, open_scan, scan_from, classify, has_word_at, stated_length, stream_event, candidate_len, is_decided}
 use Rattle.bufr_frame.specs.Lookahead.{Advances, NoEventCertain}
-use Rattle.bufr_frame.specs.Search.{StartsWithBufr, IsNextEvent, IsIncomplete, HasNoFurtherEvent}
+use Rattle.bufr_frame.specs.FinderSteps.{StartsWithBufr, IsNextEvent, IsIncomplete, HasNoFurtherEvent}
 use Rattle.bufr_frame.specs.Longest.{length_here}
 use Rattle.bufr_frame.proofs.ScanLemmas.{scan_from-nothing, verdict-nothing, scan_from-here, scan_from-past, verdict-elsewhere, verdict-there, scan_from-found, scan_from-prefix, drop-twice}
 

@@ -19,7 +19,7 @@ pub mod Next
 pub mod Numbers
 -- numbers and words in octets
 pub mod Octets
--- what the steps of a finder do, one by one
+-- what the search of a finder shows, and what its steps do
 pub mod FinderSteps
 -- messages that are written as `write_message` writes them
 pub mod Plain
@@ -31,7 +31,5 @@ pub mod Scan
 pub mod Section1
 -- the sections of a message, or the first fault; which sections are padded
 pub mod Sections
--- what octets show when more may come after them
-pub mod Search
 -- the words that an iterator has left
 pub mod Words

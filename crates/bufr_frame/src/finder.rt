@@ -2,7 +2,7 @@
 ghost use Rattle.std.specs.Prelude.{◌≡◌, ◌≢◌, ◌≤◌, ◌<◌, ◌+◌, ◌-◌, ◌^◌, ℕ, List, [], ◌∷◌, ◌++◌, length, take, drop, min, codes, IfOk, IfSome, MatchOption, vec_len, Some, None};
 ghost use Rattle.memchr.specs.Find.{FindsNeedle, IsFirst, OccursAt};
 ghost use Rattle.bufr_frame.specs.Scan.{classify, stated_length, has_word_at};
-ghost use Rattle.bufr_frame.specs.Search.{IsSearchResult};
+ghost use Rattle.bufr_frame.specs.FinderSteps.{IsSearchResult};
 ghost use Rattle.bufr_frame.specs.Longest.{length_here};
 
 use crate::fault::{Cause, RunFault};
@@ -102,11 +102,10 @@ impl Finder {
     ghost use Rattle.bufr_frame.specs.Scan.{candidate_len, scan_from};
     ghost use Rattle.bufr_frame.specs.Events.{events_of, IsEvent};
     ghost use Rattle.bufr_frame.specs.Lookahead.{Advances};
-    ghost use Rattle.bufr_frame.specs.Search.{IsSearchResult, IsNextEvent};
+    ghost use Rattle.bufr_frame.specs.FinderSteps.{IsSearchResult, IsNextEvent, AdvancesFinder, PassesEvent, ReadsMore, KeepsRun, events_by, seen_by, passed_events, gone_to};
     ghost use Rattle.bufr_frame.specs.Longest.{length_here};
     ghost use Rattle.bufr_frame.specs.Runs.{read_failures_after, max_reads};
     ghost use Rattle.bufr_frame.specs.FinderCalls.{FinderModel, held, Follows, ReadsOn, CountsReads, HasNoMoreEvents, ReadsOnlyIfUndecided, new_finder};
-    ghost use Rattle.bufr_frame.specs.FinderSteps.{AdvancesFinder, PassesEvent, ReadsMore, KeepsRun, events_by, seen_by, passed_events, gone_to};
     ghost use Rattle.bufr_frame.specs.Next.{ReturnsNextEvent, RepeatsFault, events_returned};
 
     /// A finder that has read nothing.

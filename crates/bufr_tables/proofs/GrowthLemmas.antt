@@ -8,8 +8,7 @@ use Rattle.bufr_tables.specs.declared.expand.Passes.{Passes}
 use Rattle.bufr_tables.specs.declared.expand.Passes.TheVariants as passes
 use Rattle.bufr_tables.specs.Tree.{Tree, bare, join, size, depth, consumes}
 use Rattle.bufr_tables.specs.Cells.{cells_of}
-use Rattle.bufr_tables.specs.Passes.{own_places, group_of, first_cell, factor_cells}
-use Rattle.bufr_tables.specs.Growth.{BuilderModel, growth, places_so_far, push_tree, with_open_group, with_closed_group}
+use Rattle.bufr_tables.specs.Growth.{own_places, group_of, first_cell, factor_cells, BuilderModel, growth, places_so_far, push_tree, with_open_group, with_closed_group}
 use Rattle.bufr_tables.proofs.TreeLemmas.{depth-join, consumes-join, or_assoc}
 use Rattle.bufr_tables.proofs.Flattening.{length-cells, cells-tail, cells-join}
 

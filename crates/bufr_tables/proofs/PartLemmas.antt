@@ -8,8 +8,7 @@ use Rattle.bufr_tables.specs.Fxy.{f_of, x_of}
 use Rattle.bufr_tables.specs.Tree.{Tree, consumes}
 use Rattle.bufr_tables.specs.Expansion.{Tables, Expansion, ExpandedPart, part, ◌>>=◌, unless, opened, with_places, body_of, sequence_part, element_part, group_part, operator_part, part_by, part_of, level, inner_of}
 use Rattle.bufr_tables.specs.declared.expand.Passes.{Passes}
-use Rattle.bufr_tables.specs.Passes.{own_places, group_of}
-use Rattle.bufr_tables.specs.Growth.{BuilderModel, places_so_far, push_tree, with_closed_group, PushesTree, PushesPart, IsFaultOrMemory, PushesTreeUnlessMemory, GivesPart, GivesGrowth, OpensGroup}
+use Rattle.bufr_tables.specs.Growth.{own_places, group_of, BuilderModel, places_so_far, push_tree, with_closed_group, PushesTree, PushesPart, IsFaultOrMemory, PushesTreeUnlessMemory, GivesPart, GivesGrowth, OpensGroup}
 use Rattle.bufr_tables.proofs.GrowthLemmas.{places_of-begun, ended-begun}
 use Rattle.bufr_tables.proofs.ExpansionLemmas.{inner_of-room, inner_of-none}
 

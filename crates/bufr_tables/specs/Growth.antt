@@ -1,15 +1,37 @@
--- Cells in the making: those so far, and what is known of them.
+-- Cells in the making: those so far, what is known of them, and what an expander puts after them.
 -- Cited by private steps only.
-use Rattle.std.specs.Prelude.{ℕ, ◌+◌, ◌-◌, ◌≡◌, ◌≢◌, max, Bool, false, ◌||◌, List, [], ◌∷◌, ◌++◌, length, slice_set, Result, Ok, Err}
+use Rattle.std.specs.Prelude.{ℕ, ◌+◌, ◌-◌, ◌≡◌, ◌≢◌, max, Bool, false, ◌||◌, List, [], ◌∷◌, ◌++◌, length, slice_set, Result, Ok, Err, Option}
 use Rattle.bufr_tables.specs.declared.template.Cell.{Cell}
 use Rattle.bufr_tables.specs.declared.template.Cell.TheVariants as cell
 use Rattle.bufr_tables.specs.declared.expand.Passes.{Passes}
 use Rattle.bufr_tables.specs.declared.fault.TemplateFault.{TemplateFault}
 use Rattle.bufr_tables.specs.declared.fault.TemplateFault.TheVariants as fault
-use Rattle.bufr_tables.specs.Tree.{Tree, depth, consumes}
+use Rattle.bufr_tables.specs.Tree.{Tree, depth, consumes, bare, fixed, delayed}
 use Rattle.bufr_tables.specs.Cells.{cells_of}
-use Rattle.bufr_tables.specs.Passes.{own_places, first_cell, factor_cells}
-use Rattle.bufr_tables.specs.Expansion.{ExpandedPart, part, with_places, ◌>>=◌}
+use Rattle.bufr_tables.specs.Expansion.{ExpandedPart, part, with_places, ◌>>=◌, Tables, Expansion, body_of, inner_of, level}
+use Rattle.bufr_tables.specs.declared.expand.Passes.TheVariants as passes
+use Rattle.bufr_tables.specs.declared.expand.Expander.{Expander}
+use Rattle.bufr_tables.specs.TemplateTables.{tables_of}
+
+-- the places of a group beside those of its body
+abbrev pub own_places : Passes → ℕ
+own_places (passes.Fixed count) = 2
+own_places (passes.Delayed factor) = 3
+
+-- the group with this body
+abbrev pub group_of : Passes → Tree → Tree
+group_of (passes.Fixed count) body = fixed count body bare
+group_of (passes.Delayed factor) body = delayed factor body bare
+
+-- its first cell, where this place is after its end
+abbrev pub first_cell : Passes → ℕ → Cell
+first_cell (passes.Fixed count) after = cell.Fixed count after
+first_cell (passes.Delayed factor) after = cell.Delayed after
+
+-- the cells between the first one and the body
+abbrev pub factor_cells : Passes → List Cell
+factor_cells (passes.Fixed count) = []
+factor_cells (passes.Delayed factor) = cell.Factor factor ∷ []
 
 -- the cells so far, how many groups are open after them, and the most that were open together.
 -- Whether a node of the innermost open list takes bits
@@ -96,3 +118,20 @@ abbrev pub GivesPlace : BuilderModel → Passes → ℕ → Result ℕ TemplateF
 GivesPlace old passes d (Ok place) new = OpensGroup old passes d place new
 GivesPlace old passes d (Err why) new =
     IsFaultOrMemory (with_places (places_so_far old) (own_places passes) d) why
+
+abbrev pub tables_in : Expander → Tables
+tables_in expander = tables_of expander.table_b.now expander.table_d.now
+
+-- a group or sequence within
+abbrev pub inner_in : Expander → Option Expansion
+inner_in expander = inner_of (tables_in expander) expander.room
+
+-- a list
+abbrev pub list_in : Expander → Expansion
+list_in expander = level (tables_in expander) (inner_in expander) false 0
+
+-- a group of these passes
+abbrev pub group_in : Expander → Passes → (places d : ℕ) → List ℕ → Result Tree TemplateFault
+group_in expander passes places d after =
+    body_of (inner_in expander) places (own_places passes) d after >>= λ body.
+    Ok (group_of passes body)

@@ -28,16 +28,12 @@ pub mod Kept
 pub mod TableD
 -- how Table D is kept
 pub mod Runs
--- the row of Table D that two descriptors are
-pub mod MemberRow
 -- chains of members, and the sequence that a fault of a cycle names
 pub mod Chain
 -- what the search for a cycle knows as it goes on
 pub mod Cycle
 -- a template flattened to cells, and read back from them
 pub mod Cells
--- how an expander's tables make it expand
-pub mod Expander
 -- the tree that a list of descriptors means, or the first fault
 pub mod Expansion
 -- what the cells in the making of the code mean
@@ -52,8 +48,6 @@ pub mod Leaves
 pub mod Legal
 -- which operators a template may hold, and with which operands
 pub mod Operators
--- the two kinds of groups
-pub mod Passes
 -- that every group of a template, and the whole, takes bits
 pub mod Sound
 -- what Tables B and D say to the expansion

@@ -3,7 +3,7 @@
 use Rattle.std.specs.Prelude.{◌≡◌, ℕ, ◌≤◌, ◌<◌, List, [], ◌∷◌, length, map, slice_range, ⊤}
 use Rattle.std.specs.List.{AllByRecursion}
 use Rattle.bufr_tables.specs.Fxy.{key_of}
-use Rattle.bufr_tables.specs.TableD.{Sequence}
+use Rattle.bufr_tables.specs.TableD.{Sequence, Member}
 use Rattle.bufr_tables.specs.declared.table_d.MemberRange.{MemberRange}
 use Rattle.bufr_tables.specs.declared.table_d.TableD.TheInside.{Inside}
 
@@ -38,3 +38,6 @@ pub record IsTableD (a : Inside) : Type 0 where
 
 abbrev pub table_d_rows : Inside → List Sequence
 table_d_rows a = sequences_kept a.members.items a.runs.items
+
+abbrev pub member_with : ℕ → ℕ → Member
+member_with sequence member = record { sequence = sequence; fxy = member }

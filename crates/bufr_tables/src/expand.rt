@@ -7,9 +7,7 @@
 ghost use Rattle.std.specs.Prelude.{◌≡◌, ◌+◌, ◌<◌, ◌≤◌, ◌++◌, ◌∷◌, [], length, take, drop, Ok, Err, MatchResult, OnOk, OnErr, IfErr, IfOk};
 ghost use Rattle.bufr_tables.specs.Fxy.{x_of};
 ghost use Rattle.bufr_tables.specs.Expansion.{begins_with_element as element_begins, first_of as first_of_list, part_of, element_part, operator_part, group_part, fixed_part, delayed_part, sequence_part, with_places};
-ghost use Rattle.bufr_tables.specs.Growth.{places_so_far, PushesTreeUnlessMemory, GivesPart};
-ghost use Rattle.bufr_tables.specs.Expander.{tables_in, inner_in, list_in, group_in};
-ghost use Rattle.bufr_tables.specs.Passes.{factor_cells, first_cell, own_places};
+ghost use Rattle.bufr_tables.specs.Growth.{places_so_far, PushesTreeUnlessMemory, GivesPart, factor_cells, first_cell, own_places, tables_in, inner_in, list_in, group_in};
 
 use crate::fault::TemplateFault;
 use crate::fxy::Fxy;

@@ -13,7 +13,7 @@ ghost use Rattle.std.specs.Prelude.{◌≡◌, ◌≢◌, ◌≤◌, ◌<◌, []
 ghost use Rattle.csv.specs.Records.{fields_of};
 ghost use Rattle.bufr_tables.specs.declared.fault.TableFault.TheVariants.{Memory};
 ghost use Rattle.bufr_tables.specs.Chain.{ReadsTableD, HasNoCycle, IsFirstCycle, ReachesItself};
-ghost use Rattle.bufr_tables.specs.MemberRow.{member_with};
+ghost use Rattle.bufr_tables.specs.Runs.{member_with};
 ghost use Rattle.bufr_tables.specs.Records.{records_of};
 ghost use Rattle.bufr_tables.specs.Steps.{ReturnsUnlessMemory};
 ghost use Rattle.bufr_tables.specs.TableD.{AreSequences, extended, fxys_of, is_last, members_or_none, member_of, members_of, sequence_of, table_d_of, with_record_d};

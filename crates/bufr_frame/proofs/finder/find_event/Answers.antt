@@ -1,5 +1,5 @@
 use Rattle.std.proofs.Common.{◌≡◌, ℕ, ◌-◌, sym, subst, length, drop, lit≤}
-use Rattle.bufr_frame.specs.Search.{IsIncomplete}
+use Rattle.bufr_frame.specs.FinderSteps.{IsIncomplete}
 use Rattle.bufr_frame.specs.Longest.{length_here}
 use Rattle.bufr_frame.proofs.LookLemmas.{none-so, none-stated, end-so}
 use Rattle.bufr_frame.proofs.finder.find_event.Goals as goal

@@ -1,6 +1,6 @@
 use Rattle.std.proofs.Common.{◌⊎◌, ◌≡◌, ◌-◌, ◌≤◌, ℕ, List, [], None}
 use Rattle.bufr_frame.specs.FinderCalls.{ReadsAndPasses, CountsReads, CallReadsAreNeeded}
-use Rattle.bufr_frame.specs.Search.{Raised}
+use Rattle.bufr_frame.specs.FinderSteps.{Raised}
 use Rattle.bufr_frame.specs.Lookahead.{NoEventCertain}
 use Rattle.bufr_frame.specs.Runs.{max_reads}
 use Rattle.bufr_frame.proofs.finder.Finder.advance.Given as goal
