@@ -59,12 +59,15 @@ number_of_window xs first from width n h fits =
     let value : number_of word ≡ n = number_of-bits_in n 64 ∙ mod-eq_of_lt h.small in
     ap (λ (bs : List Bool). number_of (take width bs)) (bits_in_window xs first from n h ∙ dropped) ∙ ap number_of taken ∙ number_of_middle word 64 from width long fits ∙ ap (λ (m : ℕ). m / 2 ^ (64 - from - width) % 2 ^ width) value
 
--- a field that lies in a window
-pub field_within : (xs : List ℕ) (at width n : ℕ) → IsWindow n (at / 8) xs → at % 8 + width ≤ 64 → width ≤ 63 → n / 2 ^ (64 - at % 8 - width) % (1 * 2 ^ width % 18446744073709551616) ≡ number_of (bits_at xs at width)
-field_within xs at width n h fits few =
+-- a field that lies in a window, which begins before it
+pub field_in : (xs : List ℕ) (at first from width n : ℕ) → IsWindow n first xs → 8 * first + from ≡ at → from + width ≤ 64 → width ≤ 63 → n / 2 ^ (64 - from - width) % (1 * 2 ^ width % 18446744073709551616) ≡ number_of (bits_at xs at width)
+field_in xs at first from width n h place fits few =
     let mask : 1 * 2 ^ width % 18446744073709551616 ≡ 2 ^ width = shl_whole 1 1 width 64 (omega arith) (omega arith) ∙ omega arith in
-    let place : 8 * (at / 8) + at % 8 ≡ at = omega arith in
-    ap (λ (m : ℕ). n / 2 ^ (64 - at % 8 - width) % m) mask ∙ sym (number_of_window xs (at / 8) (at % 8) width n h fits) ∙ ap (λ (p : ℕ). number_of (bits_at xs p width)) place
+    ap (λ (m : ℕ). n / 2 ^ (64 - from - width) % m) mask ∙ sym (number_of_window xs first from width n h fits) ∙ ap (λ (p : ℕ). number_of (bits_at xs p width)) place
+
+-- a field that lies in the window of its first octet
+pub field_within : (xs : List ℕ) (at width n : ℕ) → IsWindow n (at / 8) xs → at % 8 + width ≤ 64 → width ≤ 63 → n / 2 ^ (64 - at % 8 - width) % (1 * 2 ^ width % 18446744073709551616) ≡ number_of (bits_at xs at width)
+field_within xs at width n h fits few = field_in xs at (at / 8) (at % 8) width n h (omega arith) fits few
 
 -- a field that reaches into the ninth octet
 pub field_beyond : (xs : List ℕ) (at width n over part : ℕ) → IsWindow n (at / 8) xs → at + width ≤ 8 * length xs → width ≤ 63 → 64 < at % 8 + width → over ≡ at % 8 + width - 64 → get_or xs (at / 8 + 8) 0 < 256 → part ≡ get_or xs (at / 8 + 8) 0 / 2 ^ (8 - over) % 2 ^ over → n % (1 * 2 ^ (64 - at % 8) % 18446744073709551616) * 2 ^ over % 18446744073709551616 + part ≡ number_of (bits_at xs at width)

@@ -70,7 +70,7 @@ impl<'a> BitSlice<'a> {
     {
         match self.window_at((at / 8) as usize) {
             Some(window) => self.by_window(window, at, width),
-            None => self.by_octets(at, width),
+            None => self.near_end(at, width),
         }
     }
 
@@ -114,6 +114,28 @@ impl<'a> BitSlice<'a> {
         let over = from + width - 64;
         let ninth = self.octets[(at / 8) as usize + 8];
         ((window % (1 << (64 - from))) << over) + part_of(ninth, 0, over)
+    }
+
+    /// The number of some bits in the last eight octets; of fewer octets, octet by octet.
+    #[inline(never)]
+    fn near_end(&self, at: u64, width: u32) -> u64
+        requires some { 0 < width }
+        requires few { width ≤ 63 }
+        requires within { at + width ≤ 8 * length (octets_of self.now) }
+        requires near { length (octets_of self.now) < at / 8 + 8 }
+        ensures { result ≡ number_of (bits_at (octets_of self.now) at width) }
+    {
+        if self.octets.len() < 8 {
+            return self.by_octets(at, width);
+        }
+        let first = self.octets.len() - 8;
+        match self.window_at(first) {
+            Some(window) => {
+                let from = (at - 8 * first as u64) as u32;
+                (window >> (64 - from - width)) % (1 << width)
+            }
+            None => unreachable!(),
+        }
     }
 
     /// The number of some bits, octet by octet.

@@ -1,7 +1,7 @@
 -- Octets read from bits, and texts.
 use Rattle.std.proofs.Common.{◌≡◌, ℕ, zero, suc, ◌+◌, ◌-◌, ◌*◌, ◌/◌, ◌%◌, ◌^◌, ◌<◌, ◌≤◌, Bool, List, [], ◌∷◌, ◌++◌, length, take, drop, set, refl, sym, ◌∙◌, ap, subst, arith, add-one}
 use Rattle.std.specs.Prelude.{slice_index, slice_range, Option, Some, None, option_map, SomeIff, IfSome}
-use Rattle.std.proofs.lemmas.List.{drop-drop, drop-take, take-take, take_more_set, length-drop, length-take-le}
+use Rattle.std.proofs.lemmas.List.{drop-drop, drop-take, take-take, take_more_set, length-drop, length-set, length-take-le}
 use Rattle.bufr_bits.specs.Bits.{bits_of, number_of}
 use Rattle.bufr_bits.proofs.BitLemmas.{drop-bits_of, take-bits_of, number_of_middle, number-bits_of_octet}
 use Rattle.bufr_walk.specs.FieldSpec.{FieldSpec}
@@ -25,6 +25,47 @@ octet_put bits at i octet kept h so is =
     ∙ ap (λ os. os ++ octet ∷ []) so
     ∙ ap (λ o. octets_in i (drop at bits) ++ o ∷ []) (is ∙ ap (λ bs. number_of (take 8 bs)) (sym (drop-drop (8 * i) at bits)))
     ∙ sym (octets_more i (drop at bits))
+
+-- an octet of a word of 32 bits
+pub octet_of_word : (bits : List Bool) (at i j word octet : ℕ) → at + 8 * (i + 4) ≤ length bits → j ≤ 3 → word ≡ number_of (take 32 (drop (at + 8 * i) bits)) → octet ≡ word / 2 ^ (24 - 8 * j) % 2 ^ 8 → octet ≡ number_of (take 8 (drop (at + 8 * (i + j)) bits))
+octet_of_word bits at i j word octet h few e is =
+    let from = at + 8 * i in
+    let rest = drop from bits in
+    let four = take 32 rest in
+    let long : length four ≡ 32 = length-take-le 32 rest (omega (arith, length-drop from bits)) in
+    let exponent : 24 - 8 * j ≡ 32 - 8 * j - 8 = omega arith in
+    let whole : 32 ≡ 8 * j + (32 - 8 * j) = omega arith in
+    let inner : drop (8 * j) four ≡ take (32 - 8 * j) (drop (8 * j) rest) = ap (λ k. drop (8 * j) (take k rest)) whole ∙ drop-take (8 * j) (32 - 8 * j) rest in
+    let there : from + 8 * j ≡ at + 8 * (i + j) = omega arith in
+    is
+    ∙ ap (λ (w : ℕ). w / 2 ^ (24 - 8 * j) % 2 ^ 8) e
+    ∙ ap (λ (k : ℕ). number_of four / 2 ^ k % 2 ^ 8) exponent
+    ∙ sym (number_of_middle four 32 (8 * j) 8 long (omega arith))
+    ∙ ap (λ ys. number_of (take 8 ys)) inner
+    ∙ ap number_of (take-take 8 (32 - 8 * j) (drop (8 * j) rest) (omega arith))
+    ∙ ap (λ ys. number_of (take 8 ys)) (drop-drop (8 * j) from bits ∙ ap (λ k. drop k bits) there)
+
+-- the four octets of a word
+pub four_put : (bits : List Bool) (at i word a b c d : ℕ) (kept : List ℕ) → i + 4 ≤ length kept → at + 8 * (i + 4) ≤ length bits → take i kept ≡ octets_in i (drop at bits) → word ≡ number_of (take 32 (drop (at + 8 * i) bits)) → a ≡ word / 2 ^ 24 % 2 ^ 8 → b ≡ word / 2 ^ 16 % 2 ^ 8 → c ≡ word / 2 ^ 8 % 2 ^ 8 → d ≡ word / 2 ^ 0 % 2 ^ 8 → take (i + 4) (set (set (set (set kept i a) (i + 1) b) (i + 2) c) (i + 3) d) ≡ octets_in (i + 4) (drop at bits)
+four_put bits at i word a b c d kept h within so e ea eb ec ed =
+    let one = set kept i a in
+    let second = set one (i + 1) b in
+    let third = set second (i + 2) c in
+    let long1 : length one ≡ length kept = length-set kept i a in
+    let long2 : length second ≡ length kept = length-set one (i + 1) b ∙ long1 in
+    let long3 : length third ≡ length kept = length-set second (i + 2) c ∙ long2 in
+    let first : a ≡ number_of (take 8 (drop (at + 8 * i) bits)) = octet_of_word bits at i 0 word a within (omega arith) e ea ∙ ap (λ k. number_of (take 8 (drop (at + 8 * k) bits))) (zero_more i) in
+    let s1 : take (i + 1) one ≡ octets_in (i + 1) (drop at bits) = octet_put bits at i a kept (omega arith) so first in
+    let s2 : take (i + 1 + 1) second ≡ octets_in (i + 1 + 1) (drop at bits) = octet_put bits at (i + 1) b one (omega arith) s1 (octet_of_word bits at i 1 word b within (omega arith) e eb) in
+    let s3 : take (i + 2 + 1) third ≡ octets_in (i + 2 + 1) (drop at bits) = octet_put bits at (i + 2) c second (omega arith) (step (i + 1) (i + 2) second (omega arith) s2) (octet_of_word bits at i 2 word c within (omega arith) e ec) in
+    let s4 = octet_put bits at (i + 3) d third (omega arith) (step (i + 2) (i + 3) third (omega arith) s3) (octet_of_word bits at i 3 word d within (omega arith) e ed) in
+    step (i + 3) (i + 4) (set third (i + 3) d) (omega arith) s4
+  where
+    zero_more : (i : ℕ) → i + 0 ≡ i
+    zero_more i = omega arith
+
+    step : (k n : ℕ) (ys : List ℕ) → k + 1 ≡ n → take (k + 1) ys ≡ octets_in (k + 1) (drop at bits) → take n ys ≡ octets_in n (drop at bits)
+    step k n ys same h = subst (λ (m : ℕ). take m ys ≡ octets_in m (drop at bits)) same h
 
 pub two : (a b : ℕ) (xs ys : List ℕ) → a ≡ b → xs ≡ ys → a ∷ xs ≡ b ∷ ys
 two a b xs ys p q = ap (λ x. x ∷ xs) p ∙ ap (λ zs. b ∷ zs) q

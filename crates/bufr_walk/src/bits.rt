@@ -104,13 +104,35 @@ pub(crate) fn ones_at(bits: &BitSlice<'_>, at: u64, width: u32) -> bool
     }
 }
 
+/// Copies four octets that begin at any bit, after those that were copied before.
+#[inline(always)]
+fn copy_four(bits: &BitSlice<'_>, at: u64, place: usize, text: &mut [u8; 255])
+    requires few { place + 4 ≤ 255 }
+    requires within { at + 8 * (place + 4) ≤ 8 * length (octets_of bits.now) }
+    requires copied { take place text.old
+        ≡ octets_in place (drop at (bits_of (octets_of bits.now))) }
+    ensures { take (place + 4) text.new
+        ≡ octets_in (place + 4) (drop at (bits_of (octets_of bits.now))) }
+{
+    let word = bits.number(at + 8 * place as u64, 32);
+    text[place] = (word >> 24) as u8;
+    text[place + 1] = ((word >> 16) % 256) as u8;
+    text[place + 2] = ((word >> 8) % 256) as u8;
+    text[place + 3] = (word % 256) as u8;
+}
+
 /// Copies `count` octets that begin at any bit.
 pub(crate) fn copy_octets(bits: &BitSlice<'_>, at: u64, count: usize, text: &mut [u8; 255])
     requires few { count ≤ 255 }
     requires within { at + 8 * count ≤ 8 * length (octets_of bits.now) }
     ensures { take count text.new ≡ octets_in count (drop at (bits_of (octets_of bits.now))) }
 {
-    'octets: for place in 0..count {
+    let mut copied = 0;
+    'fours: while copied + 4 <= count {
+        copy_four(bits, at, copied, text);
+        copied += 4;
+    }
+    'octets: for place in copied..count {
         text[place] = bits.number(at + 8 * place as u64, 8) as u8;
     }
 }

@@ -6,4 +6,4 @@ pub returns-in-Some-clause-below : goal.returns-in-Some-clause-below
 returns-in-Some-clause-below c = below_width c.args.self.now.octets.now c.args.at c.args.width c.by_window.result (omega arith) c.by_window.ensures
 
 pub returns-in-None-clause-below : goal.returns-in-None-clause-below
-returns-in-None-clause-below c = below_width c.args.self.now.octets.now c.args.at c.args.width c.by_octets.result (omega arith) c.by_octets.ensures
+returns-in-None-clause-below c = below_width c.args.self.now.octets.now c.args.at c.args.width c.near_end.result (omega arith) c.near_end.ensures
