@@ -1,10 +1,13 @@
--- Bits as a number: what a list of bits writes whole, in two parts, and in its middle.
-use Rattle.std.proofs.Common.{◌≡◌, ℕ, zero, suc, min, ◌+◌, ◌-◌, ◌*◌, ◌/◌, ◌%◌, ◌^◌, ◌<◌, ◌≤◌, ◌==◌, Bool, true, false, if◌then◌else◌, List, [], ◌∷◌, ◌++◌, length, take, drop, get_or, refl, sym, ap, ◌∙◌, subst, arith, length-drop, take-append-drop, length-take-le, take-add, drop-drop, pow-add, pow_mono}
-use Rattle.std.proofs.lemmas.Nat.{shr_high, mod_low, shl_whole}
+-- Bits as numbers and as octets: in parts, all ones, in windows, and as a writer pushes them.
+use Rattle.std.proofs.Common.{◌≡◌, ℕ, zero, suc, min, ◌+◌, ◌-◌, ◌*◌, ◌/◌, ◌%◌, ◌^◌, ◌<◌, ◌≤◌, ◌==◌, Bool, true, false, if◌then◌else◌, List, [], ◌∷◌, ◌++◌, length, take, drop, get_or, refl, sym, ap, ◌∙◌, subst, arith, length-drop, take-append-drop, length-take-le, take-add, drop-drop, pow-add, pow_mono, ◌&&◌, eqb, Option, None, Some, SomeIff, nat_eq, replicate, append_assoc, mod-eq_of_lt, append-nil, length-append, MatchOption}
+use Rattle.std.proofs.lemmas.Nat.{shr_high, mod_low, shl_whole, mod-pow-add, shr_split, shr_le, mod_below, shr-shr, pow_pos, shr_below, be_bytes_8}
 use Rattle.std.proofs.lemmas.Bool.Decides.{nat_tests}
-use Rattle.std.proofs.lemmas.List.{drop-append-le, take-append-le, take_all, drop_more, drop_all}
+use Rattle.std.proofs.lemmas.List.{drop-append-le, take-append-le, take_all, drop_more, drop_all, take_at, drop_at, take_more, length-replicate, take_rest}
 use Rattle.std.proofs.Math.Nat.{pow-suc, mul-le-mul_right}
-use Rattle.bufr_bits.specs.Bits.{bits_of_octet, bits_of, number_after_bits, number_of, bits_at}
+use Rattle.bufr_bits.specs.Bits.{bits_of_octet, bits_of, number_after_bits, number_of, bits_at, are_all_ones, bits_in, padding, IsWindow}
+use Rattle.std.specs.List.{list_all}
+use Rattle.std.specs.Option.{option_eq}
+use Rattle.std.specs.Int.{bytes_high_first, byte_at, from_be_bytes, w64}
 
 -- a bit as a number
 abbrev pub bit : Bool → ℕ
@@ -161,3 +164,453 @@ fits_in_63 xs at width n inside short e =
 
 pub below_width : (xs : List ℕ) (at width n : ℕ) → at + width ≤ 8 * length xs → n ≡ number_of (bits_at xs at width) → n < 2 ^ width
 below_width xs at width n inside e = subst (λ (m : ℕ). m < 2 ^ width) (sym e) (bits_at-below xs at width inside)
+
+-- Bits that are all ones: of a list in parts, of the number that they write, and of whole octets.
+
+and_assoc : (a b c : Bool) → (a && (b && c)) ≡ (a && b && c)
+and_assoc true b c = refl
+and_assoc false b c = refl
+
+-- all of two lists is all of each
+pub list_all-append : {X : Type 0} (p : X → Bool) (xs ys : List X) → list_all p (xs ++ ys) ≡ (list_all p xs && list_all p ys)
+list_all-append p [] ys = refl
+list_all-append p (x ∷ xs) ys = ap (λ (b : Bool). p x && b) (list_all-append p xs ys) ∙ and_assoc (p x) (list_all p xs) (list_all p ys)
+
+-- whether a number in base two is the greatest, by its first digit
+greatest_ahead : (n p : ℕ) → n < p → eqb (1 * p + n) (p * 2 - 1) ≡ eqb n (p - 1)
+greatest_ahead n p h = grind (arith, nat_tests)
+
+greatest_not : (n p : ℕ) → n < p → eqb (0 * p + n) (p * 2 - 1) ≡ false
+greatest_not n p h = grind (arith, nat_tests)
+
+-- bits are all ones where they write the greatest number of their width
+pub are_all_ones-number : (xs : List Bool) → eqb (number_of xs) (2 ^ length xs - 1) ≡ are_all_ones xs
+are_all_ones-number [] = refl
+are_all_ones-number (true ∷ xs) =
+    ap (λ (m : ℕ). eqb m (2 ^ suc (length xs) - 1)) (number_after_bits-is 1 xs) ∙ ap (λ (m : ℕ). eqb (1 * 2 ^ length xs + number_of xs) (m - 1)) (pow-suc 2 (length xs)) ∙ greatest_ahead (number_of xs) (2 ^ length xs) (number_of-below xs) ∙ are_all_ones-number xs
+are_all_ones-number (false ∷ xs) =
+    ap (λ (m : ℕ). eqb m (2 ^ suc (length xs) - 1)) (number_after_bits-is 0 xs) ∙ ap (λ (m : ℕ). eqb (0 * 2 ^ length xs + number_of xs) (m - 1)) (pow-suc 2 (length xs)) ∙ greatest_not (number_of xs) (2 ^ length xs) (number_of-below xs)
+
+-- octets are all ones where each is 255
+pub are_all_ones-bits_of : (xs : List ℕ) → ((k : ℕ) → get_or xs k 0 < 256) → list_all (λ octet. octet == 255) xs ≡ are_all_ones (bits_of xs)
+unfolding bits_of
+are_all_ones-bits_of [] h = refl
+are_all_ones-bits_of (x ∷ xs) h =
+    let here : eqb x 255 ≡ are_all_ones (bits_of_octet x) = ap (λ (m : ℕ). eqb m 255) (sym (number-bits_of_octet x (h 0))) ∙ are_all_ones-number (bits_of_octet x) in
+    let rest : list_all (λ octet. octet == 255) xs ≡ are_all_ones (bits_of xs) = are_all_ones-bits_of xs (λ k. h (suc k)) in
+    ap (λ (b : Bool). b && list_all (λ octet. octet == 255) xs) here ∙ ap (λ (b : Bool). are_all_ones (bits_of_octet x) && b) rest ∙ sym (list_all-append (λ (b : Bool). b) (bits_of_octet x) (bits_of xs))
+
+-- whole octets of a list of bits
+pub bits_at-octets : (xs : List ℕ) (first count : ℕ) → bits_at xs (8 * first) (8 * count) ≡ bits_of (take count (drop first xs))
+bits_at-octets xs first count = ap (take (8 * count)) (drop-bits_of first xs) ∙ take-bits_of count (drop first xs)
+
+-- all of some bits, in parts
+pub are_all_ones-more : (xs : List ℕ) (at leading rest : ℕ) → are_all_ones (bits_at xs at (leading + rest)) ≡ (are_all_ones (bits_at xs at leading) && are_all_ones (bits_at xs (at + leading) rest))
+are_all_ones-more xs at leading rest =
+    let there : take rest (drop leading (drop at (bits_of xs))) ≡ bits_at xs (at + leading) rest = ap (take rest) (drop-drop leading at (bits_of xs)) in
+    ap are_all_ones (take-add leading rest (drop at (bits_of xs)) ∙ ap (λ (ys : List Bool). bits_at xs at leading ++ ys) there) ∙ list_all-append (λ (b : Bool). b) (bits_at xs at leading) (bits_at xs (at + leading) rest)
+
+-- whether a read number is the greatest of its width
+pub read_greatest : (r : Option ℕ) (xs : List ℕ) (at width most : ℕ) → SomeIff r (at + width ≤ 8 * length xs) (number_of (bits_at xs at width)) → at + width ≤ 8 * length xs → most ≡ 2 ^ width - 1 → option_eq nat_eq r (Some most) ≡ are_all_ones (bits_at xs at width)
+read_greatest None xs at width most h fits e = absurd (h fits)
+read_greatest (Some value) xs at width most h fits e =
+    ap (λ (m : ℕ). eqb m most) h.1 ∙ ap (λ (m : ℕ). eqb (number_of (bits_at xs at width)) m) e ∙ ap (λ (m : ℕ). eqb (number_of (bits_at xs at width)) (2 ^ m - 1)) (sym (length-bits_at xs at width fits)) ∙ are_all_ones-number (bits_at xs at width)
+
+-- some bits, whole octets and some bits more
+pub are_all_ones_by_octets : (xs : List ℕ) (at first leading whole back width : ℕ) → at + leading ≡ 8 * first → width ≡ leading + (8 * whole + back) → are_all_ones (bits_at xs at width) ≡ (are_all_ones (bits_at xs at leading) && (are_all_ones (bits_at xs (8 * first) (8 * whole)) && are_all_ones (bits_at xs (at + leading + 8 * whole) back)))
+are_all_ones_by_octets xs at first leading whole back width e w =
+    ap (λ (m : ℕ). are_all_ones (bits_at xs at m)) w ∙ are_all_ones-more xs at leading (8 * whole + back) ∙ ap (λ (b : Bool). are_all_ones (bits_at xs at leading) && b) (are_all_ones-more xs (at + leading) (8 * whole) back) ∙ ap (λ (m : ℕ). are_all_ones (bits_at xs at leading) && (are_all_ones (bits_at xs m (8 * whole)) && are_all_ones (bits_at xs (at + leading + 8 * whole) back))) e
+
+-- the same of three answers: the first that is false decides
+pub ones_by_three : (xs : List ℕ) (at first leading whole back last width : ℕ) (a b c : Bool) → at + leading ≡ 8 * first → width ≡ leading + (8 * whole + back) → last ≡ at + leading + 8 * whole → a ≡ are_all_ones (bits_at xs at leading) → b ≡ are_all_ones (bits_at xs (8 * first) (8 * whole)) → c ≡ are_all_ones (bits_at xs last back) → (a && (b && c)) ≡ are_all_ones (bits_at xs at width)
+ones_by_three xs at first leading whole back last width a b c e w l ha hb hc =
+    let third : c ≡ are_all_ones (bits_at xs (at + leading + 8 * whole) back) = hc ∙ ap (λ (m : ℕ). are_all_ones (bits_at xs m back)) l in
+    rw (are_all_ones_by_octets xs at first leading whole back width e w, ← ha, ← hb, ← third) refl
+
+pub ones_not_first : (xs : List ℕ) (at leading width : ℕ) (a : Bool) → leading ≤ width → a ≡ are_all_ones (bits_at xs at leading) → a ≡ false → false ≡ are_all_ones (bits_at xs at width)
+ones_not_first xs at leading width a h ha no_ones =
+    let w : width ≡ leading + (width - leading) = omega arith in
+    let parts = ap (λ (m : ℕ). are_all_ones (bits_at xs at m)) w ∙ are_all_ones-more xs at leading (width - leading) in
+    sym (parts ∙ ap (λ (b : Bool). b && are_all_ones (bits_at xs (at + leading) (width - leading))) (sym ha ∙ no_ones))
+
+pub and_false : (a : Bool) → (a && false) ≡ false
+and_false true = refl
+and_false false = refl
+
+pub ones_not_middle : (xs : List ℕ) (at first leading whole back width : ℕ) (b : Bool) → at + leading ≡ 8 * first → width ≡ leading + (8 * whole + back) → b ≡ are_all_ones (bits_at xs (8 * first) (8 * whole)) → b ≡ false → false ≡ are_all_ones (bits_at xs at width)
+ones_not_middle xs at first leading whole back width b e w hb no_ones =
+    let middle : are_all_ones (bits_at xs (8 * first) (8 * whole)) ≡ false = sym hb ∙ no_ones in
+    sym (are_all_ones_by_octets xs at first leading whole back width e w ∙ ap (λ (m : Bool). are_all_ones (bits_at xs at leading) && (m && are_all_ones (bits_at xs (at + leading + 8 * whole) back))) middle ∙ and_false (are_all_ones (bits_at xs at leading)))
+
+-- ---- A number as bits, in parts and by octets.
+
+pub length-bits_in : (v w : ℕ) → length (bits_in v w) ≡ w
+unfolding bits_in
+length-bits_in v zero = refl
+length-bits_in v (suc w) = ap suc (length-bits_in v w)
+
+pub bits_in-none : (v : ℕ) → bits_in v 0 ≡ []
+unfolding bits_in
+bits_in-none v = refl
+
+-- the high bits and the low bits
+pub bits_in-split : (v a b : ℕ) → bits_in v (a + b) ≡ bits_in (v / 2 ^ b) a ++ bits_in v b
+unfolding bits_in
+bits_in-split v zero b = ap (bits_in v) (omega arith)
+bits_in-split v (suc a) b =
+    let e : suc a + b ≡ suc (a + b) = omega arith in
+    let places : a + b ≡ b + a = omega arith in
+    let here : v / 2 ^ (a + b) ≡ v / 2 ^ b / 2 ^ a = ap (λ (k : ℕ). v / 2 ^ k) places ∙ sym (shr-shr v b a) in
+    rw (e, here, bits_in-split v a b) refl
+
+pub quotient-above : (x v k : ℕ) → (x * 2 ^ k + v) / 2 ^ k ≡ x + v / 2 ^ k
+quotient-above x v k =
+    let parts = shr_split v k in
+    let whole : x * 2 ^ k + v ≡ (x + v / 2 ^ k) * 2 ^ k + v % 2 ^ k = omega arith in
+    ap (λ (n : ℕ). n / 2 ^ k) whole ∙ shr_high (x + v / 2 ^ k) k (v % 2 ^ k) (mod_below v (2 ^ k) (pow_pos k))
+
+-- bits in a width are those of the number without what is above its power of two
+pub bits_in-above : (a v w : ℕ) → bits_in (a * 2 ^ w + v) w ≡ bits_in v w
+unfolding bits_in
+bits_in-above a v zero = refl
+bits_in-above a v (suc w) =
+    let twice : a * 2 ^ suc w ≡ 2 * a * 2 ^ w = ap (λ (p : ℕ). a * p) (pow-suc 2 w) ∙ omega arith in
+    let same : a * 2 ^ suc w + v ≡ 2 * a * 2 ^ w + v = ap (λ (n : ℕ). n + v) twice in
+    let first : (a * 2 ^ suc w + v) / 2 ^ w % 2 ≡ v / 2 ^ w % 2 = ap (λ (n : ℕ). n / 2 ^ w % 2) same ∙ ap (λ (n : ℕ). n % 2) (quotient-above (2 * a) v w) ∙ omega arith in
+    let rest : bits_in (a * 2 ^ suc w + v) w ≡ bits_in v w = ap (λ (n : ℕ). bits_in n w) same ∙ bits_in-above (2 * a) v w in
+    cc
+
+-- two numbers as bits, one after the other
+pub bits_in-join : (a v c w : ℕ) → v < 2 ^ w → bits_in a c ++ bits_in v w ≡ bits_in (a * 2 ^ w + v) (c + w)
+bits_in-join a v c w h =
+    sym (bits_in-split (a * 2 ^ w + v) c w ∙ ap (λ (n : ℕ). bits_in n c ++ bits_in (a * 2 ^ w + v) w) (shr_high a w v h) ∙ ap (λ (xs : List Bool). bits_in a c ++ xs) (bits_in-above a v w))
+
+-- no bits are written by 0
+pub bits_in-zero : (w : ℕ) → bits_in 0 w ≡ replicate w false
+unfolding bits_in
+bits_in-zero zero = refl
+bits_in-zero (suc w) =
+    let none : 0 / 2 ^ w ≡ 0 = omega (arith, shr_le 0 w) in
+    let rest = bits_in-zero w in
+    ap (λ (n : ℕ). (n % 2 == 1) ∷ bits_in 0 w) none ∙ ap (λ (xs : List Bool). false ∷ xs) rest
+
+-- an octet has eight bits
+pub bits_in-octet : (v : ℕ) → bits_in v 8 ≡ bits_of_octet (v % 256)
+unfolding bits_in
+bits_in-octet v =
+    let a7 : v / 128 % 2 ≡ v % 256 / 128 % 2 = omega arith in
+    let a6 : v / 64 % 2 ≡ v % 256 / 64 % 2 = omega arith in
+    let a5 : v / 32 % 2 ≡ v % 256 / 32 % 2 = omega arith in
+    let a4 : v / 16 % 2 ≡ v % 256 / 16 % 2 = omega arith in
+    let a3 : v / 8 % 2 ≡ v % 256 / 8 % 2 = omega arith in
+    let a2 : v / 4 % 2 ≡ v % 256 / 4 % 2 = omega arith in
+    let a1 : v / 2 % 2 ≡ v % 256 / 2 % 2 = omega arith in
+    let a0 : v / 1 % 2 ≡ v % 256 % 2 = omega arith in
+    cc
+
+power_of_octets : (k : ℕ) → 256 ^ k ≡ 2 ^ (8 * k)
+power_of_octets zero = refl
+power_of_octets (suc k) =
+    let e : 8 * suc k ≡ 8 * k + 8 = omega arith in
+    let more : 2 ^ (8 * suc k) ≡ 2 ^ (8 * k) * 256 = ap (λ (m : ℕ). 2 ^ m) e ∙ pow-add 2 (8 * k) 8 in
+    pow-suc 256 k ∙ ap (λ (m : ℕ). m * 256) (power_of_octets k) ∙ sym more
+
+byte_at-is : (k n : ℕ) → byte_at k n ≡ n / 2 ^ (8 * k) % 256
+byte_at-is zero n = omega arith
+byte_at-is (suc k) n = ap (λ (m : ℕ). n / m % 256) (power_of_octets (suc k))
+
+-- the octets of a number, the highest first
+pub bits_of-bytes : (k n : ℕ) → bits_of (bytes_high_first k n) ≡ bits_in n (8 * k)
+unfolding bits_of
+bits_of-bytes zero n = sym (bits_in-none n)
+bits_of-bytes (suc k) n =
+    let e : 8 * suc k ≡ 8 + 8 * k = omega arith in
+    let first : bits_of_octet (byte_at k n) ≡ bits_in (n / 2 ^ (8 * k)) 8 = ap bits_of_octet (byte_at-is k n) ∙ sym (bits_in-octet (n / 2 ^ (8 * k))) in
+    let whole : bits_in n (8 * suc k) ≡ bits_in (n / 2 ^ (8 * k)) 8 ++ bits_in n (8 * k) = ap (bits_in n) e ∙ bits_in-split n 8 (8 * k) in
+    ap (λ (xs : List Bool). xs ++ bits_of (bytes_high_first k n)) first ∙ ap (λ (xs : List Bool). bits_in (n / 2 ^ (8 * k)) 8 ++ xs) (bits_of-bytes k n) ∙ sym whole
+
+-- the bits of a number in a width write the number
+pub number_of-bits_in : (v w : ℕ) → number_of (bits_in v w) ≡ v % 2 ^ w
+unfolding bits_in
+number_of-bits_in v zero = omega arith
+number_of-bits_in v (suc w) =
+    let first = v / 2 ^ w % 2 in
+    let after : number_of (bits_in v (suc w)) ≡ bit (first == 1) * 2 ^ length (bits_in v w) + number_of (bits_in v w) = number_after_bits-is (0 + bit (first == 1)) (bits_in v w) ∙ ap (λ (m : ℕ). m * 2 ^ length (bits_in v w) + number_of (bits_in v w)) (omega arith) in
+    let one : suc w ≡ 1 + w = omega arith in
+    after ∙ ap (λ (m : ℕ). m * 2 ^ length (bits_in v w) + number_of (bits_in v w)) (bit_of_test (v / 2 ^ w)) ∙ ap (λ (m : ℕ). first * 2 ^ m + number_of (bits_in v w)) (length-bits_in v w) ∙ ap (λ (m : ℕ). first * 2 ^ w + m) (number_of-bits_in v w) ∙ sym (mod-pow-add v 1 w) ∙ ap (λ (m : ℕ). v % 2 ^ m) (sym one)
+
+-- bits among others are found at their place
+pub found_between : (before after : List Bool) (octets : List ℕ) (v w : ℕ) → v < 2 ^ w → bits_of octets ≡ before ++ bits_in v w ++ after → number_of (bits_at octets (length before) w) ≡ v
+found_between before after octets v w h e =
+    let turned : bits_of octets ≡ before ++ (bits_in v w ++ after) = e ∙ append_assoc before (bits_in v w) after in
+    let there : drop (length before) (bits_of octets) ≡ bits_in v w ++ after = ap (drop (length before)) turned ∙ drop_at before (bits_in v w ++ after) (length before) refl in
+    let found : bits_at octets (length before) w ≡ bits_in v w = ap (take w) there ∙ take_at (bits_in v w) after w (length-bits_in v w) in
+    ap number_of found ∙ number_of-bits_in v w ∙ mod-eq_of_lt h
+
+module _ (before after : List Bool) (among xs : List ℕ) (e : bits_of among ≡ before ++ bits_of xs ++ after) where
+  -- after the first bits
+  there : drop (length before) (bits_of among) ≡ bits_of xs ++ after
+  there = ap (drop (length before)) (e ∙ append_assoc before (bits_of xs) after) ∙ drop_at before (bits_of xs ++ after) (length before) refl
+
+  -- the bits of octets among others are found at their place
+  pub bits_between : bits_at among (length before) (8 * length xs) ≡ bits_of xs
+  bits_between = ap (take (8 * length xs)) there ∙ take_at (bits_of xs) after (8 * length xs) (length-bits_of xs)
+
+  -- and so is each octet
+  pub octet_between : (k : ℕ) → k < length xs → get_or xs k 0 < 256 → number_of (bits_at among (length before + 8 * k) 8) ≡ get_or xs k 0
+  unfolding bits_of
+  octet_between k h small =
+      let past : drop (length before + 8 * k) (bits_of among) ≡ drop (8 * k) (bits_of xs ++ after) = sym (drop-drop (8 * k) (length before) (bits_of among)) ∙ ap (drop (8 * k)) there in
+      let inside : drop (8 * k) (bits_of xs ++ after) ≡ bits_of (drop k xs) ++ after = drop-append-le (8 * k) (bits_of xs) after (omega (arith, length-bits_of xs)) ∙ ap (λ (ys : List Bool). ys ++ after) (drop-bits_of k xs) in
+      let first : bits_of (drop k xs) ≡ bits_of_octet (get_or xs k 0) ++ bits_of (drop (k + 1) xs) = ap bits_of (drop_more xs k 0 h) in
+      ap (λ (ys : List Bool). number_of (take 8 ys)) (past ∙ inside ∙ ap (λ (ys : List Bool). ys ++ after) first) ∙ number-bits_of_octet (get_or xs k 0) small
+
+-- ---- The bits of a writer after each of its calls.
+
+pub length-written : (xs : List ℕ) (last count : ℕ) → length (bits_of xs ++ bits_in last count) ≡ 8 * length xs + count
+length-written xs last count = length-append (bits_of xs) (bits_in last count) ∙ ap (λ (m : ℕ). m + length (bits_in last count)) (length-bits_of xs) ∙ ap (λ (m : ℕ). 8 * length xs + m) (length-bits_in last count)
+
+pub nothing_written : (xs : List ℕ) → xs ≡ [] → bits_of xs ++ bits_in 0 0 ≡ []
+unfolding bits_of bits_in
+nothing_written xs e = rw e refl
+
+pub bits_of-append : (xs ys : List ℕ) → bits_of (xs ++ ys) ≡ bits_of xs ++ bits_of ys
+unfolding bits_of
+bits_of-append [] ys = refl
+bits_of-append (x ∷ xs) ys = ap (λ (bs : List Bool). bits_of_octet x ++ bs) (bits_of-append xs ys)
+
+-- one octet, of any number
+bits_of-one : (n : ℕ) → bits_of (n % 256 ∷ []) ≡ bits_in n 8
+unfolding bits_of
+bits_of-one n = sym (bits_in-octet n)
+
+-- ---- the last bits, with zeros up to the next octet.
+-- zeros after bits, and as many of all of these as end within the zeros
+zeros_after : (last count pad rest : ℕ) → take (count + pad) (bits_in (last * 2 ^ (pad + rest)) (count + (pad + rest))) ≡ bits_in last count ++ replicate pad false
+zeros_after last count pad rest =
+    let free = pad + rest in
+    let sum : last * 2 ^ free ≡ last * 2 ^ free + 0 = omega arith in
+    let none : 0 / 2 ^ rest ≡ 0 = omega (arith, shr_le 0 rest) in
+    let zeros : bits_in 0 free ≡ replicate pad false ++ bits_in 0 rest = bits_in-split 0 pad rest ∙ ap (λ (n : ℕ). bits_in n pad ++ bits_in 0 rest) none ∙ ap (λ (bs : List Bool). bs ++ bits_in 0 rest) (bits_in-zero pad) in
+    let parts : bits_in (last * 2 ^ free) (count + free) ≡ bits_in last count ++ replicate pad false ++ bits_in 0 rest = ap (λ (n : ℕ). bits_in n (count + free)) sum ∙ sym (bits_in-join last 0 count free (pow_pos free)) ∙ ap (λ (bs : List Bool). bits_in last count ++ bs) zeros ∙ sym (append_assoc (bits_in last count) (replicate pad false) (bits_in 0 rest)) in
+    let long : length (bits_in last count ++ replicate pad false) ≡ count + pad = length-append (bits_in last count) (replicate pad false) ∙ ap (λ (m : ℕ). m + length (replicate pad false)) (length-bits_in last count) ∙ ap (λ (m : ℕ). count + m) (length-replicate pad false) in
+    ap (take (count + pad)) parts ∙ take_at (bits_in last count ++ replicate pad false) (bits_in 0 rest) (count + pad) long
+
+pub last_octets : (xs ys bytes : List ℕ) (last count : ℕ) → 0 < count → count < 64 → last < 2 ^ count → bytes ≡ bytes_high_first 8 (last * 2 ^ (64 - count) % 18446744073709551616) → ys ≡ xs ++ take ((count + 7) / 8) bytes → bits_of ys ≡ bits_of xs ++ (bits_in last count ++ padding count)
+last_octets xs ys bytes last count some few low b e =
+    let whole = (count + 7) / 8 in
+    let pad = (8 - count % 8) % 8 in
+    let rest = 64 - 8 * whole in
+    let number = last * 2 ^ (64 - count) % 18446744073709551616 in
+    let parts : 64 - count ≡ pad + rest = omega arith in
+    let filled : 8 * whole ≡ count + pad = omega arith in
+    let all : 64 ≡ count + (pad + rest) = omega arith in
+    let same : number ≡ last * 2 ^ (pad + rest) = shl_whole last count (64 - count) 64 low (omega arith) ∙ ap (λ (k : ℕ). last * 2 ^ k) parts in
+    let bits : bits_of bytes ≡ bits_in (last * 2 ^ (pad + rest)) (count + (pad + rest)) = ap bits_of b ∙ bits_of-bytes 8 number ∙ ap (λ (n : ℕ). bits_in n 64) same ∙ ap (bits_in (last * 2 ^ (pad + rest))) all in
+    let first : bits_of (take whole bytes) ≡ bits_in last count ++ padding count = sym (take-bits_of whole bytes) ∙ ap (λ (k : ℕ). take k (bits_of bytes)) filled ∙ ap (take (count + pad)) bits ∙ zeros_after last count pad rest in
+    ap bits_of e ∙ bits_of-append xs (take whole bytes) ∙ ap (λ (bs : List Bool). bits_of xs ++ bs) first
+
+-- where there are no last bits there is nothing to write
+pub no_octets : (xs : List ℕ) (last count : ℕ) → count ≤ 0 → bits_of xs ≡ bits_of xs ++ (bits_in last count ++ padding count)
+no_octets xs last count none =
+    let zero_count : count ≡ 0 = omega arith in
+    let nothing : bits_in last count ++ padding count ≡ [] = ap (λ (c : ℕ). bits_in last c ++ padding c) zero_count ∙ ap (λ (bs : List Bool). bs ++ []) (bits_in-none last) in
+    sym (append-nil (bits_of xs)) ∙ ap (λ (bs : List Bool). bits_of xs ++ bs) (sym nothing)
+
+pub padded : (xs ys : List ℕ) (last count : ℕ) (bits : List Bool) → bits_of ys ≡ bits_of xs ++ (bits_in last count ++ padding count) → bits_of xs ++ bits_in last count ≡ bits → bits_of ys ≡ bits ++ padding (length bits)
+padded xs ys last count bits e v =
+    let long : length bits ≡ 8 * length xs + count = ap length (sym v) ∙ length-written xs last count in
+    let free : (8 - count % 8) % 8 ≡ (8 - length bits % 8) % 8 = omega arith in
+    e ∙ sym (append_assoc (bits_of xs) (bits_in last count) (padding count)) ∙ ap (λ (bs : List Bool). bs ++ padding count) v ∙ ap (λ (k : ℕ). bits ++ replicate k false) free
+
+-- octets after whole octets
+pub appended_whole : (xs ys zs octets : List ℕ) (last count : ℕ) (bits : List Bool) → count % 8 ≡ 0 → bits_of xs ++ bits_in last count ≡ bits → bits_of ys ≡ bits_of xs ++ (bits_in last count ++ padding count) → zs ≡ ys ++ octets → bits_of zs ++ bits_in 0 0 ≡ bits ++ bits_of octets
+appended_whole xs ys zs octets last count bits whole v y z =
+    let none : (8 - count % 8) % 8 ≡ 0 = omega arith in
+    let same : bits_of ys ≡ bits = y ∙ ap (λ (k : ℕ). bits_of xs ++ (bits_in last count ++ replicate k false)) none ∙ ap (λ (bs : List Bool). bits_of xs ++ bs) (append-nil (bits_in last count)) ∙ v in
+    ap (λ (bs : List Bool). bits_of zs ++ bs) (bits_in-none 0) ∙ append-nil (bits_of zs) ∙ ap bits_of z ∙ bits_of-append ys octets ∙ ap (λ (bs : List Bool). bs ++ bits_of octets) same
+
+-- ---- the number of the last bits and the new ones
+small_sum : (last count value width : ℕ) → last < 2 ^ count → value < 2 ^ width → last * 2 ^ width + value < 2 ^ (count + width)
+small_sum last count value width hl hv =
+    let most = mul-le-mul_right (2 ^ width) hl in
+    let split = pow-add 2 count width in
+    omega (arith, most, split)
+
+-- few bits stay in the number
+both_are : (last count value width : ℕ) → count + width < 64 → last < 2 ^ count → last * 2 ^ width % 18446744073709551616 + value ≡ last * 2 ^ width + value
+both_are last count value width few hl = ap (λ (m : ℕ). m + value) (shl_whole last count width 64 hl (omega arith))
+
+pub both_low : (last count value width : ℕ) → count + width < 64 → last < 2 ^ count → value < 2 ^ width → last * 2 ^ width % 18446744073709551616 + value < 2 ^ (count + width)
+both_low last count value width few hl hv = subst (λ (m : ℕ). m < 2 ^ (count + width)) (sym (both_are last count value width few hl)) (small_sum last count value width hl hv)
+
+pub both_fit : (last count value width : ℕ) → count + width < 64 → last < 2 ^ count → value < 2 ^ width → last * 2 ^ width % 18446744073709551616 + value < 2 ^ 64
+both_fit last count value width few hl hv =
+    let below = both_low last count value width few hl hv in
+    let most : 2 ^ (count + width) ≤ 2 ^ 63 = pow_mono {i = count + width} {j = 63} (omega arith) in
+    omega arith
+
+pub both_bits : (xs : List ℕ) (last count value width : ℕ) → count + width < 64 → last < 2 ^ count → value < 2 ^ width → bits_of xs ++ bits_in (last * 2 ^ width % 18446744073709551616 + value) (count + width) ≡ bits_of xs ++ bits_in last count ++ bits_in value width
+both_bits xs last count value width few hl hv =
+    ap (λ (m : ℕ). bits_of xs ++ bits_in m (count + width)) (both_are last count value width few hl) ∙ ap (λ (bs : List Bool). bits_of xs ++ bs) (sym (bits_in-join last value count width hv)) ∙ sym (append_assoc (bits_of xs) (bits_in last count) (bits_in value width))
+
+-- many bits: the first 64, and the bits after them
+two_powers : (last width shift kept value : ℕ) → width ≡ shift + kept → last * 2 ^ width + value ≡ last * 2 ^ shift * 2 ^ kept + value
+two_powers last width shift kept value e = ap (λ (k : ℕ). last * 2 ^ k + value) e ∙ ap (λ (p : ℕ). last * p + value) (pow-add 2 shift kept) ∙ omega arith
+
+full_is : (last count value shift kept : ℕ) → count + shift ≡ 64 → last < 2 ^ count → last * 2 ^ shift % 18446744073709551616 + value / 2 ^ kept ≡ last * 2 ^ shift + value / 2 ^ kept
+full_is last count value shift kept all hl = ap (λ (m : ℕ). m + value / 2 ^ kept) (shl_whole last count shift 64 hl (omega arith))
+
+pub full_fits : (last count value width shift kept : ℕ) → count + shift ≡ 64 → width ≡ shift + kept → last < 2 ^ count → value < 2 ^ width → last * 2 ^ shift % 18446744073709551616 + value / 2 ^ kept < 2 ^ 64
+full_fits last count value width shift kept all parts hl hv =
+    let high : value / 2 ^ kept < 2 ^ shift = shr_below value shift kept (subst (λ (k : ℕ). value < 2 ^ k) parts hv) in
+    let below : last * 2 ^ shift + value / 2 ^ kept < 2 ^ 64 = subst (λ (k : ℕ). last * 2 ^ shift + value / 2 ^ kept < 2 ^ k) all (small_sum last count (value / 2 ^ kept) shift hl high) in
+    subst (λ (m : ℕ). m < 2 ^ 64) (sym (full_is last count value shift kept all hl)) below
+
+rest_above : (x v k : ℕ) → (x * 2 ^ k + v) % 2 ^ k ≡ v % 2 ^ k
+rest_above x v k =
+    let parts = shr_split v k in
+    let whole : x * 2 ^ k + v ≡ (x + v / 2 ^ k) * 2 ^ k + v % 2 ^ k = omega arith in
+    ap (λ (n : ℕ). n % 2 ^ k) whole ∙ mod_low (x + v / 2 ^ k) k (v % 2 ^ k) (mod_below v (2 ^ k) (pow_pos k))
+
+power_fits : (k : ℕ) → k < 64 → 1 * 2 ^ k % 18446744073709551616 ≡ 2 ^ k
+power_fits k few = shl_whole 1 1 k 64 (omega arith) (omega arith) ∙ omega arith
+
+pub rest_low : (value kept : ℕ) → kept < 63 → value % (1 * 2 ^ kept % 18446744073709551616) < 2 ^ kept
+rest_low value kept few = subst (λ (m : ℕ). value % m < 2 ^ kept) (sym (power_fits kept (omega arith))) (mod_below value (2 ^ kept) (pow_pos kept))
+
+-- ---- bits written as octets and bits after them
+pub bits_in-rest : (n k : ℕ) → bits_in (n % 2 ^ k) k ≡ bits_in n k
+bits_in-rest n k = sym (ap (λ (m : ℕ). bits_in m k) (sym (shr_split n k)) ∙ bits_in-above (n / 2 ^ k) (n % 2 ^ k) k)
+
+pub written : (xs ys bytes : List ℕ) (last count value width head tail whole kept : ℕ) (bits : List Bool) → bits_of xs ++ bits_in last count ≡ bits → value < 2 ^ width → count + width ≡ 8 * whole + kept → head ≡ (last * 2 ^ width + value) / 2 ^ kept → tail ≡ (last * 2 ^ width + value) % 2 ^ kept → bytes ≡ bytes_high_first whole head → ys ≡ xs ++ bytes → bits_of ys ++ bits_in tail kept ≡ bits ++ bits_in value width
+written xs ys bytes last count value width head tail whole kept bits v hv total h t b e =
+    let n = last * 2 ^ width + value in
+    let octets : bits_of bytes ≡ bits_in (n / 2 ^ kept) (8 * whole) = ap bits_of b ∙ bits_of-bytes whole head ∙ ap (λ (m : ℕ). bits_in m (8 * whole)) h in
+    let after : bits_in tail kept ≡ bits_in n kept = ap (λ (m : ℕ). bits_in m kept) t ∙ bits_in-rest n kept in
+    let new : bits_of bytes ++ bits_in tail kept ≡ bits_in last count ++ bits_in value width = ap (λ (bs : List Bool). bs ++ bits_in tail kept) octets ∙ ap (λ (bs : List Bool). bits_in (n / 2 ^ kept) (8 * whole) ++ bs) after ∙ sym (bits_in-split n (8 * whole) kept) ∙ ap (bits_in n) (sym total) ∙ sym (bits_in-join last value count width hv) in
+    ap (λ (zs : List ℕ). bits_of zs ++ bits_in tail kept) e ∙ ap (λ (bs : List Bool). bs ++ bits_in tail kept) (bits_of-append xs bytes) ∙ append_assoc (bits_of xs) (bits_of bytes) (bits_in tail kept) ∙ ap (λ (bs : List Bool). bits_of xs ++ bs) new ∙ sym (append_assoc (bits_of xs) (bits_in last count) (bits_in value width)) ∙ ap (λ (bs : List Bool). bs ++ bits_in value width) v
+
+-- eight octets go out
+pub full_bits : (xs ys bytes : List ℕ) (last count value width shift kept : ℕ) → count + shift ≡ 64 → width ≡ shift + kept → kept < 63 → last < 2 ^ count → value < 2 ^ width → bytes ≡ bytes_high_first 8 (last * 2 ^ shift % 18446744073709551616 + value / 2 ^ kept) → ys ≡ xs ++ bytes → bits_of ys ++ bits_in (value % (1 * 2 ^ kept % 18446744073709551616)) kept ≡ bits_of xs ++ bits_in last count ++ bits_in value width
+full_bits xs ys bytes last count value width shift kept all parts few hl hv b e =
+    let n = last * 2 ^ width + value in
+    let split : n ≡ last * 2 ^ shift * 2 ^ kept + value = two_powers last width shift kept value parts in
+    let head : last * 2 ^ shift % 18446744073709551616 + value / 2 ^ kept ≡ n / 2 ^ kept = full_is last count value shift kept all hl ∙ sym (ap (λ (m : ℕ). m / 2 ^ kept) split ∙ quotient-above (last * 2 ^ shift) value kept) in
+    let tail : value % (1 * 2 ^ kept % 18446744073709551616) ≡ n % 2 ^ kept = ap (λ (m : ℕ). value % m) (power_fits kept (omega arith)) ∙ sym (ap (λ (m : ℕ). m % 2 ^ kept) split ∙ rest_above (last * 2 ^ shift) value kept) in
+    written xs ys bytes last count value width _ _ 8 kept (bits_of xs ++ bits_in last count) refl hv (omega arith) head tail b e
+
+-- ---- octets after bits, one after another
+pub after_step : (start xs ys octets : List ℕ) (last count after kept next more i : ℕ) → i < length octets → get_or octets i 0 < 256 → bits_of xs ++ bits_in after kept ≡ bits_of start ++ bits_in last count ++ bits_of (take i octets) → bits_of ys ++ bits_in next more ≡ bits_of xs ++ bits_in after kept ++ bits_in (get_or octets i 0) 8 → bits_of ys ++ bits_in next more ≡ bits_of start ++ bits_in last count ++ bits_of (take (i + 1) octets)
+after_step start xs ys octets last count after kept next more i inside small so_far e =
+    let octet = get_or octets i 0 in
+    let same : octet ≡ octet % 256 = omega arith in
+    let bits : bits_in octet 8 ≡ bits_of (octet ∷ []) = sym (ap (λ (m : ℕ). bits_of (m ∷ [])) same ∙ bits_of-one octet) in
+    let whole : bits_of (take (i + 1) octets) ≡ bits_of (take i octets) ++ bits_of (octet ∷ []) = ap bits_of (take_more octets i 0 inside) ∙ bits_of-append (take i octets) (octet ∷ []) in
+    e ∙ ap (λ (bs : List Bool). bits_of xs ++ bits_in after kept ++ bs) bits ∙ ap (λ (bs : List Bool). bs ++ bits_of (octet ∷ [])) so_far ∙ append_assoc (bits_of start ++ bits_in last count) (bits_of (take i octets)) (bits_of (octet ∷ [])) ∙ ap (λ (bs : List Bool). bits_of start ++ bits_in last count ++ bs) (sym whole)
+
+pub nothing_after : (xs : List ℕ) (last count : ℕ) → bits_of xs ++ bits_in last count ≡ bits_of xs ++ bits_in last count ++ bits_of []
+unfolding bits_of
+nothing_after xs last count = sym (append-nil (bits_of xs ++ bits_in last count))
+
+-- ---- Bits read by the number that eight octets write.
+
+take_small : (xs : List ℕ) (k i : ℕ) → ((j : ℕ) → get_or xs j 0 < 256) → get_or (take k xs) i 0 < 256
+take_small [] zero i h = h i
+take_small [] (suc k) i h = h i
+take_small (x ∷ xs) zero i h = omega arith
+take_small (x ∷ xs) (suc k) zero h = h 0
+take_small (x ∷ xs) (suc k) (suc i) h = take_small xs k i (λ j. h (suc j))
+
+-- the first eight octets are a window
+pub window_is : (xs chunk : List ℕ) (n : ℕ) → 8 ≤ length xs → chunk ≡ take 8 xs → ((i : ℕ) → get_or xs i 0 < 256) → n < 2 ^ 64 → n ≡ from_be_bytes w64 chunk → IsWindow n 0 xs
+window_is xs chunk n h e small below value =
+    let len : length chunk ≡ 8 = ap length e ∙ length-take-le 8 xs h in
+    let each : (i : ℕ) → get_or chunk i 0 < 256 = λ i. subst (λ (ys : List ℕ). get_or ys i 0 < 256) (sym e) (take_small xs 8 i small) in
+    record {
+      within = h;
+      small = below;
+      bits = ap bits_of (sym e ∙ sym (be_bytes_8 chunk n len each value)) ∙ bits_of-bytes 8 n;
+    }
+
+-- a window of the octets from a place on
+pub window_after : (xs ys : List ℕ) (first n : ℕ) → first ≤ length xs → ys ≡ take (length xs - first) (drop first xs) → IsWindow n 0 ys → IsWindow n first xs
+window_after xs ys first n h e w =
+    let same : ys ≡ drop first xs = e ∙ take_rest xs first in
+    let long : length ys ≡ length xs - first = ap length same ∙ length-drop first xs in
+    let room = w.within in
+    record {
+      within = omega arith;
+      small = w.small;
+      bits = ap (λ (zs : List ℕ). bits_of (take 8 zs)) (sym same) ∙ w.bits;
+    }
+
+-- the bits from a place in a window on
+bits_in_window : (xs : List ℕ) (first from n : ℕ) → IsWindow n first xs → drop (8 * first + from) (bits_of xs) ≡ drop from (bits_in n 64 ++ bits_of (drop 8 (drop first xs)))
+bits_in_window xs first from n h =
+    let ys = drop first xs in
+    let parts : bits_of ys ≡ bits_in n 64 ++ bits_of (drop 8 ys) = ap bits_of (sym (take-append-drop 8 ys)) ∙ bits_of-append (take 8 ys) (drop 8 ys) ∙ ap (λ (bs : List Bool). bs ++ bits_of (drop 8 ys)) h.bits in
+    sym (drop-drop from (8 * first) (bits_of xs)) ∙ ap (drop from) (drop-bits_of first xs ∙ parts)
+
+-- the number of bits within a window
+pub number_of_window : (xs : List ℕ) (first from width n : ℕ) → IsWindow n first xs → from + width ≤ 64 → number_of (bits_at xs (8 * first + from) width) ≡ n / 2 ^ (64 - from - width) % 2 ^ width
+number_of_window xs first from width n h fits =
+    let word = bits_in n 64 in
+    let long : length word ≡ 64 = length-bits_in n 64 in
+    let rest = bits_of (drop 8 (drop first xs)) in
+    let dropped : drop from (word ++ rest) ≡ drop from word ++ rest = drop-append-le from word rest (omega arith) in
+    let taken : take width (drop from word ++ rest) ≡ take width (drop from word) = take-append-le width (drop from word) rest (omega (arith, length-drop from word)) in
+    let value : number_of word ≡ n = number_of-bits_in n 64 ∙ mod-eq_of_lt h.small in
+    ap (λ (bs : List Bool). number_of (take width bs)) (bits_in_window xs first from n h ∙ dropped) ∙ ap number_of taken ∙ number_of_middle word 64 from width long fits ∙ ap (λ (m : ℕ). m / 2 ^ (64 - from - width) % 2 ^ width) value
+
+-- a field that lies in a window, which begins before it
+pub field_in : (xs : List ℕ) (at first from width n : ℕ) → IsWindow n first xs → 8 * first + from ≡ at → from + width ≤ 64 → width ≤ 63 → n / 2 ^ (64 - from - width) % (1 * 2 ^ width % 18446744073709551616) ≡ number_of (bits_at xs at width)
+field_in xs at first from width n h place fits few =
+    let mask : 1 * 2 ^ width % 18446744073709551616 ≡ 2 ^ width = shl_whole 1 1 width 64 (omega arith) (omega arith) ∙ omega arith in
+    ap (λ (m : ℕ). n / 2 ^ (64 - from - width) % m) mask ∙ sym (number_of_window xs first from width n h fits) ∙ ap (λ (p : ℕ). number_of (bits_at xs p width)) place
+
+-- a field that lies in the window of its first octet
+pub field_within : (xs : List ℕ) (at width n : ℕ) → IsWindow n (at / 8) xs → at % 8 + width ≤ 64 → width ≤ 63 → n / 2 ^ (64 - at % 8 - width) % (1 * 2 ^ width % 18446744073709551616) ≡ number_of (bits_at xs at width)
+field_within xs at width n h fits few = field_in xs at (at / 8) (at % 8) width n h (omega arith) fits few
+
+-- a field that reaches into the ninth octet
+pub field_beyond : (xs : List ℕ) (at width n over part : ℕ) → IsWindow n (at / 8) xs → at + width ≤ 8 * length xs → width ≤ 63 → 64 < at % 8 + width → over ≡ at % 8 + width - 64 → get_or xs (at / 8 + 8) 0 < 256 → part ≡ get_or xs (at / 8 + 8) 0 / 2 ^ (8 - over) % 2 ^ over → n % (1 * 2 ^ (64 - at % 8) % 18446744073709551616) * 2 ^ over % 18446744073709551616 + part ≡ number_of (bits_at xs at width)
+field_beyond xs at width n over part h inside few beyond o small e =
+    let from = at % 8 in
+    let high = 64 - from in
+    let mask : 1 * 2 ^ high % 18446744073709551616 ≡ 2 ^ high = shl_whole 1 1 high 64 (omega arith) (omega arith) ∙ omega arith in
+    let low : n % 2 ^ high < 2 ^ high = mod_below n (2 ^ high) (pow_pos high) in
+    let shifted : n % 2 ^ high * 2 ^ over % 18446744073709551616 ≡ n % 2 ^ high * 2 ^ over = shl_whole (n % 2 ^ high) high over 64 low (omega arith) in
+    let place : 8 * (at / 8) + from ≡ at = omega arith in
+    let none : 64 - from - high ≡ 0 = omega arith in
+    let whole : n / 1 ≡ n = omega arith in
+    let first : number_of (bits_at xs at high) ≡ n % 2 ^ high = ap (λ (p : ℕ). number_of (bits_at xs p high)) (sym place) ∙ number_of_window xs (at / 8) from high n h (omega arith) ∙ ap (λ (k : ℕ). n / 2 ^ k % 2 ^ high) none ∙ ap (λ (m : ℕ). m % 2 ^ high) whole in
+    let ninth : 8 * (at / 8 + 8) + 0 ≡ at + high = omega arith in
+    let second : part ≡ number_of (bits_at xs (at + high) over) = e ∙ sym (number_of_part xs (at / 8 + 8) 0 over (omega arith) small (omega arith)) ∙ ap (λ (p : ℕ). number_of (bits_at xs p over)) ninth in
+    let all : width ≡ high + over = omega arith in
+    ap (λ (m : ℕ). n % m * 2 ^ over % 18446744073709551616 + part) mask ∙ ap (λ (m : ℕ). m + part) shifted ∙ ap (λ (m : ℕ). m * 2 ^ over + part) (sym first) ∙ ap (λ (m : ℕ). number_of (bits_at xs at high) * 2 ^ over + m) second ∙ sym (number_of_more xs at high over (omega arith)) ∙ ap (λ (k : ℕ). number_of (bits_at xs at k)) (sym all)
+
+pub window_answer : (answer : Option ℕ) (xs ys : List ℕ) (first : ℕ) → first ≤ length xs → ys ≡ take (length xs - first) (drop first xs) → MatchOption answer (length ys < 8) (λ w. IsWindow w 0 ys) → MatchOption answer (length xs < first + 8) (λ w. IsWindow w first xs)
+window_answer None xs ys first h e few =
+    let long : length ys ≡ length xs - first = ap length (e ∙ take_rest xs first) ∙ length-drop first xs in
+    omega arith
+window_answer (Some w) xs ys first h e there = window_after xs ys first w h e there
+
+-- octets are all ones where their window is the greatest number and the others are
+pub window_ones : (xs : List ℕ) (w : ℕ) → IsWindow w 0 xs → are_all_ones (bits_of xs) ≡ ((w == 2 ^ 64 - 1) && are_all_ones (bits_of (drop 8 xs)))
+window_ones xs w h =
+    let word = bits_in w 64 in
+    let parts : bits_of xs ≡ word ++ bits_of (drop 8 xs) = ap bits_of (sym (take-append-drop 8 xs)) ∙ bits_of-append (take 8 xs) (drop 8 xs) ∙ ap (λ (bs : List Bool). bs ++ bits_of (drop 8 xs)) h.bits in
+    let value : number_of word ≡ w = number_of-bits_in w 64 ∙ mod-eq_of_lt h.small in
+    let ones : are_all_ones word ≡ (w == 2 ^ 64 - 1) = sym (are_all_ones-number word) ∙ ap (λ (m : ℕ). m == 2 ^ length word - 1) value ∙ ap (λ (k : ℕ). w == 2 ^ k - 1) (length-bits_in w 64) in
+    ap are_all_ones parts ∙ list_all-append (λ (b : Bool). b) word (bits_of (drop 8 xs)) ∙ ap (λ (b : Bool). b && are_all_ones (bits_of (drop 8 xs))) ones
+
+pub window_not_ones : (xs : List ℕ) (w : ℕ) (all : Bool) → IsWindow w 0 xs → (w ≡ 2 ^ 64 - 1 → ⊥) → all ≡ are_all_ones (bits_of xs) → false ≡ all
+window_not_ones xs w all h other e =
+    let no_ones : (w == 2 ^ 64 - 1) ≡ false = grind (arith, nat_tests) in
+    sym (e ∙ window_ones xs w h ∙ ap (λ (b : Bool). b && are_all_ones (bits_of (drop 8 xs))) no_ones)
+
+pub window_all_ones : (xs ys : List ℕ) (w : ℕ) → IsWindow w 0 xs → w ≡ 2 ^ 64 - 1 → ys ≡ take (length xs - 8) (drop 8 xs) → are_all_ones (bits_of xs) ≡ are_all_ones (bits_of ys)
+window_all_ones xs ys w h ones e =
+    let yes : (w == 2 ^ 64 - 1) ≡ true = grind (arith, nat_tests) in
+    window_ones xs w h ∙ ap (λ (b : Bool). b && are_all_ones (bits_of (drop 8 xs))) yes ∙ ap (λ (zs : List ℕ). are_all_ones (bits_of zs)) (sym (e ∙ take_rest xs 8))

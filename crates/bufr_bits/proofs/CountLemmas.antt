@@ -1,7 +1,7 @@
 -- Counts that go up more than once.
 use Rattle.std.proofs.Common.{◌≡◌, ℕ, zero, suc, ◌+◌, ◌-◌, ◌^◌, ◌<◌, List, [], ◌∷◌, length, Ok, arith, refl, min, max}
 use Rattle.std.specs.Prelude.{Result}
-use Rattle.bufr_bits.specs.Counts.{counted, empty_writes_after}
+use Rattle.bufr_bits.specs.Device.{counted, empty_writes_after}
 
 twice : (count a b most : ℕ) → max (max count (min (count + a) most)) (min (max count (min (count + a) most) + b) most) ≡ max count (min (count + (a + b)) most)
 twice count a b most = omega arith

@@ -1,18 +1,24 @@
--- The number that digits write, in parts, and its quotient by a power of ten.
-use Rattle.std.proofs.Common.{◌≡◌, ℕ, zero, suc, min, ◌+◌, ◌-◌, ◌*◌, ◌^◌, ◌<◌, ◌≤◌, ◌==◌, ◌&&◌, Bool, true, if◌then◌else◌, List, [], ◌∷◌, ◌++◌, length, take, get_or, Ok, Err, refl, sym, ap, ◌∙◌, subst, ⊎_elim, rules, arith}
-use Rattle.std.specs.List.{list_all}
-use Rattle.std.specs.Char.{digit_value}
-use Rattle.std.specs.Str.Parse.{digits_value, digits_value_after}
+-- Decimal texts by their parts, at a scale, and read again.
+use Rattle.std.proofs.Common.{◌≡◌, ℕ, zero, suc, min, ◌+◌, ◌-◌, ◌*◌, ◌^◌, ◌<◌, ◌≤◌, ◌==◌, ◌&&◌, Bool, true, if◌then◌else◌, List, [], ◌∷◌, ◌++◌, length, take, get_or, Ok, Err, refl, sym, ap, ◌∙◌, subst, ⊎_elim, rules, arith, false, drop, Result, ℤ, length-drop, length-take-le, take-append-drop, nat_lt, nat_le, replicate, pos, negsuc, length-append, drop-drop, lt-ltb, le-ltb, le-leb, append-nil, length-take, append_assoc}
+use Rattle.std.specs.List.{list_all, position, position_or_len}
+use Rattle.std.specs.Char.{digit_value, is_ascii_digit}
+use Rattle.std.specs.Str.Parse.{digits_value, digits_value_after, starts_with_minus}
 use Rattle.std.proofs.lemmas.Str.Parse.{IsNumeralModel, numerals_by_value, IsDigitsTest, digits_value_short, digit_at}
 use Rattle.std.proofs.lemmas.Str.{digit_value_digit}
 use Rattle.std.proofs.lemmas.Nat.{pow-add, div-mul-add, mod-mul-add}
 use Rattle.std.proofs.lemmas.Bool.{cases_lt}
 use Rattle.std.proofs.lemmas.Bool.Decides.{nat_tests}
 use Rattle.std.proofs.Math.Nat.{pow-suc, one-le-pow, mul-le-mul_right, pow-le-pow_right}
-use Rattle.std.proofs.lemmas.List.{take_more}
-use Rattle.bufr_bits.specs.Capped.{capped}
-use Rattle.bufr_bits.specs.DecimalValue.{all_digits, whole_quotient}
-use Rattle.bufr_bits.specs.declared.decimal.NumberFault.TheVariants.{Inexact}
+use Rattle.std.proofs.lemmas.List.{take_more, take_all, drop_all, take_at, drop_at, length-replicate}
+use Rattle.bufr_bits.specs.Device.{capped, capped_ok}
+use Rattle.bufr_bits.specs.Decimal.{all_digits, whole_quotient, scaled, signed, and_then, IsParts, is_unsigned, unsigned_part, decimal_value_of, positive_scale, negative_scale, decimal_text_of, unsigned_text, pointed, is_digits, whole_part, fraction_part, sign_of}
+use Rattle.bufr_bits.specs.declared.decimal.NumberFault.TheVariants.{Inexact, Syntax}
+use Rattle.bufr_bits.specs.declared.decimal.NumberFault.{NumberFault}
+use Rattle.bufr_bits.proofs.BitLemmas.{list_all-append}
+use Rattle.std.specs.Prelude.{is_some, unsigned_abs}
+use lib.Signed.{mag}
+use Rattle.std.specs.Fmt.{decimal}
+use Rattle.std.proofs.lemmas.Fmt.{decimal_is_IsNumeral_wide}
 
 -- digits after a number: the number moves up by as many places
 move_up : (n d p q r : ℕ) → q ≡ p * 10 → (n * 10 + d) * p + r ≡ n * q + ((0 * 10 + d) * p + r)
@@ -142,3 +148,359 @@ capped_ten a b value product ha hp hb = omega arith
 
 pub ten_more : (n i : ℕ) → n * 10 ^ (i + 1) ≡ n * 10 ^ i * 10
 ten_more n i = let e : 10 ^ (i + 1) ≡ 10 ^ i * 10 ^ 1 = ten_split (i + 1) i 1 refl in rw e (omega arith)
+
+-- The number of a decimal text at a scale, by the digits that are kept and those that ten divides
+-- away.
+
+pub and_first : (a b : Bool) → (a && b) ≡ true → a ≡ true
+and_first true b h = refl
+and_first false b h = h
+
+pub and_second : (a b : Bool) → (a && b) ≡ true → b ≡ true
+and_second true b h = h
+and_second false b h = absurd cc
+
+pub all_digits-take : (n : ℕ) (ds : List ℕ) → all_digits ds ≡ true → all_digits (take n ds) ≡ true
+all_digits-take n ds h = and_first (all_digits (take n ds)) (all_digits (drop n ds)) (sym (list_all-append is_ascii_digit (take n ds) (drop n ds)) ∙ ap all_digits (take-append-drop n ds) ∙ h)
+
+pub all_digits-drop : (n : ℕ) (ds : List ℕ) → all_digits ds ≡ true → all_digits (drop n ds) ≡ true
+all_digits-drop n ds h = and_second (all_digits (take n ds)) (all_digits (drop n ds)) (sym (list_all-append is_ascii_digit (take n ds) (drop n ds)) ∙ ap all_digits (take-append-drop n ds) ∙ h)
+
+-- digits cut in two, as numbers
+pub value_cut : (n : ℕ) (ds : List ℕ) → digits_value 10 ds ≡ digits_value 10 (take n ds) * 10 ^ (length ds - n) + digits_value 10 (drop n ds)
+value_cut n ds = ap (digits_value 10) (sym (take-append-drop n ds)) ∙ value-append (take n ds) (drop n ds) ∙ ap (λ (k : ℕ). digits_value 10 (take n ds) * 10 ^ k + digits_value 10 (drop n ds)) (length-drop n ds)
+
+below_cut : (n : ℕ) (ds : List ℕ) → all_digits ds ≡ true → digits_value 10 (drop n ds) < 10 ^ (length ds - n)
+below_cut n ds h = subst (λ (k : ℕ). digits_value 10 (drop n ds) < 10 ^ k) (length-drop n ds) (value-below (drop n ds) (all_digits-drop n ds h))
+
+-- what is answered by the digits that are kept and those that go
+abbrev pub kept_or_inexact : (kept cut moved left : List ℕ) (zeros : ℕ) → Result ℕ NumberFault
+kept_or_inexact kept cut moved left zeros =
+    if list_all (λ d. d == 48) cut && list_all (λ d. d == 48) left then Ok (digits_value_after 10 (digits_value 10 kept) moved * 10 ^ zeros) else Err Inexact
+
+-- the same of a text and the powers of ten
+abbrev pub kept_of : (whole fraction : List ℕ) (up down : ℕ) → Result ℕ NumberFault
+kept_of whole fraction up down = kept_or_inexact (take (length whole - down) whole) (drop (length whole - down) whole) (take (min up (length fraction)) fraction) (drop (min up (length fraction)) fraction) (up - min up (length fraction))
+
+scaled_up : (whole fraction : List ℕ) (up : ℕ) → all_digits whole ≡ true → all_digits fraction ≡ true → whole_quotient (digits_value 10 (whole ++ fraction) * 10 ^ up) (10 ^ (length fraction + 0)) ≡ kept_of whole fraction up 0
+scaled_up whole fraction up hw hf =
+    let f = length fraction in
+    let k = min up f in
+    let moved = take k fraction in
+    let left = drop k fraction in
+    let a = digits_value 10 whole in
+    let c = digits_value 10 moved in
+    let d = digits_value 10 left in
+    let all : digits_value 10 (whole ++ fraction) ≡ a * 10 ^ f + (c * 10 ^ (f - k) + d) = value-append whole fraction ∙ ap (λ (m : ℕ). a * 10 ^ f + m) (value_cut k fraction) in
+    let length_moved : length moved ≡ k = length-take-le k fraction (omega arith) in
+    let after : a * 10 ^ k + c ≡ digits_value_after 10 a moved = ap (λ (m : ℕ). a * 10 ^ m + c) (sym length_moved) ∙ sym (value_after-is a moved) in
+    let zeros : (d == 0) ≡ list_all (λ d. d == 48) left = zero_value left (all_digits-drop k fraction hf) in
+    let none_cut : drop (length whole - 0) whole ≡ [] = drop_all (length whole - 0) whole (omega arith) in
+    let all_kept : take (length whole - 0) whole ≡ whole = take_all (length whole - 0) whole (omega arith) in
+    ap (λ (m : ℕ). whole_quotient (m * 10 ^ up) (10 ^ (f + 0))) all ∙ exact_up a c d f k up refl (below_cut k fraction hf) ∙ ap (λ (t : Bool). if t then Ok ((a * 10 ^ k + c) * 10 ^ (up - k)) else Err Inexact) zeros ∙ ap (λ (v : ℕ). if list_all (λ d. d == 48) left then Ok (v * 10 ^ (up - k)) else Err Inexact) after ∙ ap (λ (ds : List ℕ). kept_or_inexact ds [] moved left (up - k)) (sym all_kept) ∙ ap (λ (ds : List ℕ). kept_or_inexact (take (length whole - 0) whole) ds moved left (up - k)) (sym none_cut)
+
+scaled_down : (whole fraction : List ℕ) (down : ℕ) → all_digits whole ≡ true → all_digits fraction ≡ true → whole_quotient (digits_value 10 (whole ++ fraction) * 10 ^ 0) (10 ^ (length fraction + down)) ≡ kept_of whole fraction 0 down
+scaled_down whole fraction down hw hf =
+    let f = length fraction in
+    let n = length whole - down in
+    let kept = take n whole in
+    let cut = drop n whole in
+    let a = digits_value 10 kept in
+    let b = digits_value 10 cut in
+    let d = digits_value 10 fraction in
+    let w = length whole - n in
+    let all : digits_value 10 (whole ++ fraction) ≡ (a * 10 ^ w + b) * 10 ^ f + d = value-append whole fraction ∙ ap (λ (m : ℕ). m * 10 ^ f + d) (value_cut n whole) in
+    let zeros_cut : (b == 0) ≡ list_all (λ d. d == 48) cut = zero_value cut (all_digits-drop n whole hw) in
+    let zeros_left : (d == 0) ≡ list_all (λ d. d == 48) fraction = zero_value fraction hf in
+    let split : f + down ≡ f + (w + (down - w)) = omega arith in
+    let none_kept : 0 < down - w → a ≡ 0 = λ (h : 0 < down - w). let none : n ≡ 0 = omega arith in ap (λ (m : ℕ). digits_value 10 (take m whole)) none in
+    let value : a ≡ a * 1 = omega arith in
+    let no_zeros : 0 - min 0 f ≡ 0 = omega arith in
+    let none_moved : min 0 f ≡ 0 = omega arith in
+    ap (λ (m : ℕ). whole_quotient (m * 1) (10 ^ (f + down))) all ∙ ap (λ (m : ℕ). whole_quotient (((a * 10 ^ w + b) * 10 ^ f + d) * 1) (10 ^ m)) split ∙ exact_down a b d w (down - w) f (below_cut n whole hw) (value-below fraction hf) none_kept ∙ ap (λ (t : Bool). if t && (d == 0) then Ok a else Err Inexact) zeros_cut ∙ ap (λ (t : Bool). if list_all (λ d. d == 48) cut && t then Ok a else Err Inexact) zeros_left ∙ ap (λ (v : ℕ). if list_all (λ d. d == 48) cut && list_all (λ d. d == 48) fraction then Ok v else Err Inexact) value ∙ ap (λ (m : ℕ). kept_or_inexact kept cut (take m fraction) (drop m fraction) (0 - m)) (sym none_moved)
+
+pub scaled_by_parts : (whole fraction : List ℕ) (up down : ℕ) → all_digits whole ≡ true → all_digits fraction ≡ true → (0 < down → up ≡ 0) → whole_quotient (digits_value 10 (whole ++ fraction) * 10 ^ up) (10 ^ (length fraction + down)) ≡ kept_of whole fraction up down
+scaled_by_parts whole fraction up zero hw hf h = scaled_up whole fraction up hw hf
+scaled_by_parts whole fraction up (suc less) hw hf h = subst (λ (m : ℕ). whole_quotient (digits_value 10 (whole ++ fraction) * 10 ^ m) (10 ^ (length fraction + suc less)) ≡ kept_of whole fraction m (suc less)) (sym (h (omega arith))) (scaled_down whole fraction (suc less) hw hf)
+
+-- the parts of a text as the code has them
+pub record AreKept (whole fraction : List ℕ) (up down : ℕ) (kept cut moved left : List ℕ) : Type 0 where
+  pub kept_is : kept ≡ take (length whole - down) whole
+  pub cut_is : cut ≡ drop (length whole - down) whole
+  pub moved_is : moved ≡ take (min up (length fraction)) fraction
+  pub left_is : left ≡ drop (min up (length fraction)) fraction
+
+pub answer_by_parts : (whole fraction : List ℕ) (up down : ℕ) (kept cut moved left : List ℕ) → all_digits whole ≡ true → all_digits fraction ≡ true → (0 < down → up ≡ 0) → AreKept whole fraction up down kept cut moved left → whole_quotient (digits_value 10 (whole ++ fraction) * 10 ^ up) (10 ^ (length fraction + down)) ≡ kept_or_inexact kept cut moved left (up - min up (length fraction))
+answer_by_parts whole fraction up down kept cut moved left hw hf one h =
+    rw (h.kept_is, h.cut_is, h.moved_is, h.left_is) (scaled_by_parts whole fraction up down hw hf one)
+
+pub answer_ok : (whole fraction : List ℕ) (up down : ℕ) (kept cut moved left : List ℕ) (times r : ℕ) → all_digits whole ≡ true → all_digits fraction ≡ true → (0 < down → up ≡ 0) → AreKept whole fraction up down kept cut moved left → list_all (λ d. d == 48) cut ≡ true → list_all (λ d. d == 48) left ≡ true → times ≡ up - min up (length fraction) → r ≡ capped (digits_value_after 10 (digits_value 10 kept) moved * 10 ^ times) → Ok r ≡ capped_ok (whole_quotient (digits_value 10 (whole ++ fraction) * 10 ^ up) (10 ^ (length fraction + down)))
+answer_ok whole fraction up down kept cut moved left times r hw hf one h zero_cut zero_left t e =
+    let answer = answer_by_parts whole fraction up down kept cut moved left hw hf one h in
+    let value = digits_value_after 10 (digits_value 10 kept) moved in
+    let found : kept_or_inexact kept cut moved left (up - min up (length fraction)) ≡ Ok (value * 10 ^ (up - min up (length fraction))) = rw (zero_cut, zero_left) refl in
+    rw (answer, found, ← t, e) refl
+
+pub answer_inexact : (whole fraction : List ℕ) (up down : ℕ) (kept cut moved left : List ℕ) → all_digits whole ≡ true → all_digits fraction ≡ true → (0 < down → up ≡ 0) → AreKept whole fraction up down kept cut moved left → (list_all (λ d. d == 48) cut && list_all (λ d. d == 48) left) ≡ false → Err Inexact ≡ capped_ok (whole_quotient (digits_value 10 (whole ++ fraction) * 10 ^ up) (10 ^ (length fraction + down)))
+answer_inexact whole fraction up down kept cut moved left hw hf one h none =
+    let answer = answer_by_parts whole fraction up down kept cut moved left hw hf one h in
+    let found : kept_or_inexact kept cut moved left (up - min up (length fraction)) ≡ Err Inexact = rw none refl in
+    rw (answer, found) refl
+
+pub are_kept : (whole fraction : List ℕ) (up down n m : ℕ) (kept cut moved left : List ℕ) → n ≡ length whole - down → m ≡ min up (length fraction) → kept ≡ take n whole → cut ≡ drop n whole → moved ≡ take m fraction → left ≡ drop m fraction → AreKept whole fraction up down kept cut moved left
+are_kept whole fraction up down n m kept cut moved left hn hm a b c d = record {
+  kept_is = a ∙ ap (λ (k : ℕ). take k whole) hn;
+  cut_is = b ∙ ap (λ (k : ℕ). drop k whole) hn;
+  moved_is = c ∙ ap (λ (k : ℕ). take k fraction) hm;
+  left_is = d ∙ ap (λ (k : ℕ). drop k fraction) hm;
+}
+
+capped_err : (q : Result ℕ NumberFault) (fault : NumberFault) → Err fault ≡ capped_ok q → q ≡ Err fault
+capped_err (Ok m) fault e = absurd cc
+capped_err (Err f) fault e = sym e
+
+capped_found : (q : Result ℕ NumberFault) (n : ℕ) → Ok n ≡ capped_ok q → (m : ℕ) × (q ≡ Ok m) × (n ≡ capped m)
+capped_found (Ok m) n e = (m, refl, cc)
+capped_found (Err f) n e = absurd cc
+
+-- what reading a text answers, by what was found
+pub read_syntax : (text body : List ℕ) (scale : ℤ) → body ≡ unsigned_part text → is_unsigned body ≡ false → Err Syntax ≡ decimal_value_of text scale
+unfolding decimal_value_of
+read_syntax text body scale b h =
+    let no_form : is_unsigned (unsigned_part text) ≡ false = subst (λ (t : List ℕ). is_unsigned t ≡ false) b h in
+    rw no_form refl
+
+value_by_parts : (text body whole fraction : List ℕ) (scale : ℤ) → body ≡ unsigned_part text → IsParts body whole fraction → decimal_value_of text scale ≡ and_then (scaled (whole ++ fraction) (length fraction) scale) (signed (starts_with_minus text))
+unfolding decimal_value_of
+value_by_parts text body whole fraction scale b h =
+    let parts : IsParts (unsigned_part text) whole fraction = subst (λ (t : List ℕ). IsParts t whole fraction) b h in
+    rw (parts.form, ← parts.before, ← parts.after) refl
+
+-- the quotient by the powers that the code has
+abbrev quotient_of : (whole fraction : List ℕ) (up down : ℕ) → Result ℕ NumberFault
+quotient_of whole fraction up down = whole_quotient (digits_value 10 (whole ++ fraction) * 10 ^ up) (10 ^ (length fraction + down))
+
+value_by_powers : (text body whole fraction : List ℕ) (scale : ℤ) (up down : ℕ) → body ≡ unsigned_part text → IsParts body whole fraction → up ≡ positive_scale scale → down ≡ negative_scale scale → decimal_value_of text scale ≡ and_then (quotient_of whole fraction up down) (signed (starts_with_minus text))
+value_by_powers text body whole fraction scale up down b h hu hd =
+    value_by_parts text body whole fraction scale b h ∙ ap (λ (k : ℕ). and_then (quotient_of whole fraction k (negative_scale scale)) (signed (starts_with_minus text))) (sym hu) ∙ ap (λ (k : ℕ). and_then (quotient_of whole fraction up k) (signed (starts_with_minus text))) (sym hd)
+
+pub read_fault : (text body whole fraction : List ℕ) (scale : ℤ) (up down : ℕ) (fault : NumberFault) (r : Result ℤ NumberFault) → body ≡ unsigned_part text → IsParts body whole fraction → up ≡ positive_scale scale → down ≡ negative_scale scale → Err fault ≡ capped_ok (whole_quotient (digits_value 10 (whole ++ fraction) * 10 ^ up) (10 ^ (length fraction + down))) → r ≡ Err fault → r ≡ decimal_value_of text scale
+read_fault text body whole fraction scale up down fault r b h hu hd e result =
+    let quotient = capped_err (quotient_of whole fraction up down) fault e in
+    let value = value_by_powers text body whole fraction scale up down b h hu hd in
+    result ∙ sym (value ∙ ap (λ (q : Result ℕ NumberFault). and_then q (signed (starts_with_minus text))) quotient)
+
+pub read_found : (text body whole fraction : List ℕ) (scale : ℤ) (up down n : ℕ) (negative : Bool) (r : Result ℤ NumberFault) → body ≡ unsigned_part text → IsParts body whole fraction → up ≡ positive_scale scale → down ≡ negative_scale scale → negative ≡ starts_with_minus text → Ok n ≡ capped_ok (whole_quotient (digits_value 10 (whole ++ fraction) * 10 ^ up) (10 ^ (length fraction + down))) → ((m : ℕ) → n ≡ capped m → r ≡ signed negative m) → r ≡ decimal_value_of text scale
+read_found text body whole fraction scale up down n negative r b h hu hd hn e result =
+    let found = capped_found (quotient_of whole fraction up down) n e in
+    let value = value_by_powers text body whole fraction scale up down b h hu hd in
+    let whole_value = value ∙ ap (λ (q : Result ℕ NumberFault). and_then q (signed (starts_with_minus text))) found.1 in
+    result found.0 found.2 ∙ ap (λ (s : Bool). signed s found.0) hn ∙ sym whole_value
+
+-- ---- Decimal text that is read again with the same scale.
+
+-- a digit is no point and no minus
+digit_no_point : (c : ℕ) → is_ascii_digit c ≡ true → (c == 46) ≡ false
+digit_no_point c h = grind (arith, nat_tests)
+
+digit_no_minus : (c : ℕ) → is_ascii_digit c ≡ true → (c == 45) ≡ false
+digit_no_minus c h = grind (arith, nat_tests)
+
+-- the first place of a point
+pub point_after : (whole fraction : List ℕ) → all_digits whole ≡ true → position_or_len (λ c. c == 46) (whole ++ 46 ∷ fraction) ≡ length whole
+point_after [] fraction h = refl
+point_after (d ∷ whole) fraction h =
+    let digit = digit_no_point d (and_first (is_ascii_digit d) (all_digits whole) h) in
+    let rest = point_after whole fraction (and_second (is_ascii_digit d) (all_digits whole) h) in
+    rw digit (omega (arith, rest))
+
+pub point_nowhere : (whole : List ℕ) → all_digits whole ≡ true → position_or_len (λ c. c == 46) whole ≡ length whole
+point_nowhere [] h = refl
+point_nowhere (d ∷ whole) h =
+    let digit = digit_no_point d (and_first (is_ascii_digit d) (all_digits whole) h) in
+    let rest = point_nowhere whole (and_second (is_ascii_digit d) (all_digits whole) h) in
+    rw digit (omega (arith, rest))
+
+-- leading zeros
+pub zeros_digits : (k : ℕ) → all_digits (replicate k 48) ≡ true
+zeros_digits zero = refl
+zeros_digits (suc k) = zeros_digits k
+
+pub zeros_value : (k : ℕ) → digits_value 10 (replicate k 48) ≡ 0
+zeros_value zero = refl
+zeros_value (suc k) = zeros_value k
+
+-- the parts of a text with a point
+pub whole_with_point : (whole fraction : List ℕ) → all_digits whole ≡ true → whole_part (whole ++ 46 ∷ fraction) ≡ whole
+whole_with_point whole fraction h = ap (λ (k : ℕ). take k (whole ++ 46 ∷ fraction)) (point_after whole fraction h) ∙ take_at whole (46 ∷ fraction) (length whole) refl
+
+pub fraction_with_point : (whole fraction : List ℕ) → all_digits whole ≡ true → fraction_part (whole ++ 46 ∷ fraction) ≡ fraction
+fraction_with_point whole fraction h =
+    ap (λ (k : ℕ). drop (k + 1) (whole ++ 46 ∷ fraction)) (point_after whole fraction h) ∙ sym (drop-drop 1 (length whole) (whole ++ 46 ∷ fraction)) ∙ ap (drop 1) (drop_at whole (46 ∷ fraction) (length whole) refl)
+
+-- the parts of digits alone
+pub whole_alone : (whole : List ℕ) → all_digits whole ≡ true → whole_part whole ≡ whole
+whole_alone whole h = ap (λ (k : ℕ). take k whole) (point_nowhere whole h) ∙ take_all (length whole) whole (omega arith)
+
+pub fraction_alone : (whole : List ℕ) → all_digits whole ≡ true → fraction_part whole ≡ []
+fraction_alone whole h = ap (λ (k : ℕ). drop (k + 1) whole) (point_nowhere whole h) ∙ drop_all (length whole + 1) whole (omega arith)
+
+is_digits_true : (ds : List ℕ) → 0 < length ds → all_digits ds ≡ true → is_digits ds ≡ true
+is_digits_true ds some h = rw h (grind (arith, nat_tests))
+
+position_somewhere : (text : List ℕ) (i : ℕ) → position_or_len (λ c. c == 46) text ≡ i → i < length text → is_some (position (λ c. c == 46) text) ≡ true
+position_somewhere text i e h =
+    let there : nat_lt (position_or_len (λ c. c == 46) text) (length text) ≡ true = lt-ltb _ _ (omega arith) in
+    rw there refl
+
+position_none : (text : List ℕ) → position_or_len (λ c. c == 46) text ≡ length text → is_some (position (λ c. c == 46) text) ≡ false
+position_none text e =
+    let nowhere : nat_lt (position_or_len (λ c. c == 46) text) (length text) ≡ false = le-ltb _ _ (omega arith) in
+    rw nowhere refl
+
+-- which texts are of the form of a number
+pub form_with_point : (whole fraction : List ℕ) → 0 < length whole → 0 < length fraction → all_digits whole ≡ true → all_digits fraction ≡ true → is_unsigned (whole ++ 46 ∷ fraction) ≡ true
+form_with_point whole fraction sw sf hw hf =
+    let text = whole ++ 46 ∷ fraction in
+    let w = whole_with_point whole fraction hw in
+    let f = fraction_with_point whole fraction hw in
+    let there : is_some (position (λ c. c == 46) text) ≡ true = position_somewhere text (length whole) (point_after whole fraction hw) (omega (arith, length-append whole (46 ∷ fraction))) in
+    rw (w, f, there, is_digits_true whole sw hw, is_digits_true fraction sf hf) refl
+
+pub form_alone : (whole : List ℕ) → 0 < length whole → all_digits whole ≡ true → is_unsigned whole ≡ true
+form_alone whole sw hw =
+    let nowhere : is_some (position (λ c. c == 46) whole) ≡ false = position_none whole (point_nowhere whole hw) in
+    rw (whole_alone whole hw, nowhere, is_digits_true whole sw hw) refl
+
+-- a quotient of powers of ten that is whole
+exact_quotient : (n k m : ℕ) → m ≡ k → whole_quotient (n * 10 ^ k) (10 ^ m) ≡ Ok n
+exact_quotient n k m e = quotient_is (n * 10 ^ k) (10 ^ m) n 0 (rw e (omega arith)) (ten_pos m)
+
+first_digit : (ds more : List ℕ) → 0 < length ds → all_digits ds ≡ true → is_ascii_digit (get_or (ds ++ more) 0 0) ≡ true
+first_digit [] more h all = absurd (omega arith)
+first_digit (d ∷ ds) more h all = and_first (is_ascii_digit d) (all_digits ds) all
+
+-- an unsigned text that writes a number at a scale
+pub record IsTextOf (text : List ℕ) (n : ℕ) (scale : ℤ) : Type 0 where
+  pub form : is_unsigned text ≡ true
+  pub value : scaled (whole_part text ++ fraction_part text) (length (fraction_part text)) scale ≡ Ok n
+  pub first : is_ascii_digit (get_or text 0 0) ≡ true
+
+text_with_point : (whole fraction : List ℕ) (n : ℕ) (places : ℕ) → 0 < length whole → 0 < length fraction → all_digits whole ≡ true → all_digits fraction ≡ true → length fraction ≡ places → digits_value 10 (whole ++ fraction) ≡ n → IsTextOf (whole ++ 46 ∷ fraction) n (pos places)
+text_with_point whole fraction n places sw sf hw hf len e = record {
+  form = form_with_point whole fraction sw sf hw hf;
+  value = rw (whole_with_point whole fraction hw, fraction_with_point whole fraction hw, e) (exact_quotient n places (length fraction + 0) (omega arith));
+  first = first_digit whole (46 ∷ fraction) sw hw;
+}
+
+text_alone : (whole : List ℕ) (n k : ℕ) (scale : ℤ) → 0 < length whole → all_digits whole ≡ true → digits_value 10 whole * 10 ^ positive_scale scale ≡ n * 10 ^ k → negative_scale scale ≡ k → IsTextOf whole n scale
+text_alone whole n k scale sw hw e d = record {
+  form = form_alone whole sw hw;
+  value = rw (whole_alone whole hw, fraction_alone whole hw, append-nil whole, e) (exact_quotient n k (0 + negative_scale scale) (omega arith));
+  first = rw append-nil at (first_digit whole [] sw hw);
+}
+
+decimal_digits : (n : ℕ) → n < 10 ^ 64 → all_digits (decimal n) ≡ true
+decimal_digits n h = own.from (decimal n) (decimal_is_IsNumeral_wide n h).0.1
+
+decimal_some : (n : ℕ) → n < 10 ^ 64 → 0 < length (decimal n)
+decimal_some n h = (decimal_is_IsNumeral_wide n h).0.0
+
+decimal_value : (n : ℕ) → n < 10 ^ 64 → digits_value 10 (decimal n) ≡ n
+decimal_value n h = (decimal_is_IsNumeral_wide n h).1
+
+pub padded_value : (count : ℕ) (d : List ℕ) (n : ℕ) → digits_value 10 d ≡ n → digits_value 10 (replicate count 48 ++ d) ≡ n
+padded_value count d n e =
+    let none : digits_value 10 (replicate count 48) * 10 ^ length d ≡ 0 = ap (λ (m : ℕ). m * 10 ^ length d) (zeros_value count) ∙ omega arith in
+    value-append (replicate count 48) d ∙ omega (arith, none)
+
+zeros_after_value : (count : ℕ) (d : List ℕ) (n : ℕ) → digits_value 10 d ≡ n → digits_value 10 (d ++ replicate count 48) ≡ n * 10 ^ count
+zeros_after_value count d n e =
+    value-append d (replicate count 48) ∙ ap (λ (m : ℕ). digits_value 10 d * 10 ^ length (replicate {A = ℕ} count 48) + m) (zeros_value count) ∙ ap (λ (m : ℕ). digits_value 10 d * 10 ^ m + 0) (length-replicate {A = ℕ} count 48) ∙ ap (λ (m : ℕ). m * 10 ^ count + 0) e ∙ omega arith
+
+pointed_is_text : (n places : ℕ) → n < 10 ^ 64 → IsTextOf (pointed (suc places) (decimal n)) n (pos (suc places))
+pointed_is_text n places h =
+    let d = decimal n in
+    let count = suc places + 1 - length d in
+    let padded = replicate count 48 ++ d in
+    let w = length padded - suc places in
+    let long = length-append (replicate count 48) d in
+    let zeros_long : length (replicate {A = ℕ} count 48) ≡ count = length-replicate count 48 in
+    let all : all_digits padded ≡ true = list_all-append is_ascii_digit (replicate count 48) d ∙ ap (λ (t : Bool). t && all_digits d) (zeros_digits count) ∙ decimal_digits n h in
+    let value : digits_value 10 padded ≡ n = padded_value count d n (decimal_value n h) in
+    let both : digits_value 10 (take w padded ++ drop w padded) ≡ n = ap (digits_value 10) (take-append-drop w padded) ∙ value in
+    text_with_point (take w padded) (drop w padded) n (suc places) (omega (arith, length-take w padded)) (omega (arith, length-drop w padded)) (all_digits-take w padded all) (all_digits-drop w padded all) (omega (arith, length-drop w padded)) both
+
+multiplied : (n less : ℕ) → suc n < 10 ^ 64 → digits_value 10 (decimal (suc n) ++ replicate (suc less) 48) * 1 ≡ suc n * 10 ^ (less + 1)
+multiplied n less h =
+    let value = zeros_after_value (suc less) (decimal (suc n)) (suc n) (decimal_value (suc n) h) in
+    let same : suc less ≡ less + 1 = omega arith in
+    ap (λ (m : ℕ). m * 1) value ∙ ap (λ (k : ℕ). suc n * 10 ^ k * 1) same ∙ omega arith
+
+pub unsigned_is_text : (n : ℕ) (scale : ℤ) → n < 10 ^ 64 → IsTextOf (unsigned_text n scale) n scale
+unfolding unsigned_text
+unsigned_is_text n (pos zero) h = text_alone (decimal n) n 0 (pos zero) (decimal_some n h) (decimal_digits n h) (ap (λ (m : ℕ). m * 1) (decimal_value n h)) refl
+unsigned_is_text n (pos (suc places)) h = pointed_is_text n places h
+unsigned_is_text zero (negsuc less) h = text_alone (decimal 0) 0 (less + 1) (negsuc less) (decimal_some 0 h) (decimal_digits 0 h) (let value = decimal_value 0 h in omega (arith, value)) refl
+unsigned_is_text (suc n) (negsuc less) h = text_alone (decimal (suc n) ++ replicate (suc less) 48) (suc n) (less + 1) (negsuc less) (omega (arith, decimal_some (suc n) h, length-append (decimal (suc n)) (replicate (suc less) 48))) (list_all-append is_ascii_digit (decimal (suc n)) (replicate (suc less) 48) ∙ ap (λ (t : Bool). t && all_digits (replicate (suc less) 48)) (decimal_digits (suc n) h) ∙ zeros_digits (suc less)) (multiplied n less h) refl
+
+-- the sign of a text
+pub no_sign : (text : List ℕ) → is_ascii_digit (get_or text 0 0) ≡ true → starts_with_minus text ≡ false
+no_sign text h = digit_no_minus (get_or text 0 0) h
+
+-- a text after a sign is read as its parts
+read_after_minus : (text : List ℕ) (n : ℕ) (scale : ℤ) → IsTextOf text n scale → decimal_value_of (45 ∷ text) scale ≡ signed true n
+unfolding decimal_value_of
+read_after_minus text n scale h = rw (h.form, h.value) refl
+
+read_alone : (text : List ℕ) (n : ℕ) (scale : ℤ) → IsTextOf text n scale → decimal_value_of text scale ≡ signed false n
+unfolding decimal_value_of
+read_alone text n scale h = rw (no_sign text h.first, h.form, h.value) refl
+
+fits_signed : (n : ℕ) → n < 2 ^ 127 → signed false n ≡ Ok (pos n)
+fits_signed n h = let small : nat_lt n (2 ^ 127) ≡ true = lt-ltb n (2 ^ 127) h in rw small refl
+
+fits_minus : (n : ℕ) → n < 2 ^ 127 → signed true (suc n) ≡ Ok (negsuc n)
+fits_minus n h = let small : nat_le (suc n) (2 ^ 127) ≡ true = le-leb (suc n) (2 ^ 127) h in rw small refl
+
+-- the law
+pub reads_back : (v scale : ℤ) → mag v < 2 ^ 127 → decimal_value_of (decimal_text_of v scale) scale ≡ Ok v
+unfolding decimal_text_of
+reads_back (pos n) scale h = read_alone (unsigned_text n scale) n scale (unsigned_is_text n scale (omega arith)) ∙ fits_signed n h
+reads_back (negsuc n) scale h = read_after_minus (unsigned_text (suc n) scale) (suc n) scale (unsigned_is_text (suc n) scale (omega arith)) ∙ fits_minus n h
+
+-- ---- Decimal text by its parts.
+
+-- after a sign, with a point
+unsigned_pointed : (n : ℕ) (scale : ℤ) (places : ℕ) → 0 < places → places ≡ positive_scale scale → pointed places (decimal n) ≡ unsigned_text n scale
+unfolding unsigned_text
+unsigned_pointed n (pos zero) places h e = absurd (omega arith)
+unsigned_pointed n (pos (suc m)) places h e = ap (λ (k : ℕ). pointed k (decimal n)) e
+unsigned_pointed n (negsuc m) places h e = absurd (omega arith)
+
+not_zero : (n : ℕ) → (suc n == 0) ≡ false
+not_zero n = grind (arith, nat_tests)
+
+-- after a sign, with zeros
+unsigned_plain : (n : ℕ) (scale : ℤ) (places power count : ℕ) → places ≤ 0 → places ≡ positive_scale scale → power ≡ negative_scale scale → count ≡ (if n == 0 then 0 else power) → decimal n ++ replicate count 48 ≡ unsigned_text n scale
+unfolding unsigned_text
+unsigned_plain zero (pos zero) places power count h u d z = rw z (append-nil (decimal 0))
+unsigned_plain (suc n) (pos zero) places power count h u d z = rw (z, not_zero n, d) (append-nil (decimal (suc n)))
+unsigned_plain n (pos (suc m)) places power count h u d z = absurd (omega arith)
+unsigned_plain zero (negsuc m) places power count h u d z = rw z (append-nil (decimal 0))
+unsigned_plain (suc n) (negsuc m) places power count h u d z =
+    let more : count ≡ suc m = z ∙ ap (λ (t : Bool). if t then 0 else power) (not_zero n) ∙ d ∙ omega arith in
+    ap (λ (k : ℕ). decimal (suc n) ++ replicate k 48) more
+
+pub text_pointed : (old after new digits : List ℕ) (v scale : ℤ) (size places : ℕ) → 0 < places → places ≡ positive_scale scale → size ≡ unsigned_abs v → digits ≡ decimal size → after ≡ old ++ sign_of v → new ≡ after ++ pointed places digits → new ≡ old ++ decimal_text_of v scale
+unfolding decimal_text_of
+text_pointed old after new digits v scale size places h u s d a e =
+    e ∙ ap (λ (t : List ℕ). t ++ pointed places digits) a ∙ ap (λ (t : List ℕ). old ++ sign_of v ++ pointed places t) (d ∙ ap decimal s) ∙ ap (λ (t : List ℕ). old ++ sign_of v ++ t) (unsigned_pointed (unsigned_abs v) scale places h u) ∙ append_assoc old (sign_of v) (unsigned_text (unsigned_abs v) scale)
+
+pub text_plain : (old after before new digits : List ℕ) (v scale : ℤ) (size places power count : ℕ) → places ≤ 0 → places ≡ positive_scale scale → power ≡ negative_scale scale → size ≡ unsigned_abs v → digits ≡ decimal size → count ≡ (if size == 0 then 0 else power) → after ≡ old ++ sign_of v → before ≡ after ++ digits → new ≡ before ++ replicate count 48 → new ≡ old ++ decimal_text_of v scale
+unfolding decimal_text_of
+text_plain old after before new digits v scale size places power count h u p s d z a b e =
+    let n = unsigned_abs v in
+    let zeros_of : count ≡ (if n == 0 then 0 else power) = z ∙ ap (λ (m : ℕ). if m == 0 then 0 else power) s in
+    let unsigned : digits ++ replicate count 48 ≡ unsigned_text n scale = ap (λ (t : List ℕ). t ++ replicate count 48) (d ∙ ap decimal s) ∙ unsigned_plain n scale places power count h u p zeros_of in
+    e ∙ ap (λ (t : List ℕ). t ++ replicate count 48) (b ∙ ap (λ (t : List ℕ). t ++ digits) a) ∙ append_assoc (old ++ sign_of v) digits (replicate count 48) ∙ ap (λ (t : List ℕ). old ++ sign_of v ++ t) unsigned ∙ append_assoc old (sign_of v) (unsigned_text n scale)

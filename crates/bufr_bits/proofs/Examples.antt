@@ -2,8 +2,7 @@
 use Rattle.std.proofs.Common.{◌≡◌, true, false, Ok, Err, pos, negsuc, [], ◌∷◌, ◌++◌, refl, replicate}
 use Rattle.std.specs.Prelude.{codes}
 use Rattle.std.specs.Fmt.{digits}
-use Rattle.bufr_bits.specs.DecimalText.{decimal_text_of, unsigned_text}
-use Rattle.bufr_bits.specs.DecimalValue.{decimal_value_of}
+use Rattle.bufr_bits.specs.Decimal.{decimal_text_of, unsigned_text, decimal_value_of}
 use Rattle.bufr_bits.specs.Bits.{bits_of, bits_in, bits_at, number_of, are_all_ones, padding}
 use Rattle.bufr_bits.specs.declared.decimal.NumberFault.TheVariants.{Syntax, Inexact, Large}
 

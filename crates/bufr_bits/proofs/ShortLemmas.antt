@@ -1,19 +1,21 @@
--- Short decimal texts: the first digits of a text, its parts, and its number at a scale.
-use Rattle.std.proofs.Common.{◌≡◌, ℕ, suc, ◌+◌, ◌-◌, ◌*◌, ◌/◌, ◌%◌, ◌^◌, ◌<◌, ◌≤◌, ◌==◌, ◌&&◌, Bool, true, false, if◌then◌else◌, List, [], ◌∷◌, ◌++◌, length, take, drop, get_or, Result, Ok, Err, ℤ, refl, sym, ap, ◌∙◌, subst, arith, length-append, length-drop, append-nil, length-take-le, take-append-drop}
+-- Short decimal texts: their digits, their parts, and their number at a scale.
+use Rattle.std.proofs.Common.{◌≡◌, ℕ, suc, ◌+◌, ◌-◌, ◌*◌, ◌/◌, ◌%◌, ◌^◌, ◌<◌, ◌≤◌, ◌==◌, ◌&&◌, Bool, true, false, if◌then◌else◌, List, [], ◌∷◌, ◌++◌, length, take, drop, get_or, Result, Ok, Err, ℤ, refl, sym, ap, ◌∙◌, subst, arith, length-append, length-drop, append-nil, length-take-le, take-append-drop, zero, replicate, pos, length-take}
 use Rattle.std.specs.Int.{IsInRange}
 use Rattle.std.specs.Char.{is_ascii_digit, digit_value}
 use Rattle.std.specs.Str.Parse.{digits_value, digits_value_after, starts_with_minus}
 use Rattle.std.proofs.lemmas.Str.{digit_value_digit}
 use Rattle.std.proofs.lemmas.Nat.{div-add-mod', mod_below}
 use Rattle.std.proofs.lemmas.Bool.Decides.{nat_tests}
-use Rattle.std.proofs.lemmas.List.{take_more, drop_more, take_all}
+use Rattle.std.proofs.lemmas.List.{take_more, drop_more, take_all, take_at, drop_at, length-replicate}
 use Rattle.std.proofs.Math.Nat.{pow-suc, mul-le-mul_right, pow-le-pow_right}
-use Rattle.bufr_bits.specs.DecimalValue.{all_digits, whole_part, fraction_part, whole_quotient, signed, and_then, IsShortDecimal, unsigned_part, decimal_value_of, positive_scale, negative_scale}
+use Rattle.bufr_bits.specs.Decimal.{all_digits, whole_part, fraction_part, whole_quotient, signed, and_then, IsShortDecimal, unsigned_part, decimal_value_of, positive_scale, negative_scale, decimal_text_of, unsigned_text, pointed, signed_number, is_decimal_octet, IsPlainDecimal}
 use Rattle.bufr_bits.specs.declared.decimal.NumberFault.{NumberFault}
 use Rattle.bufr_bits.specs.declared.decimal.NumberFault.TheVariants.{Inexact}
-use Rattle.bufr_bits.proofs.OnesLemmas.{list_all-append}
-use Rattle.bufr_bits.proofs.DecimalLemmas.{value_after-is, value_after-append, value-below, quotient_is, ten_pos, ten_split, product_zero, sum_zero}
-use Rattle.bufr_bits.proofs.RoundLemmas.{whole_with_point, fraction_with_point, whole_alone, fraction_alone, form_with_point, form_alone}
+use Rattle.bufr_bits.proofs.BitLemmas.{list_all-append}
+use Rattle.bufr_bits.proofs.DecimalLemmas.{value_after-is, value_after-append, value-below, quotient_is, ten_pos, ten_split, product_zero, sum_zero, whole_with_point, fraction_with_point, whole_alone, fraction_alone, form_with_point, form_alone, and_first, and_second, all_digits-take, all_digits-drop, own, unsigned_is_text, no_sign, zeros_digits, padded_value}
+use Rattle.std.specs.List.{list_all}
+use Rattle.std.specs.Fmt.{decimal}
+use Rattle.std.proofs.lemmas.Fmt.{decimal-digits_value, decimal_is_IsNumeral_wide}
 
 -- one more first digit
 digit_range : (c : ℕ) → is_ascii_digit c ≡ true → IsInRange 48 57 c
@@ -225,3 +227,267 @@ ten_more_prefix n value i e = let ten : 10 ^ (i + 1) ≡ 10 ^ i * 10 = ten_split
 -- all that follows a place
 pub rest_is : (text : List ℕ) (i : ℕ) → take (length text - i) (drop i text) ≡ drop i text
 rest_is text i = take_all (length text - i) (drop i text) (omega (arith, length-drop i text))
+
+-- ---- The text of a short decimal: the digits that write it, and its number at a scale.
+
+-- digits are octets of a decimal text
+digit_octet : (c : ℕ) → is_ascii_digit c ≡ true → is_decimal_octet c ≡ true
+digit_octet c h = rw h refl
+
+pub digits_octets : (ds : List ℕ) → all_digits ds ≡ true → list_all is_decimal_octet ds ≡ true
+digits_octets [] h = refl
+digits_octets (d ∷ ds) h =
+    rw (digit_octet d (and_first (is_ascii_digit d) (all_digits ds) h)) (digits_octets ds (and_second (is_ascii_digit d) (all_digits ds) h))
+
+-- digits are the digits of their number, with zeros before
+more_zeros : (k len : ℕ) (xs ds : List ℕ) → k ≤ len → replicate (len - k) 48 ++ xs ≡ ds → replicate (suc len - k) 48 ++ xs ≡ 48 ∷ ds
+more_zeros k len xs ds le h =
+    let n : suc len - k ≡ suc (len - k) = omega arith in
+    rw n (ap (λ (t : List ℕ). 48 ∷ t) h)
+
+padded_least : (k : ℕ) (xs ds : List ℕ) → length xs ≡ k → replicate (length ds - k) 48 ++ xs ≡ ds → k ≤ length ds
+padded_least k xs ds e h = omega (arith, ap length h, length-append (replicate (length ds - k) 48) xs, length-replicate {A = ℕ} (length ds - k) 48)
+
+zero_first : (d : ℕ) (ds : List ℕ) → d ≡ 48 → digits_value 10 (d ∷ ds) ≡ digits_value 10 ds
+zero_first d ds e = rw e refl
+
+other_first : (d : ℕ) → (d == 48) ≡ false → d ≡ 48 → (n : ℕ) → n ≡ 1
+other_first d h e n = absurd (grind (arith, nat_tests, h, e))
+
+same_first : (d : ℕ) → (d == 48) ≡ true → d ≡ 48
+same_first d h = grind (arith, nat_tests, h)
+
+padded_back : (ds : List ℕ) → all_digits ds ≡ true → 0 < length ds → digits_value 10 ds < 2 ^ 64 → replicate (length ds - length (decimal (digits_value 10 ds))) 48 ++ decimal (digits_value 10 ds) ≡ ds
+padded_back [] h some small = absurd (omega arith)
+padded_back (d ∷ []) h some small =
+    let same : decimal (digits_value 10 (d ∷ [])) ≡ d ∷ [] = decimal-digits_value own (d ∷ []) h (omega arith) (λ _. refl) small in
+    rw same refl
+padded_back (d ∷ e ∷ more) h some small = by (padded_back (e ∷ more) (and_second (is_ascii_digit d) (all_digits (e ∷ more)) h) (omega arith)) (d == 48) refl
+  where
+    ds : List ℕ
+    ds = d ∷ e ∷ more
+
+    by : (digits_value 10 (e ∷ more) < 2 ^ 64 → replicate (length (e ∷ more) - length (decimal (digits_value 10 (e ∷ more)))) 48 ++ decimal (digits_value 10 (e ∷ more)) ≡ e ∷ more) → (b : Bool) → (d == 48) ≡ b → replicate (length ds - length (decimal (digits_value 10 ds))) 48 ++ decimal (digits_value 10 ds) ≡ ds
+    by next true q =
+        let is = same_first d q in
+        let value = zero_first d (e ∷ more) is in
+        let rest = next (omega (arith, value, small)) in
+        let n = digits_value 10 (e ∷ more) in
+        ap (λ (m : ℕ). replicate (length ds - length (decimal m)) 48 ++ decimal m) value
+        ∙ more_zeros (length (decimal n)) (length (e ∷ more)) (decimal n) (e ∷ more) (padded_least _ (decimal n) (e ∷ more) refl rest) rest
+        ∙ ap (λ (c : ℕ). c ∷ e ∷ more) (sym is)
+    by next false q =
+        let same : decimal (digits_value 10 ds) ≡ ds = decimal-digits_value own ds h (omega arith) (λ z. other_first d q z _) small in
+        let none : length ds - length ds ≡ 0 = omega arith in
+        rw same (rw none refl)
+
+padded_is : (ds : List ℕ) (k : ℕ) → all_digits ds ≡ true → 0 < k → k ≤ length ds → (get_or ds 0 0 ≡ 48 → length ds ≡ k) → digits_value 10 ds < 2 ^ 64 → replicate (k - length (decimal (digits_value 10 ds))) 48 ++ decimal (digits_value 10 ds) ≡ ds
+padded_is ds k h some le first small = by (get_or ds 0 0 == 48) refl
+  where
+    n : ℕ
+    n = digits_value 10 ds
+
+    by : (b : Bool) → (get_or ds 0 0 == 48) ≡ b → replicate (k - length (decimal n)) 48 ++ decimal n ≡ ds
+    by true q =
+        let same = first (same_first (get_or ds 0 0) q) in
+        ap (λ (m : ℕ). replicate (m - length (decimal n)) 48 ++ decimal n) (sym same) ∙ padded_back ds h (omega arith) small
+    by false q =
+        let same : decimal n ≡ ds = decimal-digits_value own ds h (omega arith) (λ z. other_first (get_or ds 0 0) q z _) small in
+        let none : k - length ds ≡ 0 = omega arith in
+        rw same (rw none refl)
+
+-- digits alone
+pub plain_alone : (ds : List ℕ) (n : ℕ) → all_digits ds ≡ true → 0 < length ds → (get_or ds 0 0 ≡ 48 → length ds ≡ 1) → n ≡ digits_value_after 10 0 ds → n < 2 ^ 64 → IsPlainDecimal ds n 0
+unfolding unsigned_text
+plain_alone ds n h some first value small =
+    let e : n ≡ digits_value 10 ds = value in
+    record {
+      is = sym (ap decimal e ∙ decimal-digits_value own ds h some first (omega (arith, e)));
+      octets = digits_octets ds h;
+    }
+
+-- digits with a point
+pointed_is : (ds whole fraction : List ℕ) (places : ℕ) (digits : List ℕ) → replicate (places + 1 - length digits) 48 ++ digits ≡ ds → ds ≡ whole ++ fraction → length fraction ≡ places → whole ++ 46 ∷ fraction ≡ pointed places digits
+pointed_is ds whole fraction places digits padded e len =
+    let both = padded ∙ e in
+    let size : length (whole ++ fraction) - places ≡ length whole = omega (arith, length-append whole fraction) in
+    rw both (rw size (rw (take_at whole fraction (length whole) refl, drop_at whole fraction (length whole) refl) refl))
+
+first_of : (whole fraction : List ℕ) → 0 < length whole → get_or (whole ++ fraction) 0 0 ≡ get_or whole 0 0
+first_of [] fraction h = absurd (omega arith)
+first_of (d ∷ whole) fraction h = refl
+
+pub plain_pointed : (whole fraction : List ℕ) (m n places : ℕ) → all_digits whole ≡ true → all_digits fraction ≡ true → 0 < length whole → 0 < places → places ≡ length fraction → (get_or whole 0 0 ≡ 48 → length whole ≡ 1) → m ≡ digits_value_after 10 0 whole → n ≡ digits_value_after 10 m fraction → n < 2 ^ 64 → IsPlainDecimal (whole ++ 46 ∷ fraction) n places
+unfolding unsigned_text
+plain_pointed whole fraction m n zero hw hf sw sf len first hm hn small = absurd (omega arith)
+plain_pointed whole fraction m n (suc p) hw hf sw sf len first hm hn small =
+    let ds = whole ++ fraction in
+    let value : n ≡ digits_value 10 ds = hn ∙ ap (λ (k : ℕ). digits_value_after 10 k fraction) hm ∙ sym (value_after-append 0 whole fraction) in
+    let digits : all_digits ds ≡ true = list_all-append is_ascii_digit whole fraction ∙ rw (hw, hf) refl in
+    let size = length-append whole fraction in
+    let padded = padded_is ds (suc p + 1) digits (omega arith) (omega (arith, size)) (λ z. omega (arith, size, first (sym (first_of whole fraction sw) ∙ z))) (omega (arith, value)) in
+    record {
+      is = pointed_is ds whole fraction (suc p) (decimal n) (ap (λ (k : ℕ). replicate (suc p + 1 - length (decimal k)) 48 ++ decimal k) value ∙ padded) refl (sym len);
+      octets = list_all-append is_decimal_octet whole (46 ∷ fraction) ∙ rw (digits_octets whole hw, digits_octets fraction hf) refl;
+    }
+
+-- a number's text is read as its digits
+short_decimal : (n : ℕ) → n < 10 ^ 64 → IsShortDecimal (decimal n) n 0
+short_decimal n h =
+    let numeral = decimal_is_IsNumeral_wide n h in
+    let d = decimal n in
+    let all : take (length d) d ≡ d = take_all (length d) d (omega arith) in
+    short_alone d (length d) n numeral.0.0 refl (rw all (own.from d numeral.0.1)) (rw all (sym numeral.1))
+
+short_pointed_text : (n places : ℕ) → n < 10 ^ 64 → IsShortDecimal (pointed (suc places) (decimal n)) n (suc places)
+short_pointed_text n places h =
+    let d = decimal n in
+    let count = suc places + 1 - length d in
+    let padded = replicate count 48 ++ d in
+    let w = length padded - suc places in
+    let whole = take w padded in
+    let fraction = drop w padded in
+    let numeral = decimal_is_IsNumeral_wide n h in
+    let long = length-append (replicate count 48) d in
+    let zeros_long : length (replicate {A = ℕ} count 48) ≡ count = length-replicate count 48 in
+    let all : all_digits padded ≡ true = list_all-append is_ascii_digit (replicate count 48) d ∙ ap (λ (t : Bool). t && all_digits d) (zeros_digits count) ∙ own.from d numeral.0.1 in
+    let value : digits_value 10 (whole ++ fraction) ≡ n = ap (digits_value 10) (take-append-drop w padded) ∙ padded_value count d n numeral.1 in
+    let after : length fraction ≡ suc places = omega (arith, length-drop w padded) in
+    subst (λ (k : ℕ). IsShortDecimal (whole ++ 46 ∷ fraction) n k) after
+    (short_parts whole fraction (digits_value_after 10 0 whole) n (omega (arith, length-take w padded)) (omega (arith, after)) (all_digits-take w padded all) (all_digits-drop w padded all) refl (sym value ∙ value_after-append 0 whole fraction))
+
+short_unsigned : (n places : ℕ) → n < 10 ^ 64 → IsShortDecimal (unsigned_text n (pos places)) n places
+unfolding unsigned_text
+short_unsigned n zero h = short_decimal n h
+short_unsigned n (suc places) h = short_pointed_text n places h
+
+-- its number at a scale
+abbrev number_at : (negative : Bool) (n places : ℕ) (scale : ℤ) → Result ℤ NumberFault
+number_at negative n places scale = and_then (whole_quotient (n * 10 ^ positive_scale scale) (10 ^ (places + negative_scale scale))) (signed negative)
+
+no_minus : (text : List ℕ) → starts_with_minus text ≡ false → text ≡ unsigned_part text
+no_minus text h = rw h refl
+
+read_plain : (n places : ℕ) (scale : ℤ) → n < 10 ^ 64 → decimal_value_of (unsigned_text n (pos places)) scale ≡ number_at false n places scale
+read_plain n places scale h =
+    let text = unsigned_text n (pos places) in
+    let plain : starts_with_minus text ≡ false = no_sign text (unsigned_is_text n (pos places) h).first in
+    value_short text text scale (positive_scale scale) (negative_scale scale) n places (no_minus text plain) (short_unsigned n places h) refl refl
+    ∙ ap (λ (b : Bool). number_at b n places scale) plain
+
+read_minus : (n places : ℕ) (scale : ℤ) → n < 10 ^ 64 → decimal_value_of (45 ∷ unsigned_text n (pos places)) scale ≡ number_at true n places scale
+read_minus n places scale h =
+    let text = unsigned_text n (pos places) in
+    value_short (45 ∷ text) text scale (positive_scale scale) (negative_scale scale) n places refl (short_unsigned n places h) refl refl
+
+zero_number : (places : ℕ) (scale : ℤ) → number_at false 0 places scale ≡ number_at true 0 places scale
+zero_number places scale =
+    let d = 10 ^ (places + negative_scale scale) in
+    let none : whole_quotient (0 * 10 ^ positive_scale scale) d ≡ Ok 0 = quotient_is (0 * 10 ^ positive_scale scale) d 0 0 (omega arith) (ten_pos (places + negative_scale scale)) in
+    ap (λ (r : Result ℕ NumberFault). and_then r (signed false)) none ∙ sym (ap (λ (r : Result ℕ NumberFault). and_then r (signed true)) none)
+
+short_number_at : (negative : Bool) (n places : ℕ) (scale : ℤ) → n < 10 ^ 64 → decimal_value_of (decimal_text_of (signed_number negative n) (pos places)) scale ≡ number_at negative n places scale
+unfolding decimal_text_of
+short_number_at false n places scale h = read_plain n places scale h
+short_number_at true zero places scale h = read_plain zero places scale h ∙ zero_number places scale
+short_number_at true (suc n) places scale h = read_minus (suc n) places scale h
+
+-- at its own scale it is its digits
+own_quotient : (n places : ℕ) → whole_quotient (n * 10 ^ places) (10 ^ (places + 0)) ≡ Ok n
+own_quotient n places = quotient_is (n * 10 ^ places) (10 ^ (places + 0)) n 0 (let same : places + 0 ≡ places = omega arith in rw same (omega arith)) (ten_pos (places + 0))
+
+-- what reading its text gives: its digits at its own scale, else they are multiplied or divided
+abbrev value_at : (negative : Bool) (n places : ℕ) (scale : ℤ) → Result ℤ NumberFault
+value_at negative n places scale = decimal_value_of (decimal_text_of (signed_number negative n) (pos places)) scale
+
+module _ (negative : Bool) (n places : ℕ) (scale : ℤ) (small : n < 2 ^ 64) where
+  value_is : value_at negative n places scale ≡ number_at negative n places scale
+  value_is = short_number_at negative n places scale (omega arith)
+
+  pub value_own : scale ≡ pos places → value_at negative n places scale ≡ signed negative n
+  value_own e =
+      value_is ∙ ap (number_at negative n places) e ∙ ap (λ (r : Result ℕ NumberFault). and_then r (signed negative)) (own_quotient n places)
+
+  pub value_up : (up down : ℕ) (r : Result ℤ NumberFault) → up ≡ positive_scale scale → down ≡ negative_scale scale → places + down ≤ up → r ≡ signed negative (n * 10 ^ (up - (places + down))) → r ≡ value_at negative n places scale
+  value_up up down r u d le e =
+      e ∙ ap (λ (q : Result ℕ NumberFault). and_then q (signed negative)) (scaled_by_times n up (places + down) le) ∙ rw (u, d) (sym value_is)
+
+  pub value_down : (up down : ℕ) (q : Result ℕ NumberFault) → up ≡ positive_scale scale → down ≡ negative_scale scale → up < places + down → q ≡ whole_quotient n (10 ^ (places + down - up)) → and_then q (signed negative) ≡ value_at negative n places scale
+  value_down up down q u d lt e =
+      ap (λ (r : Result ℕ NumberFault). and_then r (signed negative)) (e ∙ scaled_by_quotient n up (places + down) lt) ∙ rw (u, d) (sym value_is)
+
+-- the first digits of a window of a text, of which none or one is a zero at its start
+pub take_window : (text : List ℕ) (most count : ℕ) → count ≤ most → take count (take most text) ≡ take count text
+take_window text zero zero le = refl
+take_window text (suc most) zero le = refl
+take_window text zero (suc count) le = absurd (omega arith)
+take_window [] (suc most) (suc count) le = refl
+take_window (c ∷ text) (suc most) (suc count) le = ap (λ (t : List ℕ). c ∷ t) (take_window text most count (omega arith))
+
+pub first_taken : (text : List ℕ) (count : ℕ) → 0 < count → get_or (take count text) 0 0 ≡ get_or text 0 0
+first_taken text zero h = absurd (omega arith)
+first_taken [] (suc count) h = refl
+first_taken (c ∷ text) (suc count) h = refl
+
+-- the number of so few digits
+small_value : (n : ℕ) (ds : List ℕ) → all_digits ds ≡ true → n ≡ digits_value_after 10 0 ds → length ds ≤ 19 → n < 2 ^ 64
+small_value n ds h e few =
+    let below : digits_value 10 ds < 10 ^ length ds = value-below ds h in
+    let most : 10 ^ length ds ≤ 10 ^ 19 = pow-le-pow_right (omega arith) few in
+    let literal : 10 ^ 19 < 2 ^ 64 = omega arith in
+    omega (arith, e, below, most, literal)
+
+pub prefix_alone : (text : List ℕ) (most count n : ℕ) → most ≤ 19 → count ≤ length (take most text) → 0 < count → (get_or (take most text) 0 0 ≡ 48 → count ≤ 1) → all_digits (take count (take most text)) ≡ true → n ≡ digits_value_after 10 0 (take count (take most text)) → IsPlainDecimal (take count text) n 0
+prefix_alone text most count n few le some first h e =
+    let window = take most text in
+    let within : count ≤ most = omega (arith, length-take most text) in
+    let ds = take count window in
+    let size : length ds ≡ count = length-take-le count window le in
+    subst (λ (t : List ℕ). IsPlainDecimal t n 0) (take_window text most count within)
+    (plain_alone ds n h (omega arith) (λ z. omega (arith, size, first (sym (first_taken window count some) ∙ z))) e (small_value n ds h e (omega arith)))
+
+pub prefix_pointed : (text fraction : List ℕ) (most count places m n : ℕ) → most ≤ 19 → count < length (take most text) → 0 < count → (get_or (take most text) 0 0 ≡ 48 → count ≤ 1) → get_or (take most text) count 0 ≡ 46 → fraction ≡ drop (count + 1) (take most text) → 0 < places → places ≤ length fraction → all_digits (take count (take most text)) ≡ true → m ≡ digits_value_after 10 0 (take count (take most text)) → all_digits (take places fraction) ≡ true → n ≡ digits_value_after 10 m (take places fraction) → IsPlainDecimal (take (count + 1 + places) text) n places
+prefix_pointed text fraction most count places m n few lt some first point f sf le hw hm hf hn =
+    let window = take most text in
+    let whole = take count window in
+    let part = take places fraction in
+    let size : length whole ≡ count = length-take-le count window (omega arith) in
+    let part_size : length part ≡ places = length-take-le places fraction le in
+    let after : length fraction ≡ length window - (count + 1) = ap length f ∙ length-drop (count + 1) window in
+    let within : count + 1 + places ≤ most = omega (arith, length-take most text) in
+    let rest : drop count window ≡ 46 ∷ fraction = drop_more window count 0 lt ∙ rw (point, ← f) refl in
+    let split : window ≡ whole ++ 46 ∷ fraction = sym (ap (λ (t : List ℕ). whole ++ t) (sym rest) ∙ take-append-drop count window) in
+    let taken : take (count + 1 + places) window ≡ whole ++ 46 ∷ part = ap (take (count + 1 + places)) split ∙ take_both whole fraction count places (sym size) in
+    let digits : all_digits (whole ++ part) ≡ true = list_all-append is_ascii_digit whole part ∙ rw (hw, hf) refl in
+    let value : n ≡ digits_value_after 10 0 (whole ++ part) = hn ∙ ap (λ (k : ℕ). digits_value_after 10 k part) hm ∙ sym (value_after-append 0 whole part) in
+    let small = small_value n (whole ++ part) digits value (omega (arith, length-append whole part)) in
+    subst (λ (t : List ℕ). IsPlainDecimal t n places) (sym taken ∙ take_window text most (count + 1 + places) within)
+    (plain_pointed whole part m n places hw hf (omega arith) sf (sym part_size) (λ z. omega (arith, size, first (sym (first_taken window count some) ∙ z))) hm hn small)
+  where
+    take_both : (xs ys : List ℕ) (count places : ℕ) → count ≡ length xs → take (count + 1 + places) (xs ++ 46 ∷ ys) ≡ xs ++ 46 ∷ take places ys
+    take_both [] ys zero places e = let n : 0 + 1 + places ≡ suc places = omega arith in rw n refl
+    take_both [] ys (suc count) places e = absurd (omega arith)
+    take_both (x ∷ xs) ys zero places e = absurd (omega arith)
+    take_both (x ∷ xs) ys (suc count) places e =
+        let n : suc count + 1 + places ≡ suc (count + 1 + places) = omega arith in
+        rw n (ap (λ (t : List ℕ). x ∷ t) (take_both xs ys count places (omega arith)))
+
+-- a text with its sign, by the text after it
+minus_then : (text body : List ℕ) (count : ℕ) → true ≡ starts_with_minus text → body ≡ unsigned_part text → take (count + 1) text ≡ 45 ∷ take count body
+minus_then [] body count h e = absurd cc
+minus_then (c ∷ text) body count h e =
+    let minus : c ≡ 45 = grind (arith, nat_tests, h) in
+    let n : count + 1 ≡ suc count = omega arith in
+    let rest : body ≡ text = e ∙ ap (λ (b : Bool). if b then text else c ∷ text) (sym h) in
+    rw (n, minus, rest) refl
+
+pub minus_text : (text body : List ℕ) (count n places : ℕ) → true ≡ starts_with_minus text → body ≡ unsigned_part text → IsPlainDecimal (take count body) n places → 0 < n → take (count + 1) text ≡ decimal_text_of (signed_number true n) (pos places)
+unfolding decimal_text_of
+minus_text text body count zero places h e d some = absurd (omega arith)
+minus_text text body count (suc n) places h e d some = minus_then text body count h e ∙ ap (λ (t : List ℕ). 45 ∷ t) d.is
+
+pub plain_text : (text body : List ℕ) (count n places : ℕ) → false ≡ starts_with_minus text → body ≡ unsigned_part text → IsPlainDecimal (take count body) n places → take count text ≡ decimal_text_of (signed_number false n) (pos places)
+unfolding decimal_text_of
+plain_text text body count n places h e d =
+    let same : body ≡ text = e ∙ ap (λ (b : Bool). if b then drop 1 text else text) (sym h) in
+    ap (take count) (sym same) ∙ d.is

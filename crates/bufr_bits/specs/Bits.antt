@@ -1,7 +1,7 @@
--- Octets as bits, most significant first, and bits as a number. (WMO-No. 306, Volume I.2, FM 94:
--- binary numbers are written most significant bit first)
+-- Octets as bits, bits as numbers, and the windows of eight octets that a slice is read by.
+-- (WMO-No. 306, Volume I.2, FM 94: binary numbers are written most significant bit first)
 -- Cited by public contracts.
-use Rattle.std.specs.Prelude.{ℕ, zero, suc, ◌+◌, ◌-◌, ◌*◌, ◌^◌, ◌/◌, ◌%◌, ◌==◌, Bool, false, if◌then◌else◌, List, [], ◌∷◌, ◌++◌, take, drop, replicate}
+use Rattle.std.specs.Prelude.{ℕ, zero, suc, ◌+◌, ◌-◌, ◌*◌, ◌^◌, ◌/◌, ◌%◌, ◌==◌, Bool, false, if◌then◌else◌, List, [], ◌∷◌, ◌++◌, take, drop, replicate, ◌≡◌, ◌<◌, ◌≤◌, length}
 use Rattle.std.specs.List.{list_all}
 
 -- the eight bits of an octet
@@ -43,3 +43,11 @@ bits_in value (suc width) = (value / 2 ^ width % 2 == 1) ∷ bits_in value width
 -- the bits that fill the last octet: zeros up to a multiple of eight
 abbrev pub padding : (length : ℕ) → List Bool
 padding length = replicate ((8 - length % 8) % 8) false
+
+-- ---- Eight octets read as one number. (a choice of this project)
+
+-- the number that eight octets write, from a place on
+pub record IsWindow (window first : ℕ) (octets : List ℕ) : Type 0 where
+  pub within : first + 8 ≤ length octets
+  pub small : window < 2 ^ 64
+  pub bits : bits_of (take 8 (drop first octets)) ≡ bits_in window 64

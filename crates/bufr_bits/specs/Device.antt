@@ -1,6 +1,6 @@
--- A device over a reader or a writer of std.
+-- What a device has counted: failures, empty writes and flushes, each up to the greatest u64.
 -- Cited by public contracts.
-use Rattle.std.specs.Prelude.{true}
+use Rattle.std.specs.Prelude.{true, ℕ, zero, suc, ◌+◌, ◌-◌, ◌^◌, min, max, Bool, false, List, [], ◌∷◌, Result, Ok, Err}
 use Rattle.bufr_bits.specs.declared.device.Device.{Device}
 
 -- the device that has made no call yet
@@ -14,3 +14,45 @@ fresh_device inner =
       flushes = 0;
       all_flushed = true;
     }
+
+-- ---- The counts that a device keeps of its calls. (a choice of this project)
+
+-- a count that has gone up by some, and stops at the greatest u64
+abbrev pub counted : (count by : ℕ) → ℕ
+counted count by = max count (min (count + by) (2 ^ 64 - 1))
+
+-- the count of failures after a call: an `Err` adds one, an `Ok` leaves it
+abbrev pub failures_after : {A E : Type 0} → ℕ → Result A E → ℕ
+failures_after count (Ok x) = count
+failures_after count (Err e) = counted count 1
+
+-- the count of empty writes after a write of these octets: one more where there were octets and
+-- none was taken
+abbrev pub empty_writes_after : {E : Type 0} → ℕ → List ℕ → Result ℕ E → ℕ
+empty_writes_after count octets (Err e) = count
+empty_writes_after count octets (Ok (suc taken)) = count
+empty_writes_after count [] (Ok zero) = count
+empty_writes_after count (octet ∷ more) (Ok zero) = counted count 1
+
+-- all octets that were taken were handed on, after a write: not if it took some
+abbrev pub all_flushed_after_write : {E : Type 0} → Bool → Result ℕ E → Bool
+all_flushed_after_write before (Err e) = before
+all_flushed_after_write before (Ok zero) = before
+all_flushed_after_write before (Ok (suc taken)) = false
+
+-- the same after a flush: they were, if it went through
+abbrev pub all_flushed_after_flush : {A E : Type 0} → Bool → Result A E → Bool
+all_flushed_after_flush before (Ok x) = true
+all_flushed_after_flush before (Err e) = before
+
+-- Numbers that stop at the greatest u128, as the code keeps them while it reads digits. (a choice
+-- of this project)
+
+-- a number, or the greatest u128 where it is over that
+abbrev pub capped : ℕ → ℕ
+capped n = min n (2 ^ 128 - 1)
+
+-- an answer with its number capped
+abbrev pub capped_ok : {E : Type 0} → Result ℕ E → Result ℕ E
+capped_ok (Ok n) = Ok (capped n)
+capped_ok (Err fault) = Err fault

@@ -1,8 +1,7 @@
 //! Octets read as bits, most significant first.
 ghost use Rattle.std.specs.Prelude.{◌≡◌, ◌≤◌, ◌<◌, ◌+◌, ◌-◌, ◌/◌, ◌%◌, ◌^◌, ◌==◌, ℕ, MatchOption, length, slice_index, slice_range};
 ghost use Rattle.std.specs.List.{list_all};
-ghost use Rattle.bufr_bits.specs.Bits.{bits_of, are_all_ones};
-ghost use Rattle.bufr_bits.specs.Window.{IsWindow};
+ghost use Rattle.bufr_bits.specs.Bits.{bits_of, are_all_ones, IsWindow};
 
 /// Octets that are read as bits, at most 2^60 octets. Bits are counted from 0, most significant
 /// first.
@@ -21,9 +20,8 @@ pub struct BitSlice<'a> {
 
 impl<'a> BitSlice<'a> {
     ghost use Rattle.std.specs.Prelude.{◌≡◌, ◌≤◌, ◌+◌, ◌*◌, ◌/◌, ◌%◌, ◌^◌, ◌<◌, ℕ, length, option_map, slice_index, slice_range, SomeIff, IfSome, MatchOption};
-    ghost use Rattle.bufr_bits.specs.Bits.{number_of, bits_at, are_all_ones};
+    ghost use Rattle.bufr_bits.specs.Bits.{number_of, bits_at, are_all_ones, IsWindow};
     ghost use Rattle.bufr_bits.specs.BitSlice.{octets_of};
-    ghost use Rattle.bufr_bits.specs.Window.{IsWindow};
 
     /// The bits of `octets`, of which there are at most 2^60.
     pub fn new(octets: &'a [u8]) -> BitSlice<'a>

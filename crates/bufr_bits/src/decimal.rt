@@ -2,9 +2,8 @@
 ghost use Rattle.std.specs.Prelude.{◌≡◌, ◌≤◌, ◌<◌, ◌+◌, ◌*◌, ◌^◌, ◌++◌, ◌==◌, if◌then◌else◌, ℕ, ℤ, true, false, length, unsigned_abs, vec_len, vec_capacity, MatchOption, OnOk, OnErr};
 ghost use Rattle.std.specs.List.{list_all, position};
 ghost use Rattle.std.specs.Str.Parse.{digits_value, digits_value_after, starts_with_minus};
-ghost use Rattle.bufr_bits.specs.Capped.{capped, capped_ok};
-ghost use Rattle.bufr_bits.specs.DecimalText.{decimal_text_of, pointed, sign_of};
-ghost use Rattle.bufr_bits.specs.DecimalValue.{decimal_value_of, unsigned_part, is_unsigned, all_digits, is_digits, IsParts, positive_scale, negative_scale, whole_quotient, signed};
+ghost use Rattle.bufr_bits.specs.Device.{capped, capped_ok};
+ghost use Rattle.bufr_bits.specs.Decimal.{decimal_text_of, pointed, sign_of, decimal_value_of, unsigned_part, is_unsigned, all_digits, is_digits, IsParts, positive_scale, negative_scale, whole_quotient, signed};
 
 use crate::append::{put, put_zero_digits};
 use crate::short_decimal::{short_number, short_scaled, short_signed};

@@ -1,7 +1,7 @@
 //! Readers and writers that count their failures, and the readers and writers of `std` as such.
 ghost use Rattle.std.specs.Prelude.{◌≡◌, ◌≤◌, ℕ, Bool, List, Option, length, IfOk};
 ghost use Rattle.std.specs.Io.KnownBytes.{ReadConsumes, WriteAppends, Keeps};
-ghost use Rattle.bufr_bits.specs.Counts.{counted, failures_after, empty_writes_after, all_flushed_after_write, all_flushed_after_flush};
+ghost use Rattle.bufr_bits.specs.Device.{counted, failures_after, empty_writes_after, all_flushed_after_write, all_flushed_after_flush};
 
 use std::io::{Read, Write};
 use thiserror::Error;

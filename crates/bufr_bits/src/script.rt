@@ -43,7 +43,7 @@ impl<'a> ScriptIn<'a> {
 impl<'a> Source for ScriptIn<'a> {
     ghost use Rattle.std.specs.Prelude.{◌≡◌, ◌≤◌, Some, length, IfOk};
     ghost use Rattle.std.specs.Io.KnownBytes.{ReadConsumes};
-    ghost use Rattle.bufr_bits.specs.Counts.{counted, failures_after};
+    ghost use Rattle.bufr_bits.specs.Device.{counted, failures_after};
     ghost use Rattle.bufr_bits.specs.Script.{unread_of, step_of, fails_after, failures_of, reads_of, read_answer, octets_moved, failure_after};
 
     ghost left = { λ s. Some s.rest.now };
@@ -155,7 +155,7 @@ impl ScriptOut {
 impl Sink for ScriptOut {
     ghost use Rattle.std.specs.Prelude.{◌≡◌, ◌≤◌, ◌-◌, Some, length, IfOk};
     ghost use Rattle.std.specs.Io.KnownBytes.{WriteAppends, Keeps};
-    ghost use Rattle.bufr_bits.specs.Counts.{counted, failures_after, empty_writes_after, all_flushed_after_write, all_flushed_after_flush};
+    ghost use Rattle.bufr_bits.specs.Device.{counted, failures_after, empty_writes_after, all_flushed_after_write, all_flushed_after_flush};
     ghost use Rattle.bufr_bits.specs.Script.{taken_of, left_of, out_step_of, end_of, out_failures_of, out_empty_writes_of, out_flushes_of, out_all_flushed, write_answer, flush_answer, octets_moved};
 
     ghost taken = { λ s. Some s.taken.items };

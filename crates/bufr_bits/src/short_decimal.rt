@@ -1,9 +1,7 @@
 //! Short decimal texts, read in one pass in 64 bits.
 ghost use Rattle.std.specs.Prelude.{◌≡◌, ◌≤◌, ◌<◌, ◌+◌, ◌*◌, ◌^◌, true, length, take, IfSome, OnSome, Ok, pos};
 ghost use Rattle.std.specs.Str.Parse.{digits_value_after};
-ghost use Rattle.bufr_bits.specs.DecimalText.{decimal_text_of};
-ghost use Rattle.bufr_bits.specs.DecimalValue.{all_digits, decimal_value_of, IsShortDecimal, whole_quotient, signed};
-ghost use Rattle.bufr_bits.specs.ShortDecimal.{IsPlainDecimal, signed_number};
+ghost use Rattle.bufr_bits.specs.Decimal.{decimal_text_of, all_digits, decimal_value_of, IsShortDecimal, whole_quotient, signed, IsPlainDecimal, signed_number};
 
 use crate::decimal::{
     NumberFault, apply_sign, powers_of, times_ten as wide_times_ten, without_sign,
@@ -125,8 +123,7 @@ pub struct ShortDecimal {
 impl ShortDecimal {
     ghost use Rattle.std.specs.Prelude.{◌≡◌, ◌≤◌, ◌<◌, true, length, take, IfSome};
     ghost use Rattle.std.specs.List.{list_all};
-    ghost use Rattle.bufr_bits.specs.DecimalValue.{decimal_value_of};
-    ghost use Rattle.bufr_bits.specs.ShortDecimal.{short_text, is_decimal_octet};
+    ghost use Rattle.bufr_bits.specs.Decimal.{decimal_value_of, short_text, is_decimal_octet};
 
     /// The number that comes first in a text, and how many octets write it. At most 19 octets
     /// after the sign are looked at, so more octets of a number may follow. `None` where no number

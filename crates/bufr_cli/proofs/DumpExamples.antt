@@ -3,7 +3,7 @@ use Rattle.std.proofs.Common.{◌≡◌, true, false, List, [], ◌∷◌, refl,
 use Rattle.std.specs.Prelude.{slice_set, take}
 use Rattle.std.specs.Fmt.{digits}
 use Rattle.bufr_bits.specs.Bits.{bits_of}
-use Rattle.bufr_bits.specs.DecimalText.{decimal_text_of, unsigned_text}
+use Rattle.bufr_bits.specs.Decimal.{decimal_text_of, unsigned_text}
 use Rattle.bufr_frame.specs.Scan.{FrameAt, StrayAt}
 use Rattle.bufr_frame.specs.Sections.{sections_of, section_end}
 use Rattle.bufr_frame.specs.declared.fault.Cause.TheVariants.{Cut}
@@ -12,12 +12,10 @@ use Rattle.bufr_tables.specs.FaultNumber.{number_of_template_fault}
 use Rattle.bufr_tables.specs.TableB.{Row}
 use Rattle.bufr_tables.specs.declared.table_b.Kind.TheVariants.{Numeric}
 use Rattle.bufr_tables.specs.declared.fault.TemplateFault.TheVariants as template
-use Rattle.bufr_walk.specs.Content.{number}
+use Rattle.bufr_walk.specs.Content.{number, data_end}
 use Rattle.bufr_walk.specs.Course.{next_item, take_next}
-use Rattle.bufr_walk.specs.PlainField.{data_end}
-use Rattle.bufr_walk.specs.Fault.{number_of_walk_fault, spot}
+use Rattle.bufr_walk.specs.Refusal.{number_of_walk_fault, spot, field_stop}
 use Rattle.bufr_walk.specs.Reading.{apart}
-use Rattle.bufr_walk.specs.Refusal.{field_stop}
 use Rattle.bufr_walk.specs.declared.fault.WalkFault.TheVariants as walk
 use Rattle.bufr_walk.specs.declared.spec.Role.TheVariants.{Element}
 use Rattle.bufr_text.specs.Dump.{header_lines, subset_lines}

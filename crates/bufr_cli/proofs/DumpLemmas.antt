@@ -6,30 +6,26 @@ use Rattle.bufr_frame.specs.Scan.{StreamEvent, FrameAt, StrayAt}
 use Rattle.bufr_frame.specs.Sections.{Sections, sections_of}
 use Rattle.bufr_frame.specs.declared.fault.RunFault.{RunFault}
 use Rattle.bufr_frame.specs.declared.fault.SectionFault.{SectionFault}
-use Rattle.bufr_tables.specs.Expansion.{tree_of}
+use Rattle.bufr_tables.specs.Expansion.{tree_of, tables_of}
 use Rattle.bufr_tables.specs.Records.{Record}
 use Rattle.bufr_tables.specs.TableB.{Row, AreRows}
 use Rattle.bufr_tables.specs.TableD.{Sequence}
-use Rattle.bufr_tables.specs.TemplateTables.{tables_of}
 use Rattle.bufr_tables.specs.Tree.{Tree}
 use Rattle.bufr_tables.specs.declared.fault.TemplateFault.{TemplateFault}
 use Rattle.bufr_tables.proofs.SoundLemmas.{tree_fine}
 use Rattle.bufr_walk.specs.Course.{Course, next_item}
-use Rattle.bufr_walk.specs.Fault.{number_of_walk_fault}
-use Rattle.bufr_walk.specs.Outcome.{Read, course_of, data_of, read_by, IsFault, IsRefused, IsReadingOf}
+use Rattle.bufr_walk.specs.Refusal.{number_of_walk_fault, Read, course_of, data_of, read_by, IsFault, IsRefused, IsReadingOf}
 use Rattle.bufr_walk.specs.Reading.{Data, Values, apart, together, IsReading}
 use Rattle.bufr_walk.specs.declared.fault.WalkFault.{WalkFault}
 use Rattle.bufr_walk.specs.declared.fault.WalkFault.TheVariants as walk
 use Rattle.bufr_walk.proofs.OneReading.{one_reading, one_refusal, not_read_and_refused}
 use Rattle.bufr_walk.proofs.SomeReading.{read_or_refused}
-use Rattle.bufr_text.specs.Dump.{dump_text_of}
-use Rattle.bufr_text.specs.DumpItems.{dump_items_of, compressed_dump_subsets}
+use Rattle.bufr_text.specs.Dump.{dump_text_of, dump_items_of, compressed_dump_subsets}
 use Rattle.bufr_text.specs.DumpWritten.{WritesPrefix}
 use Rattle.bufr_text.specs.Writing.{GrowsByPrefix, Writes}
 use Rattle.bufr_cli.specs.Pieces.{IsDataPiece, IsTemplatePiece, IsMessagePiece, IsDumpPiece, dump_text, template_piece, Piece, OnOutput, OnErrors, stray_piece, section_piece}
 use Rattle.bufr_cli.specs.FaultLine.{fault_line, walk_fault_text}
-use Rattle.bufr_cli.specs.Running.{GivesPieces}
-use Rattle.bufr_cli.specs.WritingPieces.{LeavesPieces}
+use Rattle.bufr_cli.specs.Running.{GivesPieces, LeavesPieces}
 use Rattle.bufr_cli.specs.declared.outcome.Verdict.{Verdict}
 use Rattle.bufr_cli.specs.declared.outcome.Verdict.TheVariants.{Accepted, Refused}
 

@@ -1,7 +1,7 @@
 -- The lines and the pieces of `encode` computed on worked examples.
 use Rattle.std.proofs.Common.{◌≡◌, true, false, [], ◌∷◌, refl, codes}
 use Rattle.std.specs.Fmt.{digits}
-use Rattle.bufr_fill.specs.Fault.{wrong_descriptor, wrong_number, out_of_range, text_long, missing_forbidden, unequal_factors, uneven_increment, item_too_many, walk_refused, too_many_values}
+use Rattle.bufr_fill.specs.Faults.{wrong_descriptor, wrong_number, out_of_range, text_long, missing_forbidden, unequal_factors, uneven_increment, item_too_many, walk_refused, too_many_values}
 use Rattle.bufr_tables.specs.declared.fault.TemplateFault.TheVariants as template
 use Rattle.bufr_walk.specs.declared.spec.TurnRefusal.TheVariants as walk
 use Rattle.bufr_text.specs.Documents.{Refused, NotAllowed, SubsetCount, HeaderRange}

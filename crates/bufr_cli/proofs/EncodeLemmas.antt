@@ -5,31 +5,26 @@ use Rattle.std.specs.Io.KnownBytes.{Appends, Consumes, IsAtEnd, Keeps}
 use Rattle.std.proofs.KnownBytes.{Appends-kept, Consumes-trans, Consumes-whole}
 use Rattle.std.proofs.lemmas.Bool.{false≢true}
 use Rattle.std.proofs.lemmas.Grind.{common_steps}
-use Rattle.bufr_bits.specs.Counts.{counted}
+use Rattle.bufr_bits.specs.Device.{counted}
 use Rattle.bufr_tables.specs.TableB.{Row}
 use Rattle.bufr_tables.specs.TableD.{Sequence}
-use Rattle.bufr_frame.specs.Runs.{max_reads, read_failures_after}
+use Rattle.bufr_frame.specs.Input.{max_reads, read_failures_after}
 use Rattle.bufr_frame.specs.declared.fault.RunFault.{RunFault}
 use Rattle.bufr_frame.specs.declared.fault.RunFault.TheVariants.{Read, Write, InputTooLong, Memory}
-use Rattle.bufr_text.specs.Document.{Document}
-use Rattle.bufr_text.specs.Documents.{ParseResult, TextLineFault, Complete, Refused, NotAllowed, LineEffect, WalkGoes, Gives, Faults, ParserState, Between, Heading, BeforeSubsets, Filling, Stopped, reported_at, reported_at_end, parse_lines, line_within_limit, place_after, prepend_to_line, lines_of, documents_of, open_documents_of}
-use Rattle.bufr_text.specs.Reading.{parse, parse_open}
+use Rattle.bufr_text.specs.Documents.{Document, ParseResult, TextLineFault, Complete, Refused, NotAllowed, LineEffect, WalkGoes, Gives, Faults, ParserState, Between, Heading, BeforeSubsets, Filling, Stopped, reported_at, reported_at_end, parse_lines, line_within_limit, place_after, prepend_to_line, lines_of, documents_of, open_documents_of}
+use Rattle.bufr_text.specs.Reader.{parse, parse_open, ReaderModel, new_reader, position_of, parse_results, ReadsLines, ReturnsNextDocument, ReadsDocument, LeavesReader, CountsTextReads, HasNoWholeLine, failures_by}
 use Rattle.bufr_text.specs.Documents as documents
-use Rattle.bufr_text.specs.Reader.{ReaderModel, new_reader, position_of, parse_results, ReadsLines, ReturnsNextDocument, ReadsDocument, LeavesReader, CountsTextReads, HasNoWholeLine, failures_by}
 use Rattle.bufr_text.specs.Writing.{GrowsByPrefix, Writes}
 use Rattle.bufr_text.specs.declared.fault.ReadFault.{ReadFault}
 use Rattle.bufr_text.specs.declared.encode.Form.{Form}
 use Rattle.bufr_text.specs.declared.fault.ReadFault.TheVariants.{Line, SubsetCount, HeaderRange, Run}
 use Rattle.bufr_cli.specs.FaultLine.{refused_line}
 use Rattle.bufr_cli.specs.Pieces.{result_piece, encode_pieces, up_to_refused, Piece, OnOutput, OnErrors, errors_of, is_accepted, is_refused, output_of}
-use Rattle.bufr_cli.specs.Running.{EncodeDone, EncodeStopped, LeavesDocuments, read_documents, ReadsAtMost, Tallies, WritesPieces, WrittenInPart}
-use Rattle.bufr_cli.specs.WritingPieces.{LeavesNext, LeavesPieces, StopsPiece, counted_accepted, counted_refused, tally_after}
-use Rattle.bufr_cli.specs.Devices.{Blames}
+use Rattle.bufr_cli.specs.Running.{EncodeDone, EncodeStopped, LeavesDocuments, read_documents, ReadsAtMost, Tallies, WritesPieces, WrittenInPart, LeavesNext, LeavesPieces, StopsPiece, counted_accepted, counted_refused, tally_after, Blames}
 use Rattle.bufr_cli.specs.declared.outcome.Tally.{Tally}
 use Rattle.bufr_cli.specs.declared.outcome.Verdict.{Verdict}
 use Rattle.bufr_cli.specs.declared.outcome.Verdict.TheVariants as verdict
-use Rattle.bufr_text.proofs.CallLemmas.{call-none, call-then}
-use Rattle.bufr_text.proofs.NextLemmas.{counts-none, counts-then, reported-first, reported-first-openly, reported-at-end, reported-at-fault}
+use Rattle.bufr_text.proofs.CallLemmas.{call-none, call-then, counts-none, counts-then, reported-first, reported-first-openly, reported-at-end, reported-at-fault}
 use Rattle.bufr_cli.proofs.RunLemmas.{Written-nil, Written-then, grows-nil}
 use Rattle.bufr_cli.proofs.DumpLemmas.{errors-reported, line-stopped}
 

@@ -1,13 +1,12 @@
--- What `dump` writes for a stream is encoded to messages that have the same dump text.
+-- What `dump` writes for a stream, or a text by hand, is encoded to messages with that text.
 use Rattle.std.proofs.Common.{◌≡◌, ◌∙◌, ◌⊎◌, ℕ, suc, ◌+◌, ◌<◌, ◌≤◌, List, [], ◌∷◌, ◌++◌, length, map, Option, Some, Result, Ok, Err, refl, sym, ap, subst, arith, inl, inr, length-append}
 use Rattle.std.specs.Prelude.{flat_map, count_by, slice_index}
 use Rattle.std.specs.List.{AllByRecursion, AllZip, concat, filter}
 use Rattle.std.proofs.lemmas.List.Sums.{length-filter}
-use Rattle.bufr_tables.specs.Expansion.{tree_of}
+use Rattle.bufr_tables.specs.Expansion.{tree_of, tables_of}
 use Rattle.bufr_tables.specs.Records.{Record}
 use Rattle.bufr_tables.specs.TableB.{Row, AreRows}
 use Rattle.bufr_tables.specs.TableD.{Sequence}
-use Rattle.bufr_tables.specs.TemplateTables.{tables_of}
 use Rattle.bufr_tables.specs.Tree.{Tree}
 use Rattle.bufr_tables.specs.declared.fault.TemplateFault.{TemplateFault}
 use Rattle.bufr_tables.proofs.SoundLemmas.{tree_fine}
@@ -15,25 +14,27 @@ use Rattle.bufr_frame.specs.Layout.{max_octets}
 use Rattle.bufr_frame.specs.Scan.{StreamEvent, FrameAt, StrayAt, scan, scan_from}
 use Rattle.bufr_frame.specs.Sections.{Sections, sections_of}
 use Rattle.bufr_frame.specs.declared.fault.SectionFault.{SectionFault}
-use Rattle.bufr_frame.proofs.FrameLemmas.{IsSmall, framed_octets, frames-within, small-frames}
-use Rattle.bufr_frame.proofs.ScanLemmas.{scan_from-nil}
+use Rattle.bufr_frame.proofs.ScanLemmas.{IsSmall, framed_octets, frames-within, small-frames, scan_from-nil}
 use Rattle.bufr_walk.specs.Reading.{Values, apart, together}
-use Rattle.bufr_text.specs.Documents.{Between, lines_of, parse_lines}
-use Rattle.bufr_text.specs.Dump.{dump_lines, dump_text_of}
-use Rattle.bufr_text.specs.RoundTrip.{IsAccepted, HasSameReading, dump_items_in}
-use Rattle.bufr_text.specs.Bounds.{IsOctet}
-use Rattle.bufr_text.specs.Encoding.{RefusedAt}
-use Rattle.bufr_text.proofs.CanonicalLemmas.{canonical_encoded}
+use Rattle.bufr_text.specs.Documents.{Between, lines_of, parse_lines, Document, ParseResult, Complete, Refused, documents_of}
+use Rattle.bufr_text.specs.Dump.{dump_lines, dump_text_of, IsOctet, DumpItem}
+use Rattle.bufr_text.specs.RoundTrip.{IsAccepted, HasSameReading, dump_items_in, IsReadAs}
+use Rattle.bufr_text.specs.Encoding.{RefusedAt, encoding_in}
+use Rattle.bufr_text.proofs.FormLemmas.{canonical_encoded}
 use Rattle.bufr_text.proofs.DumpableLemmas.{dumpable}
 use Rattle.bufr_text.proofs.RoundTripLemmas.{accepted_again, encoded_again, same_text}
 use Rattle.bufr_text.proofs.LawLemmas.{text-spells}
 use Rattle.bufr_text.proofs.RowsLemmas.{rows-read, good-rows}
 use Rattle.bufr_cli.specs.Pieces.{IsDataPiece, IsTemplatePiece, IsMessagePiece, IsDumpPiece, dump_text, Piece, OnOutput, OnErrors, output_of, errors_of, is_accepted, is_refused, encoded, result_piece, up_to_refused}
 use Rattle.bufr_text.specs.declared.encode.Form.TheVariants.{AsWritten}
-use Rattle.bufr_cli.specs.RoundTrip.{accepted_in, accepted_messages, dump_pieces, dumped, longer_by, event_octets, rebuilding, rebuilt, text_pieces, IsBuiltAgain, IsWholeRound, IsCanonicalMessage, RoundTrips, Written}
-use Rattle.bufr_cli.specs.Devices.{holding}
-use Rattle.bufr_cli.specs.Running.{Dumps, Encodes, GivesPieces, Tallies}
+use Rattle.bufr_cli.specs.RoundTrip.{accepted_in, accepted_messages, dump_pieces, dumped, longer_by, event_octets, rebuilding, rebuilt, text_pieces, IsBuiltAgain, IsWholeRound, IsCanonicalMessage, RoundTrips, Written, IsDumpedInOneSpelling, before_refused, built, form_pieces, normal_by, normal_text, normal_texts}
+use Rattle.bufr_cli.specs.Running.{holding, Dumps, Encodes, GivesPieces, Tallies}
 use Rattle.bufr_cli.proofs.DumpLemmas.{one-piece}
+use Rattle.std.proofs.lemmas.List.{length-map}
+use Rattle.bufr_text.specs.Spelling.{IsProper, AreProper}
+use Rattle.bufr_text.specs.declared.encode.Form.{Form}
+use Rattle.bufr_text.proofs.NormalLemmas.{dump_is_normal, encoded_again_same, encoded_read}
+use Rattle.bufr_text.proofs.SpellingLemmas.{spelled-proper}
 
 -- the numbers of a slice of octets
 pub octets-all : (s : List ℕ) → ((i : ℕ) → slice_index s i < 256) → AllByRecursion IsOctet s
@@ -246,8 +247,8 @@ module _ (b : List Row) (d : List Sequence) (piece : StreamEvent → Piece) (giv
       (built-message x.octets x.sections x.template x.values x.used records (flat_map output_of (map piece es)) (accepted_of piece es) (map piece es) (framed_octets es) line rows x.accepted
       (rest (line + length (dump_lines x.sections (dump_items_in b x.template x.sections x.values))))))
 
-  built : (records : List Record) (es : List StreamEvent) (line : ℕ) → AreRows records b → AllByRecursion IsSmall es → BuiltOf es line
-  built records [] line rows small = record {
+  built_from : (records : List Record) (es : List StreamEvent) (line : ℕ) → AreRows records b → AllByRecursion IsSmall es → BuiltOf es line
+  built_from records [] line rows small = record {
     messages = [];
     readings = tt;
     results = ap (map (result_piece AsWritten b d)) (nothing-spelled line);
@@ -257,13 +258,13 @@ module _ (b : List Row) (d : List Sequence) (piece : StreamEvent → Piece) (giv
     listed = λ at. refl;
     kept = λ all. refl;
   }
-  built records (here ∷ es) line rows small =
-      built-more records here es line rows (event-kind b d here (piece here) small.0 (gives here)) (λ at. built records es at rows small.1)
+  built_from records (here ∷ es) line rows small =
+      built-more records here es line rows (event-kind b d here (piece here) small.0 (gives here)) (λ at. built_from records es at rows small.1)
 
   -- dump, encode, dump
   pub round-trips : (records : List Record) (s : List ℕ) → AreRows records b → AllByRecursion IsOctet s → RoundTrips b d piece s
   round-trips records s rows octets =
-      let r = built records (scan s) 1 rows (small-frames 0 0 s octets) in
+      let r = built_from records (scan s) 1 rows (small-frames 0 0 s octets) in
       let ms = r.messages in
       let pieces : rebuilding b d piece s ≡ map OnOutput ms = ap up_to_refused r.results ∙ outputs-whole ms in
       let are : rebuilt b d piece s ≡ concat ms = ap (flat_map output_of) pieces ∙ outputs-octets ms in
@@ -289,7 +290,7 @@ module _ (b : List Row) (d : List Sequence) (piece : StreamEvent → Piece) (giv
   pub canonical-kept : (records : List Record) (s : List ℕ) → AreRows records b → AllByRecursion IsOctet s → AllByRecursion (IsCanonicalMessage b d) (accepted_messages piece s)
       → rebuilt b d piece s ≡ concat (accepted_messages piece s)
   canonical-kept records s rows octets all =
-      let r = built records (scan s) 1 rows (small-frames 0 0 s octets) in
+      let r = built_from records (scan s) 1 rows (small-frames 0 0 s octets) in
       ap (flat_map output_of) (ap up_to_refused r.results ∙ outputs-whole r.messages) ∙ outputs-octets r.messages ∙ ap concat (r.kept all)
 
   -- ---- three runs
@@ -303,15 +304,15 @@ module _ (b : List Row) (d : List Sequence) (piece : StreamEvent → Piece) (giv
       → IsWholeRound b d stream text messages again
   whole-round records stream text messages again rows octets is_text first_counts is_messages is_lines second_counts is_again is_faults third_counts =
       let t = round-trips records stream rows octets in
-      let built : text_pieces b d text.output ≡ rebuilding b d piece stream = ap (text_pieces b d) is_text in
-      let are : messages.output ≡ rebuilt b d piece stream = is_messages ∙ ap (flat_map output_of) built in
+      let built_from : text_pieces b d text.output ≡ rebuilding b d piece stream = ap (text_pieces b d) is_text in
+      let are : messages.output ≡ rebuilt b d piece stream = is_messages ∙ ap (flat_map output_of) built_from in
       let pieces : dump_pieces piece messages.output ≡ filter is_accepted (dump_pieces piece stream) = ap (dump_pieces piece) are ∙ t.same_pieces in
       let R : List ℕ → Type 0 = λ l. AllZip (IsBuiltAgain b d) (accepted_messages piece stream) (accepted_messages piece l) in
       record {
         same_text = is_again ∙ ap (flat_map output_of) pieces ∙ accepted-output (dump_pieces piece stream) ∙ sym is_text;
-        as_many = second_counts.accepted ∙ ap (count_by is_accepted) built ∙ t.as_many ∙ sym first_counts.accepted;
-        none_refused = second_counts.refused ∙ ap (count_by is_refused) built ∙ t.none_refused;
-        no_line = is_lines ∙ ap (flat_map errors_of) built ∙ t.no_line;
+        as_many = second_counts.accepted ∙ ap (count_by is_accepted) built_from ∙ t.as_many ∙ sym first_counts.accepted;
+        none_refused = second_counts.refused ∙ ap (count_by is_refused) built_from ∙ t.none_refused;
+        no_line = is_lines ∙ ap (flat_map errors_of) built_from ∙ t.no_line;
         none_refused_again = third_counts.refused ∙ ap (count_by is_refused) pieces ∙ accepted-count (dump_pieces piece stream);
         no_fault = is_faults ∙ ap (flat_map errors_of) pieces ∙ accepted-silent (dump_pieces piece stream);
         piece = piece;
@@ -337,3 +338,111 @@ three-runs records b d stream text messages again e e' rows octets (piece, gives
     let T : List Piece → Type 0 = λ ps. Tallies again.tally ps in
     whole-round b d piece gives records stream text messages again rows octets
     wrote.output counts encodes.output encodes.errors counted (dumps.output ∙ ap (flat_map output_of) same) (dumps.errors ∙ ap (flat_map errors_of) same) (subst T same counts')
+
+-- ---- What is encoded of any text is dumped as the texts of its documents in one spelling.
+
+-- What is written for documents, and their texts. The messages on the output are framed one by one
+-- and have these texts. They are built of these again, from any line of a text on.
+record AreBuilt (b : List Row) (d : List Sequence) (piece : StreamEvent → Piece) (pieces : List Piece) (texts : List (List ℕ)) : Type 0 where
+  messages : List (List ℕ)
+  written : flat_map output_of (up_to_refused pieces) ≡ concat messages
+  as_many : length (filter is_accepted (up_to_refused pieces)) ≡ length messages
+  scanned : (at : ℕ) → scan_from 0 at (concat messages) ≡ placed at messages
+  results : (at : ℕ) → map piece (placed at messages) ≡ map OnOutput texts
+  again : (line : ℕ) → map (result_piece AsWritten b d) (parse_lines line Between (lines_of (concat texts))) ≡ map OnOutput messages
+
+-- nothing is built
+none-built : (b : List Row) (d : List Sequence) (piece : StreamEvent → Piece) → AreBuilt b d piece [] []
+unfolding up_to_refused
+none-built b d piece = record {
+  messages = [];
+  written = refl;
+  as_many = refl;
+  scanned = λ at. scan_from-nil 0 at;
+  results = λ at. refl;
+  again = λ line. ap (map (result_piece AsWritten b d)) (nothing-spelled line);
+}
+
+-- a line on the errors ends it
+fault-ends : (b : List Row) (d : List Sequence) (piece : StreamEvent → Piece) (line : List ℕ) (more : List Piece) → AreBuilt b d piece (OnErrors line ∷ more) []
+unfolding up_to_refused
+fault-ends b d piece line more = record {
+  messages = [];
+  written = refl;
+  as_many = refl;
+  scanned = λ at. scan_from-nil 0 at;
+  results = λ at. refl;
+  again = λ line. ap (map (result_piece AsWritten b d)) (nothing-spelled line);
+}
+
+module _ (form : Form) (records : List Record) (b : List Row) (d : List Sequence) (piece : StreamEvent → Piece) (rows : AreRows records b) (gives : GivesPieces (IsDumpPiece b d) piece) where
+  -- one message more, of a document that is encoded to it
+  module _ (document : Document) (octets : List ℕ) (proper : IsProper document) (is : encoding_in form b d document ≡ Ok octets) (read : IsReadAs form b d document octets) where
+    abbrev items : List (List DumpItem)
+    items = dump_items_in b read.template read.sections read.values
+
+    abbrev text : List ℕ
+    text = dump_text_of read.sections items
+
+    text-is : text ≡ normal_text form b d document
+    text-is =
+        dump_is_normal form records b d rows document octets read proper
+        ∙ sym (ap (normal_by form b document) (ap (tree_of (tables_of b d)) (sym read.descriptors) ∙ read.accepted.expands))
+
+    piece-is : (at : ℕ) → piece (FrameAt at octets) ≡ OnOutput (normal_text form b d document)
+    piece-is at =
+        one-piece b d (FrameAt at octets) (piece (FrameAt at octets)) (OnOutput text) (gives (FrameAt at octets)) (accepted-piece b d octets read.sections read.template read.values read.used at read.accepted)
+        ∙ ap OnOutput text-is
+
+    -- after its text the reading goes on
+    spells : (line : ℕ) (more : List ℕ) → map (result_piece AsWritten b d) (parse_lines line Between (lines_of (normal_text form b d document ++ more)))
+        ≡ OnOutput octets ∷ map (result_piece AsWritten b d) (parse_lines (line + length (dump_lines read.sections items)) Between (lines_of more))
+    spells line more =
+        let legal = (tree_fine (tables_of b d) read.sections.descriptors read.template read.accepted.expands).legal in
+        ap (λ t. map (result_piece AsWritten b d) (parse_lines line Between (lines_of (t ++ more)))) (sym text-is)
+        ∙ ap (map (result_piece AsWritten b d)) (text-spells read.sections items line more (dumpable b d octets read.sections read.template read.values read.used (rows-read records b rows) legal read.accepted))
+        ∙ ap (λ x. encoded x ∷ map (result_piece AsWritten b d) (parse_lines (line + length (dump_lines read.sections items)) Between (lines_of more)))
+        (encoded_again_same form records b d rows document octets read line proper is)
+
+    one-more : (pieces : List Piece) (texts : List (List ℕ)) → AreBuilt b d piece pieces texts → AreBuilt b d piece (OnOutput octets ∷ pieces) (normal_text form b d document ∷ texts)
+    unfolding up_to_refused
+    one-more pieces texts r = record {
+      messages = octets ∷ r.messages;
+      written = ap (λ l. octets ++ l) r.written;
+      as_many = ap suc r.as_many;
+      scanned = λ at. read.framed at (concat r.messages) ∙ ap (λ l. FrameAt at octets ∷ l) (r.scanned (at + length octets));
+      results = λ at. ap (λ p. p ∷ map piece (placed (at + length octets) r.messages)) (piece-is at) ∙ ap (λ l. OnOutput (normal_text form b d document) ∷ l) (r.results (at + length octets));
+      again = λ line. spells line (concat texts) ∙ ap (λ l. OnOutput octets ∷ l) (r.again (line + length (dump_lines read.sections items)));
+    }
+
+  -- a document is encoded, or refused
+  document-more : (document : Document) (made : Result (List ℕ) RefusedAt) (pieces : List Piece) (texts : List (List ℕ)) → IsProper document → encoding_in form b d document ≡ made → AreBuilt b d piece pieces texts
+      → AreBuilt b d piece (encoded made ∷ pieces) (before_refused made (normal_text form b d document) texts)
+  document-more document (Ok octets) pieces texts proper is r = one-more document octets proper is (encoded_read form records b d rows document proper octets is) pieces texts r
+  document-more document (Err refused) pieces texts proper is r = fault-ends b d piece _ pieces
+
+  are-built : (results : List ParseResult) → AreProper results → AreBuilt b d piece (map (result_piece form b d) results) (normal_texts form b d results)
+  unfolding normal_texts
+  are-built [] proper = none-built b d piece
+  are-built (Complete document ∷ more) proper =
+      document-more document (encoding_in form b d document) (map (result_piece form b d) more) (normal_texts form b d more) proper.0 refl (are-built more proper.1)
+  are-built (Refused line fault ∷ more) proper = fault-ends b d piece _ (map (result_piece form b d) more)
+
+  -- the law
+  pub one-spelling : (text : List ℕ) → IsDumpedInOneSpelling form b d piece text
+  one-spelling text =
+      let texts = normal_texts form b d (documents_of text) in
+      let r = are-built (documents_of text) (spelled-proper 1 Between (lines_of text) (omega arith) tt) in
+      let pieces : dump_pieces piece (built form b d text) ≡ map OnOutput texts = ap (map piece) (ap scan r.written ∙ r.scanned 0) ∙ r.results 0 in
+      let same_text : dumped piece (built form b d text) ≡ concat texts = ap (flat_map output_of) pieces ∙ outputs-octets texts in
+      let many : length r.messages ≡ length texts = sym (placed-count piece 0 r.messages) ∙ ap length (r.results 0) ∙ length-map texts OnOutput in
+      record {
+        pieces = pieces;
+        same_text = same_text;
+        as_many = ap (count_by is_accepted) pieces ∙ sym (length-filter is_accepted (map OnOutput texts)) ∙ outputs-accepted texts ∙ sym many
+            ∙ sym r.as_many ∙ length-filter is_accepted (form_pieces form b d text);
+        none_refused = ap (count_by is_refused) pieces ∙ sym (length-filter is_refused (map OnOutput texts)) ∙ ap length (outputs-refused texts);
+        no_fault = ap (flat_map errors_of) pieces ∙ outputs-silent texts;
+        settled = ap (λ t. flat_map output_of (text_pieces b d t)) same_text ∙ ap (λ ps. flat_map output_of (up_to_refused ps)) (r.again 1)
+            ∙ ap (flat_map output_of) (outputs-whole r.messages) ∙ outputs-octets r.messages ∙ sym r.written;
+      }

@@ -1,31 +1,30 @@
--- What a run writes, event by event.
-use Rattle.bufr_frame.specs.Runs.{MakesReads, max_reads, read_failures_after}
+-- What a run writes, event by event, and what comes of a job.
+use Rattle.bufr_frame.specs.Input.{MakesReads, max_reads, read_failures_after}
 use Rattle.std.proofs.Common.{◌≡◌, ◌∙◌, ◌≤◌, ◌<◌, ◌^◌, ℕ, ◌+◌, ◌-◌, Bool, true, false, List, [], ◌∷◌, ◌++◌, refl, sym, ap, subst, arith, Option, None, Ok, Err, append-nil, Some, append_assoc, inl, inr}
-use Rattle.std.specs.Prelude.{Result, flat_map, map, count_by, IfOk, IfSome}
+use Rattle.std.specs.Prelude.{Result, flat_map, map, count_by, IfOk, IfSome, OnOk}
 use Rattle.std.specs.Io.KnownBytes.{Keeps}
 use Rattle.std.proofs.KnownBytes.{Appends-nil, Appends-trans, Appends-kept, Consumes-nil, Consumes-whole}
 use Rattle.std.proofs.lemmas.Bool.{false≢true}
 use Rattle.std.proofs.lemmas.Grind.{common_steps, flat_map-append}
-use Rattle.bufr_bits.specs.Counts.{counted}
+use Rattle.bufr_bits.specs.Device.{counted}
 use Rattle.bufr_bits.proofs.CountLemmas.{counted-none}
 use Rattle.bufr_frame.specs.declared.fault.RunFault.{RunFault}
 use Rattle.bufr_frame.specs.declared.fault.RunFault.TheVariants.{Read, Write, InputTooLong, Memory}
 use Rattle.bufr_frame.specs.declared.finder.Event.{Event}
 use Rattle.bufr_frame.specs.declared.finder.Event.TheVariants.{Frame, Stray, Done}
-use Rattle.bufr_frame.specs.Scan.{StreamEvent, FrameAt, StrayAt, scan, scan_from, open_scan}
-use Rattle.bufr_frame.specs.Lookahead.{Advances}
-use Rattle.bufr_frame.proofs.CallLemmas.{events-are-open}
+use Rattle.bufr_frame.specs.Scan.{StreamEvent, FrameAt, StrayAt, scan, scan_from, open_scan, Advances}
+use Rattle.bufr_frame.proofs.FinderLemmas.{events-are-open, Advances-none, Follows-none, ReadsAndPasses-then, CountsReads-then, whole-scan, events-are-certain}
 use Rattle.bufr_frame.specs.Events.{events_of, IsEvent}
-use Rattle.bufr_frame.specs.FinderCalls.{FinderModel, ReadsAndPasses, CountsReads, StopsFinder, IsUndecided, new_finder}
+use Rattle.bufr_frame.specs.Finder.{FinderModel, ReadsAndPasses, CountsReads, StopsFinder, IsUndecided, new_finder}
 use Rattle.bufr_frame.specs.Next.{ReturnsNextEvent, LeavesFinder}
-use Rattle.bufr_frame.proofs.FindingLemmas.{Advances-none, Follows-none, ReadsAndPasses-then, CountsReads-then, whole-scan, events-are-certain}
-use Rattle.bufr_text.specs.Writing.{GrowsByPrefix, Stays, Fails}
+use Rattle.bufr_text.specs.Writing.{GrowsByPrefix, Stays, Fails, Writes}
 use Rattle.bufr_cli.specs.Pieces.{Piece, output_of, errors_of, is_accepted, is_refused}
-use Rattle.bufr_cli.specs.Devices.{Blames}
-use Rattle.bufr_cli.specs.Running.{WritesPieces, Tallies, LeavesEvents, RunDone, RunStopped, RunCut, ReadsFewer, read_events, GivesPieces}
-use Rattle.bufr_cli.specs.WritingPieces.{LeavesPieces, StopsPiece, RunReads, counted_accepted, counted_refused, tally_after}
+use Rattle.bufr_cli.specs.Running.{Blames, WritesPieces, Tallies, LeavesEvents, RunDone, RunStopped, RunCut, ReadsFewer, read_events, GivesPieces, LeavesPieces, StopsPiece, RunReads, counted_accepted, counted_refused, tally_after, BlamesWriter, CountsCalls, Input, Writers, ReadsAll}
 use Rattle.bufr_cli.specs.declared.outcome.Tally.{Tally}
 use Rattle.bufr_cli.specs.declared.outcome.Verdict.{Verdict}
+use Rattle.bufr_cli.specs.Calling.{InPart, WritesHelp}
+use Rattle.bufr_cli.specs.Ending.{AreFlushed, BlamesInput, EndsRun, FlushesRest, Promise, WasEnded, WentThrough, WritesLine, run_line}
+use Rattle.bufr_cli.specs.Program.{IsReadFault}
 
 pub grows-nil : (w : Option (List ℕ)) → GrowsByPrefix w w []
 grows-nil w = record { prefix = []; back = []; parts = refl; gains = Appends-nil w }
@@ -376,3 +375,44 @@ blames-report {a} {b} {c} {d} {a'} {b'} {c'} {d'} write_event f r is same go_a g
     by Memory (x, y) = (go_a x, go_c y)
     by Write (inl (x, y)) = inl (go_b x, go_c y)
     by Write (inr (x, y)) = inr (go_a x, go_d y)
+
+-- ---- What comes of a job, from what its run answers.
+
+-- a run over the octets of its input, and then the flush of the rest
+pub ends-run : (promise : Promise) (octets : Option (List ℕ)) (from to : Input) (before between after : Writers) (ran ran' : Result Tally RunFault)
+    → IfOk ran (λ tally. IfSome from.left (promise.whole before between tally)) → promise.run from to before between ran → OnOk ran (AreFlushed between) → BlamesInput from to ran → BlamesWriter before between ran
+    → ran' ≡ ran → FlushesRest between.output after.output ran → after.errors ≡ between.errors → from.left ≡ octets → EndsRun promise octets before after ran'
+ends-run promise octets from to before between after ran ran' whole run flushed input writers same rest errors known =
+    let P : Result Tally RunFault → Type 0 = λ r. EndsRun promise octets before after r in
+    subst P (sym same) (of ran whole run flushed input writers rest)
+  where
+    of : (r : Result Tally RunFault) → IfOk r (λ tally. IfSome from.left (promise.whole before between tally)) → promise.run from to before between r → OnOk r (AreFlushed between) → BlamesInput from to r → BlamesWriter before between r
+        → FlushesRest between.output after.output r → EndsRun promise octets before after r
+    of (Ok tally) whole' run' flushed' input' writers' rest' =
+        let both : after ≡ between = ap (λ o. record { output = o; errors = after.errors }) rest' ∙ ap (λ e. record { output = between.output; errors = e }) errors in
+        let Q : Writers → Type 0 = λ w. EndsRun promise octets before w (Ok tally) in
+        let known' : IfSome octets (promise.whole before between tally) = let K : Option (List ℕ) → Type 0 = λ o. IfSome o (promise.whole before between tally) in subst K known whole' in
+        subst Q (sym both) (WentThrough tally refl known' writers'.0 writers'.1 flushed')
+    of (Err fault) whole' run' flushed' input' writers' rest' = WasEnded fault refl from to known between run' input' writers' rest' errors
+
+-- what holds of a run by each function that gives such pieces
+pub ok-any : (r : Result Tally RunFault) (octets : Option (List ℕ)) (gives : (StreamEvent → Piece) → Type 0) (ran : (StreamEvent → Piece) → Tally → List ℕ → Type 0)
+    → ((piece : StreamEvent → Piece) → gives piece → IfOk r (λ tally. IfSome octets (ran piece tally)))
+    → IfOk r (λ tally. IfSome octets (λ s. (piece : StreamEvent → Piece) → gives piece → ran piece tally s))
+ok-any (Ok tally) None gives ran so = tt
+ok-any (Ok tally) (Some s) gives ran so = so
+ok-any (Err fault) octets gives ran so = tt
+
+-- a fault of reading an input whole
+pub read-fault : (left left' : Option (List ℕ)) (fault : RunFault) (bs : List ℕ) → ReadsAll left left' (Err fault) bs → IsReadFault fault
+read-fault left left' Read bs so = tt
+read-fault left left' Write bs so = so
+read-fault left left' InputTooLong bs so = tt
+read-fault left left' Memory bs so = tt
+
+-- help that was written in part ends with the line of a fault of a write
+pub help-in-part : (text : List ℕ) (before after : Writers) (status : ℕ) (fault : RunFault) → Writes {X = Unit {0}} before.output.taken after.output.taken text (Err fault) → CountsCalls {X = Unit {0}} before.output after.output (Err fault)
+    → WritesLine before.errors after.errors (run_line fault) → status ≡ 2 → WritesHelp text before after status
+help-in-part text before after status fault writes counts line is =
+    let P : RunFault → Type 0 = λ f. WritesLine before.errors after.errors (run_line f) in
+    InPart writes.1 counts (subst P writes.0 line) is

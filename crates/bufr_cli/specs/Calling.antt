@@ -5,7 +5,7 @@ use Rattle.std.specs.Io.KnownBytes.{Appends}
 use Rattle.clap.specs.Words.{Text, fault_of, subcommand_of}
 use Rattle.bufr_frame.specs.declared.fault.RunFault.TheVariants as fault
 use Rattle.bufr_text.specs.Writing.{GrowsByPrefix}
-use Rattle.bufr_cli.specs.Devices.{HasFailed, IsSame, Writers}
+use Rattle.bufr_cli.specs.Running.{HasFailed, IsSame, Writers}
 use Rattle.bufr_cli.specs.Ending.{WritesLine, last_line, run_line, status_of}
 use Rattle.bufr_cli.specs.Line.{IsJobOf, SaysWhy, bufr_app}
 use Rattle.bufr_cli.specs.Program.{Known, RunsJob}

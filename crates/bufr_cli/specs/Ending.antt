@@ -3,13 +3,12 @@
 -- Cited by public contracts.
 use Rattle.std.specs.Prelude.{◌≡◌, ◌⊎◌, ◌<◌, ◌-◌, ◌^◌, ℕ, true, List, Option, Result, Ok, Err, IfSome, zero, suc, [], ◌∷◌, ◌++◌, codes, decimal}
 use Rattle.std.specs.Io.KnownBytes.{Appends, Keeps}
-use Rattle.bufr_bits.specs.Counts.{counted}
-use Rattle.bufr_frame.specs.Runs.{read_failures_after}
+use Rattle.bufr_bits.specs.Device.{counted}
+use Rattle.bufr_frame.specs.Input.{read_failures_after}
 use Rattle.bufr_frame.specs.declared.fault.RunFault.{RunFault}
 use Rattle.bufr_frame.specs.declared.fault.RunFault.TheVariants.{Read, Write, InputTooLong, Memory}
 use Rattle.bufr_text.specs.Writing.{GrowsByPrefix, joined}
-use Rattle.bufr_cli.specs.Devices.{BlamesWriter, IsSame, Input, Writer, Writers}
-use Rattle.bufr_cli.specs.Running.{ReadsAtMost}
+use Rattle.bufr_cli.specs.Running.{BlamesWriter, IsSame, Input, Writer, Writers, ReadsAtMost}
 use Rattle.bufr_cli.specs.declared.outcome.Tally.{Tally}
 use Rattle.bufr_frame.specs.Numbers.{number_of_run_fault}
 use Rattle.bufr_tables.specs.Fxy.{fxy_text}

@@ -14,12 +14,12 @@ use Rattle.bufr_tables.specs.declared.fault.TemplateFault.TheVariants as templat
 use Rattle.bufr_walk.specs.declared.fault.Spot.{Spot}
 use Rattle.bufr_walk.specs.declared.fault.WalkFault.{WalkFault}
 use Rattle.bufr_walk.specs.declared.fault.WalkFault.TheVariants as walk
-use Rattle.bufr_walk.specs.Fault.{number_of_walk_fault}
+use Rattle.bufr_walk.specs.Refusal.{number_of_walk_fault}
 use Rattle.bufr_text.specs.Writing.{joined}
 use Rattle.bufr_cli.specs.declared.fault_line.StreamFault.{StreamFault}
 use Rattle.bufr_cli.specs.declared.fault_line.StreamFault.TheVariants as stream
 use Rattle.bufr_walk.specs.declared.spec.TurnRefusal.TheVariants as turn
-use Rattle.bufr_fill.specs.Fault.{DraftFaultKind, wrong_descriptor, wrong_number, out_of_range, text_long, missing_forbidden, unequal_factors, uneven_increment, item_too_many, walk_refused, too_many_values, no_count}
+use Rattle.bufr_fill.specs.Faults.{DraftFaultKind, wrong_descriptor, wrong_number, out_of_range, text_long, missing_forbidden, unequal_factors, uneven_increment, item_too_many, walk_refused, too_many_values, no_count}
 use Rattle.bufr_text.specs.Documents.{TextLineFault, NotAllowed, SubsetCount, HeaderRange}
 use Rattle.bufr_text.specs.Encoding.{DocumentRefusal, RefusedAt, by_template, by_item, too_long}
 use Rattle.bufr_text.specs.declared.fault.ReadFault.{ReadFault}

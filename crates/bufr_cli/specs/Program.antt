@@ -5,16 +5,13 @@ use Rattle.std.specs.Borrow.{Bor}
 use Rattle.bufr_frame.specs.Scan.{StreamEvent, scan}
 use Rattle.bufr_frame.specs.declared.fault.RunFault.{RunFault}
 use Rattle.bufr_frame.specs.declared.fault.RunFault.TheVariants.{Read, Write, InputTooLong, Memory}
-use Rattle.bufr_tables.specs.Chain.{ReadsTableD}
-use Rattle.bufr_tables.specs.Records.{records_of}
-use Rattle.bufr_tables.specs.Steps.{ReturnsUnlessMemory}
+use Rattle.bufr_tables.specs.TableD.{ReadsTableD, Sequence}
+use Rattle.bufr_tables.specs.Records.{records_of, ReturnsUnlessMemory}
 use Rattle.bufr_tables.specs.TableB.{Row, table_b_of}
-use Rattle.bufr_tables.specs.TableD.{Sequence}
 use Rattle.bufr_tables.specs.declared.fault.TableFault.{TableFault}
 use Rattle.bufr_text.specs.declared.encode.Form.{Form}
-use Rattle.bufr_cli.specs.Devices.{Writers}
+use Rattle.bufr_cli.specs.Running.{Writers, RunsEncode, GivesPieces, RunsEvents, Encodes, WritesAndCounts}
 use Rattle.bufr_cli.specs.Pieces.{IsDumpPiece, Piece, ls_piece, ls_pieces, encode_pieces}
-use Rattle.bufr_cli.specs.Running.{RunsEncode, GivesPieces, RunsEvents, Encodes, WritesAndCounts}
 use Rattle.bufr_cli.specs.Ending.{EndsRun, Promise}
 use Rattle.bufr_cli.specs.declared.outcome.Outcome.{Outcome}
 use Rattle.bufr_cli.specs.declared.outcome.Outcome.TheVariants.{Ran, CannotOpen, TableB, TableD, Run}

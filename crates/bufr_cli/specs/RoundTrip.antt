@@ -1,6 +1,7 @@
--- A stream dumped, its text encoded, and what was encoded dumped again. (a choice of this project)
+-- A stream dumped, its text encoded, and that dumped again.
+-- (A choice of this project)
 -- Cited by public contracts.
-use Rattle.std.specs.Prelude.{◌≡◌, ℕ, ◌+◌, ◌≤◌, List, [], ◌∷◌, length, map, flat_map, count_by}
+use Rattle.std.specs.Prelude.{◌≡◌, ℕ, ◌+◌, ◌≤◌, List, [], ◌∷◌, length, map, flat_map, count_by, Result, Ok, Err}
 use Rattle.std.specs.List.{AllByRecursion, AllZip, concat, filter}
 use Rattle.bufr_bits.specs.Script.{taken_of}
 use Rattle.bufr_frame.specs.Scan.{StreamEvent, FrameAt, StrayAt, scan}
@@ -9,15 +10,19 @@ use Rattle.bufr_tables.specs.TableB.{Row}
 use Rattle.bufr_tables.specs.TableD.{Sequence}
 use Rattle.bufr_tables.specs.Tree.{Tree}
 use Rattle.bufr_walk.specs.Reading.{Values}
-use Rattle.bufr_text.specs.Canonical.{IsCanonical}
-use Rattle.bufr_text.specs.Documents.{documents_of}
-use Rattle.bufr_text.specs.RoundTrip.{IsAccepted, HasSameReading, extra_octets}
+use Rattle.bufr_text.specs.RoundTrip.{IsCanonical, IsAccepted, HasSameReading, extra_octets}
+use Rattle.bufr_text.specs.Documents.{documents_of, Document, ParseResult, Complete, Refused}
 use Rattle.bufr_text.specs.declared.encode.Form.TheVariants.{AsWritten}
 use Rattle.bufr_cli.specs.Pieces.{IsDumpPiece, Piece, OnOutput, OnErrors, output_of, errors_of, is_accepted, is_refused, encode_pieces}
 use Rattle.bufr_cli.specs.Running.{GivesPieces, Tallies}
 use Rattle.bufr_cli.specs.declared.laws.Round.{Round}
 use Rattle.bufr_cli.specs.declared.laws.RunInMemory.{RunInMemory}
 use Rattle.bufr_cli.specs.declared.outcome.Tally.{Tally}
+use Rattle.bufr_tables.specs.Expansion.{tree_of, tables_of}
+use Rattle.bufr_tables.specs.declared.fault.TemplateFault.{TemplateFault}
+use Rattle.bufr_text.specs.Encoding.{RefusedAt, encoding_in}
+use Rattle.bufr_text.specs.Spelling.{normal}
+use Rattle.bufr_text.specs.declared.encode.Form.{Form}
 
 -- what `dump` writes for a stream, each event by its piece, and what of that is on its output
 abbrev pub dump_pieces : (StreamEvent → Piece) → List ℕ → List Piece
@@ -144,3 +149,55 @@ abbrev pub IsWholeRoundOf : List Row → List Sequence → (stream : List ℕ) �
 IsWholeRoundOf b d stream round =
     IsWholeRound b d stream (written_by round.text) (written_by round.messages)
     (written_by round.again)
+
+-- ---- A text encoded, and that dumped: a dump's one spelling. (a choice of this project)
+
+-- the text of a document in the one spelling that a dump has, by the template that its descriptors
+-- make; where they make none it has no such text
+abbrev pub normal_by : Form → List Row → Document → Result Tree TemplateFault → List ℕ
+normal_by form b document (Ok template) = normal form b template document
+normal_by form b document (Err fault) = []
+
+abbrev pub normal_text : Form → List Row → List Sequence → Document → List ℕ
+normal_text form b d document =
+    normal_by form b document (tree_of (tables_of b d) document.descriptors)
+
+-- the text of a document that is encoded, and those after it; of one that is refused, and after
+-- it, there is none
+abbrev pub before_refused : Result (List ℕ) RefusedAt → (text : List ℕ)
+    → (more : List (List ℕ)) → List (List ℕ)
+before_refused (Ok octets) text more = text ∷ more
+before_refused (Err refused) text more = []
+
+-- the texts, in that spelling, of the documents before the first that is refused, or before the
+-- line that is
+unfoldable pub normal_texts : Form → List Row → List Sequence → List ParseResult → List (List ℕ)
+normal_texts form b d [] = []
+normal_texts form b d (Complete document ∷ more) =
+    before_refused (encoding_in form b d document) (normal_text form b d document)
+    (normal_texts form b d more)
+normal_texts form b d (Refused line fault ∷ more) = []
+
+-- what `encode` writes for a text in a form, and what of that is on its output
+abbrev pub form_pieces : Form → List Row → List Sequence → (text : List ℕ) → List Piece
+form_pieces form b d text = encode_pieces form b d (documents_of text)
+
+abbrev pub built : Form → List Row → List Sequence → (text : List ℕ) → List ℕ
+built form b d text = flat_map output_of (form_pieces form b d text)
+
+-- What `encode` builds of a text is dumped to the text's documents before the first that is
+-- refused. Each is in the one spelling that a dump has.
+pub record IsDumpedInOneSpelling (form : Form) (b : List Row) (d : List Sequence)
+    (piece : StreamEvent → Piece) (text : List ℕ) : Type 0 where
+  -- each event is a message that is accepted, and its text is the document's: nothing else, and no
+  -- fault
+  pub pieces : dump_pieces piece (built form b d text)
+      ≡ map OnOutput (normal_texts form b d (documents_of text))
+  pub same_text : dumped piece (built form b d text)
+      ≡ concat (normal_texts form b d (documents_of text))
+  pub as_many : count_by is_accepted (dump_pieces piece (built form b d text))
+      ≡ count_by is_accepted (form_pieces form b d text)
+  pub none_refused : count_by is_refused (dump_pieces piece (built form b d text)) ≡ 0
+  pub no_fault : flat_map errors_of (dump_pieces piece (built form b d text)) ≡ []
+  -- and encoded again, each in the form that it says, these texts are the same octets
+  pub settled : rebuilt b d piece (built form b d text) ≡ built form b d text

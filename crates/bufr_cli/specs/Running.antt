@@ -1,21 +1,120 @@
--- What a run leaves, by its answer. (a choice of this project)
+-- What a run leaves: its reads, its writes, its counts, and the devices that a fault is of.
+-- (A choice of this project)
 -- Cited by public contracts.
-use Rattle.std.specs.Prelude.{◌≡◌, ℕ, ◌<◌, ◌≤◌, Bool, true, false, List, ◌++◌, Option, None, Result, Ok, Err, flat_map, count_by, option_to_list, map, [], IfSome, Vec}
-use Rattle.std.specs.Io.KnownBytes.{Consumes, Appends, IsAtEnd}
-use Rattle.bufr_bits.specs.Counts.{counted}
-use Rattle.bufr_frame.specs.Runs.{max_reads}
-use Rattle.bufr_frame.specs.Scan.{StreamEvent, scan, open_scan}
+use Rattle.std.specs.Prelude.{ℕ, Bool, true, List, Option, ◌≡◌, ◌⊎◌, Result, Ok, Err, ◌<◌, ◌≤◌, false, ◌++◌, None, flat_map, count_by, option_to_list, map, [], IfSome, Vec, ◌+◌, ◌∷◌, Some}
 use Rattle.bufr_frame.specs.declared.fault.RunFault.{RunFault}
 use Rattle.bufr_frame.specs.declared.fault.RunFault.TheVariants.{Read, Write, InputTooLong, Memory}
-use Rattle.bufr_text.specs.Writing.{GrowsByPrefix}
-use Rattle.bufr_cli.specs.Devices.{Input, Writers}
+use Rattle.bufr_text.specs.Writing.{Stays, Fails, CountsWrites, GrowsByPrefix}
+use Rattle.std.specs.Io.KnownBytes.{Consumes, Appends, IsAtEnd}
+use Rattle.bufr_bits.specs.Device.{counted}
+use Rattle.bufr_frame.specs.Input.{max_reads, MakesReads}
+use Rattle.bufr_frame.specs.Scan.{StreamEvent, scan, open_scan}
 use Rattle.bufr_cli.specs.Pieces.{Piece, output_of, errors_of, is_accepted, is_refused, IsDumpPiece, encode_pieces}
 use Rattle.bufr_cli.specs.declared.outcome.Tally.{Tally}
 use Rattle.bufr_tables.specs.TableB.{Row}
 use Rattle.bufr_tables.specs.TableD.{Sequence}
 use Rattle.bufr_text.specs.declared.encode.Form.{Form}
-use Rattle.bufr_text.specs.Documents.{documents_of, ParseResult, open_documents_of}
+use Rattle.bufr_text.specs.Documents.{documents_of, ParseResult, open_documents_of, Document}
 use Rattle.std.specs.Global.{Global}
+use Rattle.bufr_cli.specs.declared.outcome.Verdict.{Verdict}
+use Rattle.bufr_cli.specs.declared.outcome.Verdict.TheVariants.{Accepted, Refused}
+use Rattle.bufr_text.specs.Reader.{parse_results}
+use Rattle.bufr_text.specs.declared.fault.ReadFault.{ReadFault}
+use Rattle.bufr_text.specs.declared.fault.ReadFault.TheVariants.{Run}
+use Rattle.bufr_bits.specs.declared.device.Sink as sink
+use Rattle.bufr_bits.specs.declared.device.Source as source
+
+-- ---- What an input and the writers have counted at one time, and which writer a fault is of. (a
+-- choice of this project)
+
+-- An input: the octets that are left, where they are known, its reads, and those that failed.
+pub record Input : Type 0 where
+  pub left : Option (List ℕ)
+  pub reads : ℕ
+  pub failures : ℕ
+
+-- A writer. It has the octets that it took, where they are known, its calls that failed, and its
+-- writes that took nothing. It has its flushes, and whether all that it took was handed on.
+pub record Writer : Type 0 where
+  pub taken : Option (List ℕ)
+  pub failures : ℕ
+  pub empty_writes : ℕ
+  pub flushes : ℕ
+  pub all_flushed : Bool
+
+-- The two writers of a run.
+pub record Writers : Type 0 where
+  pub output : Writer
+  pub errors : Writer
+
+-- what an input has counted
+abbrev pub input_of : {R : Type 0} → source.Ghosts R → R → Input
+input_of ghosts r =
+    record { left = ghosts.left r; reads = ghosts.reads r; failures = ghosts.failures r }
+
+-- what a writer has counted
+abbrev pub writer_of : {W : Type 0} → sink.Ghosts W → W → Writer
+writer_of ghosts w =
+    record {
+      taken = ghosts.taken w;
+      failures = ghosts.failures w;
+      empty_writes = ghosts.empty_writes w;
+      flushes = ghosts.flushes w;
+      all_flushed = ghosts.all_flushed w;
+    }
+
+-- what both writers have counted
+abbrev pub writers_of : {W E : Type 0} → sink.Ghosts W → W → sink.Ghosts E → E → Writers
+writers_of output w errors e =
+    record { output = writer_of output w; errors = writer_of errors e }
+
+-- two writers that took this, where it is known, and counted nothing
+abbrev pub holding : (output errors : Option (List ℕ)) → Writers
+holding output errors =
+    record {
+      output = record
+          { taken = output; failures = 0; empty_writes = 0; flushes = 0; all_flushed = true };
+      errors = record
+          { taken = errors; failures = 0; empty_writes = 0; flushes = 0; all_flushed = true };
+    }
+
+-- a write fault comes only from a call that the writer counts as failed, or as an empty write
+abbrev pub CountsCalls : {X : Type 0} → (before after : Writer) → Result X RunFault → Type 0
+CountsCalls before after result =
+    CountsWrites before.failures after.failures before.empty_writes after.empty_writes result
+
+-- the same, and nothing is flushed
+abbrev pub OnlyWrites : {X : Type 0} → (before after : Writer) → Result X RunFault → Type 0
+OnlyWrites before after result =
+    CountsCalls before after result × (after.flushes ≡ before.flushes)
+
+-- a writer stays, or has failed, as it counts its failed calls and its empty writes
+abbrev pub IsSame : (before after : Writer) → Type 0
+IsSame before after =
+    Stays before.failures after.failures before.empty_writes after.empty_writes
+
+abbrev pub HasFailed : (before after : Writer) → Type 0
+HasFailed before after =
+    Fails before.failures after.failures before.empty_writes after.empty_writes
+
+-- a write fault comes from one of the two writers; without one both stay
+abbrev pub Blames : {X : Type 0} → Result X RunFault
+    → (output_stays output_fails errors_stays errors_fails : Type 0) → Type 0
+Blames (Ok x) output_stays output_fails errors_stays errors_fails = output_stays × errors_stays
+Blames (Err Read) output_stays output_fails errors_stays errors_fails = output_stays × errors_stays
+Blames (Err InputTooLong) output_stays output_fails errors_stays errors_fails =
+    output_stays × errors_stays
+Blames (Err Memory) output_stays output_fails errors_stays errors_fails =
+    output_stays × errors_stays
+Blames (Err Write) output_stays output_fails errors_stays errors_fails =
+    (output_fails × errors_stays) ⊎ (output_stays × errors_fails)
+
+-- a write fault comes from a call of the output or of the errors that this writer counts
+-- rule: fault-71
+abbrev pub BlamesWriter : {X : Type 0} → (before after : Writers) → Result X RunFault → Type 0
+BlamesWriter before after result =
+    Blames result (IsSame before.output after.output) (HasFailed before.output after.output)
+    (IsSame before.errors after.errors) (HasFailed before.errors after.errors)
 
 -- All of the pieces were written, each on its writer, in order.
 -- rule: output-in-order
@@ -221,3 +320,83 @@ ReadsAll left left' (Err Read) bs = Consumes left left' bs
 ReadsAll left left' (Err Write) bs = ⊥
 ReadsAll left left' (Err InputTooLong) bs = Consumes left left' bs
 ReadsAll left left' (Err Memory) bs = Consumes left left' bs
+
+-- ---- What writing one event or one document does to the writers and to the counts of a run.
+
+-- how many pieces a verdict counts on the output, and on the errors
+abbrev pub counted_accepted : Verdict → ℕ
+counted_accepted Accepted = 1
+counted_accepted Refused = 0
+
+abbrev pub counted_refused : Verdict → ℕ
+counted_refused Accepted = 0
+counted_refused Refused = 1
+
+-- one more piece in a tally
+abbrev pub tally_after : Tally → Verdict → Tally
+tally_after tally verdict =
+    record {
+      accepted = tally.accepted + counted_accepted verdict;
+      refused = tally.refused + counted_refused verdict;
+    }
+
+-- the texts of pieces were written and counted, or a prefix of them, where a writer failed or
+-- memory was refused
+abbrev pub LeavesPieces : (output output' errors errors' : Option (List ℕ)) → List Piece
+    → Result Verdict RunFault → Type 0
+LeavesPieces output output' errors errors' pieces (Ok verdict) =
+    WritesPieces output output' errors errors' pieces
+    × (counted_accepted verdict ≡ count_by is_accepted pieces)
+    × (counted_refused verdict ≡ count_by is_refused pieces)
+LeavesPieces output output' errors errors' pieces (Err fault) =
+    GrowsByPrefix output output' (flat_map output_of pieces)
+    × GrowsByPrefix errors errors' (flat_map errors_of pieces)
+
+-- the same of two writers
+abbrev pub ReportsPieces : (before after : Writers) → List Piece → Result Verdict RunFault → Type 0
+ReportsPieces before after pieces result =
+    LeavesPieces before.output.taken after.output.taken before.errors.taken after.errors.taken
+    pieces result
+
+-- a piece is stopped by a writer, or by want of memory where its text takes memory
+abbrev pub StopsPiece : (takes_memory : Bool) → Result Verdict RunFault → Type 0
+StopsPiece takes_memory (Ok verdict) = Unit {0}
+StopsPiece takes_memory (Err Read) = ⊥
+StopsPiece takes_memory (Err Write) = Unit {0}
+StopsPiece takes_memory (Err InputTooLong) = ⊥
+StopsPiece takes_memory (Err Memory) = takes_memory ≡ true
+
+-- the reads of a run; where its texts take no memory, it is wanted only before all of the reads
+-- were made
+abbrev pub RunReads : {X : Type 0} → (takes_memory : Bool) → (reads reads' : ℕ)
+    → Result X RunFault → Type 0
+RunReads false reads reads' result = MakesReads reads reads' result
+RunReads true reads reads' result = ReadsAtMost reads reads' result
+
+-- the piece of what the reader reported was written and counted, or a prefix of it; at the end of
+-- the text there is none
+abbrev pub LeavesNext : (output output' errors errors' : Option (List ℕ)) → (ParseResult → Piece)
+    → Result (Option Document) ReadFault → Result (Option Verdict) RunFault → Type 0
+LeavesNext output output' errors errors' piece next (Ok None) =
+    (next ≡ Ok None) × (output' ≡ output) × (errors' ≡ errors)
+LeavesNext output output' errors errors' piece next (Ok (Some verdict)) =
+    (x : ParseResult) × (parse_results next ≡ x ∷ [])
+    × LeavesPieces output output' errors errors' (piece x ∷ []) (Ok verdict)
+LeavesNext output output' errors errors' piece next (Err Read) =
+    (next ≡ Err (Run Read)) × (output' ≡ output) × (errors' ≡ errors)
+LeavesNext output output' errors errors' piece next (Err InputTooLong) =
+    (next ≡ Err (Run InputTooLong)) × (output' ≡ output) × (errors' ≡ errors)
+LeavesNext output output' errors errors' piece next (Err Write) =
+    (x : ParseResult) × (parse_results next ≡ x ∷ [])
+    × LeavesPieces output output' errors errors' (piece x ∷ []) (Err Write)
+LeavesNext output output' errors errors' piece next (Err Memory) =
+    ((next ≡ Err (Run Memory)) × (output' ≡ output) × (errors' ≡ errors))
+    ⊎ ((x : ParseResult) × (parse_results next ≡ x ∷ [])
+    × LeavesPieces output output' errors errors' (piece x ∷ []) (Err Memory))
+
+-- the same of two writers
+abbrev pub ReportsNext : (before after : Writers) → (ParseResult → Piece)
+    → Result (Option Document) ReadFault → Result (Option Verdict) RunFault → Type 0
+ReportsNext before after piece next result =
+    LeavesNext before.output.taken after.output.taken before.errors.taken after.errors.taken
+    piece next result

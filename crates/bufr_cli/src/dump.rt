@@ -1,15 +1,13 @@
 //! `bufr dump`: writes the messages of a stream as text.
 ghost use Rattle.std.specs.Prelude.{◌≡◌, ◌≢◌, ◌≤◌, ℕ, List, [], ◌∷◌, true, Ok, IfErr, IfOk, OnOk, IfSome, length, map};
 ghost use Rattle.bufr_frame.specs.Events.{events_of, IsEvent};
-ghost use Rattle.bufr_frame.specs.Runs.{read_failures_after};
+ghost use Rattle.bufr_frame.specs.Input.{read_failures_after};
 ghost use Rattle.bufr_frame.specs.Scan.{StreamEvent, scan};
 ghost use Rattle.bufr_frame.specs.Sections.{sections_of};
 ghost use Rattle.bufr_walk.specs.Course.{next_item};
-ghost use Rattle.bufr_walk.specs.Outcome.{data_of, IsFault, IsReadingOf};
+ghost use Rattle.bufr_walk.specs.Refusal.{data_of, IsFault, IsReadingOf};
 ghost use Rattle.bufr_cli.specs.Pieces.{IsDataPiece, IsDumpPiece, IsMessagePiece, Piece};
-ghost use Rattle.bufr_cli.specs.Devices.{BlamesWriter, input_of, writers_of};
-ghost use Rattle.bufr_cli.specs.Running.{RunsEvents, GivesPieces, ReadsAtMost, WritesAndCounts};
-ghost use Rattle.bufr_cli.specs.WritingPieces.{StopsPiece, ReportsPieces};
+ghost use Rattle.bufr_cli.specs.Running.{BlamesWriter, input_of, writers_of, RunsEvents, GivesPieces, ReadsAtMost, WritesAndCounts, StopsPiece, ReportsPieces};
 
 use crate::fault_line::{StreamFault, write_fault};
 use crate::outcome::{Tally, Verdict};

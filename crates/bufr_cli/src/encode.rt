@@ -1,14 +1,11 @@
 //! `bufr encode`: writes the messages that a text spells.
 ghost use Rattle.std.specs.Prelude.{◌≡◌, ◌≢◌, ℕ, List, [], ◌∷◌, Ok, Err, true, IfErr, IfOk, OnOk, IfSome};
-ghost use Rattle.bufr_frame.specs.Runs.{read_failures_after};
+ghost use Rattle.bufr_frame.specs.Input.{read_failures_after};
 ghost use Rattle.bufr_text.specs.Documents.{Complete};
-ghost use Rattle.bufr_text.specs.Encoding.{encoding_in};
-ghost use Rattle.bufr_text.specs.EncodingFault.{IsDocumentRefusal, reported_refusal};
+ghost use Rattle.bufr_text.specs.Encoding.{encoding_in, IsDocumentRefusal, reported_refusal};
 ghost use Rattle.bufr_text.specs.declared.encode.Form.TheVariants.{AsWritten};
 ghost use Rattle.bufr_cli.specs.Pieces.{encode_pieces, result_piece};
-ghost use Rattle.bufr_cli.specs.Running.{EncodesSoFar, RunsEncode, ReadsAtMost, Encodes};
-ghost use Rattle.bufr_cli.specs.WritingPieces.{ReportsNext, StopsPiece, ReportsPieces};
-ghost use Rattle.bufr_cli.specs.Devices.{BlamesWriter, input_of, writers_of};
+ghost use Rattle.bufr_cli.specs.Running.{EncodesSoFar, RunsEncode, ReadsAtMost, Encodes, ReportsNext, StopsPiece, ReportsPieces, BlamesWriter, input_of, writers_of};
 
 use crate::fault_line::{write_document_fault, write_read_fault};
 use crate::outcome::{Tally, Verdict};

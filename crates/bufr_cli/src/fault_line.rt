@@ -4,11 +4,10 @@ ghost use Rattle.std.specs.Prelude.{◌≡◌, ◌≢◌, ℕ, [], ◌∷◌, Er
 ghost use Rattle.bufr_tables.specs.Fxy.{fxy_text};
 ghost use Rattle.bufr_text.specs.Documents.{TextLineFault, Refused};
 ghost use Rattle.bufr_text.specs.Reader.{parse_results};
-ghost use Rattle.bufr_text.specs.EncodingFault.{number_of_document_fault, reported_refusal, walk_report};
-ghost use Rattle.bufr_text.specs.Lines.{Pushes};
-ghost use Rattle.bufr_text.specs.Writing.{Writes, joined};
+ghost use Rattle.bufr_text.specs.Encoding.{number_of_document_fault, reported_refusal, walk_report};
+ghost use Rattle.bufr_text.specs.Writing.{Pushes, Writes, joined};
 ghost use Rattle.bufr_cli.specs.FaultLine.{HasLine, cause_text, fault_line, number_of_stream_fault, place_texts, section_fault_text, spot_text, stream_fault_text, template_fault_text, walk_fault_text, document_line, item_fault_line, line_of_read_fault, line_of_refusal, refusal_line, refused_line};
-ghost use Rattle.bufr_cli.specs.Devices.{OnlyWrites, writer_of};
+ghost use Rattle.bufr_cli.specs.Running.{OnlyWrites, writer_of};
 
 use bufr_bits::Sink;
 use bufr_fill::Expected;

@@ -2,16 +2,14 @@
 //! back. [`dump_encode_dump`] runs them in memory.
 ghost use Rattle.std.specs.List.{AllByRecursion, concat};
 ghost use Rattle.std.specs.Prelude.{◌≡◌, List, ℕ, [], Option, Some, IfOk};
-ghost use Rattle.bufr_cli.specs.Corrected.{IsDumpedInOneSpelling};
-ghost use Rattle.bufr_cli.specs.Devices.{holding};
+ghost use Rattle.bufr_cli.specs.RoundTrip.{IsDumpedInOneSpelling, RoundTrips, IsWholeRound, IsCanonicalMessage, Written, accepted_messages, rebuilt, RunsInMemory, IsWholeRoundOf, dump_pieces, text_pieces};
+ghost use Rattle.bufr_cli.specs.Running.{holding, GivesPieces, Dumps, Encodes};
 ghost use Rattle.bufr_cli.specs.Pieces.{IsDumpPiece, Piece};
-ghost use Rattle.bufr_cli.specs.RoundTrip.{RoundTrips, IsWholeRound, IsCanonicalMessage, Written, accepted_messages, rebuilt, RunsInMemory, IsWholeRoundOf, dump_pieces, text_pieces};
-ghost use Rattle.bufr_cli.specs.Running.{GivesPieces, Dumps, Encodes};
 ghost use Rattle.bufr_frame.specs.Scan.{StreamEvent};
 ghost use Rattle.bufr_tables.specs.Records.{Record};
 ghost use Rattle.bufr_tables.specs.TableB.{Row, AreRows};
 ghost use Rattle.bufr_tables.specs.TableD.{Sequence};
-ghost use Rattle.bufr_text.specs.Bounds.{IsOctet};
+ghost use Rattle.bufr_text.specs.Dump.{IsOctet};
 ghost use Rattle.bufr_text.specs.declared.encode.Form.{Form};
 ghost use Rattle.bufr_text.specs.declared.encode.Form.TheVariants.{AsWritten};
 ghost use Rattle.bufr_bits.specs.Script.{taken_of};

@@ -1,12 +1,10 @@
 //! `bufr ls`: lists the messages of a stream.
 ghost use Rattle.std.specs.Prelude.{◌≡◌, ◌≢◌, ◌≤◌, ℕ, List, [], ◌∷◌, true, false, IfOk, OnOk, IfSome, length, map};
 ghost use Rattle.bufr_frame.specs.Events.{events_of, IsEvent};
-ghost use Rattle.bufr_frame.specs.Runs.{read_failures_after, MakesReads};
+ghost use Rattle.bufr_frame.specs.Input.{read_failures_after, MakesReads};
 ghost use Rattle.bufr_frame.specs.Sections.{sections_of};
 ghost use Rattle.bufr_cli.specs.Pieces.{ls_or_fault, ls_piece, ls_pieces};
-ghost use Rattle.bufr_cli.specs.Devices.{BlamesWriter, input_of, writers_of};
-ghost use Rattle.bufr_cli.specs.Running.{RunsEvents, WritesAndCounts};
-ghost use Rattle.bufr_cli.specs.WritingPieces.{StopsPiece, ReportsPieces};
+ghost use Rattle.bufr_cli.specs.Running.{BlamesWriter, input_of, writers_of, RunsEvents, WritesAndCounts, StopsPiece, ReportsPieces};
 
 use crate::fault_line::{StreamFault, write_fault};
 use crate::outcome::{Tally, Verdict};

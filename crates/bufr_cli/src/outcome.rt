@@ -1,10 +1,9 @@
 //! The end of a run: its counts, its last line and its exit status.
 ghost use Rattle.std.specs.Prelude.{◌≡◌, ◌<◌, ◌-◌, ◌^◌, ◌∷◌, [], codes, decimal};
 ghost use Rattle.std.specs.Io.KnownBytes.{Appends};
-ghost use Rattle.bufr_text.specs.Lines.{Pushes};
-ghost use Rattle.bufr_text.specs.Writing.{GrowsByPrefix, joined};
+ghost use Rattle.bufr_text.specs.Writing.{Pushes, GrowsByPrefix, joined};
 ghost use Rattle.bufr_cli.specs.Ending.{last_line, run_fault_text, run_line, status_of, table_line};
-ghost use Rattle.bufr_cli.specs.Devices.{IsSame, writer_of};
+ghost use Rattle.bufr_cli.specs.Running.{IsSame, writer_of};
 
 use bufr_bits::Sink;
 use bufr_frame::RunFault;
@@ -165,7 +164,7 @@ pub struct Tally {
 
 impl Tally {
     ghost use Rattle.std.specs.Prelude.{◌≡◌, ◌<◌, ◌+◌, ◌^◌};
-    ghost use Rattle.bufr_cli.specs.WritingPieces.{tally_after};
+    ghost use Rattle.bufr_cli.specs.Running.{tally_after};
 
     /// Counts one more.
     pub(crate) fn count(&mut self, verdict: Verdict)

@@ -1,15 +1,14 @@
 //! The program below `main`: what it does with a command line, its inputs and its writers.
 ghost use Rattle.std.specs.Prelude.{◌≡◌, ℕ, true, List, Option, None, Ok, IfOk, IfErr, IfSome, OnOk, map};
-ghost use Rattle.bufr_frame.specs.Runs.{read_failures_after, MakesReads};
-ghost use Rattle.bufr_tables.specs.Chain.{ReadsTableD};
+ghost use Rattle.bufr_frame.specs.Input.{read_failures_after, MakesReads};
+ghost use Rattle.bufr_tables.specs.TableD.{ReadsTableD};
 ghost use Rattle.bufr_tables.specs.Records.{Record, records_of};
 ghost use Rattle.bufr_tables.specs.TableB.{AreRows, table_b_of};
 ghost use Rattle.bufr_text.specs.Writing.{Writes};
 ghost use Rattle.bufr_cli.specs.Calling.{AnswersFault, RunsProgram};
-ghost use Rattle.bufr_cli.specs.Devices.{BlamesWriter, CountsCalls, input_of, writer_of, writers_of};
+ghost use Rattle.bufr_cli.specs.Running.{BlamesWriter, CountsCalls, input_of, writer_of, writers_of, ReadsAll};
 ghost use Rattle.bufr_cli.specs.Ending.{AreFlushed, BlamesInput, EndsRun, FlushesRest};
 ghost use Rattle.bufr_cli.specs.Program.{AreTables, AreUnread, FileOutcome, IsClosed, RunsJob, RunOutcome, TableBOutcome, TableDOutcome, known, promise_of, ran_outcome};
-ghost use Rattle.bufr_cli.specs.Running.{ReadsAll};
 
 use crate::dump::run_dump;
 use crate::encode::run_encode_form;

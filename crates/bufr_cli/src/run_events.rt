@@ -1,14 +1,12 @@
 //! A run over the events of a stream, whatever is written for each of them.
 ghost use Rattle.std.specs.Prelude.{◌≡◌, ◌≢◌, ℕ, Bool, List, true, OnOk, IfErr, map};
 ghost use Rattle.std.specs.Io.KnownBytes.{Keeps};
-ghost use Rattle.bufr_bits.specs.Counts.{counted};
+ghost use Rattle.bufr_bits.specs.Device.{counted};
 ghost use Rattle.bufr_frame.specs.Events.{events_of, IsEvent};
-ghost use Rattle.bufr_frame.specs.Runs.{read_failures_after};
+ghost use Rattle.bufr_frame.specs.Input.{read_failures_after};
 ghost use Rattle.bufr_frame.specs.Scan.{StreamEvent};
 ghost use Rattle.bufr_cli.specs.Pieces.{Piece};
-ghost use Rattle.bufr_cli.specs.Devices.{BlamesWriter, CountsCalls, input_of, writer_of, writers_of};
-ghost use Rattle.bufr_cli.specs.Running.{RunsEvents, GivesPieces};
-ghost use Rattle.bufr_cli.specs.WritingPieces.{RunReads, StopsPiece, ReportsPieces};
+ghost use Rattle.bufr_cli.specs.Running.{BlamesWriter, CountsCalls, input_of, writer_of, writers_of, RunsEvents, GivesPieces, RunReads, StopsPiece, ReportsPieces};
 
 use crate::outcome::{Tally, Verdict};
 use bufr_bits::{Sink, Source};

@@ -3,32 +3,26 @@ use Rattle.std.proofs.Common.{◌≡◌, ℕ, zero, suc, ◌+◌, ◌*◌, ◌�
 use Rattle.std.specs.Prelude.{slice_get, nat_lt, if◌then◌else◌}
 use Rattle.std.specs.List.{AllByRecursion}
 use Rattle.std.proofs.lemmas.Bool.Decides.{nat_tests}
-use Rattle.bufr_tables.specs.Legal.{IsLegal}
+use Rattle.bufr_tables.specs.Expansion.{IsLegal}
 use Rattle.bufr_tables.specs.Records.{Record}
 use Rattle.bufr_tables.specs.TableB.{Row, AreRows}
 use Rattle.bufr_tables.specs.Tree.{Tree}
 use Rattle.bufr_walk.specs.FieldSpec.{FieldSpec, IsSpec}
 use Rattle.bufr_walk.specs.Calls.{content_at}
-use Rattle.bufr_walk.specs.Content.{Content, bits_for}
+use Rattle.bufr_walk.specs.Content.{Content, bits_for, FieldFault, found}
 use Rattle.bufr_walk.specs.Course.{Course, Next, take_next, at_end, astray, refused, next_item}
-use Rattle.bufr_walk.specs.PlainField.{FieldFault, found}
 use Rattle.bufr_walk.specs.Reading.{max_values, Item, DataCoding, plain, packed, ReadsPass}
-use Rattle.bufr_fill.specs.Draft.{Draft}
+use Rattle.bufr_fill.specs.Draft.{Draft, Subset}
 use Rattle.bufr_fill.specs.DraftContent.{content_of, plainly, plain_filler}
 use Rattle.bufr_fill.specs.Encoding.{RowCell, ItemRow, cells_at, rows, longest, at_line_if_fault, content_here, contents_here, packed_to, are_many, pack_across, packed_filler, plain_data, packed_data, first_line, ◌>>=◌}
-use Rattle.bufr_fill.specs.Entries.{Subset}
-use Rattle.bufr_fill.specs.Fault.{DraftFaultKind, FaultAt, at_line, too_many_values}
+use Rattle.bufr_fill.specs.Faults.{DraftFaultKind, FaultAt, at_line, too_many_values}
 use Rattle.bufr_fill.specs.Filling.{WrittenItem, written_item, Filler, fill, fill_one, fill_none, filled, with_bits_before}
-use Rattle.bufr_fill.specs.Fits.{Fits, AllFit}
-use Rattle.bufr_fill.proofs.Limits.{IsWithin}
+use Rattle.bufr_fill.specs.RoundTrip.{Fits, AllFit, HasOctets, HaveOctets, AllHaveOctets, IsSaid, AreSaidFrom, IsReadBack, IsPackedReadBack, AreDrafts, items_of_subset}
+use Rattle.bufr_fill.proofs.SpecLemmas.{IsWithin, table_good}
 use Rattle.bufr_fill.specs.Packing.{packing}
-use Rattle.bufr_fill.specs.ReadBack.{HasOctets, HaveOctets, AllHaveOctets, IsSaid, AreSaidFrom, IsReadBack, IsPackedReadBack}
-use Rattle.bufr_fill.specs.WrittenAgain.{AreDrafts, items_of_subset}
-use Rattle.bufr_fill.proofs.Fitting.{draft_fits}
-use Rattle.bufr_fill.proofs.GoodReads.{IsGoodCourse, template_good, answer_within}
-use Rattle.bufr_fill.proofs.PackedFits.{fitting_again}
+use Rattle.bufr_fill.proofs.GoodReads.{draft_fits, IsGoodCourse, template_good, answer_within}
+use Rattle.bufr_fill.proofs.PackedLaws.{fitting_again}
 use Rattle.bufr_fill.proofs.PlainLaws.{plain_again}
-use Rattle.bufr_fill.proofs.TableRows.{table_good}
 
 same_ok : {A E : Type 0} (a b : A) → ◌≡◌ {A = Result A E} (Ok a) (Ok b) → a ≡ b
 same_ok a b e = cc

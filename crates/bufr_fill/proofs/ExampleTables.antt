@@ -7,9 +7,8 @@ use Rattle.bufr_tables.specs.declared.table_b.Kind.TheVariants as kind
 use Rattle.bufr_tables.specs.TableB.{Row}
 use Rattle.bufr_tables.specs.Tree.{Tree, bare, element, operator, delayed}
 use Rattle.bufr_walk.specs.Course.{next_item}
-use Rattle.bufr_fill.specs.Draft.{Draft, draft, number_token}
-use Rattle.bufr_fill.specs.Entries.{Subset}
-use Rattle.bufr_fill.specs.Fault.{FaultAt}
+use Rattle.bufr_fill.specs.Draft.{Draft, draft, number_token, Subset}
+use Rattle.bufr_fill.specs.Faults.{FaultAt}
 use Rattle.bufr_fill.specs.Encoding.{plain_data, packed_data}
 
 -- the descriptor of F, X and Y

@@ -1,12 +1,23 @@
--- The least k that all contents pass, and tests of contents.
-use Rattle.std.proofs.Common.{◌≡◌, ℕ, zero, suc, ◌+◌, ◌<◌, ◌≤◌, ◌≢◌, ◌&&◌, min, Bool, true, false, List, [], ◌∷◌, map, Option, Some, None, refl, sym, ◌∙◌, ap, arith, ℤ, pos, negsuc, nat_abs}
-use Rattle.std.specs.Prelude.{◌==◌, if◌then◌else◌}
+-- The least base and the least k of numbers and of texts.
+use Rattle.std.proofs.Common.{◌≡◌, ℕ, zero, suc, ◌+◌, ◌<◌, ◌≤◌, ◌≢◌, ◌&&◌, min, Bool, true, false, List, [], ◌∷◌, map, Option, Some, None, refl, sym, ◌∙◌, ap, arith, ℤ, pos, negsuc, nat_abs, ◌-◌, ◌^◌, max, ◌++◌, length, Ok, pow_mono, append_assoc, subst, ◌/◌, not, take, replicate, Err}
+use Rattle.std.specs.Prelude.{◌==◌, if◌then◌else◌, nat_lt, unwrap_or, nat_le}
 use Rattle.std.proofs.lemmas.Bool.{false≢true}
 use Rattle.std.proofs.lemmas.Bool.Decides.{nat_tests}
-use Rattle.bufr_bits.proofs.ScaledLemmas.{and_first, and_second}
-use Rattle.bufr_walk.specs.Content.{Content, number, text, missing, reference, sign_bit}
-use Rattle.bufr_fill.specs.Packing.{raw_limit, same_octets, same_sign, same, are_same, smaller, lowest, first_from}
-use Rattle.bufr_fill.specs.Fits.{FitsNumber}
+use Rattle.bufr_bits.proofs.DecimalLemmas.{and_first, and_second}
+use Rattle.bufr_walk.specs.Content.{Content, number, text, missing, reference, sign_bit, increment}
+use Rattle.bufr_fill.specs.Packing.{raw_limit, same_octets, same_sign, same, are_same, smaller, lowest, first_from, has_bits, least_k, increment_bits, packed_bits, numbers_over, packed_by, gives_again, has_octets, octet_bits, packed_texts}
+use Rattle.bufr_fill.specs.RoundTrip.{FitsNumber}
+use Rattle.std.specs.List.{list_all, flat_map}
+use Rattle.std.proofs.lemmas.List.{length-append}
+use Rattle.bufr_bits.specs.Bits.{bits_in}
+use Rattle.bufr_tables.specs.declared.table_b.Kind.{Kind}
+use Rattle.bufr_tables.specs.TableB.{is_character}
+use Rattle.bufr_fill.specs.declared.field_value.FieldContent.{FieldContent}
+use Rattle.bufr_walk.specs.FieldSpec.{FieldSpec, is_reference}
+use Rattle.bufr_fill.specs.PackedOut.{AllDrawn, contents_drawn, spread, least_from, AreShort, trimmed, need, most_need, over_of, number_or, least_number}
+use Rattle.bufr_fill.specs.DraftContent.{spaced, HasRoom, content_drawn}
+use Rattle.bufr_tables.specs.declared.table_b.Kind.TheVariants as kind
+use Rattle.bufr_fill.specs.declared.field_value.FieldContent.TheVariants as drawn
 
 equal_from : (a b : ℕ) → (a == b) ≡ true → a ≡ b
 equal_from a b h = grind (arith, nat_tests)
@@ -159,3 +170,524 @@ all_missing may w (number n ∷ cs) h e = absurd cc
 all_missing may w (text o ∷ cs) h e = absurd h.0
 all_missing may w (missing ∷ cs) h e = all_missing may w cs h.1 e
 all_missing may w (reference v ∷ cs) h e = absurd h.0
+
+-- ---- Numbers are packed by the least base and the least k.
+
+true_false : (b : Bool) → b ≡ true → b ≡ false → ⊥
+true_false true e f = cc
+true_false false e f = cc
+
+top_some : (m : Bool) (w : ℕ) → 1 ≤ w → 1 ≤ raw_limit m w
+top_some true w h = let p : 2 ^ 1 ≤ 2 ^ w = pow_mono h in omega (arith, p)
+top_some false w h = let p : 2 ^ 1 ≤ 2 ^ w = pow_mono h in omega (arith, p)
+
+top_below : (m : Bool) (w : ℕ) → raw_limit m w ≤ 2 ^ w
+top_below true w = omega arith
+top_below false w = omega arith
+
+module _ (spec : FieldSpec) (numeric : is_character spec.kind ≡ false) (element : is_reference spec.role ≡ false) where
+  pub numbers_fit : (count : ℕ) (ds : List FieldContent) → AllDrawn spec ds → AreNumbers spec.may_be_missing spec.width (contents_drawn count ds)
+  numbers_fit count [] all = tt
+  numbers_fit count (drawn.Number n ∷ ds) all = (all.0.2, numbers_fit count ds all.1)
+  numbers_fit count (drawn.Text t ∷ ds) all = absurd (true_false (is_character spec.kind) all.0.0 numeric)
+  numbers_fit count (drawn.Missing ∷ ds) all = (all.0.1, numbers_fit count ds all.1)
+  numbers_fit count (drawn.Reference v ∷ ds) all = absurd (true_false (is_reference spec.role) all.0.0 element)
+
+  -- no increment is wider than the field
+  pub spread_under : (base : ℕ) (ds : List FieldContent) → 1 ≤ spec.width → AllDrawn spec ds → spread base ds < raw_limit spec.may_be_missing spec.width
+  spread_under base [] some all = omega (arith, top_some spec.may_be_missing spec.width some)
+  spread_under base (drawn.Number n ∷ ds) some all = omega (arith, all.0.2, spread_under base ds some all.1)
+  spread_under base (drawn.Text t ∷ ds) some all = absurd (true_false (is_character spec.kind) all.0.0 numeric)
+  spread_under base (drawn.Missing ∷ ds) some all = omega (arith, spread_under base ds some all.1)
+  spread_under base (drawn.Reference v ∷ ds) some all = absurd (true_false (is_reference spec.role) all.0.0 element)
+
+  -- the least number is one of the field
+  pub base_under : (count : ℕ) (ds : List FieldContent) → 1 ≤ spec.width → AllDrawn spec ds → unwrap_or (lowest (contents_drawn count ds)) 0 < 2 ^ spec.width
+  base_under count ds some all = by (lowest (contents_drawn count ds)) refl
+    where
+      by : (o : Option ℕ) → lowest (contents_drawn count ds) ≡ o → unwrap_or o 0 < 2 ^ spec.width
+      by None e = omega (arith, top_some false spec.width some)
+      by (Some n) e = omega (arith, lowest_fits spec.may_be_missing spec.width (contents_drawn count ds) n (numbers_fit count ds all) e, top_below spec.may_be_missing spec.width)
+
+below_test : (a b : ℕ) → a < b → nat_lt a b ≡ true
+below_test a b h = grind (arith, nat_tests)
+
+below_from : (a b : ℕ) → nat_lt a b ≡ true → a < b
+below_from a b h = grind (arith, nat_tests)
+
+-- the least k is one of those that pass, and at most a width that does
+pub least_most : (m : Bool) (s w : ℕ) → 1 ≤ w → w ≤ 63 → s < raw_limit m w → least_from m s 1 ≤ w
+unfolding least_from
+least_most m s w some most h = first_least (λ k. nat_lt s (raw_limit m k)) (64 - 1) 1 w some (below_test s (raw_limit m w) h)
+
+pub least_fits : (m : Bool) (s w : ℕ) → 1 ≤ w → w ≤ 63 → s < raw_limit m w → s < raw_limit m (least_from m s 1)
+unfolding least_from
+least_fits m s w some most h = below_from s (raw_limit m (first_from (λ k. nat_lt s (raw_limit m k)) (64 - 1) 1)) (first_passes (λ k. nat_lt s (raw_limit m k)) (64 - 1) 1 w some (omega (arith, most)) (below_test s (raw_limit m w) h))
+
+pub all_short : (m : Bool) (base k : ℕ) (ds : List FieldContent) → spread base ds < raw_limit m k → AreShort base k ds
+all_short m base k [] h = tt
+all_short m base k (drawn.Number n ∷ ds) h = (omega (arith, h, top_below m k), all_short m base k ds (omega (arith, h)))
+all_short m base k (drawn.Text t ∷ ds) h = (tt, all_short m base k ds (omega (arith, h)))
+all_short m base k (drawn.Missing ∷ ds) h = (tt, all_short m base k ds (omega (arith, h)))
+all_short m base k (drawn.Reference v ∷ ds) h = (tt, all_short m base k ds (omega (arith, h)))
+
+-- all increments have the bits where the greatest has
+max_test : (a b t : ℕ) → nat_lt (max a b) t ≡ (nat_lt a t && nat_lt b t)
+max_test a b t = by (nat_lt a t) (nat_lt b t) refl refl
+  where
+    past : (a b : ℕ) → b ≤ a → nat_lt a b ≡ false
+    past a b h = grind (arith, nat_tests)
+
+    from_false : (a b : ℕ) → nat_lt a b ≡ false → b ≤ a
+    from_false a b h = grind (arith, nat_tests)
+
+    by : (x y : Bool) → nat_lt a t ≡ x → nat_lt b t ≡ y → nat_lt (max a b) t ≡ (x && y)
+    by true true p q = below_test (max a b) t (omega (arith, below_from a t p, below_from b t q))
+    by true false p q = past (max a b) t (omega (arith, from_false b t q))
+    by false y p q = past (max a b) t (omega (arith, from_false a t p))
+
+zero_max : (s t : ℕ) → nat_lt s t ≡ nat_lt (max 0 s) t
+zero_max s t = let e : s ≡ max 0 s = omega arith in ap (λ n. nat_lt n t) e
+
+all_have : (m : Bool) (base k count : ℕ) (ds : List FieldContent) → 1 ≤ k → list_all (has_bits m base k) (contents_drawn count ds) ≡ nat_lt (spread base ds) (raw_limit m k)
+all_have m base k count [] h = sym (below_test 0 (raw_limit m k) (omega (arith, top_some m k h)))
+all_have m base k count (drawn.Number n ∷ ds) h = ap (λ b. nat_lt (n - base) (raw_limit m k) && b) (all_have m base k count ds h) ∙ sym (max_test (n - base) (spread base ds) (raw_limit m k))
+all_have m base k count (drawn.Text t ∷ ds) h = all_have m base k count ds h ∙ zero_max (spread base ds) (raw_limit m k)
+all_have m base k count (drawn.Missing ∷ ds) h = all_have m base k count ds h ∙ zero_max (spread base ds) (raw_limit m k)
+all_have m base k count (drawn.Reference v ∷ ds) h = all_have m base k count ds h ∙ zero_max (spread base ds) (raw_limit m k)
+
+pub first_same : (p q : ℕ → Bool) (fuel from : ℕ) → ((k : ℕ) → from ≤ k → p k ≡ q k) → first_from p fuel from ≡ first_from q fuel from
+first_same p q zero from h = refl
+first_same p q (suc fuel) from h =
+    ap (λ b. if b then from else first_from p fuel (from + 1)) (h from (omega arith)) ∙ ap (λ n. if q from then from else n) (first_same p q fuel (from + 1) (λ k g. h k (omega (arith, g))))
+
+pub least_is : (m : Bool) (base count : ℕ) (ds : List FieldContent) → least_k (has_bits m base) (contents_drawn count ds) ≡ least_from m (spread base ds) 1
+unfolding least_from
+least_is m base count ds = first_same (λ k. list_all (has_bits m base k) (contents_drawn count ds)) (λ k. nat_lt (spread base ds) (raw_limit m k)) (64 - 1) 1 (λ k h. all_have m base k count ds h)
+
+-- the least k of numbers has at most 63 bits, and writes each increment
+pub k_narrow : (spec : FieldSpec) → is_character spec.kind ≡ false → is_reference spec.role ≡ false → (base : ℕ) (ds : List FieldContent) (k : ℕ) → 1 ≤ spec.width → spec.width ≤ 63 → AllDrawn spec ds → k ≡ least_from spec.may_be_missing (spread base ds) 1 → k ≤ 63
+k_narrow spec numeric element base ds k some narrow all e = omega (arith, e, narrow, least_most spec.may_be_missing (spread base ds) spec.width some narrow (spread_under spec numeric element base ds some all))
+
+pub k_short : (spec : FieldSpec) → is_character spec.kind ≡ false → is_reference spec.role ≡ false → (base : ℕ) (ds : List FieldContent) (k : ℕ) → 1 ≤ spec.width → spec.width ≤ 63 → AllDrawn spec ds → k ≡ least_from spec.may_be_missing (spread base ds) 1 → AreShort base k ds
+k_short spec numeric element base ds k some narrow all e =
+    subst (λ n. AreShort base n ds) (sym e) (all_short spec.may_be_missing base (least_from spec.may_be_missing (spread base ds) 1) ds (least_fits spec.may_be_missing (spread base ds) spec.width some narrow (spread_under spec numeric element base ds some all)))
+
+kind_packed : (kd : Kind) (spec : FieldSpec) (cs : List Content) → is_character kd ≡ false → packed_by kd spec cs ≡ Ok (numbers_over spec.may_be_missing spec.width (unwrap_or (lowest cs) 0) cs)
+kind_packed kind.Character spec cs h = absurd cc
+kind_packed kind.Coded spec cs h = refl
+kind_packed kind.Numeric spec cs h = refl
+
+-- the bits of numbers
+pub numbers_packed : (spec : FieldSpec) (count : ℕ) (ds : List FieldContent) (base k : ℕ) → is_character spec.kind ≡ false → base ≡ unwrap_or (lowest (contents_drawn count ds)) 0 → k ≡ least_from spec.may_be_missing (spread base ds) 1
+    → packed_by spec.kind spec (contents_drawn count ds) ≡ Ok (packed_bits (bits_in base spec.width) k (flat_map (increment_bits base k) (contents_drawn count ds)))
+numbers_packed spec count ds base k numeric b l =
+    kind_packed spec.kind spec (contents_drawn count ds) numeric
+    ∙ ap (λ n. Ok (numbers_over spec.may_be_missing spec.width n (contents_drawn count ds))) (sym b)
+    ∙ ap (λ n. Ok (packed_bits (bits_in base spec.width) n (flat_map (increment_bits base n) (contents_drawn count ds)))) (least_is spec.may_be_missing base count ds ∙ sym l)
+
+-- what was written, one part after another
+pub parts_put : (old one two three base k rest : List Bool) → one ≡ old ++ base → two ≡ one ++ k → three ≡ two ++ rest → three ≡ old ++ (base ++ (k ++ rest))
+parts_put old one two three base k rest a b c =
+    c ∙ ap (λ x. x ++ rest) (b ∙ ap (λ x. x ++ k) a) ∙ append_assoc (old ++ base) k rest ∙ append_assoc old base (k ++ rest)
+
+pub parts_length : (old new more : List Bool) (n : ℕ) → new ≡ old ++ more → length new ≤ length old + n → length more ≤ n
+parts_length old new more n e h = omega (arith, ap length e, length-append old more, h)
+
+-- ---- Texts are packed by the least k.
+
+le_test : (a b : ℕ) → a ≤ b → nat_le a b ≡ true
+le_test a b h = grind (arith, nat_tests)
+
+le_past : (a b : ℕ) → b < a → nat_le a b ≡ false
+le_past a b h = grind (arith, nat_tests)
+
+le_from : (a b : ℕ) → nat_le a b ≡ true → a ≤ b
+le_from a b h = grind (arith, nat_tests)
+
+le_not : (a b : ℕ) → nat_le a b ≡ false → b < a
+le_not a b h = grind (arith, nat_tests)
+
+le_same : (a b x y : ℕ) → (a ≤ b → x ≤ y) → (x ≤ y → a ≤ b) → nat_le a b ≡ nat_le x y
+le_same a b x y f g = by (nat_le a b) (nat_le x y) refl refl
+  where
+    by : (p q : Bool) → nat_le a b ≡ p → nat_le x y ≡ q → nat_le a b ≡ nat_le x y
+    by true q e h = e ∙ sym (le_test x y (f (le_from a b e)))
+    by false true e h = le_test a b (g (le_from x y h)) ∙ sym h
+    by false false e h = e ∙ sym h
+
+both_first : (a b : Bool) → (a && b) ≡ true → a ≡ true
+both_first true b h = refl
+both_first false b h = h
+
+-- k octets and spaces are the text again where only spaces follow them
+abbrev again : ℕ → List ℕ → Bool
+again k os = same_octets (take k os ++ replicate (length os - k) 32) os
+
+suc_le : (a b : ℕ) → nat_le (suc a) (suc b) ≡ nat_le a b
+suc_le a b = le_same (suc a) (suc b) a b (λ h. omega (arith, h)) (λ h. omega (arith, h))
+
+again_more : (t : Bool) (o k : ℕ) (os : List ℕ) → ((trimmed os == 0) && (o == 32)) ≡ t → again k os ≡ nat_le (trimmed os) k → again (suc k) (o ∷ os) ≡ nat_le (if t then 0 else suc (trimmed os)) (suc k)
+again_more true o k os e h =
+    let n : suc (length os) - suc k ≡ length os - k = omega arith in
+    ap (λ m. same_octets (o ∷ take k os ++ replicate m 32) (o ∷ os)) n
+    ∙ ap (λ b. b && again k os) (equal_test o) ∙ h ∙ le_test (trimmed os) k (omega (arith, equal_from (trimmed os) 0 (both_first (trimmed os == 0) (o == 32) e))) ∙ sym (le_test 0 (suc k) (omega arith))
+again_more false o k os e h =
+    let n : suc (length os) - suc k ≡ length os - k = omega arith in
+    ap (λ m. same_octets (o ∷ take k os ++ replicate m 32) (o ∷ os)) n
+    ∙ ap (λ b. b && again k os) (equal_test o) ∙ h ∙ sym (suc_le (trimmed os) k)
+
+same_32 : (o : ℕ) (b : Bool) → (o == 32) ≡ b → (32 == o) ≡ b
+same_32 o true e = ap (λ x. 32 == x) (equal_from o 32 e)
+same_32 o false e = by (32 == o) refl
+  where
+    by : (c : Bool) → (32 == o) ≡ c → (32 == o) ≡ false
+    by true q = absurd (true_false (o == 32) (ap (λ x. x == 32) (sym (equal_from 32 o q))) e)
+    by false q = q
+
+again_none : (o : ℕ) (os : List ℕ) (x y : Bool) → (trimmed os == 0) ≡ x → (o == 32) ≡ y → again 0 os ≡ nat_le (trimmed os) 0 → again 0 (o ∷ os) ≡ nat_le (if x && y then 0 else suc (trimmed os)) 0
+again_none o os x y p q h = whole ∙ by x y p
+  where
+    len : suc (length os) - 0 ≡ suc (length os - 0)
+    len = omega arith
+
+    whole : again 0 (o ∷ os) ≡ (y && nat_le (trimmed os) 0)
+    whole = ap (λ m. same_octets (replicate m 32) (o ∷ os)) len ∙ ap (λ b. b && same_octets (replicate (length os - 0) 32) os) (same_32 o y q) ∙ ap (λ b. y && b) h
+
+    by : (x y : Bool) → (trimmed os == 0) ≡ x → (y && nat_le (trimmed os) 0) ≡ nat_le (if x && y then 0 else suc (trimmed os)) 0
+    by true true e = le_test (trimmed os) 0 (omega (arith, equal_from (trimmed os) 0 e)) ∙ sym (le_test 0 0 (omega arith))
+    by true false e = sym (le_past (suc (trimmed os)) 0 (omega arith))
+    by false false e = sym (le_past (suc (trimmed os)) 0 (omega arith))
+    by false true e = by_zero (nat_le (trimmed os) 0) refl
+      where
+        by_zero : (b : Bool) → nat_le (trimmed os) 0 ≡ b → nat_le (trimmed os) 0 ≡ nat_le (suc (trimmed os)) 0
+        by_zero false g = g ∙ sym (le_past (suc (trimmed os)) 0 (omega arith))
+        by_zero true g = absurd (apart (ap (λ n. n == 0) (zero_is (le_from (trimmed os) 0 g))))
+          where
+            zero_is : trimmed os ≤ 0 → trimmed os ≡ 0
+            zero_is l = omega (arith, l)
+
+            apart : (trimmed os == 0) ≡ (0 == 0) → ⊥
+            apart z = cc
+
+again_is : (k : ℕ) (os : List ℕ) → again k os ≡ nat_le (trimmed os) k
+again_is k [] = nil k
+  where
+    nil : (k : ℕ) → again k [] ≡ nat_le 0 k
+    nil zero = sym (le_test 0 0 (omega arith))
+    nil (suc k) = let n : 0 - suc k ≡ 0 = omega arith in ap (λ m. same_octets (replicate m 32) []) n ∙ sym (le_test 0 (suc k) (omega arith))
+again_is zero (o ∷ os) = again_none o os (trimmed os == 0) (o == 32) refl refl (again_is zero os)
+again_is (suc k) (o ∷ os) = again_more ((trimmed os == 0) && (o == 32)) o k os refl (again_is k os)
+
+-- octets of 255 alone read as missing
+abbrev full : List ℕ → Bool
+full os = list_all (λ octet. octet == 255) os
+
+abbrev need_by : ℕ → List ℕ → ℕ
+need_by n os = if full (take n os) then suc n else n
+
+not_full_none : (o : ℕ) (os : List ℕ) → trimmed (o ∷ os) ≤ 0 → false ≡ nat_le (need (o ∷ os)) 0
+not_full_none o os h =
+    let e : trimmed (o ∷ os) ≡ 0 = omega (arith, h) in
+    sym (le_past 1 0 (omega arith)) ∙ ap (λ n. nat_le (need_by n (o ∷ os)) 0) (sym e)
+
+not_full_other : (o k : ℕ) (os : List ℕ) (t : Bool) → (o == 255) ≡ false → ((trimmed os == 0) && (o == 32)) ≡ t → trimmed (o ∷ os) ≤ suc k → not (full (take (suc k) (o ∷ os))) ≡ nat_le (need (o ∷ os)) (suc k)
+not_full_other o k os t e s h = ap (λ b. not (b && full (take k os))) e ∙ by t s (trimmed (o ∷ os)) refl
+  where
+    by : (t : Bool) → ((trimmed os == 0) && (o == 32)) ≡ t → (n : ℕ) → trimmed (o ∷ os) ≡ n → true ≡ nat_le (need (o ∷ os)) (suc k)
+    by true s n q =
+        let z : trimmed (o ∷ os) ≡ 0 = ap (λ b. if b then 0 else suc (trimmed os)) s in
+        sym (le_test 1 (suc k) (omega arith)) ∙ ap (λ n. nat_le (need_by n (o ∷ os)) (suc k)) (sym z)
+    by false s n q =
+        let z : trimmed (o ∷ os) ≡ suc (trimmed os) = ap (λ b. if b then 0 else suc (trimmed os)) s in
+        sym (le_test (suc (trimmed os)) (suc k) (omega (arith, h, z)))
+        ∙ ap (λ b. nat_le (if b && full (take (trimmed os) os) then suc (suc (trimmed os)) else suc (trimmed os)) (suc k)) (sym e)
+        ∙ ap (λ n. nat_le (need_by n (o ∷ os)) (suc k)) (sym z)
+
+need_suc : (b : Bool) (n k : ℕ) → nat_le (if b then suc n else n) k ≡ nat_le (if b then suc (suc n) else suc n) (suc k)
+need_suc true n k = sym (suc_le (suc n) k)
+need_suc false n k = sym (suc_le n k)
+
+not_full_one : (o k : ℕ) (os : List ℕ) → (o == 255) ≡ true → trimmed (o ∷ os) ≤ suc k → (trimmed os ≤ k → not (full (take k os)) ≡ nat_le (need os) k) → not (full (take (suc k) (o ∷ os))) ≡ nat_le (need (o ∷ os)) (suc k)
+not_full_one o k os e h go =
+    let is : o ≡ 255 = equal_from o 255 e in
+    let z : trimmed (o ∷ os) ≡ suc (trimmed os) = ap (λ x. if (trimmed os == 0) && (x == 32) then 0 else suc (trimmed os)) is ∙ no_space (trimmed os == 0) (suc (trimmed os)) in
+    ap (λ b. not (b && full (take k os))) e ∙ go (omega (arith, h, z))
+    ∙ need_suc (full (take (trimmed os) os)) (trimmed os) k
+    ∙ ap (λ b. nat_le (if b && full (take (trimmed os) os) then suc (suc (trimmed os)) else suc (trimmed os)) (suc k)) (sym e)
+    ∙ ap (λ n. nat_le (need_by n (o ∷ os)) (suc k)) (sym z)
+  where
+    no_space : (b : Bool) (n : ℕ) → (if b && false then 0 else n) ≡ n
+    no_space true n = refl
+    no_space false n = refl
+
+not_full : (os : List ℕ) (k : ℕ) → full os ≡ false → trimmed os ≤ k → not (full (take k os)) ≡ nat_le (need os) k
+not_full [] k f h = absurd cc
+not_full (o ∷ os) zero f h = not_full_none o os h
+not_full (o ∷ os) (suc k) f h = by (o == 255) refl f (λ g l. not_full os k g l)
+  where
+    by : (b : Bool) → (o == 255) ≡ b → (b && full os) ≡ false → (full os ≡ false → trimmed os ≤ k → not (full (take k os)) ≡ nat_le (need os) k) → not (full (take (suc k) (o ∷ os))) ≡ nat_le (need (o ∷ os)) (suc k)
+    by true e f go = not_full_one o k os e h (go f)
+    by false e f go = not_full_other o k os ((trimmed os == 0) && (o == 32)) e refl h
+
+need_least : (os : List ℕ) → trimmed os ≤ need os
+need_least os = by (full (take (trimmed os) os))
+  where
+    by : (b : Bool) → trimmed os ≤ (if b then suc (trimmed os) else trimmed os)
+    by true = omega arith
+    by false = omega arith
+
+gives_is : (os : List ℕ) (k : ℕ) → full os ≡ false → gives_again k os ≡ nat_le (need os) k
+gives_is os k f = by (nat_le (trimmed os) k) refl
+  where
+    by : (b : Bool) → nat_le (trimmed os) k ≡ b → gives_again k os ≡ nat_le (need os) k
+    by true e = ap (λ b. b && not (full (take k os))) (again_is k os ∙ e) ∙ not_full os k f (le_from (trimmed os) k e)
+    by false e = ap (λ b. b && not (full (take k os))) (again_is k os ∙ e) ∙ sym (le_past (need os) k (omega (arith, le_not (trimmed os) k e, need_least os)))
+
+-- spaces after a text do not count
+trimmed_none : (n : ℕ) → trimmed (replicate n 32) ≡ 0
+trimmed_none zero = refl
+trimmed_none (suc n) = ap (λ t. if (t == 0) && (32 == 32) then 0 else suc t) (trimmed_none n)
+
+trimmed_spaced : (os : List ℕ) (n : ℕ) → trimmed (os ++ replicate n 32) ≡ trimmed os
+trimmed_spaced [] n = trimmed_none n
+trimmed_spaced (o ∷ os) n = ap (λ t. if (t == 0) && (o == 32) then 0 else suc t) (trimmed_spaced os n)
+
+trimmed_within : (os : List ℕ) → trimmed os ≤ length os
+trimmed_within [] = omega arith
+trimmed_within (o ∷ os) = by ((trimmed os == 0) && (o == 32)) (trimmed_within os)
+  where
+    by : (b : Bool) → trimmed os ≤ length os → (if b then 0 else suc (trimmed os)) ≤ suc (length os)
+    by true h = omega arith
+    by false h = omega (arith, h)
+
+take_prefix : (n : ℕ) (os r : List ℕ) → n ≤ length os → take n (os ++ r) ≡ take n os
+take_prefix zero os r h = refl
+take_prefix (suc n) [] r h = absurd (omega (arith, h))
+take_prefix (suc n) (o ∷ os) r h = ap (λ xs. o ∷ xs) (take_prefix n os r (omega (arith, h)))
+
+need_spaced : (count : ℕ) (os : List ℕ) → need (spaced count os) ≡ need os
+need_spaced count os =
+    ap (λ n. need_by n (spaced count os)) (trimmed_spaced os (count - length os))
+    ∙ ap (λ xs. if full xs then suc (trimmed os) else trimmed os) (take_prefix (trimmed os) os (replicate (count - length os) 32) (trimmed_within os))
+
+take_all : (os : List ℕ) (n : ℕ) → length os ≤ n → take n os ≡ os
+take_all [] zero h = refl
+take_all [] (suc n) h = refl
+take_all (o ∷ os) zero h = absurd (omega (arith, h))
+take_all (o ∷ os) (suc n) h = ap (λ xs. o ∷ xs) (take_all os n (omega (arith, h)))
+
+-- the field has the octets that determine a text
+need_room : (count : ℕ) (os : List ℕ) → HasRoom count os → need os ≤ count
+need_room count os h = by (full (take (trimmed os) os)) refl
+  where
+    none : trimmed os ≡ count → full (take (trimmed os) os) ≡ true → ⊥
+    none e f =
+        let all : length os ≤ trimmed os = omega (arith, e, h.0) in
+        let no : count - length os ≡ 0 = omega (arith, e, trimmed_within os) in
+        true_false (full (spaced count os)) (ap (λ n. full (os ++ replicate n 32)) no ∙ ap full (append_none os ∙ sym (take_all os (trimmed os) all)) ∙ f) h.1
+      where
+        append_none : (xs : List ℕ) → xs ++ [] ≡ xs
+        append_none [] = refl
+        append_none (x ∷ xs) = ap (λ ys. x ∷ ys) (append_none xs)
+
+    less : trimmed os ≤ count → (trimmed os ≡ count → ⊥) → suc (trimmed os) ≤ count
+    less l n = by_order (nat_le (suc (trimmed os)) count) refl
+      where
+        by_order : (b : Bool) → nat_le (suc (trimmed os)) count ≡ b → suc (trimmed os) ≤ count
+        by_order true e = le_from (suc (trimmed os)) count e
+        by_order false e = absurd (n (omega (arith, l, le_not (suc (trimmed os)) count e)))
+
+    by : (b : Bool) → full (take (trimmed os) os) ≡ b → (if b then suc (trimmed os) else trimmed os) ≤ count
+    by true e = less (omega (arith, trimmed_within os, h.0)) (λ q. none q e)
+    by false e = omega (arith, trimmed_within os, h.0)
+
+pub most_room : (spec : FieldSpec) (ds : List FieldContent) → 1 ≤ spec.width / 8 → AllDrawn spec ds → most_need ds ≤ spec.width / 8
+most_room spec [] some all = some
+most_room spec (drawn.Number n ∷ ds) some all = omega (arith, some, most_room spec ds some all.1)
+most_room spec (drawn.Text t ∷ ds) some all = omega (arith, need_room (spec.width / 8) t.now all.0.2, most_room spec ds some all.1)
+most_room spec (drawn.Missing ∷ ds) some all = omega (arith, some, most_room spec ds some all.1)
+most_room spec (drawn.Reference v ∷ ds) some all = omega (arith, some, most_room spec ds some all.1)
+
+-- the text that needs most octets determines those of all texts
+max_le : (a b k : ℕ) → nat_le (max a b) k ≡ (nat_le a k && nat_le b k)
+max_le a b k = by (nat_le a k) (nat_le b k) refl refl
+  where
+    by : (x y : Bool) → nat_le a k ≡ x → nat_le b k ≡ y → nat_le (max a b) k ≡ (x && y)
+    by true true p q = le_test (max a b) k (omega (arith, le_from a k p, le_from b k q))
+    by true false p q = le_past (max a b) k (omega (arith, le_not b k q))
+    by false y p q = le_past (max a b) k (omega (arith, le_not a k p))
+
+one_le : (s k : ℕ) → 1 ≤ k → nat_le s k ≡ nat_le (max 1 s) k
+one_le s k h = sym (max_le 1 s k ∙ ap (λ b. b && nat_le s k) (le_test 1 k h))
+
+texts_pass : (spec : FieldSpec) (ds : List FieldContent) (k : ℕ) → 1 ≤ k → AllDrawn spec ds → list_all (has_octets k) (contents_drawn (spec.width / 8) ds) ≡ nat_le (most_need ds) k
+texts_pass spec [] k h all = sym (le_test 1 k h)
+texts_pass spec (drawn.Number n ∷ ds) k h all = texts_pass spec ds k h all.1 ∙ one_le (most_need ds) k h
+texts_pass spec (drawn.Text t ∷ ds) k h all =
+    ap (λ b. b && list_all (has_octets k) (contents_drawn (spec.width / 8) ds)) (gives_is (spaced (spec.width / 8) t.now) k all.0.2.1 ∙ ap (λ n. nat_le n k) (need_spaced (spec.width / 8) t.now))
+    ∙ ap (λ b. nat_le (need t.now) k && b) (texts_pass spec ds k h all.1) ∙ sym (max_le (need t.now) (most_need ds) k)
+texts_pass spec (drawn.Missing ∷ ds) k h all = texts_pass spec ds k h all.1 ∙ one_le (most_need ds) k h
+texts_pass spec (drawn.Reference v ∷ ds) k h all = texts_pass spec ds k h all.1 ∙ one_le (most_need ds) k h
+
+first_at : (m fuel from : ℕ) → from ≤ m → first_from (λ k. nat_le m k) fuel from ≡ min m (from + fuel)
+first_at m zero from h = let e : from ≡ min m (from + 0) = omega (arith, h) in e
+first_at m (suc fuel) from h = by (nat_le m from) refl (λ g. first_at m fuel (from + 1) g)
+  where
+    by : (b : Bool) → nat_le m from ≡ b → (from + 1 ≤ m → first_from (λ k. nat_le m k) fuel (from + 1) ≡ min m (from + 1 + fuel)) → (if nat_le m from then from else first_from (λ k. nat_le m k) fuel (from + 1)) ≡ min m (from + suc fuel)
+    by true e go = ap (λ b. if b then from else first_from (λ k. nat_le m k) fuel (from + 1)) e ∙ (let q : from ≡ min m (from + suc fuel) = omega (arith, h, le_from m from e) in q)
+    by false e go = ap (λ b. if b then from else first_from (λ k. nat_le m k) fuel (from + 1)) e ∙ go (omega (arith, le_not m from e)) ∙ (let q : min m (from + 1 + fuel) ≡ min m (from + suc fuel) = omega arith in q)
+
+least_of : (p q : ℕ → Bool) (fuel m : ℕ) → ((k : ℕ) → 1 ≤ k → p k ≡ q k) → (first_from q fuel 1 ≡ min m (1 + fuel)) → first_from p fuel 1 ≡ min m (1 + fuel)
+least_of p q fuel m h e = first_same p q fuel 1 h ∙ e
+
+pub texts_least : (spec : FieldSpec) (ds : List FieldContent) → 1 ≤ most_need ds → AllDrawn spec ds → least_k has_octets (contents_drawn (spec.width / 8) ds) ≡ min (most_need ds) 64
+texts_least spec ds some all =
+    least_of (λ k. list_all (has_octets k) (contents_drawn (spec.width / 8) ds)) (λ k. nat_le (most_need ds) k) 63 (most_need ds) (λ k h. texts_pass spec ds k h all) (first_at (most_need ds) 63 1 some)
+
+kind_texts : (kd : Kind) (spec : FieldSpec) (cs : List Content) → is_character kd ≡ true → packed_by kd spec cs ≡ packed_texts spec.width (least_k has_octets cs) cs
+kind_texts kind.Character spec cs h = refl
+kind_texts kind.Coded spec cs h = absurd cc
+kind_texts kind.Numeric spec cs h = absurd cc
+
+texts_by : (w k : ℕ) (cs : List Content) (b : Bool) → nat_le k 63 ≡ b → packed_texts w k cs ≡ (if b then Ok (packed_bits (replicate w false) k (flat_map (octet_bits k) cs)) else Err increment)
+texts_by w k cs b e = ap (λ t. if t then Ok (packed_bits (replicate w false) k (flat_map (octet_bits k) cs)) else Err increment) e
+
+pub texts_packed : (spec : FieldSpec) (ds : List FieldContent) (k : ℕ) → is_character spec.kind ≡ true → 1 ≤ most_need ds → AllDrawn spec ds → k ≡ most_need ds → k ≤ 63
+    → packed_by spec.kind spec (contents_drawn (spec.width / 8) ds) ≡ Ok (packed_bits (replicate spec.width false) k (flat_map (octet_bits k) (contents_drawn (spec.width / 8) ds)))
+texts_packed spec ds k char some all is few =
+    let least : least_k has_octets (contents_drawn (spec.width / 8) ds) ≡ k = texts_least spec ds some all ∙ (let q : min (most_need ds) 64 ≡ k = omega (arith, is, few) in q) in
+    kind_texts spec.kind spec (contents_drawn (spec.width / 8) ds) char ∙ ap (λ n. packed_texts spec.width n (contents_drawn (spec.width / 8) ds)) least
+    ∙ texts_by spec.width k (contents_drawn (spec.width / 8) ds) true (le_test k 63 few)
+
+pub texts_apart : (spec : FieldSpec) (ds : List FieldContent) (k : ℕ) → is_character spec.kind ≡ true → 1 ≤ most_need ds → AllDrawn spec ds → k ≡ most_need ds → 63 < k → packed_by spec.kind spec (contents_drawn (spec.width / 8) ds) ≡ Err increment
+texts_apart spec ds k char some all is many =
+    let least : least_k has_octets (contents_drawn (spec.width / 8) ds) ≡ 64 = texts_least spec ds some all ∙ (let q : min (most_need ds) 64 ≡ 64 = omega (arith, is, many) in q) in
+    kind_texts spec.kind spec (contents_drawn (spec.width / 8) ds) char ∙ ap (λ n. packed_texts spec.width n (contents_drawn (spec.width / 8) ds)) least
+    ∙ texts_by spec.width 64 (contents_drawn (spec.width / 8) ds) false (le_past 64 63 (omega arith))
+
+-- ---- The least and the greatest number of an item, gathered content after content.
+
+-- the least number, with one more content
+pub least_with : (ds : List FieldContent) (d : FieldContent) → least_number (ds ++ d ∷ []) ≡ min (number_or 18446744073709551615 d) (least_number ds)
+least_with [] d = refl
+least_with (x ∷ ds) d = omega (arith, least_with ds d)
+
+least_is_u64 : (ds : List FieldContent) → least_number ds ≤ 18446744073709551615
+least_is_u64 [] = omega arith
+least_is_u64 (d ∷ ds) = omega (arith, least_is_u64 ds)
+
+-- the least number, if there is one, by the least and the greatest
+abbrev IsLowest : Option ℕ → (least most : ℕ) → Type 0
+IsLowest None least most = (least ≡ 18446744073709551615) × (most ≡ 0)
+IsLowest (Some n) least most = (least ≡ n) × (n ≤ most)
+
+lowest_same : (o : Option ℕ) (least most : ℕ) → least ≤ 18446744073709551615 → IsLowest o least most → IsLowest o (min 18446744073709551615 least) (max 0 most)
+lowest_same None least most h g = (omega (arith, g.0), omega (arith, g.1))
+lowest_same (Some n) least most h g = (omega (arith, g.0, h), omega (arith, g.1))
+
+lowest_more : (m : ℕ) (o : Option ℕ) (least most : ℕ) → max (m - 0) most ≤ 18446744073709551615 → IsLowest o least most → IsLowest (Some (smaller m o)) (min m least) (max (m - 0) most)
+lowest_more m None least most h g = (omega (arith, g.0, h), omega arith)
+lowest_more m (Some n) least most h g = (omega (arith, g.0), omega (arith, g.1))
+
+lowest_is : (count : ℕ) (ds : List FieldContent) → spread 0 ds ≤ 18446744073709551615 → IsLowest (lowest (contents_drawn count ds)) (least_number ds) (spread 0 ds)
+lowest_is count [] h = (refl, refl)
+lowest_is count (drawn.Number m ∷ ds) h = lowest_more m (lowest (contents_drawn count ds)) (least_number ds) (spread 0 ds) h (lowest_is count ds (omega (arith, h)))
+lowest_is count (drawn.Text t ∷ ds) h = lowest_same (lowest (contents_drawn count ds)) (least_number ds) (spread 0 ds) (least_is_u64 ds) (lowest_is count ds (omega (arith, h)))
+lowest_is count (drawn.Missing ∷ ds) h = lowest_same (lowest (contents_drawn count ds)) (least_number ds) (spread 0 ds) (least_is_u64 ds) (lowest_is count ds (omega (arith, h)))
+lowest_is count (drawn.Reference v ∷ ds) h = lowest_same (lowest (contents_drawn count ds)) (least_number ds) (spread 0 ds) (least_is_u64 ds) (lowest_is count ds (omega (arith, h)))
+
+-- the base of an item, by the least and the greatest
+pub base_some : (count : ℕ) (ds : List FieldContent) → spread 0 ds ≤ 18446744073709551615 → least_number ds ≤ spread 0 ds → least_number ds ≡ unwrap_or (lowest (contents_drawn count ds)) 0
+base_some count ds h g = by (lowest (contents_drawn count ds)) (lowest_is count ds h)
+  where
+    by : (o : Option ℕ) → IsLowest o (least_number ds) (spread 0 ds) → least_number ds ≡ unwrap_or o 0
+    by None q = absurd (omega (arith, q.0, q.1, g))
+    by (Some n) q = q.0
+
+pub base_none : (count : ℕ) (ds : List FieldContent) → spread 0 ds ≤ 18446744073709551615 → spread 0 ds < least_number ds → 0 ≡ unwrap_or (lowest (contents_drawn count ds)) 0
+base_none count ds h g = by (lowest (contents_drawn count ds)) (lowest_is count ds h)
+  where
+    by : (o : Option ℕ) → IsLowest o (least_number ds) (spread 0 ds) → 0 ≡ unwrap_or o 0
+    by None q = refl
+    by (Some n) q = absurd (omega (arith, q.0, q.1, g))
+
+-- the greatest number, with one more content
+pub most_with : (ds : List FieldContent) (d : FieldContent) → spread 0 (ds ++ d ∷ []) ≡ max (over_of 0 d) (spread 0 ds)
+most_with [] d = refl
+most_with (x ∷ ds) d = omega (arith, most_with ds d)
+
+pub number_is : (d : FieldContent) → number_or 0 d ≡ over_of 0 d
+number_is (drawn.Number n) = omega arith
+number_is (drawn.Text t) = refl
+number_is drawn.Missing = refl
+number_is (drawn.Reference v) = refl
+
+-- the greatest increment is that of the greatest number
+pub spread_over : (base : ℕ) (ds : List FieldContent) → spread base ds ≡ spread 0 ds - base
+spread_over base [] = omega arith
+spread_over base (drawn.Number n ∷ ds) = omega (arith, spread_over base ds)
+spread_over base (drawn.Text t ∷ ds) = omega (arith, spread_over base ds)
+spread_over base (drawn.Missing ∷ ds) = omega (arith, spread_over base ds)
+spread_over base (drawn.Reference v ∷ ds) = omega (arith, spread_over base ds)
+
+both_second : (a b : Bool) → (a && b) ≡ true → b ≡ true
+both_second true b h = h
+both_second false b h = absurd cc
+
+equal_numbers : (a b : ℕ) → (a == b) ≡ true → a ≡ b
+equal_numbers a b h = grind (arith, nat_tests)
+
+smaller_least : (a n : ℕ) (o : Option ℕ) → a ≡ n → smaller a o ≡ a → smaller n o ≡ a
+smaller_least a n o e h = ap (λ m. smaller m o) (sym e) ∙ h
+
+-- contents that are all one number
+all_one : (count a : ℕ) (ds : List FieldContent) → are_same (number a) (contents_drawn count ds) ≡ true → (smaller a (lowest (contents_drawn count ds)) ≡ a) × (max a (spread 0 ds) ≡ a)
+all_one count a [] h = (refl, omega arith)
+all_one count a (drawn.Number n ∷ ds) h =
+    let e = equal_numbers a n (both_first (a == n) (are_same (number a) (contents_drawn count ds)) h) in
+    let rest = all_one count a ds (both_second (a == n) (are_same (number a) (contents_drawn count ds)) h) in
+    let least = smaller_least a n (lowest (contents_drawn count ds)) e rest.0 in (
+      omega (arith, least),
+      omega (arith, e, rest.1),
+    )
+all_one count a (drawn.Text t ∷ ds) h = absurd cc
+all_one count a (drawn.Missing ∷ ds) h = absurd cc
+all_one count a (drawn.Reference v ∷ ds) h = absurd cc
+
+-- contents that are all the same, and no number
+all_none : (count : ℕ) (c : Content) (ds : List FieldContent) → ((n : ℕ) → same c (number n) ≡ false) → are_same c (contents_drawn count ds) ≡ true → (lowest (contents_drawn count ds) ≡ None) × (spread 0 ds ≡ 0)
+all_none count c [] differs h = (refl, refl)
+all_none count c (drawn.Number n ∷ ds) differs h = absurd (differ (same c (number n)) (both_first (same c (number n)) (are_same c (contents_drawn count ds)) h) (differs n))
+  where
+    differ : (b : Bool) → b ≡ true → b ≡ false → ⊥
+    differ true p q = cc
+    differ false p q = cc
+all_none count c (drawn.Text t ∷ ds) differs h = let rest = all_none count c ds differs (both_second (same c (content_drawn count (drawn.Text t))) (are_same c (contents_drawn count ds)) h) in (rest.0, omega (arith, rest.1))
+all_none count c (drawn.Missing ∷ ds) differs h = let rest = all_none count c ds differs (both_second (same c missing) (are_same c (contents_drawn count ds)) h) in (rest.0, omega (arith, rest.1))
+all_none count c (drawn.Reference v ∷ ds) differs h = let rest = all_none count c ds differs (both_second (same c (reference v)) (are_same c (contents_drawn count ds)) h) in (rest.0, omega (arith, rest.1))
+
+no_range : (count : ℕ) (ds : List FieldContent) → (lowest (contents_drawn count ds) ≡ None) × (spread 0 ds ≡ 0) → unwrap_or (lowest (contents_drawn count ds)) 0 ≡ spread 0 ds
+no_range count ds h = ap (λ o. unwrap_or o 0) h.0 ∙ sym h.1
+
+-- the least and the greatest number of contents that are all the same are one
+pub range_of_same : (count : ℕ) (c : Content) (ds : List FieldContent) → are_same c (contents_drawn count ds) ≡ true → unwrap_or (lowest (contents_drawn count ds)) 0 ≡ spread 0 ds
+range_of_same count (number a) [] h = refl
+range_of_same count (number a) (drawn.Number n ∷ ds) h =
+    let e = equal_numbers a n (both_first (a == n) (are_same (number a) (contents_drawn count ds)) h) in
+    let rest = all_one count a ds (both_second (a == n) (are_same (number a) (contents_drawn count ds)) h) in
+    smaller_least a n (lowest (contents_drawn count ds)) e rest.0 ∙ omega (arith, e, rest.1)
+range_of_same count (number a) (drawn.Text t ∷ ds) h = absurd cc
+range_of_same count (number a) (drawn.Missing ∷ ds) h = absurd cc
+range_of_same count (number a) (drawn.Reference v ∷ ds) h = absurd cc
+range_of_same count (text t) ds h = no_range count ds (all_none count (text t) ds (λ n. refl) h)
+range_of_same count missing ds h = no_range count ds (all_none count missing ds (λ n. refl) h)
+range_of_same count (reference v) ds h = no_range count ds (all_none count (reference v) ds (λ n. refl) h)
+
+-- contents with two numbers are not all the same
+pub not_alike : (count : ℕ) (c : Content) (ds : List FieldContent) → (unwrap_or (lowest (contents_drawn count ds)) 0 ≡ spread 0 ds → ⊥) → false ≡ are_same c (contents_drawn count ds)
+not_alike count c ds h = by (are_same c (contents_drawn count ds)) refl
+  where
+    by : (b : Bool) → are_same c (contents_drawn count ds) ≡ b → false ≡ are_same c (contents_drawn count ds)
+    by true e = absurd (h (range_of_same count c ds e))
+    by false e = sym e

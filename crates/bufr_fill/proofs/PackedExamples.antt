@@ -2,21 +2,18 @@
 use Rattle.std.proofs.Common.{◌≡◌, Bool, [], ◌∷◌, ◌++◌, replicate, Ok, Err, pos, refl}
 use Rattle.std.specs.Prelude.{codes, take}
 use Rattle.bufr_bits.specs.Bits.{bits_of, bits_in}
-use Rattle.bufr_bits.specs.DecimalValue.{decimal_value_of}
+use Rattle.bufr_bits.specs.Decimal.{decimal_value_of}
 use Rattle.bufr_tables.specs.declared.table_b.Kind.TheVariants as kind
 use Rattle.bufr_walk.specs.declared.spec.TurnRefusal.TheVariants as refusal
 use Rattle.bufr_walk.specs.declared.spec.Role.TheVariants as role
 use Rattle.bufr_walk.specs.FieldSpec.{FieldSpec}
-use Rattle.bufr_walk.specs.Content.{number, missing}
+use Rattle.bufr_walk.specs.Content.{number, missing, found}
 use Rattle.bufr_walk.specs.PackedField.{packed_field}
-use Rattle.bufr_walk.specs.PlainField.{found}
 use Rattle.bufr_tables.specs.Tree.{bare, operator}
-use Rattle.bufr_fill.specs.Draft.{draft, text_form, missing_form, reference_token}
-use Rattle.bufr_fill.specs.Entries.{subset}
-use Rattle.bufr_fill.specs.Fault.{at_line, wrong_descriptor, wrong_number, out_of_range, item_too_many, unequal_factors, uneven_increment, too_many_values, walk_refused}
+use Rattle.bufr_fill.specs.Draft.{draft, text_form, missing_form, reference_token, subset}
+use Rattle.bufr_fill.specs.Faults.{at_line, wrong_descriptor, wrong_number, out_of_range, item_too_many, unequal_factors, uneven_increment, too_many_values, walk_refused}
 use Rattle.bufr_fill.specs.Encoding.{item_row, pack_across, none_across}
-use Rattle.bufr_fill.specs.LeastK.{k_of}
-use Rattle.bufr_fill.specs.Packing.{packing}
+use Rattle.bufr_fill.specs.Packing.{k_of, packing}
 use Rattle.bufr_fill.proofs.ExampleTables.{temperature, block, coded_spec, name, four_letters, delayed_blocks, redefined, width_of_none, numbered, packed_to_bits, ok_bits, zeros, letters}
 
 missing_written : packed_to_bits temperature (subset (numbered 24 3173 (codes "288.15") ∷ []) 25 ∷ subset (draft 26 3173 missing_form ∷ []) 27 ∷ []) ≡ ok_bits (112 ∷ 143 ∷ 5 ∷ []) 24

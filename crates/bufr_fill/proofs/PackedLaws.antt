@@ -1,29 +1,26 @@
--- An item of compressed data that was read is packed so that it is read again, in no more bits.
-use Rattle.std.proofs.Common.{◌≡◌, ℕ, ◌+◌, ◌*◌, ◌/◌, ◌^◌, ◌<◌, ◌≤◌, ◌≢◌, ◌&&◌, Bool, true, false, List, [], ◌∷◌, ◌++◌, length, take, drop, map, replicate, Option, Some, None, Result, Ok, Err, refl, sym, ◌∙◌, ap, subst, arith, append_assoc, pow_mono}
+-- An item of compressed data that was read is packed and read again, in no more bits.
+use Rattle.std.proofs.Common.{◌≡◌, ℕ, ◌+◌, ◌*◌, ◌/◌, ◌^◌, ◌<◌, ◌≤◌, ◌≢◌, ◌&&◌, Bool, true, false, List, [], ◌∷◌, ◌++◌, length, take, drop, map, replicate, Option, Some, None, Result, Ok, Err, refl, sym, ◌∙◌, ap, subst, arith, append_assoc, pow_mono, zero, suc, ◌-◌, not}
 use Rattle.std.specs.Prelude.{◌==◌, nat_lt, nat_le, if◌then◌else◌, unwrap_or}
 use Rattle.std.specs.List.{list_all, flat_map}
-use Rattle.std.proofs.lemmas.List.{take_at, drop_at, drop-drop, length-append, length-replicate, length-take, length-take-le, length-drop, length-map}
+use Rattle.std.proofs.lemmas.List.{take_at, drop_at, drop-drop, length-append, length-replicate, length-take, length-take-le, length-drop, length-map, append-nil, take_all}
 use Rattle.std.proofs.lemmas.Bool.Decides.{nat_tests}
-use Rattle.std.proofs.Math.Nat.{mul-le-mul_left}
+use Rattle.std.proofs.Math.Nat.{mul-le-mul_left, le_of_mul-le-mul_left}
 use Rattle.bufr_bits.specs.Bits.{bits_in, number_of, are_all_ones}
-use Rattle.bufr_bits.proofs.BitLemmas.{number_of-below}
-use Rattle.bufr_bits.proofs.PushLemmas.{length-bits_in}
-use Rattle.bufr_bits.proofs.ScaledLemmas.{and_first, and_second}
+use Rattle.bufr_bits.proofs.BitLemmas.{number_of-below, length-bits_in}
+use Rattle.bufr_bits.proofs.DecimalLemmas.{and_first, and_second}
 use Rattle.bufr_tables.specs.declared.table_b.Kind.{Kind}
-use Rattle.bufr_tables.specs.declared.table_b.Kind.TheVariants as kind
 use Rattle.bufr_walk.specs.declared.spec.Role.{Role}
-use Rattle.bufr_walk.specs.declared.spec.Role.TheVariants as role
 use Rattle.bufr_walk.specs.FieldSpec.{FieldSpec, IsSpec, HasWidth}
-use Rattle.bufr_walk.specs.Content.{Content, number, text, missing, reference, content_in, bits_for}
-use Rattle.bufr_walk.specs.PlainField.{FieldFault, data_end, increment, unequal_factor, FieldRead, found}
+use Rattle.bufr_walk.specs.Content.{Content, number, text, missing, reference, content_in, bits_for, FieldFault, data_end, increment, unequal_factor, FieldRead, found}
 use Rattle.bufr_walk.specs.PackedField.{increments, all_increased, padded_text, increment_bits_of, numbers_of, texts_of, varied_by, same_count, all_same, if_equal, varied, contents_of, with_suffix, item_by, packed_field}
-use Rattle.bufr_fill.specs.Packing.{raw_limit, same, are_same, lowest, has_bits, has_octets, least_k, increment_bits, octet_bits, packed_bits, numbers_over, packed_by, packed_unlike, packing}
-use Rattle.bufr_fill.specs.Fits.{FitsNumber, FitsText, FitsKind, FitsRole, Fits, AllFit}
-use Rattle.bufr_fill.proofs.FieldBits.{number_again, number_back, top_below}
-use Rattle.bufr_fill.proofs.LeastLemmas.{first_least, first_passes, first_from_start, content_same, are_same_copies, AreNumbers, AreOver, none_over, lowest_over, lowest_fits, under_lowest}
-use Rattle.bufr_fill.proofs.PackedBack.{pieces_length, pieces_found, numbers_back, increments_long, AreTexts, octets_long, texts_back}
-use Rattle.bufr_fill.proofs.PackedRead.{AllLong, increments_all, numbers_read, all_over, texts_fit, texts_again}
+use Rattle.bufr_fill.specs.Packing.{raw_limit, same, are_same, lowest, has_bits, has_octets, least_k, increment_bits, octet_bits, packed_bits, numbers_over, packed_by, packed_unlike, packing, k_of, HasLeastK, same_octets, gives_again, first_from}
+use Rattle.bufr_fill.specs.RoundTrip.{FitsNumber, FitsText, FitsKind, FitsRole, Fits, AllFit}
+use Rattle.bufr_fill.proofs.FieldLemmas.{number_again, number_back, top_below}
+use Rattle.bufr_fill.proofs.LeastLemmas.{first_least, first_passes, first_from_start, content_same, are_same_copies, AreNumbers, AreOver, none_over, lowest_over, lowest_fits, under_lowest, octets_self}
+use Rattle.bufr_fill.proofs.PackedBack.{pieces_length, pieces_found, numbers_back, increments_long, AreTexts, octets_long, texts_back, AllLong, increments_all, numbers_read, all_over, texts_fit, texts_again}
 use Rattle.bufr_fill.proofs.PlainLaws.{content_back, content_length, content_fits}
+use Rattle.bufr_tables.specs.declared.table_b.Kind.TheVariants as kind
+use Rattle.bufr_walk.specs.declared.spec.Role.TheVariants as role
 
 past : (a b : ℕ) → b ≤ a → nat_lt a b ≡ false
 past a b h = grind (arith, nat_tests)
@@ -491,3 +488,196 @@ module _ (n : ℕ) (spec : FieldSpec) (good : IsSpec spec) where
       let step = increment_bits_of spec.role spec.kind k in
       let is = increments_all n step (drop (spec.width + 6) bits) u.enough in
       count_by (k == 0) k (take spec.width bits) (increments n step (drop (spec.width + 6) bits)) cs is.0 u.contents ∙ is.1
+
+-- An item is packed with the least k of all that its contents are read from. Bits of one item with
+-- the same contents differ in length by their k alone. So an item is packed in no more bits than
+-- any that were read.
+
+none_from : (k : ℕ) → (k == 0) ≡ true → k ≡ 0
+none_from k h = grind (arith, nat_tests)
+
+-- where an increment is no longer, its k is no greater
+lesser_step : (r : Role) (kd : Kind) (k j : ℕ) → r ≢ role.Reference → increment_bits_of r kd k ≤ increment_bits_of r kd j → k ≤ j
+lesser_step role.Element kind.Character k j h g = omega (arith, g)
+lesser_step role.Element kind.Coded k j h g = g
+lesser_step role.Element kind.Numeric k j h g = g
+lesser_step role.Inserted kind.Character k j h g = omega (arith, g)
+lesser_step role.Inserted kind.Coded k j h g = g
+lesser_step role.Inserted kind.Numeric k j h g = g
+lesser_step role.Factor kind.Character k j h g = omega (arith, g)
+lesser_step role.Factor kind.Coded k j h g = g
+lesser_step role.Factor kind.Numeric k j h g = g
+lesser_step role.Reference kd k j h g = absurd (h refl)
+
+module _ (n : ℕ) (spec : FieldSpec) (some : 1 ≤ n) where
+  -- a reference has no k but 0
+  lesser_k : (r : Role) (b : Bool) (k j : ℕ) (base : List Bool) (is : List (List Bool)) (cs : List Content) → (k == 0) ≡ b → (if b then Ok (map (λ i. content_in spec base) is) else varied r spec k base is) ≡ Ok cs
+      → n * increment_bits_of r spec.kind k ≤ n * increment_bits_of r spec.kind j → k ≤ j
+  lesser_k r true k j base is cs p e h = omega (arith, none_from k p)
+  lesser_k role.Element false k j base is cs p e h = lesser_step role.Element spec.kind k j (λ q. cc) (le_of_mul-le-mul_left h some)
+  lesser_k role.Inserted false k j base is cs p e h = lesser_step role.Inserted spec.kind k j (λ q. cc) (le_of_mul-le-mul_left h some)
+  lesser_k role.Factor false k j base is cs p e h = lesser_step role.Factor spec.kind k j (λ q. cc) (le_of_mul-le-mul_left h some)
+  lesser_k role.Reference false k j base is cs p e h = cc
+
+  -- of two items with the same contents the one that is no longer has no greater k
+  shorter : (out bits : List Bool) (cs : List Content) (suffix : List Bool) → packed_field n spec out ≡ Ok (found cs []) → packed_field n spec bits ≡ Ok (found cs suffix) → length out + length suffix ≤ length bits → k_of spec out ≤ k_of spec bits
+  shorter out bits cs suffix e f h =
+      let a = unpacked n spec out cs [] e in
+      let b = unpacked n spec bits cs suffix f in
+      lesser_k spec.role (k_of spec out == 0) (k_of spec out) (k_of spec bits) _ _ cs refl a.contents (omega (arith, h, a.used, b.used))
+
+  module _ (good : IsSpec spec) where
+    -- the same bits are packed, whatever the contents were read from
+    no_longer : (c : Content) (cs : List Content) (out bits suffix : List Bool) → packing spec (c ∷ cs) ≡ Ok out → packed_field n spec bits ≡ Ok (found (c ∷ cs) suffix) → length out + length suffix ≤ length bits
+    no_longer c cs out bits suffix is e =
+        let p = packed_again n spec good c cs bits suffix e in
+        omega (arith, p.1, p.2.short, ap length (same_ok _ _ (sym is ∙ p.2.is)))
+
+    by_contents : (cs : List Content) (bits suffix : List Bool) → packed_field n spec bits ≡ Ok (found cs suffix) → HasLeastK n spec cs
+    by_contents [] bits suffix e = absurd (omega (arith, some, packed_count n spec good [] bits suffix e))
+    by_contents (c ∷ cs) bits suffix e =
+        let p = (packed_again n spec good c cs bits suffix e).2 in
+        let alone : packed_field n spec p.out ≡ Ok (found (c ∷ cs) []) = subst (λ xs. packed_field n spec xs ≡ Ok (found (c ∷ cs) [])) (append-nil p.out) (p.again []) in
+        record {
+          out = p.out;
+          is = p.is;
+          again = p.again;
+          least = λ bs mid f. shorter p.out bs (c ∷ cs) mid alone f (no_longer c cs p.out bs mid p.is f);
+          short = λ bs mid f. no_longer c cs p.out bs mid p.is f;
+        }
+
+pub least_k_packed : (n : ℕ) (spec : FieldSpec) (contents : List Content) (bits suffix : List Bool) → 1 ≤ n → IsSpec spec → packed_field n spec bits ≡ Ok (found contents suffix) → HasLeastK n spec contents
+least_k_packed n spec contents bits suffix some good e = by_contents n spec some good contents bits suffix e
+
+-- ---- Contents that fit a field and can be packed are read again from their bits.
+
+-- ---- the k that is found passes
+
+found_step : (p : ℕ → Bool) (b : Bool) (from x most : ℕ) → p from ≡ b → (if b then from else x) < most → (b ≡ false → x < most → p x ≡ true) → p (if b then from else x) ≡ true
+found_step p true from x most e h g = e
+found_step p false from x most e h g = g refl h
+
+found_from : (p : ℕ → Bool) (fuel from : ℕ) → first_from p fuel from < from + fuel → p (first_from p fuel from) ≡ true
+found_from p zero from h = absurd (omega (arith, h))
+found_from p (suc fuel) from h = found_step p (p from) from (first_from p fuel (from + 1)) (from + suc fuel) refl h (λ q l. found_from p fuel (from + 1) (omega (arith, l)))
+
+-- ---- numbers
+
+below : (a b : ℕ) → a < b → nat_lt a b ≡ true
+below a b h = grind (arith, nat_tests)
+
+-- the whole width is enough
+number_has : (m : Bool) (w low : ℕ) (c : Content) → FitsNumber m w c → has_bits m low w c ≡ true
+number_has m w low (number n) h = below (n - low) (raw_limit m w) (omega (arith, h))
+number_has m w low (text os) h = absurd h
+number_has m w low missing h = refl
+number_has m w low (reference v) h = absurd h
+
+numbers_have : (m : Bool) (w low : ℕ) (cs : List Content) → AreNumbers m w cs → list_all (has_bits m low w) cs ≡ true
+numbers_have m w low [] h = refl
+numbers_have m w low (c ∷ cs) h = ap (λ b. b && list_all (has_bits m low w) cs) (number_has m w low c h.0) ∙ numbers_have m w low cs h.1
+
+-- ---- texts
+
+-- all octets are enough
+whole_again : (count : ℕ) (os : List ℕ) → length os ≡ count → list_all (λ octet. octet == 255) os ≡ false → gives_again count os ≡ true
+whole_again count os l none =
+    let all : take count os ≡ os = take_all count os (omega (arith, l)) in
+    let spaces : length os - count ≡ 0 = omega (arith, l) in
+    ap (λ xs. same_octets (xs ++ replicate (length os - count) 32) os && not (list_all (λ octet. octet == 255) xs)) all
+    ∙ ap (λ n. same_octets (os ++ replicate n 32) os && not (list_all (λ octet. octet == 255) os)) spaces
+    ∙ ap (λ xs. same_octets xs os && not (list_all (λ octet. octet == 255) os)) (append-nil os)
+    ∙ ap (λ b. b && not (list_all (λ octet. octet == 255) os)) (octets_self os)
+    ∙ ap not none
+
+text_has : (count : ℕ) (c : Content) → FitsText count c → has_octets count c ≡ true
+text_has count (text os) h = whole_again count os h.0 h.2
+text_has count (number n) h = absurd h
+text_has count missing h = refl
+text_has count (reference v) h = absurd h
+
+texts_have : (count : ℕ) (cs : List Content) → AreTexts count cs → list_all (has_octets count) cs ≡ true
+texts_have count [] h = refl
+texts_have count (c ∷ cs) h = ap (λ b. b && list_all (has_octets count) cs) (text_has count c h.0) ∙ texts_have count cs h.1
+
+up_to : (a b : ℕ) → nat_le a b ≡ true → a ≤ b
+up_to a b h = grind (arith, nat_tests)
+
+-- ---- contents that differ
+
+abbrev AllKind : Kind → Bool → ℕ → List Content → Type 0
+AllKind k m w [] = Unit {0}
+AllKind k m w (c ∷ cs) = FitsKind k m w c × AllKind k m w cs
+
+all_numeric : (m : Bool) (w : ℕ) (cs : List Content) → AllKind kind.Numeric m w cs → AreNumbers m w cs
+all_numeric m w [] h = tt
+all_numeric m w (c ∷ cs) h = (h.0, all_numeric m w cs h.1)
+
+all_coded : (m : Bool) (w : ℕ) (cs : List Content) → AllKind kind.Coded m w cs → AreNumbers m w cs
+all_coded m w [] h = tt
+all_coded m w (c ∷ cs) h = (h.0, all_coded m w cs h.1)
+
+all_texts : (m : Bool) (w : ℕ) (cs : List Content) → AllKind kind.Character m w cs → AreTexts (w / 8) cs
+all_texts m w [] h = tt
+all_texts m w (c ∷ cs) h = (h.0, all_texts m w cs h.1)
+
+-- a k that they can be written with
+abbrev Varies : Kind → Bool → ℕ → List Content → Type 0
+Varies kd m w cs = (k : ℕ) × (1 ≤ k) × (k ≤ 63) × IsVaried kd m w k cs
+
+text_varies : (b : Bool) (m : Bool) (w : ℕ) (cs : List Content) (out : List Bool) → 8 ≤ w → AreTexts (w / 8) cs → nat_le (least_k has_octets cs) 63 ≡ b
+    → (if b then Ok (packed_bits (replicate w false) (least_k has_octets cs) (flat_map (octet_bits (least_k has_octets cs)) cs)) else Err increment) ≡ Ok out → Varies kind.Character m w cs
+text_varies false m w cs out wide are q e = absurd cc
+text_varies true m w cs out wide are q e =
+    let k = least_k has_octets cs in
+    let few : k ≤ 63 = up_to k 63 q in
+    let some : 1 ≤ w / 8 = omega (arith, wide) in
+    let passes : list_all (has_octets k) cs ≡ true = found_from (λ k. list_all (has_octets k) cs) 63 1 (omega (arith, few)) in
+    let least : k ≤ w / 8 = first_least (λ k. list_all (has_octets k) cs) 63 1 (w / 8) some (texts_have (w / 8) cs are) in
+    (k, first_from_start (λ k. list_all (has_octets k) cs) 63 1, few, (are, passes, least))
+
+kind_varies : (kd : Kind) (spec : FieldSpec) (cs : List Content) (out : List Bool) → HasWidth kd spec.width → AllKind kd spec.may_be_missing spec.width cs → packed_by kd spec cs ≡ Ok out → Varies kd spec.may_be_missing spec.width cs
+kind_varies kind.Character spec cs out hw h e = text_varies (nat_le (least_k has_octets cs) 63) spec.may_be_missing spec.width cs out hw.0 (all_texts spec.may_be_missing spec.width cs h) refl e
+kind_varies kind.Coded spec cs out hw h e =
+    let are = all_coded spec.may_be_missing spec.width cs h in (spec.width, hw.0, hw.1, (are, λ low q. numbers_have spec.may_be_missing spec.width low cs are))
+kind_varies kind.Numeric spec cs out hw h e =
+    let are = all_numeric spec.may_be_missing spec.width cs h in (spec.width, hw.0, hw.1, (are, λ low q. numbers_have spec.may_be_missing spec.width low cs are))
+
+-- ---- the item
+
+module _ (n : ℕ) (spec : FieldSpec) (good : IsSpec spec) where
+  kinds_of : (r : Role) → spec.role ≡ r → ((x : Content) → FitsRole r spec x → FitsKind spec.kind spec.may_be_missing spec.width x) → (cs : List Content) → AllFit spec cs → AllKind spec.kind spec.may_be_missing spec.width cs
+  kinds_of r er f [] h = tt
+  kinds_of r er f (c ∷ cs) h = (f c (subst (λ r. FitsRole r spec c) er h.0), kinds_of r er f cs h.1)
+
+  unlike_by_role : (r : Role) → spec.role ≡ r → (c : Content) (cs : List Content) (out : List Bool) → AllFit spec (c ∷ cs) → length (c ∷ cs) ≡ n → are_same c cs ≡ false → packed_unlike r spec (c ∷ cs) ≡ Ok out → (most : ℕ) × PacksWithin n spec (c ∷ cs) most
+  unlike_by_role role.Factor er c cs out fits count unlike e = absurd cc
+  unlike_by_role role.Reference er c cs out fits count unlike e = absurd cc
+  unlike_by_role role.Element er c cs out fits count unlike e =
+      let v = kind_varies spec.kind spec (c ∷ cs) out good.width (kinds_of role.Element er (λ x f. f) (c ∷ cs) fits) e in
+      let most = spec.width + 6 + n * step_by spec.kind v.0 in
+      (most, differing n spec good role.Element er (λ j. step_element n spec good role.Element spec.kind j (λ q. cc)) (λ j b i. refl) (λ xs. refl) (λ x f. subst (λ r. FitsRole r spec x) (sym er) f) c cs v.0 most v.1 v.2 v.3 unlike count (omega arith))
+  unlike_by_role role.Inserted er c cs out fits count unlike e =
+      let v = kind_varies spec.kind spec (c ∷ cs) out good.width (kinds_of role.Inserted er (λ x f. f) (c ∷ cs) fits) e in
+      let most = spec.width + 6 + n * step_by spec.kind v.0 in
+      (most, differing n spec good role.Inserted er (λ j. step_element n spec good role.Inserted spec.kind j (λ q. cc)) (λ j b i. refl) (λ xs. refl) (λ x f. subst (λ r. FitsRole r spec x) (sym er) f) c cs v.0 most v.1 v.2 v.3 unlike count (omega arith))
+
+  by_same : (b : Bool) (c : Content) (cs : List Content) (out : List Bool) → AllFit spec (c ∷ cs) → length (c ∷ cs) ≡ n → are_same c cs ≡ b → (if b then Ok (packed_bits (bits_for spec.width c) 0 []) else packed_unlike spec.role spec (c ∷ cs)) ≡ Ok out
+      → (most : ℕ) × PacksWithin n spec (c ∷ cs) most
+  by_same true c cs out fits count q e = (spec.width + 6, uniform n spec good c cs (spec.width + 6) fits.0 q count (omega arith))
+  by_same false c cs out fits count q e = unlike_by_role spec.role refl c cs out fits count q e
+
+  same_out : (out out' : List Bool) → ◌≡◌ {A = Result (List Bool) FieldFault} (Ok out) (Ok out') → out ≡ out'
+  same_out out out' e = cc
+
+  -- contents that fit, where they can be packed, are read again
+  pub fitting_again : (c : Content) (cs : List Content) (out more : List Bool) → AllFit spec (c ∷ cs) → length (c ∷ cs) ≡ n → packing spec (c ∷ cs) ≡ Ok out → packed_field n spec (out ++ more) ≡ Ok (found (c ∷ cs) more)
+  fitting_again c cs out more fits count e =
+      let p = by_same (are_same c cs) c cs out fits count refl e in
+      let is : out ≡ p.1.out = same_out out p.1.out (sym e ∙ p.1.is) in
+      ap (λ bits. packed_field n spec (bits ++ more)) is ∙ p.1.again more
+
+-- and with the least k
+pub fitting_least_k : (n : ℕ) (spec : FieldSpec) (contents : List Content) (out : List Bool) → 1 ≤ n → IsSpec spec → AllFit spec contents → length contents ≡ n → packing spec contents ≡ Ok out → HasLeastK n spec contents
+fitting_least_k n spec [] out some good fits count e = absurd (omega (arith, some, count))
+fitting_least_k n spec (c ∷ cs) out some good fits count e = least_k_packed n spec (c ∷ cs) (out ++ []) [] some good (fitting_again n spec good c cs out [] fits count e)

@@ -1,22 +1,21 @@
--- A walk over the items of all subsets writes what the definition makes of them.
-use Rattle.std.proofs.Common.{◌≡◌, ℕ, zero, suc, ◌+◌, ◌-◌, ◌<◌, Bool, true, false, List, [], ◌∷◌, ◌++◌, length, Option, Some, None, Result, Ok, Err, refl, sym, ◌∙◌, ap, arith}
+-- A walk over the items of all subsets writes, or refuses, as the definition does.
+use Rattle.std.proofs.Common.{◌≡◌, ℕ, zero, suc, ◌+◌, ◌-◌, ◌<◌, Bool, true, false, List, [], ◌∷◌, ◌++◌, length, Option, Some, None, Result, Ok, Err, refl, sym, ◌∙◌, ap, arith, ◌≤◌, max}
 use Rattle.std.specs.Prelude.{slice_get, if◌then◌else◌}
 use Rattle.std.proofs.lemmas.List.{append-nil}
 use Rattle.bufr_walk.specs.declared.spec.Taken.{Taken}
 use Rattle.bufr_walk.specs.FieldSpec.{FieldSpec}
 use Rattle.bufr_walk.specs.Content.{Content}
-use Rattle.bufr_walk.specs.Course.{Course}
-use Rattle.bufr_walk.specs.Taking.{TakenField, Takes, course_after}
-use Rattle.bufr_walk.specs.Walked.{oks}
-use Rattle.bufr_fill.specs.Draft.{Draft}
-use Rattle.bufr_fill.specs.Entries.{Subset}
-use Rattle.bufr_fill.specs.Fault.{FaultAt, at_line, too_many_values}
-use Rattle.bufr_fill.specs.Filling.{WrittenItem, written_item, fill, with_bits_before}
-use Rattle.bufr_fill.proofs.Filled.{HasFilled}
-use Rattle.bufr_fill.specs.Encoding.{item_row, cells_at, rows, longest, are_many, first_line, content_here, contents_here, packed_to, pack_across, packed_filler, ◌>>=◌}
+use Rattle.bufr_walk.specs.Course.{Course, Next, take_next, at_end, astray, refused}
+use Rattle.bufr_walk.specs.Walk.{TakenField, Takes, course_after, oks, answers_of}
+use Rattle.bufr_fill.specs.Draft.{Draft, Subset}
+use Rattle.bufr_fill.specs.Faults.{FaultAt, at_line, too_many_values, item_too_many, walk_refused}
+use Rattle.bufr_fill.specs.Filling.{WrittenItem, written_item, fill, with_bits_before, Filler, fill_one, fill_none}
+use Rattle.bufr_fill.proofs.WalkLemmas.{HasFilled, walk_fills, after_answers, unfilled}
+use Rattle.bufr_fill.specs.Encoding.{item_row, cells_at, rows, longest, are_many, first_line, content_here, contents_here, packed_to, pack_across, packed_filler, ◌>>=◌, ItemRow, first_there, there_or, line_in, none_across, packed_data}
 use Rattle.bufr_fill.specs.Packing.{packing}
-use Rattle.bufr_fill.specs.PackedOut.{PackedOutModel, IsPacked, PackedFills, rows_left}
-use Rattle.bufr_fill.proofs.WalkFills.{walk_fills}
+use Rattle.bufr_fill.specs.PackedOut.{PackedOutModel, IsPacked, PackedFills, rows_left, new_packed_out, and_end, all_at_end, first_line_at, IsFaultHere}
+use Rattle.bufr_fill.proofs.EntryLemmas.{length-cells}
+use Rattle.bufr_walk.specs.declared.spec.TurnRefusal.TheVariants as refusal
 
 written_bits : (a b : WrittenItem (List Content)) → ◌≡◌ {A = Result (WrittenItem (List Content)) FaultAt} (Ok a) (Ok b) → a.bits ≡ b.bits
 written_bits a b e = (λ j. (same a b e j).bits)
@@ -38,8 +37,8 @@ some_there (y ∷ xs) zero x e = omega arith
 some_there (y ∷ xs) (suc k) x e = omega (arith, some_there xs k x e)
 
 -- an item that was written is in the first subset
-first_there : (spec : FieldSpec) (place : ℕ) (s : Subset) (ss : List Subset) (w : WrittenItem (List Content)) → pack_across spec (item_row place (s ∷ ss)) ≡ Ok w → place < length s.items
-first_there spec place s ss w e = by (slice_get s.items place) refl (are_many place (length (cells_at place (s ∷ ss)))) e
+first_has_place : (spec : FieldSpec) (place : ℕ) (s : Subset) (ss : List Subset) (w : WrittenItem (List Content)) → pack_across spec (item_row place (s ∷ ss)) ≡ Ok w → place < length s.items
+first_has_place spec place s ss w e = by (slice_get s.items place) refl (are_many place (length (cells_at place (s ∷ ss)))) e
   where
     by : (o : Option Draft) → slice_get s.items place ≡ o → (b : Bool)
         → (if b then Err (at_line (first_line (cells_at place (s ∷ ss))) (too_many_values spec.fxy)) else ((content_here spec (slice_get s.items place) s.end_line >>= λ first. contents_here spec (cells_at place ss) >>= λ rest. Ok (first ∷ rest)) >>= λ cs. packed_to cs (cells_at place (s ∷ ss)) (packing spec cs))) ≡ Ok w
@@ -59,7 +58,7 @@ within s s' spec t h = by s.subsets refl
         let none : h.put.item ≡ [] = none_written spec s.place h.put.contents h.put.item (ap (λ ss. pack_across spec (item_row s.place ss)) (sym e) ∙ h.put.is) in
         absurd (omega (arith, h.put.forth, ap length (h.put.bits ∙ ap (λ b. s.bits ++ b) none ∙ append-nil s.bits)))
     by (x ∷ ss) e =
-        let there = first_there spec s.place x ss (written_item h.put.contents h.put.item) (ap (λ ss. pack_across spec (item_row s.place ss)) (sym e) ∙ h.put.is) in
+        let there = first_has_place spec s.place x ss (written_item h.put.contents h.put.item) (ap (λ ss. pack_across spec (item_row s.place ss)) (sym e) ∙ h.put.is) in
         omega (arith, there, ap longest e)
 
 pub row_first : (n place : ℕ) (ss : List Subset) → place < n → rows (n - place) place ss ≡ item_row place ss ∷ rows (n - (place + 1)) (place + 1) ss
@@ -78,3 +77,156 @@ fills end many s spec t s' h = record {
 pub walk_of_rows : (end : ℕ) (many : Bool) (course : Course) (s : PackedOutModel) (items : List TakenField) (s' : PackedOutModel) → Takes (oks PackedFills) course s items s'
     → (bits : List Bool) × (s'.bits ≡ s.bits ++ bits) × (fill (packed_filler end many) course (rows_left s) ≡ with_bits_before (packed_filler end many) bits (fill (packed_filler end many) (course_after course items) (rows_left s')))
 walk_of_rows end many course s items s' h = walk_fills (packed_filler end many) rows_left (λ (p : PackedOutModel). p.bits) (oks PackedFills) (fills end many) course s items s' h
+
+-- ---- Where a walk over the items of all subsets stops, its fault is that of their data.
+
+-- ---- places
+
+none_past : (items : List Draft) (place : ℕ) → length items ≤ place → slice_get items place ≡ None
+none_past [] place h = refl
+none_past (x ∷ items) zero h = absurd (omega (arith, h))
+none_past (x ∷ items) (suc place) h = none_past items place (omega (arith, h))
+
+past_none : (items : List Draft) (place : ℕ) → slice_get items place ≡ None → length items ≤ place
+past_none [] place e = omega arith
+past_none (x ∷ items) zero e = absurd cc e
+past_none (x ∷ items) (suc place) e = omega (arith, past_none items place e)
+
+no_row : (place : ℕ) (ss : List Subset) → longest ss ≤ place → rows (longest ss - place) place ss ≡ []
+no_row place ss h = let e : longest ss - place ≡ 0 = omega (arith, h) in ap (λ n. rows n place ss) e
+
+-- all subsets end after the longest
+ends_past : (place : ℕ) (ss : List Subset) → all_at_end (cells_at place ss) ≡ Ok tt → longest ss ≤ place
+ends_past place [] e = omega arith
+ends_past place (s ∷ ss) e = by (slice_get s.items place) refl e (λ e. ends_past place ss e)
+  where
+    by : (o : Option Draft) → slice_get s.items place ≡ o → and_end o (all_at_end (cells_at place ss)) ≡ Ok tt → (all_at_end (cells_at place ss) ≡ Ok tt → longest ss ≤ place) → max (length s.items) (longest ss) ≤ place
+    by None is e g = omega (arith, past_none s.items place is, g e)
+    by (Some d) is e g = absurd cc e
+
+-- an item that is left over is there
+ends_before : (place : ℕ) (ss : List Subset) (f : FaultAt) → all_at_end (cells_at place ss) ≡ Err f → (place < longest ss) × (f ≡ at_line (first_there (cells_at place ss)) item_too_many)
+ends_before place [] f e = absurd cc e
+ends_before place (s ∷ ss) f e = by (slice_get s.items place) refl e (λ e. ends_before place ss f e)
+  where
+    by : (o : Option Draft) → slice_get s.items place ≡ o → and_end o (all_at_end (cells_at place ss)) ≡ Err f → (all_at_end (cells_at place ss) ≡ Err f → (place < longest ss) × (f ≡ at_line (first_there (cells_at place ss)) item_too_many)) → (place < longest (s ∷ ss)) × (f ≡ at_line (first_there (cells_at place (s ∷ ss))) item_too_many)
+    by None is e g = let r = g e in (omega (arith, r.0), r.1 ∙ ap (λ o. at_line (there_or o (first_there (cells_at place ss))) item_too_many) (sym is))
+    by (Some d) is e g = let same : at_line d.line item_too_many ≡ f = cc in (omega (arith, some_there s.items place d is), sym same ∙ ap (λ o. at_line (there_or o (first_there (cells_at place ss))) item_too_many) (sym is))
+
+-- ---- the walk
+
+-- a walk stays with its subsets, and within the longest of them
+pub record Stays (s s' : PackedOutModel) : Type 0 where
+  pub subsets : s'.subsets ≡ s.subsets
+  pub within : s'.place ≤ longest s'.subsets
+
+pub stays : (course : Course) (s : PackedOutModel) (items : List TakenField) (s' : PackedOutModel) → Takes (oks PackedFills) course s items s' → s.place ≤ longest s.subsets → Stays s s'
+stays course s [] s' h p = record { subsets = ap (λ (x : PackedOutModel). x.subsets) h; within = omega (arith, p, ap (λ (x : PackedOutModel). x.place) h, ap (λ (x : PackedOutModel). longest x.subsets) h) }
+stays course s (i ∷ items) s' h p =
+    let near = within s h.0 i.spec i.taken h.2 in
+    let rest = stays (λ answers. course (i.taken ∷ answers)) h.0 items s' h.3 (omega (arith, near, h.2.place, ap longest h.2.subsets)) in
+    record { subsets = rest.subsets ∙ h.2.subsets; within = rest.within }
+
+module _ (course : Course) (s : Subset) (more : List Subset) where
+  abbrev filler : Filler ItemRow (List Content) FaultAt
+  filler = packed_filler s.end_line (are_many (longest (s ∷ more)) (length (s ∷ more)))
+
+  -- what the definition makes of the rows from a place on
+  abbrev fill_from : Course → ℕ → Result (List Bool) FaultAt
+  fill_from c place = fill filler c (rows (longest (s ∷ more) - place) place (s ∷ more))
+
+  -- what a walk from the beginning wrote
+  record Came (items : List TakenField) (mid : PackedOutModel) : Type 0 where
+    bits : List Bool
+    are : mid.bits ≡ bits
+    is : packed_data course (s ∷ more) ≡ with_bits_before filler bits (fill_from (course_after course items) mid.place)
+    subsets : mid.subsets ≡ s ∷ more
+    near : mid.place ≤ longest (s ∷ more)
+
+  came : (items : List TakenField) (mid : PackedOutModel) → Takes (oks PackedFills) course (new_packed_out (s ∷ more)) items mid → Came items mid
+  came items mid h =
+      let w = stays course (new_packed_out (s ∷ more)) items mid h (omega arith) in
+      let f = walk_fills filler rows_left (λ (p : PackedOutModel). p.bits) (oks PackedFills) (fills s.end_line (are_many (longest (s ∷ more)) (length (s ∷ more)))) course (new_packed_out (s ∷ more)) items mid h in
+      let e : longest (s ∷ more) - 0 ≡ longest (s ∷ more) = omega arith in
+      record {
+        bits = f.0;
+        are = f.1;
+        is = ap (λ k. fill filler course (rows k 0 (s ∷ more))) (sym e) ∙ f.2 ∙ ap (λ ss. with_bits_before filler f.0 (fill filler (course_after course items) (rows (longest ss - mid.place) mid.place ss))) w.subsets;
+        subsets = w.subsets;
+        near = omega (arith, w.within, ap longest w.subsets);
+      }
+
+  -- where the walk is refused
+  refused_here : (c : Course) (place : ℕ) (why : refusal.the_data) → (c []).next ≡ refused why → place ≤ longest (s ∷ more) → fill_from c place ≡ Err (at_line (first_line_at place (s ∷ more)) (walk_refused why))
+  refused_here c place why e h = by (longest (s ∷ more) - place) refl
+    where
+      by : (left : ℕ) → longest (s ∷ more) - place ≡ left → fill_from c place ≡ Err (at_line (first_line_at place (s ∷ more)) (walk_refused why))
+      by zero l =
+          ap (λ k. fill filler c (rows k place (s ∷ more))) l
+          ∙ ap (fill_none filler) e
+          ∙ ap (λ o. Err (at_line (line_in o s.end_line) (walk_refused why))) (sym (none_past s.items place (omega (arith, l, h))))
+      by (suc k) l =
+          ap (λ k. fill filler c (rows k place (s ∷ more))) l
+          ∙ ap (λ x. fill_one filler x (item_row place (s ∷ more)) (λ t. fill filler (λ answers. c (t ∷ answers)) (rows k (place + 1) (s ∷ more)))) e
+
+  -- where an item is at fault
+  fault_here : (c : Course) (place : ℕ) (spec : FieldSpec) (f : FaultAt) → (c []).next ≡ take_next spec → place ≤ longest (s ∷ more) → pack_across spec (item_row place (s ∷ more)) ≡ Err f → fill_from c place ≡ Err f
+  fault_here c place spec f e h p = by (longest (s ∷ more) - place) refl
+    where
+      past : (many many' : Bool) (o : Option Draft) → many ≡ many' → o ≡ None
+          → (if many then Err (at_line (line_in o s.end_line) (too_many_values spec.fxy)) else ((content_here spec o s.end_line >>= λ first. contents_here spec (cells_at place more) >>= λ rest. Ok (first ∷ rest)) >>= λ cs. packed_to cs (cells_at place (s ∷ more)) (packing spec cs))) ≡ Err f
+          → none_across s.end_line many' spec ≡ f
+      past true true None a b p = cc
+      past false false None a b p = cc
+      past true false o a b p = absurd cc a
+      past false true o a b p = absurd cc a
+      past m m' (Some d) a b p = absurd cc b
+
+      by : (left : ℕ) → longest (s ∷ more) - place ≡ left → fill_from c place ≡ Err f
+      by zero l =
+          let at : place ≡ longest (s ∷ more) = omega (arith, l, h) in
+          ap (λ k. fill filler c (rows k place (s ∷ more))) l
+          ∙ ap (fill_none filler) e
+          ∙ ap Err (past (are_many place (length (cells_at place (s ∷ more)))) (are_many (longest (s ∷ more)) (length (s ∷ more))) (slice_get s.items place) (ap (are_many place) (length-cells place (s ∷ more)) ∙ ap (λ x. are_many x (length (s ∷ more))) at) (none_past s.items place (omega (arith, l, h))) p)
+      by (suc k) l =
+          ap (λ k. fill filler c (rows k place (s ∷ more))) l
+          ∙ unfilled filler rows_left (λ (p : PackedOutModel). p.bits) (oks PackedFills) (fills s.end_line (are_many (longest (s ∷ more)) (length (s ∷ more)))) c (item_row place (s ∷ more) ∷ rows k (place + 1) (s ∷ more)) spec f e p
+
+  -- where an item is left over
+  over_here : (c : Course) (place : ℕ) (f : FaultAt) → (c []).next ≡ at_end → all_at_end (cells_at place (s ∷ more)) ≡ Err f → fill_from c place ≡ Err f
+  over_here c place f e p =
+      let b = ends_before place (s ∷ more) f p in
+      ap (fill filler c) (row_first (longest (s ∷ more)) place (s ∷ more) b.0)
+      ∙ ap (λ x. fill_one filler x (item_row place (s ∷ more)) (λ t. fill filler (λ answers. c (t ∷ answers)) (rows (longest (s ∷ more) - (place + 1)) (place + 1) (s ∷ more)))) e
+      ∙ ap Err (sym b.1)
+
+  later : (items : List TakenField) (mid : PackedOutModel) → Came items mid → (f : FaultAt) → fill_from (course_after course items) mid.place ≡ Err f → packed_data course (s ∷ more) ≡ Err f
+  later items mid h f e = h.is ∙ ap (with_bits_before filler h.bits) e
+
+  stops : (items : List TakenField) (mid : PackedOutModel) (f : FaultAt) → Takes (oks PackedFills) course (new_packed_out (s ∷ more)) items mid → IsFaultHere (course (answers_of items)).next mid f → packed_data course (s ∷ more) ≡ Err f
+  stops items mid f h x = later items mid k f (by (course (answers_of items)).next (ap (λ a. a.next) (after_answers course items)) x)
+    where
+      k : Came items mid
+      k = came items mid h
+
+      by : (next : Next) → (course_after course items []).next ≡ next → IsFaultHere next mid f → fill_from (course_after course items) mid.place ≡ Err f
+      by (take_next spec) e x = fault_here (course_after course items) mid.place spec f e k.near (ap (λ ss. pack_across spec (item_row mid.place ss)) (sym k.subsets) ∙ x)
+      by (refused why) e x = refused_here (course_after course items) mid.place why e k.near ∙ ap (λ ss. Err (at_line (first_line_at mid.place ss) (walk_refused why))) (sym k.subsets) ∙ ap Err (sym x)
+      by at_end e x = over_here (course_after course items) mid.place f e (ap (λ ss. all_at_end (cells_at mid.place ss)) (sym k.subsets) ∙ x)
+      by astray e x = absurd x
+
+  ends : (items : List TakenField) (mid : PackedOutModel) → Takes (oks PackedFills) course (new_packed_out (s ∷ more)) items mid → (course (answers_of items)).next ≡ at_end → all_at_end (cells_at mid.place mid.subsets) ≡ Ok tt → packed_data course (s ∷ more) ≡ Ok mid.bits
+  ends items mid h e x =
+      let k = came items mid h in
+      let past = ends_past mid.place (s ∷ more) (ap (λ ss. all_at_end (cells_at mid.place ss)) (sym k.subsets) ∙ x) in
+      let none : fill_from (course_after course items) mid.place ≡ Ok [] =
+      ap (fill filler (course_after course items)) (no_row mid.place (s ∷ more) past) ∙ ap (fill_none filler) (ap (λ a. a.next) (after_answers course items) ∙ e) in
+      k.is ∙ ap (with_bits_before filler k.bits) none ∙ ap Ok (append-nil k.bits ∙ sym k.are)
+
+pub fault_as_defined : (course : Course) (subsets : List Subset) (items : List TakenField) (s : PackedOutModel) (f : FaultAt) → 1 ≤ length subsets → Takes (oks PackedFills) course (new_packed_out subsets) items s → IsFaultHere (course (answers_of items)).next s f → packed_data course subsets ≡ Err f
+fault_as_defined course [] items s f some h x = absurd (omega (arith, some))
+fault_as_defined course (first ∷ more) items s f some h x = stops course first more items s f h x
+
+pub written_as_defined : (course : Course) (subsets : List Subset) (items : List TakenField) (s : PackedOutModel) → 1 ≤ length subsets → Takes (oks PackedFills) course (new_packed_out subsets) items s → (course (answers_of items)).next ≡ at_end → all_at_end (cells_at s.place s.subsets) ≡ Ok tt → packed_data course subsets ≡ Ok s.bits
+written_as_defined course [] items s some h e x = absurd (omega (arith, some))
+written_as_defined course (first ∷ more) items s some h e x = ends course first more items s h e x

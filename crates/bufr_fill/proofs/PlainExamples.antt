@@ -2,11 +2,10 @@
 use Rattle.std.proofs.Common.{◌≡◌, Bool, [], ◌∷◌, Err, refl}
 use Rattle.std.specs.Prelude.{codes}
 use Rattle.bufr_bits.specs.Bits.{bits_of, bits_in}
-use Rattle.bufr_bits.specs.DecimalValue.{decimal_value_of}
+use Rattle.bufr_bits.specs.Decimal.{decimal_value_of}
 use Rattle.bufr_walk.specs.declared.spec.TurnRefusal.TheVariants as refusal
-use Rattle.bufr_fill.specs.Draft.{draft, text_form, missing_form, reference_token}
-use Rattle.bufr_fill.specs.Entries.{subset, subsets_of, Holds, Ends}
-use Rattle.bufr_fill.specs.Fault.{at_line, wrong_descriptor, wrong_number, out_of_range, missing_forbidden, text_long, item_too_many, walk_refused}
+use Rattle.bufr_fill.specs.Draft.{draft, text_form, missing_form, reference_token, subset, subsets_of, Holds, Ends}
+use Rattle.bufr_fill.specs.Faults.{at_line, wrong_descriptor, wrong_number, out_of_range, missing_forbidden, text_long, item_too_many, walk_refused}
 use Rattle.bufr_fill.proofs.ExampleTables.{temperature, latitude, coded_spec, four_letters, delayed_blocks, redefined, width_of_none, numbered, plain_bits, ok_bits}
 
 -- the greatest number that is not missing

@@ -1,24 +1,230 @@
--- A plain field that was read is written from the item that a dump writes for it, and read again.
-use Rattle.std.proofs.Common.{◌≡◌, ℕ, ◌+◌, ◌-◌, ◌≤◌, Bool, true, false, List, ◌++◌, length, take, drop, Result, Ok, Err, refl, ◌∙◌, ap, subst, arith, nat_abs}
-use Rattle.std.specs.Prelude.{nat_lt, if◌then◌else◌}
-use Rattle.std.proofs.lemmas.List.{take_at, drop_at, length-append, length-take-le, length-drop}
+-- A plain field that was read is written from the item that a dump writes, and read again.
+use Rattle.std.specs.Prelude.{◌≡◌, ℕ, ◌+◌, ◌*◌, ◌≤◌, List, [], ◌∷◌, length, Option, Some, None, ◌==◌, nat_lt, if◌then◌else◌, unsigned_abs}
+use Rattle.bufr_walk.specs.FieldSpec.{FieldSpec, IsSpec, HasWidth, HasRole, HasMissing, is_reference}
+use Rattle.bufr_walk.specs.Content.{Content, found, number, text, missing, reference, content_by, content_in, bits_for, FieldFault, data_end, FieldRead, plain_field, signed_by, said_by, sign_bit}
+use Rattle.bufr_walk.specs.Reading.{max_values, Item, DataCoding, ReadsItems, ReadsPass, after, plain}
+use Rattle.bufr_fill.specs.Draft.{Draft, DraftValue, number_token, text_form, missing_form, reference_token}
+use Rattle.bufr_fill.specs.DraftContent.{draft_value_of, content_of, content_by_form, raw_within, raw_of, reference_of, text_within, missing_of, is_marked, wrong_for, plainly, plain_filler, IsMinusZero, is_of, decimal_again, normal_form}
+use Rattle.bufr_fill.specs.Encoding.{RowCell, ItemRow}
+use Rattle.std.proofs.Common.{Bool, ◌++◌, Ok, refl, sym, ◌∙◌, ap, subst, arith, append_assoc, suc, ◌-◌, ◌/◌, ◌^◌, ◌<◌, ◌&&◌, ltb, true, false, not, replicate, Err, ℤ, pos, negsuc, ◌+ℤ◌, ◌-ℤ◌, nat_abs, pow_mono, take, drop, Result, zero, ◌%◌, neg_ℤ}
+use Rattle.std.proofs.lemmas.List.{length-append, append-nil, take_at, drop_at, length-take-le, length-drop}
+use Rattle.bufr_walk.specs.Course.{Course, Next, take_next, at_end}
+use Rattle.bufr_fill.specs.RoundTrip.{AreDrafts, FitsText, FitsKind, FitsRole, Fits, IsDumped}
+use Rattle.bufr_fill.specs.Filling.{written_item, Filler, fill, fill_one, fill_none, filled, with_bits_before}
+use Rattle.std.specs.List.{list_all}
+use Rattle.std.proofs.lemmas.Int.{ints}
 use Rattle.std.proofs.lemmas.Bool.Decides.{nat_tests}
-use Rattle.bufr_bits.proofs.PushLemmas.{length-bits_in}
+use lib.Signed.{mag}
+use Rattle.bufr_bits.specs.Decimal.{decimal_text_of, decimal_value_of}
+use Rattle.bufr_bits.proofs.DecimalLemmas.{reads_back, and_first, and_second}
 use Rattle.bufr_tables.specs.declared.table_b.Kind.{Kind}
-use Rattle.bufr_tables.specs.declared.table_b.Kind.TheVariants as kind
+use Rattle.bufr_tables.specs.TableB.{is_character}
 use Rattle.bufr_walk.specs.declared.spec.Role.{Role}
+use Rattle.bufr_fill.specs.Packing.{raw_limit}
+use Rattle.bufr_fill.specs.Faults.{wrong_number, out_of_range, text_long, DraftFaultKind, missing_forbidden}
+use Rattle.bufr_bits.proofs.BitLemmas.{length-bits_in}
+use Rattle.bufr_fill.proofs.FieldLemmas.{kind_back, kind_length, kind_fits, signed_back, signed_below, bits_again, octet_bits_again}
+use Rattle.bufr_bits.specs.Bits.{bits_in, number_of, are_all_ones}
+use Rattle.bufr_bits.specs.declared.decimal.NumberFault.{NumberFault}
+use Rattle.bufr_tables.specs.declared.table_b.Kind.TheVariants as kind
 use Rattle.bufr_walk.specs.declared.spec.Role.TheVariants as role
-use Rattle.bufr_walk.specs.FieldSpec.{FieldSpec, IsSpec, HasWidth}
-use Rattle.bufr_walk.specs.Content.{Content, number, text, missing, reference, content_by, content_in, bits_for}
-use Rattle.bufr_walk.specs.PlainField.{FieldFault, data_end, FieldRead, found, plain_field}
-use Rattle.bufr_walk.specs.Reading.{Item, plain}
-use Rattle.bufr_fill.specs.Fits.{FitsRole, Fits}
-use Rattle.bufr_fill.specs.WrittenAgain.{IsDumped}
-use Rattle.bufr_fill.specs.Draft.{Draft}
-use Rattle.bufr_fill.specs.DraftContent.{content_of, draft_value_of, plainly, plain_filler}
-use Rattle.bufr_fill.proofs.RoundTrip.{IsRewritten}
-use Rattle.bufr_fill.proofs.DraftLaws.{draft_again}
-use Rattle.bufr_fill.proofs.FieldBits.{kind_back, kind_length, kind_fits, signed_back, signed_below}
+
+-- Lists in the lemmas on a round trip: each item's specification, the number of its contents, and
+-- its cells.
+
+-- each item's specification is one
+abbrev pub AllSpecs : {C : Type 0} → List (Item C) → Type 0
+AllSpecs [] = Unit {0}
+AllSpecs (i ∷ items) = IsSpec i.spec × AllSpecs items
+
+abbrev pub EachSpecs : List (List (Item Content)) → Type 0
+EachSpecs [] = Unit {0}
+EachSpecs (items ∷ subsets) = AllSpecs items × EachSpecs subsets
+
+-- each item has so many contents
+abbrev pub HaveContents : ℕ → List (Item (List Content)) → Type 0
+HaveContents n [] = Unit {0}
+HaveContents n (i ∷ items) = (length i.content ≡ n) × HaveContents n items
+
+-- each cell has the draft that a dump writes for its content
+abbrev pub IsCellOf : FieldSpec → Content → Option Draft → Type 0
+IsCellOf spec c None = ⊥
+IsCellOf spec c (Some d) = (d.fxy ≡ spec.fxy) × (d.form ≡ draft_value_of spec c)
+
+abbrev pub AreCellsOf : FieldSpec → List Content → List RowCell → Type 0
+AreCellsOf spec [] [] = Unit {0}
+AreCellsOf spec [] (cell ∷ cells) = ⊥
+AreCellsOf spec (c ∷ cs) [] = ⊥
+AreCellsOf spec (c ∷ cs) (cell ∷ cells) = IsCellOf spec c cell.draft × AreCellsOf spec cs cells
+
+-- so many subsets' drafts of one item, at an index that is not past the most values
+pub record IsDumpedAcross (n : ℕ) (i : Item (List Content)) (a : ItemRow) : Type 0 where
+  pub cells : AreCellsOf i.spec i.content a.cells
+  pub total : length a.cells ≡ n
+  pub few : (a.place + 1) * n ≤ max_values
+
+-- ---- Data that were read are written so that they read the same, in no more bits.
+
+-- one item that was read is written so that it is read again, in no more bits
+pub record IsRewritten {C D E : Type 0} (form : DataCoding C) (filler : Filler D C E) (i : Item C) (d : D) (bits mid : List Bool) : Type 0 where
+  pub out : List Bool
+  pub fills : filler.fills i.spec d ≡ Ok (written_item i.content out)
+  pub again : (more : List Bool) → form.field i.spec (out ++ more) ≡ Ok (found i.content more)
+  pub short : length out + length mid ≤ length bits
+
+-- the same of all items
+pub record AreRewritten {C D E : Type 0} (form : DataCoding C) (filler : Filler D C E) (course : Course) (items : List (Item C)) (ds : List D) (bits suffix : List Bool) : Type 0 where
+  pub out : List Bool
+  pub fills : fill filler course ds ≡ Ok out
+  pub again : (more : List Bool) → ReadsItems form course items (out ++ more) more
+  pub short : length out + length suffix ≤ length bits
+
+module _ {C D E : Type 0} (form : DataCoding C) (filler : Filler D C E) (same_answer : (spec : FieldSpec) (c : C) → filler.gives spec c ≡ form.gives spec c) where
+  -- the bits of the first item, and those of the rest
+  pub join : (course : Course) (i : Item C) (d : D) (ds : List D) (w out : List Bool) → (course []).next ≡ take_next i.spec → filler.fills i.spec d ≡ Ok (written_item i.content w) → fill filler (after form course i) ds ≡ Ok out → fill filler course (d ∷ ds) ≡ Ok (w ++ out)
+  join course i d ds w out next fills rest =
+      ap (λ n. fill_one filler n d (λ t. fill filler (λ answers. course (t ∷ answers)) ds)) next
+      ∙ ap (λ r. filled filler i.spec r (λ t. fill filler (λ answers. course (t ∷ answers)) ds)) fills
+      ∙ ap (λ t. with_bits_before filler w (fill filler (λ answers. course (t ∷ answers)) ds)) (same_answer i.spec i.content)
+      ∙ ap (with_bits_before filler w) rest
+
+module _ {C D E : Type 0} (form : DataCoding C) (filler : Filler D C E) (of_item : Item C → D → Type 0)
+    (same_answer : (spec : FieldSpec) (c : C) → filler.gives spec c ≡ form.gives spec c)
+    (one : (i : Item C) (d : D) (bits mid : List Bool) → IsSpec i.spec → of_item i d → form.field i.spec bits ≡ Ok (found i.content mid) → IsRewritten form filler i d bits mid) where
+  fill_end : (n : Next) → n ≡ at_end → fill_none filler n ≡ Ok []
+  fill_end n e = ap (fill_none filler) e
+
+  pub rewritten : (course : Course) (items : List (Item C)) (ds : List D) (bits suffix : List Bool) → AllSpecs items → AreDrafts of_item items ds → ReadsPass form course items bits suffix → AreRewritten form filler course items ds bits suffix
+  rewritten course [] [] bits suffix specs drafts h = record {
+    out = [];
+    fills = fill_end (course []).next h.1;
+    again = λ more. refl;
+    short = omega (arith, ap length h.0);
+  }
+  rewritten course [] (d ∷ ds) bits suffix specs drafts h = absurd drafts
+  rewritten course (i ∷ items) [] bits suffix specs drafts h = absurd drafts
+  rewritten course (i ∷ items) (d ∷ ds) bits suffix specs drafts h =
+      let mid = h.0.0 in
+      let here = one i d bits mid specs.0 drafts.0 h.0.2 in
+      let rest = rewritten (after form course i) items ds mid suffix specs.1 drafts.1 (h.0.3, h.1) in
+      record {
+        out = here.out ++ rest.out;
+        fills = join form filler same_answer course i d ds here.out rest.out h.0.1 here.fills rest.fills;
+        again = λ more. (rest.out ++ more, h.0.1, subst (λ bits'. form.field i.spec bits' ≡ Ok (found i.content (rest.out ++ more))) (sym (append_assoc here.out rest.out more)) (here.again (rest.out ++ more)), rest.again more);
+        short = omega (arith, here.short, rest.short, length-append here.out rest.out);
+      }
+
+-- ---- The item that a dump writes for a content has that content.
+
+below_test : (a b : ℕ) → a < b → nat_lt a b ≡ true
+below_test a b h = grind (arith, nat_tests)
+
+past_test : (a b : ℕ) → b ≤ a → nat_lt a b ≡ false
+past_test a b h = grind (arith, nat_tests)
+
+equal_test : (a : ℕ) → (a == a) ≡ true
+equal_test a = grind (arith, nat_tests)
+
+sum_within : (raw : ℕ) (z : ℤ) → raw < 2 ^ 63 → unsigned_abs z ≤ 2 ^ 125 → mag (pos raw +ℤ z) < 2 ^ 127
+sum_within raw (pos r) h g = omega arith
+sum_within raw (negsuc r) h g = by_order (ltb raw (suc r)) raw r h g
+  where
+    by_order : (b : Bool) (raw r : ℕ) → raw < 2 ^ 63 → suc r ≤ 2 ^ 125 → mag (if b then negsuc (suc r - suc raw) else pos (raw - suc r)) < 2 ^ 127
+    by_order true raw r h g = omega arith
+    by_order false raw r h g = omega arith
+
+minus_back : (raw : ℕ) (z : ℤ) → (pos raw +ℤ z) -ℤ z ≡ pos raw
+minus_back raw z = omega (arith, ints)
+
+top_most : (m : Bool) (w raw : ℕ) → w ≤ 63 → raw < raw_limit m w → raw < 2 ^ 63
+top_most true w raw h g = let p : 2 ^ w ≤ 2 ^ 63 = pow_mono h in omega arith
+top_most false w raw h g = let p : 2 ^ w ≤ 2 ^ 63 = pow_mono h in omega arith
+
+module _ (spec : FieldSpec) (good : IsSpec spec) where
+  -- a number
+  raw_again : (raw : ℕ) → spec.width ≤ 63 → raw < raw_limit spec.may_be_missing spec.width → raw_of spec (decimal_value_of (decimal_text_of (pos raw +ℤ spec.reference) spec.scale) spec.scale) ≡ Ok (number raw)
+  raw_again raw narrow h =
+      ap (raw_of spec) (reads_back (pos raw +ℤ spec.reference) spec.scale (sum_within raw spec.reference (top_most spec.may_be_missing spec.width raw narrow h) good.reference))
+      ∙ ap (raw_within spec.may_be_missing spec.width) (minus_back raw spec.reference)
+      ∙ ap (λ b. if b then Ok (number raw) else Err out_of_range) (below_test raw (raw_limit spec.may_be_missing spec.width) h)
+
+  -- a text
+  text_again : (count : ℕ) (octets : List ℕ) → FitsText count (text octets) → text_within count octets ≡ Ok (text octets)
+  text_again count octets h =
+      let none : count - length octets ≡ 0 = omega (arith, h.0) in
+      let whole : octets ++ replicate (count - length octets) 32 ≡ octets = ap (λ n. octets ++ replicate n 32) none ∙ append-nil octets in
+      ap (λ b. if b then Err text_long else (if list_all (λ octet. octet == 255) (octets ++ replicate (count - length octets) 32) then Err out_of_range else Ok (text (octets ++ replicate (count - length octets) 32)))) (past_test count (length octets) (omega (arith, h.0)))
+      ∙ ap (λ os. if list_all (λ octet. octet == 255) os then Err out_of_range else Ok (text os)) whole
+      ∙ ap (λ b. if b then Err out_of_range else Ok (text octets)) h.2
+
+  as_number : (raw : ℕ) → is_character spec.kind ≡ false → content_by_form (draft_value_of spec (number raw)) spec ≡ raw_of spec (decimal_value_of (decimal_text_of (pos raw +ℤ spec.reference) spec.scale) spec.scale)
+  as_number raw e = ap (λ b. if b then Err wrong_number else raw_of spec (decimal_value_of (decimal_text_of (pos raw +ℤ spec.reference) spec.scale) spec.scale)) e
+
+  missing_again : (m : Bool) → m ≡ true → missing_of m ≡ Ok missing
+  missing_again m e = ap missing_of e
+
+  kind_again : (k : Kind) (c : Content) → HasWidth k spec.width → HasMissing k spec.may_be_missing → FitsKind k spec.may_be_missing spec.width c → k ≡ spec.kind → content_by_form (draft_value_of spec c) spec ≡ Ok c
+  kind_again kind.Character (number raw) hw hm h q = absurd h
+  kind_again kind.Character (text octets) hw hm h q = ap (λ k. if is_character k then text_within (spec.width / 8) octets else Err wrong_number) (sym q) ∙ text_again (spec.width / 8) octets h
+  kind_again kind.Character missing hw hm h q = missing_again spec.may_be_missing hm
+  kind_again kind.Character (reference v) hw hm h q = absurd h
+  kind_again kind.Coded (number raw) hw hm h q = as_number raw (ap is_character (sym q)) ∙ raw_again raw hw.1 h
+  kind_again kind.Coded (text octets) hw hm h q = absurd h
+  kind_again kind.Coded missing hw hm h q = missing_again spec.may_be_missing h
+  kind_again kind.Coded (reference v) hw hm h q = absurd h
+  kind_again kind.Numeric (number raw) hw hm h q = as_number raw (ap is_character (sym q)) ∙ raw_again raw hw.1 h
+  kind_again kind.Numeric (text octets) hw hm h q = absurd h
+  kind_again kind.Numeric missing hw hm h q = missing_again spec.may_be_missing h
+  kind_again kind.Numeric (reference v) hw hm h q = absurd h
+
+  reference_again : (v : ℤ) → 1 ≤ spec.width → spec.width ≤ 63 → nat_abs v < 2 ^ (spec.width - 1) → reference_of spec (decimal_value_of (decimal_text_of v (pos 0)) (pos 0)) ≡ Ok (reference v)
+  reference_again v least most h =
+      let narrow : spec.width - 1 ≤ 62 = omega arith in
+      let p : 2 ^ (spec.width - 1) ≤ 2 ^ 62 = pow_mono narrow in
+      ap (reference_of spec) (reads_back v (pos 0) (abs_mag v (omega (arith, p, h))))
+      ∙ ap (λ b. if b then Ok (reference v) else Err out_of_range) (below_test (nat_abs v) (2 ^ (spec.width - 1)) h)
+    where
+      abs_mag : (v : ℤ) → nat_abs v < 2 ^ 62 → mag v < 2 ^ 127
+      abs_mag (pos n) h = omega arith
+      abs_mag (negsuc n) h = omega arith
+
+  numeric_width : (k : Kind) → HasWidth k spec.width → k ≡ kind.Numeric → (1 ≤ spec.width) × (spec.width ≤ 63)
+  numeric_width kind.Numeric h e = h
+  numeric_width kind.Coded h e = h
+  numeric_width kind.Character h e = absurd cc
+
+  role_again : (r : Role) (c : Content) → HasRole r spec.kind spec.may_be_missing → FitsRole r spec c → content_by_form (draft_value_of spec c) spec ≡ Ok c
+  role_again role.Element c hr h = kind_again spec.kind c good.width good.missing h refl
+  role_again role.Inserted c hr h = kind_again spec.kind c good.width good.missing h refl
+  role_again role.Factor c hr h = kind_again spec.kind c good.width good.missing h refl
+  role_again role.Reference (reference v) hr h = let n = numeric_width spec.kind good.width hr.0 in reference_again v n.0 n.1 h
+  role_again role.Reference (number raw) hr h = absurd h
+  role_again role.Reference (text octets) hr h = absurd h
+  role_again role.Reference missing hr h = absurd h
+
+  mark_kind : (r : Role) (k : Kind) (m : Bool) (w : ℕ) (c : Content) → FitsKind k m w c → is_marked (draft_value_of spec c) ≡ false
+  mark_kind r k m w (number raw) h = refl
+  mark_kind r k m w (text octets) h = refl
+  mark_kind r k m w missing h = refl
+  mark_kind r kind.Character m w (reference v) h = absurd h
+  mark_kind r kind.Coded m w (reference v) h = absurd h
+  mark_kind r kind.Numeric m w (reference v) h = absurd h
+
+  marked : (r : Role) (c : Content) → FitsRole r spec c → (if is_reference r then is_marked (draft_value_of spec c) else not (is_marked (draft_value_of spec c))) ≡ true
+  marked role.Element c h = ap not (mark_kind role.Element spec.kind spec.may_be_missing spec.width c h)
+  marked role.Inserted c h = ap not (mark_kind role.Inserted spec.kind spec.may_be_missing spec.width c h)
+  marked role.Factor c h = ap not (mark_kind role.Factor spec.kind spec.may_be_missing spec.width c h)
+  marked role.Reference (reference v) h = refl
+  marked role.Reference (number raw) h = absurd h
+  marked role.Reference (text octets) h = absurd h
+  marked role.Reference missing h = absurd h
+
+  -- on any line
+  pub draft_again : (line : ℕ) (c : Content) → Fits spec c → content_of spec (record { line = line; fxy = spec.fxy; form = draft_value_of spec c }) ≡ Ok c
+  draft_again line c h =
+      ap (λ b. if b && (if is_reference spec.role then is_marked (draft_value_of spec c) else not (is_marked (draft_value_of spec c))) then content_by_form (draft_value_of spec c) spec else Err (wrong_for spec)) (equal_test spec.fxy)
+      ∙ ap (λ b. if b then content_by_form (draft_value_of spec c) spec else Err (wrong_for spec)) (marked spec.role c h)
+      ∙ role_again spec.role c good.role h
 
 pub width_least : (k : Kind) (w : ℕ) → HasWidth k w → 1 ≤ w
 width_least kind.Character w h = omega (arith, h.0)
@@ -104,3 +310,127 @@ plain_rewritten end_line i d bits mid good dumped e =
       again = plain_again i.spec good i.content read.0;
       short = omega (arith, content_length i.spec good i.content read.0, read.1);
     }
+
+-- ---- Where no reference is minus zero, a plain field is written with the bits that were read.
+
+ones_are : (bits : List Bool) → are_all_ones bits ≡ true → replicate (length bits) true ≡ bits
+ones_are [] h = refl
+ones_are (b ∷ bits) h = ap (λ x. x ∷ replicate (length bits) true) (sym (and_first b (are_all_ones bits) h)) ∙ ap (λ xs. b ∷ xs) (ones_are bits (and_second b (are_all_ones bits) h))
+
+number_same : (w : ℕ) (bits : List Bool) → length bits ≡ w → bits_in (number_of bits) w ≡ bits
+number_same w bits e = ap (bits_in (number_of bits)) (sym e) ∙ bits_again bits
+
+kind_same : (b m : Bool) (k : Kind) (w : ℕ) (bits : List Bool) → length bits ≡ w → HasWidth k w → (are_all_ones bits && m) ≡ b → bits_for w (if b then missing else said_by k w bits) ≡ bits
+kind_same true m k w bits l h e = ap (λ n. replicate n true) (sym l) ∙ ones_are bits (and_first (are_all_ones bits) m e)
+kind_same false m kind.Character w bits l h e = octet_bits_again (w / 8) bits (omega (arith, l, h.2))
+kind_same false m kind.Coded w bits l h e = number_same w bits l
+kind_same false m kind.Numeric w bits l h e = number_same w bits l
+
+zeros_are : (bits : List Bool) → number_of bits ≡ 0 → bits ≡ replicate (length bits) false
+unfolding bits_in
+zeros_are bits e = sym (bits_again bits) ∙ ap (λ n. bits_in n (length bits)) e ∙ zero_bits (length bits)
+  where
+    zero_bits : (w : ℕ) → bits_in 0 w ≡ replicate w false
+    zero_bits zero = refl
+    zero_bits (suc w) = let q : 0 / 2 ^ w % 2 ≡ 0 = nothing w in ap (λ n. is_one n ∷ bits_in 0 w) q ∙ ap (λ bs. false ∷ bs) (zero_bits w)
+      where
+        is_one : ℕ → Bool
+        is_one n = n == 1
+
+        nothing : (w : ℕ) → 0 / 2 ^ w % 2 ≡ 0
+        nothing w = grind arith
+
+negative_same : (n : ℕ) (bits : List Bool) (w : ℕ) → number_of bits ≡ n → length bits ≡ w - 1 → (true ∷ bits ≡ true ∷ replicate (length bits) false → ⊥) → sign_bit (neg_ℤ (pos n)) ∷ bits_in (nat_abs (neg_ℤ (pos n))) (w - 1) ≡ true ∷ bits
+negative_same zero bits w e l h = absurd (h (ap (λ xs. true ∷ xs) (zeros_are bits e)))
+negative_same (suc n) bits w e l h = ap (λ k. true ∷ bits_in k (w - 1)) (sym e) ∙ ap (λ xs. true ∷ xs) (number_same (w - 1) bits l)
+
+signed_same : (bits : List Bool) (w : ℕ) → length bits ≡ w → 1 ≤ w → (bits ≡ true ∷ replicate (length bits - 1) false → ⊥) → sign_bit (signed_by bits) ∷ bits_in (nat_abs (signed_by bits)) (w - 1) ≡ bits
+signed_same [] w l h g = absurd (omega (arith, l))
+signed_same (false ∷ bits) w l h g = ap (λ xs. false ∷ xs) (number_same (w - 1) bits (omega (arith, l)))
+signed_same (true ∷ bits) w l h g =
+    let e : suc (length bits) - 1 ≡ length bits = omega arith in
+    negative_same (number_of bits) bits w refl (omega (arith, l)) (λ q. g (q ∙ ap (λ n. true ∷ replicate n false) (sym e)))
+
+least : (k : Kind) (w : ℕ) → HasWidth k w → 1 ≤ w
+least kind.Character w h = omega (arith, h.0)
+least kind.Coded w h = h.0
+least kind.Numeric w h = h.0
+
+role_same : (r : Role) (spec : FieldSpec) → IsSpec spec → (bits : List Bool) → length bits ≡ spec.width → (IsMinusZero r bits → ⊥) → bits_for spec.width (content_by r spec bits) ≡ bits
+role_same role.Element spec good bits l h = kind_same (are_all_ones bits && spec.may_be_missing) spec.may_be_missing spec.kind spec.width bits l good.width refl
+role_same role.Inserted spec good bits l h = kind_same (are_all_ones bits && spec.may_be_missing) spec.may_be_missing spec.kind spec.width bits l good.width refl
+role_same role.Factor spec good bits l h = kind_same (are_all_ones bits && spec.may_be_missing) spec.may_be_missing spec.kind spec.width bits l good.width refl
+role_same role.Reference spec good bits l h = signed_same bits spec.width l (least spec.kind spec.width good.width) h
+
+pub same_bits : (spec : FieldSpec) → IsSpec spec → (bits : List Bool) → length bits ≡ spec.width → (IsMinusZero spec.role bits → ⊥) → bits_for spec.width (content_in spec bits) ≡ bits
+same_bits spec good bits l h = role_same spec.role spec good bits l h
+
+-- ---- The one spelling of an item is the value of its content.
+
+same_ok : {A : Type 0} (a b : A) → ◌≡◌ {A = Result A DraftFaultKind} (Ok a) (Ok b) → a ≡ b
+same_ok a b e = cc
+
+sum_back : (v r z : ℤ) → v -ℤ r ≡ z → v ≡ z +ℤ r
+sum_back v r z e = omega (arith, ints, e)
+
+module _ (spec : FieldSpec) (c : Content) where
+  raw_normal : (v z : ℤ) → v -ℤ spec.reference ≡ z → raw_within spec.may_be_missing spec.width z ≡ Ok c → number_token (decimal_text_of v spec.scale) ≡ draft_value_of spec c
+  raw_normal v (pos raw) q e = by_test (nat_lt raw (raw_limit spec.may_be_missing spec.width)) e
+    where
+      by_test : (b : Bool) → (if b then Ok (number raw) else Err out_of_range) ≡ Ok c → number_token (decimal_text_of v spec.scale) ≡ draft_value_of spec c
+      by_test true p = ap (λ x. number_token (decimal_text_of x spec.scale)) (sum_back v spec.reference (pos raw) q) ∙ ap (draft_value_of spec) (same_ok (number raw) c p)
+      by_test false p = cc
+  raw_normal v (negsuc n) q e = cc
+
+  number_normal : (digits : List ℕ) (r : Result ℤ NumberFault) → raw_of spec r ≡ Ok c → number_token (decimal_again digits spec.scale r) ≡ draft_value_of spec c
+  number_normal digits (Ok v) e = raw_normal v (v -ℤ spec.reference) refl e
+  number_normal digits (Err why) e = cc
+
+  number_kind : (b : Bool) (digits : List ℕ) (r : Result ℤ NumberFault) → (if b then Err wrong_number else raw_of spec r) ≡ Ok c → number_token (decimal_again digits spec.scale r) ≡ draft_value_of spec c
+  number_kind true digits r e = cc
+  number_kind false digits r e = number_normal digits r e
+
+  reference_normal : (digits : List ℕ) (r : Result ℤ NumberFault) → reference_of spec r ≡ Ok c → reference_token (decimal_again digits (pos 0) r) ≡ draft_value_of spec c
+  reference_normal digits (Ok v) e = by_test (nat_lt (nat_abs v) (2 ^ (spec.width - 1))) e
+    where
+      by_test : (b : Bool) → (if b then Ok (reference v) else Err out_of_range) ≡ Ok c → reference_token (decimal_text_of v (pos 0)) ≡ draft_value_of spec c
+      by_test true p = ap (draft_value_of spec) (same_ok (reference v) c p)
+      by_test false p = cc
+  reference_normal digits (Err why) e = cc
+
+  text_normal : (a b k : Bool) (whole : List ℕ) → (if k then (if a then Err text_long else if b then Err out_of_range else Ok (text whole)) else Err wrong_number) ≡ Ok c → text_form whole ≡ draft_value_of spec c
+  text_normal a b false whole e = cc
+  text_normal true b true whole e = cc
+  text_normal false true true whole e = cc
+  text_normal false false true whole e = ap (draft_value_of spec) (same_ok (text whole) c e)
+
+  missing_normal : (b : Bool) → (if b then Ok missing else Err missing_forbidden) ≡ Ok c → missing_form ≡ draft_value_of spec c
+  missing_normal true e = ap (draft_value_of spec) (same_ok missing c e)
+  missing_normal false e = cc
+
+  form_normal : (f : DraftValue) → content_by_form f spec ≡ Ok c → normal_form spec f ≡ draft_value_of spec c
+  form_normal (number_token digits) e = number_kind (is_character spec.kind) digits (decimal_value_of digits spec.scale) e
+  form_normal (text_form octets) e =
+      let whole = octets ++ replicate (spec.width / 8 - length octets) 32 in
+      text_normal (nat_lt (spec.width / 8) (length octets)) (list_all (λ octet. octet == 255) whole) (is_character spec.kind) whole e
+  form_normal missing_form e = missing_normal spec.may_be_missing e
+  form_normal (reference_token digits) e = reference_normal digits (decimal_value_of digits (pos 0)) e
+
+  by_draft : (d : Draft) (b : Bool) → (if b then content_by_form d.form spec else Err (wrong_for spec)) ≡ Ok c → normal_form spec d.form ≡ draft_value_of spec c
+  by_draft d true e = form_normal d.form e
+  by_draft d false e = cc
+
+-- the normal form of a draft is the value that a dump writes for its content
+pub normal_dumped : (spec : FieldSpec) (d : Draft) (c : Content) → content_of spec d ≡ Ok c → normal_form spec d.form ≡ draft_value_of spec c
+normal_dumped spec d c e = by_draft spec c d (is_of spec d) e
+
+-- a draft with a content of a field has the field's descriptor
+pub said_fxy : (spec : FieldSpec) (d : Draft) (c : Content) → content_of spec d ≡ Ok c → d.fxy ≡ spec.fxy
+said_fxy spec d c e = by (is_of spec d) refl e
+  where
+    same : (a b : ℕ) → (a == b) ≡ true → a ≡ b
+    same a b h = grind (arith, nat_tests)
+
+    by : (b : Bool) → is_of spec d ≡ b → (if b then content_by_form d.form spec else Err (wrong_for spec)) ≡ Ok c → d.fxy ≡ spec.fxy
+    by true p q = same d.fxy spec.fxy (and_first (d.fxy == spec.fxy) (if is_reference spec.role then is_marked d.form else not (is_marked d.form)) p)
+    by false p q = absurd cc

@@ -2,8 +2,7 @@
 use Rattle.std.proofs.Common.{◌≡◌, ℕ, ℤ, pos, true, [], ◌∷◌, Err, refl, arith}
 use Rattle.std.specs.Prelude.{codes}
 use Rattle.std.specs.Fmt.{digits}
-use Rattle.bufr_bits.specs.DecimalText.{decimal_text_of, unsigned_text}
-use Rattle.bufr_bits.specs.DecimalValue.{decimal_value_of}
+use Rattle.bufr_bits.specs.Decimal.{decimal_text_of, unsigned_text, decimal_value_of}
 use Rattle.bufr_tables.specs.declared.table_b.Kind.{Kind}
 use Rattle.bufr_tables.specs.declared.table_b.Kind.TheVariants as kind
 use Rattle.bufr_walk.specs.declared.spec.Role.{Role}
@@ -11,13 +10,10 @@ use Rattle.bufr_walk.specs.declared.spec.Role.TheVariants as role
 use Rattle.bufr_walk.specs.FieldSpec.{FieldSpec}
 use Rattle.bufr_walk.specs.Content.{Content, number, text, missing, reference}
 use Rattle.bufr_walk.specs.Reading.{Item}
-use Rattle.bufr_fill.specs.Alike.{AllAlike}
-use Rattle.bufr_fill.specs.Draft.{draft, number_token, text_form, missing_form, reference_token}
-use Rattle.bufr_fill.specs.DraftContent.{content_of}
-use Rattle.bufr_fill.specs.Entries.{subset}
-use Rattle.bufr_fill.specs.Fault.{out_of_range, text_long}
-use Rattle.bufr_fill.specs.Normal.{normal_form}
-use Rattle.bufr_fill.specs.ReadBack.{HasOctets, AllHaveOctets, IsSaid, AreSaid, AreSaidFrom}
+use Rattle.bufr_fill.specs.RoundTrip.{AllAlike, HasOctets, AllHaveOctets, IsSaid, AreSaid, AreSaidFrom}
+use Rattle.bufr_fill.specs.Draft.{draft, number_token, text_form, missing_form, reference_token, subset}
+use Rattle.bufr_fill.specs.DraftContent.{content_of, normal_form}
+use Rattle.bufr_fill.specs.Faults.{out_of_range, text_long}
 
 -- fields: a number in 7 bits, one of two places in 16, a text of four octets, and a reference in 10
 -- bits

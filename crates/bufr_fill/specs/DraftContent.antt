@@ -1,19 +1,23 @@
--- An item of a dump text as the content of its field, and the item that a dump writes for a
--- content. (a choice of this project)
+-- An item as the content of its field, and the one spelling of a content as an item.
+-- (A choice of this project)
 -- Cited by public contracts.
-use Rattle.std.specs.Prelude.{ℕ, ◌-◌, ◌/◌, ◌^◌, ◌==◌, ◌&&◌, nat_lt, not, Bool, true, false, if◌then◌else◌, List, ◌++◌, length, replicate, ℤ, pos, negsuc, nat_abs, ◌+ℤ◌, ◌-ℤ◌, Result, Ok, Err}
+use Rattle.std.specs.Prelude.{ℕ, ◌-◌, ◌/◌, ◌^◌, ◌==◌, ◌&&◌, nat_lt, not, Bool, true, false, if◌then◌else◌, List, ◌++◌, length, replicate, ℤ, pos, negsuc, nat_abs, ◌+ℤ◌, ◌-ℤ◌, Result, Ok, Err, ◌≡◌, ◌≤◌, ◌<◌, unsigned_abs, Option, Some, option_map, ◌∷◌}
 use Rattle.std.specs.List.{list_all}
-use Rattle.bufr_bits.specs.DecimalText.{decimal_text_of}
-use Rattle.bufr_bits.specs.DecimalValue.{decimal_value_of}
+use Rattle.bufr_bits.specs.Decimal.{decimal_text_of, decimal_value_of}
 use Rattle.bufr_bits.specs.declared.decimal.NumberFault.{NumberFault}
 use Rattle.bufr_bits.specs.declared.decimal.NumberFault.TheVariants.{Syntax, Inexact, Large}
 use Rattle.bufr_tables.specs.TableB.{is_character}
 use Rattle.bufr_walk.specs.FieldSpec.{FieldSpec, is_reference}
 use Rattle.bufr_walk.specs.Content.{Content, number, text, missing, reference, bits_for, answer_of}
 use Rattle.bufr_fill.specs.Draft.{DraftValue, number_token, text_form, missing_form, reference_token, Draft}
-use Rattle.bufr_fill.specs.Fault.{DraftFaultKind, wrong_descriptor, wrong_number, out_of_range, text_long, missing_forbidden, item_too_many, walk_refused, no_count, FaultAt, at_line}
+use Rattle.bufr_fill.specs.Faults.{DraftFaultKind, wrong_descriptor, wrong_number, out_of_range, text_long, missing_forbidden, item_too_many, walk_refused, no_count, FaultAt, at_line, draft_fault}
 use Rattle.bufr_fill.specs.Packing.{raw_limit}
 use Rattle.bufr_fill.specs.Filling.{WrittenItem, written_item, Filler}
+use Rattle.bufr_fill.specs.declared.fault.DraftFault.{DraftFault}
+use Rattle.bufr_fill.specs.declared.field_value.FieldContent.{FieldContent}
+use Rattle.bufr_walk.specs.declared.spec.Role.{Role}
+use Rattle.bufr_fill.specs.declared.field_value.FieldContent.TheVariants as drawn
+use Rattle.bufr_walk.specs.declared.spec.Role.TheVariants as role
 
 -- whether a value has the mark of a redefined reference
 abbrev pub is_marked : DraftValue → Bool
@@ -115,3 +119,69 @@ plain_filler end_line = record {
   refused_at_end = λ why. at_line end_line (walk_refused why);
   lost = at_line end_line no_count;
 }
+
+-- ---- The content of a field from an item, as the code has it.
+
+-- the content that a call returned, or its fault; nothing where memory ran out
+abbrev pub returned : {A : Type 0} → (A → Content) → Result A DraftFault
+    → Option (Result Content FaultAt)
+returned content (Ok a) = Some (Ok (content a))
+returned content (Err e) = option_map Err (draft_fault e)
+
+-- a text followed by spaces, up to `count` octets
+abbrev pub spaced : (count : ℕ) → List ℕ → List ℕ
+spaced count octets = octets ++ replicate (count - length octets) 32
+
+-- the content of a field, whose text has `count` octets
+abbrev pub content_drawn : (count : ℕ) → FieldContent → Content
+content_drawn count (drawn.Number raw) = number raw
+content_drawn count (drawn.Text octets) = text (spaced count octets.now)
+content_drawn count drawn.Missing = missing
+content_drawn count (drawn.Reference value) = reference value
+
+-- a text that the field has room for, and that does not read as missing
+abbrev pub HasRoom : (count : ℕ) → List ℕ → Type 0
+HasRoom count octets =
+    (length octets ≤ count) × (list_all (λ octet. octet == 255) (spaced count octets) ≡ false)
+
+-- the contents that a field can have
+abbrev pub IsDrawn : FieldSpec → FieldContent → Type 0
+IsDrawn spec (drawn.Number raw) =
+    (is_character spec.kind ≡ false) × (is_reference spec.role ≡ false)
+    × (raw < raw_limit spec.may_be_missing spec.width)
+IsDrawn spec (drawn.Text octets) =
+    (is_character spec.kind ≡ true) × (is_reference spec.role ≡ false)
+    × HasRoom (spec.width / 8) octets.now
+IsDrawn spec drawn.Missing = (is_reference spec.role ≡ false) × (spec.may_be_missing ≡ true)
+IsDrawn spec (drawn.Reference value) =
+    (is_reference spec.role ≡ true) × (unsigned_abs value < 2 ^ (spec.width - 1))
+
+-- a content that is this text, for a field of `count` octets
+abbrev pub IsTextOf : (count : ℕ) → List ℕ → FieldContent → Type 0
+IsTextOf count octets (drawn.Text t) = (t.now ≡ octets) × HasRoom count octets
+IsTextOf count octets _ = ⊥
+
+-- A reference that is minus zero. (WMO-No. 306, Volume I.2, FM 94: Table C, 2 03 Y; that none is
+-- written is a choice of this project)
+
+-- minus zero: the sign bit alone
+abbrev pub IsMinusZero : Role → List Bool → Type 0
+IsMinusZero role.Reference bits = bits ≡ true ∷ replicate (length bits - 1) false
+IsMinusZero _ bits = ⊥
+
+-- ---- The one spelling that a dump has of an item. (a choice of this project)
+
+-- the text that a dump writes for a decimal at a scale; a text that is no decimal stays
+abbrev pub decimal_again : List ℕ → ℤ → Result ℤ NumberFault → List ℕ
+decimal_again digits scale (Ok value) = decimal_text_of value scale
+decimal_again digits scale (Err why) = digits
+
+-- a number by its value at the field's scale, and a text with spaces up to the field's octets
+abbrev pub normal_form : FieldSpec → DraftValue → DraftValue
+normal_form spec (number_token digits) =
+    number_token (decimal_again digits spec.scale (decimal_value_of digits spec.scale))
+normal_form spec (text_form octets) =
+    text_form (octets ++ replicate (spec.width / 8 - length octets) 32)
+normal_form spec missing_form = missing_form
+normal_form spec (reference_token digits) =
+    reference_token (decimal_again digits (pos 0) (decimal_value_of digits (pos 0)))

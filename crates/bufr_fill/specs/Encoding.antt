@@ -4,15 +4,13 @@
 use Rattle.std.specs.Prelude.{ℕ, zero, suc, ◌+◌, ◌*◌, nat_lt, max, Bool, if◌then◌else◌, List, [], ◌∷◌, ◌++◌, length, slice_get, Option, Some, None, Result, Ok, Err}
 use Rattle.bufr_walk.specs.FieldSpec.{FieldSpec}
 use Rattle.bufr_walk.specs.Course.{Course}
-use Rattle.bufr_walk.specs.Content.{Content}
+use Rattle.bufr_walk.specs.Content.{Content, FieldFault, unequal_factor}
 use Rattle.bufr_walk.specs.Reading.{max_values}
-use Rattle.bufr_walk.specs.PlainField.{FieldFault, unequal_factor}
 use Rattle.bufr_walk.specs.PackedField.{answer_first}
 use Rattle.bufr_fill.specs.Packing.{packing, same}
 use Rattle.bufr_fill.specs.Filling.{WrittenItem, written_item, Filler, fill}
-use Rattle.bufr_fill.specs.Draft.{Draft}
-use Rattle.bufr_fill.specs.Entries.{Subset}
-use Rattle.bufr_fill.specs.Fault.{DraftFaultKind, FaultAt, at_line, unequal_factors, uneven_increment, item_too_many, walk_refused, too_many_values, no_count}
+use Rattle.bufr_fill.specs.Draft.{Draft, Subset}
+use Rattle.bufr_fill.specs.Faults.{DraftFaultKind, FaultAt, at_line, unequal_factors, uneven_increment, item_too_many, walk_refused, too_many_values, no_count}
 use Rattle.bufr_fill.specs.DraftContent.{content_of, wrong_for, plain_filler}
 
 -- the result of the second of two steps, or the first fault

@@ -3,11 +3,10 @@
 -- Cited by private steps only.
 use Rattle.std.specs.Prelude.{ℕ, ◌≤◌, Bool, true, false, List, map, slice_range}
 use Rattle.std.specs.List.{AllByRecursion}
-use Rattle.bufr_bits.specs.ShortDecimal.{short_text}
-use Rattle.bufr_fill.specs.Draft.{DraftValue, draft, number_token, text_form, missing_form, reference_token}
+use Rattle.bufr_bits.specs.Decimal.{short_text}
+use Rattle.bufr_fill.specs.Draft.{DraftValue, draft, number_token, text_form, missing_form, reference_token, DraftEntry, Holds, Ends}
 use Rattle.bufr_walk.specs.FieldSpec.{FieldSpec}
 use Rattle.bufr_fill.specs.DraftContent.{is_of}
-use Rattle.bufr_fill.specs.Entries.{DraftEntry, Holds, Ends}
 use Rattle.bufr_fill.specs.declared.draft.EntryKind.{EntryKind}
 use Rattle.bufr_fill.specs.declared.draft.EntryKind.TheVariants as kind
 use Rattle.bufr_fill.specs.declared.draft.StoredEntry.{StoredEntry}

@@ -1,20 +1,25 @@
--- The writer of compressed data, from the items of a dump text. (a choice of this project)
+-- The writer of compressed data: the rows of all subsets, and the k that it finds.
+-- (A choice of this project)
 -- Cited by public contracts.
-use Rattle.std.specs.Prelude.{ℕ, ◌≡◌, ◌≤◌, ◌<◌, ◌+◌, ◌-◌, ◌*◌, ◌^◌, Bool, List, [], ◌∷◌, ◌++◌, length, Option, Some, None, Result, Ok, Err}
+use Rattle.std.specs.Prelude.{ℕ, ◌≡◌, ◌≤◌, ◌<◌, ◌+◌, ◌-◌, ◌*◌, ◌^◌, Bool, List, [], ◌∷◌, ◌++◌, length, Option, Some, None, Result, Ok, Err, zero, suc, ◌==◌, ◌&&◌, nat_lt, max, min, if◌then◌else◌, take, drop, slice_get}
 use Rattle.bufr_walk.specs.declared.spec.Taken.{Taken}
 use Rattle.bufr_fill.specs.declared.fault.DraftFault.{DraftFault}
 use Rattle.bufr_walk.specs.FieldSpec.{FieldSpec}
-use Rattle.bufr_walk.specs.Content.{Content}
+use Rattle.bufr_walk.specs.Content.{Content, FieldFault}
 use Rattle.bufr_walk.specs.Course.{Next, take_next, at_end, astray, refused}
 use Rattle.bufr_walk.specs.PackedField.{answer_first}
 use Rattle.bufr_walk.specs.Reading.{max_values}
-use Rattle.bufr_fill.specs.Draft.{Draft}
-use Rattle.bufr_fill.specs.Entries.{DraftEntry, Holds, Ends, Subset}
-use Rattle.bufr_fill.specs.Fault.{FaultAt, at_line, item_too_many, walk_refused}
+use Rattle.bufr_fill.specs.Draft.{Draft, DraftEntry, Holds, Ends, Subset, subsets_of}
+use Rattle.bufr_fill.specs.Faults.{FaultAt, at_line, item_too_many, walk_refused, draft_fault}
 use Rattle.bufr_fill.specs.Filling.{written_item}
-use Rattle.bufr_fill.specs.Encoding.{RowCell, ItemRow, rows, longest, item_row, cells_at, first_line, pack_across}
+use Rattle.bufr_fill.specs.Encoding.{RowCell, ItemRow, rows, longest, item_row, cells_at, first_line, pack_across, content_here, contents_here, first_unlike}
 use Rattle.bufr_fill.specs.PlainOut.{IfDraftFault}
-use Rattle.bufr_fill.specs.DraftFaults.{draft_fault}
+use Rattle.std.specs.List.{list_all}
+use Rattle.bufr_fill.specs.declared.field_value.FieldContent.{FieldContent}
+use Rattle.bufr_fill.specs.Packing.{raw_limit, first_from}
+use Rattle.bufr_fill.specs.declared.packed_out.NumberRange.{NumberRange}
+use Rattle.bufr_fill.specs.DraftContent.{content_drawn, IsDrawn}
+use Rattle.bufr_fill.specs.declared.field_value.FieldContent.TheVariants as drawn
 
 -- the writer: the subsets, how many items of each were taken, and the bits that were written
 pub record PackedOutModel : Type 0 where
@@ -104,3 +109,176 @@ IsFaultHere (take_next spec) s f = IsFaultAcross spec s f
 IsFaultHere (refused why) s f = f ≡ at_line (first_line_at s.place s.subsets) (walk_refused why)
 IsFaultHere at_end s f = all_at_end (cells_at s.place s.subsets) ≡ Err f
 IsFaultHere astray s f = ⊥
+
+-- ---- How the code finds the least k of an item, and what it writes.
+
+-- an increment over a base
+abbrev pub over_of : (base : ℕ) → FieldContent → ℕ
+over_of base (drawn.Number n) = n - base
+over_of base _ = 0
+
+-- the greatest increment over a base
+abbrev pub spread : (base : ℕ) → List FieldContent → ℕ
+spread base [] = 0
+spread base (d ∷ ds) = max (over_of base d) (spread base ds)
+
+-- the number of a content, or another where it is none
+abbrev pub number_or : (other : ℕ) → FieldContent → ℕ
+number_or other (drawn.Number n) = n
+number_or other _ = other
+
+-- the least number, or the greatest of 64 bits
+abbrev pub least_number : List FieldContent → ℕ
+least_number [] = 18446744073709551615
+least_number (d ∷ ds) = min (number_or 18446744073709551615 d) (least_number ds)
+
+-- the least k from some k on, under 64, whose bits write an increment, else 64
+unfoldable pub least_from : (may_be_missing : Bool) (spread from : ℕ) → ℕ
+least_from m spread from = first_from (λ k. nat_lt spread (raw_limit m k)) (64 - from) from
+
+-- how many octets of a text come before the spaces at its end
+abbrev pub trimmed : List ℕ → ℕ
+trimmed [] = 0
+trimmed (o ∷ os) = if (trimmed os == 0) && (o == 32) then 0 else suc (trimmed os)
+
+-- how many octets determine a text: those before the spaces at its end, and one more where these
+-- read as missing
+abbrev pub need : List ℕ → ℕ
+need os =
+    if list_all (λ octet. octet == 255) (take (trimmed os) os) then suc (trimmed os) else trimmed os
+
+-- how many octets determine a content
+abbrev pub need_of : FieldContent → ℕ
+need_of (drawn.Text octets) = need octets.now
+need_of _ = 1
+
+-- how many octets determine each of the contents
+abbrev pub most_need : List FieldContent → ℕ
+most_need [] = 1
+most_need (d ∷ ds) = max (need_of d) (most_need ds)
+
+-- the octet at an index of a text that spaces follow
+abbrev pub octet_in : List ℕ → ℕ → ℕ
+octet_in [] i = 32
+octet_in (o ∷ os) zero = o
+octet_in (o ∷ os) (suc i) = octet_in os i
+
+-- an item was packed in at most `most` bits, or memory ran out
+abbrev pub PacksItem : (old new : List Bool) → (expected : Result (List Bool) FieldFault)
+    → (most : ℕ) → {E : Type 0} → Result (Unit {0}) E → Type 0
+PacksItem old new expected most (Ok _) =
+    (bits : List Bool) × (expected ≡ Ok bits) × (new ≡ old ++ bits) × (length bits ≤ most)
+    × (length old < length new)
+PacksItem old new expected most (Err _) = new ≡ old
+
+-- a content's increment over a base fits k bits
+abbrev pub FitsIncrement : (base k : ℕ) → FieldContent → Type 0
+FitsIncrement base k (drawn.Number raw) = raw - base < 2 ^ k
+FitsIncrement base k _ = Unit {0}
+
+-- the same of all contents
+abbrev pub AreShort : (base k : ℕ) → List FieldContent → Type 0
+AreShort base k [] = Unit {0}
+AreShort base k (d ∷ ds) = FitsIncrement base k d × AreShort base k ds
+
+-- the item of all subsets in a row was written, in at most `most` bits
+pub record IsPutWithin (old new : List Bool) (spec : FieldSpec) (a : ItemRow) (most : ℕ)
+    (t : Taken) : Type 0 where
+  pub put : IsPutAcross old new spec a t
+  pub few : length put.item ≤ most
+
+-- such an item was written, or it is at fault, or memory ran out; a fault changes nothing
+abbrev pub PutAcross : (old new : List Bool) → FieldSpec → ItemRow → (most : ℕ)
+    → Result Taken DraftFault → Type 0
+PutAcross old new spec a most (Ok t) = IsPutWithin old new spec a most t
+PutAcross old new spec a most (Err e) =
+    IfDraftFault (draft_fault e) (λ f. pack_across spec a ≡ Err f) × (new ≡ old)
+
+-- ---- The rows of all subsets, as the code reads them.
+
+-- the index where a subset's entries begin, by the indices of the ends
+abbrev pub begin_of : (from : ℕ) → List ℕ → (subset : ℕ) → ℕ
+begin_of from ends zero = from
+begin_of from [] (suc subset) = from
+begin_of from (e ∷ ends) (suc subset) = begin_of (suc e) ends subset
+
+-- a subset's entry in a row: its item, or its end
+abbrev pub entry_or_end : Option Draft → (end_line : ℕ) → DraftEntry
+entry_or_end (Some d) end_line = Holds d
+entry_or_end None end_line = Ends end_line
+
+-- the entry of a cell
+abbrev pub cell_entry : RowCell → DraftEntry
+cell_entry c = entry_or_end c.draft c.end_line
+
+-- the content of an entry, or its fault
+abbrev pub entry_here : FieldSpec → DraftEntry → Result Content FaultAt
+entry_here spec (Holds d) = content_here spec (Some d) d.line
+entry_here spec (Ends line) = content_here spec None line
+
+-- the line of an entry
+abbrev pub entry_line : DraftEntry → ℕ
+entry_line (Holds d) = d.line
+entry_line (Ends line) = line
+
+-- an entry is that of a subset in a row
+abbrev pub IsAt : (place subset : ℕ) → List DraftEntry → DraftEntry → Type 0
+IsAt place subset entries e =
+    (c : RowCell) → slice_get (cells_at place (subsets_of entries)) subset ≡ Some c → e
+    ≡ cell_entry c
+
+-- the line of that entry
+pub record LineAt (place subset : ℕ) (entries : List DraftEntry) (line : ℕ) : Type 0 where
+  pub e : DraftEntry
+  pub there : IsAt place subset entries e
+  pub so : line ≡ entry_line e
+
+-- each content is one that the field can have
+abbrev pub AllDrawn : FieldSpec → List FieldContent → Type 0
+AllDrawn spec [] = Unit {0}
+AllDrawn spec (d ∷ ds) = IsDrawn spec d × AllDrawn spec ds
+
+-- the contents, whose texts have `count` octets
+abbrev pub contents_drawn : (count : ℕ) → List FieldContent → List Content
+contents_drawn count [] = []
+contents_drawn count (d ∷ ds) = content_drawn count d ∷ contents_drawn count ds
+
+-- contents before others, or the fault of these
+abbrev pub with_contents_before : List Content → Result (List Content) FaultAt
+    → Result (List Content) FaultAt
+with_contents_before cs (Ok more) = Ok (cs ++ more)
+with_contents_before cs (Err f) = Err f
+
+-- the first `number` cells were converted
+pub record IsGathering (count : ℕ) (spec : FieldSpec) (cells : List RowCell) (number : ℕ)
+    (drawn : List FieldContent) : Type 0 where
+  pub so : contents_here spec cells
+      ≡ with_contents_before (contents_drawn count drawn) (contents_here spec (drop number cells))
+  pub all : AllDrawn spec drawn
+  pub many : length drawn ≡ number
+
+-- the least number among contents, or the greatest of 64 bits, and the greatest, or 0
+pub record IsRangeOf (range : NumberRange) (drawn : List FieldContent) : Type 0 where
+  pub least : range.least ≡ least_number drawn
+  pub greatest : range.greatest ≡ spread 0 drawn
+
+-- the least k whose bits write the increments of numbers over a base
+pub record IsIncrementWidth (spec : FieldSpec) (base : ℕ) (drawn : List FieldContent)
+    (k : ℕ) : Type 0 where
+  pub value : k ≡ least_from spec.may_be_missing (spread base drawn) 1
+  pub narrow : k ≤ 63
+  pub short : AreShort base k drawn
+
+-- all cells were converted, and the range of their numbers returned, or the first fault
+abbrev pub ReturnsRow : (count : ℕ) → FieldSpec → List RowCell → List FieldContent
+    → Result NumberRange DraftFault → Type 0
+ReturnsRow count spec cells drawn (Ok range) =
+    (contents_here spec cells ≡ Ok (contents_drawn count drawn)) × AllDrawn spec drawn
+    × (length drawn ≡ length cells) × IsRangeOf range drawn
+ReturnsRow count spec cells drawn (Err e) =
+    IfDraftFault (draft_fault e) (λ f. contents_here spec cells ≡ Err f)
+
+-- the line of the first cell that is left and whose content is not the first of all
+abbrev pub unlike_from : (all left : List Content) → List RowCell → ℕ
+unlike_from [] left cells = 0
+unlike_from (c ∷ cs) left cells = first_unlike c left cells

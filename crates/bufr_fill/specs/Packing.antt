@@ -1,19 +1,17 @@
--- The packing of the contents of one item for all subsets: the least number as the base (zero bits
--- for texts), and the least k.
--- (WMO-No. 306, Volume I.2, FM 94: section 4, compression; that both are the least is a choice of
--- this project)
+-- How the contents of one item are packed, with the least base and the least k.
+-- (WMO-No. 306, Volume I.2, FM 94: section 4, compression. That both are the least is a choice of
+-- this project.)
 -- Cited by public contracts.
-use Rattle.std.specs.Prelude.{ℕ, zero, suc, ◌+◌, ◌-◌, ◌*◌, ◌^◌, ◌==◌, ◌&&◌, nat_lt, nat_le, min, not, Bool, true, false, if◌then◌else◌, List, [], ◌∷◌, ◌++◌, take, replicate, length, Option, Some, None, unwrap_or, nat_abs, Result, Ok, Err}
+use Rattle.std.specs.Prelude.{ℕ, zero, suc, ◌+◌, ◌-◌, ◌*◌, ◌^◌, ◌==◌, ◌&&◌, nat_lt, nat_le, min, not, Bool, true, false, if◌then◌else◌, List, [], ◌∷◌, ◌++◌, take, replicate, length, Option, Some, None, unwrap_or, nat_abs, Result, Ok, Err, ◌≡◌, ◌≤◌, drop}
 use Rattle.std.specs.List.{list_all, flat_map}
-use Rattle.bufr_bits.specs.Bits.{bits_of, bits_in}
+use Rattle.bufr_bits.specs.Bits.{bits_of, bits_in, number_of}
 use Rattle.bufr_tables.specs.declared.table_b.Kind.{Kind}
-use Rattle.bufr_tables.specs.declared.table_b.Kind.TheVariants as kind
 use Rattle.bufr_walk.specs.declared.spec.Role.{Role}
-use Rattle.bufr_walk.specs.declared.spec.Role.TheVariants as role
 use Rattle.bufr_walk.specs.FieldSpec.{FieldSpec}
-use Rattle.bufr_walk.specs.Content.{Content, number, text, missing, reference, bits_for, sign_bit}
-use Rattle.bufr_walk.specs.PlainField.{FieldFault, increment, unequal_factor}
-use Rattle.bufr_walk.specs.PackedField.{ones}
+use Rattle.bufr_walk.specs.Content.{Content, number, text, missing, reference, bits_for, sign_bit, FieldFault, increment, unequal_factor, found}
+use Rattle.bufr_walk.specs.PackedField.{ones, packed_field}
+use Rattle.bufr_tables.specs.declared.table_b.Kind.TheVariants as kind
+use Rattle.bufr_walk.specs.declared.spec.Role.TheVariants as role
 
 -- the limit of the numbers that `width` bits write, without all ones where that is missing
 -- rule: packs-class-31
@@ -133,3 +131,21 @@ packing spec [] = Ok []
 packing spec (c ∷ cs) =
     if are_same c cs then Ok (packed_bits (bits_for spec.width c) 0 [])
     else packed_unlike spec.role spec (c ∷ cs)
+
+-- The k of a packed item. (WMO-No. 306, Volume I.2, FM 94: section 4, compression; that it is the
+-- least is a choice of this project)
+
+-- the k of an item: the number of the six bits after its base
+abbrev pub k_of : FieldSpec → List Bool → ℕ
+k_of spec bits = number_of (take 6 (drop spec.width bits))
+
+-- the contents of an item for n subsets are packed in bits that they are read from again; any other
+-- bits that they are read from have no lesser k, and are no fewer
+pub record HasLeastK (n : ℕ) (spec : FieldSpec) (contents : List Content) : Type 0 where
+  pub out : List Bool
+  pub is : packing spec contents ≡ Ok out
+  pub again : (more : List Bool) → packed_field n spec (out ++ more) ≡ Ok (found contents more)
+  pub least : (bits suffix : List Bool) → packed_field n spec bits ≡ Ok (found contents suffix)
+      → k_of spec out ≤ k_of spec bits
+  pub short : (bits suffix : List Bool) → packed_field n spec bits ≡ Ok (found contents suffix)
+      → length out + length suffix ≤ length bits

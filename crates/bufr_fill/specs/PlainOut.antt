@@ -7,11 +7,9 @@ use Rattle.bufr_fill.specs.declared.fault.DraftFault.{DraftFault}
 use Rattle.bufr_walk.specs.FieldSpec.{FieldSpec}
 use Rattle.bufr_walk.specs.Content.{Content, answer_of, bits_for}
 use Rattle.bufr_walk.specs.Course.{Next, take_next, at_end, astray, refused}
-use Rattle.bufr_fill.specs.Draft.{Draft}
-use Rattle.bufr_fill.specs.Entries.{DraftEntry, Holds, Ends}
-use Rattle.bufr_fill.specs.Fault.{DraftFaultKind, FaultAt, at_line, item_too_many, walk_refused}
+use Rattle.bufr_fill.specs.Draft.{Draft, DraftEntry, Holds, Ends}
+use Rattle.bufr_fill.specs.Faults.{DraftFaultKind, FaultAt, at_line, item_too_many, walk_refused, draft_fault}
 use Rattle.bufr_fill.specs.DraftContent.{content_of, wrong_for}
-use Rattle.bufr_fill.specs.DraftFaults.{draft_fault}
 
 -- the writer: the entries that are left, and the bits that were written
 pub record PlainOutModel : Type 0 where

@@ -1,7 +1,6 @@
 //! The items of a dump text, and the entries of a document, which are kept in one block.
 ghost use Rattle.std.specs.Prelude.{◌≡◌, ◌≤◌, ℕ, List, length, option_map, slice_get};
-ghost use Rattle.bufr_fill.specs.Draft.{draft};
-ghost use Rattle.bufr_fill.specs.Entries.{DraftEntry, Holds};
+ghost use Rattle.bufr_fill.specs.Draft.{draft, DraftEntry, Holds};
 ghost use Rattle.bufr_fill.specs.Given.{form_in};
 ghost use Rattle.bufr_fill.specs.Kept.{entry_by, entry_stored, entry_with, IsEntryInside, IsPlaced};
 
@@ -127,7 +126,7 @@ pub struct Entries {
 
 impl Model for Entries {
     ghost use Rattle.std.specs.Prelude.{List, length};
-    ghost use Rattle.bufr_fill.specs.Entries.{DraftEntry};
+    ghost use Rattle.bufr_fill.specs.Draft.{DraftEntry};
     ghost use Rattle.bufr_fill.specs.Kept.{entries_stored, AreInside};
 
     ghost Value = { List DraftEntry };
@@ -139,9 +138,8 @@ impl Model for Entries {
 
 impl Entries {
     ghost use Rattle.std.specs.Prelude.{◌≡◌, ◌<◌, [], ◌∷◌, ◌++◌, length, option_map, slice_get, Some, OnOk, OnErr};
-    ghost use Rattle.bufr_fill.specs.Draft.{draft, number_token};
-    ghost use Rattle.bufr_bits.specs.ShortDecimal.{short_text};
-    ghost use Rattle.bufr_fill.specs.Entries.{Holds, Ends};
+    ghost use Rattle.bufr_fill.specs.Draft.{draft, number_token, Holds, Ends};
+    ghost use Rattle.bufr_bits.specs.Decimal.{short_text};
     ghost use Rattle.bufr_fill.specs.Kept.{entry_with, is_end};
     ghost use Rattle.bufr_fill.specs.Given.{draft_in};
 

@@ -1,18 +1,16 @@
 //! Converts an item of a dump text to the content of its field, and writes that as its bits.
 ghost use Rattle.std.specs.Prelude.{◌≡◌, ℕ, List, ◌≤◌, ◌<◌, ◌-ℤ◌, ◌-◌, ◌/◌, ◌^◌, ◌==◌, ◌++◌, false, pos, length, replicate, unsigned_abs, Some, IfOk, ◌+◌, ◌*◌, ◌∷◌, true, OnOk, OnErr};
 ghost use Rattle.std.specs.List.{list_all};
-ghost use Rattle.bufr_bits.specs.DecimalValue.{decimal_value_of};
+ghost use Rattle.bufr_bits.specs.Decimal.{decimal_value_of};
 ghost use Rattle.bufr_tables.specs.TableB.{is_character};
 ghost use Rattle.bufr_walk.specs.FieldSpec.{is_reference, IsFor};
 ghost use Rattle.bufr_walk.specs.Content.{number, reference, sign_bit, bits_for, answer_of, count_in, reference_in};
-ghost use Rattle.bufr_fill.specs.DraftContent.{raw_within, raw_of, reference_of, text_within, is_marked, wrong_for, content_by_form};
-ghost use Rattle.bufr_fill.specs.FieldContent.{returned, content_drawn, IsDrawn, IsTextOf, spaced};
+ghost use Rattle.bufr_fill.specs.DraftContent.{raw_within, raw_of, reference_of, text_within, is_marked, wrong_for, content_by_form, returned, content_drawn, IsDrawn, IsTextOf, spaced};
 ghost use Rattle.bufr_fill.specs.Packing.{raw_limit};
 ghost use Rattle.bufr_fill.specs.Kept.{entry_with, is_end, is_entry_of, value_by};
-ghost use Rattle.bufr_fill.specs.PackedRows.{entry_here};
-ghost use Rattle.bufr_fill.specs.DraftFaults.{draft_fault};
+ghost use Rattle.bufr_fill.specs.PackedOut.{entry_here};
+ghost use Rattle.bufr_fill.specs.Faults.{draft_fault, at_line};
 ghost use Rattle.bufr_fill.specs.Encoding.{at_line_if_fault};
-ghost use Rattle.bufr_fill.specs.Fault.{at_line};
 ghost use Rattle.bufr_bits.specs.Bits.{bits_of, bits_in};
 
 use crate::draft::{EntryKind, StoredEntry};
@@ -113,7 +111,7 @@ pub(crate) fn is_all_255(octets: &[u8]) -> bool
 }
 
 /// Whether a text, followed by spaces, would read as missing.
-#[tactic(auto, using(crate::proofs::PutLemmas::all_of_spaced))]
+#[tactic(auto, using(crate::proofs::FieldLemmas::all_of_spaced))]
 fn reads_as_missing(octets: &[u8], count: usize) -> bool
     requires { length octets.now ≤ count }
     ensures { result ≡ list_all (λ octet. octet == 255)
@@ -227,7 +225,7 @@ pub(crate) fn wrong_item(spec: &Spec, line: u64) -> DraftFault
 
 /// Converts an entry to the content of its field.
 #[inline(always)]
-#[tactic(auto, using(crate::proofs::DrawLemmas::no_end))]
+#[tactic(auto, using(crate::proofs::FieldLemmas::no_end))]
 // rule: fault-order-of-an-item
 pub(crate) fn field_content<'a>(
     entry: &StoredEntry,
@@ -245,7 +243,7 @@ pub(crate) fn field_content<'a>(
 }
 
 /// Octets, followed by spaces.
-#[tactic(auto, using(crate::proofs::PutLemmas::spaced_whole))]
+#[tactic(auto, using(crate::proofs::FieldLemmas::spaced_whole))]
 pub(crate) fn with_spaces(octets: &[u8]) -> [u8; 255]
     requires { length octets.now ≤ 255 }
     ensures { result ≡ octets.now ++ replicate (255 - length octets.now) 32 }
@@ -256,7 +254,7 @@ pub(crate) fn with_spaces(octets: &[u8]) -> [u8; 255]
 }
 
 /// Writes a text, followed by spaces up to `count` octets.
-#[tactic(auto, using(crate::proofs::PutLemmas::spaced_prefix))]
+#[tactic(auto, using(crate::proofs::FieldLemmas::spaced_prefix))]
 fn put_text(out: &mut BitWriter, octets: &[u8], count: usize)
     requires within { length octets.now ≤ count }
     requires most { count ≤ 255 }
@@ -270,7 +268,7 @@ fn put_text(out: &mut BitWriter, octets: &[u8], count: usize)
 }
 
 /// The bits of a sign and a magnitude, as a number.
-#[tactic(auto, using(crate::proofs::PutLemmas::negative_bits, crate::proofs::PutLemmas::positive_bits))]
+#[tactic(auto, using(crate::proofs::FieldLemmas::negative_bits, crate::proofs::FieldLemmas::positive_bits))]
 // rule: writes-plus-zero
 fn signed_bits(value: i64, width: u32) -> u64
     requires some { 1 ≤ width }
@@ -289,7 +287,7 @@ fn signed_bits(value: i64, width: u32) -> u64
 }
 
 /// Writes `count` octets of ones.
-#[tactic(auto, using(crate::proofs::PutLemmas::full_bits))]
+#[tactic(auto, using(crate::proofs::FieldLemmas::full_bits))]
 pub(crate) fn put_full(out: &mut BitWriter, count: usize)
     requires most { count ≤ 255 }
     requires room { 8 * count ≤ out.old.room }
@@ -302,7 +300,7 @@ pub(crate) fn put_full(out: &mut BitWriter, count: usize)
 }
 
 /// Writes a missing value.
-#[tactic(auto, using(crate::proofs::PutLemmas::eighths_ones, crate::proofs::DrawnLemmas::ones_bits))]
+#[tactic(auto, using(crate::proofs::FieldLemmas::eighths_ones, crate::proofs::FieldLemmas::ones_bits))]
 fn put_missing(out: &mut BitWriter, spec: &Spec)
     requires room { spec.now.width ≤ out.old.room }
     ensures bits { out.new.bits ≡ out.old.bits ++ replicate spec.now.width true }
@@ -319,7 +317,7 @@ fn put_missing(out: &mut BitWriter, spec: &Spec)
 
 /// Writes the content of a field, in the field's bits.
 #[inline(always)]
-#[tactic(auto, using(crate::proofs::DrawLemmas::drawn_narrow))]
+#[tactic(auto, using(crate::proofs::FieldLemmas::drawn_narrow))]
 pub(crate) fn put_content(out: &mut BitWriter, drawn: FieldContent<'_>, spec: &Spec)
     requires drawn { IsDrawn spec.now drawn }
     requires room { spec.now.width ≤ out.old.room }
@@ -339,7 +337,7 @@ pub(crate) fn put_content(out: &mut BitWriter, drawn: FieldContent<'_>, spec: &S
 
 /// Makes room for the content of a field, and writes it in the field's bits.
 #[inline(always)]
-#[tactic(auto, using(crate::proofs::DrawLemmas::drawn_narrow))]
+#[tactic(auto, using(crate::proofs::FieldLemmas::drawn_narrow))]
 pub(crate) fn push_content(
     out: &mut BitWriter,
     drawn: FieldContent<'_>,
@@ -384,7 +382,7 @@ fn reference_in(drawn: FieldContent<'_>) -> i64
 
 /// What a field returns to the walk.
 #[inline(always)]
-#[tactic(auto, using(crate::proofs::DrawLemmas::answer_count, crate::proofs::DrawLemmas::answer_reference, crate::proofs::DrawLemmas::answer_element, crate::proofs::DrawLemmas::answer_inserted))]
+#[tactic(auto, using(crate::proofs::FieldLemmas::answer_count, crate::proofs::FieldLemmas::answer_reference, crate::proofs::FieldLemmas::answer_element, crate::proofs::FieldLemmas::answer_inserted))]
 pub(crate) fn taken_of(drawn: FieldContent<'_>, spec: &Spec) -> Taken
     ensures gives { result ≡ answer_of spec.now (content_drawn (spec.now.width / 8) drawn.entry) }
     ensures shape { IsFor spec.now result }

@@ -3,28 +3,20 @@
 //! has the least `k`.
 ghost use Rattle.std.specs.Prelude.{◌≡◌, ◌≤◌, ℕ, List, [], Bool, length, Ok, Err};
 ghost use Rattle.bufr_walk.specs.FieldSpec.{FieldSpec, IsSpec};
-ghost use Rattle.bufr_walk.specs.Content.{Content};
+ghost use Rattle.bufr_walk.specs.Content.{Content, found};
 ghost use Rattle.bufr_walk.specs.Course.{Course, at_end};
 ghost use Rattle.bufr_walk.specs.PackedField.{packed_field};
-ghost use Rattle.bufr_walk.specs.PlainField.{found};
 ghost use Rattle.bufr_walk.specs.Reading.{max_values, Item, ReadsSubsets, IsPackedReading};
-ghost use Rattle.bufr_walk.specs.Taking.{TakenField, Takes};
-ghost use Rattle.bufr_walk.specs.Walked.{oks, answers_of};
-ghost use Rattle.bufr_fill.specs.Alike.{AllAlike};
+ghost use Rattle.bufr_walk.specs.Walk.{TakenField, Takes, oks, answers_of};
+ghost use Rattle.bufr_fill.specs.RoundTrip.{AllAlike, OfTemplates, WritesDrafts, AllFit, AllHaveOctets, AreSaid, AreSaidFrom, IsReadBack, IsPackedReadBack, IsWrittenApart, IsTogetherOrNot, AreDumped, AreDumpedFrom, IsWrittenAgain, IsPackedAgain};
 ghost use Rattle.bufr_fill.specs.DraftContent.{plain_filler};
-ghost use Rattle.bufr_fill.specs.Entries.{DraftEntry, Subset};
-ghost use Rattle.bufr_fill.specs.Fault.{FaultAt};
+ghost use Rattle.bufr_fill.specs.Draft.{DraftEntry, Subset};
+ghost use Rattle.bufr_fill.specs.Faults.{FaultAt};
 ghost use Rattle.bufr_fill.specs.Filling.{fill};
 ghost use Rattle.bufr_fill.specs.Encoding.{cells_at, packed_filler, packed_data, plain_data};
-ghost use Rattle.bufr_fill.specs.Laws.{OfTemplates, WritesDrafts};
-ghost use Rattle.bufr_fill.specs.LeastK.{HasLeastK};
-ghost use Rattle.bufr_fill.specs.Fits.{AllFit};
-ghost use Rattle.bufr_fill.specs.Packing.{packing};
-ghost use Rattle.bufr_fill.specs.ReadBack.{AllHaveOctets, AreSaid, AreSaidFrom, IsReadBack, IsPackedReadBack};
+ghost use Rattle.bufr_fill.specs.Packing.{HasLeastK, packing};
 ghost use Rattle.bufr_fill.specs.PackedOut.{PackedOutModel, new_packed_out, PackedFills, all_at_end, rows_left, IsFaultHere};
-ghost use Rattle.bufr_fill.specs.OtherForm.{IsWrittenApart, IsTogetherOrNot};
 ghost use Rattle.bufr_fill.specs.PlainOut.{PlainOutModel, PlainFills, IsFaultNext, items_left, end_left};
-ghost use Rattle.bufr_fill.specs.WrittenAgain.{AreDumped, AreDumpedFrom, IsWrittenAgain, IsPackedAgain};
 
 /// Law: what was read of data that are not compressed is written again, from the items of its dump.
 /// The bits have the same reading, and are no more. (WMO-No. 306, Volume I.2, FM 94: section 4)
@@ -132,7 +124,7 @@ pub fn plain_data_are_written_together()
 
 /// Law: a walk over the items of one subset writes what the definition makes of them, up to those
 /// that are left.
-#[tactic(auto, using(crate::proofs::PlainWalks::walk_of_items))]
+#[tactic(auto, using(crate::proofs::WalkLemmas::walk_of_items))]
 pub fn plain_walk_writes_as_defined()
     ensures { (end : ℕ) (course : Course) (s : PlainOutModel) (items : List TakenField)
         (s' : PlainOutModel)
@@ -144,7 +136,7 @@ pub fn plain_walk_writes_as_defined()
 /// Law: where a walk over the items of one subset stops, its fault is that of the definition. It is
 /// that of an item, that of a width or a step on the next entry's line, or an item that is left
 /// over.
-#[tactic(auto, using(crate::proofs::PlainWalks::fault_as_defined))]
+#[tactic(auto, using(crate::proofs::WalkLemmas::fault_as_defined))]
 pub fn plain_fault_is_as_defined()
     ensures { (course : Course) (left : List DraftEntry) (f : FaultAt)
         → IsFaultNext (course []).next
@@ -165,7 +157,7 @@ pub fn packed_walk_writes_as_defined()
 /// Law: where such a walk stops, its fault is that of the data of all subsets. It is that of an
 /// item, or that of a width or a step on the line of the first subset's next entry. Or it is the
 /// first item that is left over.
-#[tactic(auto, using(crate::proofs::PackedFaults::fault_as_defined))]
+#[tactic(auto, using(crate::proofs::PackedWalks::fault_as_defined))]
 pub fn packed_fault_is_as_defined()
     ensures { (course : Course) (subsets : List Subset) (items : List TakenField)
         (s : PackedOutModel)
@@ -176,7 +168,7 @@ pub fn packed_fault_is_as_defined()
 
 /// Law: where such a walk ends and no item is left over, the bits that were written are the data of
 /// all subsets.
-#[tactic(auto, using(crate::proofs::PackedFaults::written_as_defined))]
+#[tactic(auto, using(crate::proofs::PackedWalks::written_as_defined))]
 pub fn packed_data_are_written_as_defined()
     ensures { (course : Course) (subsets : List Subset) (items : List TakenField)
         (s : PackedOutModel)

@@ -3,15 +3,13 @@ ghost use Rattle.std.specs.Prelude.{◌≡◌, ◌≤◌, ◌<◌, ◌+◌, ◌*
 ghost use Rattle.bufr_walk.specs.FieldSpec.{IsFor, is_reference};
 ghost use Rattle.bufr_walk.specs.Reading.{max_values};
 ghost use Rattle.bufr_fill.specs.Encoding.{item_row, cells_at, contents_here, RowCell, unlike_line};
-ghost use Rattle.bufr_fill.specs.Entries.{subsets_of};
-ghost use Rattle.bufr_fill.specs.PackedRows.{AllDrawn, contents_drawn, IsRangeOf, begin_of, cell_entry, LineAt, ReturnsRow, IsIncrementWidth};
-ghost use Rattle.bufr_fill.specs.Packs.{PutAcross, number_or, spread, trimmed, need, need_of, most_need, octet_in, PacksItem, FitsIncrement, AreShort, least_from};
-ghost use Rattle.bufr_fill.specs.PackedOut.{ends_of, first_line_at, EndsAllSubsets};
+ghost use Rattle.bufr_fill.specs.Draft.{subsets_of};
+ghost use Rattle.bufr_fill.specs.PackedOut.{AllDrawn, contents_drawn, IsRangeOf, begin_of, cell_entry, LineAt, ReturnsRow, IsIncrementWidth, PutAcross, number_or, spread, trimmed, need, need_of, most_need, octet_in, PacksItem, FitsIncrement, AreShort, least_from, ends_of, first_line_at, EndsAllSubsets};
 ghost use Rattle.bufr_fill.specs.Kept.{entry_with};
 ghost use Rattle.std.specs.List.{list_all, flat_map};
 ghost use Rattle.bufr_bits.specs.Bits.{bits_in, bits_of};
 ghost use Rattle.bufr_tables.specs.TableB.{is_character};
-ghost use Rattle.bufr_fill.specs.FieldContent.{content_drawn, spaced, IsDrawn};
+ghost use Rattle.bufr_fill.specs.DraftContent.{content_drawn, spaced, IsDrawn};
 ghost use Rattle.bufr_fill.specs.declared.field_value.FieldContent.{FieldContent};
 ghost use Rattle.bufr_fill.specs.Packing.{raw_limit, same, same_octets, are_same, lowest, first_from, least_k, has_bits, has_octets, increment_bits, octet_bits, packed_bits, numbers_over, packed_numbers, packed_texts, packed_by, packed_unlike, packing};
 ghost use Rattle.bufr_walk.specs.Content.{bits_for};
@@ -45,7 +43,7 @@ pub struct PackedOut<'s> {
 
 impl<'s> Model for PackedOut<'s> {
     ghost use Rattle.std.specs.Prelude.{length};
-    ghost use Rattle.bufr_fill.specs.Entries.{subsets_of};
+    ghost use Rattle.bufr_fill.specs.Draft.{subsets_of};
     ghost use Rattle.bufr_fill.specs.PackedOut.{PackedOutModel, IsPackedOut};
 
     ghost Value = { PackedOutModel };
@@ -74,7 +72,7 @@ fn ends_in(alloc: Global, entries: &Entries) -> Result<Vec<usize>, AllocError>
 
 /// Writes the contents of an item for all subsets, with the least number as the base (zero bits for
 /// texts) and the least `k`.
-#[tactic(auto, using(crate::proofs::PackSteps::drawn_at))]
+#[tactic(auto, using(crate::proofs::RowLemmas::drawn_at))]
 // rule: packs-factors-and-references, fault-59
 fn put_drawn(
     row: Row<'_, '_>,
@@ -156,7 +154,7 @@ fn pack_next<'a>(
 impl<'s> PackedOut<'s> {
     ghost use Rattle.std.specs.Prelude.{◌≡◌, ◌≤◌, ◌<◌, ◌+◌, ◌/◌, ◌^◌, ◌++◌, length, vec_len, IfOk};
     ghost use Rattle.bufr_bits.specs.Bits.{bits_of, padding};
-    ghost use Rattle.bufr_fill.specs.Entries.{subsets_of};
+    ghost use Rattle.bufr_fill.specs.Draft.{subsets_of};
     ghost use Rattle.bufr_fill.specs.PackedOut.{StartsPackedOut, first_line_at, EndsAllSubsets};
 
     /// The items of all subsets and the lines that end them, at most 2^45 together; `None` where
@@ -264,7 +262,7 @@ pub(crate) struct Row<'a, 'b> {
 }
 
 /// The index where a subset's entries begin, by the indices of the entries that end subsets.
-#[tactic(auto, using(crate::proofs::Places::begin_more, crate::proofs::Places::begin_none))]
+#[tactic(auto, using(crate::proofs::EntryLemmas::begin_more, crate::proofs::EntryLemmas::begin_none))]
 fn begin_of(ends: &[usize], subset: usize) -> usize
     requires subset { subset < length ends.now }
     requires few { (i : ℕ) → i < length ends.now → get_or ends.now i 0 < 2 ^ 45 }
@@ -388,7 +386,7 @@ pub(crate) fn all_at_end(entries: &Entries, ends: &[usize], place: usize) -> Res
 }
 
 /// The octet at an index of a text that spaces follow.
-#[tactic(auto, using(crate::proofs::TextSteps::octet_inside, crate::proofs::TextSteps::octet_outside))]
+#[tactic(auto, using(crate::proofs::RowLemmas::octet_inside, crate::proofs::RowLemmas::octet_outside))]
 fn octet_at(octets: &[u8], place: usize) -> u8
     ensures { result ≡ octet_in octets.now place }
 {
@@ -413,7 +411,7 @@ fn same_text(one: &[u8], other: &[u8], count: usize) -> bool
 }
 
 /// Whether two contents of a field are the same.
-#[tactic(auto, using(crate::proofs::PackSteps::same_references, crate::proofs::PackSteps::other_references))]
+#[tactic(auto, using(crate::proofs::RowLemmas::same_references, crate::proofs::RowLemmas::other_references))]
 pub(crate) fn is_same(one: FieldContent<'_>, other: FieldContent<'_>, spec: &Spec) -> bool
     requires one { IsDrawn spec.now one }
     requires other { IsDrawn spec.now other }
@@ -431,7 +429,7 @@ pub(crate) fn is_same(one: FieldContent<'_>, other: FieldContent<'_>, spec: &Spe
 }
 
 /// Whether all contents are the same as one.
-#[tactic(auto, using(crate::proofs::PackSteps::drawn_at, crate::proofs::PackSteps::alike_more, crate::proofs::PackSteps::alike_not, crate::proofs::PackSteps::alike_done))]
+#[tactic(auto, using(crate::proofs::RowLemmas::drawn_at, crate::proofs::RowLemmas::alike_more, crate::proofs::RowLemmas::alike_not, crate::proofs::RowLemmas::alike_done))]
 fn are_alike(
     first: FieldContent<'_>,
     drawn: &[FieldContent<'_>],
@@ -476,7 +474,7 @@ pub(crate) struct NumberRange {
 impl NumberRange {
     ghost use Rattle.std.specs.Prelude.{ℕ, List, ◌≡◌, [], ◌∷◌, ◌++◌, unwrap_or};
     ghost use Rattle.bufr_fill.specs.declared.field_value.FieldContent.{FieldContent};
-    ghost use Rattle.bufr_fill.specs.PackedRows.{IsRangeOf, contents_drawn};
+    ghost use Rattle.bufr_fill.specs.PackedOut.{IsRangeOf, contents_drawn};
     ghost use Rattle.bufr_fill.specs.Packing.{lowest};
 
     /// The range of no contents.
@@ -516,7 +514,7 @@ impl NumberRange {
 
 /// The least `k` from 1 to 63 whose bits write an increment, without all ones where that is
 /// missing; 64 where none does.
-#[tactic(auto, using(crate::proofs::PackSteps::least_here, crate::proofs::PackSteps::least_later, crate::proofs::PackSteps::least_end))]
+#[tactic(auto, using(crate::proofs::RowLemmas::least_here, crate::proofs::RowLemmas::least_later, crate::proofs::RowLemmas::least_end))]
 // rule: packs-class-31
 fn least_bits(spread: u64, may_be_missing: bool) -> u32
     ensures { result ≡ least_from may_be_missing spread 1 }
@@ -530,7 +528,7 @@ fn least_bits(spread: u64, may_be_missing: bool) -> u32
 }
 
 /// The increment of a content over a base: all ones of `k` bits where it is no number.
-#[tactic(auto, using(crate::proofs::DrawnLemmas::ones_bits))]
+#[tactic(auto, using(crate::proofs::FieldLemmas::ones_bits))]
 fn increment_of(drawn: FieldContent<'_>, base: u64, k: u32) -> u64
     requires narrow { k ≤ 63 }
     requires short { FitsIncrement base k drawn }
@@ -547,7 +545,7 @@ fn increment_of(drawn: FieldContent<'_>, base: u64, k: u32) -> u64
 }
 
 /// Writes the increments over a base, each in `k` bits.
-#[tactic(auto, using(crate::proofs::PackSteps::short_at, crate::proofs::PackSteps::flat_done))]
+#[tactic(auto, using(crate::proofs::RowLemmas::short_at, crate::proofs::RowLemmas::flat_done))]
 fn put_increments(out: &mut BitWriter, drawn: &[FieldContent<'_>], base: u64, k: u32)
     requires narrow { k ≤ 63 }
     requires short { AreShort base k drawn.now }
@@ -602,7 +600,7 @@ fn pack_numbers(
 }
 
 /// How many octets of a text come before the spaces at its end.
-#[tactic(auto, using(crate::proofs::TextSteps::trimmed_here, crate::proofs::TextSteps::trimmed_later, crate::proofs::TextSteps::trimmed_all))]
+#[tactic(auto, using(crate::proofs::RowLemmas::trimmed_here, crate::proofs::RowLemmas::trimmed_later, crate::proofs::RowLemmas::trimmed_all))]
 fn trimmed_len(octets: &[u8]) -> usize
     ensures value { result ≡ trimmed octets.now }
     ensures within { result ≤ length octets.now }
@@ -630,7 +628,7 @@ fn text_need(octets: &[u8]) -> usize
 }
 
 /// How many octets determine a content, where that is a text.
-#[tactic(auto, using(crate::proofs::PackSteps::eighth_most))]
+#[tactic(auto, using(crate::proofs::RowLemmas::eighth_most))]
 fn drawn_need(drawn: FieldContent<'_>, spec: &Spec) -> usize
     requires { IsDrawn spec.now drawn }
     ensures value { result ≡ need_of drawn.entry }
@@ -646,7 +644,7 @@ fn drawn_need(drawn: FieldContent<'_>, spec: &Spec) -> usize
 }
 
 /// How many octets determine all texts.
-#[tactic(auto, using(crate::proofs::PackSteps::need_more, crate::proofs::PackSteps::need_done, crate::proofs::PackSteps::drawn_at))]
+#[tactic(auto, using(crate::proofs::RowLemmas::need_more, crate::proofs::RowLemmas::need_done, crate::proofs::RowLemmas::drawn_at))]
 fn octets_needed(drawn: &[FieldContent<'_>], spec: &Spec) -> usize
     requires { AllDrawn spec.now drawn.now }
     ensures { result ≡ most_need drawn.now }
@@ -659,7 +657,7 @@ fn octets_needed(drawn: &[FieldContent<'_>], spec: &Spec) -> usize
 }
 
 /// Writes the first octets of a text that spaces follow, or ones where the text is missing.
-#[tactic(auto, using(crate::proofs::PackSteps::eighth_most))]
+#[tactic(auto, using(crate::proofs::RowLemmas::eighth_most))]
 fn put_prefix(out: &mut BitWriter, drawn: FieldContent<'_>, k: usize, spec: &Spec)
     requires few { k ≤ spec.now.width / 8 }
     requires drawn { IsDrawn spec.now drawn }
@@ -694,7 +692,7 @@ fn put_prefixes(out: &mut BitWriter, drawn: &[FieldContent<'_>], k: usize, spec:
 }
 
 /// Writes zeros as wide as a text.
-#[tactic(auto, using(crate::proofs::PackSteps::zero_bits))]
+#[tactic(auto, using(crate::proofs::RowLemmas::zero_bits))]
 fn put_zeros(out: &mut BitWriter, spec: &Spec)
     requires text { is_character spec.now.kind ≡ true }
     requires room { spec.now.width ≤ out.old.room }

@@ -1,6 +1,6 @@
 -- A message parsed, and written again from its parts.
 use Rattle.std.proofs.Common.{inl, inr, ◌≡◌, ◌≢◌, ◌==◌, ◌∙◌, ℕ, zero, suc, ◌+◌, ◌-◌, ◌*◌, ◌/◌, ◌%◌, ◌<◌, ◌≤◌, Bool, true, false, List, [], ◌∷◌, ◌++◌, length, take, drop, refl, ap, sym, subst, arith, Some, None, Ok, Err, get_or, codes, append_assoc, length-take, length-drop}
-use Rattle.std.specs.Prelude.{Result, if◌then◌else◌, nat_lt, nat_le, not, is_some, slice_range, All, ◌&&◌, ◌||◌}
+use Rattle.std.specs.Prelude.{Result, if◌then◌else◌, nat_lt, nat_le, not, is_some, slice_range, All, ◌&&◌, ◌||◌, slice_index}
 use Rattle.std.proofs.Math.Seq.{drop-cons, take-add}
 use Rattle.std.proofs.lemmas.Bool.Decides.{nat_tests}
 use Rattle.std.proofs.lemmas.Bool.{true≢false, cases_Bool}
@@ -8,15 +8,15 @@ use Rattle.std.proofs.lemmas.List.{take-append-drop, get_or-take, get_or-drop}
 use Rattle.bufr_frame.specs.declared.fault.SectionFault.{SectionFault}
 use Rattle.bufr_frame.specs.declared.fault.SectionFault.TheVariants.{SectionShort, SectionPast, SectionsEnd, Edition3Long}
 use Rattle.bufr_frame.specs.Octets.{u24_at, u16_at, words, three_octets, two_octets, octets_of_words}
-use Rattle.bufr_frame.specs.Section1.{Flags, is_edition, slots_of, slots_3, slots_4, first_least, octets_of_slots, slot_octets, slot_value, head_in, head_value}
-use Rattle.bufr_frame.specs.Sections.{Sections, sections_of, section_end, parts, edition_of, slots_in, has_section2, head_of, is_long_edition_3, is_padded, parts_if_end_matches, ◌>>=◌}
-use Rattle.bufr_frame.specs.Layout.{parts_in, message_size, message_octets, section0_octets, section1_octets, section2_octets, section2_size, section3_octets, section4_octets, head_octets, data_flags, even_size, with_even_length, max_extra_octets, max_octets}
-use Rattle.bufr_frame.proofs.LayoutLemmas.{length-octets_of_words, even-3}
-use Rattle.bufr_frame.proofs.WordLemmas.{length-words}
+use Rattle.bufr_frame.specs.Section1.{Flags, is_edition, slots_of, slots_3, slots_4, first_least, octets_of_slots, slot_octets, slot_value, head_in, head_value, Field, Master, Centre, Subcentre, Update, Category, Subcategory, LocalSubcategory, MasterVersion, LocalVersion, Year, Month, Day, Hour, Minute, Second, Slot, Single, Double, is_for, width, read_slot, most, most_in}
+use Rattle.bufr_frame.specs.Sections.{Sections, sections_of, section_end, parts, edition_of, slots_in, has_section2, head_of, is_long_edition_3, is_padded, parts_if_end_matches, ◌>>=◌, IsPlain, section2_begins, section3_begins, section4_begins}
+use Rattle.bufr_frame.specs.Layout.{parts_in, message_size, message_octets, section0_octets, section1_octets, section2_octets, section2_size, section3_octets, section4_octets, head_octets, data_flags, even_size, with_even_length, max_extra_octets, max_octets, IsFitting, is_writable, fits_3}
+use Rattle.bufr_frame.proofs.LayoutLemmas.{length-octets_of_words, even-3, length-words}
 use Rattle.std.proofs.lemmas.List.Elements.{All-take, All-drop}
 use Rattle.std.proofs.lemmas.List.Folds.{drop_split}
-use Rattle.bufr_frame.specs.Plain.{IsPlain, section2_begins, section3_begins, section4_begins}
 use Rattle.bufr_frame.proofs.ScanLemmas.{drop-twice}
+use Rattle.std.specs.List.{AllByRecursion}
+use Rattle.bufr_frame.specs.declared.section1.Head.{Head}
 
 -- the last of three tests that a number passed
 passed-all : (a b c : Bool) (e1 e2 e3 : SectionFault) (n q : ℕ) → (if a then Err e1 else if b then Err e2 else if c then Err e3 else Ok n) ≡ Ok q
@@ -83,19 +83,19 @@ pub sections-ended : (m : List ℕ) (s : Sections) → sections_of m ≡ Ok s �
 unfolding sections_of
 sections-ended m s is =
     let e = unless-ok (is_edition (edition_of m)) _ _ s is in
-    let one = then-ok (section_end m 1 (first_least (edition_of m)) 8) _ s e.1 in
-    let two' = then-ok (if has_section2 m then section_end m 2 4 one.0 else Ok one.0) _ s one.2 in
+    let one' = then-ok (section_end m 1 (first_least (edition_of m)) 8) _ s e.1 in
+    let two' = then-ok (if has_section2 m then section_end m 2 4 one'.0 else Ok one'.0) _ s one'.2 in
     let three' = then-ok (section_end m 3 7 two'.0) _ s two'.2 in
     let four = then-ok (section_end m 4 4 three'.0) _ s three'.2 in
-    let last = met-ok m one.0 two'.0 three'.0 four.0 s four.2 in
-    let second = second-ended m one.0 two'.0 (has_section2 m) two'.1 in
+    let last = met-ok m one'.0 two'.0 three'.0 four.0 s four.2 in
+    let second = second-ended m one'.0 two'.0 (has_section2 m) two'.1 in
     record {
-      p1 = one.0;
+      p1 = one'.0;
       p2 = two'.0;
       p3 = three'.0;
       p4 = four.0;
       edition = e.0;
-      first = section-ended m 1 (first_least (edition_of m)) 8 one.0 one.1;
+      first = section-ended m 1 (first_least (edition_of m)) 8 one'.0 one'.1;
       second = second.0;
       no_second = second.1;
       third = section-ended m 3 7 two'.0 three'.0 three'.1;
@@ -541,3 +541,156 @@ written-again m s plain is =
     let e = sections-ended m s is in
     let P : Sections → Type 0 = λ x. message_octets x.head (parts_in x) ≡ m in
     subst P (sym e.is) (again m plain s e)
+
+-- ---- The values of a head, and the octets of its edition.
+
+both : (a b : Bool) → a ≡ true → b ≡ true → (a && b) ≡ true
+both a b h k = rw (h, k) refl
+
+up : (a b : ℕ) → a ≤ b → nat_le a b ≡ true
+up a b h = grind (arith, nat_tests)
+
+-- ---- heads that can be written
+
+pub writable-4 : (h : Head) → h.edition ≡ 4 → is_writable h ≡ true
+writable-4 h e = ap (λ n. (n == 4) || ((n == 3) && (fits_3 h Centre && (fits_3 h Subcentre && (fits_3 h Year && (fits_3 h LocalSubcategory && fits_3 h Second)))))) e
+
+pub writable-3 : (h : Head) → h.edition ≡ 3 → h.centre ≤ 255 → h.subcentre ≤ 255 → h.year ≤ 255 → h.local_subcategory ≤ 0 → h.second ≤ 0 → is_writable h ≡ true
+writable-3 h e c s y l z =
+    ap (λ n. (n == 4) || ((n == 3) && (fits_3 h Centre && (fits_3 h Subcentre && (fits_3 h Year && (fits_3 h LocalSubcategory && fits_3 h Second)))))) e
+    ∙ both _ _ (up h.centre 255 c) (both _ _ (up h.subcentre 255 s) (both _ _ (up h.year 255 y) (both _ _ (up h.local_subcategory 0 l) (up h.second 0 z))))
+
+pub fitting-writable : (h : Head) → IsFitting h → is_writable h ≡ true
+fitting-writable h fits =
+    let bound : (field : Field) → h.edition ≡ 3 → head_value h false field ≤ most_in slots_3 field = λ field is. subst (λ n. head_value h false field ≤ most_in (slots_of n) field) is (fits.fits field) in
+    edition-cases h.edition fits.edition
+    (λ is. writable-3 h is (bound Centre is) (bound Subcentre is) (bound Year is) (bound LocalSubcategory is) (bound Second is))
+    (λ is. writable-4 h is)
+
+-- ---- the head of a message
+
+slot-most : (m : List ℕ) (p : ℕ) (slot : Slot) → ((i : ℕ) → slice_index m i < 256) → read_slot m p slot ≤ most slot
+slot-most m p (Single field) small = omega (arith, small p)
+slot-most m p (Double field) small = omega (arith, small p, small (p + 1))
+
+pick : (b : Bool) (x y u v : ℕ) → x ≤ u → y ≤ v → (if b then x else y) ≤ (if b then u else v)
+pick true x y u v h k = h
+pick false x y u v h k = k
+
+value-fits : (slots : List Slot) (m : List ℕ) (p : ℕ) (field : Field) → ((i : ℕ) → slice_index m i < 256) → slot_value slots m p field ≤ most_in slots field
+value-fits [] m p field small = omega arith
+value-fits (slot ∷ more) m p field small =
+    pick (is_for field slot) (read_slot m p slot) (slot_value more m (p + width slot) field) (most slot) (most_in more field) (slot-most m p slot small) (value-fits more m (p + width slot) field small)
+
+head-fits : (edition : ℕ) (slots : List Slot) (m : List ℕ) (p : ℕ) → ((i : ℕ) → slice_index m i < 256) → (field : Field) → head_value (head_in edition slots m p) false field ≤ most_in slots field
+head-fits edition slots m p small Master = value-fits slots m p Master small
+head-fits edition slots m p small Centre = value-fits slots m p Centre small
+head-fits edition slots m p small Subcentre = value-fits slots m p Subcentre small
+head-fits edition slots m p small Update = value-fits slots m p Update small
+head-fits edition slots m p small Flags = omega arith
+head-fits edition slots m p small Category = value-fits slots m p Category small
+head-fits edition slots m p small Subcategory = value-fits slots m p Subcategory small
+head-fits edition slots m p small LocalSubcategory = value-fits slots m p LocalSubcategory small
+head-fits edition slots m p small MasterVersion = value-fits slots m p MasterVersion small
+head-fits edition slots m p small LocalVersion = value-fits slots m p LocalVersion small
+head-fits edition slots m p small Year = value-fits slots m p Year small
+head-fits edition slots m p small Month = value-fits slots m p Month small
+head-fits edition slots m p small Day = value-fits slots m p Day small
+head-fits edition slots m p small Hour = value-fits slots m p Hour small
+head-fits edition slots m p small Minute = value-fits slots m p Minute small
+head-fits edition slots m p small Second = value-fits slots m p Second small
+
+head-of-fits : (m : List ℕ) → ((i : ℕ) → slice_index m i < 256) → is_edition (edition_of m) ≡ true → IsFitting (head_of m)
+head-of-fits m small known = record { edition = known; fits = head-fits (edition_of m) (slots_in m) m 11 small }
+
+pub heads-fit : (m : List ℕ) (s : Sections) → ((i : ℕ) → slice_index m i < 256) → sections_of m ≡ Ok s → IsFitting s.head
+heads-fit m s small is = let e = sections-ended m s is in subst (λ (x : Sections). IsFitting x.head) (sym e.is) (head-of-fits m small e.edition)
+
+-- ---- the octets of a head
+
+flag-small : (b : Bool) → (if b then 128 else 0) < 256
+flag-small true = omega arith
+flag-small false = omega arith
+
+high : (w : ℕ) → w ≤ 65535 → w / 256 < 256
+high w h = omega (arith, h)
+
+low : (w : ℕ) → w % 256 < 256
+low w = omega arith
+
+one : (n : ℕ) → n ≤ 255 → n < 256
+one n h = omega (arith, h)
+
+head-3 : (h : Head) (b : Bool) → ((field : Field) → head_value h false field ≤ most_in slots_3 field) → AllByRecursion (λ octet. octet < 256) (slot_octets slots_3 (head_value h b))
+head-3 h b fits = (
+  one h.master (fits Master),
+  (
+    one h.subcentre (fits Subcentre),
+    (
+      one h.centre (fits Centre),
+      (
+        one h.update (fits Update),
+        (
+          flag-small b,
+          (
+            one h.category (fits Category),
+            (
+              one h.subcategory (fits Subcategory),
+              (one h.master_version (fits MasterVersion), (one h.local_version (fits LocalVersion), (one h.year (fits Year), (one h.month (fits Month), (one h.day (fits Day), (one h.hour (fits Hour), (one h.minute (fits Minute), tt))))))),
+            ),
+          ),
+        ),
+      ),
+    ),
+  ),
+)
+
+head-4 : (h : Head) (b : Bool) → ((field : Field) → head_value h false field ≤ most_in slots_4 field) → AllByRecursion (λ octet. octet < 256) (slot_octets slots_4 (head_value h b))
+head-4 h b fits = (
+  one h.master (fits Master),
+  (
+    high h.centre (fits Centre),
+    (
+      low h.centre,
+      (
+        high h.subcentre (fits Subcentre),
+        (
+          low h.subcentre,
+          (
+            one h.update (fits Update),
+            (
+              flag-small b,
+              (
+                one h.category (fits Category),
+                (
+                  one h.subcategory (fits Subcategory),
+                  (
+                    one h.local_subcategory (fits LocalSubcategory),
+                    (
+                      one h.master_version (fits MasterVersion),
+                      (
+                        one h.local_version (fits LocalVersion),
+                        (
+                          high h.year (fits Year),
+                          (
+                            low h.year,
+                            (one h.month (fits Month), (one h.day (fits Day), (one h.hour (fits Hour), (one h.minute (fits Minute), (one h.second (fits Second), tt))))),
+                          ),
+                        ),
+                      ),
+                    ),
+                  ),
+                ),
+              ),
+            ),
+          ),
+        ),
+      ),
+    ),
+  ),
+)
+
+pub head-small : (h : Head) (b : Bool) → IsFitting h → AllByRecursion (λ octet. octet < 256) (head_octets h b)
+head-small h b g =
+    let P : ℕ → Type 0 = λ n. ((field : Field) → head_value h false field ≤ most_in (slots_of n) field) → AllByRecursion (λ octet. octet < 256) (slot_octets (slots_of n) (head_value h b)) in
+    edition-cases h.edition g.edition (λ e. subst P (sym e) (head-3 h b) g.fits) (λ e. subst P (sym e) (head-4 h b) g.fits)

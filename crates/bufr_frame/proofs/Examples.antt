@@ -1,10 +1,9 @@
 -- The definitions computed on worked examples.
 use Rattle.std.proofs.Common.{◌≡◌, ℕ, zero, suc, Bool, true, false, List, [], ◌∷◌, ◌++◌, refl, take, length, codes, Option, Some, None, Ok, Err}
 use Rattle.std.specs.Prelude.{slice_set, ◌==◌, ◌&&◌, ◌+◌}
-use Rattle.bufr_frame.specs.Scan.{StreamEvent, FrameAt, StrayAt, scan, scan_from, open_scan}
+use Rattle.bufr_frame.specs.Scan.{StreamEvent, FrameAt, StrayAt, scan, scan_from, open_scan, longest_of, first_event}
 use Rattle.bufr_frame.specs.Sections.{sections_of, section_end, Sections}
 use Rattle.bufr_frame.specs.Layout.{MessageParts, parts_of, parts_in, message_octets, is_writable}
-use Rattle.bufr_frame.specs.Longest.{longest_of, first_event}
 use Rattle.bufr_frame.specs.declared.section1.Head.{Head}
 use Rattle.bufr_frame.specs.declared.fault.Cause.TheVariants.{Cut, ShortLength, NoEnd}
 use Rattle.bufr_frame.specs.declared.fault.SectionFault.TheVariants.{Edition, SectionShort, SectionPast, SectionsEnd}

@@ -1,15 +1,25 @@
--- A message that was written, read again.
-use Rattle.std.proofs.Common.{◌≡◌, ◌≢◌, ◌==◌, ◌∙◌, ℕ, ◌+◌, ◌-◌, ◌*◌, ◌/◌, ◌%◌, ◌≤◌, Bool, true, false, List, [], ◌∷◌, ◌++◌, length, take, refl, ap, sym, subst, arith, Option, Some, None, Ok, get_or, codes, append_assoc, length-append}
+-- A message that was written, section by section, read again.
+use Rattle.std.proofs.Common.{◌≡◌, ◌==◌, ◌-◌, ℕ, true, false, List, Ok, length, refl, eq-eqb, ◌≢◌, ◌∙◌, ◌+◌, ◌*◌, ◌/◌, ◌%◌, ◌≤◌, Bool, [], ◌∷◌, ◌++◌, take, ap, sym, subst, arith, Option, Some, None, get_or, codes, append_assoc, length-append, Err, append-nil, zero, suc, ◌<◌, slice_get}
+use Rattle.std.specs.Prelude.{if◌then◌else◌, nat_lt, nat_le, is_some, slice_range, ◌&&◌, ◌||◌, Result, OnOk, option_map}
+use Rattle.bufr_frame.specs.Section1.{is_edition, first_least, Slot, Field, Flags, Single, Double, slots_of, octets_of_slots, slot_octets, slot_value, head_value, head_in}
+use Rattle.bufr_frame.specs.Sections.{sections_of, section_end, parts, edition_of, has_section2, is_long_edition_3, head_of, Sections, is_padded}
 use Rattle.std.proofs.Math.Seq.{get_or-append_right, take-length}
 use Rattle.std.proofs.lemmas.List.{drop_at, take-append-le}
-use Rattle.std.specs.Prelude.{if◌then◌else◌, nat_lt, nat_le, is_some, slice_range, ◌&&◌, ◌||◌}
 use Rattle.std.proofs.lemmas.Bool.Decides.{nat_tests}
 use Rattle.bufr_frame.specs.Octets.{u24_at, u16_at, words, three_octets, two_octets, octets_of_words}
-use Rattle.bufr_frame.specs.Section1.{Slot, Field, Flags, Single, Double, slots_of, is_edition, first_least, octets_of_slots, slot_octets, slot_value, head_value, head_in}
-use Rattle.bufr_frame.specs.Sections.{sections_of, section_end, parts, edition_of, has_section2, head_of, Sections, is_long_edition_3, is_padded}
-use Rattle.bufr_frame.specs.Layout.{MessageParts, message_octets, message_size, section0_octets, section1_octets, section2_octets, section2_size, section3_octets, section4_octets, data_flags, sections_from, head_octets, even_size, with_even_length, with_pad_octet, is_writable}
+use Rattle.bufr_frame.specs.Layout.{MessageParts, message_octets, message_size, section0_octets, section1_octets, section2_octets, section2_size, section3_octets, section4_octets, data_flags, sections_from, head_octets, even_size, with_even_length, with_pad_octet, is_writable, size_from, parts_of}
 use Rattle.bufr_frame.specs.declared.section1.Head.{Head}
-use Rattle.bufr_frame.proofs.SectionLemmas.{sections-are}
+use Rattle.bufr_bits.specs.Bits.{bits_of, bits_of_octet}
+
+-- ---- The sections of a message, one after another.
+
+-- where the steps go well, these are the sections
+pub sections-are : (m : List ℕ) (p1 p2 p3 p4 : ℕ) → is_edition (edition_of m) ≡ true → section_end m 1 (first_least (edition_of m)) 8 ≡ Ok p1 → (if has_section2 m then section_end m 2 4 p1 else Ok p1) ≡ Ok p2
+    → section_end m 3 7 p2 ≡ Ok p3 → section_end m 4 4 p3 ≡ Ok p4 → p4 ≡ length m - 4 → is_long_edition_3 m p2 p3 p4 ≡ false → sections_of m ≡ Ok (parts m p1 p2 p3 p4)
+unfolding sections_of
+sections-are m p1 p2 p3 p4 edition a b c d last short =
+    let l : (p4 == (length m - 4)) ≡ true = eq-eqb p4 (length m - 4) last in
+    rw (edition, a, b, c, d, l, short) refl
 
 -- octets write their number
 pub two-number : (n : ℕ) → 256 * (n / 256) + n % 256 ≡ n
@@ -304,3 +314,129 @@ read-back h p writable =
     (ap words descriptors ∙ words-evened edition 7 p.descriptors) subsets (ap (nat_le 128) (behind3 6) ∙ observed-test p.observed p.compressed)
     (ap (λ n. nat_le 64 (n % 128)) (behind3 6) ∙ compressed-test p.observed p.compressed) payload size
     ∙ made-sections h p)
+
+-- ---- Octets appended, part by part.
+
+-- six parts
+pub six-parts : (a b c d e f u v w x y z : List ℕ) → u ≡ a → v ≡ u ++ b → w ≡ v ++ c → x ≡ w ++ d → y ≡ x ++ e → z ≡ y ++ f → z ≡ a ++ (b ++ (c ++ (d ++ (e ++ f))))
+six-parts a b c d e f u v w x y z hu hv hw hx hy hz =
+    hz ∙ ap (λ l. l ++ f) hy ∙ append_assoc x e f
+    ∙ ap (λ l. l ++ (e ++ f)) hx ∙ append_assoc w d (e ++ f)
+    ∙ ap (λ l. l ++ (d ++ (e ++ f))) hw ∙ append_assoc v c (d ++ (e ++ f))
+    ∙ ap (λ l. l ++ (c ++ (d ++ (e ++ f)))) hv ∙ append_assoc u b (c ++ (d ++ (e ++ f)))
+    ∙ ap (λ l. l ++ (b ++ (c ++ (d ++ (e ++ f))))) hu
+
+pub is_some-map : {X Y : Type 0} (f : X → Y) (o : Option X) → is_some o ≡ is_some (option_map f o)
+is_some-map f (Some x) = refl
+is_some-map f None = refl
+
+-- what is padded after a prefix
+padded-after : (b : Bool) (prefix octets : List ℕ) → with_pad_octet b (prefix ++ octets) ≡ prefix ++ with_pad_octet b octets
+padded-after true prefix octets = append_assoc prefix octets (0 ∷ [])
+padded-after false prefix octets = refl
+
+-- section 3
+pub third : {X E : Type 0} (r : Result X E) (edition : ℕ) (words : List ℕ) (subsets flags n : ℕ) (b : Bool) (old one u16_at new : List ℕ)
+    → n ≡ even_size edition (7 + 2 * length words) → b ≡ is_padded edition (7 + 2 * length words)
+    → one ≡ old ++ three_octets n → u16_at ≡ (one ++ (0 ∷ two_octets subsets ++ flags ∷ [])) ++ octets_of_words words
+    → OnOk r (new ≡ with_pad_octet b u16_at) → OnOk r (new ≡ old ++ section3_octets (with_even_length edition 7 (octets_of_words words)) subsets flags)
+third (Err e) edition words subsets flags n b old one u16_at new size is p q last = tt
+third (Ok x) edition words subsets flags n b old one u16_at new size is p q last =
+    let w = octets_of_words words in
+    let f = 0 ∷ two_octets subsets ++ flags ∷ [] in
+    let c = with_even_length edition 7 w in
+    let long : n ≡ 7 + length c = size ∙ ap (λ k. even_size edition (7 + k)) (sym (length-octets_of_words words)) ∙ sym (length-evened edition 7 w) in
+    let prefix : u16_at ≡ ((old ++ three_octets n) ++ f) ++ w = q ∙ ap (λ l. (l ++ f) ++ w) p in
+    let content : with_pad_octet b w ≡ c = ap (λ k. with_pad_octet k w) (is ∙ ap (λ k. is_padded edition (7 + k)) (sym (length-octets_of_words words))) in
+    let whole : with_pad_octet b u16_at ≡ ((old ++ three_octets n) ++ f) ++ c =
+    ap (with_pad_octet b) prefix ∙ padded-after b ((old ++ three_octets n) ++ f) w ∙ ap (λ l. ((old ++ three_octets n) ++ f) ++ l) content in
+    let apart : ((old ++ three_octets n) ++ f) ++ c ≡ old ++ (three_octets n ++ (f ++ c)) = append_assoc (old ++ three_octets n) f c ∙ append_assoc old (three_octets n) (f ++ c) in
+    last ∙ whole ∙ apart ∙ ap (λ k. old ++ (three_octets k ++ (f ++ c))) long
+
+-- ---- Sections made even.
+
+-- ---- sizes
+
+least-by : (b : Bool) (n : ℕ) → n ≤ (if b then n + 1 else n)
+least-by true n = omega arith
+least-by false n = omega arith
+
+pub even-least : (edition n : ℕ) → n ≤ even_size edition n
+even-least edition n = least-by (is_padded edition n) n
+
+pub even-mono : (edition n k : ℕ) → n ≤ k → even_size edition n ≤ even_size edition k
+even-mono edition n k h = by (edition == 3) (n % 2 == 1) (k % 2 == 1) refl refl
+  where
+    by : (third odd-n odd-k : Bool) → (n % 2 == 1) ≡ odd-n → (k % 2 == 1) ≡ odd-k → (if third && odd-n then n + 1 else n) ≤ (if third && odd-k then k + 1 else k)
+    by false odd-n odd-k e f = h
+    by true false false e f = h
+    by true false true e f = omega (arith, h)
+    by true true true e f = omega (arith, h)
+    by true true false e f =
+        let odd : n % 2 ≡ 1 = grind (arith, nat_tests, e) in
+        let even : k % 2 ≢ 1 = grind (arith, nat_tests, f) in
+        omega (arith, h, odd, even)
+
+-- a shorter payload makes no longer message
+pub size-least : (edition : ℕ) (local1 : ℕ) (section2 : Option (List ℕ)) (descriptors n k most : ℕ) → n ≤ k → size_from edition local1 section2 descriptors k ≤ most → size_from edition local1 section2 descriptors n ≤ most
+size-least edition local1 section2 descriptors n k most h g = omega (arith, even-mono edition (4 + n) (4 + k) (omega (arith, h)), g)
+
+-- ---- octets
+
+-- made even once, it stays
+pub evened-twice : (edition prefix : ℕ) (octets : List ℕ) → with_even_length edition prefix (with_even_length edition prefix octets) ≡ with_even_length edition prefix octets
+evened-twice edition prefix octets =
+    ap (λ b. with_pad_octet b (with_even_length edition prefix octets)) (ap (is_padded edition) (length-evened edition prefix octets) ∙ even-stays edition (prefix + length octets))
+
+even-twice : (edition n : ℕ) → even_size edition (even_size edition n) ≡ even_size edition n
+even-twice edition n = ap (λ b. if b then even_size edition n + 1 else even_size edition n) (even-stays edition n)
+
+-- a payload that is even already is written as the payload that it was made from
+pub written-even : (h : Head) (local1 : List ℕ) (section2 : Option (List ℕ)) (descriptors : List ℕ) (subsets : ℕ) (observed compressed : Bool) (payload : List ℕ)
+    → message_octets h (parts_of local1 section2 descriptors subsets observed compressed (with_even_length h.edition 4 payload)) ≡ message_octets h (parts_of local1 section2 descriptors subsets observed compressed payload)
+written-even h local1 section2 descriptors subsets observed compressed payload =
+    let long : even_size h.edition (4 + length (with_even_length h.edition 4 payload)) ≡ even_size h.edition (4 + length payload) =
+    ap (even_size h.edition) (length-evened h.edition 4 payload) ∙ even-twice h.edition (4 + length payload) in
+    λ j. section0_octets (8 + (first_least h.edition + length local1) + section2_size section2 + even_size h.edition (7 + 2 * length descriptors) + long j + 4) h.edition
+    ++ (section1_octets h local1 (is_some section2) ++ (section2_octets section2 ++ (section3_octets (with_even_length h.edition 7 (octets_of_words descriptors)) subsets (data_flags observed compressed)
+    ++ (section4_octets (evened-twice h.edition 4 payload j) ++ codes "7777"))))
+
+bits-append : (xs ys : List ℕ) → bits_of (xs ++ ys) ≡ bits_of xs ++ bits_of ys
+unfolding bits_of
+bits-append [] ys = refl
+bits-append (x ∷ xs) ys = ap (λ (b : List Bool). bits_of_octet x ++ b) (bits-append xs ys) ∙ sym (append_assoc (bits_of_octet x) (bits_of xs) (bits_of ys))
+
+-- the bits of a payload come first
+bits-by : (b : Bool) (octets : List ℕ) → (tail : List Bool) × (bits_of (with_pad_octet b octets) ≡ bits_of octets ++ tail)
+bits-by true octets = (bits_of (0 ∷ []), bits-append octets (0 ∷ []))
+bits-by false octets = ([], sym (append-nil (bits_of octets)))
+
+pub evened-bits : (edition prefix : ℕ) (octets : List ℕ) → (tail : List Bool) × (bits_of (with_even_length edition prefix octets) ≡ bits_of octets ++ tail)
+evened-bits edition prefix octets = bits-by (is_padded edition (prefix + length octets)) octets
+
+-- ---- The words of octets, one by one.
+
+two-after : (a b i : ℕ) (m : List ℕ) → u16_at (a ∷ b ∷ m) (2 * suc i) ≡ u16_at m (2 * i)
+two-after a b i m = let e : 2 * suc i ≡ suc (suc (2 * i)) = omega arith in
+    let f : suc (suc (2 * i)) + 1 ≡ suc (suc (2 * i + 1)) = omega arith in
+    rw (e, f) refl
+
+-- past the last whole word there is none
+pub words-none : (m : List ℕ) (i : ℕ) → length m < 2 * i + 2 → slice_get (words m) i ≡ None
+words-none [] i past = refl
+words-none (a ∷ []) i past = refl
+words-none (a ∷ b ∷ m) zero past = absurd (omega arith)
+words-none (a ∷ b ∷ m) (suc i) past = words-none m i (omega arith)
+
+-- word i is written by two octets
+pub words-some : (m : List ℕ) (i : ℕ) → 2 * i + 2 ≤ length m → slice_get (words m) i ≡ Some (u16_at m (2 * i))
+words-some [] i within = absurd (omega arith)
+words-some (a ∷ []) i within = absurd (omega arith)
+words-some (a ∷ b ∷ m) zero within = refl
+words-some (a ∷ b ∷ m) (suc i) within = words-some m i (omega arith) ∙ ap Some (sym (two-after a b i m))
+
+-- two octets a word
+pub length-words : (m : List ℕ) → length (words m) ≡ length m / 2
+length-words [] = refl
+length-words (a ∷ []) = refl
+length-words (a ∷ b ∷ m) = omega (arith, length-words m)

@@ -1,18 +1,5 @@
-pub mod AdvanceLemmas
+pub mod FinderLemmas
 pub mod AgainLemmas
-pub mod BufferLemmas
-pub mod CallLemmas
-pub mod EvenLemmas
-pub mod EachReadLemmas
-mod Examples
-pub mod FindingLemmas
-pub mod FitLemmas
-pub mod FrameLemmas
-pub mod InputLemmas
 pub mod LayoutLemmas
-pub mod LongestLemmas
-pub mod LookLemmas
+mod Examples
 pub mod ScanLemmas
-pub mod SectionLemmas
-pub mod WordLemmas
-pub mod WriteLemmas

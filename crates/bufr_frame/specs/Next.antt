@@ -1,10 +1,9 @@
 -- What a call of `Finder::next` returns. (a choice of this project)
 -- Cited by public contracts.
 use Rattle.std.specs.Prelude.{◌≡◌, ℕ, ◌+◌, ◌<◌, ◌≤◌, ◌^◌, max, length, List, [], false, Option, None, IfSome, Result, Ok, Err}
-use Rattle.bufr_frame.specs.Scan.{StreamEvent, scan_from}
+use Rattle.bufr_frame.specs.Scan.{StreamEvent, scan_from, first_event}
 use Rattle.bufr_frame.specs.Events.{events_of}
-use Rattle.bufr_frame.specs.FinderCalls.{FinderModel, held, ReadsOn, CountsReads, HasNoMoreEvents, StopsFinder, ReadsOnlyIfUndecided, GrowsOnlyIfFull}
-use Rattle.bufr_frame.specs.Longest.{first_event}
+use Rattle.bufr_frame.specs.Finder.{FinderModel, held, ReadsOn, CountsReads, HasNoMoreEvents, StopsFinder, ReadsOnlyIfUndecided, GrowsOnlyIfFull}
 use Rattle.bufr_frame.specs.declared.fault.RunFault.{RunFault}
 use Rattle.bufr_frame.specs.declared.finder.Event.{Event}
 use Rattle.bufr_frame.specs.declared.finder.Event.TheVariants.{Frame, Stray, Done}

@@ -1,6 +1,8 @@
--- Numbers and words in octets, most significant octet first. (WMO-No. 306, Volume I.2, FM 94)
+-- Numbers in octets, and words of two octets.
+-- (WMO-No. 306, Volume I.2, FM 94: the most significant octet comes first)
 -- Cited by public contracts.
 use Rattle.std.specs.Prelude.{ℕ, ◌+◌, ◌*◌, ◌/◌, ◌%◌, List, [], ◌∷◌, slice_index}
+use Rattle.bufr_frame.specs.declared.message.Words.{Words}
 
 -- the number that the three octets from index p write
 abbrev pub u24_at : List ℕ → ℕ → ℕ
@@ -29,3 +31,9 @@ two_octets n = n / 256 ∷ n % 256 ∷ []
 abbrev pub octets_of_words : List ℕ → List ℕ
 octets_of_words [] = []
 octets_of_words (word ∷ more) = word / 256 ∷ word % 256 ∷ octets_of_words more
+
+-- ---- The words that an iterator has left.
+
+-- the words that are left
+abbrev pub words_left : Words → List ℕ
+words_left w = words w.octets.now

@@ -1,14 +1,15 @@
--- The events of a stream of octets: its messages, and each `BUFR` where no message begins.
--- Cited by public contracts.
+-- The events of a stream: its messages and stray words, their lengths, and how a scan goes on.
 -- (The word and the length in octets 5 to 7: WMO-No. 306, Volume I.2, FM 94, section 0. The
 -- treatment of a stray word is a choice of this project.)
-use Rattle.std.specs.Prelude.{ℕ, zero, suc, ◌+◌, ◌-◌, Bool, true, false, not, nat_lt, List, [], ◌∷◌, ◌++◌, length, take, drop, codes, if◌then◌else◌, take_while}
+-- Cited by public contracts.
+use Rattle.std.specs.Prelude.{ℕ, zero, suc, ◌+◌, ◌-◌, Bool, true, false, not, nat_lt, List, [], ◌∷◌, ◌++◌, length, take, drop, codes, if◌then◌else◌, take_while, max, ◌≡◌}
 use Rattle.std.specs.Str.{bytes_eq}
 use Rattle.bufr_frame.specs.Octets.{u24_at}
 use Rattle.bufr_frame.specs.declared.fault.Cause.{Cause}
 use Rattle.bufr_frame.specs.declared.fault.Cause.TheVariants.{Cut, ShortLength, NoEnd}
 use Rattle.bufr_frame.specs.declared.finder.Candidate.{Candidate}
 use Rattle.bufr_frame.specs.declared.finder.Candidate.TheVariants.{Nothing, Stray, Frame}
+use Rattle.std.specs.List.{list_all}
 
 -- a message, or a `BUFR` where no message begins; offsets count from 0
 pub data StreamEvent : Type 0 where
@@ -73,3 +74,41 @@ is_decided (StrayAt offset NoEnd) = true
 -- the events of a stream whose end is not known: those before the first that is cut
 abbrev pub open_scan : List ℕ → List StreamEvent
 open_scan s = take_while is_decided (scan s)
+
+-- ---- The greatest length that was stated. (a choice of this project)
+
+-- the length that octets 5 to 7 state, 0 where there are not eight octets
+abbrev pub length_here : List ℕ → ℕ
+length_here m = if nat_lt (length m) 8 then 0 else stated_length m
+
+-- the offset of the `BUFR` of an event
+abbrev pub offset_of : StreamEvent → ℕ
+offset_of (FrameAt offset octets) = offset
+offset_of (StrayAt offset cause) = offset
+
+-- the greatest length that is stated at these events of s, whose first octet is at offset `at`
+abbrev pub longest_of : (at : ℕ) → List ℕ → List StreamEvent → ℕ
+longest_of at s [] = 0
+longest_of at s (event ∷ more) =
+    max (length_here (drop (offset_of event - at) s)) (longest_of at s more)
+
+-- the first event, where there is one
+abbrev pub first_event : List StreamEvent → List StreamEvent
+first_event [] = []
+first_event (event ∷ more) = event ∷ []
+
+-- ---- How a scan goes on after its first events. (a choice of this project)
+
+-- The scan of `rest` begins with `events` and goes on at `rest'`, whatever comes after. After the
+-- end nothing comes.
+pub record Advances (ended : Bool) (at : ℕ) (rest : List ℕ) (events : List StreamEvent) (at' : ℕ)
+    (rest' : List ℕ) : Type 0 where
+  pub whole : (t : List ℕ) → (ended ≡ true → t ≡ [])
+      → scan_from 0 at (rest ++ t) ≡ events ++ scan_from 0 at' (rest' ++ t)
+  -- while the end is not known, these are only events that do not depend on it
+  pub decided : ended ≡ false → list_all is_decided events ≡ true
+
+-- no event is certain yet
+-- rule: output-waits
+abbrev pub NoEventCertain : ℕ → List ℕ → Type 0
+NoEventCertain at rest = take_while is_decided (scan_from 0 at rest) ≡ []

@@ -1,9 +1,10 @@
--- The sections of a message of edition 3 or 4. (WMO-No. 306, Volume I.2, FM 94: sections 0 to 5)
--- Cited by public contracts.
+-- The sections of a message, or the first fault, and messages as `write_message` writes them.
+-- (WMO-No. 306, Volume I.2, FM 94: sections 0 to 5)
 -- Octets count from 0 here: section 1 begins at 8. Three choices of this project: reserved octets
 -- and bits are ignored, bits after the data stay in the payload, and odd sections are read in
 -- edition 3.
-use Rattle.std.specs.Prelude.{ℕ, ◌+◌, ◌-◌, ◌%◌, ◌==◌, ◌&&◌, ◌||◌, Bool, not, nat_lt, nat_le, List, Option, Some, None, Result, Ok, Err, length, slice_index, slice_range, if◌then◌else◌}
+-- Cited by public contracts.
+use Rattle.std.specs.Prelude.{ℕ, ◌+◌, ◌-◌, ◌%◌, ◌==◌, ◌&&◌, ◌||◌, Bool, not, nat_lt, nat_le, List, Option, Some, None, Result, Ok, Err, length, slice_index, slice_range, if◌then◌else◌, ◌≡◌, ◌<◌, true, All, take, drop, codes}
 use Rattle.bufr_frame.specs.Octets.{u24_at, u16_at, words}
 use Rattle.bufr_frame.specs.Section1.{Slot, Flags, slots_of, is_edition, first_least, slot_value, head_in}
 use Rattle.bufr_frame.specs.declared.section1.Head.{Head}
@@ -107,3 +108,38 @@ sections_of m = if not (is_edition (edition_of m)) then Err (Edition (edition_of
   p3 ← section_end m 3 7 p2
   p4 ← section_end m 4 4 p3
   parts_if_end_matches m p1 p2 p3 p4
+
+-- ---- Messages that are written as `write_message` writes them. (WMO-No. 306, Volume I.2, FM 94:
+-- sections 0 to 5)
+
+-- the index where section 2 begins, or section 3 where there is no section 2
+abbrev pub section2_begins : List ℕ → ℕ
+section2_begins m = 8 + u24_at m 8
+
+-- the index where section 3 begins
+abbrev pub section3_begins : List ℕ → ℕ
+section3_begins m =
+    if has_section2 m then section2_begins m + u24_at m (section2_begins m) else section2_begins m
+
+-- the index where section 4 begins
+abbrev pub section4_begins : List ℕ → ℕ
+section4_begins m = section3_begins m + u24_at m (section3_begins m)
+
+-- A message as a finder returns it, with all reserved octets and bits zero and no octet left over
+-- in section 3. In edition 3 sections 3 and 4 are even, and the octet left over in section 3 is
+-- zero.
+-- rule: canonical
+pub record IsPlain (m : List ℕ) : Type 0 where
+  pub octets : All (λ octet. octet < 256) m
+  pub word : take 4 m ≡ codes "BUFR"
+  pub size : u24_at m 4 ≡ length m
+  pub flags : slot_value (slots_in m) m 11 Flags % 128 ≡ 0
+  pub section2 : has_section2 m ≡ true → slice_index m (section2_begins m + 3) ≡ 0
+  pub section3 : slice_index m (section3_begins m + 3) ≡ 0
+  pub whole : edition_of m ≡ 4 → u24_at m (section3_begins m) % 2 ≡ 1
+  pub data_flags : slice_index m (section3_begins m + 6) % 64 ≡ 0
+  pub section4 : slice_index m (section4_begins m + 3) ≡ 0
+  pub end : drop (length m - 4) m ≡ codes "7777"
+  pub even3 : edition_of m ≡ 3 → u24_at m (section3_begins m) % 2 ≡ 0
+  pub left_over : edition_of m ≡ 3 → slice_index m (section4_begins m - 1) ≡ 0
+  pub even4 : edition_of m ≡ 3 → u24_at m (section4_begins m) % 2 ≡ 0

@@ -1,9 +1,8 @@
 //! The finder: the messages of a stream, one after another, and its search for `BUFR`.
 ghost use Rattle.std.specs.Prelude.{◌≡◌, ◌≢◌, ◌≤◌, ◌<◌, ◌+◌, ◌-◌, ◌^◌, ℕ, List, [], ◌∷◌, ◌++◌, length, take, drop, min, codes, IfOk, IfSome, MatchOption, vec_len, Some, None};
 ghost use Rattle.memchr.specs.Find.{FindsNeedle, IsFirst, OccursAt};
-ghost use Rattle.bufr_frame.specs.Scan.{classify, stated_length, has_word_at};
-ghost use Rattle.bufr_frame.specs.FinderSteps.{IsSearchResult};
-ghost use Rattle.bufr_frame.specs.Longest.{length_here};
+ghost use Rattle.bufr_frame.specs.Scan.{classify, stated_length, has_word_at, length_here};
+ghost use Rattle.bufr_frame.specs.Finder.{IsSearchResult};
 
 use crate::fault::{Cause, RunFault};
 use crate::input::InputBuffer;
@@ -73,7 +72,7 @@ pub struct Finder {
 
 impl Model for Finder {
     ghost use Rattle.std.specs.Prelude.{take, drop};
-    ghost use Rattle.bufr_frame.specs.FinderCalls.{FinderModel};
+    ghost use Rattle.bufr_frame.specs.Finder.{FinderModel};
 
     ghost Value = { FinderModel };
 
@@ -88,7 +87,7 @@ impl Model for Finder {
       room = f.input.room;
     } };
 
-    ghost use Rattle.bufr_frame.specs.FinderInvariant.{IsFinder};
+    ghost use Rattle.bufr_frame.specs.Finder.{IsFinder};
 
     ghost invariant = { IsFinder };
 }
@@ -97,15 +96,12 @@ impl Finder {
     ghost use Rattle.std.specs.Prelude.{◌≡◌, ◌≢◌, ◌≤◌, ◌<◌, ◌+◌, ◌-◌, ◌^◌, ℕ, List, [], ◌++◌, Option, Some, None, true, false, max, length, take, drop, IfSome, IfNone, Err};
     ghost use Rattle.std.specs.Borrow.{sem};
     ghost use Rattle.std.specs.Io.BufRead.{Rests};
-    ghost use Rattle.bufr_bits.specs.Counts.{counted};
+    ghost use Rattle.bufr_bits.specs.Device.{counted};
     ghost use Rattle.bufr_frame.specs.contracts.finder.Finder.{the_row};
-    ghost use Rattle.bufr_frame.specs.Scan.{candidate_len, scan_from};
+    ghost use Rattle.bufr_frame.specs.Scan.{candidate_len, scan_from, Advances, length_here};
     ghost use Rattle.bufr_frame.specs.Events.{events_of, IsEvent};
-    ghost use Rattle.bufr_frame.specs.Lookahead.{Advances};
-    ghost use Rattle.bufr_frame.specs.FinderSteps.{IsSearchResult, IsNextEvent, AdvancesFinder, PassesEvent, ReadsMore, KeepsRun, events_by, seen_by, passed_events, gone_to};
-    ghost use Rattle.bufr_frame.specs.Longest.{length_here};
-    ghost use Rattle.bufr_frame.specs.Runs.{read_failures_after, max_reads};
-    ghost use Rattle.bufr_frame.specs.FinderCalls.{FinderModel, held, Follows, ReadsOn, CountsReads, HasNoMoreEvents, ReadsOnlyIfUndecided, new_finder};
+    ghost use Rattle.bufr_frame.specs.Finder.{IsSearchResult, IsNextEvent, AdvancesFinder, PassesEvent, ReadsMore, KeepsRun, events_by, seen_by, passed_events, gone_to, FinderModel, held, Follows, ReadsOn, CountsReads, HasNoMoreEvents, ReadsOnlyIfUndecided, new_finder};
+    ghost use Rattle.bufr_frame.specs.Input.{read_failures_after, max_reads};
     ghost use Rattle.bufr_frame.specs.Next.{ReturnsNextEvent, RepeatsFault, events_returned};
 
     /// A finder that has read nothing.

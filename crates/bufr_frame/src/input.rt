@@ -1,9 +1,8 @@
 //! An input, read piece by piece or to its end.
 ghost use Rattle.std.specs.Prelude.{◌≡◌, ◌≤◌, ◌<◌, ◌+◌, ◌-◌, ◌*◌, ◌^◌, ℕ, List, ◌++◌, take, length, drop, slice_range, Ok, IfOk, IfErr, OnErr, vec_len, vec_capacity};
 ghost use Rattle.std.specs.Io.KnownBytes.{Consumes, Keeps, IsAtEnd};
-ghost use Rattle.bufr_bits.specs.Counts.{counted, failures_after};
-ghost use Rattle.bufr_frame.specs.Runs.{read_failures_after, max_reads};
-ghost use Rattle.bufr_frame.specs.Input.{ReadsOnce, ReadsInput};
+ghost use Rattle.bufr_bits.specs.Device.{counted, failures_after};
+ghost use Rattle.bufr_frame.specs.Input.{read_failures_after, max_reads, ReadsOnce, ReadsInput};
 
 use crate::fault::RunFault;
 use bufr_bits::{Failed, Source};
@@ -42,8 +41,7 @@ pub struct InputBuffer {
 
 impl Model for InputBuffer {
     ghost use Rattle.std.specs.Prelude.{◌≡◌, ◌≤◌, ◌-◌, slice_range, vec_len, vec_capacity};
-    ghost use Rattle.bufr_frame.specs.Runs.{max_reads};
-    ghost use Rattle.bufr_frame.specs.Input.{InputModel};
+    ghost use Rattle.bufr_frame.specs.Input.{max_reads, InputModel};
 
     ghost Value = { InputModel };
 
@@ -61,8 +59,7 @@ impl Model for InputBuffer {
 
 impl InputBuffer {
     ghost use Rattle.std.specs.Prelude.{◌≡◌, ◌≤◌, ◌<◌, ◌+◌, ◌-◌, ◌*◌, ◌^◌, ℕ, List, [], ◌∷◌, ◌++◌, length, drop, true, false, IfOk};
-    ghost use Rattle.bufr_frame.specs.Runs.{read_failures_after, AddsReads, max_reads};
-    ghost use Rattle.bufr_frame.specs.Input.{InputModel, FillsInput, new_input};
+    ghost use Rattle.bufr_frame.specs.Input.{read_failures_after, AddsReads, max_reads, InputModel, FillsInput, new_input};
 
     /// A buffer of an input that was not read. It takes no memory.
     pub fn new(alloc: Global) -> InputBuffer

@@ -1,14 +1,11 @@
 //! Laws on several calls together: the events of a stream, and messages written again.
 ghost use Rattle.std.specs.Prelude.{◌≡◌, List, [], ◌+◌, ◌++◌, ℕ, Option, Result, Ok, ◌<◌, ◌≤◌, ◌%◌, Bool, length, slice_index, true, false};
-ghost use Rattle.bufr_frame.specs.Scan.{StreamEvent, scan, scan_from, open_scan};
-ghost use Rattle.bufr_frame.specs.Lookahead.{Advances, NoEventCertain};
-ghost use Rattle.bufr_frame.specs.Longest.{longest_of, first_event};
-ghost use Rattle.bufr_frame.specs.FinderCalls.{FinderModel, new_finder, ReadsAndPasses, RaisesLongest, HasNoMoreEvents};
+ghost use Rattle.bufr_frame.specs.Scan.{StreamEvent, scan, scan_from, open_scan, Advances, NoEventCertain, longest_of, first_event};
+ghost use Rattle.bufr_frame.specs.Finder.{FinderModel, new_finder, ReadsAndPasses, RaisesLongest, HasNoMoreEvents};
 ghost use Rattle.bufr_frame.specs.Next.{ReturnsNextEvent, HoldsUnread};
 ghost use Rattle.bufr_frame.specs.Layout.{IsFitting, with_even_length, is_writable, max_extra_octets, message_octets, message_size, max_octets, parts_in, parts_of, size_from};
 ghost use Rattle.bufr_frame.specs.Octets.{u24_at};
-ghost use Rattle.bufr_frame.specs.Plain.{IsPlain, section3_begins, section4_begins};
-ghost use Rattle.bufr_frame.specs.Sections.{Sections, edition_of, sections_of};
+ghost use Rattle.bufr_frame.specs.Sections.{IsPlain, section3_begins, section4_begins, Sections, edition_of, sections_of};
 ghost use Rattle.bufr_frame.specs.declared.fault.RunFault.{RunFault};
 ghost use Rattle.bufr_frame.specs.declared.finder.Event.{Event};
 ghost use Rattle.bufr_frame.specs.declared.section1.Head.{Head};

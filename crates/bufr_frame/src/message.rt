@@ -145,7 +145,7 @@ impl<'a> Message<'a> {
     ghost use Rattle.std.specs.Option.{option_map};
     ghost use Rattle.bufr_bits.specs.BitSlice.{octets_of};
     ghost use Rattle.bufr_frame.specs.Sections.{sections_of, parts};
-    ghost use Rattle.bufr_frame.specs.Words.{words_left};
+    ghost use Rattle.bufr_frame.specs.Octets.{words_left};
 
     /// Divides a message of at least 12 octets into its sections. It reads octet 8, and the octets
     /// from 9 to the last four; it takes the rest unchecked. It takes no memory.
@@ -325,8 +325,7 @@ pub struct Words<'a> {
 
 impl<'a> Words<'a> {
     ghost use Rattle.std.specs.Prelude.{◌≡◌, ◌↔◌, [], length, IsTrue};
-    ghost use Rattle.bufr_frame.specs.Octets.{words};
-    ghost use Rattle.bufr_frame.specs.Words.{words_left};
+    ghost use Rattle.bufr_frame.specs.Octets.{words, words_left};
 
     /// The words of `octets`.
     pub(crate) fn new(octets: &'a [u8]) -> Words<'a>
@@ -352,7 +351,7 @@ impl<'a> Words<'a> {
 
 impl<'a> Iterator for Words<'a> {
     ghost use Rattle.std.specs.Iterator.{YieldsFirst, item_count};
-    ghost use Rattle.bufr_frame.specs.Words.{words_left};
+    ghost use Rattle.bufr_frame.specs.Octets.{words_left};
 
     type Item = u16;
 

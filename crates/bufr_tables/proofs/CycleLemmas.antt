@@ -6,9 +6,8 @@ use Rattle.std.proofs.lemmas.List.{append_assoc, get_or_append_left, get_or-set_
 use Rattle.std.proofs.lemmas.List.Elements.{Contains-append_cases, Contains-append_left, Contains-append_right, Contains-push, Contains-push_cases, Contains-get_or}
 use Rattle.std.specs.List.{find}
 use borrow.Author.Count.{below_more}
-use Rattle.bufr_tables.specs.Chain.{Chain, HasNoCycle, IsFirstCycle, Leads, ReachesItself, one, more}
+use Rattle.bufr_tables.specs.TableD.{Chain, HasNoCycle, IsFirstCycle, Leads, ReachesItself, one, more, Sequence, fxys_of, members_or_none, members_of}
 use Rattle.bufr_tables.specs.Cycle.{AreSeen, IsAbove, IsPassed, IsSearched, IsSet, IsVisited, NeverRises, NeverRisesFirst, rank_of, unset}
-use Rattle.bufr_tables.specs.TableD.{Sequence, fxys_of, members_or_none, members_of}
 
 -- chains one after another
 pub chain-append : {table : List Sequence} {a b c : ℕ} → Chain table a b → Chain table b c → Chain table a c

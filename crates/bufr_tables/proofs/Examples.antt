@@ -4,12 +4,10 @@ use Rattle.std.specs.Prelude.{⊤}
 use Rattle.csv.specs.Machine.{next_record}
 use Rattle.csv.specs.Reading.{records_from, strip_bom}
 use Rattle.csv.specs.Records.{field_at}
-use Rattle.bufr_tables.specs.Chain.{IsFirstCycle, Leads, one, more}
+use Rattle.bufr_tables.specs.TableD.{IsFirstCycle, Leads, one, more}
 use Rattle.bufr_tables.specs.Fxy.{fxy_of, fxy_text}
-use Rattle.bufr_tables.specs.Kind.{begins_with, is_words, kind_of, is_code_table}
-use Rattle.bufr_tables.specs.Number.{if_i64, i64_of, integer_of, natural_of}
-use Rattle.bufr_tables.specs.Records.{records_of}
-use Rattle.bufr_tables.specs.Table.{table_from, table_of}
+use Rattle.bufr_tables.specs.TableB.{begins_with, is_words, kind_of, is_code_table}
+use Rattle.bufr_tables.specs.Records.{if_i64, i64_of, integer_of, natural_of, records_of, table_from, table_of}
 use Rattle.bufr_tables.specs.TableB as b
 use Rattle.bufr_tables.specs.TableD as d
 use Rattle.bufr_tables.specs.declared.fault.TableFault.TheVariants.{Header, Row, Duplicate, TableSize, Csv}

@@ -1,10 +1,54 @@
--- The steps of the expansion.
-use Rattle.std.proofs.Common.{◌≡◌, ℕ, zero, suc, ◌+◌, ◌-◌, ◌<◌, Bool, false, List, [], ◌∷◌, drop, Option, Some, None, Result, Ok, Err, refl, sym, ◌∙◌, ap, arith, sub-one}
+-- Steps of the expansion: trees, cells that are read back, and one part at a time.
+use Rattle.std.proofs.Common.{◌≡◌, max, Bool, true, false, ◌||◌, refl, ◌∙◌, ap, arith, ℕ, zero, suc, ◌+◌, ◌-◌, ◌<◌, List, [], ◌∷◌, drop, Option, Some, None, Result, Ok, Err, sym, sub-one, ◌++◌, length, subst, append_assoc, ◌≤◌, set, ◌≢◌, take}
+use Rattle.bufr_tables.specs.Tree.{Tree, bare, element, operator, fixed, delayed, join, depth, consumes, is_inserted_text, gives_width, size, places}
 use Rattle.bufr_tables.specs.declared.fault.TemplateFault.{TemplateFault}
-use Rattle.bufr_tables.specs.Operators.{gives_width}
-use Rattle.bufr_tables.specs.Tree.{Tree, bare, join, size}
-use Rattle.bufr_tables.specs.Expansion.{Tables, Expansion, part, ◌>>=◌, part_of, level, inner_of}
-use Rattle.bufr_tables.proofs.TreeLemmas.{join_assoc}
+use Rattle.bufr_tables.specs.Expansion.{Tables, Expansion, part, ◌>>=◌, part_of, level, inner_of, ExpandedPart, unless, opened, with_places, body_of, sequence_part, element_part, group_part, operator_part, part_by}
+use Rattle.bufr_tables.specs.declared.template.Cell.{Cell}
+use Rattle.bufr_tables.specs.Cells.{first_tree, cells_of, factor_first, prepend_cell, read_cells, trees_of_cells, AreCellsOf, IsTemplate}
+use Rattle.std.proofs.lemmas.List.{append-nil, length-append}
+use Rattle.std.proofs.Math.Seq.{set-append_seam}
+use Rattle.bufr_tables.specs.declared.expand.Passes.{Passes}
+use Rattle.bufr_tables.specs.Growth.{own_places, group_of, first_cell, factor_cells, BuilderModel, growth, places_so_far, push_tree, with_open_group, with_closed_group, PushesTree, PushesPart, IsFaultOrMemory, PushesTreeUnlessMemory, GivesPart, GivesGrowth, OpensGroup}
+use Rattle.std.proofs.lemmas.Bool.{le-leb}
+use Rattle.std.specs.Prelude.{ok_or}
+use Rattle.bufr_tables.specs.Fxy.{f_of, x_of}
+use Rattle.bufr_tables.specs.declared.template.Cell.TheVariants as cell
+use Rattle.bufr_tables.specs.declared.expand.Passes.TheVariants as passes
+use Rattle.bufr_tables.specs.declared.fault.TemplateFault.TheVariants as fault
+
+-- ---- Trees one after another.
+
+pub join_assoc : (a b c : Tree) → join (join a b) c ≡ join a (join b c)
+join_assoc bare b c = refl
+join_assoc (element fxy rest) b c = ap (element fxy) (join_assoc rest b c)
+join_assoc (operator fxy rest) b c = ap (operator fxy) (join_assoc rest b c)
+join_assoc (fixed count body rest) b c = ap (fixed count body) (join_assoc rest b c)
+join_assoc (delayed factor body rest) b c = ap (delayed factor body) (join_assoc rest b c)
+
+pub join-bare : (a : Tree) → join a bare ≡ a
+join-bare bare = refl
+join-bare (element fxy rest) = ap (element fxy) (join-bare rest)
+join-bare (operator fxy rest) = ap (operator fxy) (join-bare rest)
+join-bare (fixed count body rest) = ap (fixed count body) (join-bare rest)
+join-bare (delayed factor body rest) = ap (delayed factor body) (join-bare rest)
+
+pub depth-join : (a b : Tree) → depth (join a b) ≡ max (depth a) (depth b)
+depth-join bare b = omega arith
+depth-join (element fxy rest) b = depth-join rest b
+depth-join (operator fxy rest) b = depth-join rest b
+depth-join (fixed count body rest) b = omega (arith, depth-join rest b)
+depth-join (delayed factor body rest) b = omega (arith, depth-join rest b)
+
+pub or_assoc : (a b c : Bool) → (a || (b || c)) ≡ ((a || b) || c)
+or_assoc true b c = refl
+or_assoc false b c = refl
+
+pub consumes-join : (a b : Tree) → consumes (join a b) ≡ (consumes a || consumes b)
+consumes-join bare b = refl
+consumes-join (element fxy rest) b = refl
+consumes-join (operator fxy rest) b = ap (λ r. is_inserted_text fxy || r) (consumes-join rest b) ∙ or_assoc (is_inserted_text fxy) (consumes rest) (consumes b)
+consumes-join (fixed count body rest) b = ap (λ r. consumes body || r) (consumes-join rest b) ∙ or_assoc (consumes body) (consumes rest) (consumes b)
+consumes-join (delayed factor body rest) b = refl
 
 -- what is defined after nodes that exist already
 abbrev pub prefixed : Tree → Result Tree TemplateFault → Result Tree TemplateFault
@@ -46,3 +90,336 @@ pub inner_of-none : (tables : Tables) (room : ℕ) → room ≡ 0 → inner_of t
 unfolding inner_of
 inner_of-none tables zero h = refl
 inner_of-none tables (suc room) h = absurd (omega arith)
+
+-- ---- Cells are read back as the tree that they hold.
+
+read_flattened : (t : Tree) (at : ℕ) (tail : List Cell) (x : Tree) (xs : List Tree) → read_cells tail ≡ x ∷ xs → read_cells (cells_of t at tail) ≡ join t x ∷ xs
+read_flattened bare at tail x xs h = h
+read_flattened (element fxy more) at tail x xs h = ap (prepend_cell (cell.Element fxy) (factor_first (cells_of more (at + 1) tail))) (read_flattened more (at + 1) tail x xs h)
+read_flattened (operator fxy more) at tail x xs h = ap (prepend_cell (cell.Operator fxy) (factor_first (cells_of more (at + 1) tail))) (read_flattened more (at + 1) tail x xs h)
+read_flattened (fixed n body more) at tail x xs h =
+    let suffix : List Cell = cell.PassEnd ∷ cells_of more (at + 2 + size body) tail in
+    ap (prepend_cell (cell.Fixed n (at + 2 + size body)) (factor_first (cells_of body (at + 1) suffix))) (read_flattened body (at + 1) suffix bare (join more x ∷ xs) (ap (λ ts. bare ∷ ts) (read_flattened more (at + 2 + size body) tail x xs h)))
+    ∙ ap (λ b. fixed n b (join more x) ∷ xs) (join-bare body)
+read_flattened (delayed fxy body more) at tail x xs h =
+    let suffix : List Cell = cell.PassEnd ∷ cells_of more (at + 3 + size body) tail in
+    ap (prepend_cell (cell.Delayed (at + 3 + size body)) fxy) (read_flattened body (at + 2) suffix bare (join more x ∷ xs) (ap (λ ts. bare ∷ ts) (read_flattened more (at + 3 + size body) tail x xs h)))
+    ∙ ap (λ b. delayed fxy b (join more x) ∷ xs) (join-bare body)
+
+pub raised_cells : (t : Tree) → trees_of_cells (cells_of t 0 (cell.Finish ∷ [])) ≡ t
+raised_cells t = ap first_tree (read_flattened t 0 (cell.Finish ∷ []) bare [] refl) ∙ join-bare t
+
+pub raised_flattened : (cells : List Cell) (t : Tree) → AreCellsOf cells t → trees_of_cells cells ≡ t
+raised_flattened cells t h = ap trees_of_cells h.flattened ∙ raised_cells t
+
+pub kept_raised : (cells : List Cell) (depth_reported : ℕ) (t : Tree) → IsTemplate cells depth_reported t → IsTemplate cells depth_reported (trees_of_cells cells)
+kept_raised cells depth_reported t h = subst (IsTemplate cells depth_reported) (sym (raised_flattened cells t h.is_flattened)) h
+
+pub length-cells : (t : Tree) (at : ℕ) (tail : List Cell) → length (cells_of t at tail) ≡ size t + length tail
+length-cells bare at tail = omega arith
+length-cells (element fxy more) at tail = omega (arith, length-cells more (at + 1) tail)
+length-cells (operator fxy more) at tail = omega (arith, length-cells more (at + 1) tail)
+length-cells (fixed n body more) at tail =
+    omega (arith, length-cells body (at + 1) (cell.PassEnd ∷ cells_of more (at + 2 + size body) tail), length-cells more (at + 2 + size body) tail)
+length-cells (delayed fxy body more) at tail =
+    omega (arith, length-cells body (at + 2) (cell.PassEnd ∷ cells_of more (at + 3 + size body) tail), length-cells more (at + 3 + size body) tail)
+
+pub length-flattened : (cells : List Cell) (t : Tree) → AreCellsOf cells t → length cells ≡ places t
+length-flattened cells t h = omega (arith, ap length h.flattened, length-cells t 0 (cell.Finish ∷ []))
+
+pub length-kept : (cells : List Cell) (depth_reported : ℕ) (t : Tree) → IsTemplate cells depth_reported t → length cells ≡ places t
+length-kept cells depth_reported t h = length-flattened cells t h.is_flattened
+
+-- a body, then the rest, then the tail
+cells_group : (body : Tree) (at : ℕ) (rest tail suffix : List Cell) → ((t : List Cell) → cells_of body at t ≡ cells_of body at [] ++ t) → suffix ≡ rest ++ tail → cells_of body at (cell.PassEnd ∷ suffix) ≡ cells_of body at (cell.PassEnd ∷ rest) ++ tail
+cells_group body at rest tail suffix h e =
+    h (cell.PassEnd ∷ suffix) ∙ ap (λ l. cells_of body at [] ++ (cell.PassEnd ∷ l)) e ∙ sym (append_assoc (cells_of body at []) (cell.PassEnd ∷ rest) tail)
+    ∙ ap (λ l. l ++ tail) (sym (h (cell.PassEnd ∷ rest)))
+
+pub cells-tail : (t : Tree) (at : ℕ) (tail : List Cell) → cells_of t at tail ≡ cells_of t at [] ++ tail
+cells-tail bare at tail = refl
+cells-tail (element fxy more) at tail = ap (λ l. cell.Element fxy ∷ l) (cells-tail more (at + 1) tail)
+cells-tail (operator fxy more) at tail = ap (λ l. cell.Operator fxy ∷ l) (cells-tail more (at + 1) tail)
+cells-tail (fixed n body more) at tail =
+    ap (λ l. cell.Fixed n (at + 2 + size body) ∷ l)
+    (cells_group body (at + 1) (cells_of more (at + 2 + size body) []) tail (cells_of more (at + 2 + size body) tail) (cells-tail body (at + 1)) (cells-tail more (at + 2 + size body) tail))
+cells-tail (delayed fxy body more) at tail =
+    ap (λ l. cell.Delayed (at + 3 + size body) ∷ cell.Factor fxy ∷ l)
+    (cells_group body (at + 2) (cells_of more (at + 3 + size body) []) tail (cells_of more (at + 3 + size body) tail) (cells-tail body (at + 2)) (cells-tail more (at + 3 + size body) tail))
+
+pub cells-join : (a b : Tree) (at : ℕ) (tail : List Cell) → cells_of (join a b) at tail ≡ cells_of a at (cells_of b (at + size a) tail)
+cells-join bare b at tail = ap (λ k. cells_of b k tail) (omega arith)
+cells-join (element fxy more) b at tail = ap (λ l. cell.Element fxy ∷ l) (cells-join more b (at + 1) tail ∙ ap (λ k. cells_of more (at + 1) (cells_of b k tail)) (omega arith))
+cells-join (operator fxy more) b at tail = ap (λ l. cell.Operator fxy ∷ l) (cells-join more b (at + 1) tail ∙ ap (λ k. cells_of more (at + 1) (cells_of b k tail)) (omega arith))
+cells-join (fixed n body more) b at tail =
+    ap (λ l. cell.Fixed n (at + 2 + size body) ∷ cells_of body (at + 1) (cell.PassEnd ∷ l))
+    (cells-join more b (at + 2 + size body) tail ∙ ap (λ k. cells_of more (at + 2 + size body) (cells_of b k tail)) (omega arith))
+cells-join (delayed fxy body more) b at tail =
+    ap (λ l. cell.Delayed (at + 3 + size body) ∷ cell.Factor fxy ∷ cells_of body (at + 2) (cell.PassEnd ∷ l))
+    (cells-join more b (at + 3 + size body) tail ∙ ap (λ k. cells_of more (at + 3 + size body) (cells_of b k tail)) (omega arith))
+
+-- ---- Cells with more after them.
+
+pub same_growth : (c c' : List Cell) (n n' d d' : ℕ) (f f' : Bool) → c ≡ c' → n ≡ n' → d ≡ d' → f ≡ f' → growth c n d f ≡ growth c' n' d' f'
+same_growth c c' n n' d d' f f' p q r s = ap (λ x. growth x n d f) p ∙ ap (λ x. growth c' x d f) q ∙ ap (λ x. growth c' n' x f) r ∙ ap (growth c' n' d') s
+
+or_false : (a : Bool) → a ≡ (a || false)
+or_false true = refl
+or_false false = refl
+
+or_true : (a : Bool) → true ≡ (a || true)
+or_true true = refl
+or_true false = refl
+
+pub length-grow : (g : BuilderModel) (t : Tree) → length (push_tree g t).cells ≡ length g.cells + size t
+length-grow g t = omega (arith, length-append g.cells (cells_of t (length g.cells) []), length-cells t (length g.cells) [])
+
+pub places_of-grow : (g : BuilderModel) (t : Tree) → places_so_far (push_tree g t) ≡ places_so_far g + size t
+places_of-grow g t = omega (arith, length-grow g t)
+
+pub grow-bare : (g : BuilderModel) → g.groups ≤ g.deep → g ≡ push_tree g bare
+grow-bare g h = same_growth g.cells (g.cells ++ []) g.groups g.groups g.deep (max g.deep (g.groups + 0)) g.full (g.full || false) (sym (append-nil g.cells)) refl (omega arith) (or_false g.full)
+
+pub grow-grow : (g : BuilderModel) (a b : Tree) → push_tree (push_tree g a) b ≡ push_tree g (join a b)
+grow-grow g a b =
+    let at : ℕ = length g.cells in
+    same_growth (push_tree (push_tree g a) b).cells (push_tree g (join a b)).cells g.groups g.groups (push_tree (push_tree g a) b).deep (push_tree g (join a b)).deep (push_tree (push_tree g a) b).full (push_tree g (join a b)).full
+    (append_assoc g.cells (cells_of a at []) (cells_of b (length (push_tree g a).cells) [])
+    ∙ ap (λ k. g.cells ++ (cells_of a at [] ++ cells_of b k [])) (length-grow g a)
+    ∙ ap (λ l. g.cells ++ l) (sym (cells-tail a at (cells_of b (at + size a) [])) ∙ sym (cells-join a b at [])))
+    refl
+    (omega (arith, depth-join a b))
+    (sym (or_assoc g.full (consumes a) (consumes b)) ∙ ap (λ c. g.full || c) (sym (consumes-join a b)))
+
+-- the cells of a group, from those that exist when its body is flattened
+group_cells : (cells : List Cell) (p : Passes) (body : Tree) (place : ℕ) → place ≡ length cells
+    → set (((cells ++ first_cell p 0 ∷ factor_cells p) ++ cells_of body (length (cells ++ first_cell p 0 ∷ factor_cells p)) []) ++ cell.PassEnd ∷ []) place (first_cell p (length cells + own_places p + size body))
+    ≡ cells ++ cells_of (group_of p body) (length cells) []
+group_cells cells (passes.Fixed count) body place e =
+    let at : ℕ = length cells in
+    let here : length (cells ++ cell.Fixed count 0 ∷ []) ≡ at + 1 = omega (arith, length-append cells (cell.Fixed count 0 ∷ [])) in
+    ap (λ k. set (((cells ++ cell.Fixed count 0 ∷ []) ++ cells_of body k []) ++ cell.PassEnd ∷ []) place (cell.Fixed count (at + 2 + size body))) here
+    ∙ ap (λ l. set l place (cell.Fixed count (at + 2 + size body))) (append_assoc (cells ++ cell.Fixed count 0 ∷ []) (cells_of body (at + 1) []) (cell.PassEnd ∷ []) ∙ append_assoc cells (cell.Fixed count 0 ∷ []) (cells_of body (at + 1) [] ++ cell.PassEnd ∷ []))
+    ∙ ap (λ k. set (cells ++ cell.Fixed count 0 ∷ (cells_of body (at + 1) [] ++ cell.PassEnd ∷ [])) k (cell.Fixed count (at + 2 + size body))) e
+    ∙ set-append_seam cells (cell.Fixed count 0) (cells_of body (at + 1) [] ++ cell.PassEnd ∷ []) (cell.Fixed count (at + 2 + size body))
+    ∙ ap (λ l. cells ++ cell.Fixed count (at + 2 + size body) ∷ l) (sym (cells-tail body (at + 1) (cell.PassEnd ∷ [])))
+group_cells cells (passes.Delayed factor) body place e =
+    let at : ℕ = length cells in
+    let here : length (cells ++ cell.Delayed 0 ∷ cell.Factor factor ∷ []) ≡ at + 2 = omega (arith, length-append cells (cell.Delayed 0 ∷ cell.Factor factor ∷ [])) in
+    ap (λ k. set (((cells ++ cell.Delayed 0 ∷ cell.Factor factor ∷ []) ++ cells_of body k []) ++ cell.PassEnd ∷ []) place (cell.Delayed (at + 3 + size body))) here
+    ∙ ap (λ l. set l place (cell.Delayed (at + 3 + size body))) (append_assoc (cells ++ cell.Delayed 0 ∷ cell.Factor factor ∷ []) (cells_of body (at + 2) []) (cell.PassEnd ∷ []) ∙ append_assoc cells (cell.Delayed 0 ∷ cell.Factor factor ∷ []) (cells_of body (at + 2) [] ++ cell.PassEnd ∷ []))
+    ∙ ap (λ k. set (cells ++ cell.Delayed 0 ∷ cell.Factor factor ∷ (cells_of body (at + 2) [] ++ cell.PassEnd ∷ [])) k (cell.Delayed (at + 3 + size body))) e
+    ∙ set-append_seam cells (cell.Delayed 0) (cell.Factor factor ∷ (cells_of body (at + 2) [] ++ cell.PassEnd ∷ [])) (cell.Delayed (at + 3 + size body))
+    ∙ ap (λ l. cells ++ cell.Delayed (at + 3 + size body) ∷ cell.Factor factor ∷ l) (sym (cells-tail body (at + 2) (cell.PassEnd ∷ [])))
+
+pub length-begun : (g : BuilderModel) (p : Passes) → length (with_open_group g p).cells + 1 ≡ length g.cells + own_places p
+length-begun g (passes.Fixed count) = omega (arith, length-append g.cells (cell.Fixed count 0 ∷ []))
+length-begun g (passes.Delayed factor) = omega (arith, length-append g.cells (cell.Delayed 0 ∷ cell.Factor factor ∷ []))
+
+pub places_of-begun : (g : BuilderModel) (p : Passes) → places_so_far (with_open_group g p) ≡ places_so_far g + own_places p
+places_of-begun g p = omega (arith, length-begun g p)
+
+group_depth : (p : Passes) (body : Tree) → depth (group_of p body) ≡ 1 + depth body
+group_depth (passes.Fixed count) body = omega arith
+group_depth (passes.Delayed factor) body = omega arith
+
+group_consumes : (p : Passes) (body : Tree) → consumes body ≡ true → true ≡ consumes (group_of p body)
+group_consumes (passes.Fixed count) body h = sym h ∙ or_false (consumes body)
+group_consumes (passes.Delayed factor) body h = refl
+
+-- a group that was begun, given a body that takes bits, and ended
+pub ended-begun : (g : BuilderModel) (p : Passes) (body : Tree) (place : ℕ) → place ≡ length g.cells → consumes body ≡ true → with_closed_group (push_tree (with_open_group g p) body) place p ≡ push_tree g (group_of p body)
+ended-begun g p body place e full =
+    same_growth (with_closed_group (push_tree (with_open_group g p) body) place p).cells (push_tree g (group_of p body)).cells (with_closed_group (push_tree (with_open_group g p) body) place p).groups g.groups (with_closed_group (push_tree (with_open_group g p) body) place p).deep (push_tree g (group_of p body)).deep (with_closed_group (push_tree (with_open_group g p) body) place p).full (push_tree g (group_of p body)).full
+    (ap (λ k. set ((push_tree (with_open_group g p) body).cells ++ cell.PassEnd ∷ []) place (first_cell p k)) (let n : length (push_tree (with_open_group g p) body).cells + 1 ≡ length g.cells + own_places p + size body = omega (arith, length-grow (with_open_group g p) body, length-begun g p) in n)
+    ∙ group_cells g.cells p body place e)
+    (omega arith)
+    (omega (arith, group_depth p body))
+    (full ∙ or_true g.full ∙ ap (λ c. g.full || c) (group_consumes p body full))
+
+-- ---- The definition of one part, at what the code has found out.
+
+-- a part under another name
+pub gives_same : (g : BuilderModel) (a b : Result ExpandedPart TemplateFault) (answer : Result ℕ TemplateFault) (new : BuilderModel) → a ≡ b → GivesPart g a answer new → GivesPart g b answer new
+gives_same g a b answer new e = subst (λ z. GivesPart g z answer new) e
+
+pub part-element : (tables : Tables) (inner : Option Expansion) (given : Bool) (places d : ℕ) (after : List ℕ) (f : ℕ) → f ≡ f_of d → f ≡ 0 → element_part tables given places d ≡ part_of tables inner given places d after
+unfolding part_of
+part-element tables inner given places d after f e h = ap (λ z. part_by z tables inner given places d after) (sym h ∙ e)
+
+pub part-group : (tables : Tables) (inner : Option Expansion) (given : Bool) (places d : ℕ) (after : List ℕ) (f : ℕ) → f ≡ f_of d → f ≡ 1 → group_part tables inner places d after ≡ part_of tables inner given places d after
+unfolding part_of
+part-group tables inner given places d after f e h = ap (λ z. part_by z tables inner given places d after) (sym h ∙ e)
+
+pub part-operator : (tables : Tables) (inner : Option Expansion) (given : Bool) (places d : ℕ) (after : List ℕ) (f : ℕ) → f ≡ f_of d → f ≡ 2 → operator_part places d after ≡ part_of tables inner given places d after
+unfolding part_of
+part-operator tables inner given places d after f e h = ap (λ z. part_by z tables inner given places d after) (sym h ∙ e)
+
+other_part : (tables : Tables) (inner : Option Expansion) (given : Bool) (places d : ℕ) (after : List ℕ) (f : ℕ) → f ≢ 0 → f ≢ 1 → f ≢ 2 → sequence_part tables inner places d ≡ part_by f tables inner given places d after
+other_part tables inner given places d after zero h0 h1 h2 = absurd (h0 refl)
+other_part tables inner given places d after (suc zero) h0 h1 h2 = absurd (h1 refl)
+other_part tables inner given places d after (suc (suc zero)) h0 h1 h2 = absurd (h2 refl)
+other_part tables inner given places d after (suc (suc (suc f))) h0 h1 h2 = refl
+
+pub part-sequence : (tables : Tables) (inner : Option Expansion) (given : Bool) (places d : ℕ) (after : List ℕ) (f : ℕ) → f ≡ f_of d → f ≢ 0 → f ≢ 1 → f ≢ 2 → sequence_part tables inner places d ≡ part_of tables inner given places d after
+unfolding part_of
+part-sequence tables inner given places d after f e h0 h1 h2 = other_part tables inner given places d after f h0 h1 h2 ∙ ap (λ z. part_by z tables inner given places d after) e
+
+-- what is left of a body once it may be opened
+abbrev pub opened_body : Expansion → (places own d : ℕ) → List ℕ → Result Tree TemplateFault
+opened_body expand places own d after =
+    with_places places own d >>= λ _. expand (places + own) (take (x_of d) after) >>= λ body. unless (consumes body) (fault.EmptyGroup d) >>= λ _. Ok body
+
+body_fits : (inner : Option Expansion) (places own d : ℕ) (after : List ℕ) → x_of d ≤ length after → body_of inner places own d after ≡ (opened inner d >>= λ expand. opened_body expand places own d after)
+body_fits inner places own d after h =
+    ap (λ b. unless b (fault.GroupShape d) >>= λ _. opened inner d >>= λ expand. opened_body expand places own d after) (le-leb (x_of d) (length after) h)
+
+-- the expansion within, where there is room
+abbrev pub within : Tables → ℕ → Expansion
+within tables room = level tables (inner_of tables (room - 1)) false 0
+
+body_open : (tables : Tables) (room places own d : ℕ) (after : List ℕ) → 0 < room → x_of d ≤ length after → body_of (inner_of tables room) places own d after ≡ opened_body (within tables room) places own d after
+body_open tables room places own d after r h =
+    body_fits (inner_of tables room) places own d after h
+    ∙ ap (λ (i : Option Expansion). opened i d >>= λ expand. opened_body expand places own d after) (inner_of-room tables room r)
+
+pub body-depth : (tables : Tables) (room places own d : ℕ) (after : List ℕ) → room ≡ 0 → x_of d ≤ length after → body_of (inner_of tables room) places own d after ≡ Err (fault.Depth d)
+body-depth tables room places own d after r h =
+    body_fits (inner_of tables room) places own d after h
+    ∙ ap (λ (i : Option Expansion). opened i d >>= λ expand. opened_body expand places own d after) (inner_of-none tables room r)
+
+pub body-places : (tables : Tables) (room places own d : ℕ) (after : List ℕ) (why : TemplateFault) → 0 < room → x_of d ≤ length after → with_places places own d ≡ Err why → body_of (inner_of tables room) places own d after ≡ Err why
+body-places tables room places own d after why r h e =
+    body_open tables room places own d after r h
+    ∙ ap (λ z. z >>= λ _. within tables room (places + own) (take (x_of d) after) >>= λ body. unless (consumes body) (fault.EmptyGroup d) >>= λ _. Ok body) e
+
+body_room : (tables : Tables) (room places own d : ℕ) (after : List ℕ) → 0 < room → x_of d ≤ length after → with_places places own d ≡ Ok tt → body_of (inner_of tables room) places own d after ≡ (within tables room (places + own) (take (x_of d) after) >>= λ body. unless (consumes body) (fault.EmptyGroup d) >>= λ _. Ok body)
+body_room tables room places own d after r h e =
+    body_open tables room places own d after r h
+    ∙ ap (λ z. z >>= λ _. within tables room (places + own) (take (x_of d) after) >>= λ body. unless (consumes body) (fault.EmptyGroup d) >>= λ _. Ok body) e
+
+pub body-fault : (tables : Tables) (room places own d : ℕ) (after : List ℕ) (why : TemplateFault) → 0 < room → x_of d ≤ length after → with_places places own d ≡ Ok tt → within tables room (places + own) (take (x_of d) after) ≡ Err why → body_of (inner_of tables room) places own d after ≡ Err why
+body-fault tables room places own d after why r h e f =
+    body_room tables room places own d after r h e ∙ ap (λ z. z >>= λ body. unless (consumes body) (fault.EmptyGroup d) >>= λ _. Ok body) f
+
+pub body-empty : (tables : Tables) (room places own d : ℕ) (after : List ℕ) (tree : Tree) → 0 < room → x_of d ≤ length after → with_places places own d ≡ Ok tt → within tables room (places + own) (take (x_of d) after) ≡ Ok tree → consumes tree ≡ false → body_of (inner_of tables room) places own d after ≡ Err (fault.EmptyGroup d)
+body-empty tables room places own d after tree r h e f empty =
+    body_room tables room places own d after r h e ∙ ap (λ z. z >>= λ body. unless (consumes body) (fault.EmptyGroup d) >>= λ _. Ok body) f
+    ∙ ap (λ b. unless b (fault.EmptyGroup d) >>= λ _. Ok tree) empty
+
+pub body-ok : (tables : Tables) (room places own d : ℕ) (after : List ℕ) (tree : Tree) → 0 < room → x_of d ≤ length after → with_places places own d ≡ Ok tt → within tables room (places + own) (take (x_of d) after) ≡ Ok tree → consumes tree ≡ true → body_of (inner_of tables room) places own d after ≡ Ok tree
+body-ok tables room places own d after tree r h e f full =
+    body_room tables room places own d after r h e ∙ ap (λ z. z >>= λ body. unless (consumes body) (fault.EmptyGroup d) >>= λ _. Ok body) f
+    ∙ ap (λ b. unless b (fault.EmptyGroup d) >>= λ _. Ok tree) full
+
+sequence_listed : (tables : Tables) (inner : Option Expansion) (places d : ℕ) (members : List ℕ) → tables.members d ≡ Some members → sequence_part tables inner places d ≡ (opened inner d >>= λ expand. expand places members >>= λ tree. Ok (part tree 0))
+sequence_listed tables inner places d members e =
+    ap (λ z. ok_or z (fault.UnknownSequence d) >>= λ ms. opened inner d >>= λ expand. expand places ms >>= λ tree. Ok (part tree 0)) e
+
+pub sequence-depth : (tables : Tables) (room places d : ℕ) (members : List ℕ) → room ≡ 0 → tables.members d ≡ Some members → sequence_part tables (inner_of tables room) places d ≡ Err (fault.Depth d)
+sequence-depth tables room places d members r e =
+    sequence_listed tables (inner_of tables room) places d members e
+    ∙ ap (λ (i : Option Expansion). opened i d >>= λ expand. expand places members >>= λ tree. Ok (part tree 0)) (inner_of-none tables room r)
+
+sequence_open : (tables : Tables) (room places d : ℕ) (members : List ℕ) → 0 < room → tables.members d ≡ Some members → sequence_part tables (inner_of tables room) places d ≡ (within tables room places members >>= λ tree. Ok (part tree 0))
+sequence_open tables room places d members r e =
+    sequence_listed tables (inner_of tables room) places d members e
+    ∙ ap (λ (i : Option Expansion). opened i d >>= λ expand. expand places members >>= λ tree. Ok (part tree 0)) (inner_of-room tables room r)
+
+pub sequence-fault : (tables : Tables) (room places d : ℕ) (members : List ℕ) (why : TemplateFault) → 0 < room → tables.members d ≡ Some members → IsFaultOrMemory (within tables room places members) why → IsFaultOrMemory (sequence_part tables (inner_of tables room) places d) why
+sequence-fault tables room places d members why r e refuses other =
+    sequence_open tables room places d members r e ∙ ap (λ z. z >>= λ tree. Ok (part tree 0)) (refuses other)
+
+pub sequence-ok : (tables : Tables) (room d : ℕ) (members : List ℕ) (old new : BuilderModel) → 0 < room → tables.members d ≡ Some members → PushesTree old (within tables room (places_so_far old) members) new → PushesPart old (sequence_part tables (inner_of tables room) (places_so_far old) d) 0 new
+sequence-ok tables room d members old new r e puts = record {
+  tree = puts.tree;
+  is_defined = sequence_open tables room (places_so_far old) d members r e ∙ ap (λ z. z >>= λ tree. Ok (part tree 0)) puts.is_defined;
+  is_put = puts.is_put;
+}
+
+-- a group, defined by its body
+abbrev pub grouped : Tables → ℕ → Passes → (places d : ℕ) → List ℕ → Result Tree TemplateFault
+grouped tables room p places d after = body_of (inner_of tables room) places (own_places p) d after >>= λ body. Ok (group_of p body)
+
+pub group-depth : (tables : Tables) (room : ℕ) (p : Passes) (places d : ℕ) (after : List ℕ) → room ≡ 0 → x_of d ≤ length after → grouped tables room p places d after ≡ Err (fault.Depth d)
+group-depth tables room p places d after r h = ap (λ z. z >>= λ body. Ok (group_of p body)) (body-depth tables room places (own_places p) d after r h)
+
+pub group-places : (tables : Tables) (room : ℕ) (p : Passes) (places d : ℕ) (after : List ℕ) (why : TemplateFault) → 0 < room → x_of d ≤ length after → IsFaultOrMemory (with_places places (own_places p) d) why → IsFaultOrMemory (grouped tables room p places d after) why
+group-places tables room p places d after why r h refuses other =
+    ap (λ z. z >>= λ body. Ok (group_of p body)) (body-places tables room places (own_places p) d after why r h (refuses other))
+
+-- the body's list, as the code has it
+same_list : (tables : Tables) (room : ℕ) (p : Passes) (d place : ℕ) (after : List ℕ) (old begun_one : BuilderModel) (count x : ℕ) (list : List ℕ) → OpensGroup old p d place begun_one → list ≡ take count after → count ≡ x → x ≡ x_of d → level tables (inner_of tables (room - 1)) false 0 (places_so_far begun_one) list ≡ within tables room (places_so_far old + own_places p) (take (x_of d) after)
+same_list tables room p d place after old begun_one count x list begins el ec ex =
+    ap (λ (g : BuilderModel). within tables room (places_so_far g) list) begins.is_begun
+    ∙ ap (λ k. within tables room k list) (places_of-begun old p)
+    ∙ ap (within tables room (places_so_far old + own_places p)) (el ∙ ap (λ k. take k after) (ec ∙ ex))
+
+pub group-list-fault : (tables : Tables) (room : ℕ) (p : Passes) (d place : ℕ) (after : List ℕ) (old begun_one : BuilderModel) (why : TemplateFault) (count x : ℕ) (list : List ℕ) → 0 < room → x_of d ≤ length after → OpensGroup old p d place begun_one → list ≡ take count after → count ≡ x → x ≡ x_of d → IsFaultOrMemory (level tables (inner_of tables (room - 1)) false 0 (places_so_far begun_one) list) why → IsFaultOrMemory (grouped tables room p (places_so_far old) d after) why
+group-list-fault tables room p d place after old begun_one why count x list r h begins el ec ex refuses other =
+    ap (λ z. z >>= λ body. Ok (group_of p body))
+    (body-fault tables room (places_so_far old) (own_places p) d after why r h begins.is_left (sym (same_list tables room p d place after old begun_one count x list begins el ec ex) ∙ refuses other))
+
+-- whether the body takes bits, as the code has it
+same_full : (old begun_one new : BuilderModel) (p : Passes) (d place : ℕ) (tree : Tree) → OpensGroup old p d place begun_one → new ≡ push_tree begun_one tree → new.full ≡ consumes tree
+same_full old begun_one new p d place tree begins e = ap (λ (g : BuilderModel). g.full) e ∙ ap (λ (g : BuilderModel). (push_tree g tree).full) begins.is_begun
+
+pub group-list-empty : (tables : Tables) (room : ℕ) (p : Passes) (d place : ℕ) (after : List ℕ) (old begun_one new : BuilderModel) (count x : ℕ) (list : List ℕ) → 0 < room → x_of d ≤ length after → OpensGroup old p d place begun_one → list ≡ take count after → count ≡ x → x ≡ x_of d → PushesTree begun_one (level tables (inner_of tables (room - 1)) false 0 (places_so_far begun_one) list) new → new.full ≡ false → grouped tables room p (places_so_far old) d after ≡ Err (fault.EmptyGroup d)
+group-list-empty tables room p d place after old begun_one new count x list r h begins el ec ex puts empty =
+    ap (λ z. z >>= λ body. Ok (group_of p body))
+    (body-empty tables room (places_so_far old) (own_places p) d after puts.tree r h begins.is_left (sym (same_list tables room p d place after old begun_one count x list begins el ec ex) ∙ puts.is_defined) (sym (same_full old begun_one new p d place puts.tree begins puts.is_put) ∙ empty))
+
+same_ok : (a b : BuilderModel) → ◌≡◌ {A = Result BuilderModel TemplateFault} (Ok a) (Ok b) → a ≡ b
+same_ok a b h = cc
+
+group-list-ok : (tables : Tables) (room : ℕ) (p : Passes) (d place : ℕ) (after : List ℕ) (old begun_one new last : BuilderModel) (count x : ℕ) (list : List ℕ) → 0 < room → x_of d ≤ length after → OpensGroup old p d place begun_one → list ≡ take count after → count ≡ x → x ≡ x_of d → PushesTree begun_one (level tables (inner_of tables (room - 1)) false 0 (places_so_far begun_one) list) new → new.full ≡ true → with_closed_group new place p ≡ last → PushesTree old (grouped tables room p (places_so_far old) d after) last
+group-list-ok tables room p d place after old begun_one new last count x list r h begins el ec ex puts full is_ended =
+    let takes_bits = sym (same_full old begun_one new p d place puts.tree begins puts.is_put) ∙ full in
+    record {
+      tree = group_of p puts.tree;
+      is_defined = ap (λ z. z >>= λ body. Ok (group_of p body)) (body-ok tables room (places_so_far old) (own_places p) d after puts.tree r h begins.is_left (sym (same_list tables room p d place after old begun_one count x list begins el ec ex) ∙ puts.is_defined) takes_bits);
+      is_put = sym is_ended ∙ ap (λ (g : BuilderModel). with_closed_group g place p) puts.is_put ∙ ap (λ (g : BuilderModel). with_closed_group (push_tree g puts.tree) place p) begins.is_begun ∙ ended-begun old p puts.tree place begins.is_at takes_bits;
+    }
+
+-- the answer of a group is that of its last step
+pub group-closed : (tables : Tables) (room : ℕ) (p : Passes) (d place : ℕ) (after : List ℕ) (old begun_one new last : BuilderModel) (count x : ℕ) (list : List ℕ) (answer : Result (Unit {0}) TemplateFault) → 0 < room → x_of d ≤ length after → OpensGroup old p d place begun_one → list ≡ take count after → count ≡ x → x ≡ x_of d → PushesTree begun_one (level tables (inner_of tables (room - 1)) false 0 (places_so_far begun_one) list) new → new.full ≡ true → GivesGrowth (Ok (with_closed_group new place p)) answer last → PushesTreeUnlessMemory old (grouped tables room p (places_so_far old) d after) answer last
+group-closed tables room p d place after old begun_one new last count x list (Ok done) r h begins el ec ex puts full is_ended =
+    group-list-ok tables room p d place after old begun_one new last count x list r h begins el ec ex puts full (same_ok (with_closed_group new place p) last is_ended)
+group-closed tables room p d place after old begun_one new last count x list (Err why) r h begins el ec ex puts full refuses = λ other. absurd (let e = refuses other in cc)
+
+-- ---- How far the expansion of one list has come.
+
+-- some nodes have been put, and the whole list gives them and what the rest gives
+pub record Came (tables : Tables) (inner : Option Expansion) (list : List ℕ) (start : BuilderModel) (given : Bool) (rest : List ℕ) (now : BuilderModel) : Type 0 where
+  pub tree : Tree
+  pub is_put : now ≡ push_tree start tree
+  pub leads : level tables inner false 0 (places_so_far start) list ≡ prefixed tree (level tables inner given 0 (places_so_far now) rest)
+
+pub came_none : (tables : Tables) (inner : Option Expansion) (list : List ℕ) (start : BuilderModel) → start.groups ≤ start.deep → Came tables inner list start false list start
+came_none tables inner list start h = record { tree = bare; is_put = grow-bare start h; leads = sym (prefixed-bare _) }
+
+pub came_part : (tables : Tables) (inner : Option Expansion) (list : List ℕ) (start : BuilderModel) (given : Bool) (d : ℕ) (after : List ℕ) (now : BuilderModel) (taken : ℕ) (next : BuilderModel) → Came tables inner list start given (d ∷ after) now → PushesPart now (part_of tables inner given (places_so_far now) d after) taken next → Came tables inner list start (gives_width d) (drop taken after) next
+came_part tables inner list start given d after now taken next came puts = record {
+  tree = join came.tree puts.tree;
+  is_put = puts.is_put ∙ ap (λ g. push_tree g puts.tree) came.is_put ∙ grow-grow start came.tree puts.tree;
+  leads = came.leads ∙ ap (prefixed came.tree) (level-part tables inner given (places_so_far now) d after puts.tree taken puts.is_defined) ∙ prefixed-prefixed came.tree puts.tree (level tables inner (gives_width d) 0 (places_so_far now + size puts.tree) (drop taken after)) ∙ ap (λ k. prefixed (join came.tree puts.tree) (level tables inner (gives_width d) 0 k (drop taken after))) (sym (ap (λ (g : BuilderModel). places_so_far g) puts.is_put ∙ places_of-grow now puts.tree));
+}
+
+pub came_fault : (tables : Tables) (inner : Option Expansion) (list : List ℕ) (start : BuilderModel) (given : Bool) (d : ℕ) (after : List ℕ) (now : BuilderModel) (why : TemplateFault) → Came tables inner list start given (d ∷ after) now → IsFaultOrMemory (part_of tables inner given (places_so_far now) d after) why → IsFaultOrMemory (level tables inner false 0 (places_so_far start) list) why
+came_fault tables inner list start given d after now why came refuses other =
+    came.leads ∙ ap (prefixed came.tree) (level-fault tables inner given (places_so_far now) d after why (refuses other))
+
+no_rest : (rest : List ℕ) → length rest ≡ 0 → rest ≡ []
+no_rest [] h = refl
+no_rest (d ∷ after) h = absurd (omega arith)
+
+end_level : (tables : Tables) (inner : Option Expansion) (given : Bool) (places : ℕ) (rest : List ℕ) → length rest ≡ 0 → level tables inner given 0 places rest ≡ Ok bare
+unfolding level
+end_level tables inner given places rest h = ap (level tables inner given 0 places) (no_rest rest h)
+
+pub came_end : (tables : Tables) (inner : Option Expansion) (list : List ℕ) (start : BuilderModel) (given : Bool) (rest : List ℕ) (now : BuilderModel) → length rest ≡ 0 → Came tables inner list start given rest now → PushesTree start (level tables inner false 0 (places_so_far start) list) now
+came_end tables inner list start given rest now h came = record {
+  tree = came.tree;
+  is_defined = came.leads ∙ ap (prefixed came.tree) (end_level tables inner given (places_so_far now) rest h) ∙ ap Ok (join-bare came.tree);
+  is_put = came.is_put;
+}

@@ -1,23 +1,8 @@
-pub mod NumberLemmas
-pub mod ReadingLemmas
-pub mod DirectoryLemmas
-pub mod KeptLemmas
-pub mod StepsLemmas
-pub mod TableLemmas
+pub mod RecordLemmas
 pub mod TableBLemmas
-pub mod RowLemmas
-pub mod RunsLemmas
+pub mod TableDLemmas
 pub mod CycleLemmas
 pub mod ExpansionLemmas
-pub mod GrowthLemmas
-pub mod Flattening
-pub mod LeavesLemmas
-pub mod LevelLemmas
-pub mod PartLemmas
 pub mod SoundLemmas
 pub mod TemplateExamples
-pub mod TreeLemmas
-pub mod WholeLemmas
-pub mod AnswerLemmas
 mod Examples
-pub mod SequencesLemmas

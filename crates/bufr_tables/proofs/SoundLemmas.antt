@@ -1,18 +1,19 @@
 -- What is true of each tree that the expansion gives.
-use Rattle.std.proofs.Common.{◌≡◌, ◌≢◌, ℕ, zero, suc, ◌+◌, ◌<◌, ◌≤◌, ◌==◌, Bool, true, false, not, ◌&&◌, ◌||◌, List, [], ◌∷◌, length, take, Option, Some, None, Result, Ok, Err, refl, sym, ◌∙◌, ap, subst, arith}
+use Rattle.std.proofs.Common.{◌≡◌, ◌≢◌, ℕ, zero, suc, ◌+◌, ◌<◌, ◌≤◌, ◌==◌, Bool, true, false, not, ◌&&◌, ◌||◌, List, [], ◌∷◌, length, take, Option, Some, None, Result, Ok, Err, refl, sym, ◌∙◌, ap, subst, arith, inl, inr, ◌++◌, drop, append_assoc, IfOk, max}
 use Rattle.std.proofs.lemmas.Bool.{ne_eqb, eqb-true}
 use Rattle.std.specs.Prelude.{nat_le, nat_lt, ok_or}
 use Rattle.bufr_tables.specs.declared.fault.TemplateFault.{TemplateFault}
-use Rattle.bufr_tables.specs.declared.fault.TemplateFault.TheVariants as fault
 use Rattle.bufr_tables.specs.Fxy.{f_of, x_of, y_of}
-use Rattle.bufr_tables.specs.Operators.{is_legal_operator, gives_width}
-use Rattle.bufr_tables.specs.Tree.{Tree, bare, element, operator, fixed, delayed, join, size, depth, consumes}
-use Rattle.bufr_tables.specs.Expansion.{Tables, Expansion, ExpandedPart, part, ◌>>=◌, unless, with_places, is_factor, begins_with_element, element_part, operator_part, body_of, fixed_part, delayed_part, group_by, group_part, sequence_part, part_by, part_of, level, inner_of, tree_of, first_of, max_open}
-use Rattle.bufr_tables.specs.Known.{IsKnownAfter, IsKnown}
-use Rattle.bufr_tables.specs.Legal.{IsLegal, is_element_first}
-use Rattle.bufr_tables.specs.Sound.{EveryGroupConsumes, IsSound}
-use Rattle.bufr_tables.proofs.TreeLemmas.{depth-join}
-use Rattle.bufr_tables.proofs.PartLemmas.{part-element}
+use Rattle.bufr_tables.specs.Tree.{is_legal_operator, gives_width, Tree, bare, element, operator, fixed, delayed, join, size, depth, consumes}
+use Rattle.bufr_tables.specs.Expansion.{Tables, Expansion, ExpandedPart, part, ◌>>=◌, unless, with_places, is_factor, begins_with_element, element_part, operator_part, body_of, fixed_part, delayed_part, group_by, group_part, sequence_part, part_by, part_of, level, inner_of, tree_of, first_of, max_open, IsKnownAfter, IsKnown, IsLegal, is_element_first, EveryGroupConsumes, IsSound, leaves, ListsLeaves, says_nothing, says_itself, says_replication, says_sequence}
+use Rattle.bufr_tables.proofs.ExpansionLemmas.{depth-join, part-element, cells-tail, length-cells, raised_flattened, kept_raised, same_growth}
+use Rattle.std.proofs.lemmas.List.{append-nil, take-append-drop}
+use Rattle.bufr_tables.specs.Templates.{IsAnswer}
+use Rattle.bufr_tables.specs.declared.template.Cell.{Cell}
+use Rattle.bufr_tables.specs.Cells.{cells_of, trees_of_cells, AreCellsOf, IsTemplate}
+use Rattle.bufr_tables.specs.Growth.{BuilderModel, growth, places_so_far, push_tree, PushesTree, IsFaultOrMemory}
+use Rattle.bufr_tables.specs.declared.fault.TemplateFault.TheVariants as fault
+use Rattle.bufr_tables.specs.declared.template.Cell.TheVariants as cell
 
 -- the two steps of one that went well
 pub record Steps {A B : Type 0} (first : Result A TemplateFault) (then : A → Result B TemplateFault) (last : B) : Type 0 where
@@ -259,3 +260,236 @@ tree_fine tables list tree h =
     let fine = level_fine tables max_open (inner_of tables max_open) (inner_fine tables max_open) false 0 1 list one.middle one.first_is in
     subst (IsFineWhole tables.known) (tree_is one.middle tree full.then_is)
     (record { sound = (fine.groups, full.met); is_known = fine.is_known; legal = fine.legal; shallow = fine.shallow })
+
+-- ---- The tree that the expansion gives says what the list says.
+
+pub leaves-join : (a b : Tree) → leaves (join a b) ≡ leaves a ++ leaves b
+leaves-join bare b = refl
+leaves-join (element fxy rest) b = ap (λ l. fxy ∷ l) (leaves-join rest b)
+leaves-join (operator fxy rest) b = ap (λ l. fxy ∷ l) (leaves-join rest b)
+leaves-join (fixed count body rest) b = ap (λ l. leaves body ++ l) (leaves-join rest b) ∙ sym (append_assoc (leaves body) (leaves rest) (leaves b))
+leaves-join (delayed factor body rest) b = ap (λ l. factor ∷ l) (ap (λ l. leaves body ++ l) (leaves-join rest b) ∙ sym (append_assoc (leaves body) (leaves rest) (leaves b)))
+
+-- one list after another
+says-append : (members : ℕ → Option (List ℕ)) (a b said more : List ℕ) → ListsLeaves members a said → ListsLeaves members b more → ListsLeaves members (a ++ b) (said ++ more)
+says-append members a b said more says_nothing h = h
+says-append members a b said more (says_itself d after rest f s) h = says_itself d (after ++ b) (rest ++ more) f (says-append members after b rest more s h)
+says-append members a b said more (says_replication d after rest f s) h = says_replication d (after ++ b) (rest ++ more) f (says-append members after b rest more s h)
+says-append members a b said more (says_sequence d inner after inside rest f m i s) h =
+    subst (ListsLeaves members (d ∷ (after ++ b))) (sym (append_assoc inside rest more))
+    (says_sequence d inner (after ++ b) inside (rest ++ more) f m i (says-append members after b rest more s h))
+
+-- what is expanded within says what its list says
+abbrev pub InnerSays : (ℕ → Option (List ℕ)) → Option Expansion → Type 0
+InnerSays members None = Unit {0}
+InnerSays members (Some expand) = (places : ℕ) (list : List ℕ) (tree : Tree) → expand places list ≡ Ok tree → ListsLeaves members list (leaves tree)
+
+-- a part says what its descriptors say
+abbrev PartSays : (ℕ → Option (List ℕ)) → ℕ → List ℕ → ExpandedPart → Type 0
+PartSays members d after p = ListsLeaves members (d ∷ take p.taken after) (leaves p.tree)
+
+element_says : (tables : Tables) (given : Bool) (places d : ℕ) (after : List ℕ) (first : ExpandedPart) → f_of d ≡ 0 → element_part tables given places d ≡ Ok first → PartSays tables.members d after first
+element_says tables given places d after first f h =
+    let known = tested (given || tables.known d) (fault.UnknownElement d) (with_places places 1 d >>= λ _. Ok (part (element d bare) 0)) first h in
+    let sized = tested (nat_le (places + 1) 65535) (fault.TemplateSize d) (Ok (part (element d bare) 0)) first known.then_is in
+    subst (PartSays tables.members d after) (part_is (part (element d bare) 0) first sized.then_is) (says_itself d [] [] (inl f) says_nothing)
+
+operator_says : (members : ℕ → Option (List ℕ)) (places d : ℕ) (after : List ℕ) (first : ExpandedPart) → f_of d ≡ 2 → operator_part places d after ≡ Ok first → PartSays members d after first
+operator_says members places d after first f h =
+    let legal = tested (is_legal_operator d) (fault.Operator d) (unless (not (gives_width d) || begins_with_element after) (fault.LocalShape d) >>= λ _. with_places places 1 d >>= λ _. Ok (part (operator d bare) 0)) first h in
+    let shaped = tested (not (gives_width d) || begins_with_element after) (fault.LocalShape d) (with_places places 1 d >>= λ _. Ok (part (operator d bare) 0)) first legal.then_is in
+    let sized = tested (nat_le (places + 1) 65535) (fault.TemplateSize d) (Ok (part (operator d bare) 0)) first shaped.then_is in
+    subst (PartSays members d after) (part_is (part (operator d bare) 0) first sized.then_is) (says_itself d [] [] (inr f) says_nothing)
+
+body_says : (members : ℕ → Option (List ℕ)) (inner : Option Expansion) → InnerSays members inner → (places own d : ℕ) (after : List ℕ) (body : Tree) → body_of inner places own d after ≡ Ok body → ListsLeaves members (take (x_of d) after) (leaves body)
+body_says members None says places own d after body h = absurd (let t = (tested (nat_le (x_of d) (length after)) (fault.GroupShape d) (Err (fault.Depth d)) body h) in cc)
+body_says members (Some expand) says places own d after body h =
+    let k : Tree → Result Tree TemplateFault = λ body. unless (consumes body) (fault.EmptyGroup d) >>= λ _. Ok body in
+    let shaped = tested (nat_le (x_of d) (length after)) (fault.GroupShape d) (with_places places own d >>= λ _. expand (places + own) (take (x_of d) after) >>= k) body h in
+    let sized = tested (nat_le (places + own) 65535) (fault.TemplateSize d) (expand (places + own) (take (x_of d) after) >>= k) body shaped.then_is in
+    let two = steps (expand (places + own) (take (x_of d) after)) k body sized.then_is in
+    let full = tested (consumes two.middle) (fault.EmptyGroup d) (Ok two.middle) body two.then_is in
+    subst (λ t. ListsLeaves members (take (x_of d) after) (leaves t)) (tree_is two.middle body full.then_is) (says (places + own) (take (x_of d) after) two.middle two.first_is)
+
+fixed_says : (members : ℕ → Option (List ℕ)) (inner : Option Expansion) → InnerSays members inner → (places d : ℕ) (after : List ℕ) (first : ExpandedPart) → f_of d ≡ 1 → fixed_part inner places d after ≡ Ok first → PartSays members d after first
+fixed_says members inner says places d after first f h =
+    let two = steps (body_of inner places 2 d after) (λ body. Ok (part (fixed (y_of d) body bare) (x_of d))) first h in
+    subst (PartSays members d after) (part_is (part (fixed (y_of d) two.middle bare) (x_of d)) first two.then_is)
+    (subst (ListsLeaves members (d ∷ take (x_of d) after)) (sym (append-nil (leaves two.middle)))
+    (says_replication d (take (x_of d) after) (leaves two.middle) f (body_says members inner says places 2 d after two.middle two.first_is)))
+
+first_of_and : (a b : Bool) → (a && b) ≡ true → a ≡ true
+first_of_and true b h = refl
+first_of_and false b h = h
+
+take_factor : (factor n : ℕ) (after : List ℕ) → take (1 + n) (factor ∷ after) ≡ factor ∷ take n after
+take_factor factor n after = let e : 1 + n ≡ suc n = omega arith in ap (λ k. take k (factor ∷ after)) e
+
+delayed_says : (tables : Tables) (inner : Option Expansion) → InnerSays tables.members inner → (places d : ℕ) (after : List ℕ) (first : ExpandedPart) → f_of d ≡ 1 → delayed_part tables inner places d after ≡ Ok first → PartSays tables.members d after first
+delayed_says tables inner says places d [] first f h = absurd cc
+delayed_says tables inner says places d (factor ∷ after) first f h =
+    let k : Tree → Result ExpandedPart TemplateFault = λ body. Ok (part (delayed factor body bare) (1 + x_of d)) in
+    let factored = tested (is_factor factor) (fault.NoFactor d) (unless (tables.known factor) (fault.UnknownElement factor) >>= λ _. body_of inner places 3 d after >>= k) first h in
+    let known = tested (tables.known factor) (fault.UnknownElement factor) (body_of inner places 3 d after >>= k) first factored.then_is in
+    let two = steps (body_of inner places 3 d after) k first known.then_is in
+    let is_element = eqb-true (f_of factor) 0 (first_of_and (f_of factor == 0) (x_of factor == 31 && nat_le (y_of factor) 2) factored.met) in
+    let own = says_itself factor (take (x_of d) after) (leaves two.middle) (inl is_element) (body_says tables.members inner says places 3 d after two.middle two.first_is) in
+    subst (PartSays tables.members d (factor ∷ after)) (part_is (part (delayed factor two.middle bare) (1 + x_of d)) first two.then_is)
+    (subst (λ l. ListsLeaves tables.members (d ∷ l) (factor ∷ (leaves two.middle ++ []))) (sym (take_factor factor (x_of d) after))
+    (subst (λ l. ListsLeaves tables.members (d ∷ (factor ∷ take (x_of d) after)) (factor ∷ l)) (sym (append-nil (leaves two.middle)))
+    (says_replication d (factor ∷ take (x_of d) after) (factor ∷ leaves two.middle) f own)))
+
+group_by_says : (y : ℕ) (tables : Tables) (inner : Option Expansion) → InnerSays tables.members inner → (places d : ℕ) (after : List ℕ) (first : ExpandedPart) → f_of d ≡ 1 → group_by y tables inner places d after ≡ Ok first → PartSays tables.members d after first
+group_by_says zero tables inner says places d after first f h = delayed_says tables inner says places d after first f h
+group_by_says (suc count) tables inner says places d after first f h = fixed_says tables.members inner says places d after first f h
+
+group_says : (tables : Tables) (inner : Option Expansion) → InnerSays tables.members inner → (places d : ℕ) (after : List ℕ) (first : ExpandedPart) → f_of d ≡ 1 → group_part tables inner places d after ≡ Ok first → PartSays tables.members d after first
+group_says tables inner says places d after first f h =
+    let shaped = tested (nat_lt 0 (x_of d)) (fault.GroupShape d) (group_by (y_of d) tables inner places d after) first h in
+    group_by_says (y_of d) tables inner says places d after first f shaped.then_is
+
+listed_is : (o : Option (List ℕ)) (d : ℕ) (members : List ℕ) → ok_or o (fault.UnknownSequence d) ≡ Ok members → o ≡ Some members
+listed_is (Some list) d members h = cc
+listed_is None d members h = absurd cc
+
+sequence_says : (tables : Tables) (inner : Option Expansion) → InnerSays tables.members inner → (places d : ℕ) (after : List ℕ) (first : ExpandedPart) → 3 ≤ f_of d → sequence_part tables inner places d ≡ Ok first → PartSays tables.members d after first
+sequence_says tables None says places d after first f h =
+    let two = steps (ok_or (tables.members d) (fault.UnknownSequence d)) (λ members. Err (fault.Depth d)) first h in
+    absurd (let t = two.then_is in cc)
+sequence_says tables (Some expand) says places d after first f h =
+    let k : Tree → Result ExpandedPart TemplateFault = λ tree. Ok (part tree 0) in
+    let members_or_none = steps (ok_or (tables.members d) (fault.UnknownSequence d)) (λ members. expand places members >>= k) first h in
+    let two = steps (expand places members_or_none.middle) k first members_or_none.then_is in
+    subst (PartSays tables.members d after) (part_is (part two.middle 0) first two.then_is)
+    (subst (ListsLeaves tables.members (d ∷ [])) (append-nil (leaves two.middle))
+    (says_sequence d members_or_none.middle [] (leaves two.middle) [] f (listed_is (tables.members d) d members_or_none.middle members_or_none.first_is) (says places members_or_none.middle two.middle two.first_is) says_nothing))
+
+part_by_says : (f : ℕ) (tables : Tables) (inner : Option Expansion) → InnerSays tables.members inner → (given : Bool) (places d : ℕ) (after : List ℕ) (first : ExpandedPart) → f ≡ f_of d → part_by f tables inner given places d after ≡ Ok first → PartSays tables.members d after first
+part_by_says zero tables inner says given places d after first e h = element_says tables given places d after first (sym e) h
+part_by_says (suc zero) tables inner says given places d after first e h = group_says tables inner says places d after first (sym e) h
+part_by_says (suc (suc zero)) tables inner says given places d after first e h = operator_says tables.members places d after first (sym e) h
+part_by_says (suc (suc (suc f))) tables inner says given places d after first e h = sequence_says tables inner says places d after first (subst (λ n. 3 ≤ n) e (omega arith)) h
+
+level_says : (tables : Tables) (inner : Option Expansion) → InnerSays tables.members inner → (given : Bool) (skip places : ℕ) (list : List ℕ) (tree : Tree) → level tables inner given skip places list ≡ Ok tree → ListsLeaves tables.members (drop skip list) (leaves tree)
+unfolding level part_of
+level_says tables inner says given zero places [] tree h = subst (λ t. ListsLeaves tables.members [] (leaves t)) (tree_is bare tree h) says_nothing
+level_says tables inner says given (suc skip) places [] tree h = subst (λ t. ListsLeaves tables.members [] (leaves t)) (tree_is bare tree h) says_nothing
+level_says tables inner says given (suc skip) places (d ∷ after) tree h = level_says tables inner says given skip places after tree h
+level_says tables inner says given zero places (d ∷ after) tree h =
+    let k : ExpandedPart → Result Tree TemplateFault = λ first. level tables inner (gives_width d) first.taken (places + size first.tree) after >>= λ rest. Ok (join first.tree rest) in
+    let one = steps (part_of tables inner given places d after) k tree h in
+    let two = steps (level tables inner (gives_width d) one.middle.taken (places + size one.middle.tree) after) (λ rest. Ok (join one.middle.tree rest)) tree one.then_is in
+    let here = part_by_says (f_of d) tables inner says given places d after one.middle refl one.first_is in
+    let more = level_says tables inner says (gives_width d) one.middle.taken (places + size one.middle.tree) after two.middle two.first_is in
+    let both = says-append tables.members (d ∷ take one.middle.taken after) (drop one.middle.taken after) (leaves one.middle.tree) (leaves two.middle) here more in
+    subst (λ t. ListsLeaves tables.members (d ∷ after) (leaves t)) (tree_is (join one.middle.tree two.middle) tree two.then_is)
+    (subst (ListsLeaves tables.members (d ∷ after)) (sym (leaves-join one.middle.tree two.middle))
+    (subst (λ l. ListsLeaves tables.members (d ∷ l) (leaves one.middle.tree ++ leaves two.middle)) (take-append-drop one.middle.taken after) both))
+
+inner_says : (tables : Tables) (room : ℕ) → InnerSays tables.members (inner_of tables room)
+unfolding inner_of
+inner_says tables zero = tt
+inner_says tables (suc room) = λ places list tree h. level_says tables (inner_of tables room) (inner_says tables room) false 0 places list tree h
+
+-- the tree of a whole list says what the list says
+pub tree_says : (tables : Tables) (list : List ℕ) (tree : Tree) → tree_of tables list ≡ Ok tree → ListsLeaves tables.members list (leaves tree)
+unfolding tree_of
+tree_says tables list tree h =
+    let k : Tree → Result Tree TemplateFault = λ tree. unless (consumes tree) (fault.EmptyGroup (first_of list)) >>= λ _. Ok tree in
+    let one = steps (level tables (inner_of tables max_open) false 0 1 list) k tree h in
+    let full = tested (consumes one.middle) (fault.EmptyGroup (first_of list)) (Ok one.middle) tree one.then_is in
+    subst (λ t. ListsLeaves tables.members list (leaves t)) (tree_is one.middle tree full.then_is)
+    (level_says tables (inner_of tables max_open) (inner_says tables max_open) false 0 1 list one.middle one.first_is)
+
+-- ---- What an answer that is kept says.
+
+-- no descriptors have the same fault by all tables
+pub nothing-answered : (tables : Tables) → IsAnswer tables [] (Err (fault.EmptyGroup 0))
+unfolding tree_of level
+nothing-answered tables = record { is_defined = refl; within = tt; reported = λ e. cc }
+
+-- what a template says that is an answer
+pub record IsFineAnswer (tables : Tables) (list : List ℕ) (answer : Result Tree TemplateFault) : Type 0 where
+  pub says : IfOk answer (λ template. ListsLeaves tables.members list (leaves template))
+  pub fine : IfOk answer (IsFineWhole tables.known)
+
+pub answer_fine : (tables : Tables) (list : List ℕ) (answer : Result Tree TemplateFault) → tree_of tables list ≡ answer → IsFineAnswer tables list answer
+answer_fine tables list (Ok tree) h = record { says = tree_says tables list tree h; fine = tree_fine tables list tree h }
+answer_fine tables list (Err why) h = record { says = tt; fine = tt }
+
+-- a fact of every tree that is fine
+pub of_fine : {known : ℕ → Bool} {P : Tree → Type 0} → ((tree : Tree) → IsFineWhole known tree → P tree) → (answer : Result Tree TemplateFault) → IfOk answer (IsFineWhole known) → IfOk answer P
+of_fine f (Ok tree) fine = f tree fine
+of_fine f (Err why) fine = tt
+
+-- ---- The expansion of a whole list.
+
+-- what is left of the definition after the list
+after_list : List ℕ → Result Tree TemplateFault → Result Tree TemplateFault
+after_list list expanded = expanded >>= λ tree. unless (consumes tree) (fault.EmptyGroup (first_of list)) >>= λ _. Ok tree
+
+-- the list, as the code begins it
+same_start : (tables : Tables) (list : List ℕ) (start : BuilderModel) → start ≡ growth [] 0 0 false → level tables (inner_of tables max_open) false 0 1 list ≡ level tables (inner_of tables max_open) false 0 (places_so_far start) list
+same_start tables list start e = ap (λ (g : BuilderModel). level tables (inner_of tables max_open) false 0 (places_so_far g) list) (sym e)
+
+pub whole-fault : (tables : Tables) (list : List ℕ) (start : BuilderModel) (why : TemplateFault) → start ≡ growth [] 0 0 false → IsFaultOrMemory (level tables (inner_of tables max_open) false 0 (places_so_far start) list) why → IsFaultOrMemory (tree_of tables list) why
+unfolding tree_of after_list
+whole-fault tables list start why e refuses other = ap (after_list list) (same_start tables list start e ∙ refuses other)
+
+-- what is after no cells
+put_tree : (start new : BuilderModel) (tree : Tree) → start ≡ growth [] 0 0 false → new ≡ push_tree start tree → new ≡ growth (cells_of tree 0 []) 0 (depth tree) (consumes tree)
+put_tree start new tree es e =
+    e ∙ ap (λ (g : BuilderModel). push_tree g tree) es
+    ∙ same_growth (cells_of tree 0 []) (cells_of tree 0 []) 0 0 (max 0 (0 + depth tree)) (depth tree) (consumes tree) (consumes tree) refl refl (omega arith) refl
+
+pub whole-empty : (tables : Tables) (list : List ℕ) (start new : BuilderModel) (first : ℕ) → start ≡ growth [] 0 0 false → PushesTree start (level tables (inner_of tables max_open) false 0 (places_so_far start) list) new → new.full ≡ false → first ≡ first_of list → tree_of tables list ≡ Err (fault.EmptyGroup first)
+unfolding tree_of after_list
+whole-empty tables list start new first es puts empty ef =
+    ap (after_list list) (same_start tables list start es ∙ puts.is_defined)
+    ∙ ap (λ b. unless b (fault.EmptyGroup (first_of list)) >>= λ _. Ok puts.tree) (ap (λ (g : BuilderModel). g.full) (sym (put_tree start new puts.tree es puts.is_put)) ∙ empty)
+    ∙ ap (λ d. Err (fault.EmptyGroup d)) (sym ef)
+
+-- a tree is defined, and its cells have been flattened
+pub record IsWhole (tables : Tables) (list : List ℕ) (new : BuilderModel) : Type 0 where
+  pub tree : Tree
+  pub is_defined : tree_of tables list ≡ Ok tree
+  pub cells_are : new.cells ≡ cells_of tree 0 []
+  pub groups_are : new.groups ≡ 0
+  pub depth_is : new.deep ≡ depth tree
+
+pub whole-ok : (tables : Tables) (list : List ℕ) (start new : BuilderModel) → start ≡ growth [] 0 0 false → PushesTree start (level tables (inner_of tables max_open) false 0 (places_so_far start) list) new → new.full ≡ true → IsWhole tables list new
+unfolding tree_of after_list
+whole-ok tables list start new es puts full =
+    let tree_is = put_tree start new puts.tree es puts.is_put in
+    record {
+      tree = puts.tree;
+      is_defined = ap (after_list list) (same_start tables list start es ∙ puts.is_defined) ∙ ap (λ b. unless b (fault.EmptyGroup (first_of list)) >>= λ _. Ok puts.tree) (ap (λ (g : BuilderModel). g.full) (sym tree_is) ∙ full);
+      cells_are = ap (λ (g : BuilderModel). g.cells) tree_is;
+      groups_are = ap (λ (g : BuilderModel). g.groups) tree_is;
+      depth_is = ap (λ (g : BuilderModel). g.deep) tree_is;
+    }
+
+whole-flattened : (tables : Tables) (list : List ℕ) (new : BuilderModel) (cells : List Cell) (whole : IsWhole tables list new) → cells ≡ new.cells ++ cell.Finish ∷ [] → length new.cells + new.groups < 65535 → AreCellsOf cells whole.tree
+whole-flattened tables list new cells whole e within =
+    let fine = tree_fine tables list whole.tree whole.is_defined in
+    record {
+      flattened = e ∙ ap (λ l. l ++ cell.Finish ∷ []) whole.cells_are ∙ sym (cells-tail whole.tree 0 (cell.Finish ∷ []));
+      within = omega (arith, whole.groups_are, ap length whole.cells_are, length-cells whole.tree 0 []);
+      shallow = fine.shallow;
+      sound = fine.sound;
+      legal = fine.legal;
+    }
+
+-- the cells of a template have been built
+pub record IsBuilt (tables : Tables) (list : List ℕ) (cells : List Cell) (depth_reported : ℕ) : Type 0 where
+  pub is_kept : IsTemplate cells depth_reported (trees_of_cells cells)
+  pub is_defined : tree_of tables list ≡ Ok (trees_of_cells cells)
+
+-- with the end of the template after the cells
+pub whole-built : (tables : Tables) (list : List ℕ) (new : BuilderModel) (cells : List Cell) → IsWhole tables list new → cells ≡ new.cells ++ cell.Finish ∷ [] → length new.cells + new.groups < 65535 → IsBuilt tables list cells new.deep
+whole-built tables list new cells whole e within =
+    let flattened = whole-flattened tables list new cells whole e within in
+    record {
+      is_kept = kept_raised cells new.deep whole.tree (record { is_flattened = flattened; depth_is = whole.depth_is });
+      is_defined = whole.is_defined ∙ ap Ok (sym (raised_flattened cells whole.tree flattened));
+    }

@@ -1,15 +1,395 @@
--- The rows of Table B, one record after another.
-use Rattle.std.proofs.Common.{◌≡◌, ℕ, ◌+◌, Bool, true, false, List, [], ◌∷◌, ◌++◌, ◌∙◌, ap, map, length, refl, sym, Option, Some, None, Result, Ok, Err}
-use Rattle.std.specs.Prelude.{◌==◌, if◌then◌else◌, is_some, nat_eq}
-use Rattle.std.specs.List.{AllByRecursion, IsDistinct}
-use Rattle.std.proofs.lemmas.List.{append-nil, append_assoc, map-append, map-id}
-use Rattle.bufr_tables.proofs.DirectoryLemmas.{distinct-added, distinct-none, place-absent}
-use Rattle.bufr_tables.specs.Records.{Record}
-use Rattle.bufr_tables.specs.Steps.{and_then}
-use Rattle.bufr_tables.specs.Table.{has_fields, table_from, table_of}
-use Rattle.bufr_tables.specs.TableB.{AreRows, Row, entry_of, columns_b, row_of, table_b_of, with_record_b, with_row}
+-- The rows of Table B, and what is kept of them.
+use Rattle.std.proofs.Common.{◌≡◌, ◌≢◌, ℕ, ◌+◌, ◌-◌, ◌<◌, ◌≤◌, Bool, true, false, List, [], ◌∷◌, ◌++◌, length, Option, Some, None, refl, sym, ap, ◌∙◌, arith, suc, eqb, inl, inr, option_map, get_or, set, length-append, rules, tests, ◌/◌, take, drop, append_assoc, append-nil, codes, ℤ, subst, Result, Ok, Err}
+use Rattle.std.specs.Prelude.{cond, map, nat_eq, ◌==◌, ◌||◌, if◌then◌else◌, IfSome, slice_range, is_some}
+use Rattle.std.specs.List.{AllByRecursion, IsDistinct, find, list_any}
+use Rattle.std.proofs.lemmas.Bool.{cases_eq, eqb-true}
+use Rattle.std.proofs.lemmas.List.{get_or-set_same, get_or-set_other, drop_at, take-append-le, drop-append-le, length-drop, map-append, map-id}
+use Rattle.std.proofs.lemmas.Map.Steps.{length-le_from_distinct_below}
+use Rattle.std.proofs.lemmas.Option.{same_Some, option_and_then_some}
+use Rattle.bufr_tables.specs.Directory.{mark_of, place_of}
+use Rattle.std.proofs.Math.Seq.{take-append_seam}
+use Rattle.bufr_tables.specs.Fxy.{f_of, fxy_text, key_of}
+use Rattle.bufr_tables.specs.TableBRows.{ExtendsBlock, IsStored, row_parsed, rows_kept, IsRowKept, row_kept}
+use Rattle.bufr_tables.specs.TableB.{Row, entry_of, row_comment, row_line_start, kind_of, IsRow, allows_scale, allows_width, element_of, is_name, natural_part, plain_of, row_of, scale_of, width_of, AreRows, columns_b, table_b_of, with_record_b, with_row}
+use Rattle.bufr_tables.specs.declared.table_b.ParsedRow.{ParsedRow}
+use Rattle.bufr_tables.specs.declared.table_b.Stored.{Stored}
+use Rattle.bufr_tables.specs.Records.{i64_of, Record, field_of, only_if, and_then, has_fields, table_from, table_of}
+use Rattle.bufr_tables.specs.declared.table_b.Kind.{Kind}
 use Rattle.bufr_tables.specs.declared.fault.TableFault.{TableFault}
 use Rattle.bufr_tables.specs.declared.fault.TableFault.TheVariants.{Csv, Duplicate, Header}
+
+-- ---- A list of keys with one more key, and how many keys there are.
+
+-- a key that is not in the list is not its first, and not in the rest
+pub record Absent (k : ℕ) (keys : List ℕ) (key : ℕ) : Type 0 where
+  pub first : (k == key) ≡ false
+  pub rest : place_of keys key ≡ None
+
+pub absent-parts : (k : ℕ) (keys : List ℕ) (key : ℕ) → place_of (k ∷ keys) key ≡ None → Absent k keys key
+absent-parts k keys key absent = by (k == key) refl absent
+  where
+    none : (o : Option ℕ) → option_map {U = ℕ} suc o ≡ None → o ≡ None
+    none None e = refl
+    none (Some place) e = cc e
+
+    by : (b : Bool) → (k == key) ≡ b → (if b then Some 0 else option_map suc (place_of keys key)) ≡ None → Absent k keys key
+    by true e absent = cc absent
+    by false e absent = record { first = e; rest = none _ absent }
+
+-- a key that is not in the list, added after
+pub place_of-added : (keys : List ℕ) (key : ℕ) → place_of keys key ≡ None → place_of (keys ++ key ∷ []) key ≡ Some (length keys)
+place_of-added [] key absent = let same : (key == key) ≡ true = search (rules, tests) in rw same refl
+place_of-added (k ∷ keys) key absent =
+    let parts = absent-parts k keys key absent in
+    rw (parts.first, place_of-added keys key parts.rest) refl
+
+-- another key
+pub place_of-other : (keys : List ℕ) (key other : ℕ) → key ≢ other → place_of (keys ++ key ∷ []) other ≡ place_of keys other
+place_of-other [] key other differ = let e : (key == other) ≡ false = search (rules, tests) in rw e refl
+place_of-other (k ∷ keys) key other differ = ap (λ (o : Option ℕ). if k == other then Some 0 else option_map suc o) (place_of-other keys key other differ)
+
+-- a place is inside the list
+pub place_of-inside : (keys : List ℕ) (key : ℕ) → IfSome (place_of keys key) (λ place. place < length keys)
+place_of-inside [] key = tt
+place_of-inside (k ∷ keys) key = by (k == key) (place_of keys key) (place_of-inside keys key)
+  where
+    by : (b : Bool) (o : Option ℕ) → IfSome o (λ place. place < length keys) → IfSome (if b then Some 0 else option_map suc o) (λ place. place < suc (length keys))
+    by true o h = omega arith
+    by false None h = tt
+    by false (Some place) h = omega arith
+
+pub below-added : (keys : List ℕ) (key n : ℕ) → AllByRecursion (λ k. k < n) keys → key < n → AllByRecursion (λ k. k < n) (keys ++ key ∷ [])
+below-added [] key n below small = (small, tt)
+below-added (k ∷ keys) key n below small = (below.0, below-added keys key n below.1 small)
+
+unlike-added : (keys : List ℕ) (k key : ℕ) → AllByRecursion (λ y. nat_eq k y ≡ false) keys → nat_eq k key ≡ false → AllByRecursion (λ y. nat_eq k y ≡ false) (keys ++ key ∷ [])
+unlike-added [] k key unlike differs = (differs, tt)
+unlike-added (q ∷ keys) k key unlike differs = (unlike.0, unlike-added keys k key unlike.1 differs)
+
+pub distinct-none : IsDistinct nat_eq []
+unfolding IsDistinct
+distinct-none = tt
+
+pub distinct-added : (keys : List ℕ) (key : ℕ) → IsDistinct nat_eq keys → place_of keys key ≡ None → IsDistinct nat_eq (keys ++ key ∷ [])
+unfolding IsDistinct
+distinct-added [] key distinct absent = (tt, tt)
+distinct-added (k ∷ keys) key distinct absent =
+    let parts = absent-parts k keys key absent in
+    (unlike-added keys k key distinct.0 parts.first, distinct-added keys key distinct.1 parts.rest)
+
+-- there are at most as many keys as numbers below n
+has-below : (keys : List ℕ) (q n : ℕ) → AllByRecursion (λ k. k < n) keys → list_any (eqb q) keys ≡ true → q < n
+has-below [] q n below has = cc has
+has-below (k ∷ keys) q n below has = by (eqb q k) refl has (has-below keys q n below.1)
+  where
+    by : (b : Bool) → eqb q k ≡ b → (b || list_any (eqb q) keys) ≡ true → (list_any (eqb q) keys ≡ true → q < n) → q < n
+    by true e has more = rw (eqb-true q k e) below.0
+    by false e has more = more has
+
+pub count-below : (keys : List ℕ) (n : ℕ) → AllByRecursion (λ k. k < n) keys → IsDistinct nat_eq keys → length keys ≤ n
+count-below keys n below distinct = length-le_from_distinct_below keys n distinct (λ q has. has-below keys q n below has)
+
+-- one key more fits the directory
+pub count-added : (keys : List ℕ) (key n : ℕ) → AllByRecursion (λ k. k < n) keys → IsDistinct nat_eq keys → key < n → place_of keys key ≡ None → length keys < n
+count-added keys key n below distinct small absent =
+    omega (arith, count-below (keys ++ key ∷ []) n (below-added keys key n below small) (distinct-added keys key distinct absent), length-append keys (key ∷ []))
+
+-- the marks of one key more
+pub marks-added : (keys : List ℕ) (key : ℕ) (marks : List ℕ) (n : ℕ) → length marks ≡ n → key < n → place_of keys key ≡ None
+    → ((other : ℕ) → other < n → get_or marks other 0 ≡ mark_of (place_of keys other))
+    → (other : ℕ) → other < n → get_or (set marks key (length keys + 1)) other 0 ≡ mark_of (place_of (keys ++ key ∷ []) other)
+marks-added keys key marks n size small absent was other inside =
+    elim (cases_eq other key) [
+      | inl same ↦ rw (same, place_of-added keys key absent) (get_or-set_same marks key (length keys + 1) 0 (omega arith))
+      | inr differ ↦ rw (place_of-other keys key other (λ e. differ (sym e))) (get_or-set_other marks key other (length keys + 1) 0 differ ∙ was other inside)
+    ]
+
+-- a mark that is not 0 is that of a place inside the list
+pub mark-inside : (keys : List ℕ) (key mark : ℕ) → mark ≡ mark_of (place_of keys key) → mark ≢ 0 → mark - 1 < length keys
+mark-inside keys key mark is some = by (place_of keys key) (place_of-inside keys key) is
+  where
+    by : (o : Option ℕ) → IfSome o (λ place. place < length keys) → mark ≡ mark_of o → mark - 1 < length keys
+    by None inside is = absurd (some is)
+    by (Some place) inside is = omega (arith, inside)
+
+-- a search for what f makes of the elements of a list, where the test looks for a key: the
+-- directory of the keys answers it
+module _ (X Y : Type 0) (f : X → Y) (p : Y → Bool) (k : X → ℕ) (key : ℕ) where
+  -- the test of each element is that of its key
+  abbrev pub Same : List X → Type 0
+  Same xs = AllByRecursion (λ x. p (f x) ≡ (k x == key)) xs
+
+  pub find-absent : (xs : List X) → Same xs → place_of (map k xs) key ≡ None → find p (map f xs) ≡ None
+  find-absent [] same absent = refl
+  find-absent (x ∷ xs) same absent =
+      let parts = absent-parts (k x) (map k xs) key absent in
+      rw (same.0, parts.first) (find-absent xs same.1 parts.rest)
+
+  pub place-absent : (xs : List X) → Same xs → find p (map f xs) ≡ None → place_of (map k xs) key ≡ None
+  place-absent [] same absent = refl
+  place-absent (x ∷ xs) same absent = by (k x == key) (rw same.0 at absent) (place-absent xs same.1)
+    where
+      by : (b : Bool) → cond b (Some (f x)) (find p (map f xs)) ≡ None → (find p (map f xs) ≡ None → place_of (map k xs) key ≡ None)
+          → (if b then Some 0 else option_map suc (place_of (map k xs) key)) ≡ None
+      by true absent more = cc absent
+      by false absent more = rw (more absent) refl
+
+  pub find-found : (xs : List X) (place : ℕ) (d : X) → Same xs → place_of (map k xs) key ≡ Some place → find p (map f xs) ≡ Some (f (get_or xs place d))
+  find-found [] place d same found = cc found
+  find-found (x ∷ xs) place d same found = rw same.0 (by (k x == key) (place_of (map k xs) key) refl found (λ at d. find-found xs at d same.1))
+    where
+      by : (b : Bool) (o : Option ℕ) → place_of (map k xs) key ≡ o → (if b then Some 0 else option_map suc o) ≡ Some place
+          → ((place : ℕ) (d : X) → place_of (map k xs) key ≡ Some place → find p (map f xs) ≡ Some (f (get_or xs place d)))
+          → cond b (Some (f x)) (find p (map f xs)) ≡ Some (f (get_or (x ∷ xs) place d))
+      by true o e found more = rw (← same_Some _ _ found) refl
+      by false None e found more = cc found
+      by false (Some at) e found more = rw (← same_Some _ _ found) (more at d e)
+
+-- ---- What Table B keeps of its elements.
+
+abbrev pub fxys_of : List Stored → List ℕ
+fxys_of stored = map (λ s. s.fxy) stored
+
+all-same : (octets : List ℕ) (fxy : ℕ) (stored : List Stored) → AllByRecursion (λ s. ((row_kept octets s).fxy == fxy) ≡ (s.fxy == fxy)) stored
+all-same octets fxy [] = tt
+all-same octets fxy (s ∷ stored) = (refl, all-same octets fxy stored)
+
+-- the directory has a descriptor exactly where the rows have it
+pub entry-absent : (octets : List ℕ) (stored : List Stored) (fxy : ℕ) → place_of (fxys_of stored) fxy ≡ None → entry_of (rows_kept octets stored) fxy ≡ None
+entry-absent octets stored fxy = find-absent Stored Row (row_kept octets) (λ row. row.fxy == fxy) (λ s. s.fxy) fxy stored (all-same octets fxy stored)
+
+pub place-lacking : (octets : List ℕ) (stored : List Stored) (fxy : ℕ) → entry_of (rows_kept octets stored) fxy ≡ None → place_of (fxys_of stored) fxy ≡ None
+place-lacking octets stored fxy = place-absent Stored Row (row_kept octets) (λ row. row.fxy == fxy) (λ s. s.fxy) fxy stored (all-same octets fxy stored)
+
+pub entry-found : (octets : List ℕ) (stored : List Stored) (fxy place : ℕ) (d : Stored) → place_of (fxys_of stored) fxy ≡ Some place
+    → entry_of (rows_kept octets stored) fxy ≡ Some (row_kept octets (get_or stored place d))
+entry-found octets stored fxy place d = find-found Stored Row (row_kept octets) (λ row. row.fxy == fxy) (λ s. s.fxy) fxy stored place d (all-same octets fxy stored)
+
+unlike : (a b : ℕ) → a < 16384 → 16384 ≤ b → (a == b) ≡ false
+unlike a b small large = search (rules, tests)
+
+-- all are elements, so no other descriptor is there
+pub entry-other : (octets : List ℕ) (stored : List Stored) (fxy : ℕ) → AllByRecursion (λ s. s.fxy < 16384) stored → 16384 ≤ fxy → entry_of (rows_kept octets stored) fxy ≡ None
+entry-other octets [] fxy elements large = refl
+entry-other octets (s ∷ stored) fxy elements large =
+    let here : (s.fxy == fxy) ≡ false = unlike s.fxy fxy elements.0 large in
+    rw here (entry-other octets stored fxy elements.1 large)
+
+-- octets after the block leave the rows as they are
+pub range-append : (xs ys : List ℕ) (i j : ℕ) → i ≤ j → j ≤ length xs → slice_range (xs ++ ys) i j ≡ slice_range xs i j
+range-append xs ys i j before inside =
+    rw (drop-append-le i xs ys (omega arith), take-append-le (j - i) (drop i xs) ys (omega (arith, length-drop i xs))) refl
+
+row_kept-append : (octets more : List ℕ) (s : Stored) → IsRowKept octets s → row_kept (octets ++ more) s ≡ row_kept octets s
+row_kept-append octets more s kept =
+    let name = range-append octets more (s.start + 11) s.middle kept.name (omega (arith, kept.unit, kept.inside)) in
+    let unit = range-append octets more (s.middle + 2) (s.end - 2) (omega (arith, kept.unit)) (omega (arith, kept.inside)) in
+    cc
+
+kept-append : (octets more : List ℕ) (s : Stored) → IsRowKept octets s → IsRowKept (octets ++ more) s
+kept-append octets more s kept = record {
+  name = kept.name;
+  unit = kept.unit;
+  inside = omega (arith, kept.inside, length-append octets more);
+  line_start = range-append octets more s.start (s.start + 7) (omega arith) (omega (arith, kept.name, kept.unit, kept.inside)) ∙ kept.line_start;
+  comment = range-append octets more (s.start + 7) s.end (omega (arith, kept.name, kept.unit)) kept.inside ∙ kept.comment ∙ ap row_comment (sym (row_kept-append octets more s kept));
+}
+
+pub rows_kept-append : (octets more : List ℕ) (stored : List Stored) → AllByRecursion (IsRowKept octets) stored → rows_kept (octets ++ more) stored ≡ rows_kept octets stored
+rows_kept-append octets more [] kept = refl
+rows_kept-append octets more (s ∷ stored) kept =
+    let first = row_kept-append octets more s kept.0 in
+    let rest = rows_kept-append octets more stored kept.1 in
+    cc
+
+all-kept : (octets more : List ℕ) (stored : List Stored) → AllByRecursion (IsRowKept octets) stored → AllByRecursion (IsRowKept (octets ++ more)) stored
+all-kept octets more [] kept = tt
+all-kept octets more (s ∷ stored) kept = (kept-append octets more s kept.0, all-kept octets more stored kept.1)
+
+pub all-push : (P : Stored → Type 0) (stored : List Stored) (s : Stored) → AllByRecursion P stored → P s → AllByRecursion P (stored ++ s ∷ [])
+all-push P [] s all here = (here, tt)
+all-push P (t ∷ stored) s all here = (all.0, all-push P stored s all.1 here)
+
+range-after : (before xs more : List ℕ) (i j : ℕ) → i ≡ length before → j ≡ i + length xs → slice_range (before ++ (xs ++ more)) i j ≡ xs
+range-after before xs more i j at to =
+    let long : j - i ≡ length xs = omega arith in
+    ap (take (j - i)) (drop_at before (xs ++ more) i (sym at)) ∙ ap (λ n. take n (xs ++ more)) long ∙ take-append_seam xs more
+
+-- a row that was pushed onto a block is there
+module _ (before digits name unit : List ℕ) where
+  abbrev line_started : List ℕ
+  line_started = before ++ digits ++ codes " "
+
+  abbrev pub named : List ℕ
+  named = line_started ++ codes "  # " ++ name
+
+  abbrev commented : List ℕ → List ℕ
+  commented xs = xs ++ codes "  # " ++ name ++ codes " [" ++ unit ++ codes "]\n"
+
+  abbrev pub row_pushed : List ℕ
+  row_pushed = commented line_started
+
+  grouped : (xs : List ℕ) → xs ++ name ++ codes " [" ++ unit ++ codes "]\n" ≡ xs ++ (name ++ (codes " [" ++ (unit ++ codes "]\n")))
+  grouped xs =
+      append_assoc (xs ++ name ++ codes " [") unit (codes "]\n") ∙ append_assoc (xs ++ name) (codes " [") (unit ++ codes "]\n")
+      ∙ append_assoc xs name (codes " [" ++ (unit ++ codes "]\n"))
+
+  parts : row_pushed ≡ line_started ++ commented []
+  parts =
+      grouped (line_started ++ codes "  # ") ∙ append_assoc line_started (codes "  # ") (name ++ (codes " [" ++ (unit ++ codes "]\n")))
+      ∙ ap (λ t. line_started ++ t) (sym (grouped (codes "  # ")))
+
+  module _ (start middle end : ℕ) (six : length digits ≡ 6) (at : start ≡ length before) (to : middle ≡ length named) (ends : end ≡ length row_pushed) where
+    after_start : start + 7 ≡ length line_started
+    after_start = omega (arith, six, at, length-append (before ++ digits) (codes " "), length-append before digits)
+
+    at_name : start + 11 ≡ length (line_started ++ codes "  # ")
+    at_name = omega (arith, after_start, length-append line_started (codes "  # "))
+
+    pub after_name : middle ≡ start + 11 + length name
+    after_name = omega (arith, to, at_name, length-append (line_started ++ codes "  # ") name)
+
+    at_unit : middle + 2 ≡ length (named ++ codes " [")
+    at_unit = omega (arith, to, length-append named (codes " ["))
+
+    pub after_unit : end ≡ middle + 4 + length unit
+    after_unit = omega (arith, ends, at_unit, length-append (named ++ codes " [") unit, length-append (named ++ codes " [" ++ unit) (codes "]\n"))
+
+    pub line_start-pushed : slice_range row_pushed start (start + 7) ≡ digits ++ codes " "
+    line_start-pushed =
+        let long : start + 7 ≡ start + length (digits ++ codes " ") = omega (arith, six, length-append digits (codes " ")) in
+        ap (λ t. slice_range t start (start + 7)) (parts ∙ ap (λ t. t ++ commented []) (append_assoc before digits (codes " ")) ∙ append_assoc before (digits ++ codes " ") (commented []))
+        ∙ range-after before (digits ++ codes " ") (commented []) start (start + 7) at long
+
+    pub name-pushed : slice_range row_pushed (start + 11) middle ≡ name
+    name-pushed =
+        ap (λ t. slice_range t (start + 11) middle) (grouped (line_started ++ codes "  # "))
+        ∙ range-after (line_started ++ codes "  # ") name (codes " [" ++ (unit ++ codes "]\n")) (start + 11) middle at_name after_name
+
+    pub unit-pushed : slice_range row_pushed (middle + 2) (end - 2) ≡ unit
+    unit-pushed =
+        let long : end - 2 ≡ middle + 2 + length unit = omega (arith, after_unit) in
+        ap (λ t. slice_range t (middle + 2) (end - 2)) (append_assoc (named ++ codes " [") unit (codes "]\n"))
+        ∙ range-after (named ++ codes " [") unit (codes "]\n") (middle + 2) (end - 2) at_unit long
+
+    pub comment-pushed : slice_range row_pushed (start + 7) end ≡ commented []
+    comment-pushed =
+        let long : end ≡ start + 7 + length (commented []) = omega (arith, after_start, ends, ap length parts, length-append line_started (commented [])) in
+        ap (λ t. slice_range t (start + 7) end) (parts ∙ ap (λ t. line_started ++ t) (sym (append-nil (commented []))))
+        ∙ range-after line_started (commented []) [] (start + 7) end after_start long
+
+-- its places are right where its row is
+pub row-stored : (before : List ℕ) (row : ParsedRow) (s : Stored) (block : List ℕ) → block ≡ row_pushed before (fxy_text row.fxy) row.name.now row.unit.now
+    → s.start ≡ length before → s.middle ≡ length (named before (fxy_text row.fxy) row.name.now row.unit.now) → s.end ≡ length block
+    → (slice_range block (s.start + 11) s.middle ≡ row.name.now → slice_range block (s.middle + 2) (s.end - 2) ≡ row.unit.now → row_kept block s ≡ row_parsed row)
+    → IsStored block row s
+row-stored before row s block is at to ends says =
+    let digits = fxy_text row.fxy in
+    let name = row.name.now in
+    let unit = row.unit.now in
+    let ends : s.end ≡ length (row_pushed before digits name unit) = ends ∙ ap length is in
+    let same = says (rw is (name-pushed before digits name unit s.start s.middle s.end refl at to ends)) (rw is (unit-pushed before digits name unit s.start s.middle s.end refl at to ends)) in
+    let after_name = after_name before digits name unit s.start s.middle s.end refl at to ends in
+    let after_unit = after_unit before digits name unit s.start s.middle s.end refl at to ends in
+    record {
+      same = same;
+      kept = record {
+        name = omega (arith, after_name);
+        unit = omega (arith, after_unit);
+        inside = rw is (omega (arith, ends));
+        line_start = rw is (line_start-pushed before digits name unit s.start s.middle s.end refl at to ends) ∙ ap row_line_start (sym same);
+        comment = rw is (comment-pushed before digits name unit s.start s.middle s.end refl at to ends) ∙ ap row_comment (sym same);
+      };
+    }
+
+-- an element is its X and Y
+pub element-key : (fxy : ℕ) → fxy < 16384 → key_of fxy ≡ fxy
+element-key fxy small = omega arith
+
+-- a descriptor that is not of an element has no row
+pub entry-not_element : (octets : List ℕ) (stored : List Stored) (fxy : ℕ) → AllByRecursion (λ s. s.fxy < 16384) stored → f_of fxy ≢ 0 → entry_of (rows_kept octets stored) fxy ≡ None
+entry-not_element octets stored fxy elements other = entry-other octets stored fxy elements (large fxy other)
+  where
+    large : (n : ℕ) → n / 16384 ≢ 0 → 16384 ≤ n
+    large n h = omega arith
+
+-- the row that is found is that of the element at its place
+pub entry-row : (octets : List ℕ) (stored : List Stored) (fxy place : ℕ) (s : Stored) → place_of (fxys_of stored) fxy ≡ Some place
+    → s ≡ get_or stored place s → Some (row_kept octets s) ≡ entry_of (rows_kept octets stored) fxy
+entry-row octets stored fxy place s found at = rw (entry-found octets stored fxy place s found, ← at) refl
+
+-- the rows with one more element
+pub rows_kept-push : (old new : List ℕ) (stored : List Stored) (s : Stored) (row : ParsedRow) → AllByRecursion (IsRowKept old) stored → ExtendsBlock old new
+    → IsStored new row s → rows_kept new (stored ++ s ∷ []) ≡ rows_kept old stored ++ row_parsed row ∷ []
+rows_kept-push old new stored s row kept grows is =
+    map-append (row_kept new) stored (s ∷ [])
+    ∙ rw (is.same, grows.1) (ap (λ (rows : List Row). rows ++ row_parsed row ∷ []) (rows_kept-append old grows.0 stored kept))
+
+pub kept-grown : (old new : List ℕ) (stored : List Stored) → AllByRecursion (IsRowKept old) stored → ExtendsBlock old new → AllByRecursion (IsRowKept new) stored
+kept-grown old new stored kept grows = rw grows.1 (all-kept old grows.0 stored kept)
+
+-- ---- The limits of each row of Table B.
+
+-- a test that was passed, and the value after it
+passed : {A P : Type 0} (test : Bool) (x y : A) → only_if test x ≡ Some y → (test ≡ true → x ≡ y → P) → P
+passed true x y is go = go refl (cc is)
+passed false x y is go = absurd (cc is)
+
+name-plain : (text name : List ℕ) → plain_of text ≡ Some name → is_name name ≡ true
+unfolding plain_of
+name-plain text name is = passed _ text name is (λ test same. subst (λ t. is_name t ≡ true) same test)
+
+scale-allowed : (text : List ℕ) (scale : ℤ) → scale_of text ≡ Some scale → allows_scale scale ≡ true
+unfolding scale_of
+scale-allowed text scale is =
+    option_and_then_some _ (i64_of text) scale is (λ z read is. passed _ z scale is (λ test same. subst (λ z. allows_scale z ≡ true) same test))
+
+width-allowed : (kind : Kind) (text : List ℕ) (width : ℕ) → width_of kind text ≡ Some width → allows_width kind width ≡ true
+unfolding width_of
+width-allowed kind text width is =
+    option_and_then_some _ (i64_of text) width is (λ z read is.
+    option_and_then_some _ (natural_part z) width is (λ n part is.
+    passed _ n width is (λ test same. subst (λ n. allows_width kind n ≡ true) same test)))
+
+-- a row that a record writes
+pub row-limits : (r : Record) (row : Row) → row_of r ≡ Some row → IsRow row
+unfolding row_of
+row-limits r row is =
+    option_and_then_some _ (element_of (field_of r 0)) row is (λ fxy fxy_is is.
+    option_and_then_some _ (plain_of (field_of r 1)) row is (λ name name_is is.
+    option_and_then_some _ (plain_of (field_of r 2)) row is (λ unit unit_is is.
+    option_and_then_some _ (scale_of (field_of r 3)) row is (λ scale scale_is is.
+    option_and_then_some _ (i64_of (field_of r 4)) row is (λ reference reference_is is.
+    option_and_then_some _ (width_of (kind_of unit) (field_of r 5)) row is (λ width width_is is.
+    passed _ _ row is (λ test same. subst IsRow same (record {
+      name = name-plain (field_of r 1) name name_is;
+      unit = name-plain (field_of r 2) unit unit_is;
+      kind = refl;
+      scale = scale-allowed (field_of r 3) scale scale_is;
+      width = width-allowed (kind_of unit) (field_of r 5) width width_is;
+      factor = test;
+    }))))))))
+
+-- one row more within the limits
+pub rows-push : (rows : List Row) (row : Row) → AllByRecursion IsRow rows → IsRow row → AllByRecursion IsRow (rows ++ row ∷ [])
+rows-push [] row all here = (here, tt)
+rows-push (first ∷ rows) row all here = (all.0, rows-push rows row all.1 here)
+
+-- octets after the block leave the rows within the limits
+pub limits-grown : (old new : List ℕ) (stored : List Stored) → AllByRecursion (IsRowKept old) stored → ExtendsBlock old new → AllByRecursion IsRow (rows_kept old stored) → AllByRecursion IsRow (rows_kept new stored)
+limits-grown old new stored kept grows all = rw (grows.1, rows_kept-append old grows.0 stored kept) all
+
+-- the row that is found is one of them
+pub found-limits : (rows : List Row) (fxy : ℕ) (row : Row) → AllByRecursion IsRow rows → entry_of rows fxy ≡ Some row → IsRow row
+found-limits [] fxy row all is = absurd (cc is)
+found-limits (first ∷ rows) fxy row all is = by (nat_eq first.fxy fxy) is (found-limits rows fxy row all.1)
+  where
+    by : (b : Bool) → (if b then Some first else entry_of rows fxy) ≡ Some row → (entry_of rows fxy ≡ Some row → IsRow row) → IsRow row
+    by true is next = subst IsRow (same is) all.0
+      where
+        same : Some first ≡ Some row → first ≡ row
+        same e = cc e
+    by false is next = next is
 
 same_Ok : (x y : List Row) → ◌≡◌ {A = Result (List Row) TableFault} (Ok x) (Ok y) → x ≡ y
 same_Ok x y e = cc e

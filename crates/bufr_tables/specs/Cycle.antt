@@ -2,9 +2,8 @@
 -- of the 65,536 words.
 -- Cited by private steps only.
 use Rattle.std.specs.Prelude.{◌≡◌, ℕ, ◌+◌, ◌<◌, ◌≤◌, ◌++◌, ◌⊎◌, Bool, true, false, if◌then◌else◌, List, [], ◌∷◌, length, slice_index, slice_index_or, IsSome, Contains}
-use Rattle.bufr_tables.specs.Chain.{Chain, Leads, ReachesItself}
+use Rattle.bufr_tables.specs.TableD.{Chain, Leads, ReachesItself, Sequence, fxys_of, members_or_none, members_of}
 use Rattle.bufr_tables.specs.Fxy.{key_of}
-use Rattle.bufr_tables.specs.TableD.{Sequence, fxys_of, members_or_none, members_of}
 
 -- the rank of a sequence, which is at its X and Y
 abbrev pub rank_of : List ℕ → ℕ → ℕ

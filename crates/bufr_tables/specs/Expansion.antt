@@ -1,14 +1,15 @@
--- The tree that a list of descriptors means, or the first fault on the way
--- (WMO-No. 306, Volume I.2, FM 94: section 3, replications, Tables C and D; the faults, their order
--- and the limits are a choice of this project)
+-- The tree that a list of descriptors means, or the first fault, and what holds of it.
+-- (WMO-No. 306, Volume I.2, FM 94: section 3, replications, Tables C and D. The faults, their order
+-- and the limits are a choice of this project.)
 -- Cited by public contracts.
-use Rattle.std.specs.Prelude.{ℕ, zero, suc, ◌+◌, ◌==◌, nat_lt, nat_le, not, ◌||◌, Bool, true, false, List, [], ◌∷◌, length, take, Option, Some, None, Result, Ok, Err, ok_or}
+use Rattle.std.specs.Prelude.{ℕ, zero, suc, ◌+◌, ◌==◌, nat_lt, nat_le, not, ◌||◌, Bool, true, false, List, [], ◌∷◌, length, take, Option, Some, None, Result, Ok, Err, ok_or, is_some, ◌≡◌, ◌≤◌, ◌⊎◌, ◌++◌, ◌<◌}
 use Rattle.bufr_tables.specs.declared.fault.TemplateFault.{TemplateFault}
-use Rattle.bufr_tables.specs.declared.fault.TemplateFault.TheVariants as fault
 use Rattle.bufr_tables.specs.Fxy.{f_of, x_of, y_of}
 pub use Rattle.bufr_tables.specs.Fxy.{is_factor}
-use Rattle.bufr_tables.specs.Operators.{is_legal_operator, gives_width}
-use Rattle.bufr_tables.specs.Tree.{Tree, bare, element, operator, fixed, delayed, join, size, consumes}
+use Rattle.bufr_tables.specs.Tree.{is_legal_operator, gives_width, Tree, bare, element, operator, fixed, delayed, join, size, consumes}
+use Rattle.bufr_tables.specs.TableB.{Row, entry_of}
+use Rattle.bufr_tables.specs.TableD.{Sequence, members_of}
+use Rattle.bufr_tables.specs.declared.fault.TemplateFault.TheVariants as fault
 
 -- what the tables say: which elements Table B knows, and the members of a sequence of Table D
 pub record Tables : Type 0 where
@@ -174,3 +175,87 @@ tree_of tables list = do
   tree ← level tables (inner_of tables max_open) false 0 1 list
   _ ← unless (consumes tree) (fault.EmptyGroup (first_of list))
   Ok tree
+
+-- ---- What Tables B and D say to the expansion.
+
+-- an element is known where Table B has a row of it
+abbrev pub tables_of : List Row → List Sequence → Tables
+tables_of b d = record { known = λ fxy. is_some (entry_of b fxy); members = members_of d }
+
+-- ---- That each node of a template is what its place asks for (WMO-No. 306, Volume I.2, FM 94:
+-- section 3, descriptors, and Table C).
+
+-- whether the first node is an element
+abbrev pub is_element_first : Tree → Bool
+is_element_first bare = false
+is_element_first (element fxy rest) = true
+is_element_first (operator fxy rest) = false
+is_element_first (fixed count body rest) = false
+is_element_first (delayed factor body rest) = false
+
+-- elements have F = 0 and factors are replication factors; operators have F = 2 and are those that
+-- a template may hold, with their operands; one that gives a width comes before an element
+abbrev pub IsLegal : Tree → Type 0
+IsLegal bare = Unit {0}
+IsLegal (element fxy rest) = (f_of fxy ≡ 0) × IsLegal rest
+IsLegal (operator fxy rest) =
+    (f_of fxy ≡ 2) × ((is_legal_operator fxy ≡ true)
+    × ((gives_width fxy ≡ true → is_element_first rest ≡ true) × IsLegal rest))
+IsLegal (fixed count body rest) = IsLegal body × IsLegal rest
+IsLegal (delayed factor body rest) = (is_factor factor ≡ true) × (IsLegal body × IsLegal rest)
+
+-- What a list of descriptors says once its sequences are replaced by their members, and what a tree
+-- says (WMO-No. 306, Volume I.2, FM 94: section 3, Table D)
+
+-- the elements, operators and factors of a tree, in order
+abbrev pub leaves : Tree → List ℕ
+leaves bare = []
+leaves (element fxy rest) = fxy ∷ leaves rest
+leaves (operator fxy rest) = fxy ∷ leaves rest
+leaves (fixed count body rest) = leaves body ++ leaves rest
+leaves (delayed factor body rest) = factor ∷ (leaves body ++ leaves rest)
+
+-- a list says its elements and operators, in order; a sequence says what its members say, and a
+-- replication nothing of its own
+pub data ListsLeaves (members : ℕ → Option (List ℕ)) : List ℕ → List ℕ → Type 0 where
+  says_nothing : ListsLeaves members [] []
+  says_itself : (d : ℕ) (after said : List ℕ) → (f_of d ≡ 0) ⊎ (f_of d ≡ 2)
+      → ListsLeaves members after said → ListsLeaves members (d ∷ after) (d ∷ said)
+  says_replication : (d : ℕ) (after said : List ℕ) → f_of d ≡ 1 → ListsLeaves members after said
+      → ListsLeaves members (d ∷ after) said
+  says_sequence : (d : ℕ) (inner after inside said : List ℕ) → 3 ≤ f_of d → members d ≡ Some inner
+      → ListsLeaves members inner inside → ListsLeaves members after said
+      → ListsLeaves members (d ∷ after) (inside ++ said)
+
+-- That every group of a template, and the whole, takes bits of the data (a choice of this project).
+
+-- some node of each group's body takes bits, and each fixed count is above 0
+abbrev pub EveryGroupConsumes : Tree → Type 0
+EveryGroupConsumes bare = Unit {0}
+EveryGroupConsumes (element fxy rest) = EveryGroupConsumes rest
+EveryGroupConsumes (operator fxy rest) = EveryGroupConsumes rest
+EveryGroupConsumes (fixed count body rest) =
+    (0 < count) × ((consumes body ≡ true) × (EveryGroupConsumes body × EveryGroupConsumes rest))
+EveryGroupConsumes (delayed factor body rest) =
+    (consumes body ≡ true) × (EveryGroupConsumes body × EveryGroupConsumes rest)
+
+-- that, and some node of the whole takes bits
+abbrev pub IsSound : Tree → Type 0
+IsSound tree = EveryGroupConsumes tree × (consumes tree ≡ true)
+
+-- That a table knows what a template asks of it (WMO-No. 306, Volume I.2, FM 94: Tables B and C).
+
+-- every factor is known, and every element but one whose width the operator before it gives;
+-- whether one comes before the first node is said
+abbrev pub IsKnownAfter : (known : ℕ → Bool) → (width_given : Bool) → Tree → Type 0
+IsKnownAfter known width_given bare = Unit {0}
+IsKnownAfter known width_given (element fxy rest) =
+    ((width_given || known fxy) ≡ true) × IsKnownAfter known false rest
+IsKnownAfter known width_given (operator fxy rest) = IsKnownAfter known (gives_width fxy) rest
+IsKnownAfter known width_given (fixed count body rest) =
+    IsKnownAfter known false body × IsKnownAfter known false rest
+IsKnownAfter known width_given (delayed factor body rest) =
+    (known factor ≡ true) × (IsKnownAfter known false body × IsKnownAfter known false rest)
+
+abbrev pub IsKnown : (known : ℕ → Bool) → Tree → Type 0
+IsKnown known tree = IsKnownAfter known false tree

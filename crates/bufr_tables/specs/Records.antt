@@ -1,9 +1,60 @@
--- The records of a table's text: those that the crate `csv` gives, with commas and double quotes,
--- any number of fields and no trimming. The header is record 1. (A choice of this project)
+-- The records of a table's text, their numbers, and the rows and faults that they give.
+-- (A choice of this project: the records are those of the crate `csv`, with commas and double
+-- quotes, any number of fields and no trimming. The header is record 1. A number is an optional
+-- `-` and one or more digits.)
 -- Cited by public contracts.
-use Rattle.std.specs.Prelude.{ℕ, List, unwrap_or, []}
-use Rattle.csv.specs.Reading.{default_config, records, strip_bom}
-use Rattle.csv.specs.Records.{field_at}
+use Rattle.std.specs.Prelude.{ℕ, ◌+◌, ◌-◌, ◌*◌, ◌^◌, ◌==◌, ◌&&◌, Bool, nat_lt, if◌then◌else◌, ℤ, pos, negsuc, neg_ℤ, List, [], ◌∷◌, length, drop, slice_index, Option, Some, None, option_and_then, option_map, unwrap_or, ◌≡◌, ⊤, Result, Ok, Err, true, false, ◌<◌, map, IsSome}
+use Rattle.std.specs.Char.{is_ascii_digit}
+use Rattle.std.specs.List.{list_all}
+use Rattle.csv.specs.Reading.{default_config, records, strip_bom, Ready, is_flexible, reader_config, reader_state, reader_trim, records_from, source_of}
+use Rattle.csv.specs.Records.{field_at, fields_of}
+use Rattle.bufr_tables.specs.declared.fault.TableFault.{TableFault}
+use Rattle.bufr_tables.specs.declared.fault.TableFault.TheVariants.{Header, Row, Duplicate, Cycle, TableSize, Csv, Memory}
+use Rattle.std.specs.Str.{bytes_eq}
+use Rattle.std.specs.Borrow.{Bor}
+use Rattle.csv.specs.Machine.{ends_at_end}
+use Rattle.csv.specs.declared.parser.State.{State}
+use Rattle.csv.specs.declared.reader.Reader.{Reader}
+use Rattle.bufr_tables.specs.declared.rows.RecordReader.{RecordReader}
+use Rattle.csv.specs.declared.reader.Trim.TheVariants as trim
+
+-- Whole numbers as the tables write them: an optional `-` and one or more digits. (A choice of this
+-- project)
+
+-- the number that digits write, after a number that was written before them
+abbrev pub number_after_digits : ℕ → List ℕ → ℕ
+number_after_digits n [] = n
+number_after_digits n (digit ∷ digits) = number_after_digits (10 * n + (digit - 48)) digits
+
+-- one or more digits
+abbrev pub are_digits : List ℕ → Bool
+are_digits text = nat_lt 0 (length text) && list_all is_ascii_digit text
+
+-- the number that digits write, where they are digits
+unfoldable pub natural_of : List ℕ → Option ℕ
+natural_of digits = if are_digits digits then Some (number_after_digits 0 digits) else None
+
+abbrev pub negated : ℕ → ℤ
+negated n = neg_ℤ (pos n)
+
+-- the number that a text writes, however long it is
+unfoldable pub integer_of : List ℕ → Option ℤ
+integer_of text =
+    if slice_index text 0 == 45 then option_map negated (natural_of (drop 1 text))
+    else option_map pos (natural_of text)
+
+-- 64 bits with a sign hold the number
+abbrev pub fits_i64 : ℤ → Bool
+fits_i64 (pos n) = nat_lt n (2 ^ 63)
+fits_i64 (negsuc n) = nat_lt n (2 ^ 63)
+
+-- the number, where 64 bits hold it
+unfoldable pub if_i64 : ℤ → Option ℤ
+if_i64 z = if fits_i64 z then Some z else None
+
+-- the number that a text writes, where 64 bits hold it
+unfoldable pub i64_of : List ℕ → Option ℤ
+i64_of text = option_and_then if_i64 (integer_of text)
 
 -- a record: its fields
 abbrev pub Record : Type 0
@@ -16,3 +67,114 @@ records_of text = records default_config (strip_bom text)
 -- a field of a record, counted from 0, or no octets where there is none
 abbrev pub field_of : Record → ℕ → List ℕ
 field_of record' place = unwrap_or (field_at record' place) []
+
+-- ---- Steps that may fail, one after another, and the answer of a call whose memory may run out.
+
+infixl 10 ◌>>=◌
+abbrev pub ◌>>=◌ : {A B : Type 0} → Option A → (A → Option B) → Option B
+o >>= f = option_and_then f o
+
+-- the value, where the test passes
+abbrev pub only_if : {A : Type 0} → Bool → A → Option A
+only_if test x = if test then Some x else None
+
+-- the step after one that may be at fault
+abbrev pub and_then : {A B : Type 0} → Result A TableFault → (A → Result B TableFault)
+    → Result B TableFault
+and_then (Ok x) f = f x
+and_then (Err fault) f = Err fault
+
+-- a call answers what is expected, or memory ran out
+abbrev pub ReturnsUnlessMemory : {A : Type 0} → Result A TableFault → Result A TableFault → Type 0
+ReturnsUnlessMemory expected (Ok x) = expected ≡ Ok x
+ReturnsUnlessMemory expected (Err Header) = expected ≡ Err Header
+ReturnsUnlessMemory expected (Err (Row n)) = expected ≡ Err (Row n)
+ReturnsUnlessMemory expected (Err (Duplicate fxy)) = expected ≡ Err (Duplicate fxy)
+ReturnsUnlessMemory expected (Err (Cycle fxy)) = expected ≡ Err (Cycle fxy)
+ReturnsUnlessMemory expected (Err TableSize) = expected ≡ Err TableSize
+ReturnsUnlessMemory expected (Err Csv) = expected ≡ Err Csv
+ReturnsUnlessMemory expected (Err Memory) = ⊤
+
+-- A table as the records of its text: a header, and under it a row each. (A choice of this project)
+
+-- a record has these fields, and no other
+abbrev pub has_fields : List (List ℕ) → Record → Bool
+has_fields [] [] = true
+has_fields [] (field ∷ fields) = false
+has_fields (name ∷ names) [] = false
+has_fields (name ∷ names) (field ∷ fields) = bytes_eq field name && has_fields names fields
+
+-- the first record is the header
+-- rule: fault-40
+abbrev pub has_header : List (List ℕ) → List Record → Bool
+has_header header [] = false
+has_header header (first ∷ rest) = has_fields header first
+
+-- what was read so far with the rows of the records from record n on, or the first fault of these
+-- rule: first-record-decides
+unfoldable pub table_from : {A : Type 0} → (with_record : ℕ → A → Record → Result A TableFault) → ℕ
+    → A → List Record → Result A TableFault
+table_from with_record n table [] = Ok table
+table_from with_record n table (r ∷ rs) =
+    and_then (with_record n table r) (λ more. table_from with_record (n + 1) more rs)
+
+-- the table of these records: the header is record 1
+unfoldable pub table_of : {A : Type 0} → (header : List (List ℕ)) → (with_record : ℕ → A → Record
+    → Result A TableFault) → (none : A) → List Record → Result A TableFault
+table_of header with_record none records =
+    if has_header header records then table_from with_record 2 none (drop 1 records) else Err Header
+
+-- ---- What a reader of records has still to give.
+
+-- the octets after the records that were given
+abbrev pub text_left : Reader (Bor (List ℕ)) → Option (List ℕ)
+text_left reader = source_of (λ s. Some s.now) reader
+
+-- the records of these octets, from a state of the reader
+abbrev pub records_after : State → Option (List ℕ) → List Record
+records_after state None = []
+records_after state (Some text) = records_from default_config (length text + 1) state text
+
+abbrev pub records_left : RecordReader → List Record
+records_left r = records_after (reader_state r.reader) (text_left r.reader)
+
+-- how many octets there are, where they are known
+abbrev pub count_of : Option (List ℕ) → ℕ
+count_of None = 0
+count_of (Some text) = length text
+
+abbrev pub octets_left : RecordReader → ℕ
+octets_left r = count_of (text_left r.reader)
+
+-- the reader is between two records
+pub record IsBetween (r : RecordReader) : Type 0 where
+  pub config : reader_config r.reader ≡ default_config
+  pub trim : reader_trim r.reader ≡ trim.None
+  pub ready : Ready r.reader
+  pub flexible : is_flexible r.reader ≡ true
+  pub known : IsSome (text_left r.reader)
+  pub between : ends_at_end (reader_state r.reader) ≡ false
+  pub counted : r.number + octets_left r < 2 ^ 64
+
+-- the fields of the record that was given last
+abbrev pub record_given : RecordReader → Record
+record_given r = fields_of r.row
+
+-- a step of the reader: it gives the next record and counts it, or there is none
+pub record GivesNext (old new : RecordReader) (found : Bool) : Type 0 where
+  pub next : records_left old ≡ (if found then record_given new ∷ records_left new else [])
+  pub number : found ≡ true → new.number ≡ old.number + 1
+  pub between : found ≡ true → IsBetween new
+  pub fewer : found ≡ true → octets_left new < octets_left old
+
+-- a reader is after the header, which is record 1
+pub record IsOpened (names : List (List ℕ)) (records : List Record)
+    (r : RecordReader) : Type 0 where
+  pub between : IsBetween r
+  pub number : r.number ≡ 1
+  pub header : has_header names records ≡ true
+  pub rest : records_left r ≡ drop 1 records
+
+-- texts after references
+abbrev pub field_texts : List (Bor (List ℕ)) → List (List ℕ)
+field_texts texts = map (λ text. text.now) texts

@@ -1,20 +1,41 @@
--- Table B, the elements, as a text of CSV writes it: a header, and a row for each element.
--- (WMO-No. 306, Volume I.2, FM 94: Table B. The text's form, its limits and its faults are a choice
--- of this project)
+-- Table B: its rows, their limits and faults, and the kind of an element by its unit.
+-- (WMO-No. 306, Volume I.2, FM 94: Table B. The form of the text, its limits, its faults and the
+-- kinds are a choice of this project. ASCII case makes no difference in a unit.)
 -- Cited by public contracts.
-use Rattle.std.specs.Prelude.{◌≡◌, ℕ, ◌%◌, ◌==◌, ◌&&◌, Bool, true, false, not, nat_le, if◌then◌else◌, ℤ, pos, negsuc, List, [], ◌∷◌, ◌++◌, length, map, nat_eq, codes, Option, Some, None, is_some, Result, Ok, Err}
+use Rattle.std.specs.Prelude.{ℕ, Bool, if◌then◌else◌, ◌||◌, List, length, take, codes, ◌≡◌, ◌%◌, ◌==◌, ◌&&◌, true, false, not, nat_le, ℤ, pos, negsuc, [], ◌∷◌, ◌++◌, map, nat_eq, Option, Some, None, is_some, Result, Ok, Err}
+use Rattle.std.specs.Str.{str_eq_ignore_ascii_case}
+use Rattle.bufr_tables.specs.declared.table_b.Kind.{Kind}
+use Rattle.bufr_tables.specs.declared.table_b.Kind.TheVariants.{Character, Coded, Numeric}
 use Rattle.std.specs.List.{IsDistinct, find, list_all}
 use Rattle.std.specs.Int.RustNames.{unsigned_abs}
 use Rattle.bufr_tables.specs.declared.fault.TableFault.{TableFault}
 use Rattle.bufr_tables.specs.declared.fault.TableFault.TheVariants.{Row as RowFault, Duplicate, Csv}
-use Rattle.bufr_tables.specs.declared.table_b.Kind.{Kind}
-use Rattle.bufr_tables.specs.declared.table_b.Kind.TheVariants.{Character, Coded, Numeric}
 use Rattle.bufr_tables.specs.Fxy.{f_of, fxy_of, fxy_text, is_factor, y_of}
-use Rattle.bufr_tables.specs.Kind.{kind_of}
-use Rattle.bufr_tables.specs.Number.{i64_of}
-use Rattle.bufr_tables.specs.Records.{Record, field_of}
-use Rattle.bufr_tables.specs.Steps.{◌>>=◌, only_if}
-use Rattle.bufr_tables.specs.Table.{has_fields, table_of}
+use Rattle.bufr_tables.specs.Records.{i64_of, Record, field_of, ◌>>=◌, only_if, has_fields, table_of}
+
+-- What an element's unit says of its values. (A choice of this project: Table B of WMO-No. 306,
+-- Volume I.2, FM 94 gives the unit as a text.) ASCII case makes no difference.
+
+-- a text is these words
+unfoldable pub is_words : List ℕ → List ℕ → Bool
+is_words text words = str_eq_ignore_ascii_case text words
+
+-- a text begins with these words
+unfoldable pub begins_with : List ℕ → List ℕ → Bool
+begins_with text words = is_words (take (length words) text) words
+
+-- a unit that names a table of figures
+unfoldable pub is_code_table : List ℕ → Bool
+is_code_table unit =
+    begins_with unit (codes "Code table") || begins_with unit (codes "Common code table")
+    || begins_with unit (codes "Flag table")
+
+-- `CCITT IA5` is text; tables of figures are coded; every other unit is a quantity
+-- rule: kind-by-unit
+unfoldable pub kind_of : List ℕ → Kind
+kind_of unit =
+    if is_words unit (codes "CCITT IA5") then Character else if is_code_table unit
+    then Coded else Numeric
 
 -- an element of the table: its descriptor, and what its row says of it; the width is in bits
 pub record Row : Type 0 where

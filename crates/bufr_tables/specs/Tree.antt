@@ -1,9 +1,9 @@
--- A template as a tree: elements, operators and groups, each group with a body of its own
--- (WMO-No. 306, Volume I.2, FM 94: section 3, replications; the form as a tree, and its places, are
--- a choice of this project)
+-- A template as a tree: its places, its size, its depth, and the operators that it may hold.
+-- (WMO-No. 306, Volume I.2, FM 94: section 3, replications, and Table C. The form as a tree and its
+-- places are a choice of this project.)
 -- Cited by public contracts.
-use Rattle.std.specs.Prelude.{ℕ, ◌+◌, ◌==◌, Bool, true, false, ◌||◌, max}
-use Rattle.bufr_tables.specs.Fxy.{x_of}
+use Rattle.std.specs.Prelude.{ℕ, ◌+◌, ◌==◌, Bool, true, false, ◌||◌, max, nat_le, ◌&&◌, if◌then◌else◌}
+use Rattle.bufr_tables.specs.Fxy.{x_of, f_of, y_of}
 
 -- a list of nodes: the first of them, and the rest
 pub data Tree : Type 0 where
@@ -54,3 +54,26 @@ consumes (element fxy rest) = true
 consumes (operator fxy rest) = is_inserted_text fxy || consumes rest
 consumes (fixed count body rest) = consumes body || consumes rest
 consumes (delayed factor body rest) = true
+
+-- ---- Which operators a template may hold, and with which operands
+-- (WMO-No. 306, Volume I.2, FM 94: Table C; the choice of these seven, and the bounds on their
+-- operands, are this project's)
+
+-- whether operator 2 X may have the operand Y: a change of width, scale or text width any; new
+-- references a width up to 63, 255 that ends them or 0 that drops them; an inserted text and a
+-- given width not 0; a precision at most 18
+-- rule: operators-known
+abbrev pub has_legal_operand : ℕ → ℕ → Bool
+has_legal_operand x y =
+    if x == 3 then nat_le y 63 || y == 255
+    else (if x == 5 || x == 6 then nat_le 1 y
+    else (if x == 7 then nat_le y 18
+    else (x == 1 || (x == 2 || x == 8))))
+
+-- whether an operator descriptor is one of these
+abbrev pub is_legal_operator : ℕ → Bool
+is_legal_operator fxy = has_legal_operand (x_of fxy) (y_of fxy)
+
+-- whether it is the operator 2 06 Y, which gives the width of the descriptor that follows
+abbrev pub gives_width : ℕ → Bool
+gives_width fxy = f_of fxy == 2 && x_of fxy == 6

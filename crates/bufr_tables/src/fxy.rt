@@ -3,7 +3,7 @@ ghost use Rattle.std.specs.Prelude.{◌≡◌, ◌<◌, ◌≤◌, IsTrue, Some,
 ghost use Rattle.std.specs.Char.{is_ascii_digit};
 ghost use Rattle.std.specs.List.{list_all};
 ghost use Rattle.bufr_tables.specs.Fxy.{f_of, x_of, y_of, fxy_text, fxy_of, is_factor, key_of, number_at};
-ghost use Rattle.bufr_tables.specs.Operators.{gives_width, is_legal_operator};
+ghost use Rattle.bufr_tables.specs.Tree.{gives_width, is_legal_operator};
 
 use std::fmt;
 use std::marker::Model;

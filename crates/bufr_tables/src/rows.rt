@@ -1,11 +1,8 @@
 //! The rows of a table's text: its records, one after another, and the whole numbers in them.
 ghost use Rattle.std.specs.Prelude.{◌≡◌, ◌≢◌, ◌-◌, ◌^◌, ◌<◌, ◌≤◌, ◌==◌, IfOk, IfErr, List, ℕ, drop, false, length, min, option_map, pos, slice_index};
-ghost use Rattle.bufr_tables.specs.Number.{if_i64, i64_of, natural_of, negated};
-ghost use Rattle.bufr_tables.specs.Reading.{GivesNext, IsBetween, IsOpened, record_given, records_left, field_texts};
-ghost use Rattle.bufr_tables.specs.Records.{field_of, records_of};
+ghost use Rattle.bufr_tables.specs.Records.{if_i64, i64_of, natural_of, negated, GivesNext, IsBetween, IsOpened, record_given, records_left, field_texts, field_of, records_of, has_fields, has_header};
 ghost use Rattle.bufr_tables.specs.declared.fault.TableFault.TheVariants.{Header, Memory};
 ghost use Rattle.csv.specs.Records.{fields_of};
-ghost use Rattle.bufr_tables.specs.Table.{has_fields, has_header};
 
 use crate::fault::TableFault;
 use crate::fxy::are_digits;
@@ -115,7 +112,7 @@ fn has_fields(fields: &ByteRecord, names: &[&[u8]]) -> bool
 }
 
 /// The number that an optional `-` and one or more digits write, where an `i64` holds it.
-#[tactic(auto, unfolding(crate::specs::Number::i64_of, crate::specs::Number::integer_of))]
+#[tactic(auto, unfolding(crate::specs::Records::i64_of, crate::specs::Records::integer_of))]
 pub(crate) fn integer(text: &[u8]) -> Option<i64>
     ensures { result ≡ i64_of text.now }
 {
@@ -142,7 +139,7 @@ fn without_first(text: &[u8]) -> &[u8]
 }
 
 /// The number of this size, where an `i64` holds it.
-#[tactic(auto, unfolding(crate::specs::Number::if_i64))]
+#[tactic(auto, unfolding(crate::specs::Records::if_i64))]
 fn positive(size: u64) -> Option<i64>
     ensures { result ≡ if_i64 (pos size) }
 {
@@ -153,7 +150,7 @@ fn positive(size: u64) -> Option<i64>
 }
 
 /// The number below zero of this size, where an `i64` holds it.
-#[tactic(auto, unfolding(crate::specs::Number::if_i64))]
+#[tactic(auto, unfolding(crate::specs::Records::if_i64))]
 fn negative(size: u64) -> Option<i64>
     ensures { result ≡ if_i64 (negated size) }
 {
@@ -167,7 +164,7 @@ fn negative(size: u64) -> Option<i64>
 }
 
 /// The number that one or more digits write, or the greatest `u64` where it is over that.
-#[tactic(auto, unfolding(crate::specs::Number::natural_of))]
+#[tactic(auto, unfolding(crate::specs::Records::natural_of))]
 fn magnitude(digits: &[u8]) -> Option<u64>
     ensures { result ≡ option_map (λ n. min n (2 ^ 64 - 1)) (natural_of digits.now) }
 {

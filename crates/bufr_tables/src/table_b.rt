@@ -3,12 +3,9 @@ ghost use Rattle.std.specs.Prelude.{◌≡◌, ◌≢◌, ◌<◌, [], ◌∷◌
 ghost use Rattle.std.specs.List.{list_all};
 ghost use Rattle.csv.specs.Records.{fields_of};
 ghost use Rattle.bufr_tables.specs.declared.fault.TableFault.TheVariants.{Memory};
-ghost use Rattle.bufr_tables.specs.Kept.{ExtendsBlock, IsStored, row_parsed};
-ghost use Rattle.bufr_tables.specs.Records.{records_of};
-ghost use Rattle.bufr_tables.specs.RowKept.{IsRowKept};
-ghost use Rattle.bufr_tables.specs.Steps.{ReturnsUnlessMemory};
-ghost use Rattle.bufr_tables.specs.TableB.{AreRows, IsRow, Row, element_of, entry_of, is_valid_factor, factor_width, is_printed, plain_of, row_of, scale_of, table_b_of, width_of, with_record_b};
-ghost use Rattle.bufr_tables.specs.Kind.{begins_with, is_words, kind_of, is_code_table};
+ghost use Rattle.bufr_tables.specs.TableBRows.{ExtendsBlock, IsStored, row_parsed, IsRowKept};
+ghost use Rattle.bufr_tables.specs.Records.{records_of, ReturnsUnlessMemory};
+ghost use Rattle.bufr_tables.specs.TableB.{AreRows, IsRow, Row, element_of, entry_of, is_valid_factor, factor_width, is_printed, plain_of, row_of, scale_of, table_b_of, width_of, with_record_b, begins_with, is_words, kind_of, is_code_table};
 
 use crate::fault::TableFault;
 use crate::fxy::Fxy;
@@ -348,7 +345,7 @@ impl Model for TableB {
 
     ghost Value = { List Row };
 
-    ghost use Rattle.bufr_tables.specs.Kept.{IsTableB, table_b_rows};
+    ghost use Rattle.bufr_tables.specs.TableBRows.{IsTableB, table_b_rows};
 
     ghost view = { table_b_rows };
 
@@ -360,9 +357,8 @@ impl TableB {
     ghost use Rattle.csv.specs.Records.{fields_of};
     ghost use Rattle.bufr_tables.specs.declared.fault.TableFault.TheVariants.{Memory};
     ghost use Rattle.bufr_tables.specs.Entry.{row_of_entry};
-    ghost use Rattle.bufr_tables.specs.Kept.{row_parsed};
-    ghost use Rattle.bufr_tables.specs.Records.{records_of};
-    ghost use Rattle.bufr_tables.specs.Steps.{ReturnsUnlessMemory};
+    ghost use Rattle.bufr_tables.specs.TableBRows.{row_parsed};
+    ghost use Rattle.bufr_tables.specs.Records.{records_of, ReturnsUnlessMemory};
     ghost use Rattle.bufr_tables.specs.TableB.{AreRows, IsRow, entry_of, table_b_of, with_record_b};
 
     /// Reads Table B from the octets of a CSV file.
@@ -487,7 +483,7 @@ pub enum Kind {
 
 impl Kind {
     /// The kind of the elements with this unit. ASCII case makes no difference.
-    #[tactic(auto, unfolding(crate::specs::Kind::kind_of))]
+    #[tactic(auto, unfolding(crate::specs::TableB::kind_of))]
     // rule: kind-by-unit
     pub(crate) fn of(unit: &[u8]) -> Kind
         ensures { result ≡ kind_of unit.now }
@@ -503,7 +499,7 @@ impl Kind {
 }
 
 /// Whether a unit names a table of figures.
-#[tactic(auto, unfolding(crate::specs::Kind::is_code_table))]
+#[tactic(auto, unfolding(crate::specs::TableB::is_code_table))]
 fn is_code_table(unit: &[u8]) -> bool
     ensures { result ≡ is_code_table unit.now }
 {
@@ -513,7 +509,7 @@ fn is_code_table(unit: &[u8]) -> bool
 }
 
 /// Whether a text is these words, whatever their case.
-#[tactic(auto, unfolding(crate::specs::Kind::is_words))]
+#[tactic(auto, unfolding(crate::specs::TableB::is_words))]
 fn eq_ignore_case(text: &[u8], words: &[u8]) -> bool
     ensures { result ≡ is_words text.now words.now }
 {
@@ -521,7 +517,7 @@ fn eq_ignore_case(text: &[u8], words: &[u8]) -> bool
 }
 
 /// Whether a text begins with these words, whatever their case.
-#[tactic(auto, unfolding(crate::specs::Kind::begins_with, crate::specs::Kind::is_words))]
+#[tactic(auto, unfolding(crate::specs::TableB::begins_with, crate::specs::TableB::is_words))]
 fn starts_with(text: &[u8], words: &[u8]) -> bool
     ensures { result ≡ begins_with text.now words.now }
 {

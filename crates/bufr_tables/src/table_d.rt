@@ -12,11 +12,9 @@
 ghost use Rattle.std.specs.Prelude.{◌≡◌, ◌≢◌, ◌≤◌, ◌<◌, [], ◌∷◌, ◌++◌, None, length, slice_index, OnOk, IfErr, IfOk, IfSome, is_some, option_map, Ok, Err, vec_len, IsTrue, MatchOption, ◌↔◌};
 ghost use Rattle.csv.specs.Records.{fields_of};
 ghost use Rattle.bufr_tables.specs.declared.fault.TableFault.TheVariants.{Memory};
-ghost use Rattle.bufr_tables.specs.Chain.{ReadsTableD, HasNoCycle, IsFirstCycle, ReachesItself};
+ghost use Rattle.bufr_tables.specs.TableD.{ReadsTableD, HasNoCycle, IsFirstCycle, ReachesItself, AreSequences, extended, fxys_of, is_last, members_or_none, member_of, members_of, sequence_of, table_d_of, with_record_d};
 ghost use Rattle.bufr_tables.specs.Runs.{member_with};
-ghost use Rattle.bufr_tables.specs.Records.{records_of};
-ghost use Rattle.bufr_tables.specs.Steps.{ReturnsUnlessMemory};
-ghost use Rattle.bufr_tables.specs.TableD.{AreSequences, extended, fxys_of, is_last, members_or_none, member_of, members_of, sequence_of, table_d_of, with_record_d};
+ghost use Rattle.bufr_tables.specs.Records.{records_of, ReturnsUnlessMemory};
 ghost use Rattle.bufr_tables.specs.Cycle.{IsAbove, IsVisited, NeverRises, rank_of};
 
 use crate::fault::TableFault;

@@ -5,13 +5,8 @@ ghost use Rattle.std.specs.Prelude.{◌≡◌, ◌≢◌, ◌≤◌, length, Ok,
 ghost use Rattle.bufr_tables.specs.TableB.{entry_of};
 ghost use Rattle.bufr_tables.specs.TableD.{members_of};
 ghost use Rattle.bufr_tables.specs.Tree.{places as places_of, depth as depth_of};
-ghost use Rattle.bufr_tables.specs.Leaves.{leaves, ListsLeaves};
+ghost use Rattle.bufr_tables.specs.Expansion.{leaves, ListsLeaves, IsKnown, IsLegal, IsSound, tree_of, Tables, tables_of};
 ghost use Rattle.bufr_tables.specs.Cells.{AreCellsOf};
-ghost use Rattle.bufr_tables.specs.Known.{IsKnown};
-ghost use Rattle.bufr_tables.specs.Legal.{IsLegal};
-ghost use Rattle.bufr_tables.specs.Sound.{IsSound};
-ghost use Rattle.bufr_tables.specs.Expansion.{tree_of, Tables};
-ghost use Rattle.bufr_tables.specs.TemplateTables.{tables_of};
 ghost use Rattle.bufr_tables.specs.Templates.{IsAnswer};
 
 use crate::expand::{Expander, TemplateBuilder, first_of, push_cell};
@@ -62,7 +57,7 @@ pub struct Template {
 
 impl Model for Template {
     ghost use Rattle.bufr_tables.specs.Tree.{Tree};
-    ghost use Rattle.bufr_tables.specs.TreeCode.{tree_code};
+    ghost use Rattle.bufr_tables.specs.Cells.{tree_code};
 
     ghost Value = { Tree };
 
@@ -270,7 +265,7 @@ impl<'a> Model for SelectedTemplate<'a> {
     ghost Value = { ListByTables };
 
     ghost use Rattle.bufr_tables.specs.Templates.{IsAnswer};
-    ghost use Rattle.bufr_tables.specs.TemplateTables.{tables_of};
+    ghost use Rattle.bufr_tables.specs.Expansion.{tables_of};
 
     ghost view = { λ a. record {
       table_b = a.table_b.now;
@@ -284,7 +279,7 @@ impl<'a> Model for SelectedTemplate<'a> {
 
 impl<'a> SelectedTemplate<'a> {
     ghost use Rattle.std.specs.Prelude.{◌≡◌, ◌≢◌, ◌≤◌, [], length, true, false, IfErr, IfOk, OnOk, is_some};
-    ghost use Rattle.bufr_tables.specs.TemplateTables.{tables_of};
+    ghost use Rattle.bufr_tables.specs.Expansion.{tables_of};
 
     /// Templates by these tables; the list of no descriptors is kept. Takes no memory.
     pub fn new(alloc: Global, table_b: &'a TableB, table_d: &'a TableD) -> SelectedTemplate<'a>

@@ -12,14 +12,12 @@ use Rattle.bufr_frame.specs.declared.section1.Head.{Head}
 use Rattle.bufr_frame.specs.declared.fault.SectionFault.TheVariants.{Edition3Long, SectionsEnd}
 use Rattle.bufr_frame.specs.Layout.{max_octets, size_from}
 use Rattle.bufr_frame.specs.Octets.{three_octets, u24_at}
-use Rattle.bufr_frame.specs.Plain.{IsPlain}
-use Rattle.bufr_frame.specs.Sections.{Sections, sections_of, section_end, parts, parts_if_end_matches, edition_of, is_long_edition_3, is_padded}
+use Rattle.bufr_frame.specs.Sections.{IsPlain, Sections, sections_of, section_end, parts, parts_if_end_matches, edition_of, is_long_edition_3, is_padded}
 use Rattle.bufr_walk.specs.declared.spec.Role.TheVariants as role
 use Rattle.bufr_walk.specs.Content.{number, missing}
 use Rattle.bufr_walk.specs.Course.{next_item}
 use Rattle.bufr_walk.specs.Reading.{Values, apart, together}
-use Rattle.bufr_text.specs.Canonical.{IsCanonical}
-use Rattle.bufr_text.specs.RoundTrip.{IsAccepted}
+use Rattle.bufr_text.specs.RoundTrip.{IsCanonical, IsAccepted}
 
 -- each octet is small
 all_of : (xs : List ℕ) → AllByRecursion (λ octet. octet < 256) xs → All (λ octet. octet < 256) xs

@@ -1,9 +1,8 @@
 -- Only an `end` line makes a document whole.
 use Rattle.std.proofs.Common.{◌≡◌, ℕ, ◌+◌, ◌==◌, Bool, true, false, refl, sym, subst}
 use Rattle.std.specs.Prelude.{nat_le, not, ◌&&◌, if◌then◌else◌, length}
-use Rattle.bufr_fill.specs.Entries.{Ends}
-use Rattle.bufr_text.specs.Document.{Document, edition_in, optional_in, subsets_in}
-use Rattle.bufr_text.specs.Documents.{ParserState, Between, Heading, BeforeSubsets, Filling, Stopped, LineEffect, WalkGoes, Gives, Faults, NotAllowed, SubsetCount, HeaderRange, in_range, with_value, with_local1, with_section2, with_entry, turn}
+use Rattle.bufr_fill.specs.Draft.{Ends}
+use Rattle.bufr_text.specs.Documents.{Document, edition_in, optional_in, subsets_in, ParserState, Between, Heading, BeforeSubsets, Filling, Stopped, LineEffect, WalkGoes, Gives, Faults, NotAllowed, SubsetCount, HeaderRange, in_range, with_value, with_local1, with_section2, with_entry, turn}
 use Rattle.bufr_text.specs.Line.{Line, Passed, Opens, Header, Local1, Section2, Descriptors, Begins, Item, Closes, Wrong}
 
 -- a turn that gives a document was made by an `end` line

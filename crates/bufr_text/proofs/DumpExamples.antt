@@ -2,7 +2,7 @@
 use Rattle.std.proofs.Common.{◌≡◌, ℕ, true, false, List, [], ◌∷◌, ◌++◌, refl, codes, Bool, Result, Ok, Err, ℤ, pos, negsuc, map}
 use Rattle.std.specs.Prelude.{replicate}
 use Rattle.std.specs.Fmt.{digits}
-use Rattle.bufr_bits.specs.DecimalText.{decimal_text_of, unsigned_text}
+use Rattle.bufr_bits.specs.Decimal.{decimal_text_of, unsigned_text}
 use Rattle.bufr_tables.specs.declared.table_b.Kind.{Kind}
 use Rattle.bufr_tables.specs.declared.table_b.Kind.TheVariants as kind
 use Rattle.bufr_tables.specs.TableB.{Row}
@@ -14,12 +14,11 @@ use Rattle.bufr_walk.specs.declared.spec.Role.TheVariants as role
 use Rattle.bufr_walk.specs.FieldSpec.{FieldSpec}
 use Rattle.bufr_walk.specs.Calls.{view_of}
 use Rattle.bufr_walk.specs.Content.{Content, number, text, missing, reference}
-use Rattle.bufr_walk.specs.Outcome.{read_by, data_in}
+use Rattle.bufr_walk.specs.Refusal.{read_by, data_in}
 use Rattle.bufr_walk.specs.Reading.{Item, Values, apart, together}
 use Rattle.bufr_text.specs.Grammar.{runs_after, runs_of, hex_text, descriptors_text, quoted}
 use Rattle.bufr_text.specs.Line.{keys}
-use Rattle.bufr_text.specs.Dump.{header_lines, local1_line, descriptors_line, subset_lines, dump_text_of, item_text, text_of_lines}
-use Rattle.bufr_text.specs.DumpItems.{dump_item_of, dump_items_of}
+use Rattle.bufr_text.specs.Dump.{header_lines, local1_line, descriptors_line, subset_lines, dump_text_of, item_text, text_of_lines, dump_item_of, dump_items_of}
 
 unfoldable listed : (fxy : ℕ) → (name unit : List ℕ) → Kind → (width : ℕ) → Row
 listed fxy name unit k width = record { fxy = fxy; name = name; unit = unit; kind = k; scale = pos 0; reference = pos 0; width = width }

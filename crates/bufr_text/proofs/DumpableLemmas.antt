@@ -4,11 +4,11 @@ use Rattle.std.specs.Prelude.{nat_le, slice_index, slice_range, unwrap_or, if◌
 use Rattle.std.specs.List.{AllByRecursion, list_all}
 use Rattle.std.proofs.lemmas.Bool.Decides.{nat_tests}
 use Rattle.std.proofs.lemmas.List.{length-map}
-use Rattle.bufr_bits.proofs.ScaledLemmas.{and_first, and_second}
+use Rattle.bufr_bits.proofs.DecimalLemmas.{and_first, and_second}
 use Rattle.bufr_bits.specs.Bits.{bits_of}
 use Rattle.bufr_tables.specs.declared.table_b.Kind.{Kind}
 use Rattle.bufr_tables.specs.declared.table_b.Kind.TheVariants as kind
-use Rattle.bufr_tables.specs.Legal.{IsLegal}
+use Rattle.bufr_tables.specs.Expansion.{IsLegal}
 use Rattle.bufr_tables.specs.TableB.{Row, entry_of, is_name, is_printed}
 use Rattle.bufr_tables.specs.TableD.{Sequence}
 use Rattle.bufr_tables.specs.Tree.{Tree}
@@ -16,29 +16,24 @@ use Rattle.bufr_frame.specs.Octets.{u16_at, words}
 use Rattle.bufr_frame.specs.Sections.{Sections, sections_of, parts, edition_of, head_of, has_section2}
 use Rattle.bufr_frame.specs.Layout.{IsFitting}
 use Rattle.bufr_frame.specs.Section1.{first_least}
-use Rattle.bufr_frame.proofs.AgainLemmas.{sections-ended}
-use Rattle.bufr_frame.proofs.FitLemmas.{heads-fit}
+use Rattle.bufr_frame.proofs.AgainLemmas.{sections-ended, heads-fit}
 use Rattle.bufr_walk.specs.declared.spec.Role.{Role}
 use Rattle.bufr_walk.specs.declared.spec.Role.TheVariants as role
 use Rattle.bufr_walk.specs.FieldSpec.{FieldSpec, IsSpec, HasWidth, HasRole}
 use Rattle.bufr_walk.specs.Calls.{view_of, content_at}
-use Rattle.bufr_walk.specs.Content.{Content, number, text, missing, reference, shown}
+use Rattle.bufr_walk.specs.Content.{Content, number, text, missing, reference, shown, found}
 use Rattle.bufr_walk.specs.Course.{Course, next_item}
-use Rattle.bufr_walk.specs.Outcome.{data_of}
+use Rattle.bufr_walk.specs.Refusal.{data_of}
 use Rattle.bufr_walk.specs.PackedField.{packed_field}
-use Rattle.bufr_walk.specs.PlainField.{found}
 use Rattle.bufr_walk.specs.Reading.{Item, plain, packed, ReadsItems, ReadsSubsets, IsPackedReading, IsReading, Values, apart, together, item_answer, after}
-use Rattle.bufr_fill.specs.Fits.{AreOctets, FitsKind, FitsRole, Fits, AllFit}
-use Rattle.bufr_fill.proofs.WrittenLists.{AllSpecs, EachSpecs}
-use Rattle.bufr_fill.proofs.FieldBits.{top_below}
+use Rattle.bufr_fill.specs.RoundTrip.{AreOctets, FitsKind, FitsRole, Fits, AllFit}
+use Rattle.bufr_fill.proofs.PlainLaws.{AllSpecs, EachSpecs, plain_read}
+use Rattle.bufr_fill.proofs.FieldLemmas.{top_below}
 use Rattle.bufr_fill.proofs.GoodReads.{template_good, plain_specs, packed_specs}
 use Rattle.bufr_fill.proofs.PackedLaws.{packed_again}
-use Rattle.bufr_fill.proofs.PlainLaws.{plain_read}
-use Rattle.bufr_text.specs.DumpItems.{value_of, comment_of, dump_item_of, items_apart, compressed_dump_items, compressed_dump_subsets}
+use Rattle.bufr_text.specs.Dump.{value_of, comment_of, dump_item_of, items_apart, compressed_dump_items, compressed_dump_subsets, IsOctet, IsDescriptorWord, IsScale, IsValue, IsName, IsComment, IsItem, IsDumpable}
 use Rattle.bufr_text.specs.RoundTrip.{IsAccepted, dump_items_in}
-use Rattle.bufr_text.specs.Bounds.{IsOctet, IsDescriptorWord, IsScale, IsValue, IsName, IsComment, IsItem, IsDumpable}
-use Rattle.bufr_text.proofs.RowsLemmas.{IsRead, found-read, good-rows}
-use Rattle.bufr_text.proofs.SpecWords.{HasWord, IsWordCourse, next_word}
+use Rattle.bufr_text.proofs.RowsLemmas.{IsRead, found-read, good-rows, HasWord, IsWordCourse, next_word}
 
 -- ---- the sections
 

@@ -4,26 +4,19 @@ use Rattle.std.specs.Option.{option_map}
 use Rattle.bufr_walk.specs.declared.stop.WalkStop.{WalkStop}
 use Rattle.bufr_walk.specs.declared.stop.WalkStop.TheVariants as stops
 use Rattle.bufr_walk.specs.Course.{Course, Next, take_next, at_end, astray, refused}
-use Rattle.bufr_walk.specs.Taking.{TakenField, Takes, course_after}
-use Rattle.bufr_walk.specs.Ticks.{ticked}
-use Rattle.bufr_walk.specs.Walked.{oks, answers_of, StopsWalk, Walked}
+use Rattle.bufr_walk.specs.Walk.{TakenField, Takes, course_after, ticked, oks, answers_of, StopsWalk, Walked}
 use Rattle.bufr_fill.specs.declared.fault.DraftFault.{DraftFault}
 use Rattle.bufr_fill.specs.Encoding.{cells_at, rows, longest, are_many, packed_filler, packed_data}
-use Rattle.bufr_fill.specs.Entries.{DraftEntry, Subset, subsets_of}
-use Rattle.bufr_fill.specs.Fault.{FaultAt, at_line, walk_refused}
+use Rattle.bufr_fill.specs.Draft.{DraftEntry, Subset, subsets_of}
+use Rattle.bufr_fill.specs.Faults.{FaultAt, at_line, walk_refused, draft_fault}
 use Rattle.bufr_fill.specs.PackedOut.{ends_of, PackedOutModel, new_packed_out, PackedFills, IsFaultAcross, IsFaultHere, all_at_end, first_line_at, rows_left}
 use Rattle.bufr_fill.specs.PlainOut.{IfDraftFault}
-use Rattle.bufr_fill.specs.DraftFaults.{draft_fault}
-use Rattle.bufr_fill.proofs.Places.{length-subsets}
-use Rattle.bufr_fill.proofs.PackedFaults.{stays, fault_as_defined, written_as_defined}
-use Rattle.bufr_fill.proofs.PackedWalks.{fills}
+use Rattle.bufr_fill.proofs.EntryLemmas.{length-subsets}
+use Rattle.bufr_fill.proofs.PackedWalks.{stays, fault_as_defined, written_as_defined, fills}
 use Rattle.bufr_bits.specs.Bits.{bits_of}
 use Rattle.bufr_text.specs.declared.fault.DocumentFault.{DocumentFault}
-use Rattle.bufr_text.specs.EncodingFault.{report_of_draft, reported_refusal}
-use Rattle.bufr_text.specs.DataWritten.{reported_stop, AreOctetsOf, IsData, IsNoData}
-use Rattle.bufr_text.specs.EncodingCost.{count_filled, count_packed, turns_filled, turns_packed}
-use Rattle.bufr_text.proofs.EncodingCostLemmas.{walk_counts, refuses_so, reported_refused}
-use Rattle.bufr_text.proofs.TurnsLemmas.{AddsTurns, walk_turns, IsLast, last_turns, some_turns, ticked_at_most, all_made, makes_so}
+use Rattle.bufr_text.specs.Encoding.{report_of_draft, reported_refusal, reported_stop, AreOctetsOf, IsData, IsNoData, count_filled, count_packed, turns_filled, turns_packed}
+use Rattle.bufr_text.proofs.TurnsLemmas.{walk_counts, refuses_so, reported_refused, AddsTurns, walk_turns, IsLast, last_turns, some_turns, ticked_at_most, all_made, makes_so}
 use Rattle.bufr_text.proofs.EncodePlain.{mul_most}
 
 -- the bits that a walk wrote are among those that count

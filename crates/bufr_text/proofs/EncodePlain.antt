@@ -5,28 +5,19 @@ use Rattle.std.proofs.lemmas.List.{append-nil}
 use Rattle.bufr_walk.specs.declared.stop.WalkStop.{WalkStop}
 use Rattle.bufr_walk.specs.declared.stop.WalkStop.TheVariants as stops
 use Rattle.bufr_walk.specs.Course.{Course, Next, take_next, at_end, astray, refused}
-use Rattle.bufr_walk.specs.Taking.{TakenField, Takes, course_after}
-use Rattle.bufr_walk.specs.Walked.{oks, answers_of, StopsWalk, Walked}
+use Rattle.bufr_walk.specs.Walk.{TakenField, Takes, course_after, oks, answers_of, StopsWalk, Walked, ticked}
 use Rattle.bufr_fill.specs.declared.fault.DraftFault.{DraftFault}
-use Rattle.bufr_fill.specs.Draft.{Draft}
+use Rattle.bufr_fill.specs.Draft.{Draft, DraftEntry, Holds, Ends, Subset, subset, prepend_to_subset, subsets_of}
 use Rattle.bufr_fill.specs.DraftContent.{plainly, plain_filler}
 use Rattle.bufr_fill.specs.Encoding.{plain_data, ◌>>=◌}
-use Rattle.bufr_fill.specs.Entries.{DraftEntry, Holds, Ends, Subset, subset, prepend_to_subset, subsets_of}
-use Rattle.bufr_fill.specs.Fault.{FaultAt, at_line, walk_refused}
+use Rattle.bufr_fill.specs.Faults.{FaultAt, at_line, walk_refused, draft_fault}
 use Rattle.bufr_fill.specs.Filling.{fill, fill_none, with_bits_before}
 use Rattle.bufr_fill.specs.PlainOut.{PlainOutModel, PlainFills, IfDraftFault, IsFaultOf, IsFaultNext, after_end, line_at, items_left, end_left}
-use Rattle.bufr_fill.specs.DraftFaults.{draft_fault}
-use Rattle.bufr_fill.proofs.PlainWalks.{fills, walk_of_items, fault_as_defined}
-use Rattle.bufr_fill.proofs.WalkFills.{after_answers}
+use Rattle.bufr_fill.proofs.WalkLemmas.{fills, walk_of_items, fault_as_defined, after_answers}
 use Rattle.bufr_text.specs.declared.fault.DocumentFault.{DocumentFault}
-use Rattle.bufr_text.specs.Encoding.{RefusedAt, report_of_items}
-use Rattle.bufr_text.specs.EncodingFault.{IsDocumentRefusal, report_of_draft, reported_refusal}
-use Rattle.bufr_text.specs.DataWritten.{reported_stop, left_after, fill_next, count_next, turns_next, IsSubset, IsNoSubset, AreOctetsOf, IsData, IsNoData}
-use Rattle.bufr_text.specs.EncodingCost.{count_filled, count_plain, turns_filled, turns_plain, count_after, CountsSteps}
-use Rattle.bufr_walk.specs.Ticks.{ticked}
-use Rattle.bufr_walk.proofs.PlainSubsets.{ticked_more}
-use Rattle.bufr_text.proofs.EncodingCostLemmas.{walk_counts, all_counted, refuses_so, reported_refused}
-use Rattle.bufr_text.proofs.TurnsLemmas.{AddsTurns, walk_turns, IsLast, last_turns, some_turns, ticked_at_most, all_made, makes_so}
+use Rattle.bufr_text.specs.Encoding.{RefusedAt, report_of_items, IsDocumentRefusal, report_of_draft, reported_refusal, reported_stop, left_after, fill_next, count_next, turns_next, IsSubset, IsNoSubset, AreOctetsOf, IsData, IsNoData, count_filled, count_plain, turns_filled, turns_plain, count_after, CountsSteps}
+use Rattle.bufr_walk.proofs.ShownLemmas.{ticked_more}
+use Rattle.bufr_text.proofs.TurnsLemmas.{walk_counts, all_counted, refuses_so, reported_refused, AddsTurns, walk_turns, IsLast, last_turns, some_turns, ticked_at_most, all_made, makes_so}
 
 -- ---- products
 

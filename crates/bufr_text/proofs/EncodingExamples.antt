@@ -1,7 +1,7 @@
 -- Documents and what they are encoded to.
 use Rattle.std.proofs.Common.{◌≡◌, ℕ, false, List, [], ◌∷◌, ◌++◌, replicate, Result, Ok, Err, refl, codes, ℤ, pos}
 use Rattle.bufr_bits.specs.Bits.{bits_of, bits_in}
-use Rattle.bufr_bits.specs.DecimalValue.{decimal_value_of}
+use Rattle.bufr_bits.specs.Decimal.{decimal_value_of}
 use Rattle.bufr_tables.specs.declared.table_b.Kind.{Kind}
 use Rattle.bufr_tables.specs.declared.table_b.Kind.TheVariants as kind
 use Rattle.bufr_tables.specs.declared.fault.TemplateFault.TheVariants as template
@@ -9,10 +9,9 @@ use Rattle.bufr_tables.specs.Expansion.{part_of, level, inner_of, tree_of}
 use Rattle.bufr_tables.specs.TableB.{Row}
 use Rattle.bufr_walk.specs.Course.{next_item}
 use Rattle.bufr_walk.specs.declared.spec.TurnRefusal.TheVariants as walk
-use Rattle.bufr_fill.specs.Draft.{draft, number_token, text_form, missing_form}
-use Rattle.bufr_fill.specs.Fault.{wrong_descriptor, wrong_number, out_of_range, text_long, missing_forbidden, unequal_factors, uneven_increment, item_too_many, walk_refused}
-use Rattle.bufr_fill.specs.Entries.{DraftEntry, Holds, Ends}
-use Rattle.bufr_text.specs.Document.{Document}
+use Rattle.bufr_fill.specs.Draft.{draft, number_token, text_form, missing_form, DraftEntry, Holds, Ends}
+use Rattle.bufr_fill.specs.Faults.{wrong_descriptor, wrong_number, out_of_range, text_long, missing_forbidden, unequal_factors, uneven_increment, item_too_many, walk_refused}
+use Rattle.bufr_text.specs.Documents.{Document}
 use Rattle.bufr_text.specs.Encoding.{RefusedAt, refused_at, by_template, by_item, encoding_in, encoding_of}
 
 unfoldable pub listed : (fxy : ℕ) → Kind → (scale reference : ℤ) → (width : ℕ) → Row

@@ -5,16 +5,13 @@ use Rattle.bufr_frame.specs.Layout.{IsFitting}
 use Rattle.bufr_frame.specs.Section1.{Field, Master, Centre, Subcentre, Update, Flags, Category, Subcategory, LocalSubcategory, MasterVersion, LocalVersion, Year, Month, Day, Hour, Minute, Second, most_in, slots_4}
 use Rattle.bufr_frame.specs.Section1 as section1
 use Rattle.bufr_frame.specs.Sections.{Sections}
-use Rattle.bufr_fill.specs.Draft.{draft, number_token}
-use Rattle.bufr_fill.specs.Entries.{Holds, Ends}
-use Rattle.bufr_text.specs.Document.{Document}
+use Rattle.bufr_fill.specs.Draft.{draft, number_token, Holds, Ends}
+use Rattle.bufr_text.specs.Documents.{Document, Complete, Refused, NotAllowed, SubsetCount, HeaderRange, documents_of, open_documents_of, lines_of, split_of, parse_lines, parse_open_lines, turn}
 use Rattle.std.specs.Fmt.{digits}
-use Rattle.bufr_bits.specs.DecimalText.{decimal_text_of, unsigned_text}
+use Rattle.bufr_bits.specs.Decimal.{decimal_text_of, unsigned_text}
 use Rattle.bufr_text.specs.Grammar.{prefix_while, suffix_while, without_prefix, runs_after, hex_text, hex_read, fxy_read, descriptors_text, descriptors_read, quoted, quoted_read, is_hashed}
 use Rattle.bufr_text.specs.Line.{keys, place_from, value_read, worded, line_of}
-use Rattle.bufr_text.specs.Documents.{Complete, Refused, NotAllowed, SubsetCount, HeaderRange, documents_of, open_documents_of, lines_of, split_of, parse_lines, parse_open_lines, turn}
-use Rattle.bufr_text.specs.Bounds.{IsDumpable}
-use Rattle.bufr_text.specs.Dump.{dump_text_of, header_lines, subset_lines, item_entries, subset_entries, document_of, text_of_lines, DumpItem, IsNumber}
+use Rattle.bufr_text.specs.Dump.{IsDumpable, dump_text_of, header_lines, subset_lines, item_entries, subset_entries, document_of, text_of_lines, DumpItem, IsNumber}
 
 abbrev the_head : Head
 the_head = record { edition = 4; master = 0; centre = 98; subcentre = 0; update = 0; category = 0; subcategory = 0; local_subcategory = 0; master_version = 14; local_version = 0; year = 2024; month = 1; day = 2; hour = 3; minute = 4; second = 5 }

@@ -1,15 +1,14 @@
 -- Documents and what they are encoded to in another form than they say.
 use Rattle.std.proofs.Common.{◌≡◌, ℕ, List, [], ◌∷◌, ◌++◌, Result, Ok, Err, refl, codes}
 use Rattle.bufr_bits.specs.Bits.{bits_of, bits_in}
-use Rattle.bufr_bits.specs.DecimalValue.{decimal_value_of}
+use Rattle.bufr_bits.specs.Decimal.{decimal_value_of}
 use Rattle.bufr_tables.specs.Expansion.{part_of, level, inner_of, tree_of}
 use Rattle.bufr_walk.specs.Course.{next_item}
-use Rattle.bufr_fill.specs.Draft.{draft, reference_token}
-use Rattle.bufr_fill.specs.Fault.{unequal_factors, uneven_increment}
-use Rattle.bufr_fill.specs.Entries.{Holds, Ends}
+use Rattle.bufr_fill.specs.Draft.{draft, reference_token, Holds, Ends}
+use Rattle.bufr_fill.specs.Faults.{unequal_factors, uneven_increment}
 use Rattle.bufr_text.specs.declared.encode.Form.{Form}
 use Rattle.bufr_text.specs.declared.encode.Form.TheVariants.{Plain, Compressed}
-use Rattle.bufr_text.specs.Document.{Document}
+use Rattle.bufr_text.specs.Documents.{Document}
 use Rattle.bufr_text.specs.Encoding.{RefusedAt, refused_at, by_item, encoding_in}
 use Rattle.bufr_text.proofs.EncodingExamples.{listed, table, document, number, missing}
 

@@ -1,14 +1,20 @@
--- The lines before the subsets.
-use Rattle.std.proofs.Common.{◌≡◌, ◌∙◌, ℕ, zero, suc, ◌+◌, ◌-◌, ◌<◌, Bool, true, false, List, [], ◌∷◌, ◌++◌, length, take, drop, map, refl, sym, ap, arith, Option, None, append_assoc, codes}
-use Rattle.std.specs.Prelude.{decimal, option_map, unwrap_or}
+-- The listing line, and the lines of a dump before its subsets.
+use Rattle.std.proofs.Common.{◌≡◌, ◌∙◌, ℕ, zero, suc, ◌+◌, ◌-◌, ◌<◌, Bool, true, false, List, [], ◌∷◌, ◌++◌, length, take, drop, map, refl, sym, ap, arith, Option, None, append_assoc, codes, ◌≤◌, inl, inr, ◌/◌, ◌^◌, length-append, Some}
+use Rattle.std.specs.Prelude.{decimal, option_map, unwrap_or, min, ◌⊎◌, IsTrue, ◌↔◌, is_some, replicate}
 use Rattle.std.specs.Int.{from_bool}
 use Rattle.bufr_frame.specs.Sections.{Sections}
 use Rattle.bufr_tables.specs.Fxy.{fxy_text}
 use Rattle.std.proofs.lemmas.Grind.{flat_map-append}
 use Rattle.bufr_text.specs.Dump.{bit, header_of, header_lines, local1_line, section2_line, descriptors_line, head_lines, text_of_lines}
 use Rattle.bufr_text.specs.Grammar.{descriptors_text, runs_after, runs_of}
-use Rattle.bufr_text.specs.Key.{header_text, lead_of}
-use Rattle.bufr_text.specs.Line.{keys, key_in}
+use Rattle.bufr_text.specs.Line.{header_text, lead_of, keys, key_in}
+use Rattle.std.proofs.lemmas.Bool.{cases_lt}
+use Rattle.std.proofs.lemmas.List.{take_all, drop_all}
+use Rattle.std.proofs.lemmas.Fmt.{decimal_digit, decimal_step, decimal_nonempty}
+use Rattle.bufr_frame.specs.declared.section1.Head.{Head}
+use Rattle.bufr_text.specs.Writing.{LineModel, Pushes, joined, zero_padded}
+use Rattle.bufr_text.specs.LsLine.{category_texts, counts_texts, ls_line, origin_texts, tables_texts, time_texts}
+use Rattle.bufr_text.proofs.PushLemmas.{◌⨾◌, retold}
 
 line-on : (name value more : List ℕ) → ((name ++ 32 ∷ value) ++ 10 ∷ []) ++ more ≡ name ++ (32 ∷ (value ++ 10 ∷ more))
 line-on name value more = append_assoc (name ++ 32 ∷ value) (10 ∷ []) more ∙ append_assoc name (32 ∷ value) (10 ∷ more)
@@ -97,3 +103,97 @@ head-is s =
     ap (λ l. text_of_lines header ++ (text_of_lines local1 ++ l)) (sym (text-append section2 descriptors))
     ∙ ap (λ l. text_of_lines header ++ l) (sym (text-append local1 (section2 ++ descriptors)))
     ∙ sym (text-append header (local1 ++ (section2 ++ descriptors)))
+
+-- ---- The lines of octets and of descriptors, one after another.
+
+-- a list in runs: the first and the others
+runs-skip : (skip less : ℕ) (xs : List ℕ) → runs_after skip (suc less) xs ≡ runs_after 0 (suc less) (drop skip xs)
+unfolding runs_after
+runs-skip zero less xs = refl
+runs-skip (suc skip) less [] = refl
+runs-skip (suc skip) less (x ∷ xs) = runs-skip skip less xs
+
+pub runs-next : (less : ℕ) (xs : List ℕ) → 0 < length xs → runs_of (suc less) xs ≡ take (suc less) xs ∷ runs_of (suc less) (drop (suc less) xs)
+unfolding runs_after
+runs-next less [] some = absurd (omega (arith, some))
+runs-next less (x ∷ xs) some =
+    let e : suc less - 1 ≡ less = omega arith in
+    rw e (ap (λ (l : List (List ℕ)). take (suc less) (x ∷ xs) ∷ l) (runs-skip less less xs))
+
+-- the lines of runs: the first and the others
+pub lines-next : (f : List ℕ → List ℕ) (less : ℕ) (xs : List ℕ) → 0 < length xs → text_of_lines (map f (runs_of (suc less) xs)) ≡ (f (take (suc less) xs) ++ 10 ∷ []) ++ text_of_lines (map f (runs_of (suc less) (drop (suc less) xs)))
+lines-next f less xs some = ap (λ (l : List (List ℕ)). text_of_lines (map f l)) (runs-next less xs some)
+
+pub lines-none : (f : List ℕ → List ℕ) (most : ℕ) (xs : List ℕ) → length xs ≤ 0 → text_of_lines (map f (runs_of most xs)) ≡ []
+unfolding runs_after
+lines-none f most [] none = refl
+lines-none f most (x ∷ xs) none = absurd (omega (arith, none))
+
+-- a run that is cut at the end of the list
+cut-run : (n m : ℕ) (xs : List ℕ) → m ≡ min (length xs) n → (take m xs ≡ take n xs) × (drop m xs ≡ drop n xs)
+cut-run n m xs is = by (cases_lt (length xs) n)
+  where
+    by : (length xs < n) ⊎ (n ≤ length xs) → (take m xs ≡ take n xs) × (drop m xs ≡ drop n xs)
+    by (inl short) =
+        let long : length xs ≤ m = omega (arith, is, short) in
+        let most : length xs ≤ n = omega (arith, short) in
+        (take_all m xs long ∙ sym (take_all n xs most), drop_all m xs long ∙ sym (drop_all n xs most))
+    by (inr enough) =
+        let same : m ≡ n = omega (arith, is, enough) in
+        (ap (λ k. take k xs) same, ap (λ k. drop k xs) same)
+
+-- the lines of octets after a word: the first and the others
+pub octet-lines-next : (f : List ℕ → List ℕ) (less m : ℕ) (rest run suffix : List ℕ) → 0 < length rest → m ≡ min (length rest) (suc less) → run ≡ take m rest → suffix ≡ drop m rest
+    → text_of_lines (map f (runs_of (suc less) rest)) ≡ (f run ++ 10 ∷ []) ++ text_of_lines (map f (runs_of (suc less) suffix))
+octet-lines-next f less m rest run suffix some is prefix back =
+    let cut = cut-run (suc less) m rest is in
+    lines-next f less rest some
+    ∙ ap (λ l. (f l ++ 10 ∷ []) ++ text_of_lines (map f (runs_of (suc less) (drop (suc less) rest)))) (sym (prefix ∙ cut.0))
+    ∙ ap (λ l. (f run ++ 10 ∷ []) ++ text_of_lines (map f (runs_of (suc less) l))) (sym (back ∙ cut.1))
+
+-- whether anything is left
+pub some-left : (b : Bool) (xs : List ℕ) → IsTrue b ↔ (xs ≡ []) → b ≡ false → 0 < length xs
+some-left true xs is e = absurd cc
+some-left false [] is e = let wrong : false ≡ true = is.1 refl in absurd cc
+some-left false (x ∷ xs) is e = omega arith
+
+pub none-left : (b : Bool) (xs : List ℕ) → IsTrue b ↔ (xs ≡ []) → b ≡ true → length xs ≤ 0
+none-left true xs is e = let none : length xs ≡ 0 = ap length (is.0 refl) in omega (arith, none)
+none-left false xs is e = absurd cc
+
+-- ---- The line of a message, from what a message answers.
+
+pub is_some-map : {X Y : Type 0} (f : X → Y) (o : Option X) → is_some (option_map f o) ≡ is_some o
+is_some-map f (Some x) = refl
+is_some-map f None = refl
+
+pub joined-append : (xs ys : List (List ℕ)) → joined xs ++ joined ys ≡ joined (xs ++ ys)
+joined-append [] ys = refl
+joined-append (x ∷ xs) ys = append_assoc x (joined xs) (joined ys) ∙ ap (λ l. x ++ l) (joined-append xs ys)
+
+-- no zero comes before two digits or more
+pub padded_long : (n : ℕ) → 10 ≤ n → n < 2 ^ 64 → zero_padded 2 n ≡ decimal n
+padded_long n long fits =
+    let some = decimal_nonempty (n / 10) (omega arith) in
+    let size : length (decimal n) ≡ length (decimal (n / 10)) + 1 = ap length (decimal_step n long fits) ∙ length-append _ _ in
+    let none : 2 - length (decimal n) ≡ 0 = omega (arith, size, some) in
+    ap (λ k. replicate k 48 ++ decimal n) none
+
+-- one zero comes before one digit
+pub padded_digit : (n : ℕ) → n < 10 → zero_padded 2 n ≡ 48 ∷ (48 + n) ∷ []
+padded_digit n few = ap (λ d. replicate (2 - length d) 48 ++ d) (decimal_digit n few)
+
+-- texts were pushed, and then others
+pub joined_then : {a b c : LineModel} (xs ys : List (List ℕ)) → Pushes a (joined xs) b → Pushes b (joined ys) c → Pushes a (joined (xs ++ ys)) c
+joined_then xs ys first second = retold (first ⨾ second) (joined-append xs ys)
+
+-- the stretches of the line, one after another
+pub line-pushed : {a one two three four b : LineModel} {size : ℕ} {h : Head} (offset : ℕ) (s : Sections) → size ≡ s.size → h ≡ s.head
+    → Pushes a (joined (origin_texts offset size h)) one → Pushes one (joined (category_texts h)) two → Pushes two (joined (tables_texts h)) three → Pushes three (joined (time_texts h)) four
+    → Pushes four (joined (counts_texts s.subsets s.observed s.compressed (is_some s.section2) (length s.descriptors))) b → Pushes a (ls_line offset s) b
+line-pushed {size = size} {h = h} offset s sized head origin category tables time counts =
+    let C = counts_texts s.subsets s.observed s.compressed (is_some s.section2) (length s.descriptors) in
+    let later = time_texts h ++ C in
+    let more = tables_texts h ++ later in
+    rw (← sized, ← head)
+    (joined_then (origin_texts offset size h) (category_texts h ++ more) origin (joined_then (category_texts h) more category (joined_then (tables_texts h) later tables (joined_then (time_texts h) C time counts))))

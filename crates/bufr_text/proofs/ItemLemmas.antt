@@ -1,18 +1,21 @@
--- How item lines are taken apart.
-use Rattle.std.proofs.Common.{◌≡◌, ℕ, zero, suc, ◌+◌, ◌<◌, ◌≤◌, ◌==◌, Bool, true, false, List, [], ◌∷◌, ◌++◌, length, take, drop, refl, sym, ap, ◌∙◌, arith, Option, Some, None, append-nil, append_assoc, if◌then◌else◌, ◌&&◌}
-use Rattle.std.specs.Prelude.{slice_index, option_map, MatchOption}
+-- How a line is taken apart: its word, descriptors, digits and quoted texts.
+use Rattle.std.proofs.Common.{◌≡◌, ℕ, zero, suc, ◌+◌, ◌<◌, ◌≤◌, ◌==◌, Bool, true, false, List, [], ◌∷◌, ◌++◌, length, take, drop, refl, sym, ap, ◌∙◌, arith, Option, Some, None, append-nil, append_assoc, if◌then◌else◌, ◌&&◌, not, codes, ◌*◌, nat_le, nat_lt, length-drop, length-set, length-take, ◌-◌, subst}
+use Rattle.std.specs.Prelude.{slice_index, option_map, MatchOption, slice_set, unwrap_or, ◌||◌}
 use Rattle.std.specs.Borrow.{Bor}
 use Rattle.std.specs.List.{list_all}
 use Rattle.std.specs.Str.{bytes_eq}
 use Rattle.std.proofs.lemmas.Bool.Decides.{nat_tests}
 use Rattle.std.proofs.lemmas.Grind.{common_steps}
 use Rattle.std.proofs.lemmas.List.{drop_all}
-use Rattle.bufr_bits.proofs.ScaledLemmas.{and_first, and_second}
-use Rattle.bufr_tables.specs.Fxy.{fxy_of}
-use Rattle.bufr_text.specs.Grammar.{prefix_while, suffix_while, without_space, without_prefix, fxy_read, is_number_octet, is_hashed, is_passed_after}
-use Rattle.bufr_text.specs.Unquoting.{IsTokenTo}
-use Rattle.bufr_fill.specs.Draft.{number_token, reference_token}
-use Rattle.bufr_text.specs.Line.{value_read, text_value, number_value, missing_value}
+use Rattle.bufr_bits.proofs.DecimalLemmas.{and_first, and_second}
+use Rattle.bufr_tables.specs.Fxy.{fxy_of, is_fxy, f_in, x_in, y_in}
+use Rattle.bufr_text.specs.Grammar.{prefix_while, suffix_while, without_space, without_prefix, fxy_read, is_number_octet, is_hashed, is_passed_after, hex_read, onto_read, descriptors_read, either_value, pair_value, QuotedToken, Closed, ListsLeaves, Nothing, is_unescaped, upper_value, says_pair, escape_of, quoting_of, octet_onto, quoted_on, quoted_read}
+use Rattle.bufr_text.specs.LineParts.{IsTokenTo, Describes, IsDescribing, Unhexes, IsUnhexing, octets_onto, Unquotes, IsUnquoting}
+use Rattle.bufr_fill.specs.Draft.{number_token, reference_token, DraftValue}
+use Rattle.bufr_text.specs.Line.{value_read, text_value, number_value, missing_value, Passed, Item, Local1, Section2, made, with_one_to, item_line, worded, line_of, is_no_space, Descriptors, Wrong}
+use Rattle.memchr.specs.Find.{IsFirstByte, is_byte}
+use Rattle.std.specs.Char.{is_ascii_digit}
+use Rattle.std.proofs.Math.Seq.{drop-nil}
 
 pub fxy-six : (text : List ℕ) → 6 ≤ length text → fxy_read text ≡ option_map (λ fxy. (fxy, drop 6 text)) (fxy_of (take 6 text))
 unfolding fxy_read
@@ -209,3 +212,402 @@ reference-none [] e = refl
 reference-none (c ∷ more) e = rw e refl
 
 pub ruleset reference_steps = (reference-some, reference-none)
+
+-- ---- The first word of a line.
+
+no-space : (c : ℕ) → ((c == 32) ≡ true → ⊥) → is_no_space c ≡ true
+no-space c h = by (c == 32) h
+  where
+    by : (b : Bool) → (b ≡ true → ⊥) → not b ≡ true
+    by true h = absurd (h refl)
+    by false h = refl
+
+a-space : (c : ℕ) → (c == 32) ≡ true → is_no_space c ≡ false
+a-space c h = ap not h
+
+pub word-whole : (line : List ℕ) → ((k : ℕ) → 0 ≤ k → k < length line → (slice_index line k == 32) ≡ true → ⊥) → (take (length line) line ≡ prefix_while is_no_space line) × (drop (length line) line ≡ suffix_while is_no_space line)
+unfolding prefix_while suffix_while
+word-whole [] none = (refl, refl)
+word-whole (c ∷ line) none =
+    let here = no-space c (none 0 (omega arith) (omega arith)) in
+    let rest = word-whole line (λ k low below. none (suc k) (omega arith) (omega arith)) in
+    (rw here (ap (λ (t : List ℕ). c ∷ t) rest.0), rw here rest.1)
+
+pub word-to : (line : List ℕ) (n : ℕ) → n < length line → ((k : ℕ) → 0 ≤ k → k < n → (slice_index line k == 32) ≡ true → ⊥) → (slice_index line n == 32) ≡ true → (take n line ≡ prefix_while is_no_space line) × (drop n line ≡ suffix_while is_no_space line)
+unfolding prefix_while suffix_while
+word-to [] n h none e = absurd (omega arith)
+word-to (c ∷ line) zero h none e = (rw (a-space c e) refl, rw (a-space c e) refl)
+word-to (c ∷ line) (suc n) h none e =
+    let here = no-space c (none 0 (omega arith) (omega arith)) in
+    let rest = word-to line n (omega arith) (λ k low below. none (suc k) (omega arith) (omega arith)) e in
+    (rw here (ap (λ (t : List ℕ). c ∷ t) rest.0), rw here rest.1)
+
+abbrev pub WordAt : List ℕ → Option ℕ → Type 0
+WordAt line None = (take (length line) line ≡ prefix_while is_no_space line) × (drop (length line) line ≡ suffix_while is_no_space line)
+WordAt line (Some n) = (take n line ≡ prefix_while is_no_space line) × (drop n line ≡ suffix_while is_no_space line)
+
+pub word-at : (line : List ℕ) (r : Option ℕ) → IsFirstByte (is_byte 32) line r → WordAt line r
+word-at line None h = word-whole line h
+word-at line (Some n) h = word-to line n h.0.high h.0.before h.1
+
+-- a line by its first octet
+pub line-none : (line : List ℕ) → length line ≡ 0 → line_of line ≡ Passed
+unfolding line_of
+line-none [] e = refl
+line-none (c ∷ line) e = absurd (omega (arith, e))
+
+pub line-note : (line : List ℕ) → slice_index line 0 ≡ 35 → line_of line ≡ Passed
+unfolding line_of
+line-note [] e = refl
+line-note (c ∷ line) e = let q : (c == 35) ≡ true = grind (arith, nat_tests, e) in rw q refl
+
+pub line-item : (line : List ℕ) → (slice_index line 0 ≡ 35 → ⊥) → is_ascii_digit (slice_index line 0) ≡ true → line_of line ≡ item_line value_read line
+unfolding line_of
+line-item [] e d = absurd cc
+line-item (c ∷ line) e d = let q : (c == 35) ≡ false = grind (arith, nat_tests, e) in rw (q, d) refl
+
+pub line-word : (line : List ℕ) → 0 < length line → (slice_index line 0 ≡ 35 → ⊥) → is_ascii_digit (slice_index line 0) ≡ false → line_of line ≡ worded (prefix_while is_no_space line) (suffix_while is_no_space line)
+unfolding line_of
+line-word [] some e d = absurd (omega (arith, some))
+line-word (c ∷ line) some e d = let q : (c == 35) ≡ false = grind (arith, nat_tests, e) in rw (q, d) refl
+
+-- an item line, by its parts
+is-fxy : (text : List ℕ) (fxy : ℕ) → Some fxy ≡ fxy_of text → is_fxy text ≡ true
+is-fxy text fxy h = by (is_fxy text) h
+  where
+    by : (b : Bool) → Some fxy ≡ (if b then Some (16384 * f_in text + 256 * x_in text + y_in text) else None) → b ≡ true
+    by true h = refl
+    by false h = absurd cc
+
+begins-by-digit : (line : List ℕ) (fxy : ℕ) → 6 ≤ length line → Some fxy ≡ fxy_of (take 6 line) → is_ascii_digit (slice_index line 0) ≡ true
+begins-by-digit [] fxy h is = absurd (omega arith)
+begins-by-digit (c ∷ more) fxy h is = grind (arith, nat_tests, is-fxy (take 6 (c ∷ more)) fxy is)
+
+pub decimal-line : (line text rest : List ℕ) (fxy : ℕ) (form : DraftValue) → 6 ≤ length line → Some text ≡ without_space (drop 6 line) → value_read text ≡ Some (form, rest) → is_passed_after rest ≡ true → Some fxy ≡ fxy_of (take 6 line) → line_of line ≡ Item fxy form
+decimal-line line text rest fxy form h space value passed is =
+    let digit = begins-by-digit line fxy h is in
+    line-item line (λ (e : slice_index line 0 ≡ 35). absurd (grind (arith, nat_tests, e, digit))) digit
+    ∙ rw (fxy-six line h, sym is, sym space, value, passed) refl
+
+pub ruleset read_steps = (line-none, line-note, line-item, line-word)
+
+-- lines of octets
+pub local1-worded : (word rest : List ℕ) → bytes_eq word (codes "message") ≡ false → bytes_eq word (codes "local1") ≡ true → worded word rest ≡ made (λ text. made (with_one_to 32 Local1) (hex_read text)) (without_space rest)
+unfolding worded
+local1-worded word rest a b = rw (a, b) refl
+
+pub section2-worded : (word rest : List ℕ) → bytes_eq word (codes "message") ≡ false → bytes_eq word (codes "local1") ≡ false → bytes_eq word (codes "section2") ≡ true → worded word rest ≡ made (λ text. made (with_one_to 32 Section2) (hex_read text)) (without_space rest)
+unfolding worded
+section2-worded word rest a b d = rw (a, b, d) refl
+
+-- ---- How the reading of the descriptors of a line goes on.
+
+drop-on : (a b : ℕ) (s : List ℕ) → drop a (drop b s) ≡ drop (b + a) s
+drop-on a b s = grind (arith, common_steps)
+
+one-set : (out : List ℕ) (count word : ℕ) → count < length out → take (count + 1) (slice_set out count word) ≡ take count out ++ word ∷ []
+one-set out count word h = grind (arith, common_steps)
+
+-- a descriptor after a space
+first-on : (t : List ℕ) → 7 ≤ length t → descriptors_read t ≡ (if slice_index t 0 == 32 then onto_read (fxy_of (take 6 (drop 1 t))) (descriptors_read (drop 7 t)) else None)
+unfolding descriptors_read
+first-on (s ∷ a ∷ b ∷ c ∷ d ∷ e ∷ g ∷ more) h = refl
+first-on [] h = absurd (omega arith)
+first-on (s ∷ []) h = absurd (omega arith)
+first-on (s ∷ a ∷ []) h = absurd (omega arith)
+first-on (s ∷ a ∷ b ∷ []) h = absurd (omega arith)
+first-on (s ∷ a ∷ b ∷ c ∷ []) h = absurd (omega arith)
+first-on (s ∷ a ∷ b ∷ c ∷ d ∷ []) h = absurd (omega arith)
+first-on (s ∷ a ∷ b ∷ c ∷ d ∷ e ∷ []) h = absurd (omega arith)
+
+few-none : (t : List ℕ) → 0 < length t → length t < 7 → descriptors_read t ≡ None
+unfolding descriptors_read
+few-none (s ∷ a ∷ b ∷ c ∷ d ∷ e ∷ g ∷ more) some h = absurd (omega arith)
+few-none [] some h = absurd (omega arith)
+few-none (s ∷ []) some h = refl
+few-none (s ∷ a ∷ []) some h = refl
+few-none (s ∷ a ∷ b ∷ []) some h = refl
+few-none (s ∷ a ∷ b ∷ c ∷ []) some h = refl
+few-none (s ∷ a ∷ b ∷ c ∷ d ∷ []) some h = refl
+few-none (s ∷ a ∷ b ∷ c ∷ d ∷ e ∷ []) some h = refl
+
+no-space-on : (t : List ℕ) → 7 ≤ length t → (slice_index t 0 ≡ 32 → ⊥) → descriptors_read t ≡ None
+no-space-on t h e =
+    let q : (slice_index t 0 == 32) ≡ false = grind (arith, nat_tests, e) in
+    first-on t h ∙ rw q refl
+
+no-fxy-on : (t : List ℕ) → 7 ≤ length t → slice_index t 0 ≡ 32 → fxy_of (take 6 (drop 1 t)) ≡ None → descriptors_read t ≡ None
+no-fxy-on t h e f =
+    let q : (slice_index t 0 == 32) ≡ true = grind (arith, nat_tests, e) in
+    first-on t h ∙ rw q (ap (λ (w : Option ℕ). onto_read w (descriptors_read (drop 7 t))) f)
+
+fxy-on : (t : List ℕ) (word : ℕ) → 7 ≤ length t → slice_index t 0 ≡ 32 → fxy_of (take 6 (drop 1 t)) ≡ Some word → descriptors_read t ≡ onto_read (Some word) (descriptors_read (drop 7 t))
+fxy-on t word h e f =
+    let q : (slice_index t 0 == 32) ≡ true = grind (arith, nat_tests, e) in
+    first-on t h ∙ rw q (ap (λ (w : Option ℕ). onto_read w (descriptors_read (drop 7 t))) f)
+
+onto-more : (xs : List ℕ) (word : ℕ) (read : Option (List ℕ)) → option_map (λ more. xs ++ more) (onto_read (Some word) read) ≡ option_map (λ more. (xs ++ word ∷ []) ++ more) read
+onto-more xs word None = refl
+onto-more xs word (Some read) = ap Some (sym (append_assoc xs (word ∷ []) read))
+
+wrong : (text : List ℕ) → descriptors_read text ≡ None → made (with_one_to 8 Descriptors) (descriptors_read text) ≡ Wrong
+wrong text e = ap (made (with_one_to 8 Descriptors)) e
+
+module _ (text out : List ℕ) (count : ℕ) (is : IsDescribing text out count) where
+  none-after : descriptors_read (drop (7 * count) text) ≡ None → Describes text out None
+  none-after e = wrong text (is.read ∙ ap (option_map (λ more. take count out ++ more)) e)
+
+  pub describing-short : 7 * count < length text → length (drop (7 * count) text) < 7 → Describes text out None
+  describing-short h few = none-after (few-none (drop (7 * count) text) (omega (arith, length-drop (7 * count) text)) few)
+
+  pub describing-no-space : 7 ≤ length (drop (7 * count) text) → (slice_index (drop (7 * count) text) 0 ≡ 32 → ⊥) → Describes text out None
+  describing-no-space long e = none-after (no-space-on (drop (7 * count) text) long e)
+
+  pub describing-no-fxy : 7 ≤ length (drop (7 * count) text) → slice_index (drop (7 * count) text) 0 ≡ 32 → fxy_of (take 6 (drop 1 (drop (7 * count) text))) ≡ None → Describes text out None
+  describing-no-fxy long e f = none-after (no-fxy-on (drop (7 * count) text) long e f)
+
+  pub describing-on : (word : ℕ) → 7 ≤ length (drop (7 * count) text) → slice_index (drop (7 * count) text) 0 ≡ 32 → fxy_of (take 6 (drop 1 (drop (7 * count) text))) ≡ Some word → IsDescribing text (slice_set out count word) (count + 1)
+  describing-on word long e f =
+      let t = drop (7 * count) text in
+      let long' = length-drop (7 * count) text in
+      let next : 7 * count + 7 ≡ 7 * (count + 1) = omega arith in
+      record {
+        within = omega (arith, long, long', is.within);
+        some = is.some;
+        short = is.short;
+        room = omega (arith, is.room, length-set out count word);
+        read = is.read
+            ∙ ap (option_map (λ more. take count out ++ more)) (fxy-on t word long e f)
+            ∙ ap (λ (s : List ℕ). option_map (λ more. take count out ++ more) (onto_read (Some word) (descriptors_read s))) (drop-on 7 (7 * count) text)
+            ∙ onto-more (take count out) word (descriptors_read (drop (7 * count + 7) text))
+            ∙ ap (λ (s : List ℕ). option_map (λ more. s ++ more) (descriptors_read (drop (7 * count + 7) text))) (sym (one-set out count word (omega (arith, is.room, is.short, long, long'))))
+            ∙ ap (λ (k : ℕ). option_map (λ more. take (count + 1) (slice_set out count word) ++ more) (descriptors_read (drop k text))) next;
+      }
+
+  pub describing-whole : length text ≤ 7 * count → Describes text out (Some count)
+  unfolding descriptors_read
+  describing-whole done =
+      let some : 0 < count = omega (arith, is.some, done) in
+      let few : count ≤ 8 = omega (arith, is.within, is.short) in
+      let long : length (take count out) ≡ count = omega (arith, length-take count out, is.room, few) in
+      let read : descriptors_read text ≡ Some (take count out) = is.read ∙ ap (λ (t : List ℕ). option_map (λ more. take count out ++ more) (descriptors_read t)) (drop_all (7 * count) text done) ∙ ap Some (append-nil (take count out)) in
+      let bounds : (nat_lt 0 (length (take count out)) && nat_le (length (take count out)) 8) ≡ true = grind (arith, nat_tests, long, some, few) in
+      (omega (arith, is.room, few), ap (made (with_one_to 8 Descriptors)) read ∙ rw bounds refl)
+
+-- a text of more than eight descriptors, or of none, is no line
+some-same : (a b : List ℕ) → Some a ≡ Some b → a ≡ b
+some-same a b e = ap (λ (o : Option (List ℕ)). unwrap_or o []) e
+
+onto-some : (b : Bool) (w : Option ℕ) (r : Option (List ℕ)) (xs : List ℕ) → (if b then onto_read w r else None) ≡ Some xs → (word : ℕ) × (ys : List ℕ) × (r ≡ Some ys) × (xs ≡ word ∷ ys)
+onto-some false w r xs e = absurd cc
+onto-some true None r xs e = absurd cc
+onto-some true (Some w) None xs e = absurd cc
+onto-some true (Some w) (Some ys) xs e = (w, ys, refl, sym (some-same (w ∷ ys) xs e))
+
+length-read : (t xs : List ℕ) → descriptors_read t ≡ Some xs → length t ≡ 7 * length xs
+unfolding descriptors_read
+length-read [] xs e = omega (arith, ap length (some-same [] xs e))
+length-read (s ∷ a ∷ b ∷ c ∷ d ∷ f ∷ g ∷ more) xs e =
+    let (word, ys, r, same) = onto-some (s == 32) (fxy_of (a ∷ b ∷ c ∷ d ∷ f ∷ g ∷ [])) (descriptors_read more) xs e in
+    omega (arith, length-read more ys r, ap length same)
+length-read (s ∷ []) xs e = absurd cc
+length-read (s ∷ a ∷ []) xs e = absurd cc
+length-read (s ∷ a ∷ b ∷ []) xs e = absurd cc
+length-read (s ∷ a ∷ b ∷ c ∷ []) xs e = absurd cc
+length-read (s ∷ a ∷ b ∷ c ∷ d ∷ []) xs e = absurd cc
+length-read (s ∷ a ∷ b ∷ c ∷ d ∷ f ∷ []) xs e = absurd cc
+
+pub describing-long : (text out : List ℕ) → 56 < length text → Describes text out None
+describing-long text out long = by (descriptors_read text) refl
+  where
+    by : (read : Option (List ℕ)) → descriptors_read text ≡ read → made (with_one_to 8 Descriptors) read ≡ Wrong
+    by None e = refl
+    by (Some xs) e =
+        let many : (nat_lt 0 (length xs) && nat_le (length xs) 8) ≡ false = grind (arith, nat_tests, length-read text xs e, long) in
+        rw many refl
+
+pub describing-none : (text out : List ℕ) → length text ≡ 0 → Describes text out None
+unfolding descriptors_read
+describing-none [] out e = refl
+describing-none (x ∷ text) out e = absurd (omega (arith, e))
+
+-- ---- How the reading of hexadecimal digits goes on.
+
+two-on : (text : List ℕ) (at : ℕ) → at + 1 < length text → drop at text ≡ slice_index text at ∷ slice_index text (at + 1) ∷ drop (at + 2) text
+two-on text at h = grind (arith, common_steps)
+
+hex-two : (a b : ℕ) (more : List ℕ) → hex_read (a ∷ b ∷ more) ≡ onto_read (pair_value (either_value a) (either_value b)) (hex_read more)
+unfolding hex_read
+hex-two a b more = refl
+
+pub unhexing-on : (text out : List ℕ) (count high low : ℕ) → IsUnhexing text out count → 2 * count + 1 < length text → Some high ≡ either_value (slice_index text (2 * count)) → Some low ≡ either_value (slice_index text (2 * count + 1))
+    → IsUnhexing text (slice_set out count (16 * high + low)) (count + 1)
+unhexing-on text out count high low is h e f =
+    let a = slice_index text (2 * count) in
+    let b = slice_index text (2 * count + 1) in
+    let octet = 16 * high + low in
+    let next : 2 * count + 2 ≡ 2 * (count + 1) = omega arith in
+    record {
+      within = omega arith;
+      room = omega (arith, is.room, length-set out count octet);
+      read = is.read
+          ∙ ap (λ (t : List ℕ). option_map (λ more. take count out ++ more) (hex_read t)) (two-on text (2 * count) h)
+          ∙ ap (option_map (λ more. take count out ++ more)) (hex-two a b (drop (2 * count + 2) text) ∙ rw (← e, ← f) refl)
+          ∙ onto-more (take count out) octet (hex_read (drop (2 * count + 2) text))
+          ∙ ap (λ (t : List ℕ). option_map (λ more. t ++ more) (hex_read (drop (2 * count + 2) text))) (sym (one-set out count octet (omega (arith, is.room))))
+          ∙ ap (λ (k : ℕ). option_map (λ more. take (count + 1) (slice_set out count octet) ++ more) (hex_read (drop k text))) next;
+    }
+
+none-left : (v : Option ℕ) → pair_value v None ≡ None
+none-left (Some x) = refl
+none-left None = refl
+
+none-read : (read : Option (List ℕ)) (v : Option ℕ) → v ≡ None → onto_read v read ≡ None
+none-read read v e = ap (λ (t : Option ℕ). onto_read t read) e
+
+pub unhexing-wrong : (text out : List ℕ) (count : ℕ) → IsUnhexing text out count → 2 * count + 1 < length text → pair_value (either_value (slice_index text (2 * count))) (either_value (slice_index text (2 * count + 1))) ≡ None → hex_read text ≡ None
+unhexing-wrong text out count is h e =
+    is.read
+    ∙ ap (λ (t : List ℕ). option_map (λ more. take count out ++ more) (hex_read t)) (two-on text (2 * count) h)
+    ∙ ap (option_map (λ more. take count out ++ more)) (hex-two (slice_index text (2 * count)) (slice_index text (2 * count + 1)) (drop (2 * count + 2) text) ∙ none-read (hex_read (drop (2 * count + 2) text)) _ e)
+
+pub high-wrong : (text : List ℕ) (count : ℕ) → None ≡ either_value (slice_index text (2 * count)) → pair_value (either_value (slice_index text (2 * count))) (either_value (slice_index text (2 * count + 1))) ≡ None
+high-wrong text count e = ap (λ (t : Option ℕ). pair_value t (either_value (slice_index text (2 * count + 1)))) (sym e)
+
+pub low-wrong : (text : List ℕ) (count : ℕ) → None ≡ either_value (slice_index text (2 * count + 1)) → pair_value (either_value (slice_index text (2 * count))) (either_value (slice_index text (2 * count + 1))) ≡ None
+low-wrong text count e = ap (pair_value (either_value (slice_index text (2 * count)))) (sym e) ∙ none-left (either_value (slice_index text (2 * count)))
+
+pub unhexing-whole : (text out : List ℕ) (count : ℕ) → IsUnhexing text out count → 2 * count ≡ length text → Unhexes text out (Some count)
+unfolding hex_read
+unhexing-whole text out count is h =
+    (h, omega (arith, is.room), is.read ∙ ap (λ (t : List ℕ). option_map (λ more. take count out ++ more) (hex_read t)) (drop_all (2 * count) text (omega arith)) ∙ ap Some (append-nil (take count out)))
+
+odd : (rest : List ℕ) → length rest ≡ 1 → hex_read rest ≡ None
+unfolding hex_read
+odd [] h = absurd (omega arith)
+odd (a ∷ []) h = refl
+odd (a ∷ b ∷ more) h = absurd (omega arith)
+
+pub unhexing-odd : (text out : List ℕ) (count : ℕ) → IsUnhexing text out count → length text ≤ 2 * count + 1 → (2 * count ≡ length text → ⊥) → hex_read text ≡ None
+unhexing-odd text out count is h e =
+    is.read ∙ ap (option_map (λ more. take count out ++ more)) (odd (drop (2 * count) text) (omega (arith, is.within, length-drop (2 * count) text)))
+
+-- ---- How the reading of a text goes on.
+
+-- what is passed over is dropped
+pub quoted-skip : (k : ℕ) (text : List ℕ) → quoted_read k text ≡ quoted_read 0 (drop k text)
+unfolding quoted_read
+quoted-skip k [] = rw drop-nil refl
+quoted-skip zero (c ∷ text) = refl
+quoted-skip (suc k) (c ∷ text) = quoted-skip k text
+
+written-in : QuotedToken → ℕ
+written-in Closed = 1
+written-in (ListsLeaves octet written) = written
+written-in Nothing = 1
+
+within : (xs : List ℕ) (i : ℕ) → 0 < slice_index xs i → i < length xs
+within [] i h = absurd (omega arith)
+within (x ∷ xs) zero h = omega arith
+within (x ∷ xs) (suc i) h = omega (arith, within xs i h)
+
+IsIn : List ℕ → QuotedToken → Type 0
+IsIn text q = (1 ≤ written-in q) × (0 < length text → written-in q ≤ length text)
+
+some-in : (text : List ℕ) (octet : Option ℕ) → 3 < length text → IsIn text (says_pair octet)
+unfolding IsIn written-in
+some-in text (Some octet) h = (omega arith, λ some. omega arith)
+some-in text None h = (omega arith, λ some. omega arith)
+
+pair-in : (text : List ℕ) (high : Option ℕ) (c : ℕ) → c ≡ slice_index text 3 → IsIn text (says_pair (pair_value high (upper_value c)))
+unfolding IsIn written-in
+pair-in text (Some high) zero e = (omega arith, λ some. omega arith)
+pair-in text None zero e = (omega arith, λ some. omega arith)
+pair-in text high (suc n) e = some-in text (pair_value high (upper_value (suc n))) (within text 3 (omega (arith, e)))
+
+escape-by : (text : List ℕ) (a b : Bool) → ((slice_index text 1 == 34) || (slice_index text 1 == 92)) ≡ a → (slice_index text 1 == 120) ≡ b
+    → IsIn text (if a then ListsLeaves (slice_index text 1) 2 else if b then says_pair (pair_value (upper_value (slice_index text 2)) (upper_value (slice_index text 3))) else Nothing)
+unfolding IsIn written-in
+escape-by text true b e f =
+    let there : 0 < slice_index text 1 = grind (arith, nat_tests, e) in
+    (omega arith, λ some. omega (arith, within text 1 there))
+escape-by text false true e f = pair-in text (upper_value (slice_index text 2)) (slice_index text 3) refl
+escape-by text false false e f = (omega arith, λ some. omega arith)
+
+quoting-by : (text : List ℕ) (a b c : Bool)
+    → IsIn text (if a then Closed else if b then escape_of text else if c then ListsLeaves (slice_index text 0) 1 else Nothing)
+unfolding IsIn written-in
+quoting-by text true b c = (omega arith, λ some. omega arith)
+quoting-by text false true c = escape-by text ((slice_index text 1 == 34) || (slice_index text 1 == 92)) (slice_index text 1 == 120) refl refl
+quoting-by text false false true = (omega arith, λ some. omega arith)
+quoting-by text false false false = (omega arith, λ some. omega arith)
+
+quoting-in : (text : List ℕ) → IsIn text (quoting_of text)
+quoting-in text = quoting-by text (slice_index text 0 == 34) (slice_index text 0 == 92) (is_unescaped (slice_index text 0))
+
+pub says-in : (text : List ℕ) (octet written : ℕ) → ListsLeaves octet written ≡ quoting_of text → 0 < length text → (1 ≤ written) × (written ≤ length text)
+unfolding IsIn written-in
+says-in text octet written e some =
+    let q : IsIn text (ListsLeaves octet written) = subst (IsIn text) (sym e) (quoting-in text) in
+    (q.0, q.1 some)
+
+-- what is read after an octet
+pub says-on : (text : List ℕ) (octet written : ℕ) → ListsLeaves octet written ≡ quoting_of text → 0 < length text → quoted_read 0 text ≡ octet_onto octet (quoted_read 0 (drop written text))
+unfolding quoted_read
+says-on [] octet written e some = absurd (omega arith)
+says-on (c ∷ more) octet zero e some = absurd (omega (arith, (says-in (c ∷ more) octet 0 e some).0))
+says-on (c ∷ more) octet (suc k) e some =
+    let less : suc k - 1 ≡ k = omega arith in
+    ap (λ (q : QuotedToken). quoted_on q more (λ skip. quoted_read skip more)) (sym e)
+    ∙ ap (λ (n : ℕ). octet_onto octet (quoted_read n more)) less ∙ ap (octet_onto octet) (quoted-skip k more)
+
+pub closed-on : (text : List ℕ) → Closed ≡ quoting_of text → 0 < length text → quoted_read 0 text ≡ Some ([], drop 1 text)
+unfolding quoted_read
+closed-on [] e some = absurd (omega arith)
+closed-on (c ∷ more) e some = ap (λ (q : QuotedToken). quoted_on q more (λ skip. quoted_read skip more)) (sym e)
+
+pub nothing-on : (text : List ℕ) → Nothing ≡ quoting_of text → 0 < length text → quoted_read 0 text ≡ None
+unfolding quoted_read
+nothing-on [] e some = absurd (omega arith)
+nothing-on (c ∷ more) e some = ap (λ (q : QuotedToken). quoted_on q more (λ skip. quoted_read skip more)) (sym e)
+
+pub onto-one-more : (xs : List ℕ) (octet : ℕ) (read : Option (List ℕ × List ℕ)) → octets_onto xs (octet_onto octet read) ≡ octets_onto (xs ++ octet ∷ []) read
+onto-one-more xs octet None = refl
+onto-one-more xs octet (Some read) = ap (λ (t : List ℕ). Some (t, read.1)) (sym (append_assoc xs (octet ∷ []) read.0))
+
+left-some : (text : List ℕ) (at : ℕ) → at < length text → 0 < length (drop at text)
+left-some text at h = omega (arith, length-drop at text)
+
+pub unquoting-within : (text : List ℕ) (at octet written : ℕ) → at < length text → ListsLeaves octet written ≡ quoting_of (drop at text) → (1 ≤ written) × (at + written ≤ length text)
+unquoting-within text at octet written h e =
+    let is = says-in (drop at text) octet written e (left-some text at h) in
+    (is.0, omega (arith, is.1, length-drop at text))
+
+pub unquoting-says : (text out : List ℕ) (count at octet written : ℕ) → IsUnquoting text out count at → at < length text → ListsLeaves octet written ≡ quoting_of (drop at text)
+    → IsUnquoting text (slice_set out count octet) (count + 1) (at + written)
+unquoting-says text out count at octet written is h e =
+    let w = unquoting-within text at octet written h e in
+    record {
+      few = omega (arith, is.few, w.0);
+      within = w.1;
+      room = omega (arith, is.room, length-set out count octet);
+      read = is.read ∙ ap (octets_onto (take count out)) (says-on (drop at text) octet written e (left-some text at h) ∙ ap (λ (t : List ℕ). octet_onto octet (quoted_read 0 t)) (drop-on written at text))
+          ∙ onto-one-more (take count out) octet (quoted_read 0 (drop (at + written) text))
+          ∙ ap (λ (t : List ℕ). octets_onto t (quoted_read 0 (drop (at + written) text))) (sym (one-set out count octet (omega (arith, is.few, is.room, h))));
+    }
+
+pub unquoting-closed : (text out : List ℕ) (count at : ℕ) → IsUnquoting text out count at → at < length text → Closed ≡ quoting_of (drop at text) → Unquotes text out (Some (count, at + 1))
+unquoting-closed text out count at is h e = (
+  omega (arith, is.few, is.room, h),
+  omega arith,
+  is.read ∙ ap (octets_onto (take count out)) (closed-on (drop at text) e (left-some text at h) ∙ ap (λ (t : List ℕ). Some ([], t)) (drop-on 1 at text))
+      ∙ ap (λ (t : List ℕ). Some (t, drop (at + 1) text)) (append-nil (take count out)),
+)
+
+pub unquoting-nothing : (text out : List ℕ) (count at : ℕ) → IsUnquoting text out count at → at < length text → Nothing ≡ quoting_of (drop at text) → quoted_read 0 text ≡ None
+unquoting-nothing text out count at is h e = is.read ∙ ap (octets_onto (take count out)) (nothing-on (drop at text) e (left-some text at h))
+
+pub unquoting-end : (text out : List ℕ) (count at : ℕ) → IsUnquoting text out count at → length text ≤ at → quoted_read 0 text ≡ None
+unfolding quoted_read
+unquoting-end text out count at is h =
+    is.read ∙ ap (λ (t : List ℕ). octets_onto (take count out) (quoted_read 0 t)) (drop_all at text h)

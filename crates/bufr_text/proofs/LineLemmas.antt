@@ -1,18 +1,235 @@
--- Each line of a dump text says what it was written for.
-use Rattle.std.proofs.Common.{◌≡◌, ℕ, zero, suc, ◌+◌, ◌<◌, ◌≤◌, ◌==◌, ◌&&◌, nat_lt, nat_le, true, false, List, [], ◌∷◌, ◌++◌, length, refl, sym, arith, ap, ◌∙◌, Bool, if◌then◌else◌, Option, Some, None, codes, decimal, append_assoc}
-use Rattle.std.specs.Prelude.{IfSome}
+-- Each line of a dump text has what it was written for, and is short.
+use Rattle.std.proofs.Common.{◌≡◌, ℕ, ◌+◌, ◌-◌, ◌*◌, ◌/◌, ◌%◌, ◌<◌, nat_le, true, refl, ap, arith, Some, ◌==◌, nat_lt, min, Bool, false, not, List, [], ◌∷◌, ◌++◌, length, ◌∙◌, if◌then◌else◌, append_assoc, zero, suc, ◌^◌, ◌≤◌, ◌&&◌, take, drop, replicate, ℤ, pos, negsuc, length-append, length-take, length-drop, sym, Option, None, codes}
 use Rattle.std.specs.Char.{is_ascii_digit}
-use Rattle.std.specs.List.{list_all, AllByRecursion}
+use Rattle.std.specs.List.{list_all, AllByRecursion, concat}
 use Rattle.std.proofs.lemmas.Bool.Decides.{nat_tests}
-use Rattle.bufr_tables.specs.Fxy.{fxy_text, f_of}
-use Rattle.bufr_bits.proofs.ScaledLemmas.{and_first}
+use Rattle.bufr_tables.specs.Fxy.{fxy_of, fxy_text, f_of, x_of, y_of, f_in, x_in, y_in}
+use Rattle.std.specs.Prelude.{◌||◌, option_map, unsigned_abs, IfSome}
+use Rattle.std.specs.Fmt.{decimal}
+use Rattle.std.proofs.lemmas.Fmt.{decimal_is_IsNumeral_wide, length-decimal-le_wide}
+use Rattle.bufr_bits.proofs.DecimalLemmas.{own, and_first, and_second, all_digits-take, all_digits-drop, zeros_digits}
+use Rattle.bufr_text.specs.Grammar.{prefix_while, suffix_while, hex_digit, upper_value, either_value, pair_value, hex_pair, hex_text, hex_read, fxy_read, descriptors_text, descriptors_read, number_read, is_unescaped, escaped, quoted, octet_onto, quoted_read, is_number_octet, without_prefix, is_hashed, is_passed_after, runs_after, runs_of}
+use Rattle.bufr_text.specs.Dump.{IsOctet, IsDescriptorWord, IsScale, header_line, local1_line, section2_line, descriptors_line, subset_line, comment_text, Comment, DumpValue, IsNumber, IsText, IsMissing, IsReference, dump_value_of, form_text, item_text, IsValue, IsName, IsComment, IsItem, text_of_lines}
+use Rattle.std.proofs.lemmas.List.{length-replicate, take-append-drop}
+use Rattle.std.proofs.lemmas.List.Folds.{list_all-append}
+use Rattle.bufr_bits.specs.Decimal.{decimal_text_of, unsigned_text, pointed}
 use Rattle.bufr_fill.specs.Draft.{DraftValue, number_token, text_form, missing_form, reference_token}
-use Rattle.bufr_text.specs.Grammar.{prefix_while, suffix_while, without_prefix, number_read, descriptors_text, quoted, is_number_octet, is_hashed, is_passed_after}
-use Rattle.bufr_text.specs.Line.{Opens, Header, Local1, Section2, Descriptors, Begins, Item, Closes, key_in, keys, made, place_from, number_value, value_read, worded, line_of}
-use Rattle.bufr_text.specs.Dump.{header_line, local1_line, section2_line, descriptors_line, subset_line, comment_text, Comment}
-use Rattle.bufr_text.specs.Bounds.{IsOctet, IsDescriptorWord}
-use Rattle.bufr_text.proofs.GrammarLemmas.{stops, prefix-of, after-of, hex_back, fxy_read_back, descriptors_back, number_back, quoted_back}
-use Rattle.bufr_text.proofs.TokenLemmas.{IsToken}
+use Rattle.bufr_text.specs.Line.{Opens, Header, Local1, Section2, Descriptors, Begins, Item, Closes, key_in, keys, made, place_from, number_value, value_read, worded, line_of, Line, Key}
+use Rattle.bufr_tables.specs.TableB.{is_printed}
+use Rattle.bufr_text.specs.Writing.{joined}
+use Rattle.bufr_text.specs.Documents.{lines_of}
+use Rattle.std.proofs.Math.Seq.{drop-nil}
+use Rattle.bufr_text.specs.Dump as dump
+
+-- ---- Descriptors as six digits, read back.
+
+digit : (n : ℕ) → n < 10 → is_ascii_digit (48 + n) ≡ true
+digit n h = grind (arith, nat_tests)
+
+back : (n : ℕ) → 48 + n - 48 ≡ n
+back n = omega arith
+
+fits-f : (w : ℕ) → w < 65536 → nat_le (f_in (fxy_text w)) 3 ≡ true
+fits-f w h = grind (arith, nat_tests)
+
+fits-x : (w : ℕ) → w < 65536 → nat_le (x_in (fxy_text w)) 63 ≡ true
+fits-x w h = grind (arith, nat_tests)
+
+fits-y : (w : ℕ) → w < 65536 → nat_le (y_in (fxy_text w)) 255 ≡ true
+fits-y w h = grind (arith, nat_tests)
+
+all-digits : (w : ℕ) → w < 65536 → list_all is_ascii_digit (fxy_text w) ≡ true
+all-digits w h = rw (digit (f_of w) (omega arith), digit (x_of w / 10) (omega arith), digit (x_of w % 10) (omega arith), digit (y_of w / 100) (omega arith), digit (y_of w / 10 % 10) (omega arith), digit (y_of w % 10) (omega arith)) refl
+
+word-back : (w : ℕ) → w < 65536 → 16384 * f_in (fxy_text w) + 256 * x_in (fxy_text w) + y_in (fxy_text w) ≡ w
+word-back w h = omega arith
+
+pub fxy_back : (w : ℕ) → w < 65536 → fxy_of (fxy_text w) ≡ Some w
+fxy_back w h = rw (all-digits w h, fits-f w h, fits-x w h, fits-y w h) (ap Some (word-back w h))
+
+-- ---- Words and values that are read back.
+
+-- a text at which a run of passing elements stops
+abbrev pub stops : (ℕ → Bool) → List ℕ → Bool
+stops test [] = true
+stops test (c ∷ more) = not (test c)
+
+prefix-stop : (test : ℕ → Bool) (text : List ℕ) → stops test text ≡ true → prefix_while test text ≡ []
+unfolding prefix_while
+prefix-stop test [] h = refl
+prefix-stop test (c ∷ more) h = let e : test c ≡ false = grind (arith, h) in rw e refl
+
+after-stop : (test : ℕ → Bool) (text : List ℕ) → stops test text ≡ true → suffix_while test text ≡ text
+unfolding suffix_while
+after-stop test [] h = refl
+after-stop test (c ∷ more) h = let e : test c ≡ false = grind (arith, h) in rw e refl
+
+pub prefix-of : (test : ℕ → Bool) (a b : List ℕ) → list_all test a ≡ true → stops test b ≡ true → prefix_while test (a ++ b) ≡ a
+unfolding prefix_while
+prefix-of test [] b h s = prefix-stop test b s
+prefix-of test (c ∷ a) b h s = rw (and_first (test c) (list_all test a) h) (ap (λ (t : List ℕ). c ∷ t) (prefix-of test a b (and_second (test c) (list_all test a) h) s))
+
+pub after-of : (test : ℕ → Bool) (a b : List ℕ) → list_all test a ≡ true → stops test b ≡ true → suffix_while test (a ++ b) ≡ b
+unfolding suffix_while
+after-of test [] b h s = after-stop test b s
+after-of test (c ∷ a) b h s = rw (and_first (test c) (list_all test a) h) (after-of test a b (and_second (test c) (list_all test a) h) s)
+
+-- hexadecimal digits
+upper-back : (n : ℕ) → n < 16 → upper_value (hex_digit n) ≡ Some n
+upper-back n h = grind (arith, nat_tests)
+
+either-back : (n : ℕ) → n < 16 → either_value (hex_digit n) ≡ Some n
+either-back n h = grind (arith, nat_tests, upper-back)
+
+halves : (c : ℕ) → 16 * (c / 16) + c % 16 ≡ c
+halves c = omega arith
+
+upper-pair : (c : ℕ) → c < 256 → pair_value (upper_value (hex_digit (c / 16))) (upper_value (hex_digit (c % 16))) ≡ Some c
+upper-pair c h = rw (upper-back (c / 16) (omega arith), upper-back (c % 16) (omega arith)) (ap Some (halves c))
+
+either-pair : (c : ℕ) → c < 256 → pair_value (either_value (hex_digit (c / 16))) (either_value (hex_digit (c % 16))) ≡ Some c
+either-pair c h = rw (either-back (c / 16) (omega arith), either-back (c % 16) (omega arith)) (ap Some (halves c))
+
+pub hex_back : (xs : List ℕ) → AllByRecursion IsOctet xs → hex_read (hex_text xs) ≡ Some xs
+unfolding hex_read hex_text
+hex_back [] all = refl
+hex_back (c ∷ xs) (octet, all) = rw (either-pair c octet, hex_back xs all) refl
+
+-- descriptors
+pub fxy_read_back : (w : ℕ) (rest : List ℕ) → w < 65536 → fxy_read (fxy_text w ++ rest) ≡ Some (w, rest)
+unfolding fxy_read
+fxy_read_back w rest h = ap (option_map (λ fxy. (fxy, rest))) (fxy_back w h)
+
+pub descriptors_back : (ws : List ℕ) → AllByRecursion IsDescriptorWord ws → descriptors_read (descriptors_text ws) ≡ Some ws
+unfolding descriptors_read descriptors_text
+descriptors_back [] all = refl
+descriptors_back (w ∷ ws) (word, all) = rw (fxy_back w word, descriptors_back ws all) refl
+
+-- numbers
+pub number_back : (n : ℕ) → n < 65536 → number_read (decimal n) ≡ Some n
+number_back n h =
+    let numeral = decimal_is_IsNumeral_wide n (omega arith) in
+    let digits : list_all is_ascii_digit (decimal n) ≡ true = own.from (decimal n) numeral.0.1 in
+    let some : nat_lt 0 (length (decimal n)) ≡ true = grind (arith, nat_tests, numeral.0.0) in
+    let few : min n 65536 ≡ n = omega arith in
+    rw (digits, some, numeral.1) (ap Some few)
+
+-- texts
+is_quote : (c : ℕ) → (c == 34) ≡ true → c ≡ 34
+is_quote c h = grind (arith, nat_tests)
+
+is_backslash : (c : ℕ) → (c == 92) ≡ true → c ≡ 92
+is_backslash c h = grind (arith, nat_tests)
+
+read-plain : (c : ℕ) (rest : List ℕ) → is_unescaped c ≡ true → quoted_read 0 (c ∷ rest) ≡ octet_onto c (quoted_read 0 rest)
+unfolding quoted_read
+read-plain c rest h =
+    let no_quote : (c == 34) ≡ false = grind (arith, nat_tests, h) in
+    let no_backslash : (c == 92) ≡ false = grind (arith, nat_tests, h) in
+    rw (h, no_quote, no_backslash) refl
+
+read-hex : (c : ℕ) (rest : List ℕ) → c < 256 → quoted_read 0 (92 ∷ 120 ∷ hex_pair c ++ rest) ≡ octet_onto c (quoted_read 0 rest)
+unfolding quoted_read
+read-hex c rest h = rw (upper-pair c h) refl
+
+by-marks : (c : ℕ) (rest : List ℕ) (q b : Bool) → (c == 34) ≡ q → (c == 92) ≡ b → c < 256
+    → quoted_read 0 ((if q || b then 92 ∷ c ∷ [] else 92 ∷ 120 ∷ hex_pair c) ++ rest) ≡ octet_onto c (quoted_read 0 rest)
+unfolding quoted_read
+by-marks c rest true b q e h = rw (is_quote c q) refl
+by-marks c rest false true q e h = rw (is_backslash c e) refl
+by-marks c rest false false q e h = read-hex c rest h
+
+by-plain : (c : ℕ) (rest : List ℕ) (p : Bool) → is_unescaped c ≡ p → c < 256
+    → quoted_read 0 ((if p then c ∷ [] else if (c == 34) || (c == 92) then 92 ∷ c ∷ [] else 92 ∷ 120 ∷ hex_pair c) ++ rest) ≡ octet_onto c (quoted_read 0 rest)
+by-plain c rest true e h = read-plain c rest e
+by-plain c rest false e h = by-marks c rest (c == 34) (c == 92) refl refl h
+
+close : (rest : List ℕ) → quoted_read 0 (34 ∷ rest) ≡ Some ([], rest)
+unfolding quoted_read
+close rest = refl
+
+quoted-escaped : (c : ℕ) (rest : List ℕ) → c < 256 → quoted_read 0 (escaped c ++ rest) ≡ octet_onto c (quoted_read 0 rest)
+quoted-escaped c rest h = by-plain c rest (is_unescaped c) refl h
+
+pub quoted_back : (xs rest : List ℕ) → AllByRecursion IsOctet xs → quoted_read 0 (quoted xs ++ rest) ≡ Some (xs, rest)
+unfolding quoted
+quoted_back [] rest all = close rest
+quoted_back (c ∷ xs) rest (octet, all) =
+    ap (quoted_read 0) (append_assoc (escaped c) (quoted xs) rest) ∙ quoted-escaped c (quoted xs ++ rest) octet ∙ ap (octet_onto c) (quoted_back xs rest all)
+
+-- ---- Decimal texts are number tokens.
+
+-- a token of at most so many octets
+pub record IsToken (token : List ℕ) (most : ℕ) : Type 0 where
+  pub octets : list_all is_number_octet token ≡ true
+  pub some : 0 < length token
+  pub short : length token ≤ most
+
+pub both : (a b : Bool) → a ≡ true → b ≡ true → (a && b) ≡ true
+both a b h k = rw (h, k) refl
+
+digits-are : (ds : List ℕ) → list_all is_ascii_digit ds ≡ true → list_all is_number_octet ds ≡ true
+digits-are [] h = refl
+digits-are (c ∷ ds) h = rw (and_first (is_ascii_digit c) (list_all is_ascii_digit ds) h) (digits-are ds (and_second (is_ascii_digit c) (list_all is_ascii_digit ds) h))
+
+all-of : (a b : List ℕ) → list_all is_number_octet a ≡ true → list_all is_number_octet b ≡ true → list_all is_number_octet (a ++ b) ≡ true
+all-of a b h k = list_all-append is_number_octet a b ∙ both _ _ h k
+
+decimal-digits : (n : ℕ) → n < 10 ^ 64 → list_all is_ascii_digit (decimal n) ≡ true
+decimal-digits n h = own.from (decimal n) (decimal_is_IsNumeral_wide n h).0.1
+
+decimal-some : (n : ℕ) → n < 10 ^ 64 → 0 < length (decimal n)
+decimal-some n h = (decimal_is_IsNumeral_wide n h).0.0
+
+pointed-token : (n places : ℕ) → n < 10 ^ 39 → places ≤ 300 → IsToken (pointed places (decimal n)) 399
+pointed-token n places h few =
+    let d = decimal n in
+    let count = places + 1 - length d in
+    let zeros : length (replicate {A = ℕ} count 48) ≡ count = length-replicate count 48 in
+    let padded = replicate count 48 ++ d in
+    let w = length padded - places in
+    let all : list_all is_ascii_digit padded ≡ true = list_all-append is_ascii_digit (replicate count 48) d ∙ both _ _ (zeros_digits count) (decimal-digits n (omega arith)) in
+    let short = length-decimal-le_wide 39 n (omega arith) h (omega arith) in
+    let long = length-append (replicate count 48) d in
+    let whole : length (take w padded ++ 46 ∷ drop w padded) ≡ length padded + 1 = length-append (take w padded) (46 ∷ drop w padded) ∙ omega (arith, length-take w padded, length-drop w padded) in
+    record {
+      octets = all-of (take w padded) (46 ∷ drop w padded) (digits-are (take w padded) (all_digits-take w padded all)) (digits-are (drop w padded) (all_digits-drop w padded all));
+      some = omega (arith, whole);
+      short = omega (arith, whole, long, zeros, short);
+    }
+
+zeros-token : (n less : ℕ) → n < 10 ^ 39 → less ≤ 300 → IsToken (decimal n ++ replicate less 48) 399
+zeros-token n less h few =
+    let d = decimal n in
+    let zeros : length (replicate {A = ℕ} less 48) ≡ less = length-replicate less 48 in
+    let long = length-append d (replicate less 48) in
+    let short = length-decimal-le_wide 39 n (omega arith) h (omega arith) in
+    record {
+      octets = all-of d (replicate less 48) (digits-are d (decimal-digits n (omega arith))) (digits-are (replicate less 48) (zeros_digits less));
+      some = omega (arith, long, decimal-some n (omega arith));
+      short = omega (arith, zeros, long, short);
+    }
+
+zeros-none : (n : ℕ) → n < 10 ^ 39 → IsToken (decimal n) 399
+zeros-none n h = record { octets = digits-are (decimal n) (decimal-digits n (omega arith)); some = decimal-some n (omega arith); short = omega (arith, length-decimal-le_wide 39 n (omega arith) h (omega arith)) }
+
+unsigned-token : (n : ℕ) (scale : ℤ) → n < 10 ^ 39 → IsScale scale → IsToken (unsigned_text n scale) 399
+unfolding unsigned_text
+unsigned-token n (pos zero) h few = zeros-none n h
+unsigned-token n (pos (suc places)) h few = pointed-token n (suc places) h few
+unsigned-token zero (negsuc less) h few = zeros-none 0 h
+unsigned-token (suc n) (negsuc less) h few = zeros-token (suc n) (suc less) h few
+
+minus-token : (token : List ℕ) → IsToken token 399 → IsToken (45 ∷ token) 400
+minus-token token t = record { octets = t.octets; some = omega arith; short = omega (arith, t.short) }
+
+more-token : (token : List ℕ) → IsToken token 399 → IsToken token 400
+more-token token t = record { octets = t.octets; some = t.some; short = omega (arith, t.short) }
+
+pub number-token : (v scale : ℤ) → unsigned_abs v < 10 ^ 39 → IsScale scale → IsToken (decimal_text_of v scale) 400
+unfolding decimal_text_of
+number-token (pos n) scale h few = more-token (unsigned_text n scale) (unsigned-token n scale h few)
+number-token (negsuc n) scale h few = minus-token (unsigned_text (suc n) scale) (unsigned-token (suc n) scale h few)
 
 in_bounds : (xs : List ℕ) (most : ℕ) → 0 < length xs → length xs ≤ most → (nat_lt 0 (length xs) && nat_le (length xs) most) ≡ true
 in_bounds xs most some few = grind (arith, nat_tests)
@@ -135,3 +352,230 @@ reference-value (c ∷ more) rest most token s =
 pub reference-of : (fxy : ℕ) (text rest : List ℕ) (form : DraftValue) → fxy < 65536 → number_value reference_token text ≡ Some (form, rest) → is_passed_after rest ≡ true → line_of (codes "R " ++ fxy_text fxy ++ 32 ∷ text) ≡ Item fxy form
 unfolding line_of worded prefix_while suffix_while without_prefix
 reference-of fxy text rest form h read passed = rw (fxy_read_back fxy (32 ∷ text) h, read, passed) refl
+
+-- ---- Lines of a dump text have no line feed and at most 4,096 octets.
+
+-- no control character, so no line feed
+abbrev pub is_above : ℕ → Bool
+is_above c = nat_le 32 c
+
+-- a line that says what it is to say, and that a reading takes whole
+pub record IsLineOf (line : List ℕ) (meaning : Line) : Type 0 where
+  pub says : line_of line ≡ meaning
+  pub clean : list_all is_above line ≡ true
+  pub short : length line ≤ 4096
+
+-- text without control characters, of at most so many octets
+record IsClean (text : List ℕ) (most : ℕ) : Type 0 where
+  clean : list_all is_above text ≡ true
+  short : length text ≤ most
+
+joined-two : (a b : List ℕ) (m n k : ℕ) → IsClean a m → IsClean b n → m + n ≤ k → IsClean (a ++ b) k
+joined-two a b m n k x y h = record { clean = list_all-append is_above a b ∙ both _ _ x.clean y.clean; short = omega (arith, length-append a b, x.short, y.short) }
+
+one-more : (c : ℕ) (a : List ℕ) (m k : ℕ) → 32 ≤ c → IsClean a m → m + 1 ≤ k → IsClean (c ∷ a) k
+one-more c a m k above x h = record { clean = both _ _ (grind (arith, nat_tests)) x.clean; short = omega (arith, x.short) }
+
+within : (a : List ℕ) (m k : ℕ) → IsClean a m → m ≤ k → IsClean a k
+within a m k x h = record { clean = x.clean; short = omega (arith, x.short) }
+
+weaker : (p q : ℕ → Bool) → ((c : ℕ) → p c ≡ true → q c ≡ true) → (xs : List ℕ) → list_all p xs ≡ true → list_all q xs ≡ true
+weaker p q implies [] h = refl
+weaker p q implies (c ∷ xs) h = both _ _ (implies c (and_first (p c) (list_all p xs) h)) (weaker p q implies xs (and_second (p c) (list_all p xs) h))
+
+digit-above : (c : ℕ) → is_ascii_digit c ≡ true → is_above c ≡ true
+digit-above c h = grind (arith, nat_tests)
+
+number-above : (c : ℕ) → is_number_octet c ≡ true → is_above c ≡ true
+number-above c h = grind (arith, nat_tests)
+
+printed-above : (c : ℕ) → is_printed c ≡ true → is_above c ≡ true
+printed-above c h = and_first (is_above c) (not (c == 127)) h
+
+decimal-clean : (n k : ℕ) → 0 < k → n < 10 ^ k → n < 10 ^ 64 → IsClean (decimal n) k
+decimal-clean n k some h wide = record { clean = weaker is_ascii_digit is_above digit-above (decimal n) (own.from (decimal n) (decimal_is_IsNumeral_wide n wide).0.1); short = length-decimal-le_wide k n some h wide }
+
+token-clean : (token : List ℕ) (most : ℕ) → IsToken token most → IsClean token most
+token-clean token most t = record { clean = weaker is_number_octet is_above number-above token t.octets; short = t.short }
+
+name-clean : (name : List ℕ) → IsName name → IsClean name 512
+name-clean name n = record { clean = weaker is_printed is_above printed-above name n.printed; short = n.short }
+
+digit-of-above : (n : ℕ) → is_above (48 + n) ≡ true
+digit-of-above n = grind (arith, nat_tests)
+
+fxy-clean : (w : ℕ) → IsClean (fxy_text w) 6
+fxy-clean w = record { clean = rw (digit-of-above (f_of w), digit-of-above (x_of w / 10), digit-of-above (x_of w % 10), digit-of-above (y_of w / 100), digit-of-above (y_of w / 10 % 10), digit-of-above (y_of w % 10)) refl; short = omega arith }
+
+-- hexadecimal digits
+hex-above : (n : ℕ) → is_above (hex_digit n) ≡ true
+hex-above n = grind (arith, nat_tests)
+
+hex-clean : (xs : List ℕ) → IsClean (hex_text xs) (2 * length xs)
+unfolding hex_text
+hex-clean [] = record { clean = refl; short = omega arith }
+hex-clean (c ∷ xs) = let rest = hex-clean xs in record { clean = rw (hex-above (c / 16), hex-above (c % 16)) rest.clean; short = omega (arith, rest.short) }
+
+descriptors-clean : (ws : List ℕ) → IsClean (descriptors_text ws) (7 * length ws)
+unfolding descriptors_text
+descriptors-clean [] = record { clean = refl; short = omega arith }
+descriptors-clean (w ∷ ws) = one-more 32 (fxy_text w ++ descriptors_text ws) (6 + 7 * length ws) (7 * suc (length ws)) (omega arith) (joined-two (fxy_text w) (descriptors_text ws) 6 (7 * length ws) (6 + 7 * length ws) (fxy-clean w) (descriptors-clean ws) (omega arith)) (omega arith)
+
+-- texts
+plain-clean : (c : ℕ) → is_unescaped c ≡ true → IsClean (c ∷ []) 4
+plain-clean c h = record { clean = both _ _ (grind (arith, nat_tests, h)) refl; short = omega arith }
+
+marks-clean : (c : ℕ) (m : Bool) → ((c == 34) || (c == 92)) ≡ m → IsClean (if m then 92 ∷ c ∷ [] else 92 ∷ 120 ∷ hex_pair c) 4
+marks-clean c true e = record { clean = both _ _ (grind (arith, nat_tests, e)) refl; short = omega arith }
+marks-clean c false e = record { clean = rw (hex-above (c / 16), hex-above (c % 16)) refl; short = omega arith }
+
+escaped-by : (c : ℕ) (p : Bool) → is_unescaped c ≡ p → IsClean (if p then c ∷ [] else if (c == 34) || (c == 92) then 92 ∷ c ∷ [] else 92 ∷ 120 ∷ hex_pair c) 4
+escaped-by c true e = plain-clean c e
+escaped-by c false e = marks-clean c ((c == 34) || (c == 92)) refl
+
+quoted-clean : (xs : List ℕ) → IsClean (quoted xs) (4 * length xs + 1)
+unfolding quoted
+quoted-clean [] = record { clean = refl; short = omega arith }
+quoted-clean (c ∷ xs) = joined-two (escaped c) (quoted xs) 4 (4 * length xs + 1) (4 * suc (length xs) + 1) (escaped-by c (is_unescaped c) refl) (quoted-clean xs) (omega arith)
+
+-- comments
+literal : (text : List ℕ) (most : ℕ) → list_all is_above text ≡ true → length text ≤ most → IsClean text most
+literal text most h k = record { clean = h; short = k }
+
+comment-clean : (comment : Option Comment) → IsComment comment → IsClean (comment_text comment) 1040
+comment-clean None given = record { clean = refl; short = omega arith }
+comment-clean (Some comment) (name, unit) =
+    joined-two (codes "  # ") (joined (comment.name ∷ codes " [" ∷ comment.unit ∷ codes "]" ∷ [])) 4 1036 1040 (literal (codes "  # ") 4 refl (omega arith))
+    (joined-two comment.name (joined (codes " [" ∷ comment.unit ∷ codes "]" ∷ [])) 512 524 1036 (name-clean comment.name name)
+    (joined-two (codes " [") (joined (comment.unit ∷ codes "]" ∷ [])) 2 522 524 (literal (codes " [") 2 refl (omega arith))
+    (joined-two comment.unit (codes "]") 512 10 522 (name-clean comment.unit unit) (literal (codes "]") 10 refl (omega arith)) (omega arith)) (omega arith)) (omega arith)) (omega arith)
+
+-- the lines
+pub message-line : IsLineOf (codes "message") Opens
+message-line = record { says = message-says; clean = refl; short = omega arith }
+
+pub end-line : IsLineOf (codes "end") Closes
+end-line = record { says = end-says; clean = refl; short = omega arith }
+
+line-from : (line : List ℕ) (meaning : Line) (most : ℕ) → line_of line ≡ meaning → IsClean line most → most ≤ 4096 → IsLineOf line meaning
+line-from line meaning most s c h = record { says = s; clean = c.clean; short = omega (arith, c.short) }
+
+pub local1-line : (xs : List ℕ) → AllByRecursion IsOctet xs → 0 < length xs → length xs ≤ 32 → IsLineOf (local1_line xs) (Local1 xs)
+local1-line xs all some few = line-from (local1_line xs) (Local1 xs) 71 (local1-says xs all some few) (joined-two (codes "local1 ") (hex_text xs) 7 (2 * length xs) 71 (literal (codes "local1 ") 7 refl (omega arith)) (hex-clean xs) (omega arith)) (omega arith)
+
+pub section2-line : (xs : List ℕ) → AllByRecursion IsOctet xs → 0 < length xs → length xs ≤ 32 → IsLineOf (section2_line xs) (Section2 xs)
+section2-line xs all some few = line-from (section2_line xs) (Section2 xs) 73 (section2-says xs all some few) (joined-two (codes "section2 ") (hex_text xs) 9 (2 * length xs) 73 (literal (codes "section2 ") 9 refl (omega arith)) (hex-clean xs) (omega arith)) (omega arith)
+
+pub descriptors-line : (ws : List ℕ) → AllByRecursion IsDescriptorWord ws → 0 < length ws → length ws ≤ 8 → IsLineOf (descriptors_line ws) (Descriptors ws)
+descriptors-line ws all some few = line-from (descriptors_line ws) (Descriptors ws) 67 (descriptors-says ws all some few) (joined-two (codes "descriptors") (descriptors_text ws) 11 (7 * length ws) 67 (literal (codes "descriptors") 11 refl (omega arith)) (descriptors-clean ws) (omega arith)) (omega arith)
+
+pub subset-line : (n : ℕ) → n < 65536 → IsLineOf (subset_line n) (Begins n)
+subset-line n h = line-from (subset_line n) (Begins n) 12 (subset-says n (omega arith)) (joined-two (codes "subset ") (decimal n) 7 5 12 (literal (codes "subset ") 7 refl (omega arith)) (decimal-clean n 5 (omega arith) (omega arith) (omega arith)) (omega arith)) (omega arith)
+
+-- names of keys
+abbrev key-passes : Key → Bool
+key-passes k = nat_le (length k.name) 16 && list_all is_above k.name
+
+keys-pass : list_all key-passes keys ≡ true
+unfolding keys
+keys-pass = refl
+
+keys-length : length keys ≡ 20
+unfolding keys
+keys-length = refl
+
+key-at : (ks : List Key) (i : ℕ) → list_all key-passes ks ≡ true → i < length ks → key-passes (key_in ks i) ≡ true
+key-at [] i h below = absurd (omega arith)
+key-at (k ∷ ks) zero h below = and_first (key-passes k) (list_all key-passes ks) h
+key-at (k ∷ ks) (suc i) h below = key-at ks i (and_second (key-passes k) (list_all key-passes ks) h) (omega arith)
+
+key-clean : (k : Key) → key-passes k ≡ true → IsClean k.name 16
+key-clean k h =
+    let few : nat_le (length k.name) 16 ≡ true = and_first (nat_le (length k.name) 16) (list_all is_above k.name) h in
+    record { clean = and_second (nat_le (length k.name) 16) (list_all is_above k.name) h; short = grind (arith, nat_tests, few) }
+
+pub header-line : (k v : ℕ) → k < 20 → v < 65536 → IsLineOf (header_line k v) (Header k v)
+header-line k v h n =
+    let name = key-clean (key_in keys k) (key-at keys k keys-pass (omega (arith, keys-length))) in
+    line-from (header_line k v) (Header k v) 22 (header-says k v h (omega arith))
+    (joined-two (key_in keys k).name (32 ∷ decimal v) 16 6 22 name (one-more 32 (decimal v) 5 6 (omega arith) (decimal-clean v 5 (omega arith) (omega arith) (omega arith)) (omega arith)) (omega arith)) (omega arith)
+
+-- items
+form-line : (fxy : ℕ) (text : List ℕ) (form : DraftValue) (comment : Option Comment) (most : ℕ) → fxy < 65536 → IsComment comment → value_read (text ++ comment_text comment) ≡ Some (form, comment_text comment) → IsClean text most → most ≤ 2000
+    → IsLineOf ((fxy_text fxy ++ 32 ∷ text) ++ comment_text comment) (Item fxy form)
+form-line fxy text form comment most word given read c h =
+    line-from ((fxy_text fxy ++ 32 ∷ text) ++ comment_text comment) (Item fxy form) 3047 (item-of fxy (text ++ comment_text comment) (comment_text comment) form word read (comment-passed comment))
+    (joined-two (fxy_text fxy ++ 32 ∷ text) (comment_text comment) 2007 1040 3047 (joined-two (fxy_text fxy) (32 ∷ text) 6 2001 2007 (fxy-clean fxy) (one-more 32 text most 2001 (omega arith) c (omega arith)) (omega arith)) (comment-clean comment given) (omega arith)) (omega arith)
+
+by-value : (fxy : ℕ) (comment : Option Comment) (value : DumpValue) → fxy < 65536 → IsComment comment → IsValue value → IsLineOf (form_text fxy (dump_value_of value) ++ comment_text comment) (Item fxy (dump_value_of value))
+by-value fxy comment (IsNumber v scale) word c (small, few) =
+    let token = number-token v scale small few in
+    form-line fxy (decimal_text_of v scale) (number_token (decimal_text_of v scale)) comment 400 word c (value-number (decimal_text_of v scale) (comment_text comment) 400 token (comment-stops comment)) (token-clean (decimal_text_of v scale) 400 token) (omega arith)
+by-value fxy comment (IsText octets) word c (all, few) =
+    form-line fxy (34 ∷ quoted octets) (text_form octets) comment 1022 word c (value-text octets (comment_text comment) all) (one-more 34 (quoted octets) (4 * length octets + 1) 1022 (omega arith) (quoted-clean octets) (omega arith)) (omega arith)
+by-value fxy comment IsMissing word c given =
+    form-line fxy (codes "MISSING") missing_form comment 7 word c (value-missing (comment_text comment)) (literal (codes "MISSING") 7 refl (omega arith)) (omega arith)
+by-value fxy comment (IsReference v) word c small =
+    let token = number-token v (pos 0) small (omega arith) in
+    let text = decimal_text_of v (pos 0) in
+    line-from ((codes "R " ++ fxy_text fxy ++ 32 ∷ text) ++ comment_text comment) (Item fxy (reference_token text)) 1449
+    (reference-of fxy (text ++ comment_text comment) (comment_text comment) (reference_token text) word (reference-value text (comment_text comment) 400 token (comment-stops comment)) (comment-passed comment))
+    (joined-two (codes "R " ++ fxy_text fxy ++ 32 ∷ text) (comment_text comment) 409 1040 1449 (joined-two (codes "R " ++ fxy_text fxy) (32 ∷ text) 8 401 409 (joined-two (codes "R ") (fxy_text fxy) 2 6 8 (literal (codes "R ") 2 refl (omega arith)) (fxy-clean fxy) (omega arith)) (one-more 32 text 400 401 (omega arith) (token-clean text 400 token) (omega arith)) (omega arith)) (comment-clean comment c) (omega arith)) (omega arith)
+
+pub item-line : (item : dump.DumpItem) → IsItem item → IsLineOf (item_text item) (Item item.fxy (dump_value_of item.value))
+item-line item given = by-value item.fxy item.comment item.value given.word given.comment given.value
+
+-- ---- Lines that were each ended by a line feed are the lines of the text.
+
+abbrev pub IsAbove : List ℕ → Type 0
+IsAbove line = list_all is_above line ≡ true
+
+no-feed : (c : ℕ) → is_above c ≡ true → (c == 10) ≡ false
+no-feed c h = grind (arith, nat_tests, h)
+
+pub first-line : (line t : List ℕ) → IsAbove line → lines_of (line ++ 10 ∷ t) ≡ line ∷ lines_of t
+unfolding lines_of
+first-line [] t h = refl
+first-line (c ∷ line) t h =
+    rw (no-feed c (and_first (is_above c) (list_all is_above line) h), first-line line t (and_second (is_above c) (list_all is_above line) h)) refl
+
+pub lines-back : (ls : List (List ℕ)) (t : List ℕ) → AllByRecursion IsAbove ls → lines_of (text_of_lines ls ++ t) ≡ ls ++ lines_of t
+lines-back [] t all = refl
+lines-back (line ∷ ls) t (here, all) =
+    ap lines_of (append_assoc (line ++ 10 ∷ []) (text_of_lines ls) t ∙ append_assoc line (10 ∷ []) (text_of_lines ls ++ t))
+    ∙ first-line line (text_of_lines ls ++ t) here ∙ ap (λ (more : List (List ℕ)). line ∷ more) (lines-back ls t all)
+
+-- ---- A list in runs: they join to the list, none is empty, none is long.
+
+concat-after : (skip less : ℕ) (xs : List ℕ) → concat (runs_after skip (suc less) xs) ≡ drop skip xs
+unfolding runs_after
+concat-after skip less [] = rw drop-nil refl
+concat-after (suc skip) less (x ∷ xs) = concat-after skip less xs
+concat-after zero less (x ∷ xs) =
+    let e : suc less - 1 ≡ less = omega arith in
+    rw e (ap (λ (t : List ℕ). x ∷ (take less xs ++ t)) (concat-after less less xs) ∙ ap (λ (t : List ℕ). x ∷ t) (take-append-drop less xs))
+
+pub concat-runs : (less : ℕ) (xs : List ℕ) → concat (runs_of (suc less) xs) ≡ xs
+concat-runs less xs = concat-after 0 less xs
+
+-- a run
+pub record IsRun (P : ℕ → Type 0) (most : ℕ) (run : List ℕ) : Type 0 where
+  pub all : AllByRecursion P run
+  pub some : 0 < length run
+  pub few : length run ≤ most
+
+all-take : (P : ℕ → Type 0) (n : ℕ) (xs : List ℕ) → AllByRecursion P xs → AllByRecursion P (take n xs)
+all-take P zero xs all = tt
+all-take P (suc n) [] all = tt
+all-take P (suc n) (x ∷ xs) (here, all) = (here, all-take P n xs all)
+
+runs-after : (P : ℕ → Type 0) (skip less : ℕ) (xs : List ℕ) → AllByRecursion P xs → AllByRecursion (IsRun P (suc less)) (runs_after skip (suc less) xs)
+unfolding runs_after
+runs-after P skip less [] all = tt
+runs-after P (suc skip) less (x ∷ xs) (here, all) = runs-after P skip less xs all
+runs-after P zero less (x ∷ xs) (here, all) =
+    let e : suc less - 1 ≡ less = omega arith in
+    (record { all = (here, all-take P less xs all); some = omega arith; few = omega (arith, length-take less xs) }, rw e (runs-after P less less xs all))
+
+pub runs-are : (P : ℕ → Type 0) (less : ℕ) (xs : List ℕ) → AllByRecursion P xs → AllByRecursion (IsRun P (suc less)) (runs_of (suc less) xs)
+runs-are P less xs all = runs-after P 0 less xs all

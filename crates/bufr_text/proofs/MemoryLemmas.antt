@@ -2,8 +2,7 @@
 use Rattle.std.proofs.Common.{◌≡◌, ℕ, List, Option, Some, None, Result, Ok, refl}
 use Rattle.bufr_text.specs.declared.fault.DocumentFault.{DocumentFault}
 use Rattle.bufr_text.specs.declared.fault.DocumentFault.TheVariants as fault
-use Rattle.bufr_text.specs.Encoding.{RefusedAt}
-use Rattle.bufr_text.specs.EncodingFault.{IsDocumentRefusal, reported_refusal}
+use Rattle.bufr_text.specs.Encoding.{RefusedAt, IsDocumentRefusal, reported_refusal}
 
 -- a fault that reports no refusal is want of memory
 is_memory : (why : DocumentFault) → reported_refusal why ≡ None → why ≡ fault.Memory

@@ -1,22 +1,20 @@
 -- Texts of documents in one spelling.
 use Rattle.std.proofs.Common.{◌≡◌, ℕ, List, [], ◌∷◌, refl, codes, ℤ, pos}
 use Rattle.std.specs.Fmt.{digits}
-use Rattle.bufr_bits.specs.DecimalText.{decimal_text_of, unsigned_text}
-use Rattle.bufr_bits.specs.DecimalValue.{decimal_value_of}
+use Rattle.bufr_bits.specs.Decimal.{decimal_text_of, unsigned_text, decimal_value_of}
 use Rattle.bufr_tables.specs.declared.table_b.Kind.{Kind}
 use Rattle.bufr_tables.specs.declared.table_b.Kind.TheVariants as kind
 use Rattle.bufr_tables.specs.TableB.{Row}
 use Rattle.bufr_tables.specs.Tree.{Tree, bare, element, operator, delayed}
 use Rattle.bufr_walk.specs.Course.{next_item}
-use Rattle.bufr_fill.specs.Draft.{draft, text_form, reference_token}
-use Rattle.bufr_fill.specs.Entries.{DraftEntry, Holds, Ends, subsets_of}
+use Rattle.bufr_fill.specs.Draft.{draft, text_form, reference_token, DraftEntry, Holds, Ends, subsets_of}
 use Rattle.bufr_text.specs.declared.encode.Form.{Form}
 use Rattle.bufr_text.specs.declared.encode.Form.TheVariants.{AsWritten, Plain, Compressed}
-use Rattle.bufr_text.specs.Document.{Document}
+use Rattle.bufr_text.specs.Documents.{Document}
 use Rattle.bufr_text.specs.Dump.{header_lines, text_of_lines}
 use Rattle.bufr_text.specs.Grammar.{runs_after, hex_text, descriptors_text, quoted}
 use Rattle.bufr_text.specs.Line.{keys}
-use Rattle.bufr_text.specs.Normal.{header_as, normal_subsets, normal}
+use Rattle.bufr_text.specs.Spelling.{header_as, normal_subsets, normal}
 use Rattle.bufr_text.proofs.EncodingExamples.{document, number, missing}
 
 unfoldable listed : (fxy : ℕ) → (name unit : List ℕ) → Kind → (scale : ℤ) → (width : ℕ) → Row

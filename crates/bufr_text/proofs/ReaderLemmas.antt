@@ -2,14 +2,12 @@
 use Rattle.std.proofs.Common.{◌≡◌, ℕ, zero, suc, ◌+◌, ◌<◌, ◌≤◌, Bool, true, List, [], ◌∷◌, ◌++◌, length, drop, refl, sym, ap, subst, ◌∙◌, arith, length-drop}
 use Rattle.std.specs.Prelude.{Option, Some, None, Err}
 use Rattle.bufr_frame.specs.Input.{InputModel}
-use Rattle.bufr_text.specs.Document as spec
+use Rattle.bufr_text.specs.Documents as spec
 use Rattle.bufr_text.specs.Documents as documents
 use Rattle.bufr_text.specs.Documents.{Between, Heading, BeforeSubsets, Filling, Stopped, ParseResult, Refused, NotAllowed, parse_lines, lines_of, reported_at_end}
-use Rattle.bufr_text.specs.Reading.{has_no_feed, ContinuesParse, parse}
-use Rattle.bufr_text.specs.Reader.{ReaderModel, position_of}
+use Rattle.bufr_text.specs.Reader.{has_no_feed, ContinuesParse, parse, ReaderModel, position_of}
 use Rattle.bufr_text.specs.Filling.{place_now, ends_by_feed, IsProgress, IsReader, ParsesHeldLines, WantsHere, TakesHeldLines, read_fault_at, stopped}
-use Rattle.bufr_text.specs.Step.{place_with, line_fault_of, IsParserState}
-use Rattle.bufr_text.specs.TakingLines.{step_results, place_following, TakesLines, WantsAt}
+use Rattle.bufr_text.specs.Taking.{place_with, line_fault_of, IsParserState, step_results, place_following, TakesLines, WantsAt}
 use Rattle.bufr_text.specs.declared.document.Progress.{Progress}
 use Rattle.bufr_text.specs.declared.document.TakeResult.{TakeResult}
 use Rattle.bufr_text.specs.declared.document.TakeResult.TheVariants as taken
@@ -19,9 +17,8 @@ use Rattle.bufr_text.specs.declared.document.LineRefusal.{LineRefusal}
 use Rattle.bufr_text.specs.declared.document.LineRefusal.TheVariants as refusal
 use Rattle.bufr_text.specs.declared.fault.ReadFault.{ReadFault}
 use Rattle.bufr_text.specs.declared.fault.ReadFault.TheVariants as fault
-use Rattle.bufr_text.proofs.ReadingLemmas.{ends-inside, refuses-long, Reads}
+use Rattle.bufr_text.proofs.ReadingLemmas.{ends-inside, refuses-long, Reads, ends-drop, ends-none}
 use Rattle.bufr_text.proofs.TakingLemmas.{passes-none}
-use Rattle.bufr_text.proofs.FeedingLemmas.{ends-drop, ends-none}
 
 -- where a reader is that goes on
 pub place-sound : (f : Option ReadFault) (progress : Progress) → f ≡ None → place_now f progress ≡ place_with progress.place progress.parts

@@ -1,12 +1,10 @@
 -- Documents that lines can spell, each beside its nearest wrong neighbour, and the lines of one.
 use Rattle.std.proofs.Common.{◌≡◌, ℕ, ◌+◌, List, [], ◌∷◌, ◌++◌, refl, codes, inl, arith}
-use Rattle.bufr_fill.specs.Draft.{number_token}
-use Rattle.bufr_fill.specs.Entries.{Ends}
-use Rattle.bufr_text.specs.Document.{Document}
+use Rattle.bufr_fill.specs.Draft.{number_token, Ends}
+use Rattle.bufr_text.specs.Documents.{Document}
 use Rattle.bufr_text.specs.Grammar.{prefix_while, suffix_while, without_prefix, fxy_read, is_hashed}
 use Rattle.bufr_text.specs.Line.{Opens, Header, Descriptors, Begins, Item, Closes, Wrong, keys, place_from, value_read, worded, line_of}
-use Rattle.bufr_text.specs.Proper.{AreEnded, IsProper}
-use Rattle.bufr_text.specs.Spelling.{NumberedLine, numbered_line, numbered_lines, SubsetHeard, subsets_heard, entries_heard, IsDocument}
+use Rattle.bufr_text.specs.Spelling.{AreEnded, IsProper, NumberedLine, numbered_line, numbered_lines, SubsetHeard, subsets_heard, entries_heard, IsDocument}
 use Rattle.bufr_text.proofs.EncodingExamples.{document, number}
 
 -- ---- documents that lines can spell

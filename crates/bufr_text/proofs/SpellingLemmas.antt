@@ -1,17 +1,16 @@
 -- The lines of a text are those of its documents, in the order of the format.
-use Rattle.std.proofs.Common.{inl, inr, ◌⊎◌, ◌≡◌, ◌∙◌, ℕ, ◌+◌, ◌≤◌, ◌==◌, ◌&&◌, nat_le, not, Bool, true, false, if◌then◌else◌, List, [], ◌∷◌, ◌++◌, length, map, refl, sym, ap, subst, arith, append_assoc, append-nil, length-append}
+use Rattle.std.proofs.Common.{inl, inr, ◌⊎◌, ◌≡◌, ◌∙◌, ℕ, ◌+◌, ◌≤◌, ◌==◌, ◌&&◌, nat_le, not, Bool, true, false, if◌then◌else◌, List, [], ◌∷◌, ◌++◌, length, map, refl, sym, ap, subst, arith, append_assoc, append-nil, length-append, ◌<◌}
 use Rattle.std.specs.List.{concat}
 use Rattle.std.proofs.lemmas.Bool.Decides.{nat_tests}
 use Rattle.std.proofs.lemmas.List.{map-append}
-use Rattle.bufr_bits.proofs.ScaledLemmas.{and_first, and_second}
-use Rattle.bufr_fill.specs.Draft.{DraftValue, draft}
-use Rattle.bufr_fill.specs.Entries.{DraftEntry, Holds, Ends}
-use Rattle.bufr_text.specs.Document.{Document, edition_in, optional_in, subsets_in}
-use Rattle.bufr_text.specs.Documents.{ParserState, Between, Heading, BeforeSubsets, Filling, Stopped, LineEffect, WalkGoes, Gives, Faults, NotAllowed, SubsetCount, HeaderRange, in_range, heading, beginning, closing, with_value, with_local1, with_section2, with_descriptors, with_entry, turn, line_within_limit, parse_lines, place_after, reported_at, reported_at_end, lines_of, documents_of}
+use Rattle.bufr_bits.proofs.DecimalLemmas.{and_first, and_second}
+use Rattle.bufr_fill.specs.Draft.{DraftValue, draft, DraftEntry, Holds, Ends}
+use Rattle.bufr_text.specs.Documents.{Document, edition_in, optional_in, subsets_in, ParserState, Between, Heading, BeforeSubsets, Filling, Stopped, LineEffect, WalkGoes, Gives, Faults, NotAllowed, SubsetCount, HeaderRange, in_range, heading, beginning, closing, with_value, with_local1, with_section2, with_descriptors, with_entry, turn, line_within_limit, parse_lines, place_after, reported_at, reported_at_end, lines_of, documents_of}
 use Rattle.bufr_text.specs.Line.{Line, Passed, Opens, Header, Local1, Section2, Descriptors, Begins, Item, Closes, Wrong}
-use Rattle.bufr_text.specs.Spelling.{NumberedLine, numbered_line, onto_heard, numbered_lines, header_says, Element, SubsetHeard, subsets_heard, first_at, entries_heard, IsDocument, AreReported}
-use Rattle.bufr_text.specs.Step.{IsBare}
+use Rattle.bufr_text.specs.Spelling.{NumberedLine, numbered_line, onto_heard, numbered_lines, header_says, Element, SubsetHeard, subsets_heard, first_at, entries_heard, IsDocument, AreReported, IsProperlyReported, AreProper}
+use Rattle.bufr_text.specs.Taking.{IsBare, IsParserState, HoldsAfter}
 use Rattle.bufr_text.proofs.ReadingLemmas.{stopped-reports}
+use Rattle.bufr_text.proofs.HeaderLemmas.{turn-holds, all-more, said-sound}
 
 abbrev says : List NumberedLine → List Line
 says lines = map (λ l. l.says) lines
@@ -477,3 +476,30 @@ lines-reported at place (line ∷ more) own is = reported-on at line more own (t
 
 pub text-reported : (text : List ℕ) → AreReported (numbered_lines 1 (lines_of text)) (documents_of text)
 text-reported text = lines-reported 1 Between (lines_of text) [] refl
+
+-- ---- The documents that a text spells are proper.
+
+end-proper : (at : ℕ) (place : ParserState) → AreProper (reported_at_end at place)
+end-proper at Between = tt
+end-proper at (Heading d) = (tt, tt)
+end-proper at (BeforeSubsets part d) = (tt, tt)
+end-proper at (Filling subset d) = (tt, tt)
+end-proper at Stopped = tt
+
+reported-proper : (at : ℕ) (here : LineEffect) → HoldsAfter at here → AreProper (reported_at at here)
+reported-proper at (WalkGoes place) after = tt
+reported-proper at (Gives d) after = (after.0, tt)
+reported-proper at (Faults fault) after = (tt, tt)
+
+holds-on : (at : ℕ) (here : LineEffect) → HoldsAfter at here → IsParserState (at + 1) (place_after here)
+holds-on at (WalkGoes place) after = after
+holds-on at (Gives d) after = tt
+holds-on at (Faults fault) after = tt
+
+pub spelled-proper : (at : ℕ) (place : ParserState) (lines : List (List ℕ)) → 0 < at → IsParserState at place → AreProper (parse_lines at place lines)
+unfolding parse_lines
+spelled-proper at place [] some holds = end-proper at place
+spelled-proper at place (line ∷ more) some holds =
+    let here = turn at place (line_within_limit line) in
+    let after = turn-holds at place (line_within_limit line) some (said-sound line) holds in
+    all-more IsProperlyReported (reported_at at here) (parse_lines (at + 1) (place_after here) more) (reported-proper at here after) (spelled-proper (at + 1) (place_after here) more (omega arith) (holds-on at here after))

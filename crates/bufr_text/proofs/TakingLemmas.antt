@@ -3,23 +3,20 @@ use Rattle.std.proofs.Common.{◌≡◌, ℕ, ◌+◌, ◌<◌, ◌≤◌, nat_l
 use Rattle.std.specs.List.{AllByRecursion}
 use Rattle.std.proofs.lemmas.Grind.{common_steps}
 use Rattle.std.proofs.lemmas.Bool.Decides.{nat_tests}
-use Rattle.bufr_fill.specs.Draft.{DraftValue, draft}
-use Rattle.bufr_fill.specs.Entries.{Holds}
+use Rattle.bufr_fill.specs.Draft.{DraftValue, draft, Holds}
 use Rattle.bufr_text.specs.Line.{Item, line_of}
-use Rattle.bufr_text.specs.Document as spec
+use Rattle.bufr_text.specs.Documents as spec
 use Rattle.bufr_text.specs.Documents as documents
 use Rattle.bufr_text.specs.Documents.{line_within_limit, place_after, reported_at, with_entry}
 use Rattle.bufr_text.specs.Dump.{text_of_lines}
-use Rattle.bufr_text.specs.Reading.{has_no_feed, ReaderPosition, ContinuesParse, TakesWholeLines}
-use Rattle.bufr_text.specs.Step.{place_with, line_fault_of, turned, IsParserState, HoldsAfter}
-use Rattle.bufr_text.specs.TakingLines.{FeedAt, step_results, position_with, position_after_take, TakesLines, IsTaking}
+use Rattle.bufr_text.specs.Reader.{has_no_feed, ReaderPosition, ContinuesParse, TakesWholeLines}
+use Rattle.bufr_text.specs.Taking.{place_with, line_fault_of, turned, IsParserState, HoldsAfter, FeedAt, step_results, position_with, position_after_take, TakesLines, IsTaking}
 use Rattle.bufr_text.specs.declared.document.Progress.{Progress}
 use Rattle.bufr_text.specs.declared.document.TakeResult.TheVariants as taken
 use Rattle.bufr_text.specs.declared.document.LineEffect.TheVariants as turn
 use Rattle.bufr_text.specs.declared.document.ParserState.{ParserState}
 use Rattle.bufr_text.specs.declared.document.LineRefusal.{LineRefusal}
-use Rattle.bufr_text.proofs.HeaderLemmas.{turn-holds}
-use Rattle.bufr_text.proofs.SoundLemmas.{said-sound}
+use Rattle.bufr_text.proofs.HeaderLemmas.{turn-holds, said-sound}
 use Rattle.bufr_text.proofs.ClosingLemmas.{gives-end}
 use Rattle.bufr_text.proofs.ReadingLemmas.{takes-line, goes-further}
 

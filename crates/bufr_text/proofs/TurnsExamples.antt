@@ -1,13 +1,13 @@
 -- How many turns the encoding of a document makes, computed from the definitions.
 use Rattle.std.proofs.Common.{◌≡◌, ℕ, List, [], ◌∷◌, refl, codes}
 use Rattle.bufr_bits.specs.Bits.{bits_in}
-use Rattle.bufr_bits.specs.DecimalValue.{decimal_value_of}
+use Rattle.bufr_bits.specs.Decimal.{decimal_value_of}
 use Rattle.bufr_tables.specs.Expansion.{part_of, level, inner_of, tree_of}
 use Rattle.bufr_walk.specs.Course.{next_item}
-use Rattle.bufr_fill.specs.Entries.{DraftEntry, Ends}
-use Rattle.bufr_text.specs.Document.{Document}
+use Rattle.bufr_fill.specs.Draft.{DraftEntry, Ends}
+use Rattle.bufr_text.specs.Documents.{Document}
 use Rattle.bufr_text.specs.declared.encode.Form.TheVariants.{AsWritten}
-use Rattle.bufr_text.specs.EncodingCost.{turns_by}
+use Rattle.bufr_text.specs.Encoding.{turns_by}
 use Rattle.bufr_text.proofs.EncodingExamples.{listed, table, document, number, missing}
 
 turns : Document → ℕ

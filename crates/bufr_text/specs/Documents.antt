@@ -1,11 +1,41 @@
--- The documents that a text spells. (a choice of this project)
+-- A message as its text gives it, what each line does to it, and the documents of a text.
+-- (A choice of this project)
 -- Cited by public contracts.
-use Rattle.std.specs.Prelude.{ℕ, ◌+◌, ◌==◌, nat_le, nat_lt, Bool, true, false, not, ◌&&◌, if◌then◌else◌, List, [], ◌∷◌, ◌++◌, length, slice_index}
-use Rattle.bufr_fill.specs.Draft.{draft}
+use Rattle.std.specs.Prelude.{ℕ, List, [], slice_index, ◌+◌, ◌==◌, nat_le, nat_lt, Bool, true, false, not, ◌&&◌, if◌then◌else◌, ◌∷◌, ◌++◌, length, ◌≡◌, ◌^◌, Option, Some, None}
+use Rattle.bufr_fill.specs.Draft.{DraftEntry, draft, Holds, Ends}
 use Rattle.bufr_frame.specs.Section1.{slots_of}
-use Rattle.bufr_fill.specs.Entries.{DraftEntry, Holds, Ends}
-use Rattle.bufr_text.specs.Document.{Document, blank, edition_in, optional_in, subsets_in}
 use Rattle.bufr_text.specs.Line.{Line, Passed, Opens, Header, Local1, Section2, Descriptors, Begins, Item, Closes, Wrong, leasts, mosts, line_of}
+use Rattle.bufr_frame.specs.declared.section1.Head.{Head}
+
+-- ---- A message as its text gives it; no value is looked at yet. (a choice of this project)
+
+-- what a document says
+pub record Document : Type 0 where
+  -- the line of its `message`
+  pub line : ℕ
+  -- the values of its header lines, in their order
+  pub header : List ℕ
+  pub local1 : List ℕ
+  pub section2 : List ℕ
+  pub descriptors : List ℕ
+  -- the items of the subsets, one subset after another, each with its end
+  pub entries : List DraftEntry
+
+-- a document of which its first line was read
+abbrev pub blank : (line : ℕ) → Document
+blank line =
+    record { line = line; header = []; local1 = []; section2 = []; descriptors = []; entries = [] }
+
+-- the edition, the first value
+abbrev pub edition_in : Document → ℕ
+edition_in d = slice_index d.header 0
+
+-- whether there is a section 2, the nineteenth value; the number of subsets, the last
+abbrev pub optional_in : Document → ℕ
+optional_in d = slice_index d.header 18
+
+abbrev pub subsets_in : Document → ℕ
+subsets_in d = slice_index d.header 19
 
 -- why a line is refused: no line that its place allows (50), too few or too many subsets (57), a
 -- header value past its range (61)
@@ -207,3 +237,56 @@ split_of (c ∷ more) = octet_onto_split c (split_of more)
 -- the documents of a text whose end is not known
 abbrev pub open_documents_of : List ℕ → List ParseResult
 open_documents_of text = parse_open_lines 1 Between (split_of text).whole (split_of text).rest
+
+-- ---- What the header of a document says, in the words of a message. (a choice of this project)
+
+-- the value of a key, by its place
+abbrev pub key_value : Document → (key : ℕ) → ℕ
+key_value d key = slice_index d.header key
+
+-- section 1, and the edition
+abbrev pub head_from_values : Document → Head
+head_from_values d = record {
+  edition = key_value d 0;
+  master = key_value d 1;
+  centre = key_value d 2;
+  subcentre = key_value d 3;
+  update = key_value d 4;
+  category = key_value d 5;
+  subcategory = key_value d 6;
+  local_subcategory = key_value d 7;
+  master_version = key_value d 8;
+  local_version = key_value d 9;
+  year = key_value d 10;
+  month = key_value d 11;
+  day = key_value d 12;
+  hour = key_value d 13;
+  minute = key_value d 14;
+  second = key_value d 15;
+}
+
+-- the two flags of section 3
+abbrev pub observed_in : Document → Bool
+observed_in d = key_value d 16 == 1
+
+abbrev pub compressed_in : Document → Bool
+compressed_in d = key_value d 17 == 1
+
+-- section 2, where there is one
+abbrev pub section2_in : Document → Option (List ℕ)
+section2_in d = if optional_in d == 1 then Some d.section2 else None
+
+-- each value is within the range of its key, from a key on
+abbrev pub are_in_range : (edition key : ℕ) → List ℕ → Bool
+are_in_range edition key [] = true
+are_in_range edition key (value ∷ more) =
+    in_range edition key value && are_in_range edition (key + 1) more
+
+-- The header is whole, each value within its range.
+pub record IsHeaded (d : Document) : Type 0 where
+  pub whole : length d.header ≡ 20
+  pub ranges : are_in_range (edition_in d) 0 d.header ≡ true
+
+-- the most entries that an input of 2^32 reads of 4,096 octets can give
+abbrev pub most_entries : ℕ
+most_entries = 2 ^ 44

@@ -1,15 +1,23 @@
--- The dump text of a message. (a choice of this project)
+-- The dump text of a message, line by line, the items that a reading gives it, and its bounds.
+-- (A choice of this project)
 -- Cited by public contracts.
-use Rattle.std.specs.Prelude.{ℕ, ◌+◌, Bool, if◌then◌else◌, List, [], ◌∷◌, ◌++◌, length, map, flat_map, codes, decimal, Option, Some, None, is_some, unwrap_or, ℤ, pos}
-use Rattle.bufr_bits.specs.DecimalText.{decimal_text_of}
+use Rattle.std.specs.Prelude.{ℕ, ◌+◌, Bool, if◌then◌else◌, List, [], ◌∷◌, ◌++◌, length, map, flat_map, codes, decimal, Option, Some, None, is_some, unwrap_or, ℤ, pos, zero, suc, option_map, ◌≡◌, ◌^◌, ◌<◌, ◌≤◌, true, negsuc, unsigned_abs}
+use Rattle.bufr_bits.specs.Decimal.{decimal_text_of}
 use Rattle.bufr_tables.specs.Fxy.{fxy_text}
 use Rattle.bufr_frame.specs.Sections.{Sections}
-use Rattle.bufr_fill.specs.Draft.{DraftValue, draft, number_token, text_form, missing_form, reference_token}
-use Rattle.bufr_fill.specs.Entries.{DraftEntry, Holds, Ends}
-use Rattle.bufr_text.specs.Document.{Document}
+use Rattle.bufr_fill.specs.Draft.{DraftValue, draft, number_token, text_form, missing_form, reference_token, DraftEntry, Holds, Ends}
+use Rattle.bufr_text.specs.Documents.{Document}
 use Rattle.bufr_text.specs.Grammar.{runs_of, hex_text, descriptors_text, quoted}
 use Rattle.bufr_text.specs.Line.{keys, key_in}
 pub use Rattle.bufr_text.specs.Writing.{joined}
+use Rattle.bufr_tables.specs.TableB.{Row, is_printed}
+use Rattle.bufr_walk.specs.Calls.{View, view_of, content_at}
+use Rattle.bufr_walk.specs.Content.{Content, ShownValue, shown_number, shown_text, shown_missing, shown_reference}
+use Rattle.bufr_walk.specs.Refusal.{Read}
+use Rattle.bufr_walk.specs.Reading.{Values, apart, together}
+use Rattle.std.specs.List.{list_all, AllByRecursion}
+use Rattle.bufr_frame.specs.Layout.{IsFitting}
+use Rattle.bufr_walk.specs.Reading as reading
 
 -- what was read for an item
 pub data DumpValue : Type 0 where
@@ -149,3 +157,89 @@ document_of at s subsets = record {
   descriptors = s.descriptors;
   entries = subset_entries (at + lines_before s) subsets;
 }
+
+-- ---- The items that a reading gives to a dump text. (a choice of this project)
+
+-- the value of an item that is shown
+abbrev pub value_of : ShownValue → DumpValue
+value_of (shown_number value scale) = IsNumber value scale
+value_of (shown_text octets) = IsText octets
+value_of shown_missing = IsMissing
+value_of (shown_reference value) = IsReference value
+
+-- the name and the unit of the row of Table B by which an item was read
+abbrev pub comment_of : Row → Comment
+comment_of row = record { name = row.name; unit = row.unit }
+
+-- an item as it is shown: with a comment exactly where it was read by a row of Table B
+-- rule: text-no-comment
+abbrev pub dump_item_of : View → DumpItem
+dump_item_of v =
+    record { fxy = v.fxy; comment = option_map comment_of v.entry; value = value_of v.value }
+
+-- the items of a subset that has bits of its own
+abbrev pub items_apart : List Row → List (reading.Item Content) → List DumpItem
+items_apart table items = map (λ i. dump_item_of (view_of table i.spec i.content)) items
+
+-- the items of one subset of compressed data, counted from 0
+abbrev pub compressed_dump_items : List Row → (subset : ℕ) → List (reading.Item (List Content))
+    → List DumpItem
+compressed_dump_items table subset items =
+    map (λ i. dump_item_of (view_of table i.spec (content_at subset i.content))) items
+
+-- the items of so many subsets of compressed data, from one on, counted from 0
+abbrev pub compressed_dump_subsets : List Row → (left subset : ℕ)
+    → List (reading.Item (List Content)) → List (List DumpItem)
+compressed_dump_subsets table zero subset items = []
+compressed_dump_subsets table (suc left) subset items =
+    compressed_dump_items table subset items ∷ compressed_dump_subsets table left (subset + 1) items
+
+-- the items of each subset of a reading
+abbrev pub dump_items_of : Read → Values → List (List DumpItem)
+dump_items_of r (apart subsets) = map (items_apart r.table) subsets
+dump_items_of r (together items) = compressed_dump_subsets r.table r.source.subsets 0 items
+
+-- ---- What sections and a reading give of the parts of a dump text.
+
+-- an octet, and a descriptor as its 16 bits
+abbrev pub IsOctet : ℕ → Type 0
+IsOctet c = c < 256
+
+abbrev pub IsDescriptorWord : ℕ → Type 0
+IsDescriptorWord w = w < 65536
+
+-- scales go from -300 to 300
+abbrev pub IsScale : ℤ → Type 0
+IsScale (pos n) = n ≤ 300
+IsScale (negsuc n) = suc n ≤ 300
+
+-- a number is one of an i128, a text has at most 255 octets
+abbrev pub IsValue : DumpValue → Type 0
+IsValue (IsNumber v scale) = (unsigned_abs v < 10 ^ 39) × IsScale scale
+IsValue (IsText octets) = AllByRecursion IsOctet octets × (length octets ≤ 255)
+IsValue IsMissing = Unit {0}
+IsValue (IsReference v) = unsigned_abs v < 10 ^ 39
+
+-- a name or a unit is one that Table B can have
+pub record IsName (name : List ℕ) : Type 0 where
+  pub printed : list_all is_printed name ≡ true
+  pub short : length name ≤ 512
+
+abbrev pub IsComment : Option Comment → Type 0
+IsComment None = Unit {0}
+IsComment (Some comment) = IsName comment.name × IsName comment.unit
+
+pub record IsItem (item : DumpItem) : Type 0 where
+  pub word : IsDescriptorWord item.fxy
+  pub value : IsValue item.value
+  pub comment : IsComment item.comment
+
+-- sections and as many subsets as they state
+pub record IsDumpable (s : Sections) (subsets : List (List DumpItem)) : Type 0 where
+  pub head : IsFitting s.head
+  pub local1 : AllByRecursion IsOctet s.local1
+  pub section2 : AllByRecursion IsOctet (unwrap_or s.section2 [])
+  pub descriptors : AllByRecursion IsDescriptorWord s.descriptors
+  pub few : s.subsets < 65536
+  pub counted : length subsets ≡ s.subsets
+  pub items : AllByRecursion (λ items. AllByRecursion IsItem items) subsets

@@ -6,10 +6,10 @@ use Rattle.bufr_frame.specs.Sections.{Sections}
 use Rattle.bufr_frame.specs.declared.fault.RunFault.{RunFault}
 use Rattle.bufr_frame.specs.declared.fault.RunFault.TheVariants.{Read, Write, InputTooLong, Memory}
 use Rattle.bufr_walk.specs.Calls.{Timed}
-use Rattle.bufr_walk.specs.Outcome as outcome
-use Rattle.bufr_walk.specs.Outcome.{course_of, data_of}
+use Rattle.bufr_walk.specs.Refusal as outcome
+use Rattle.bufr_walk.specs.Refusal.{course_of, data_of}
 use Rattle.bufr_walk.specs.Reading.{Values, IsReading}
-use Rattle.bufr_walk.specs.Ticks.{ticked}
+use Rattle.bufr_walk.specs.Walk.{ticked}
 use Rattle.bufr_text.specs.Writing.{GrowsByPrefix, Stays, Fails}
 
 -- a reading is one of this message's data

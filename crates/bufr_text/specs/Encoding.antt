@@ -1,25 +1,53 @@
--- What a document is encoded to. (WMO-No. 306, Volume I.2, FM 94: sections 0 to 5)
+-- The message that a document is encoded to, or its first refusal, with the turns made.
+-- (WMO-No. 306, Volume I.2, FM 94: sections 0 to 5)
 -- Cited by public contracts.
-use Rattle.std.specs.Prelude.{ℕ, ◌+◌, ◌/◌, nat_lt, Bool, true, false, if◌then◌else◌, List, ◌++◌, length, Result, Ok, Err}
-use Rattle.bufr_bits.specs.Bits.{padding}
+use Rattle.std.specs.Prelude.{Bool, true, false, ℕ, ◌+◌, ◌/◌, nat_lt, if◌then◌else◌, List, ◌++◌, length, Result, Ok, Err, ◌≡◌, Option, Some, None, ◌≤◌, [], ◌∷◌, Vec, ◌*◌}
+use Rattle.bufr_text.specs.declared.encode.Form.{Form}
+use Rattle.bufr_bits.specs.Bits.{padding, bits_of}
 use Rattle.bufr_tables.specs.declared.fault.TemplateFault.{TemplateFault}
-use Rattle.bufr_tables.specs.Expansion.{tree_of}
+use Rattle.bufr_tables.specs.Expansion.{tree_of, tables_of}
 use Rattle.bufr_tables.specs.TableB.{Row}
 use Rattle.bufr_tables.specs.TableD.{Sequence}
-use Rattle.bufr_tables.specs.TemplateTables.{tables_of}
-use Rattle.bufr_tables.specs.Tree.{Tree}
+use Rattle.bufr_tables.specs.Tree.{Tree, places}
 use Rattle.bufr_frame.specs.declared.section1.Head.{Head}
 use Rattle.bufr_frame.specs.Layout.{MessageParts, parts_of, message_octets, message_size, max_octets}
 use Rattle.bufr_walk.specs.Content.{octets_in}
-use Rattle.bufr_walk.specs.Course.{Course, next_item}
-use Rattle.bufr_fill.specs.Encoding.{plain_data, packed_data}
-use Rattle.bufr_fill.specs.Entries.{Subset, subsets_of}
-use Rattle.bufr_fill.specs.Fault.{DraftFaultKind, FaultAt}
-use Rattle.bufr_text.specs.declared.encode.Form.{Form}
+use Rattle.bufr_walk.specs.Course.{Course, next_item, Next, take_next, at_end, astray, refused}
+use Rattle.bufr_fill.specs.Encoding.{plain_data, packed_data, packed_filler, rows, longest, are_many}
+use Rattle.bufr_fill.specs.Draft.{Subset, subsets_of, DraftEntry, Holds, Ends}
+use Rattle.bufr_fill.specs.Faults.{DraftFaultKind, FaultAt, wrong_number, out_of_range, text_long, missing_forbidden, unequal_factors, uneven_increment, walk_refused, too_many_values, other_than, at_line, draft_fault}
 use Rattle.bufr_text.specs.declared.encode.Form.TheVariants.{AsWritten}
-use Rattle.bufr_text.specs.Document.{Document, subsets_in}
-use Rattle.bufr_text.specs.Form.{compressed_by}
-use Rattle.bufr_text.specs.Header.{head_from_values, observed_in, compressed_in, section2_in}
+use Rattle.bufr_text.specs.Documents.{Document, subsets_in, head_from_values, observed_in, compressed_in, section2_in}
+use Rattle.bufr_text.specs.declared.fault.DocumentFault.{DocumentFault}
+use Rattle.bufr_text.specs.declared.fault.WalkRefusal.{WalkRefusal}
+use Rattle.bufr_walk.specs.declared.spec.Taken.{Taken}
+use Rattle.bufr_walk.specs.FieldSpec.{FieldSpec}
+use Rattle.bufr_walk.specs.Walk.{ticked}
+use Rattle.bufr_fill.specs.DraftContent.{plain_filler}
+use Rattle.bufr_fill.specs.Filling.{WrittenItem, Filler, fill}
+use Rattle.std.specs.Global.{Global}
+use Rattle.bufr_walk.specs.declared.stop.WalkStop.{WalkStop}
+use Rattle.bufr_fill.specs.declared.fault.DraftFault.{DraftFault}
+use Rattle.bufr_fill.specs.PlainOut.{PlainOutModel, items_left, end_left}
+use Rattle.bufr_text.specs.declared.encode.Form.TheVariants as form
+use Rattle.bufr_walk.specs.declared.spec.TurnRefusal.TheVariants as refusal
+use Rattle.bufr_text.specs.declared.fault.DocumentFault.TheVariants as fault
+use Rattle.bufr_text.specs.declared.fault.WalkRefusal.TheVariants as walk
+use Rattle.bufr_walk.specs.declared.stop.WalkStop.TheVariants as stops
+
+-- ---- The form in which the data of a document are written. (a choice of this project)
+
+-- whether data are compressed, where a document says so or not
+-- rule: writes-form
+abbrev pub compressed_by : Form → (written : Bool) → Bool
+compressed_by form.AsWritten written = written
+compressed_by form.Plain written = false
+compressed_by form.Compressed written = true
+
+-- the form that data have
+abbrev pub form_of_flag : (compressed : Bool) → Form
+form_of_flag false = form.Plain
+form_of_flag true = form.Compressed
 
 -- why a document is refused: its descriptors make no template, or an item is at fault; or there is
 -- none where one should be, or the walk there is at fault; or its message would be too long; that
@@ -99,3 +127,257 @@ encoding_in form table sequences d = do
 -- the same in the form that the document says
 abbrev pub encoding_of : List Row → List Sequence → Document → Result (List ℕ) RefusedAt
 encoding_of = encoding_in AsWritten
+
+-- The faults that an encoding answers, as the definitions name them. (a choice of this project)
+
+abbrev pub walk_report : WalkRefusal → DraftFaultKind
+walk_report (walk.Width fxy) = walk_refused (refusal.Width fxy)
+walk_report (walk.Defining fxy) = walk_refused (refusal.Defining fxy)
+walk_report (walk.TooManyValues fxy) = too_many_values fxy
+
+abbrev pub number_of_walk_refusal : WalkRefusal → ℕ
+number_of_walk_refusal (walk.Width fxy) = 31
+number_of_walk_refusal (walk.Defining fxy) = 32
+number_of_walk_refusal (walk.TooManyValues fxy) = 35
+
+-- a fault of an item is a refusal of its document
+abbrev pub report_of_draft : FaultAt → RefusedAt
+report_of_draft f = refused_at f.line (by_item f.fault)
+
+-- a refusal of the document; want of memory is none
+abbrev pub reported_refusal : DocumentFault → Option RefusedAt
+reported_refusal (fault.WrongDescriptor line e) = Some (refused_at line (by_item (other_than e)))
+reported_refusal (fault.Number line) = Some (refused_at line (by_item wrong_number))
+reported_refusal (fault.OutOfRange line) = Some (refused_at line (by_item out_of_range))
+reported_refusal (fault.TextLong line) = Some (refused_at line (by_item text_long))
+reported_refusal (fault.MissingForbidden line) = Some (refused_at line (by_item missing_forbidden))
+reported_refusal (fault.Template line why) = Some (refused_at line (by_template why))
+reported_refusal (fault.UnequalFactor line) = Some (refused_at line (by_item unequal_factors))
+reported_refusal (fault.Increment line) = Some (refused_at line (by_item uneven_increment))
+reported_refusal (fault.TooLong line) = Some (refused_at line too_long)
+reported_refusal (fault.Walk line why) = Some (refused_at line (by_item (walk_report why)))
+reported_refusal fault.Memory = None
+
+-- the number of a fault
+abbrev pub number_of_document_fault : DocumentFault → ℕ
+number_of_document_fault (fault.WrongDescriptor line e) = 51
+number_of_document_fault (fault.Number line) = 52
+number_of_document_fault (fault.OutOfRange line) = 53
+number_of_document_fault (fault.TextLong line) = 54
+number_of_document_fault (fault.MissingForbidden line) = 55
+number_of_document_fault (fault.Template line why) = 56
+number_of_document_fault (fault.UnequalFactor line) = 58
+number_of_document_fault (fault.Increment line) = 59
+number_of_document_fault (fault.TooLong line) = 60
+number_of_document_fault (fault.Walk line why) = 62
+number_of_document_fault fault.Memory = 73
+
+-- a fault is the definition's refusal; want of memory is none
+abbrev pub IsDocumentRefusal : {A : Type 0} → Option RefusedAt → Result A RefusedAt → Type 0
+IsDocumentRefusal None defined = Unit {0}
+IsDocumentRefusal (Some f) defined = defined ≡ Err f
+
+-- The bits and the turns of an encoding up to its first refusal, or all. (a choice of this project)
+
+-- ---- the bits before the first refusal
+
+module _ {D C E : Type 0} (filler : Filler D C E) where
+  -- the bits of an item that can be written, and of those after it
+  abbrev pub counted_one : Result (WrittenItem C) E → (FieldSpec → C → Taken) → FieldSpec
+      → (Taken → ℕ) → ℕ
+  counted_one (Err why) gives spec rest = 0
+  counted_one (Ok w) gives spec rest = length w.bits + rest (gives spec w.content)
+
+  abbrev pub counted_at : Next → D → (Taken → ℕ) → ℕ
+  counted_at (take_next spec) d rest = counted_one (filler.fills spec d) filler.gives spec rest
+  counted_at _ d rest = 0
+
+  -- how many bits the drafts are, up to the first that is refused
+  abbrev pub count_filled : Course → List D → ℕ
+  count_filled course [] = 0
+  count_filled course (d ∷ ds) =
+      counted_at (course []).next d (λ t. count_filled (λ results. course (t ∷ results)) ds)
+
+-- those after one subset count where it is not refused
+abbrev pub count_after : Result (List Bool) FaultAt → (more : ℕ) → ℕ
+count_after (Ok bits) more = more
+count_after (Err why) more = 0
+
+abbrev pub count_plain : Course → List Subset → ℕ
+count_plain course [] = 0
+count_plain course (s ∷ subsets) =
+    count_filled (plain_filler s.end_line) course s.items
+    + count_after (fill (plain_filler s.end_line) course s.items) (count_plain course subsets)
+
+abbrev pub count_packed : Course → List Subset → ℕ
+count_packed course [] = 0
+count_packed course (s ∷ subsets) =
+    count_filled (packed_filler s.end_line
+    (are_many (longest (s ∷ subsets)) (length (s ∷ subsets)))) course
+    (rows (longest (s ∷ subsets)) 0 (s ∷ subsets))
+
+-- how many bits of the data go before the first refusal, all where there is none
+abbrev pub count_data : (compressed : Bool) → Course → List Subset → ℕ
+count_data true course subsets = count_packed course subsets
+count_data false course subsets = count_plain course subsets
+
+-- the places of a document's template, none where it has none
+abbrev pub document_places : Result Tree TemplateFault → ℕ
+document_places (Ok template) = places template
+document_places (Err why) = 0
+
+abbrev pub places_by : List Row → List Sequence → Document → ℕ
+places_by table sequences d = document_places (tree_of (tables_of table sequences) d.descriptors)
+
+abbrev pub bits_before_refusal : Form → List Row → Document → Result Tree TemplateFault → ℕ
+bits_before_refusal form table d (Ok template) =
+    count_data (compressed_as form d) (next_item table template) (subsets_of d.entries)
+bits_before_refusal form table d (Err why) = 0
+
+-- how many bits of its data go before its first refusal, all where there is none
+abbrev pub bits_by : Form → List Row → List Sequence → Document → ℕ
+bits_by form table sequences d =
+    bits_before_refusal form table d (tree_of (tables_of table sequences) d.descriptors)
+
+-- ---- the turns up to the first refusal, this one's included: those of the template, as the items
+-- unroll it (WMO-No. 306, Volume I.2, FM 94: section 3, replications; that they are counted is a
+-- choice of this project)
+
+module _ {D C E : Type 0} (filler : Filler D C E) where
+  -- after a draft that can be written there are more turns; one that is refused is the last of so
+  -- many
+  abbrev pub turned_one : Result (WrittenItem C) E → FieldSpec → (here : ℕ) → (Taken → ℕ) → ℕ
+  turned_one (Err why) spec here more = here
+  turned_one (Ok w) spec here more = more (filler.gives spec w.content)
+
+  -- a draft too many is reported at the end of the template, which is a turn too
+  abbrev pub turned_at : Next → (here : ℕ) → D → (Taken → ℕ) → ℕ
+  turned_at (take_next spec) here d more = turned_one (filler.fills spec d) spec here more
+  turned_at at_end here d more = here
+  turned_at (refused why) here d more = here
+  turned_at astray here d more = here
+
+  -- how many turns drafts take, from the beginning of the template on
+  abbrev pub turns_filled : Course → List D → ℕ
+  turns_filled course [] = (course []).turns
+  turns_filled course (d ∷ ds) =
+      turned_at (course []).next (course []).turns d
+      (λ t. turns_filled (λ results. course (t ∷ results)) ds)
+
+-- one pass for each subset, up to one that is refused
+abbrev pub turns_plain : Course → List Subset → ℕ
+turns_plain course [] = 0
+turns_plain course (s ∷ subsets) =
+    turns_filled (plain_filler s.end_line) course s.items
+    + count_after (fill (plain_filler s.end_line) course s.items) (turns_plain course subsets)
+
+-- one pass for all subsets; without a subset there is none
+abbrev pub turns_packed : Course → List Subset → ℕ
+turns_packed course [] = 0
+turns_packed course (s ∷ subsets) =
+    turns_filled (packed_filler s.end_line
+    (are_many (longest (s ∷ subsets)) (length (s ∷ subsets)))) course
+    (rows (longest (s ∷ subsets)) 0 (s ∷ subsets))
+
+abbrev pub turns_data : (compressed : Bool) → Course → List Subset → ℕ
+turns_data true course subsets = turns_packed course subsets
+turns_data false course subsets = turns_plain course subsets
+
+abbrev pub turns_for : Form → List Row → Document → Result Tree TemplateFault → ℕ
+turns_for form table d (Ok template) =
+    turns_data (compressed_as form d) (next_item table template) (subsets_of d.entries)
+turns_for form table d (Err why) = 0
+
+-- the turns that the encoding of a document makes, up to its first refusal; with no template there
+-- is none
+abbrev pub turns_by : Form → List Row → List Sequence → Document → ℕ
+turns_by form table sequences d =
+    turns_for form table d (tree_of (tables_of table sequences) d.descriptors)
+
+-- the steps after so many turns, where the writing was refused; at want of memory they are perhaps
+-- not all made
+abbrev pub CountsSteps : Option RefusedAt → (before turns after : ℕ) → Type 0
+CountsSteps (Some f) before turns after = after ≡ ticked before turns
+CountsSteps None before turns after = after ≤ ticked before turns
+
+-- ---- What the writing of a document's data answers, subset after subset or packed.
+
+-- the fault of a walk that stopped where the next entry is on a line; want of memory is none
+abbrev pub reported_stop : (line : ℕ) → WalkStop DraftFault → Option FaultAt
+reported_stop line (stops.Width fxy) = Some (at_line line (walk_refused (refusal.Width fxy)))
+reported_stop line (stops.Defining fxy) = Some (at_line line (walk_refused (refusal.Defining fxy)))
+reported_stop line (stops.Field e) = draft_fault e
+reported_stop line stops.Memory = None
+
+-- ---- what the writing of data answers
+
+-- these octets are those bits, with zero bits to the next octet
+pub record AreOctetsOf (octets : List ℕ) (bits : List Bool) : Type 0 where
+  pub same : bits_of octets ≡ bits ++ padding (length bits)
+  pub count : length octets ≡ (length bits + 7) / 8
+
+-- octets, or the definition's first refusal, and the steps that were made for them
+pub record IsData (places : ℕ) (compressed : Bool) (course : Course) (subsets : List Subset)
+    (octets : List ℕ) (steps : ℕ) : Type 0 where
+  pub out : List Bool
+  pub is : data_bits compressed course subsets ≡ Ok out
+  pub octets_are : AreOctetsOf octets out
+  pub made : steps ≡ ticked 0 (turns_data compressed course subsets)
+  pub few : steps ≤ places * count_data compressed course subsets
+
+pub record IsNoData (places : ℕ) (compressed : Bool) (course : Course) (subsets : List Subset)
+    (why : DocumentFault) (steps : ℕ) : Type 0 where
+  pub refuses : IsDocumentRefusal (reported_refusal why)
+      (report_of_items (data_bits compressed course subsets))
+  pub made : CountsSteps (reported_refusal why) 0 (turns_data compressed course subsets) steps
+  pub few : steps ≤ places * (count_data compressed course subsets + 1)
+
+-- what the writing of data answers, for a document
+abbrev pub WritesData : (places : ℕ) (compressed : Bool) → Course → List Subset
+    → Result (Vec ℕ Global) DocumentFault → (steps : ℕ) → Type 0
+WritesData places compressed course subsets (Ok octets) steps =
+    IsData places compressed course subsets octets.items steps
+WritesData places compressed course subsets (Err why) steps =
+    IsNoData places compressed course subsets why steps
+
+-- ---- one subset
+
+-- what is left after the end of the next subset
+abbrev pub left_after : List DraftEntry → List DraftEntry
+left_after [] = []
+left_after (Holds d ∷ more) = left_after more
+left_after (Ends line ∷ more) = more
+
+-- what the definition makes of the next subset
+abbrev pub fill_next : Course → List DraftEntry → Result (List Bool) FaultAt
+fill_next course left = fill (plain_filler (end_left left)) course (items_left left)
+
+abbrev pub count_next : Course → List DraftEntry → ℕ
+count_next course left = count_filled (plain_filler (end_left left)) course (items_left left)
+
+abbrev pub turns_next : Course → List DraftEntry → ℕ
+turns_next course left = turns_filled (plain_filler (end_left left)) course (items_left left)
+
+pub record IsSubset (places : ℕ) (course : Course) (s : PlainOutModel) (steps : ℕ)
+    (s' : PlainOutModel)
+    (steps' : ℕ) : Type 0 where
+  pub bits : List Bool
+  pub is : fill_next course s.left ≡ Ok bits
+  pub written : s'.bits ≡ s.bits ++ bits
+  pub left : s'.left ≡ left_after s.left
+  pub made : steps' ≡ ticked steps (turns_next course s.left)
+  pub few : steps' ≤ steps + places * length bits
+
+pub record IsNoSubset (places : ℕ) (course : Course) (s : PlainOutModel) (steps : ℕ)
+    (why : DocumentFault)
+    (steps' : ℕ) : Type 0 where
+  pub refuses : IsDocumentRefusal (reported_refusal why) (report_of_items (fill_next course s.left))
+  pub made : CountsSteps (reported_refusal why) steps (turns_next course s.left) steps'
+  pub few : steps' ≤ steps + places * (count_next course s.left + 1)
+
+-- the next subset was written and its end passed, or it is refused
+abbrev pub WritesSubset : (places : ℕ) → Course → PlainOutModel → (steps : ℕ)
+    → Result (Unit {0}) DocumentFault
+    → PlainOutModel → (steps' : ℕ) → Type 0
+WritesSubset places course s steps (Ok _) s' steps' = IsSubset places course s steps s' steps'
+WritesSubset places course s steps (Err why) s' steps' = IsNoSubset places course s steps why steps'

@@ -2,16 +2,13 @@
 -- Cited by private steps only.
 use Rattle.std.specs.Prelude.{◌≡◌, ◌⊎◌, ℕ, ◌+◌, ◌*◌, ◌<◌, ◌≤◌, ◌==◌, Bool, true, false, List, [], ◌∷◌, ◌++◌, length, Option, Some, None, Result, Ok, Err}
 use Rattle.std.specs.Io.KnownBytes.{Consumes}
-use Rattle.bufr_frame.specs.Runs.{max_reads}
-use Rattle.bufr_frame.specs.Input.{InputModel, FillsInput}
+use Rattle.bufr_frame.specs.Input.{max_reads, InputModel, FillsInput}
 use Rattle.bufr_frame.specs.declared.fault.RunFault.{RunFault}
 use Rattle.bufr_frame.specs.declared.fault.RunFault.TheVariants.{Read, Write, InputTooLong, Memory}
-use Rattle.bufr_text.specs.Document.{Document}
+use Rattle.bufr_text.specs.Documents.{Document, ParserState, Between, Stopped, ParseResult, Complete, Refused}
 use Rattle.bufr_text.specs.Documents as documents
-use Rattle.bufr_text.specs.Documents.{ParserState, Between, Stopped, ParseResult, Complete, Refused}
-use Rattle.bufr_text.specs.Reading.{has_no_feed, ContinuesParse, TakesWholeLines, TakesEndLine, parse}
-use Rattle.bufr_text.specs.Reader.{ReaderModel, position_of, AddsNext}
-use Rattle.bufr_text.specs.Step.{place_with, IsParserState}
+use Rattle.bufr_text.specs.Reader.{has_no_feed, ContinuesParse, TakesWholeLines, TakesEndLine, parse, ReaderModel, position_of, AddsNext}
+use Rattle.bufr_text.specs.Taking.{place_with, IsParserState}
 use Rattle.bufr_text.specs.declared.document.Progress.{Progress}
 use Rattle.bufr_text.specs.declared.document.LineRefusal.{LineRefusal}
 use Rattle.bufr_text.specs.declared.document.LineRefusal.TheVariants as refusal

@@ -1,6 +1,7 @@
--- What a line of a dump text says, apart from where it is. (a choice of this project)
+-- What a line says, apart from where it is, and the keys of the header.
+-- (A choice of this project)
 -- Cited by public contracts.
-use Rattle.std.specs.Prelude.{ℕ, zero, suc, ◌+◌, ◌==◌, nat_le, nat_lt, Bool, not, ◌&&◌, if◌then◌else◌, List, [], ◌∷◌, Option, Some, None, option_map, codes, length, map}
+use Rattle.std.specs.Prelude.{ℕ, zero, suc, ◌+◌, ◌==◌, nat_le, nat_lt, Bool, not, ◌&&◌, if◌then◌else◌, List, [], ◌∷◌, Option, Some, None, option_map, codes, length, map, ◌-◌, ◌++◌, decimal, take, drop}
 use Rattle.std.specs.Char.{is_ascii_digit}
 use Rattle.std.specs.Str.{bytes_eq}
 use Rattle.bufr_frame.specs.Section1.{Field, Master, Centre, Subcentre, Update, Category, Subcategory, LocalSubcategory, MasterVersion, LocalVersion, Year, Month, Day, Hour, Minute, Second, Slot, most_in}
@@ -160,3 +161,19 @@ line_of (c ∷ more) =
     if c == 35 then Passed
     else if is_ascii_digit c then item_line value_read (c ∷ more)
     else worded (prefix_while is_no_space (c ∷ more)) (suffix_while is_no_space (c ∷ more))
+
+-- ---- The keys of the header as the code has them.
+
+-- what is before the value of a key: a line feed, its name and a space
+abbrev pub lead_of : Key → List ℕ
+lead_of key = 10 ∷ (key.name ++ 32 ∷ [])
+
+-- what is between the first octet and the last is this name
+abbrev pub is_named : (lead name : List ℕ) → Bool
+is_named lead name = nat_le 2 (length lead) && bytes_eq name (take (length lead - 2) (drop 1 lead))
+
+-- the values of the keys from one on, each after its lead
+unfoldable pub header_text : (key : ℕ) → List ℕ → List ℕ
+header_text key [] = []
+header_text key (value ∷ more) =
+    lead_of (key_in keys key) ++ (decimal value ++ header_text (key + 1) more)

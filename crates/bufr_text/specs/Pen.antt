@@ -4,11 +4,10 @@ use Rattle.std.specs.Prelude.{◌≡◌, ℕ, List, [], ◌∷◌, ◌++◌, Res
 use Rattle.bufr_frame.specs.declared.fault.RunFault.{RunFault}
 use Rattle.bufr_frame.specs.declared.fault.RunFault.TheVariants.{Memory}
 use Rattle.bufr_walk.specs.Calls.{Call, subset_call, item_call}
-use Rattle.bufr_walk.specs.Outcome.{Read}
+use Rattle.bufr_walk.specs.Refusal.{Read}
 use Rattle.bufr_walk.specs.Reading.{Values}
-use Rattle.bufr_text.specs.Dump.{subset_line, subset_lines, item_text, text_of_lines}
-use Rattle.bufr_text.specs.DumpItems.{dump_item_of, dump_items_of}
-use Rattle.bufr_text.specs.Lines.{LineModel, Pushes}
+use Rattle.bufr_text.specs.Dump.{subset_line, subset_lines, item_text, text_of_lines, dump_item_of, dump_items_of}
+use Rattle.bufr_text.specs.Writing.{LineModel, Pushes}
 
 -- the line of a call
 abbrev pub call_line : Call → List ℕ

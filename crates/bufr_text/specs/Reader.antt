@@ -1,15 +1,73 @@
--- What a reader of dump texts does, call by call. (a choice of this project)
+-- What a reader of dump texts does, call by call, and its faults.
+-- (A choice of this project)
 -- Cited by public contracts.
-use Rattle.std.specs.Prelude.{◌≡◌, ◌⊎◌, ℕ, ◌+◌, ◌-◌, ◌*◌, ◌<◌, ◌≤◌, Bool, true, false, if◌then◌else◌, List, [], ◌∷◌, ◌++◌, length, take, Option, Some, None, Result, Ok, Err}
-use Rattle.std.specs.Io.KnownBytes.{Consumes, IsAtEnd}
-use Rattle.bufr_frame.specs.Runs.{AddsReads, max_reads, read_failures_after}
-use Rattle.bufr_frame.specs.declared.fault.RunFault.TheVariants.{Read, Write, InputTooLong, Memory}
-use Rattle.bufr_text.specs.Document.{Document}
-use Rattle.bufr_text.specs.Documents as documents
-use Rattle.bufr_text.specs.Documents.{ParserState, Between, ParseResult, Complete, Refused, adds, line_within_limit}
-use Rattle.bufr_text.specs.Reading.{has_no_feed, ReaderPosition, ContinuesParse, TakesWholeLines, TakesEndLine, parse, parse_open}
+use Rattle.std.specs.Prelude.{ℕ, ◌≡◌, ◌+◌, ◌==◌, Bool, true, false, not, List, [], ◌∷◌, ◌++◌, length, ◌⊎◌, ◌-◌, ◌*◌, ◌<◌, ◌≤◌, if◌then◌else◌, take, Option, Some, None, Result, Ok, Err}
+use Rattle.bufr_frame.specs.Numbers.{number_of_run_fault}
 use Rattle.bufr_text.specs.declared.fault.ReadFault.{ReadFault}
 use Rattle.bufr_text.specs.declared.fault.ReadFault.TheVariants.{Line, SubsetCount, HeaderRange, Run}
+use Rattle.std.specs.List.{list_all, AllByRecursion}
+use Rattle.bufr_text.specs.Documents.{ParserState, ParseResult, line_within_limit, parse_lines, parse_open_lines, lines_of, split_of, Document, Between, Complete, Refused, adds}
+use Rattle.bufr_text.specs.Dump.{text_of_lines}
+use Rattle.bufr_text.specs.Line.{Closes}
+use Rattle.std.specs.Io.KnownBytes.{Consumes, IsAtEnd}
+use Rattle.bufr_frame.specs.Input.{AddsReads, max_reads, read_failures_after}
+use Rattle.bufr_frame.specs.declared.fault.RunFault.TheVariants.{Read, Write, InputTooLong, Memory}
+use Rattle.bufr_text.specs.Documents as documents
+
+-- ---- The faults of a dump text, and their numbers. (a choice of this project)
+
+abbrev pub number_of_read_fault : ReadFault → ℕ
+number_of_read_fault (Line line) = 50
+number_of_read_fault (SubsetCount line) = 57
+number_of_read_fault (HeaderRange line) = 61
+number_of_read_fault (Run fault) = number_of_run_fault fault
+
+-- ---- How a reading of documents goes on, piece by piece. (a choice of this project)
+
+-- octets of one line
+abbrev pub has_no_feed : List ℕ → Bool
+has_no_feed octets = list_all (λ c. not (c == 10)) octets
+
+-- what a reading means: the number of the next line, where it is, the octets that it
+-- holds, whether the end was reached
+pub record ReaderPosition : Type 0 where
+  pub at : ℕ
+  pub place : ParserState
+  pub held : List ℕ
+  pub ended : Bool
+
+-- what the held octets and these spell, to the end of these
+abbrev pub parse : ReaderPosition → List ℕ → List ParseResult
+parse s t = parse_lines s.at s.place (lines_of (s.held ++ t))
+
+-- the same, where more may come after these
+abbrev pub parse_open : ReaderPosition → List ℕ → List ParseResult
+parse_open s t =
+    parse_open_lines s.at s.place (split_of (s.held ++ t)).whole (split_of (s.held ++ t)).rest
+
+-- The held octets spell what was reported and then what is still held, whatever comes after; after
+-- the end nothing does.
+pub record ContinuesParse (old new : ReaderPosition) (results : List ParseResult) : Type 0 where
+  pub whole : (t : List ℕ) → (new.ended ≡ true → t ≡ []) → parse old t ≡ results ++ parse new t
+  pub openly : new.ended ≡ false → (t : List ℕ) → parse_open old t ≡ results ++ parse_open new t
+
+-- Lines were taken: what was held is these lines, each with its line feed, and then what is still
+-- held.
+pub record TakesWholeLines (at : ℕ) (held : List ℕ) (at' : ℕ) (rest : List ℕ) : Type 0 where
+  pub lines : List (List ℕ)
+  pub single : AllByRecursion (λ line. has_no_feed line ≡ true) lines
+  pub counted : at' ≡ at + length lines
+  pub octets : held ≡ text_of_lines lines ++ rest
+
+-- Lines were taken, the last of them an `end` line: what is still held is what is after it.
+pub record TakesEndLine (at : ℕ) (held : List ℕ) (at' : ℕ) (rest : List ℕ) : Type 0 where
+  -- the number of the `end` line
+  pub line : ℕ
+  pub last : List ℕ
+  pub prefix : TakesWholeLines at held line (last ++ 10 ∷ rest)
+  pub single : has_no_feed last ≡ true
+  pub closes : line_within_limit last ≡ Closes
+  pub counted : at' ≡ line + 1
 
 -- what a reader means
 pub record ReaderModel : Type 0 where

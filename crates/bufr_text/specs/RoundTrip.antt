@@ -1,28 +1,32 @@
--- A message that is accepted, and the message that its dump text is encoded to.
+-- An accepted message and the message that its dump text is encoded to, in either form.
 -- Cited by public contracts.
-use Rattle.std.specs.Prelude.{◌≡◌, ℕ, ◌+◌, ◌%◌, ◌≤◌, ◌==◌, ◌&&◌, ◌||◌, Bool, List, ◌∷◌, ◌++◌, length, if◌then◌else◌, Ok}
+use Rattle.std.specs.Prelude.{◌≡◌, ℕ, ◌+◌, ◌%◌, ◌≤◌, ◌==◌, ◌&&◌, ◌||◌, Bool, List, ◌∷◌, ◌++◌, length, if◌then◌else◌, Ok, Vec, Some, Result, Err, [], take, drop, flat_map}
 use Rattle.std.specs.List.{AllByRecursion}
-use Rattle.bufr_tables.specs.Expansion.{tree_of}
+use Rattle.bufr_tables.specs.Expansion.{tree_of, tables_of}
 use Rattle.bufr_tables.specs.TableB.{Row}
 use Rattle.bufr_tables.specs.TableD.{Sequence}
-use Rattle.bufr_tables.specs.TemplateTables.{tables_of}
 use Rattle.bufr_tables.specs.Tree.{Tree}
-use Rattle.bufr_frame.specs.Layout.{max_octets}
+use Rattle.bufr_frame.specs.Layout.{max_octets, with_even_length}
 use Rattle.bufr_frame.specs.Octets.{u24_at}
-use Rattle.bufr_frame.specs.Plain.{section3_begins, section4_begins}
+use Rattle.bufr_frame.specs.Sections.{section3_begins, section4_begins, Sections, sections_of, edition_of, IsPlain}
 use Rattle.bufr_frame.specs.Scan.{FrameAt, scan_from}
-use Rattle.bufr_frame.specs.Sections.{Sections, sections_of, edition_of}
 use Rattle.bufr_walk.specs.Course.{next_item}
-use Rattle.bufr_walk.specs.Outcome.{read_by, data_of}
-use Rattle.bufr_walk.specs.Reading.{Values, IsReading}
+use Rattle.bufr_walk.specs.Refusal.{read_by, data_of}
+use Rattle.bufr_walk.specs.Reading.{Values, IsReading, Item, apart, together}
 use Rattle.bufr_text.specs.declared.encode.Form.{Form}
 use Rattle.bufr_text.specs.declared.encode.Form.TheVariants.{AsWritten}
-use Rattle.bufr_text.specs.Document.{Document}
-use Rattle.bufr_text.specs.Dump.{DumpItem}
-use Rattle.bufr_text.specs.DumpItems.{dump_items_of}
-use Rattle.bufr_text.specs.Form.{compressed_by}
-use Rattle.bufr_text.specs.Bounds.{IsOctet}
-use Rattle.bufr_text.specs.Encoding.{encoding_of}
+use Rattle.bufr_text.specs.Documents.{Document, subsets_in, head_from_values, observed_in, section2_in}
+use Rattle.bufr_text.specs.Dump.{DumpItem, dump_items_of, IsOctet}
+use Rattle.bufr_text.specs.Encoding.{compressed_by, encoding_of, DocumentRefusal, by_template, by_item, too_long, RefusedAt, reported_refusal, octets_of_bits, compressed_as}
+use Rattle.std.specs.Global.{Global}
+use Rattle.bufr_walk.specs.Content.{Content}
+use Rattle.bufr_fill.specs.RoundTrip.{subsets_from, IsUnlike, AreSaid, AreSaidFrom}
+use Rattle.bufr_text.specs.declared.fault.DocumentFault.{DocumentFault}
+use Rattle.bufr_bits.specs.Bits.{bits_of}
+use Rattle.bufr_fill.specs.DraftContent.{IsMinusZero}
+use Rattle.bufr_fill.specs.Packing.{packing}
+use Rattle.bufr_fill.specs.Draft.{Subset, subsets_of}
+use Rattle.bufr_text.specs.declared.encode.Form.TheVariants as form
 
 -- a message that is accepted by these tables: it has sections, its descriptors a template, and its
 -- data a reading
@@ -84,3 +88,119 @@ pub record IsEncodedAgain (table : List Row) (sequences : List Sequence) (m : Li
   pub octets : List ℕ
   pub is : encoding_of table sequences d ≡ Ok octets
   pub same : HasSameReading table m s template values octets
+
+-- ---- The message that the document of an accepted message is encoded to in a form.
+
+-- the items of each subset, whatever the form in which they were read
+abbrev pub each_subset : (subsets : ℕ) → Values → List (List (Item Content))
+each_subset n (apart subsets) = subsets
+each_subset n (together items) = subsets_from n 0 items
+
+-- octets are a message in a form, with the same reading as the message of sections s but for the
+-- flag of compression
+pub record HasReadingIn (form : Form) (table : List Row) (s : Sections) (template : Tree)
+    (values : Values) (written : List ℕ) : Type 0 where
+  pub few : length written ≤ max_octets
+  pub octets : AllByRecursion IsOctet written
+  -- in a stream it is one message, whatever is after it
+  pub framed : (at : ℕ) (suffix : List ℕ) → scan_from 0 at (written ++ suffix)
+      ≡ FrameAt at written ∷ scan_from 0 (at + length written) suffix
+  pub sections : Sections
+  pub are : sections_of written ≡ Ok sections
+  pub same : SaySame form s sections
+  pub found : Values
+  pub used : ℕ
+  pub read : IsReading (next_item table template) (data_of sections) found used
+  -- each subset has the same items: what was asked of the data, and what was found
+  pub each : each_subset s.subsets found ≡ each_subset s.subsets values
+  -- so its dump text has the same items
+  pub items : dump_items_in table template sections found ≡ dump_items_in table template s values
+
+-- what the document of an accepted message may be refused for in a form: in the one that it has,
+-- nothing; else the length, and in compressed data factors that differ and contents that no
+-- increments distinguish
+abbrev pub IsForForm : Form → DocumentRefusal → Type 0
+IsForForm form.AsWritten why = ⊥
+IsForForm form.Plain (by_template why) = ⊥
+IsForForm form.Plain (by_item fault) = ⊥
+IsForForm form.Plain too_long = Unit {0}
+IsForForm form.Compressed (by_template why) = ⊥
+IsForForm form.Compressed (by_item fault) = IsUnlike fault
+IsForForm form.Compressed too_long = Unit {0}
+
+-- what the document of a message is encoded to in a form
+abbrev pub IsFormed : Form → List Row → Sections → Tree → Values
+    → Result (List ℕ) RefusedAt → Type 0
+IsFormed form table s template values (Ok octets) = HasReadingIn form table s template values octets
+IsFormed form table s template values (Err refused) = IsForForm form refused.why
+
+-- a fault that is answered is such a refusal; want of memory, which the definition has not, may
+-- come in each form
+abbrev pub IsFaultIn : Form → DocumentFault → Type 0
+IsFaultIn form why =
+    (refused : RefusedAt) → reported_refusal why ≡ Some refused → IsForForm form refused.why
+
+-- what is answered for the document of a message in a form
+abbrev pub EncodesForm : Form → List Row → Sections → Tree → Values
+    → Result (Vec ℕ Global) DocumentFault → Type 0
+EncodesForm form table s template values (Ok octets) =
+    HasReadingIn form table s template values octets.items
+EncodesForm form table s template values (Err why) = IsFaultIn form why
+
+-- ---- A message that is as an encoder writes it. (a choice of this project)
+
+-- no redefined reference of the items that begin the bits is written as minus zero
+abbrev pub HaveNoMinusZero : List (Item Content) → List Bool → Type 0
+HaveNoMinusZero [] bits = Unit {0}
+HaveNoMinusZero (i ∷ items) bits =
+    (IsMinusZero i.spec.role (take i.spec.width bits) → ⊥)
+    × HaveNoMinusZero items (drop i.spec.width bits)
+
+-- each item of compressed data is packed as its contents are packed
+abbrev pub ArePacked : List (Item (List Content)) → (bits suffix : List Bool) → Type 0
+ArePacked [] bits suffix = bits ≡ suffix
+ArePacked (i ∷ items) bits suffix =
+    (out : List Bool) × (mid : List Bool) × (packing i.spec i.content ≡ Ok out)
+    × (bits ≡ out ++ mid) × ArePacked items mid suffix
+
+-- the data bits are as an encoder writes them
+abbrev pub AreWritten : Values → (bits suffix : List Bool) → Type 0
+AreWritten (apart subsets) bits suffix = HaveNoMinusZero (flat_map (λ items. items) subsets) bits
+AreWritten (together items) bits suffix = ArePacked items bits suffix
+
+-- reserved octets and bits are zero, no octet is left over, and the data take the least octets,
+-- with zero bits after them; in edition 3 the least that make section 4 even
+-- rule: canonical
+pub record IsCanonical (m : List ℕ) (s : Sections) (values : Values) (used : ℕ) : Type 0 where
+  pub plain : IsPlain m
+  pub least : s.payload ≡ with_even_length s.head.edition 4
+      (octets_of_bits (take used (bits_of s.payload)))
+  pub bits : AreWritten values (bits_of s.payload) (drop used (bits_of s.payload))
+
+-- ---- What is read of a document that was encoded: what the document says.
+
+-- the values are what the drafts say
+abbrev pub AreValuesOf : Values → List Subset → Type 0
+AreValuesOf (apart subsets) drafts = AreSaid subsets drafts
+AreValuesOf (together items) drafts = AreSaidFrom 0 items drafts
+
+-- octets are one message, accepted, and it says what the document says, in a form; of the data it
+-- says the items, not how many octets they take
+pub record IsReadAs (form : Form) (table : List Row) (sequences : List Sequence) (d : Document)
+    (octets : List ℕ) : Type 0 where
+  pub sections : Sections
+  pub template : Tree
+  pub values : Values
+  pub used : ℕ
+  pub accepted : IsAccepted table sequences octets sections template values used
+  -- in a stream it is one message, whatever is after it
+  pub framed : (at : ℕ) (suffix : List ℕ) → scan_from 0 at (octets ++ suffix)
+      ≡ FrameAt at octets ∷ scan_from 0 (at + length octets) suffix
+  pub head : sections.head ≡ head_from_values d
+  pub local1 : sections.local1 ≡ d.local1
+  pub section2 : sections.section2 ≡ section2_in d
+  pub descriptors : sections.descriptors ≡ d.descriptors
+  pub subsets : sections.subsets ≡ subsets_in d
+  pub observed : sections.observed ≡ observed_in d
+  pub compressed : sections.compressed ≡ compressed_as form d
+  pub said : AreValuesOf values (subsets_of d.entries)

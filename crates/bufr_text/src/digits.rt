@@ -1,6 +1,6 @@
 //! Digits that fill a prefix of some octets, where there is room for them.
 ghost use Rattle.std.specs.Prelude.{◌≡◌, ◌≤◌, ◌<◌, ◌+◌, ◌/◌, ◌%◌, ◌++◌, [], ◌∷◌, decimal, length, take, IfSome};
-ghost use Rattle.bufr_bits.specs.DecimalText.{pointed, sign_of, unsigned_text};
+ghost use Rattle.bufr_bits.specs.Decimal.{pointed, sign_of, unsigned_text};
 ghost use Rattle.bufr_text.specs.Writing.{zero_padded};
 
 use itoa::write_digits;
@@ -9,7 +9,7 @@ use itoa::write_digits;
 const DIGITS: usize = 20;
 
 /// How many digits a number has.
-#[tactic(auto, using(crate::proofs::DigitLemmas::one_digit, crate::proofs::DigitLemmas::two_digits, crate::proofs::DigitLemmas::three_digits, crate::proofs::DigitLemmas::four_digits, crate::proofs::DigitLemmas::four_more_digits, crate::proofs::DigitLemmas::at_most_20_digits))]
+#[tactic(auto, using(crate::proofs::NumberLemmas::one_digit, crate::proofs::NumberLemmas::two_digits, crate::proofs::NumberLemmas::three_digits, crate::proofs::NumberLemmas::four_digits, crate::proofs::NumberLemmas::four_more_digits, crate::proofs::NumberLemmas::at_most_20_digits))]
 #[inline(always)]
 pub(crate) fn count_digits(value: u64) -> usize
     ensures { result ≡ length (decimal value) }

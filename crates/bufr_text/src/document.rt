@@ -1,21 +1,17 @@
 //! A message as its text gives it, and how its lines build it.
 ghost use Rattle.std.specs.Prelude.{◌≡◌, ℕ, ◌+◌, ◌<◌, ◌≤◌, List, [], ◌∷◌, ◌++◌, length, take, map, OnOk, IsTrue, slice_index, option_map, true, IfOk, OnErr, ◌^◌, drop, false};
-ghost use Rattle.bufr_bits.specs.ShortDecimal.{short_text};
-ghost use Rattle.bufr_fill.specs.Draft.{draft, number_token};
+ghost use Rattle.bufr_bits.specs.Decimal.{short_text};
+ghost use Rattle.bufr_fill.specs.Draft.{draft, number_token, Holds, Ends, subsets_of};
 ghost use Rattle.bufr_frame.specs.Layout.{is_writable};
 ghost use Rattle.bufr_frame.specs.Section1.{slots_4};
-ghost use Rattle.bufr_fill.specs.Entries.{Holds, Ends, subsets_of};
 ghost use Rattle.bufr_fill.specs.Given.{form_in};
-ghost use Rattle.bufr_text.specs.Document.{subsets_in};
-ghost use Rattle.bufr_text.specs.Documents.{with_value, with_local1, with_section2, with_descriptors, with_entry, heading, before_subsets, filling, beginning, closing, opening, turn, adds, line_within_limit};
-ghost use Rattle.bufr_text.specs.Header.{head_from_values, observed_in, compressed_in, section2_in, most_entries};
-ghost use Rattle.bufr_text.specs.Whole.{IsWhole};
+ghost use Rattle.bufr_text.specs.Documents.{subsets_in, with_value, with_local1, with_section2, with_descriptors, with_entry, heading, before_subsets, filling, beginning, closing, opening, turn, adds, line_within_limit, head_from_values, observed_in, compressed_in, section2_in, most_entries};
+ghost use Rattle.bufr_text.specs.Spelling.{IsWhole};
 ghost use Rattle.bufr_text.specs.Line.{mosts};
-ghost use Rattle.bufr_text.specs.Step.{meaning, part_number, place_with, turned, IsParserState};
-ghost use Rattle.bufr_text.specs.Reading.{has_no_feed};
+ghost use Rattle.bufr_text.specs.Taking.{meaning, part_number, place_with, turned, IsParserState, TakesLines, FeedAt, WantsAt};
+ghost use Rattle.bufr_text.specs.Reader.{has_no_feed};
 ghost use Rattle.bufr_text.specs.declared.document.ParserState.TheVariants.{Between};
-ghost use Rattle.bufr_text.specs.TakingLines.{TakesLines, FeedAt, WantsAt};
-ghost use Rattle.bufr_text.specs.Document as spec;
+ghost use Rattle.bufr_text.specs.Documents as spec;
 ghost use Rattle.bufr_text.specs.Line as line;
 ghost use Rattle.bufr_text.specs.Documents as documents;
 
@@ -47,11 +43,11 @@ pub(crate) struct DocumentParts {
 }
 
 impl Model for DocumentParts {
-    ghost use Rattle.bufr_text.specs.Document as spec;
+    ghost use Rattle.bufr_text.specs.Documents as spec;
 
     ghost Value = { spec.Document };
 
-    ghost use Rattle.bufr_text.specs.Kept.{IsHeaderInside, document_kept};
+    ghost use Rattle.bufr_text.specs.Taking.{IsHeaderInside, document_kept};
 
     ghost view = { document_kept };
 
@@ -185,8 +181,8 @@ pub struct Document {
 }
 
 impl Model for Document {
-    ghost use Rattle.bufr_text.specs.Document as spec;
-    ghost use Rattle.bufr_text.specs.Whole.{IsWhole};
+    ghost use Rattle.bufr_text.specs.Documents as spec;
+    ghost use Rattle.bufr_text.specs.Spelling.{IsWhole};
 
     ghost Value = { spec.Document };
 
@@ -342,7 +338,7 @@ pub(crate) enum LineGroup {
 
 impl LineGroup {
     ghost use Rattle.std.specs.Prelude.{◌≡◌};
-    ghost use Rattle.bufr_text.specs.Step.{part_number};
+    ghost use Rattle.bufr_text.specs.Taking.{part_number};
 
     /// Its place in the order, from 0.
     fn number(self) -> u8

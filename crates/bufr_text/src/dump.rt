@@ -2,10 +2,9 @@
 ghost use Rattle.std.specs.Prelude.{◌≡◌, ◌≤◌, ◌*◌};
 ghost use Rattle.bufr_tables.specs.Tree.{places};
 ghost use Rattle.bufr_walk.specs.Calls.{calls_of, turns_shown};
-ghost use Rattle.bufr_walk.specs.Outcome.{course_of};
+ghost use Rattle.bufr_walk.specs.Refusal.{course_of};
 ghost use Rattle.bufr_walk.specs.Reading.{IsReading, Values};
-ghost use Rattle.bufr_text.specs.Dump.{dump_text_of};
-ghost use Rattle.bufr_text.specs.DumpItems.{dump_items_of};
+ghost use Rattle.bufr_text.specs.Dump.{dump_text_of, dump_items_of};
 ghost use Rattle.bufr_text.specs.DumpWritten.{CountsFaults, MakesSteps, ReadsMessage, WritesPrefix};
 ghost use Rattle.bufr_text.specs.Pen.{Ends, subsets_text};
 

@@ -72,11 +72,10 @@ impl LineRefusal {
 
 impl DumpReader {
     ghost use Rattle.std.specs.Prelude.{◌≡◌, ◌≤◌, ◌<◌, ◌-◌, ℕ, List, None, Some, Err, true, false, length, IfSome, IfOk};
-    ghost use Rattle.bufr_bits.specs.Counts.{counted};
-    ghost use Rattle.bufr_frame.specs.Runs.{read_failures_after, max_reads};
-    ghost use Rattle.bufr_text.specs.Proper.{IsProper};
-    ghost use Rattle.bufr_text.specs.Reading.{has_no_feed};
-    ghost use Rattle.bufr_text.specs.Reader.{ReaderModel, new_reader, unfed, ReturnsNextDocument, CountsTextReads, failures_by};
+    ghost use Rattle.bufr_bits.specs.Device.{counted};
+    ghost use Rattle.bufr_frame.specs.Input.{read_failures_after, max_reads};
+    ghost use Rattle.bufr_text.specs.Spelling.{IsProper};
+    ghost use Rattle.bufr_text.specs.Reader.{has_no_feed, ReaderModel, new_reader, unfed, ReturnsNextDocument, CountsTextReads, failures_by};
     ghost use Rattle.bufr_text.specs.Filling.{TakesHeldLines, HandlesEnd, FillsBuffer, ReadsMoreText, stopped};
 
     /// A reader that has read nothing. It takes no memory.

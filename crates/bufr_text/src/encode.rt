@@ -1,25 +1,19 @@
 //! The message of a document, in a form.
 ghost use Rattle.std.specs.Prelude.{ℕ, ◌≡◌, ◌≢◌, ◌≤◌, ◌*◌, ◌+◌, ◌^◌, List, [], Bool, length, IfOk, IfErr, OnOk, OnErr, Ok, option_map, false, true};
-ghost use Rattle.bufr_tables.specs.Expansion.{tree_of};
-ghost use Rattle.bufr_tables.specs.TemplateTables.{tables_of};
+ghost use Rattle.bufr_tables.specs.Expansion.{tree_of, tables_of};
 ghost use Rattle.bufr_tables.specs.Tree.{Tree, places};
 ghost use Rattle.bufr_tables.specs.Records.{Record};
 ghost use Rattle.bufr_tables.specs.TableB.{AreRows};
 ghost use Rattle.bufr_frame.specs.Sections.{Sections};
 ghost use Rattle.bufr_walk.specs.Reading.{Values};
 ghost use Rattle.bufr_text.specs.Dump.{document_of};
-ghost use Rattle.bufr_text.specs.RoundTrip.{IsAccepted, dump_items_in};
-ghost use Rattle.bufr_text.specs.InForm.{EncodesForm};
+ghost use Rattle.bufr_text.specs.RoundTrip.{IsAccepted, dump_items_in, EncodesForm};
 ghost use Rattle.bufr_walk.specs.Course.{next_item};
-ghost use Rattle.bufr_walk.specs.Ticks.{ticked};
-ghost use Rattle.bufr_fill.specs.Entries.{subsets_of};
-ghost use Rattle.bufr_text.specs.Encoding.{encoding_in, encoding_of, report_of_template, octets_of_bits, message_of, compressed_as, parts_as};
-ghost use Rattle.bufr_text.specs.EncodingFault.{IsDocumentRefusal, report_of_draft, reported_refusal};
-ghost use Rattle.bufr_text.specs.DataWritten.{AreOctetsOf, WritesData, WritesSubset, reported_stop};
-ghost use Rattle.bufr_text.specs.EncodingCost.{CountsSteps, places_by, bits_by, turns_by};
-ghost use Rattle.bufr_text.specs.Header.{head_from_values, most_entries};
+ghost use Rattle.bufr_walk.specs.Walk.{ticked};
+ghost use Rattle.bufr_fill.specs.Draft.{subsets_of};
+ghost use Rattle.bufr_text.specs.Encoding.{encoding_in, encoding_of, report_of_template, octets_of_bits, message_of, compressed_as, parts_as, IsDocumentRefusal, report_of_draft, reported_refusal, AreOctetsOf, WritesData, WritesSubset, reported_stop, CountsSteps, places_by, bits_by, turns_by, compressed_by};
+ghost use Rattle.bufr_text.specs.Documents.{head_from_values, most_entries};
 ghost use Rattle.bufr_text.specs.declared.encode.Form.TheVariants.{AsWritten};
-ghost use Rattle.bufr_text.specs.Form.{compressed_by};
 
 use crate::document::Document;
 use crate::fault::{DocumentFault, WalkRefusal, of_draft};

@@ -8,15 +8,10 @@ ghost use Rattle.bufr_tables.specs.Tree.{Tree};
 ghost use Rattle.bufr_walk.specs.Reading.{Values};
 ghost use Rattle.bufr_text.specs.declared.fault.DocumentFault.{DocumentFault};
 ghost use Rattle.bufr_text.specs.declared.fault.DocumentFault.TheVariants.{Memory};
-ghost use Rattle.bufr_text.specs.Canonical.{IsCanonical};
+ghost use Rattle.bufr_text.specs.RoundTrip.{IsCanonical, HasSameReading, IsAccepted, IsEncodedAgain, dump_items_in, HasReadingIn, IsFaultIn, IsFormed};
 ghost use Rattle.bufr_text.specs.Documents.{Complete, documents_of};
-ghost use Rattle.bufr_text.specs.Dump.{document_of, dump_text_of};
-ghost use Rattle.bufr_text.specs.RoundTrip.{HasSameReading, IsAccepted, IsEncodedAgain, dump_items_in};
-ghost use Rattle.bufr_text.specs.Encoding.{encoding_in, encoding_of};
-ghost use Rattle.bufr_text.specs.EncodingFault.{IsDocumentRefusal, reported_refusal};
-ghost use Rattle.bufr_text.specs.Bounds.{IsDumpable};
-ghost use Rattle.bufr_text.specs.Form.{compressed_by, form_of_flag};
-ghost use Rattle.bufr_text.specs.InForm.{HasReadingIn, IsFaultIn, IsFormed};
+ghost use Rattle.bufr_text.specs.Dump.{document_of, dump_text_of, IsDumpable};
+ghost use Rattle.bufr_text.specs.Encoding.{encoding_in, encoding_of, IsDocumentRefusal, reported_refusal, compressed_by, form_of_flag};
 ghost use Rattle.bufr_text.specs.declared.encode.Form.{Form};
 
 /// A message that is accepted can be dumped: its dump text spells its document.

@@ -1,8 +1,8 @@
 //! What can be wrong with a dump text, and why a document cannot be encoded. (The numbers and
 //! their order are a choice of this project.)
 ghost use Rattle.std.specs.Prelude.{◌≡◌, option_map};
-ghost use Rattle.bufr_fill.specs.DraftFaults.{draft_fault};
-ghost use Rattle.bufr_text.specs.EncodingFault.{number_of_document_fault, number_of_walk_refusal, report_of_draft, reported_refusal};
+ghost use Rattle.bufr_fill.specs.Faults.{draft_fault};
+ghost use Rattle.bufr_text.specs.Encoding.{number_of_document_fault, number_of_walk_refusal, report_of_draft, reported_refusal};
 
 use bufr_fill::{DraftFault, Expected};
 use bufr_frame::RunFault;
@@ -31,7 +31,7 @@ pub enum ReadFault {
 
 impl ReadFault {
     ghost use Rattle.std.specs.Prelude.{◌≡◌};
-    ghost use Rattle.bufr_text.specs.Faults.{number_of_read_fault};
+    ghost use Rattle.bufr_text.specs.Reader.{number_of_read_fault};
 
     /// Its number: 50, 57, 61, or that of the run's fault.
     pub fn number(self) -> u8

@@ -1,10 +1,10 @@
 //! The lines of a dump text before its subsets, pushed.
 ghost use Rattle.std.specs.Prelude.{◌≡◌, ◌++◌, [], ◌∷◌, codes, drop, map, take, unwrap_or};
-ghost use Rattle.bufr_frame.specs.Words.{words_left};
+ghost use Rattle.bufr_frame.specs.Octets.{words_left};
 ghost use Rattle.bufr_text.specs.Dump.{descriptors_line, head_lines, header_lines, header_of, section2_line, text_of_lines};
 ghost use Rattle.bufr_text.specs.Grammar.{descriptors_text, hex_text, runs_of};
-ghost use Rattle.bufr_text.specs.Key.{header_text};
-ghost use Rattle.bufr_text.specs.Lines.{Pushes};
+ghost use Rattle.bufr_text.specs.Line.{header_text};
+ghost use Rattle.bufr_text.specs.Writing.{Pushes};
 
 use crate::header::KEYS;
 use crate::line_writer::{LineWriter, PAGE};

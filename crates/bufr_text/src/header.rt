@@ -2,10 +2,9 @@
 ghost use Rattle.std.specs.Prelude.{◌≡◌, ◌<◌, ◌++◌, [], ◌∷◌, length, map, position, slice_index, true, IfSome, ℕ, ◌+◌, ◌*◌, ◌≤◌, List, take, drop, option_map};
 ghost use Rattle.bufr_frame.specs.Section1.{slots_3, slots_4, slots_of};
 ghost use Rattle.bufr_text.specs.Documents.{in_range};
-ghost use Rattle.bufr_text.specs.Key.{is_named, lead_of};
-ghost use Rattle.bufr_text.specs.Line.{key_in, keys, leasts, mosts, place_from};
+ghost use Rattle.bufr_text.specs.Line.{is_named, lead_of, key_in, keys, leasts, mosts, place_from};
 ghost use Rattle.bufr_text.specs.Grammar.{fxy_read, descriptors_read};
-ghost use Rattle.bufr_text.specs.Describing.{Describes};
+ghost use Rattle.bufr_text.specs.LineParts.{Describes};
 
 use crate::line::is;
 use crate::slice::{ahead, octet_at, suffix};

@@ -1,12 +1,11 @@
 //! The line of an item of a dump text, pushed.
 ghost use Rattle.std.specs.Prelude.{◌++◌, [], ◌∷◌, option_map};
-ghost use Rattle.bufr_bits.specs.DecimalText.{decimal_text_of};
+ghost use Rattle.bufr_bits.specs.Decimal.{decimal_text_of};
 ghost use Rattle.bufr_tables.specs.Entry.{row_of_entry};
 ghost use Rattle.bufr_tables.specs.Fxy.{fxy_text};
-ghost use Rattle.bufr_walk.specs.ViewModel.{seen, seen_value};
-ghost use Rattle.bufr_text.specs.Dump.{comment_text, dump_value_of, form_text, item_text};
-ghost use Rattle.bufr_text.specs.DumpItems.{comment_of, dump_item_of, value_of};
-ghost use Rattle.bufr_text.specs.Lines.{Pushes};
+ghost use Rattle.bufr_walk.specs.Calls.{seen, seen_value};
+ghost use Rattle.bufr_text.specs.Dump.{comment_text, dump_value_of, form_text, item_text, comment_of, dump_item_of, value_of};
+ghost use Rattle.bufr_text.specs.Writing.{Pushes};
 
 use crate::line_writer::LineWriter;
 use bufr_bits::Sink;

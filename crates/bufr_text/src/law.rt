@@ -1,14 +1,10 @@
 //! Laws about dump texts.
 ghost use Rattle.std.specs.Prelude.{◌≡◌, ℕ, ◌+◌, true, false, List, [], ◌∷◌, ◌++◌, length, Option, None, Result, Ok};
 ghost use Rattle.bufr_frame.specs.Sections.{Sections};
-ghost use Rattle.bufr_text.specs.Documents.{Between, ParseResult, Complete, documents_of, open_documents_of, lines_of, parse_lines};
-ghost use Rattle.bufr_text.specs.Dump.{DumpItem, document_of, dump_lines, dump_text_of};
-ghost use Rattle.bufr_text.specs.Bounds.{IsDumpable};
-ghost use Rattle.bufr_text.specs.Document.{Document};
-ghost use Rattle.bufr_text.specs.Reading.{TakesWholeLines, parse, parse_open};
-ghost use Rattle.bufr_text.specs.Reader.{ReaderModel, new_reader, unfed, position_of, IsMissingFeed, ReadsLines, ReturnsNextDocument, HasNoMoreLines, HasNoWholeLine};
-ghost use Rattle.bufr_text.specs.Spelling.{AreReported, numbered_lines};
-ghost use Rattle.bufr_text.specs.Whole.{AreProper};
+ghost use Rattle.bufr_text.specs.Documents.{Between, ParseResult, Complete, documents_of, open_documents_of, lines_of, parse_lines, Document};
+ghost use Rattle.bufr_text.specs.Dump.{DumpItem, document_of, dump_lines, dump_text_of, IsDumpable};
+ghost use Rattle.bufr_text.specs.Reader.{TakesWholeLines, parse, parse_open, ReaderModel, new_reader, unfed, position_of, IsMissingFeed, ReadsLines, ReturnsNextDocument, HasNoMoreLines, HasNoWholeLine};
+ghost use Rattle.bufr_text.specs.Spelling.{AreReported, numbered_lines, AreProper};
 ghost use Rattle.bufr_text.specs.declared.fault.ReadFault.{ReadFault};
 
 /// The dump text of a message spells its document, and the reading goes on after it.

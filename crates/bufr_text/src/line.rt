@@ -4,12 +4,11 @@ ghost use Rattle.std.specs.Str.{bytes_eq};
 ghost use Rattle.bufr_text.specs.Documents.{line_within_limit};
 ghost use Rattle.bufr_text.specs.Grammar.{prefix_while, suffix_while, without_space, hex_read, number_read, descriptors_read, without_prefix, fxy_read, is_number_octet, is_hashed, is_passed_after, is_unescaped, upper_value, pair_value, escape_of, quoting_of, either_value};
 ghost use Rattle.bufr_text.specs.Line.{Line, made, with_one_to, place_from, keys, is_no_space, worded, line_of, value_read, item_line, number_value, Item};
-ghost use Rattle.bufr_text.specs.Step.{meaning};
-ghost use Rattle.bufr_bits.specs.ShortDecimal.{short_text};
+ghost use Rattle.bufr_text.specs.Taking.{meaning};
+ghost use Rattle.bufr_bits.specs.Decimal.{short_text};
 ghost use Rattle.bufr_fill.specs.Draft.{number_token, reference_token};
 ghost use Rattle.bufr_fill.specs.Given.{form_in};
-ghost use Rattle.bufr_text.specs.Unquoting.{quoting_said, Unquotes};
-ghost use Rattle.bufr_text.specs.Unhexing.{Unhexes};
+ghost use Rattle.bufr_text.specs.LineParts.{quoting_said, Unquotes, Unhexes};
 ghost use Rattle.bufr_text.specs.Line as spec;
 
 use crate::document::ParsedLine;
@@ -140,7 +139,7 @@ fn value_after_space(line: &[u8], key: usize) -> Option<u32>
 
 /// What a line says that is not too long, most likely the value of the key `next`; none where it is
 /// no line of a document. Octets and descriptors that it writes are put into `octets` and `words`.
-#[tactic(auto, using(crate::proofs::WordLemmas::read_steps))]
+#[tactic(auto, using(crate::proofs::ItemLemmas::read_steps))]
 fn line_said<'a>(
     line: &'a [u8],
     next: usize,

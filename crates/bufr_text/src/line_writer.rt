@@ -1,11 +1,10 @@
 //! A writer of lines: octets put into a block of memory, one text after another, and handed on to a
 //! sink.
 ghost use Rattle.std.specs.Prelude.{◌≡◌, ◌≤◌, ◌++◌, [], Ok, codes, length, take, decimal, replicate};
-ghost use Rattle.bufr_bits.specs.DecimalText.{decimal_text_of};
+ghost use Rattle.bufr_bits.specs.Decimal.{decimal_text_of};
 ghost use Rattle.bufr_tables.specs.Entry.{row_of_entry};
 ghost use Rattle.bufr_tables.specs.TableB.{row_comment, row_line_start};
-ghost use Rattle.bufr_text.specs.Lines.{Pushes};
-ghost use Rattle.bufr_text.specs.Writing.{Writes, CountsWrites, flag, zero_padded};
+ghost use Rattle.bufr_text.specs.Writing.{Pushes, Writes, CountsWrites, flag, zero_padded};
 
 use crate::digits::{count_digits, fill_named};
 use crate::number_line::{fill_missing_line, fill_number_line};
@@ -33,7 +32,7 @@ pub struct LineWriter<'b, 'w, W: Sink> {
 
 impl<'b, 'w, W: Sink> Model for LineWriter<'b, 'w, W> {
     ghost use Rattle.std.specs.Prelude.{◌≤◌, length, take};
-    ghost use Rattle.bufr_text.specs.Lines.{LineModel};
+    ghost use Rattle.bufr_text.specs.Writing.{LineModel};
 
     ghost Value = { LineModel };
 

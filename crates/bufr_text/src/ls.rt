@@ -1,8 +1,7 @@
 //! The line that lists a message.
 ghost use Rattle.std.specs.Prelude.{◌≡◌, ◌∷◌, is_some, length};
-ghost use Rattle.bufr_text.specs.Lines.{Pushes};
+ghost use Rattle.bufr_text.specs.Writing.{Pushes, Writes, CountsWrites, joined, zero_padded};
 ghost use Rattle.bufr_text.specs.LsLine.{category_texts, counts_texts, ls_line, origin_texts, tables_texts, time_texts};
-ghost use Rattle.bufr_text.specs.Writing.{Writes, CountsWrites, joined, zero_padded};
 
 use crate::line_writer::LineWriter;
 use bufr_bits::Sink;

@@ -1,6 +1,6 @@
 //! The line of an item that is a number or missing, put into octets block by block.
 ghost use Rattle.std.specs.Prelude.{◌≡◌, ◌≤◌, ◌+◌, ◌++◌, codes, length, take, IfSome};
-ghost use Rattle.bufr_bits.specs.DecimalText.{decimal_text_of};
+ghost use Rattle.bufr_bits.specs.Decimal.{decimal_text_of};
 ghost use Rattle.bufr_tables.specs.Entry.{row_of_entry};
 ghost use Rattle.bufr_tables.specs.TableB.{row_comment, row_line_start};
 

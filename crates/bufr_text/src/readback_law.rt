@@ -4,14 +4,11 @@ ghost use Rattle.std.specs.Prelude.{◌≡◌, ℕ, List, [], ◌∷◌, Ok};
 ghost use Rattle.bufr_tables.specs.Records.{Record};
 ghost use Rattle.bufr_tables.specs.TableB.{AreRows, Row};
 ghost use Rattle.bufr_tables.specs.TableD.{Sequence};
-ghost use Rattle.bufr_text.specs.Document.{Document};
-ghost use Rattle.bufr_text.specs.Documents.{Complete, documents_of};
+ghost use Rattle.bufr_text.specs.Documents.{Document, Complete, documents_of};
 ghost use Rattle.bufr_text.specs.Dump.{document_of, dump_text_of};
-ghost use Rattle.bufr_text.specs.RoundTrip.{dump_items_in};
+ghost use Rattle.bufr_text.specs.RoundTrip.{dump_items_in, IsReadAs};
 ghost use Rattle.bufr_text.specs.Encoding.{encoding_in, encoding_of};
-ghost use Rattle.bufr_text.specs.Normal.{normal};
-ghost use Rattle.bufr_text.specs.Proper.{IsProper};
-ghost use Rattle.bufr_text.specs.ReadBack.{IsReadAs};
+ghost use Rattle.bufr_text.specs.Spelling.{normal, IsProper};
 ghost use Rattle.bufr_text.specs.declared.encode.Form.{Form};
 ghost use Rattle.bufr_text.specs.declared.encode.Form.TheVariants.{AsWritten};
 

@@ -1,7 +1,7 @@
 //! Numbers at a scale, pushed.
 ghost use Rattle.std.specs.Prelude.{◌≡◌, ◌==◌, if◌then◌else◌, decimal, replicate};
-ghost use Rattle.bufr_bits.specs.DecimalText.{decimal_text_of, pointed, sign_of, unsigned_text};
-ghost use Rattle.bufr_text.specs.Lines.{Pushes};
+ghost use Rattle.bufr_bits.specs.Decimal.{decimal_text_of, pointed, sign_of, unsigned_text};
+ghost use Rattle.bufr_text.specs.Writing.{Pushes};
 
 use crate::line_writer::LineWriter;
 use bufr_bits::Sink;

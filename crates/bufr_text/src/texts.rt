@@ -2,7 +2,7 @@
 ghost use Rattle.std.specs.Prelude.{◌≡◌, ◌<◌, false};
 ghost use Rattle.std.specs.List.{list_all};
 ghost use Rattle.bufr_text.specs.Grammar.{escaped, hex_digit, hex_pair, hex_text, is_unescaped, quoted};
-ghost use Rattle.bufr_text.specs.Lines.{Pushes};
+ghost use Rattle.bufr_text.specs.Writing.{Pushes};
 
 use crate::line::is_unescaped;
 use crate::line_writer::LineWriter;

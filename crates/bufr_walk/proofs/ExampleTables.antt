@@ -11,8 +11,7 @@ use Rattle.bufr_walk.specs.declared.spec.TurnRefusal.{TurnRefusal}
 use Rattle.bufr_walk.specs.declared.spec.Taken.{Taken}
 use Rattle.bufr_walk.specs.FieldSpec.{FieldSpec}
 use Rattle.bufr_walk.specs.Course.{Course, Next, take_next, at_end, astray, refused, next_item}
-use Rattle.bufr_walk.specs.Content.{ShownValue, shown}
-use Rattle.bufr_walk.specs.PlainField.{FieldFault, FieldRead}
+use Rattle.bufr_walk.specs.Content.{ShownValue, shown, FieldFault, FieldRead}
 use Rattle.bufr_walk.specs.Reading.{DataCoding, plain, packed}
 
 -- the descriptor of F, X and Y

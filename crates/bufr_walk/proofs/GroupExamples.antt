@@ -7,8 +7,7 @@ use Rattle.bufr_tables.specs.declared.table_b.Kind.TheVariants as kind
 use Rattle.bufr_tables.specs.Tree.{Tree, bare, element, operator, fixed, delayed}
 use Rattle.bufr_walk.specs.declared.spec.Role.TheVariants as role
 use Rattle.bufr_walk.specs.Course.{Course, next_item}
-use Rattle.bufr_walk.specs.Content.{Content, reference, number, text, shown_number, shown_text, shown_reference}
-use Rattle.bufr_walk.specs.PlainField.{data_end}
+use Rattle.bufr_walk.specs.Content.{Content, reference, number, text, shown_number, shown_text, shown_reference, data_end}
 use Rattle.bufr_walk.specs.Reading.{Item, turns_in, IsPlainReading}
 use Rattle.bufr_walk.specs.Refusal.{Stop, field_stop, IsPlainRefused}
 use Rattle.bufr_walk.proofs.ExampleTables.{fxy, table, done, field_fault, one, two, gives}

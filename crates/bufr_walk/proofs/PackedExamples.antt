@@ -6,8 +6,7 @@ use Rattle.bufr_tables.specs.Tree.{bare, element, operator, delayed}
 use Rattle.bufr_walk.specs.declared.spec.TurnRefusal.TheVariants as refusal
 use Rattle.bufr_walk.specs.declared.spec.Taken.TheVariants as taken
 use Rattle.bufr_walk.specs.Course.{Course, next_item}
-use Rattle.bufr_walk.specs.Content.{shown_number, shown_text, shown_missing, shown_reference}
-use Rattle.bufr_walk.specs.PlainField.{data_end, increment}
+use Rattle.bufr_walk.specs.Content.{shown_number, shown_text, shown_missing, shown_reference, data_end, increment}
 use Rattle.bufr_walk.specs.Reading.{packed, turns_together, IsPackedReading, max_values}
 use Rattle.bufr_walk.specs.Refusal.{Stop, walk_stop, too_many, field_stop, stop_at, IsPackedRefused}
 use Rattle.bufr_walk.proofs.ExampleTables.{fxy, table, done, walk_fault, field_fault, together, gives}

@@ -1,21 +1,33 @@
--- Fields read from bits.
-use Rattle.std.proofs.Common.{◌≡◌, ℕ, suc, ◌+◌, ◌-◌, ◌*◌, ◌^◌, ◌<◌, ◌≤◌, ◌&&◌, Bool, true, false, List, [], ◌∷◌, length, take, drop, Ok, Err, refl, sym, ◌∙◌, ap, subst, arith, ℤ, pos, neg_ℤ}
-use Rattle.std.specs.Prelude.{◌==◌, nat_lt, if◌then◌else◌}
-use Rattle.std.proofs.lemmas.List.{length-drop, drop-drop}
+-- Fields and texts read from bits, and the readings that a walk over them makes.
+use Rattle.std.proofs.Common.{◌≡◌, ℕ, suc, ◌+◌, ◌-◌, ◌*◌, ◌^◌, ◌<◌, ◌≤◌, ◌&&◌, Bool, true, false, List, [], ◌∷◌, length, take, drop, Ok, Err, refl, sym, ◌∙◌, ap, subst, arith, ℤ, pos, neg_ℤ, zero, ◌/◌, ◌%◌, ◌++◌, set, add-one, Result}
+use Rattle.std.specs.Prelude.{◌==◌, nat_lt, if◌then◌else◌, slice_index, slice_range, Option, Some, None, option_map, SomeIff, IfSome}
+use Rattle.std.proofs.lemmas.List.{length-drop, drop-drop, drop-take, take-take, take_more_set, length-set, length-take-le}
 use Rattle.std.proofs.Math.Nat.{pow-le-pow_right}
 use Rattle.std.proofs.lemmas.Bool.Decides.{nat_tests}
 use Rattle.bufr_bits.specs.Bits.{bits_of, bits_at, number_of, are_all_ones}
-use Rattle.bufr_bits.proofs.BitLemmas.{length-bits_of, length-bits_at}
-use Rattle.bufr_bits.proofs.OnesLemmas.{are_all_ones-number}
+use Rattle.bufr_bits.proofs.BitLemmas.{length-bits_of, length-bits_at, are_all_ones-number, drop-bits_of, take-bits_of, number_of_middle, number-bits_of_octet}
 use Rattle.bufr_tables.specs.declared.table_b.Kind.{Kind}
+use Rattle.bufr_walk.specs.declared.spec.Taken.{Taken}
+use Rattle.bufr_walk.specs.FieldSpec.{FieldSpec, IsSpec, HasRole, HasWidth}
+use Rattle.bufr_walk.specs.Content.{missing, answer_of, answer_by_role, content_in, content_by, said_by, count_in, signed_by, plain_field, found, data_end, octets_in, Content}
+use Rattle.bufr_walk.specs.PlainIn.{Cursor, rest_of, past, IsTaken, PassComes, PassReads, PassStops, plain_fault, PlainTakes}
+use Rattle.bufr_walk.specs.declared.plain_in.DataEnd.{DataEnd}
+use Rattle.bufr_walk.specs.declared.stop.WalkStop.{WalkStop}
+use Rattle.bufr_walk.specs.Course.{Course, Next, take_next, at_end, astray, refused, next_item}
+use Rattle.bufr_walk.specs.Refusal.{spot, walk_stop, field_stop, field_stop_of, data_in, data_of, read_by, Read, course_of, IsRead, IsReadingOf}
+use Rattle.bufr_walk.specs.Reading.{Item, plain, ReadsItems, next_after, turns_after, after, Values, apart, together, IsReading, ReadsSubsets, max_values}
+use Rattle.bufr_walk.specs.Walk.{TakenField, Takes, ticked, oks, answers_of, StopsWalk, Walked}
+use Rattle.bufr_frame.specs.Sections.{Sections}
+use Rattle.bufr_tables.specs.TableB.{Row}
+use Rattle.bufr_tables.specs.Tree.{Tree}
+use Rattle.bufr_walk.specs.StoredItems.{IsStoredReading, KeepsValues, IsReadAndPaid}
 use Rattle.bufr_tables.specs.declared.table_b.Kind.TheVariants as kind
 use Rattle.bufr_walk.specs.declared.spec.Role.TheVariants as role
-use Rattle.bufr_walk.specs.declared.spec.Taken.{Taken}
 use Rattle.bufr_walk.specs.declared.spec.Taken.TheVariants as taken
-use Rattle.bufr_walk.specs.FieldSpec.{FieldSpec, IsSpec, HasRole, HasWidth}
-use Rattle.bufr_walk.specs.Content.{missing, answer_of, answer_by_role, content_in, content_by, said_by, count_in, signed_by}
-use Rattle.bufr_walk.specs.PlainField.{plain_field, found, data_end}
-use Rattle.bufr_walk.specs.PlainIn.{Cursor, rest_of, past, IsTaken}
+use Rattle.bufr_walk.specs.declared.spec.TurnRefusal.TheVariants as refusal
+use Rattle.bufr_walk.specs.declared.stop.WalkStop.TheVariants as stops
+use Rattle.bufr_walk.specs.declared.fault.WalkFault.TheVariants as fault
+use Rattle.bufr_walk.specs.declared.reading.StoredItems.TheVariants as kept
 
 numeric_width : (k : Kind) (w : ℕ) → k ≡ kind.Numeric → HasWidth k w → w ≤ 63
 numeric_width kind.Character w e h = absurd cc
@@ -108,3 +120,212 @@ bits_length octets = length-bits_of octets
 pub ones_by_number : (octets : List ℕ) (at width raw : ℕ) → at + width ≤ 8 * length octets → raw ≡ number_of (bits_at octets at width) → (raw == 2 ^ width - 1) ≡ are_all_ones (bits_at octets at width)
 ones_by_number octets at width raw within is =
     ap (λ (m : ℕ). m == 2 ^ width - 1) is ∙ ap (λ (m : ℕ). number_of (bits_at octets at width) == 2 ^ m - 1) (sym (length-bits_at octets at width within)) ∙ are_all_ones-number (bits_at octets at width)
+
+-- ---- Octets read from bits, and texts.
+
+-- octets that are read one by one
+octets_next : (n : ℕ) (bits : List Bool) → octets_in (suc n) bits ≡ octets_in n bits ++ number_of (take 8 (drop (8 * n) bits)) ∷ []
+octets_next zero bits = refl
+octets_next (suc n) bits =
+    ap (λ os. number_of (take 8 bits) ∷ os) (octets_next n (drop 8 bits) ∙ ap (λ bs. octets_in n (drop 8 bits) ++ number_of (take 8 bs) ∷ []) (drop-drop (8 * n) 8 bits ∙ ap (λ k. drop k bits) (eight n)))
+  where
+    eight : (n : ℕ) → 8 + 8 * n ≡ 8 * suc n
+    eight n = omega arith
+
+octets_more : (n : ℕ) (bits : List Bool) → octets_in (n + 1) bits ≡ octets_in n bits ++ number_of (take 8 (drop (8 * n) bits)) ∷ []
+octets_more n bits = ap (λ k. octets_in k bits) (add-one n) ∙ octets_next n bits
+
+pub octet_put : (bits : List Bool) (at i octet : ℕ) (kept : List ℕ) → i < length kept → take i kept ≡ octets_in i (drop at bits) → octet ≡ number_of (take 8 (drop (at + 8 * i) bits)) → take (i + 1) (set kept i octet) ≡ octets_in (i + 1) (drop at bits)
+octet_put bits at i octet kept h so is =
+    take_more_set kept i octet h
+    ∙ ap (λ os. os ++ octet ∷ []) so
+    ∙ ap (λ o. octets_in i (drop at bits) ++ o ∷ []) (is ∙ ap (λ bs. number_of (take 8 bs)) (sym (drop-drop (8 * i) at bits)))
+    ∙ sym (octets_more i (drop at bits))
+
+-- an octet of a word of 32 bits
+pub octet_of_word : (bits : List Bool) (at i j word octet : ℕ) → at + 8 * (i + 4) ≤ length bits → j ≤ 3 → word ≡ number_of (take 32 (drop (at + 8 * i) bits)) → octet ≡ word / 2 ^ (24 - 8 * j) % 2 ^ 8 → octet ≡ number_of (take 8 (drop (at + 8 * (i + j)) bits))
+octet_of_word bits at i j word octet h few e is =
+    let from = at + 8 * i in
+    let rest = drop from bits in
+    let four = take 32 rest in
+    let long : length four ≡ 32 = length-take-le 32 rest (omega (arith, length-drop from bits)) in
+    let exponent : 24 - 8 * j ≡ 32 - 8 * j - 8 = omega arith in
+    let whole : 32 ≡ 8 * j + (32 - 8 * j) = omega arith in
+    let inner : drop (8 * j) four ≡ take (32 - 8 * j) (drop (8 * j) rest) = ap (λ k. drop (8 * j) (take k rest)) whole ∙ drop-take (8 * j) (32 - 8 * j) rest in
+    let there : from + 8 * j ≡ at + 8 * (i + j) = omega arith in
+    is
+    ∙ ap (λ (w : ℕ). w / 2 ^ (24 - 8 * j) % 2 ^ 8) e
+    ∙ ap (λ (k : ℕ). number_of four / 2 ^ k % 2 ^ 8) exponent
+    ∙ sym (number_of_middle four 32 (8 * j) 8 long (omega arith))
+    ∙ ap (λ ys. number_of (take 8 ys)) inner
+    ∙ ap number_of (take-take 8 (32 - 8 * j) (drop (8 * j) rest) (omega arith))
+    ∙ ap (λ ys. number_of (take 8 ys)) (drop-drop (8 * j) from bits ∙ ap (λ k. drop k bits) there)
+
+-- the four octets of a word
+pub four_put : (bits : List Bool) (at i word a b c d : ℕ) (kept : List ℕ) → i + 4 ≤ length kept → at + 8 * (i + 4) ≤ length bits → take i kept ≡ octets_in i (drop at bits) → word ≡ number_of (take 32 (drop (at + 8 * i) bits)) → a ≡ word / 2 ^ 24 % 2 ^ 8 → b ≡ word / 2 ^ 16 % 2 ^ 8 → c ≡ word / 2 ^ 8 % 2 ^ 8 → d ≡ word / 2 ^ 0 % 2 ^ 8 → take (i + 4) (set (set (set (set kept i a) (i + 1) b) (i + 2) c) (i + 3) d) ≡ octets_in (i + 4) (drop at bits)
+four_put bits at i word a b c d kept h within so e ea eb ec ed =
+    let one = set kept i a in
+    let second = set one (i + 1) b in
+    let third = set second (i + 2) c in
+    let long1 : length one ≡ length kept = length-set kept i a in
+    let long2 : length second ≡ length kept = length-set one (i + 1) b ∙ long1 in
+    let long3 : length third ≡ length kept = length-set second (i + 2) c ∙ long2 in
+    let first : a ≡ number_of (take 8 (drop (at + 8 * i) bits)) = octet_of_word bits at i 0 word a within (omega arith) e ea ∙ ap (λ k. number_of (take 8 (drop (at + 8 * k) bits))) (zero_more i) in
+    let s1 : take (i + 1) one ≡ octets_in (i + 1) (drop at bits) = octet_put bits at i a kept (omega arith) so first in
+    let s2 : take (i + 1 + 1) second ≡ octets_in (i + 1 + 1) (drop at bits) = octet_put bits at (i + 1) b one (omega arith) s1 (octet_of_word bits at i 1 word b within (omega arith) e eb) in
+    let s3 : take (i + 2 + 1) third ≡ octets_in (i + 2 + 1) (drop at bits) = octet_put bits at (i + 2) c second (omega arith) (step (i + 1) (i + 2) second (omega arith) s2) (octet_of_word bits at i 2 word c within (omega arith) e ec) in
+    let s4 = octet_put bits at (i + 3) d third (omega arith) (step (i + 2) (i + 3) third (omega arith) s3) (octet_of_word bits at i 3 word d within (omega arith) e ed) in
+    step (i + 3) (i + 4) (set third (i + 3) d) (omega arith) s4
+  where
+    zero_more : (i : ℕ) → i + 0 ≡ i
+    zero_more i = omega arith
+
+    step : (k n : ℕ) (ys : List ℕ) → k + 1 ≡ n → take (k + 1) ys ≡ octets_in (k + 1) (drop at bits) → take n ys ≡ octets_in n (drop at bits)
+    step k n ys same h = subst (λ (m : ℕ). take m ys ≡ octets_in m (drop at bits)) same h
+
+pub two : (a b : ℕ) (xs ys : List ℕ) → a ≡ b → xs ≡ ys → a ∷ xs ≡ b ∷ ys
+two a b xs ys p q = ap (λ x. x ∷ xs) p ∙ ap (λ zs. b ∷ zs) q
+
+pub octets_prefix : (n : ℕ) (bits : List Bool) → octets_in n (take (8 * n) bits) ≡ octets_in n bits
+octets_prefix zero bits = refl
+octets_prefix (suc n) bits =
+    ap (λ k. octets_in (suc n) (take k bits)) (eight n)
+    ∙ two _ _ _ _ (ap number_of (take-take 8 (8 + 8 * n) bits (omega arith))) (ap (octets_in n) (drop-take 8 (8 * n) bits) ∙ octets_prefix n (drop 8 bits))
+  where
+    eight : (n : ℕ) → 8 * suc n ≡ 8 + 8 * n
+    eight n = omega arith
+
+-- how many octets a text has
+pub whole_octets : (spec : FieldSpec) → spec.width % 8 ≡ 0 → 8 * (spec.width / 8) ≡ spec.width
+whole_octets spec e = omega (arith, e)
+
+-- the octets of a field of whole octets
+pub text_prefix : (spec : FieldSpec) (bits : List Bool) → spec.width % 8 ≡ 0 → octets_in (spec.width / 8) (take spec.width bits) ≡ octets_in (spec.width / 8) bits
+text_prefix spec bits e = ap (λ w. octets_in (spec.width / 8) (take w bits)) (whole spec.width e) ∙ octets_prefix (spec.width / 8) bits
+  where
+    whole : (w : ℕ) → w % 8 ≡ 0 → w ≡ 8 * (w / 8)
+    whole w e = omega arith
+
+-- the octets of the bits of octets
+octets_of_bits : (xs : List ℕ) → ((k : ℕ) → slice_index xs k < 256) → octets_in (length xs) (bits_of xs) ≡ xs
+unfolding bits_of
+octets_of_bits [] h = refl
+octets_of_bits (x ∷ xs) h = two _ _ _ _ (number-bits_of_octet x (h 0)) (octets_of_bits xs (λ k. h (suc k)))
+
+-- octets that begin with an octet's first bit are those octets
+pub borrowed : (octets : List ℕ) (at count : ℕ) (xs : List ℕ) → at % 8 ≡ 0 → at + 8 * count ≤ 8 * length octets → xs ≡ slice_range octets (at / 8) (at / 8 + count) → ((k : ℕ) → slice_index xs k < 256) → xs ≡ octets_in count (drop at (bits_of octets))
+borrowed octets at count xs whole within is small =
+    let first = at / 8 in
+    let place : 8 * first ≡ at = omega (arith, whole) in
+    let size : first + count - first ≡ count = omega arith in
+    let same : xs ≡ take count (drop first octets) = is ∙ ap (λ n. take n (drop first octets)) size in
+    let long : length xs ≡ count = ap length same ∙ length-take-le count (drop first octets) (omega (arith, length-drop first octets, within)) in
+    let bits : bits_of xs ≡ take (8 * count) (drop at (bits_of octets)) = ap bits_of same ∙ sym (take-bits_of count (drop first octets)) ∙ ap (take (8 * count)) (sym (drop-bits_of first octets) ∙ ap (λ p. drop p (bits_of octets)) place) in
+    sym (octets_of_bits xs small) ∙ ap (λ n. octets_in n (bits_of xs)) long ∙ ap (octets_in count) bits ∙ octets_prefix count (drop at (bits_of octets))
+
+pub borrowed_some : {S : Type 0} (now : S → List ℕ) (r : Option S) (octets want : List ℕ) (at count : ℕ) → SomeIff (option_map now r) ((at % 8 ≡ 0) × (at + 8 * count ≤ 8 * length octets)) (slice_range octets (at / 8) (at / 8 + count)) → IfSome r (λ s. (k : ℕ) → slice_index (now s) k < 256) → octets_in count (drop at (bits_of octets)) ≡ want → IfSome r (λ s. now s ≡ want)
+borrowed_some now None octets want at count h small e = tt
+borrowed_some now (Some s) octets want at count h small e = borrowed octets at count (now s) h.0.0 h.0.1 h.1 small ∙ e
+
+-- ---- A walk over bits reads them as the definition does.
+
+-- items that were taken are read, and what comes after them is the same, in as many turns
+pub reads : (course : Course) (s : Cursor) (items : List TakenField) (s' : Cursor) → Takes (oks PlainTakes) course s items s' → (read : List (Item Content)) × ReadsItems plain course read (rest_of s) (rest_of s') × (next_after plain course read ≡ (course (answers_of items)).next) × (turns_after plain course read ≡ (course (answers_of items)).turns)
+reads course s [] s' h = ([], ap rest_of (sym h), refl, refl)
+reads course s (i ∷ items) s' h =
+    let step = h.2 in
+    let item : Item Content = record { spec = i.spec; content = step.content } in
+    let same : (λ answers. course (i.taken ∷ answers)) ≡ after plain course item = ap (λ t answers. course (t ∷ answers)) step.gives in
+    let more = reads (λ answers. course (i.taken ∷ answers)) h.0 items s' h.3 in (
+      item ∷ more.0,
+      (rest_of h.0, h.1, step.field, subst (λ c. ReadsItems plain c more.0 (rest_of h.0) (rest_of s')) same more.1),
+      ap (λ c. next_after plain c more.0) (sym same) ∙ more.2,
+      ap (λ c. turns_after plain c more.0) (sym same) ∙ more.3,
+    )
+
+pub same_bits : (course : Course) (s : Cursor) (items : List TakenField) (s' : Cursor) → Takes (oks PlainTakes) course s items s' → s'.bits ≡ s.bits
+same_bits course s [] s' h = ap (λ x. x.bits) h
+same_bits course s (i ∷ items) s' h = same_bits (λ answers. course (i.taken ∷ answers)) h.0 items s' h.3 ∙ ap (λ x. x.bits) h.2.next
+
+-- each item takes a bit
+reads_paid : (course : Course) (s : Cursor) (items : List TakenField) (s' : Cursor) (h : Takes (oks PlainTakes) course s items s') → s.at + length (reads course s items s' h).0 ≤ s'.at
+unfolding reads
+reads_paid course s [] s' h = omega (arith, ap (λ x. x.at) h)
+reads_paid course s (i ∷ items) s' h = omega (arith, h.2.some, ap (λ x. x.at) h.2.next, reads_paid (λ answers. course (i.taken ∷ answers)) h.0 items s' h.3)
+
+-- an accepted walk reads a subset
+pub pass_reads : (course : Course) (s s' : Cursor) (c c' : ℕ) → Walked PlainTakes course s c (Ok tt) s' c' → PassReads course s c s' c'
+pass_reads course s s' c c' w =
+    let r = reads course s w.0 s' w.1 in
+    record { items = r.0; reads = r.1; next_is = sym (r.2 ∙ w.2); ticks = w.3 ∙ ap (ticked c) (sym r.3); same = same_bits course s w.0 s' w.1; pays = reads_paid course s w.0 s' w.1 }
+
+-- a refused walk stops a reading
+pub pass_stops : (course : Course) (s s' : Cursor) (c c' subset at : ℕ) (why : WalkStop DataEnd) → at ≡ s'.at → Walked PlainTakes course s c (Err why) s' c' → PassStops course s c subset (plain_fault why subset at) s' c'
+pass_stops course s s' c c' subset at why here w =
+    let r = reads course s w.0 w.1 w.2 in
+    by why (course (answers_of w.0)).next w.3 (record { items = r.0; reads = r.1; next_is = sym r.2; ticks = w.4 ∙ ap (ticked c) (sym r.3); same = same_bits course s w.0 w.1 w.2; pays = reads_paid course s w.0 w.1 w.2 })
+  where
+    moved : (next : Next) (mid : Cursor) → s' ≡ mid → PassComes course s c next mid c' → PassComes course s c next s' c'
+    moved next mid e p = subst (λ x. PassComes course s c next x c') (sym e) p
+
+    by : (why : WalkStop DataEnd) (next : Next) → StopsWalk PlainTakes next w.1 why s' → PassComes course s c next w.1 c' → PassStops course s c subset (plain_fault why subset at) s' c'
+    by (stops.Field e) (take_next spec) h p =
+        (take_next spec, field_stop spec.fxy data_end, moved (take_next spec) w.1 h.2 p, ap (field_stop_of spec.fxy) (ap (λ x. plain_field spec (rest_of x)) h.2 ∙ h.0), ap fault.DataEnd (ap (λ f. spot subset f at) h.1 ∙ ap (λ b. spot subset spec.fxy b) here))
+    by stops.Memory (take_next spec) h p = (spec, moved (take_next spec) w.1 h.1 p, h.0)
+    by (stops.Width fxy) (take_next spec) h p = absurd h
+    by (stops.Defining fxy) (take_next spec) h p = absurd h
+    by why at_end h p = absurd h
+    by why astray h p = absurd h
+    by (stops.Width fxy) (refused (refusal.Width f)) h p =
+        (refused (refusal.Width f), walk_stop (refusal.Width f), moved (refused (refusal.Width f)) w.1 h.1 p, refl, ap (λ x. plain_fault x subset at) h.0 ∙ ap (λ b. fault.Width (spot subset f b)) here)
+    by (stops.Defining fxy) (refused (refusal.Defining f)) h p =
+        (refused (refusal.Defining f), walk_stop (refusal.Defining f), moved (refused (refusal.Defining f)) w.1 h.1 p, refl, ap (λ x. plain_fault x subset at) h.0 ∙ ap (λ b. fault.Defining (spot subset f b)) here)
+    by (stops.Width fxy) (refused (refusal.Defining f)) h p = absurd cc h.0
+    by (stops.Defining fxy) (refused (refusal.Width f)) h p = absurd cc h.0
+    by (stops.Field e) (refused (refusal.Width f)) h p = absurd cc h.0
+    by (stops.Field e) (refused (refusal.Defining f)) h p = absurd cc h.0
+    by stops.Memory (refused (refusal.Width f)) h p = absurd cc h.0
+    by stops.Memory (refused (refusal.Defining f)) h p = absurd cc h.0
+
+-- a walk does not move back
+takes_forth : (course : Course) (s : Cursor) (items : List TakenField) (s' : Cursor) → Takes (oks PlainTakes) course s items s' → s.at ≤ s'.at
+takes_forth course s [] s' h = omega (arith, ap (λ x. x.at) h)
+takes_forth course s (i ∷ items) s' h = omega (arith, takes_forth (λ answers. course (i.taken ∷ answers)) h.0 items s' h.3, ap (λ x. x.at) h.2.next)
+
+stop_forth : (next : Next) (mid s' : Cursor) (why : WalkStop DataEnd) → StopsWalk PlainTakes next mid why s' → mid.at ≤ s'.at
+stop_forth (take_next spec) mid s' (stops.Field e) h = omega (arith, ap (λ x. x.at) h.2)
+stop_forth (take_next spec) mid s' stops.Memory h = omega (arith, ap (λ x. x.at) h.1)
+stop_forth (take_next spec) mid s' (stops.Width fxy) h = absurd h
+stop_forth (take_next spec) mid s' (stops.Defining fxy) h = absurd h
+stop_forth at_end mid s' why h = absurd h
+stop_forth astray mid s' why h = absurd h
+stop_forth (refused r) mid s' why h = omega (arith, ap (λ x. x.at) h.1)
+
+pub walk_forth : (course : Course) (s s' : Cursor) (c c' : ℕ) (r : Result (Unit {0}) (WalkStop DataEnd)) → Walked PlainTakes course s c r s' c' → s.at ≤ s'.at
+walk_forth course s s' c c' (Ok u) w = takes_forth course s w.0 s' w.1
+walk_forth course s s' c c' (Err why) w = omega (arith, takes_forth course s w.0 w.1 w.2, stop_forth (course (answers_of w.0)).next w.1 s' why w.3)
+
+-- ---- The parts of a reading.
+
+-- the bits that are used are no more than a message may have
+pub used_most : (octets : List ℕ) (used : ℕ) → length octets < 2 ^ 24 → used ≤ length (bits_of octets) → used ≤ max_values
+used_most octets used h w = omega (arith, h, w, bits_length octets)
+
+pub plain_held : (table : List Row) (template : Tree) (subsets : ℕ) (octets : List ℕ) (used steps : ℕ) → length octets < 2 ^ 24 → IsReadAndPaid (next_item table template) (data_in false subsets octets) used steps → IsStoredReading (read_by table template (data_in false subsets octets) used 0) kept.Apart
+plain_held table template subsets octets used steps short h = record { values = apart h.0; reading = h.1.0; keeps = tt; few = omega arith; pays = h.2; short = used_most octets used short h.1.0.1 }
+
+-- the data of a message that are not compressed
+pub same_data : (m : Sections) (subsets : ℕ) (octets : List ℕ) → m.compressed ≡ false → subsets ≡ m.subsets → octets ≡ m.payload → data_in false subsets octets ≡ data_of m
+same_data m subsets octets plain e f =
+    ap (λ n. data_in false n octets) e ∙ ap (λ o. data_in false m.subsets o) f ∙ ap (λ b. data_in b m.subsets m.payload) (sym plain)
+
+pub plain_is : (table : List Row) (template : Tree) (m : Sections) (subsets : ℕ) (octets : List ℕ) (used steps : ℕ) → data_in false subsets octets ≡ data_of m → IsReadAndPaid (next_item table template) (data_in false subsets octets) used steps → IsReadingOf table template (data_of m) (read_by table template (data_in false subsets octets) used 0) steps
+plain_is table template m subsets octets used steps e h = (refl, refl, e, apart h.0, subst (λ d. IsRead (next_item table template) d (apart h.0) used steps) e h.1)
+
+-- data that are not compressed were read before, and can be shown
+pub readable_of : (r : Read) → IsStoredReading r kept.Apart → (all : List (List (Item Content))) × (left : List Bool) × ReadsSubsets (course_of r) all r.source.bits left × (length all ≡ r.source.subsets)
+readable_of r h = by h.values h.reading h.keeps
+  where
+    by : (values : Values) → IsReading (course_of r) r.source values r.bits → KeepsValues kept.Apart r.source values → (all : List (List (Item Content))) × (left : List Bool) × ReadsSubsets (course_of r) all r.source.bits left × (length all ≡ r.source.subsets)
+    by (apart all) k w = (all, drop r.bits r.source.bits, k.2.0, k.2.1)
+    by (together items) k w = absurd w

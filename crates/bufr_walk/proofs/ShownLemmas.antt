@@ -1,38 +1,190 @@
--- The items that a walk with a visitor shows.
-use Rattle.std.proofs.Common.{◌≡◌, ℕ, ◌+◌, ◌/◌, ◌&&◌, Bool, true, false, List, [], ◌∷◌, ◌++◌, ◌⊎◌, inl, inr, length, take, drop, Option, Result, Ok, Err, ℤ, pos, ◌+ℤ◌, refl, sym, ◌∙◌, ap, subst}
-use Rattle.std.specs.Prelude.{nat_lt, if◌then◌else◌, None, option_map}
-use Rattle.bufr_bits.specs.Bits.{number_of, are_all_ones}
+-- The items and subsets that a walk with a visitor shows.
+use Rattle.std.proofs.Common.{◌≡◌, ℕ, ◌+◌, ◌-◌, ◌*◌, ◌^◌, ◌<◌, ◌≤◌, false, Bool, List, [], ◌∷◌, ◌++◌, length, drop, Some, refl, sym, ◌∙◌, ap, subst, arith, length-append, length-drop, ◌/◌, ◌&&◌, true, ◌⊎◌, inl, inr, take, Option, Result, Ok, Err, ℤ, pos, ◌+ℤ◌}
+use Rattle.std.specs.Prelude.{min, max, nat_lt, if◌then◌else◌, None, option_map, nat_le, not, unsigned_abs}
+use Rattle.bufr_bits.specs.Bits.{bits_of, number_of, are_all_ones, bits_at}
+use Rattle.bufr_walk.specs.declared.fault.WalkFault.{WalkFault}
+use Rattle.bufr_walk.specs.Content.{Content, data_end, increment, unequal_factor, answer_of, number, text, missing, content_in, content_by, value_in, said_by, octets_in, signed_by, shown_number, shown_text, shown_missing, shown_reference, shown, FieldFault, FieldRead, found, plain_field}
+use Rattle.bufr_walk.specs.Course.{Course, Next, take_next, at_end, astray, refused}
+use Rattle.bufr_walk.specs.Refusal.{walk_fault_of, bits_before, data_in, IsFault, IsRefused, Stop, walk_stop, too_many, field_stop, stop_at, ComesTo}
+use Rattle.bufr_walk.specs.StoredItems.{IsReadAndPaid, items_in, content_kept}
+use Rattle.bufr_walk.specs.PlainIn.{PassComes, PassReads, PassStops, SubsetsRead, Cursor, rest_of, past, IsTaken}
+use Rattle.bufr_walk.specs.Reading.{Item, plain, ReadsPass, ReadsSubsets, turns_after, turns_in, after}
+use Rattle.bufr_walk.specs.Walk.{ticked, TakenField, Takes, oks, answers_of, StopsWalk, Walked}
 use Rattle.bufr_tables.specs.declared.table_b.Kind.{Kind}
-use Rattle.bufr_tables.specs.declared.table_b.Kind.TheVariants as kind
 use Rattle.bufr_tables.specs.Entry.{row_of_entry}
 use Rattle.bufr_tables.specs.declared.table_b.Entry.{Entry}
 use Rattle.bufr_tables.specs.TableB.{Row, entry_of, is_character}
 use Rattle.bufr_walk.specs.declared.fault.ShowFault.{ShowFault}
-use Rattle.bufr_walk.specs.declared.fault.ShowFault.TheVariants as fault
 use Rattle.bufr_walk.specs.declared.show_plain.ShowStop.{ShowStop}
-use Rattle.bufr_walk.specs.declared.show_plain.ShowStop.TheVariants as stop
 use Rattle.bufr_walk.specs.declared.spec.TurnRefusal.{TurnRefusal}
-use Rattle.bufr_walk.specs.declared.spec.TurnRefusal.TheVariants as refusal
 use Rattle.bufr_walk.specs.declared.spec.Role.{Role}
-use Rattle.bufr_walk.specs.declared.spec.Role.TheVariants as role
 use Rattle.bufr_walk.specs.declared.spec.Taken.{Taken}
 use Rattle.bufr_walk.specs.declared.stop.WalkStop.{WalkStop}
-use Rattle.bufr_walk.specs.declared.stop.WalkStop.TheVariants as stops
-use Rattle.bufr_walk.specs.FieldSpec.{FieldSpec, IsSpec, HasRole, HasMissing, is_reference}
+use Rattle.bufr_walk.specs.FieldSpec.{FieldSpec, IsSpec, HasRole, HasMissing, is_reference, IsFor, IsForRole, is_plain_number, is_plain, IsPlainNumber, IsSpecWith}
 use Rattle.bufr_walk.specs.declared.visitor.Value.{Value}
-use Rattle.bufr_walk.specs.ViewModel.{seen_value}
-use Rattle.bufr_walk.specs.Calls.{Call, item_call, view, view_of, Timed, timed, item_calls}
-use Rattle.bufr_walk.specs.Content.{Content, answer_of, number, text, missing, content_in, content_by, value_in, said_by, octets_in, signed_by, shown_number, shown_text, shown_missing, shown_reference, shown}
-use Rattle.bufr_walk.specs.Course.{Course, Next, take_next, at_end, astray, refused}
-use Rattle.bufr_walk.specs.PlainField.{FieldFault, FieldRead, found, plain_field, data_end}
-use Rattle.bufr_walk.specs.PlainIn.{Cursor, rest_of, past, IsTaken}
-use Rattle.bufr_walk.specs.Reading.{Item, plain, ReadsPass, after, turns_after}
-use Rattle.bufr_walk.specs.ShowSteps.{Stage, stage, IsShown, IsUnshown, ShowingTakes, IsEnd, MayEnd, Sofar, ItemsShown, ItemsEnded}
-use Rattle.bufr_walk.specs.CallsInTurn.{Shows, EndsAt, IsReferenceValue}
-use Rattle.bufr_walk.specs.Taking.{TakenField, Takes}
-use Rattle.bufr_walk.specs.Ticks.{ticked}
-use Rattle.bufr_walk.specs.Walked.{oks, answers_of, StopsWalk, Walked}
-use Rattle.bufr_walk.proofs.PlainSubsets.{ticked_more}
+use Rattle.bufr_walk.specs.Calls.{seen_value, Call, item_call, view, view_of, Timed, timed, item_calls, Shows, EndsAt, IsReferenceValue, subset_call, subset_calls}
+use Rattle.bufr_walk.specs.ShowSteps.{Stage, stage, IsShown, IsUnshown, ShowingTakes, IsEnd, MayEnd, Sofar, ItemsShown, ItemsEnded, ItemsGo, SubsetShown, SubsetEnded, SubsetGoes, SubsetsShown}
+use Rattle.std.proofs.lemmas.Bool.Decides.{nat_tests}
+use Rattle.bufr_bits.proofs.DecimalLemmas.{and_first, and_second}
+use Rattle.bufr_walk.specs.declared.kept.IndexedItem.{IndexedItem}
+use Rattle.bufr_walk.specs.PackedBits.{is_missing}
+use Rattle.bufr_walk.specs.PackedIn.{fits_at}
+use Rattle.bufr_walk.proofs.PlainLemmas.{answer_element}
+use Rattle.bufr_walk.proofs.PackedLemmas.{base_content}
+use Rattle.bufr_walk.specs.declared.fault.WalkFault.TheVariants as fault
+use Rattle.bufr_walk.specs.declared.spec.TurnRefusal.TheVariants as refusal
+use Rattle.bufr_tables.specs.declared.table_b.Kind.TheVariants as kind
+use Rattle.bufr_walk.specs.declared.fault.ShowFault.TheVariants as show_fault
+use Rattle.bufr_walk.specs.declared.show_plain.ShowStop.TheVariants as stop
+use Rattle.bufr_walk.specs.declared.spec.Role.TheVariants as role
+use Rattle.bufr_walk.specs.declared.stop.WalkStop.TheVariants as stops
+use Rattle.bufr_walk.specs.declared.spec.Taken.TheVariants as taken
+
+-- ---- Subsets that are read one after another.
+
+pub ticked_more : (a b : ℕ) → ticked (ticked 0 a) b ≡ ticked 0 (a + b)
+ticked_more a b = by a b (2 ^ 64 - 1)
+  where
+    by : (a b most : ℕ) → max (max 0 (min (0 + a) most)) (min (max 0 (min (0 + a) most) + b) most) ≡ max 0 (min (0 + (a + b)) most)
+    by a b most = omega arith
+
+pub reads_more : (course : Course) (xs : List (List (Item Content))) (x : List (Item Content)) (bits mid suffix : List Bool) → ReadsSubsets course xs bits mid → ReadsPass plain course x mid suffix → ReadsSubsets course (xs ++ x ∷ []) bits suffix
+reads_more course [] x bits mid suffix h r = (suffix, subst (λ z. ReadsPass plain course x z suffix) (sym h) r, refl)
+reads_more course (y ∷ xs) x bits mid suffix h r = (h.0, h.1, reads_more course xs x h.0 mid suffix h.2 r)
+
+pub turns_more : (course : Course) (xs : List (List (Item Content))) (x : List (Item Content)) → turns_in course (xs ++ x ∷ []) ≡ turns_in course xs + turns_after plain course x
+turns_more course [] x = omega arith
+turns_more course (y ∷ xs) x = omega (arith, turns_more course xs x)
+
+items_more : (xs : List (List (Item Content))) (x : List (Item Content)) → items_in (xs ++ x ∷ []) ≡ items_in xs + length x
+items_more [] x = omega arith
+items_more (y ∷ xs) x = omega (arith, items_more xs x)
+
+pub none_read : (n : ℕ) (course : Course) (bits : List Bool) (s : Cursor) (steps : ℕ) → s ≡ record { bits = bits; at = 0 } → steps ≡ 0 → SubsetsRead n course bits 0 s steps
+none_read n course bits s steps first e = record {
+  subsets = [];
+  whole = sym (ap rest_of first);
+  count_is = refl;
+  ticks = e;
+  same = ap (λ x. x.bits) first;
+  few = omega (arith, e);
+  pays = omega arith;
+  within = omega (arith, ap (λ x. x.at) first);
+}
+
+pub one_more : (n : ℕ) (course : Course) (bits : List Bool) (i : ℕ) (s s' : Cursor) (c c' : ℕ) → SubsetsRead n course bits i s c → PassReads course s c s' c' → c' ≤ c + n * (s'.at - s.at) → s'.at ≤ length s'.bits → s.at ≤ s'.at → SubsetsRead n course bits (i + 1) s' c'
+one_more n course bits i s s' c c' h p few within forth =
+    let same : s'.bits ≡ bits = p.same ∙ h.same in
+    record {
+      subsets = h.subsets ++ p.items ∷ [];
+      whole = reads_more course h.subsets p.items bits (rest_of s) (rest_of s') h.whole (p.reads, sym p.next_is);
+      count_is = omega (arith, length-append h.subsets (p.items ∷ []), h.count_is);
+      ticks = p.ticks ∙ ap (λ x. ticked x (turns_after plain course p.items)) h.ticks ∙ ticked_more (turns_in course h.subsets) (turns_after plain course p.items) ∙ ap (ticked 0) (sym (turns_more course h.subsets p.items));
+      same = same;
+      few = sums n s.at s'.at c c' h.few few forth;
+      pays = omega (arith, items_more h.subsets p.items, h.pays, p.pays);
+      within = omega (arith, within, ap length same);
+    }
+  where
+    sums : (n a b c c' : ℕ) → c ≤ n * a → c' ≤ c + n * (b - a) → a ≤ b → c' ≤ n * b
+    sums n a b c c' h g f = let e : n * b ≡ n * a + n * (b - a) = split n a (b - a) b (omega (arith, f)) in omega (arith, e, h, g)
+      where
+        split : (n a d b : ℕ) → b ≡ a + d → n * b ≡ n * a + n * d
+        split n a d b e = ap (λ x. n * x) e ∙ grind arith
+
+pub all_read : (n : ℕ) (course : Course) (octets : List ℕ) (total : ℕ) (s : Cursor) (steps used : ℕ) → SubsetsRead n course (bits_of octets) total s steps → used ≡ s.at → IsReadAndPaid course (data_in false total octets) used steps
+all_read n course octets total s steps used h e =
+    (h.subsets, ((refl, omega (arith, e, h.within), (subst (λ z. ReadsSubsets course h.subsets (bits_of octets) z) (ap (drop s.at) h.same ∙ ap (λ k. drop k (bits_of octets)) (sym e)) h.whole, h.count_is)), h.ticks), omega (arith, e, h.pays))
+
+pub few_read : (n : ℕ) (course : Course) (bits : List Bool) (total : ℕ) (s : Cursor) (steps used : ℕ) → SubsetsRead n course bits total s steps → used ≡ s.at → steps ≤ n * used
+few_read n course bits total s steps used h e = subst (λ k. steps ≤ n * k) (sym e) h.few
+
+-- the state of a pass after some subsets
+comes : (n : ℕ) (course : Course) (bits : List Bool) (i total : ℕ) (s s' : Cursor) (c c' before : ℕ) (next : Next) (h : SubsetsRead n course bits i s c) (p : PassComes course s c next s' c') → i < total → before + length (rest_of s') ≡ length bits → ComesTo total course bits (i + 1) before (turns_in course h.subsets + turns_after plain course p.items) next (rest_of s')
+comes n course bits i total s s' c c' before next h p more place = record {
+  done = h.subsets;
+  items = p.items;
+  mid = rest_of s;
+  whole = h.whole;
+  reads = p.reads;
+  next_is = p.next_is;
+  number = omega (arith, h.count_is);
+  within = omega (arith, more);
+  place = place;
+  turns_are = refl;
+}
+
+ticks_of : (n : ℕ) (course : Course) (bits : List Bool) (i : ℕ) (s s' : Cursor) (c c' : ℕ) (next : Next) (h : SubsetsRead n course bits i s c) (p : PassComes course s c next s' c') → c' ≡ ticked 0 (turns_in course h.subsets + turns_after plain course p.items)
+ticks_of n course bits i s s' c c' next h p = p.ticks ∙ ap (λ x. ticked x (turns_after plain course p.items)) h.ticks ∙ ticked_more (turns_in course h.subsets) (turns_after plain course p.items)
+
+here : (s : Cursor) (bits : List Bool) → s.bits ≡ bits → s.at ≤ length bits → s.at + length (rest_of s) ≡ length bits
+here s bits e h = omega (arith, length-drop s.at s.bits, ap length e, h)
+
+refused_so : (n : ℕ) (course : Course) (octets : List ℕ) (i total : ℕ) (s s' : Cursor) (c c' : ℕ) (next : Next) (stop : Stop) (why : WalkFault) (h : SubsetsRead n course (bits_of octets) i s c) (p : PassComes course s c next s' c') → i < total → s'.at ≤ length (bits_of octets) → stop_at plain false next (rest_of s') ≡ Some stop → why ≡ walk_fault_of stop (i + 1) s'.at → (turns : ℕ) × IsRefused course (data_in false total octets) why turns × (c' ≡ ticked 0 turns)
+refused_so n course octets i total s s' c c' next stop why h p more within stops is = (
+  turns_in course h.subsets + turns_after plain course p.items,
+  record {
+    stop = stop;
+    subset = i + 1;
+    before = s'.at;
+    is = is;
+    stopped = (next, rest_of s', comes n course (bits_of octets) i total s s' c c' s'.at next h p more (here s' (bits_of octets) (p.same ∙ h.same) within), stops);
+  },
+  ticks_of n course (bits_of octets) i s s' c c' next h p,
+)
+
+pub stopped : (n : ℕ) (course : Course) (octets : List ℕ) (i total : ℕ) (s s' : Cursor) (c c' : ℕ) (why : WalkFault) → SubsetsRead n course (bits_of octets) i s c → i < total → PassStops course s c (i + 1) why s' c' → s'.at ≤ length s'.bits → IsFault course (data_in false total octets) why c'
+stopped n course octets i total s s' c c' why h more p within = by why p
+  where
+    inside : (next : Next) → PassComes course s c next s' c' → s'.at ≤ length (bits_of octets)
+    inside next p = omega (arith, within, ap length (p.same ∙ h.same))
+
+    by : (why : WalkFault) → PassStops course s c (i + 1) why s' c' → IsFault course (data_in false total octets) why c'
+    by fault.Memory p =
+        let m = p.1 in (
+          turns_in course h.subsets + turns_after plain course m.items,
+          (p.0, rest_of s', i + 1, s'.at, comes n course (bits_of octets) i total s s' c c' s'.at (take_next p.0) h m more (here s' (bits_of octets) (m.same ∙ h.same) (inside (take_next p.0) m)), p.2),
+          ticks_of n course (bits_of octets) i s s' c c' (take_next p.0) h m,
+        )
+    by (fault.DataEnd f) p = refused_so n course octets i total s s' c c' p.0 p.1 (fault.DataEnd f) h p.2 more (inside p.0 p.2) p.3 p.4
+    by (fault.Width f) p = refused_so n course octets i total s s' c c' p.0 p.1 (fault.Width f) h p.2 more (inside p.0 p.2) p.3 p.4
+    by (fault.Defining f) p = refused_so n course octets i total s s' c c' p.0 p.1 (fault.Defining f) h p.2 more (inside p.0 p.2) p.3 p.4
+    by (fault.UnequalFactor f) p = refused_so n course octets i total s s' c c' p.0 p.1 (fault.UnequalFactor f) h p.2 more (inside p.0 p.2) p.3 p.4
+    by (fault.Increment f) p = refused_so n course octets i total s s' c c' p.0 p.1 (fault.Increment f) h p.2 more (inside p.0 p.2) p.3 p.4
+    by (fault.TooManyValues f) p = refused_so n course octets i total s s' c c' p.0 p.1 (fault.TooManyValues f) h p.2 more (inside p.0 p.2) p.3 p.4
+
+-- the turns up to a fault
+pub few_stopped : (n : ℕ) (course : Course) (bits : List Bool) (i : ℕ) (s s' : Cursor) (c c' subset : ℕ) (why : WalkFault) → SubsetsRead n course bits i s c → PassStops course s c subset why s' c' → c' ≤ c + n * (s'.at - s.at + 1) → s'.at ≤ length s'.bits → s.at ≤ s'.at → c' ≤ n * (bits_before why (length bits) + 1)
+few_stopped n course bits i s s' c c' subset why h p few within forth = most (bits_before why (length bits)) (by why p)
+  where
+    split : (n a d b : ℕ) → b ≡ a + d → n * b ≡ n * a + n * d
+    split n a d b e = ap (λ x. n * x) e ∙ grind arith
+
+    sums : (n a b c c' k : ℕ) → c ≤ n * a → c' ≤ c + n * (b - a + 1) → a ≤ b → b ≤ k → c' ≤ n * (k + 1)
+    sums n a b c c' k h g f w =
+        let e : n * (k + 1) ≡ n * a + n * (k + 1 - a) = split n a (k + 1 - a) (k + 1) (omega (arith, f, w)) in
+        let d : n * (k + 1 - a) ≡ n * (b - a + 1) + n * (k - b) = split n (b - a + 1) (k - b) (k + 1 - a) (omega (arith, f, w)) in
+        omega (arith, e, d, h, g)
+
+    most : (k : ℕ) → s'.at ≤ k → c' ≤ n * (k + 1)
+    most k w = sums n s.at s'.at c c' k h.few few forth w
+
+    at_spot : (stop : Stop) → (bits_before (walk_fault_of stop subset s'.at) (length bits)) ≡ s'.at
+    at_spot (walk_stop (refusal.Width f)) = refl
+    at_spot (walk_stop (refusal.Defining f)) = refl
+    at_spot (too_many f) = refl
+    at_spot (field_stop f data_end) = refl
+    at_spot (field_stop f increment) = refl
+    at_spot (field_stop f unequal_factor) = refl
+
+    by : (why : WalkFault) → PassStops course s c subset why s' c' → s'.at ≤ bits_before why (length bits)
+    by fault.Memory p = omega (arith, within, ap length (p.1.same ∙ h.same))
+    by (fault.DataEnd f) p = omega (arith, ap (λ w. bits_before w (length bits)) p.4, at_spot p.1)
+    by (fault.Width f) p = omega (arith, ap (λ w. bits_before w (length bits)) p.4, at_spot p.1)
+    by (fault.Defining f) p = omega (arith, ap (λ w. bits_before w (length bits)) p.4, at_spot p.1)
+    by (fault.UnequalFactor f) p = omega (arith, ap (λ w. bits_before w (length bits)) p.4, at_spot p.1)
+    by (fault.Increment f) p = omega (arith, ap (λ w. bits_before w (length bits)) p.4, at_spot p.1)
+    by (fault.TooManyValues f) p = omega (arith, ap (λ w. bits_before w (length bits)) p.4, at_spot p.1)
 
 same_found : (a b : FieldRead Content) → ◌≡◌ {A = Result (FieldRead Content) FieldFault} (Ok a) (Ok b) → a ≡ b
 same_found a b e = cc
@@ -261,7 +413,7 @@ module _ {V E : Type 0} (sees : V → Call → Result (Unit {0}) E → V → Typ
         )
 
     -- a reference before which memory ran out
-    memory_here : (table : List Row) (course further : Course) (answer_of : List Taken) (before c c' turns : ℕ) (rest : List (Item Content)) (left : List Bool) (more : List Timed) (spec : FieldSpec) (why : ShowFault E) (mid s' : S) → further [] ≡ course answer_of → (course answer_of).next ≡ take_next spec → ReadsPass plain further rest (rest_of (on mid).cursor) left → why ≡ fault.Memory → spec.role ≡ role.Reference → s' ≡ mid
+    memory_here : (table : List Row) (course further : Course) (answer_of : List Taken) (before c c' turns : ℕ) (rest : List (Item Content)) (left : List Bool) (more : List Timed) (spec : FieldSpec) (why : ShowFault E) (mid s' : S) → further [] ≡ course answer_of → (course answer_of).next ≡ take_next spec → ReadsPass plain further rest (rest_of (on mid).cursor) left → why ≡ show_fault.Memory → spec.role ≡ role.Reference → s' ≡ mid
         → c ≡ ticked 0 before → c' ≡ ticked c (course answer_of).turns → Shows sees (on mid).visitor (item_calls table before further rest ++ more) turns (Err why) (on s').visitor c'
     memory_here table course further answer_of before c c' turns [] left more spec why mid s' e n r is kept same now ticks_are = absurd (no_item further spec (ap (λ a. a.next) e ∙ n) r.1)
     memory_here table course further answer_of before c c' turns (x ∷ xs) left more spec why mid s' e n r is kept same now ticks_are =
@@ -331,3 +483,140 @@ module _ {V E : Type 0} (sees : V → Call → Result (Unit {0}) E → V → Typ
         by rest further e r (stops.Field stop.DataEnd) (refused why) n h = absurd (no_refusal rest further why (ap (λ a. a.next) e ∙ n) r)
         by rest further e r (stops.Width f) (refused why) n h = absurd (no_refusal rest further why (ap (λ a. a.next) e ∙ n) r)
         by rest further e r (stops.Defining f) (refused why) n h = absurd (no_refusal rest further why (ap (λ a. a.next) e ∙ n) r)
+
+-- ---- Subsets that are shown one after another.
+
+module _ {V E : Type 0} (sees : V → Call → Result (Unit {0}) E → V → Type 0) (table : List Row) (course : Course) where
+  -- a subset's call, and its items
+  pub subset_goes : (index : ℕ) (c c' : Cursor) (s s1 s' : V) (steps steps' : ℕ) (r : Result (Unit {0}) (ShowFault E)) → sees s (subset_call index) (Ok tt) s1 → ItemsGo sees table course c s1 steps r c' s' steps' → SubsetGoes sees table course index c s steps r c' s' steps'
+  subset_goes index c c' s s1 s' steps steps' (Ok u) h g = record {
+    shown = λ before items subsets left r e.
+        let suffix : List Timed = subset_calls table course (before + turns_after plain course items) (index + 1) subsets in
+        sofar_then sees s s1 s' _ (item_calls table before course items ++ suffix) suffix
+        (sofar_call sees s s1 (timed before (subset_call index)) (item_calls table before course items ++ suffix) h) (g.shown before items left suffix r);
+    left_is = g.left_is;
+  }
+  subset_goes index c c' s s1 s' steps steps' (Err why) h g = record {
+    ended = λ before items subsets left turns r e. inr (s1, h, g.ended before items left (subset_calls table course (before + turns_after plain course items) (index + 1) subsets) turns r e);
+  }
+
+  pub subset_refused : (index : ℕ) (c c' : Cursor) (s s' : V) (steps steps' : ℕ) (e : E) → sees s (subset_call index) (Err e) s' → steps' ≡ steps → SubsetGoes sees table course index c s steps (Err (show_fault.Visitor e)) c' s' steps'
+  subset_refused index c c' s s' steps steps' e h same = record { ended = λ before items subsets left turns r now. inl (h, same ∙ now) }
+
+  pub none_shown : (all : List (List (Item Content))) (left bits : List Bool) (s : V) (c : Cursor) (steps : ℕ) → c ≡ record { bits = bits; at = 0 } → steps ≡ 0 → ReadsSubsets course all bits left → SubsetsShown sees table course all 0 left s c s steps
+  none_shown all left bits s c steps first e h = record {
+    before = 0;
+    more = all;
+    whole = subst (λ b. ReadsSubsets course all b left) (sym (ap rest_of first)) h;
+    count = omega arith;
+    ticks = e;
+    total = omega arith;
+    shown = sofar_self sees s (subset_calls table course 0 1 all);
+  }
+
+  -- the next subset is there
+  pub next_there : (all more : List (List (Item Content))) (done : ℕ) (bits left : List Bool) → ReadsSubsets course more bits left → done + length more ≡ length all → done < length all → (items : List (Item Content)) × (mid : List Bool) × ReadsPass plain course items bits mid
+  next_there all [] done bits left h e lt = absurd (omega (arith, e, lt))
+  next_there all (items ∷ more) done bits left h e lt = (items, h.0, h.1)
+
+  -- one subset more
+  pub one_shown : (all : List (List (Item Content))) (done index : ℕ) (left : List Bool) (s s1 s2 : V) (c c' : Cursor) (steps steps' : ℕ) → index ≡ done + 1 → done < length all → SubsetsShown sees table course all done left s c s1 steps → SubsetShown sees table course index c s1 steps c' s2 steps' → SubsetsShown sees table course all (done + 1) left s c' s2 steps'
+  one_shown all done index left s s1 s2 c c' steps steps' n lt h r = by h.more h.whole h.count h.total h.shown
+    where
+      by : (more : List (List (Item Content))) → ReadsSubsets course more (rest_of c) left → done + length more ≡ length all → h.before + turns_in course more ≡ turns_in course all → Sofar sees s (subset_calls table course 0 1 all) s1 (subset_calls table course h.before (done + 1) more) → SubsetsShown sees table course all (done + 1) left s c' s2 steps'
+      by [] whole count total so_far = absurd (omega (arith, count, lt))
+      by (items ∷ more) whole count total so_far =
+          let l = r.left_is items whole.0 whole.1 in
+          record {
+            before = h.before + turns_after plain course items;
+            more = more;
+            whole = subst (λ b. ReadsSubsets course more b left) (sym l.0) whole.2;
+            count = omega (arith, count);
+            ticks = l.1 ∙ ap (λ k. ticked k (turns_after plain course items)) h.ticks ∙ ticked_more h.before (turns_after plain course items);
+            total = omega (arith, total);
+            shown = sofar_then sees s s1 s2 (subset_calls table course 0 1 all) (subset_calls table course h.before (done + 1) (items ∷ more)) (subset_calls table course (h.before + turns_after plain course items) (done + 1 + 1) more) so_far
+                (subst (λ k. Sofar sees s1 (subset_calls table course h.before k (items ∷ more)) s2 (subset_calls table course (h.before + turns_after plain course items) (k + 1) more)) n (r.shown h.before items more whole.0 whole.1 h.ticks));
+          }
+
+  pub all_subsets : (all : List (List (Item Content))) (done : ℕ) (left : List Bool) (s s1 : V) (c : Cursor) (steps : ℕ) → length all ≤ done → SubsetsShown sees table course all done left s c s1 steps → Shows sees s (subset_calls table course 0 1 all) (turns_in course all) (Ok tt) s1 steps
+  all_subsets all done left s s1 c steps ge h = by h.more h.count h.total h.shown
+    where
+      by : (more : List (List (Item Content))) → done + length more ≡ length all → h.before + turns_in course more ≡ turns_in course all → Sofar sees s (subset_calls table course 0 1 all) s1 (subset_calls table course h.before (done + 1) more) → Shows sees s (subset_calls table course 0 1 all) (turns_in course all) (Ok tt) s1 steps
+      by [] count total so_far = so_far.on (turns_in course all) (Ok tt) s1 steps (refl, h.ticks ∙ ap (ticked 0) (omega (arith, total)))
+      by (items ∷ more) count total so_far = absurd (omega (arith, count, ge))
+
+  pub ended_so : (all : List (List (Item Content))) (done index : ℕ) (left : List Bool) (s s1 s2 : V) (c c' : Cursor) (steps steps' : ℕ) (why : ShowFault E) → index ≡ done + 1 → done < length all → SubsetsShown sees table course all done left s c s1 steps → SubsetEnded sees table course index c s1 steps why s2 steps' → Shows sees s (subset_calls table course 0 1 all) (turns_in course all) (Err why) s2 steps'
+  ended_so all done index left s s1 s2 c c' steps steps' why n lt h r = by h.more h.whole h.count h.shown
+    where
+      by : (more : List (List (Item Content))) → ReadsSubsets course more (rest_of c) left → done + length more ≡ length all → Sofar sees s (subset_calls table course 0 1 all) s1 (subset_calls table course h.before (done + 1) more) → Shows sees s (subset_calls table course 0 1 all) (turns_in course all) (Err why) s2 steps'
+      by [] whole count so_far = absurd (omega (arith, count, lt))
+      by (items ∷ more) whole count so_far = so_far.on (turns_in course all) (Err why) s2 steps' (subst (λ k. Shows sees s1 (subset_calls table course h.before k (items ∷ more)) (turns_in course all) (Err why) s2 steps') n (r.ended h.before items more whole.0 (turns_in course all) whole.1 h.ticks))
+
+-- ---- Plain numbers: those of elements, which stay below 2 ^ 63.
+
+-- a number that is made so is plain exactly where its parts say so
+pub plain_made : (a : FieldSpec) (p : Bool) → IsSpec a → is_character a.kind ≡ false → p ≡ is_plain_number a.role a.width a.reference a.listed → IsSpecWith p a
+plain_made a p h k e = record { spec = h; same = ap (λ b. not b && is_plain_number a.role a.width a.reference a.listed) k ∙ sym e }
+
+-- what holds of a plain field
+pub plain_is : (a : FieldSpec) → is_plain a ≡ true → IsPlainNumber a
+plain_is a h =
+    let number : not (is_character a.kind) ≡ true = and_first _ (is_plain_number a.role a.width a.reference a.listed) h in
+    let rest : is_plain_number a.role a.width a.reference a.listed ≡ true = and_second (not (is_character a.kind)) _ h in
+    let e = by a.role rest in
+    let parts = and_second a.listed (nat_le a.width 62 && nat_lt (unsigned_abs a.reference) (2 ^ 62)) e.1 in
+    record {
+      kind = no (is_character a.kind) number;
+      role = e.0;
+      listed = and_first a.listed (nat_le a.width 62 && nat_lt (unsigned_abs a.reference) (2 ^ 62)) e.1;
+      width = at_most a.width (and_first (nat_le a.width 62) (nat_lt (unsigned_abs a.reference) (2 ^ 62)) parts);
+      reference = below (unsigned_abs a.reference) (2 ^ 62) (and_second (nat_le a.width 62) (nat_lt (unsigned_abs a.reference) (2 ^ 62)) parts);
+    }
+  where
+    no : (b : Bool) → not b ≡ true → b ≡ false
+    no true h = absurd cc
+    no false h = refl
+
+    at_most : (w : ℕ) → nat_le w 62 ≡ true → w ≤ 62
+    at_most w h = grind (arith, nat_tests)
+
+    below : (m n : ℕ) → nat_lt m n ≡ true → m < n
+    below m n h = grind (arith, nat_tests)
+
+    by : (r : Role) → is_plain_number r a.width a.reference a.listed ≡ true → (r ≡ role.Element) × ((a.listed && (nat_le a.width 62 && nat_lt (unsigned_abs a.reference) (2 ^ 62))) ≡ true)
+    by role.Element h = (refl, h)
+    by role.Inserted h = absurd cc
+    by role.Factor h = absurd cc
+    by role.Reference h = absurd cc
+
+-- what a plain field shows
+pub plain_missing : (a : FieldSpec) (bits : List Bool) → IsPlainNumber a → (are_all_ones bits && a.may_be_missing) ≡ true → shown_missing ≡ shown a (content_in a bits)
+plain_missing a bits p m = missing_shown a bits (ap is_reference p.role) m
+
+pub plain_shown : (a : FieldSpec) (bits : List Bool) (raw : ℕ) → IsPlainNumber a → (are_all_ones bits && a.may_be_missing) ≡ false → raw ≡ number_of bits → shown_number (pos raw +ℤ a.reference) a.scale ≡ shown a (content_in a bits)
+plain_shown a bits raw p m is = number_shown a bits raw p.kind (ap is_reference p.role) m is
+
+-- the value of a plain item with no increments, which all subsets have
+pub base_missing : (octets : List ℕ) (n : ℕ) (e : IndexedItem) (j : ℕ) → fits_at (bits_of octets) n e ≡ true → e.step ≡ 0 → j < n → IsPlainNumber e.spec → is_missing e.spec (bits_at octets e.at e.spec.width) ≡ true → missing ≡ content_kept (bits_of octets) n e j
+base_missing octets n e j h none below p m =
+    let base = bits_at octets e.at e.spec.width in
+    sym (base_content (bits_of octets) n e j h none below ∙ value_by e.spec.role e.spec base (ap is_reference p.role)
+    ∙ ap (λ b. if b then missing else said_by e.spec.kind e.spec.width base) m)
+
+pub base_number : (octets : List ℕ) (n : ℕ) (e : IndexedItem) (j raw : ℕ) → fits_at (bits_of octets) n e ≡ true → e.step ≡ 0 → j < n → IsPlainNumber e.spec → is_missing e.spec (bits_at octets e.at e.spec.width) ≡ false → raw ≡ number_of (bits_at octets e.at e.spec.width) → number raw ≡ content_kept (bits_of octets) n e j
+base_number octets n e j raw h none below p m is =
+    let base = bits_at octets e.at e.spec.width in
+    ap number is
+    ∙ sym (base_content (bits_of octets) n e j h none below ∙ value_by e.spec.role e.spec base (ap is_reference p.role)
+    ∙ ap (λ b. if b then missing else said_by e.spec.kind e.spec.width base) m ∙ said_number e.spec.kind e.spec.width base p.kind)
+
+-- its row of Table B
+pub row_is : (table : List Row) (a : FieldSpec) (row : Row) → IsPlainNumber a → Some row ≡ entry_of table a.fxy → Some row ≡ (if a.listed then entry_of table a.fxy else None)
+row_is table a row p e = e ∙ ap (λ b. if b then entry_of table a.fxy else None) (sym p.listed)
+
+-- what it returns to the walk
+pub plain_answer : (a : FieldSpec) (bits : List Bool) → IsPlainNumber a → taken.Plain ≡ answer_of a (content_in a bits)
+plain_answer a bits p = answer_element a bits p.role
+
+pub plain_for : (a : FieldSpec) → IsPlainNumber a → IsFor a taken.Plain
+plain_for a p = subst (λ r. IsForRole r taken.Plain) (sym p.role) tt

@@ -1,23 +1,417 @@
 -- Data have a reading or a refusal.
-use Rattle.std.proofs.Common.{◌≡◌, ℕ, zero, suc, ◌+◌, ◌*◌, ◌<◌, ◌≤◌, ◌⊎◌, inl, inr, Bool, true, false, List, [], ◌∷◌, length, drop, map, Option, Some, None, refl, ◌∙◌, ap, subst, arith, length-drop}
-use Rattle.std.specs.Prelude.{nat_lt, ◌==◌, if◌then◌else◌}
-use Rattle.std.proofs.lemmas.List.{drop-drop}
+use Rattle.std.proofs.Common.{◌≡◌, ℕ, zero, suc, ◌*◌, ◌≤◌, ◌&&◌, Bool, true, false, List, [], ◌∷◌, Option, Some, None, Result, Ok, Err, refl, sym, ◌∙◌, ap, subst, arith, ◌+◌, ◌<◌, ◌-◌, length, drop, take, ◌⊎◌, inl, inr, map}
+use Rattle.std.specs.Prelude.{◌==◌, nat_le, nat_lt, if◌then◌else◌}
 use Rattle.std.proofs.lemmas.Bool.Decides.{nat_tests}
-use Rattle.bufr_tables.specs.Legal.{IsLegal}
+use Rattle.bufr_bits.proofs.DecimalLemmas.{and_first}
+use Rattle.bufr_tables.specs.declared.table_b.Kind.{Kind}
+use Rattle.bufr_tables.specs.Fxy.{y_of}
+use Rattle.bufr_tables.specs.Expansion.{IsLegal}
+use Rattle.bufr_tables.specs.Tree.{is_legal_operator, Tree, bare, element, operator, fixed, delayed, is_inserted_text}
+use Rattle.bufr_tables.specs.TableB.{Row, entry_of, allows_width, AreRows, row_of}
+use Rattle.bufr_walk.specs.declared.spec.Role.{Role}
+use Rattle.bufr_walk.specs.declared.spec.TurnRefusal.{TurnRefusal}
+use Rattle.bufr_walk.specs.declared.spec.Taken.{Taken}
+use Rattle.bufr_walk.specs.FieldSpec.{FieldSpec, IsFor, IsForRole}
+use Rattle.bufr_walk.specs.Course.{Course, Next, take_next, astray, refused, at_end, NextTurn, asked, operated, ahead, counts_in, counts_of, next_item, finish, open_end, group, pass_end, element_turn, operator_turn, Rest, passes, unroll}
+use Rattle.bufr_walk.specs.Rules.{if_valid_width, numeric_spec, coded_spec, text_spec, text_width, spec_by_kind, defined_field, new_reference_spec, unsigned_field, unsigned_of, untouched, local_width_spec, listed_by, element_spec, factor_field, factor_by, factor_spec, inserted_spec, OperatorModel, begin, is_defining, after_operator, after_field}
+use Rattle.bufr_walk.proofs.SpecLemmas.{inserted_width}
+use Rattle.std.proofs.lemmas.List.{length-drop, drop-drop}
+use Rattle.bufr_bits.specs.Bits.{number_of, are_all_ones}
+use Rattle.bufr_walk.specs.Content.{Content, content_in, answer_by_role, FieldFault, data_end, increment, unequal_factor, FieldRead, found, plain_field}
+use Rattle.bufr_walk.specs.PackedField.{increments, increment_bits_of, contents_of, varied, varied_by, numbers_of, all_increased, increased, and_contents, if_equal, all_same, with_suffix, item_by, packed_field, answer_first}
+use Rattle.bufr_walk.specs.Reading.{Item, DataCoding, plain, packed, next_after, after, ReadsItems, ReadsPass, ReadsSubsets, turns_after, turns_in, max_values, Data, Values, apart, together, IsReading}
+use Rattle.bufr_walk.specs.Refusal.{walk_stop, too_many, field_stop, field_stop_of, walk_fault_of, IsRefused, Stop, stop_at, would_be_many}
+use Rattle.bufr_walk.proofs.OneReading.{Outcome, ended, stopped, stopped_by, outcome_of, HasOutcome}
 use Rattle.bufr_tables.specs.Records.{Record}
-use Rattle.bufr_tables.specs.TableB.{Row, AreRows, row_of, entry_of, allows_width}
-use Rattle.bufr_tables.specs.Tree.{Tree}
-use Rattle.bufr_tables.proofs.RowLemmas.{row-limits}
+use Rattle.bufr_tables.proofs.TableBLemmas.{row-limits}
 use Rattle.bufr_walk.specs.declared.fault.WalkFault.{WalkFault}
-use Rattle.bufr_walk.specs.Content.{Content}
-use Rattle.bufr_walk.specs.Course.{Course, Next, take_next, at_end, astray, refused, next_item}
-use Rattle.bufr_walk.specs.Fault.{walk_fault_of}
-use Rattle.bufr_walk.specs.Outcome.{IsRefused}
-use Rattle.bufr_walk.specs.Reading.{Item, DataCoding, plain, packed, ReadsItems, ReadsPass, ReadsSubsets, next_after, turns_after, turns_in, max_values, Data, Values, apart, together, IsReading}
-use Rattle.bufr_walk.specs.Refusal.{Stop, stop_at, would_be_many}
-use Rattle.bufr_walk.proofs.OneOutcome.{Outcome, ended, stopped, stopped_by, outcome_of}
-use Rattle.bufr_walk.proofs.SomePass.{SomeOutcome, some_outcome, plain_forth, packed_forth}
-use Rattle.bufr_walk.proofs.SomeSteps.{IsSane, template_sane}
+use Rattle.bufr_tables.specs.declared.table_b.Kind.TheVariants as kind
+use Rattle.bufr_walk.specs.declared.spec.Role.TheVariants as role
+use Rattle.bufr_walk.specs.declared.spec.TurnRefusal.TheVariants as refusal
+use Rattle.bufr_walk.specs.declared.spec.Taken.TheVariants as taken
+
+-- ---- What comes next in a template takes bits of the data, and its counts match its factors.
+
+-- for so many items: what comes next has a width, and counts match the factors, while each answer
+-- fits its role
+abbrev pub IsSane : ℕ → Course → Type 0
+IsSane zero course = Unit {0}
+IsSane (suc n) course =
+    ((course []).next ≡ astray → ⊥)
+    × ((spec : FieldSpec) → (course []).next ≡ take_next spec → (1 ≤ spec.width) × ((t : Taken) → IsFor spec t → IsSane n (λ answers. course (t ∷ answers))))
+
+sane_same : (n : ℕ) (c d : Course) → ((answers : List Taken) → (c answers).next ≡ (d answers).next) → IsSane n c → IsSane n d
+sane_same zero c d same h = tt
+sane_same (suc n) c d same h = (
+  λ e. h.0 (same [] ∙ e),
+  λ spec e. let k = h.1 spec (same [] ∙ e) in (k.0, λ t f. sane_same n (λ answers. c (t ∷ answers)) (λ answers. d (t ∷ answers)) (λ answers. same (t ∷ answers)) (k.1 t f)),
+)
+
+sane_end : (n : ℕ) (c : Course) (x : Next) → (c []).next ≡ x → (x ≡ astray → ⊥) → ((spec : FieldSpec) → x ≡ take_next spec → ⊥) → IsSane n c
+sane_end zero c x e h g = tt
+sane_end (suc n) c x e h g = (λ q. h (sym e ∙ q), λ spec q. absurd (g spec (sym e ∙ q)))
+
+-- what comes first where a field is asked for
+abbrev first_next : Result FieldSpec TurnRefusal → Next
+first_next (Ok spec) = take_next spec
+first_next (Err why) = refused why
+
+asked_first : (r : Result FieldSpec TurnRefusal) (go : Taken → List Taken → NextTurn) → (asked r go []).next ≡ first_next r
+asked_first (Ok spec) go = refl
+asked_first (Err why) go = refl
+
+asked_next : (r : Result FieldSpec TurnRefusal) (go : Taken → List Taken → NextTurn) (spec : FieldSpec) (t : Taken) (answers : List Taken) → r ≡ Ok spec → (asked r go (t ∷ answers)).next ≡ (go t answers).next
+asked_next (Ok s) go spec t answers e = refl
+asked_next (Err why) go spec t answers e = absurd cc
+
+same_take : (a b : FieldSpec) → take_next a ≡ take_next b → a ≡ b
+same_take a b e = cc
+
+field_sane : (n : ℕ) (r : Result FieldSpec TurnRefusal) (c : Course) → (c []).next ≡ first_next r → ((spec : FieldSpec) → r ≡ Ok spec → 1 ≤ spec.width)
+    → ((spec : FieldSpec) → r ≡ Ok spec → (t : Taken) → IsFor spec t → (m : ℕ) → IsSane m (λ answers. c (t ∷ answers))) → IsSane n c
+field_sane n (Err why) c e w h = sane_end n c (refused why) e (λ q. absurd cc) (λ spec q. absurd cc)
+field_sane zero (Ok spec) c e w h = tt
+field_sane (suc n) (Ok spec) c e w h = (
+  λ q. not_astray spec (sym e ∙ q),
+  λ a q. let is : spec ≡ a = same_take spec a (sym e ∙ q) in (subst (λ z. 1 ≤ z.width) is (w spec refl), λ t f. h spec refl t (subst (λ z. IsFor z t) (sym is) f) n),
+)
+  where
+    not_astray : (spec : FieldSpec) → take_next spec ≡ astray → ⊥
+    not_astray spec q = cc
+
+-- whether a role returns a count
+abbrev is_counting : Role → Bool
+is_counting role.Element = false
+is_counting role.Inserted = false
+is_counting role.Factor = true
+is_counting role.Reference = false
+
+-- a field with a width that returns no count
+abbrev IsUncounted : FieldSpec → Type 0
+IsUncounted a = (1 ≤ a.width) × (is_counting a.role ≡ false)
+
+uncounted : (r : Role) (t : Taken) (counts : List ℕ) → is_counting r ≡ false → IsForRole r t → counts_in t counts ≡ counts
+uncounted role.Element taken.Plain counts e f = refl
+uncounted role.Element (taken.Count n) counts e f = absurd f
+uncounted role.Element (taken.Reference r) counts e f = absurd f
+uncounted role.Inserted taken.Plain counts e f = refl
+uncounted role.Inserted (taken.Count n) counts e f = absurd f
+uncounted role.Inserted (taken.Reference r) counts e f = absurd f
+uncounted role.Factor t counts e f = absurd cc
+uncounted role.Reference taken.Plain counts e f = absurd f
+uncounted role.Reference (taken.Count n) counts e f = absurd f
+uncounted role.Reference (taken.Reference r) counts e f = refl
+
+le_from : (a b : ℕ) → nat_le a b ≡ true → a ≤ b
+le_from a b h = grind (arith, nat_tests)
+
+same_ok : (a b : FieldSpec) → ◌≡◌ {A = Result FieldSpec TurnRefusal} (Ok a) (Ok b) → a ≡ b
+same_ok a b e = cc
+
+fitted : (a b : FieldSpec) → if_valid_width a ≡ Ok b → (a ≡ b) × (1 ≤ b.width)
+fitted a b e = by (nat_le 1 a.width && nat_le a.width 63) refl e
+  where
+    by : (t : Bool) → (nat_le 1 a.width && nat_le a.width 63) ≡ t → (if t then Ok a else Err (refusal.Width a.fxy)) ≡ Ok b → (a ≡ b) × (1 ≤ b.width)
+    by true p q = let is : a ≡ b = same_ok a b q in (is, subst (λ z. 1 ≤ z.width) is (le_from 1 a.width (and_first (nat_le 1 a.width) (nat_le a.width 63) p)))
+    by false p q = absurd cc
+
+fitted_uncounted : (a b : FieldSpec) → is_counting a.role ≡ false → if_valid_width a ≡ Ok b → IsUncounted b
+fitted_uncounted a b h e = let f = fitted a b e in (f.1, subst (λ z. is_counting z.role ≡ false) f.0 h)
+
+letters : (y w : ℕ) → 8 ≤ w → 1 ≤ (if y == 0 then w else 8 * y)
+letters y w h = by (y == 0) refl
+  where
+    positive : (y : ℕ) → (y == 0) ≡ false → 1 ≤ y
+    positive y e = grind (arith, nat_tests)
+
+    by : (b : Bool) → (y == 0) ≡ b → 1 ≤ (if b then w else 8 * y)
+    by true e = omega (arith, h)
+    by false e = omega (arith, positive y e)
+
+character_width : (w : ℕ) → allows_width kind.Character w ≡ true → 8 ≤ w
+character_width w h = le_from 8 w (and_first (nat_le 8 w) _ (and_first _ _ h))
+
+kind_steps : (s : OperatorModel) (kd : Kind) (row : Row) (spec : FieldSpec) → kd ≡ row.kind → allows_width row.kind row.width ≡ true → spec_by_kind kd s row ≡ Ok spec → IsUncounted spec
+kind_steps s kind.Numeric row spec q good e = fitted_uncounted (numeric_spec s row) spec refl e
+kind_steps s kind.Coded row spec q good e = fitted_uncounted (coded_spec s row) spec refl e
+kind_steps s kind.Character row spec q good e =
+    let is : text_spec role.Element row.fxy (text_width s row.width) true ≡ spec = same_ok _ spec e in
+    subst IsUncounted is (letters s.character_octets row.width (character_width row.width (ap (λ k. allows_width k row.width) q ∙ good)), refl)
+
+defined_steps : (s : OperatorModel) (kd : Kind) (fxy : ℕ) (spec : FieldSpec) → new_reference_spec kd s fxy ≡ Ok spec → IsUncounted spec
+defined_steps s kind.Character fxy spec e = absurd cc
+defined_steps s kind.Coded fxy spec e = fitted_uncounted (defined_field s fxy) spec refl e
+defined_steps s kind.Numeric fxy spec e = fitted_uncounted (defined_field s fxy) spec refl e
+
+inserted_steps : (s : OperatorModel) (fxy : ℕ) (spec : FieldSpec) → is_legal_operator fxy ≡ true → is_inserted_text fxy ≡ true → inserted_spec s fxy ≡ Ok spec → IsUncounted spec
+inserted_steps s fxy spec legal x e = by (is_defining s) e
+  where
+    by : (b : Bool) → (if b then Err (refusal.Defining fxy) else Ok (text_spec role.Inserted fxy (8 * y_of fxy) false)) ≡ Ok spec → IsUncounted spec
+    by true q = absurd cc
+    by false q = subst IsUncounted (same_ok _ spec q) (omega (arith, (inserted_width fxy legal x).0), refl)
+
+module _ (table : List Row) (rows : (fxy : ℕ) (row : Row) → entry_of table fxy ≡ Some row → allows_width row.kind row.width ≡ true) where
+  element_steps : (s : OperatorModel) (fxy : ℕ) (spec : FieldSpec) → element_spec table s fxy ≡ Ok spec → IsUncounted spec
+  element_steps s fxy spec e = by_given (nat_lt 0 s.local_width) (entry_of table fxy) refl e
+    where
+      by_defining : (b : Bool) (row : Row) → allows_width row.kind row.width ≡ true → (if b then new_reference_spec row.kind s fxy else spec_by_kind row.kind s row) ≡ Ok spec → IsUncounted spec
+      by_defining true row good q = defined_steps s row.kind fxy spec q
+      by_defining false row good q = kind_steps s row.kind row spec refl good q
+
+      by_width : (b : Bool) (row : Row) → allows_width row.kind row.width ≡ true → (if b then spec_by_kind row.kind (untouched s) row else unsigned_of fxy s.local_width) ≡ Ok spec → IsUncounted spec
+      by_width true row good q = kind_steps (untouched s) row.kind row spec refl good q
+      by_width false row good q = fitted_uncounted (unsigned_field fxy s.local_width) spec refl q
+
+      by_given : (b : Bool) (o : Option Row) → entry_of table fxy ≡ o → (if b then local_width_spec o s fxy else listed_by o s fxy) ≡ Ok spec → IsUncounted spec
+      by_given true None p q = fitted_uncounted (unsigned_field fxy s.local_width) spec refl q
+      by_given false None p q = absurd cc
+      by_given true (Some row) p q = by_width (row.width == s.local_width) row (rows fxy row p) q
+      by_given false (Some row) p q = by_defining (is_defining s) row (rows fxy row p) q
+
+  factor_steps : (s : OperatorModel) (fxy : ℕ) (spec : FieldSpec) → factor_spec table s fxy ≡ Ok spec → (1 ≤ spec.width) × (role.Factor ≡ spec.role)
+  factor_steps s fxy spec e = by (is_defining s) (entry_of table fxy) e
+    where
+      by : (b : Bool) (o : Option Row) → (if b then Err (refusal.Defining fxy) else factor_by o fxy) ≡ Ok spec → (1 ≤ spec.width) × (role.Factor ≡ spec.role)
+      by true o q = absurd cc
+      by false None q = absurd cc
+      by false (Some row) q = let f = fitted (factor_field row fxy) spec q in (f.1, ap (λ z. z.role) f.0)
+
+  finish_goes : (n : ℕ) (s : OperatorModel) → IsSane n (λ answers. ahead table finish s answers)
+  finish_goes n s = sane_end n (λ answers. ahead table finish s answers) at_end refl (λ q. absurd cc) (λ spec q. absurd cc)
+
+  pass_goes : (rest : Rest) → ((n : ℕ) (s : OperatorModel) → IsSane n (λ answers. ahead table (rest (counts_of answers)) s answers)) → (n : ℕ) (s : OperatorModel) → IsSane n (λ answers. ahead table (pass_end (rest (counts_of answers))) s answers)
+  pass_goes rest h n s = sane_same n (λ answers. ahead table (rest (counts_of answers)) s answers) (λ answers. ahead table (pass_end (rest (counts_of answers))) s answers) (λ answers. refl) (h n s)
+
+  group_goes : (rest : Rest) → ((n : ℕ) (s : OperatorModel) → IsSane n (λ answers. ahead table (rest (counts_of answers)) s answers)) → (n : ℕ) (s : OperatorModel) → IsSane n (λ answers. ahead table (group (rest (counts_of answers))) s answers)
+  group_goes rest h n s = sane_same n (λ answers. ahead table (rest (counts_of answers)) s answers) (λ answers. ahead table (group (rest (counts_of answers))) s answers) (λ answers. refl) (h n s)
+
+  -- a field that returns no count
+  uncounted_goes : (r : Result FieldSpec TurnRefusal) (s : OperatorModel) (fxy : ℕ) (rest : Rest) → ((spec : FieldSpec) → r ≡ Ok spec → IsUncounted spec) → ((n : ℕ) (s : OperatorModel) → IsSane n (λ answers. ahead table (rest (counts_of answers)) s answers))
+      → (n : ℕ) → IsSane n (λ answers. asked r (λ t more. ahead table (rest (counts_of answers)) (after_field s fxy t) more) answers)
+  uncounted_goes r s fxy rest good h n =
+      field_sane n r (λ answers. asked r (λ t more. ahead table (rest (counts_of answers)) (after_field s fxy t) more) answers) (asked_first r _) (λ spec e. (good spec e).0)
+      (λ spec e t f m. sane_same m (λ answers. ahead table (rest (counts_of answers)) (after_field s fxy t) answers) (λ answers. asked r (λ u more. ahead table (rest (counts_of (t ∷ answers))) (after_field s fxy u) more) (t ∷ answers))
+      (λ answers. sym (asked_next r (λ u more. ahead table (rest (counts_of (t ∷ answers))) (after_field s fxy u) more) spec t answers e ∙ ap (λ cs. (ahead table (rest cs) (after_field s fxy t) answers).next) (uncounted spec.role t (counts_of answers) (good spec e).1 f)))
+      (h m (after_field s fxy t)))
+
+  element_goes : (fxy : ℕ) (rest : Rest) → ((n : ℕ) (s : OperatorModel) → IsSane n (λ answers. ahead table (rest (counts_of answers)) s answers)) → (n : ℕ) (s : OperatorModel) → IsSane n (λ answers. ahead table (element_turn fxy (rest (counts_of answers))) s answers)
+  element_goes fxy rest h n s = uncounted_goes (element_spec table s fxy) s fxy rest (λ spec e. element_steps s fxy spec e) h n
+
+  operated_goes : (r : Result OperatorModel TurnRefusal) (rest : Rest) → ((n : ℕ) (s : OperatorModel) → IsSane n (λ answers. ahead table (rest (counts_of answers)) s answers)) → (n : ℕ) → IsSane n (λ answers. operated r (λ s'. ahead table (rest (counts_of answers)) s' answers))
+  operated_goes (Err why) rest h n = sane_end n (λ answers. operated (Err why) (λ s'. ahead table (rest (counts_of answers)) s' answers)) (refused why) refl (λ q. absurd cc) (λ spec q. absurd cc)
+  operated_goes (Ok s') rest h n = sane_same n (λ answers. ahead table (rest (counts_of answers)) s' answers) (λ answers. operated (Ok s') (λ s'. ahead table (rest (counts_of answers)) s' answers)) (λ answers. refl) (h n s')
+
+  operator_goes : (fxy : ℕ) (rest : Rest) → is_legal_operator fxy ≡ true → ((n : ℕ) (s : OperatorModel) → IsSane n (λ answers. ahead table (rest (counts_of answers)) s answers)) → (n : ℕ) (s : OperatorModel) → IsSane n (λ answers. ahead table (operator_turn fxy (rest (counts_of answers))) s answers)
+  operator_goes fxy rest legal h n s = by (is_inserted_text fxy) refl
+    where
+      by : (b : Bool) → is_inserted_text fxy ≡ b → IsSane n (λ answers. if b then asked (inserted_spec s fxy) (λ t more. ahead table (rest (counts_of answers)) (after_field s fxy t) more) answers else operated (after_operator s fxy) (λ s'. ahead table (rest (counts_of answers)) s' answers))
+      by true p = uncounted_goes (inserted_spec s fxy) s fxy rest (λ spec e. inserted_steps s fxy spec legal p e) h n
+      by false p = operated_goes (after_operator s fxy) rest h n
+
+  passes_go : (k : ℕ) (body : Rest → Rest) (rest : Rest) → ((r : Rest) → ((n : ℕ) (s : OperatorModel) → IsSane n (λ answers. ahead table (r (counts_of answers)) s answers)) → (n : ℕ) (s : OperatorModel) → IsSane n (λ answers. ahead table (body r (counts_of answers)) s answers))
+      → ((n : ℕ) (s : OperatorModel) → IsSane n (λ answers. ahead table (rest (counts_of answers)) s answers)) → (n : ℕ) (s : OperatorModel) → IsSane n (λ answers. ahead table (passes k body rest (counts_of answers)) s answers)
+  passes_go zero body rest f h n s = h n s
+  passes_go (suc k) body rest f h n s = f (λ later. pass_end (passes k body rest later)) (pass_goes (passes k body rest) (λ m z. passes_go k body rest f h m z)) n s
+
+  counted_goes : (fxy : ℕ) (body more : Rest → Rest) (rest : Rest) (s : OperatorModel) (spec : FieldSpec) (t : Taken) (c : Course)
+      → ((k : ℕ) (n : ℕ) (z : OperatorModel) → IsSane n (λ answers. ahead table (passes k body (more rest) (counts_of answers)) z answers))
+      → role.Factor ≡ spec.role → IsFor spec t → ((k : ℕ) (answers : List Taken) → (c (taken.Count k ∷ answers)).next ≡ (ahead table (passes k body (more rest) (counts_of answers)) (after_field s fxy (taken.Count k)) answers).next)
+      → (m : ℕ) → IsSane m (λ answers. c (t ∷ answers))
+  counted_goes fxy body more rest s spec t c h r f e m = by t (subst (λ x. IsForRole x t) (sym r) f)
+    where
+      by : (t : Taken) → IsForRole role.Factor t → IsSane m (λ answers. c (t ∷ answers))
+      by taken.Plain g = absurd g
+      by (taken.Reference z) g = absurd g
+      by (taken.Count k) g = sane_same m (λ answers. ahead table (passes k body (more rest) (counts_of answers)) (after_field s fxy (taken.Count k)) answers) (λ answers. c (taken.Count k ∷ answers)) (λ answers. sym (e k answers)) (h k m (after_field s fxy (taken.Count k)))
+
+  unroll_goes : (tree : Tree) (rest : Rest) → IsLegal tree → ((n : ℕ) (s : OperatorModel) → IsSane n (λ answers. ahead table (rest (counts_of answers)) s answers)) → (n : ℕ) (s : OperatorModel) → IsSane n (λ answers. ahead table (unroll tree rest (counts_of answers)) s answers)
+  unroll_goes bare rest legal h n s = h n s
+  unroll_goes (element fxy more) rest legal h n s = element_goes fxy (unroll more rest) (λ m z. unroll_goes more rest legal.1 h m z) n s
+  unroll_goes (operator fxy more) rest legal h n s = operator_goes fxy (unroll more rest) legal.1.0 (λ m z. unroll_goes more rest legal.1.1.1 h m z) n s
+  unroll_goes (fixed k body more) rest legal h n s =
+      group_goes (passes k (unroll body) (unroll more rest)) (λ m z. passes_go k (unroll body) (unroll more rest) (λ r g i y. unroll_goes body r legal.0 g i y) (λ i y. unroll_goes more rest legal.1 h i y) m z) n s
+  unroll_goes (delayed fxy body more) rest legal h n s =
+      field_sane n (factor_spec table s fxy) (λ answers. ahead table (unroll (delayed fxy body more) rest (counts_of answers)) s answers) (asked_first (factor_spec table s fxy) (λ t more. ahead table open_end (after_field s fxy t) more)) (λ spec e. (factor_steps s fxy spec e).0)
+      (λ spec e t f m. counted_goes fxy (unroll body) (unroll more) rest s spec t (λ answers. ahead table (unroll (delayed fxy body more) rest (counts_of answers)) s answers)
+      (λ k i z. passes_go k (unroll body) (unroll more rest) (λ r g j y. unroll_goes body r legal.1.0 g j y) (λ j y. unroll_goes more rest legal.1.1 h j y) i z) (factor_steps s fxy spec e).1 f
+      (λ k answers. asked_next (factor_spec table s fxy) (λ u later. ahead table (passes k (unroll body) (unroll more rest) (counts_of answers)) (after_field s fxy u) later) spec (taken.Count k) answers e) m)
+
+  pub template_sane : (tree : Tree) → IsLegal tree → (n : ℕ) → IsSane n (next_item table tree)
+  unfolding next_item
+  template_sane tree legal n = unroll_goes tree (λ c. finish) legal (λ m z. finish_goes m z) n begin
+
+-- ---- A pass over data has an outcome.
+
+-- a field that was found takes bits, and its answer fits its role
+pub record Forth {C : Type 0} (form : DataCoding C) (spec : FieldSpec) (bits : List Bool) (c : C) (mid : List Bool) : Type 0 where
+  pub gives : IsFor spec (form.gives spec c)
+  pub size : ℕ
+  pub some : 1 ≤ size
+  pub within : size ≤ length bits
+  pub left_is : mid ≡ drop size bits
+
+-- an outcome, and how many bits are before it
+pub record SomeOutcome {C : Type 0} (form : DataCoding C) (many : ℕ → Bool) (course : Course) (from : ℕ) (bits : List Bool) : Type 0 where
+  pub items : List (Item C)
+  pub left : List Bool
+  pub outcome : Outcome
+  pub has : HasOutcome form many course from bits items left outcome
+  pub used : ℕ
+  pub within : used ≤ length bits
+  pub left_is : left ≡ drop used bits
+
+module _ {C : Type 0} (form : DataCoding C) (many : ℕ → Bool) (forth : (spec : FieldSpec) (bits : List Bool) (c : C) (mid : List Bool) → 1 ≤ spec.width → form.field spec bits ≡ Ok (found c mid) → Forth form spec bits c mid) where
+  at_once : (course : Course) (from : ℕ) (bits : List Bool) (o : Outcome) → outcome_of form (many (from + 0)) (course []).next bits ≡ Some o → SomeOutcome form many course from bits
+  at_once course from bits o e = record { items = []; left = bits; outcome = o; has = record { reads = refl; few = λ j lt. absurd (omega (arith, lt)); ends = e }; used = 0; within = omega arith; left_is = refl }
+
+  one_more : (course : Course) (from : ℕ) (bits mid : List Bool) (spec : FieldSpec) (c : C) → many (from + 0) ≡ false → (course []).next ≡ take_next spec → form.field spec bits ≡ Ok (found c mid) → Forth form spec bits c mid
+      → SomeOutcome form many (after form course (record { spec = spec; content = c })) (from + 1) mid → SomeOutcome form many course from bits
+  one_more course from bits mid spec c few next read f r = record {
+    items = record { spec = spec; content = c } ∷ r.items;
+    left = r.left;
+    outcome = r.outcome;
+    has = record {
+      reads = (mid, next, read, r.has.reads);
+      few = all_few;
+      ends = subst (λ k. outcome_of form (many k) (next_after form (after form course (record { spec = spec; content = c })) r.items) r.left ≡ Some r.outcome) (counted from (length r.items)) r.has.ends;
+    };
+    used = f.size + r.used;
+    within = omega (arith, f.within, r.within, length-drop f.size bits, ap length f.left_is);
+    left_is = r.left_is ∙ ap (drop r.used) f.left_is ∙ drops f.size r.used bits;
+  }
+    where
+      counted : (a b : ℕ) → a + 1 + b ≡ a + suc b
+      counted a b = omega arith
+
+      drops : (a b : ℕ) (xs : List Bool) → drop b (drop a xs) ≡ drop (a + b) xs
+      drops a b xs = drop-drop b a xs
+
+      all_few : (j : ℕ) → j < suc (length r.items) → many (from + j) ≡ false
+      all_few zero lt = few
+      all_few (suc j) lt = ap many (sym (counted from j)) ∙ r.has.few j (omega (arith, lt))
+
+  pub some_outcome : (n : ℕ) (course : Course) (from : ℕ) (bits : List Bool) → IsSane n course → length bits < n → SomeOutcome form many course from bits
+  some_outcome zero course from bits sane lt = absurd (omega (arith, lt))
+  some_outcome (suc n) course from bits sane lt = by (course []).next refl (λ c bs h l. some_outcome n c (from + 1) bs h l)
+    where
+      at_field : (spec : FieldSpec) → (course []).next ≡ take_next spec → (b : Bool) → many (from + 0) ≡ b → (r : Result (FieldRead C) FieldFault) → form.field spec bits ≡ r
+          → ((c : Course) (bs : List Bool) → IsSane n c → length bs < n → SomeOutcome form many c (from + 1) bs) → SomeOutcome form many course from bits
+      at_field spec e true m r q go = at_once course from bits (stopped (too_many spec.fxy)) (ap (λ x. outcome_of form (many (from + 0)) x bits) e ∙ ap (λ b. outcome_of form b (take_next spec) bits) m)
+      at_field spec e false m (Err why) q go =
+          at_once course from bits (stopped (field_stop spec.fxy why)) (ap (λ x. outcome_of form (many (from + 0)) x bits) e ∙ ap (λ b. outcome_of form b (take_next spec) bits) m ∙ ap (λ r. stopped_by (field_stop_of spec.fxy r)) q)
+      at_field spec e false m (Ok f) q go =
+          let k = sane.1 spec e in
+          let w = forth spec bits f.content f.suffix k.0 q in
+          one_more course from bits f.suffix spec f.content m e q w (go (after form course (record { spec = spec; content = f.content })) f.suffix (k.1 (form.gives spec f.content) w.gives) (omega (arith, lt, w.some, w.within, length-drop w.size bits, ap length w.left_is)))
+
+      by : (next : Next) → (course []).next ≡ next → ((c : Course) (bs : List Bool) → IsSane n c → length bs < n → SomeOutcome form many c (from + 1) bs) → SomeOutcome form many course from bits
+      by at_end e go = at_once course from bits ended (ap (λ x. outcome_of form (many (from + 0)) x bits) e)
+      by astray e go = absurd (sane.0 e)
+      by (refused why) e go = at_once course from bits (stopped (walk_stop why)) (ap (λ x. outcome_of form (many (from + 0)) x bits) e)
+      by (take_next spec) e go = at_field spec e (many (from + 0)) refl (form.field spec bits) refl go
+
+answer_for : (r : Role) (c : Content) → IsForRole r (answer_by_role r c)
+answer_for role.Element c = tt
+answer_for role.Inserted c = tt
+answer_for role.Factor c = tt
+answer_for role.Reference c = tt
+
+not_less : (a b : ℕ) → nat_lt a b ≡ false → b ≤ a
+not_less a b e = grind (arith, nat_tests)
+
+same_found : {C : Type 0} (a b : FieldRead C) → ◌≡◌ {A = Result (FieldRead C) FieldFault} (Ok a) (Ok b) → a ≡ b
+same_found a b e = cc
+
+suffix_is : {C : Type 0} (a b : C) (l m : List Bool) → ◌≡◌ {A = Result (FieldRead C) FieldFault} (Ok (found a l)) (Ok (found b m)) → m ≡ l
+suffix_is {C} a b l m e = sym (ap (λ (z : FieldRead C). z.suffix) (same_found (found a l) (found b m) e))
+
+contents_are : {C : Type 0} (a b : C) (l m : List Bool) → ◌≡◌ {A = Result (FieldRead C) FieldFault} (Ok (found a l)) (Ok (found b m)) → a ≡ b
+contents_are {C} a b l m e = ap (λ (z : FieldRead C). z.content) (same_found (found a l) (found b m) e)
+
+pub plain_forth : (spec : FieldSpec) (bits : List Bool) (c : Content) (mid : List Bool) → 1 ≤ spec.width → plain_field spec bits ≡ Ok (found c mid) → Forth plain spec bits c mid
+plain_forth spec bits c mid some e = by (nat_lt (length bits) spec.width) refl e
+  where
+    by : (b : Bool) → nat_lt (length bits) spec.width ≡ b → (if b then Err data_end else Ok (found (content_in spec (take spec.width bits)) (drop spec.width bits))) ≡ Ok (found c mid) → Forth plain spec bits c mid
+    by true p q = absurd cc
+    by false p q = record { gives = answer_for spec.role c; size = spec.width; some = some; within = not_less (length bits) spec.width p; left_is = suffix_is (content_in spec (take spec.width bits)) c (drop spec.width bits) mid q }
+
+-- some subsets have some contents
+none_more : (r : Result Content FieldFault) (more : Result (List Content) FieldFault) → and_contents r more ≡ Ok [] → ⊥
+none_more (Err why) more e = cc
+none_more (Ok c) (Err why) e = cc
+none_more (Ok c) (Ok cs) e = cc
+
+none_if : (b : Bool) (x : Content) (xs : List Content) (r : Result (List Content) FieldFault) → (if b then Ok (x ∷ xs) else r) ≡ Ok [] → (r ≡ Ok [] → ⊥) → ⊥
+none_if true x xs r e h = cc
+none_if false x xs r e h = h e
+
+no_texts : (b : Bool) (x : Content) (xs : List Content) → (if b then Err increment else Ok (x ∷ xs)) ≡ Ok [] → ⊥
+no_texts true x xs e = cc
+no_texts false x xs e = cc
+
+no_numbers : (spec : FieldSpec) (k : ℕ) (base i : List Bool) (is : List (List Bool)) → numbers_of spec k base (i ∷ is) ≡ Ok [] → ⊥
+no_numbers spec k base i is e =
+    none_if (are_all_ones base && spec.may_be_missing) _ _ (all_increased spec.may_be_missing spec.width (number_of base) k (i ∷ is)) e (λ q. none_more (increased spec.may_be_missing spec.width (number_of base) k (number_of i)) (all_increased spec.may_be_missing spec.width (number_of base) k is) q)
+
+no_varied : (kd : Kind) (spec : FieldSpec) (k : ℕ) (base i : List Bool) (is : List (List Bool)) → varied_by kd spec k base (i ∷ is) ≡ Ok [] → ⊥
+no_varied kind.Character spec k base i is e = no_texts _ _ _ e
+no_varied kind.Coded spec k base i is e = no_numbers spec k base i is e
+no_varied kind.Numeric spec k base i is e = no_numbers spec k base i is e
+
+equal_is : (r : Result (List Content) FieldFault) (cs : List Content) → if_equal r ≡ Ok cs → r ≡ Ok cs
+equal_is (Err why) cs e = absurd cc
+equal_is (Ok xs) cs e = by (all_same xs) e
+  where
+    by : (b : Bool) → ◌≡◌ {A = Result (List Content) FieldFault} (if b then Ok xs else Err unequal_factor) (Ok cs) → ◌≡◌ {A = Result (List Content) FieldFault} (Ok xs) (Ok cs)
+    by true q = q
+    by false q = absurd cc
+
+no_role : (r : Role) (spec : FieldSpec) (k : ℕ) (base i : List Bool) (is : List (List Bool)) → varied r spec k base (i ∷ is) ≡ Ok [] → ⊥
+no_role role.Element spec k base i is e = no_varied spec.kind spec k base i is e
+no_role role.Inserted spec k base i is e = no_varied spec.kind spec k base i is e
+no_role role.Factor spec k base i is e = no_varied spec.kind spec k base i is (equal_is (varied_by spec.kind spec k base (i ∷ is)) [] e)
+no_role role.Reference spec k base i is e = cc
+
+no_contents : (spec : FieldSpec) (k : ℕ) (base i : List Bool) (is : List (List Bool)) → contents_of spec k base (i ∷ is) ≡ Ok [] → ⊥
+no_contents spec k base i is e = none_if (k == 0) _ _ (varied spec.role spec k base (i ∷ is)) e (λ q. no_role spec.role spec k base i is q)
+
+first_for : (spec : FieldSpec) (cs : List Content) → (cs ≡ [] → ⊥) → IsFor spec (answer_first spec cs)
+first_for spec [] h = absurd (h refl)
+first_for spec (c ∷ cs) h = answer_for spec.role c
+
+module _ (n : ℕ) (spec : FieldSpec) (bits : List Bool) (cs : List Content) (mid : List Bool) (some : 1 ≤ spec.width) where
+  at_contents : (k step : ℕ) → spec.width + 6 ≤ length bits → suc n * step ≤ length (drop (spec.width + 6) bits) → (r : Result (List Content) FieldFault)
+      → contents_of spec k (take spec.width bits) (increments (suc n) step (drop (spec.width + 6) bits)) ≡ r → with_suffix r (drop (suc n * step) (drop (spec.width + 6) bits)) ≡ Ok (found cs mid) → Forth (packed (suc n)) spec bits cs mid
+  at_contents k step h g (Err why) q z = absurd cc
+  at_contents k step h g (Ok xs) q z =
+      let is : xs ≡ cs = contents_are xs cs (drop (suc n * step) (drop (spec.width + 6) bits)) mid z in
+      record {
+        gives = first_for spec cs (λ none. no_contents spec k (take spec.width bits) (take step (drop (spec.width + 6) bits)) (increments n step (drop step (drop (spec.width + 6) bits))) (q ∙ ap Ok (is ∙ none)));
+        size = spec.width + 6 + suc n * step;
+        some = positive spec.width (suc n * step);
+        within = within (spec.width + 6) (suc n * step) (length bits) (length (drop (spec.width + 6) bits)) h g (length-drop (spec.width + 6) bits);
+        left_is = suffix_is xs cs (drop (suc n * step) (drop (spec.width + 6) bits)) mid z ∙ drop-drop (suc n * step) (spec.width + 6) bits;
+      }
+    where
+      positive : (w x : ℕ) → 1 ≤ w + 6 + x
+      positive w x = omega arith
+
+      within : (w x all left : ℕ) → w ≤ all → x ≤ left → left ≡ all - w → w + x ≤ all
+      within w x all left h g e = omega arith
+
+  at_item : (k : ℕ) → spec.width + 6 ≤ length bits → (b : Bool) → nat_lt (length (drop (spec.width + 6) bits)) (suc n * increment_bits_of spec.role spec.kind k) ≡ b
+      → (if b then Err data_end else with_suffix (contents_of spec k (take spec.width bits) (increments (suc n) (increment_bits_of spec.role spec.kind k) (drop (spec.width + 6) bits))) (drop (suc n * increment_bits_of spec.role spec.kind k) (drop (spec.width + 6) bits))) ≡ Ok (found cs mid)
+      → Forth (packed (suc n)) spec bits cs mid
+  at_item k h true p q = absurd cc
+  at_item k h false p q =
+      at_contents k (increment_bits_of spec.role spec.kind k) h (not_less (length (drop (spec.width + 6) bits)) (suc n * increment_bits_of spec.role spec.kind k) p) (contents_of spec k (take spec.width bits) (increments (suc n) (increment_bits_of spec.role spec.kind k) (drop (spec.width + 6) bits))) refl q
+
+  at_prefix : (k : ℕ) (b : Bool) → nat_lt (length bits) (spec.width + 6) ≡ b → (if b then Err data_end else item_by spec (suc n) k bits) ≡ Ok (found cs mid) → Forth (packed (suc n)) spec bits cs mid
+  at_prefix k true p q = absurd cc
+  at_prefix k false p q = at_item k (not_less (length bits) (spec.width + 6) p) (nat_lt (length (drop (spec.width + 6) bits)) (suc n * increment_bits_of spec.role spec.kind k)) refl q
+
+pub packed_forth : (n : ℕ) (spec : FieldSpec) (bits : List Bool) (cs : List Content) (mid : List Bool) → 1 ≤ spec.width → packed_field (suc n) spec bits ≡ Ok (found cs mid) → Forth (packed (suc n)) spec bits cs mid
+packed_forth n spec bits cs mid some e = at_prefix n spec bits cs mid some (number_of (take 6 (drop spec.width bits))) (nat_lt (length bits) (spec.width + 6)) refl e
 
 no_end : (s : Option Stop) → stopped_by s ≡ Some ended → ⊥
 no_end None e = cc

@@ -5,25 +5,21 @@ use Rattle.std.proofs.Math.Nat.{mul-le-mul_left, mul-le-mul_right, pow-le-pow_ri
 use Rattle.std.specs.Prelude.{◌==◌, nat_le, if◌then◌else◌, nat_lt, cond, Some, ◌%◌, unsigned_abs}
 use Rattle.std.proofs.lemmas.Bool.Decides.{nat_tests}
 use Rattle.bufr_tables.specs.Fxy.{x_of, y_of}
-use Rattle.bufr_tables.specs.Operators.{is_legal_operator, has_legal_operand}
-use Rattle.bufr_tables.specs.Tree.{is_inserted_text}
+use Rattle.bufr_tables.specs.Tree.{is_legal_operator, has_legal_operand, is_inserted_text}
 use Rattle.std.specs.Ordering.{nat_cmp, is_eq, match_ordering}
 use Rattle.std.specs.declared.cmp.Ordering.TheVariants.{Less, Equal, Greater}
 use Rattle.std.specs.BTreeMap.{insert_entry, is_at}
 use Rattle.std.specs.Map.{lookup}
 use Rattle.std.specs.Option.{unwrap_or}
 use Rattle.std.specs.Cmp.{unsigned_tied}
-use Rattle.bufr_walk.specs.Operators.{Redefined, current_reference, with_reference}
-use Rattle.bufr_walk.specs.OperatorState.{known_by}
+use Rattle.bufr_walk.specs.Rules.{Redefined, current_reference, with_reference, known_by, text_spec}
 use Rattle.bufr_tables.specs.declared.table_b.Kind.{Kind}
 use Rattle.bufr_tables.specs.declared.table_b.Kind.TheVariants as kind
 use Rattle.bufr_tables.specs.TableB.{is_character}
 use Rattle.bufr_walk.specs.declared.spec.Role.{Role}
 use Rattle.bufr_walk.specs.declared.spec.NumberParts.{NumberParts}
 use Rattle.bufr_walk.specs.declared.spec.Role.TheVariants as role
-use Rattle.bufr_walk.specs.FieldSpec.{FieldSpec, IsSpec, HasWidth, HasRole, HasMissing, is_reference}
-use Rattle.bufr_walk.specs.Rules.{text_spec}
-use Rattle.bufr_walk.specs.Numbers.{number_field}
+use Rattle.bufr_walk.specs.FieldSpec.{FieldSpec, IsSpec, HasWidth, HasRole, HasMissing, is_reference, number_field}
 
 number_width : (k : Kind) (w : ℕ) → is_character k ≡ false → 1 ≤ w → w ≤ 63 → HasWidth k w
 number_width kind.Character w e some most = absurd cc

@@ -1,12 +1,20 @@
--- The calls of a visitor, one after another.
+-- The calls of a visitor that show a reading, in order, up to its first fault.
 -- Cited by public contracts.
-use Rattle.std.specs.Prelude.{ℕ, zero, suc, ◌+◌, if◌then◌else◌, List, [], ◌∷◌, ◌++◌, Option, None}
+use Rattle.std.specs.Prelude.{ℕ, zero, suc, ◌+◌, if◌then◌else◌, List, [], ◌∷◌, ◌++◌, Option, None, ◌≡◌, Result, Ok, Err, ◌⊎◌, option_map}
 use Rattle.bufr_tables.specs.TableB.{Row, entry_of}
 use Rattle.bufr_walk.specs.FieldSpec.{FieldSpec}
-use Rattle.bufr_walk.specs.Content.{Content, ShownValue, shown, missing}
+use Rattle.bufr_walk.specs.Content.{Content, ShownValue, shown, missing, shown_number, shown_text, shown_missing, shown_reference}
 use Rattle.bufr_walk.specs.Course.{Course}
-use Rattle.bufr_walk.specs.Reading.{Item, plain, after, turns_after, turns_in, Values, apart, together}
-use Rattle.bufr_walk.specs.Outcome.{Read, course_of}
+use Rattle.bufr_walk.specs.Reading.{Item, plain, after, turns_after, turns_in, Values, apart, together, IsReading}
+use Rattle.bufr_walk.specs.Refusal.{Read, course_of}
+use Rattle.bufr_walk.specs.declared.fault.ShowFault.{ShowFault}
+use Rattle.bufr_walk.specs.Walk.{ticked}
+use Rattle.bufr_tables.specs.Entry.{row_of_entry}
+use Rattle.bufr_walk.specs.declared.visitor.Value.{Value}
+use Rattle.bufr_walk.specs.declared.visitor.ItemView.{ItemView}
+use Rattle.bufr_tables.specs.declared.table_b.Entry.{Entry}
+use Rattle.bufr_walk.specs.declared.fault.ShowFault.TheVariants as fault
+use Rattle.bufr_walk.specs.declared.visitor.Value.TheVariants as value
 
 -- an item as it is shown: its descriptor, the row of Table B by which it was read, and its value
 pub record View : Type 0 where
@@ -92,3 +100,62 @@ items_called (t ∷ calls) = item_or_not t.call + items_called calls
 abbrev pub turns_shown : Read → Values → ℕ
 turns_shown r (apart subsets) = turns_in (course_of r) subsets
 turns_shown r (together items) = 0
+
+-- ---- Calls of a visitor, one after another, up to the first fault, with the turns made for them.
+
+-- whether the value is a redefined reference, the only one that the walk keeps
+abbrev pub IsReferenceValue : ShownValue → Type 0
+IsReferenceValue (shown_number value scale) = ⊥
+IsReferenceValue (shown_text octets) = ⊥
+IsReferenceValue shown_missing = ⊥
+IsReferenceValue (shown_reference value) = Unit {0}
+
+-- whether memory may run out at the item
+abbrev pub NeedsMemory : Call → Type 0
+NeedsMemory (subset_call number) = ⊥
+NeedsMemory (item_call item) = IsReferenceValue item.value
+
+-- a call that ends a showing: the visitor refuses it, or memory runs out before it
+abbrev pub EndsAt : {S E : Type 0} → (S → Call → Result (Unit {0}) E → S → Type 0) → S → Call
+    → ShowFault E → S → Type 0
+EndsAt sees s call (fault.Visitor e) s' = sees s call (Err e) s'
+EndsAt sees s call fault.Memory s' = (s' ≡ s) × NeedsMemory call
+
+-- the calls that were made: all at Ok, else a prefix; the steps are the turns up to the call that
+-- ends it
+abbrev pub Shows : {S E : Type 0} → (S → Call → Result (Unit {0}) E → S → Type 0) → S → List Timed
+    → (turns : ℕ) → Result (Unit {0}) (ShowFault E) → S → (steps : ℕ) → Type 0
+Shows sees s [] turns (Ok _) s' steps = (s' ≡ s) × (steps ≡ ticked 0 turns)
+Shows sees s [] turns (Err why) s' steps = ⊥
+Shows {S} sees s (t ∷ calls) turns (Ok _) s' steps =
+    (mid : S) × sees s t.call (Ok tt) mid × Shows sees mid calls turns (Ok tt) s' steps
+Shows {S} sees s (t ∷ calls) turns (Err why) s' steps =
+    (EndsAt sees s t.call why s' × (steps ≡ ticked 0 t.turns))
+    ⊎ ((mid : S) × sees s t.call (Ok tt) mid × Shows sees mid calls turns (Err why) s' steps)
+
+-- the showing of a reading: its calls and its turns are those of its items
+abbrev pub ShowsReading : {S E : Type 0} → (S → Call → Result (Unit {0}) E → S → Type 0) → Read → S
+    → Result (Unit {0}) (ShowFault E) → S → (steps : ℕ) → Type 0
+ShowsReading sees r s result s' steps =
+    (values : Values) → IsReading (course_of r) r.source values r.bits
+    → Shows sees s (calls_of r values) (turns_shown r values) result s' steps
+
+-- ---- The model of the view of an item.
+
+-- the model of a value
+abbrev pub seen_value : Value → ShownValue
+seen_value (value.Number n scale) = shown_number n scale
+seen_value (value.Text t) = shown_text t.now
+seen_value value.Missing = shown_missing
+seen_value (value.Reference r) = shown_reference r
+
+-- the model of the view of an item
+abbrev pub seen : ItemView → View
+seen v = view v.fxy (option_map row_of_entry v.entry) (seen_value v.value)
+
+-- ---- The row of Table B of a field.
+
+-- the row of Table B of a field's element, where the field is read by it
+abbrev pub HasRow : List Row → FieldSpec → Option Entry → Type 0
+HasRow table spec found =
+    option_map row_of_entry found ≡ (if spec.listed then entry_of table spec.fxy else None)

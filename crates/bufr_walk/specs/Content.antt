@@ -1,14 +1,15 @@
--- The content of a field, and its meaning. (WMO-No. 306, Volume I.2, FM 94: section 4)
+-- The content of a field, what it shows, and how it is read from data that are not compressed.
+-- (WMO-No. 306, Volume I.2, FM 94: section 4)
 -- Cited by public contracts.
-use Rattle.std.specs.Prelude.{ℕ, zero, suc, ◌-◌, ◌/◌, ◌&&◌, Bool, true, false, if◌then◌else◌, List, [], ◌∷◌, take, drop, replicate, ℤ, pos, negsuc, neg_ℤ, nat_abs, ◌+ℤ◌}
+use Rattle.std.specs.Prelude.{ℕ, zero, suc, ◌-◌, ◌/◌, ◌&&◌, Bool, true, false, if◌then◌else◌, List, [], ◌∷◌, take, drop, replicate, ℤ, pos, negsuc, neg_ℤ, nat_abs, ◌+ℤ◌, nat_lt, length, Result, Ok, Err}
 use Rattle.bufr_bits.specs.Bits.{bits_of, bits_in, number_of, are_all_ones}
 use Rattle.bufr_tables.specs.declared.table_b.Kind.{Kind}
-use Rattle.bufr_tables.specs.declared.table_b.Kind.TheVariants as kind
 use Rattle.bufr_walk.specs.declared.spec.Role.{Role}
-use Rattle.bufr_walk.specs.declared.spec.Role.TheVariants as role
 use Rattle.bufr_walk.specs.declared.spec.Taken.{Taken}
-use Rattle.bufr_walk.specs.declared.spec.Taken.TheVariants as taken
 use Rattle.bufr_walk.specs.FieldSpec.{FieldSpec}
+use Rattle.bufr_tables.specs.declared.table_b.Kind.TheVariants as kind
+use Rattle.bufr_walk.specs.declared.spec.Role.TheVariants as role
+use Rattle.bufr_walk.specs.declared.spec.Taken.TheVariants as taken
 
 -- the content of a field: a number before its reference is added, the octets of a text, all ones,
 -- or a redefined reference
@@ -105,3 +106,28 @@ shown spec (number raw) = shown_number (pos raw +ℤ spec.reference) spec.scale
 shown spec (text octets) = shown_text octets
 shown spec missing = shown_missing
 shown spec (reference value) = shown_reference value
+
+-- ---- One field of data that are not compressed.
+
+-- the faults of a field: the data end in it, an increment is invalid, or a factor is not the same
+-- in all subsets
+pub data FieldFault : Type 0 where
+  data_end : FieldFault
+  increment : FieldFault
+  unequal_factor : FieldFault
+
+-- the content of a field, and the bits after it
+pub record FieldRead (C : Type 0) : Type 0 where
+  pub content : C
+  pub suffix : List Bool
+
+-- a field from its content and the bits after it
+abbrev pub found : {C : Type 0} → C → List Bool → FieldRead C
+found content suffix = record { content = content; suffix = suffix }
+
+-- the field that begins the bits
+-- rule: field-past-end
+abbrev pub plain_field : FieldSpec → List Bool → Result (FieldRead Content) FieldFault
+plain_field spec bits =
+    if nat_lt (length bits) spec.width then Err data_end
+    else Ok (found (content_in spec (take spec.width bits)) (drop spec.width bits))

@@ -1,15 +1,49 @@
--- What comes next in a template after some items, by what these returned.
+-- The turns of a template, its groups unrolled, and what comes next after some items.
 -- Cited by public contracts.
-use Rattle.std.specs.Prelude.{ℕ, ◌+◌, Result, Ok, Err, List, [], ◌∷◌, if◌then◌else◌}
-use Rattle.bufr_tables.specs.Tree.{Tree, is_inserted_text}
+use Rattle.std.specs.Prelude.{ℕ, zero, suc, List, [], ◌∷◌, ◌+◌, Result, Ok, Err, if◌then◌else◌}
+use Rattle.bufr_tables.specs.Tree.{Tree, bare, element, operator, fixed, delayed, is_inserted_text}
 use Rattle.bufr_tables.specs.TableB.{Row}
 use Rattle.bufr_walk.specs.declared.spec.TurnRefusal.{TurnRefusal}
 use Rattle.bufr_walk.specs.declared.spec.Taken.{Taken}
-use Rattle.bufr_walk.specs.declared.spec.Taken.TheVariants as taken
 use Rattle.bufr_walk.specs.FieldSpec.{FieldSpec}
-use Rattle.bufr_walk.specs.Operators.{OperatorModel, begin, after_operator, after_field}
-use Rattle.bufr_walk.specs.Rules.{element_spec, factor_spec, inserted_spec}
-use Rattle.bufr_walk.specs.Turns.{Turns, finish, open_end, group, pass_end, factor_turn, element_turn, operator_turn, turns_of}
+use Rattle.bufr_walk.specs.Rules.{OperatorModel, begin, after_operator, after_field, element_spec, factor_spec, inserted_spec}
+use Rattle.bufr_walk.specs.declared.spec.Taken.TheVariants as taken
+
+-- The turns of a walk over a template, one after another (WMO-No. 306, Volume I.2, FM 94: section
+-- 3, replications).
+
+-- turns up to the end; open where the counts ran out
+pub data Turns : Type 0 where
+  finish : Turns
+  open_end : Turns
+  group : (next : Turns) → Turns
+  pass_end : (next : Turns) → Turns
+  factor_turn : (fxy : ℕ) → (next : Turns) → Turns
+  element_turn : (fxy : ℕ) → (next : Turns) → Turns
+  operator_turn : (fxy : ℕ) → (next : Turns) → Turns
+
+-- turns that depend on the counts that are still to come
+abbrev pub Rest : Type 0
+Rest = List ℕ → Turns
+
+-- n passes of a body, and then the rest
+abbrev pub passes : ℕ → (Rest → Rest) → Rest → Rest
+passes zero body rest counts = rest counts
+passes (suc n) body rest counts = body (λ later. pass_end (passes n body rest later)) counts
+
+-- the turns of a template, and then the rest
+abbrev pub unroll : Tree → Rest → Rest
+unroll bare rest counts = rest counts
+unroll (element fxy more) rest counts = element_turn fxy (unroll more rest counts)
+unroll (operator fxy more) rest counts = operator_turn fxy (unroll more rest counts)
+unroll (fixed n body more) rest counts = group (passes n (unroll body) (unroll more rest) counts)
+unroll (delayed fxy body more) rest [] = group (factor_turn fxy open_end)
+unroll (delayed fxy body more) rest (n ∷ counts) =
+    group (factor_turn fxy (passes n (unroll body) (unroll more rest) counts))
+
+-- the turns of a whole template
+abbrev pub turns_of : Tree → Rest
+turns_of template = unroll template (λ _. finish)
 
 -- the counts with that of a factor before them
 abbrev pub counts_in : Taken → List ℕ → List ℕ

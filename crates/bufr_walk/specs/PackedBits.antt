@@ -14,8 +14,7 @@ use Rattle.bufr_walk.specs.declared.packed_in.ItemBits.{ItemBits}
 use Rattle.bufr_walk.specs.declared.packed_in.PackedFault.{PackedFault}
 use Rattle.bufr_walk.specs.declared.packed_in.PackedFault.TheVariants as wrong
 use Rattle.bufr_walk.specs.FieldSpec.{FieldSpec}
-use Rattle.bufr_walk.specs.Content.{Content, number, missing}
-use Rattle.bufr_walk.specs.PlainField.{FieldFault, found}
+use Rattle.bufr_walk.specs.Content.{Content, number, missing, FieldFault, found}
 use Rattle.bufr_walk.specs.PackedIn.{PackedCursor, wrong_of, IsPackedWrong}
 use Rattle.bufr_walk.specs.Reading.{max_values}
 use Rattle.bufr_walk.specs.PackedField.{ones, increments, increment_bits_of, padded_text, contents_of, packed_field, answer_first}

@@ -12,8 +12,7 @@ use Rattle.bufr_walk.specs.declared.spec.Role.TheVariants as role
 use Rattle.bufr_walk.specs.declared.spec.Taken.{Taken}
 use Rattle.bufr_walk.specs.declared.spec.Taken.TheVariants as taken
 use Rattle.bufr_walk.specs.FieldSpec.{FieldSpec}
-use Rattle.bufr_walk.specs.Content.{Content, number, text, missing, content_in, octets_in, answer_of}
-use Rattle.bufr_walk.specs.PlainField.{FieldFault, data_end, increment, unequal_factor, FieldRead, found}
+use Rattle.bufr_walk.specs.Content.{Content, number, text, missing, content_in, octets_in, answer_of, FieldFault, data_end, increment, unequal_factor, FieldRead, found}
 
 -- the number that k ones write
 abbrev pub ones : ℕ → ℕ

@@ -12,10 +12,9 @@ use Rattle.bufr_walk.specs.declared.stop.WalkStop.{WalkStop}
 use Rattle.bufr_walk.specs.declared.stop.WalkStop.TheVariants as stops
 use Rattle.bufr_walk.specs.declared.fault.WalkFault.{WalkFault}
 use Rattle.bufr_walk.specs.declared.fault.WalkFault.TheVariants as fault
-use Rattle.bufr_walk.specs.Fault.{spot}
+use Rattle.bufr_walk.specs.Refusal.{spot}
 use Rattle.bufr_walk.specs.FieldSpec.{FieldSpec}
-use Rattle.bufr_walk.specs.Content.{Content}
-use Rattle.bufr_walk.specs.PlainField.{FieldFault, data_end, increment, unequal_factor, FieldRead, found}
+use Rattle.bufr_walk.specs.Content.{Content, FieldFault, data_end, increment, unequal_factor, FieldRead, found}
 use Rattle.bufr_walk.specs.PackedField.{packed_field, answer_first}
 use Rattle.bufr_walk.specs.Reading.{Item, max_values, items_at_once}
 

@@ -5,8 +5,7 @@ use Rattle.std.specs.Prelude.{ℕ, zero, suc, ◌≡◌, ◌+◌, ◌*◌, ◌�
 use Rattle.bufr_walk.specs.declared.spec.Taken.{Taken}
 use Rattle.bufr_walk.specs.FieldSpec.{FieldSpec}
 use Rattle.bufr_walk.specs.Course.{Course, Next, take_next, at_end}
-use Rattle.bufr_walk.specs.Content.{Content, answer_of}
-use Rattle.bufr_walk.specs.PlainField.{FieldFault, FieldRead, found, plain_field}
+use Rattle.bufr_walk.specs.Content.{Content, answer_of, FieldFault, FieldRead, found, plain_field}
 use Rattle.bufr_walk.specs.PackedField.{packed_field, answer_first}
 
 -- an item: its specification, and its content for one subset or for all

@@ -1,17 +1,116 @@
--- The specification of a field under the operators in force. (WMO-No. 306, Volume I.2, FM 94:
--- Tables B and C; what they leave open is a choice of this project)
+-- The operators in force, and the specification of a field under them.
+-- (WMO-No. 306, Volume I.2, FM 94: Tables B and C. What they leave open is a choice of this
+-- project.)
 -- Cited by public contracts.
-use Rattle.std.specs.Prelude.{ℕ, ◌+◌, ◌-◌, ◌*◌, ◌/◌, ◌^◌, ◌==◌, ◌&&◌, not, nat_lt, nat_le, Bool, true, false, if◌then◌else◌, List, ℤ, pos, ◌+ℤ◌, ◌-ℤ◌, ◌*ℤ◌, Option, Some, None, Result, Ok, Err}
-use Rattle.bufr_tables.specs.declared.table_b.Kind.{Kind}
-use Rattle.bufr_tables.specs.declared.table_b.Kind.TheVariants as kind
+use Rattle.std.specs.Prelude.{ℕ, ◌==◌, ◌&&◌, not, nat_lt, Bool, if◌then◌else◌, List, [], ◌∷◌, ℤ, Result, Ok, Err, ◌+◌, ◌-◌, ◌*◌, ◌/◌, ◌^◌, nat_le, true, false, pos, ◌+ℤ◌, ◌-ℤ◌, ◌*ℤ◌, Option, Some, None, ◌≤◌, ◌≡◌, ◌<◌}
 use Rattle.bufr_tables.specs.Fxy.{x_of, y_of}
+use Rattle.bufr_walk.specs.declared.spec.TurnRefusal.{TurnRefusal}
+use Rattle.bufr_walk.specs.declared.spec.Taken.{Taken}
+use Rattle.bufr_tables.specs.declared.table_b.Kind.{Kind}
 use Rattle.bufr_tables.specs.TableB.{Row, entry_of}
 use Rattle.bufr_walk.specs.declared.spec.Role.{Role}
-use Rattle.bufr_walk.specs.declared.spec.Role.TheVariants as role
-use Rattle.bufr_walk.specs.declared.spec.TurnRefusal.{TurnRefusal}
-use Rattle.bufr_walk.specs.declared.spec.TurnRefusal.TheVariants as refusal
 use Rattle.bufr_walk.specs.FieldSpec.{FieldSpec}
-use Rattle.bufr_walk.specs.Operators.{OperatorModel, is_defining, current_reference}
+use Rattle.bufr_walk.specs.declared.operators.OperatorOperands.{OperatorOperands}
+use Rattle.bufr_walk.specs.declared.operators.TableField.{TableField}
+use Rattle.bufr_walk.specs.declared.spec.TurnRefusal.TheVariants as refusal
+use Rattle.bufr_walk.specs.declared.spec.Taken.TheVariants as taken
+use Rattle.bufr_tables.specs.declared.table_b.Kind.TheVariants as kind
+use Rattle.bufr_walk.specs.declared.spec.Role.TheVariants as role
+use Rattle.bufr_walk.specs.declared.operators.TableField.TheVariants as field
+
+-- ---- The operators in force, in one subset. (WMO-No. 306, Volume I.2, FM 94: Table C)
+
+-- a reference that the data defined for an element
+pub record Redefined : Type 0 where
+  pub fxy : ℕ
+  pub reference : ℤ
+
+-- the operand Y of each operator in force, 0 where none is, and the references that the data
+-- defined
+pub record OperatorModel : Type 0 where
+  -- 2 01 Y: the width of a quantity is changed by Y - 128 bits
+  pub width_change : ℕ
+  -- 2 02 Y: the scale of a quantity is changed by Y - 128
+  pub scale_change : ℕ
+  -- 2 03 Y: references of Y bits are being defined
+  pub new_reference_width : ℕ
+  -- 2 07 Y: a quantity has Y decimal digits more
+  pub precision_increase : ℕ
+  -- 2 08 Y: a text has Y octets
+  pub character_octets : ℕ
+  -- 2 06 Y: the next element has Y bits
+  pub local_width : ℕ
+  -- one for an element, in the order of descriptors
+  pub new_references : List Redefined
+
+-- no operator is in force, as at the beginning of each subset
+-- rule: operators-end-with-subset
+abbrev pub begin : OperatorModel
+begin =
+    record {
+      width_change = 0;
+      scale_change = 0;
+      new_reference_width = 0;
+      precision_increase = 0;
+      character_octets = 0;
+      local_width = 0;
+      new_references = [];
+    }
+
+-- whether references are being defined
+abbrev pub is_defining : OperatorModel → Bool
+is_defining s = nat_lt 0 s.new_reference_width
+
+-- 2 03 Y: 255 ends the definition of references, 0 drops those that were defined, else one begins
+-- rule: 2-03-y, 2-03-000, 2-03-y-again, 2-03-255-alone
+abbrev pub with_references : ℕ → OperatorModel → OperatorModel
+with_references y s =
+    if y == 255 then record s { new_reference_width = 0 }
+    else if y == 0 then record s { new_references = [] }
+    else record s { new_reference_width = y }
+
+-- the operator 2 X Y changes the operands; a text of the template (2 05 Y) changes nothing
+-- rule: later-operator-replaces
+abbrev pub with_operator : (x y : ℕ) → OperatorModel → OperatorModel
+with_operator x y s =
+    if x == 1 then record s { width_change = y }
+    else if x == 2 then record s { scale_change = y }
+    else if x == 3 then with_references y s
+    else if x == 6 then record s { local_width = y }
+    else if x == 7 then record s { precision_increase = y }
+    else if x == 8 then record s { character_octets = y }
+    else s
+
+-- the operators in force after an operator; while references are being defined only their end is
+-- allowed
+-- rule: defining-no-other-operator, fault-32-before-31
+abbrev pub after_operator : OperatorModel → ℕ → Result OperatorModel TurnRefusal
+after_operator s fxy =
+    if is_defining s && not (x_of fxy == 3 && y_of fxy == 255) then Err (refusal.Defining fxy)
+    else Ok (with_operator (x_of fxy) (y_of fxy) s)
+
+-- the references, with that of an element in place of the one before
+-- rule: last-reference-counts
+abbrev pub with_reference : (fxy : ℕ) → (reference : ℤ) → List Redefined → List Redefined
+with_reference fxy reference [] = record { fxy = fxy; reference = reference } ∷ []
+with_reference fxy reference (r ∷ more) =
+    if nat_lt fxy r.fxy then record { fxy = fxy; reference = reference } ∷ r ∷ more
+    else if fxy == r.fxy then record r { reference = reference } ∷ more
+    else r ∷ with_reference fxy reference more
+
+-- the operators in force after a field: a given width ends, and a reference is kept
+-- rule: 2-06-y-used-up
+abbrev pub after_field : OperatorModel → ℕ → Taken → OperatorModel
+after_field s fxy taken.Plain = record s { local_width = 0 }
+after_field s fxy (taken.Count n) = record s { local_width = 0 }
+after_field s fxy (taken.Reference r) =
+    record s { local_width = 0; new_references = with_reference fxy r s.new_references }
+
+-- the reference of an element: the one that the data defined, or that of Table B
+abbrev pub current_reference : List Redefined → ℕ → ℤ → ℤ
+current_reference [] fxy listed = listed
+current_reference (r ∷ more) fxy listed =
+    if r.fxy == fxy then r.reference else current_reference more fxy listed
 
 -- a number whose width is 1 to 63 bits
 -- rule: widths
@@ -199,3 +298,73 @@ abbrev pub inserted_spec : OperatorModel → ℕ → Result FieldSpec TurnRefusa
 inserted_spec s fxy =
     if is_defining s then Err (refusal.Defining fxy)
     else Ok (text_spec role.Inserted fxy (8 * y_of fxy) false)
+
+-- ---- The operators in force, as the walk keeps them.
+
+-- redefined references, by the words of their descriptors
+abbrev pub known_by : List (ℕ × ℤ) → List Redefined
+known_by [] = []
+known_by (e ∷ more) = record { fxy = e.0; reference = e.1 } ∷ known_by more
+
+-- operands and redefined references together
+abbrev pub operator_model : OperatorOperands → List Redefined → OperatorModel
+operator_model o known = record {
+  width_change = o.width_change;
+  scale_change = o.scale_change;
+  new_reference_width = o.new_reference_width;
+  precision_increase = o.precision_increase;
+  character_octets = o.character_octets;
+  local_width = o.local_width;
+  new_references = known;
+}
+
+-- operands of legal operators
+pub record AreOperands (o : OperatorOperands) : Type 0 where
+  pub new_reference_width : o.new_reference_width ≤ 63
+  pub precision_increase : o.precision_increase ≤ 18
+
+-- ---- The key that a spec is cached under: the operators in force and a descriptor in one number.
+
+-- the operands of the operators in force, and a word after them, in one number
+abbrev pub spec_key : OperatorModel → ℕ → ℕ
+spec_key s word =
+    s.width_change + 256 * s.scale_change + 65536 * s.precision_increase + 16777216
+    * s.character_octets
+    + 4294967296 * s.local_width + 1099511627776 * word
+
+-- the key of operators and a word, where no reference is being defined and none was redefined
+pub record IsKey (s : OperatorModel) (word key : ℕ) : Type 0 where
+  pub is : key ≡ spec_key s word
+  pub new_reference_width : s.new_reference_width ≡ 0
+  pub new_references : s.new_references ≡ []
+  pub width_change : s.width_change < 256
+  pub scale_change : s.scale_change < 256
+  pub precision_increase : s.precision_increase < 256
+  pub character_octets : s.character_octets < 256
+  pub local_width : s.local_width < 256
+
+-- the key of the operators; a number from 2^62 on is no key
+pub record IsOperatorKey (s : OperatorModel) (key : ℕ) : Type 0 where
+  pub most : key ≤ 2 ^ 62
+  pub is : key < 2 ^ 62 → IsKey s 0 key
+
+-- the descriptor of a field
+abbrev pub descriptor_of : TableField → ℕ
+descriptor_of (field.Element fxy) = fxy
+descriptor_of (field.Factor fxy) = fxy
+
+-- its word in the key
+abbrev pub key_word : TableField → ℕ
+key_word (field.Element fxy) = fxy
+key_word (field.Factor fxy) = fxy + 65536
+
+-- the specification of a field
+abbrev pub spec_of : List Row → OperatorModel → TableField → Result FieldSpec TurnRefusal
+spec_of table s (field.Element fxy) = element_spec table s fxy
+spec_of table s (field.Factor fxy) = factor_spec table s fxy
+
+-- the key of a field
+pub record IsFieldKey (s : OperatorModel) (f : TableField) (key : ℕ) : Type 0 where
+  pub most : key < 2 ^ 63
+  pub word : descriptor_of f < 65536
+  pub is : key < 2 ^ 62 → IsKey s (key_word f) key

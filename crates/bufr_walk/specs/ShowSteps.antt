@@ -11,14 +11,12 @@ use Rattle.bufr_walk.specs.declared.spec.Taken.{Taken}
 use Rattle.bufr_walk.specs.declared.stop.WalkStop.{WalkStop}
 use Rattle.bufr_walk.specs.declared.stop.WalkStop.TheVariants as stops
 use Rattle.bufr_walk.specs.FieldSpec.{FieldSpec}
-use Rattle.bufr_walk.specs.Calls.{Call, item_call, view_of, Timed, item_calls, subset_calls}
-use Rattle.bufr_walk.specs.Content.{Content}
+use Rattle.bufr_walk.specs.Calls.{Call, item_call, view_of, Timed, item_calls, subset_calls, Shows}
+use Rattle.bufr_walk.specs.Content.{Content, plain_field, data_end}
 use Rattle.bufr_walk.specs.Course.{Course}
-use Rattle.bufr_walk.specs.PlainField.{plain_field, data_end}
 use Rattle.bufr_walk.specs.PlainIn.{Cursor, rest_of, past, IsTaken}
 use Rattle.bufr_walk.specs.Reading.{Item, plain, ReadsPass, turns_after, turns_in, ReadsSubsets}
-use Rattle.bufr_walk.specs.CallsInTurn.{Shows}
-use Rattle.bufr_walk.specs.Ticks.{ticked}
+use Rattle.bufr_walk.specs.Walk.{ticked}
 
 -- the state of a showing: the reader, the visitor, the table, and the names of the first two
 pub record Stage (V : Type 0) : Type 0 where

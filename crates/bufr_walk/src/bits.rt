@@ -74,7 +74,7 @@ pub(crate) fn signed_at(bits: &BitSlice<'_>, at: u64, width: u32) -> i64
 
 /// What a field that is inside the data returns to the walk.
 #[inline(always)]
-#[tactic(auto, using(crate::proofs::PlainNumbers::plain_answer, crate::proofs::PlainNumbers::plain_for, crate::proofs::PlainLemmas::answer_element, crate::proofs::PlainLemmas::answer_inserted, crate::proofs::PlainLemmas::answer_factor, crate::proofs::PlainLemmas::answer_reference, crate::proofs::PlainLemmas::some_width, crate::proofs::PlainLemmas::factor_width, crate::proofs::PlainLemmas::reference_width))]
+#[tactic(auto, using(crate::proofs::ShownLemmas::plain_answer, crate::proofs::ShownLemmas::plain_for, crate::proofs::PlainLemmas::answer_element, crate::proofs::PlainLemmas::answer_inserted, crate::proofs::PlainLemmas::answer_factor, crate::proofs::PlainLemmas::answer_reference, crate::proofs::PlainLemmas::some_width, crate::proofs::PlainLemmas::factor_width, crate::proofs::PlainLemmas::reference_width))]
 pub(crate) fn answer_at(bits: &BitSlice<'_>, at: u64, spec: &Spec) -> Taken
     requires { at + spec.now.width ≤ 8 * length (octets_of bits.now) }
     ensures value { result ≡ answer_of spec.now

@@ -18,7 +18,7 @@ pub struct Spot {
 
 impl Spot {
     ghost use Rattle.std.specs.Prelude.{◌≡◌};
-    ghost use Rattle.bufr_walk.specs.Fault.{spot};
+    ghost use Rattle.bufr_walk.specs.Refusal.{spot};
 
     /// An item of this subset, after `bit` bits.
     pub(crate) fn new(subset: u16, fxy: Fxy, bit: u64) -> Spot
@@ -56,7 +56,7 @@ pub enum WalkFault {
 
 impl WalkFault {
     ghost use Rattle.std.specs.Prelude.{◌≡◌};
-    ghost use Rattle.bufr_walk.specs.Fault.{number_of_walk_fault};
+    ghost use Rattle.bufr_walk.specs.Refusal.{number_of_walk_fault};
 
     /// The number of this fault: 30 to 35, and 73 where memory ran out.
     pub fn number(self) -> u8

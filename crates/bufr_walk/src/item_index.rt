@@ -1,6 +1,6 @@
 //! The index of the items of compressed data, and the specifications that they were read by.
 ghost use Rattle.std.specs.Prelude.{◌≡◌, ◌≤◌, ◌<◌, ◌+◌, ◌%◌, ◌^◌, ◌++◌, ◌∷◌, [], length, true, vec_len, vec_capacity, IfErr, IfSome, OnOk, OnErr};
-ghost use Rattle.bufr_walk.specs.ItemIndex.{HasSpecAt, IsPut, room_for, room_left};
+ghost use Rattle.bufr_walk.specs.StoredItems.{HasSpecAt, IsPut, room_for, room_left};
 ghost use Rattle.bufr_walk.specs.Reading.{items_at_once};
 ghost use Rattle.bufr_walk.specs.declared.packed_in.PackedFault.TheVariants as wrong;
 
@@ -114,7 +114,7 @@ impl Model for ItemIndex {
 
     ghost Value = { List IndexedItem };
 
-    ghost use Rattle.bufr_walk.specs.ItemIndex.{indexed_items, IsKeptBy};
+    ghost use Rattle.bufr_walk.specs.StoredItems.{indexed_items, IsKeptBy};
 
     ghost view = { λ k. indexed_items k.specs.items k.places.items };
 

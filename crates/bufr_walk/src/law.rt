@@ -1,11 +1,11 @@
 //! Laws on the data of a message: they have one reading or one refusal, and never both.
 ghost use Rattle.std.specs.Prelude.{◌≡◌, ◌⊎◌, ℕ, List};
-ghost use Rattle.bufr_tables.specs.Legal.{IsLegal};
+ghost use Rattle.bufr_tables.specs.Expansion.{IsLegal};
 ghost use Rattle.bufr_tables.specs.Records.{Record};
 ghost use Rattle.bufr_tables.specs.TableB.{Row, AreRows};
 ghost use Rattle.bufr_tables.specs.Tree.{Tree};
 ghost use Rattle.bufr_walk.specs.Course.{Course, next_item};
-ghost use Rattle.bufr_walk.specs.Outcome.{IsRefused};
+ghost use Rattle.bufr_walk.specs.Refusal.{IsRefused};
 ghost use Rattle.bufr_walk.specs.Reading.{Data, Values, IsReading};
 ghost use Rattle.bufr_walk.specs.declared.fault.WalkFault.{WalkFault};
 

@@ -3,13 +3,9 @@ ghost use Rattle.std.specs.Prelude.{◌≡◌, ◌≤◌, ◌<◌, ◌*◌, ◌+
 ghost use Rattle.std.specs.Ordering.{nat_cmp};
 ghost use Rattle.std.specs.BTreeMap.{get};
 ghost use Rattle.bufr_tables.specs.Entry.{row_of_entry};
-ghost use Rattle.bufr_tables.specs.Operators.{is_legal_operator};
+ghost use Rattle.bufr_tables.specs.Tree.{is_legal_operator, is_inserted_text};
 ghost use Rattle.bufr_tables.specs.TableB.{IsRow, entry_of, is_character};
-ghost use Rattle.bufr_tables.specs.Tree.{is_inserted_text};
-ghost use Rattle.bufr_walk.specs.Rules.{if_valid_width, numeric_spec, coded_spec, spec_by_kind, new_reference_spec, unsigned_of, local_width_spec, element_spec, factor_by, factor_spec, inserted_spec, scale_change_of, operator_width, extra_bits, text_width};
-ghost use Rattle.bufr_walk.specs.Operators.{OperatorModel, Redefined, begin, after_operator, after_field, current_reference, with_reference};
-ghost use Rattle.bufr_walk.specs.OperatorState.{AreOperands, known_by, operator_model};
-ghost use Rattle.bufr_walk.specs.SpecKey.{IsOperatorKey};
+ghost use Rattle.bufr_walk.specs.Rules.{if_valid_width, numeric_spec, coded_spec, spec_by_kind, new_reference_spec, unsigned_of, local_width_spec, element_spec, factor_by, factor_spec, inserted_spec, scale_change_of, operator_width, extra_bits, text_width, OperatorModel, Redefined, begin, after_operator, after_field, current_reference, with_reference, AreOperands, known_by, operator_model, IsOperatorKey};
 ghost use Rattle.bufr_walk.specs.declared.operators.OperatorOperands.{OperatorOperands};
 ghost use Rattle.bufr_tables.specs.declared.table_b.Kind.TheVariants as kinds;
 
@@ -70,7 +66,7 @@ pub(crate) enum TableField {
 
 impl TableField {
     ghost use Rattle.std.specs.Prelude.{◌≡◌, ◌<◌};
-    ghost use Rattle.bufr_walk.specs.SpecKey.{descriptor_of, key_word};
+    ghost use Rattle.bufr_walk.specs.Rules.{descriptor_of, key_word};
 
     /// Its descriptor.
     #[inline(always)]
@@ -107,15 +103,15 @@ pub(crate) struct OperatorState {
 }
 
 impl Model for OperatorState {
-    ghost use Rattle.bufr_walk.specs.Operators.{OperatorModel};
+    ghost use Rattle.bufr_walk.specs.Rules.{OperatorModel};
 
     ghost Value = { OperatorModel };
 
-    ghost use Rattle.bufr_walk.specs.OperatorState.{AreOperands, known_by, operator_model};
+    ghost use Rattle.bufr_walk.specs.Rules.{AreOperands, known_by, operator_model};
 
     ghost view = { λ a. operator_model a.operands (known_by a.new_references.entries) };
 
-    ghost use Rattle.bufr_walk.specs.SpecKey.{IsOperatorKey};
+    ghost use Rattle.bufr_walk.specs.Rules.{IsOperatorKey};
 
     ghost invariant = { λ a. AreOperands a.operands
         × IsOperatorKey (operator_model a.operands (known_by a.new_references.entries)) a.key };
@@ -428,15 +424,11 @@ fn factor_by(fxy: Fxy, entry: &Entry<'_>) -> Result<Spec, TurnRefusal>
 }
 
 impl OperatorState {
-    ghost use Rattle.std.specs.Prelude.{◌≡◌, Ok, Err, OnOk, IfErr, true, false, [], ◌∷◌};
-    ghost use Rattle.bufr_tables.specs.Operators.{is_legal_operator};
-    ghost use Rattle.bufr_tables.specs.Tree.{is_inserted_text};
-    ghost use Rattle.bufr_walk.specs.Rules.{element_spec, factor_spec, inserted_spec};
-    ghost use Rattle.bufr_walk.specs.Operators.{begin, after_operator, after_field};
-    ghost use Rattle.std.specs.Prelude.{IfOk};
+    ghost use Rattle.std.specs.Prelude.{◌≡◌, Ok, Err, OnOk, IfErr, true, false, [], ◌∷◌, IfOk};
+    ghost use Rattle.bufr_tables.specs.Tree.{is_legal_operator, is_inserted_text};
+    ghost use Rattle.bufr_walk.specs.Rules.{element_spec, factor_spec, inserted_spec, begin, after_operator, after_field, IsFieldKey, spec_of};
     ghost use Rattle.bufr_walk.specs.FieldSpec.{is_reference};
-    ghost use Rattle.bufr_walk.specs.WalkProgress.{TakesField};
-    ghost use Rattle.bufr_walk.specs.SpecKey.{IsFieldKey, spec_of};
+    ghost use Rattle.bufr_walk.specs.Walk.{TakesField};
 
     /// No operator is in force.
     pub(crate) fn new(alloc: Global) -> OperatorState
@@ -450,7 +442,7 @@ impl OperatorState {
     }
 
     /// The key for the spec of a field.
-    #[tactic(auto, using(crate::proofs::SpecKeyLemmas::with_word))]
+    #[tactic(auto, using(crate::proofs::CacheLemmas::with_word))]
     #[inline(always)]
     pub(crate) fn key(&self, field: &TableField) -> u64
         ensures { IsFieldKey self.now field.now result }
@@ -603,7 +595,7 @@ impl OperatorState {
 
     /// Takes a field that is no reference.
     #[inline(always)]
-    #[tactic(auto, using(crate::proofs::FieldWays::no_reference))]
+    #[tactic(auto, using(crate::proofs::WalkLemmas::no_reference))]
     // rule: 2-06-y-used-up
     pub(crate) fn take_other<S: Fields>(
         &mut self,

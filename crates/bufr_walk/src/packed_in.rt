@@ -44,7 +44,7 @@ pub enum PackedFault {
 
 impl PackedFault {
     ghost use Rattle.std.specs.Prelude.{◌≡◌};
-    ghost use Rattle.bufr_walk.specs.Fault.{number_of_packed};
+    ghost use Rattle.bufr_walk.specs.Refusal.{number_of_packed};
 
     /// The number of the [`WalkFault`](crate::WalkFault) that it becomes: 30, 33 to 35, and 73
     /// where memory ran out.
@@ -126,7 +126,7 @@ fn all_fit(base: Base, k: u32) -> bool
 }
 
 /// Whether the increments of numbers are valid; a base of all ones makes all of them valid.
-#[tactic(auto, using(crate::proofs::PackedLoops::numbers_fit))]
+#[tactic(auto, using(crate::proofs::PackedLemmas::numbers_fit))]
 // rule: compressed-all-missing
 fn numbers_hold(bits: &BitSlice<'_>, at: u64, subsets: u16, spec: &Spec, k: u32) -> bool
     requires increment { k ≤ 63 }

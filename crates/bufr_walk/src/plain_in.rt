@@ -40,11 +40,10 @@ impl<'a> PlainIn<'a> {
     ghost use Rattle.bufr_bits.specs.Bits.{bits_of, are_all_ones};
     ghost use Rattle.bufr_bits.specs.BitSlice.{octets_of};
     ghost use Rattle.bufr_tables.specs.TableB.{is_character};
-    ghost use Rattle.bufr_walk.specs.FieldSpec.{IsFor};
+    ghost use Rattle.bufr_walk.specs.FieldSpec.{IsFor, IsPlainNumber};
     ghost use Rattle.bufr_walk.specs.Content.{content_in, octets_in, shown};
     ghost use Rattle.bufr_walk.specs.PlainIn.{PlainTakes, past, rest_of};
-    ghost use Rattle.bufr_walk.specs.Numbers.{IsPlainNumber};
-    ghost use Rattle.bufr_walk.specs.ViewModel.{seen_value};
+    ghost use Rattle.bufr_walk.specs.Calls.{seen_value};
 
     /// A reader of data that are not compressed, from bit 0 on.
     pub fn new(bits: BitSlice<'a>) -> PlainIn<'a>
@@ -150,7 +149,7 @@ impl<'a> PlainIn<'a> {
     }
 
     /// Copies the octets of the next field, which is text.
-    #[tactic(auto, using(crate::proofs::TextLemmas::text_prefix, crate::proofs::TextLemmas::whole_octets, crate::proofs::PlainLemmas::bits_length))]
+    #[tactic(auto, using(crate::proofs::PlainLemmas::text_prefix, crate::proofs::PlainLemmas::whole_octets, crate::proofs::PlainLemmas::bits_length))]
     pub(crate) fn copy_text(&self, spec: &Spec, text: &mut [u8; 255])
         requires within { self.now.at + spec.now.width ≤ length self.now.bits }
         requires text { is_character spec.now.kind ≡ true }
@@ -161,7 +160,7 @@ impl<'a> PlainIn<'a> {
     }
 
     /// The value of the next field, which is plain.
-    #[tactic(auto, using(crate::proofs::PlainNumbers::plain_shown, crate::proofs::PlainNumbers::plain_missing, crate::proofs::PlainLemmas::bits_length))]
+    #[tactic(auto, using(crate::proofs::ShownLemmas::plain_shown, crate::proofs::ShownLemmas::plain_missing, crate::proofs::PlainLemmas::bits_length))]
     #[inline(always)]
     pub(crate) fn plain_value<'t>(&self, spec: &Spec) -> Value<'t>
         requires within { self.now.at + spec.now.width ≤ length self.now.bits }

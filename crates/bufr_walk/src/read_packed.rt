@@ -4,9 +4,8 @@ ghost use Rattle.bufr_bits.specs.Bits.{bits_of};
 ghost use Rattle.bufr_bits.specs.BitSlice.{octets_of};
 ghost use Rattle.bufr_tables.specs.Tree.{places};
 ghost use Rattle.bufr_walk.specs.Course.{next_item};
-ghost use Rattle.bufr_walk.specs.Fault.{bits_before};
+ghost use Rattle.bufr_walk.specs.Refusal.{bits_before, data_in, IsFault};
 ghost use Rattle.bufr_walk.specs.StoredItems.{IsReadAndKept};
-ghost use Rattle.bufr_walk.specs.Outcome.{data_in, IsFault};
 ghost use Rattle.bufr_walk.specs.PackedIn.{packed_fault};
 ghost use Rattle.bufr_walk.specs.declared.stop.WalkStop.TheVariants as stops;
 

@@ -5,11 +5,9 @@ ghost use Rattle.bufr_bits.specs.Bits.{bits_of};
 ghost use Rattle.bufr_bits.specs.BitSlice.{octets_of};
 ghost use Rattle.bufr_tables.specs.Tree.{places};
 ghost use Rattle.bufr_walk.specs.Course.{next_item};
-ghost use Rattle.bufr_walk.specs.Fault.{bits_before};
+ghost use Rattle.bufr_walk.specs.Refusal.{bits_before, data_in, IsFault};
 ghost use Rattle.bufr_walk.specs.StoredItems.{IsReadAndPaid};
-ghost use Rattle.bufr_walk.specs.Outcome.{data_in, IsFault};
-ghost use Rattle.bufr_walk.specs.Passes.{PassReads, PassStops, SubsetsRead};
-ghost use Rattle.bufr_walk.specs.PlainIn.{plain_fault};
+ghost use Rattle.bufr_walk.specs.PlainIn.{PassReads, PassStops, SubsetsRead, plain_fault};
 
 use crate::fault::{Spot, WalkFault};
 use crate::plain_in::{DataEnd, PlainIn};

@@ -2,8 +2,7 @@
 ghost use Rattle.std.specs.Prelude.{◌≡◌, ◌≤◌, ◌+◌, ◌*◌, length, IfOk, IfErr};
 ghost use Rattle.bufr_tables.specs.Tree.{places};
 ghost use Rattle.bufr_walk.specs.Course.{next_item};
-ghost use Rattle.bufr_walk.specs.Fault.{bits_before};
-ghost use Rattle.bufr_walk.specs.Outcome.{data_of, IsFault, IsReadingOf};
+ghost use Rattle.bufr_walk.specs.Refusal.{bits_before, data_of, IsFault, IsReadingOf};
 
 use crate::fault::{ShowFault, WalkFault};
 use crate::item_index::ItemIndex;
@@ -44,8 +43,8 @@ pub struct Reading<'a> {
 impl<'a> Model for Reading<'a> {
     ghost use Rattle.std.specs.Coded.{codes};
     ghost use Rattle.bufr_bits.specs.BitSlice.{octets_of};
-    ghost use Rattle.bufr_tables.specs.TreeCode.{tree_code};
-    ghost use Rattle.bufr_walk.specs.Outcome.{data_in, read_by, Read};
+    ghost use Rattle.bufr_tables.specs.Cells.{tree_code};
+    ghost use Rattle.bufr_walk.specs.Refusal.{data_in, read_by, Read};
 
     ghost Value = { Read };
 
@@ -152,10 +151,9 @@ pub fn read_by<'a, 't: 'a>(
 impl<'a> Reading<'a> {
     ghost use Rattle.std.specs.Prelude.{◌≡◌, ◌≤◌, ◌*◌, false};
     ghost use Rattle.bufr_tables.specs.Tree.{places};
-    ghost use Rattle.bufr_walk.specs.Calls.{calls_of, items_called};
-    ghost use Rattle.bufr_walk.specs.Outcome.{course_of};
+    ghost use Rattle.bufr_walk.specs.Calls.{calls_of, items_called, ShowsReading};
+    ghost use Rattle.bufr_walk.specs.Refusal.{course_of};
     ghost use Rattle.bufr_walk.specs.Reading.{Values, IsReading, items_kept, max_values};
-    ghost use Rattle.bufr_walk.specs.CallsInTurn.{ShowsReading};
 
     /// The number of subsets.
     pub fn subsets(&self) -> u16
@@ -194,7 +192,7 @@ impl<'a> Reading<'a> {
     }
 
     /// Shows each subset and its items to a visitor, from what is kept.
-    #[tactic(auto, using(crate::proofs::ReadingLemmas::readable_of, crate::proofs::PackedShowing::entries_fit, crate::proofs::PackedShowing::packed_shown))]
+    #[tactic(auto, using(crate::proofs::PlainLemmas::readable_of, crate::proofs::PackedShowing::entries_fit, crate::proofs::PackedShowing::packed_shown))]
     fn show_kept<V: Visitor>(
         &self,
         cache: &mut SpecCache<'_>,

@@ -4,16 +4,14 @@ ghost use Rattle.std.specs.List.{list_all};
 ghost use Rattle.bufr_bits.specs.Bits.{are_all_ones, bits_of, bits_at, number_of};
 ghost use Rattle.bufr_bits.specs.BitSlice.{octets_of};
 ghost use Rattle.bufr_tables.specs.TableB.{is_character};
-ghost use Rattle.bufr_walk.specs.Calls.{compressed_item_calls, subset_call, compressed_subset_calls, timed};
+ghost use Rattle.bufr_walk.specs.Calls.{compressed_item_calls, subset_call, compressed_subset_calls, timed, seen_value, Shows};
 ghost use Rattle.bufr_walk.specs.Content.{missing, number, octets_in, shown};
 ghost use Rattle.bufr_walk.specs.PackedField.{ones};
-ghost use Rattle.bufr_walk.specs.Numbers.{IsPlainNumber};
+ghost use Rattle.bufr_walk.specs.FieldSpec.{IsPlainNumber};
 ghost use Rattle.bufr_walk.specs.declared.kept.IndexedItem.{IndexedItem};
 ghost use Rattle.bufr_walk.specs.StoredItems.{HasIncrement, call_kept, content_kept};
 ghost use Rattle.bufr_walk.specs.PackedBits.{increased_to, is_missing, number_from, sum_content, text_at};
 ghost use Rattle.bufr_walk.specs.PackedIn.{items_at, fits_at};
-ghost use Rattle.bufr_walk.specs.ViewModel.{seen_value};
-ghost use Rattle.bufr_walk.specs.CallsInTurn.{Shows};
 
 use crate::base::Base;
 use crate::bits::{copy_octets, number_at, ones_at, prefix};
@@ -69,7 +67,7 @@ fn is_full(pack: &PackedData<'_>, item: &IndexedItem) -> bool
 
 /// The base of a kept item that is a number; `None` where it is missing, so that the item of each
 /// subset is missing too.
-#[tactic(auto, using(crate::proofs::PackedAt::kept_number))]
+#[tactic(auto, using(crate::proofs::PackedLemmas::kept_number))]
 #[inline(always)]
 fn base_of(pack: &PackedData<'_>, item: &IndexedItem) -> Option<Base>
     requires fits { fits_at (bits_of (octets_of pack.now.bits)) pack.now.subsets item.now ≡ true }
@@ -131,7 +129,7 @@ fn number_value<'t>(spec: &Spec, raw: Option<u64>) -> Value<'t>
 }
 
 /// Writes spaces after the first `from` of `count` octets.
-#[tactic(auto, using(crate::proofs::PackedCalls::pad_none, crate::proofs::PackedCalls::pad_more))]
+#[tactic(auto, using(crate::proofs::PackedShowing::pad_none, crate::proofs::PackedShowing::pad_more))]
 fn pad(text: &mut [u8; 255], from: usize, count: usize)
     requires few { count ≤ 255 }
     requires order { from ≤ count }
@@ -144,7 +142,7 @@ fn pad(text: &mut [u8; 255], from: usize, count: usize)
 
 /// The number of a kept item with increments for one subset, counted from 0; `None` where it is
 /// missing.
-#[tactic(auto, using(crate::proofs::PackedAt::number_content, crate::proofs::PackedAt::step_small))]
+#[tactic(auto, using(crate::proofs::PackedLemmas::number_content, crate::proofs::PackedLemmas::step_small))]
 #[inline(always)]
 fn number_of(pack: &PackedData<'_>, item: &IndexedItem, subset: u16) -> Option<u64>
     requires increment { HasIncrement (bits_of (octets_of pack.now.bits)) pack.now.subsets
@@ -204,7 +202,7 @@ fn copy_text(bits: &BitSlice<'_>, span: TextSpan, count: usize, text: &mut [u8; 
 }
 
 /// A text that was copied, as it is shown.
-#[tactic(auto, using(crate::proofs::PackedTexts::missing_text, crate::proofs::PackedTexts::whole_text))]
+#[tactic(auto, using(crate::proofs::PackedShowing::missing_text, crate::proofs::PackedShowing::whole_text))]
 // rule: compressed-text-missing
 fn text_value<'t>(
     bits: &BitSlice<'_>,
@@ -376,7 +374,7 @@ fn added(may_be_missing: bool, base: u64, k: u32, increment: u64) -> Option<u64>
 
 /// The number of one subset, counted from 0, where no sum is as great as all ones; `None` where it
 /// is missing.
-#[tactic(auto, using(crate::proofs::PackedAt::kept_number))]
+#[tactic(auto, using(crate::proofs::PackedLemmas::kept_number))]
 #[inline(always)]
 fn roomy_number_in(pack: &PackedData<'_>, item: &IndexedItem, k: u32, subset: u16) -> Option<u64>
     requires fits { fits_at (bits_of (octets_of pack.now.bits)) pack.now.subsets item.now ≡ true }
@@ -398,7 +396,7 @@ fn roomy_number_in(pack: &PackedData<'_>, item: &IndexedItem, k: u32, subset: u1
 
 /// The number of a kept item with increments for one subset, counted from 0, where no sum is as
 /// great as all ones; `None` where it is missing.
-#[tactic(auto, using(crate::proofs::PackedAt::step_small))]
+#[tactic(auto, using(crate::proofs::PackedLemmas::step_small))]
 #[inline(always)]
 fn roomy_number(pack: &PackedData<'_>, item: &IndexedItem, subset: u16) -> Option<u64>
     requires increment { HasIncrement (bits_of (octets_of pack.now.bits)) pack.now.subsets
@@ -413,7 +411,7 @@ fn roomy_number(pack: &PackedData<'_>, item: &IndexedItem, subset: u16) -> Optio
 
 /// The value of a plain kept item for one subset, counted from 0; `None` where a sum may be as
 /// great as all ones, and for a number of more than 62 bits, which none is.
-#[tactic(auto, using(crate::proofs::PackedAt::kept_number, crate::proofs::PackedAt::step_small))]
+#[tactic(auto, using(crate::proofs::PackedLemmas::kept_number, crate::proofs::PackedLemmas::step_small))]
 #[inline(always)]
 fn plain_value<'t>(pack: &PackedData<'_>, item: &IndexedItem, subset: u16) -> Option<Value<'t>>
     requires fits { fits_at (bits_of (octets_of pack.now.bits)) pack.now.subsets item.now ≡ true }
@@ -510,7 +508,7 @@ fn show_subset<V: Visitor>(
 }
 
 /// Shows each subset, and its items.
-#[tactic(auto, using(crate::proofs::PackedSubsets::subsets_start, crate::proofs::PackedSubsets::subsets_done))]
+#[tactic(auto, using(crate::proofs::PackedShowing::subsets_start, crate::proofs::PackedShowing::subsets_done))]
 pub(crate) fn show_packed<V: Visitor>(
     pack: &PackedData<'_>,
     kept: &ItemIndex,

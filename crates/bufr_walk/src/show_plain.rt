@@ -5,16 +5,13 @@ ghost use Rattle.bufr_bits.specs.BitSlice.{octets_of};
 ghost use Rattle.bufr_tables.specs.TableB.{Row, entry_of, is_character};
 ghost use Rattle.bufr_tables.specs.Entry.{row_of_entry};
 ghost use Rattle.bufr_tables.specs.Tree.{Tree};
-ghost use Rattle.bufr_walk.specs.Calls.{item_call, view_of, subset_calls};
+ghost use Rattle.bufr_walk.specs.Calls.{item_call, view_of, subset_calls, seen_value, HasRow, Shows};
 ghost use Rattle.bufr_walk.specs.Content.{Content, content_in, octets_in, shown};
-ghost use Rattle.bufr_walk.specs.ViewModel.{seen_value};
 ghost use Rattle.bufr_walk.specs.Course.{next_item};
 ghost use Rattle.bufr_walk.specs.PlainIn.{rest_of};
-ghost use Rattle.bufr_walk.specs.FieldRow.{HasRow};
-ghost use Rattle.bufr_walk.specs.Numbers.{IsPlainNumber};
+ghost use Rattle.bufr_walk.specs.FieldSpec.{IsPlainNumber};
 ghost use Rattle.bufr_walk.specs.Reading.{Item, plain, ReadsPass, ReadsSubsets, turns_in};
 ghost use Rattle.bufr_walk.specs.ShowSteps.{IsEnd, MayEnd, ItemsGo, SubsetGoes};
-ghost use Rattle.bufr_walk.specs.CallsInTurn.{Shows};
 
 use crate::bits::prefix;
 use crate::fault::ShowFault;

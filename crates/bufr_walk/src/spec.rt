@@ -1,9 +1,8 @@
 //! The specification of one field of the data.
 ghost use Rattle.std.specs.Prelude.{◌≡◌, ◌≤◌, ◌^◌, false, true, unsigned_abs};
 ghost use Rattle.bufr_tables.specs.TableB.{is_character};
-ghost use Rattle.bufr_walk.specs.FieldSpec.{HasRole, HasWidth};
+ghost use Rattle.bufr_walk.specs.FieldSpec.{HasRole, HasWidth, number_field, is_plain_number};
 ghost use Rattle.bufr_walk.specs.Rules.{if_valid_width, text_spec};
-ghost use Rattle.bufr_walk.specs.Numbers.{number_field, is_plain_number};
 ghost use Rattle.bufr_tables.specs.declared.table_b.Kind.TheVariants as kinds;
 
 use bufr_tables::{Fxy, Kind};
@@ -70,8 +69,7 @@ pub(crate) struct NumberParts {
 }
 
 impl Model for Spec {
-    ghost use Rattle.bufr_walk.specs.FieldSpec.{FieldSpec};
-    ghost use Rattle.bufr_walk.specs.Numbers.{IsSpecWith, is_plain};
+    ghost use Rattle.bufr_walk.specs.FieldSpec.{FieldSpec, IsSpecWith, is_plain};
 
     ghost Value = { FieldSpec };
 
@@ -138,9 +136,8 @@ impl Spec {
     ghost use Rattle.std.specs.Prelude.{◌≡◌, ◌≤◌, ◌%◌, ◌^◌, true, false, unsigned_abs};
     ghost use Rattle.bufr_tables.specs.TableB.{is_character};
     ghost use Rattle.bufr_tables.specs.declared.table_b.Kind.TheVariants as kinds;
-    ghost use Rattle.bufr_walk.specs.FieldSpec.{HasRole, HasWidth, IsSpec, is_reference};
+    ghost use Rattle.bufr_walk.specs.FieldSpec.{HasRole, HasWidth, IsSpec, is_reference, number_field, IsPlainNumber};
     ghost use Rattle.bufr_walk.specs.Rules.{if_valid_width, text_spec};
-    ghost use Rattle.bufr_walk.specs.Numbers.{number_field, IsPlainNumber};
 
     /// A number, where its width is 1 to 63.
     #[tactic(auto, using(crate::proofs::SpecLemmas::number_good))]

@@ -47,7 +47,7 @@ impl<'a> Model for SpecCache<'a> {
 
     ghost Value = { List Row };
 
-    ghost use Rattle.bufr_walk.specs.SpecCache.{AreCached};
+    ghost use Rattle.bufr_walk.specs.TemplateCache.{AreCached};
 
     ghost view = { λ c. c.table.now };
 
@@ -56,7 +56,7 @@ impl<'a> Model for SpecCache<'a> {
 
 impl<'a> SpecCache<'a> {
     ghost use Rattle.std.specs.Prelude.{◌≡◌, ◌<◌, ◌^◌, IfSome};
-    ghost use Rattle.bufr_walk.specs.SpecCache.{IsSpecBy};
+    ghost use Rattle.bufr_walk.specs.TemplateCache.{IsSpecBy};
 
     /// No spec, and no room for one. Takes no memory.
     pub fn new(alloc: Global, table: &'a TableB) -> SpecCache<'a>

@@ -1,6 +1,6 @@
 //! A counter of steps.
 ghost use Rattle.std.specs.Prelude.{◌≡◌, ℕ, ◌+◌, ◌-◌, ◌^◌, min};
-ghost use Rattle.bufr_walk.specs.Ticks.{ticked};
+ghost use Rattle.bufr_walk.specs.Walk.{ticked};
 
 use std::marker::Model;
 

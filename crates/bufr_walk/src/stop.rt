@@ -17,7 +17,7 @@ pub enum WalkStop<E> {
 
 impl<E> From<TurnRefusal> for WalkStop<E> {
     ghost use Rattle.std.specs.Prelude.{◌≡◌};
-    ghost use Rattle.bufr_walk.specs.Stop.{stop_by};
+    ghost use Rattle.bufr_walk.specs.Walk.{stop_by};
 
     ghost from_gives = { λ w e. e ≡ stop_by w };
 

@@ -1,12 +1,10 @@
 //! The cache of the last lists of descriptors, with their templates and the specs of their cells.
 //! The messages of a stream repeat their descriptors.
-ghost use Rattle.std.specs.Prelude.{◌≡◌, ◌≢◌, ◌≤◌, ◌<◌, [], length, true, false, IfErr, IfOk, IfSome, OnOk, get_or};
-ghost use Rattle.bufr_walk.specs.TemplateCache.{MayStay};
-ghost use Rattle.std.specs.Prelude.{List};
+ghost use Rattle.std.specs.Prelude.{◌≡◌, ◌≢◌, ◌≤◌, ◌<◌, [], length, true, false, IfErr, IfOk, IfSome, OnOk, get_or, List};
+ghost use Rattle.bufr_walk.specs.TemplateCache.{MayStay, IsSlotBy, IsOther, AreSlots};
 ghost use Rattle.std.specs.List.{All};
 ghost use Rattle.bufr_tables.specs.TableB.{Row};
 ghost use Rattle.bufr_tables.specs.TableD.{Sequence};
-ghost use Rattle.bufr_walk.specs.TemplateSlots.{IsSlotBy, IsOther, AreSlots};
 
 use crate::spec_cache::SpecCache;
 use bufr_tables::{Fxy, SelectedTemplate, TableB, TableD, Template, TemplateFault};
@@ -29,8 +27,7 @@ struct Slot<'a> {
 
 impl<'a> Slot<'a> {
     ghost use Rattle.std.specs.Prelude.{◌≡◌, [], true, OnOk};
-    ghost use Rattle.bufr_walk.specs.TemplateCache.{MayStay};
-    ghost use Rattle.bufr_walk.specs.TemplateSlots.{IsSlotBy};
+    ghost use Rattle.bufr_walk.specs.TemplateCache.{MayStay, IsSlotBy};
 
     /// The list of no descriptors.
     fn new(alloc: Global, table_b: &'a TableB, table_d: &'a TableD) -> Slot<'a>
@@ -167,7 +164,7 @@ impl<'a> Model for TemplateCache<'a> {
 
     ghost Value = { Lists };
 
-    ghost use Rattle.bufr_walk.specs.TemplateSlots.{AreSlots, lists_of};
+    ghost use Rattle.bufr_walk.specs.TemplateCache.{AreSlots, lists_of};
 
     ghost view = { λ t. record {
       table_b = t.table_b.now;
@@ -182,8 +179,7 @@ impl<'a> Model for TemplateCache<'a> {
 impl<'a> TemplateCache<'a> {
     ghost use Rattle.std.specs.Prelude.{◌≡◌, ◌≢◌, ◌≤◌, [], length, true, Ok, Err, IfErr, IfOk, OnOk};
     ghost use Rattle.std.specs.List.{All};
-    ghost use Rattle.bufr_tables.specs.Expansion.{tree_of};
-    ghost use Rattle.bufr_tables.specs.TemplateTables.{tables_of};
+    ghost use Rattle.bufr_tables.specs.Expansion.{tree_of, tables_of};
     ghost use Rattle.bufr_walk.specs.TemplateCache.{MayStay};
 
     /// Templates by these tables; the list of no descriptors is the last. Takes no memory.

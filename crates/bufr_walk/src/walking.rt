@@ -2,15 +2,11 @@
 ghost use Rattle.std.specs.Prelude.{◌≡◌, ◌<◌, ◌≤◌, ◌+◌, ◌-◌, ◌*◌, ◌^◌, ◌++◌, ◌∷◌, [], List, length, IfOk, IfErr, OnOk, OnErr, Result, Ok, Err};
 ghost use Rattle.arrayvec.specs.ArrayVec.{array_vec_len};
 ghost use Rattle.bufr_tables.specs.Tree.{Tree, places};
-ghost use Rattle.bufr_walk.specs.Course.{next_item};
-ghost use Rattle.bufr_walk.specs.Operators.{OperatorModel, after_field};
-ghost use Rattle.bufr_walk.specs.SpecKey.{descriptor_of, spec_of};
-ghost use Rattle.bufr_walk.specs.Turns.{Rest};
+ghost use Rattle.bufr_walk.specs.Course.{next_item, Rest};
+ghost use Rattle.bufr_walk.specs.Rules.{OperatorModel, after_field, descriptor_of, spec_of};
 ghost use Rattle.bufr_walk.specs.declared.walking.Frame.{Frame};
 ghost use Rattle.bufr_tables.specs.Cells.{AreCellsOf};
-ghost use Rattle.bufr_walk.specs.CellWalk.{IsAtCell, Turned};
-ghost use Rattle.bufr_walk.specs.Walked.{Walked};
-ghost use Rattle.bufr_walk.specs.WalkProgress.{TakesField};
+ghost use Rattle.bufr_walk.specs.Walk.{IsAtCell, Turned, Walked, TakesField};
 
 use crate::cells::cell_at;
 use crate::fields::Fields;
@@ -110,7 +106,7 @@ fn note_place<S: Fields>(place: u32, cache: &mut SpecCache<'_>, fields: &S)
 }
 
 /// Takes a field whose spec is not cached, and caches it.
-#[tactic(auto, using(crate::proofs::SpecCacheLemmas::spec_cached))]
+#[tactic(auto, using(crate::proofs::CacheLemmas::spec_cached))]
 #[inline(never)]
 fn take_new<S: Fields>(
     field: TableField,
@@ -135,7 +131,7 @@ fn take_new<S: Fields>(
 }
 
 /// Takes a field by the spec cached for its cell, if there is one.
-#[tactic(auto, using(crate::proofs::SpecCacheLemmas::spec_got, crate::proofs::SpecCacheLemmas::spec_got_plain))]
+#[tactic(auto, using(crate::proofs::CacheLemmas::spec_got, crate::proofs::CacheLemmas::spec_got_plain))]
 #[inline(always)]
 fn take_found<S: Fields>(
     field: TableField,

@@ -1,6 +1,5 @@
 use Rattle.std.proofs.Common.{◌∙◌, sym, refl}
-use Rattle.bufr_bits.proofs.OnesLemmas.{are_all_ones-bits_of}
-use Rattle.bufr_bits.proofs.WindowLemmas.{window_not_ones, window_all_ones}
+use Rattle.bufr_bits.proofs.BitLemmas.{are_all_ones-bits_of, window_not_ones, window_all_ones}
 use Rattle.bufr_bits.proofs.bit_slice.are_full.Goals as goal
 
 pub returns-then-window : goal.returns-then-window

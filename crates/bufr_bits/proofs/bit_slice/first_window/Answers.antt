@@ -1,5 +1,5 @@
 use Rattle.std.proofs.Common.{ℕ, ◌<◌, get_or, arith}
-use Rattle.bufr_bits.proofs.WindowLemmas.{window_is}
+use Rattle.bufr_bits.proofs.BitLemmas.{window_is}
 use Rattle.bufr_bits.proofs.bit_slice.first_window.Goals as goal
 
 pub returns-in-Some : goal.returns-in-Some

@@ -1,5 +1,5 @@
 use Rattle.std.proofs.Common.{◌<◌, get_or, arith}
-use Rattle.bufr_bits.proofs.WriterLemmas.{after_step, nothing_after}
+use Rattle.bufr_bits.proofs.BitLemmas.{after_step, nothing_after}
 use Rattle.bufr_bits.proofs.bit_writer.append_shifted.Goals as goal
 
 pub loop-octet-init : goal.loop-octet-init

@@ -1,5 +1,5 @@
 use Rattle.std.proofs.Common.{arith}
-use Rattle.bufr_bits.proofs.PushLemmas.{bits_between, octet_between}
+use Rattle.bufr_bits.proofs.BitLemmas.{bits_between, octet_between}
 use Rattle.bufr_bits.proofs.bit_writer.pushed_octets_read_back.Goals as goal
 
 pub returns-clause-bits : goal.returns-clause-bits

@@ -1,4 +1,4 @@
-use Rattle.bufr_bits.proofs.PushLemmas.{found_between}
+use Rattle.bufr_bits.proofs.BitLemmas.{found_between}
 use Rattle.bufr_bits.proofs.bit_writer.pushed_reads_back.Goals as goal
 
 pub returns : goal.returns

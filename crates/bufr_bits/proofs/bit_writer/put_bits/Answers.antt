@@ -1,5 +1,5 @@
 use Rattle.std.proofs.Common.{◌-◌, arith}
-use Rattle.bufr_bits.proofs.WriterLemmas.{both_fit, both_bits, both_low, full_fits, full_bits, rest_low}
+use Rattle.bufr_bits.proofs.BitLemmas.{both_fit, both_bits, both_low, full_fits, full_bits, rest_low}
 use Rattle.bufr_bits.proofs.bit_writer.put_bits.Goals as goal
 
 pub overflow_add-result : goal.overflow_add-result

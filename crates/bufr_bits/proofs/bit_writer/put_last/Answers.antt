@@ -1,4 +1,4 @@
-use Rattle.bufr_bits.proofs.WriterLemmas.{last_octets, no_octets}
+use Rattle.bufr_bits.proofs.BitLemmas.{last_octets, no_octets}
 use Rattle.bufr_bits.proofs.bit_writer.put_last.Goals as goal
 
 pub returns-then-count-gt0-clause-bits : goal.returns-then-count-gt0-clause-bits

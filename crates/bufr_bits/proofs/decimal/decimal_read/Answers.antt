@@ -1,7 +1,7 @@
 use Rattle.std.proofs.Common.{ap, ◌∙◌, Ok, Err, arith, to_z-of_z}
 use Rattle.std.specs.Int.{w128}
 use Rattle.std.proofs.lemmas.Result.{err_from_is_err_and}
-use Rattle.bufr_bits.specs.DecimalValue.{positive_scale, negative_scale}
+use Rattle.bufr_bits.specs.Decimal.{positive_scale, negative_scale}
 use Rattle.bufr_bits.proofs.ShortLemmas.{short_fits, read_short, read_short_fault}
 use Rattle.bufr_bits.proofs.decimal.decimal_read.Goals as goal
 

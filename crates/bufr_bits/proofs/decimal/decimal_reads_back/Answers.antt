@@ -1,4 +1,4 @@
-use Rattle.bufr_bits.proofs.RoundLemmas.{reads_back}
+use Rattle.bufr_bits.proofs.DecimalLemmas.{reads_back}
 use Rattle.bufr_bits.proofs.decimal.decimal_reads_back.Goals as goal
 
 pub returns : goal.returns

@@ -1,8 +1,7 @@
 use Rattle.std.proofs.Common.{◌≡◌, ℕ, List, ◌++◌, ap, ◌∙◌, to_z-of_z}
 use Rattle.std.specs.Prelude.{unsigned_abs}
-use Rattle.bufr_bits.specs.DecimalText.{sign_of}
-use Rattle.bufr_bits.specs.DecimalValue.{positive_scale, negative_scale}
-use Rattle.bufr_bits.proofs.TextLemmas.{text_pointed, text_plain}
+use Rattle.bufr_bits.specs.Decimal.{sign_of, positive_scale, negative_scale}
+use Rattle.bufr_bits.proofs.DecimalLemmas.{text_pointed, text_plain}
 use Rattle.bufr_bits.proofs.decimal.decimal_text.Goals as goal
 
 pub returns-then-places-gt0-clause-ok : goal.returns-then-places-gt0-clause-ok

@@ -1,7 +1,7 @@
 use Rattle.std.proofs.Common.{ℕ, ◌+◌, ◌*◌, List, ap, ◌∙◌, sym, take}
 use Rattle.std.proofs.lemmas.List.{take_all}
 use Rattle.std.specs.Str.Parse.{digits_value_after}
-use Rattle.bufr_bits.specs.Capped.{capped}
+use Rattle.bufr_bits.specs.Device.{capped}
 use Rattle.bufr_bits.proofs.DecimalLemmas.{digit_at_place, value_after-more, capped_step}
 use Rattle.bufr_bits.proofs.decimal.extend_with_digits.Goals as goal
 

@@ -1,6 +1,6 @@
 use Rattle.std.proofs.Common.{refl, sym, ◌∙◌, arith}
-use Rattle.bufr_bits.proofs.OnesLemmas.{and_false}
-use Rattle.bufr_bits.proofs.ScaledLemmas.{are_kept, answer_ok, answer_inexact}
+use Rattle.bufr_bits.proofs.BitLemmas.{and_false}
+use Rattle.bufr_bits.proofs.DecimalLemmas.{are_kept, answer_ok, answer_inexact}
 use Rattle.bufr_bits.proofs.decimal.scaled.Goals as goal
 
 pub returns-then-not-are_zeros : goal.returns-then-not-are_zeros

@@ -1,5 +1,5 @@
 use Rattle.std.proofs.Common.{◌≡◌, ◌-◌, ◌^◌}
-use Rattle.bufr_bits.specs.DecimalValue.{whole_quotient}
+use Rattle.bufr_bits.specs.Decimal.{whole_quotient}
 use Rattle.bufr_bits.proofs.short_decimal.by_ten.Given as goal
 
 abbrev pub invariant-loop-turn : goal.invariant-loop-turn

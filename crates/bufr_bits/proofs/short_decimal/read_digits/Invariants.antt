@@ -1,6 +1,6 @@
 use Rattle.std.proofs.Common.{◌≡◌, true, take}
 use Rattle.std.specs.Str.Parse.{digits_value_after}
-use Rattle.bufr_bits.specs.DecimalValue.{all_digits}
+use Rattle.bufr_bits.specs.Decimal.{all_digits}
 use Rattle.bufr_bits.proofs.short_decimal.read_digits.Given as goal
 
 abbrev pub invariant-loop-octet : goal.invariant-loop-octet

@@ -1,8 +1,8 @@
 use Rattle.std.proofs.Common.{◌≡◌, pos, Ok, Err, ◌∙◌, sym, ap, arith, to_z, to_z-of_z}
 use Rattle.std.specs.Int.{w16, w128}
 use Rattle.std.proofs.lemmas.Result.{err_from_is_err_and}
-use Rattle.bufr_bits.specs.DecimalValue.{positive_scale, negative_scale}
-use Rattle.bufr_bits.proofs.ShortTextLemmas.{value_own, value_up, value_down}
+use Rattle.bufr_bits.specs.Decimal.{positive_scale, negative_scale}
+use Rattle.bufr_bits.proofs.ShortLemmas.{value_own, value_up, value_down}
 use Rattle.bufr_bits.proofs.short_decimal.scaled_digits.Goals as goal
 
 pub returns-then-from-scale : goal.returns-then-from-scale

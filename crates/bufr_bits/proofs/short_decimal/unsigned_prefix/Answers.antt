@@ -1,6 +1,5 @@
 use Rattle.std.proofs.Common.{◌≡◌, ◌⊎◌, inl, inr, ◌≤◌, ◌+◌, ℕ, length-take, take, arith}
-use Rattle.bufr_bits.proofs.ShortLemmas.{fraction_fits, rest_is}
-use Rattle.bufr_bits.proofs.ShortTextLemmas.{prefix_alone, prefix_pointed}
+use Rattle.bufr_bits.proofs.ShortLemmas.{fraction_fits, rest_is, prefix_alone, prefix_pointed}
 use Rattle.bufr_bits.proofs.short_decimal.unsigned_prefix.Goals as goal
 
 -- a zero that comes first is alone

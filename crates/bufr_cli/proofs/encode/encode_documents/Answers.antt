@@ -1,7 +1,7 @@
 use Rattle.std.proofs.Common.{◌∙◌, Err, Ok, ap, refl, ◌^◌}
 use Rattle.std.proofs.lemmas.Result.{err_from_is_err_and}
 use Rattle.bufr_text.specs.Reader.{failures_by, new_reader}
-use Rattle.bufr_text.proofs.NextLemmas.{counts-then}
+use Rattle.bufr_text.proofs.CallLemmas.{counts-then}
 use Rattle.bufr_cli.proofs.EncodeLemmas.{done-at-refused, done-last, falls, none-else, ran-by-equal, ran-few, ran-fresh, reads-made, stop-failures, stop-reads, stops, turn-on, verdict-keeps}
 use Rattle.bufr_cli.proofs.encode.encode_documents.Goals as goal
 

@@ -1,9 +1,9 @@
 use Rattle.std.proofs.Common.{◌∙◌, ◌∷◌, [], ap, codes}
 use Rattle.std.specs.Prelude.{decimal}
 use Rattle.bufr_tables.specs.FaultNumber.{number_of_template_fault}
-use Rattle.bufr_text.specs.EncodingFault.{number_of_document_fault}
+use Rattle.bufr_text.specs.Encoding.{number_of_document_fault}
 use Rattle.bufr_text.proofs.PushLemmas.{◌⨾◌, nothing_pushed}
-use Rattle.bufr_text.proofs.LsLineLemmas.{joined_then}
+use Rattle.bufr_text.proofs.HeadLemmas.{joined_then}
 use Rattle.bufr_cli.specs.FaultLine.{template_fault_text}
 use Rattle.bufr_cli.proofs.FaultLineLemmas.{line_pushed}
 use Rattle.bufr_cli.proofs.fault_line.push_document_fault.Goals as goal

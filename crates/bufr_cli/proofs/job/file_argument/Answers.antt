@@ -1,4 +1,4 @@
-use Rattle.bufr_cli.proofs.CommandLemmas.{help-global, help-rule}
+use Rattle.bufr_cli.proofs.LineLemmas.{help-global, help-rule}
 use Rattle.bufr_cli.proofs.job.file_argument.Goals as goal
 
 pub returns-clause-rule : goal.returns-clause-rule

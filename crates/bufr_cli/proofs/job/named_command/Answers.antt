@@ -1,4 +1,4 @@
-use Rattle.bufr_cli.proofs.CommandLemmas.{about-app, about-globals, after-app, after-globals}
+use Rattle.bufr_cli.proofs.LineLemmas.{about-app, about-globals, after-app, after-globals}
 use Rattle.bufr_cli.proofs.job.named_command.Goals as goal
 
 pub returns-clause-app : goal.returns-clause-app

@@ -1,4 +1,4 @@
-use Rattle.bufr_cli.proofs.CommandLemmas.{bin-app, command-app, version-app}
+use Rattle.bufr_cli.proofs.LineLemmas.{bin-app, command-app, version-app}
 use Rattle.bufr_cli.proofs.job.top_command.Goals as goal
 
 pub returns : goal.returns

@@ -1,4 +1,4 @@
-use Rattle.bufr_cli.proofs.CorrectedLemmas.{one-spelling}
+use Rattle.bufr_cli.proofs.RoundTripLemmas.{one-spelling}
 use Rattle.bufr_cli.proofs.laws.encoded_texts_are_dumped_in_one_spelling.Goals as goal
 
 pub returns : goal.returns

@@ -1,7 +1,7 @@
 use Rattle.std.proofs.Common.{◌∷◌, [], codes}
 use Rattle.std.specs.Prelude.{decimal}
 use Rattle.bufr_frame.specs.Numbers.{number_of_run_fault}
-use Rattle.bufr_text.proofs.LsLineLemmas.{joined_then}
+use Rattle.bufr_text.proofs.HeadLemmas.{joined_then}
 use Rattle.bufr_cli.specs.Ending.{run_fault_text}
 use Rattle.bufr_cli.proofs.outcome.push_run_fault.Goals as goal
 

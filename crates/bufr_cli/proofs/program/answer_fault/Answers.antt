@@ -1,8 +1,8 @@
 use Rattle.std.proofs.Common.{ℕ, List, sym, subst}
 use Rattle.bufr_cli.specs.Calling.{AnswersFault, WritesHelp}
-use Rattle.bufr_cli.specs.Devices.{writers_of}
+use Rattle.bufr_cli.specs.Running.{writers_of}
 use Rattle.bufr_cli.specs.declared.job.LineFault.{LineFault}
-use Rattle.bufr_cli.proofs.ProgramLemmas.{help-in-part}
+use Rattle.bufr_cli.proofs.RunLemmas.{help-in-part}
 use Rattle.bufr_cli.proofs.program.answer_fault.Goals as goal
 
 pub returns-in-Help : goal.returns-in-Help

@@ -1,9 +1,8 @@
 use Rattle.std.proofs.Common.{◌≡◌, ◌≤◌, ◌-◌, ◌∙◌, ◌++◌, ℕ, List, Option, Result, Err, Vec, ap, arith, subst, sym}
 use Rattle.std.proofs.lemmas.Result.{err_from_is_err_and}
 use Rattle.std.specs.Global.{Global}
-use Rattle.bufr_bits.specs.Counts.{counted}
-use Rattle.bufr_frame.specs.Input.{InputEnds, ReadsInput}
-use Rattle.bufr_frame.specs.Runs.{MakesReads, max_reads}
+use Rattle.bufr_bits.specs.Device.{counted}
+use Rattle.bufr_frame.specs.Input.{InputEnds, ReadsInput, MakesReads, max_reads}
 use Rattle.bufr_frame.specs.declared.fault.RunFault.{RunFault}
 use Rattle.bufr_frame.specs.declared.fault.RunFault.TheVariants.{Read, Write, InputTooLong, Memory}
 use Rattle.bufr_cli.specs.Running.{ReadsAll}

@@ -1,12 +1,11 @@
 use Rattle.std.proofs.Common.{sym, subst, map}
 use Rattle.std.specs.Prelude.{IfOk, IfSome}
 use Rattle.bufr_frame.specs.Scan.{scan}
-use Rattle.bufr_cli.specs.Devices.{input_of, writers_of}
+use Rattle.bufr_cli.specs.Running.{input_of, writers_of, GivesPieces, WritesAndCounts}
 use Rattle.bufr_cli.specs.Pieces.{IsDumpPiece}
 use Rattle.bufr_cli.specs.Program.{promise_of}
-use Rattle.bufr_cli.specs.Running.{GivesPieces, WritesAndCounts}
 use Rattle.bufr_cli.specs.declared.program.Command.{Command}
-use Rattle.bufr_cli.proofs.ProgramLemmas.{ok-any}
+use Rattle.bufr_cli.proofs.RunLemmas.{ok-any}
 use Rattle.bufr_cli.proofs.program.run_command.Goals as goal
 
 pub returns-in-Dump-clause-whole : goal.returns-in-Dump-clause-whole

@@ -1,5 +1,5 @@
 use Rattle.std.proofs.Common.{◌∙◌, List, ℕ, Option, refl, sym, ap, subst}
-use Rattle.bufr_cli.specs.Devices.{writers_of}
+use Rattle.bufr_cli.specs.Running.{writers_of}
 use Rattle.bufr_cli.specs.Ending.{EndsRun}
 use Rattle.bufr_cli.specs.Program.{IsNotOpened, Runs, input_octets, known, promise_of}
 use Rattle.bufr_cli.proofs.program.run_input.Goals as goal

@@ -1,6 +1,6 @@
 use Rattle.std.proofs.Common.{refl, rules}
 use Rattle.bufr_cli.specs.Program.{promise_of}
-use Rattle.bufr_cli.proofs.ProgramLemmas.{ends-run}
+use Rattle.bufr_cli.proofs.RunLemmas.{ends-run}
 use Rattle.bufr_cli.proofs.program.run_reader.Goals as goal
 
 pub returns : goal.returns

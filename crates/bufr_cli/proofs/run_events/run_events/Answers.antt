@@ -3,7 +3,7 @@ use Rattle.std.proofs.lemmas.Result.{err_from_is_err_and}
 use Rattle.std.proofs.KnownBytes.{Keeps-refl}
 use Rattle.bufr_cli.proofs.RunLemmas.{blames-report, fails-then, flushed, is-event, ran-fresh, reader-report, run-reads, run-reads-stop, run-reads-report, stays-then, stop-flush, stop-next, stop-report, turn}
 use Rattle.bufr_frame.specs.declared.fault.RunFault.TheVariants.{Write}
-use Rattle.bufr_frame.proofs.FindingLemmas.{CountsReads-then}
+use Rattle.bufr_frame.proofs.FinderLemmas.{CountsReads-then}
 use Rattle.bufr_cli.proofs.run_events.run_events.Goals as goal
 
 pub loop-finder-init : goal.loop-finder-init

@@ -1,6 +1,5 @@
 use Rattle.std.proofs.Common.{sym, ap}
-use Rattle.bufr_fill.specs.Draft.{draft}
-use Rattle.bufr_fill.specs.Entries.{Holds}
+use Rattle.bufr_fill.specs.Draft.{draft, Holds}
 use Rattle.bufr_fill.specs.Given.{form_in}
 use Rattle.bufr_fill.proofs.draft.parts_of.Goals as goal
 

@@ -1,6 +1,6 @@
 use Rattle.std.proofs.Common.{◌∙◌, ap, sym, Some, Err}
 use Rattle.std.specs.Prelude.{option_map}
-use Rattle.bufr_fill.proofs.DrawLemmas.{content_at, wrong_at, marks_at}
+use Rattle.bufr_fill.proofs.FieldLemmas.{content_at, wrong_at, marks_at}
 use Rattle.bufr_fill.proofs.field_value.field_content.Goals as goal
 
 pub returns-then-not-is_item_of-clause-is : goal.returns-then-not-is_item_of-clause-is

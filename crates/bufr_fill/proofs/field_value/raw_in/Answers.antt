@@ -1,6 +1,6 @@
 use Rattle.std.proofs.Common.{rules, ◌≡◌, ◌-ℤ◌, Some, ap, ◌∙◌}
 use Rattle.bufr_fill.specs.Encoding.{at_line_if_fault}
-use Rattle.bufr_fill.proofs.DrawnLemmas.{beyond, not_signed, not_unsigned}
+use Rattle.bufr_fill.proofs.FieldLemmas.{beyond, not_signed, not_unsigned}
 use Rattle.bufr_fill.proofs.field_value.raw_in.Goals as goal
 
 pub returns-in_default-clause-is : goal.returns-in_default-clause-is

@@ -1,4 +1,4 @@
-use Rattle.bufr_fill.proofs.AlikeLaws.{packed_alike}
+use Rattle.bufr_fill.proofs.WholeLaws.{packed_alike}
 use Rattle.bufr_fill.proofs.law.alike_drafts_have_the_same_packed_data.Goals as goal
 
 pub returns : goal.returns

@@ -1,4 +1,4 @@
-use Rattle.bufr_fill.proofs.AlikeLaws.{plain_alike}
+use Rattle.bufr_fill.proofs.WholeLaws.{plain_alike}
 use Rattle.bufr_fill.proofs.law.alike_drafts_have_the_same_plain_data.Goals as goal
 
 pub returns : goal.returns

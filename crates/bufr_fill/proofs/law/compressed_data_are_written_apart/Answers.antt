@@ -1,4 +1,4 @@
-use Rattle.bufr_fill.proofs.OtherFormLaws.{written_apart}
+use Rattle.bufr_fill.proofs.WholeLaws.{written_apart}
 use Rattle.bufr_fill.proofs.law.compressed_data_are_written_apart.Goals as goal
 
 pub returns : goal.returns

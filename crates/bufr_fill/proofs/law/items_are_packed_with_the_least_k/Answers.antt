@@ -1,4 +1,4 @@
-use Rattle.bufr_fill.proofs.LeastPacked.{least_k_packed}
+use Rattle.bufr_fill.proofs.PackedLaws.{least_k_packed}
 use Rattle.bufr_fill.proofs.law.items_are_packed_with_the_least_k.Goals as goal
 
 pub returns : goal.returns

@@ -1,4 +1,4 @@
-use Rattle.bufr_fill.proofs.OtherFormLaws.{written_together}
+use Rattle.bufr_fill.proofs.WholeLaws.{written_together}
 use Rattle.bufr_fill.proofs.law.plain_data_are_written_together.Goals as goal
 
 pub returns : goal.returns

@@ -1,4 +1,4 @@
-use Rattle.bufr_fill.proofs.Laws.{plain_round_trip}
+use Rattle.bufr_fill.proofs.WholeLaws.{plain_round_trip}
 use Rattle.bufr_fill.proofs.law.plain_data_round_trip.Goals as goal
 
 pub returns : goal.returns

@@ -1,11 +1,10 @@
 use Rattle.std.proofs.Common.{◌∙◌, sym, Err, arith, ap, refl}
 use Rattle.bufr_fill.specs.Encoding.{cells_at}
-use Rattle.bufr_fill.specs.Entries.{subsets_of}
-use Rattle.bufr_fill.specs.Fault.{at_line, item_too_many}
+use Rattle.bufr_fill.specs.Draft.{subsets_of}
+use Rattle.bufr_fill.specs.Faults.{at_line, item_too_many}
 use Rattle.bufr_fill.specs.Kept.{entry_with}
-use Rattle.bufr_fill.proofs.KeptLemmas.{line-is}
-use Rattle.bufr_fill.proofs.Places.{count_cells}
-use Rattle.bufr_fill.proofs.CellSteps.{end_item, end_more, end_done}
+use Rattle.bufr_fill.proofs.EntryLemmas.{line-is, count_cells}
+use Rattle.bufr_fill.proofs.RowLemmas.{end_item, end_more, end_done}
 use Rattle.bufr_fill.proofs.packed_out.all_at_end.Goals as goal
 
 pub returns-then-not-is_end : goal.returns-then-not-is_end

@@ -1,6 +1,6 @@
 use Rattle.std.proofs.Common.{◌≡◌, drop}
 use Rattle.bufr_fill.specs.Encoding.{cells_at}
-use Rattle.bufr_fill.specs.Entries.{subsets_of}
+use Rattle.bufr_fill.specs.Draft.{subsets_of}
 use Rattle.bufr_fill.specs.PackedOut.{all_at_end}
 use Rattle.bufr_fill.proofs.packed_out.all_at_end.Given as goal
 

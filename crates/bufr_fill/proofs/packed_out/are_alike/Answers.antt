@@ -1,6 +1,6 @@
 use Rattle.std.proofs.Common.{◌/◌, ◌∙◌, sym}
-use Rattle.bufr_fill.specs.FieldContent.{content_drawn}
-use Rattle.bufr_fill.proofs.RangeSteps.{not_alike}
+use Rattle.bufr_fill.specs.DraftContent.{content_drawn}
+use Rattle.bufr_fill.proofs.LeastLemmas.{not_alike}
 use Rattle.bufr_fill.proofs.packed_out.are_alike.Goals as goal
 
 pub returns-then-base-range : goal.returns-then-base-range

@@ -1,5 +1,5 @@
 use Rattle.std.proofs.Common.{ap, ◌∙◌, arith}
-use Rattle.bufr_fill.proofs.Places.{ends_here, ends_after}
+use Rattle.bufr_fill.proofs.EntryLemmas.{ends_here, ends_after}
 use Rattle.bufr_fill.proofs.packed_out.ends_in.Goals as goal
 use Rattle.bufr_fill.proofs.packed_out.ends_in.Goals.{then-is_end+in_ok-push, else-is_end}
 

@@ -1,7 +1,7 @@
 use Rattle.std.proofs.Common.{sym, ap, ◌∙◌, arith}
 use Rattle.std.specs.Prelude.{slice_get}
 use Rattle.bufr_fill.specs.Kept.{entry_with}
-use Rattle.bufr_fill.proofs.Places.{end_within, none_there, found_entry}
+use Rattle.bufr_fill.proofs.EntryLemmas.{end_within, none_there, found_entry}
 use Rattle.bufr_fill.proofs.packed_out.find_at.Goals as goal
 
 pub begin_of-start-requires-clause-few : goal.begin_of-start-requires-clause-few

@@ -1,8 +1,8 @@
 use Rattle.std.proofs.Common.{arith}
 use Rattle.bufr_fill.specs.Encoding.{cells_at}
-use Rattle.bufr_fill.specs.Entries.{subsets_of}
-use Rattle.bufr_fill.proofs.Places.{count_cells}
-use Rattle.bufr_fill.proofs.CellSteps.{first_is}
+use Rattle.bufr_fill.specs.Draft.{subsets_of}
+use Rattle.bufr_fill.proofs.EntryLemmas.{count_cells}
+use Rattle.bufr_fill.proofs.RowLemmas.{first_is}
 use Rattle.bufr_fill.proofs.packed_out.first_line.Goals as goal
 
 pub returns : goal.returns

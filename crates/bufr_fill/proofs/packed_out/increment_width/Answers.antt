@@ -1,10 +1,8 @@
 use Rattle.std.proofs.Common.{◌≡◌, ◌∙◌, ap, arith}
 use Rattle.std.specs.Prelude.{unwrap_or}
-use Rattle.bufr_fill.specs.PackedRows.{contents_drawn}
+use Rattle.bufr_fill.specs.PackedOut.{contents_drawn, spread, least_from}
 use Rattle.bufr_fill.specs.Packing.{lowest}
-use Rattle.bufr_fill.specs.Packs.{spread, least_from}
-use Rattle.bufr_fill.proofs.NumberSteps.{k_narrow, k_short}
-use Rattle.bufr_fill.proofs.RangeSteps.{spread_over}
+use Rattle.bufr_fill.proofs.LeastLemmas.{k_narrow, k_short, spread_over}
 use Rattle.bufr_fill.proofs.packed_out.increment_width.Goals as goal
 
 pub returns : goal.returns

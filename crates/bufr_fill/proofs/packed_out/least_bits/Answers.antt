@@ -1,5 +1,5 @@
 use Rattle.std.proofs.Common.{◌<◌, ◌≤◌, sym, subst, ◌∙◌, arith}
-use Rattle.bufr_fill.proofs.PackSteps.{least_here, least_later, least_end}
+use Rattle.bufr_fill.proofs.RowLemmas.{least_here, least_later, least_end}
 use Rattle.bufr_fill.proofs.packed_out.least_bits.Goals as goal
 
 pub returns-then-spread-raw_limit : goal.returns-then-spread-raw_limit

@@ -1,6 +1,6 @@
 use Rattle.std.proofs.Common.{sym}
 use Rattle.bufr_fill.specs.Kept.{entry_with}
-use Rattle.bufr_fill.proofs.KeptLemmas.{line-is}
+use Rattle.bufr_fill.proofs.EntryLemmas.{line-is}
 use Rattle.bufr_fill.proofs.packed_out.line_at.Goals as goal
 
 pub returns : goal.returns

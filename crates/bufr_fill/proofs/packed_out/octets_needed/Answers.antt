@@ -1,5 +1,5 @@
 use Rattle.std.proofs.Common.{arith}
-use Rattle.bufr_fill.proofs.PackSteps.{most_some}
+use Rattle.bufr_fill.proofs.RowLemmas.{most_some}
 use Rattle.bufr_fill.proofs.packed_out.octets_needed.Goals as goal
 
 pub loop-d-init : goal.loop-d-init

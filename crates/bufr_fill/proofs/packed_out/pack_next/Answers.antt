@@ -1,11 +1,10 @@
 use Rattle.std.proofs.Common.{◌≤◌, ◌<◌, ◌+◌, ◌*◌, Err, sym, subst, arith, ap, ◌∙◌, refl, length}
 use Rattle.std.proofs.lemmas.Result.{err_from_is_err_and}
 use Rattle.bufr_walk.specs.Reading.{max_values}
-use Rattle.bufr_fill.specs.Entries.{subsets_of}
-use Rattle.bufr_fill.specs.Fault.{at_line, too_many_values}
-use Rattle.bufr_fill.specs.DraftFaults.{draft_fault}
-use Rattle.bufr_fill.proofs.Places.{count_cells}
-use Rattle.bufr_fill.proofs.AcrossSteps.{many_fault, put_fault}
+use Rattle.bufr_fill.specs.Draft.{subsets_of}
+use Rattle.bufr_fill.specs.Faults.{at_line, too_many_values, draft_fault}
+use Rattle.bufr_fill.proofs.EntryLemmas.{count_cells}
+use Rattle.bufr_fill.proofs.RowLemmas.{many_fault, put_fault}
 use Rattle.bufr_fill.proofs.packed_out.pack_next.Goals as goal
 
 pub returns-then-row-gt-MAX_VALUES-clause-put : goal.returns-then-row-gt-MAX_VALUES-clause-put

@@ -2,10 +2,10 @@ use Rattle.std.proofs.Common.{◌*◌, ◌/◌, ◌++◌, ◌<◌, ◌^◌, ap, 
 use Rattle.std.specs.Prelude.{unwrap_or}
 use Rattle.std.specs.List.{flat_map}
 use Rattle.bufr_bits.specs.Bits.{bits_in}
-use Rattle.bufr_fill.specs.PackedRows.{contents_drawn, IsIncrementWidth}
+use Rattle.bufr_fill.specs.PackedOut.{contents_drawn, IsIncrementWidth}
 use Rattle.bufr_fill.specs.Packing.{increment_bits, packed_bits, lowest}
-use Rattle.bufr_fill.proofs.NumberSteps.{base_under, numbers_packed, parts_put, parts_length}
-use Rattle.bufr_fill.proofs.PackSteps.{few_bits}
+use Rattle.bufr_fill.proofs.LeastLemmas.{base_under, numbers_packed, parts_put, parts_length}
+use Rattle.bufr_fill.proofs.RowLemmas.{few_bits}
 use Rattle.bufr_fill.proofs.packed_out.pack_numbers.Goals as goal
 
 pub overflow_mul-drawn : goal.overflow_mul-drawn

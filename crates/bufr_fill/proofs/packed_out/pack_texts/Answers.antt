@@ -1,11 +1,10 @@
 use Rattle.std.proofs.Common.{◌*◌, ◌/◌, ◌++◌, ◌∙◌, false, ap, arith, length, replicate}
 use Rattle.std.specs.List.{flat_map}
 use Rattle.bufr_bits.specs.Bits.{bits_in}
-use Rattle.bufr_fill.specs.PackedRows.{contents_drawn}
+use Rattle.bufr_fill.specs.PackedOut.{contents_drawn}
 use Rattle.bufr_fill.specs.Packing.{octet_bits, packed_bits}
-use Rattle.bufr_fill.proofs.NumberSteps.{parts_put, parts_length}
-use Rattle.bufr_fill.proofs.PackSteps.{few_bits, most_some}
-use Rattle.bufr_fill.proofs.TextLeast.{most_room, texts_packed}
+use Rattle.bufr_fill.proofs.LeastLemmas.{parts_put, parts_length, most_room, texts_packed}
+use Rattle.bufr_fill.proofs.RowLemmas.{few_bits, most_some}
 use Rattle.bufr_fill.proofs.packed_out.pack_texts.Goals as goal
 
 pub overflow_mul-drawn : goal.overflow_mul-drawn

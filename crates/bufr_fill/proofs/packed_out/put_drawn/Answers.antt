@@ -3,17 +3,14 @@ use Rattle.bufr_walk.specs.Content.{bits_for}
 use Rattle.bufr_walk.specs.Reading.{max_values}
 use Rattle.bufr_fill.specs.declared.field_value.FieldContent.TheVariants as drawn
 use Rattle.bufr_fill.specs.Encoding.{item_row}
-use Rattle.bufr_fill.specs.Entries.{subsets_of}
-use Rattle.bufr_fill.specs.Fault.{at_line, unequal_factors, uneven_increment}
-use Rattle.bufr_fill.specs.FieldContent.{content_drawn}
-use Rattle.bufr_fill.specs.PackedRows.{contents_drawn}
+use Rattle.bufr_fill.specs.Draft.{subsets_of}
+use Rattle.bufr_fill.specs.Faults.{at_line, unequal_factors, uneven_increment}
+use Rattle.bufr_fill.specs.DraftContent.{content_drawn}
+use Rattle.bufr_fill.specs.PackedOut.{contents_drawn, IsPutWithin}
 use Rattle.bufr_fill.specs.Packing.{packed_bits, packed_by, packed_unlike}
-use Rattle.bufr_fill.specs.Packs.{IsPutWithin}
-use Rattle.bufr_fill.proofs.NumberSteps.{parts_length}
-use Rattle.bufr_fill.proofs.PackSteps.{most_some}
-use Rattle.bufr_fill.proofs.Places.{count_cells}
-use Rattle.bufr_fill.proofs.TextLeast.{texts_apart}
-use Rattle.bufr_fill.proofs.AcrossSteps.{apart_by, packed_alike, packed_apart, put_packed, put_unequal, put_uneven, put_within}
+use Rattle.bufr_fill.proofs.LeastLemmas.{parts_length, texts_apart}
+use Rattle.bufr_fill.proofs.RowLemmas.{most_some, apart_by, packed_alike, packed_apart, put_packed, put_unequal, put_uneven, put_within}
+use Rattle.bufr_fill.proofs.EntryLemmas.{count_cells}
 use Rattle.bufr_fill.proofs.packed_out.put_drawn.Goals as goal
 use Rattle.bufr_fill.proofs.packed_out.put_drawn.Goals.{then-is_text+else-k-gt63+in_ok-pack_texts-in-Element, else-is_text+in_ok-pack_numbers-in-Element}
 

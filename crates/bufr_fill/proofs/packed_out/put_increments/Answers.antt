@@ -1,7 +1,7 @@
 use Rattle.std.proofs.Common.{◌++◌, ◌∙◌, ap, arith, length}
 use Rattle.bufr_fill.specs.declared.field_value.FieldContent.TheVariants as drawn
 use Rattle.bufr_fill.specs.Packing.{increment_bits}
-use Rattle.bufr_fill.proofs.PackSteps.{flat_more, room_here, room_next}
+use Rattle.bufr_fill.proofs.RowLemmas.{flat_more, room_here, room_next}
 use Rattle.bufr_fill.proofs.packed_out.put_increments.Goals as goal
 
 pub put-requires-clause-room : goal.put-requires-clause-room

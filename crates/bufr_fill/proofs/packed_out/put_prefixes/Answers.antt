@@ -1,7 +1,7 @@
 use Rattle.std.proofs.Common.{◌*◌, ◌/◌, arith, length}
 use Rattle.bufr_fill.specs.declared.field_value.FieldContent.TheVariants as drawn
 use Rattle.bufr_fill.specs.Packing.{octet_bits}
-use Rattle.bufr_fill.proofs.PackSteps.{flat_more, drawn_at, room_here, room_next}
+use Rattle.bufr_fill.proofs.RowLemmas.{flat_more, drawn_at, room_here, room_next}
 use Rattle.bufr_fill.proofs.packed_out.put_prefixes.Goals as goal
 
 pub put_prefix-requires-clause-drawn : goal.put_prefix-requires-clause-drawn

@@ -1,5 +1,5 @@
 use Rattle.std.proofs.Common.{sym}
-use Rattle.bufr_fill.proofs.TextSteps.{text_more, text_not}
+use Rattle.bufr_fill.proofs.RowLemmas.{text_more, text_not}
 use Rattle.bufr_fill.proofs.packed_out.same_text.Goals as goal
 
 pub returns-then-octet_at : goal.returns-then-octet_at

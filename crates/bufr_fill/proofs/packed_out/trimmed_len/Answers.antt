@@ -1,5 +1,5 @@
 use Rattle.std.proofs.Common.{refl}
-use Rattle.bufr_fill.proofs.TextSteps.{trimmed_here, trimmed_later}
+use Rattle.bufr_fill.proofs.RowLemmas.{trimmed_here, trimmed_later}
 use Rattle.bufr_fill.proofs.packed_out.trimmed_len.Goals as goal
 
 pub returns-then-octets-spaces-ne32-clause-value : goal.returns-then-octets-spaces-ne32-clause-value

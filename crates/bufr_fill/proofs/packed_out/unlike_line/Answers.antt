@@ -1,10 +1,9 @@
 use Rattle.std.proofs.Common.{◌/◌, sym, arith, ◌∙◌}
 use Rattle.bufr_fill.specs.declared.field_value.FieldContent.TheVariants as drawn
 use Rattle.bufr_fill.specs.Encoding.{cells_at}
-use Rattle.bufr_fill.specs.Entries.{subsets_of}
-use Rattle.bufr_fill.proofs.Places.{count_cells}
-use Rattle.bufr_fill.proofs.PackSteps.{drawn_at}
-use Rattle.bufr_fill.proofs.CellSteps.{unlike_here, unlike_more}
+use Rattle.bufr_fill.specs.Draft.{subsets_of}
+use Rattle.bufr_fill.proofs.EntryLemmas.{count_cells}
+use Rattle.bufr_fill.proofs.RowLemmas.{drawn_at, unlike_here, unlike_more}
 use Rattle.bufr_fill.proofs.packed_out.unlike_line.Goals as goal
 
 pub is_same-requires-clause-other : goal.is_same-requires-clause-other

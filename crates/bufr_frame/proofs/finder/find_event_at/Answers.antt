@@ -1,6 +1,6 @@
 use Rattle.std.proofs.Common.{◌∙◌, ℕ, ◌<◌, List, length, max, arith, ap, subst}
-use Rattle.bufr_frame.specs.Longest.{length_here}
-use Rattle.bufr_frame.proofs.LookLemmas.{found-at-end, found-whole, open-so}
+use Rattle.bufr_frame.specs.Scan.{length_here}
+use Rattle.bufr_frame.proofs.ScanLemmas.{found-at-end, found-whole, open-so}
 use Rattle.bufr_frame.proofs.finder.find_event_at.Goals as goal
 
 pub returns-then-ended : goal.returns-then-ended

@@ -1,5 +1,5 @@
 use Rattle.std.proofs.Common.{arith}
-use Rattle.bufr_frame.proofs.LookLemmas.{absent-there, nowhere-more}
+use Rattle.bufr_frame.proofs.ScanLemmas.{absent-there, nowhere-more}
 use Rattle.bufr_frame.proofs.finder.find_near.Goals as goal
 
 pub places-preserved : goal.places-preserved

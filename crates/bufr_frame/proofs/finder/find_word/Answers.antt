@@ -1,6 +1,6 @@
 use Rattle.std.proofs.Common.{◌≤◌, ℕ, List, Option, None, Some, arith, codes, length, subst, sym}
 use Rattle.memchr.specs.Find.{FindsNeedle, Nowhere, OccursAt}
-use Rattle.bufr_frame.proofs.LookLemmas.{found-after, none-after}
+use Rattle.bufr_frame.proofs.ScanLemmas.{found-after, none-after}
 use Rattle.bufr_frame.proofs.finder.find_word.Goals as goal
 
 pub returns-in_err-place : goal.returns-in_err-place

@@ -1,4 +1,4 @@
-use Rattle.bufr_frame.proofs.BufferLemmas.{after-read}
+use Rattle.bufr_frame.proofs.FinderLemmas.{after-read}
 use Rattle.bufr_frame.proofs.input.read_after.Goals as goal
 
 pub returns-in-Ok-clause-read : goal.returns-in-Ok-clause-read

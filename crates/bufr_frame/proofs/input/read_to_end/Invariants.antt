@@ -1,6 +1,6 @@
 use Rattle.std.proofs.Common.{◌≡◌, ◌-◌}
-use Rattle.bufr_frame.specs.Runs.{AddsReads, max_reads}
-use Rattle.bufr_frame.proofs.InputLemmas.{ReadSoFar}
+use Rattle.bufr_frame.specs.Input.{AddsReads, max_reads}
+use Rattle.bufr_frame.proofs.FinderLemmas.{ReadSoFar}
 use Rattle.bufr_frame.proofs.input.read_to_end.Given as goal
 
 -- octets were read and are held, by reads that were counted and did not fail

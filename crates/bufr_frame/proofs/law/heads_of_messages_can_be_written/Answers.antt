@@ -1,4 +1,4 @@
-use Rattle.bufr_frame.proofs.FitLemmas.{heads-fit, fitting-writable}
+use Rattle.bufr_frame.proofs.AgainLemmas.{heads-fit, fitting-writable}
 use Rattle.bufr_frame.proofs.law.heads_of_messages_can_be_written.Goals as goal
 
 pub returns : goal.returns

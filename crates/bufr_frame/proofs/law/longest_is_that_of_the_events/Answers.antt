@@ -1,4 +1,4 @@
-use Rattle.bufr_frame.proofs.CallLemmas.{longest-events}
+use Rattle.bufr_frame.proofs.FinderLemmas.{longest-events}
 use Rattle.bufr_frame.proofs.law.longest_is_that_of_the_events.Goals as goal
 
 pub returns : goal.returns

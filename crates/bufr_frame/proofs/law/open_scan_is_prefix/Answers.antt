@@ -1,4 +1,4 @@
-use Rattle.bufr_frame.proofs.LookLemmas.{open-prefix}
+use Rattle.bufr_frame.proofs.ScanLemmas.{open-prefix}
 use Rattle.bufr_frame.proofs.law.open_scan_is_prefix.Goals as goal
 
 pub returns : goal.returns

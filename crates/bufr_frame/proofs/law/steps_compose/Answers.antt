@@ -1,4 +1,4 @@
-use Rattle.bufr_frame.proofs.FindingLemmas.{steps-compose}
+use Rattle.bufr_frame.proofs.FinderLemmas.{steps-compose}
 use Rattle.bufr_frame.proofs.law.steps_compose.Goals as goal
 
 pub returns : goal.returns

@@ -1,7 +1,7 @@
 use Rattle.std.proofs.Common.{◌≡◌, ◌∙◌, ap, ◌++◌}
 use Rattle.std.specs.Prelude.{◌/◌, [], ◌∷◌}
 use Rattle.bufr_frame.specs.Octets.{two_octets, octets_of_words}
-use Rattle.bufr_frame.proofs.WriteLemmas.{third}
+use Rattle.bufr_frame.proofs.LayoutLemmas.{third}
 use Rattle.bufr_frame.proofs.write.push_section3.Goals as goal
 
 pub returns : goal.returns

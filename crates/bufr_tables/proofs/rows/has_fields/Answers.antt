@@ -1,6 +1,6 @@
 use Rattle.std.proofs.Common.{◌≡◌, ◌∙◌, arith, length, sym}
 use Rattle.csv.specs.Records.{fields_of}
-use Rattle.bufr_tables.proofs.TableLemmas.{fields-more, fields-other, other-length}
+use Rattle.bufr_tables.proofs.RecordLemmas.{fields-more, fields-other, other-length}
 use Rattle.bufr_tables.proofs.rows.has_fields.Goals as goal
 
 pub returns-then-len-names : goal.returns-then-len-names

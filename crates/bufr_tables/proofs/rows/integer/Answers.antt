@@ -1,5 +1,5 @@
 use Rattle.std.proofs.Common.{sym, ◌∙◌}
-use Rattle.bufr_tables.proofs.NumberLemmas.{i64_of-negative, i64_of-positive}
+use Rattle.bufr_tables.proofs.RecordLemmas.{i64_of-negative, i64_of-positive}
 use Rattle.bufr_tables.proofs.rows.integer.Goals as goal
 
 pub returns-in_ok-magnitude : goal.returns-in_ok-magnitude

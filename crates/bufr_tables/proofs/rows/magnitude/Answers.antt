@@ -1,5 +1,5 @@
 use Rattle.std.proofs.Common.{arith}
-use Rattle.bufr_tables.proofs.NumberLemmas.{number_more}
+use Rattle.bufr_tables.proofs.RecordLemmas.{number_more}
 use Rattle.bufr_tables.proofs.rows.magnitude.Goals as goal
 
 pub loop-octet-preserved : goal.loop-octet-preserved

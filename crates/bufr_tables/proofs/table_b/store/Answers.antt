@@ -1,5 +1,5 @@
 use Rattle.std.proofs.Common.{◌≡◌, rules}
-use Rattle.bufr_tables.proofs.KeptLemmas.{named, row-stored, row_pushed}
+use Rattle.bufr_tables.proofs.TableBLemmas.{named, row-stored, row_pushed}
 use Rattle.bufr_tables.specs.Fxy.{fxy_text}
 use Rattle.bufr_tables.proofs.table_b.store.Goals as goal
 

@@ -1,7 +1,6 @@
 use Rattle.std.proofs.Common.{◌≡◌, ◌∙◌, ◌+◌, ◌-◌, ◌%◌, ◌∷◌, ap, arith, drop}
-use Rattle.std.proofs.lemmas.List.{length-set}
-use Rattle.std.proofs.lemmas.List.{drop-set}
-use Rattle.bufr_text.proofs.DigitLemmas.{fraction_more, fraction_done}
+use Rattle.std.proofs.lemmas.List.{length-set, drop-set}
+use Rattle.bufr_text.proofs.NumberLemmas.{fraction_more, fraction_done}
 use Rattle.bufr_text.proofs.digits.fill_fraction.Goals as goal
 
 pub loop-at-preserved : goal.loop-at-preserved

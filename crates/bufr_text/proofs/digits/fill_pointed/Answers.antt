@@ -1,6 +1,6 @@
 use Rattle.std.proofs.Common.{◌≤◌, ◌+◌, ◌-◌, arith, length}
 use Rattle.std.specs.Prelude.{decimal}
-use Rattle.bufr_text.proofs.DigitLemmas.{at_most_20_digits, fraction_filled, point_within, pointed_filled}
+use Rattle.bufr_text.proofs.NumberLemmas.{at_most_20_digits, fraction_filled, point_within, pointed_filled}
 use Rattle.bufr_text.proofs.digits.fill_pointed.Goals as goal
 
 pub overflow_add-len : goal.overflow_add-len

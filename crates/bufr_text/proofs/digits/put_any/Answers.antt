@@ -1,5 +1,5 @@
 use Rattle.std.proofs.Common.{arith}
-use Rattle.bufr_text.proofs.DigitLemmas.{at_most_20_digits, digits_put}
+use Rattle.bufr_text.proofs.NumberLemmas.{at_most_20_digits, digits_put}
 use Rattle.bufr_text.proofs.digits.put_any.Goals as goal
 
 pub overflow_add-end : goal.overflow_add-end

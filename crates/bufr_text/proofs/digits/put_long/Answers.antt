@@ -1,6 +1,6 @@
 use Rattle.std.proofs.Common.{arith, sym}
 use Rattle.itoa.proofs.Decimal.{decimal_pair}
-use Rattle.bufr_text.proofs.DigitLemmas.{decimal_hundreds, then_more}
+use Rattle.bufr_text.proofs.NumberLemmas.{decimal_hundreds, then_more}
 use Rattle.bufr_text.proofs.digits.put_long.Goals as goal
 
 pub returns-clause-text : goal.returns-clause-text

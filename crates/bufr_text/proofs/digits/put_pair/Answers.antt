@@ -1,4 +1,4 @@
-use Rattle.bufr_text.proofs.DigitLemmas.{pair_put, then_more}
+use Rattle.bufr_text.proofs.NumberLemmas.{pair_put, then_more}
 use Rattle.bufr_text.proofs.digits.put_pair.Goals as goal
 
 pub returns-clause-text : goal.returns-clause-text

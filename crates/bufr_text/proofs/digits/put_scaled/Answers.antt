@@ -1,5 +1,5 @@
 use Rattle.std.proofs.Common.{◌∙◌, ◌++◌, ap, arith, sym, take, to_z, to_z-of_z, unsigned_abs, w16}
-use Rattle.bufr_text.proofs.ScaleLemmas.{unsigned_far, unsigned_places, unsigned_tens, unsigned_whole}
+use Rattle.bufr_text.proofs.NumberLemmas.{unsigned_far, unsigned_places, unsigned_tens, unsigned_whole}
 use Rattle.bufr_text.proofs.digits.put_scaled.Goals as goal
 
 pub returns-then-scale-eq0-clause-text : goal.returns-then-scale-eq0-clause-text

@@ -1,5 +1,5 @@
 use Rattle.std.proofs.Common.{refl}
-use Rattle.bufr_text.proofs.DigitLemmas.{tenths_put, then_more}
+use Rattle.bufr_text.proofs.NumberLemmas.{tenths_put, then_more}
 use Rattle.bufr_text.proofs.digits.put_tenths.Goals as goal
 
 pub returns-clause-text : goal.returns-clause-text

@@ -1,4 +1,4 @@
-use Rattle.bufr_text.proofs.DigitLemmas.{pointed_pair, then_more}
+use Rattle.bufr_text.proofs.NumberLemmas.{pointed_pair, then_more}
 use Rattle.bufr_text.proofs.digits.put_thousandths.Goals as goal
 
 pub returns-clause-text : goal.returns-clause-text

@@ -1,8 +1,8 @@
 use Rattle.std.proofs.Common.{◌≡◌, ◌+◌, false, refl, ap, take, drop}
 use Rattle.bufr_text.proofs.TakingLemmas.{taking-goes, taking-gives, taking-refuses}
-use Rattle.bufr_text.specs.Reading.{has_no_feed}
-use Rattle.bufr_text.specs.TakingLines.{WantsAt}
-use Rattle.bufr_text.proofs.FeedLemmas.{line-after, refused-holds}
+use Rattle.bufr_text.specs.Reader.{has_no_feed}
+use Rattle.bufr_text.specs.Taking.{WantsAt}
+use Rattle.bufr_text.proofs.ReadingLemmas.{line-after, refused-holds}
 use Rattle.bufr_text.proofs.document.take_lines.Goals as goal
 
 pub loop-length-preserved : goal.loop-length-preserved

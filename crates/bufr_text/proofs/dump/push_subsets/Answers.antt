@@ -2,7 +2,7 @@ use Rattle.std.proofs.Common.{Ok, Err, refl, sym, ap, ◌∙◌}
 use Rattle.std.proofs.lemmas.Result.{err_from_is_err_and}
 use Rattle.bufr_walk.specs.declared.fault.ShowFault.TheVariants as show
 use Rattle.bufr_walk.specs.Calls.{calls_of, turns_shown}
-use Rattle.bufr_text.proofs.ShowingLemmas.{calls-pushed, calls-steps, ends-whole, ends-failed, ends-first, steps-of}
+use Rattle.bufr_text.proofs.PushLemmas.{calls-pushed, calls-steps, ends-whole, ends-failed, ends-first, steps-of}
 use Rattle.bufr_text.proofs.dump.push_subsets.Goals as goal
 
 pub returns-in-Ok-clause-ends : goal.returns-in-Ok-clause-ends

@@ -1,8 +1,8 @@
 use Rattle.std.proofs.Common.{◌≡◌}
 use Rattle.std.proofs.lemmas.Result.{err_from_is_err_and}
 use Rattle.bufr_tables.specs.Tree.{places}
-use Rattle.bufr_text.specs.EncodingFault.{reported_refusal}
-use Rattle.bufr_text.proofs.EncodeWhole.{if_ok_so, if_err_so, whole, not_whole, no_data, no_template}
+use Rattle.bufr_text.specs.Encoding.{reported_refusal}
+use Rattle.bufr_text.proofs.RoundTripLemmas.{if_ok_so, if_err_so, whole, not_whole, no_data, no_template}
 use Rattle.bufr_text.proofs.encode.encode_selected.Goals as goal
 
 pub returns-in_err-template-clause-fault : goal.returns-in_err-template-clause-fault

@@ -1,7 +1,7 @@
 use Rattle.std.proofs.Common.{length, arith, ap, sym, subst, Ok, Err}
 use Rattle.bufr_tables.specs.Tree.{places}
 use Rattle.bufr_walk.specs.Course.{next_item}
-use Rattle.bufr_fill.specs.Entries.{subsets_of}
+use Rattle.bufr_fill.specs.Draft.{subsets_of}
 use Rattle.bufr_fill.specs.PackedOut.{PackedOutModel, StartsPackedOut}
 use Rattle.bufr_text.proofs.EncodePacked.{none_packed, packed_written, packed_over, packed_stopped, some_before, some_ends}
 use Rattle.bufr_text.proofs.TurnsLemmas.{template_adds}

@@ -2,7 +2,7 @@ use Rattle.std.proofs.Common.{◌≤◌, ◌∙◌, length, arith, ap, refl}
 use Rattle.std.proofs.lemmas.Result.{err_from_is_err_and}
 use Rattle.bufr_tables.specs.Tree.{places}
 use Rattle.bufr_walk.specs.Course.{next_item}
-use Rattle.bufr_fill.specs.Entries.{subsets_of}
+use Rattle.bufr_fill.specs.Draft.{subsets_of}
 use Rattle.bufr_text.proofs.EncodePlain.{none_written, one_more, all_written, stopped}
 use Rattle.bufr_text.proofs.encode.write_plain.Goals as goal
 

@@ -1,7 +1,7 @@
 use Rattle.std.proofs.Common.{◌≡◌}
 use Rattle.bufr_tables.specs.Tree.{places}
 use Rattle.bufr_walk.specs.Course.{next_item}
-use Rattle.bufr_fill.specs.Entries.{subsets_of}
+use Rattle.bufr_fill.specs.Draft.{subsets_of}
 use Rattle.bufr_text.proofs.EncodePlain.{PlainSoFar}
 use Rattle.bufr_text.proofs.encode.write_plain.Given as goal
 

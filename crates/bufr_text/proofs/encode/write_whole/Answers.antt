@@ -1,8 +1,8 @@
 use Rattle.std.proofs.Common.{◌≡◌, ◌∙◌, sym, arith}
 use Rattle.bufr_frame.specs.Layout.{parts_of}
 use Rattle.bufr_text.specs.Encoding.{compressed_as, message_of, parts_as}
-use Rattle.bufr_text.specs.Header.{head_from_values}
-use Rattle.bufr_text.proofs.EncodingCostLemmas.{message-made, octets_are_bits}
+use Rattle.bufr_text.specs.Documents.{head_from_values}
+use Rattle.bufr_text.proofs.TurnsLemmas.{message-made, octets_are_bits}
 use Rattle.bufr_text.proofs.encode.write_whole.Goals as goal
 
 pub returns-in-Ok-clause-payload : goal.returns-in-Ok-clause-payload

@@ -1,6 +1,6 @@
 use Rattle.bufr_tables.proofs.SoundLemmas.{tree_fine}
-use Rattle.bufr_tables.specs.TemplateTables.{tables_of}
-use Rattle.bufr_text.proofs.CanonicalLemmas.{canonical_encoded}
+use Rattle.bufr_tables.specs.Expansion.{tables_of}
+use Rattle.bufr_text.proofs.FormLemmas.{canonical_encoded}
 use Rattle.bufr_text.proofs.RowsLemmas.{rows-read, good-rows}
 use Rattle.bufr_text.proofs.encode_law.canonical_messages_are_encoded_to_themselves.Goals as goal
 

@@ -1,6 +1,6 @@
 use Rattle.bufr_tables.proofs.SoundLemmas.{tree_fine}
-use Rattle.bufr_tables.specs.TemplateTables.{tables_of}
-use Rattle.bufr_text.proofs.FormBack.{canonical_back}
+use Rattle.bufr_tables.specs.Expansion.{tables_of}
+use Rattle.bufr_text.proofs.FormLemmas.{canonical_back}
 use Rattle.bufr_text.proofs.RowsLemmas.{rows-read, good-rows}
 use Rattle.bufr_text.proofs.encode_law.canonical_messages_come_back_from_each_form.Goals as goal
 

@@ -1,5 +1,5 @@
 use Rattle.bufr_tables.proofs.SoundLemmas.{tree_fine}
-use Rattle.bufr_tables.specs.TemplateTables.{tables_of}
+use Rattle.bufr_tables.specs.Expansion.{tables_of}
 use Rattle.bufr_text.proofs.FormLemmas.{formed, answered}
 use Rattle.bufr_text.proofs.RowsLemmas.{rows-read, good-rows}
 use Rattle.bufr_text.proofs.encode_law.dumped_messages_are_refused_for_their_form_alone.Goals as goal

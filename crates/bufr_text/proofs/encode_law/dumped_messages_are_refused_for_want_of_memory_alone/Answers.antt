@@ -1,5 +1,5 @@
 use Rattle.bufr_tables.proofs.SoundLemmas.{tree_fine}
-use Rattle.bufr_tables.specs.TemplateTables.{tables_of}
+use Rattle.bufr_tables.specs.Expansion.{tables_of}
 use Rattle.bufr_text.proofs.RoundTripLemmas.{encoded_again}
 use Rattle.bufr_text.proofs.MemoryLemmas.{memory_alone}
 use Rattle.bufr_text.proofs.RowsLemmas.{rows-read, good-rows}

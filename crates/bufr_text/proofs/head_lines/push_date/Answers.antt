@@ -1,10 +1,8 @@
 use Rattle.std.proofs.Common.{◌∙◌, ap, sym}
 use Rattle.std.specs.Prelude.{is_some}
 use Rattle.bufr_text.specs.Dump.{bit}
-use Rattle.bufr_text.specs.Key.{header_text}
-use Rattle.bufr_text.specs.Line.{keys}
-use Rattle.bufr_text.proofs.HeadLemmas.{flag-is}
-use Rattle.bufr_text.proofs.LsLineLemmas.{is_some-map}
+use Rattle.bufr_text.specs.Line.{header_text, keys}
+use Rattle.bufr_text.proofs.HeadLemmas.{flag-is, is_some-map}
 use Rattle.bufr_text.proofs.PushLemmas.{◌⨾◌, nothing_pushed}
 use Rattle.bufr_text.proofs.head_lines.push_date.Goals as goal
 

@@ -1,8 +1,8 @@
 use Rattle.std.proofs.Common.{◌∙◌, ◌≡◌, ◌-◌, ◌++◌, ◌∷◌, [], length, map, sym, arith, take, length-drop, ap}
-use Rattle.bufr_frame.specs.Words.{words_left}
+use Rattle.bufr_frame.specs.Octets.{words_left}
 use Rattle.bufr_text.specs.Dump.{descriptors_line, text_of_lines}
 use Rattle.bufr_text.specs.Grammar.{runs_of}
-use Rattle.bufr_text.proofs.DumpLemmas.{lines-next, lines-none, some-left, none-left}
+use Rattle.bufr_text.proofs.HeadLemmas.{lines-next, lines-none, some-left, none-left}
 use Rattle.bufr_text.proofs.PushLemmas.{so_far_on, so_far_end}
 use Rattle.bufr_text.proofs.head_lines.push_descriptor_lines.Goals as goal
 

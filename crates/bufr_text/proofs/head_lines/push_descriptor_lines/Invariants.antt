@@ -1,5 +1,5 @@
 use Rattle.std.proofs.Common.{map, length}
-use Rattle.bufr_frame.specs.Words.{words_left}
+use Rattle.bufr_frame.specs.Octets.{words_left}
 use Rattle.bufr_text.specs.Dump.{descriptors_line, text_of_lines}
 use Rattle.bufr_text.specs.Grammar.{runs_of}
 use Rattle.bufr_text.proofs.PushLemmas.{PushedSoFar}

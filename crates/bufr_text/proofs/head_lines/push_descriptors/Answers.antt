@@ -1,5 +1,5 @@
 use Rattle.std.proofs.Common.{◌-◌, drop, arith, refl}
-use Rattle.bufr_frame.specs.Words.{words_left}
+use Rattle.bufr_frame.specs.Octets.{words_left}
 use Rattle.bufr_text.proofs.HeadLemmas.{descriptors-next, descriptors-none, descriptors-full, left-next}
 use Rattle.bufr_text.proofs.PushLemmas.{◌⨾◌, so_far_start, so_far_on, so_far_end}
 use Rattle.bufr_text.proofs.head_lines.push_descriptors.Goals as goal

@@ -1,5 +1,5 @@
 use Rattle.std.proofs.Common.{◌≡◌, ◌-◌, drop, take}
-use Rattle.bufr_frame.specs.Words.{words_left}
+use Rattle.bufr_frame.specs.Octets.{words_left}
 use Rattle.bufr_text.specs.Grammar.{descriptors_text}
 use Rattle.bufr_text.proofs.PushLemmas.{PushedSoFar}
 use Rattle.bufr_text.proofs.head_lines.push_descriptors.Given as goal

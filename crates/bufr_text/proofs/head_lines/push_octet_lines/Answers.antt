@@ -1,7 +1,7 @@
 use Rattle.std.proofs.Common.{◌<◌, ◌≤◌, ◌++◌, List, ℕ, length, arith}
 use Rattle.std.proofs.lemmas.Bool.Decides.{nat_tests}
 use Rattle.bufr_text.specs.Grammar.{hex_text}
-use Rattle.bufr_text.proofs.DumpLemmas.{octet-lines-next, lines-none}
+use Rattle.bufr_text.proofs.HeadLemmas.{octet-lines-next, lines-none}
 use Rattle.bufr_text.proofs.PushLemmas.{so_far_start, so_far_on, so_far_end}
 use Rattle.bufr_text.proofs.head_lines.push_octet_lines.Goals as goal
 

@@ -1,5 +1,4 @@
-use Rattle.bufr_text.specs.Key.{header_text}
-use Rattle.bufr_text.specs.Line.{keys}
+use Rattle.bufr_text.specs.Line.{header_text, keys}
 use Rattle.bufr_text.proofs.PushLemmas.{◌⨾◌, nothing_pushed}
 use Rattle.bufr_text.proofs.head_lines.push_origin.Goals as goal
 

@@ -1,5 +1,5 @@
 use Rattle.std.proofs.Common.{sym, rules}
-use Rattle.bufr_text.proofs.DescribingLemmas.{describing-none, describing-long, describing-short, describing-no-space, describing-no-fxy, describing-on, describing-whole}
+use Rattle.bufr_text.proofs.ItemLemmas.{describing-none, describing-long, describing-short, describing-no-space, describing-no-fxy, describing-on, describing-whole}
 use Rattle.bufr_text.proofs.header.describe.Goals as goal
 
 pub returns-then-is_empty : goal.returns-then-is_empty

@@ -1,6 +1,6 @@
 use Rattle.std.proofs.Common.{arith}
 use Rattle.bufr_text.specs.Line.{leasts}
-use Rattle.bufr_text.proofs.KeyLemmas.{column}
+use Rattle.bufr_text.proofs.HeaderLemmas.{column}
 use Rattle.bufr_text.proofs.header.least.Goals as goal
 
 pub returns : goal.returns

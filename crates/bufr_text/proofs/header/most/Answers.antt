@@ -1,5 +1,5 @@
 use Rattle.std.proofs.Common.{arith}
-use Rattle.bufr_text.proofs.KeyLemmas.{most-3, most-4}
+use Rattle.bufr_text.proofs.HeaderLemmas.{most-3, most-4}
 use Rattle.bufr_text.proofs.header.most.Goals as goal
 
 pub returns-then-edition-eq3 : goal.returns-then-edition-eq3

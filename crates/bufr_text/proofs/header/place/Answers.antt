@@ -1,7 +1,7 @@
 use Rattle.std.proofs.Common.{ℕ, ◌<◌, ◌∙◌, subst}
 use Rattle.std.specs.Prelude.{IfSome}
-use Rattle.bufr_text.specs.Key.{is_named}
-use Rattle.bufr_text.proofs.KeyLemmas.{place-few, place-is}
+use Rattle.bufr_text.specs.Line.{is_named}
+use Rattle.bufr_text.proofs.HeaderLemmas.{place-few, place-is}
 use Rattle.bufr_text.proofs.header.place.Goals as goal
 
 pub returns-clause-value : goal.returns-clause-value

@@ -1,4 +1,4 @@
-use Rattle.bufr_text.proofs.KeyLemmas.{word_there}
+use Rattle.bufr_text.proofs.HeaderLemmas.{word_there}
 use Rattle.bufr_text.proofs.header.word_at.Goals as goal
 
 pub returns-in-len1-up-clause-word : goal.returns-in-len1-up-clause-word

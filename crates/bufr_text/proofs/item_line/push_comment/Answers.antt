@@ -1,6 +1,6 @@
 use Rattle.std.proofs.Common.{◌∙◌}
 use Rattle.bufr_tables.specs.Entry.{row_of_entry}
-use Rattle.bufr_text.proofs.CommentLemmas.{comment-ready}
+use Rattle.bufr_text.proofs.NumberLemmas.{comment-ready}
 use Rattle.bufr_text.proofs.PushLemmas.{retold}
 use Rattle.bufr_text.proofs.item_line.push_comment.Goals as goal
 

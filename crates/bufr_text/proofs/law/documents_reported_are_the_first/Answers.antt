@@ -1,4 +1,4 @@
-use Rattle.bufr_text.proofs.NextLemmas.{reported-first}
+use Rattle.bufr_text.proofs.CallLemmas.{reported-first}
 use Rattle.bufr_text.proofs.law.documents_reported_are_the_first.Goals as goal
 
 pub returns : goal.returns

@@ -1,4 +1,4 @@
-use Rattle.bufr_text.proofs.NextLemmas.{done-again}
+use Rattle.bufr_text.proofs.CallLemmas.{done-again}
 use Rattle.bufr_text.proofs.law.none_comes_again.Goals as goal
 
 pub returns : goal.returns

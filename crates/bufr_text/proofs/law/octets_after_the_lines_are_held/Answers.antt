@@ -1,5 +1,5 @@
 use Rattle.bufr_text.specs.Reader.{new_reader}
-use Rattle.bufr_text.proofs.UnfedLemmas.{call-keeps}
+use Rattle.bufr_text.proofs.ReadingLemmas.{call-keeps}
 use Rattle.bufr_text.proofs.law.octets_after_the_lines_are_held.Goals as goal
 
 pub returns : goal.returns

@@ -1,4 +1,4 @@
-use Rattle.bufr_text.proofs.OpenLemmas.{open-prefix}
+use Rattle.bufr_text.proofs.ReadingLemmas.{open-prefix}
 use Rattle.bufr_text.proofs.law.open_documents_are_prefix.Goals as goal
 
 pub returns : goal.returns

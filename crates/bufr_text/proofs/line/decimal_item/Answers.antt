@@ -1,7 +1,7 @@
 use Rattle.std.proofs.Common.{sym, ◌∙◌}
-use Rattle.bufr_bits.specs.ShortDecimal.{short_text}
+use Rattle.bufr_bits.specs.Decimal.{short_text}
 use Rattle.bufr_fill.specs.Draft.{number_token}
-use Rattle.bufr_text.proofs.WordLemmas.{decimal-line}
+use Rattle.bufr_text.proofs.ItemLemmas.{decimal-line}
 use Rattle.bufr_text.proofs.line.decimal_item.Goals as goal
 
 pub returns : goal.returns

@@ -1,4 +1,4 @@
-use Rattle.bufr_text.proofs.UnhexLemmas.{unhexing-on, unhexing-wrong, unhexing-whole, unhexing-odd, high-wrong, low-wrong}
+use Rattle.bufr_text.proofs.ItemLemmas.{unhexing-on, unhexing-wrong, unhexing-whole, unhexing-odd, high-wrong, low-wrong}
 use Rattle.bufr_text.proofs.line.decode_hex.Goals as goal
 
 pub returns-in_err-high : goal.returns-in_err-high

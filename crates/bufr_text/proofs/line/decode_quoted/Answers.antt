@@ -1,5 +1,5 @@
 use Rattle.std.proofs.Common.{arith, rules}
-use Rattle.bufr_text.proofs.UnquoteLemmas.{unquoting-says, unquoting-within, unquoting-closed, unquoting-nothing, unquoting-end}
+use Rattle.bufr_text.proofs.ItemLemmas.{unquoting-says, unquoting-within, unquoting-closed, unquoting-nothing, unquoting-end}
 use Rattle.bufr_text.proofs.line.decode_quoted.Goals as goal
 
 pub returns-in-Closed : goal.returns-in-Closed

@@ -1,5 +1,5 @@
 use Rattle.std.proofs.Common.{sym, ◌∙◌, rules}
-use Rattle.bufr_text.proofs.WordLemmas.{line-word}
+use Rattle.bufr_text.proofs.ItemLemmas.{line-word}
 use Rattle.bufr_text.proofs.line.line_said.Goals as goal
 
 pub returns : goal.returns

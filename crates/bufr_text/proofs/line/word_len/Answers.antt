@@ -1,5 +1,5 @@
 use Rattle.std.proofs.Common.{subst}
-use Rattle.bufr_text.proofs.WordLemmas.{WordAt, word-at}
+use Rattle.bufr_text.proofs.ItemLemmas.{WordAt, word-at}
 use Rattle.bufr_text.proofs.line.word_len.Goals as goal
 
 pub returns-in-Some-clause-word : goal.returns-in-Some-clause-word

@@ -1,6 +1,6 @@
 use Rattle.std.proofs.Common.{◌∙◌, Err, ap}
 use Rattle.std.proofs.lemmas.Result.{err_from_is_err_and}
-use Rattle.bufr_text.proofs.WritingLemmas.{Writes-then, Writes-stop}
+use Rattle.bufr_text.proofs.PushLemmas.{Writes-then, Writes-stop}
 use Rattle.bufr_text.proofs.line_writer.write_after.Goals as goal
 
 pub returns-in_err-write_prefix-clause-writes : goal.returns-in_err-write_prefix-clause-writes

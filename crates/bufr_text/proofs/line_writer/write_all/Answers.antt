@@ -1,8 +1,8 @@
 use Rattle.std.proofs.Common.{◌∙◌, ◌<◌, length, inl, inr, ap, arith}
 use Rattle.std.proofs.lemmas.Bool.Decides.{nat_tests}
-use Rattle.bufr_bits.specs.Counts.{counted}
+use Rattle.bufr_bits.specs.Device.{counted}
 use Rattle.bufr_bits.proofs.CountLemmas.{empty_writes_after-some, empty_writes_after-none}
-use Rattle.bufr_text.proofs.WritingLemmas.{more-written}
+use Rattle.bufr_text.proofs.PushLemmas.{more-written}
 use Rattle.bufr_text.proofs.line_writer.write_all.Goals as goal
 
 pub returns-in-Ok-eq0-clause-counts : goal.returns-in-Ok-eq0-clause-counts

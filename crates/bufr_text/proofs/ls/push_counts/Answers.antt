@@ -1,6 +1,6 @@
 use Rattle.std.proofs.Common.{◌∙◌, ap, length}
 use Rattle.bufr_text.proofs.PushLemmas.{◌⨾◌, nothing_pushed}
-use Rattle.bufr_text.proofs.LsLineLemmas.{is_some-map}
+use Rattle.bufr_text.proofs.HeadLemmas.{is_some-map}
 use Rattle.bufr_text.proofs.ls.push_counts.Goals as goal
 
 pub returns : goal.returns

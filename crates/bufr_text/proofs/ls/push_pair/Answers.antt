@@ -1,5 +1,5 @@
 use Rattle.std.proofs.Common.{◌∷◌, ap, sym, arith}
-use Rattle.bufr_text.proofs.LsLineLemmas.{padded_digit, padded_long}
+use Rattle.bufr_text.proofs.HeadLemmas.{padded_digit, padded_long}
 use Rattle.bufr_text.proofs.PushLemmas.{retold}
 use Rattle.bufr_text.proofs.ls.push_pair.Goals as goal
 

@@ -1,6 +1,6 @@
 use Rattle.std.proofs.Common.{◌-◌, arith, drop, length, length-drop}
 use Rattle.std.proofs.lemmas.List.{take_all}
-use Rattle.bufr_text.proofs.ScaleLemmas.{word_put}
+use Rattle.bufr_text.proofs.NumberLemmas.{word_put}
 use Rattle.bufr_text.proofs.number_line.fill_missing_line.Goals as goal
 
 pub returns-clause-text : goal.returns-clause-text

@@ -1,6 +1,6 @@
 use Rattle.std.proofs.Common.{◌∙◌, ◌-◌, ap, arith, drop, length, length-drop, to_z-of_z, unsigned_abs}
 use Rattle.std.proofs.lemmas.List.{take_all}
-use Rattle.bufr_text.proofs.ScaleLemmas.{line_put}
+use Rattle.bufr_text.proofs.NumberLemmas.{line_put}
 use Rattle.bufr_text.proofs.number_line.fill_number_line.Goals as goal
 
 pub returns-clause-text : goal.returns-clause-text

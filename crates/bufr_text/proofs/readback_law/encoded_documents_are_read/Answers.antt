@@ -1,4 +1,4 @@
-use Rattle.bufr_text.proofs.ReadBackLemmas.{encoded_read}
+use Rattle.bufr_text.proofs.NormalLemmas.{encoded_read}
 use Rattle.bufr_text.proofs.readback_law.encoded_documents_are_read.Goals as goal
 
 pub returns : goal.returns

@@ -2,7 +2,7 @@ use Rattle.std.proofs.Common.{arith, refl}
 use Rattle.bufr_bits.specs.Bits.{bits_of}
 use Rattle.bufr_bits.specs.BitSlice.{octets_of}
 use Rattle.bufr_bits.proofs.BitLemmas.{length-bits_of}
-use Rattle.bufr_walk.proofs.TextLemmas.{four_put}
+use Rattle.bufr_walk.proofs.PlainLemmas.{four_put}
 use Rattle.bufr_walk.proofs.bits.copy_four.Goals as goal
 
 pub returns : goal.returns

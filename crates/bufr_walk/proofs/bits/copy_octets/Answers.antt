@@ -1,7 +1,7 @@
 use Rattle.std.proofs.Common.{arith}
 use Rattle.bufr_bits.specs.Bits.{bits_of}
 use Rattle.bufr_bits.specs.BitSlice.{octets_of}
-use Rattle.bufr_walk.proofs.TextLemmas.{octet_put}
+use Rattle.bufr_walk.proofs.PlainLemmas.{octet_put}
 use Rattle.bufr_walk.proofs.bits.copy_octets.Goals as goal
 
 pub octets-preserved : goal.octets-preserved

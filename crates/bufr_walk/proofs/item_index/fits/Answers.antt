@@ -2,7 +2,7 @@ use Rattle.std.proofs.Common.{sym, ◌∙◌}
 use denote.Enum.Bare.{same_true}
 use Rattle.bufr_tables.specs.contracts.table_b.Kind as kind
 use Rattle.bufr_walk.specs.contracts.spec.Role as role
-use Rattle.bufr_walk.proofs.KeptItemsLemmas.{same_field, fits_there}
+use Rattle.bufr_walk.proofs.PackedReading.{same_field, fits_there}
 use Rattle.bufr_walk.proofs.item_index.fits.Goals as goal
 
 pub returns-then-place-specs : goal.returns-then-place-specs

@@ -1,7 +1,7 @@
 use Rattle.std.proofs.Common.{arith, ◌==◌, ◌-◌, ◌+◌, sym}
 use Rattle.bufr_bits.specs.Bits.{bits_of, number_of}
 use Rattle.bufr_bits.specs.BitSlice.{octets_of}
-use Rattle.bufr_walk.proofs.PackedLoops.{passes_next, fails_next, is_first, is_other}
+use Rattle.bufr_walk.proofs.PackedLemmas.{passes_next, fails_next, is_first, is_other}
 use Rattle.bufr_walk.proofs.packed_in.are_equal.Goals as goal
 
 pub returns-then-increment-first : goal.returns-then-increment-first

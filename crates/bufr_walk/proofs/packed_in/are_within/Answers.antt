@@ -2,7 +2,7 @@ use Rattle.std.proofs.Common.{arith, ◌-◌, ◌+◌, sym}
 use Rattle.bufr_bits.specs.Bits.{bits_of, number_of}
 use Rattle.bufr_bits.specs.BitSlice.{octets_of}
 use Rattle.bufr_walk.specs.PackedBits.{stays_within}
-use Rattle.bufr_walk.proofs.PackedLoops.{passes_next, fails_next, stays_here}
+use Rattle.bufr_walk.proofs.PackedLemmas.{passes_next, fails_next, stays_here}
 use Rattle.bufr_walk.proofs.packed_in.are_within.Goals as goal
 
 pub returns-then-not-stays : goal.returns-then-not-stays

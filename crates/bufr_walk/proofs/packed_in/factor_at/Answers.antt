@@ -2,7 +2,7 @@ use Rattle.std.proofs.Common.{◌≡◌, ◌+◌, take, drop, sym, ap, ◌∙◌
 use Rattle.bufr_bits.specs.Bits.{bits_of, number_of}
 use Rattle.bufr_bits.specs.BitSlice.{octets_of}
 use Rattle.bufr_walk.specs.PackedBits.{all_equal}
-use Rattle.bufr_walk.proofs.PackedContents.{answer_factor_varied, wrong_factor, wrong_unequal}
+use Rattle.bufr_walk.proofs.PackedLemmas.{answer_factor_varied, wrong_factor, wrong_unequal}
 use Rattle.bufr_walk.proofs.packed_in.factor_at.Goals as goal
 
 pub returns-then-not-can_be-clause-answer : goal.returns-then-not-can_be-clause-answer

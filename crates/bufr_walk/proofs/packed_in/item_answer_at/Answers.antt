@@ -1,4 +1,4 @@
-use Rattle.bufr_walk.proofs.PackedContents.{answer_base}
+use Rattle.bufr_walk.proofs.PackedLemmas.{answer_base}
 use Rattle.bufr_walk.proofs.packed_in.item_answer_at.Goals as goal
 
 pub returns-then-k-eq0-clause-answer : goal.returns-then-k-eq0-clause-answer

@@ -2,7 +2,7 @@ use Rattle.std.proofs.Common.{arith, ◌≡◌, ◌+◌, ◌*◌, take, drop, re
 use Rattle.bufr_bits.specs.Bits.{bits_of, number_of}
 use Rattle.bufr_bits.specs.BitSlice.{octets_of}
 use Rattle.bufr_walk.proofs.PlainLemmas.{bits_length}
-use Rattle.bufr_walk.proofs.PackedPlaces.{ends_first, ends_after, seen_here, unseen_here, size_same}
+use Rattle.bufr_walk.proofs.PackedReading.{ends_first, ends_after, seen_here, unseen_here, size_same}
 use Rattle.bufr_walk.proofs.packed_in.item_bits_at.Goals as goal
 
 pub returns-then-left-width-clause-seen : goal.returns-then-left-width-clause-seen

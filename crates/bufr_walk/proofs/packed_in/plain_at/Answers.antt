@@ -1,5 +1,5 @@
 use Rattle.std.proofs.Common.{sym, ◌∙◌}
-use Rattle.bufr_walk.proofs.PackedContents.{answer_varied, wrong_varied}
+use Rattle.bufr_walk.proofs.PackedLemmas.{answer_varied, wrong_varied}
 use Rattle.bufr_walk.proofs.packed_in.plain_at.Goals as goal
 
 pub returns-then-can_be-clause-answer : goal.returns-then-can_be-clause-answer

@@ -1,5 +1,5 @@
 use Rattle.bufr_walk.specs.Course.{next_item}
-use Rattle.bufr_walk.proofs.Readings.{pass_reads, pass_stops, walk_forth}
+use Rattle.bufr_walk.proofs.PlainLemmas.{pass_reads, pass_stops, walk_forth}
 use Rattle.bufr_walk.proofs.read_plain.read_subset.Goals as goal
 
 pub returns-in-Ok-clause-read : goal.returns-in-Ok-clause-read

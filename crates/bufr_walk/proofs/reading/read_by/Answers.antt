@@ -1,7 +1,7 @@
 use Rattle.std.proofs.Common.{◌<◌, ◌^◌, ◌∙◌, length, subst, sym}
 use Rattle.bufr_bits.specs.BitSlice.{octets_of}
-use Rattle.bufr_walk.proofs.PackedHeld.{packed_held, packed_is, packed_data_same}
-use Rattle.bufr_walk.proofs.ReadingLemmas.{plain_held, plain_is, same_data}
+use Rattle.bufr_walk.proofs.PackedReading.{packed_held, packed_is, packed_data_same}
+use Rattle.bufr_walk.proofs.PlainLemmas.{plain_held, plain_is, same_data}
 use Rattle.bufr_walk.proofs.reading.read_by.Goals as goal
 
 pub invariant_of-result : goal.invariant_of-result

@@ -1,5 +1,5 @@
 use Rattle.bufr_bits.specs.BitSlice.{octets_of}
-use Rattle.bufr_walk.proofs.PlainNumbers.{base_missing, base_number}
+use Rattle.bufr_walk.proofs.ShownLemmas.{base_missing, base_number}
 use Rattle.bufr_walk.proofs.show_compressed.common_number.Goals as goal
 
 pub returns-in-Some : goal.returns-in-Some

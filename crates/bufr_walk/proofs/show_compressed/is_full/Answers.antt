@@ -2,7 +2,7 @@ use Rattle.std.proofs.Common.{◌≡◌, ◌-◌, ◌*◌, ◌%◌, ◌^◌, ◌
 use Rattle.std.specs.Prelude.{nat_eq}
 use Rattle.std.proofs.lemmas.Nat.{shl_whole}
 use Rattle.bufr_bits.specs.BitSlice.{octets_of}
-use Rattle.bufr_walk.proofs.PackedAt.{kept_ones}
+use Rattle.bufr_walk.proofs.PackedLemmas.{kept_ones}
 use Rattle.bufr_walk.proofs.show_compressed.is_full.Goals as goal
 
 pub returns : goal.returns

@@ -3,7 +3,7 @@ use Rattle.bufr_bits.specs.Bits.{bits_of}
 use Rattle.bufr_bits.specs.BitSlice.{octets_of}
 use Rattle.bufr_walk.specs.PackedBits.{number_from}
 use Rattle.bufr_walk.proofs.PlainLemmas.{bits_length}
-use Rattle.bufr_walk.proofs.PackedAt.{number_content, number_within}
+use Rattle.bufr_walk.proofs.PackedLemmas.{number_content, number_within}
 use Rattle.bufr_walk.proofs.show_compressed.number_of.Goals as goal
 
 pub number_in-requires-clause-within : goal.number_in-requires-clause-within

@@ -4,7 +4,7 @@ use Rattle.bufr_bits.specs.Bits.{bits_at, bits_of, number_of}
 use Rattle.bufr_bits.specs.BitSlice.{octets_of}
 use Rattle.bufr_walk.specs.Content.{missing, number}
 use Rattle.bufr_walk.specs.PackedField.{ones}
-use Rattle.bufr_walk.proofs.PackedAt.{increment_at, kept_number, roomy_base, roomy_number}
+use Rattle.bufr_walk.proofs.PackedLemmas.{increment_at, kept_number, roomy_base, roomy_number}
 use Rattle.bufr_walk.proofs.show_compressed.roomy_number_in.Goals as goal
 
 pub returns : goal.returns

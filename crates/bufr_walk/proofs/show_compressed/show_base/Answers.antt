@@ -2,7 +2,7 @@ use Rattle.std.proofs.Common.{arith, subst}
 use Rattle.bufr_bits.specs.Bits.{bits_of}
 use Rattle.bufr_bits.specs.BitSlice.{octets_of}
 use Rattle.bufr_walk.specs.Calls.{item_call, view_of}
-use Rattle.bufr_walk.proofs.PackedTexts.{base_within, base_shown}
+use Rattle.bufr_walk.proofs.PackedShowing.{base_within, base_shown}
 use Rattle.bufr_walk.proofs.show_compressed.show_base.Goals as goal
 
 pub from_bit-input-requires : goal.from_bit-input-requires

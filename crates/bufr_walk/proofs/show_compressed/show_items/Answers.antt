@@ -2,8 +2,7 @@ use Rattle.std.proofs.Common.{◌≡◌, ◌<◌, length, get_or, arith}
 use Rattle.bufr_bits.specs.Bits.{bits_of}
 use Rattle.bufr_bits.specs.BitSlice.{octets_of}
 use Rattle.bufr_walk.specs.declared.kept.IndexedItem.{IndexedItem}
-use Rattle.bufr_walk.proofs.PackedCalls.{fit_after, item_there}
-use Rattle.bufr_walk.proofs.PackedSubsets.{items_end, items_go}
+use Rattle.bufr_walk.proofs.PackedShowing.{fit_after, item_there, items_end, items_go}
 use Rattle.bufr_walk.proofs.show_compressed.show_items.Goals as goal
 
 pub items-preserved : goal.items-preserved

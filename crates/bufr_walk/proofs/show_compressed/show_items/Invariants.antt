@@ -3,8 +3,7 @@ use Rattle.std.specs.List.{list_all}
 use Rattle.bufr_bits.specs.Bits.{bits_of}
 use Rattle.bufr_bits.specs.BitSlice.{octets_of}
 use Rattle.bufr_walk.specs.PackedIn.{fits_at}
-use Rattle.bufr_walk.proofs.PackedCalls.{SoFar}
-use Rattle.bufr_walk.proofs.PackedSubsets.{calls_from}
+use Rattle.bufr_walk.proofs.PackedShowing.{SoFar, calls_from}
 use Rattle.bufr_walk.proofs.show_compressed.show_items.Given as goal
 
 abbrev pub invariant-items : goal.invariant-items

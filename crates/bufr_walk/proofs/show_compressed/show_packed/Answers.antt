@@ -1,7 +1,7 @@
 use Rattle.bufr_bits.specs.Bits.{bits_of}
 use Rattle.bufr_bits.specs.BitSlice.{octets_of}
 use Rattle.bufr_walk.specs.PackedIn.{items_at}
-use Rattle.bufr_walk.proofs.PackedSubsets.{subsets_go, subsets_end}
+use Rattle.bufr_walk.proofs.PackedShowing.{subsets_go, subsets_end}
 use Rattle.bufr_walk.proofs.show_compressed.show_packed.Goals as goal
 
 pub returns-in-Err : goal.returns-in-Err

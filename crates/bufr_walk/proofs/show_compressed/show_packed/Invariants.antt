@@ -1,8 +1,7 @@
 use Rattle.bufr_bits.specs.Bits.{bits_of}
 use Rattle.bufr_bits.specs.BitSlice.{octets_of}
 use Rattle.bufr_walk.specs.PackedIn.{items_at}
-use Rattle.bufr_walk.proofs.PackedCalls.{SoFar}
-use Rattle.bufr_walk.proofs.PackedSubsets.{all_calls, subsets_from}
+use Rattle.bufr_walk.proofs.PackedShowing.{SoFar, all_calls, subsets_from}
 use Rattle.bufr_walk.proofs.show_compressed.show_packed.Given as goal
 
 abbrev pub invariant-subsets : goal.invariant-subsets

@@ -3,7 +3,7 @@ use Rattle.std.specs.Prelude.{◌/◌}
 use Rattle.bufr_bits.specs.Bits.{bits_of}
 use Rattle.bufr_bits.specs.BitSlice.{octets_of}
 use Rattle.bufr_walk.specs.PackedField.{padded_text}
-use Rattle.bufr_walk.proofs.PackedTexts.{span_within, span_text}
+use Rattle.bufr_walk.proofs.PackedShowing.{span_within, span_text}
 use Rattle.bufr_walk.proofs.show_compressed.text_span.Goals as goal
 
 pub text_place-requires : goal.text_place-requires

@@ -4,7 +4,7 @@ use Rattle.bufr_bits.specs.Bits.{bits_of}
 use Rattle.bufr_bits.specs.BitSlice.{octets_of}
 use Rattle.bufr_walk.specs.Course.{next_item}
 use Rattle.bufr_walk.specs.PlainIn.{rest_of}
-use Rattle.bufr_walk.proofs.SubsetLemmas.{none_shown, all_subsets, next_there, one_shown, ended_so, subset_goes, subset_refused}
+use Rattle.bufr_walk.proofs.ShownLemmas.{none_shown, all_subsets, next_there, one_shown, ended_so, subset_goes, subset_refused}
 use Rattle.bufr_walk.proofs.show_plain.show_plain.Goals as goal
 
 pub subsets-init : goal.subsets-init

@@ -1,5 +1,5 @@
 use Rattle.bufr_tables.specs.Entry.{row_of_entry}
-use Rattle.bufr_walk.proofs.PlainNumbers.{row_is}
+use Rattle.bufr_walk.proofs.ShownLemmas.{row_is}
 use Rattle.bufr_walk.proofs.show_plain.show_plain_value.Goals as goal
 
 pub returns : goal.returns

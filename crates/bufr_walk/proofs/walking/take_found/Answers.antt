@@ -1,4 +1,4 @@
-use Rattle.bufr_walk.proofs.SpecCacheLemmas.{spec_got_plain}
+use Rattle.bufr_walk.proofs.CacheLemmas.{spec_got_plain}
 use Rattle.bufr_walk.proofs.walking.take_found.Goals as goal
 
 pub take_other-requires : goal.take_other-requires

@@ -1,5 +1,5 @@
 use Rattle.std.proofs.Common.{◌∙◌, sym}
-use Rattle.bufr_walk.proofs.SpecCacheLemmas.{spec_cached}
+use Rattle.bufr_walk.proofs.CacheLemmas.{spec_cached}
 use Rattle.bufr_walk.proofs.walking.take_new.Goals as goal
 
 pub insert-requires : goal.insert-requires

@@ -1,8 +1,7 @@
 use Rattle.std.proofs.Common.{refl, sym, ◌∙◌, arith}
 use Rattle.std.proofs.lemmas.Bool.{false≢true}
 use Rattle.std.proofs.lemmas.Result.{err_from_is_err_and}
-use Rattle.bufr_walk.proofs.FieldWays.{five_is, five_is_not}
-use Rattle.bufr_walk.proofs.FlatTurns.{in_range, no_factor, at_cell, turn_element, fail_element, operator_legal, turn_inserted, fail_inserted, turn_operator, fail_operator, fixed_room, delayed_room, factor_next, turn_fixed, turn_delayed, fail_delayed, innermost, pass_end_open, turn_pass_end, turn_finish}
+use Rattle.bufr_walk.proofs.WalkLemmas.{five_is, five_is_not, in_range, no_factor, at_cell, turn_element, fail_element, operator_legal, turn_inserted, fail_inserted, turn_operator, fail_operator, fixed_room, delayed_room, factor_next, turn_fixed, turn_delayed, fail_delayed, innermost, pass_end_open, turn_pass_end, turn_finish}
 use Rattle.bufr_walk.proofs.walking.turn.Goals as goal
 
 pub cell_at-requires-clause-inside : goal.cell_at-requires-clause-inside

@@ -1,8 +1,7 @@
 use Rattle.std.proofs.Common.{arith, refl, ◌∙◌}
 use Rattle.std.proofs.lemmas.Result.{err_from_is_err_and}
-use Rattle.bufr_walk.specs.Turns.{unroll}
-use Rattle.bufr_walk.proofs.WaysLemmas.{came_then}
-use Rattle.bufr_walk.proofs.FlatTurns.{fits_first, led_on, led_out, led_off, flattened_length, came_begun}
+use Rattle.bufr_walk.specs.Course.{unroll}
+use Rattle.bufr_walk.proofs.WalkLemmas.{came_then, fits_first, led_on, led_out, led_off, flattened_length, came_begun}
 use Rattle.bufr_walk.proofs.walking.walk_cells.Goals as goal
 
 pub turn-requires-clause-within : goal.turn-requires-clause-within

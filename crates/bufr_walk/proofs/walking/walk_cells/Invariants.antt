@@ -1,10 +1,9 @@
 use Rattle.std.proofs.Common.{◌≡◌}
 use Rattle.bufr_tables.specs.Tree.{Tree}
-use Rattle.bufr_walk.specs.Operators.{begin}
-use Rattle.bufr_walk.specs.Turns.{Rest, unroll}
+use Rattle.bufr_walk.specs.Rules.{begin}
+use Rattle.bufr_walk.specs.Course.{Rest, unroll}
 use Rattle.bufr_tables.specs.Cells.{AreCellsOf}
-use Rattle.bufr_walk.specs.CellWalk.{IsAtCell, weight}
-use Rattle.bufr_walk.specs.WalkProgress.{HasWalked}
+use Rattle.bufr_walk.specs.Walk.{IsAtCell, weight, HasWalked}
 use Rattle.bufr_walk.proofs.walking.walk_cells.Given as goal
 
 abbrev pub invariant-turns : goal.invariant-turns

@@ -1,5 +1,5 @@
 use Rattle.std.proofs.Common.{arith, true, sym, ◌+◌, ◌-◌, ◌*◌, ◌/◌, ◌%◌, ◌∙◌}
-use Rattle.bufr_bits.proofs.OnesLemmas.{ones_by_three, ones_not_first, ones_not_middle}
+use Rattle.bufr_bits.proofs.BitLemmas.{ones_by_three, ones_not_first, ones_not_middle}
 use Rattle.bufr_bits.proofs.bit_slice.BitSlice.are_ones.Goals as goal
 
 pub returns-then-not-few_are_ones : goal.returns-then-not-few_are_ones

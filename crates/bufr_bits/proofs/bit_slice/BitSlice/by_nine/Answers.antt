@@ -1,7 +1,6 @@
 use Rattle.std.proofs.Common.{◌≡◌, ◌+◌, ◌-◌, ◌*◌, ◌%◌, ◌^◌, refl, arith}
 use Rattle.bufr_bits.specs.Bits.{number_of, bits_at}
-use Rattle.bufr_bits.proofs.BitLemmas.{fits_in_63}
-use Rattle.bufr_bits.proofs.WindowLemmas.{field_beyond}
+use Rattle.bufr_bits.proofs.BitLemmas.{fits_in_63, field_beyond}
 use Rattle.bufr_bits.proofs.bit_slice.BitSlice.by_nine.Goals as goal
 
 beyond : (c : goal.After-part_of) → c.args.window % (1 * 2 ^ (64 - c.args.at % 8) % 18446744073709551616) * 2 ^ (c.args.at % 8 + c.args.width - 64) % 18446744073709551616 + c.part_of.result ≡ number_of (bits_at c.args.self.now.octets.now c.args.at c.args.width)

@@ -1,4 +1,4 @@
-use Rattle.bufr_bits.proofs.WindowLemmas.{field_within}
+use Rattle.bufr_bits.proofs.BitLemmas.{field_within}
 use Rattle.bufr_bits.proofs.bit_slice.BitSlice.by_window.Goals as goal
 
 pub returns-then-from-width-le64 : goal.returns-then-from-width-le64

@@ -1,6 +1,6 @@
 use Rattle.std.proofs.Common.{arith, ◌≡◌, ◌-◌, ◌*◌, ◌%◌, ◌^◌, ◌∙◌}
 use Rattle.std.proofs.lemmas.Nat.{shl_whole}
-use Rattle.bufr_bits.proofs.OnesLemmas.{read_greatest}
+use Rattle.bufr_bits.proofs.BitLemmas.{read_greatest}
 use Rattle.bufr_bits.proofs.bit_slice.BitSlice.few_are_ones.Goals as goal
 
 pub returns : goal.returns

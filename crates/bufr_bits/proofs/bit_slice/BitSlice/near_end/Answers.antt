@@ -1,5 +1,5 @@
 use Rattle.std.proofs.Common.{◌+◌, ◌-◌, ◌*◌, ◌≤◌, ◌≡◌, arith, length}
-use Rattle.bufr_bits.proofs.WindowLemmas.{field_in}
+use Rattle.bufr_bits.proofs.BitLemmas.{field_in}
 use Rattle.bufr_bits.proofs.bit_slice.BitSlice.near_end.Goals as goal
 
 pub returns : goal.returns

@@ -1,5 +1,5 @@
 use Rattle.std.proofs.Common.{◌≡◌, ℕ, ◌+◌, ◌-◌, arith, take, drop, sym, ap, ◌∙◌}
-use Rattle.bufr_bits.proofs.OnesLemmas.{bits_at-octets}
+use Rattle.bufr_bits.proofs.BitLemmas.{bits_at-octets}
 use Rattle.bufr_bits.specs.Bits.{are_all_ones, bits_of}
 use Rattle.bufr_bits.proofs.bit_slice.BitSlice.octets_are_ones.Goals as goal
 

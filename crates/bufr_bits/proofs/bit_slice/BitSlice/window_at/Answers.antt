@@ -1,5 +1,5 @@
 use Rattle.std.proofs.Common.{refl}
-use Rattle.bufr_bits.proofs.WindowLemmas.{window_answer}
+use Rattle.bufr_bits.proofs.BitLemmas.{window_answer}
 use Rattle.bufr_bits.proofs.bit_slice.BitSlice.window_at.Goals as goal
 
 pub returns : goal.returns

@@ -1,4 +1,4 @@
-use Rattle.bufr_bits.proofs.WriterLemmas.{nothing_written}
+use Rattle.bufr_bits.proofs.BitLemmas.{nothing_written}
 use Rattle.bufr_bits.proofs.bit_writer.BitWriter.new.Goals as goal
 
 pub returns : goal.returns

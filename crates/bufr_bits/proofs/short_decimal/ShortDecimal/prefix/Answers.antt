@@ -1,5 +1,5 @@
 use Rattle.std.proofs.Common.{sym, ◌∙◌, arith}
-use Rattle.bufr_bits.proofs.ShortTextLemmas.{minus_text, plain_text}
+use Rattle.bufr_bits.proofs.ShortLemmas.{minus_text, plain_text}
 use Rattle.bufr_bits.proofs.short_decimal.ShortDecimal.prefix.Goals as goal
 
 pub returns-then-not-negative-clause-text : goal.returns-then-not-negative-clause-text

@@ -1,6 +1,6 @@
 use Rattle.std.proofs.Common.{arith}
 use Rattle.bufr_fill.specs.Kept.{entry_with}
-use Rattle.bufr_fill.proofs.KeptLemmas.{kept-there, kept-past}
+use Rattle.bufr_fill.proofs.EntryLemmas.{kept-there, kept-past}
 use Rattle.bufr_fill.proofs.draft.Entries.get.Goals as goal
 
 pub returns-then-place-len : goal.returns-then-place-len

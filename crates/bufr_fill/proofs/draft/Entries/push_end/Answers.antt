@@ -1,7 +1,7 @@
 use Rattle.std.proofs.Common.{List, [], ◌∷◌, ◌++◌, ap, ◌∙◌}
 use Rattle.std.proofs.lemmas.List.{map-append}
 use Rattle.std.proofs.lemmas.Result.{err_from_is_err_and}
-use Rattle.bufr_fill.specs.Entries.{DraftEntry, Ends}
+use Rattle.bufr_fill.specs.Draft.{DraftEntry, Ends}
 use Rattle.bufr_fill.specs.Kept.{entry_stored, entries_stored}
 use Rattle.bufr_fill.proofs.draft.Entries.push_end.Goals as goal
 

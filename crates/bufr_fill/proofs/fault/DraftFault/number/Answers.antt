@@ -1,5 +1,5 @@
 use Rattle.std.proofs.Common.{sym, ap}
-use Rattle.bufr_fill.specs.DraftFaults.{number_of_draft_fault}
+use Rattle.bufr_fill.specs.Faults.{number_of_draft_fault}
 use Rattle.bufr_fill.proofs.fault.DraftFault.number.Goals as goal
 
 pub returns-in-WrongDescriptor : goal.returns-in-WrongDescriptor

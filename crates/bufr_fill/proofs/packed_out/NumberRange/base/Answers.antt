@@ -1,5 +1,5 @@
 use Rattle.std.proofs.Common.{◌≤◌, ◌∙◌, rules, arith}
-use Rattle.bufr_fill.proofs.RangeSteps.{base_some, base_none}
+use Rattle.bufr_fill.proofs.LeastLemmas.{base_some, base_none}
 use Rattle.bufr_fill.proofs.packed_out.NumberRange.base.Goals as goal
 
 pub returns-then-self : goal.returns-then-self

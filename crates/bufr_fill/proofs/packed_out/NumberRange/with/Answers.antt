@@ -1,5 +1,5 @@
 use Rattle.std.proofs.Common.{arith}
-use Rattle.bufr_fill.proofs.RangeSteps.{least_with, most_with, number_is}
+use Rattle.bufr_fill.proofs.LeastLemmas.{least_with, most_with, number_is}
 use Rattle.bufr_fill.proofs.packed_out.NumberRange.with.Goals as goal
 
 pub returns : goal.returns

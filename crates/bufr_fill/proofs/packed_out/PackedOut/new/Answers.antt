@@ -1,9 +1,9 @@
 use Rattle.std.proofs.Common.{◌≡◌, ◌≤◌, ◌==◌, ◌*◌, ℕ, zero, suc, Bool, false, List, length, rules, sym, ap, ◌∙◌, arith}
 use Rattle.std.proofs.lemmas.Bool.{false≢true}
 use Rattle.bufr_walk.specs.Reading.{max_values}
-use Rattle.bufr_fill.specs.Entries.{Subset, subsets_of}
+use Rattle.bufr_fill.specs.Draft.{Subset, subsets_of}
 use Rattle.bufr_fill.specs.PackedOut.{PackedOutModel}
-use Rattle.bufr_fill.proofs.Places.{none_end, empty_is}
+use Rattle.bufr_fill.proofs.EntryLemmas.{none_end, empty_is}
 use Rattle.bufr_fill.proofs.packed_out.PackedOut.new.Goals as goal
 
 some_there : (count : ℕ) → false ≡ (count == 0) → 1 ≤ count

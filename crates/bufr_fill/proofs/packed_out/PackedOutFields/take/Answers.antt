@@ -1,11 +1,11 @@
 use Rattle.std.proofs.Common.{◌≡◌, ℕ, ◌≤◌, ◌+◌, ◌*◌, Bool, List, ◌++◌, length, ap, ◌∙◌, subst, arith, length-append}
 use Rattle.bufr_walk.specs.Reading.{max_values}
 use Rattle.bufr_fill.specs.Encoding.{item_row}
-use Rattle.bufr_fill.specs.Entries.{Subset, subsets_of}
+use Rattle.bufr_fill.specs.Draft.{Subset, subsets_of}
 use Rattle.bufr_fill.specs.PackedOut.{PackedOutModel, IsFaultAcross, IsPutAcross}
 use Rattle.bufr_fill.specs.PlainOut.{IfDraftFault}
-use Rattle.bufr_fill.specs.DraftFaults.{draft_fault}
-use Rattle.bufr_fill.proofs.Places.{ends_few}
+use Rattle.bufr_fill.specs.Faults.{draft_fault}
+use Rattle.bufr_fill.proofs.EntryLemmas.{ends_few}
 use Rattle.bufr_fill.proofs.packed_out.PackedOutFields.take.Goals as goal
 
 abbrev with_bits : List Subset → ℕ → List Bool → PackedOutModel

@@ -1,5 +1,5 @@
 use Rattle.std.proofs.Common.{◌≡◌, ℕ, ◌≤◌, List, [], ◌∷◌, length, drop, refl, ap, ◌∙◌, arith}
-use Rattle.bufr_fill.specs.Entries.{DraftEntry}
+use Rattle.bufr_fill.specs.Draft.{DraftEntry}
 use Rattle.bufr_fill.specs.PlainOut.{plain_out_model}
 use Rattle.bufr_fill.proofs.plain_out.PlainOut.new.Goals as goal
 

@@ -2,8 +2,8 @@ use Rattle.std.proofs.Common.{ap, ◌+◌, ◌∙◌, drop, sym, arith, refl, Er
 use Rattle.std.proofs.lemmas.Option.{slice_get_within}
 use Rattle.std.proofs.lemmas.Result.{err_from_is_err_and}
 use Rattle.bufr_fill.specs.Kept.{entry_with}
-use Rattle.bufr_fill.specs.DraftFaults.{draft_fault}
-use Rattle.bufr_fill.proofs.PlainSteps.{filled_here, left_there, left_none, item_fault}
+use Rattle.bufr_fill.specs.Faults.{draft_fault}
+use Rattle.bufr_fill.proofs.EntryLemmas.{filled_here, left_there, left_none, item_fault}
 use Rattle.bufr_fill.proofs.plain_out.PlainOutFields.take.Goals as goal
 
 pub invariant_of-self : goal.invariant_of-self

@@ -1,13 +1,9 @@
 use Rattle.std.proofs.Common.{◌∙◌, [], ◌++◌, ap, sym, subst, refl, inl, inr, arith}
 use Rattle.std.proofs.lemmas.Result.{err_from_is_err_and}
-use Rattle.bufr_frame.specs.FinderSteps.{passed_events, event_by}
-use Rattle.bufr_frame.specs.FinderCalls.{RaisesLongest}
+use Rattle.bufr_frame.specs.Finder.{passed_events, event_by, RaisesLongest}
 use Rattle.bufr_frame.specs.declared.finder.Candidate.{Candidate}
-use Rattle.bufr_frame.proofs.InputLemmas.{adds-none, adds-then}
-use Rattle.bufr_frame.proofs.AdvanceLemmas.{none-unless, some-none, turn-on, raised-on, stop-raises, waits-open}
-use Rattle.bufr_frame.proofs.LongestLemmas.{found-sees}
-use Rattle.bufr_frame.proofs.EachReadLemmas.{none-waited, waits-still, waits-read}
-use Rattle.bufr_frame.proofs.FindingLemmas.{step-none, pass-step}
+use Rattle.bufr_frame.proofs.FinderLemmas.{adds-none, adds-then, none-unless, some-none, turn-on, raised-on, stop-raises, waits-open, none-waited, waits-still, waits-read, step-none, pass-step}
+use Rattle.bufr_frame.proofs.ScanLemmas.{found-sees}
 use Rattle.bufr_frame.proofs.finder.Finder.advance.Goals as goal
 
 pub returns-in-Some-clause-steps : goal.returns-in-Some-clause-steps

@@ -1,8 +1,7 @@
 use Rattle.std.proofs.Common.{◌⊎◌, ◌≡◌, ◌-◌, ◌≤◌, ℕ, List, [], None}
-use Rattle.bufr_frame.specs.FinderCalls.{ReadsAndPasses, CountsReads, CallReadsAreNeeded}
-use Rattle.bufr_frame.specs.FinderSteps.{Raised}
-use Rattle.bufr_frame.specs.Lookahead.{NoEventCertain}
-use Rattle.bufr_frame.specs.Runs.{max_reads}
+use Rattle.bufr_frame.specs.Finder.{ReadsAndPasses, CountsReads, CallReadsAreNeeded, Raised}
+use Rattle.bufr_frame.specs.Scan.{NoEventCertain}
+use Rattle.bufr_frame.specs.Input.{max_reads}
 use Rattle.bufr_frame.proofs.finder.Finder.advance.Given as goal
 
 -- octets were read, no event was passed, and only a `BUFR` at the start may have raised the

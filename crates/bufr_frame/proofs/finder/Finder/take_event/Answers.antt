@@ -1,7 +1,7 @@
 use Rattle.std.proofs.Common.{ℕ, subst, sym}
-use Rattle.bufr_frame.specs.FinderSteps.{event_by}
-use Rattle.bufr_frame.specs.Lookahead.{Advances}
-use Rattle.bufr_frame.proofs.FindingLemmas.{found-step}
+use Rattle.bufr_frame.specs.Finder.{event_by}
+use Rattle.bufr_frame.specs.Scan.{Advances}
+use Rattle.bufr_frame.proofs.FinderLemmas.{found-step}
 use Rattle.bufr_frame.proofs.finder.Finder.take_event.Goals as goal
 
 pub returns-clause-advances : goal.returns-clause-advances

@@ -3,8 +3,8 @@ use Rattle.std.specs.Prelude.{slice_range, nat_eq}
 use Rattle.std.proofs.KnownBytes.{Consumes-nil}
 use Rattle.std.proofs.lemmas.Result.{err_from_is_err_and}
 use Rattle.std.proofs.lemmas.Bool.{true≢false, eqb-true}
-use Rattle.bufr_frame.specs.Runs.{max_reads}
-use Rattle.bufr_frame.proofs.BufferLemmas.{part-append, empty-of}
+use Rattle.bufr_frame.specs.Input.{max_reads}
+use Rattle.bufr_frame.proofs.FinderLemmas.{part-append, empty-of}
 use Rattle.bufr_frame.proofs.input.InputBuffer.fill.Goals as goal
 
 pub returns-in_err-slid-clause-fills : goal.returns-in_err-slid-clause-fills

@@ -1,7 +1,7 @@
 use Rattle.std.proofs.Common.{◌≡◌, ◌∙◌, ◌+◌, ◌-◌, List, ℕ, length, drop, ap, sym, subst, arith}
 use Rattle.std.specs.Prelude.{slice_range, vec_len, vec_capacity}
 use Rattle.bufr_frame.specs.Input.{InputModel}
-use Rattle.bufr_frame.proofs.BufferLemmas.{part-drop, part-length}
+use Rattle.bufr_frame.proofs.FinderLemmas.{part-drop, part-length}
 use Rattle.bufr_frame.proofs.input.InputBuffer.skip.Goals as goal
 
 pub returns : goal.returns

@@ -1,5 +1,5 @@
 use Rattle.std.proofs.Common.{◌∙◌, ap, sym, arith, slice_get, Some}
-use Rattle.bufr_frame.proofs.WordLemmas.{words-none, words-some}
+use Rattle.bufr_frame.proofs.LayoutLemmas.{words-none, words-some}
 use Rattle.bufr_frame.proofs.message.Message.descriptor.Goals as goal
 
 pub returns-then-i-self : goal.returns-then-i-self

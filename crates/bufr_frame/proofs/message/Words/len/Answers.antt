@@ -1,5 +1,5 @@
 use Rattle.std.proofs.Common.{sym}
-use Rattle.bufr_frame.proofs.WordLemmas.{length-words}
+use Rattle.bufr_frame.proofs.LayoutLemmas.{length-words}
 use Rattle.bufr_frame.proofs.message.Words.len.Goals as goal
 
 pub returns : goal.returns

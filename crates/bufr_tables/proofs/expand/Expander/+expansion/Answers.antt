@@ -3,8 +3,7 @@ use Rattle.std.proofs.lemmas.Result.{err_from_is_err_and}
 use Rattle.bufr_tables.specs.Expansion.{inner_of}
 use Rattle.bufr_tables.specs.Growing.{builder_model}
 use Rattle.bufr_tables.specs.Growth.{tables_in, places_so_far}
-use Rattle.bufr_tables.proofs.LevelLemmas.{Came, came_part, came_fault, came_end}
-use Rattle.bufr_tables.proofs.PartLemmas.{gives_same, part-element, part-group, part-operator, part-sequence, group-depth, group-places, group-list-fault, group-list-empty, group-closed, sequence-depth, sequence-fault, sequence-ok}
+use Rattle.bufr_tables.proofs.ExpansionLemmas.{Came, came_part, came_fault, came_end, gives_same, part-element, part-group, part-operator, part-sequence, group-depth, group-places, group-list-fault, group-list-empty, group-closed, sequence-depth, sequence-fault, sequence-ok}
 use Rattle.bufr_tables.proofs.expand.Expander.+expansion.Goals as goal
 
 pub list-loop-fxy-preserved : goal.list-loop-fxy-preserved

@@ -1,6 +1,6 @@
 use Rattle.std.proofs.Common.{◌≡◌, ℕ, replicate}
 use Rattle.std.proofs.lemmas.List.{get_or-replicate, length-replicate}
-use Rattle.bufr_tables.proofs.DirectoryLemmas.{distinct-none}
+use Rattle.bufr_tables.proofs.TableBLemmas.{distinct-none}
 use Rattle.bufr_tables.proofs.index.FxyIndex.new.Goals as goal
 
 pub invariant_of-result : goal.invariant_of-result

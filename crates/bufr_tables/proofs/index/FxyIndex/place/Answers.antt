@@ -1,6 +1,6 @@
 use Rattle.std.proofs.Common.{◌≡◌, ◌∙◌, arith, get_or}
 use Rattle.std.proofs.lemmas.List.{get_or_read}
-use Rattle.bufr_tables.proofs.DirectoryLemmas.{mark-inside}
+use Rattle.bufr_tables.proofs.TableBLemmas.{mark-inside}
 use Rattle.bufr_tables.proofs.index.FxyIndex.place.Goals as goal
 
 pub returns-in_default-clause-inside : goal.returns-in_default-clause-inside

@@ -1,6 +1,6 @@
 use Rattle.std.proofs.Common.{◌+◌, arith, refl}
 use Rattle.bufr_tables.specs.declared.rows.RecordReader.{RecordReader}
-use Rattle.bufr_tables.proofs.ReadingLemmas.{gives-end, gives-found, number-fits}
+use Rattle.bufr_tables.proofs.RecordLemmas.{gives-end, gives-found, number-fits}
 use Rattle.bufr_tables.proofs.rows.RecordReader.advance.Goals as goal
 
 pub overflow_add-self : goal.overflow_add-self

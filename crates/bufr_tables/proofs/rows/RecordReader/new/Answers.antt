@@ -1,5 +1,5 @@
 use Rattle.std.proofs.Common.{◌∙◌, arith, refl, inr}
-use Rattle.bufr_tables.proofs.ReadingLemmas.{stripped-count}
+use Rattle.bufr_tables.proofs.RecordLemmas.{stripped-count}
 use Rattle.bufr_tables.proofs.rows.RecordReader.new.Goals as goal
 
 pub returns-clause-between : goal.returns-clause-between

@@ -1,5 +1,5 @@
 use Rattle.std.proofs.Common.{refl, sym, ◌∙◌}
-use Rattle.bufr_tables.proofs.TableLemmas.{opens, opens-empty, opens-other}
+use Rattle.bufr_tables.proofs.RecordLemmas.{opens, opens-empty, opens-other}
 use Rattle.bufr_tables.proofs.rows.RecordReader.open.Goals as goal
 use Rattle.bufr_tables.proofs.rows.RecordReader.open.Goals.{then-not-branch-via-then-not-branch, then-not-branch-via-else-not-branch+then-not-has_fields}
 

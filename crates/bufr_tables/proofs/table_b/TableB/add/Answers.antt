@@ -1,5 +1,5 @@
 use Rattle.std.proofs.Common.{sym}
-use Rattle.bufr_tables.proofs.RowLemmas.{row-limits}
+use Rattle.bufr_tables.proofs.TableBLemmas.{row-limits}
 use Rattle.bufr_tables.proofs.table_b.TableB.add.Goals as goal
 
 pub push-requires-clause-limits : goal.push-requires-clause-limits

@@ -1,8 +1,7 @@
 use Rattle.std.proofs.Common.{Err, ap, ◌∙◌}
 use Rattle.std.proofs.lemmas.Result.{err_from_is_err_and}
-use Rattle.bufr_tables.proofs.StepsLemmas.{gives-fault}
+use Rattle.bufr_tables.proofs.RecordLemmas.{gives-fault, table-closed, table-end, table-fault, table-more, table-opened}
 use Rattle.bufr_tables.proofs.TableBLemmas.{rows-law}
-use Rattle.bufr_tables.proofs.TableLemmas.{table-closed, table-end, table-fault, table-more, table-opened}
 use Rattle.bufr_tables.specs.declared.table_b.TableB.{TableB}
 use Rattle.bufr_tables.proofs.table_b.TableB.read.Goals as goal
 

@@ -1,6 +1,6 @@
 use Rattle.std.proofs.Common.{◌≡◌, ◌∷◌, [], arith, length, length-append, refl}
 use Rattle.std.proofs.lemmas.List.{map-append}
-use Rattle.bufr_tables.proofs.RunsLemmas.{IsSequence, all-push, last-push, place-lacking, runs-more, sequences_kept-begun}
+use Rattle.bufr_tables.proofs.TableDLemmas.{IsSequence, all-push, last-push, place-lacking, runs-more, sequences_kept-begun}
 use Rattle.bufr_tables.proofs.table_d.TableD.begin.Goals as goal
 
 pub add-requires-clause-absent : goal.add-requires-clause-absent

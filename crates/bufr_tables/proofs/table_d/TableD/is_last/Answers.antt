@@ -1,6 +1,6 @@
 use Rattle.std.proofs.Common.{◌-◌, ◌∙◌, length, arith, sym}
 use Rattle.std.proofs.lemmas.Option.{slice_get_within, get_or_from_slice_get}
-use Rattle.bufr_tables.proofs.RunsLemmas.{is_last-at}
+use Rattle.bufr_tables.proofs.TableDLemmas.{is_last-at}
 use Rattle.bufr_tables.proofs.table_d.TableD.is_last.Goals as goal
 
 pub returns-in-Some : goal.returns-in-Some

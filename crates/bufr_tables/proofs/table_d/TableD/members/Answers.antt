@@ -2,7 +2,7 @@ use Rattle.std.proofs.Common.{◌≡◌, ◌≤◌, ◌<◌, None, Some, map, ar
 use Rattle.bufr_tables.specs.Directory.{place_of}
 use Rattle.bufr_tables.specs.Fxy.{key_of}
 use Rattle.bufr_tables.specs.Runs.{run_key}
-use Rattle.bufr_tables.proofs.RunsLemmas.{members-absent, members-found, members-other}
+use Rattle.bufr_tables.proofs.TableDLemmas.{members-absent, members-found, members-other}
 use Rattle.bufr_tables.proofs.table_d.TableD.members.Goals as goal
 
 pub returns-then-f-ne3 : goal.returns-then-f-ne3

@@ -1,7 +1,7 @@
 use Rattle.std.proofs.Common.{Err, ap, refl, ◌∙◌}
 use Rattle.std.proofs.lemmas.Result.{err_from_is_err_and}
-use Rattle.bufr_tables.proofs.SequencesLemmas.{sequences-law}
-use Rattle.bufr_tables.proofs.StepsLemmas.{reads-fault}
+use Rattle.bufr_tables.proofs.TableDLemmas.{sequences-law}
+use Rattle.bufr_tables.proofs.RecordLemmas.{reads-fault}
 use Rattle.bufr_tables.proofs.table_d.TableD.read.Goals as goal
 
 pub returns-in_err-table-clause-read : goal.returns-in_err-table-clause-read

@@ -1,7 +1,6 @@
 use Rattle.std.proofs.Common.{Err, ap, ◌∙◌}
 use Rattle.std.proofs.lemmas.Result.{err_from_is_err_and}
-use Rattle.bufr_tables.proofs.StepsLemmas.{gives-fault}
-use Rattle.bufr_tables.proofs.TableLemmas.{table-closed, table-end, table-fault, table-more, table-opened}
+use Rattle.bufr_tables.proofs.RecordLemmas.{gives-fault, table-closed, table-end, table-fault, table-more, table-opened}
 use Rattle.bufr_tables.specs.declared.table_d.TableD.{TableD}
 use Rattle.bufr_tables.proofs.table_d.TableD.read_rows.Goals as goal
 

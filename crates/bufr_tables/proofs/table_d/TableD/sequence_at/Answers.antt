@@ -1,4 +1,4 @@
-use Rattle.bufr_tables.proofs.RunsLemmas.{fxy-at}
+use Rattle.bufr_tables.proofs.TableDLemmas.{fxy-at}
 use Rattle.bufr_tables.proofs.table_d.TableD.sequence_at.Goals as goal
 
 pub returns : goal.returns

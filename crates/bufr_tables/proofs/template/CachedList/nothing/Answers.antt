@@ -1,4 +1,4 @@
-use Rattle.bufr_tables.proofs.AnswerLemmas.{nothing-answered}
+use Rattle.bufr_tables.proofs.SoundLemmas.{nothing-answered}
 use Rattle.bufr_tables.proofs.template.CachedList.nothing.Goals as goal
 
 pub returns-clause-answer : goal.returns-clause-answer

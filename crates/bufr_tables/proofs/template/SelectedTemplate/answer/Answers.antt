@@ -1,6 +1,6 @@
 use Rattle.std.proofs.Common.{sym}
-use Rattle.bufr_tables.specs.TemplateTables.{tables_of}
-use Rattle.bufr_tables.proofs.AnswerLemmas.{answer_fine, of_fine}
+use Rattle.bufr_tables.specs.Expansion.{tables_of}
+use Rattle.bufr_tables.proofs.SoundLemmas.{answer_fine, of_fine}
 use Rattle.bufr_tables.proofs.template.SelectedTemplate.answer.Goals as goal
 
 pub returns : goal.returns

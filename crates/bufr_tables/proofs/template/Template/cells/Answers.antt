@@ -1,6 +1,6 @@
 use Rattle.std.proofs.Common.{length, ap, arith}
 use Rattle.bufr_tables.specs.Tree.{places as places_of}
-use Rattle.bufr_tables.proofs.Flattening.{length-kept}
+use Rattle.bufr_tables.proofs.ExpansionLemmas.{length-kept}
 use Rattle.bufr_tables.proofs.template.Template.cells.Goals as goal
 
 pub returns-clause-count : goal.returns-clause-count

@@ -1,9 +1,8 @@
 use Rattle.std.proofs.Common.{◌≡◌, ◌∙◌, ap, sym, subst}
 use Rattle.std.specs.Prelude.{slice_index}
 use Rattle.bufr_frame.specs.Layout.{IsFitting, is_writable}
-use Rattle.bufr_frame.proofs.FitLemmas.{fitting-writable}
-use Rattle.bufr_text.specs.Document.{Document}
-use Rattle.bufr_text.specs.Header.{head_from_values}
+use Rattle.bufr_frame.proofs.AgainLemmas.{fitting-writable}
+use Rattle.bufr_text.specs.Documents.{Document, head_from_values}
 use Rattle.bufr_text.proofs.HeaderLemmas.{headed-fits}
 use Rattle.bufr_text.proofs.document.Document.head.Goals as goal
 

@@ -2,7 +2,7 @@ use Rattle.std.proofs.Common.{◌∙◌, ℕ, refl, sym, ap, subst}
 use Rattle.std.specs.Prelude.{Err}
 use Rattle.bufr_text.specs.Documents.{reported_at_end}
 use Rattle.bufr_text.specs.Reader.{ReaderModel}
-use Rattle.bufr_text.specs.Step.{place_with}
+use Rattle.bufr_text.specs.Taking.{place_with}
 use Rattle.bufr_text.specs.Filling.{ends_by_feed, HandlesEnd, stopped}
 use Rattle.bufr_text.specs.declared.fault.ReadFault.{ReadFault}
 use Rattle.bufr_text.specs.declared.fault.ReadFault.TheVariants as fault

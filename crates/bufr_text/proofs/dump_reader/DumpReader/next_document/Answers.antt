@@ -1,13 +1,11 @@
 use Rattle.std.proofs.Common.{inl, ◌∙◌, ◌++◌, [], refl, ap, sym, subst, arith}
 use Rattle.std.specs.Prelude.{Err, Result, Option}
 use Rattle.std.proofs.lemmas.Result.{err_from_is_err_and}
-use Rattle.bufr_frame.proofs.InputLemmas.{adds-none, adds-same, adds-then}
-use Rattle.bufr_frame.proofs.AdvanceLemmas.{none-unless}
-use Rattle.bufr_text.specs.Document.{Document}
+use Rattle.bufr_frame.proofs.FinderLemmas.{adds-none, adds-same, adds-then, none-unless}
+use Rattle.bufr_text.specs.Documents.{Document}
 use Rattle.bufr_text.specs.Reader.{ReturnsNextDocument}
 use Rattle.bufr_text.specs.declared.fault.ReadFault.{ReadFault}
-use Rattle.bufr_text.proofs.CallLemmas.{call-none}
-use Rattle.bufr_text.proofs.NextLemmas.{waits-same, call-takes, went-document, went-fault, end-next, fill-call, fill-waits, fill-fault, end-proper}
+use Rattle.bufr_text.proofs.CallLemmas.{call-none, waits-same, call-takes, went-document, went-fault, end-next, fill-call, fill-waits, fill-fault, end-proper}
 use Rattle.bufr_text.proofs.dump_reader.DumpReader.next_document.Goals as goal
 
 pub loop-document-init : goal.loop-document-init

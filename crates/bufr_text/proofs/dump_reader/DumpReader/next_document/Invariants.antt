@@ -1,6 +1,6 @@
 use Rattle.std.proofs.Common.{◌≡◌, ◌⊎◌, ◌-◌, [], List, ℕ}
 use Rattle.std.specs.Prelude.{None}
-use Rattle.bufr_frame.specs.Runs.{max_reads}
+use Rattle.bufr_frame.specs.Input.{max_reads}
 use Rattle.bufr_text.specs.Reader.{ReadsLines, ReadsOnlyIfNoLine, CountsTextReads}
 use Rattle.bufr_text.proofs.dump_reader.DumpReader.next_document.Given as goal
 

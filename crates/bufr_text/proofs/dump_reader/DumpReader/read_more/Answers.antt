@@ -1,6 +1,6 @@
 use Rattle.std.proofs.Common.{◌≡◌, ◌∙◌, ◌≤◌, ◌+◌, ℕ, [], ◌∷◌, ◌++◌, length, ap, sym, subst, arith, length-append}
 use Rattle.bufr_text.specs.Filling.{IsReader, IsProgress}
-use Rattle.bufr_text.proofs.FeedingLemmas.{ends-append}
+use Rattle.bufr_text.proofs.ReadingLemmas.{ends-append}
 use Rattle.bufr_text.proofs.ReaderLemmas.{progress-read, room-made}
 use Rattle.bufr_text.proofs.dump_reader.DumpReader.read_more.Goals as goal
 

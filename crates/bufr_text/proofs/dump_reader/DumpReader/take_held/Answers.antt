@@ -1,14 +1,12 @@
 use Rattle.std.proofs.Common.{◌∙◌, ℕ, [], ◌∷◌, drop, refl, sym, ap, subst}
 use Rattle.std.specs.Prelude.{Some, Err}
 use Rattle.bufr_frame.specs.Input.{InputModel}
-use Rattle.bufr_text.specs.Document as spec
+use Rattle.bufr_text.specs.Documents as spec
 use Rattle.bufr_text.specs.Documents as documents
-use Rattle.bufr_text.specs.Proper.{IsProper}
-use Rattle.bufr_text.specs.Reader.{ReaderModel}
+use Rattle.bufr_text.specs.Spelling.{IsProper}
+use Rattle.bufr_text.specs.Reader.{ReaderModel, has_no_feed, TakesEndLine}
 use Rattle.bufr_text.specs.Filling.{place_now, IsReader, ParsesHeldLines, WantsHere, TakesHeldLines}
-use Rattle.bufr_text.specs.Reading.{has_no_feed, TakesEndLine}
-use Rattle.bufr_text.specs.Step.{place_with}
-use Rattle.bufr_text.specs.TakingLines.{TakesLines}
+use Rattle.bufr_text.specs.Taking.{place_with, TakesLines}
 use Rattle.bufr_text.specs.declared.document.TakeResult.TheVariants as taken
 use Rattle.bufr_text.proofs.ReaderLemmas.{state, place-sound, wants-here, takes-reports, reader-skips, progress-more, progress-between, refuses-went}
 use Rattle.bufr_text.proofs.dump_reader.DumpReader.take_held.Goals as goal

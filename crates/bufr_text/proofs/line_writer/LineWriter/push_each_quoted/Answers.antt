@@ -1,5 +1,5 @@
 use Rattle.bufr_text.proofs.PushLemmas.{so_far_start, so_far_on, so_far_last}
-use Rattle.bufr_text.proofs.TextLemmas.{quoted_next, quoted_none}
+use Rattle.bufr_text.proofs.NumberLemmas.{quoted_next, quoted_none}
 use Rattle.bufr_text.proofs.line_writer.LineWriter.push_each_quoted.Goals as goal
 
 pub loop-octet-init : goal.loop-octet-init

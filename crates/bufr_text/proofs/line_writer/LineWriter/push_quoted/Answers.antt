@@ -1,6 +1,6 @@
 use Rattle.std.proofs.Common.{◌∙◌, sym}
 use Rattle.bufr_text.proofs.PushLemmas.{◌⨾◌, retold}
-use Rattle.bufr_text.proofs.TextLemmas.{quoted_plain}
+use Rattle.bufr_text.proofs.NumberLemmas.{quoted_plain}
 use Rattle.bufr_text.proofs.line_writer.LineWriter.push_quoted.Goals as goal
 
 pub returns : goal.returns

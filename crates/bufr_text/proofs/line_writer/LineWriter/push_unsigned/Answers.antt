@@ -1,7 +1,7 @@
 use Rattle.std.proofs.Common.{◌∙◌, ◌==◌, ap, to_z-of_z, unsigned_abs}
 use Rattle.std.specs.Prelude.{if◌then◌else◌}
 use Rattle.bufr_text.proofs.PushLemmas.{◌⨾◌, retold}
-use Rattle.bufr_text.proofs.ScaleLemmas.{unsigned_pointed, unsigned_plain}
+use Rattle.bufr_text.proofs.NumberLemmas.{unsigned_pointed, unsigned_plain}
 use Rattle.bufr_text.proofs.line_writer.LineWriter.push_unsigned.Goals as goal
 
 pub returns-then-scale-gt0 : goal.returns-then-scale-gt0

@@ -1,5 +1,5 @@
 use Rattle.std.proofs.Common.{sym, ap}
-use Rattle.bufr_walk.specs.Fault.{number_of_walk_fault}
+use Rattle.bufr_walk.specs.Refusal.{number_of_walk_fault}
 use Rattle.bufr_walk.proofs.fault.WalkFault.number.Goals as goal
 
 pub returns-in-DataEnd : goal.returns-in-DataEnd

@@ -1,4 +1,4 @@
-use Rattle.bufr_walk.proofs.KeptItemsLemmas.{one_more}
+use Rattle.bufr_walk.proofs.PackedReading.{one_more}
 use Rattle.bufr_walk.proofs.item_index.ItemIndex.keep.Goals as goal
 
 pub returns-clause-kept : goal.returns-clause-kept

@@ -5,9 +5,7 @@ use Rattle.bufr_tables.specs.Entry.{row_of_entry}
 use Rattle.bufr_tables.specs.TableB.{Row, entry_of}
 use Rattle.bufr_walk.specs.declared.spec.TurnRefusal.{TurnRefusal}
 use Rattle.bufr_walk.specs.FieldSpec.{FieldSpec}
-use Rattle.bufr_walk.specs.Operators.{OperatorModel}
-use Rattle.bufr_walk.specs.Rules.{element_spec, listed_by, local_width_spec, new_reference_spec, spec_by_kind}
-use Rattle.bufr_walk.specs.OperatorState.{known_by, operator_model}
+use Rattle.bufr_walk.specs.Rules.{OperatorModel, element_spec, listed_by, local_width_spec, new_reference_spec, spec_by_kind, known_by, operator_model}
 use Rattle.bufr_walk.proofs.operators.OperatorState.element.Goals as goal
 
 none : (n : ℕ) → n ≤ 0 → nat_lt 0 n ≡ false

@@ -1,5 +1,5 @@
 use Rattle.std.proofs.Common.{sym, ap}
-use Rattle.bufr_walk.specs.Fault.{number_of_packed}
+use Rattle.bufr_walk.specs.Refusal.{number_of_packed}
 use Rattle.bufr_walk.proofs.packed_in.PackedFault.number.Goals as goal
 
 pub returns-in-DataEnd : goal.returns-in-DataEnd

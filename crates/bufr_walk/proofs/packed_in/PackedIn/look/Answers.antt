@@ -2,7 +2,7 @@ use Rattle.std.proofs.Common.{arith, sym}
 use Rattle.bufr_bits.specs.Bits.{bits_of}
 use Rattle.bufr_bits.specs.BitSlice.{octets_of}
 use Rattle.bufr_walk.proofs.PlainLemmas.{bits_length}
-use Rattle.bufr_walk.proofs.PackedKept.{unlooked_many, looked}
+use Rattle.bufr_walk.proofs.PackedReading.{unlooked_many, looked}
 use Rattle.bufr_walk.proofs.packed_in.PackedIn.look.Goals as goal
 
 pub returns-then-items-from-gt-MAX_VALUES-clause-seen : goal.returns-then-items-from-gt-MAX_VALUES-clause-seen

@@ -1,6 +1,6 @@
 use Rattle.bufr_bits.specs.Bits.{bits_of}
 use Rattle.bufr_bits.specs.BitSlice.{octets_of}
-use Rattle.bufr_walk.proofs.PackedKept.{few_values}
+use Rattle.bufr_walk.proofs.PackedReading.{few_values}
 use Rattle.bufr_walk.proofs.packed_in.PackedIn.place.Goals as goal
 
 pub returns-clause-few : goal.returns-clause-few

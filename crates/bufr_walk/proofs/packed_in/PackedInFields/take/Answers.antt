@@ -5,7 +5,7 @@ use Rattle.bufr_bits.specs.BitSlice.{octets_of}
 use Rattle.bufr_walk.specs.declared.kept.IndexedItem.{IndexedItem}
 use Rattle.bufr_walk.specs.PackedIn.{IsPackedTaken, packed_view}
 use Rattle.bufr_walk.specs.PackedBits.{IsLooked}
-use Rattle.bufr_walk.proofs.PackedKept.{few_kept, keeps, takes_one, no_room}
+use Rattle.bufr_walk.proofs.PackedReading.{few_kept, keeps, takes_one, no_room}
 use Rattle.bufr_walk.proofs.packed_in.PackedInFields.take.Goals as goal
 
 pub keep-requires : goal.keep-requires

@@ -3,7 +3,7 @@ use Rattle.bufr_bits.specs.Bits.{bits_of}
 use Rattle.bufr_bits.specs.BitSlice.{octets_of}
 use Rattle.bufr_walk.specs.Content.{octets_in}
 use Rattle.bufr_walk.specs.PlainIn.{rest_of}
-use Rattle.bufr_walk.proofs.TextLemmas.{borrowed_some, text_prefix}
+use Rattle.bufr_walk.proofs.PlainLemmas.{borrowed_some, text_prefix}
 use Rattle.bufr_walk.proofs.plain_in.PlainIn.octets.Goals as goal
 
 pub returns : goal.returns

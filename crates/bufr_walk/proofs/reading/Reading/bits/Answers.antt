@@ -1,5 +1,5 @@
 use Rattle.std.proofs.Common.{ap}
-use Rattle.bufr_walk.specs.Outcome.{Read}
+use Rattle.bufr_walk.specs.Refusal.{Read}
 use Rattle.bufr_walk.proofs.reading.Reading.bits.Goals as goal
 
 pub returns : goal.returns

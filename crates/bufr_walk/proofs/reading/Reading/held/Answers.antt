@@ -1,6 +1,6 @@
 use Rattle.std.proofs.Common.{◌≡◌, ℕ, ◌≤◌, ◌*◌, length, refl, subst, sym, ap, ◌∙◌, arith}
 use Rattle.bufr_walk.specs.StoredItems.{held_of}
-use Rattle.bufr_walk.specs.Outcome.{Read, course_of}
+use Rattle.bufr_walk.specs.Refusal.{Read, course_of}
 use Rattle.bufr_walk.specs.Reading.{Values, IsReading, items_kept}
 use Rattle.bufr_walk.proofs.PackedShowing.{all_kept}
 use Rattle.bufr_walk.proofs.reading.Reading.held.Goals as goal

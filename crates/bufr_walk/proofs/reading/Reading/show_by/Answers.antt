@@ -1,7 +1,7 @@
 use Rattle.std.proofs.Common.{subst}
-use Rattle.bufr_tables.specs.Sound.{IsSound}
+use Rattle.bufr_tables.specs.Expansion.{IsSound}
 use Rattle.bufr_walk.specs.StoredItems.{IsStoredReading}
-use Rattle.bufr_walk.proofs.ShownBounds.{few_items, steps_within}
+use Rattle.bufr_walk.proofs.BoundLemmas.{few_items, steps_within}
 use Rattle.bufr_walk.proofs.reading.Reading.show_by.Goals as goal
 
 pub returns-clause-few : goal.returns-clause-few

@@ -1,5 +1,5 @@
 use Rattle.std.proofs.Common.{◌≡◌, ℕ, ◌+◌, ◌-◌, ◌<◌, ◌^◌, min, arith}
-use Rattle.bufr_walk.specs.Ticks.{ticked}
+use Rattle.bufr_walk.specs.Walk.{ticked}
 use Rattle.bufr_walk.proofs.steps.Steps.add.Goals as goal
 
 -- a sum that stops at the greatest number is the counter after so many ticks

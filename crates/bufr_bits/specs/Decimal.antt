@@ -1,0 +1,140 @@
+-- Decimal texts: how a number is written at a scale, and the number that a text writes.
+-- (A choice of this project: the number v at scale s is written as v / 10^s.)
+-- Cited by public contracts.
+use Rattle.std.specs.Prelude.{ℕ, zero, suc, ◌+◌, ◌-◌, List, [], ◌∷◌, ◌++◌, length, take, drop, replicate, ℤ, pos, negsuc, unsigned_abs, ◌≡◌, ◌*◌, ◌/◌, ◌%◌, ◌^◌, ◌==◌, ◌<◌, nat_lt, nat_le, Bool, true, false, ◌&&◌, if◌then◌else◌, Result, Ok, Err, neg_ℤ, is_some, ◌||◌}
+use Rattle.std.specs.Fmt.{decimal}
+use Rattle.std.specs.List.{list_all, position, before_first, after_first}
+use Rattle.std.specs.Char.{is_ascii_digit}
+use Rattle.std.specs.Str.Parse.{digits_value, starts_with_minus}
+use Rattle.bufr_bits.specs.declared.decimal.NumberFault.{NumberFault}
+use Rattle.bufr_bits.specs.declared.decimal.NumberFault.TheVariants.{Syntax, Inexact, Large}
+use Rattle.bufr_bits.specs.declared.short_decimal.ShortDecimal.{ShortDecimal}
+
+-- digits with a point before the last so many, and leading zeros for one digit before the point
+-- rule: decimal-point
+abbrev pub pointed : (places : ℕ) (digits : List ℕ) → List ℕ
+pointed places digits =
+    let padded = replicate (places + 1 - length digits) 48 ++ digits in
+    let whole = length padded - places in
+    take whole padded ++ 46 ∷ drop whole padded
+
+-- a number without its sign as text: at a scale above 0 a point before the last digits, at one
+-- below 0 zeros after them
+-- rule: decimal-zeros-after
+unfoldable pub unsigned_text : (n : ℕ) (scale : ℤ) → List ℕ
+unsigned_text n (pos zero) = decimal n
+unsigned_text n (pos (suc places)) = pointed (suc places) (decimal n)
+unsigned_text zero (negsuc less) = decimal 0
+unsigned_text (suc n) (negsuc less) = decimal (suc n) ++ replicate (suc less) 48
+
+-- a minus before a number below zero
+-- rule: decimal-sign
+abbrev pub sign_of : ℤ → List ℕ
+sign_of (pos n) = []
+sign_of (negsuc n) = 45 ∷ []
+
+-- the decimal text of a number at a scale
+unfoldable pub decimal_text_of : (v scale : ℤ) → List ℕ
+decimal_text_of v scale = sign_of v ++ unsigned_text (unsigned_abs v) scale
+
+-- Decimal text with a scale as a number: the text of x at scale s is read as x * 10^s. (a choice of
+-- this project)
+
+-- the text after an optional minus sign
+abbrev pub unsigned_part : List ℕ → List ℕ
+unsigned_part text = if starts_with_minus text then drop 1 text else text
+
+-- the digits before the point, or all where there is none
+abbrev pub whole_part : List ℕ → List ℕ
+whole_part text = before_first (λ c. c == 46) text
+
+-- the digits after the point
+abbrev pub fraction_part : List ℕ → List ℕ
+fraction_part text = after_first (λ c. c == 46) text
+
+-- digits and nothing else
+abbrev pub all_digits : List ℕ → Bool
+all_digits text = list_all is_ascii_digit text
+
+-- one digit or more, and nothing else
+abbrev pub is_digits : List ℕ → Bool
+is_digits text = nat_lt 0 (length text) && all_digits text
+
+-- digits, and where there is a point digits after it
+-- rule: decimal-form
+abbrev pub is_unsigned : List ℕ → Bool
+is_unsigned text =
+    is_digits (whole_part text)
+    && (if is_some (position (λ c. c == 46) text) then is_digits (fraction_part text) else true)
+
+-- how often ten multiplies a number at a scale
+abbrev pub positive_scale : ℤ → ℕ
+positive_scale (pos n) = n
+positive_scale (negsuc n) = 0
+
+-- how often ten divides it
+abbrev pub negative_scale : ℤ → ℕ
+negative_scale (pos n) = 0
+negative_scale (negsuc n) = n + 1
+
+-- a quotient that is whole
+abbrev pub whole_quotient : (n d : ℕ) → Result ℕ NumberFault
+whole_quotient n d = if n % d == 0 then Ok (n / d) else Err Inexact
+
+-- the number that digits with a point before the last so many write, times ten to the scale
+abbrev pub scaled : (digits : List ℕ) (places : ℕ) (scale : ℤ) → Result ℕ NumberFault
+scaled digits places scale =
+    whole_quotient (digits_value 10 digits * 10 ^ positive_scale scale)
+    (10 ^ (places + negative_scale scale))
+
+-- a number with its sign, within an i128
+abbrev pub signed : (negative : Bool) → ℕ → Result ℤ NumberFault
+signed false n = if nat_lt n (2 ^ 127) then Ok (pos n) else Err Large
+signed true n = if nat_le n (2 ^ 127) then Ok (neg_ℤ (pos n)) else Err Large
+
+-- go on with a number that was found
+abbrev pub and_then : Result ℕ NumberFault → (ℕ → Result ℤ NumberFault) → Result ℤ NumberFault
+and_then (Ok n) next = next n
+and_then (Err fault) next = Err fault
+
+-- the number that a text writes, times ten to the scale, or the first fault
+-- rule: inexact-before-too-large
+unfoldable pub decimal_value_of : (text : List ℕ) (scale : ℤ) → Result ℤ NumberFault
+decimal_value_of text scale =
+    let body = unsigned_part text in
+    let digits = whole_part body ++ fraction_part body in
+    if is_unsigned body then and_then (scaled digits (length (fraction_part body)) scale)
+    (signed (starts_with_minus text)) else Err Syntax
+
+-- the parts of an unsigned decimal text
+pub record IsParts (text whole fraction : List ℕ) : Type 0 where
+  pub form : is_unsigned text ≡ true
+  pub before : whole ≡ whole_part text
+  pub after : fraction ≡ fraction_part text
+
+-- an unsigned decimal text, by the number that its digits write and how many follow the point
+pub record IsShortDecimal (text : List ℕ) (number places : ℕ) : Type 0 where
+  pub form : is_unsigned text ≡ true
+  pub value : number ≡ digits_value 10 (whole_part text ++ fraction_part text)
+  pub after : places ≡ length (fraction_part text)
+  pub below : number < 10 ^ length text
+
+-- ---- Short decimal texts as numbers of digits. (a choice of this project)
+
+-- a number with its sign
+abbrev pub signed_number : (negative : Bool) → ℕ → ℤ
+signed_number false n = pos n
+signed_number true n = neg_ℤ (pos n)
+
+-- the text of a number
+abbrev pub short_text : ShortDecimal → List ℕ
+short_text d = decimal_text_of (signed_number d.negative d.digits) (pos d.places)
+
+-- an octet of a decimal text
+abbrev pub is_decimal_octet : ℕ → Bool
+is_decimal_octet c = is_ascii_digit c || (c == 45) || (c == 46)
+
+-- the text of a number without its sign
+pub record IsPlainDecimal (text : List ℕ) (number places : ℕ) : Type 0 where
+  pub is : text ≡ unsigned_text number (pos places)
+  pub octets : list_all is_decimal_octet text ≡ true

@@ -1,0 +1,385 @@
+-- Stored entries, and the indices of subsets among them.
+use Rattle.std.proofs.Common.{◌≡◌, ℕ, zero, suc, ◌+◌, ◌-◌, ◌≤◌, ◌<◌, Bool, List, [], ◌∷◌, ◌++◌, true, false, length, drop, get_or, min, Option, Some, None, refl, sym, ◌∙◌, ap, arith, add-one, map, length-append, ◌/◌, Result, Ok, Err, subst}
+use Rattle.std.specs.Prelude.{slice_get, option_map, ◌==◌, slice_range}
+use Rattle.std.proofs.Math.Seq.{drop-cons, drop-append_seam}
+use Rattle.std.proofs.lemmas.List.{append_assoc, take-append-le, drop-append-le, length-drop, length-map, map-append, take_all, drop_all}
+use Rattle.std.proofs.lemmas.Option.{none-some, slice_get-get_or, slice_get-map, slice_get_past, slice_get_within, get_or_from_slice_get}
+use Rattle.std.proofs.lemmas.Bool.Decides.{nat_tests}
+use Rattle.bufr_fill.specs.Draft.{Draft, DraftEntry, Holds, Ends, Subset, subset, prepend_to_subset, subsets_of}
+use Rattle.bufr_fill.specs.Encoding.{RowCell, cells_at, at_line_if_fault}
+use Rattle.bufr_fill.specs.PackedOut.{begin_of, entry_or_end, cell_entry, ends_of, entry_line, entry_here}
+use Rattle.bufr_fill.specs.Kept.{is_end, entry_by, entry_with, entry_stored, entries_stored, IsPlaced, IsEntryInside, AreInside}
+use Rattle.bufr_fill.specs.PlainOut.{line_at, PlainOutModel, plain_out_model, IsFilled, IsFaultOf, IfDraftFault, after_end}
+use Rattle.bufr_fill.specs.declared.draft.EntryKind.{EntryKind}
+use Rattle.bufr_fill.specs.declared.draft.StoredEntry.{StoredEntry}
+use Rattle.bufr_walk.specs.declared.spec.Taken.{Taken}
+use Rattle.bufr_fill.specs.declared.field_value.FieldContent.{FieldContent}
+use Rattle.bufr_walk.specs.FieldSpec.{FieldSpec}
+use Rattle.bufr_walk.specs.Content.{Content, answer_of, bits_for}
+use Rattle.bufr_fill.specs.DraftContent.{content_of, content_drawn}
+use Rattle.bufr_fill.specs.Faults.{DraftFaultKind, FaultAt, at_line, item_too_many}
+use Rattle.bufr_fill.specs.declared.draft.EntryKind.TheVariants as kind
+
+-- the first subset among entries
+pub record Cut (from : ℕ) (xs : List DraftEntry) (e : ℕ) (rest : List ℕ) : Type 0 where
+  pub items : List Draft
+  pub line : ℕ
+  pub place : e ≡ from + length items
+  pub subsets : subsets_of xs ≡ subset items line ∷ subsets_of (drop (suc (length items)) xs)
+  pub rest_is : rest ≡ ends_of (suc e) (drop (suc (length items)) xs)
+  pub within : length items < length xs
+  pub there : (j : ℕ) → slice_get xs (min (length items) j) ≡ Some (entry_or_end (slice_get items j) line)
+
+next : (a : ℕ) → a + 1 ≡ suc a
+next a = omega arith
+
+pub cut : (from : ℕ) (xs : List DraftEntry) (e : ℕ) (rest : List ℕ) → ends_of from xs ≡ e ∷ rest → Cut from xs e rest
+cut from [] e rest h = absurd cc
+cut from (Ends line ∷ more) e rest h =
+    let at : from ≡ e = cc in
+    let suffix : ends_of (from + 1) more ≡ rest = cc in
+    record {
+      items = [];
+      line = line;
+      place = omega (arith, at);
+      subsets = refl;
+      rest_is = sym suffix ∙ ap (λ n. ends_of n more) (next from ∙ ap suc at);
+      within = omega arith;
+      there = λ j. first j;
+    }
+  where
+    first : (j : ℕ) → slice_get (Ends line ∷ more) (min 0 j) ≡ Some (Ends line)
+    first j = let m : min 0 j ≡ 0 = omega arith in ap (slice_get (Ends line ∷ more)) m
+cut from (Holds d ∷ more) e rest h =
+    let c = cut (from + 1) more e rest h in
+    record {
+      items = d ∷ c.items;
+      line = c.line;
+      place = omega (arith, c.place);
+      subsets = ap (prepend_to_subset d) c.subsets;
+      rest_is = c.rest_is;
+      within = omega (arith, c.within);
+      there = λ j. at c.items c.line c.there j;
+    }
+  where
+    at : (items : List Draft) (line : ℕ) → ((j : ℕ) → slice_get more (min (length items) j) ≡ Some (entry_or_end (slice_get items j) line)) → (j : ℕ)
+        → slice_get (Holds d ∷ more) (min (suc (length items)) j) ≡ Some (entry_or_end (slice_get (d ∷ items) j) line)
+    at items line g zero = let m : min (suc (length items)) 0 ≡ 0 = omega arith in ap (slice_get (Holds d ∷ more)) m
+    at items line g (suc j) = let m : min (suc (length items)) (suc j) ≡ suc (min (length items) j) = omega arith in ap (slice_get (Holds d ∷ more)) m ∙ g j
+
+-- each end is the index of an entry
+pub ends_before : (from : ℕ) (xs : List DraftEntry) (s e : ℕ) → slice_get (ends_of from xs) s ≡ Some e → e < from + length xs
+ends_before from [] s e h = absurd cc
+ends_before from (Holds d ∷ more) s e h = omega (arith, ends_before (from + 1) more s e h)
+ends_before from (Ends line ∷ more) zero e h = let at : from ≡ e = cc in omega (arith, at)
+ends_before from (Ends line ∷ more) (suc s) e h = omega (arith, ends_before (from + 1) more s e h)
+
+slice_get-drop : {X : Type 0} (n : ℕ) (xs : List X) (k : ℕ) → slice_get (drop n xs) k ≡ slice_get xs (n + k)
+slice_get-drop zero [] k = refl
+slice_get-drop zero (x ∷ xs) k = let e : k ≡ 0 + k = omega arith in ap (slice_get (x ∷ xs)) e
+slice_get-drop (suc n) [] k = refl
+slice_get-drop (suc n) (x ∷ xs) k = let e : suc n + k ≡ suc (n + k) = omega arith in slice_get-drop n xs k ∙ ap (slice_get (x ∷ xs)) (sym e)
+
+-- the index where a subset begins
+pub begin_none : (ends : List ℕ) → begin_of 0 ends 0 ≡ 0
+begin_none ends = refl
+
+begin_after : (from : ℕ) (ends : List ℕ) (s : ℕ) (d : ℕ) → s < length ends → begin_of from ends (suc s) ≡ suc (get_or ends s d)
+begin_after from [] s d h = absurd (omega (arith, h))
+begin_after from (e ∷ ends) zero d h = refl
+begin_after from (e ∷ ends) (suc s) d h = begin_after (suc e) ends s d (omega (arith, h))
+
+pub begin_more : (ends : List ℕ) (s : ℕ) (d : ℕ) → 1 ≤ s → s < length ends → begin_of 0 ends s ≡ get_or ends (s - 1) d + 1
+begin_more ends s d some h =
+    let e : s ≡ suc (s - 1) = omega arith in
+    ap (begin_of 0 ends) e ∙ begin_after 0 ends (s - 1) d (omega (arith, h)) ∙ sym (next (get_or ends (s - 1) d))
+
+pub length-subsets : (from : ℕ) (xs : List DraftEntry) → length (subsets_of xs) ≡ length (ends_of from xs)
+length-subsets from [] = refl
+length-subsets from (Ends line ∷ more) = ap suc (length-subsets (from + 1) more)
+length-subsets from (Holds d ∷ more) = length-onto d (subsets_of more) ∙ length-subsets (from + 1) more
+  where
+    length-onto : (d : Draft) (ss : List Subset) → length (prepend_to_subset d ss) ≡ length ss
+    length-onto d [] = refl
+    length-onto d (s ∷ ss) = refl
+
+-- the entry of a subset at an index
+pub record IsSubsetEnd (place s from : ℕ) (xs : List DraftEntry) (ends : List ℕ) (e : ℕ) (c : RowCell) : Type 0 where
+  pub begins : from ≤ begin_of from ends s
+  pub ends_at : from ≤ e
+  pub there : slice_get xs (min e (begin_of from ends s + place) - from) ≡ Some (cell_entry c)
+
+module _ (place : ℕ) (e : ℕ) (c : RowCell) where
+  some_same : (a b : RowCell) → ◌≡◌ {A = Option RowCell} (Some a) (Some b) → a ≡ b
+  some_same a b e = cc
+
+  at_first : (from : ℕ) (xs : List DraftEntry) (x : ℕ) (rest : List ℕ) → Cut from xs x rest → Some x ≡ Some e → slice_get (cells_at place (subsets_of xs)) 0 ≡ Some c → IsSubsetEnd place 0 from xs (x ∷ rest) e c
+  at_first from xs x rest k p q =
+      let same : x ≡ e = cc in
+      let cell : ◌≡◌ {A = Option RowCell} (Some (record { draft = slice_get k.items place; end_line = k.line })) (Some c) = sym (ap (λ ss. slice_get (cells_at place ss) 0) k.subsets) ∙ q in
+      let is : record { draft = slice_get k.items place; end_line = k.line } ≡ c = some_same (record { draft = slice_get k.items place; end_line = k.line }) c cell in
+      let m : min e (from + place) - from ≡ min (length k.items) place = omega (arith, same, k.place) in
+      record {
+        begins = omega arith;
+        ends_at = omega (arith, same, k.place);
+        there = ap (slice_get xs) m ∙ k.there place ∙ ap (λ (z : RowCell). Some (cell_entry z)) is;
+      }
+
+  further : (from : ℕ) (xs : List DraftEntry) (s x : ℕ) (rest : List ℕ) (k : Cut from xs x rest) → IsSubsetEnd place s (suc x) (drop (suc (length k.items)) xs) rest e c → IsSubsetEnd place (suc s) from xs (x ∷ rest) e c
+  further from xs s x rest k r =
+      let m : suc (length k.items) + (min e (begin_of (suc x) rest s + place) - suc x) ≡ min e (begin_of (suc x) rest s + place) - from = omega (arith, k.place, r.begins, r.ends_at) in
+      record {
+        begins = omega (arith, k.place, r.begins);
+        ends_at = omega (arith, k.place, r.ends_at);
+        there = ap (slice_get xs) (sym m) ∙ sym (slice_get-drop (suc (length k.items)) xs (min e (begin_of (suc x) rest s + place) - suc x)) ∙ r.there;
+      }
+
+  subset_end_at : (s from : ℕ) (xs : List DraftEntry) (ends : List ℕ) → ends_of from xs ≡ ends → slice_get ends s ≡ Some e → slice_get (cells_at place (subsets_of xs)) s ≡ Some c → IsSubsetEnd place s from xs ends e c
+  subset_end_at s from xs [] p q r = absurd cc
+  subset_end_at zero from xs (x ∷ rest) p q r = at_first from xs x rest (cut from xs x rest p) q r
+  subset_end_at (suc s) from xs (x ∷ rest) p q r =
+      let k = cut from xs x rest p in
+      further from xs s x rest k (subset_end_at s (suc x) (drop (suc (length k.items)) xs) rest (sym k.rest_is) q (sym (ap (λ ss. slice_get (cells_at place ss) (suc s)) k.subsets) ∙ r))
+
+-- the entry that the code reads
+pub entry_there : (place s : ℕ) (xs : List DraftEntry) (e : ℕ) (c : RowCell) → slice_get (ends_of 0 xs) s ≡ Some e → slice_get (cells_at place (subsets_of xs)) s ≡ Some c → slice_get xs (min e (begin_of 0 (ends_of 0 xs) s + place)) ≡ Some (cell_entry c)
+entry_there place s xs e c h g =
+    let m : min e (begin_of 0 (ends_of 0 xs) s + place) - 0 ≡ min e (begin_of 0 (ends_of 0 xs) s + place) = omega arith in
+    sym (ap (slice_get xs) m) ∙ (subset_end_at place e c s 0 xs (ends_of 0 xs) refl h g).there
+
+-- the ends are indices of entries
+pub end_small : (from : ℕ) (xs : List DraftEntry) (s : ℕ) (z : ℕ) → s < length (ends_of from xs) → get_or (ends_of from xs) s z < from + length xs
+end_small from [] s z h = absurd (omega (arith, h))
+end_small from (Holds d ∷ more) s z h = omega (arith, end_small (from + 1) more s z h)
+end_small from (Ends line ∷ more) zero z h = omega arith
+end_small from (Ends line ∷ more) (suc s) z h = omega (arith, end_small (from + 1) more s z (omega (arith, h)))
+
+pub get_there : {X : Type 0} (xs : List X) (s : ℕ) (z : X) → s < length xs → slice_get xs s ≡ Some (get_or xs s z)
+get_there [] s z h = absurd (omega (arith, h))
+get_there (x ∷ xs) zero z h = refl
+get_there (x ∷ xs) (suc s) z h = get_there xs s z (omega (arith, h))
+
+-- where the code finds none, there is none
+pub none_there : {X : Type 0} (xs : List X) (s : ℕ) → None ≡ slice_get xs s → length xs ≤ s
+none_there [] s h = omega arith
+none_there (y ∷ xs) zero h = absurd (none-some y h)
+none_there (y ∷ xs) (suc s) h = omega (arith, none_there xs s h)
+
+-- with no end there is no subset
+pub none_end : (xs : List DraftEntry) → ends_of 0 xs ≡ [] → subsets_of xs ≡ []
+none_end xs e = by (subsets_of xs) (length-subsets 0 xs ∙ ap length e)
+  where
+    by : (ss : List Subset) → length ss ≡ 0 → ss ≡ []
+    by [] h = refl
+    by (s ∷ ss) h = absurd (omega (arith, h))
+
+pub length-cells : (place : ℕ) (ss : List Subset) → length (cells_at place ss) ≡ length ss
+length-cells place [] = refl
+length-cells place (s ∷ ss) = ap suc (length-cells place ss)
+
+pub count_cells : (place : ℕ) (xs : List DraftEntry) (ends : List ℕ) → ends ≡ ends_of 0 xs → length (cells_at place (subsets_of xs)) ≡ length ends
+count_cells place xs ends e = length-cells place (subsets_of xs) ∙ length-subsets 0 xs ∙ ap length (sym e)
+
+pub end_within : (xs : List DraftEntry) (ends : List ℕ) (s : ℕ) → ends ≡ ends_of 0 xs → s < length ends → get_or ends s 0 < length xs
+end_within xs ends s e h = omega (arith, ap (λ l. get_or l s 0) e, end_small 0 xs s 0 (omega (arith, h, ap length e)))
+
+-- the entry that the code finds
+pub found_entry : (place s : ℕ) (xs : List DraftEntry) (ends : List ℕ) (z : ℕ) (begin : ℕ) (e : DraftEntry) → ends ≡ ends_of 0 xs → s < length ends → begin ≡ begin_of 0 ends s → slice_get xs (min (get_or ends s z) (begin + place)) ≡ Some e
+    → (c : RowCell) → slice_get (cells_at place (subsets_of xs)) s ≡ Some c → e ≡ cell_entry c
+found_entry place s xs ends z begin e is h b found c cell =
+    let q : slice_get (ends_of 0 xs) s ≡ Some (get_or ends s z) = ap (λ l. slice_get l s) (sym is) ∙ get_there ends s z h in
+    let r = entry_there place s xs (get_or ends s z) c q cell in
+    let m : begin_of 0 (ends_of 0 xs) s ≡ begin = ap (λ l. begin_of 0 l s) (sym is) ∙ sym b in
+    same_entry e (cell_entry c) (sym found ∙ ap (λ n. slice_get xs (min (get_or ends s z) (n + place))) (sym m) ∙ r)
+  where
+    same_entry : (a b : DraftEntry) → ◌≡◌ {A = Option DraftEntry} (Some a) (Some b) → a ≡ b
+    same_entry a b q = cc
+
+pub ends_few : (from : ℕ) (xs : List DraftEntry) → length (ends_of from xs) ≤ length xs
+ends_few from [] = omega arith
+ends_few from (Holds d ∷ more) = omega (arith, ends_few (from + 1) more)
+ends_few from (Ends line ∷ more) = omega (arith, ends_few (from + 1) more)
+
+pub empty_is : (xs : List ℕ) (n : ℕ) → n ≡ length xs → (n == 0) ≡ true → xs ≡ []
+empty_is [] n e h = refl
+empty_is (x ∷ xs) n e h = absurd (omega (arith, e, zero_from n h))
+  where
+    zero_from : (n : ℕ) → (n == 0) ≡ true → n ≡ 0
+    zero_from n h = grind (arith, nat_tests)
+
+some-same : {a b : Bool} → Some a ≡ Some b → a ≡ b
+some-same e = cc
+
+true-false : true ≡ false → ⊥
+true-false e = cc
+
+false-true : false ≡ true → ⊥
+false-true e = cc
+
+-- one more entry was examined
+next_of : (xs : List DraftEntry) (place : ℕ) → place < length xs → drop place xs ≡ get_or xs place (Ends 0) ∷ drop (place + 1) xs
+next_of xs place h = drop-cons xs place (Ends 0) h ∙ ap (λ j. get_or xs place (Ends 0) ∷ drop j xs) (sym (add-one place))
+
+pub ends_here : (xs : List DraftEntry) (ends new : List ℕ) (place : ℕ) (b : Bool) → place < length xs → Some b ≡ option_map is_end (slice_get xs place) → b ≡ true → new ≡ ends ++ place ∷ []
+    → ends ++ ends_of place (drop place xs) ≡ ends_of 0 xs → new ++ ends_of (place + 1) (drop (place + 1) xs) ≡ ends_of 0 xs
+ends_here xs ends new place b within is so grown before =
+    by (get_or xs place (Ends 0)) (is ∙ ap (option_map is_end) (slice_get-get_or xs place (Ends 0) within)) (next_of xs place within)
+  where
+    by : (e : DraftEntry) → Some b ≡ Some (is_end e) → drop place xs ≡ e ∷ drop (place + 1) xs → new ++ ends_of (place + 1) (drop (place + 1) xs) ≡ ends_of 0 xs
+    by (Holds d) odd at = absurd (true-false (sym so ∙ some-same odd))
+    by (Ends line) so at =
+        ap (λ l. l ++ ends_of (place + 1) (drop (place + 1) xs)) grown ∙ append_assoc ends (place ∷ []) (ends_of (place + 1) (drop (place + 1) xs))
+        ∙ ap (λ l. ends ++ ends_of place l) (sym at) ∙ before
+
+pub ends_after : (xs : List DraftEntry) (ends new : List ℕ) (place : ℕ) (b : Bool) → place < length xs → Some b ≡ option_map is_end (slice_get xs place) → b ≡ false → new ≡ ends
+    → ends ++ ends_of place (drop place xs) ≡ ends_of 0 xs → new ++ ends_of (place + 1) (drop (place + 1) xs) ≡ ends_of 0 xs
+ends_after xs ends new place b within is so same before =
+    by (get_or xs place (Ends 0)) (is ∙ ap (option_map is_end) (slice_get-get_or xs place (Ends 0) within)) (next_of xs place within)
+  where
+    by : (e : DraftEntry) → Some b ≡ Some (is_end e) → drop place xs ≡ e ∷ drop (place + 1) xs → new ++ ends_of (place + 1) (drop (place + 1) xs) ≡ ends_of 0 xs
+    by (Holds d) was at = ap (λ l. l ++ ends_of (place + 1) (drop (place + 1) xs)) same ∙ ap (λ l. ends ++ ends_of place l) (sym at) ∙ before
+    by (Ends line) odd at = absurd (false-true (sym so ∙ some-same odd))
+
+-- ---- The entries of a block and its stored entries.
+
+-- octets after the block leave the entries unchanged
+range-append : (xs ys : List ℕ) (i j : ℕ) → i ≤ j → j ≤ length xs → slice_range (xs ++ ys) i j ≡ slice_range xs i j
+range-append xs ys i j before inside =
+    rw (drop-append-le i xs ys (omega arith), take-append-le (j - i) (drop i xs) ys (omega (arith, length-drop i xs))) refl
+
+range-after : (xs ys : List ℕ) (j : ℕ) → j ≡ length xs + length ys → slice_range (xs ++ ys) (length xs) j ≡ ys
+range-after xs ys j e = rw (drop-append_seam xs ys) (take_all (j - length xs) ys (omega arith))
+
+placed-append : (k : EntryKind) (line fxy : ℕ) (octets more : List ℕ) (start end : ℕ) → IsPlaced k (length octets) start end → entry_by k line fxy start (slice_range (octets ++ more) start end) ≡ entry_by k line fxy start (slice_range octets start end)
+placed-append (kind.Decimal places negative) line fxy octets more start end h = refl
+placed-append kind.Number line fxy octets more start end h = ap (λ (t : List ℕ). entry_by kind.Number line fxy start t) (range-append octets more start end h.0 h.1)
+placed-append kind.Text line fxy octets more start end h = ap (λ (t : List ℕ). entry_by kind.Text line fxy start t) (range-append octets more start end h.0 h.1)
+placed-append kind.Missing line fxy octets more start end h = refl
+placed-append kind.Reference line fxy octets more start end h = ap (λ (t : List ℕ). entry_by kind.Reference line fxy start t) (range-append octets more start end h.0 h.1)
+placed-append kind.End line fxy octets more start end h = refl
+
+entry-append : (octets more : List ℕ) (one : StoredEntry) → IsEntryInside (length octets) one → entry_stored (octets ++ more) one ≡ entry_stored octets one
+entry-append octets more one inside = placed-append one.kind one.line one.fxy octets more one.start one.end inside
+
+entries-append : (octets more : List ℕ) (cells : List StoredEntry) → AreInside (length octets) cells → entries_stored (octets ++ more) cells ≡ entries_stored octets cells
+entries-append octets more [] all = refl
+entries-append octets more (one ∷ cells) (here, all) = rw (entry-append octets more one here, entries-append octets more cells all) refl
+
+-- one more entry, with its octets after the block
+pub entries-push : (octets more new : List ℕ) (cells : List StoredEntry) (one : StoredEntry) (e : DraftEntry) → AreInside (length octets) cells → new ≡ octets ++ more → one.start ≡ length octets → one.end ≡ length new → entry_by one.kind one.line one.fxy one.start more ≡ e
+    → entries_stored new (cells ++ one ∷ []) ≡ entries_stored octets cells ++ e ∷ []
+entries-push octets more new cells one e all is from at said =
+    let stop : one.end ≡ length octets + length more = at ∙ ap length is ∙ length-append octets more in
+    let range : slice_range new one.start one.end ≡ more = ap (λ (t : List ℕ). slice_range t one.start one.end) is ∙ ap (λ n. slice_range (octets ++ more) n one.end) from ∙ range-after octets more one.end stop in
+    map-append (entry_stored new) cells (one ∷ [])
+    ∙ ap (λ (t : List ℕ). map (entry_stored new) cells ++ entry_by one.kind one.line one.fxy one.start t ∷ []) range
+    ∙ ap (λ (x : DraftEntry). map (entry_stored new) cells ++ x ∷ []) said
+    ∙ ap (λ (t : List ℕ). map (entry_stored t) cells ++ e ∷ []) is
+    ∙ ap (λ (t : List DraftEntry). t ++ e ∷ []) (entries-append octets more cells all)
+
+-- no more entry, though octets were put after the block
+pub entries-same : (octets more new : List ℕ) (cells same : List StoredEntry) → AreInside (length octets) cells → new ≡ octets ++ more → same ≡ cells → entries_stored new same ≡ entries_stored octets cells
+entries-same octets more new cells same all is kept =
+    ap (entries_stored new) kept
+    ∙ ap (λ (t : List ℕ). entries_stored t cells) is
+    ∙ entries-append octets more cells all
+
+-- the entry at an index
+pub kept-there : (octets block : List ℕ) (cells : List StoredEntry) (entries : List DraftEntry) (place : ℕ) (one : StoredEntry) (e : DraftEntry) → entries_stored octets cells ≡ entries → place < length cells → one ≡ get_or cells place one → block ≡ octets → e ≡ entry_stored block one
+    → Some e ≡ slice_get entries place
+kept-there octets block cells entries place one e are within here is said =
+    sym (ap (λ (t : List DraftEntry). slice_get t place) (sym are)
+    ∙ slice_get-map (entry_stored octets) cells place
+    ∙ ap (option_map (entry_stored octets)) (slice_get-get_or cells place one within)
+    ∙ ap (λ (k : StoredEntry). Some (entry_stored octets k)) (sym here)
+    ∙ ap (λ (t : List ℕ). Some (entry_stored t one)) (sym is)
+    ∙ ap (λ (x : DraftEntry). Some x) (sym said))
+
+-- and none after the last
+pub kept-past : (octets : List ℕ) (cells : List StoredEntry) (entries : List DraftEntry) (place : ℕ) → entries_stored octets cells ≡ entries → length cells ≤ place → None ≡ slice_get entries place
+kept-past octets cells entries place are past =
+    sym (ap (λ (t : List DraftEntry). slice_get t place) (sym are)
+    ∙ slice_get_past (entries_stored octets cells) place (omega (arith, length-map cells (entry_stored octets))))
+
+-- the line of an entry is the one that is stored
+pub line-is : (k : StoredEntry) (octets : List ℕ) → entry_line (entry_with k octets) ≡ k.line
+line-is k octets = by k.kind
+  where
+    by : (one : EntryKind) → entry_line (entry_by one k.line k.fxy k.start octets) ≡ k.line
+    by (kind.Decimal places negative) = refl
+    by kind.Number = refl
+    by kind.Text = refl
+    by kind.Missing = refl
+    by kind.Reference = refl
+    by kind.End = refl
+
+-- and so is that of the entries which it begins
+pub line-with : (k : StoredEntry) (octets : List ℕ) (more : List DraftEntry) → line_at (entry_with k octets ∷ more) ≡ k.line
+line-with k octets more = by (entry_with k octets) (line-is k octets)
+  where
+    by : (e : DraftEntry) → entry_line e ≡ k.line → line_at (e ∷ more) ≡ k.line
+    by (Holds d) h = h
+    by (Ends line) h = h
+
+-- ---- One item that the code wrote, in data that are not compressed.
+
+-- the entries that are left, at an index
+pub next_there : (entries : List DraftEntry) (place : ℕ) (e : DraftEntry) → slice_get entries place ≡ Some e → drop place entries ≡ e ∷ drop (place + 1) entries
+next_there entries place e here =
+    drop-cons entries place e (slice_get_within entries place e here) ∙ ap (λ x. x ∷ drop (suc place) entries) (get_or_from_slice_get entries place e e here) ∙ ap (λ j. e ∷ drop j entries) (sym (add-one place))
+
+pub filled_here : (entries : List DraftEntry) (place : ℕ) (e : DraftEntry) (spec : FieldSpec) (d : FieldContent) (t : Taken) (old new : List Bool) (s : PlainOutModel)
+    → plain_out_model (drop place entries) old ≡ s → slice_get entries place ≡ Some e
+    → Some (Ok (content_drawn (spec.width / 8) d)) ≡ Some (entry_here spec e) → t ≡ answer_of spec (content_drawn (spec.width / 8) d)
+    → new ≡ old ++ bits_for spec.width (content_drawn (spec.width / 8) d) → length old < length new
+    → IsFilled s spec t (plain_out_model (drop (place + 1) entries) new)
+filled_here entries place (Ends line) spec d t old new s view here drawn gives bits forth = absurd cc
+filled_here entries place (Holds item) spec d t old new s view here drawn gives bits forth =
+    subst (λ z. IsFilled z spec t (plain_out_model (drop (place + 1) entries) new)) view (record {
+      draft = item;
+      content = content_drawn (spec.width / 8) d;
+      here = next_there entries place (Holds item) here;
+      is = by (content_of spec item) drawn;
+      gives = gives;
+      bits = bits;
+      forth = forth;
+    })
+  where
+    by : {c : Content} (r : Result Content DraftFaultKind) → Some (Ok c) ≡ Some (at_line_if_fault item.line r) → r ≡ Ok c
+    by (Ok x) h = cc
+    by (Err why) h = absurd cc
+
+-- what a writer has left, by the entry that the code found
+pub left_there : (entries : List DraftEntry) (place : ℕ) (old : List Bool) (s : PlainOutModel) (e : DraftEntry) → plain_out_model (drop place entries) old ≡ s → Some e ≡ slice_get entries place → s.left ≡ e ∷ drop (place + 1) entries
+left_there entries place old s e view here =
+    sym (ap (λ (p : PlainOutModel). p.left) view) ∙ next_there entries place e (sym here)
+
+pub left_none : (entries : List DraftEntry) (place : ℕ) (old : List Bool) (s : PlainOutModel) → plain_out_model (drop place entries) old ≡ s → None ≡ slice_get entries place → s.left ≡ []
+left_none entries place old s view here = sym (ap (λ (p : PlainOutModel). p.left) view) ∙ drop_all place entries (none_there entries place here)
+
+-- the fault at the next entry
+pub item_fault : (spec : FieldSpec) (more : List DraftEntry) (fault : Option FaultAt) (e : DraftEntry) → option_map Err fault ≡ Some (entry_here spec e) → IfDraftFault fault (IsFaultOf spec (e ∷ more))
+item_fault spec more None e is = tt
+item_fault spec more (Some f) (Ends line) is = cc
+item_fault spec more (Some f) (Holds d) is = by (content_of spec d) refl is
+  where
+    by : (r : Result Content DraftFaultKind) → content_of spec d ≡ r → Some (Err f) ≡ Some (at_line_if_fault d.line r) → (why : DraftFaultKind) × (content_of spec d ≡ Err why) × (f ≡ at_line d.line why)
+    by (Ok c) e h = absurd cc
+    by (Err why) e h = (why, e, cc)
+
+-- the end of a subset is next
+pub end_next : (entries : List DraftEntry) (place : ℕ) (old : List Bool) (s : PlainOutModel) (e : DraftEntry) → plain_out_model (drop place entries) old ≡ s → Some e ≡ slice_get entries place → is_end e ≡ true → after_end s.left ≡ Ok (drop (place + 1) entries)
+end_next entries place old s (Ends line) view here is = ap after_end (left_there entries place old s (Ends line) view here)
+end_next entries place old s (Holds d) view here is = absurd cc
+
+-- one more item is next, or nothing
+pub item_next : (entries : List DraftEntry) (place : ℕ) (old : List Bool) (s : PlainOutModel) (e : DraftEntry) → plain_out_model (drop place entries) old ≡ s → Some e ≡ slice_get entries place → is_end e ≡ false → after_end s.left ≡ Err (at_line (line_at s.left) item_too_many)
+item_next entries place old s (Ends line) view here is = absurd cc
+item_next entries place old s (Holds d) view here is =
+    let left = left_there entries place old s (Holds d) view here in
+    ap after_end left ∙ ap (λ l. Err (at_line (line_at l) item_too_many)) (sym left)
+
+pub none_next : (entries : List DraftEntry) (place : ℕ) (old : List Bool) (s : PlainOutModel) → plain_out_model (drop place entries) old ≡ s → None ≡ slice_get entries place → after_end s.left ≡ Err (at_line (line_at s.left) item_too_many)
+none_next entries place old s view here =
+    let left = left_none entries place old s view here in
+    ap after_end left ∙ ap (λ l. Err (at_line (line_at l) item_too_many)) (sym left)

@@ -1,0 +1,393 @@
+-- An item as the content of its field, and the bits of a content.
+use Rattle.std.proofs.Common.{◌≡◌, ℕ, zero, suc, ◌+◌, ◌-◌, ◌*◌, ◌/◌, ◌%◌, ◌^◌, ◌<◌, ◌≤◌, ◌&&◌, eqb, Bool, true, false, List, [], ◌∷◌, ◌++◌, length, take, drop, replicate, get_or, refl, sym, ◌∙◌, ap, subst, arith, ℤ, pos, negsuc, neg_ℤ, nat_abs, mod-eq_of_lt, Ok, Err, pow_mono, ◌-ℤ◌, FitsSigned, to_z, of_z, SFits, w64, ◌<ℤ◌, ◌≤ℤ◌, not}
+use Rattle.std.specs.Prelude.{◌==◌, if◌then◌else◌, nat_lt, unsigned_abs}
+use Rattle.std.specs.List.{list_all}
+use Rattle.bufr_bits.proofs.DecimalLemmas.{and_second}
+use Rattle.std.proofs.lemmas.List.{nil_from_length, take-append-drop, take_at, drop_at, length-replicate, length-take-le, length-drop, append-nil, take-replicate, drop-replicate}
+use Rattle.std.proofs.lemmas.Bool.Decides.{nat_tests}
+use Rattle.std.proofs.lemmas.Nat.{shr_high}
+use Rattle.bufr_bits.specs.Bits.{bits_of, bits_of_octet, bits_in, number_after_bits, number_of, are_all_ones}
+use Rattle.bufr_bits.proofs.BitLemmas.{bit, number_after_bits-is, number_of-below, number-bits_of_octet, length-bits_of, bits_in-above, bits_in-octet, length-bits_in, number_of-bits_in, are_all_ones-number, are_all_ones-bits_of}
+use Rattle.bufr_tables.specs.declared.table_b.Kind.{Kind}
+use Rattle.bufr_walk.specs.FieldSpec.{HasWidth, HasMissing, FieldSpec, is_reference}
+use Rattle.bufr_walk.specs.Content.{Content, number, text, missing, reference, octets_in, signed_by, said_by, sign_bit, bits_for, answer_of, answer_by_role, count_in, reference_in}
+use Rattle.bufr_fill.specs.RoundTrip.{AreOctets, FitsKind}
+use Rattle.bufr_fill.specs.Packing.{raw_limit}
+use Rattle.std.specs.Int.{FitsUnsigned, w128}
+use Rattle.std.proofs.lemmas.Int.{ints, to_z-of_z, fits_signed_from_abs}
+use Rattle.bufr_fill.specs.Faults.{out_of_range, at_line}
+use Rattle.bufr_fill.specs.DraftContent.{raw_within, is_of, is_marked, wrong_for, content_of, content_by_form}
+use Rattle.std.proofs.lemmas.Bool.{false≢true}
+use Rattle.bufr_fill.specs.Draft.{Draft, draft, number_token, text_form, missing_form, reference_token, DraftEntry, Holds, Ends}
+use Rattle.bufr_fill.specs.Encoding.{at_line_if_fault}
+use Rattle.bufr_fill.specs.Kept.{entry_by, value_by, is_end, is_entry_of}
+use Rattle.bufr_fill.specs.PackedOut.{entry_here}
+use Rattle.bufr_fill.specs.declared.draft.EntryKind.{EntryKind}
+use Rattle.bufr_tables.specs.declared.table_b.Kind.TheVariants as kind
+use Rattle.bufr_walk.specs.declared.spec.Role.TheVariants as role
+use Rattle.bufr_walk.specs.declared.spec.Taken.TheVariants as taken
+use Rattle.bufr_fill.specs.declared.draft.EntryKind.TheVariants as entry_kind
+
+-- a number that fits its bits is written in them
+pub number_again : (v w : ℕ) → v < 2 ^ w → number_of (bits_in v w) ≡ v
+number_again v w h = number_of-bits_in v w ∙ mod-eq_of_lt h
+
+pub ones_test : (xs : List Bool) (w : ℕ) → length xs ≡ w → eqb (number_of xs) (2 ^ w - 1) ≡ are_all_ones xs
+ones_test xs w e = subst (λ n. eqb (number_of xs) (2 ^ n - 1) ≡ are_all_ones xs) e (are_all_ones-number xs)
+
+pub top_below : (m : Bool) (w v : ℕ) → v < raw_limit m w → v < 2 ^ w
+top_below true w v h = omega arith
+top_below false w v h = h
+
+not_ones : (v w : ℕ) → v < 2 ^ w - 1 → eqb v (2 ^ w - 1) ≡ false
+not_ones v w h = grind (arith, nat_tests)
+
+-- a number below the limit is not missing
+not_missing : (m : Bool) (w v : ℕ) (b : Bool) → v < raw_limit m w → (m ≡ true → b ≡ eqb v (2 ^ w - 1)) → (b && m) ≡ false
+not_missing true w v b h e = ap (λ x. x && true) (e refl ∙ not_ones v w h)
+not_missing false w v true h e = refl
+not_missing false w v false h e = refl
+
+pub ones_set : (w : ℕ) → are_all_ones (replicate w true) ≡ true
+ones_set zero = refl
+ones_set (suc w) = ones_set w
+
+-- a number of bits is below the limit, where it is not missing
+below_top : (m : Bool) (xs : List Bool) (w : ℕ) → length xs ≡ w → (are_all_ones xs && m) ≡ false → number_of xs < raw_limit m w
+below_top false xs w e h = subst (λ n. number_of xs < 2 ^ n) e (number_of-below xs)
+below_top true xs w e h =
+    let below : number_of xs < 2 ^ w = subst (λ n. number_of xs < 2 ^ n) e (number_of-below xs) in
+    let test : eqb (number_of xs) (2 ^ w - 1) ≡ are_all_ones xs = ones_test xs w e in
+    apart_below (number_of xs) (2 ^ w) (are_all_ones xs) below test h
+  where
+    apart_below : (v p : ℕ) (b : Bool) → v < p → eqb v (p - 1) ≡ b → (b && true) ≡ false → v < p - 1
+    apart_below v p true h e f = cc
+    apart_below v p false h e f = grind (arith, nat_tests)
+
+-- octets and their bits
+pub octets_again : (octets : List ℕ) → AreOctets octets → octets_in (length octets) (bits_of octets) ≡ octets
+unfolding bits_of
+octets_again [] h = refl
+octets_again (x ∷ xs) h =
+    let first : take 8 (bits_of (x ∷ xs)) ≡ bits_of_octet x = take_at (bits_of_octet x) (bits_of xs) 8 refl in
+    let rest : drop 8 (bits_of (x ∷ xs)) ≡ bits_of xs = drop_at (bits_of_octet x) (bits_of xs) 8 refl in
+    ap (λ bs. number_of bs ∷ octets_in (length xs) (drop 8 (bits_of (x ∷ xs)))) first
+    ∙ ap (λ n. n ∷ octets_in (length xs) (drop 8 (bits_of (x ∷ xs)))) (number-bits_of_octet x h.0)
+    ∙ ap (λ bs. x ∷ octets_in (length xs) bs) rest
+    ∙ ap (λ os. x ∷ os) (octets_again xs h.1)
+
+pub length-octets_in : (n : ℕ) (bits : List Bool) → length (octets_in n bits) ≡ n
+length-octets_in zero bits = refl
+length-octets_in (suc n) bits = ap suc (length-octets_in n (drop 8 bits))
+
+pub octets_in-are : (n : ℕ) (bits : List Bool) → length bits ≡ 8 * n → AreOctets (octets_in n bits)
+octets_in-are zero bits h = tt
+octets_in-are (suc n) bits h =
+    let l : length (take 8 bits) ≡ 8 = length-take-le 8 bits (omega arith) in
+    (subst (λ k. number_of (take 8 bits) < 2 ^ k) l (number_of-below (take 8 bits)), octets_in-are n (drop 8 bits) (omega (arith, length-drop 8 bits)))
+
+octet_at : (xs : List ℕ) → AreOctets xs → (k : ℕ) → get_or xs k 0 < 256
+octet_at [] h k = omega arith
+octet_at (x ∷ xs) h zero = h.0
+octet_at (x ∷ xs) h (suc k) = octet_at xs h.1 k
+
+pub full_test : (octets : List ℕ) → AreOctets octets → are_all_ones (bits_of octets) ≡ list_all (λ octet. octet == 255) octets
+full_test octets h = sym (are_all_ones-bits_of octets (octet_at octets h))
+
+bit_test : (b : Bool) → eqb (bit b % 2) 1 ≡ b
+bit_test true = refl
+bit_test false = refl
+
+pub first_bit : (b : Bool) (v k : ℕ) → v < 2 ^ k → eqb ((bit b * 2 ^ k + v) / 2 ^ k % 2) 1 ≡ b
+first_bit b v k h = ap (λ q. eqb (q % 2) 1) (shr_high (bit b) k v h) ∙ bit_test b
+
+-- bits are those of the number that they write
+pub bits_again : (xs : List Bool) → bits_in (number_of xs) (length xs) ≡ xs
+unfolding bits_in
+bits_again [] = refl
+bits_again (x ∷ xs) =
+    let e : number_of (x ∷ xs) ≡ bit x * 2 ^ length xs + number_of xs = ap (λ n. number_after_bits n xs) (omega arith) ∙ number_after_bits-is (bit x) xs in
+    ap (λ n. bits_in n (suc (length xs))) e
+    ∙ ap (λ b. b ∷ bits_in (bit x * 2 ^ length xs + number_of xs) (length xs)) (first_bit x (number_of xs) (length xs) (number_of-below xs))
+    ∙ ap (λ bs. x ∷ bs) (bits_in-above (bit x) (number_of xs) (length xs) ∙ bits_again xs)
+
+octet_again : (xs : List Bool) → length xs ≡ 8 → bits_of_octet (number_of xs) ≡ xs
+octet_again xs e =
+    let below : number_of xs < 256 = subst (λ k. number_of xs < 2 ^ k) e (number_of-below xs) in
+    ap bits_of_octet (sym (mod-eq_of_lt below)) ∙ sym (bits_in-octet (number_of xs)) ∙ ap (bits_in (number_of xs)) (sym e) ∙ bits_again xs
+
+-- bits are those of the octets that they write
+pub octet_bits_again : (n : ℕ) (bits : List Bool) → length bits ≡ 8 * n → bits_of (octets_in n bits) ≡ bits
+unfolding bits_of
+octet_bits_again zero bits h = sym (nil_from_length bits (omega arith))
+octet_bits_again (suc n) bits h =
+    let l : length (take 8 bits) ≡ 8 = length-take-le 8 bits (omega arith) in
+    ap (λ bs. bs ++ bits_of (octets_in n (drop 8 bits))) (octet_again (take 8 bits) l)
+    ∙ ap (λ bs. take 8 bits ++ bs) (octet_bits_again n (drop 8 bits) (omega (arith, length-drop 8 bits)))
+    ∙ take-append-drop 8 bits
+
+module _ (w : ℕ) where
+  pub number_back : (m : Bool) (raw : ℕ) → raw < raw_limit m w → (are_all_ones (bits_in raw w) && m) ≡ false
+  number_back m raw h = not_missing m w raw (are_all_ones (bits_in raw w)) h (λ e. sym (ones_test (bits_in raw w) w (length-bits_in raw w)) ∙ ap (λ n. eqb n (2 ^ w - 1)) (number_again raw w (top_below m w raw h)))
+
+  -- a text
+  text_back : (m : Bool) (octets : List ℕ) → AreOctets octets → list_all (λ octet. octet == 255) octets ≡ false → (are_all_ones (bits_of octets) && m) ≡ false
+  text_back m octets h e = ap (λ b. b && m) (full_test octets h ∙ e)
+
+  -- a missing value
+  missing_back : (m : Bool) → m ≡ true → (are_all_ones (replicate w true) && m) ≡ true
+  missing_back m e = ap (λ b. b && m) (ones_set w) ∙ e
+
+  by_test : (b : Bool) (c d : Content) → b ≡ false → (if b then missing else c) ≡ d → (if b then missing else c) ≡ d
+  by_test b c d e h = h
+
+  chosen_no : (b : Bool) (c d : Content) → b ≡ false → c ≡ d → (if b then missing else c) ≡ d
+  chosen_no b c d e h = ap (λ x. if x then missing else c) e ∙ h
+
+  chosen_yes : (b : Bool) (c : Content) → b ≡ true → (if b then missing else c) ≡ missing
+  chosen_yes b c e = ap (λ x. if x then missing else c) e
+
+  -- what is written by kind reads the same
+  pub kind_back : (k : Kind) (m : Bool) (c : Content) → HasWidth k w → HasMissing k m → FitsKind k m w c → (if are_all_ones (bits_for w c) && m then missing else said_by k w (bits_for w c)) ≡ c
+  kind_back kind.Character m (number raw) hw hm h = absurd h
+  kind_back kind.Character m (reference v) hw hm h = absurd h
+  kind_back kind.Character m missing hw hm h = chosen_yes (are_all_ones (replicate w true) && m) _ (missing_back m hm)
+  kind_back kind.Character m (text octets) hw hm h =
+      chosen_no (are_all_ones (bits_of octets) && m) (text (octets_in (w / 8) (bits_of octets))) (text octets) (text_back m octets h.1 h.2) (ap (λ n. text (octets_in n (bits_of octets))) (sym h.0) ∙ ap text (octets_again octets h.1))
+  kind_back kind.Coded m (number raw) hw hm h = chosen_no (are_all_ones (bits_in raw w) && m) (number (number_of (bits_in raw w))) (number raw) (number_back m raw h) (ap number (number_again raw w (top_below m w raw h)))
+  kind_back kind.Coded m (reference v) hw hm h = absurd h
+  kind_back kind.Coded m missing hw hm h = chosen_yes (are_all_ones (replicate w true) && m) _ (missing_back m h)
+  kind_back kind.Coded m (text octets) hw hm h = absurd h
+  kind_back kind.Numeric m (number raw) hw hm h = chosen_no (are_all_ones (bits_in raw w) && m) (number (number_of (bits_in raw w))) (number raw) (number_back m raw h) (ap number (number_again raw w (top_below m w raw h)))
+  kind_back kind.Numeric m (reference v) hw hm h = absurd h
+  kind_back kind.Numeric m missing hw hm h = chosen_yes (are_all_ones (replicate w true) && m) _ (missing_back m h)
+  kind_back kind.Numeric m (text octets) hw hm h = absurd h
+
+  eighths : w % 8 ≡ 0 → 8 * (w / 8) ≡ w
+  eighths h = omega arith
+
+  pub kind_length : (k : Kind) (m : Bool) (c : Content) → HasWidth k w → FitsKind k m w c → length (bits_for w c) ≡ w
+  kind_length kind.Character m (number raw) hw h = absurd h
+  kind_length kind.Character m (reference v) hw h = absurd h
+  kind_length kind.Character m missing hw h = length-replicate w true
+  kind_length kind.Character m (text octets) hw h = length-bits_of octets ∙ ap (λ n. 8 * n) h.0 ∙ eighths hw.2
+  kind_length kind.Coded m (number raw) hw h = length-bits_in raw w
+  kind_length kind.Coded m (reference v) hw h = absurd h
+  kind_length kind.Coded m missing hw h = length-replicate w true
+  kind_length kind.Coded m (text octets) hw h = absurd h
+  kind_length kind.Numeric m (number raw) hw h = length-bits_in raw w
+  kind_length kind.Numeric m (reference v) hw h = absurd h
+  kind_length kind.Numeric m missing hw h = length-replicate w true
+  kind_length kind.Numeric m (text octets) hw h = absurd h
+
+  fits_said : (b : Bool) (k : Kind) (m : Bool) (bits : List Bool) → length bits ≡ w → HasWidth k w → HasMissing k m → (are_all_ones bits && m) ≡ b → FitsKind k m w (if b then missing else said_by k w bits)
+  fits_said true kind.Character m bits l hw hm e = tt
+  fits_said true kind.Coded m bits l hw hm e = and_second (are_all_ones bits) m e
+  fits_said true kind.Numeric m bits l hw hm e = and_second (are_all_ones bits) m e
+  fits_said false kind.Coded m bits l hw hm e = below_top m bits w l e
+  fits_said false kind.Numeric m bits l hw hm e = below_top m bits w l e
+  fits_said false kind.Character m bits l hw hm e =
+      let whole : length bits ≡ 8 * (w / 8) = l ∙ sym (eighths hw.2) in
+      let are : AreOctets (octets_in (w / 8) bits) = octets_in-are (w / 8) bits whole in
+      let set : are_all_ones bits ≡ false = and_true (are_all_ones bits) ∙ ap (λ b. are_all_ones bits && b) (sym hm) ∙ e in
+      (length-octets_in (w / 8) bits, are, sym (full_test (octets_in (w / 8) bits) are) ∙ ap are_all_ones (octet_bits_again (w / 8) bits whole) ∙ set)
+    where
+      and_true : (b : Bool) → b ≡ (b && true)
+      and_true true = refl
+      and_true false = refl
+
+  -- the content of bits is one that the field can have
+  pub kind_fits : (k : Kind) (m : Bool) (bits : List Bool) → length bits ≡ w → HasWidth k w → HasMissing k m → FitsKind k m w (if are_all_ones bits && m then missing else said_by k w bits)
+  kind_fits k m bits l hw hm = fits_said (are_all_ones bits && m) k m bits l hw hm refl
+
+-- a number with a sign, there and back
+pub signed_back : (v : ℤ) (w : ℕ) → nat_abs v < 2 ^ (w - 1) → signed_by (sign_bit v ∷ bits_in (nat_abs v) (w - 1)) ≡ v
+signed_back (pos n) w h = ap pos (number_again n (w - 1) h)
+signed_back (negsuc n) w h = ap (λ k. neg_ℤ (pos k)) (number_again (suc n) (w - 1) h)
+
+abs_neg : (n : ℕ) → nat_abs (neg_ℤ (pos n)) ≡ n
+abs_neg zero = refl
+abs_neg (suc n) = refl
+
+pub signed_below : (bits : List Bool) (w : ℕ) → length bits ≡ w → 1 ≤ w → nat_abs (signed_by bits) < 2 ^ (w - 1)
+signed_below [] w e h = absurd (omega (arith, e, h))
+signed_below (true ∷ bits) w e h =
+    let l : length bits ≡ w - 1 = omega (arith, e) in
+    subst (λ k. k < 2 ^ (w - 1)) (sym (abs_neg (number_of bits))) (subst (λ k. number_of bits < 2 ^ k) l (number_of-below bits))
+signed_below (false ∷ bits) w e h =
+    let l : length bits ≡ w - 1 = omega (arith, e) in
+    subst (λ k. number_of bits < 2 ^ k) l (number_of-below bits)
+
+-- ---- Numbers that no field can have.
+
+past : (a b : ℕ) → b ≤ a → nat_lt a b ≡ false
+past a b h = grind (arith, nat_tests)
+
+top_least : (m : Bool) (w raw : ℕ) → w ≤ 63 → 2 ^ 63 ≤ raw → raw_limit m w ≤ raw
+top_least true w raw h g = let p : 2 ^ w ≤ 2 ^ 63 = pow_mono h in omega arith
+top_least false w raw h g = let p : 2 ^ w ≤ 2 ^ 63 = pow_mono h in omega arith
+
+pub beyond : (m : Bool) (w : ℕ) (z : ℤ) → w ≤ 63 → ((raw : ℕ) → z ≡ pos raw → 2 ^ 63 ≤ raw) → Err out_of_range ≡ raw_within m w z
+beyond m w (pos raw) h g = ap (λ b. if b then Ok (number raw) else Err out_of_range) (sym (past raw (raw_limit m w) (top_least m w raw h (g raw refl))))
+beyond m w (negsuc n) h g = refl
+
+by_order : (b : Bool) (a c : ℕ) → nat_lt a c ≡ b → (a < c → ⊥) → c ≤ a
+by_order true a c e h = absurd (h (grind (arith, nat_tests)))
+by_order false a c e h = grind (arith, nat_tests)
+
+pub not_signed : (v r : ℤ) (raw : ℕ) → SFits w128 v → SFits w128 r → v -ℤ r ≡ pos raw → (FitsSigned w128 (to_z w128 (of_z w128 v) -ℤ to_z w128 (of_z w128 r)) → ⊥) → 2 ^ 63 ≤ raw
+not_signed v r raw fv fr e h = by_order (nat_lt raw (2 ^ 63)) raw (2 ^ 63) refl (λ small.
+    h (subst (FitsSigned w128) (sym (ap (λ x. x -ℤ to_z w128 (of_z w128 r)) (to_z-of_z w128 v fv) ∙ ap (λ x. v -ℤ x) (to_z-of_z w128 r fr) ∙ e)) (fits_signed_from_abs w128 (pos raw) (let s : raw < 2 ^ 127 = omega arith in s))))
+
+pub not_unsigned : (z : ℤ) (raw : ℕ) → z ≡ pos raw → (FitsUnsigned w64 (to_z w128 (of_z w128 z)) → ⊥) → SFits w128 z → 2 ^ 63 ≤ raw
+not_unsigned z raw e h f = by_order (nat_lt raw (2 ^ 63)) raw (2 ^ 63) refl (λ small. h (subst (FitsUnsigned w64) (sym (to_z-of_z w128 z f ∙ e)) (omega (arith, ints), omega (arith, ints))))
+
+ones_is : (w : ℕ) → number_of (replicate w true) ≡ 2 ^ w - 1
+ones_is w =
+    let t : eqb (number_of (replicate w true)) (2 ^ w - 1) ≡ true = ones_test (replicate w true) w (length-replicate w true) ∙ ones_set w in
+    grind (arith, nat_tests)
+
+-- all ones, as a number
+pub ones_bits : (w : ℕ) → w ≤ 63 → bits_in (1 * 2 ^ w % 18446744073709551616 - 1) w ≡ replicate w true
+ones_bits w h =
+    let p : 2 ^ w ≤ 2 ^ 63 = pow_mono h in
+    let e : 1 * 2 ^ w % 18446744073709551616 - 1 ≡ number_of (replicate w true) = omega (arith, p, ones_is w) in
+    ap (λ n. bits_in n w) e ∙ ap (λ l. bits_in (number_of (replicate w true)) l) (sym (length-replicate w true)) ∙ bits_again (replicate w true)
+
+-- ---- Texts and references as the code writes them.
+
+pub spaced_prefix : (octets : List ℕ) (count : ℕ) → length octets ≤ count → count ≤ 255 → take count (octets ++ replicate (255 - length octets) 32) ≡ octets ++ replicate (count - length octets) 32
+spaced_prefix octets count h g = by octets count (255 - length octets) (omega (arith, h, g)) h
+  where
+    by : (octets : List ℕ) (count n : ℕ) → count ≤ length octets + n → length octets ≤ count → take count (octets ++ replicate n 32) ≡ octets ++ replicate (count - length octets) 32
+    by [] count n h g = let space : ℕ = 32 in let none : count ≡ count - 0 = omega arith in take-replicate {X = ℕ} count n space (omega (arith, h)) ∙ ap (λ j. replicate j space) none
+    by (o ∷ os) zero n h g = absurd (omega (arith, g))
+    by (o ∷ os) (suc count) n h g =
+        let e : suc count - suc (length os) ≡ count - length os = omega arith in
+        ap (λ xs. o ∷ xs) (by os count n (omega (arith, h)) (omega (arith, g))) ∙ ap (λ j. o ∷ os ++ replicate j 32) (sym e)
+
+pub spaced_whole : (octets written : List ℕ) → written ≡ octets → written ++ drop (length octets) (replicate 255 32) ≡ octets ++ replicate (255 - length octets) 32
+spaced_whole octets written e = let space : ℕ = 32 in ap (λ xs. xs ++ drop (length octets) (replicate 255 space)) e ∙ ap (λ xs. octets ++ xs) (drop-replicate {X = ℕ} (length octets) 255 space)
+
+-- a sign before a magnitude
+signed_in : (b : Bool) (k size : ℕ) → size < 2 ^ k → bits_in (bit b * 2 ^ k + size) (suc k) ≡ b ∷ bits_in size k
+unfolding bits_in
+signed_in b k size h = ap (λ x. x ∷ bits_in (bit b * 2 ^ k + size) k) (first_bit b size k h) ∙ ap (λ bs. b ∷ bs) (bits_in-above (bit b) size k)
+
+at_width : (b : Bool) (w size : ℕ) → 1 ≤ w → size < 2 ^ (w - 1) → bits_in (bit b * 2 ^ (w - 1) + size) w ≡ b ∷ bits_in size (w - 1)
+at_width b w size some h = let e : w ≡ suc (w - 1) = omega arith in ap (λ n. bits_in (bit b * 2 ^ (w - 1) + size) n) e ∙ signed_in b (w - 1) size h
+
+pub negative_bits : (v : ℤ) (w size : ℕ) → v <ℤ pos 0 → 1 ≤ w → w ≤ 63 → size ≡ unsigned_abs v → unsigned_abs v < 2 ^ (w - 1) → bits_in (1 * 2 ^ (w - 1) % 18446744073709551616 + size) w ≡ sign_bit v ∷ bits_in (unsigned_abs v) (w - 1)
+negative_bits (pos n) w size neg some narrow e h = absurd (omega (arith, ints, neg))
+negative_bits (negsuc n) w size neg some narrow e h =
+    let short : w - 1 ≤ 62 = omega arith in
+    let p : 2 ^ (w - 1) ≤ 2 ^ 62 = pow_mono short in
+    let q : 1 * 2 ^ (w - 1) % 18446744073709551616 + size ≡ 1 * 2 ^ (w - 1) + suc n = omega (arith, p, e) in
+    ap (λ x. bits_in x w) q ∙ at_width true w (suc n) some h
+
+pub positive_bits : (v : ℤ) (w size : ℕ) → pos 0 ≤ℤ v → 1 ≤ w → size ≡ unsigned_abs v → unsigned_abs v < 2 ^ (w - 1) → bits_in size w ≡ sign_bit v ∷ bits_in (unsigned_abs v) (w - 1)
+positive_bits (pos n) w size pos_v some e h = ap (λ x. bits_in x w) (let q : size ≡ 0 * 2 ^ (w - 1) + n = omega (arith, e) in q) ∙ at_width false w n some h
+positive_bits (negsuc n) w size pos_v some e h = absurd (omega (arith, ints, pos_v))
+
+-- a text followed by spaces is all 255 where it is full and its octets are
+pub all_of_spaced : (octets : List ℕ) (count : ℕ) (full : Bool) → length octets ≤ count → full ≡ list_all (λ octet. octet == 255) octets → ((length octets == count) && full) ≡ list_all (λ octet. octet == 255) (octets ++ replicate (count - length octets) 32)
+all_of_spaced octets count full h e = by (count - length octets) (length octets == count) refl refl
+  where
+    equal_from : (a b : ℕ) → (a == b) ≡ true → a ≡ b
+    equal_from a b q = grind (arith, nat_tests)
+
+    equal_to : (a b : ℕ) → a ≡ b → (a == b) ≡ true
+    equal_to a b q = grind (arith, nat_tests)
+
+    none : (os : List ℕ) (n : ℕ) → list_all (λ octet. octet == 255) (os ++ replicate (suc n) 32) ≡ false
+    none [] n = refl
+    none (o ∷ os) n = ap (λ b. (o == 255) && b) (none os n) ∙ and_false (o == 255)
+      where
+        and_false : (b : Bool) → (b && false) ≡ false
+        and_false true = refl
+        and_false false = refl
+
+    by : (n : ℕ) (b : Bool) → count - length octets ≡ n → (length octets == count) ≡ b → (b && full) ≡ list_all (λ octet. octet == 255) (octets ++ replicate (count - length octets) 32)
+    by zero true p q = e ∙ ap (list_all (λ octet. octet == 255)) (sym (append-nil octets) ∙ ap (λ n. octets ++ replicate n 32) (sym p))
+    by zero false p q = absurd (false≢true (sym q ∙ equal_to (length octets) count (omega arith)))
+    by (suc n) true p q = absurd (omega (arith, p, equal_from (length octets) count q))
+    by (suc n) false p q = sym (ap (λ k. list_all (λ octet. octet == 255) (octets ++ replicate k 32)) p ∙ none octets n)
+
+-- octets of ones
+all_ones : (n : ℕ) → bits_of (replicate n 255) ≡ replicate (8 * n) true
+unfolding bits_of
+all_ones zero = refl
+all_ones (suc n) = ap (λ bs. true ∷ true ∷ true ∷ true ∷ true ∷ true ∷ true ∷ true ∷ bs) (all_ones n) ∙ (let q : suc (suc (suc (suc (suc (suc (suc (suc (8 * n)))))))) ≡ 8 * suc n = omega arith in ap (λ k. replicate k true) q)
+
+pub full_bits : (count : ℕ) → count ≤ 255 → bits_of (take count (replicate 255 255)) ≡ replicate (8 * count) true
+full_bits count h = let full : ℕ = 255 in ap bits_of (take-replicate {X = ℕ} count 255 full h) ∙ all_ones count
+
+pub eighths_ones : (w : ℕ) → w % 8 ≡ 0 → replicate (8 * (w / 8)) true ≡ replicate w true
+eighths_ones w h = let e : 8 * (w / 8) ≡ w = omega arith in ap (λ n. replicate n true) e
+
+-- ---- An item as the content of its field, as the code converts it.
+
+-- an item of a field has the field's mark
+marks : (spec : FieldSpec) (d : Draft) → is_of spec d ≡ true → is_reference spec.role ≡ is_marked d.form
+marks spec d h = by (is_reference spec.role) (is_marked d.form) (and_second (d.fxy == spec.fxy) _ h)
+  where
+    by : (a b : Bool) → (if a then b else not b) ≡ true → a ≡ b
+    by true b q = sym q
+    by false true q = q
+    by false false q = refl
+
+-- an item of a field has its value's content
+content_there : (spec : FieldSpec) (d : Draft) → is_of spec d ≡ true → content_of spec d ≡ content_by_form d.form spec
+content_there spec d h = ap (λ b. if b then content_by_form d.form spec else Err (wrong_for spec)) h
+
+content_wrong : (spec : FieldSpec) (d : Draft) → is_of spec d ≡ false → content_of spec d ≡ Err (wrong_for spec)
+content_wrong spec d h = ap (λ b. if b then content_by_form d.form spec else Err (wrong_for spec)) h
+
+-- the same of an entry, by its kind
+pub marks_at : (spec : FieldSpec) (k : EntryKind) (line fxy digits : ℕ) (octets : List ℕ) → is_entry_of spec (entry_by k line fxy digits octets) ≡ true → is_reference spec.role ≡ is_marked (value_by k digits octets)
+marks_at spec (entry_kind.Decimal places negative) line fxy digits octets h = marks spec (draft line fxy (value_by (entry_kind.Decimal places negative) digits octets)) h
+marks_at spec entry_kind.Number line fxy digits octets h = marks spec (draft line fxy (number_token octets)) h
+marks_at spec entry_kind.Text line fxy digits octets h = marks spec (draft line fxy (text_form octets)) h
+marks_at spec entry_kind.Missing line fxy digits octets h = marks spec (draft line fxy missing_form) h
+marks_at spec entry_kind.Reference line fxy digits octets h = marks spec (draft line fxy (reference_token octets)) h
+marks_at spec entry_kind.End line fxy digits octets h = absurd cc
+
+pub no_end : (spec : FieldSpec) (e : DraftEntry) → is_entry_of spec e ≡ true → is_end e ≡ false
+no_end spec (Holds d) h = refl
+no_end spec (Ends line) h = absurd cc
+
+pub content_at : (spec : FieldSpec) (k : EntryKind) (line fxy digits : ℕ) (octets : List ℕ) → is_entry_of spec (entry_by k line fxy digits octets) ≡ true
+    → at_line_if_fault line (content_by_form (value_by k digits octets) spec) ≡ entry_here spec (entry_by k line fxy digits octets)
+content_at spec (entry_kind.Decimal places negative) line fxy digits octets h = sym (ap (at_line_if_fault line) (content_there spec (draft line fxy (value_by (entry_kind.Decimal places negative) digits octets)) h))
+content_at spec entry_kind.Number line fxy digits octets h = sym (ap (at_line_if_fault line) (content_there spec (draft line fxy (number_token octets)) h))
+content_at spec entry_kind.Text line fxy digits octets h = sym (ap (at_line_if_fault line) (content_there spec (draft line fxy (text_form octets)) h))
+content_at spec entry_kind.Missing line fxy digits octets h = sym (ap (at_line_if_fault line) (content_there spec (draft line fxy missing_form) h))
+content_at spec entry_kind.Reference line fxy digits octets h = sym (ap (at_line_if_fault line) (content_there spec (draft line fxy (reference_token octets)) h))
+content_at spec entry_kind.End line fxy digits octets h = absurd cc
+
+pub wrong_at : (spec : FieldSpec) (k : EntryKind) (line fxy digits : ℕ) (octets : List ℕ) → is_entry_of spec (entry_by k line fxy digits octets) ≡ false
+    → Err (at_line line (wrong_for spec)) ≡ entry_here spec (entry_by k line fxy digits octets)
+wrong_at spec (entry_kind.Decimal places negative) line fxy digits octets h = sym (ap (at_line_if_fault line) (content_wrong spec (draft line fxy (value_by (entry_kind.Decimal places negative) digits octets)) h))
+wrong_at spec entry_kind.Number line fxy digits octets h = sym (ap (at_line_if_fault line) (content_wrong spec (draft line fxy (number_token octets)) h))
+wrong_at spec entry_kind.Text line fxy digits octets h = sym (ap (at_line_if_fault line) (content_wrong spec (draft line fxy (text_form octets)) h))
+wrong_at spec entry_kind.Missing line fxy digits octets h = sym (ap (at_line_if_fault line) (content_wrong spec (draft line fxy missing_form) h))
+wrong_at spec entry_kind.Reference line fxy digits octets h = sym (ap (at_line_if_fault line) (content_wrong spec (draft line fxy (reference_token octets)) h))
+wrong_at spec entry_kind.End line fxy digits octets h = refl
+
+-- what each role returns to the walk
+pub answer_element : (spec : FieldSpec) (c : Content) → spec.role ≡ role.Element → taken.Plain ≡ answer_of spec c
+answer_element spec c e = sym (ap (λ r. answer_by_role r c) e)
+
+pub answer_inserted : (spec : FieldSpec) (c : Content) → spec.role ≡ role.Inserted → taken.Plain ≡ answer_of spec c
+answer_inserted spec c e = sym (ap (λ r. answer_by_role r c) e)
+
+pub answer_count : (spec : FieldSpec) (c : Content) (n : ℕ) → spec.role ≡ role.Factor → n ≡ count_in c → taken.Count n ≡ answer_of spec c
+answer_count spec c n e h = ap taken.Count h ∙ sym (ap (λ r. answer_by_role r c) e)
+
+pub answer_reference : (spec : FieldSpec) (c : Content) (v : ℤ) → spec.role ≡ role.Reference → v ≡ reference_in c → taken.Reference v ≡ answer_of spec c
+answer_reference spec c v e h = ap taken.Reference h ∙ sym (ap (λ r. answer_by_role r c) e)
+
+-- a number is written in at most 63 bits
+pub drawn_narrow : (m : Bool) (w raw : ℕ) → raw < raw_limit m w → raw < 2 ^ w
+drawn_narrow true w raw h = omega (arith, h)
+drawn_narrow false w raw h = h

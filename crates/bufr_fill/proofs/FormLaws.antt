@@ -1,0 +1,547 @@
+-- Items that were read in one form are written in the other so that they are read again.
+use Rattle.std.proofs.Common.{◌≡◌, ℕ, ◌+◌, ◌*◌, ◌≤◌, Bool, false, List, [], ◌∷◌, length, Option, Some, None, Ok, Err, refl, sym, ◌∙◌, ap, subst, arith, zero, suc, ◌<◌, true, ◌++◌, Result, append_assoc, ◌⊎◌, inl, inr, max, drop}
+use Rattle.std.specs.Prelude.{nat_lt, if◌then◌else◌, slice_get}
+use Rattle.std.proofs.lemmas.Bool.Decides.{nat_tests}
+use Rattle.bufr_walk.specs.FieldSpec.{FieldSpec, IsSpec}
+use Rattle.bufr_walk.specs.Content.{Content, found, bits_for, answer_by_role, answer_of, FieldFault, plain_field, missing, data_end, increment, unequal_factor}
+use Rattle.bufr_walk.specs.PackedField.{packed_field, answer_first}
+use Rattle.bufr_fill.specs.Packing.{packing, same, are_same, packed_bits, packed_unlike}
+use Rattle.bufr_fill.specs.RoundTrip.{Fits, AllFit, subsets_from, IsWrittenApart, IsDumped, AreDrafts, AreDumped, AreDumpedFrom, items_of_subset, IsUnlike, IsTogetherOrNot}
+use Rattle.bufr_walk.specs.Reading.{max_values, Item, packed, plain, after, ReadsPass, ReadsSubsets, IsPackedReading}
+use Rattle.bufr_fill.proofs.PlainLaws.{IsCellOf, AreCellsOf, IsDumpedAcross, IsRewritten, draft_again, same_draft, AllSpecs, plain_again, EachSpecs, width_least, plain_read}
+use Rattle.bufr_fill.specs.Filling.{written_item, fill, fill_one, fill_none, filled, with_bits_before}
+use Rattle.bufr_fill.specs.Draft.{Draft, Subset}
+use Rattle.bufr_fill.specs.Faults.{at_line, too_many_values, FaultAt}
+use Rattle.bufr_fill.specs.DraftContent.{content_of, plainly, plain_filler}
+use Rattle.bufr_fill.specs.Encoding.{RowCell, ItemRow, at_line_if_fault, content_here, contents_here, packed_to, pack_across, packed_filler, first_line, ◌>>=◌, plain_data, item_row, cells_at, rows, longest, packing_fault, are_many, packed_data}
+use Rattle.bufr_fill.proofs.PackedLaws.{packed_again, packed_count, fitting_again}
+use Rattle.bufr_bits.proofs.DecimalLemmas.{and_first, and_second}
+use Rattle.bufr_walk.specs.declared.spec.Role.{Role}
+use Rattle.bufr_walk.specs.declared.spec.Taken.{Taken}
+use Rattle.bufr_walk.specs.Calls.{content_at}
+use Rattle.bufr_walk.specs.Course.{Course, take_next, at_end}
+use Rattle.bufr_fill.proofs.LeastLemmas.{content_same}
+use Rattle.bufr_walk.specs.declared.spec.Role.TheVariants as role
+
+one_here : (spec : FieldSpec) → IsSpec spec → (c : Content) (d : Option Draft) (end_line : ℕ) → Fits spec c → IsCellOf spec c d → content_here spec d end_line ≡ Ok c
+one_here spec good c None end_line fits h = absurd h
+one_here spec good c (Some d) end_line fits h = ap (at_line_if_fault d.line) (ap (content_of spec) (same_draft spec c d h) ∙ draft_again spec good d.line c fits)
+
+pub all_here : (spec : FieldSpec) → IsSpec spec → (cs : List Content) (cells : List RowCell) → AllFit spec cs → AreCellsOf spec cs cells → contents_here spec cells ≡ Ok cs
+all_here spec good [] [] fits h = refl
+all_here spec good [] (cell ∷ cells) fits h = absurd h
+all_here spec good (c ∷ cs) [] fits h = absurd h
+all_here spec good (c ∷ cs) (cell ∷ cells) fits h =
+    ap (λ r. r >>= λ first. contents_here spec cells >>= λ rest. Ok (first ∷ rest)) (one_here spec good c cell.draft cell.end_line fits.0 h.0)
+    ∙ ap (λ r. r >>= λ rest. Ok (c ∷ rest)) (all_here spec good cs cells fits.1 h.1)
+
+pub past : (a b : ℕ) → b ≤ a → nat_lt a b ≡ false
+past a b h = grind (arith, nat_tests)
+
+across_again : (n : ℕ) (spec : FieldSpec) → IsSpec spec → (cs : List Content) (a : ItemRow) (out : List Bool) → AllFit spec cs → AreCellsOf spec cs a.cells → length a.cells ≡ n → (a.place + 1) * n ≤ max_values → packing spec cs ≡ Ok out → pack_across spec a ≡ Ok (written_item cs out)
+across_again n spec good cs a out fits cells total few e =
+    let within : (a.place + 1) * length a.cells ≤ max_values = subst (λ m. (a.place + 1) * m ≤ max_values) (sym total) few in
+    ap (λ b. if b then Err (at_line (first_line a.cells) (too_many_values spec.fxy)) else (contents_here spec a.cells >>= λ xs. packed_to xs a.cells (packing spec xs))) (past max_values ((a.place + 1) * length a.cells) within)
+    ∙ ap (λ r. r >>= λ xs. packed_to xs a.cells (packing spec xs)) (all_here spec good cs a.cells fits cells)
+    ∙ ap (packed_to cs a.cells) e
+
+-- the field law of compressed data
+pub packed_rewritten : (n : ℕ) (end_line : ℕ) (many : Bool) → 1 ≤ n → (i : Item (List Content)) (a : ItemRow) (bits mid : List Bool) → IsSpec i.spec → IsDumpedAcross n i a → packed_field n i.spec bits ≡ Ok (found i.content mid) → IsRewritten (packed n) (packed_filler end_line many) i a bits mid
+packed_rewritten n end_line many some i a bits mid good dumped e = by_content i.content refl
+  where
+    no_cells : (cells : List RowCell) → AreCellsOf i.spec [] cells → length cells ≡ 0
+    no_cells [] h = refl
+    no_cells (c ∷ cs) h = absurd h
+
+    by_content : (cs : List Content) → i.content ≡ cs → IsRewritten (packed n) (packed_filler end_line many) i a bits mid
+    by_content [] q = absurd (omega (arith, some, dumped.total, no_cells a.cells (subst (λ xs. AreCellsOf i.spec xs a.cells) q dumped.cells)))
+    by_content (c ∷ cs) q =
+        let p = packed_again n i.spec good c cs bits mid (e ∙ ap (λ xs. Ok (found xs mid)) q) in
+        record {
+          out = p.2.out;
+          fills = across_again n i.spec good (c ∷ cs) a p.2.out p.2.fits (subst (λ xs. AreCellsOf i.spec xs a.cells) q dumped.cells) dumped.total dumped.few p.2.is ∙ ap (λ xs. Ok (written_item xs p.2.out)) (sym q);
+          again = λ more. p.2.again more ∙ ap (λ xs. Ok (found xs more)) (sym q);
+          short = omega (arith, p.1, p.2.short);
+        }
+
+-- Items that fit their fields are written subset after subset so that they are read again. Those of
+-- compressed data are such items.
+
+-- ---- one subset
+
+-- each item is what comes next after those before it, and fits
+abbrev pub Follows : Course → List (Item Content) → Type 0
+Follows course [] = (course []).next ≡ at_end
+Follows course (i ∷ items) = ((course []).next ≡ take_next i.spec) × IsSpec i.spec × Fits i.spec i.content × Follows (after plain course i) items
+
+pub record IsPlainSubset (end_line : ℕ) (course : Course) (items : List (Item Content)) (ds : List Draft) : Type 0 where
+  pub out : List Bool
+  pub fills : fill (plain_filler end_line) course ds ≡ Ok out
+  pub again : (more : List Bool) → ReadsPass plain course items (out ++ more) more
+
+-- the bits of the first item, and those of the rest
+join : (end_line : ℕ) (course : Course) (i : Item Content) (d : Draft) (ds : List Draft) (w out : List Bool) → (course []).next ≡ take_next i.spec → content_of i.spec d ≡ Ok i.content → bits_for i.spec.width i.content ≡ w
+    → fill (plain_filler end_line) (after plain course i) ds ≡ Ok out → fill (plain_filler end_line) course (d ∷ ds) ≡ Ok (w ++ out)
+join end_line course i d ds w out next fills bits rest =
+    let filler = plain_filler end_line in
+    ap (λ n. fill_one filler n d (λ t. fill filler (λ answer_of. course (t ∷ answer_of)) ds)) next
+    ∙ ap (λ r. filled filler i.spec (plainly d.line i.spec r) (λ t. fill filler (λ answer_of. course (t ∷ answer_of)) ds)) fills
+    ∙ ap (λ b. with_bits_before filler b (fill filler (after plain course i) ds)) bits
+    ∙ ap (with_bits_before filler w) rest
+
+pub plain_subset : (end_line : ℕ) (course : Course) (items : List (Item Content)) (ds : List Draft) → Follows course items → AreDrafts IsDumped items ds → IsPlainSubset end_line course items ds
+plain_subset end_line course [] [] h dumped = record {
+  out = [];
+  fills = ap (fill_none (plain_filler end_line)) h;
+  again = λ more. (refl, h);
+}
+plain_subset end_line course [] (d ∷ ds) h dumped = absurd dumped
+plain_subset end_line course (i ∷ items) [] h dumped = absurd dumped
+plain_subset end_line course (i ∷ items) (d ∷ ds) h dumped =
+    let here = bits_for i.spec.width i.content in
+    let rest = plain_subset end_line (after plain course i) items ds h.3 dumped.1 in
+    let fills : content_of i.spec d ≡ Ok i.content = ap (content_of i.spec) (same_draft i.spec i.content d dumped.0) ∙ draft_again i.spec h.1 d.line i.content h.2 in
+    record {
+      out = here ++ rest.out;
+      fills = join end_line course i d ds here rest.out h.0 fills refl rest.fills;
+      again = λ more. let r = rest.again more in (
+        (
+          rest.out ++ more,
+          h.0,
+          subst (λ bits. plain_field i.spec bits ≡ Ok (found i.content (rest.out ++ more))) (sym (append_assoc here rest.out more)) (plain_again i.spec h.1 i.content h.2 (rest.out ++ more)),
+          r.0,
+        ),
+        r.1,
+      );
+    }
+
+-- ---- all subsets
+
+abbrev pub AllFollow : Course → List (List (Item Content)) → Type 0
+AllFollow course [] = Unit {0}
+AllFollow course (items ∷ subsets) = Follows course items × AllFollow course subsets
+
+record ArePlain (course : Course) (subsets : List (List (Item Content))) (drafts : List Subset) : Type 0 where
+  out : List Bool
+  is : plain_data course drafts ≡ Ok out
+  again : (more : List Bool) → ReadsSubsets course subsets (out ++ more) more
+
+plain_subsets : (course : Course) (subsets : List (List (Item Content))) (drafts : List Subset) → AllFollow course subsets → AreDumped subsets drafts → ArePlain course subsets drafts
+plain_subsets course [] [] h dumped = record { out = []; is = refl; again = λ more. refl }
+plain_subsets course [] (s ∷ ss) h dumped = absurd dumped
+plain_subsets course (items ∷ subsets) [] h dumped = absurd dumped
+plain_subsets course (items ∷ subsets) (s ∷ ss) h dumped =
+    let first = plain_subset s.end_line course items s.items h.0 dumped.0 in
+    let rest = plain_subsets course subsets ss h.1 dumped.1 in
+    record {
+      out = first.out ++ rest.out;
+      is = ap (λ r. r >>= λ x. plain_data course ss >>= λ y. Ok (x ++ y)) first.fills ∙ ap (λ r. r >>= λ y. Ok (first.out ++ y)) rest.is;
+      again = λ more. (
+        rest.out ++ more,
+        subst (λ bits. ReadsPass plain course items bits (rest.out ++ more)) (sym (append_assoc first.out rest.out more)) (first.again (rest.out ++ more)),
+        rest.again more,
+      );
+    }
+
+-- ---- the items of compressed data
+
+-- contents that are packed return the same to the walk
+same_at : (c : Content) (cs : List Content) (j : ℕ) → are_same c cs ≡ true → j < length cs → content_at j cs ≡ c
+same_at c [] j e h = absurd (omega (arith, h))
+same_at c (d ∷ cs) zero e h = sym (content_same c d (and_first (same c d) (are_same c cs) e))
+same_at c (d ∷ cs) (suc j) e h = same_at c cs j (and_second (same c d) (are_same c cs) e) (omega (arith, h))
+
+abbrev packed_or : Bool → Role → FieldSpec → Content → List Content → Result (List Bool) FieldFault
+packed_or b r spec c cs = if b then Ok (packed_bits (bits_for spec.width c) 0 []) else packed_unlike r spec (c ∷ cs)
+
+alike : (b : Bool) (r : Role) (spec : FieldSpec) (c : Content) (cs : List Content) (out : List Bool) (j : ℕ) → are_same c cs ≡ b → packed_or b r spec c cs ≡ Ok out → j < length cs → answer_by_role r (content_at j cs) ≡ answer_by_role r c
+alike b role.Element spec c cs out j q e h = refl
+alike b role.Inserted spec c cs out j q e h = refl
+alike true role.Factor spec c cs out j q e h = ap (answer_by_role role.Factor) (same_at c cs j q h)
+alike true role.Reference spec c cs out j q e h = ap (answer_by_role role.Reference) (same_at c cs j q h)
+alike false role.Factor spec c cs out j q e h = absurd cc
+alike false role.Reference spec c cs out j q e h = absurd cc
+
+pub packed_alike : (spec : FieldSpec) (c : Content) (cs : List Content) (out : List Bool) (j : ℕ) → packing spec (c ∷ cs) ≡ Ok out → j < length (c ∷ cs) → answer_of spec (content_at j (c ∷ cs)) ≡ answer_of spec c
+packed_alike spec c cs out zero e h = refl
+packed_alike spec c cs out (suc j) e h = alike (are_same c cs) spec.role spec c cs out j refl e (omega (arith, h))
+
+fit_at : (spec : FieldSpec) (cs : List Content) (j : ℕ) → AllFit spec cs → j < length cs → Fits spec (content_at j cs)
+fit_at spec [] j f h = absurd (omega (arith, h))
+fit_at spec (c ∷ cs) zero f h = f.0
+fit_at spec (c ∷ cs) (suc j) f h = fit_at spec cs j f.1 (omega (arith, h))
+
+-- what holds of the content of one subset of an item that was read
+record IsOneOf (spec : FieldSpec) (cs : List Content) (j : ℕ) : Type 0 where
+  fits : Fits spec (content_at j cs)
+  gives : answer_of spec (content_at j cs) ≡ answer_first spec cs
+
+one_of : (n : ℕ) (spec : FieldSpec) (cs : List Content) (j : ℕ) (bits mid : List Bool) → IsSpec spec → j < n → packed_field n spec bits ≡ Ok (found cs mid) → IsOneOf spec cs j
+one_of n spec [] j bits mid good h e = absurd (omega (arith, h, packed_count n spec good [] bits mid e))
+one_of n spec (c ∷ cs) j bits mid good h e =
+    let p = packed_again n spec good c cs bits mid e in
+    let within : j < length (c ∷ cs) = omega (arith, h, packed_count n spec good (c ∷ cs) bits mid e) in
+    record { fits = fit_at spec (c ∷ cs) j p.2.fits within; gives = packed_alike spec c cs p.2.out j p.2.is within }
+
+-- the items of one subset follow one another
+follows_packed : (n j : ℕ) (course : Course) (items : List (Item (List Content))) (bits suffix : List Bool) → j < n → AllSpecs items → ReadsPass (packed n) course items bits suffix → Follows course (items_of_subset j items)
+follows_packed n j course [] bits suffix h specs r = r.1
+follows_packed n j course (i ∷ items) bits suffix h specs r =
+    let one = one_of n i.spec i.content j bits r.0.0 specs.0 h r.0.2 in
+    let rest = follows_packed n j (after (packed n) course i) items r.0.0 suffix h specs.1 (r.0.3, r.1) in
+    (r.0.1, specs.0, one.fits, subst (λ (t : Taken). Follows (λ answer_of. course (t ∷ answer_of)) (items_of_subset j items)) (sym one.gives) rest)
+
+all_follow : (n j left : ℕ) (course : Course) (items : List (Item (List Content))) (bits suffix : List Bool) → j + left ≤ n → AllSpecs items → ReadsPass (packed n) course items bits suffix → AllFollow course (subsets_from left j items)
+all_follow n j zero course items bits suffix h specs r = tt
+all_follow n j (suc left) course items bits suffix h specs r =
+    (follows_packed n j course items bits suffix (omega (arith, h)) specs r, all_follow n (suc j) left course items bits suffix (omega (arith, h)) specs r)
+
+dumped_from : (j n : ℕ) (items : List (Item (List Content))) (ss : List Subset) → length ss ≡ n → AreDumpedFrom j items ss → AreDumped (subsets_from n j items) ss
+dumped_from j zero items [] e h = tt
+dumped_from j (suc n) items [] e h = absurd (omega (arith, e))
+dumped_from j zero items (s ∷ ss) e h = absurd (omega (arith, e))
+dumped_from j (suc n) items (s ∷ ss) e h = (h.0, dumped_from (suc j) n items ss (omega (arith, e)) h.1)
+
+length-subsets_from : (n j : ℕ) (items : List (Item (List Content))) → length (subsets_from n j items) ≡ n
+length-subsets_from zero j items = refl
+length-subsets_from (suc n) j items = ap suc (length-subsets_from n (suc j) items)
+
+pub follow_reading : (n : ℕ) (course : Course) (items : List (Item (List Content))) (bits suffix : List Bool) → AllSpecs items → IsPackedReading n course items bits suffix → AllFollow course (subsets_from n 0 items)
+follow_reading zero course items bits suffix specs r = tt
+follow_reading (suc n) course items bits suffix specs r = all_follow (suc n) 0 (suc n) course items bits suffix (omega arith) specs r.0
+
+-- compressed data are written subset after subset
+pub apart : (n : ℕ) (course : Course) (items : List (Item (List Content))) (drafts : List Subset) (bits suffix : List Bool) → length drafts ≡ n → AllSpecs items → AreDumpedFrom 0 items drafts → IsPackedReading n course items bits suffix → IsWrittenApart n course items drafts
+apart n course items drafts bits suffix count specs dumped r =
+    let w = plain_subsets course (subsets_from n 0 items) drafts (follow_reading n course items bits suffix specs r) (dumped_from 0 n items drafts count dumped) in
+    record { out = w.out; is = w.is; again = λ more. (w.again more, length-subsets_from n 0 items) }
+
+-- ---- Items that were read subset after subset are written together so that they are read again.
+-- Otherwise their factors differ, or no increments can write their contents.
+
+-- ---- what is left of each subset
+
+abbrev first_content : List (Item Content) → Content
+first_content [] = missing
+first_content (i ∷ items) = i.content
+
+abbrev firsts : List (List (Item Content)) → List Content
+firsts [] = []
+firsts (r ∷ rs) = first_content r ∷ firsts rs
+
+abbrev tail : List (Item Content) → List (Item Content)
+tail [] = []
+tail (i ∷ items) = items
+
+abbrev tails : List (List (Item Content)) → List (List (Item Content))
+tails [] = []
+tails (r ∷ rs) = tail r ∷ tails rs
+
+-- how many items are left
+abbrev total : List (List (Item Content)) → ℕ
+total [] = 0
+total (r ∷ rs) = length r + total rs
+
+abbrev longest_left : List (List (Item Content)) → ℕ
+longest_left [] = 0
+longest_left (r ∷ rs) = max (length r) (longest_left rs)
+
+-- the drafts from an index on are those of what is left
+abbrev DumpedAt : ℕ → List (List (Item Content)) → List Subset → Type 0
+DumpedAt p [] [] = Unit {0}
+DumpedAt p [] (s ∷ ss) = ⊥
+DumpedAt p (r ∷ rs) [] = ⊥
+DumpedAt p (r ∷ rs) (s ∷ ss) = AreDrafts IsDumped r (drop p s.items) × DumpedAt p rs ss
+
+-- the next item of a subset is of this field, and fits it
+abbrev IsHeaded : FieldSpec → List (Item Content) → Type 0
+IsHeaded spec [] = ⊥
+IsHeaded spec (i ∷ items) = (i.spec ≡ spec) × Fits spec i.content
+
+abbrev AreHeaded : FieldSpec → List (List (Item Content)) → Type 0
+AreHeaded spec [] = Unit {0}
+AreHeaded spec (r ∷ rs) = IsHeaded spec r × AreHeaded spec rs
+
+one_headed : (course : Course) (spec : FieldSpec) (r : List (Item Content)) → (course []).next ≡ take_next spec → Follows course r → IsHeaded spec r
+one_headed course spec [] e h = let x : take_next spec ≡ at_end = sym e ∙ h in absurd cc
+one_headed course spec (i ∷ items) e h = let same = asked_same i.spec spec (sym h.0 ∙ e) in (same, subst (λ s. Fits s i.content) same h.2)
+  where
+    asked_same : (a b : FieldSpec) → take_next a ≡ take_next b → a ≡ b
+    asked_same a b e = cc
+
+headed : (course : Course) (spec : FieldSpec) (rs : List (List (Item Content))) → (course []).next ≡ take_next spec → AllFollow course rs → AreHeaded spec rs
+headed course spec [] e h = tt
+headed course spec (r ∷ rs) e h = (one_headed course spec r e h.0, headed course spec rs e h.1)
+
+all_fit : (spec : FieldSpec) (rs : List (List (Item Content))) → AreHeaded spec rs → AllFit spec (firsts rs)
+all_fit spec [] h = tt
+all_fit spec ([] ∷ rs) h = absurd h.0
+all_fit spec ((i ∷ items) ∷ rs) h = (h.0.1, all_fit spec rs h.1)
+
+length-firsts : (rs : List (List (Item Content))) → length (firsts rs) ≡ length rs
+length-firsts [] = refl
+length-firsts (r ∷ rs) = ap suc (length-firsts rs)
+
+length-tails : (rs : List (List (Item Content))) → length (tails rs) ≡ length rs
+length-tails [] = refl
+length-tails (r ∷ rs) = ap suc (length-tails rs)
+
+total_tails : (spec : FieldSpec) (rs : List (List (Item Content))) → AreHeaded spec rs → total rs ≡ length rs + total (tails rs)
+total_tails spec [] h = refl
+total_tails spec ([] ∷ rs) h = absurd h.0
+total_tails spec ((i ∷ items) ∷ rs) h = omega (arith, total_tails spec rs h.1)
+
+longest_tails : (spec : FieldSpec) (r : List (Item Content)) (rs : List (List (Item Content))) → AreHeaded spec (r ∷ rs) → longest_left (r ∷ rs) ≡ suc (longest_left (tails (r ∷ rs)))
+longest_tails spec [] rs h = absurd h.0
+longest_tails spec (i ∷ items) [] h = omega arith
+longest_tails spec (i ∷ items) (q ∷ rs) h = omega (arith, longest_tails spec q rs h.1)
+
+-- ---- the cells at an index
+
+cell_there : (p : ℕ) (ds : List Draft) (i : Item Content) (items : List (Item Content)) → AreDrafts IsDumped (i ∷ items) (drop p ds) → IsCellOf i.spec i.content (slice_get ds p)
+cell_there zero [] i items h = absurd h
+cell_there zero (d ∷ ds) i items h = h.0
+cell_there (suc p) [] i items h = absurd h
+cell_there (suc p) (d ∷ ds) i items h = cell_there p ds i items h
+
+draft_next : (p : ℕ) (ds : List Draft) (i : Item Content) (items : List (Item Content)) → AreDrafts IsDumped (i ∷ items) (drop p ds) → AreDrafts IsDumped items (drop (suc p) ds)
+draft_next zero [] i items h = absurd h
+draft_next zero (d ∷ ds) i items h = h.1
+draft_next (suc p) [] i items h = absurd h
+draft_next (suc p) (d ∷ ds) i items h = draft_next p ds i items h
+
+cells_there : (spec : FieldSpec) (p : ℕ) (rs : List (List (Item Content))) (ss : List Subset) → AreHeaded spec rs → DumpedAt p rs ss → AreCellsOf spec (firsts rs) (cells_at p ss)
+cells_there spec p [] [] h d = tt
+cells_there spec p [] (s ∷ ss) h d = absurd d
+cells_there spec p (r ∷ rs) [] h d = absurd d
+cells_there spec p ([] ∷ rs) (s ∷ ss) h d = absurd h.0
+cells_there spec p ((i ∷ items) ∷ rs) (s ∷ ss) h d = (subst (λ a. IsCellOf a i.content (slice_get s.items p)) h.0.0 (cell_there p s.items i items d.0), cells_there spec p rs ss h.1 d.1)
+
+dumped_next : (spec : FieldSpec) (p : ℕ) (rs : List (List (Item Content))) (ss : List Subset) → AreHeaded spec rs → DumpedAt p rs ss → DumpedAt (suc p) (tails rs) ss
+dumped_next spec p [] [] h d = tt
+dumped_next spec p [] (s ∷ ss) h d = absurd d
+dumped_next spec p (r ∷ rs) [] h d = absurd d
+dumped_next spec p ([] ∷ rs) (s ∷ ss) h d = absurd h.0
+dumped_next spec p ((i ∷ items) ∷ rs) (s ∷ ss) h d = (draft_next p s.items i items d.0, dumped_next spec p rs ss h.1 d.1)
+
+length-dumped : (p : ℕ) (rs : List (List (Item Content))) (ss : List Subset) → DumpedAt p rs ss → length (cells_at p ss) ≡ length rs
+length-dumped p [] [] d = refl
+length-dumped p [] (s ∷ ss) d = absurd d
+length-dumped p (r ∷ rs) [] d = absurd d
+length-dumped p (r ∷ rs) (s ∷ ss) d = ap suc (length-dumped p rs ss d.1)
+
+-- the item of all subsets is packed, or its contents cannot be
+across_gives : (spec : FieldSpec) → IsSpec spec → (p : ℕ) (rs : List (List (Item Content))) (ss : List Subset) → AreHeaded spec rs → DumpedAt p rs ss → (p + 1) * length rs ≤ max_values
+    → pack_across spec (item_row p ss) ≡ packed_to (firsts rs) (cells_at p ss) (packing spec (firsts rs))
+across_gives spec good p rs ss h d few =
+    let cells = cells_at p ss in
+    let within : (p + 1) * length cells ≤ max_values = subst (λ n. (p + 1) * n ≤ max_values) (sym (length-dumped p rs ss d)) few in
+    ap (λ b. if b then Err (at_line (first_line cells) (too_many_values spec.fxy)) else (contents_here spec cells >>= λ xs. packed_to xs cells (packing spec xs))) (past max_values ((p + 1) * length cells) within)
+    ∙ ap (λ r. r >>= λ xs. packed_to xs cells (packing spec xs)) (all_here spec good (firsts rs) cells (all_fit spec rs h) (cells_there spec p rs ss h d))
+
+-- ---- the course continues the same for all
+
+abbrev AllAnswer : FieldSpec → Taken → List Content → Type 0
+AllAnswer spec t [] = Unit {0}
+AllAnswer spec t (c ∷ cs) = (answer_of spec c ≡ t) × AllAnswer spec t cs
+
+all_answer : (spec : FieldSpec) (t : Taken) (cs : List Content) → ((j : ℕ) → j < length cs → answer_of spec (content_at j cs) ≡ t) → AllAnswer spec t cs
+all_answer spec t [] h = tt
+all_answer spec t (c ∷ cs) h = (h 0 (omega arith), all_answer spec t cs (λ j l. h (suc j) (omega (arith, l))))
+
+follow_next : (course : Course) (spec : FieldSpec) (t : Taken) (rs : List (List (Item Content))) → AreHeaded spec rs → AllAnswer spec t (firsts rs) → AllFollow course rs → AllFollow (λ answer_of. course (t ∷ answer_of)) (tails rs)
+follow_next course spec t [] h a f = tt
+follow_next course spec t ([] ∷ rs) h a f = absurd h.0
+follow_next course spec t ((i ∷ items) ∷ rs) h a f =
+    let same : answer_of i.spec i.content ≡ t = ap (λ s. answer_of s i.content) h.0.0 ∙ a.0 in
+    (subst (λ (t : Taken). Follows (λ answer_of. course (t ∷ answer_of)) items) same f.0.3, follow_next course spec t rs h.1 a.1 f.1)
+
+-- ---- the items of all subsets are those of each
+
+abbrev AreParts : ℕ → List (Item (List Content)) → List (List (Item Content)) → Type 0
+AreParts j items [] = Unit {0}
+AreParts j items (r ∷ rs) = (items_of_subset j items ≡ r) × AreParts (suc j) items rs
+
+parts_subsets : (j : ℕ) (items : List (Item (List Content))) (rs : List (List (Item Content))) → AreParts j items rs → subsets_from (length rs) j items ≡ rs
+parts_subsets j items [] h = refl
+parts_subsets j items (r ∷ rs) h = ap (λ x. x ∷ subsets_from (length rs) (suc j) items) h.0 ∙ ap (λ xs. r ∷ xs) (parts_subsets (suc j) items rs h.1)
+
+at_drop : (j : ℕ) (cs : List Content) (c : Content) (rest : List Content) → drop j cs ≡ c ∷ rest → (content_at j cs ≡ c) × (drop (suc j) cs ≡ rest)
+at_drop zero [] c rest e = absurd cc
+at_drop zero (x ∷ cs) c rest e = (cc, cc)
+at_drop (suc j) [] c rest e = absurd cc
+at_drop (suc j) (x ∷ cs) c rest e = at_drop j cs c rest e
+
+no_parts : (course : Course) (j : ℕ) (rs : List (List (Item Content))) → (course []).next ≡ at_end → AllFollow course rs → AreParts j [] rs × (longest_left rs ≡ 0)
+no_parts course j [] e f = (tt, refl)
+no_parts course j ([] ∷ rs) e f = let rest = no_parts course (suc j) rs e f.1 in ((refl, rest.0), omega (arith, rest.1))
+no_parts course j ((i ∷ items) ∷ rs) e f = let x : take_next i.spec ≡ at_end = sym f.0.0 ∙ e in absurd cc
+
+more_parts : (j : ℕ) (spec : FieldSpec) (cs : List Content) (items : List (Item (List Content))) (rs : List (List (Item Content))) → drop j cs ≡ firsts rs → AreHeaded spec rs → AreParts j items (tails rs) → AreParts j (record { spec = spec; content = cs } ∷ items) rs
+more_parts j spec cs items [] e h a = tt
+more_parts j spec cs items ([] ∷ rs) e h a = absurd h.0
+more_parts j spec cs items ((i ∷ r) ∷ rs) e h a =
+    let at = at_drop j cs i.content (firsts rs) e in
+    let same : items_of_subset j (record { spec = spec; content = cs } ∷ items) ≡ i ∷ r = λ k. record { spec = sym h.0.0 k; content = at.0 k } ∷ a.0 k in
+    (same, more_parts (suc j) spec cs items rs at.1 h.1 a.1)
+
+-- ---- row after row
+
+record IsTogether (n : ℕ) (course : Course) (rests : List (List (Item Content))) (drafts : List ItemRow) (end_line : ℕ) (many : Bool) : Type 0 where
+  items : List (Item (List Content))
+  parts : AreParts 0 items rests
+  out : List Bool
+  fills : fill (packed_filler end_line many) course drafts ≡ Ok out
+  again : (more : List Bool) → ReadsPass (packed n) course items (out ++ more) more
+  few : length items * n ≤ total rests
+
+record IsNot (course : Course) (drafts : List ItemRow) (end_line : ℕ) (many : Bool) : Type 0 where
+  why : FaultAt
+  is : fill (packed_filler end_line many) course drafts ≡ Err why
+  unlike : IsUnlike why.fault
+
+abbrev Either : (n : ℕ) → Course → List (List (Item Content)) → List ItemRow → (end_line : ℕ) → (many : Bool) → Type 0
+Either n course rests drafts end_line many = IsTogether n course rests drafts end_line many ⊎ IsNot course drafts end_line many
+
+module _ (end_line : ℕ) (many : Bool) where
+  fill_first : (course : Course) (spec : FieldSpec) (a : ItemRow) (more : List ItemRow) (r : Result (List Bool) FieldFault) (cs : List Content) → (course []).next ≡ take_next spec → pack_across spec a ≡ packed_to cs a.cells r
+      → fill (packed_filler end_line many) course (a ∷ more) ≡ filled (packed_filler end_line many) spec (packed_to cs a.cells r) (λ t. fill (packed_filler end_line many) (λ answer_of. course (t ∷ answer_of)) more)
+  fill_first course spec a more r cs next gives =
+      let filler = packed_filler end_line many in
+      ap (λ n. fill_one filler n a (λ t. fill filler (λ answer_of. course (t ∷ answer_of)) more)) next
+      ∙ ap (λ x. filled filler spec x (λ t. fill filler (λ answer_of. course (t ∷ answer_of)) more)) gives
+
+  fault_unlike : (cs : List Content) (cells : List RowCell) (why : FieldFault) → IsUnlike (packing_fault cs cells why).fault
+  fault_unlike cs cells data_end = tt
+  fault_unlike cs cells increment = tt
+  fault_unlike cs cells unequal_factor = tt
+
+  -- the first row, and those after it
+  onto : (n : ℕ) (course : Course) (spec : FieldSpec) (c : Content) (cs : List Content) (rs : List (List (Item Content))) (a : ItemRow) (more : List ItemRow) → IsSpec spec → (course []).next ≡ take_next spec → AreHeaded spec rs → firsts rs ≡ c ∷ cs → length rs ≡ n
+      → (r : Result (List Bool) FieldFault) → packing spec (c ∷ cs) ≡ r → pack_across spec a ≡ packed_to (c ∷ cs) a.cells r
+      → ((out : List Bool) → packing spec (c ∷ cs) ≡ Ok out → Either n (λ answer_so. course (answer_of spec c ∷ answer_so)) (tails rs) more end_line many)
+      → Either n course rs (a ∷ more) end_line many
+  onto n course spec c cs rs a more good next h f count (Err why) p gives rest =
+      inr (record { why = packing_fault (c ∷ cs) a.cells why; is = fill_first course spec a more (Err why) (c ∷ cs) next gives; unlike = fault_unlike (c ∷ cs) a.cells why })
+  onto n course spec c cs rs a more good next h f count (Ok w) p gives rest = by (rest w p)
+    where
+      by : Either n (λ answer_so. course (answer_of spec c ∷ answer_so)) (tails rs) more end_line many → Either n course rs (a ∷ more) end_line many
+      by (inr x) = inr (record {
+        why = x.why;
+        is = fill_first course spec a more (Ok w) (c ∷ cs) next gives ∙ ap (with_bits_before (packed_filler end_line many) w) x.is;
+        unlike = x.unlike;
+      })
+      by (inl x) =
+          let long : length (c ∷ cs) ≡ n = ap length (sym f) ∙ length-firsts rs ∙ count in
+          let fits : AllFit spec (c ∷ cs) = subst (AllFit spec) f (all_fit spec rs h) in
+          inl (record {
+            items = record { spec = spec; content = c ∷ cs } ∷ x.items;
+            parts = more_parts 0 spec (c ∷ cs) x.items rs (sym f) h x.parts;
+            out = w ++ x.out;
+            fills = fill_first course spec a more (Ok w) (c ∷ cs) next gives ∙ ap (with_bits_before (packed_filler end_line many) w) x.fills;
+            again = λ bits. let r = x.again bits in (
+              (
+                x.out ++ bits,
+                next,
+                ap (packed_field n spec) (append_assoc w x.out bits) ∙ fitting_again n spec good c cs w (x.out ++ bits) fits long p,
+                r.0,
+              ),
+              r.1,
+            );
+            few = let e : suc (length x.items) * n ≡ n + length x.items * n = grind arith in omega (arith, x.few, e, count, total_tails spec rs h);
+          })
+
+  -- all rows from an index on
+  from_place : (course : Course) (r : List (Item Content)) (rs : List (List (Item Content))) (ss : List Subset) (p : ℕ) → AllFollow course (r ∷ rs) → DumpedAt p (r ∷ rs) ss → p * suc (length rs) + total (r ∷ rs) ≤ max_values
+      → Either (suc (length rs)) course (r ∷ rs) (rows (longest_left (r ∷ rs)) p ss) end_line many
+  from_place course [] rs ss p f d few =
+      let none = no_parts course 0 ([] ∷ rs) f.0 f in
+      inl (subst (λ k. IsTogether (suc (length rs)) course ([] ∷ rs) (rows k p ss) end_line many) (sym none.1) (record {
+        items = [];
+        parts = none.0;
+        out = [];
+        fills = ap (fill_none (packed_filler end_line many)) f.0;
+        again = λ more. (refl, f.0);
+        few = omega arith;
+      }))
+  from_place course (i ∷ items) rs ss p f d few =
+      let n = suc (length rs) in
+      let all = (i ∷ items) ∷ rs in
+      let spec = i.spec in
+      let h = headed course spec all f.0.0 f in
+      let cs = firsts rs in
+      let left = longest_left (tails all) in
+      let more = rows left (p + 1) ss in
+      let one : p * n + n ≡ (p + 1) * n = grind arith in
+      let tot : total all ≡ n + total (tails all) = total_tails spec all h in
+      let within : (p + 1) * n ≤ max_values = omega (arith, few, one, tot) in
+      let gives = across_gives spec f.0.1 p all ss h d within in
+      let forth : suc p ≡ p + 1 = omega arith in
+      subst (λ k. Either n course all (rows k p ss) end_line many) (sym (longest_tails spec (i ∷ items) rs h))
+      (onto n course spec i.content cs all (item_row p ss) more f.0.1 f.0.0 h refl refl (packing spec (i.content ∷ cs)) refl gives (λ w q.
+      let gives = all_answer spec (answer_of spec i.content) cs (λ j l. packed_alike spec i.content cs w (suc j) q (omega (arith, l))) in
+      let d' = subst (λ k. DumpedAt k (tails all) ss) forth (dumped_next spec p all ss h d) in
+      let f' = follow_next course spec (answer_of spec i.content) all h (refl, gives) f in
+      let same : length (tails rs) ≡ length rs = length-tails rs in
+      subst (λ k. Either (suc k) (λ answer_so. course (answer_of spec i.content ∷ answer_so)) (tails all) more end_line many) same
+      (from_place (λ answer_so. course (answer_of spec i.content ∷ answer_so)) items (tails rs) ss (p + 1) f' d' (
+      let e : (p + 1) * suc (length (tails rs)) ≡ (p + 1) * n = ap (λ k. (p + 1) * suc k) same in omega (arith, few, one, tot, e)))))
+
+-- ---- from a reading
+
+follows_plain : (course : Course) (items : List (Item Content)) (bits suffix : List Bool) → AllSpecs items → ReadsPass plain course items bits suffix → Follows course items × (length items + length suffix ≤ length bits)
+follows_plain course [] bits suffix specs r = (r.1, omega (arith, ap length r.0))
+follows_plain course (i ∷ items) bits suffix specs r =
+    let rest = follows_plain (after plain course i) items r.0.0 suffix specs.1 (r.0.3, r.1) in
+    let read = plain_read i.spec specs.0 bits r.0.0 i.content r.0.2 in
+    ((r.0.1, specs.0, read.0, rest.0), omega (arith, rest.1, read.1, width_least i.spec.kind i.spec.width (specs.0).width))
+
+pub all_plain : (course : Course) (subsets : List (List (Item Content))) (bits suffix : List Bool) → EachSpecs subsets → ReadsSubsets course subsets bits suffix → AllFollow course subsets × (total subsets + length suffix ≤ length bits)
+all_plain course [] bits suffix specs r = (tt, omega (arith, ap length r))
+all_plain course (items ∷ subsets) bits suffix specs r =
+    let first = follows_plain course items bits r.0 specs.0 r.1 in
+    let rest = all_plain course subsets r.0 suffix specs.1 r.2 in
+    ((first.0, rest.0), omega (arith, first.1, rest.1))
+
+lengths : (items : List (Item Content)) (ds : List Draft) → AreDrafts IsDumped items ds → length ds ≡ length items
+lengths [] [] h = refl
+lengths [] (d ∷ ds) h = absurd h
+lengths (i ∷ items) [] h = absurd h
+lengths (i ∷ items) (d ∷ ds) h = ap suc (lengths items ds h.1)
+
+dumped_at : (subsets : List (List (Item Content))) (ss : List Subset) → AreDumped subsets ss → DumpedAt 0 subsets ss × (longest ss ≡ longest_left subsets)
+dumped_at [] [] h = (tt, refl)
+dumped_at [] (s ∷ ss) h = absurd h
+dumped_at (items ∷ subsets) [] h = absurd h
+dumped_at (items ∷ subsets) (s ∷ ss) h =
+    let rest = dumped_at subsets ss h.1 in
+    ((h.0, rest.0), omega (arith, rest.1, lengths items s.items h.0))
+
+-- data that were read subset after subset are written together, where their contents can be
+pub together : (course : Course) (subsets : List (List (Item Content))) (drafts : List Subset) (bits suffix : List Bool) → length bits ≤ max_values → EachSpecs subsets → AreDumped subsets drafts → ReadsSubsets course subsets bits suffix → IsTogetherOrNot course subsets drafts
+together course [] [] bits suffix few specs dumped r = inl (record { items = []; same = refl; out = []; is = refl; again = λ more. (refl, refl) })
+together course [] (s ∷ ss) bits suffix few specs dumped r = absurd dumped
+together course (items ∷ subsets) [] bits suffix few specs dumped r = absurd dumped
+together course (items ∷ subsets) (s ∷ ss) bits suffix few specs dumped r = by (from_place s.end_line many course items subsets (s ∷ ss) 0 all.0 at.0 (omega (arith, all.1, few)))
+  where
+    many : Bool
+    many = are_many (longest (s ∷ ss)) (length (s ∷ ss))
+
+    all : AllFollow course (items ∷ subsets) × (total (items ∷ subsets) + length suffix ≤ length bits)
+    all = all_plain course (items ∷ subsets) bits suffix specs r
+
+    at : DumpedAt 0 (items ∷ subsets) (s ∷ ss) × (longest (s ∷ ss) ≡ longest_left (items ∷ subsets))
+    at = dumped_at (items ∷ subsets) (s ∷ ss) dumped
+
+    data_are : packed_data course (s ∷ ss) ≡ fill (packed_filler s.end_line many) course (rows (longest_left (items ∷ subsets)) 0 (s ∷ ss))
+    data_are = ap (λ k. fill (packed_filler s.end_line many) course (rows k 0 (s ∷ ss))) at.1
+
+    by : Either (suc (length subsets)) course (items ∷ subsets) (rows (longest_left (items ∷ subsets)) 0 (s ∷ ss)) s.end_line many → IsTogetherOrNot course (items ∷ subsets) (s ∷ ss)
+    by (inr x) = inr (record { why = x.why; is = data_are ∙ x.is; unlike = x.unlike })
+    by (inl x) = inl (record {
+      items = x.items;
+      same = parts_subsets 0 x.items (items ∷ subsets) x.parts;
+      out = x.out;
+      is = data_are ∙ x.fills;
+      again = λ more. (x.again more, omega (arith, x.few, all.1, few));
+    })

@@ -1,0 +1,474 @@
+-- One item of all subsets, as the code reads and packs it.
+use Rattle.std.proofs.Common.{◌≡◌, ℕ, zero, suc, ◌+◌, ◌-◌, ◌*◌, ◌/◌, ◌%◌, ◌<◌, ◌≤◌, ◌&&◌, max, Bool, true, false, List, [], ◌∷◌, ◌++◌, length, take, drop, get_or, replicate, refl, sym, ◌∙◌, ap, arith, add-one, append_assoc, ℤ, Option, Some, None, Result, Ok, Err, ◌⊎◌, inl, inr}
+use Rattle.std.specs.Prelude.{nat_lt, if◌then◌else◌, slice_get, option_map, ◌==◌}
+use Rattle.std.specs.List.{flat_map}
+use Rattle.std.proofs.Math.Nat.{mul-le-mul_right}
+use Rattle.std.proofs.Math.Seq.{drop-cons}
+use Rattle.std.proofs.lemmas.Bool.Decides.{nat_tests}
+use Rattle.std.proofs.lemmas.List.{append-nil, take-replicate, length-append}
+use Rattle.bufr_bits.specs.Bits.{bits_of}
+use Rattle.bufr_fill.specs.declared.field_value.FieldContent.{FieldContent}
+use Rattle.bufr_walk.specs.FieldSpec.{FieldSpec}
+use Rattle.bufr_walk.specs.Content.{Content, reference, answer_of, bits_for, increment, unequal_factor}
+use Rattle.bufr_fill.specs.DraftContent.{content_drawn, IsDrawn, spaced}
+use Rattle.bufr_fill.specs.PackedOut.{AllDrawn, contents_drawn, need_of, most_need, FitsIncrement, AreShort, least_from, entry_or_end, cell_entry, entry_here, entry_line, with_contents_before, IsGathering, unlike_from, and_end, all_at_end, IsPutWithin, trimmed, octet_in}
+use Rattle.bufr_fill.specs.Packing.{same, are_same, raw_limit, first_from, packing, packed_bits, packed_by, packed_unlike, same_octets}
+use Rattle.bufr_fill.proofs.LeastLemmas.{content_same, content_self}
+use Rattle.bufr_fill.specs.Draft.{Draft, DraftEntry, Holds, Ends, Subset}
+use Rattle.bufr_fill.specs.Faults.{FaultAt, at_line, item_too_many, unequal_factors, uneven_increment, too_many_values}
+use Rattle.bufr_fill.specs.Encoding.{RowCell, content_here, contents_here, first_unlike, unlike_line, cell_line, line_in, first_line, ◌>>=◌, item_row, cells_at, packed_to, pack_across}
+use Rattle.bufr_fill.specs.PlainOut.{IfDraftFault}
+use Rattle.bufr_fill.specs.Kept.{is_end}
+use Rattle.bufr_walk.specs.declared.spec.Role.{Role}
+use Rattle.bufr_walk.specs.declared.spec.Taken.{Taken}
+use Rattle.bufr_walk.specs.PackedField.{answer_first}
+use Rattle.bufr_walk.specs.Reading.{max_values}
+use Rattle.bufr_fill.specs.Filling.{written_item}
+use Rattle.bufr_walk.specs.declared.spec.Role.TheVariants as role
+
+-- references that are equal, and those that are not
+pub same_references : (a b : ℤ) → a ≡ b → true ≡ same (reference a) (reference b)
+same_references a b e = sym (ap (λ x. same (reference a) (reference x)) (sym e) ∙ content_self (reference a))
+
+pub other_references : (a b : ℤ) → (a ≡ b → ⊥) → false ≡ same (reference a) (reference b)
+other_references a b h = by (same (reference a) (reference b)) refl
+  where
+    same_value : (a b : ℤ) → reference a ≡ reference b → a ≡ b
+    same_value a b e = cc
+
+    by : (t : Bool) → same (reference a) (reference b) ≡ t → false ≡ same (reference a) (reference b)
+    by true e = absurd (h (same_value a b (content_same (reference a) (reference b) e)))
+    by false e = sym e
+
+-- the first of those that are left
+pub at_place : {X : Type 0} (xs : List X) (i : ℕ) (x : X) → i < length xs → x ≡ get_or xs i x → drop i xs ≡ x ∷ drop (i + 1) xs
+at_place xs i x h e = drop-cons xs i x h ∙ ap (λ y. y ∷ drop (suc i) xs) (sym e) ∙ ap (λ j. x ∷ drop j xs) (sym (add-one i))
+
+drop_all : {X : Type 0} (xs : List X) (n : ℕ) → length xs ≤ n → drop n xs ≡ []
+drop_all [] zero h = refl
+drop_all [] (suc n) h = refl
+drop_all (x ∷ xs) zero h = absurd (omega (arith, h))
+drop_all (x ∷ xs) (suc n) h = drop_all xs n (omega (arith, h))
+
+-- the octets needed so far, and by those that are left
+pub need_more : (ds : List FieldContent) (i : ℕ) (d : FieldContent) (most one : ℕ) → i < length ds → d ≡ get_or ds i d → max most (most_need (drop i ds)) ≡ most_need ds → one ≡ need_of d → max (max one most) (most_need (drop (i + 1) ds)) ≡ most_need ds
+need_more ds i d most one h e inv is = omega (arith, ap most_need (at_place ds i d h e), inv, is)
+
+pub need_done : (ds : List FieldContent) (i most : ℕ) → 1 ≤ most → length ds ≤ i → max most (most_need (drop i ds)) ≡ most_need ds → most ≡ most_need ds
+need_done ds i most some h inv = omega (arith, some, ap most_need (drop_all ds i h), inv)
+
+-- the first k that passes
+first_here : (p : ℕ → Bool) (fuel k : ℕ) → 1 ≤ fuel → p k ≡ true → first_from p fuel k ≡ k
+first_here p zero k h e = absurd (omega (arith, h))
+first_here p (suc fuel) k h e = ap (λ b. if b then k else first_from p fuel (k + 1)) e
+
+first_later : (p : ℕ → Bool) (fuel k : ℕ) → 1 ≤ fuel → p k ≡ false → first_from p fuel k ≡ first_from p (fuel - 1) (k + 1)
+first_later p zero k h e = absurd (omega (arith, h))
+first_later p (suc fuel) k h e = let q : fuel ≡ suc fuel - 1 = omega arith in ap (λ b. if b then k else first_from p fuel (k + 1)) e ∙ ap (λ f. first_from p f (k + 1)) q
+
+below_test : (a b : ℕ) → a < b → nat_lt a b ≡ true
+below_test a b h = grind (arith, nat_tests)
+
+above_test : (a b : ℕ) → b ≤ a → nat_lt a b ≡ false
+above_test a b h = grind (arith, nat_tests)
+
+pub least_here : (m : Bool) (s k : ℕ) → k < 64 → s < raw_limit m k → least_from m s k ≡ k
+unfolding least_from
+least_here m s k h e = first_here (λ k. nat_lt s (raw_limit m k)) (64 - k) k (omega (arith, h)) (below_test s (raw_limit m k) e)
+
+pub least_later : (m : Bool) (s k : ℕ) → k < 64 → raw_limit m k ≤ s → least_from m s k ≡ least_from m s (k + 1)
+unfolding least_from
+least_later m s k h e =
+    let q : 64 - k - 1 ≡ 64 - (k + 1) = omega arith in
+    first_later (λ k. nat_lt s (raw_limit m k)) (64 - k) k (omega (arith, h)) (above_test s (raw_limit m k) e) ∙ ap (λ f. first_from (λ k. nat_lt s (raw_limit m k)) f (k + 1)) q
+
+pub least_end : (m : Bool) (s k : ℕ) → 64 ≤ k → least_from m s k ≡ k
+unfolding least_from
+least_end m s k h = let q : 64 - k ≡ 0 = omega (arith, h) in ap (λ f. first_from (λ k. nat_lt s (raw_limit m k)) f k) q
+
+-- a text has at most 255 octets
+pub eighth_most : (w : ℕ) → w ≤ 2040 → w / 8 ≤ 255
+eighth_most w h = omega (arith, h)
+
+-- what holds of all holds of each
+pub drawn_at : (spec : FieldSpec) (ds : List FieldContent) (i : ℕ) (d : FieldContent) → i < length ds → AllDrawn spec ds → IsDrawn spec (get_or ds i d)
+drawn_at spec [] i d h all = absurd (omega (arith, h))
+drawn_at spec (x ∷ ds) zero d h all = all.0
+drawn_at spec (x ∷ ds) (suc i) d h all = drawn_at spec ds i d (omega (arith, h)) all.1
+
+pub short_at : (base k : ℕ) (ds : List FieldContent) (i : ℕ) (d : FieldContent) → i < length ds → AreShort base k ds → FitsIncrement base k (get_or ds i d)
+short_at base k [] i d h s = absurd (omega (arith, h))
+short_at base k (x ∷ ds) zero d h s = s.0
+short_at base k (x ∷ ds) (suc i) d h s = short_at base k ds i d (omega (arith, h)) s.1
+
+-- the content at an index, and those after it
+pub at_index : {X : Type 0} (xs : List X) (i : ℕ) (z : X) → i < length xs → drop i xs ≡ get_or xs i z ∷ drop (i + 1) xs
+at_index xs i z h = drop-cons xs i z h ∙ ap (λ j. get_or xs i z ∷ drop j xs) (sym (add-one i))
+
+pub most_some : (ds : List FieldContent) → 1 ≤ most_need ds
+most_some [] = omega arith
+most_some (d ∷ ds) = omega (arith, most_some ds)
+
+-- bits of the first contents, and of those that are left
+flat_one : (f : Content → List Bool) (old now new bits rest all : List Bool) → now ++ (bits ++ rest) ≡ old ++ all → new ≡ now ++ bits → new ++ rest ≡ old ++ all
+flat_one f old now new bits rest all inv is = ap (λ x. x ++ rest) is ∙ append_assoc now bits rest ∙ inv
+
+pub flat_more : (f : Content → List Bool) (count : ℕ) (old now new : List Bool) (ds : List FieldContent) (i : ℕ) (z : FieldContent) → i < length ds
+    → now ++ flat_map f (contents_drawn count (drop i ds)) ≡ old ++ flat_map f (contents_drawn count ds) → new ≡ now ++ f (content_drawn count (get_or ds i z))
+    → new ++ flat_map f (contents_drawn count (drop (i + 1) ds)) ≡ old ++ flat_map f (contents_drawn count ds)
+flat_more f count old now new ds i z h inv is =
+    flat_one f old now new (f (content_drawn count (get_or ds i z))) (flat_map f (contents_drawn count (drop (i + 1) ds))) (flat_map f (contents_drawn count ds))
+    (sym (ap (λ xs. now ++ flat_map f (contents_drawn count xs)) (at_index ds i z h)) ∙ inv) is
+
+pub flat_done : (f : Content → List Bool) (count : ℕ) (old now : List Bool) (ds : List FieldContent) (i : ℕ) → length ds ≤ i
+    → now ++ flat_map f (contents_drawn count (drop i ds)) ≡ old ++ flat_map f (contents_drawn count ds) → now ≡ old ++ flat_map f (contents_drawn count ds)
+flat_done f count old now ds i h inv = sym (append-nil now) ∙ ap (λ xs. now ++ flat_map f (contents_drawn count xs)) (sym (drop_all ds i h)) ∙ inv
+
+-- n numbers of k bits, of which i were put: there is room for the next, and for those after it
+pub room_here : (n i k room : ℕ) → i < n → n * k ≤ room + i * k → k ≤ room
+room_here n i k room h e = let most = mul-le-mul_right k h in omega (arith, most, e)
+
+pub room_next : (n i k room next : ℕ) → n * k ≤ room + i * k → room ≤ next + k → n * k ≤ next + (i + 1) * k
+room_next n i k room next e h = omega (arith, e, h)
+
+pub few_bits : (n k most : ℕ) → k ≤ most → n * k ≤ most * n
+few_bits n k most h = let most = mul-le-mul_right n h in omega (arith, most)
+
+-- whether those that are left are the same as one
+pub alike_more : (count : ℕ) (c : Content) (ds : List FieldContent) (i : ℕ) (d : FieldContent) (b : Bool) → i < length ds → d ≡ get_or ds i d → are_same c (contents_drawn count ds) ≡ are_same c (contents_drawn count (drop i ds)) → same c (content_drawn count d) ≡ true
+    → are_same c (contents_drawn count ds) ≡ are_same c (contents_drawn count (drop (i + 1) ds))
+alike_more count c ds i d b h e inv is = inv ∙ ap (λ xs. are_same c (contents_drawn count xs)) (at_place ds i d h e) ∙ ap (λ t. t && are_same c (contents_drawn count (drop (i + 1) ds))) is
+
+pub alike_not : (count : ℕ) (c : Content) (ds : List FieldContent) (i : ℕ) (d : FieldContent) → i < length ds → d ≡ get_or ds i d → are_same c (contents_drawn count ds) ≡ are_same c (contents_drawn count (drop i ds)) → same c (content_drawn count d) ≡ false
+    → are_same c (contents_drawn count ds) ≡ false
+alike_not count c ds i d h e inv is = inv ∙ ap (λ xs. are_same c (contents_drawn count xs)) (at_place ds i d h e) ∙ ap (λ t. t && are_same c (contents_drawn count (drop (i + 1) ds))) is
+
+pub alike_done : (count : ℕ) (c : Content) (ds : List FieldContent) (i : ℕ) → length ds ≤ i → are_same c (contents_drawn count ds) ≡ are_same c (contents_drawn count (drop i ds)) → are_same c (contents_drawn count ds) ≡ true
+alike_done count c ds i h inv = inv ∙ ap (λ xs. are_same c (contents_drawn count xs)) (drop_all ds i h)
+
+-- octets of zeros
+zeros_are : (n : ℕ) → bits_of (replicate n 0) ≡ replicate (8 * n) false
+unfolding bits_of
+zeros_are zero = refl
+zeros_are (suc n) =
+    ap (λ bs. false ∷ false ∷ false ∷ false ∷ false ∷ false ∷ false ∷ false ∷ bs) (zeros_are n)
+    ∙ (let q : suc (suc (suc (suc (suc (suc (suc (suc (8 * n)))))))) ≡ 8 * suc n = omega arith in ap (λ k. replicate k false) q)
+
+pub zero_bits : (w : ℕ) → w ≤ 2040 → w % 8 ≡ 0 → bits_of (take (w / 8) (replicate 255 0)) ≡ replicate w false
+zero_bits w most whole =
+    let none : ℕ = 0 in
+    let count : w / 8 ≤ 255 = omega (arith, most) in
+    let e : 8 * (w / 8) ≡ w = omega (arith, whole) in
+    ap bits_of (take-replicate {X = ℕ} (w / 8) 255 none count) ∙ zeros_are (w / 8) ∙ ap (λ n. replicate n false) e
+
+-- ---- Steps of the loops over a row.
+
+-- the cell at a number
+pub record CellAt (cells : List RowCell) (j : ℕ) : Type 0 where
+  pub cell : RowCell
+  pub is : slice_get cells j ≡ Some cell
+  pub left : drop j cells ≡ cell ∷ drop (j + 1) cells
+
+pub cell_at : (cells : List RowCell) (j : ℕ) → j < length cells → CellAt cells j
+cell_at [] j h = absurd (omega (arith, h))
+cell_at (c ∷ cells) zero h = record { cell = c; is = refl; left = refl }
+cell_at (c ∷ cells) (suc j) h =
+    let r = cell_at cells j (omega (arith, h)) in
+    let n : suc (j + 1) ≡ suc j + 1 = omega arith in
+    record { cell = r.cell; is = r.is; left = r.left ∙ ap (λ k. r.cell ∷ drop k (c ∷ cells)) n }
+
+-- an entry has the content of its cell
+entry_same : (spec : FieldSpec) (o : Option Draft) (line : ℕ) → entry_here spec (entry_or_end o line) ≡ content_here spec o line
+entry_same spec None line = refl
+entry_same spec (Some d) line = refl
+
+line_same : (o : Option Draft) (line : ℕ) → entry_line (entry_or_end o line) ≡ line_in o line
+line_same None line = refl
+line_same (Some d) line = refl
+
+drop_none : {X : Type 0} (xs : List X) (n : ℕ) → length xs ≤ n → drop n xs ≡ []
+drop_none [] zero h = refl
+drop_none [] (suc n) h = refl
+drop_none (x ∷ xs) zero h = absurd (omega (arith, h))
+drop_none (x ∷ xs) (suc n) h = drop_none xs n (omega (arith, h))
+
+contents_more : (count : ℕ) (ds : List FieldContent) (d : FieldContent) → contents_drawn count (ds ++ d ∷ []) ≡ contents_drawn count ds ++ content_drawn count d ∷ []
+contents_more count [] d = refl
+contents_more count (x ∷ ds) d = ap (λ cs. content_drawn count x ∷ cs) (contents_more count ds d)
+
+all_more : (spec : FieldSpec) (ds : List FieldContent) (d : FieldContent) → AllDrawn spec ds → IsDrawn spec d → AllDrawn spec (ds ++ d ∷ [])
+all_more spec [] d h g = (g, tt)
+all_more spec (x ∷ ds) d h g = (h.0, all_more spec ds d h.1 g)
+
+contents_before_more : (cs : List Content) (x : Content) (r : Result (List Content) FaultAt) → with_contents_before cs (r >>= λ rest. Ok (x ∷ rest)) ≡ with_contents_before (cs ++ x ∷ []) r
+contents_before_more cs x (Ok more) = ap Ok (sym (append_assoc cs (x ∷ []) more))
+contents_before_more cs x (Err f) = refl
+
+is_some : {r s : Result Content FaultAt} → Some r ≡ Some s → s ≡ r
+is_some h = cc
+
+module _ (count : ℕ) (spec : FieldSpec) (cells : List RowCell) (j : ℕ) (ds : List FieldContent) (e : DraftEntry) (inv : IsGathering count spec cells j ds) (within : j < length cells)
+    (here : (c : RowCell) → slice_get cells j ≡ Some c → e ≡ cell_entry c) where
+  -- the contents of the row, by the next cell
+  next_is : (k : CellAt cells j) → contents_here spec cells ≡ with_contents_before (contents_drawn count ds) (entry_here spec e >>= λ first. contents_here spec (drop (j + 1) cells) >>= λ rest. Ok (first ∷ rest))
+  next_is k =
+      inv.so ∙ ap (λ cs. with_contents_before (contents_drawn count ds) (contents_here spec cs)) k.left
+      ∙ ap (λ r. with_contents_before (contents_drawn count ds) (r >>= λ first. contents_here spec (drop (j + 1) cells) >>= λ rest. Ok (first ∷ rest))) (sym (entry_same spec k.cell.draft k.cell.end_line) ∙ ap (entry_here spec) (sym (here k.cell k.is)))
+
+  pub gather_fault : (o : Option FaultAt) → option_map Err o ≡ Some (entry_here spec e) → IfDraftFault o (λ f. contents_here spec cells ≡ Err f)
+  gather_fault None h = tt
+  gather_fault (Some f) h =
+      next_is (cell_at cells j within) ∙ ap (λ r. with_contents_before (contents_drawn count ds) (r >>= λ first. contents_here spec (drop (j + 1) cells) >>= λ rest. Ok (first ∷ rest))) (is_some h)
+
+  pub gather_more : (d : FieldContent) → Some (Ok (content_drawn count d)) ≡ Some (entry_here spec e) → IsDrawn spec d → IsGathering count spec cells (j + 1) (ds ++ d ∷ [])
+  gather_more d h g = record {
+    so = next_is (cell_at cells j within) ∙ ap (λ r. with_contents_before (contents_drawn count ds) (r >>= λ first. contents_here spec (drop (j + 1) cells) >>= λ rest. Ok (first ∷ rest))) (is_some h)
+        ∙ contents_before_more (contents_drawn count ds) (content_drawn count d) (contents_here spec (drop (j + 1) cells)) ∙ ap (λ cs. with_contents_before cs (contents_here spec (drop (j + 1) cells))) (sym (contents_more count ds d));
+    all = all_more spec ds d inv.all g;
+    many = omega (arith, length-append ds (d ∷ []), inv.many);
+  }
+
+pub gathered : (count : ℕ) (spec : FieldSpec) (cells : List RowCell) (j : ℕ) (ds : List FieldContent) → IsGathering count spec cells j ds → length cells ≤ j → contents_here spec cells ≡ Ok (contents_drawn count ds)
+gathered count spec cells j ds inv h = inv.so ∙ ap (λ cs. with_contents_before (contents_drawn count ds) (contents_here spec cs)) (drop_none cells j h) ∙ ap Ok (append-nil (contents_drawn count ds))
+
+-- whether all subsets end
+pub end_item : (cells : List RowCell) (j : ℕ) (e : DraftEntry) → j < length cells → ((c : RowCell) → slice_get cells j ≡ Some c → e ≡ cell_entry c) → is_end e ≡ false → all_at_end cells ≡ all_at_end (drop j cells) → all_at_end cells ≡ Err (at_line (entry_line e) item_too_many)
+end_item cells j (Ends line) h here is inv = absurd cc
+end_item cells j (Holds d) h here is inv = by (cell_at cells j h)
+  where
+    item : (o : Option Draft) (line : ℕ) → entry_or_end o line ≡ Holds d → (r : Result (Unit {0}) FaultAt) → and_end o r ≡ Err (at_line d.line item_too_many)
+    item None line q r = absurd cc
+    item (Some x) line q r = let same : x ≡ d = cc in ap (λ (z : Draft). Err (at_line z.line item_too_many)) same
+
+    by : CellAt cells j → all_at_end cells ≡ Err (at_line d.line item_too_many)
+    by k = inv ∙ ap all_at_end k.left ∙ item k.cell.draft k.cell.end_line (sym (here k.cell k.is)) (all_at_end (drop (j + 1) cells))
+
+pub end_more : (cells : List RowCell) (j : ℕ) (e : DraftEntry) → j < length cells → ((c : RowCell) → slice_get cells j ≡ Some c → e ≡ cell_entry c) → is_end e ≡ true → all_at_end cells ≡ all_at_end (drop j cells) → all_at_end cells ≡ all_at_end (drop (j + 1) cells)
+end_more cells j (Holds d) h here is inv = absurd cc
+end_more cells j (Ends line) h here is inv = by (cell_at cells j h)
+  where
+    ends : (o : Option Draft) (l : ℕ) → entry_or_end o l ≡ Ends line → (r : Result (Unit {0}) FaultAt) → and_end o r ≡ r
+    ends None l q r = refl
+    ends (Some x) l q r = absurd cc
+
+    by : CellAt cells j → all_at_end cells ≡ all_at_end (drop (j + 1) cells)
+    by k = inv ∙ ap all_at_end k.left ∙ ends k.cell.draft k.cell.end_line (sym (here k.cell k.is)) (all_at_end (drop (j + 1) cells))
+
+pub end_done : (cells : List RowCell) (j : ℕ) → length cells ≤ j → all_at_end cells ≡ all_at_end (drop j cells) → all_at_end cells ≡ Ok tt
+end_done cells j h inv = inv ∙ ap all_at_end (drop_none cells j h)
+
+-- the first subset's line
+pub first_is : (cells : List RowCell) (e : DraftEntry) (n : ℕ) → 0 < length cells → ((c : RowCell) → slice_get cells 0 ≡ Some c → e ≡ cell_entry c) → n ≡ entry_line e → n ≡ first_line cells
+first_is [] e n h here is = absurd (omega (arith, h))
+first_is (c ∷ cells) e n h here is = is ∙ ap entry_line (here c refl) ∙ line_same c.draft c.end_line
+
+-- the line of the first that differs
+unlike_left : (c : Content) (cs : List Content) (d : Content) (ds : List Content) (k : RowCell) (ks : List RowCell) (b : Bool) → same c d ≡ b → unlike_from (c ∷ cs) (d ∷ ds) (k ∷ ks) ≡ (if b then unlike_from (c ∷ cs) ds ks else cell_line k)
+unlike_left c cs d ds k ks b e = ap (λ t. if t then first_unlike c ds ks else cell_line k) e
+
+first_drawn : (count : ℕ) (ds : List FieldContent) (z : FieldContent) → 0 < length ds → contents_drawn count ds ≡ content_drawn count (get_or ds 0 z) ∷ contents_drawn count (drop 1 ds)
+first_drawn count [] z h = absurd (omega (arith, h))
+first_drawn count (d ∷ []) z h = refl
+first_drawn count (d ∷ x ∷ ds) z h = refl
+
+module _ (count : ℕ) (ds : List FieldContent) (cells : List RowCell) (j : ℕ) (z : FieldContent) (within : j < length ds) (many : length cells ≡ length ds)
+    (inv : unlike_line (contents_drawn count ds) cells ≡ unlike_from (contents_drawn count ds) (contents_drawn count (drop j ds)) (drop j cells)) where
+  unlike_next : (b : Bool) → same (content_drawn count (get_or ds 0 z)) (content_drawn count (get_or ds j z)) ≡ b → (k : CellAt cells j)
+      → unlike_line (contents_drawn count ds) cells ≡ (if b then unlike_from (contents_drawn count ds) (contents_drawn count (drop (j + 1) ds)) (drop (j + 1) cells) else cell_line k.cell)
+  unlike_next b e k =
+      let all = first_drawn count ds z (omega (arith, within)) in
+      inv ∙ ap (λ xs. unlike_from (contents_drawn count ds) (contents_drawn count xs) (drop j cells)) (at_index ds j z within)
+      ∙ ap (λ ks. unlike_from (contents_drawn count ds) (content_drawn count (get_or ds j z) ∷ contents_drawn count (drop (j + 1) ds)) ks) k.left
+      ∙ ap (λ cs. unlike_from cs (content_drawn count (get_or ds j z) ∷ contents_drawn count (drop (j + 1) ds)) (k.cell ∷ drop (j + 1) cells)) all
+      ∙ unlike_left (content_drawn count (get_or ds 0 z)) (contents_drawn count (drop 1 ds)) (content_drawn count (get_or ds j z)) (contents_drawn count (drop (j + 1) ds)) k.cell (drop (j + 1) cells) b e
+      ∙ ap (λ cs. if b then unlike_from cs (contents_drawn count (drop (j + 1) ds)) (drop (j + 1) cells) else cell_line k.cell) (sym all)
+
+  pub unlike_more : same (content_drawn count (get_or ds 0 z)) (content_drawn count (get_or ds j z)) ≡ true
+      → unlike_line (contents_drawn count ds) cells ≡ unlike_from (contents_drawn count ds) (contents_drawn count (drop (j + 1) ds)) (drop (j + 1) cells)
+  unlike_more e = unlike_next true e (cell_at cells j (omega (arith, within, many)))
+
+  pub unlike_here : same (content_drawn count (get_or ds 0 z)) (content_drawn count (get_or ds j z)) ≡ false → (e : DraftEntry) (n : ℕ) → ((c : RowCell) → slice_get cells j ≡ Some c → e ≡ cell_entry c) → n ≡ entry_line e → n ≡ unlike_line (contents_drawn count ds) cells
+  unlike_here s e n here is =
+      let k = cell_at cells j (omega (arith, within, many)) in
+      is ∙ ap entry_line (here k.cell k.is) ∙ line_same k.cell.draft k.cell.end_line ∙ sym (unlike_next false s k)
+
+-- ---- One item of all subsets, as the code writes it.
+
+few_test : (a b : ℕ) → b ≤ a → nat_lt a b ≡ false
+few_test a b h = grind (arith, nat_tests)
+
+many_test : (a b : ℕ) → a < b → nat_lt a b ≡ true
+many_test a b h = grind (arith, nat_tests)
+
+module _ (spec : FieldSpec) (place : ℕ) (subsets : List Subset) where
+  -- with too many values
+  pub many_fault : max_values < (place + 1) * length (cells_at place subsets) → pack_across spec (item_row place subsets) ≡ Err (at_line (first_line (cells_at place subsets)) (too_many_values spec.fxy))
+  many_fault h =
+      ap (λ b. if b then Err (at_line (first_line (cells_at place subsets)) (too_many_values spec.fxy)) else (contents_here spec (cells_at place subsets) >>= λ cs. packed_to cs (cells_at place subsets) (packing spec cs)))
+      (many_test max_values ((place + 1) * length (cells_at place subsets)) h)
+
+  module _ (few : (place + 1) * length (cells_at place subsets) ≤ max_values) where
+    across_is : pack_across spec (item_row place subsets) ≡ (contents_here spec (cells_at place subsets) >>= λ cs. packed_to cs (cells_at place subsets) (packing spec cs))
+    across_is =
+        ap (λ b. if b then Err (at_line (first_line (cells_at place subsets)) (too_many_values spec.fxy)) else (contents_here spec (cells_at place subsets) >>= λ cs. packed_to cs (cells_at place subsets) (packing spec cs)))
+        (few_test max_values ((place + 1) * length (cells_at place subsets)) few)
+
+    pub put_fault : (o : Option FaultAt) → IfDraftFault o (λ f. contents_here spec (cells_at place subsets) ≡ Err f) → IfDraftFault o (λ f. pack_across spec (item_row place subsets) ≡ Err f)
+    put_fault None h = tt
+    put_fault (Some f) h = across_is ∙ ap (λ r. r >>= λ cs. packed_to cs (cells_at place subsets) (packing spec cs)) h
+
+    given : (cs : List Content) → contents_here spec (cells_at place subsets) ≡ Ok cs → pack_across spec (item_row place subsets) ≡ packed_to cs (cells_at place subsets) (packing spec cs)
+    given cs h = across_is ∙ ap (λ r. r >>= λ cs. packed_to cs (cells_at place subsets) (packing spec cs)) h
+
+    pub put_ok : (cs : List Content) (bits : List Bool) → contents_here spec (cells_at place subsets) ≡ Ok cs → packing spec cs ≡ Ok bits → pack_across spec (item_row place subsets) ≡ Ok (written_item cs bits)
+    put_ok cs bits h e = given cs h ∙ ap (packed_to cs (cells_at place subsets)) e
+
+    pub put_unequal : (cs : List Content) → contents_here spec (cells_at place subsets) ≡ Ok cs → packing spec cs ≡ Err unequal_factor → pack_across spec (item_row place subsets) ≡ Err (at_line (unlike_line cs (cells_at place subsets)) unequal_factors)
+    put_unequal cs h e = given cs h ∙ ap (packed_to cs (cells_at place subsets)) e
+
+    pub put_uneven : (cs : List Content) → contents_here spec (cells_at place subsets) ≡ Ok cs → packing spec cs ≡ Err increment → pack_across spec (item_row place subsets) ≡ Err (at_line (first_line (cells_at place subsets)) uneven_increment)
+    put_uneven cs h e = given cs h ∙ ap (packed_to cs (cells_at place subsets)) e
+
+-- what the first subset's content returns to the walk
+pub answers_first : (spec : FieldSpec) (count : ℕ) (ds : List FieldContent) (z : FieldContent) (t : Taken) → 0 < length ds → t ≡ answer_of spec (content_drawn count (get_or ds 0 z)) → t ≡ answer_first spec (contents_drawn count ds)
+answers_first spec count [] z t h e = absurd (omega (arith, h))
+answers_first spec count (d ∷ ds) z t h e = e
+
+-- contents that are all the same, and those that are not
+pub packed_alike : (spec : FieldSpec) (count : ℕ) (ds : List FieldContent) (z : FieldContent) → 0 < length ds → are_same (content_drawn count (get_or ds 0 z)) (contents_drawn count ds) ≡ true
+    → packing spec (contents_drawn count ds) ≡ Ok (packed_bits (bits_for spec.width (content_drawn count (get_or ds 0 z))) 0 [])
+packed_alike spec count [] z h e = absurd (omega (arith, h))
+packed_alike spec count (d ∷ ds) z h e =
+    ap (λ b. if b then Ok (packed_bits (bits_for spec.width (content_drawn count d)) 0 []) else packed_unlike spec.role spec (contents_drawn count (d ∷ ds)))
+    (ap (λ t. t && are_same (content_drawn count d) (contents_drawn count ds)) (sym (content_self (content_drawn count d))) ∙ e)
+
+pub packed_apart : (spec : FieldSpec) (count : ℕ) (ds : List FieldContent) (z : FieldContent) → 0 < length ds → are_same (content_drawn count (get_or ds 0 z)) (contents_drawn count ds) ≡ false
+    → packing spec (contents_drawn count ds) ≡ packed_unlike spec.role spec (contents_drawn count ds)
+packed_apart spec count [] z h e = absurd (omega (arith, h))
+packed_apart spec count (d ∷ ds) z h e =
+    ap (λ b. if b then Ok (packed_bits (bits_for spec.width (content_drawn count d)) 0 []) else packed_unlike spec.role spec (contents_drawn count (d ∷ ds)))
+    (ap (λ t. t && are_same (content_drawn count d) (contents_drawn count ds)) (sym (content_self (content_drawn count d))) ∙ e)
+
+-- elements that differ go by their kind
+pub apart_by : (spec : FieldSpec) (cs : List Content) (r : Role) → r ≡ spec.role → (r ≡ role.Element) ⊎ (r ≡ role.Inserted) → packed_unlike spec.role spec cs ≡ packed_by spec.kind spec cs
+apart_by spec cs r is (inl e) = ap (λ a. packed_unlike a spec cs) (sym is ∙ e)
+apart_by spec cs r is (inr e) = ap (λ a. packed_unlike a spec cs) (sym is ∙ e)
+
+-- the item was put, by its bits
+pub put_within : (spec : FieldSpec) (place : ℕ) (subsets : List Subset) (ds : List FieldContent) (z : FieldContent) (t : Taken) (old new bits : List Bool) (most : ℕ) → (place + 1) * length (cells_at place subsets) ≤ max_values
+    → contents_here spec (cells_at place subsets) ≡ Ok (contents_drawn (spec.width / 8) ds) → 0 < length ds → t ≡ answer_of spec (content_drawn (spec.width / 8) (get_or ds 0 z))
+    → packing spec (contents_drawn (spec.width / 8) ds) ≡ Ok bits → new ≡ old ++ bits → length bits ≤ most → length old < length new → IsPutWithin old new spec (item_row place subsets) most t
+put_within spec place subsets ds z t old new bits most few given some gives packed is fits forth = record {
+  put = record {
+    contents = contents_drawn (spec.width / 8) ds;
+    item = bits;
+    is = put_ok spec place subsets few (contents_drawn (spec.width / 8) ds) bits given packed;
+    gives = answers_first spec (spec.width / 8) ds z t some gives;
+    bits = is;
+    forth = forth;
+  };
+  few = fits;
+}
+
+-- the same by what packed it, where the contents differ
+pub put_packed : (spec : FieldSpec) (place : ℕ) (subsets : List Subset) (ds : List FieldContent) (z : FieldContent) (t : Taken) (old new : List Bool) (few most : ℕ) → (place + 1) * length (cells_at place subsets) ≤ max_values
+    → contents_here spec (cells_at place subsets) ≡ Ok (contents_drawn (spec.width / 8) ds) → 0 < length ds → t ≡ answer_of spec (content_drawn (spec.width / 8) (get_or ds 0 z))
+    → packing spec (contents_drawn (spec.width / 8) ds) ≡ packed_by spec.kind spec (contents_drawn (spec.width / 8) ds) → few ≤ most
+    → (bits : List Bool) × (packed_by spec.kind spec (contents_drawn (spec.width / 8) ds) ≡ Ok bits) × (new ≡ old ++ bits) × (length bits ≤ few) × (length old < length new)
+    → IsPutWithin old new spec (item_row place subsets) most t
+put_packed spec place subsets ds z t old new few most values given some gives apart within (bits, packed, is, fits, forth) =
+    put_within spec place subsets ds z t old new bits most values given some gives (apart ∙ packed) is (omega (arith, fits, within)) forth
+
+-- ---- Steps of the code that reads texts.
+
+equal_test : (a : ℕ) → (a == a) ≡ true
+equal_test a = grind (arith, nat_tests)
+
+equal_from : (a b : ℕ) → (a == b) ≡ true → a ≡ b
+equal_from a b h = grind (arith, nat_tests)
+
+equal_to : (a b : ℕ) → a ≡ b → (a == b) ≡ true
+equal_to a b h = grind (arith, nat_tests)
+
+apart_test : (a b : ℕ) → (a ≡ b → ⊥) → (a == b) ≡ false
+apart_test a b h = by (a == b) refl
+  where
+    by : (t : Bool) → (a == b) ≡ t → (a == b) ≡ false
+    by true e = absurd (h (equal_from a b e))
+    by false e = e
+
+-- the octet at an index
+pub octet_inside : (os : List ℕ) (i x : ℕ) → i < length os → x ≡ get_or os i x → x ≡ octet_in os i
+octet_inside [] i x h e = absurd (omega (arith, h))
+octet_inside (o ∷ os) zero x h e = e
+octet_inside (o ∷ os) (suc i) x h e = octet_inside os i x (omega (arith, h)) e
+
+pub octet_outside : (os : List ℕ) (i : ℕ) → length os ≤ i → 32 ≡ octet_in os i
+octet_outside [] i h = refl
+octet_outside (o ∷ os) zero h = absurd (omega (arith, h))
+octet_outside (o ∷ os) (suc i) h = octet_outside os i (omega (arith, h))
+
+-- a text followed by spaces, from an index on
+pub spaced_at : (count : ℕ) (os : List ℕ) (i : ℕ) → length os ≤ count → i < count → drop i (spaced count os) ≡ octet_in os i ∷ drop (i + 1) (spaced count os)
+spaced_at count os i h l = by os (count - length os) i (omega (arith, h, l))
+  where
+    suffix : (i : ℕ) → suc (i + 1) ≡ suc i + 1
+    suffix i = omega arith
+
+    by : (os : List ℕ) (n i : ℕ) → i < length os + n → drop i (os ++ replicate n 32) ≡ octet_in os i ∷ drop (i + 1) (os ++ replicate n 32)
+    by [] zero i l = absurd (omega (arith, l))
+    by [] (suc n) zero l = refl
+    by [] (suc n) (suc i) l = by [] n i (omega (arith, l)) ∙ ap (λ k. 32 ∷ drop k (32 ∷ replicate n 32)) (suffix i)
+    by (o ∷ os) n zero l = refl
+    by (o ∷ os) n (suc i) l = by os n i (omega (arith, l)) ∙ ap (λ k. octet_in os i ∷ drop k (o ∷ os ++ replicate n 32)) (suffix i)
+
+pub text_more : (count : ℕ) (a b : List ℕ) (i x y : ℕ) → length a ≤ count → length b ≤ count → i < count → x ≡ octet_in a i → y ≡ octet_in b i → x ≡ y
+    → same_octets (spaced count a) (spaced count b) ≡ same_octets (drop i (spaced count a)) (drop i (spaced count b))
+    → same_octets (spaced count a) (spaced count b) ≡ same_octets (drop (i + 1) (spaced count a)) (drop (i + 1) (spaced count b))
+text_more count a b i x y ha hb l ea eb e inv =
+    inv ∙ ap (λ z. same_octets z (drop i (spaced count b))) (spaced_at count a i ha l) ∙ ap (λ z. same_octets (octet_in a i ∷ drop (i + 1) (spaced count a)) z) (spaced_at count b i hb l)
+    ∙ ap (λ t. t && same_octets (drop (i + 1) (spaced count a)) (drop (i + 1) (spaced count b))) (equal_to (octet_in a i) (octet_in b i) (sym ea ∙ e ∙ eb))
+
+pub text_not : (count : ℕ) (a b : List ℕ) (i x y : ℕ) → length a ≤ count → length b ≤ count → i < count → x ≡ octet_in a i → y ≡ octet_in b i → (x ≡ y → ⊥)
+    → same_octets (spaced count a) (spaced count b) ≡ same_octets (drop i (spaced count a)) (drop i (spaced count b)) → same_octets (spaced count a) (spaced count b) ≡ false
+text_not count a b i x y ha hb l ea eb e inv =
+    inv ∙ ap (λ z. same_octets z (drop i (spaced count b))) (spaced_at count a i ha l) ∙ ap (λ z. same_octets (octet_in a i ∷ drop (i + 1) (spaced count a)) z) (spaced_at count b i hb l)
+    ∙ ap (λ t. t && same_octets (drop (i + 1) (spaced count a)) (drop (i + 1) (spaced count b))) (apart_test (octet_in a i) (octet_in b i) (λ q. e (ea ∙ q ∙ sym eb)))
+
+-- the spaces at the end of a text
+trimmed_space : (b : Bool) (os : List ℕ) (n : ℕ) → trimmed os ≡ n → trimmed (os ++ 32 ∷ []) ≡ n
+trimmed_space b [] n e = e
+trimmed_space b (o ∷ os) n e = ap (λ t. if (t == 0) && (o == 32) then 0 else suc t) (trimmed_space b os (trimmed os) refl) ∙ e
+
+trimmed_other : (os : List ℕ) (x : ℕ) → (x ≡ 32 → ⊥) → trimmed (os ++ x ∷ []) ≡ suc (length os)
+trimmed_other [] x h = ap (λ b. if b then 0 else 1) (apart_test x 32 h)
+trimmed_other (o ∷ os) x h =
+    ap (λ t. if (t == 0) && (o == 32) then 0 else suc t) (trimmed_other os x h) ∙ ap (λ b. if b && (o == 32) then 0 else suc (suc (length os))) (apart_test (suc (length os)) 0 (λ q. absurd (omega (arith, q))))
+
+take_one : (os : List ℕ) (n x z : ℕ) → n < length os → x ≡ get_or os n z → take (suc n) os ≡ take n os ++ x ∷ []
+take_one [] n x z h e = absurd (omega (arith, h))
+take_one (o ∷ os) zero x z h e = ap (λ y. y ∷ []) (sym e)
+take_one (o ∷ os) (suc n) x z h e = ap (λ ys. o ∷ ys) (take_one os n x z (omega (arith, h)) e)
+
+length-take_one : (os : List ℕ) (n : ℕ) → n ≤ length os → length (take n os) ≡ n
+length-take_one os zero h = refl
+length-take_one [] (suc n) h = absurd (omega (arith, h))
+length-take_one (o ∷ os) (suc n) h = ap suc (length-take_one os n (omega (arith, h)))
+
+pub trimmed_here : (os : List ℕ) (spaces x z : ℕ) → spaces < length os → x ≡ get_or os (length os - 1 - spaces) z → (x ≡ 32 → ⊥) → trimmed (take (length os - spaces) os) ≡ trimmed os → length os - spaces ≡ trimmed os
+trimmed_here os spaces x z h e other inv =
+    let n : length os - spaces ≡ suc (length os - 1 - spaces) = omega (arith, h) in
+    let within : length os - 1 - spaces < length os = omega (arith, h) in
+    n ∙ ap suc (sym (length-take_one os (length os - 1 - spaces) (omega (arith, within)))) ∙ sym (trimmed_other (take (length os - 1 - spaces) os) x other)
+    ∙ ap trimmed (sym (take_one os (length os - 1 - spaces) x z within e)) ∙ ap (λ k. trimmed (take k os)) (sym n) ∙ inv
+
+pub trimmed_later : (os : List ℕ) (spaces x z : ℕ) → spaces < length os → x ≡ get_or os (length os - 1 - spaces) z → x ≡ 32 → trimmed (take (length os - spaces) os) ≡ trimmed os → trimmed (take (length os - (spaces + 1)) os) ≡ trimmed os
+trimmed_later os spaces x z h e is inv =
+    let n : length os - spaces ≡ suc (length os - 1 - spaces) = omega (arith, h) in
+    let m : length os - (spaces + 1) ≡ length os - 1 - spaces = omega (arith, h) in
+    let within : length os - 1 - spaces < length os = omega (arith, h) in
+    ap (λ k. trimmed (take k os)) m ∙ sym (trimmed_space true (take (length os - 1 - spaces) os) (trimmed (take (length os - 1 - spaces) os)) refl)
+    ∙ ap (λ y. trimmed (take (length os - 1 - spaces) os ++ y ∷ [])) (sym is) ∙ ap trimmed (sym (take_one os (length os - 1 - spaces) x z within e)) ∙ ap (λ k. trimmed (take k os)) (sym n) ∙ inv
+
+pub trimmed_all : (os : List ℕ) (spaces : ℕ) → length os ≤ spaces → trimmed (take (length os - spaces) os) ≡ trimmed os → 0 ≡ trimmed os
+trimmed_all os spaces h inv = let n : 0 ≡ length os - spaces = omega (arith, h) in ap (λ k. trimmed (take k os)) n ∙ inv

@@ -1,0 +1,250 @@
+-- What is written of a reading, of its other form, or of any drafts is read back the same.
+-- (WMO-No. 306, Volume I.2, FM 94: section 4)
+-- Cited by public contracts.
+use Rattle.std.specs.Prelude.{ℕ, ◌≡◌, ◌<◌, ◌-◌, ◌/◌, ◌^◌, ◌==◌, Bool, true, false, List, [], ◌∷◌, length, nat_abs, suc, ◌+◌, ◌≤◌, ◌++◌, Ok, ◌⊎◌, zero, Err}
+use Rattle.std.specs.List.{list_all, AllByRecursion}
+use Rattle.bufr_tables.specs.declared.table_b.Kind.{Kind}
+use Rattle.bufr_walk.specs.declared.spec.Role.{Role}
+use Rattle.bufr_walk.specs.FieldSpec.{FieldSpec}
+use Rattle.bufr_walk.specs.Content.{Content, number, text, missing, reference}
+use Rattle.bufr_fill.specs.Packing.{raw_limit}
+use Rattle.bufr_walk.specs.Course.{Course, next_item}
+use Rattle.bufr_walk.specs.Calls.{content_at}
+use Rattle.bufr_walk.specs.Reading.{Item, IsPackedReading, ReadsSubsets, IsPlainReading}
+use Rattle.bufr_fill.specs.Draft.{Draft, Subset, DraftValue, number_token, text_form, missing_form, reference_token}
+use Rattle.bufr_fill.specs.DraftContent.{draft_value_of, content_of}
+use Rattle.bufr_fill.specs.Encoding.{plain_data, packed_data}
+use Rattle.bufr_fill.specs.Faults.{DraftFaultKind, unequal_factors, uneven_increment, FaultAt}
+use Rattle.bufr_tables.specs.Expansion.{IsLegal}
+use Rattle.bufr_tables.specs.Records.{Record}
+use Rattle.bufr_tables.specs.TableB.{Row, AreRows}
+use Rattle.bufr_tables.specs.Tree.{Tree}
+use Rattle.bufr_walk.specs.Walk.{TakenField, course_after}
+use Rattle.bufr_fill.specs.Filling.{Filler, fill, with_bits_before}
+use Rattle.bufr_tables.specs.declared.table_b.Kind.TheVariants as kind
+use Rattle.bufr_walk.specs.declared.spec.Role.TheVariants as role
+
+-- each number is an octet
+abbrev pub AreOctets : List ℕ → Type 0
+AreOctets [] = Unit {0}
+AreOctets (x ∷ xs) = (x < 256) × AreOctets xs
+
+-- a number that fits its bits and does not read as missing
+abbrev pub FitsNumber : Bool → ℕ → Content → Type 0
+FitsNumber m width (number raw) = raw < raw_limit m width
+FitsNumber m width missing = m ≡ true
+FitsNumber m width _ = ⊥
+
+-- a text of `count` octets that does not read as missing
+abbrev pub FitsText : ℕ → Content → Type 0
+FitsText count (text octets) =
+    (length octets ≡ count) × AreOctets octets × (list_all (λ octet. octet == 255) octets ≡ false)
+FitsText count missing = Unit {0}
+FitsText count _ = ⊥
+
+-- a reference whose magnitude fits the bits after its sign
+abbrev pub FitsReference : ℕ → Content → Type 0
+FitsReference width (reference value) = nat_abs value < 2 ^ (width - 1)
+FitsReference width _ = ⊥
+
+-- a content that fits a kind of field
+abbrev pub FitsKind : Kind → Bool → ℕ → Content → Type 0
+FitsKind kind.Character m width c = FitsText (width / 8) c
+FitsKind kind.Coded m width c = FitsNumber m width c
+FitsKind kind.Numeric m width c = FitsNumber m width c
+
+-- a content that fits its field, by role
+abbrev pub FitsRole : Role → FieldSpec → Content → Type 0
+FitsRole role.Reference spec c = FitsReference spec.width c
+FitsRole _ spec c = FitsKind spec.kind spec.may_be_missing spec.width c
+
+-- a content that the field can have
+abbrev pub Fits : FieldSpec → Content → Type 0
+Fits spec c = FitsRole spec.role spec c
+
+-- contents that all fit the field
+abbrev pub AllFit : FieldSpec → List Content → Type 0
+AllFit spec [] = Unit {0}
+AllFit spec (c ∷ cs) = Fits spec c × AllFit spec cs
+
+-- The round trip of data: a reading, its dump, and the bits that are written from it. (a choice of
+-- this project)
+
+-- a draft is the one that a dump writes for an item, on any line
+abbrev pub IsDumped : Item Content → Draft → Type 0
+IsDumped i d = (d.fxy ≡ i.spec.fxy) × (d.form ≡ draft_value_of i.spec i.content)
+
+-- the drafts belong to the items, one by one
+abbrev pub AreDrafts : {C D : Type 0} → (Item C → D → Type 0) → List (Item C) → List D → Type 0
+AreDrafts of_item [] [] = Unit {0}
+AreDrafts of_item [] (d ∷ ds) = ⊥
+AreDrafts of_item (i ∷ items) [] = ⊥
+AreDrafts of_item (i ∷ items) (d ∷ ds) = of_item i d × AreDrafts of_item items ds
+
+-- the drafts are those of the dump, subset by subset
+abbrev pub AreDumped : List (List (Item Content)) → List Subset → Type 0
+AreDumped [] [] = Unit {0}
+AreDumped [] (s ∷ ss) = ⊥
+AreDumped (items ∷ subsets) [] = ⊥
+AreDumped (items ∷ subsets) (s ∷ ss) = AreDrafts IsDumped items s.items × AreDumped subsets ss
+
+-- items that were read from bits are written again from the drafts of their dump; the new bits have
+-- the same reading, and are no more
+pub record IsWrittenAgain (course : Course) (subsets : List (List (Item Content)))
+    (drafts : List Subset) (bits suffix : List Bool) : Type 0 where
+  pub out : List Bool
+  pub is : plain_data course drafts ≡ Ok out
+  pub again : (more : List Bool) → ReadsSubsets course subsets (out ++ more) more
+  pub short : length out + length suffix ≤ length bits
+
+-- the same of compressed data
+pub record IsPackedAgain (n : ℕ) (course : Course) (items : List (Item (List Content)))
+    (drafts : List Subset) (bits suffix : List Bool) : Type 0 where
+  pub out : List Bool
+  pub is : packed_data course drafts ≡ Ok out
+  pub again : (more : List Bool) → IsPackedReading n course items (out ++ more) more
+  pub short : length out + length suffix ≤ length bits
+
+-- the items of one subset of compressed data
+abbrev pub items_of_subset : (subset : ℕ) → List (Item (List Content)) → List (Item Content)
+items_of_subset j [] = []
+items_of_subset j (i ∷ items) =
+    record { spec = i.spec; content = content_at j i.content } ∷ items_of_subset j items
+
+-- the subsets, from one on, are those of the dump of compressed data
+abbrev pub AreDumpedFrom : (subset : ℕ) → List (Item (List Content)) → List Subset → Type 0
+AreDumpedFrom j items [] = Unit {0}
+AreDumpedFrom j items (s ∷ ss) =
+    AreDrafts IsDumped (items_of_subset j items) s.items × AreDumpedFrom (suc j) items ss
+
+-- A change of form: data that were read in one form, and written in the other from their dump. (a
+-- choice of this project)
+
+-- the items of `left` subsets of compressed data, each subset by itself; `subset` is the first of
+-- them, from 0
+abbrev pub subsets_from : (left subset : ℕ) → List (Item (List Content))
+    → List (List (Item Content))
+subsets_from zero j items = []
+subsets_from (suc left) j items = items_of_subset j items ∷ subsets_from left (suc j) items
+
+-- a fault of contents that compressed data cannot have: factors that differ, or contents that no
+-- increments can write
+abbrev pub IsUnlike : DraftFaultKind → Type 0
+IsUnlike unequal_factors = Unit {0}
+IsUnlike uneven_increment = Unit {0}
+IsUnlike _ = ⊥
+
+-- the items of n compressed subsets are written subset after subset, and each subset's items are
+-- read from the bits
+pub record IsWrittenApart (n : ℕ) (course : Course) (items : List (Item (List Content)))
+    (drafts : List Subset) : Type 0 where
+  pub out : List Bool
+  pub is : plain_data course drafts ≡ Ok out
+  pub again : (more : List Bool)
+      → IsPlainReading n course (subsets_from n 0 items) (out ++ more) more
+
+-- the items of subsets that are not compressed are written together, and the items of each subset
+-- are read from the bits
+pub record IsWrittenTogether (course : Course) (subsets : List (List (Item Content)))
+    (drafts : List Subset) : Type 0 where
+  pub items : List (Item (List Content))
+  pub same : subsets_from (length subsets) 0 items ≡ subsets
+  pub out : List Bool
+  pub is : packed_data course drafts ≡ Ok out
+  pub again : (more : List Bool) → IsPackedReading (length subsets) course items (out ++ more) more
+
+-- these items cannot be written together
+pub record IsUnwritten (course : Course) (drafts : List Subset) : Type 0 where
+  pub why : FaultAt
+  pub is : packed_data course drafts ≡ Err why
+  pub unlike : IsUnlike why.fault
+
+-- the items are written together, or cannot be
+abbrev pub IsTogetherOrNot : Course → List (List (Item Content)) → List Subset → Type 0
+IsTogetherOrNot course subsets drafts =
+    IsWrittenTogether course subsets drafts ⊎ IsUnwritten course drafts
+
+-- ---- The reading of data that were written from drafts. (a choice of this project)
+
+-- the text of a value is of octets
+abbrev pub HasOctets : DraftValue → Type 0
+HasOctets (number_token digits) = Unit {0}
+HasOctets (text_form octets) = AreOctets octets
+HasOctets missing_form = Unit {0}
+HasOctets (reference_token digits) = Unit {0}
+
+-- the same of each draft
+abbrev pub HaveOctets : List Draft → Type 0
+HaveOctets ds = AllByRecursion (λ (d : Draft). HasOctets d.form) ds
+
+-- the same of each subset
+abbrev pub AllHaveOctets : List Subset → Type 0
+AllHaveOctets ss = AllByRecursion (λ (s : Subset). HaveOctets s.items) ss
+
+-- an item has the content of the draft at its field
+abbrev pub IsSaid : Item Content → Draft → Type 0
+IsSaid i d = content_of i.spec d ≡ Ok i.content
+
+-- each subset's items have the contents of its drafts, one by one
+abbrev pub AreSaid : List (List (Item Content)) → List Subset → Type 0
+AreSaid [] [] = Unit {0}
+AreSaid [] (s ∷ ss) = ⊥
+AreSaid (items ∷ subsets) [] = ⊥
+AreSaid (items ∷ subsets) (s ∷ ss) = AreDrafts IsSaid items s.items × AreSaid subsets ss
+
+-- the same of the subsets of compressed data, from one on
+abbrev pub AreSaidFrom : (subset : ℕ) → List (Item (List Content)) → List Subset → Type 0
+AreSaidFrom j items [] = Unit {0}
+AreSaidFrom j items (s ∷ ss) =
+    AreDrafts IsSaid (items_of_subset j items) s.items × AreSaidFrom (suc j) items ss
+
+-- the bits read as the contents of the drafts, whatever follows them
+pub record IsReadBack (course : Course) (drafts : List Subset) (bits : List Bool) : Type 0 where
+  pub subsets : List (List (Item Content))
+  pub said : AreSaid subsets drafts
+  pub read : (suffix : List Bool) → ReadsSubsets course subsets (bits ++ suffix) suffix
+
+-- the same of compressed data
+pub record IsPackedReadBack (course : Course) (drafts : List Subset)
+    (bits : List Bool) : Type 0 where
+  pub items : List (Item (List Content))
+  pub said : AreSaidFrom 0 items drafts
+  pub read : (suffix : List Bool)
+      → IsPackedReading (length drafts) course items (bits ++ suffix) suffix
+
+-- ---- Drafts with the same contents, however they are spelled. (a choice of this project)
+
+-- at each field both have the same content, or the same fault
+abbrev pub IsAlike : Draft → Draft → Type 0
+IsAlike a b = (spec : FieldSpec) → content_of spec a ≡ content_of spec b
+
+-- two lists of drafts, alike one by one
+abbrev pub AreAlike : List Draft → List Draft → Type 0
+AreAlike [] [] = Unit {0}
+AreAlike [] (b ∷ bs) = ⊥
+AreAlike (a ∷ more) [] = ⊥
+AreAlike (a ∷ more) (b ∷ bs) = IsAlike a b × AreAlike more bs
+
+-- alike subset by subset, whatever lines end them
+abbrev pub AllAlike : List Subset → List Subset → Type 0
+AllAlike [] [] = Unit {0}
+AllAlike [] (t ∷ ts) = ⊥
+AllAlike (s ∷ ss) [] = ⊥
+AllAlike (s ∷ ss) (t ∷ ts) = AreAlike s.items t.items × AllAlike ss ts
+
+-- ---- Definitions that the laws on writing share.
+
+-- a law holds of the course of each template of legal nodes, by each Table B that can be read
+abbrev pub OfTemplates : (Course → Type 0) → Type 0
+OfTemplates law =
+    (records : List Record) (table : List Row) (template : Tree) → AreRows records table
+    → IsLegal template → law (next_item table template)
+
+-- a walk wrote what the definition makes of the drafts, up to those that it left
+abbrev pub WritesDrafts : {D C E : Type 0} → Filler D C E → Course → List TakenField
+    → (old new : List Bool)
+    → (drafts left : List D) → Type 0
+WritesDrafts filler course items old new drafts left =
+    (bits : List Bool) × (new ≡ old ++ bits)
+    × (fill filler course drafts
+    ≡ with_bits_before filler bits (fill filler (course_after course items) left))

@@ -1,0 +1,552 @@
+-- Steps and calls of a finder, and the reads that they make.
+use Rattle.std.proofs.Common.{◌≡◌, ℕ, ◌+◌, ◌-◌, ◌<◌, ◌≤◌, List, [], ◌++◌, sym, ◌∙◌, ap, subst, arith, Option, Ok, Err, append_assoc, append-nil, ◌∷◌, length, take, drop, refl, length-take, length-drop, inl, inr, Bool, true, false, length-append, ◌⊎◌, ◌*◌, zero, suc, codes}
+use Rattle.std.specs.Prelude.{Result, slice_range, take_while, Some, None, max}
+use Rattle.std.specs.Io.KnownBytes.{Consumes, IsAtEnd}
+use Rattle.std.proofs.KnownBytes.{Consumes-nil, Consumes-trans}
+use Rattle.bufr_bits.specs.Device.{counted}
+use Rattle.bufr_bits.proofs.CountLemmas.{counted-counted, counted-none}
+use Rattle.bufr_frame.specs.Input.{AddsReads, max_reads, ReadsOnce, ReadsInput, InputEnds, FillFails, FillEnds}
+use Rattle.bufr_frame.specs.declared.fault.RunFault.{RunFault}
+use Rattle.bufr_frame.specs.declared.fault.RunFault.TheVariants.{Read, Write, InputTooLong, Memory}
+use Rattle.std.proofs.lemmas.List.{drop-take, take_at, drop-append-le, drop_at}
+use Rattle.std.proofs.Math.Seq.{take-add}
+use Rattle.bufr_frame.proofs.ScanLemmas.{drop-twice, take_while-all, open-sees, raised-open, raised-read, scan_from-nil, scan_from-here, scan_from-nothing, verdict-nothing, taken-bounds, cut-so, length-eight, stated-prefix}
+use Rattle.std.specs.List.{list_all, concat}
+use Rattle.std.proofs.lemmas.Bool.{true≢false, cases_Bool, false≢true, cases_lt, and_parts}
+use Rattle.std.proofs.lemmas.Grind.{common_steps}
+use Rattle.bufr_frame.specs.declared.finder.Candidate.{Candidate}
+use Rattle.bufr_frame.specs.declared.finder.Candidate.TheVariants.{Nothing, Stray, Frame}
+use Rattle.bufr_frame.specs.Scan.{StreamEvent, FrameAt, scan, scan_from, open_scan, stated_length, stream_event, candidate_len, is_decided, Advances, NoEventCertain, first_event, StrayAt, has_word_at, classify, length_here, longest_of, offset_of}
+use Rattle.bufr_frame.specs.Finder.{IsNextEvent, IsIncomplete, event_by, gone_to, ReadsMore, FinderModel, ReadsAndPasses, Follows, CountsReads, new_finder, IsStatedLength, Raised, input_left, RaisesLongest, HasNoMoreEvents, held, EachReadIsNeeded, CallReadsAreNeeded}
+use Rattle.bufr_frame.specs.declared.fault.Cause.TheVariants.{Cut}
+use Rattle.bufr_frame.specs.declared.finder.Event.{Event}
+use Rattle.bufr_frame.specs.Next.{ReturnsNextEvent, LeavesFinder, events_returned}
+use Rattle.std.proofs.lemmas.List.Folds.{concat-append}
+use Rattle.bufr_frame.specs.declared.finder.Event.TheVariants as event
+
+-- octets were read and follow those that were held
+pub record ReadSoFar (left mid : Option (List ℕ)) (old now : List ℕ) : Type 0 where
+  pub octets : List ℕ
+  pub read : Consumes left mid octets
+  pub held : now ≡ old ++ octets
+
+pub read-none : (left : Option (List ℕ)) (old : List ℕ) → ReadSoFar left left old old
+read-none left old = record { octets = []; read = Consumes-nil left; held = sym (append-nil old) }
+
+pub read-more : (left mid left' : Option (List ℕ)) (old now now' bs : List ℕ) (result : Result ℕ RunFault)
+    → ReadSoFar left mid old now → ReadsOnce mid left' now now' result bs → ReadSoFar left left' old now'
+read-more left mid left' old now now' bs result before once = record {
+  octets = before.octets ++ bs;
+  read = Consumes-trans left mid left' before.octets bs before.read once.read;
+  held = once.held ∙ ap (λ l. l ++ bs) before.held ∙ append_assoc old before.octets bs;
+}
+
+-- what was read so far is all that was read
+pub reads-input : {X : Type 0} (left left' : Option (List ℕ)) (old now : List ℕ) (reads : ℕ) (result : Result X RunFault)
+    → ReadSoFar left left' old now → InputEnds left' reads result → (bs : List ℕ) × ReadsInput left left' old now reads result bs
+reads-input left left' old now reads result so_far ends = (so_far.octets, record { read = so_far.read; held = so_far.held; ends = ends })
+
+-- no read, no more reads, and reads after others
+pub adds-none : (reads made : ℕ) → made ≤ max_reads → AddsReads reads reads made made
+adds-none reads made most = record { made = (let e : made - made ≡ 0 = omega arith in rw e (sym (counted-none reads))); order = omega arith; most = most }
+
+pub adds-same : (reads reads' before after after' : ℕ) → AddsReads reads reads' before after → after' ≡ after → AddsReads reads reads' before after'
+adds-same reads reads' before after after' adds same = let A : ℕ → Type 0 = λ n. AddsReads reads reads' before n in subst A (sym same) adds
+
+pub adds-then : (a b c before made after : ℕ) → AddsReads a b before made → AddsReads b c made after → AddsReads a c before after
+adds-then a b c before made after one more = record {
+  made = more.made ∙ ap (λ n. counted n (after - made)) one.made ∙ counted-counted a (made - before) (after - made)
+      ∙ (let e : made - before + (after - made) ≡ after - before = omega (arith, one.order, more.order) in ap (counted a) e);
+  order = omega (arith, one.order, more.order);
+  most = more.most;
+}
+
+-- one more read
+pub adds-one : (a b c before made : ℕ) → AddsReads a b before made → c ≡ counted b 1 → made < max_reads → AddsReads a c before (made + 1)
+adds-one a b c before made one more few =
+    let e : 1 ≡ made + 1 - made = omega arith in
+    adds-then a b c before made (made + 1) one (record { made = more ∙ ap (counted b) e; order = omega arith; most = omega (arith, few) })
+
+-- a read failed
+pub read-fault : (mid left' : Option (List ℕ)) (now now' bs : List ℕ) (result : Result ℕ RunFault) (fault : RunFault) → result ≡ Err fault → ReadsOnce mid left' now now' result bs → fault ≡ Read
+read-fault mid left' now now' bs result fault is once = (rw is at once.outcome).0
+
+-- a read reached the end
+pub read-end : (mid left' : Option (List ℕ)) (now now' bs : List ℕ) (result : Result ℕ RunFault) (n : ℕ) → result ≡ Ok n → n ≡ 0 → ReadsOnce mid left' now now' result bs → IsAtEnd left'
+read-end mid left' now now' bs result n is none once = (rw is at once.outcome).1 none
+
+-- ---- Parts of a buffer.
+
+-- a part is the end of a prefix
+pub part-prefix : (s : List ℕ) (a b : ℕ) → a ≤ b → slice_range s a b ≡ drop a (take b s)
+part-prefix s a b order =
+    let e : a + (b - a) ≡ b = omega arith in
+    sym (drop-take a (b - a) s) ∙ ap (λ n. drop a (take n s)) e
+
+pub part-drop : (s : List ℕ) (b c n : ℕ) → n ≤ c - b → drop n (slice_range s b c) ≡ slice_range s (b + n) c
+part-drop s b c n order =
+    let e : c - b ≡ n + (c - (b + n)) = omega arith in
+    ap (λ k. drop n (take k (drop b s))) e ∙ drop-take n (c - (b + n)) (drop b s) ∙ ap (take (c - (b + n))) (drop-twice n b s)
+
+pub part-length : (s : List ℕ) (a b : ℕ) → b ≤ length s → length (slice_range s a b) ≡ b - a
+part-length s a b within = omega (arith, length-take (b - a) (drop a s), length-drop a s)
+
+-- what was read follows what was held, where the buffer was lent as a slice
+pub after-read : (a b : Option (List ℕ)) (items lent room : List ℕ) (filled to size n : ℕ) → lent ≡ items → size ≡ length items → length room ≡ length lent → take filled room ≡ take filled lent
+    → filled + n ≤ to → to ≤ size → Consumes a b (take n (drop filled room)) → (n ≡ 0 → IsAtEnd b)
+    → (bs : List ℕ) × ReadsOnce a b (take filled items) (take (filled + length bs) (take size (room ++ drop (length room) items))) (Ok n) bs
+after-read a b items lent room filled to size n same sizes long prefix fits within read end =
+    let bs = take n (drop filled room) in
+    let whole : length room ≡ size = omega (arith, ap length same) in
+    let count : n ≡ length bs = omega (arith, length-take n (drop filled room), length-drop filled room) in (
+      bs,
+      record {
+        read = read;
+        held = ap (λ k. take (filled + k) (take size (room ++ drop (length room) items))) (sym count)
+            ∙ ap (take (filled + n)) (take_at room (drop (length room) items) size whole)
+            ∙ take-add filled n room ∙ ap (λ l. l ++ bs) (prefix ∙ ap (take filled) same);
+        outcome = (count, end);
+      },
+    )
+
+-- octets after those of a part
+pub part-append : (s s' bs : List ℕ) (a b n : ℕ) → a ≤ b → b ≤ length s → take (b + n) s' ≡ take b s ++ bs → slice_range s' a (b + n) ≡ slice_range s a b ++ bs
+part-append s s' bs a b n order within same =
+    let fits : a ≤ length (take b s) = omega (arith, length-take b s) in
+    part-prefix s' a (b + n) (omega arith) ∙ ap (drop a) same ∙ drop-append-le a (take b s) bs fits ∙ ap (λ l. l ++ bs) (sym (part-prefix s a b order))
+
+pub empty-of : (l : List ℕ) → length l ≡ 0 → l ≡ []
+empty-of [] none = refl
+empty-of (x ∷ l) none = absurd (omega (arith, none))
+
+-- ---- Steps of a finder, one after another.
+
+all-append : (xs ys : List StreamEvent) → list_all is_decided xs ≡ true → list_all is_decided ys ≡ true → list_all is_decided (xs ++ ys) ≡ true
+all-append xs ys p q = grind (arith, common_steps)
+
+-- one step after another
+pub Advances-then : (e e' : Bool) (at at' at'' : ℕ) (r r' r'' bs : List ℕ) (es es' : List StreamEvent)
+    → (e ≡ true → (e' ≡ true) × (bs ≡ []))
+    → Advances e at r es at' r' → Advances e' at' (r' ++ bs) es' at'' r'' → Advances e' at (r ++ bs) (es ++ es') at'' r''
+Advances-then e e' at at' at'' r r' r'' bs es es' kept one u16_at = record {
+  whole = λ t none.
+      let both : e ≡ true → bs ++ t ≡ [] = λ end. ap (λ l. l ++ t) (kept end).1 ∙ none (kept end).0 in
+      ap (scan_from 0 at) (append_assoc r bs t) ∙ one.whole (bs ++ t) both
+      ∙ ap (λ l. es ++ scan_from 0 at' l) (sym (append_assoc r' bs t))
+      ∙ ap (λ l. es ++ l) (u16_at.whole t none)
+      ∙ sym (append_assoc es es' (scan_from 0 at'' (r'' ++ t)));
+  decided = λ going.
+      let before : e ≡ false = elim (cases_Bool e) [ inl end ↦ absurd (true≢false (sym (kept end).0 ∙ going)) | inr open' ↦ open' ] in
+      all-append es es' (one.decided before) (u16_at.decided going);
+}
+
+pub Advances-none : (e : Bool) (at : ℕ) (r : List ℕ) → Advances e at r [] at r
+Advances-none e at r = record { whole = λ t _. refl; decided = λ _. refl }
+
+-- one step after another, each with its octets
+pub Follows-then : (at at' at'' : ℕ) (r r' r'' bs : List ℕ) → Follows at r at' r' → Follows at' (r' ++ bs) at'' r'' → Follows at (r ++ bs) at'' r''
+Follows-then at at' at'' r r' r'' bs one u16_at =
+    let long : length r' ≡ length r - one.passed = ap length one.left ∙ length-drop one.passed r in
+    record {
+      passed = one.passed + u16_at.passed;
+      within = omega (arith, one.within, u16_at.within, long, length-append r bs, length-append r' bs);
+      offset = omega (arith, one.offset, u16_at.offset);
+      left = u16_at.left ∙ ap (λ l. drop u16_at.passed (l ++ bs)) one.left
+          ∙ ap (drop u16_at.passed) (sym (drop-append-le one.passed r bs one.within)) ∙ drop-twice u16_at.passed one.passed (r ++ bs);
+    }
+
+pub Follows-none : (at : ℕ) (r : List ℕ) → Follows at r at r
+Follows-none at r = record { passed = 0; within = omega arith; offset = omega arith; left = refl }
+
+pub step-none : (left : Option (List ℕ)) (s : FinderModel) → ReadsAndPasses left left s s [] []
+step-none left s =
+    let A : List ℕ → Type 0 = λ l. Advances s.ended s.at l [] s.at s.rest in
+    let F : List ℕ → Type 0 = λ l. Follows s.at l s.at s.rest in
+    record {
+      read = Consumes-nil left;
+      advances = subst A (sym (append-nil s.rest)) (Advances-none s.ended s.at s.rest);
+      follows = subst F (sym (append-nil s.rest)) (Follows-none s.at s.rest);
+      kept = λ end. (end, refl, refl);
+      end = λ before. before;
+    }
+
+module _ (left mid : Option (List ℕ)) (old s s' : FinderModel) (bs : List ℕ) (es : List StreamEvent) where
+  -- events are passed, and nothing is read
+  pub pass-step : (es' : List StreamEvent) → ReadsAndPasses left mid old s bs es → s'.ended ≡ s.ended → s'.reads ≡ s.reads → Advances s'.ended s.at s.rest es' s'.at s'.rest → Follows s.at s.rest s'.at s'.rest → ReadsAndPasses left mid old s' bs (es ++ es')
+  pass-step es' step same reads goes suffix =
+      let E : Bool → Type 0 = λ e. Advances e old.at (old.rest ++ bs) (es ++ es') s'.at s'.rest in
+      let R : List ℕ → Type 0 = λ l. Advances s.ended s.at l es' s'.at s'.rest in
+      let I : Bool → Type 0 = λ e. Advances e s.at s.rest es' s'.at s'.rest in
+      let Q : List ℕ → Type 0 = λ l. Advances s.ended old.at l (es ++ es') s'.at s'.rest in
+      let F : List ℕ → Type 0 = λ l. Follows s.at l s'.at s'.rest in
+      let G : List ℕ → Type 0 = λ l. Follows old.at l s'.at s'.rest in
+      record {
+        read = step.read;
+        advances = subst E (sym same) (subst Q (append-nil (old.rest ++ bs)) (Advances-then s.ended s.ended old.at s.at s'.at (old.rest ++ bs) s.rest s'.rest [] es es' (λ end. (end, refl)) step.advances (subst R (sym (append-nil s.rest)) (subst I same goes))));
+        follows = subst G (append-nil (old.rest ++ bs)) (Follows-then old.at s.at s'.at (old.rest ++ bs) s.rest s'.rest [] step.follows (subst F (sym (append-nil s.rest)) suffix));
+        kept = λ end. (same ∙ (step.kept end).0, (step.kept end).1, reads ∙ (step.kept end).2);
+        end = λ before ended. step.end before (sym same ∙ ended);
+      }
+
+  -- octets are read, and no event is passed
+  pub read-step : (left' : Option (List ℕ)) (result : Result (Unit {0}) RunFault) (bs' : List ℕ) → ReadsAndPasses left mid old s bs es → s.ended ≡ false → ReadsMore mid left' s s' result bs' → ReadsAndPasses left left' old s' (bs ++ bs') es
+  read-step left' result bs' step going next =
+      let whole : old.rest ++ (bs ++ bs') ≡ (old.rest ++ bs) ++ bs' = sym (append_assoc old.rest bs bs') in
+      let F : List ℕ → Type 0 = λ l. Follows old.at l s'.at s'.rest in
+      let same : Follows s.at (s.rest ++ bs') s'.at s'.rest = record { passed = 0; within = omega arith; offset = omega (arith, next.at); left = next.fills.held } in
+      record {
+        read = Consumes-trans left mid left' bs bs' step.read next.fills.read;
+        advances = record {
+          whole = λ t none.
+              ap (scan_from 0 old.at) (ap (λ l. l ++ t) whole ∙ append_assoc (old.rest ++ bs) bs' t)
+              ∙ step.advances.whole (bs' ++ t) (λ end. absurd (true≢false (sym end ∙ going)))
+              ∙ ap (λ l. es ++ scan_from 0 s.at l) (sym (append_assoc s.rest bs' t) ∙ ap (λ l. l ++ t) (sym next.fills.held))
+              ∙ ap (λ n. es ++ scan_from 0 n (s'.rest ++ t)) (sym next.at);
+          decided = λ _. step.advances.decided going;
+        };
+        follows = subst F (sym whole) (Follows-then old.at s.at s'.at (old.rest ++ bs) s.rest s'.rest bs' step.follows same);
+        kept = λ end. absurd (true≢false (sym (step.kept end).0 ∙ going));
+        end = λ _. next.fills.end;
+      }
+
+last-taken : (before m : List ℕ) (k : ℕ) → k ≤ length m → drop (length (before ++ take k m) - k) (before ++ take k m) ≡ take k m
+last-taken before m k within =
+    let n : length before ≡ length (before ++ take k m) - k = omega (arith, length-append before (take k m), length-take k m) in
+    drop_at before (take k m) _ n
+
+event-is : (s : FinderModel) (m before : List ℕ) (offset : ℕ) (here : Candidate) → s.before ≡ before ++ take (candidate_len m here) m → candidate_len m here ≤ length m
+    → event_by s offset (candidate_len m here) here ≡ stream_event offset m here
+event-is s m before offset Nothing is within = refl
+event-is s m before offset (Stray cause) is within = refl
+event-is s m before offset Frame is within =
+    ap (λ l. FrameAt offset (drop (length l - stated_length m) l) ∷ []) is ∙ ap (λ l. FrameAt offset l ∷ []) (last-taken before m (stated_length m) within)
+
+-- the event that a finder passes
+module _ (old s s' : FinderModel) (place len size : ℕ) (here : Candidate) (found : IsNextEvent old.ended old.rest place here)
+    (is : s ≡ gone_to old place size) (takes : len ≡ candidate_len s.rest here) (is' : s' ≡ gone_to s len 0) where
+  pub found-step : Advances s'.ended old.at old.rest (event_by s' s.at len here) s'.at s'.rest
+  found-step =
+      let m = drop place old.rest in
+      let k = candidate_len m here in
+      let A : FinderModel → Type 0 = λ x. Advances x.ended old.at old.rest (event_by x s.at len here) x.at x.rest in
+      let B : ℕ → Type 0 = λ n. Advances s.ended old.at old.rest (event_by (gone_to s n 0) s.at n here) (s.at + n) (drop n s.rest) in
+      let C : FinderModel → Type 0 = λ x. Advances x.ended old.at old.rest (event_by (gone_to x (candidate_len x.rest here) 0) x.at (candidate_len x.rest here) here) (x.at + candidate_len x.rest here) (drop (candidate_len x.rest here) x.rest) in
+      let D : List StreamEvent → Type 0 = λ e. Advances old.ended old.at old.rest e (old.at + place + k) (drop k m) in
+      let R : List ℕ → Type 0 = λ l. Advances old.ended old.at old.rest (stream_event (old.at + place) m here) (old.at + place + k) l in
+      subst A (sym is') (subst B (sym takes) (subst C (sym is)
+      (subst D (sym (event-is (gone_to (gone_to old place size) k 0) m (old.before ++ take place old.rest) (old.at + place) here refl (omega (arith, found.within, length-drop place old.rest))))
+      (subst R (sym (drop-twice k place old.rest)) (found.advances old.at)))))
+
+module _ (left mid : Option (List ℕ)) (old s s' : FinderModel) (bs : List ℕ) (step : ReadsAndPasses left mid old s bs []) where
+  -- a turn that needs more octets passes those that are no event's
+  pub turn-pass : (place size : ℕ) → s.ended ≡ false → IsIncomplete s.rest place size → s' ≡ gone_to s place size → ReadsAndPasses left mid old s' bs []
+  turn-pass place size going open' is =
+      let A : FinderModel → Type 0 = λ x. Advances x.ended s.at s.rest [] x.at x.rest in
+      let F : FinderModel → Type 0 = λ x. Follows s.at s.rest x.at x.rest in
+      let E : Bool → Type 0 = λ e. Advances e s.at s.rest [] (s.at + place) (drop place s.rest) in
+      pass-step left mid old s s' bs [] [] step (ap (λ x. x.ended) is) (ap (λ x. x.reads) is) (subst A (sym is) (subst E (sym going) (open'.advances s.at)))
+      (subst F (sym is) (record { passed = place; within = open'.within; offset = refl; left = refl }))
+
+-- the scan of octets is the events that were passed and those of what is left
+pub whole-scan : (ended : Bool) (s rest : List ℕ) (events : List StreamEvent) (at : ℕ) → Advances ended 0 s events at rest → scan s ≡ events ++ scan_from 0 at rest
+whole-scan ended s rest events at advances =
+    ap (scan_from 0 0) (sym (append-nil s)) ∙ advances.whole [] (λ _. refl) ∙ ap (λ l. events ++ scan_from 0 at l) (append-nil rest)
+
+pub events-are-scan : (s rest : List ℕ) (events : List StreamEvent) (at : ℕ) → Advances true 0 s events at rest → scan_from 0 at rest ≡ [] → scan s ≡ events
+events-are-scan s rest events at advances none = whole-scan true s rest events at advances ∙ ap (λ l. events ++ l) none ∙ append-nil events
+
+pub events-are-certain : (s rest : List ℕ) (events : List StreamEvent) (at : ℕ) → Advances false 0 s events at rest → (more : List StreamEvent) × (open_scan s ≡ events ++ more)
+events-are-certain s rest events at advances = (
+  take_while is_decided (scan_from 0 at rest),
+  ap (take_while is_decided) (whole-scan false s rest events at advances) ∙ take_while-all events (scan_from 0 at rest) (advances.decided refl),
+)
+
+-- one step of a finder after others
+pub steps-compose : (left mid left' : Option (List ℕ)) (old s s' : FinderModel) (bs bs' : List ℕ) (events es : List StreamEvent)
+    → ReadsAndPasses left mid old s bs events → ReadsAndPasses mid left' s s' bs' es → ReadsAndPasses left left' old s' (bs ++ bs') (events ++ es)
+steps-compose left mid left' old s s' bs bs' events es one u16_at =
+    let whole : (old.rest ++ bs) ++ bs' ≡ old.rest ++ (bs ++ bs') = append_assoc old.rest bs bs' in
+    let A : List ℕ → Type 0 = λ l. Advances s'.ended old.at l (events ++ es) s'.at s'.rest in
+    let F : List ℕ → Type 0 = λ l. Follows old.at l s'.at s'.rest in
+    record {
+      read = Consumes-trans left mid left' bs bs' one.read u16_at.read;
+      advances = subst A whole (Advances-then s.ended s'.ended old.at s.at s'.at (old.rest ++ bs) s.rest s'.rest bs' events es (λ end. ((u16_at.kept end).0, (u16_at.kept end).1)) one.advances u16_at.advances);
+      follows = subst F whole (Follows-then old.at s.at s'.at (old.rest ++ bs) s.rest s'.rest bs' one.follows u16_at.follows);
+      kept = λ end.
+          let a = one.kept end in
+          let b = u16_at.kept a.0 in
+          (b.0, ap (λ l. l ++ bs') a.1 ∙ b.1, b.2 ∙ a.2);
+      end = λ before. u16_at.end (one.end before);
+    }
+
+-- the same from the beginning
+pub ReadsAndPasses-then : (left mid left' : Option (List ℕ)) (s s' : FinderModel) (bs bs' : List ℕ) (events es : List StreamEvent)
+    → ReadsAndPasses left mid new_finder s bs events → ReadsAndPasses mid left' s s' bs' es → ReadsAndPasses left left' new_finder s' (bs ++ bs') (events ++ es)
+ReadsAndPasses-then left mid left' = steps-compose left mid left' new_finder
+
+-- the reads of more calls
+pub CountsReads-then : (a b c : ℕ) (s s' : FinderModel) → CountsReads a b new_finder s → CountsReads b c s s' → CountsReads a c new_finder s'
+CountsReads-then a b c s s' = adds-then a b c 0 s.reads s'.reads
+
+-- ---- How a finder advances, turn by turn.
+
+pub none-unless : {A : Type 0} → (x : Option A) → ((a : A) → x ≡ Some a → ⊥) → x ≡ None
+none-unless None not = refl
+none-unless (Some a) not = absurd (not a refl)
+
+pub some-none : {A : Type 0} → (x : Option A) (a : A) → x ≡ Some a → x ≡ None → ⊥
+some-none x a some none = let e : Some a ≡ None = sym some ∙ none in cc
+
+pub waits-open : (old s : FinderModel) (place size : ℕ) → ((s ≡ old) ⊎ NoEventCertain old.at old.rest) → IsIncomplete s.rest place size → NoEventCertain old.at old.rest
+waits-open old s place size (inr none) open' = none
+waits-open old s place size (inl same) open' =
+    let N : FinderModel → Type 0 = λ x. NoEventCertain x.at x.rest in
+    let D : List ℕ → Type 0 = λ l. NoEventCertain (s.at + place) l in
+    let moved : scan_from 0 s.at s.rest ≡ scan_from 0 (s.at + place) (drop place s.rest) =
+    ap (scan_from 0 s.at) (sym (append-nil s.rest)) ∙ (open'.advances s.at).whole [] (λ _. refl) ∙ ap (scan_from 0 (s.at + place)) (append-nil (drop place s.rest)) in
+    subst N same (ap (take_while is_decided) moved ∙ open'.none (s.at + place))
+
+module _ (left mid : Option (List ℕ)) (old s s1 : FinderModel) (place size : ℕ) (steps : (bs : List ℕ) × ReadsAndPasses left mid old s bs []) (raised : Raised old.longest s.longest s.rest)
+    (looks : (s.ended ≡ false) × IsIncomplete s.rest place size × IsStatedLength (drop place s.rest) size) (is : s1 ≡ gone_to s place size) where
+  going : s1.ended ≡ false
+  going = ap (λ x. x.ended) is ∙ looks.0
+
+  there : ReadsAndPasses left mid old s1 steps.0 []
+  there = turn-pass left mid old s s1 steps.0 steps.1 place size looks.0 looks.1 is
+
+  module _ (left' : Option (List ℕ)) (s2 : FinderModel) (result : Result (Unit {0}) RunFault) (next : (bs : List ℕ) × ReadsMore mid left' s1 s2 result bs) where
+    -- more octets came, or the end, or a fault
+    pub turn-on : ReadsAndPasses left left' old s2 (steps.0 ++ next.0) []
+    turn-on = read-step left mid old s1 s2 steps.0 [] left' result next.0 there going next.1
+
+    pub raised-on : Raised old.longest s2.longest s2.rest
+    raised-on =
+        let R : List ℕ → Type 0 = λ l. Raised old.longest s2.longest l in
+        let L : ℕ → Type 0 = λ n. Raised old.longest n (s1.rest ++ next.0) in
+        let S : FinderModel → Type 0 = λ x. Raised old.longest x.longest x.rest in
+        subst R (sym next.1.fills.held) (subst L (sym next.1.longest) (raised-read old.longest s1.longest s1.rest next.0 (subst S (sym is) (raised-open old.longest s.longest place size s.rest raised looks.1 looks.2.0))))
+
+    -- there is a fault
+    module _ (fault : RunFault) (same : result ≡ Err fault) where
+      none-read : (next.0 ≡ []) × (s2.ended ≡ false) × FillFails (s1.room < 2 * max 4096 s1.longest) (input_left s1) (input_left s2) fault
+      none-read = rw same at next.1.fills.ends
+
+      rest-is : s2.rest ≡ drop place s.rest
+      rest-is = next.1.fills.held ∙ ap (λ l. s1.rest ++ l) none-read.0 ∙ append-nil s1.rest ∙ ap (λ x. x.rest) is
+
+      pub stop-raises : RaisesLongest old s2 (steps.0 ++ next.0) (first_event (scan_from 0 s2.at s2.rest))
+      stop-raises =
+          let S : List ℕ → Type 0 = λ l. RaisesLongest old s2 l (first_event (scan_from 0 s2.at s2.rest)) in
+          subst S (sym (ap (λ l. steps.0 ++ l) none-read.0 ∙ append-nil steps.0))
+          (open-sees old s s2 steps.0 place size steps.1.follows raised looks.1 looks.2.0 (next.1.at ∙ ap (λ x. x.at) is) rest-is (next.1.longest ∙ ap (λ x. x.longest) is))
+
+-- ---- Several calls of a finder together.
+
+-- nothing that is left is certain: the events are the open scan
+pub events-are-open : (s rest : List ℕ) (events : List StreamEvent) (at : ℕ) → Advances false 0 s events at rest → NoEventCertain at rest → open_scan s ≡ events
+events-are-open s rest events at advances none =
+    ap (take_while is_decided) (whole-scan false s rest events at advances) ∙ take_while-all events (scan_from 0 at rest) (advances.decided refl)
+    ∙ ap (λ l. events ++ l) none ∙ append-nil events
+
+-- the offsets of the events of octets
+abbrev Placed : ℕ → List ℕ → StreamEvent → Type 0
+Placed at s e = (at ≤ offset_of e) × (is_decided e ≡ true → offset_of e + 8 ≤ at + length s)
+
+abbrev AllPlaced : ℕ → List ℕ → List StreamEvent → Type 0
+AllPlaced at s [] = Unit {0}
+AllPlaced at s (e ∷ es) = Placed at s e × AllPlaced at s es
+
+placed-wider : (at at' : ℕ) (s s' : List ℕ) (es : List StreamEvent) → at ≤ at' → at' + length s' ≤ at + length s → AllPlaced at' s' es → AllPlaced at s es
+placed-wider at at' s s' [] low high all = tt
+placed-wider at at' s s' (e ∷ es) low high all = ((omega (arith, all.0.0, low), λ yes. omega (arith, all.0.1 yes, high)), placed-wider at at' s s' es low high all.1)
+
+placed-append : (at : ℕ) (s : List ℕ) (xs ys : List StreamEvent) → AllPlaced at s xs → AllPlaced at s ys → AllPlaced at s (xs ++ ys)
+placed-append at s [] ys one u16_at = u16_at
+placed-append at s (x ∷ xs) ys one u16_at = (one.0, placed-append at s xs ys one.1 u16_at)
+
+placed-prefix : (at : ℕ) (s : List ℕ) (xs ys : List StreamEvent) → AllPlaced at s (xs ++ ys) → AllPlaced at s xs
+placed-prefix at s [] ys all = tt
+placed-prefix at s (x ∷ xs) ys all = (all.0, placed-prefix at s xs ys all.1)
+
+placed-first : (at : ℕ) (s : List ℕ) (xs : List StreamEvent) → AllPlaced at s xs → AllPlaced at s (first_event xs)
+placed-first at s [] all = tt
+placed-first at s (x ∷ xs) all = (all.0, tt)
+
+placed-here : (at : ℕ) (m : List ℕ) (v : Candidate) → 8 ≤ length m → AllPlaced at m (stream_event at m v)
+placed-here at m Nothing long = tt
+placed-here at m (Stray cause) long = ((omega arith, λ yes. omega (arith, long)), tt)
+placed-here at m Frame long = ((omega arith, λ yes. omega (arith, long)), tt)
+
+placed-cut : (at : ℕ) (m : List ℕ) (v : Candidate) → v ≡ Stray Cut → AllPlaced at m (stream_event at m v)
+placed-cut at m v is =
+    let P : Candidate → Type 0 = λ x. AllPlaced at m (stream_event at m x) in
+    subst P (sym is) ((omega arith, λ yes. absurd (false≢true yes)), tt)
+
+scan-placed : (n at : ℕ) (s : List ℕ) → length s ≤ n → AllPlaced at s (scan_from 0 at s)
+scan-placed n at [] within = let P : List StreamEvent → Type 0 = λ l. AllPlaced at [] l in subst P (sym (scan_from-nil 0 at)) tt
+scan-placed zero at (x ∷ m) within = absurd (omega (arith, within))
+scan-placed (suc n) at (x ∷ m) within =
+    let s = x ∷ m in
+    let P : List StreamEvent → Type 0 = λ l. AllPlaced at s l in
+    elim (cases_Bool (has_word_at (codes "BUFR") 0 s)) [
+      | inr absent ↦ subst P (sym (scan_from-nothing at x m (verdict-nothing s absent))) (placed-wider at (at + 1) s m (scan_from 0 (at + 1) m) (omega arith) (omega arith) (scan-placed n (at + 1) m (omega arith)))
+      | inl here ↦
+          let k = candidate_len s (classify s) in
+          let bounds = taken-bounds s here in
+          let more : AllPlaced at s (scan_from 0 (at + k) (drop k s)) =
+          placed-wider at (at + k) s (drop k s) (scan_from 0 (at + k) (drop k s)) (omega arith) (omega (arith, length-drop k s, bounds.1)) (scan-placed n (at + k) (drop k s) (omega (arith, length-drop k s, bounds.0))) in
+          let first : AllPlaced at s (stream_event at s (classify s)) = elim (cases_lt (length s) 8) [
+            | inl short ↦ placed-cut at s (classify s) (cut-so s here (inl short))
+            | inr long ↦ placed-here at s (classify s) long
+          ] in
+          subst P (sym (scan_from-here at s (omega arith) (omega (arith, bounds.0)))) (placed-append at s (stream_event at s (classify s)) (scan_from 0 (at + k) (drop k s)) first more)
+    ]
+
+-- octets after it do not change the length that is stated at a certain event
+here-prefix : (m t : List ℕ) → 8 ≤ length m → length_here (m ++ t) ≡ length_here m
+here-prefix m t long = length-eight (m ++ t) (omega (arith, length-append m t)) ∙ stated-prefix m t long ∙ sym (length-eight m long)
+
+longest-prefix : (s t : List ℕ) (es : List StreamEvent) → AllPlaced 0 s es → list_all is_decided es ≡ true → longest_of 0 (s ++ t) es ≡ longest_of 0 s es
+longest-prefix s t [] all sure = refl
+longest-prefix s t (e ∷ es) all sure =
+    let both = and_parts (is_decided e) (list_all is_decided es) sure in
+    let o = offset_of e - 0 in
+    let fits : o + 8 ≤ length s = omega (arith, all.0.1 both.0) in
+    let one : length_here (drop o (s ++ t)) ≡ length_here (drop o s) = ap length_here (drop-append-le o s t (omega (arith, fits))) ∙ here-prefix (drop o s) t (omega (arith, fits, length-drop o s)) in
+    ap (λ n. max n (longest_of 0 (s ++ t) es)) one ∙ ap (max (length_here (drop o s))) (longest-prefix s t es all.1 both.1)
+
+longest-append : (at : ℕ) (s : List ℕ) (xs ys : List StreamEvent) → longest_of at s (xs ++ ys) ≡ max (longest_of at s xs) (longest_of at s ys)
+longest-append at s [] ys = omega arith
+longest-append at s (x ∷ xs) ys = ap (max (length_here (drop (offset_of x - at) s))) (longest-append at s xs ys) ∙ omega arith
+
+-- the same events, seen from the first octet
+longest-back : (s : List ℕ) (at : ℕ) (t : List ℕ) (es : List StreamEvent) → AllPlaced at t es → t ≡ drop at s → longest_of at t es ≡ longest_of 0 s es
+longest-back s at t [] all is = refl
+longest-back s at t (e ∷ es) all is =
+    let o = offset_of e in
+    let k : at + (o - at) ≡ o - 0 = omega (arith, all.0.0) in
+    let one : length_here (drop (o - at) t) ≡ length_here (drop (o - 0) s) = ap (λ l. length_here (drop (o - at) l)) is ∙ ap length_here (drop-twice (o - at) at s ∙ ap (λ n. drop n s) k) in
+    ap (λ n. max n (longest_of at t es)) one ∙ ap (max (length_here (drop (o - 0) s))) (longest-back s at t es all.1 is)
+
+-- the greatest length after more calls
+more-longest : (s s' : FinderModel) (bs bs' : List ℕ) (events seen : List StreamEvent) (left mid : Option (List ℕ)) → ReadsAndPasses left mid new_finder s bs events → s.longest ≡ longest_of 0 bs events
+    → (s.ended ≡ true → bs' ≡ []) → AllPlaced s.at (s.rest ++ bs') seen → RaisesLongest s s' bs' seen → s'.longest ≡ longest_of 0 (bs ++ bs') (events ++ seen)
+more-longest s s' bs bs' events seen left mid one known kept placed grown =
+    let f = one.follows in
+    let at_is : s.at ≡ f.passed = omega (arith, f.offset) in
+    let rest_is : s.rest ++ bs' ≡ drop s.at (bs ++ bs') = ap (λ l. l ++ bs') (f.left ∙ ap (λ n. drop n bs) (sym at_is)) ∙ sym (drop-append-le s.at bs bs' (omega (arith, f.within, at_is))) in
+    let prefix : longest_of 0 (bs ++ bs') events ≡ longest_of 0 bs events = elim (cases_Bool s.ended) [
+      | inl end ↦ ap (λ l. longest_of 0 (bs ++ l) events) (kept end) ∙ ap (λ l. longest_of 0 l events) (append-nil bs)
+      | inr going ↦
+          let all : AllPlaced 0 bs (events ++ scan_from 0 s.at s.rest) =
+          (let P : List StreamEvent → Type 0 = λ l. AllPlaced 0 bs l in subst P (whole-scan s.ended bs s.rest events s.at one.advances) (scan-placed (length bs) 0 bs (omega arith))) in
+          longest-prefix bs bs' events (placed-prefix 0 bs events (scan_from 0 s.at s.rest) all) (one.advances.decided going)
+    ] in
+    grown ∙ ap (λ n. max n (longest_of s.at (s.rest ++ bs') seen)) (known ∙ sym prefix)
+    ∙ ap (max (longest_of 0 (bs ++ bs') events)) (longest-back (bs ++ bs') s.at (s.rest ++ bs') seen placed rest_is)
+    ∙ sym (longest-append 0 (bs ++ bs') events seen)
+
+pub longest-events : (left mid left' : Option (List ℕ)) (s s' : FinderModel) (bs bs' : List ℕ) (events es : List StreamEvent)
+    → ReadsAndPasses left mid new_finder s bs events → s.longest ≡ longest_of 0 bs events → ReadsAndPasses mid left' s s' bs' es → RaisesLongest s s' bs' es → s'.longest ≡ longest_of 0 (bs ++ bs') (events ++ es)
+longest-events left mid left' s s' bs bs' events es one known u16_at grown =
+    let P : List StreamEvent → Type 0 = λ l. AllPlaced s.at (s.rest ++ bs') l in
+    let whole : scan_from 0 s.at (s.rest ++ bs') ≡ es ++ scan_from 0 s'.at s'.rest =
+    ap (scan_from 0 s.at) (sym (append-nil (s.rest ++ bs'))) ∙ u16_at.advances.whole [] (λ _. refl) ∙ ap (λ l. es ++ scan_from 0 s'.at l) (append-nil s'.rest) in
+    more-longest s s' bs bs' events es left mid one known (λ end. (u16_at.kept end).1)
+    (placed-prefix s.at (s.rest ++ bs') es (scan_from 0 s'.at s'.rest) (subst P whole (scan-placed (length (s.rest ++ bs')) s.at (s.rest ++ bs') (omega arith)))) grown
+
+pub longest-stopped : (left mid left' : Option (List ℕ)) (s s' : FinderModel) (bs bs' : List ℕ) (events : List StreamEvent)
+    → ReadsAndPasses left mid new_finder s bs events → s.longest ≡ longest_of 0 bs events → ReadsAndPasses mid left' s s' bs' [] → RaisesLongest s s' bs' (first_event (scan_from 0 s'.at s'.rest))
+    → s'.longest ≡ longest_of 0 (bs ++ bs') (events ++ first_event (scan_from 0 s'.at s'.rest))
+longest-stopped left mid left' s s' bs bs' events one known u16_at grown =
+    let f = u16_at.follows in
+    let es = first_event (scan_from 0 s'.at s'.rest) in
+    more-longest s s' bs bs' events es left mid one known (λ end. (u16_at.kept end).1)
+    (placed-wider s.at s'.at (s.rest ++ bs') s'.rest es (omega (arith, f.offset)) (omega (arith, f.offset, f.within, ap length f.left, length-drop f.passed (s.rest ++ bs')))
+    (placed-first s'.at s'.rest (scan_from 0 s'.at s'.rest) (scan-placed (length s'.rest) s'.at s'.rest (omega arith)))) grown
+
+-- after the end no event comes, and no fault
+pub done-again : (left left' : Option (List ℕ)) (reads reads' : ℕ) (old new : FinderModel) (result : Result Event RunFault)
+    → ReturnsNextEvent left left' reads reads' old new result → HasNoMoreEvents old → (result ≡ Ok event.Done) × (new.reads ≡ old.reads)
+done-again left left' reads reads' old new result next done = (only result next.steps.1.advances next.ends, kept.2)
+  where
+    kept : (new.ended ≡ true) × (next.steps.0 ≡ []) × (new.reads ≡ old.reads)
+    kept = next.steps.1.kept done.0
+
+    none : (events : List StreamEvent) → Advances new.ended old.at (old.rest ++ next.steps.0) events new.at new.rest → events ++ scan_from 0 new.at (new.rest ++ []) ≡ []
+    none events advances = sym (advances.whole [] (λ _. refl)) ∙ ap (scan_from 0 old.at) (append-nil (old.rest ++ next.steps.0) ∙ ap (λ l. old.rest ++ l) kept.1 ∙ append-nil old.rest) ∙ done.1 old.at
+
+    only : (r : Result Event RunFault) → Advances new.ended old.at (old.rest ++ next.steps.0) (events_returned r) new.at new.rest → LeavesFinder old new r → r ≡ Ok event.Done
+    only (Ok (event.Frame offset octets)) advances ends = absurd (let e = none (FrameAt offset octets.now ∷ []) advances in cc)
+    only (Ok (event.Stray offset cause)) advances ends = absurd (let e = none (StrayAt offset cause ∷ []) advances in cc)
+    only (Ok event.Done) advances ends = refl
+    only (Err fault) advances ends = absurd (true≢false (sym done.0 ∙ ends.0))
+
+-- ---- The reads of a call, each with what was certain before it.
+
+wider : (most most' at : ℕ) (left : List ℕ) (given : List (List ℕ)) → most ≤ most' → EachReadIsNeeded most at left given → EachReadIsNeeded most' at left given
+wider most most' at left [] more all = tt
+wider most most' at left (octets ∷ given) more all = (all.0, omega (arith, all.1, more), wider most most' at (left ++ octets) given more all.2)
+
+one-more : (most at : ℕ) (left : List ℕ) (given : List (List ℕ)) (last : List ℕ) → EachReadIsNeeded most at left given → NoEventCertain at (left ++ concat given) → length last ≤ most → EachReadIsNeeded most at left (given ++ last ∷ [])
+one-more most at left [] last all none few = let N : List ℕ → Type 0 = λ l. NoEventCertain at l in (subst N (append-nil left) none, few, tt)
+one-more most at left (octets ∷ given) last all none few =
+    let N : List ℕ → Type 0 = λ l. NoEventCertain at l in
+    (all.0, all.1, one-more most at (left ++ octets) given last all.2 (subst N (sym (append_assoc left octets (concat given))) none) few)
+
+-- before any read
+pub none-waited : (s : FinderModel) → CallReadsAreNeeded s s []
+none-waited s = record { given = []; octets = refl; made = omega arith; waited = tt }
+
+-- no more reads were made
+pub waits-still : (old s s' : FinderModel) (bs : List ℕ) → CallReadsAreNeeded old s bs → s'.reads ≡ s.reads → s.longest ≤ s'.longest → CallReadsAreNeeded old s' bs
+waits-still old s s' bs each reads longer = record {
+  given = each.given;
+  octets = each.octets;
+  made = reads ∙ each.made;
+  waited = wider (max 4096 s.longest) (max 4096 s'.longest) old.at old.rest each.given (omega (arith, longer)) each.waited;
+}
+
+-- if what is left now decides nothing, neither does what was left at first with all that was read
+none-in-all : (left mid : Option (List ℕ)) (old s : FinderModel) (bs : List ℕ) (place size : ℕ) → ReadsAndPasses left mid old s bs [] → s.ended ≡ false → IsIncomplete s.rest place size → NoEventCertain old.at (old.rest ++ bs)
+none-in-all left mid old s bs place size step going open' =
+    let all : scan_from 0 old.at (old.rest ++ bs) ≡ scan_from 0 s.at s.rest =
+    ap (scan_from 0 old.at) (sym (append-nil (old.rest ++ bs))) ∙ step.advances.whole [] (λ _. refl) ∙ ap (scan_from 0 s.at) (append-nil s.rest) in
+    let moved : scan_from 0 s.at s.rest ≡ scan_from 0 (s.at + place) (drop place s.rest) =
+    ap (scan_from 0 s.at) (sym (append-nil s.rest)) ∙ (open'.advances s.at).whole [] (λ _. refl) ∙ ap (scan_from 0 (s.at + place)) (append-nil (drop place s.rest)) in
+    ap (take_while is_decided) (all ∙ moved) ∙ open'.none (s.at + place)
+
+module _ (left mid : Option (List ℕ)) (old s s1 s2 : FinderModel) (place size : ℕ) (bs : List ℕ) (each : CallReadsAreNeeded old s bs) (step : ReadsAndPasses left mid old s bs []) (going : s.ended ≡ false) (open' : IsIncomplete s.rest place size) (is : s1 ≡ gone_to s place size) (bound : held s2 ≤ max 4096 s2.longest)
+    (left' : Option (List ℕ)) (result : Result (Unit {0}) RunFault) (bs' : List ℕ) (read : ReadsMore mid left' s1 s2 result bs') where
+  longer : s.longest ≤ s2.longest
+  longer = omega (arith, ap (λ x. x.longest) is, read.longest)
+
+  -- a read was made
+  waits-more : s2.reads ≡ s1.reads + 1 → CallReadsAreNeeded old s2 (bs ++ bs')
+  waits-more reads =
+      let most = max 4096 s2.longest in
+      let N : List ℕ → Type 0 = λ l. NoEventCertain old.at (old.rest ++ l) in
+      record {
+        given = each.given ++ bs' ∷ [];
+        octets = ap (λ l. l ++ bs') each.octets ∙ ap (λ l. concat each.given ++ l) (sym (append-nil bs')) ∙ sym (concat-append each.given (bs' ∷ []));
+        made = omega (arith, reads, ap (λ x. x.reads) is, each.made, length-append each.given (bs' ∷ []));
+        waited = one-more most old.at old.rest each.given bs' (wider (max 4096 s.longest) most old.at old.rest each.given (omega (arith, longer)) each.waited)
+            (subst N each.octets (none-in-all left mid old s bs place size step going open'))
+            (omega (arith, bound, ap length read.fills.held, length-append s1.rest bs'));
+      }
+
+  -- the read gave octets, or failed, or was not made
+  pub waits-read : CallReadsAreNeeded old s2 (bs ++ bs')
+  waits-read = by result read.fills.ends
+    where
+      none : bs' ≡ [] → s2.reads ≡ s1.reads → CallReadsAreNeeded old s2 (bs ++ bs')
+      none nothing same =
+          let E : List ℕ → Type 0 = λ l. CallReadsAreNeeded old s2 l in
+          subst E (sym (ap (λ l. bs ++ l) nothing ∙ append-nil bs)) (waits-still old s s2 bs each (same ∙ ap (λ x. x.reads) is) longer)
+
+      by : (r : Result (Unit {0}) RunFault) → FillEnds (s1.room < 2 * max 4096 s1.longest) (input_left s1) (input_left s2) bs' r → CallReadsAreNeeded old s2 (bs ++ bs')
+      by (Ok u) ends = waits-more ends.0
+      by (Err Read) ends = waits-more ends.2
+      by (Err Write) ends = absurd ends.2
+      by (Err InputTooLong) ends = none ends.0 ends.2.0
+      by (Err Memory) ends = none ends.0 ends.2.0

@@ -1,0 +1,263 @@
+-- The model of a finder, what its search finds, and what a call of it does.
+-- Cited by public contracts.
+use Rattle.std.specs.Prelude.{◌≡◌, ◌≢◌, ℕ, ◌+◌, ◌*◌, ◌<◌, ◌≤◌, max, Bool, true, false, List, [], ◌∷◌, ◌++◌, Option, Some, None, length, drop, ◌-◌, Result, Ok, Err, MatchResult, take, ◌⊎◌, ◌^◌, codes}
+use Rattle.std.specs.List.{concat}
+use Rattle.std.specs.Io.KnownBytes.{Consumes, IsAtEnd}
+use Rattle.bufr_frame.specs.Scan.{StreamEvent, scan_from, Advances, NoEventCertain, longest_of, FrameAt, StrayAt, classify, stream_event, candidate_len, stated_length, has_word_at, first_event, length_here}
+use Rattle.bufr_frame.specs.Input.{AddsReads, max_reads, InputModel, FillsInput}
+use Rattle.bufr_frame.specs.declared.fault.RunFault.{RunFault}
+use Rattle.bufr_frame.specs.declared.fault.RunFault.TheVariants.{Read, Write, InputTooLong, Memory}
+use Rattle.bufr_frame.specs.declared.finder.Candidate.{Candidate}
+use Rattle.bufr_frame.specs.declared.finder.Candidate.TheVariants.{Nothing, Stray, Frame}
+use Rattle.bufr_frame.specs.declared.finder.PassedEvent.{PassedEvent}
+use Rattle.bufr_frame.specs.declared.finder.SearchResult.{SearchResult}
+use Rattle.bufr_frame.specs.declared.finder.SearchResult.TheVariants.{Found, NeedsMore, End}
+use Rattle.bufr_frame.specs.declared.finder.Finder.TheInside.{Inside}
+
+-- the model of a finder
+pub record FinderModel : Type 0 where
+  -- the octets that were passed and are still held
+  pub before : List ℕ
+  -- the octets that were read and are left
+  pub rest : List ℕ
+  -- the offset of the first of them
+  pub at : ℕ
+  -- whether the end was reached
+  pub ended : Bool
+  -- the fault that stopped it
+  pub fault : Option RunFault
+  -- how many reads it made
+  pub reads : ℕ
+  -- the greatest length that was stated
+  pub longest : ℕ
+  -- how many octets there is room for without taking memory
+  pub room : ℕ
+
+-- the number of octets held
+abbrev pub held : FinderModel → ℕ
+held s = length s.before + length s.rest
+
+-- a finder that has read nothing
+abbrev pub new_finder : FinderModel
+new_finder =
+    record {
+      before = [];
+      rest = [];
+      at = 0;
+      ended = false;
+      fault = None;
+      reads = 0;
+      longest = 0;
+      room = 0;
+    }
+
+-- `rest`, from offset `at'`, is a suffix of s, whose first octet is at offset `at`.
+pub record Follows (at : ℕ) (s : List ℕ) (at' : ℕ) (rest : List ℕ) : Type 0 where
+  pub passed : ℕ
+  pub within : passed ≤ length s
+  pub offset : at' ≡ at + passed
+  pub left : rest ≡ drop passed s
+
+-- A call read octets, passed events, and holds what is left.
+pub record ReadsAndPasses (left left' : Option (List ℕ)) (old new : FinderModel) (bs : List ℕ)
+    (events : List StreamEvent) : Type 0 where
+  pub read : Consumes left left' bs
+  pub advances : Advances new.ended old.at (old.rest ++ bs) events new.at new.rest
+  pub follows : Follows old.at (old.rest ++ bs) new.at new.rest
+  pub kept : old.ended ≡ true → (new.ended ≡ true) × (bs ≡ []) × (new.reads ≡ old.reads)
+  pub end : (old.ended ≡ true → IsAtEnd left) → new.ended ≡ true → IsAtEnd left'
+
+-- The greatest length stated so far counts those that were seen.
+abbrev pub RaisesLongest : FinderModel → FinderModel → List ℕ → List StreamEvent → Type 0
+RaisesLongest old new bs seen = new.longest
+    ≡ max old.longest (longest_of old.at (old.rest ++ bs) seen)
+
+-- The reads of a call are counted, by the reader and by the finder.
+abbrev pub CountsReads : (reads reads' : ℕ) → FinderModel → FinderModel → Type 0
+CountsReads reads reads' old new = AddsReads reads reads' old.reads new.reads
+
+-- what is held has no further event
+abbrev pub HasNoMoreEvents : FinderModel → Type 0
+HasNoMoreEvents s = (s.ended ≡ true) × ((at : ℕ) → scan_from 0 at s.rest ≡ [])
+
+-- a fault is kept, and nothing that is left is certain while the end is not known
+abbrev pub IsUndecided : FinderModel → RunFault → Type 0
+IsUndecided s fault = (s.fault ≡ Some fault) × (s.ended ≡ false)
+    × ((at : ℕ) → NoEventCertain at s.rest)
+
+-- how a fault leaves a finder: it is never one of a write; an input is too long only after 2^32
+-- reads, and memory is needed only before
+abbrev pub StopsFinder : FinderModel → RunFault → Type 0
+StopsFinder new Read = IsUndecided new Read
+StopsFinder new Write = ⊥
+StopsFinder new InputTooLong = IsUndecided new InputTooLong × (new.reads ≡ max_reads)
+StopsFinder new Memory = IsUndecided new Memory × (new.reads < max_reads)
+
+-- a read is made only where no event is certain in what is left
+abbrev pub ReadsOnlyIfUndecided : FinderModel → FinderModel → Type 0
+ReadsOnlyIfUndecided old new = old.reads ≢ new.reads → NoEventCertain old.at old.rest
+
+-- Reads one after another, with what each gave, where `left` is what was left before the first. No
+-- read was made while an event was certain in `left` and the octets read so far. No read gave more
+-- than `most` octets.
+abbrev pub EachReadIsNeeded : (most at : ℕ) (left : List ℕ) (given : List (List ℕ)) → Type 0
+EachReadIsNeeded most at left [] = Unit {0}
+EachReadIsNeeded most at left (octets ∷ more) =
+    NoEventCertain at left × (length octets ≤ most) × EachReadIsNeeded most at (left ++ octets) more
+
+-- The octets of a call are what its reads gave. Each read was needed, and gave no more than may be
+-- held.
+pub record CallReadsAreNeeded (old new : FinderModel) (bs : List ℕ) : Type 0 where
+  pub given : List (List ℕ)
+  pub octets : bs ≡ concat given
+  pub made : new.reads ≡ old.reads + length given
+  pub waited : EachReadIsNeeded (max 4096 new.longest) old.at old.rest given
+
+-- A call read some octets, returned events, and raised the greatest length by those seen.
+abbrev pub ReadsOn : (left left' : Option (List ℕ)) → (old new : FinderModel)
+    → (events seen : List StreamEvent) → Type 0
+ReadsOn left left' old new events seen =
+    (bs : List ℕ) × ReadsAndPasses left left' old new bs events
+    × (old.fault ≡ None → RaisesLongest old new bs seen) × CallReadsAreNeeded old new bs
+
+-- memory is needed only where the room was less than twice the octets that may be held
+abbrev pub GrowsOnlyIfFull : FinderModel → FinderModel → RunFault → Type 0
+GrowsOnlyIfFull old new Read = Unit {0}
+GrowsOnlyIfFull old new Write = Unit {0}
+GrowsOnlyIfFull old new InputTooLong = Unit {0}
+GrowsOnlyIfFull old new Memory = old.room < 2 * max 4096 new.longest
+
+-- What octets show to the search of a finder, when more may come after them, and what its steps do.
+
+-- the event that was passed last
+abbrev pub event_by : FinderModel → (offset len : ℕ) → Candidate → List StreamEvent
+event_by s offset len Nothing = []
+event_by s offset len (Stray cause) = StrayAt offset cause ∷ []
+event_by s offset len Frame = FrameAt offset (drop (length s.before - len) s.before) ∷ []
+
+-- the event that was passed last, from its offset and length
+abbrev pub passed_events : FinderModel → PassedEvent → List StreamEvent
+passed_events s p = event_by s p.offset p.len p.here
+
+-- the events of a call that passes one
+abbrev pub events_by : FinderModel → Result (Option PassedEvent) RunFault → List StreamEvent
+events_by s (Ok (Some passed)) = passed_events s passed
+events_by s (Ok None) = []
+events_by s (Err fault) = []
+
+-- the events whose stated length counts: after a fault the first that is left
+abbrev pub seen_by : FinderModel → Result (Option PassedEvent) RunFault → List StreamEvent
+seen_by s (Ok (Some passed)) = passed_events s passed
+seen_by s (Ok None) = []
+seen_by s (Err fault) = first_event (scan_from 0 s.at s.rest)
+
+-- An event was passed: it ends where the rest begins, and it is held.
+pub record PassesEvent (old new : FinderModel) (passed : PassedEvent) : Type 0 where
+  pub sound : new.fault ≡ None
+  pub moves : old.at < new.at
+  pub place : new.at ≡ passed.offset + passed.len
+  pub within : passed.len ≤ length new.before
+  pub some : passed.here ≢ Nothing
+  pub frame : passed.here ≡ Frame → 12 ≤ passed.len
+  pub stray : passed.here ≢ Frame → passed.len ≡ 4
+
+-- how a call that passes an event leaves a finder
+abbrev pub AdvancesFinder : FinderModel → FinderModel → Result (Option PassedEvent) RunFault
+    → Type 0
+AdvancesFinder old new (Ok (Some passed)) = PassesEvent old new passed
+AdvancesFinder old new (Ok None) = (new.fault ≡ None) × HasNoMoreEvents new
+AdvancesFinder old new (Err fault) =
+    (old.ended ≡ false) × (old.fault ≡ None → StopsFinder new fault)
+    × (old.fault ≡ None → GrowsOnlyIfFull old new fault)
+
+-- the input of a finder as far as it is left
+abbrev pub input_left : FinderModel → InputModel
+input_left s = record { held = s.rest; ended = s.ended; reads = s.reads; room = s.room; free = 0 }
+
+-- One read: octets come after those that are left, or the end was reached, or a fault stops it.
+pub record ReadsMore (left left' : Option (List ℕ)) (old new : FinderModel)
+    (result : Result (Unit {0}) RunFault) (bs : List ℕ) : Type 0 where
+  pub fills : FillsInput left left' (input_left old) (input_left new)
+      (old.room < 2 * max 4096 old.longest) result bs
+  pub at : new.at ≡ old.at
+  pub fault : MatchResult result (λ _. new.fault ≡ None) (λ fault. new.fault ≡ Some fault)
+  pub longest : new.longest ≡ old.longest
+
+-- the end, the fault and the reads stay
+pub record KeepsRun (old new : FinderModel) : Type 0 where
+  pub ended : new.ended ≡ old.ended
+  pub fault : new.fault ≡ old.fault
+  pub reads : new.reads ≡ old.reads
+
+-- the finder after it passes the first n octets that are left, where a length is stated
+abbrev pub gone_to : FinderModel → (n stated_length : ℕ) → FinderModel
+gone_to s n stated_length =
+    record s {
+      before = s.before ++ take n s.rest;
+      rest = drop n s.rest;
+      at = s.at + n;
+      longest = max s.longest stated_length;
+    }
+
+-- the octets begin with `BUFR`
+abbrev pub StartsWithBufr : List ℕ → Type 0
+StartsWithBufr m = has_word_at (codes "BUFR") 0 m ≡ true
+
+-- The next event is certain.
+pub record IsNextEvent (ended : Bool) (rest : List ℕ) (place : ℕ) (here : Candidate) : Type 0 where
+  pub is : here ≡ classify (drop place rest)
+  pub some : here ≢ Nothing
+  pub frame : here ≡ Frame → 12 ≤ stated_length (drop place rest)
+  pub moves : 4 ≤ candidate_len (drop place rest) here
+  pub within : place + candidate_len (drop place rest) here ≤ length rest
+  pub first : StartsWithBufr rest → place ≡ 0
+  pub advances : (at : ℕ) → Advances ended at rest
+      (stream_event (at + place) (drop place rest) here)
+      (at + place + candidate_len (drop place rest) here)
+      (drop (place + candidate_len (drop place rest) here) rest)
+
+-- No event is certain, and none begins before `place`. `BUFR` begins there, or too few octets to
+-- decide are left.
+pub record IsIncomplete (rest : List ℕ) (place stated_length : ℕ) : Type 0 where
+  pub within : place ≤ length rest
+  pub first : StartsWithBufr rest → place ≡ 0
+  pub few : length (drop place rest) < max 8 stated_length
+  pub here : (length (drop place rest) < 4) ⊎ StartsWithBufr (drop place rest)
+  pub advances : (at : ℕ) → Advances false at rest [] (at + place) (drop place rest)
+  pub none : (at : ℕ) → NoEventCertain at (drop place rest)
+
+-- no event comes any more
+pub record HasNoFurtherEvent (rest : List ℕ) : Type 0 where
+  pub scan : (at : ℕ) → scan_from 0 at rest ≡ []
+  pub word : StartsWithBufr rest → ⊥
+
+-- the length that octets 5 to 7 state, 0 where there are not eight octets
+abbrev pub IsStatedLength : List ℕ → ℕ → Type 0
+IsStatedLength m stated_length = (stated_length ≡ length_here m) × (stated_length < 2 ^ 24)
+
+-- what octets show; more may come after them unless the end was reached
+abbrev pub IsSearchResult : Bool → List ℕ → SearchResult → Type 0
+IsSearchResult ended rest (Found found) =
+    IsNextEvent ended rest found.place found.here × IsStatedLength (drop found.place rest)
+    found.stated_length
+IsSearchResult ended rest (NeedsMore wanted) =
+    (ended ≡ false) × IsIncomplete rest wanted.place wanted.stated_length
+    × IsStatedLength (drop wanted.place rest) wanted.stated_length
+IsSearchResult ended rest End = (ended ≡ true) × HasNoFurtherEvent rest
+
+-- how the greatest length grew since it was `old`: by the length that a first `BUFR` states, or not
+abbrev pub Raised : (old now : ℕ) → List ℕ → Type 0
+Raised old now rest =
+    (now ≡ old) ⊎ (StartsWithBufr rest × (8 ≤ length rest) × (now ≡ max old (stated_length rest)))
+
+-- ---- How a finder keeps its octets: those that were passed, and after them those that are left.
+
+-- its offsets and counts are small; it holds no more than the greatest stated length needs; no
+-- fault comes after the end; and it searches for `BUFR`
+abbrev pub IsFinder : Inside → Type 0
+IsFinder f =
+    (f.passed ≤ length f.input.held)
+    × (f.offset + (length f.input.held - f.passed) ≤ f.input.reads * 2 ^ 24)
+    × (f.input.reads ≤ max_reads) × (length f.input.held ≤ max 4096 f.longest)
+    × (f.longest < 2 ^ 24)
+    × (f.word ≡ codes "BUFR") × ((f.fault ≡ None) ⊎ (f.input.ended ≡ false))

@@ -1,0 +1,395 @@
+-- Steps of a reader of records, its rows and its numbers.
+use Rattle.std.proofs.Common.{◌≡◌, ℕ, ◌+◌, ◌^◌, ◌<◌, ◌≤◌, Bool, true, false, List, [], ◌∷◌, ◌++◌, length, Option, Some, None, refl, ap, ◌∙◌, add-one, arith, suc, zero, Bor, inl, inr, sym, drop, get_or, Result, Ok, Err, ◌≢◌, ◌-◌, ◌*◌, min, nat_lt, take, ℤ, pos, option_map, rules, tests}
+use Rattle.std.specs.Prelude.{IsSome, if◌then◌else◌, ◌==◌, ◌&&◌, not, nat_le, option_and_then}
+use Rattle.std.proofs.lemmas.Bool.{cases_Bool, cases_lt}
+use Rattle.std.proofs.lemmas.Option.{same_Some}
+use Rattle.csv.specs.Machine.{Read, ends_at_end, fields_after, field_after, is_end, next_record, step, is_byte, in_field, start_field, start_record, ends_with, after_end}
+use Rattle.csv.specs.Reading.{NextIs, ReadRecord, ReadsNext, records_from, records_next, pending_of, default_config, is_flexible, reader_state, strip_bom, is_bom, took_first}
+use Rattle.csv.specs.declared.parser.Config.{Config}
+use Rattle.csv.specs.declared.parser.State.{State}
+use Rattle.csv.specs.declared.parser.Terminator.{Terminator}
+use Rattle.csv.specs.declared.parser.Action.{Action}
+use Rattle.csv.specs.declared.reader.Reader.{Reader}
+use Rattle.bufr_tables.specs.Records.{Record, GivesNext, IsBetween, count_of, record_given, records_after, text_left, field_of, IsOpened, records_left, field_texts, has_fields, has_header, table_from, table_of, ReturnsUnlessMemory, and_then, number_after_digits, if_i64, i64_of, integer_of, natural_of, negated}
+use Rattle.bufr_tables.specs.declared.rows.RecordReader.{RecordReader}
+use Rattle.std.specs.Str.{bytes_eq}
+use Rattle.csv.specs.Records.{field_at}
+use Rattle.bufr_tables.specs.declared.fault.TableFault.{TableFault}
+use Rattle.bufr_tables.specs.declared.fault.TableFault.TheVariants.{Header, Row, Duplicate, Cycle, TableSize, Csv, Memory}
+use Rattle.bufr_tables.specs.TableD.{ReadsTableD, Member, Sequence, added, begins_again, columns_d, member_of, table_d_of, with_member, with_record_d}
+use Rattle.std.proofs.lemmas.List.{take_more}
+use Rattle.std.proofs.lemmas.Bool.Decides.{nat_tests}
+use Rattle.csv.specs.declared.parser.State.TheVariants as st
+use Rattle.csv.specs.declared.parser.Terminator.TheVariants as term
+
+-- after the octet that ends a record no record has begun
+after_end-between : (t : Terminator) (c : ℕ) → ends_at_end (after_end t c) ≡ false
+after_end-between term.CRLF c = elim (cases_Bool (c == 13)) [ inl e ↦ rw e refl | inr e ↦ rw e refl ]
+after_end-between (term.Any t) c = refl
+
+-- an action that ends the record leaves no record begun
+abbrev Ends : State × Action → Type 0
+Ends move = is_end move.1 ≡ true → ends_at_end move.0 ≡ false
+
+Ends-cond : (b : Bool) (p q : State × Action) → Ends p → Ends q → Ends (if b then p else q)
+Ends-cond true p q a b = a
+Ends-cond false p q a b = b
+
+in_field-between : (cfg : Config) (c : ℕ) → Ends (in_field cfg c)
+in_field-between cfg c =
+    Ends-cond (c == cfg.delimiter) _ _ (λ e. cc e) (Ends-cond (ends_with cfg.terminator c) _ _ (λ _. after_end-between cfg.terminator c) (λ e. cc e))
+
+start_field-between : (cfg : Config) (c : ℕ) → Ends (start_field cfg c)
+start_field-between cfg c = Ends-cond (cfg.quoting && (c == cfg.quote)) _ _ (λ e. cc e) (in_field-between cfg c)
+
+start_record-between : (cfg : Config) (c : ℕ) → Ends (start_record cfg c)
+start_record-between cfg c =
+    Ends-cond (ends_with cfg.terminator c) _ _ (λ e. cc e) (Ends-cond (is_byte cfg.comment c) _ _ (λ e. cc e) (start_field-between cfg c))
+
+step-between : (cfg : Config) (s : State) (c : ℕ) → Ends (step cfg s c)
+step-between cfg st.StartRecord c = start_record-between cfg c
+step-between cfg st.StartField c = start_field-between cfg c
+step-between cfg st.InField c = in_field-between cfg c
+step-between cfg st.InQuoted c =
+    Ends-cond (cfg.quoting && (c == cfg.quote)) _ _ (λ e. cc e) (Ends-cond (cfg.quoting && is_byte cfg.escape c) _ _ (λ e. cc e) (λ e. cc e))
+step-between cfg st.InEscape c = λ e. cc e
+step-between cfg st.AfterQuote c = Ends-cond (cfg.quoting && cfg.double_quote && (c == cfg.quote)) _ _ (λ e. cc e) (in_field-between cfg c)
+step-between cfg st.InComment c = Ends-cond (c == 10) _ _ (λ e. cc e) (λ e. cc e)
+step-between cfg st.AfterCr c = Ends-cond (c == 10) _ _ (λ e. cc e) (start_record-between cfg c)
+
+-- a record leaves the reader between two records, with fewer octets where it stood between two
+-- before
+pub record Leaves (s : State) (xs : List ℕ) (read : Read) : Type 0 where
+  pub between : ends_at_end read.1 ≡ false
+  pub most : length read.2 ≤ length xs
+  pub fewer : ends_at_end s ≡ false → length read.2 < length xs
+
+pub next_record-leaves : (cfg : Config) (s : State) (fields : List (List ℕ)) (field xs : List ℕ) (read : Read) → next_record cfg s fields field xs ≡ Some read → Leaves s xs read
+unfolding next_record
+next_record-leaves cfg s fields field [] read is = at_end (ends_at_end s) refl is
+  where
+    at_end : (b : Bool) → ends_at_end s ≡ b → (if b then Some (fields ++ (field ∷ []), st.StartRecord, []) else None) ≡ Some read → Leaves s [] read
+    at_end true e is = let same = same_Some _ _ is in rw (← same) (record { between = refl; most = omega arith; fewer = λ none. cc (e, none) })
+    at_end false e is = cc is
+next_record-leaves cfg s fields field (c ∷ xs) read is =
+    by (is_end (step cfg s c).1) refl is (next_record-leaves cfg (step cfg s c).0 (fields_after (step cfg s c).1 fields field) (field_after (step cfg s c).1 c field) xs read)
+  where
+    by : (b : Bool) → is_end (step cfg s c).1 ≡ b
+        → (if b then Some (fields_after (step cfg s c).1 fields field, (step cfg s c).0, xs) else next_record cfg (step cfg s c).0 (fields_after (step cfg s c).1 fields field) (field_after (step cfg s c).1 c field) xs) ≡ Some read
+        → (next_record cfg (step cfg s c).0 (fields_after (step cfg s c).1 fields field) (field_after (step cfg s c).1 c field) xs ≡ Some read → Leaves (step cfg s c).0 xs read)
+        → Leaves s (c ∷ xs) read
+    by true e is more = let same = same_Some _ _ is in rw (← same) (record { between = step-between cfg s c e; most = omega arith; fewer = λ _. omega arith })
+    by false e is more = let h = more is in record { between = h.between; most = omega (arith, h.most); fewer = λ _. omega (arith, h.most) }
+
+-- more turns than octets give the same records
+pub records_from-enough : (cfg : Config) (n m : ℕ) (s : State) (xs : List ℕ) → ends_at_end s ≡ false → length xs < n → length xs < m
+    → records_from cfg n s xs ≡ records_from cfg m s xs
+unfolding records_from
+records_from-enough cfg zero m s xs between a b = absurd (omega arith)
+records_from-enough cfg (suc n) zero s xs between a b = absurd (omega arith)
+records_from-enough cfg (suc n) (suc m) s xs between a b = by (next_record cfg s [] [] xs) refl (records_from-enough cfg n m)
+  where
+    by : (o : Option Read) → next_record cfg s [] [] xs ≡ o
+        → ((s' : State) (xs' : List ℕ) → ends_at_end s' ≡ false → length xs' < n → length xs' < m → records_from cfg n s' xs' ≡ records_from cfg m s' xs')
+        → records_next (records_from cfg n) o ≡ records_next (records_from cfg m) o
+    by None e more = refl
+    by (Some read) e more =
+        let left = next_record-leaves cfg s [] [] xs read e in
+        let less : length read.2 < length xs = left.fewer between in
+        ap (λ (rest : List Record). read.0 ∷ rest) (more read.1 read.2 left.between (omega arith) (omega arith))
+
+-- what a read that found a record did
+pub record Found (a : State) (before : Option (List ℕ)) (b : State) (after : Option (List ℕ)) (fields : Record) : Type 0 where
+  pub records : records_after a before ≡ fields ∷ records_after b after
+  pub known : IsSome after
+  pub between : ends_at_end b ≡ false
+  pub fewer : count_of after < count_of before
+
+found-next : (a b : State) (xs ys : List ℕ) (fields : Record) → ends_at_end a ≡ false → NextIs (next_record default_config a [] [] xs) true fields b ys
+    → Found a (Some xs) b (Some ys) fields
+unfolding records_from
+found-next a b xs ys fields between next = by (next_record default_config a [] [] xs) refl next
+  where
+    by : (o : Option Read) → next_record default_config a [] [] xs ≡ o → NextIs o true fields b ys → Found a (Some xs) b (Some ys) fields
+    by None e next = cc next
+    by (Some read) e next =
+        let left = next_record-leaves default_config a [] [] xs read e in
+        let less : length read.2 < length xs = left.fewer between in
+        rw (next.1, next.2, next.3) (record {
+          records = rw (add-one, e) (ap (λ (rest : List Record). read.0 ∷ rest)
+              (records_from-enough default_config (length xs) (length read.2 + 1) read.1 read.2 left.between (omega arith) (omega arith)));
+          known = refl;
+          between = left.between;
+          fewer = less;
+        })
+
+pub found-record : (a b : State) (before after : Option (List ℕ)) (fields : Record) → ends_at_end a ≡ false → IsSome before
+    → ReadsNext default_config a before after true fields b → Found a before b after fields
+found-record a b None after fields between known read = cc known
+found-record a b (Some xs) None fields between known read = absurd read
+found-record a b (Some xs) (Some ys) fields between known read = found-next a b xs ys fields between read
+
+-- a read that found none
+found-no_more : (a b : State) (xs ys : List ℕ) (fields : Record) → NextIs (next_record default_config a [] [] xs) false fields b ys → records_after a (Some xs) ≡ []
+unfolding records_from
+found-no_more a b xs ys fields next = rw add-one (by (next_record default_config a [] [] xs) next)
+  where
+    by : (o : Option Read) → NextIs o false fields b ys → records_next (records_from default_config (length xs)) o ≡ []
+    by None next = refl
+    by (Some read) next = cc next.0
+
+pub found-end : (a b : State) (before after : Option (List ℕ)) (fields : Record) → IsSome before
+    → ReadsNext default_config a before after false fields b → records_after a before ≡ []
+found-end a b None after fields known read = refl
+found-end a b (Some xs) None fields known read = absurd read
+found-end a b (Some xs) (Some ys) fields known read = found-no_more a b xs ys fields read
+
+-- a text without its mark is no longer than with it
+pub stripped-count : (text : List ℕ) (m : ℕ) → length text < m → 0 + length (strip_bom text) < m
+unfolding strip_bom
+stripped-count [] m h = omega arith
+stripped-count (a ∷ []) m h = omega arith
+stripped-count (a ∷ b ∷ []) m h = omega arith
+stripped-count (a ∷ b ∷ c ∷ rest) m h = by (is_bom a b c)
+  where
+    by : (t : Bool) → 0 + length (if t then rest else a ∷ b ∷ c ∷ rest) < m
+    by true = omega arith
+    by false = omega arith
+
+-- after the start of a text the reader reads from its buffer
+pending-is : (reader : Reader (Bor (List ℕ))) → reader.bom_checked ≡ true → text_left reader ≡ pending_of (Some reader.rdr.now) reader
+pending-is reader with_open_group = rw with_open_group refl
+
+-- what a read does that found a record
+module _ (old new : RecordReader) (was : IsBetween old) (read : ReadRecord (λ s. Some s.now) old.reader new.reader true (record_given new)) where
+  pub reader-found : Found (reader_state old.reader) (text_left old.reader) (reader_state new.reader) (text_left new.reader) (record_given new)
+  reader-found =
+      rw (pending-is new.reader read.1) (found-record _ _ _ _ _ was.between was.known (rw was.config at read.0))
+
+  pub number-fits : old.number + 1 < 2 ^ 64
+  number-fits = omega (arith, was.counted, reader-found.fewer)
+
+  pub gives-found : took_first new.reader ≡ true → is_flexible new.reader ≡ is_flexible old.reader → new.number ≡ old.number + 1 → GivesNext old new true
+  gives-found first flexible number = record {
+    next = reader-found.records;
+    number = λ _. number;
+    between = λ _. record {
+      config = read.2 ∙ was.config;
+      trim = read.3 ∙ was.trim;
+      ready = inl first;
+      flexible = flexible ∙ was.flexible;
+      known = reader-found.known;
+      between = reader-found.between;
+      counted = omega (arith, was.counted, reader-found.fewer);
+    };
+    fewer = λ _. reader-found.fewer;
+  }
+
+-- what a read does that found none
+pub gives-end : (old new : RecordReader) (fields : Record) → IsBetween old → ReadRecord (λ s. Some s.now) old.reader new.reader false fields → GivesNext old new false
+gives-end old new fields was read = record {
+  next = found-end _ (reader_state new.reader) _ _ fields was.known (rw was.config at read.0);
+  number = λ e. cc e;
+  between = λ e. cc e;
+  fewer = λ e. cc e;
+}
+
+-- ---- The rows of a table, one record after another.
+
+-- records of other lengths
+pub other-length : (names : List (Bor (List ℕ))) (r : Record) → (length r ≡ length names → ⊥) → has_fields (field_texts names) r ≡ false
+other-length [] [] other = absurd (other refl)
+other-length [] (field ∷ fields) other = refl
+other-length (name ∷ names) [] other = refl
+other-length (name ∷ names) (field ∷ fields) other = by (bytes_eq field name.now) (other-length names fields (λ same. other (omega (arith, same))))
+  where
+    by : (b : Bool) → has_fields (field_texts names) fields ≡ false → (b && has_fields (field_texts names) fields) ≡ false
+    by true e = e
+    by false e = refl
+
+-- the fields from one place on
+fields-at : (names : List (Bor (List ℕ))) (r : Record) (place : ℕ) (d : Bor (List ℕ)) → length r ≡ length names → place < length names
+    → has_fields (drop place (field_texts names)) (drop place r) ≡ (bytes_eq (field_of r place) (get_or names place d).now && has_fields (drop (suc place) (field_texts names)) (drop (suc place) r))
+unfolding field_at
+fields-at [] r place d same inside = absurd (omega arith)
+fields-at (name ∷ names) [] place d same inside = absurd (omega arith)
+fields-at (name ∷ names) (field ∷ fields) zero d same inside = refl
+fields-at (name ∷ names) (field ∷ fields) (suc place) d same inside = fields-at names fields place d (omega (arith, same)) (omega arith)
+
+-- one field, distinguished from its name or not
+module _ (names : List (Bor (List ℕ))) (r : Record) (place : ℕ) (d : Bor (List ℕ)) (field : List ℕ) (differs : Bool) (same : length r ≡ length names) (inside : place < length names)
+    (is : field ≡ field_of r place) (reported : differs ≡ not (bytes_eq field (get_or names place d).now))
+    (so_far : has_fields (field_texts names) r ≡ has_fields (drop place (field_texts names)) (drop place r)) where
+  pub fields-other : differs ≡ true → false ≡ has_fields (field_texts names) r
+  fields-other apart = by (bytes_eq field (get_or names place d).now) refl (sym reported ∙ apart)
+    where
+      by : (b : Bool) → bytes_eq field (get_or names place d).now ≡ b → not b ≡ true → false ≡ has_fields (field_texts names) r
+      by true e is_not = cc is_not
+      by false e is_not = sym (so_far ∙ fields-at names r place d same inside ∙ rw (← is, e) refl)
+
+  pub fields-more : differs ≡ false → has_fields (field_texts names) r ≡ has_fields (drop (place + 1) (field_texts names)) (drop (place + 1) r)
+  fields-more alike = rw add-one (by (bytes_eq field (get_or names place d).now) refl (sym reported ∙ alike))
+    where
+      by : (b : Bool) → bytes_eq field (get_or names place d).now ≡ b → not b ≡ false → has_fields (field_texts names) r ≡ has_fields (drop (suc place) (field_texts names)) (drop (suc place) r)
+      by true e is_not = so_far ∙ fields-at names r place d same inside ∙ rw (← is, e) refl
+      by false e is_not = cc is_not
+
+module _ (A : Type 0) (names : List (List ℕ)) (with_record : ℕ → A → Record → Result A TableFault) (none : A) (records : List Record) where
+  -- after the header
+  pub table-opened : (r : RecordReader) → IsOpened names records r → table_of names with_record none records ≡ table_from with_record (r.number + 1) none (records_left r)
+  unfolding table_of
+  table-opened r is = rw (is.header, is.number, is.rest) refl
+
+  -- without the header
+  pub table-closed : has_header names records ≡ false → table_of names with_record none records ≡ Err Header
+  unfolding table_of
+  table-closed is = rw is refl
+
+module _ (A : Type 0) (with_record : ℕ → A → Record → Result A TableFault) (old new : RecordReader) (found : Bool) (step : GivesNext old new found)
+    (answer : Result A TableFault) (table : A) (so_far : answer ≡ table_from with_record (old.number + 1) table (records_left old)) where
+  -- one record more
+  pub table-more : (more : A) → found ≡ true → with_record new.number table (record_given new) ≡ Ok more → answer ≡ table_from with_record (new.number + 1) more (records_left new)
+  unfolding table_from
+  table-more more is row = so_far ∙ rw step.next (rw (is, ← step.number is, row) refl)
+
+  -- a record at fault
+  pub table-fault : (fault : TableFault) → found ≡ true → with_record new.number table (record_given new) ≡ Err fault → answer ≡ Err fault
+  unfolding table_from
+  table-fault fault is row = so_far ∙ rw step.next (rw (is, ← step.number is, row) refl)
+
+  -- the end
+  pub table-end : found ≡ false → answer ≡ Ok table
+  unfolding table_from
+  table-end is = so_far ∙ rw step.next (rw is refl)
+
+-- the first step of a reader
+module _ (names : List (List ℕ)) (old new : RecordReader) (found : Bool) (step : GivesNext old new found) where
+  pub opens : old.number ≡ 0 → found ≡ true → has_fields names (record_given new) ≡ true → IsOpened names (records_left old) new
+  opens none is header = record {
+    between = step.between is;
+    number = rw (step.number is, none) refl;
+    header = rw step.next (rw is header);
+    rest = rw step.next (rw is refl);
+  }
+
+  pub opens-empty : found ≡ false → has_header names (records_left old) ≡ false
+  opens-empty is = rw step.next (rw is refl)
+
+  pub opens-other : found ≡ true → has_fields names (record_given new) ≡ false → has_header names (records_left old) ≡ false
+  opens-other is other = rw step.next (rw is other)
+
+-- ---- The answer of a call whose memory may run out.
+
+-- a fault that is expected, unless it is want of memory
+pub gives-fault : (A : Type 0) (expected answer : Result A TableFault) (fault : TableFault) → answer ≡ Err fault → (fault ≢ Memory → expected ≡ Err fault) → ReturnsUnlessMemory expected answer
+gives-fault A expected answer Header is same = rw is (same (λ e. cc e))
+gives-fault A expected answer (Row n) is same = rw is (same (λ e. cc e))
+gives-fault A expected answer (Duplicate fxy) is same = rw is (same (λ e. cc e))
+gives-fault A expected answer (Cycle fxy) is same = rw is (same (λ e. cc e))
+gives-fault A expected answer TableSize is same = rw is (same (λ e. cc e))
+gives-fault A expected answer Csv is same = rw is (same (λ e. cc e))
+gives-fault A expected answer Memory is same = rw is tt
+
+-- no record is at fault for a cycle
+member-no_cycle : (n : ℕ) (table : List Sequence) (o : Option Member) (fxy : ℕ) → with_member n table o ≡ Err (Cycle fxy) → ⊥
+member-no_cycle n table None fxy e = cc e
+member-no_cycle n table (Some row) fxy e = by (begins_again table row) (nat_le 65536 (n - 2)) e
+  where
+    by : (again large : Bool) → (if again then Err (Duplicate row.sequence) else if large then Err TableSize else Ok (added table row)) ≡ Err (Cycle fxy) → ⊥
+    by true large e = cc e
+    by false true e = cc e
+    by false false e = cc e
+
+record-no_cycle : (n : ℕ) (table : List Sequence) (r : Record) (fxy : ℕ) → with_record_d n table r ≡ Err (Cycle fxy) → ⊥
+unfolding with_record_d
+record-no_cycle n table r fxy e = by (length r == 2) e
+  where
+    by : (b : Bool) → (if b then with_member n table (member_of r) else Err Csv) ≡ Err (Cycle fxy) → ⊥
+    by true e = member-no_cycle n table (member_of r) fxy e
+    by false e = cc e
+
+rows-no_cycle : (n : ℕ) (table : List Sequence) (rs : List Record) (fxy : ℕ) → table_from with_record_d n table rs ≡ Err (Cycle fxy) → ⊥
+unfolding table_from
+rows-no_cycle n table [] fxy e = cc e
+rows-no_cycle n table (r ∷ rs) fxy e = by (with_record_d n table r) refl e (λ longer. rows-no_cycle (n + 1) longer rs fxy)
+  where
+    by : (row : Result (List Sequence) TableFault) → with_record_d n table r ≡ row → and_then row (λ longer. table_from with_record_d (n + 1) longer rs) ≡ Err (Cycle fxy)
+        → ((longer : List Sequence) → table_from with_record_d (n + 1) longer rs ≡ Err (Cycle fxy) → ⊥) → ⊥
+    by (Ok longer) is e on = on longer e
+    by (Err fault) is e on = record-no_cycle n table r fxy (is ∙ e)
+
+table-no_cycle : (records : List Record) (fxy : ℕ) → table_d_of records ≡ Err (Cycle fxy) → ⊥
+unfolding table_of
+table-no_cycle [] fxy e = cc e
+table-no_cycle (first ∷ rest) fxy e = by (has_fields columns_d first) e
+  where
+    by : (b : Bool) → (if b then table_from with_record_d 2 [] rest else Err Header) ≡ Err (Cycle fxy) → ⊥
+    by true e = rows-no_cycle 2 [] rest fxy e
+    by false e = cc e
+
+-- the same of a read of Table D, which comes to the cycles only after all records
+pub reads-fault : (records : List Record) (answer : Result (List Sequence) TableFault) (fault : TableFault) → answer ≡ Err fault → ReturnsUnlessMemory (table_d_of records) answer → ReadsTableD records answer
+reads-fault records answer Header is given = rw is (rw is at given)
+reads-fault records answer (Row n) is given = rw is (rw is at given)
+reads-fault records answer (Duplicate fxy) is given = rw is (rw is at given)
+reads-fault records answer (Cycle fxy) is given = absurd (table-no_cycle records fxy (rw is at given))
+reads-fault records answer TableSize is given = rw is (rw is at given)
+reads-fault records answer Csv is given = rw is (rw is at given)
+reads-fault records answer Memory is given = rw is tt
+
+-- ---- Digits one after another, and numbers past their bits.
+
+-- one more digit
+pub number_after-push : (n : ℕ) (digits : List ℕ) (digit : ℕ) → number_after_digits n (digits ++ digit ∷ []) ≡ 10 * number_after_digits n digits + (digit - 48)
+number_after-push n [] digit = refl
+number_after-push n (d ∷ digits) digit = number_after-push (10 * n + (d - 48)) digits digit
+
+-- the number so far, held at most m
+pub number_more : (digits : List ℕ) (i number m tens digit more : ℕ) → i < length digits
+    → number ≡ min (number_after_digits 0 (take i digits)) m
+    → tens ≡ min (number * 10) m → digit ≡ get_or digits i 0 - 48 → more ≡ min (tens + digit) m
+    → more ≡ min (number_after_digits 0 (take (i + 1) digits)) m
+number_more digits i number m tens digit more inside is by_ten last sum =
+    rw (take_more digits i 0 inside, number_after-push 0 (take i digits) (get_or digits i 0)) (omega arith)
+
+-- a magnitude past 64 bits fits no more than the greatest of 64 bits
+pub fitting-capped : (n : ℕ) → if_i64 (pos (min n (2 ^ 64 - 1))) ≡ if_i64 (pos n)
+unfolding if_i64
+fitting-capped n = grind (arith, nat_tests)
+
+past : (k : ℕ) → 2 ^ 63 < k → if_i64 (negated k) ≡ None
+unfolding if_i64
+past zero h = absurd (omega arith)
+past (suc k) h =
+    let large : nat_lt k (2 ^ 63) ≡ false = search (rules, tests) in
+    rw large refl
+
+pub fitting-negated_capped : (n : ℕ) → if_i64 (negated (min n (2 ^ 64 - 1))) ≡ if_i64 (negated n)
+unfolding if_i64
+fitting-negated_capped zero = refl
+fitting-negated_capped (suc n) =
+    elim (cases_lt n (2 ^ 64 - 1)) [
+      | inl small ↦ let same : min (suc n) (2 ^ 64 - 1) ≡ suc n = omega arith in ap (λ (k : ℕ). if_i64 (negated k)) same
+      | inr large ↦ past (min (suc n) (2 ^ 64 - 1)) (omega arith) ∙ sym (past (suc n) (omega arith))
+    ]
+
+-- what follows from the number that digits write, whether there is one or not
+capped_then : (o : Option ℕ) (f : ℕ → ℤ) (m : ℕ) → ((n : ℕ) → if_i64 (f (min n (2 ^ 64 - 1))) ≡ if_i64 (f n))
+    → Some m ≡ option_map (λ n. min n (2 ^ 64 - 1)) o → if_i64 (f m) ≡ option_and_then if_i64 (option_map f o)
+capped_then None f m same is = cc is
+capped_then (Some n) f m same is =
+    let at : m ≡ min n (2 ^ 64 - 1) = same_Some _ _ is in
+    rw at (same n)
+
+-- what an `i64` holds of a magnitude that was held at most the greatest `u64`
+pub i64_of-negative : (text digits : List ℕ) (m : ℕ) (result : Option ℤ) → (get_or text 0 0 == 45) ≡ true → digits ≡ drop 1 text
+    → Some m ≡ option_map (λ n. min n (2 ^ 64 - 1)) (natural_of digits) → result ≡ if_i64 (negated m) → result ≡ i64_of text
+unfolding i64_of integer_of
+i64_of-negative text digits m result minus rest is so =
+    rw (minus, so) (capped_then (natural_of (drop 1 text)) negated m fitting-negated_capped (rw rest at is))
+
+pub i64_of-positive : (text : List ℕ) (m : ℕ) (result : Option ℤ) → (get_or text 0 0 == 45) ≡ false
+    → Some m ≡ option_map (λ n. min n (2 ^ 64 - 1)) (natural_of text) → result ≡ if_i64 (pos m) → result ≡ i64_of text
+unfolding i64_of integer_of
+i64_of-positive text m result plus is so =
+    rw (plus, so) (capped_then (natural_of text) pos m fitting-capped is)

@@ -1,0 +1,360 @@
+-- The sequences of Table D, and their members.
+use Rattle.std.proofs.Common.{◌≡◌, ◌≢◌, ℕ, ◌+◌, ◌-◌, ◌/◌, ◌<◌, ◌≤◌, false, List, [], ◌∷◌, ◌++◌, length, take, drop, map, set, Option, Some, None, refl, ap, ◌∙◌, arith, suc, zero, get_or, option_map, length-append, rules, tests, Bool, true, sym, Result, Ok, Err}
+use Rattle.std.specs.Prelude.{◌==◌, slice_index, slice_range, ◌&&◌, cond, if◌then◌else◌, is_some, nat_eq, nat_le, not, unwrap_or}
+use Rattle.std.specs.List.{AllByRecursion, IsDistinct, find}
+use Rattle.std.proofs.lemmas.List.{take_all, drop-append-le, drop_at, length-drop, map-append, append-nil, append_assoc, map-id}
+use Rattle.std.proofs.lemmas.Bool.Decides.{nat_tests}
+use Rattle.bufr_tables.proofs.TableBLemmas.{find-absent, find-found, place-absent, range-append, distinct-added, distinct-none}
+use Rattle.bufr_tables.specs.Directory.{place_of}
+use Rattle.bufr_tables.specs.Fxy.{f_of, key_of}
+use Rattle.bufr_tables.specs.Runs.{IsMemberRange, LastEnds, run_key, sequence_kept, sequences_kept}
+use Rattle.bufr_tables.specs.TableD.{Sequence, extended, fxys_of, is_last, members_of, AreSequences, Member, added, begins_again, columns_d, members_or_none, member_of, members_in, table_d_of, with_member, with_record_d}
+use Rattle.bufr_tables.specs.declared.table_d.MemberRange.{MemberRange}
+use Rattle.std.proofs.lemmas.Bool.{eqb-true}
+use Rattle.bufr_tables.specs.Records.{Record, and_then, has_fields, table_from, table_of}
+use Rattle.bufr_tables.specs.declared.fault.TableFault.{TableFault}
+use Rattle.bufr_tables.specs.declared.fault.TableFault.TheVariants.{Csv, Duplicate, Header, TableSize}
+
+abbrev pub IsSequence : MemberRange → Type 0
+IsSequence run = (49152 ≤ run.fxy) × (run.fxy < 65536)
+
+-- sequences differ in X and Y alone
+key-is : (a : ℕ) → 49152 ≤ a → a < 65536 → key_of a ≡ a - 49152
+key-is a low high = omega arith
+
+same-difference : (a b : ℕ) → 49152 ≤ a → 49152 ≤ b → (a == b) ≡ (a - 49152 == b - 49152)
+same-difference a b low high = grind (arith, nat_tests)
+
+same-key : (a b : ℕ) → 49152 ≤ a → a < 65536 → 49152 ≤ b → b < 65536 → (a == b) ≡ (key_of a == key_of b)
+same-key a b a_low a_high b_low b_high = rw (key-is a a_low a_high, key-is b b_low b_high) (same-difference a b a_low b_low)
+
+all-same : (members : List ℕ) (fxy : ℕ) (runs : List MemberRange) → 49152 ≤ fxy → fxy < 65536 → AllByRecursion IsSequence runs
+    → AllByRecursion (λ run. ((sequence_kept members run).fxy == fxy) ≡ (run_key run == key_of fxy)) runs
+all-same members fxy [] low high all = tt
+all-same members fxy (run ∷ runs) low high all = (same-key run.fxy fxy all.0.0 all.0.1 low high, all-same members fxy runs low high all.1)
+
+-- the directory has a descriptor exactly where the table has it
+module _ (members : List ℕ) (runs : List MemberRange) (fxy : ℕ) (all : AllByRecursion IsSequence runs) where
+  pub members-absent : 49152 ≤ fxy → fxy < 65536 → place_of (map run_key runs) (key_of fxy) ≡ None → members_of (sequences_kept members runs) fxy ≡ None
+  members-absent low high absent =
+      ap (λ (o : Option Sequence). option_map (λ s. s.members) o)
+      (find-absent MemberRange Sequence (sequence_kept members) (λ s. s.fxy == fxy) run_key (key_of fxy) runs (all-same members fxy runs low high all) absent)
+
+  pub place-lacking : 49152 ≤ fxy → fxy < 65536 → members_of (sequences_kept members runs) fxy ≡ None → place_of (map run_key runs) (key_of fxy) ≡ None
+  place-lacking low high absent =
+      place-absent MemberRange Sequence (sequence_kept members) (λ s. s.fxy == fxy) run_key (key_of fxy) runs (all-same members fxy runs low high all) (none _ absent)
+    where
+      none : (o : Option Sequence) → option_map (λ s. s.members) o ≡ None → o ≡ None
+      none None e = refl
+      none (Some s) e = cc e
+
+  pub members-found : (place : ℕ) (run : MemberRange) → 49152 ≤ fxy → fxy < 65536 → place_of (map run_key runs) (key_of fxy) ≡ Some place → run ≡ get_or runs place run
+      → Some (slice_range members run.start run.end) ≡ members_of (sequences_kept members runs) fxy
+  members-found place run low high found at =
+      let row = find-found MemberRange Sequence (sequence_kept members) (λ s. s.fxy == fxy) run_key (key_of fxy) runs place run (all-same members fxy runs low high all) found in
+      rw (row, ← at) refl
+
+-- a descriptor that is not of a sequence has no members
+unlike : (a b : ℕ) → 49152 ≤ a → a < 65536 → b / 16384 ≢ 3 → (a == b) ≡ false
+unlike a b low high other = let differ : a ≢ b = λ e. other (omega arith) in search (rules, tests)
+
+pub members-other : (members : List ℕ) (runs : List MemberRange) (fxy : ℕ) → AllByRecursion IsSequence runs → f_of fxy ≢ 3 → members_of (sequences_kept members runs) fxy ≡ None
+members-other members [] fxy all other = refl
+members-other members (run ∷ runs) fxy all other = rw (unlike run.fxy fxy all.0.0 all.0.1 other) (members-other members runs fxy all.1 other)
+
+-- the last sequence
+pub is_last-at : (members : List ℕ) (runs : List MemberRange) (i fxy : ℕ) (run : MemberRange) → i + 1 ≡ length runs → run ≡ get_or runs i run → is_last (sequences_kept members runs) fxy ≡ (run.fxy == fxy)
+is_last-at members [] i fxy run last at = absurd (omega arith)
+is_last-at members (r ∷ []) zero fxy run last at = rw at refl
+is_last-at members (r ∷ []) (suc i) fxy run last at = absurd (omega arith)
+is_last-at members (r ∷ t ∷ runs) zero fxy run last at = absurd (omega arith)
+is_last-at members (r ∷ t ∷ runs) (suc i) fxy run last at = is_last-at members (t ∷ runs) i fxy run (omega arith) at
+
+-- one member more
+abbrev pub longer : MemberRange → MemberRange
+longer run = record { fxy = run.fxy; start = run.start; end = run.end + 1 }
+
+range-push : (xs : List ℕ) (x i j : ℕ) → i ≤ j → j ≡ length xs → slice_range (xs ++ x ∷ []) i (j + 1) ≡ slice_range xs i j ++ x ∷ []
+range-push xs x i j before end =
+    let back = drop-append-le i xs (x ∷ []) (omega arith) in
+    let size = length-drop i xs in
+    let all : take (j + 1 - i) (drop i xs ++ x ∷ []) ≡ drop i xs ++ x ∷ [] = take_all (j + 1 - i) (drop i xs ++ x ∷ []) (omega (arith, length-append (drop i xs) (x ∷ []))) in
+    let rest : take (j - i) (drop i xs) ≡ drop i xs = take_all (j - i) (drop i xs) (omega arith) in
+    rw (back, all, rest) refl
+
+abbrev pub alone : ℕ → List ℕ → List Sequence
+alone fxy ms = record { fxy = fxy; members = ms } ∷ []
+
+module _ (members : List ℕ) (member : ℕ) where
+  pub sequences_kept-extended : (runs : List MemberRange) (i : ℕ) (run : MemberRange) → i + 1 ≡ length runs → run ≡ get_or runs i run → AllByRecursion (IsMemberRange (length members)) runs → LastEnds (length members) runs
+      → sequences_kept (members ++ member ∷ []) (set runs i (longer run)) ≡ extended (sequences_kept members runs) member
+  sequences_kept-extended [] i run last at inside end = absurd (omega arith)
+  sequences_kept-extended (r ∷ []) zero run last at inside end =
+      let same : run ≡ r = at in
+      rw same (ap (alone r.fxy) (range-push members member r.start r.end (omega (arith, inside.0.0)) end))
+  sequences_kept-extended (r ∷ []) (suc i) run last at inside end = absurd (omega arith)
+  sequences_kept-extended (r ∷ t ∷ runs) zero run last at inside end = absurd (omega arith)
+  sequences_kept-extended (r ∷ t ∷ runs) (suc i) run last at inside end =
+      let here = range-append members (member ∷ []) r.start r.end (omega (arith, inside.0.0)) inside.0.1 in
+      let rest = sequences_kept-extended (t ∷ runs) i run (omega arith) at inside.1 end in
+      cc
+
+pub sequences_kept-append : (members more : List ℕ) (runs : List MemberRange) → AllByRecursion (IsMemberRange (length members)) runs → sequences_kept (members ++ more) runs ≡ sequences_kept members runs
+sequences_kept-append members more [] inside = refl
+sequences_kept-append members more (r ∷ runs) inside =
+    let here = range-append members more r.start r.end (omega (arith, inside.0.0)) inside.0.1 in
+    let rest = sequences_kept-append members more runs inside.1 in
+    cc
+
+-- what a longer last run keeps
+pub runs-more : (n m : ℕ) (runs : List MemberRange) → n ≤ m → AllByRecursion (IsMemberRange n) runs → AllByRecursion (IsMemberRange m) runs
+runs-more n m [] more inside = tt
+runs-more n m (r ∷ runs) more inside = ((inside.0.0, omega (arith, inside.0.1)), runs-more n m runs more inside.1)
+
+pub all-set : (P : MemberRange → Type 0) (runs : List MemberRange) (i : ℕ) (run : MemberRange) → AllByRecursion P runs → P run → AllByRecursion P (set runs i run)
+all-set P [] i run all here = tt
+all-set P (r ∷ runs) zero run all here = (here, all.1)
+all-set P (r ∷ runs) (suc i) run all here = (all.0, all-set P runs i run all.1 here)
+
+pub all-push : (P : MemberRange → Type 0) (runs : List MemberRange) (run : MemberRange) → AllByRecursion P runs → P run → AllByRecursion P (runs ++ run ∷ [])
+all-push P [] run all here = (here, tt)
+all-push P (r ∷ runs) run all here = (all.0, all-push P runs run all.1 here)
+
+pub all-at : (P : MemberRange → Type 0) (runs : List MemberRange) (i : ℕ) (run : MemberRange) → AllByRecursion P runs → i < length runs → run ≡ get_or runs i run → P run
+all-at P [] i run all inside at = absurd (omega arith)
+all-at P (r ∷ runs) zero run all inside at = rw at all.0
+all-at P (r ∷ runs) (suc i) run all inside at = all-at P runs i run all.1 (omega arith) at
+
+pub keys-set : (runs : List MemberRange) (i : ℕ) (run : MemberRange) → run ≡ get_or runs i run → map run_key (set runs i (longer run)) ≡ map run_key runs
+keys-set [] i run at = refl
+keys-set (r ∷ runs) zero run at = rw at refl
+keys-set (r ∷ runs) (suc i) run at = ap (λ (ks : List ℕ). run_key r ∷ ks) (keys-set runs i run at)
+
+pub last-set : (n : ℕ) (runs : List MemberRange) (i : ℕ) (run : MemberRange) → i + 1 ≡ length runs → run.end ≡ n → LastEnds n (set runs i run)
+last-set n [] i run last end = tt
+last-set n (r ∷ []) zero run last end = end
+last-set n (r ∷ []) (suc i) run last end = absurd (omega arith)
+last-set n (r ∷ t ∷ runs) zero run last end = absurd (omega arith)
+last-set n (r ∷ t ∷ runs) (suc zero) run last end = last-set n (t ∷ runs) zero run (omega arith) end
+last-set n (r ∷ t ∷ runs) (suc (suc i)) run last end = last-set n (t ∷ runs) (suc i) run (omega arith) end
+
+pub last-push : (n : ℕ) (runs : List MemberRange) (run : MemberRange) → run.end ≡ n → LastEnds n (runs ++ run ∷ [])
+last-push n [] run end = end
+last-push n (r ∷ []) run end = end
+last-push n (r ∷ t ∷ runs) run end = last-push n (t ∷ runs) run end
+
+pub last-end : (n : ℕ) (runs : List MemberRange) (i : ℕ) (run : MemberRange) → LastEnds n runs → i + 1 ≡ length runs → run ≡ get_or runs i run → run.end ≡ n
+last-end n [] i run ends last at = absurd (omega arith)
+last-end n (r ∷ []) zero run ends last at = rw at ends
+last-end n (r ∷ []) (suc i) run ends last at = absurd (omega arith)
+last-end n (r ∷ t ∷ runs) zero run ends last at = absurd (omega arith)
+last-end n (r ∷ t ∷ runs) (suc i) run ends last at = last-end n (t ∷ runs) i run ends (omega arith) at
+
+-- one sequence more
+pub sequences_kept-begun : (members : List ℕ) (member : ℕ) (runs : List MemberRange) (run : MemberRange) (fxy : ℕ) → AllByRecursion (IsMemberRange (length members)) runs
+    → run ≡ record { fxy = fxy; start = length members; end = length members + 1 }
+    → sequences_kept (members ++ member ∷ []) (runs ++ run ∷ []) ≡ sequences_kept members runs ++ record { fxy = fxy; members = member ∷ [] } ∷ []
+sequences_kept-begun members member runs run fxy inside is =
+    let back = drop_at members (member ∷ []) (length members) refl in
+    let one : take (length members + 1 - length members) (member ∷ []) ≡ member ∷ [] = take_all (length members + 1 - length members) (member ∷ []) (omega arith) in
+    let range : slice_range (members ++ member ∷ []) (length members) (length members + 1) ≡ member ∷ [] = rw (back, one) refl in
+    rw is (map-append (sequence_kept (members ++ member ∷ [])) runs (record { fxy = fxy; start = length members; end = length members + 1 } ∷ [])
+    ∙ rw (sequences_kept-append members (member ∷ []) runs inside) (ap (λ (ms : List ℕ). sequences_kept members runs ++ alone fxy ms) range))
+
+pub some-runs : (members : List ℕ) (runs : List MemberRange) → sequences_kept members runs ≢ [] → 0 < length runs
+some-runs members [] some = absurd (some refl)
+some-runs members (run ∷ runs) some = omega arith
+
+-- the descriptor at a place
+pub fxy-at : (members : List ℕ) (runs : List MemberRange) (place : ℕ) (run : MemberRange) → place < length (sequences_kept members runs) → run ≡ get_or runs place run
+    → run.fxy ≡ slice_index (fxys_of (sequences_kept members runs)) place
+fxy-at members [] place run inside at = absurd (omega arith)
+fxy-at members (r ∷ runs) zero run inside at = ap (λ (q : MemberRange). q.fxy) at
+fxy-at members (r ∷ runs) (suc place) run inside at = fxy-at members runs place run (omega arith) at
+
+-- ---- The members of a sequence are those that the rows give it.
+
+-- what one sequence gives
+abbrev only : ℕ → List ℕ → ℕ → List ℕ
+only sequence members fxy = if sequence == fxy then members else []
+
+same-tests : (a b c : ℕ) → (a == c) ≡ true → (b == c) ≡ (b == a)
+same-tests a b c e = rw (eqb-true a c e) refl
+
+flip-tests : (a b : ℕ) → (a == b) ≡ false → (b == a) ≡ false
+flip-tests a b e = search (rules, tests)
+
+-- a search that finds nothing begins with another
+record Lacks (s : Sequence) (table : List Sequence) (fxy : ℕ) : Type 0 where
+  first : (s.fxy == fxy) ≡ false
+  rest : members_of table fxy ≡ None
+
+lacks : (s : Sequence) (table : List Sequence) (fxy : ℕ) → members_of (s ∷ table) fxy ≡ None → Lacks s table fxy
+lacks s table fxy absent = by (s.fxy == fxy) refl absent
+  where
+    by : (b : Bool) → (s.fxy == fxy) ≡ b → option_map (λ (q : Sequence). q.members) (cond b (Some s) (find (λ q. q.fxy == fxy) table)) ≡ None → Lacks s table fxy
+    by true e absent = cc absent
+    by false e absent = record { first = e; rest = absent }
+
+-- a sequence after a table that lacks it
+begun-listed : (table : List Sequence) (new : Sequence) (fxy : ℕ) → members_of table new.fxy ≡ None
+    → members_or_none (table ++ new ∷ []) fxy ≡ members_or_none table fxy ++ only new.fxy new.members fxy
+begun-listed [] new fxy absent = by (new.fxy == fxy)
+  where
+    by : (b : Bool) → unwrap_or (option_map (λ (q : Sequence). q.members) (cond b (Some new) None)) [] ≡ [] ++ (if b then new.members else [])
+    by true = refl
+    by false = refl
+begun-listed (s ∷ table) new fxy absent =
+    let parts = lacks s table new.fxy absent in
+    by (s.fxy == fxy) refl parts.first (begun-listed table new fxy parts.rest)
+  where
+    by : (b : Bool) → (s.fxy == fxy) ≡ b → (s.fxy == new.fxy) ≡ false → members_or_none (table ++ new ∷ []) fxy ≡ members_or_none table fxy ++ only new.fxy new.members fxy
+        → unwrap_or (option_map (λ (q : Sequence). q.members) (cond b (Some s) (find (λ q. q.fxy == fxy) (table ++ new ∷ [])))) []
+        ≡ unwrap_or (option_map (λ (q : Sequence). q.members) (cond b (Some s) (find (λ q. q.fxy == fxy) table))) [] ++ only new.fxy new.members fxy
+    by true e other on =
+        let differs : (new.fxy == fxy) ≡ false = same-tests s.fxy new.fxy fxy e ∙ flip-tests s.fxy new.fxy other in
+        rw differs (sym (append-nil s.members))
+    by false e other on = on
+
+-- the last sequence is among those after the first
+last-differs : (table : List Sequence) (fxy sequence : ℕ) → is_last table sequence ≡ true → AllByRecursion (λ y. nat_eq fxy y ≡ false) (fxys_of table) → (fxy == sequence) ≡ false
+last-differs [] fxy sequence last apart = cc last
+last-differs (s ∷ []) fxy sequence last apart = rw (← eqb-true s.fxy sequence last) apart.0
+last-differs (s ∷ t ∷ table) fxy sequence last apart = last-differs (t ∷ table) fxy sequence last apart.1
+
+-- one member more of the last sequence
+extended-listed : (table : List Sequence) (sequence member fxy : ℕ) → is_last table sequence ≡ true → IsDistinct nat_eq (fxys_of table)
+    → members_or_none (extended table member) fxy ≡ members_or_none table fxy ++ only sequence (member ∷ []) fxy
+unfolding IsDistinct
+extended-listed [] sequence member fxy last distinct = cc last
+extended-listed (s ∷ []) sequence member fxy last distinct = rw (← eqb-true s.fxy sequence last) (by (s.fxy == fxy))
+  where
+    by : (b : Bool) → unwrap_or (option_map (λ (q : Sequence). q.members) (cond b (Some (record { fxy = s.fxy; members = s.members ++ member ∷ [] })) None)) []
+        ≡ unwrap_or (option_map (λ (q : Sequence). q.members) (cond b (Some s) None)) [] ++ (if b then member ∷ [] else [])
+    by true = refl
+    by false = refl
+extended-listed (s ∷ t ∷ table) sequence member fxy last distinct =
+    by (s.fxy == fxy) refl (last-differs (t ∷ table) s.fxy sequence last distinct.0) (extended-listed (t ∷ table) sequence member fxy last distinct.1)
+  where
+    by : (b : Bool) → (s.fxy == fxy) ≡ b → (s.fxy == sequence) ≡ false
+        → members_or_none (extended (t ∷ table) member) fxy ≡ members_or_none (t ∷ table) fxy ++ only sequence (member ∷ []) fxy
+        → unwrap_or (option_map (λ (q : Sequence). q.members) (cond b (Some s) (find (λ q. q.fxy == fxy) (extended (t ∷ table) member)))) []
+        ≡ unwrap_or (option_map (λ (q : Sequence). q.members) (cond b (Some s) (find (λ q. q.fxy == fxy) (t ∷ table)))) [] ++ only sequence (member ∷ []) fxy
+    by true e other on =
+        let differs : (sequence == fxy) ≡ false = same-tests s.fxy sequence fxy e ∙ flip-tests s.fxy sequence other in
+        rw differs (sym (append-nil s.members))
+    by false e other on = on
+
+extended-fxys : (table : List Sequence) (member : ℕ) → fxys_of (extended table member) ≡ fxys_of table
+extended-fxys [] member = refl
+extended-fxys (s ∷ []) member = refl
+extended-fxys (s ∷ t ∷ table) member = ap (λ (ks : List ℕ). s.fxy ∷ ks) (extended-fxys (t ∷ table) member)
+
+-- a row that begins no second run
+record Added (table : List Sequence) (row : Member) : Type 0 where
+  members : (fxy : ℕ) → members_or_none (added table row) fxy ≡ members_or_none table fxy ++ only row.sequence (row.fxy ∷ []) fxy
+  distinct : IsDistinct nat_eq (fxys_of (added table row))
+
+same-keys : (fxy : ℕ) (table : List Sequence) → AllByRecursion (λ s. (s.fxy == fxy) ≡ (s.fxy == fxy)) table
+same-keys fxy [] = tt
+same-keys fxy (s ∷ table) = (refl, same-keys fxy table)
+
+row-added : (table : List Sequence) (row : Member) → IsDistinct nat_eq (fxys_of table) → begins_again table row ≡ false → Added table row
+unfolding added
+row-added table row distinct fresh = by (is_last table row.sequence) refl (members_of table row.sequence) refl fresh
+  where
+    new : Sequence
+    new = record { fxy = row.sequence; members = row.fxy ∷ [] }
+
+    gone : (o : Option Sequence) → option_map (λ (q : Sequence). q.members) o ≡ None → o ≡ None
+    gone None e = refl
+    gone (Some q) e = cc e
+
+    by : (b : Bool) → is_last table row.sequence ≡ b → (o : Option (List ℕ)) → members_of table row.sequence ≡ o → (not b && is_some o) ≡ false → Added table row
+    by true e o m fresh = record {
+      members = λ fxy. rw e (extended-listed table row.sequence row.fxy fxy e distinct);
+      distinct = rw (e, extended-fxys table row.fxy) distinct;
+    }
+    by false e None m fresh = record {
+      members = λ fxy. rw e (begun-listed table (record { fxy = row.sequence; members = row.fxy ∷ [] }) fxy m);
+      distinct =
+          let absent = place-absent Sequence Sequence (λ s. s) (λ s. s.fxy == row.sequence) (λ s. s.fxy) row.sequence table (same-keys row.sequence table) (rw map-id (gone _ m)) in
+          rw (e, map-append) (distinct-added (fxys_of table) row.sequence distinct absent);
+    }
+    by false e (Some members) m fresh = cc fresh
+
+-- a record that adds a row
+record AddsRow (table : List Sequence) (r : Record) (longer : List Sequence) : Type 0 where
+  row : Member
+  written : member_of r ≡ Some row
+  added' : longer ≡ added table row
+  fresh : begins_again table row ≡ false
+
+same_Ok : (x y : List Sequence) → ◌≡◌ {A = Result (List Sequence) TableFault} (Ok x) (Ok y) → x ≡ y
+same_Ok x y e = cc e
+
+record-adds : (n : ℕ) (table : List Sequence) (r : Record) (longer : List Sequence) → with_record_d n table r ≡ Ok longer → AddsRow table r longer
+unfolding with_record_d
+record-adds n table r longer is = by (length r == 2) (member_of r) refl is
+  where
+    found : (row : Member) (again large : Bool) → begins_again table row ≡ again → member_of r ≡ Some row
+        → (if again then Err (Duplicate row.sequence) else if large then Err TableSize else Ok (added table row)) ≡ Ok longer → AddsRow table r longer
+    found row true large e written is = cc is
+    found row false true e written is = cc is
+    found row false false e written is = record { row = row; written = written; added' = sym (same_Ok _ _ is); fresh = e }
+
+    by : (b : Bool) (o : Option Member) → member_of r ≡ o → (if b then with_member n table o else Err Csv) ≡ Ok longer → AddsRow table r longer
+    by false o e is = cc is
+    by true None e is = cc is
+    by true (Some row) e is = found row (begins_again table row) (nat_le 65536 (n - 2)) refl e is
+
+-- what the records from one on add
+record AddRows (before : List Sequence) (rs : List Record) (table : List Sequence) : Type 0 where
+  rows : List Member
+  written : map member_of rs ≡ map Some rows
+  members : (fxy : ℕ) → members_or_none table fxy ≡ members_or_none before fxy ++ members_in rows fxy
+
+only-more : (row : Member) (rows : List Member) (fxy : ℕ) → only row.sequence (row.fxy ∷ []) fxy ++ members_in rows fxy ≡ members_in (row ∷ rows) fxy
+only-more row rows fxy = by (row.sequence == fxy)
+  where
+    by : (b : Bool) → (if b then row.fxy ∷ [] else []) ++ members_in rows fxy ≡ (if b then row.fxy ∷ members_in rows fxy else members_in rows fxy)
+    by true = refl
+    by false = refl
+
+rows-add : (n : ℕ) (before : List Sequence) (rs : List Record) (table : List Sequence) → table_from with_record_d n before rs ≡ Ok table → IsDistinct nat_eq (fxys_of before) → AddRows before rs table
+unfolding table_from
+rows-add n before [] table is distinct =
+    let same : before ≡ table = same_Ok _ _ is in
+    record { rows = []; written = refl; members = λ fxy. rw (← same) (sym (append-nil (members_or_none before fxy))) }
+rows-add n before (r ∷ rs) table is distinct = by (with_record_d n before r) refl is (λ longer. rows-add (n + 1) longer rs table)
+  where
+    by : (o : Result (List Sequence) TableFault) → with_record_d n before r ≡ o → and_then o (λ longer. table_from with_record_d (n + 1) longer rs) ≡ Ok table
+        → ((longer : List Sequence) → table_from with_record_d (n + 1) longer rs ≡ Ok table → IsDistinct nat_eq (fxys_of longer) → AddRows longer rs table)
+        → AddRows before (r ∷ rs) table
+    by (Err fault) e is on = cc is
+    by (Ok longer) e is on =
+        let adds = record-adds n before r longer e in
+        let more = row-added before adds.row distinct adds.fresh in
+        let apart : IsDistinct nat_eq (fxys_of longer) = rw adds.added' more.distinct in
+        let rest = on longer is apart in
+        record {
+          rows = adds.row ∷ rest.rows;
+          written = rw adds.written (ap (λ (os : List (Option Member)). Some adds.row ∷ os) rest.written);
+          members = λ fxy.
+              rest.members fxy
+              ∙ ap (λ (q : List Sequence). members_or_none q fxy ++ members_in rest.rows fxy) adds.added'
+              ∙ ap (λ (ms : List ℕ). ms ++ members_in rest.rows fxy) (more.members fxy)
+              ∙ append_assoc (members_or_none before fxy) (only adds.row.sequence (adds.row.fxy ∷ []) fxy) (members_in rest.rows fxy)
+              ∙ ap (λ (ms : List ℕ). members_or_none before fxy ++ ms) (only-more adds.row rest.rows fxy);
+        }
+
+pub sequences-law : (records : List Record) (table : List Sequence) → table_d_of records ≡ Ok table → AreSequences records table
+unfolding table_of
+sequences-law [] table is = cc is
+sequences-law (first ∷ rest) table is = by (has_fields columns_d first) refl is
+  where
+    by : (b : Bool) → has_fields columns_d first ≡ b → (if b then table_from with_record_d 2 [] rest else Err Header) ≡ Ok table → AreSequences (first ∷ rest) table
+    by false e is = cc is
+    by true e is =
+        let add = rows-add 2 [] rest table is distinct-none in
+        record { first = first; rest = rest; split = refl; named = e; rows = add.rows; written = add.written; members = add.members }

@@ -1,0 +1,203 @@
+-- Private: how a document is kept while it is read, and what taking held lines comes to.
+-- Cited by private steps only.
+use Rattle.std.specs.Prelude.{◌≡◌, ◌≤◌, length, take, ◌<◌, ◌+◌, ◌==◌, ℕ, true, false, [], List, ◌∷◌, ◌++◌, drop, Bool, Option, None, Some}
+use Rattle.bufr_text.specs.declared.document.DocumentParts.TheInside.{Inside}
+use Rattle.std.specs.List.{AllByRecursion}
+use Rattle.bufr_fill.specs.RoundTrip.{HasOctets}
+use Rattle.bufr_fill.specs.Draft.{DraftEntry, Holds, Ends, subsets_of}
+use Rattle.bufr_text.specs.Documents.{are_in_range, IsHeaded, adds, line_within_limit}
+use Rattle.bufr_text.specs.Dump.{IsOctet, IsDescriptorWord}
+use Rattle.bufr_fill.specs.Given.{form_in}
+use Rattle.bufr_text.specs.Spelling.{IsProper}
+use Rattle.bufr_text.specs.declared.document.ParsedLine.{ParsedLine}
+use Rattle.bufr_text.specs.declared.document.LineGroup.{LineGroup}
+use Rattle.bufr_text.specs.declared.document.ParserState.{ParserState}
+use Rattle.bufr_text.specs.declared.document.LineRefusal.{LineRefusal}
+use Rattle.bufr_text.specs.declared.document.LineEffect.{LineEffect}
+use Rattle.bufr_text.specs.Reader.{has_no_feed, ReaderPosition, ContinuesParse, TakesWholeLines, TakesEndLine}
+use Rattle.bufr_text.specs.declared.document.Progress.{Progress}
+use Rattle.bufr_text.specs.declared.document.TakeResult.{TakeResult}
+use Rattle.bufr_text.specs.Documents as spec
+use Rattle.bufr_text.specs.Line as line
+use Rattle.bufr_text.specs.Documents as documents
+use Rattle.bufr_text.specs.declared.document.ParsedLine.TheVariants as said
+use Rattle.bufr_text.specs.declared.document.LineGroup.TheVariants as written
+use Rattle.bufr_text.specs.declared.document.ParserState.TheVariants as place
+use Rattle.bufr_text.specs.declared.document.LineRefusal.TheVariants as refusal
+use Rattle.bufr_text.specs.declared.document.LineEffect.TheVariants as turn
+use Rattle.bufr_text.specs.declared.document.TakeResult.TheVariants as taken
+
+-- there are at most twenty values
+pub record IsHeaderInside (d : Inside) : Type 0 where
+  pub known : d.known ≤ 20
+  pub room : length d.header ≡ 20
+
+abbrev pub document_kept : Inside → spec.Document
+document_kept d = record {
+  line = d.line;
+  header = take d.known d.header;
+  local1 = d.local1.items;
+  section2 = d.section2.items;
+  descriptors = d.descriptors.items;
+  entries = d.entries;
+}
+
+-- ---- What a step of the reader does.
+
+-- what a line that was read says
+abbrev pub meaning : ParsedLine → line.Line
+meaning said.Passed = line.Passed
+meaning said.Opens = line.Opens
+meaning (said.Header key value) = line.Header key value
+meaning (said.Local1 octets) = line.Local1 octets.now
+meaning (said.Section2 octets) = line.Section2 octets.now
+meaning (said.Descriptors words) = line.Descriptors words.now
+meaning (said.Begins subset) = line.Begins subset
+meaning (said.Item fxy form) = line.Item fxy (form_in form)
+meaning said.Closes = line.Closes
+meaning said.Wrong = line.Wrong
+
+-- how far the parts before the subsets have come
+abbrev pub part_number : LineGroup → ℕ
+part_number written.Local1 = 0
+part_number written.Section2 = 1
+part_number written.Descriptors = 2
+
+-- where the reading is, with the document as far as it was read
+abbrev pub place_with : ParserState → spec.Document → documents.ParserState
+place_with place.Between d = documents.Between
+place_with place.Heading d = documents.Heading d
+place_with (place.BeforeSubsets part) d = documents.BeforeSubsets (part_number part) d
+place_with (place.Filling subset) d = documents.Filling subset d
+
+abbrev pub line_fault_of : LineRefusal → documents.TextLineFault
+line_fault_of refusal.NotAllowed = documents.NotAllowed
+line_fault_of refusal.SubsetCount = documents.SubsetCount
+line_fault_of refusal.HeaderRange = documents.HeaderRange
+
+-- what a turn does, with the document after it
+abbrev pub turned : LineEffect → spec.Document → documents.LineEffect
+turned (turn.WalkGoes place) d = documents.WalkGoes (place_with place d)
+turned turn.Gives d = documents.Gives d
+turned (turn.Refuses refusal) d = documents.Faults (line_fault_of refusal)
+
+-- Nothing was read after the header.
+pub record IsBare (d : spec.Document) : Type 0 where
+  pub local1 : d.local1 ≡ []
+  pub section2 : d.section2 ≡ []
+  pub descriptors : d.descriptors ≡ []
+  pub entries : d.entries ≡ []
+
+-- The parts before the subsets are octets and descriptors, and there are no octets of a section 2
+-- that is absent.
+pub record HasLineGroups (d : spec.Document) : Type 0 where
+  pub local1 : AllByRecursion IsOctet d.local1
+  pub section2 : AllByRecursion IsOctet d.section2
+  pub no_section2 : (spec.optional_in d == 1) ≡ false → d.section2 ≡ []
+  pub descriptors : AllByRecursion IsDescriptorWord d.descriptors
+
+-- the text of an item is of octets
+abbrev pub EntryHasOctets : DraftEntry → Type 0
+EntryHasOctets (Holds item) = HasOctets item.form
+EntryHasOctets (Ends line) = Unit {0}
+
+-- So many subsets were ended, and each text is of octets.
+pub record HasSubsets (ended : ℕ) (d : spec.Document) : Type 0 where
+  pub texts : AllByRecursion EntryHasOctets d.entries
+  pub counted : length (subsets_of d.entries) ≡ ended
+
+-- What holds of a place where the line of this number is next. The header is not whole in the
+-- header, and whole after it. The number of a subset is small, and one more than those that were
+-- ended. Each entry has a line.
+abbrev pub IsParserState : (at : ℕ) → documents.ParserState → Type 0
+IsParserState at documents.Between = Unit {0}
+IsParserState at (documents.Heading d) =
+    (length d.header < 20) × (are_in_range (spec.edition_in d) 0 d.header ≡ true)
+    × (length d.entries < at) × IsBare d
+IsParserState at (documents.BeforeSubsets part d) =
+    IsHeaded d × (length d.entries < at) × HasLineGroups d × (d.entries ≡ [])
+IsParserState at (documents.Filling subset d) =
+    IsHeaded d × (length d.entries < at) × (subset < 65536) × HasLineGroups d
+    × ((ended : ℕ) × (subset ≡ ended + 1) × HasSubsets ended d)
+IsParserState at documents.Stopped = Unit {0}
+
+-- the same after a turn at a line
+abbrev pub HoldsAfter : (at : ℕ) → documents.LineEffect → Type 0
+HoldsAfter at (documents.WalkGoes place) = IsParserState (at + 1) place
+HoldsAfter at (documents.Gives d) = IsProper d × (length d.entries ≤ at)
+HoldsAfter at (documents.Faults fault) = Unit {0}
+
+-- ---- What taking the lines that are held comes to.
+
+-- the first line feed, or there is none
+abbrev pub FeedAt : List ℕ → Option ℕ → Type 0
+FeedAt held None = has_no_feed held ≡ true
+FeedAt held (Some place) =
+    (place < length held) × (has_no_feed (take place held) ≡ true)
+    × (held ≡ take place held ++ 10 ∷ drop (place + 1) held)
+
+-- what was reported
+abbrev pub step_results : TakeResult → spec.Document → List documents.ParseResult
+step_results taken.More d = []
+step_results taken.Gives d = documents.Complete d ∷ []
+step_results (taken.Refuses line refusal) d = documents.Refused line (line_fault_of refusal) ∷ []
+
+-- where the reading is after it
+abbrev pub place_following : TakeResult → Progress → documents.ParserState
+place_following taken.More progress = place_with progress.place progress.parts
+place_following taken.Gives progress = documents.Between
+place_following (taken.Refuses line refusal) progress = documents.Stopped
+
+abbrev pub position_with : Progress → List ℕ → Bool → ReaderPosition
+position_with progress held ended =
+    record {
+      at = progress.at;
+      place = place_with progress.place progress.parts;
+      held = held;
+      ended = ended;
+    }
+
+abbrev pub position_after_take : TakeResult → Progress → List ℕ → Bool → ReaderPosition
+position_after_take step progress held ended =
+    record { at = progress.at; place = place_following step progress; held = held; ended = ended }
+
+-- a document that is whole has a line for each entry
+abbrev pub HoldsAfterTake : TakeResult → Progress → Type 0
+HoldsAfterTake taken.More progress = IsParserState progress.at
+    (place_with progress.place progress.parts)
+HoldsAfterTake taken.Gives progress =
+    IsProper progress.parts × (length progress.parts.entries < progress.at)
+HoldsAfterTake (taken.Refuses line refusal) progress = Unit {0}
+
+-- The lines up to a place were taken.
+pub record TakesLines (old new : Progress) (held : List ℕ) (place : ℕ)
+    (step : TakeResult) : Type 0 where
+  pub goes : (ended : Bool) → ContinuesParse (position_with old held ended)
+      (position_after_take step new (drop place held) ended) (step_results step new.parts)
+  pub all : step ≡ taken.More → has_no_feed (drop place held) ≡ true
+  pub within : place ≤ length held
+  pub holds : HoldsAfterTake step new
+  pub near : new.at ≤ old.at + place
+  pub passes : TakesWholeLines old.at held new.at (drop place held)
+  pub closes : step ≡ taken.Gives → TakesEndLine old.at held new.at (drop place held)
+
+-- Lines up to a place were taken, and nothing was reported yet.
+pub record IsTaking (old new : Progress) (held : List ℕ) (place : ℕ) : Type 0 where
+  pub goes : (ended : Bool)
+      → ContinuesParse (position_with old held ended) (position_with new (drop place held) ended) []
+  pub within : place ≤ length held
+  pub holds : IsParserState new.at (place_with new.place new.parts)
+  pub some : 0 < new.at
+  pub near : new.at ≤ old.at + place
+  pub passes : TakesWholeLines old.at held new.at (drop place held)
+
+-- Lines were taken that reported nothing, and the next one is whole and adds to the document.
+pub record WantsAt (old : Progress) (held : List ℕ) : Type 0 where
+  pub progress : Progress
+  pub place : ℕ
+  pub taking : IsTaking old progress held place
+  pub line : List ℕ
+  pub rest : List ℕ
+  pub holds : drop place held ≡ line ++ 10 ∷ rest
+  pub single : has_no_feed line ≡ true
+  pub adds_to : adds (place_with progress.place progress.parts) (line_within_limit line) ≡ true

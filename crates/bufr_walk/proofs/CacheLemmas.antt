@@ -1,0 +1,137 @@
+-- What is cached: specs by their keys, and lists of descriptors in slots.
+use Rattle.std.proofs.Common.{◌≡◌, ℕ, ◌+◌, ◌*◌, ◌<◌, arith, ◌∙◌, sym, ◌^◌, Bool, true, false, List, Option, Some, None, Ok, Err, ap, subst, ◌≤◌, [], ◌∷◌, ◌++◌, length, length-append}
+use Rattle.bufr_walk.specs.Rules.{OperatorModel, IsKey, is_defining, element_spec, factor_spec, factor_by, factor_field, spec_by_kind, new_reference_spec, numeric_spec, coded_spec, text_spec, text_width, local_width_spec, listed_by, unsigned_of, unsigned_field, untouched, IsFieldKey, descriptor_of, key_word, spec_of}
+use Rattle.std.specs.Prelude.{◌==◌, nat_lt, if◌then◌else◌}
+use Rattle.std.proofs.lemmas.Bool.Decides.{nat_tests}
+use Rattle.bufr_tables.specs.declared.table_b.Kind.{Kind}
+use Rattle.bufr_tables.specs.TableB.{Row, entry_of}
+use Rattle.bufr_walk.specs.FieldSpec.{FieldSpec, is_reference}
+use Rattle.bufr_walk.specs.declared.operators.TableField.{TableField}
+use Rattle.bufr_walk.specs.TemplateCache.{IsSpecBy, MayStay, IsOther, list_of, lists_of}
+use Rattle.bufr_walk.proofs.WalkLemmas.{fitted_role}
+use Rattle.std.specs.List.{All}
+use Rattle.std.proofs.lemmas.List.Elements.{All-append, All-cons, All-head, All-tail, All-nil}
+use Rattle.bufr_tables.specs.TableD.{Sequence}
+use Rattle.bufr_walk.specs.declared.template_cache.Slot.{Slot}
+use Rattle.bufr_tables.specs.declared.table_b.Kind.TheVariants as kind
+use Rattle.bufr_walk.specs.declared.spec.Role.TheVariants as role
+use Rattle.bufr_walk.specs.declared.spec.TurnRefusal.TheVariants as refusal
+use Rattle.bufr_walk.specs.declared.operators.TableField.TheVariants as field
+
+-- a word is added to the key of the operators
+pub with_word : (s : OperatorModel) (key word : ℕ) → IsKey s 0 key → IsKey s word (key + 1099511627776 * word)
+with_word s key word h = record {
+  is = omega (arith, h.is);
+  new_reference_width = h.new_reference_width;
+  new_references = h.new_references;
+  width_change = h.width_change;
+  scale_change = h.scale_change;
+  precision_increase = h.precision_increase;
+  character_octets = h.character_octets;
+  local_width = h.local_width;
+}
+
+-- the last octet of a number
+last_octet : (a b x y : ℕ) → a < 256 → b < 256 → a + 256 * x ≡ b + 256 * y → (a ≡ b) × (x ≡ y)
+last_octet a b x y p q e = (omega arith, omega arith)
+
+-- a key has one list of operators and one word
+pub same_key : (a b : OperatorModel) (v w key : ℕ) → IsKey a v key → IsKey b w key → (a ≡ b) × (v ≡ w)
+same_key a b v w key h g =
+    let e0 : a.width_change + 256 * (a.scale_change + 256 * (a.precision_increase + 256 * (a.character_octets + 256 * (a.local_width + 256 * v))))
+    ≡ b.width_change + 256 * (b.scale_change + 256 * (b.precision_increase + 256 * (b.character_octets + 256 * (b.local_width + 256 * w)))) =
+    omega (arith, h.is, g.is) in
+    let e1 = last_octet a.width_change b.width_change _ _ h.width_change g.width_change e0 in
+    let e2 = last_octet a.scale_change b.scale_change _ _ h.scale_change g.scale_change e1.1 in
+    let e3 = last_octet a.precision_increase b.precision_increase _ _ h.precision_increase g.precision_increase e2.1 in
+    let e4 = last_octet a.character_octets b.character_octets _ _ h.character_octets g.character_octets e3.1 in
+    let e5 = last_octet a.local_width b.local_width v w h.local_width g.local_width e4.1 in
+    let new_reference_width : a.new_reference_width ≡ b.new_reference_width = h.new_reference_width ∙ sym g.new_reference_width in
+    let new_references : a.new_references ≡ b.new_references = h.new_references ∙ sym g.new_references in (
+      λ j. record {
+        width_change = e1.0 j;
+        scale_change = e2.0 j;
+        new_reference_width = new_reference_width j;
+        precision_increase = e3.0 j;
+        character_octets = e4.0 j;
+        local_width = e5.0 j;
+        new_references = new_references j;
+      },
+      e5.1,
+    )
+
+-- ---- The specs that are cached, and their keys.
+
+-- a spec that is found under the key of a field is the field's
+pub spec_got : (table : List Row) (s : OperatorModel) (f : TableField) (key : ℕ) (spec : FieldSpec) → IsFieldKey s f key → IsSpecBy table key spec → spec_of table s f ≡ Ok spec
+spec_got table s f key spec h g = g.is s f h.word (h.is g.few)
+
+-- fields with the same word are the same
+same_field : (f g : TableField) → descriptor_of f < 65536 → descriptor_of g < 65536 → key_word f ≡ key_word g → f ≡ g
+same_field (field.Element v) (field.Element w) p q e = ap field.Element e
+same_field (field.Element v) (field.Factor w) p q e = absurd (omega (arith, e, p))
+same_field (field.Factor v) (field.Element w) p q e = absurd (omega (arith, e, q))
+same_field (field.Factor v) (field.Factor w) p q e = let same : v ≡ w = omega (arith, e) in ap field.Factor same
+
+-- the spec of a field may be cached under its key
+pub spec_cached : (table : List Row) (s : OperatorModel) (f : TableField) (key : ℕ) (spec : FieldSpec) → IsFieldKey s f key → spec_of table s f ≡ Ok spec → key < 2 ^ 62 → IsSpecBy table key spec
+spec_cached table s f key spec h found few = record {
+  few = few;
+  is = λ t g word k.
+      let e = same_key s t (key_word f) (key_word g) key (h.is few) k in
+      subst (λ x. spec_of table x g ≡ Ok spec) e.0 (subst (λ x. spec_of table s x ≡ Ok spec) (same_field f g h.word word e.1) found);
+}
+
+kind_plain : (k : Kind) (s : OperatorModel) (row : Row) (spec : FieldSpec) → spec_by_kind k s row ≡ Ok spec → is_reference spec.role ≡ false
+kind_plain kind.Numeric s row spec e = ap is_reference (sym (fitted_role (numeric_spec s row) spec e))
+kind_plain kind.Coded s row spec e = ap is_reference (sym (fitted_role (coded_spec s row) spec e))
+kind_plain kind.Character s row spec e = let is : text_spec role.Element row.fxy (text_width s row.width) true ≡ spec = cc in ap (λ x. is_reference x.role) (sym is)
+
+none_defining : (n : ℕ) → n ≡ 0 → nat_lt 0 n ≡ false
+none_defining n h = grind (arith, nat_tests)
+
+-- while no reference is being defined, no element is one
+element_plain : (table : List Row) (s : OperatorModel) (fxy : ℕ) (spec : FieldSpec) → s.new_reference_width ≡ 0 → element_spec table s fxy ≡ Ok spec → is_reference spec.role ≡ false
+element_plain table s fxy spec none e = by_given (nat_lt 0 s.local_width) (entry_of table fxy) e
+  where
+    by_width : (b : Bool) (row : Row) → (if b then spec_by_kind row.kind (untouched s) row else unsigned_of fxy s.local_width) ≡ Ok spec → is_reference spec.role ≡ false
+    by_width true row q = kind_plain row.kind (untouched s) row spec q
+    by_width false row q = ap is_reference (sym (fitted_role (unsigned_field fxy s.local_width) spec q))
+
+    by_defining : (b : Bool) (row : Row) → b ≡ false → (if b then new_reference_spec row.kind s fxy else spec_by_kind row.kind s row) ≡ Ok spec → is_reference spec.role ≡ false
+    by_defining true row n q = absurd cc
+    by_defining false row n q = kind_plain row.kind s row spec q
+
+    by_given : (b : Bool) (o : Option Row) → (if b then local_width_spec o s fxy else listed_by o s fxy) ≡ Ok spec → is_reference spec.role ≡ false
+    by_given true None q = ap is_reference (sym (fitted_role (unsigned_field fxy s.local_width) spec q))
+    by_given false None q = absurd cc
+    by_given true (Some row) q = by_width (row.width == s.local_width) row q
+    by_given false (Some row) q = by_defining (is_defining s) row (none_defining s.new_reference_width none) q
+
+-- no factor is one
+factor_plain : (table : List Row) (s : OperatorModel) (fxy : ℕ) (spec : FieldSpec) → factor_spec table s fxy ≡ Ok spec → is_reference spec.role ≡ false
+factor_plain table s fxy spec e = by (is_defining s) (entry_of table fxy) e
+  where
+    by : (b : Bool) (o : Option Row) → (if b then Err (refusal.Defining fxy) else factor_by o fxy) ≡ Ok spec → is_reference spec.role ≡ false
+    by true o q = absurd cc
+    by false None q = absurd cc
+    by false (Some row) q = ap is_reference (sym (fitted_role (factor_field row fxy) spec q))
+
+-- what is cached is no reference
+pub spec_got_plain : (table : List Row) (s : OperatorModel) (f : TableField) (key : ℕ) (spec : FieldSpec) → IsFieldKey s f key → IsSpecBy table key spec → is_reference spec.role ≡ false
+spec_got_plain table s (field.Element fxy) key spec h g = element_plain table s fxy spec (h.is g.few).new_reference_width (spec_got table s (field.Element fxy) key spec h g)
+spec_got_plain table s (field.Factor fxy) key spec h g = factor_plain table s fxy spec (spec_got table s (field.Factor fxy) key spec h g)
+
+-- ---- The slots of lists of descriptors that are kept.
+
+-- the lists of slots beside the last one may stay
+pub all_stay : (b : List Row) (d : List Sequence) (slots : List Slot) → All (IsOther b d) slots → All (MayStay b d) (lists_of slots)
+all_stay b d [] h = All-nil (MayStay b d)
+all_stay b d (s ∷ slots) h = All-cons (MayStay b d) (list_of s) (lists_of slots) (All-head (IsOther b d) s slots h).stays (all_stay b d slots (All-tail (IsOther b d) s slots h))
+
+-- one slot more
+pub one_more : (b : List Row) (d : List Sequence) (slots : List Slot) (s : Slot) → All (IsOther b d) slots → IsOther b d s → All (IsOther b d) (slots ++ s ∷ [])
+one_more b d slots s h p = All-append (IsOther b d) slots (s ∷ []) h (All-cons (IsOther b d) s [] p (All-nil (IsOther b d)))
+
+pub one_longer : (slots : List Slot) (s : Slot) → length slots ≤ 14 → length (slots ++ s ∷ []) ≤ 15
+one_longer slots s h = simp length-append (omega arith)

@@ -1,0 +1,534 @@
+-- A walk over compressed data reads them as the definition does, and keeps its items.
+use Rattle.std.proofs.Common.{◌≡◌, ℕ, ◌+◌, ◌*◌, ◌<◌, ◌≤◌, Bool, true, false, List, length, take, drop, Ok, Err, sym, ◌∙◌, ap, arith, suc, ◌&&◌, eqb, ◌++◌, ◌∷◌, [], get_or, refl, zero, ◌^◌, ◌||◌, Result, subst, ◌⊎◌, inl, inr, ◌-◌, Some, append_assoc}
+use Rattle.std.specs.Prelude.{nat_lt, if◌then◌else◌, ◌==◌, ◌%◌, MatchResult}
+use Rattle.std.proofs.lemmas.List.{length-drop, drop-drop, get_or_default, get_or_append_left, map-append, length-append, append-nil}
+use Rattle.std.proofs.lemmas.Bool.Decides.{nat_tests, Decides-eqb, Decides-int_eq}
+use Rattle.bufr_bits.specs.Bits.{number_of}
+use Rattle.bufr_tables.specs.TableB.{is_character, Row}
+use Rattle.bufr_walk.specs.declared.packed_in.ItemBits.{ItemBits}
+use Rattle.bufr_walk.specs.declared.packed_in.PackedFault.{PackedFault}
+use Rattle.bufr_walk.specs.FieldSpec.{FieldSpec}
+use Rattle.bufr_walk.specs.Content.{data_end, found, FieldFault, increment, unequal_factor, Content}
+use Rattle.bufr_walk.specs.PackedField.{increments, increment_bits_of, contents_of, with_suffix, item_by, packed_field}
+use Rattle.bufr_walk.specs.PackedBits.{IsItemAnswer, IsWrong, IsSeen, IsUnseen, IsLooked, IsUnlooked}
+use Rattle.std.specs.Ordering.{int_eq}
+use Rattle.std.proofs.Math.Bool.{beq}
+use Rattle.std.specs.Cmp.{booleans_Decides}
+use Rattle.std.specs.List.{All, list_all}
+use Rattle.bufr_walk.specs.declared.kept.IndexedItem.{IndexedItem}
+use Rattle.bufr_walk.specs.declared.item_index.ItemLocation.{ItemLocation}
+use Rattle.bufr_walk.specs.StoredItems.{HasSpecAt, IsPut, no_field, item_at_location, indexed_items, IsReadAndKept, IsStoredReading}
+use Rattle.std.proofs.lemmas.List.Folds.{list_all-append}
+use Rattle.bufr_walk.specs.PackedIn.{PackedCursor, item_with_contents, item_at, items_at, contents_found, was_found, has_base, fits_at, packed_view, IsPackedIn, IsPackedTaken, wrong_of, PackedTakes, remaining_bits, IsPackedWrong, refuses_packed, new_packed_in, packed_fault}
+use Rattle.bufr_walk.specs.Reading.{max_values, items_at_once, Item, packed, ReadsItems, ReadsPass, next_after, turns_after, after, Data, together, IsPackedReading, turns_together}
+use Rattle.std.proofs.Math.Nat.{mul-le-mul_left}
+use Rattle.bufr_walk.specs.declared.stop.WalkStop.{WalkStop}
+use Rattle.bufr_walk.specs.Course.{Course, Next, take_next, at_end, astray, refused, next_item}
+use Rattle.bufr_walk.specs.Refusal.{spot, walk_fault_of, bits_before, IsRead, IsFault, IsRefused, Stop, walk_stop, too_many, field_stop, field_stop_of, stop_at, ComesToTogether, would_be_many, IsPackedShort, data_in, data_of, read_by, IsReadingOf}
+use Rattle.bufr_walk.specs.Walk.{TakenField, Takes, ticked, oks, answers_of, StopsWalk, Walked}
+use Rattle.bufr_frame.specs.Sections.{Sections}
+use Rattle.bufr_tables.specs.Tree.{Tree}
+use Rattle.bufr_walk.proofs.PlainLemmas.{used_most}
+use Rattle.bufr_walk.specs.declared.packed_in.PackedFault.TheVariants as wrong
+use Rattle.bufr_walk.specs.declared.spec.TurnRefusal.TheVariants as refusal
+use Rattle.bufr_walk.specs.declared.spec.Role.TheVariants as role
+use Rattle.bufr_walk.specs.declared.stop.WalkStop.TheVariants as stops
+use Rattle.bufr_walk.specs.declared.fault.WalkFault.TheVariants as fault
+use Rattle.bufr_walk.specs.declared.reading.StoredItems.TheVariants as kept
+
+not_short : (a b : ℕ) → b ≤ a → nat_lt a b ≡ false
+not_short a b h = grind (arith, nat_tests)
+
+is_short : (a b : ℕ) → a < b → nat_lt a b ≡ true
+is_short a b h = grind (arith, nat_tests)
+
+module _ (bits : List Bool) (at n : ℕ) (a : FieldSpec) where
+  -- the k that is read there
+  k_here : (k : ℕ) → k ≡ number_of (take 6 (drop (at + a.width) bits)) → number_of (take 6 (drop a.width (drop at bits))) ≡ k
+  k_here k is = ap (λ bs. number_of (take 6 bs)) (drop-drop a.width at bits) ∙ sym is
+
+  with_open_group : (k : ℕ) → at + (a.width + 6) ≤ length bits → k ≡ number_of (take 6 (drop (at + a.width) bits)) → packed_field n a (drop at bits) ≡ item_by a n k (drop at bits)
+  with_open_group k within is =
+      ap (λ b. if b then Err data_end else item_by a n (number_of (take 6 (drop a.width (drop at bits)))) (drop at bits)) (not_short (length (drop at bits)) (a.width + 6) (omega (arith, length-drop at bits)))
+      ∙ ap (λ x. item_by a n x (drop at bits)) (k_here k is)
+
+  -- an item that is there whole
+  pub field_is : (k size : ℕ) → at + size ≤ length bits → k ≡ number_of (take 6 (drop (at + a.width) bits)) → size ≡ a.width + 6 + n * increment_bits_of a.role a.kind k
+      → packed_field n a (drop at bits) ≡ with_suffix (contents_of a k (take a.width (drop at bits)) (increments n (increment_bits_of a.role a.kind k) (drop (at + (a.width + 6)) bits))) (drop (at + size) bits)
+  field_is k size within is size_is =
+      let s = increment_bits_of a.role a.kind k in
+      let here = drop at bits in
+      let back = drop (a.width + 6) here in
+      let same : back ≡ drop (at + (a.width + 6)) bits = drop-drop (a.width + 6) at bits in
+      let long : n * s ≤ length back = omega (arith, ap length same, length-drop (at + (a.width + 6)) bits) in
+      let ends : at + (a.width + 6) + n * s ≡ at + size = omega arith in
+      with_open_group k (omega arith) is
+      ∙ ap (λ b. if b then Err data_end else with_suffix (contents_of a k (take a.width here) (increments n s back)) (drop (n * s) back)) (not_short (length back) (n * s) long)
+      ∙ ap (λ bs. with_suffix (contents_of a k (take a.width here) (increments n s bs)) (drop (n * s) bs)) same
+      ∙ ap (λ bs. with_suffix (contents_of a k (take a.width here) (increments n s (drop (at + (a.width + 6)) bits))) bs) (drop-drop (n * s) (at + (a.width + 6)) bits ∙ ap (λ j. drop j bits) ends)
+
+  -- an item that the data end in
+  pub ends_first : (f : ℕ) → f ≡ a.fxy → at ≤ length bits → length bits < at + (a.width + 6) → IsUnseen bits at n a (wrong.DataEnd f)
+  ends_first f g within short = record {
+    why = data_end;
+    field = ap (λ b. if b then Err data_end else item_by a n (number_of (take 6 (drop a.width (drop at bits)))) (drop at bits)) (is_short (length (drop at bits)) (a.width + 6) (omega (arith, length-drop at bits)));
+    fault = ap wrong.DataEnd g;
+  }
+
+  pub ends_after : (k size f : ℕ) → f ≡ a.fxy → at + (a.width + 6) ≤ length bits → length bits < at + size → k ≡ number_of (take 6 (drop (at + a.width) bits)) → size ≡ a.width + 6 + n * increment_bits_of a.role a.kind k → IsUnseen bits at n a (wrong.DataEnd f)
+  ends_after k size f g within short is size_is =
+      let s = increment_bits_of a.role a.kind k in
+      let here = drop at bits in
+      let back = drop (a.width + 6) here in
+      let same : back ≡ drop (at + (a.width + 6)) bits = drop-drop (a.width + 6) at bits in
+      let long : length back < n * s = omega (arith, ap length same, length-drop (at + (a.width + 6)) bits) in
+      record {
+        why = data_end;
+        field = with_open_group k within is ∙ ap (λ b. if b then Err data_end else with_suffix (contents_of a k (take a.width here) (increments n s back)) (drop (n * s) back)) (is_short (length back) (n * s) long);
+        fault = ap wrong.DataEnd g;
+      }
+
+  pub seen_here : (seen : ItemBits) (size : ℕ) → 1 ≤ a.width → seen.end ≡ at + size → at + size ≤ length bits → seen.step ≡ number_of (take 6 (drop (at + a.width) bits)) → size ≡ a.width + 6 + n * increment_bits_of a.role a.kind seen.step → IsItemAnswer a seen.step n (take a.width (drop at bits)) (drop (at + (a.width + 6)) bits) seen.answer → (is_character a.kind ≡ false → seen.base ≡ number_of (take a.width (drop at bits))) → IsSeen bits at n a seen
+  seen_here seen size some end_is within is size_is answers based = record {
+    contents = answers.contents;
+    field = field_is seen.step size within is size_is ∙ ap (λ r. with_suffix r (drop (at + size) bits)) answers.are ∙ ap (λ j. Ok (found answers.contents (drop j bits))) (sym end_is);
+    gives = answers.gives;
+    step = is;
+    base = based;
+    within = omega arith;
+    least = omega arith;
+  }
+
+  pub unseen_here : (k size : ℕ) (e : PackedFault) → at + size ≤ length bits → k ≡ number_of (take 6 (drop (at + a.width) bits)) → size ≡ a.width + 6 + n * increment_bits_of a.role a.kind k → IsWrong a k n (take a.width (drop at bits)) (drop (at + (a.width + 6)) bits) e → IsUnseen bits at n a e
+  unseen_here k size e within is size_is w = record {
+    why = w.why;
+    field = field_is k size within is size_is ∙ ap (λ r. with_suffix r (drop (at + size) bits)) w.is;
+    fault = w.fault;
+  }
+
+-- the bits of an item, part by part
+pub size_same : (x w y n z s : ℕ) → x ≡ w → y ≡ n → z ≡ s → x + 6 + y * z ≡ w + 6 + n * s
+size_same x w y n z s e f g = ap (λ t. t + 6 + y * z) e ∙ ap (λ t. w + 6 + t * z) f ∙ ap (λ t. w + 6 + n * t) g
+
+-- ---- The items that are kept, and the fields among them.
+
+both : (a b : Bool) → (a && b) ≡ true → (a ≡ true) × (b ≡ true)
+both true b h = (refl, h)
+both false b h = let e : true ≡ false = sym h in absurd cc
+
+-- two fields with the same parts
+pub same_field : (a b : FieldSpec) (r k p : Bool) → (r ≡ true → a.role ≡ b.role) → (k ≡ true → a.kind ≡ b.kind)
+    → (int_eq a.reference b.reference && (eqb a.width b.width && (eqb a.fxy b.fxy && (int_eq a.scale b.scale && (r && (k && (beq a.may_be_missing b.may_be_missing && (beq a.listed b.listed && p)))))))) ≡ true → a ≡ b
+same_field a b r k p by_role spec_by_kind h =
+    let h1 = both (int_eq a.reference b.reference) _ h in
+    let h2 = both (eqb a.width b.width) _ h1.1 in
+    let h3 = both (eqb a.fxy b.fxy) _ h2.1 in
+    let h4 = both (int_eq a.scale b.scale) _ h3.1 in
+    let h5 = both r _ h4.1 in
+    let h6 = both k _ h5.1 in
+    let h7 = both (beq a.may_be_missing b.may_be_missing) _ h6.1 in
+    let h8 = both (beq a.listed b.listed) p h7.1 in
+    let reference : a.reference ≡ b.reference = (Decides-int_eq a.reference b.reference).0 h1.0 in
+    let width : a.width ≡ b.width = (Decides-eqb a.width b.width).0 h2.0 in
+    let fxy : a.fxy ≡ b.fxy = (Decides-eqb a.fxy b.fxy).0 h3.0 in
+    let scale : a.scale ≡ b.scale = (Decides-int_eq a.scale b.scale).0 h4.0 in
+    let may : a.may_be_missing ≡ b.may_be_missing = (booleans_Decides a.may_be_missing b.may_be_missing).0 h7.0 in
+    let listed : a.listed ≡ b.listed = (booleans_Decides a.listed b.listed).0 h8.0 in
+    let role : a.role ≡ b.role = by_role h5.0 in
+    let kind : a.kind ≡ b.kind = spec_by_kind h6.0 in
+    λ j. record {
+      fxy = fxy j;
+      role = role j;
+      kind = kind j;
+      width = width j;
+      scale = scale j;
+      reference = reference j;
+      may_be_missing = may j;
+      listed = listed j;
+    }
+
+-- a field that was found at a place
+pub fits_there : (specs : List FieldSpec) (place : ℕ) (there spec : FieldSpec) → place < length specs → there ≡ get_or specs place there → there ≡ spec → HasSpecAt specs place spec
+fits_there specs place there spec below at same = record {
+  below = below;
+  is = get_or_default specs place no_field there below ∙ sym at ∙ same;
+}
+
+-- the items are the same where fields follow those that they have
+same_items : (specs more : List FieldSpec) (places : List ItemLocation) → All (λ p. p.spec < length specs) places → indexed_items (specs ++ more) places ≡ indexed_items specs places
+same_items specs more [] have = refl
+same_items specs more (p ∷ places) have =
+    let below : p.spec < length specs = have 0 p (omega arith) in
+    let rest : indexed_items (specs ++ more) places ≡ indexed_items specs places = same_items specs more places (λ k d h. have (suc k) d (omega (arith, h))) in
+    ap (λ s. record { spec = s; at = p.at; base = p.base; step = p.step } ∷ indexed_items (specs ++ more) places) (get_or_append_left specs more no_field p.spec below)
+    ∙ ap (λ xs. item_at_location specs p ∷ xs) rest
+
+-- one item more
+pub one_more : (now : List IndexedItem) (specs specs1 specs2 : List FieldSpec) (places places1 places2 : List ItemLocation) (item : IndexedItem) (place : ℕ) → indexed_items specs places ≡ now → All (λ p. p.spec < length specs) places → specs1 ≡ specs → places1 ≡ places → IsPut specs1 item.spec place specs2
+    → places2 ≡ places1 ++ record { at = item.at; base = item.base; spec = place; step = item.step } ∷ [] → indexed_items specs2 places2 ≡ now ++ item ∷ []
+one_more now specs specs1 specs2 places places1 places2 item place view have same_specs same_places put is =
+    let last : ItemLocation = record { at = item.at; base = item.base; spec = place; step = item.step } in
+    let all : places2 ≡ places ++ last ∷ [] = is ∙ ap (λ ps. ps ++ last ∷ []) same_places in
+    let grown : specs2 ≡ specs ++ put.more = put.grows ∙ ap (λ ss. ss ++ put.more) same_specs in
+    let before : indexed_items specs2 places ≡ now = ap (λ ss. indexed_items ss places) grown ∙ same_items specs put.more places have ∙ view in
+    ap (indexed_items specs2) all ∙ map-append (item_at_location specs2) places (last ∷ [])
+    ∙ ap (λ xs. xs ++ item_at_location specs2 last ∷ []) before
+    ∙ ap (λ s. now ++ record { spec = s; at = item.at; base = item.base; step = item.step } ∷ []) put.fits.is
+
+-- ---- The items that a reader of compressed data keeps.
+
+pub length-items_at : (bits : List Bool) (n : ℕ) (kept : List IndexedItem) → length (items_at bits n kept) ≡ length kept
+length-items_at bits n [] = refl
+length-items_at bits n (e ∷ kept) = ap suc (length-items_at bits n kept)
+
+items_at-append : (bits : List Bool) (n : ℕ) (kept : List IndexedItem) (e : IndexedItem) → items_at bits n (kept ++ e ∷ []) ≡ items_at bits n kept ++ item_at bits n e ∷ []
+items_at-append bits n [] e = refl
+items_at-append bits n (x ∷ kept) e = ap (λ xs. item_at bits n x ∷ xs) (items_at-append bits n kept e)
+
+equal_test : (a b : ℕ) → a ≡ b → (a == b) ≡ true
+equal_test a b h = grind (arith, nat_tests)
+
+both_kept : (a b : Bool) → a ≡ true → b ≡ true → (a && b) ≡ true
+both_kept a b e f = ap (λ x. x && b) e ∙ f
+
+-- the entry of an item that was read
+pub fits_here : (bits : List Bool) (n : ℕ) (e : IndexedItem) (seen : ItemBits) → IsSeen bits e.at n e.spec seen → e.base ≡ seen.base → e.step ≡ seen.step → fits_at bits n e ≡ true
+fits_here bits n e seen h b k =
+    let step = e.step == number_of (take 6 (drop (e.at + e.spec.width) bits)) in
+    both_kept (was_found (packed_field n e.spec (drop e.at bits))) (step && has_base bits e) (ap was_found h.field)
+    (both_kept step (has_base bits e) (equal_test e.step (number_of (take 6 (drop (e.at + e.spec.width) bits))) (k ∙ h.step)) (based (is_character e.spec.kind) refl))
+  where
+    based : (c : Bool) → is_character e.spec.kind ≡ c → (c || (e.base == number_of (take e.spec.width (drop e.at bits)))) ≡ true
+    based true q = refl
+    based false q = equal_test e.base (number_of (take e.spec.width (drop e.at bits))) (b ∙ h.base q)
+
+-- one entry more
+pub keeps : (bits : List Bool) (at n : ℕ) (kept kept' : List IndexedItem) (e : IndexedItem) (seen : ItemBits) → IsPackedIn bits at n kept → e.at ≡ at → e.base ≡ seen.base → e.step ≡ seen.step → IsLooked (packed_view bits at n kept) e.spec seen → kept' ≡ kept ++ e ∷ [] → IsPackedIn bits seen.end n kept'
+keeps bits at n kept kept' e seen h here b k look is =
+    let fits = fits_here bits n e seen (subst (λ x. IsSeen bits x n e.spec seen) (sym here) look.seen) b k in
+    let count : length kept' ≡ length kept + 1 = ap length is ∙ length-append kept (e ∷ []) in
+    let many = look.few in
+    record {
+      within = look.seen.within;
+      some = h.some;
+      few = subst (λ j. j * n ≤ max_values) (ap (λ j. j + 1) (length-items_at bits n kept) ∙ sym count) look.few;
+      held = omega (arith, count, h.held, look.seen.least);
+      fit = ap (list_all (fits_at bits n)) is ∙ list_all-append (fits_at bits n) kept (e ∷ []) ∙ both_kept (list_all (fits_at bits n) kept) (fits_at bits n e && true) h.fit (both_kept (fits_at bits n e) true fits refl);
+    }
+
+pub takes_one : (bits : List Bool) (at n : ℕ) (kept kept' : List IndexedItem) (e : IndexedItem) (seen : ItemBits) → e.at ≡ at → IsLooked (packed_view bits at n kept) e.spec seen → kept' ≡ kept ++ e ∷ []
+    → IsPackedTaken (packed_view bits at n kept) e.spec seen.answer (packed_view bits seen.end n kept')
+takes_one bits at n kept kept' e seen here look is = record {
+  contents = look.seen.contents;
+  few = look.few;
+  field = look.seen.field;
+  gives = look.seen.gives;
+  bits = refl;
+  subsets = refl;
+  items = ap (items_at bits n) is ∙ items_at-append bits n kept e ∙ ap (λ x. items_at bits n kept ++ item_with_contents e.spec x ∷ []) (ap (λ j. contents_found (packed_field n e.spec (drop j bits))) here ∙ ap contents_found look.seen.field);
+  forth = look.seen.least;
+}
+
+-- a fault of the item
+pub unlooked : (s : PackedCursor) (a : FieldSpec) (e : PackedFault) → (length s.items + 1) * s.subsets ≤ max_values → IsUnseen s.bits s.at s.subsets a e → IsUnlooked s a e
+unlooked s a e few h = subst (IsUnlooked s a) (sym h.fault) (by h.why h.field)
+  where
+    by : (why : FieldFault) → packed_field s.subsets a (drop s.at s.bits) ≡ Err why → IsUnlooked s a (wrong_of a.fxy why)
+    by data_end f = record { why = data_end; few = few; field = f; fault = refl }
+    by increment f = record { why = increment; few = few; field = f; fault = refl }
+    by unequal_factor f = record { why = unequal_factor; few = few; field = f; fault = refl }
+
+-- the reader of a contract, and what it keeps
+too_many_kept : (s : PackedCursor) (bits : List Bool) (at n : ℕ) (kept : List IndexedItem) (len from : ℕ) → s ≡ packed_view bits at n kept → len ≡ length kept → from ≡ n → max_values < (len + 1) * from → max_values < (length s.items + 1) * s.subsets
+too_many_kept s bits at n kept len from e f g h =
+    subst (λ x. max_values < (length x.items + 1) * x.subsets) (sym e)
+    (subst (λ z. max_values < z) (ap (λ l. (l + 1) * from) (f ∙ sym (length-items_at bits n kept)) ∙ ap (λ m. (length (items_at bits n kept) + 1) * m) g) h)
+
+pub unlooked_many : (s : PackedCursor) (a : FieldSpec) (bits : List Bool) (at n : ℕ) (kept : List IndexedItem) (len from fxy : ℕ) → fxy ≡ a.fxy → s ≡ packed_view bits at n kept → len ≡ length kept → from ≡ n → max_values < (len + 1) * from → IsUnlooked s a (wrong.TooManyValues fxy)
+unlooked_many s a bits at n kept len from fxy d e f g h = (d, too_many_kept s bits at n kept len from e f g h)
+
+pub looked : (s : PackedCursor) (a : FieldSpec) (bits : List Bool) (at n : ℕ) (kept : List IndexedItem) (len from : ℕ) (r : Result ItemBits PackedFault) → s ≡ packed_view bits at n kept → len ≡ length kept → from ≡ n → (len + 1) * from ≤ max_values
+    → MatchResult r (λ x. IsSeen bits at n a x) (λ e. IsUnseen bits at n a e) → MatchResult r (λ x. IsLooked s a x) (λ e. IsUnlooked s a e)
+looked s a bits at n kept len from r e f g few h = by r h
+  where
+    room : (length (items_at bits n kept) + 1) * n ≤ max_values
+    room = subst (λ z. z ≤ max_values) (ap (λ l. (l + 1) * from) (f ∙ sym (length-items_at bits n kept)) ∙ ap (λ m. (length (items_at bits n kept) + 1) * m) g) few
+
+    by : (r : Result ItemBits PackedFault) → MatchResult r (λ x. IsSeen bits at n a x) (λ e. IsUnseen bits at n a e) → MatchResult r (λ x. IsLooked s a x) (λ e. IsUnlooked s a e)
+    by (Ok x) h = subst (λ y. IsLooked y a x) (sym e) (record { few = room; seen = h })
+    by (Err w) h = subst (λ y. IsUnlooked y a w) (sym e) (unlooked (packed_view bits at n kept) a w room h)
+
+-- how many values were read
+pub few_values : (s : PackedCursor) (bits : List Bool) (at n : ℕ) (kept : List IndexedItem) → packed_view bits at n kept ≡ s → length kept * n ≤ max_values → length s.items * s.subsets ≤ max_values
+few_values s bits at n kept e h = subst (λ x. length x.items * x.subsets ≤ max_values) e (subst (λ l. l * n ≤ max_values) (sym (length-items_at bits n kept)) h)
+
+-- no room could be made
+pub no_room : (s : PackedCursor) (a : FieldSpec) (bits : List Bool) (at n : ℕ) (kept kept' : List IndexedItem) (e : PackedFault) → packed_view bits at n kept ≡ s → kept' ≡ kept → e ≡ wrong.Memory → length kept % items_at_once ≡ 0 → PackedTakes s a (Err e) (packed_view bits at n kept')
+no_room s a bits at n kept kept' e view same is full =
+    subst (λ w. PackedTakes s a (Err w) (packed_view bits at n kept')) (sym is)
+    (ap (packed_view bits at n) same ∙ view, subst (λ x. length x.items % items_at_once ≡ 0) view (subst (λ l. l % items_at_once ≡ 0) (sym (length-items_at bits n kept)) full))
+
+-- at least as many values as items
+times_some : (m n : ℕ) → 1 ≤ n → m ≤ m * n
+times_some zero n h = omega arith
+times_some (suc m) n h = let rest : m ≤ m * n = times_some m n h in omega (arith, rest, h)
+
+-- the items are few
+pub few_kept : (s : PackedCursor) (bits : List Bool) (at n : ℕ) (kept : List IndexedItem) → packed_view bits at n kept ≡ s → 1 ≤ n → (length s.items + 1) * s.subsets ≤ max_values → length kept < 2 ^ 32
+few_kept s bits at n kept view some few =
+    let values : (length (items_at bits n kept) + 1) * n ≤ max_values = subst (λ x. (length x.items + 1) * x.subsets ≤ max_values) (sym view) few in
+    let items : length (items_at bits n kept) + 1 ≤ (length (items_at bits n kept) + 1) * n = times_some (length (items_at bits n kept) + 1) n some in
+    omega (arith, values, items, length-items_at bits n kept)
+
+-- ---- A walk over compressed data reads them as the definition does.
+
+-- the items that some turns read
+pub record Passed (n : ℕ) (course : Course) (s : PackedCursor) (turns : List TakenField) (s' : PackedCursor) : Type 0 where
+  pub read : List (Item (List Content))
+  pub reads : ReadsItems (packed n) course read (remaining_bits s) (remaining_bits s')
+  pub next_is : next_after (packed n) course read ≡ (course (answers_of turns)).next
+  pub turns_are : turns_after (packed n) course read ≡ (course (answers_of turns)).turns
+  pub items : s'.items ≡ s.items ++ read
+  pub bits : s'.bits ≡ s.bits
+  pub subsets : s'.subsets ≡ n
+
+-- items that were taken are read, and what comes after them is the same, in as many turns
+pub passes : (n : ℕ) (course : Course) (s : PackedCursor) (turns : List TakenField) (s' : PackedCursor) → s.subsets ≡ n → Takes (oks PackedTakes) course s turns s' → Passed n course s turns s'
+passes n course s [] s' e h = record {
+  read = [];
+  reads = ap remaining_bits (sym h);
+  next_is = refl;
+  turns_are = refl;
+  items = ap (λ x. x.items) h ∙ sym (append-nil s.items);
+  bits = ap (λ x. x.bits) h;
+  subsets = ap (λ x. x.subsets) h ∙ e;
+}
+passes n course s (i ∷ turns) s' e h =
+    let step : IsPackedTaken s i.spec i.taken h.0 = h.2 in
+    let item : Item (List Content) = item_with_contents i.spec step.contents in
+    let same : (λ answers. course (i.taken ∷ answers)) ≡ after (packed n) course item = ap (λ t answers. course (t ∷ answers)) step.gives in
+    let more = passes n (λ answers. course (i.taken ∷ answers)) h.0 turns s' (step.subsets ∙ e) h.3 in
+    record {
+      read = item ∷ more.read;
+      reads = (
+        remaining_bits h.0,
+        h.1,
+        ap (λ m. packed_field m i.spec (remaining_bits s)) (sym e) ∙ step.field,
+        subst (λ c. ReadsItems (packed n) c more.read (remaining_bits h.0) (remaining_bits s')) same more.reads,
+      );
+      next_is = ap (λ c. next_after (packed n) c more.read) (sym same) ∙ more.next_is;
+      turns_are = ap (λ c. turns_after (packed n) c more.read) (sym same) ∙ more.turns_are;
+      items = more.items ∙ ap (λ xs. xs ++ more.read) step.items ∙ append_assoc s.items (item ∷ []) more.read;
+      bits = more.bits ∙ step.bits;
+      subsets = more.subsets;
+    }
+
+not_many : (a b : ℕ) → b ≤ a → nat_lt a b ≡ false
+not_many a b h = grind (arith, nat_tests)
+
+is_many : (a b : ℕ) → a < b → nat_lt a b ≡ true
+is_many a b h = grind (arith, nat_tests)
+
+-- with a subset at least
+reading_of : (n : ℕ) (course : Course) (items : List (Item (List Content))) (bits suffix : List Bool) → 1 ≤ n → ReadsPass (packed n) course items bits suffix → length items * n ≤ max_values → IsPackedReading n course items bits suffix
+reading_of zero course items bits suffix some h few = absurd (omega arith)
+reading_of (suc n) course items bits suffix some h few = (h, few)
+
+turns_are_those : (n : ℕ) (course : Course) (items : List (Item (List Content))) → 1 ≤ n → turns_together n course items ≡ turns_after (packed n) course items
+turns_are_those zero course items some = absurd (omega arith)
+turns_are_those (suc n) course items some = refl
+
+abbrev packed_data : ℕ → List Bool → Data
+packed_data n bits = record { compressed = true; subsets = n; bits = bits }
+
+-- from the first bit on
+module _ (n : ℕ) (course : Course) (bits : List Bool) (s : PackedCursor) (first : s ≡ new_packed_in bits n) (some : 1 ≤ n) where
+  begins : s.subsets ≡ n
+  begins = ap (λ x. x.subsets) first
+
+  all_items : (turns : List TakenField) (s' : PackedCursor) (p : Passed n course s turns s') → s'.items ≡ p.read
+  all_items turns s' p = p.items ∙ ap (λ x. x.items ++ p.read) first
+
+  all_bits : (turns : List TakenField) (s' : PackedCursor) → Passed n course s turns s' → s'.bits ≡ bits
+  all_bits turns s' p = p.bits ∙ ap (λ x. x.bits) first
+
+  rest_is : (turns : List TakenField) (s' : PackedCursor) → Passed n course s turns s' → remaining_bits s' ≡ drop s'.at bits
+  rest_is turns s' p = ap (drop s'.at) (all_bits turns s' p)
+
+  from_first : (turns : List TakenField) (s' : PackedCursor) (p : Passed n course s turns s') → ReadsItems (packed n) course p.read bits (remaining_bits s')
+  from_first turns s' p = subst (λ here. ReadsItems (packed n) course p.read here (remaining_bits s')) (ap remaining_bits first) p.reads
+
+  -- an accepted walk
+  pub walk_reads : (s' : PackedCursor) (c c' : ℕ) → c ≡ 0 → Walked PackedTakes course s c (Ok tt) s' c' → s'.at ≤ length s'.bits → length s'.items * s'.subsets ≤ max_values → IsRead course (packed_data n bits) (together s'.items) s'.at c'
+  walk_reads s' c c' zero_first w within few =
+      let p = passes n course s w.0 s' begins w.1 in
+      let are = all_items w.0 s' p in
+      let whole : ReadsPass (packed n) course p.read bits (drop s'.at bits) = (subst (λ b. ReadsItems (packed n) course p.read bits b) (rest_is w.0 s' p) (from_first w.0 s' p), p.next_is ∙ w.2) in
+      let bound : length s'.items * n ≤ max_values = subst (λ m. length s'.items * m ≤ max_values) p.subsets few in (
+        (refl, subst (λ b. s'.at ≤ length b) (all_bits w.0 s' p) within, reading_of n course s'.items bits (drop s'.at bits) some (subst (λ xs. ReadsPass (packed n) course xs bits (drop s'.at bits)) (sym are) whole) bound),
+        w.3 ∙ ap (λ t. ticked c t) (sym p.turns_are) ∙ ap (λ xs. ticked c (turns_after (packed n) course xs)) (sym are) ∙ ap (λ t. ticked c t) (sym (turns_are_those n course s'.items some)) ∙ ap (λ b. ticked b (turns_together n course s'.items)) zero_first,
+      )
+
+  -- with the entries that were kept
+  pub whole_read : (s' : PackedCursor) (c c' used : ℕ) (kept : List IndexedItem) → c ≡ 0 → Walked PackedTakes course s c (Ok tt) s' c' → s'.at ≤ length s'.bits → length s'.items * s'.subsets ≤ max_values → used ≡ s'.at → items_at s'.bits s'.subsets kept ≡ s'.items → list_all (fits_at s'.bits s'.subsets) kept ≡ true
+      → IsReadAndKept course (packed_data n bits) kept used c'
+  whole_read s' c c' used kept zero_first w within few at are fit =
+      let p = passes n course s w.0 s' begins w.1 in (
+        s'.items,
+        subst (λ u. IsRead course (packed_data n bits) (together s'.items) u c') (sym at) (walk_reads s' c c' zero_first w within few),
+        (
+          ap (λ b. items_at b n kept) (sym (all_bits w.0 s' p)) ∙ ap (λ m. items_at s'.bits m kept) (sym p.subsets) ∙ are,
+          ap (λ b. list_all (fits_at b n) kept) (sym (all_bits w.0 s' p)) ∙ ap (λ m. list_all (fits_at s'.bits m) kept) (sym p.subsets) ∙ fit,
+        ),
+      )
+
+  -- up to what comes next
+  comes : (turns : List TakenField) (mid : PackedCursor) (p : Passed n course s turns mid) → mid.at ≤ length bits → length mid.items * n ≤ max_values → ComesToTogether n course bits (length p.read) mid.at (course (answers_of turns)).turns (course (answers_of turns)).next (remaining_bits mid)
+  comes turns mid p within few = record {
+    items = p.read;
+    some = some;
+    reads = from_first turns mid p;
+    few = subst (λ xs. length xs * n ≤ max_values) (all_items turns mid p) few;
+    count = refl;
+    next_is = sym p.next_is;
+    place = omega (arith, ap length (rest_is turns mid p), length-drop mid.at bits);
+    turns_are = sym p.turns_are;
+  }
+
+  -- it was refused there
+  refused_so : (turns : List TakenField) (mid : PackedCursor) (p : Passed n course s turns mid) (next : Next) (stop : Stop) (at : ℕ) → (course (answers_of turns)).next ≡ next → mid.at ≤ length bits → length mid.items * n ≤ max_values → at ≡ mid.at
+      → stop_at (packed n) (would_be_many n (length p.read)) next (remaining_bits mid) ≡ Some stop → IsRefused course (packed_data n bits) (walk_fault_of stop 0 at) (course (answers_of turns)).turns
+  refused_so turns mid p next stop at e within few here h = record {
+    stop = stop;
+    subset = 0;
+    before = at;
+    is = refl;
+    stopped = (
+      refl,
+      (
+        length p.read,
+        next,
+        remaining_bits mid,
+        subst (λ x. ComesToTogether n course bits (length p.read) at (course (answers_of turns)).turns x (remaining_bits mid)) e (subst (λ b. ComesToTogether n course bits (length p.read) b (course (answers_of turns)).turns (course (answers_of turns)).next (remaining_bits mid)) (sym here) (comes turns mid p within few)),
+        h,
+      ),
+    );
+  }
+
+  short_so : (turns : List TakenField) (mid : PackedCursor) (p : Passed n course s turns mid) (spec : FieldSpec) → (course (answers_of turns)).next ≡ take_next spec → mid.at ≤ length bits → length mid.items * n ≤ max_values → (length mid.items % items_at_once ≡ 0) ⊎ (spec.role ≡ role.Reference) → IsPackedShort n course bits (course (answers_of turns)).turns
+  short_so turns mid p spec e within few why =
+      (spec, remaining_bits mid, length p.read, mid.at, subst (λ x. ComesToTogether n course bits (length p.read) mid.at (course (answers_of turns)).turns x (remaining_bits mid)) e (comes turns mid p within few), subst (λ l. (l % items_at_once ≡ 0) ⊎ (spec.role ≡ role.Reference)) (ap length (all_items turns mid p)) why)
+
+  -- a fault of the field
+  field_so : (turns : List TakenField) (mid : PackedCursor) (p : Passed n course s turns mid) (spec : FieldSpec) (at c' : ℕ) (why : FieldFault) → (course (answers_of turns)).next ≡ take_next spec → mid.at ≤ length bits → length mid.items * n ≤ max_values → at ≡ mid.at
+      → (length mid.items + 1) * mid.subsets ≤ max_values → packed_field mid.subsets spec (remaining_bits mid) ≡ Err why → c' ≡ ticked 0 (course (answers_of turns)).turns → IsFault course (packed_data n bits) (packed_fault (stops.Field (wrong_of spec.fxy why)) at) c'
+  field_so turns mid p spec at c' why e within few here room field ticks = by why field
+    where
+      many : would_be_many n (length p.read) ≡ false
+      many = not_many max_values ((length p.read + 1) * n) (subst (λ xs. (length xs + 1) * n ≤ max_values) (all_items turns mid p) (subst (λ m. (length mid.items + 1) * m ≤ max_values) p.subsets room))
+
+      ends : (why : FieldFault) → packed_field mid.subsets spec (remaining_bits mid) ≡ Err why → stop_at (packed n) (would_be_many n (length p.read)) (take_next spec) (remaining_bits mid) ≡ Some (field_stop spec.fxy why)
+      ends why f = ap (λ b. stop_at (packed n) b (take_next spec) (remaining_bits mid)) many ∙ ap (field_stop_of spec.fxy) (ap (λ m. packed_field m spec (remaining_bits mid)) (sym p.subsets) ∙ f)
+
+      by : (why : FieldFault) → packed_field mid.subsets spec (remaining_bits mid) ≡ Err why → IsFault course (packed_data n bits) (packed_fault (stops.Field (wrong_of spec.fxy why)) at) c'
+      by data_end f = ((course (answers_of turns)).turns, refused_so turns mid p (take_next spec) (field_stop spec.fxy data_end) at e within few here (ends data_end f), ticks)
+      by increment f = ((course (answers_of turns)).turns, refused_so turns mid p (take_next spec) (field_stop spec.fxy increment) at e within few here (ends increment f), ticks)
+      by unequal_factor f = ((course (answers_of turns)).turns, refused_so turns mid p (take_next spec) (field_stop spec.fxy unequal_factor) at e within few here (ends unequal_factor f), ticks)
+
+  -- a refused walk
+  pub walk_stops : (s' : PackedCursor) (c c' at : ℕ) (why : WalkStop PackedFault) → c ≡ 0 → Walked PackedTakes course s c (Err why) s' c' → s'.at ≤ length s'.bits → length s'.items * s'.subsets ≤ max_values → at ≡ s'.at → IsFault course (packed_data n bits) (packed_fault why at) c'
+  walk_stops s' c c' at why zero_first w within few here = by why (course (answers_of w.0)).next refl w.3
+    where
+      p : Passed n course s w.0 w.1
+      p = passes n course s w.0 w.1 begins w.2
+
+      ticks : c' ≡ ticked 0 (course (answers_of w.0)).turns
+      ticks = w.4 ∙ ap (λ b. ticked b (course (answers_of w.0)).turns) zero_first
+
+      -- nothing was changed
+      inside : s' ≡ w.1 → w.1.at ≤ length bits
+      inside e = subst (λ b. w.1.at ≤ length b) (all_bits w.0 w.1 p) (subst (λ x. x.at ≤ length x.bits) e within)
+
+      room : s' ≡ w.1 → length w.1.items * n ≤ max_values
+      room e = subst (λ m. length w.1.items * m ≤ max_values) p.subsets (subst (λ x. length x.items * x.subsets ≤ max_values) e few)
+
+      place : s' ≡ w.1 → at ≡ w.1.at
+      place e = here ∙ ap (λ x. x.at) e
+
+      wrong_so : (spec : FieldSpec) (e : PackedFault) → (course (answers_of w.0)).next ≡ take_next spec → IsPackedWrong w.1 spec e → s' ≡ w.1 → IsFault course (packed_data n bits) (packed_fault (stops.Field e) at) c'
+      wrong_so spec e q h same =
+          subst (λ x. IsFault course (packed_data n bits) (packed_fault (stops.Field x) at) c') (sym h.fault) (field_so w.0 w.1 p spec at c' h.why q (inside same) (room same) (place same) h.few h.field ticks)
+
+      many_so : (spec : FieldSpec) → max_values < (length w.1.items + 1) * w.1.subsets → would_be_many n (length p.read) ≡ true
+      many_so spec h = is_many max_values ((length p.read + 1) * n) (subst (λ xs. max_values < (length xs + 1) * n) (all_items w.0 w.1 p) (subst (λ m. max_values < (length w.1.items + 1) * m) p.subsets h))
+
+      by : (why : WalkStop PackedFault) (next : Next) → (course (answers_of w.0)).next ≡ next → StopsWalk PackedTakes next w.1 why s' → IsFault course (packed_data n bits) (packed_fault why at) c'
+      by (stops.Field (wrong.TooManyValues fxy)) (take_next spec) q h =
+          ((course (answers_of w.0)).turns, subst (λ f. IsRefused course (packed_data n bits) (fault.TooManyValues (spot 0 f at)) (course (answers_of w.0)).turns) (sym h.0) (refused_so w.0 w.1 p (take_next spec) (too_many spec.fxy) at q (inside h.2) (room h.2) (place h.2) (ap (λ b. stop_at (packed n) b (take_next spec) (remaining_bits w.1)) (many_so spec h.1))), ticks)
+      by (stops.Field wrong.Memory) (take_next spec) q h = ((course (answers_of w.0)).turns, short_so w.0 w.1 p spec q (inside h.0) (room h.0) (inl h.1), ticks)
+      by (stops.Field (wrong.DataEnd fxy)) (take_next spec) q h = wrong_so spec (wrong.DataEnd fxy) q h.0 h.1
+      by (stops.Field (wrong.Increment fxy)) (take_next spec) q h = wrong_so spec (wrong.Increment fxy) q h.0 h.1
+      by (stops.Field (wrong.UnequalFactor fxy)) (take_next spec) q h = wrong_so spec (wrong.UnequalFactor fxy) q h.0 h.1
+      by stops.Memory (take_next spec) q h = ((course (answers_of w.0)).turns, short_so w.0 w.1 p spec q (inside h.1) (room h.1) (inr h.0), ticks)
+      by (stops.Width fxy) (take_next spec) q h = absurd h
+      by (stops.Defining fxy) (take_next spec) q h = absurd h
+      by why at_end q h = absurd h
+      by why astray q h = absurd h
+      by (stops.Width fxy) (refused (refusal.Width f)) q h =
+          ((course (answers_of w.0)).turns, subst (λ x. IsRefused course (packed_data n bits) (packed_fault x at) (course (answers_of w.0)).turns) (sym h.0) (refused_so w.0 w.1 p (refused (refusal.Width f)) (walk_stop (refusal.Width f)) at q (inside h.1) (room h.1) (place h.1) refl), ticks)
+      by (stops.Defining fxy) (refused (refusal.Defining f)) q h =
+          ((course (answers_of w.0)).turns, subst (λ x. IsRefused course (packed_data n bits) (packed_fault x at) (course (answers_of w.0)).turns) (sym h.0) (refused_so w.0 w.1 p (refused (refusal.Defining f)) (walk_stop (refusal.Defining f)) at q (inside h.1) (room h.1) (place h.1) refl), ticks)
+      by (stops.Width fxy) (refused (refusal.Defining f)) q h = absurd cc h.0
+      by (stops.Defining fxy) (refused (refusal.Width f)) q h = absurd cc h.0
+      by (stops.Field e) (refused (refusal.Width f)) q h = absurd cc h.0
+      by (stops.Field e) (refused (refusal.Defining f)) q h = absurd cc h.0
+      by stops.Memory (refused (refusal.Width f)) q h = absurd cc h.0
+      by stops.Memory (refused (refusal.Defining f)) q h = absurd cc h.0
+
+-- a refusal leaves the bits
+stop_bits : (next : Next) (mid s' : PackedCursor) (why : WalkStop PackedFault) → StopsWalk PackedTakes next mid why s' → s'.bits ≡ mid.bits
+stop_bits (take_next spec) mid s' (stops.Field e) h = ap (λ x. x.bits) (refuses_packed mid spec e s' h)
+stop_bits (take_next spec) mid s' stops.Memory h = ap (λ x. x.bits) h.1
+stop_bits (take_next spec) mid s' (stops.Width fxy) h = absurd h
+stop_bits (take_next spec) mid s' (stops.Defining fxy) h = absurd h
+stop_bits at_end mid s' why h = absurd h
+stop_bits astray mid s' why h = absurd h
+stop_bits (refused r) mid s' why h = ap (λ x. x.bits) h.1
+
+pub stopped_within : (course : Course) (bits : List Bool) (n : ℕ) (s s' : PackedCursor) (c c' : ℕ) (why : WalkStop PackedFault) → s ≡ new_packed_in bits n → Walked PackedTakes course s c (Err why) s' c' → s'.at ≤ length s'.bits → s'.at ≤ length bits
+stopped_within course bits n s s' c c' why first w h =
+    let p = passes n course s w.0 w.1 (ap (λ x. x.subsets) first) w.2 in
+    subst (λ b. s'.at ≤ length b) (stop_bits (course (answers_of w.0)).next w.1 s' why w.3 ∙ p.bits ∙ ap (λ x. x.bits) first) h
+
+-- the bound of steps
+pub few_stopped : (k steps steps' at here all : ℕ) (s : PackedCursor) (bits : List Bool) (n : ℕ) (why : WalkStop PackedFault) → s ≡ new_packed_in bits n → steps ≡ 0 → steps' ≤ steps + k * (at - s.at + 1) → here ≡ at → at ≤ all → steps' ≤ k * (bits_before (packed_fault why here) all + 1)
+few_stopped k steps steps' at here all s bits n why first e h u within =
+    let z : s.at ≡ 0 = ap (λ x. x.at) first in
+    let d : at - s.at + 1 ≤ bits_before (packed_fault why here) all + 1 = let b = far why in omega arith in
+    let m : k * (at - s.at + 1) ≤ k * (bits_before (packed_fault why here) all + 1) = mul-le-mul_left k d in
+    omega (arith, m, h, e)
+  where
+    far : (why : WalkStop PackedFault) → at ≤ bits_before (packed_fault why here) all
+    far (stops.Width fxy) = omega arith
+    far (stops.Defining fxy) = omega arith
+    far stops.Memory = within
+    far (stops.Field (wrong.DataEnd fxy)) = omega arith
+    far (stops.Field (wrong.Increment fxy)) = omega arith
+    far (stops.Field (wrong.UnequalFactor fxy)) = omega arith
+    far (stops.Field (wrong.TooManyValues fxy)) = omega arith
+    far (stops.Field wrong.Memory) = within
+
+-- ---- The parts of a reading of compressed data.
+
+pub packed_held : (table : List Row) (template : Tree) (subsets : ℕ) (octets : List ℕ) (used steps : ℕ) (entries : List IndexedItem) → IsReadAndKept (next_item table template) (data_in true subsets octets) entries used steps → 7 * length entries ≤ used → length octets < 2 ^ 24
+    → IsStoredReading (read_by table template (data_in true subsets octets) used (length entries)) (kept.Together entries)
+packed_held table template subsets octets used steps entries h few short = record { values = together h.0; reading = h.1.0; keeps = h.2; few = few; pays = tt; short = used_most octets used short h.1.0.1 }
+
+-- the compressed data of a message
+pub packed_data_same : (m : Sections) (subsets : ℕ) (octets : List ℕ) → m.compressed ≡ true → subsets ≡ m.subsets → octets ≡ m.payload → data_in true subsets octets ≡ data_of m
+packed_data_same m subsets octets packed e f =
+    ap (λ n. data_in true n octets) e ∙ ap (λ o. data_in true m.subsets o) f ∙ ap (λ b. data_in b m.subsets m.payload) (sym packed)
+
+pub packed_is : (table : List Row) (template : Tree) (m : Sections) (subsets : ℕ) (octets : List ℕ) (used held steps : ℕ) (entries : List IndexedItem) → data_in true subsets octets ≡ data_of m → IsReadAndKept (next_item table template) (data_in true subsets octets) entries used steps
+    → IsReadingOf table template (data_of m) (read_by table template (data_in true subsets octets) used held) steps
+packed_is table template m subsets octets used held steps entries e h = (refl, refl, e, together h.0, subst (λ d. IsRead (next_item table template) d (together h.0) used steps) e h.1)

@@ -1,0 +1,733 @@
+-- The effect of each turn of a walk, and walks one after another.
+use Rattle.std.proofs.Common.{◌≡◌, ℕ, ◌+◌, List, [], ◌∷◌, ◌++◌, Result, refl, sym, ◌∙◌, ap, subst, zero-add, add_assoc, arith, ◌*◌, ◌&&◌, append-nil, Bool, true, false, Option, Some, None, Ok, Err, zero, suc, ◌-◌, ◌^◌, ◌<◌, length, drop, get_or, add-zero, ◌≤◌, length-append}
+use Rattle.bufr_tables.specs.TableB.{Row, entry_of}
+use Rattle.bufr_walk.specs.declared.spec.Taken.{Taken}
+use Rattle.bufr_walk.specs.FieldSpec.{FieldSpec, IsFor, IsForRole, is_reference}
+use Rattle.bufr_walk.specs.Rules.{OperatorModel, after_field, after_operator, is_defining, element_spec, factor_spec, inserted_spec, if_valid_width, spec_by_kind, new_reference_spec, defined_field, numeric_spec, coded_spec, text_spec, text_width, local_width_spec, listed_by, unsigned_of, unsigned_field, untouched, begin}
+use Rattle.bufr_walk.specs.Course.{Rest, Course, NextTurn, later, ahead, counts_of, finish, open_end, operator_turn, unroll, passes, turns_of, asked, operated, counts_in, stop, at_end, refused, next_item}
+use Rattle.bufr_walk.specs.Walk.{TakenField, Takes, oks, answers_of, StopsWalk, WalkGoes, Stops, HasWalked, StopsIn, ticked, Walked, course, TakesField, stop_by, tail_of, costs, owed, OpenGroup, frames_of, turns_after_pass, AllGroupsFit, IsAtNodes, IsAtCell, weight, Turned}
+use Rattle.bufr_walk.specs.declared.stop.WalkStop.{WalkStop}
+use Rattle.std.specs.Prelude.{◌==◌, nat_lt, nat_le, if◌then◌else◌}
+use Rattle.bufr_tables.specs.declared.table_b.Kind.{Kind}
+use Rattle.bufr_tables.specs.Fxy.{x_of, y_of}
+use Rattle.std.proofs.lemmas.Bool.Decides.{nat_tests}
+use Rattle.bufr_tables.specs.Tree.{Tree, delayed, is_inserted_text, bare, element, operator, fixed, size, depth, places, is_legal_operator}
+use Rattle.bufr_walk.specs.declared.spec.Role.{Role}
+use Rattle.bufr_walk.specs.declared.spec.TurnRefusal.{TurnRefusal}
+use Rattle.std.proofs.lemmas.List.{drop-drop}
+use Rattle.bufr_tables.specs.declared.template.Cell.{Cell}
+use Rattle.bufr_walk.specs.declared.walking.Frame.{Frame}
+use Rattle.bufr_tables.specs.Cells.{cells_of, AreCellsOf}
+use Rattle.std.proofs.Math.Nat.{suc-mul, mul-le-mul_right}
+use Rattle.bufr_tables.specs.Expansion.{IsLegal}
+use Rattle.bufr_tables.specs.declared.table_b.Kind.TheVariants as kind
+use Rattle.bufr_walk.specs.declared.spec.Taken.TheVariants as taken
+use Rattle.bufr_walk.specs.declared.spec.Role.TheVariants as role
+use Rattle.bufr_walk.specs.declared.spec.TurnRefusal.TheVariants as refusal
+use Rattle.bufr_walk.specs.declared.stop.WalkStop.TheVariants as stops
+use Rattle.bufr_tables.specs.declared.template.Cell.TheVariants as cell
+
+pub ticked_twice : (s t u : ℕ) → ticked (ticked s t) u ≡ ticked s (t + u)
+ticked_twice s t u = omega arith
+
+pub ticked_none : (s : ℕ) → ticked s 0 ≡ s
+ticked_none s = omega arith
+
+pub later_twice : (t u : ℕ) (a : NextTurn) → later t (later u a) ≡ later (t + u) a
+later_twice t u a = ap (λ k. let r : NextTurn = record { turns = k; next = a.next } in r) (sym (add_assoc t u a.turns))
+
+pub later_none : (a : NextTurn) → later 0 a ≡ a
+later_none a = ap (λ k. let r : NextTurn = record { turns = k; next = a.next } in r) (zero-add a.turns)
+
+pub answer_then : (a b : List TakenField) (more : List Taken) → answers_of (a ++ b) ++ more ≡ answers_of a ++ (answers_of b ++ more)
+answer_then [] b more = refl
+answer_then (i ∷ a) b more = ap (λ ts. i.taken ∷ ts) (answer_then a b more)
+
+pub answer_both : (a b : List TakenField) → answers_of (a ++ b) ≡ answers_of a ++ answers_of b
+answer_both [] b = refl
+answer_both (i ∷ a) b = ap (λ ts. i.taken ∷ ts) (answer_both a b)
+
+module _ {S : Type 0} (takes : S → FieldSpec → Taken → S → Type 0) where
+  -- a course with the same things next
+  pub takes_same : (n m : Course) (s : S) (items : List TakenField) (s' : S) → ((more : List Taken) → (n more).next ≡ (m more).next) → Takes takes n s items s' → Takes takes m s items s'
+  takes_same n m s [] s' h w = w
+  takes_same n m s (i ∷ items) s' h w =
+      (w.0, sym (h []) ∙ w.1, w.2, takes_same (λ more. n (i.taken ∷ more)) (λ more. m (i.taken ∷ more)) w.0 items s' (λ more. h (i.taken ∷ more)) w.3)
+
+  -- items, and items after them
+  pub takes_then : (n m : Course) (s : S) (a : List TakenField) (mid : S) (b : List TakenField) (s' : S) → Takes takes n s a mid → ((more : List Taken) → (n (answers_of a ++ more)).next ≡ (m more).next) → Takes takes m mid b s' → Takes takes n s (a ++ b) s'
+  takes_then n m s [] mid b s' w h v = takes_same m n s b s' (λ more. sym (h more)) (subst (λ x. Takes takes m x b s') w v)
+  takes_then n m s (i ∷ a) mid b s' w h v = (w.0, w.1, w.2, takes_then (λ more. n (i.taken ∷ more)) m w.0 a mid b s' w.3 h v)
+
+module _ {S E : Type 0} (takes : S → FieldSpec → Result Taken E → S → Type 0) where
+  pub goes_none : (n m : Course) (s : S) → ((more : List Taken) → n more ≡ m more) → WalkGoes takes n s 0 m s
+  goes_none n m s h = record { items = []; taken = refl; leads = λ more. h more ∙ sym (later_none (m more)) }
+
+  pub goes_then : {n m o : Course} {s mid s' : S} {t u : ℕ} → WalkGoes takes n s t m mid → WalkGoes takes m mid u o s' → WalkGoes takes n s (t + u) o s'
+  goes_then {n} {m} {o} {s} {mid} {s'} {t} {u} a b = record {
+    items = a.items ++ b.items;
+    taken = takes_then (oks takes) n m s a.items mid b.items s' a.taken (λ more. ap (λ x. x.next) (a.leads more)) b.taken;
+    leads = λ more. ap n (answer_then a.items b.items more) ∙ a.leads (answers_of b.items ++ more) ∙ ap (later t) (b.leads more) ∙ later_twice t u (o more);
+  }
+
+  pub goes_stops : {n m : Course} {s mid s' : S} {t u : ℕ} {why : WalkStop E} → WalkGoes takes n s t m mid → Stops takes m mid u why s' → Stops takes n s (t + u) why s'
+  goes_stops {n} {m} {s} {mid} {s'} {t} {u} {why} a b =
+      let same : n (answers_of (a.items ++ b.items)) ≡ later t (m (answers_of b.items)) = ap n (answer_both a.items b.items) ∙ a.leads (answers_of b.items) in
+      record {
+        items = a.items ++ b.items;
+        mid = b.mid;
+        taken = takes_then (oks takes) n m s a.items mid b.items b.mid a.taken (λ more. ap (λ x. x.next) (a.leads more)) b.taken;
+        stops = subst (λ x. StopsWalk takes x b.mid why s') (sym (ap (λ x. x.next) same)) b.stops;
+        turns = ap (λ x. x.turns) same ∙ ap (λ k. t + k) b.turns;
+      }
+
+  -- a turn with no field
+  pub goes_turn : (n m : Course) (s : S) → ((more : List Taken) → n more ≡ later 1 (m more)) → WalkGoes takes n s 1 m s
+  goes_turn n m s h = record { items = []; taken = refl; leads = h }
+
+module _ {S E : Type 0} (takes : S → FieldSpec → Result Taken E → S → Type 0) (table : List Row) where
+  pub came_none : (over left : Rest → Rest) (s : OperatorModel) (f : S) (c : ℕ) → ((rest : Rest) (counts : List ℕ) → over rest counts ≡ left rest counts) → HasWalked takes table over left s f c s f c
+  came_none over left s f c e = record { turns = 0; ticks = sym (ticked_none c); way = λ rest. goes_none takes _ _ f (λ more. ap (λ ts. ahead table ts s more) (e rest (counts_of more))) }
+
+  pub came_then : {a b d : Rest → Rest} {s s1 s2 : OperatorModel} {f f1 f2 : S} {c c1 c2 : ℕ} → HasWalked takes table a b s f c s1 f1 c1 → HasWalked takes table b d s1 f1 c1 s2 f2 c2 → HasWalked takes table a d s f c s2 f2 c2
+  came_then {c = c} x y = record { turns = x.turns + y.turns; ticks = y.ticks ∙ ap (λ k. ticked k y.turns) x.ticks ∙ ticked_twice c x.turns y.turns; way = λ rest. goes_then takes (x.way rest) (y.way rest) }
+
+  pub came_stops : {a b : Rest → Rest} {s s1 : OperatorModel} {f f1 f2 : S} {c c1 c2 : ℕ} (why : WalkStop E) → HasWalked takes table a b s f c s1 f1 c1 → StopsIn takes table b s1 f1 c1 why f2 c2 → StopsIn takes table a s f c why f2 c2
+  came_stops {c = c} why x w = record { turns = x.turns + w.turns; ticks = w.ticks ∙ ap (λ k. ticked k w.turns) x.ticks ∙ ticked_twice c x.turns w.turns; way = λ rest. goes_stops takes (x.way rest) (w.way rest) }
+
+  -- one turn with no field
+  pub came_turn : (over left : Rest → Rest) (s : OperatorModel) (f : S) (c c' : ℕ) → c' ≡ ticked c 1 → ((rest : Rest) (counts : List ℕ) (answers : List Taken) → ahead table (over rest counts) s answers ≡ later 1 (ahead table (left rest counts) s answers)) → HasWalked takes table over left s f c s f c'
+  came_turn over left s f c c' tick e = record { turns = 1; ticks = tick; way = λ rest. goes_turn takes _ _ f (λ more. e rest (counts_of more) more) }
+
+-- ---- Walks over one field, and over an operator.
+
+-- roles other than a factor return no count
+no_count : (r : Role) (t : Taken) (counts : List ℕ) → (r ≡ role.Factor → ⊥) → IsForRole r t → counts_in t counts ≡ counts
+no_count role.Factor t counts n h = absurd (n refl)
+no_count role.Element taken.Plain counts n h = refl
+no_count role.Element (taken.Count x) counts n h = absurd h
+no_count role.Element (taken.Reference x) counts n h = absurd h
+no_count role.Inserted taken.Plain counts n h = refl
+no_count role.Inserted (taken.Count x) counts n h = absurd h
+no_count role.Inserted (taken.Reference x) counts n h = absurd h
+no_count role.Reference (taken.Reference x) counts n h = refl
+no_count role.Reference taken.Plain counts n h = absurd h
+no_count role.Reference (taken.Count x) counts n h = absurd h
+
+-- no element is a factor
+NoFactor : FieldSpec → Type 0
+NoFactor a = a.role ≡ role.Factor → ⊥
+
+pub fitted_role : (a spec : FieldSpec) → if_valid_width a ≡ Ok spec → a.role ≡ spec.role
+fitted_role a spec e = by (nat_le 1 a.width && nat_le a.width 63) e
+  where
+    by : (b : Bool) → ◌≡◌ {A = Result FieldSpec TurnRefusal} (if b then Ok a else Err (refusal.Width a.fxy)) (Ok spec) → a.role ≡ spec.role
+    by true q = let is : a ≡ spec = cc in ap (λ x. x.role) is
+    by false q = absurd cc
+
+kind_role : (k : Kind) (s : OperatorModel) (row : Row) (spec : FieldSpec) → spec_by_kind k s row ≡ Ok spec → spec.role ≡ role.Factor → ⊥
+kind_role kind.Numeric s row spec e h = let q : role.Element ≡ role.Factor = fitted_role (numeric_spec s row) spec e ∙ h in cc
+kind_role kind.Coded s row spec e h = let q : role.Element ≡ role.Factor = fitted_role (coded_spec s row) spec e ∙ h in cc
+kind_role kind.Character s row spec e h = let is : text_spec role.Element row.fxy (text_width s row.width) true ≡ spec = cc in let q : role.Element ≡ role.Factor = ap (λ x. x.role) is ∙ h in cc
+
+defined_role : (k : Kind) (s : OperatorModel) (fxy : ℕ) (spec : FieldSpec) → new_reference_spec k s fxy ≡ Ok spec → spec.role ≡ role.Factor → ⊥
+defined_role kind.Character s fxy spec e h = cc
+defined_role kind.Coded s fxy spec e h = let q : role.Reference ≡ role.Factor = fitted_role (defined_field s fxy) spec e ∙ h in cc
+defined_role kind.Numeric s fxy spec e h = let q : role.Reference ≡ role.Factor = fitted_role (defined_field s fxy) spec e ∙ h in cc
+
+pub element_role : (table : List Row) (s : OperatorModel) (fxy : ℕ) (spec : FieldSpec) → element_spec table s fxy ≡ Ok spec → spec.role ≡ role.Factor → ⊥
+element_role table s fxy spec e h = by_given (nat_lt 0 s.local_width) (entry_of table fxy) e
+  where
+    by_width : (b : Bool) (row : Row) → (if b then spec_by_kind row.kind (untouched s) row else unsigned_of fxy s.local_width) ≡ Ok spec → ⊥
+    by_width true row q = kind_role row.kind (untouched s) row spec q h
+    by_width false row q = let r : role.Element ≡ role.Factor = fitted_role (unsigned_field fxy s.local_width) spec q ∙ h in cc
+
+    by_defining : (b : Bool) (row : Row) → (if b then new_reference_spec row.kind s fxy else spec_by_kind row.kind s row) ≡ Ok spec → ⊥
+    by_defining true row q = defined_role row.kind s fxy spec q h
+    by_defining false row q = kind_role row.kind s row spec q h
+
+    by_given : (b : Bool) (o : Option Row) → (if b then local_width_spec o s fxy else listed_by o s fxy) ≡ Ok spec → ⊥
+    by_given true None q = let r : role.Element ≡ role.Factor = fitted_role (unsigned_field fxy s.local_width) spec q ∙ h in cc
+    by_given false None q = cc
+    by_given true (Some row) q = by_width (row.width == s.local_width) row q
+    by_given false (Some row) q = by_defining (is_defining s) row q
+
+pub inserted_role : (s : OperatorModel) (fxy : ℕ) (spec : FieldSpec) → inserted_spec s fxy ≡ Ok spec → spec.role ≡ role.Factor → ⊥
+inserted_role s fxy spec e h = by (is_defining s) e
+  where
+    by : (b : Bool) → ◌≡◌ {A = Result FieldSpec TurnRefusal} (if b then Err (refusal.Defining fxy) else Ok (text_spec role.Inserted fxy (8 * y_of fxy) false)) (Ok spec) → ⊥
+    by true q = cc
+    by false q = let is : text_spec role.Inserted fxy (8 * y_of fxy) false ≡ spec = cc in let r : role.Inserted ≡ role.Factor = ap (λ x. x.role) is ∙ h in cc
+
+-- a field that is no reference leaves the references
+pub no_reference : (r : Role) (s : OperatorModel) (fxy : ℕ) (t : Taken) → is_reference r ≡ false → IsForRole r t → record s { local_width = 0 } ≡ after_field s fxy t
+no_reference r s fxy taken.Plain e h = refl
+no_reference r s fxy (taken.Count n) e h = refl
+no_reference role.Element s fxy (taken.Reference x) e h = absurd h
+no_reference role.Inserted s fxy (taken.Reference x) e h = absurd h
+no_reference role.Factor s fxy (taken.Reference x) e h = absurd h
+no_reference role.Reference s fxy (taken.Reference x) e h = absurd cc
+
+module _ {S E : Type 0} (takes : S → FieldSpec → Result Taken E → S → Type 0) (table : List Row) where
+  took_ok : (r : Result FieldSpec TurnRefusal) (f : S) (t : Taken) (f' : S) → TakesField takes r f (Ok t) f' → (spec : FieldSpec) × (r ≡ Ok spec) × takes f spec (Ok t) f' × IsFor spec t
+  took_ok (Ok spec) f t f' h = (spec, refl, h.0, h.1)
+  took_ok (Err why) f t f' h = absurd h
+
+  -- turns of a field that is no factor
+  pub came_field : (over left : Rest → Rest) (fxy : ℕ) (s : OperatorModel) (f : S) (c : ℕ) (r : Result FieldSpec TurnRefusal) (t : Taken) (f' : S) (c' : ℕ)
+      → ((rest : Rest) (counts : List ℕ) (answers : List Taken) → ahead table (over rest counts) s answers ≡ asked r (λ u more. ahead table (left rest counts) (after_field s fxy u) more) answers)
+      → ((spec : FieldSpec) → r ≡ Ok spec → spec.role ≡ role.Factor → ⊥) → TakesField takes r f (Ok t) f' → c' ≡ ticked c 1 → HasWalked takes table over left s f c (after_field s fxy t) f' c'
+  came_field over left fxy s f c r t f' c' asks none took tick =
+      let k = took_ok r f t f' took in
+      let spec : FieldSpec = k.0 in
+      let plain : (counts : List ℕ) → counts_in t counts ≡ counts = λ counts. no_count spec.role t counts (none spec k.1) k.3 in
+      record {
+        turns = 1;
+        ticks = tick;
+        way = λ rest. record {
+          items = record { spec = spec; taken = t } ∷ [];
+          taken = (f', ap (λ a. a.next) (asks rest [] [] ∙ ap (λ q. asked q (λ u more. ahead table (left rest []) (after_field s fxy u) more) []) k.1), k.2, refl);
+          leads = λ more.
+              asks rest (counts_in t (counts_of more)) (t ∷ more)
+              ∙ ap (λ q. asked q (λ u later_answer. ahead table (left rest (counts_in t (counts_of more))) (after_field s fxy u) later_answer) (t ∷ more)) k.1
+              ∙ ap (λ counts. later 1 (ahead table (left rest counts) (after_field s fxy t) more)) (plain (counts_of more));
+        };
+      }
+
+  -- the replication and the factor of a delayed group, whose count was taken
+  pub came_factor : (fxy : ℕ) (body more : Tree) (s : OperatorModel) (f : S) (c : ℕ) (r : Result FieldSpec TurnRefusal) (n : ℕ) (f' : S) (c' : ℕ) → r ≡ factor_spec table s fxy → TakesField takes r f (Ok (taken.Count n)) f' → c' ≡ ticked (ticked c 1) 1
+      → (k : Rest → Rest) → HasWalked takes table (λ rest. unroll (delayed fxy body more) (k rest)) (λ rest. passes n (unroll body) (unroll more (k rest))) s f c (after_field s fxy (taken.Count n)) f' c'
+  came_factor fxy body more s f c r n f' c' is took tick k =
+      let o = took_ok r f (taken.Count n) f' took in
+      let e : factor_spec table s fxy ≡ Ok o.0 = sym is ∙ o.1 in
+      record {
+        turns = 2;
+        ticks = tick ∙ ticked_twice c 1 1;
+        way = λ rest. record {
+          items = record { spec = o.0; taken = taken.Count n } ∷ [];
+          taken = (f', ap (λ q. (asked q (λ u answers. ahead table open_end (after_field s fxy u) answers) []).next) e, o.2, refl);
+          leads = λ later_answer. ap (λ q. later 1 (asked q (λ u answers. ahead table (passes n (unroll body) (unroll more (k rest)) (counts_of later_answer)) (after_field s fxy u) answers) (taken.Count n ∷ later_answer))) e ∙ later_twice 1 1 _;
+        };
+      }
+
+  -- where a field comes next and is not taken, the walk stops there
+  stops_asked : (k : ℕ) (r : Result FieldSpec TurnRefusal) (go : Taken → List Taken → NextTurn) (f : S) (why : WalkStop E) (f' : S) (n : Course) → n [] ≡ later k (asked r go []) → TakesField takes r f (Err why) f' → Stops takes n f (k + 1) why f'
+  stops_asked k (Ok spec) go f (stops.Field e) f' n h took = record { items = []; mid = f; taken = refl; stops = subst (λ x. StopsWalk takes x f (stops.Field e) f') (sym (ap (λ x. x.next) h)) took; turns = ap (λ x. x.turns) h }
+  stops_asked k (Ok spec) go f stops.Memory f' n h took = record { items = []; mid = f; taken = refl; stops = subst (λ x. StopsWalk takes x f stops.Memory f') (sym (ap (λ x. x.next) h)) took; turns = ap (λ x. x.turns) h }
+  stops_asked k (Ok spec) go f (stops.Width w) f' n h took = absurd took
+  stops_asked k (Ok spec) go f (stops.Defining w) f' n h took = absurd took
+  stops_asked k (Err why) go f w f' n h took = record { items = []; mid = f; taken = refl; stops = subst (λ x. StopsWalk takes x f w f') (sym (ap (λ x. x.next) h)) took; turns = ap (λ x. x.turns) h }
+
+  -- a field that was not taken
+  pub stops_field : (over left : Rest → Rest) (fxy : ℕ) (s : OperatorModel) (f : S) (c : ℕ) (r : Result FieldSpec TurnRefusal) (why : WalkStop E) (f' : S) (c' : ℕ)
+      → ((rest : Rest) (counts : List ℕ) (answers : List Taken) → ahead table (over rest counts) s answers ≡ asked r (λ u more. ahead table (left rest counts) (after_field s fxy u) more) answers)
+      → TakesField takes r f (Err why) f' → c' ≡ ticked c 1 → StopsIn takes table over s f c why f' c'
+  stops_field over left fxy s f c r why f' c' asks took tick = record {
+    turns = 1;
+    ticks = tick;
+    way = λ rest. stops_asked 0 r (λ u more. ahead table (left rest []) (after_field s fxy u) more) f why f' _ (asks rest [] [] ∙ sym (later_none _)) took;
+  }
+
+  -- a factor that was not taken
+  pub stops_factor : (fxy : ℕ) (body more : Tree) (s : OperatorModel) (f : S) (c : ℕ) (r : Result FieldSpec TurnRefusal) (why : WalkStop E) (f' : S) (c' : ℕ) → r ≡ factor_spec table s fxy → TakesField takes r f (Err why) f' → c' ≡ ticked (ticked c 1) 1
+      → (k : Rest → Rest) → StopsIn takes table (λ rest. unroll (delayed fxy body more) (k rest)) s f c why f' c'
+  stops_factor fxy body more s f c r why f' c' is took tick k = record {
+    turns = 2;
+    ticks = tick ∙ ticked_twice c 1 1;
+    way = λ rest. stops_asked 1 (factor_spec table s fxy) (λ u answers. ahead table open_end (after_field s fxy u) answers) f why f' _ refl (subst (λ q. TakesField takes q f (Err why) f') is took);
+  }
+
+  -- an operator that changes the operators in force
+  operator_is : (over left : Rest → Rest) (fxy : ℕ) (s : OperatorModel) → is_inserted_text fxy ≡ false → ((rest : Rest) (counts : List ℕ) → over rest counts ≡ operator_turn fxy (left rest counts)) → (rest : Rest) (counts : List ℕ) (answers : List Taken)
+      → ahead table (over rest counts) s answers ≡ operated (after_operator s fxy) (λ s'. ahead table (left rest counts) s' answers)
+  operator_is over left fxy s x is rest counts answers =
+      ap (λ ts. ahead table ts s answers) (is rest counts)
+      ∙ ap (λ b. if b then asked (inserted_spec s fxy) (λ t more. ahead table (left rest counts) (after_field s fxy t) more) answers else operated (after_operator s fxy) (λ s'. ahead table (left rest counts) s' answers)) x
+
+  pub inserted_is : (over left : Rest → Rest) (fxy : ℕ) (s : OperatorModel) → is_inserted_text fxy ≡ true → ((rest : Rest) (counts : List ℕ) → over rest counts ≡ operator_turn fxy (left rest counts)) → (rest : Rest) (counts : List ℕ) (answers : List Taken)
+      → ahead table (over rest counts) s answers ≡ asked (inserted_spec s fxy) (λ t more. ahead table (left rest counts) (after_field s fxy t) more) answers
+  inserted_is over left fxy s x is rest counts answers =
+      ap (λ ts. ahead table ts s answers) (is rest counts)
+      ∙ ap (λ b. if b then asked (inserted_spec s fxy) (λ t more. ahead table (left rest counts) (after_field s fxy t) more) answers else operated (after_operator s fxy) (λ s'. ahead table (left rest counts) s' answers)) x
+
+  pub came_operator : (over left : Rest → Rest) (fxy : ℕ) (s s' : OperatorModel) (f : S) (c c' : ℕ) → is_inserted_text fxy ≡ false → ((rest : Rest) (counts : List ℕ) → over rest counts ≡ operator_turn fxy (left rest counts)) → after_operator s fxy ≡ Ok s' → c' ≡ ticked c 1 → HasWalked takes table over left s f c s' f c'
+  came_operator over left fxy s s' f c c' x is e tick = record {
+    turns = 1;
+    ticks = tick;
+    way = λ rest. goes_turn takes _ _ f (λ more. operator_is over left fxy s x is rest (counts_of more) more ∙ ap (λ r. operated r (λ s2. ahead table (left rest (counts_of more)) s2 more)) e);
+  }
+
+  pub stops_operator : (over left : Rest → Rest) (fxy : ℕ) (s : OperatorModel) (f : S) (c c' : ℕ) (why : TurnRefusal) → is_inserted_text fxy ≡ false → ((rest : Rest) (counts : List ℕ) → over rest counts ≡ operator_turn fxy (left rest counts)) → after_operator s fxy ≡ Err why → c' ≡ ticked c 1 → StopsIn takes table over s f c (stop_by why) f c'
+  stops_operator over left fxy s f c c' why x is e tick = record {
+    turns = 1;
+    ticks = tick;
+    way = λ rest.
+        let h : course table (over rest) s [] ≡ stop (refused why) = operator_is over left fxy s x is rest [] [] ∙ ap (λ r. operated r (λ s2. ahead table (left rest []) s2 [])) e in
+        record { items = []; mid = f; taken = refl; stops = subst (λ x. StopsWalk takes x f (stop_by why) f) (sym (ap (λ x. x.next) h)) (refl, refl); turns = ap (λ x. x.turns) h };
+  }
+
+  -- a whole walk, and its finish
+  pub whole : (template : Tree) (s s' : OperatorModel) (f f' : S) (c c' c'' : ℕ) → HasWalked takes table (unroll template) (λ rest. rest) s f c s' f' c' → c'' ≡ ticked c' 1 → Walked takes (course table (turns_of template) s) f c (Ok tt) f' c''
+  whole template s s' f f' c c' c'' w tick =
+      let way : WalkGoes takes (course table (turns_of template) s) f w.turns (course table (λ _. finish) s') f' = w.way (λ _. finish) in
+      let last : course table (turns_of template) s (answers_of way.items) ≡ later w.turns (stop at_end) = ap (λ answers. course table (turns_of template) s answers) (sym (append-nil (answers_of way.items))) ∙ way.leads [] in
+      (way.items, way.taken, ap (λ x. x.next) last, tick ∙ ap (λ k. ticked k 1) w.ticks ∙ ticked_twice c w.turns 1 ∙ ap (ticked c) (sym (ap (λ x. x.turns) last)))
+
+  pub whole_stops : (template : Tree) (s : OperatorModel) (f f' : S) (c c' : ℕ) (why : WalkStop E) → StopsIn takes table (unroll template) s f c why f' c' → Walked takes (course table (turns_of template) s) f c (Err why) f' c'
+  whole_stops template s f f' c c' why w =
+      let way : Stops takes (course table (turns_of template) s) f w.turns why f' = w.way (λ _. finish) in
+      (way.items, way.mid, way.taken, way.stops, w.ticks ∙ ap (ticked c) (sym way.turns))
+
+-- a text of the template, by its class
+pub five_is : (fxy x : ℕ) → x ≡ x_of fxy → x ≡ 5 → is_inserted_text fxy ≡ true
+five_is fxy x e h = by (x_of fxy) (sym e ∙ h)
+  where
+    by : (y : ℕ) → y ≡ 5 → (y == 5) ≡ true
+    by y q = grind (arith, nat_tests)
+
+pub five_is_not : (fxy x : ℕ) → x ≡ x_of fxy → (x ≡ 5 → ⊥) → is_inserted_text fxy ≡ false
+five_is_not fxy x e h = by (x_of fxy) (λ q. h (e ∙ q))
+  where
+    by : (y : ℕ) → (y ≡ 5 → ⊥) → (y == 5) ≡ false
+    by y q = grind (arith, nat_tests)
+
+-- ---- The most turns that are left, by the template.
+
+skip : (a b k : ℕ) (xs ys zs : List Cell) → drop a xs ≡ ys → drop b ys ≡ zs → k ≡ a + b → drop k xs ≡ zs
+skip a b k xs ys zs h g e = ap (λ j. drop j xs) e ∙ sym (drop-drop b a xs) ∙ ap (drop b) h ∙ g
+
+pub drop_head : (xs : List Cell) (p : ℕ) (y : Cell) (ys : List Cell) → drop p xs ≡ y ∷ ys → (p < length xs) × ((d : Cell) → get_or xs p d ≡ y) × (drop (p + 1) xs ≡ ys)
+drop_head [] zero y ys h = cc
+drop_head [] (suc p) y ys h = cc
+drop_head (x ∷ xs) zero y ys h = (omega arith, λ d. cc, let e : drop 1 (x ∷ xs) ≡ xs = refl in cc)
+drop_head (x ∷ xs) (suc p) y ys h = let r = drop_head xs p y ys h in (omega (arith, r.0), r.1, ap (λ k. drop k (x ∷ xs)) (let e : suc p + 1 ≡ suc (p + 1) = omega arith in e) ∙ r.2)
+
+abbrev pub worst : Tree → ℕ
+worst bare = 0
+worst (element fxy more) = 1 + worst more
+worst (operator fxy more) = 1 + worst more
+worst (fixed n body more) = 1 + n * (1 + worst body) + worst more
+worst (delayed fxy body more) = 2 + 2 ^ 64 * (1 + worst body) + worst more
+
+pub drop_cells : (t : Tree) (at : ℕ) (tail : List Cell) → drop (size t) (cells_of t at tail) ≡ tail
+drop_cells bare at tail = refl
+drop_cells (element fxy more) at tail = skip 1 (size more) (1 + size more) _ (cells_of more (at + 1) tail) tail refl (drop_cells more (at + 1) tail) refl
+drop_cells (operator fxy more) at tail = skip 1 (size more) (1 + size more) _ (cells_of more (at + 1) tail) tail refl (drop_cells more (at + 1) tail) refl
+drop_cells (fixed n body more) at tail =
+    skip 1 (size body + (1 + size more)) (2 + size body + size more) _ (cells_of body (at + 1) (cell.PassEnd ∷ cells_of more (at + 2 + size body) tail)) tail refl
+    (skip (size body) (1 + size more) _ _ (cell.PassEnd ∷ cells_of more (at + 2 + size body) tail) tail (drop_cells body (at + 1) _)
+    (skip 1 (size more) (1 + size more) _ (cells_of more (at + 2 + size body) tail) tail refl (drop_cells more (at + 2 + size body) tail) refl) refl)
+    (omega arith)
+drop_cells (delayed fxy body more) at tail =
+    skip 2 (size body + (1 + size more)) (3 + size body + size more) _ (cells_of body (at + 2) (cell.PassEnd ∷ cells_of more (at + 3 + size body) tail)) tail refl
+    (skip (size body) (1 + size more) _ _ (cell.PassEnd ∷ cells_of more (at + 3 + size body) tail) tail (drop_cells body (at + 2) _)
+    (skip 1 (size more) (1 + size more) _ (cells_of more (at + 3 + size body) tail) tail refl (drop_cells more (at + 3 + size body) tail) refl) refl)
+    (omega arith)
+
+-- after a body and its end
+pub drop_body : (t : Tree) (at : ℕ) (tail : List Cell) → drop (size t + 1) (cells_of t at (cell.PassEnd ∷ tail)) ≡ tail
+drop_body t at tail = skip (size t) 1 (size t + 1) _ (cell.PassEnd ∷ tail) tail (drop_cells t at (cell.PassEnd ∷ tail)) refl refl
+
+costs_drop : (xs : List Cell) (at i : ℕ) → get_or (costs xs at) i 0 ≡ get_or (costs (drop i xs) (at + i)) 0 0
+costs_drop [] at zero = refl
+costs_drop [] at (suc i) = refl
+costs_drop (x ∷ xs) at zero = ap (λ k. get_or (costs (x ∷ xs) k) 0 0) (let e : at ≡ at + 0 = omega arith in e)
+costs_drop (x ∷ xs) at (suc i) = costs_drop xs (at + 1) i ∙ ap (λ k. get_or (costs (drop i xs) k) 0 0) (let e : at + 1 + i ≡ at + suc i = omega arith in e)
+
+-- the cost after a jump
+jump : (xs ys : List Cell) (at after k : ℕ) → drop k xs ≡ ys → after ≡ at + k → get_or (costs xs at) (after - at) 0 ≡ get_or (costs ys after) 0 0
+jump xs ys at after k h e =
+    costs_drop xs at (after - at)
+    ∙ ap (λ j. get_or (costs (drop j xs) (at + j)) 0 0) (let g : after - at ≡ k = omega arith in g)
+    ∙ ap (λ z. get_or (costs z (at + k)) 0 0) h ∙ ap (λ j. get_or (costs ys j) 0 0) (sym e)
+
+pub cost_cells : (t : Tree) (at : ℕ) (tail : List Cell) → get_or (costs (cells_of t at tail) at) 0 0 ≡ worst t + get_or (costs tail (at + size t)) 0 0
+cost_cells bare at tail = ap (λ k. get_or (costs tail k) 0 0) (let e : at ≡ at + 0 = omega arith in e) ∙ sym (zero-add _)
+cost_cells (element fxy more) at tail = ap (λ x. 1 + x) (cost_cells more (at + 1) tail ∙ ap (λ k. worst more + get_or (costs tail k) 0 0) (let e : at + 1 + size more ≡ at + (1 + size more) = omega arith in e)) ∙ sym (add_assoc 1 (worst more) _)
+cost_cells (operator fxy more) at tail = ap (λ x. 1 + x) (cost_cells more (at + 1) tail ∙ ap (λ k. worst more + get_or (costs tail k) 0 0) (let e : at + 1 + size more ≡ at + (1 + size more) = omega arith in e)) ∙ sym (add_assoc 1 (worst more) _)
+cost_cells (fixed n body more) at tail =
+    let after : ℕ = at + 2 + size body in
+    let cells : List Cell = cells_of body (at + 1) (cell.PassEnd ∷ cells_of more after tail) in
+    let b : get_or (costs cells (at + 1)) 0 0 ≡ worst body = cost_cells body (at + 1) (cell.PassEnd ∷ cells_of more after tail) ∙ add-zero (worst body) in
+    let j : get_or (costs cells (at + 1)) (after - (at + 1)) 0 ≡ worst more + get_or (costs tail (at + (2 + size body + size more))) 0 0 =
+    jump cells (cells_of more after tail) (at + 1) after (size body + 1) (drop_body body (at + 1) (cells_of more after tail)) (omega arith) ∙ cost_cells more after tail ∙ ap (λ k. worst more + get_or (costs tail k) 0 0) (let e : after + size more ≡ at + (2 + size body + size more) = omega arith in e) in
+    ap (λ x. 1 + n * (1 + x) + get_or (costs cells (at + 1)) (after - (at + 1)) 0) b ∙ ap (λ y. 1 + n * (1 + worst body) + y) j ∙ sym (add_assoc (1 + n * (1 + worst body)) (worst more) _)
+cost_cells (delayed fxy body more) at tail =
+    let after : ℕ = at + 3 + size body in
+    let cells : List Cell = cells_of body (at + 2) (cell.PassEnd ∷ cells_of more after tail) in
+    let two : at + 1 + 1 ≡ at + 2 = omega arith in
+    let b : get_or (costs cells (at + 1 + 1)) 0 0 ≡ worst body = ap (λ k. get_or (costs cells k) 0 0) two ∙ cost_cells body (at + 2) (cell.PassEnd ∷ cells_of more after tail) ∙ add-zero (worst body) in
+    let j : get_or (costs (cell.Factor fxy ∷ cells) (at + 1)) (after - (at + 1)) 0 ≡ worst more + get_or (costs tail (at + (3 + size body + size more))) 0 0 =
+    jump (cell.Factor fxy ∷ cells) (cells_of more after tail) (at + 1) after (size body + 2) (skip 1 (size body + 1) (size body + 2) _ cells (cells_of more after tail) refl (drop_body body (at + 2) (cells_of more after tail)) (omega arith)) (omega arith) ∙ cost_cells more after tail ∙ ap (λ k. worst more + get_or (costs tail k) 0 0) (let e : after + size more ≡ at + (3 + size body + size more) = omega arith in e) in
+    ap (λ x. 2 + 2 ^ 64 * (1 + x) + get_or (costs (cell.Factor fxy ∷ cells) (at + 1)) (after - (at + 1)) 0) b ∙ ap (λ y. 2 + 2 ^ 64 * (1 + worst body) + y) j ∙ sym (add_assoc (2 + 2 ^ 64 * (1 + worst body)) (worst more) _)
+
+-- the end of a pass, and of all
+tail_costs : (groups : List OpenGroup) (at : ℕ) → get_or (costs (tail_of groups) at) 0 0 ≡ 0
+tail_costs [] at = refl
+tail_costs (s ∷ outer) at = refl
+
+-- from a place before these nodes
+pub cost_here : (cells : List Cell) (place : ℕ) (more : Tree) (groups : List OpenGroup) → drop place cells ≡ cells_of more place (tail_of groups) → get_or (costs cells 0) place 0 ≡ worst more
+cost_here cells place more groups h =
+    costs_drop cells 0 place ∙ ap (λ k. get_or (costs (drop place cells) k) 0 0) (zero-add place) ∙ ap (λ z. get_or (costs z place) 0 0) h
+    ∙ cost_cells more place (tail_of groups) ∙ ap (λ k. worst more + k) (tail_costs groups (place + size more)) ∙ add-zero (worst more)
+
+pub owed_push : (cost : List ℕ) (frames : List Frame) (f : Frame) → owed cost (frames ++ f ∷ []) ≡ owed cost frames + (1 + f.left * (1 + get_or cost f.start 0) + get_or cost f.after 0)
+owed_push cost [] f = omega arith
+owed_push cost (g ∷ frames) f = omega (arith, owed_push cost frames f)
+
+-- ---- The effect of each turn of the walk.
+
+-- the cell before these nodes
+spot : (more : Tree) (groups : List OpenGroup) (place : ℕ) → (c : Cell) × (cs : List Cell) × (cells_of more place (tail_of groups) ≡ c ∷ cs)
+spot bare [] place = (cell.Finish, [], refl)
+spot bare (s ∷ outer) place = (cell.PassEnd, _, refl)
+spot (element fxy more) groups place = (_, _, refl)
+spot (operator fxy more) groups place = (_, _, refl)
+spot (fixed n body more) groups place = (_, _, refl)
+spot (delayed fxy body more) groups place = (_, _, refl)
+
+module _ (cells : List Cell) where
+  pub in_range : (place : ℕ) (stack : List Frame) (left : Rest → Rest) → IsAtCell cells place stack left → place < length cells
+  in_range place stack left st = let k = spot st.0 st.1 place in (drop_head cells place k.0 k.1 (st.2.here ∙ k.2)).0
+
+  -- the cells of these nodes begin with this cell
+  pub at_cell : (place : ℕ) (more : Tree) (groups : List OpenGroup) (d c : Cell) → drop place cells ≡ cells_of more place (tail_of groups) → get_or cells place d ≡ c → cells_of more place (tail_of groups) ≡ c ∷ drop (place + 1) cells
+  at_cell place more groups d c h e =
+      let k = spot more groups place in
+      let r = drop_head cells place k.0 k.1 (h ∙ k.2) in
+      k.2 ∙ ap (λ x. x ∷ k.1) (sym (r.1 d) ∙ e) ∙ ap (λ xs. c ∷ xs) (sym r.2)
+
+  frames_length : (groups : List OpenGroup) → length (frames_of groups) ≡ length groups
+  frames_length [] = refl
+  frames_length (s ∷ outer) = simp length-append (omega (arith, frames_length outer))
+
+  -- a group is opened, or passed
+  pub entered : (count : ℕ) (body more : Tree) (groups : List OpenGroup) (start after next : ℕ) (stack stack' : List Frame)
+      → (count ≡ 0 → (next ≡ after) × (stack' ≡ stack))
+      → (0 < count → (next ≡ start) × (stack' ≡ stack ++ record { start = start; after = after; left = count - 1 } ∷ []))
+      → stack ≡ frames_of groups
+      → drop start cells ≡ cells_of body start (cell.PassEnd ∷ cells_of more after (tail_of groups))
+      → drop after cells ≡ cells_of more after (tail_of groups)
+      → length groups + 1 + depth body ≤ 32 → length groups + depth more ≤ 32
+      → IsLegal body → IsLegal more → AllGroupsFit cells groups
+      → (left' : Rest → Rest) × IsAtCell cells next stack' left' × ((k : Rest) (counts : List ℕ) → passes count (unroll body) (unroll more (turns_after_pass groups k)) counts ≡ left' k counts)
+      × (weight cells next stack' ≡ count * (1 + worst body) + worst more + owed (costs cells 0) stack)
+  entered zero body more groups start after next stack stack' none some frames h1 h2 d1 d2 k1 k2 outer =
+      let e = none refl in
+      let here : drop next cells ≡ cells_of more next (tail_of groups) = subst (λ p. drop p cells ≡ cells_of more p (tail_of groups)) (sym e.0) h2 in (
+        λ k. unroll more (turns_after_pass groups k),
+        (more, groups, record { frames = e.1 ∙ frames; here = here; deep = d2; legal = k2; outer = outer; left_is = λ k counts. refl }),
+        λ k counts. refl,
+        omega (arith, cost_here cells next more groups here, ap (owed (costs cells 0)) e.1),
+      )
+  entered (suc m) body more groups start after next stack stack' none some frames h1 h2 d1 d2 k1 k2 outer =
+      let e = some (omega arith) in
+      let f : Frame = record { start = start; after = after; left = m } in
+      let same : stack' ≡ stack ++ f ∷ [] = e.1 ∙ ap (λ j. stack ++ (let g : Frame = record { start = start; after = after; left = j } in g) ∷ []) (let q : suc m - 1 ≡ m = omega arith in q) in
+      let groups' : List OpenGroup = record { frame = f; body = body; more = more } ∷ groups in
+      let here : drop next cells ≡ cells_of body next (tail_of groups') = subst (λ p. drop p cells ≡ cells_of body p (tail_of groups')) (sym e.0) h1 in (
+        λ k. unroll body (turns_after_pass groups' k),
+        (body, groups', record { frames = same ∙ ap (λ fs. fs ++ f ∷ []) frames; here = here; deep = omega arith; legal = k1; outer = (h1, h2, d1, d2, k1, k2, outer); left_is = λ k counts. refl }),
+        λ k counts. refl,
+        omega (arith, suc-mul m (1 + worst body), cost_here cells next body groups' here, ap (λ x. m * (1 + x)) (cost_here cells start body groups' h1), cost_here cells after more groups h2, ap (owed (costs cells 0)) same, owed_push (costs cells 0) stack f),
+      )
+
+-- which nodes have this cell first
+is_element : (more : Tree) (groups : List OpenGroup) (place fxy : ℕ) (cs : List Cell) → cells_of more place (tail_of groups) ≡ cell.Element fxy ∷ cs → (m : Tree) × (more ≡ element fxy m) × (cs ≡ cells_of m (place + 1) (tail_of groups))
+is_element bare [] place fxy cs h = absurd cc
+is_element bare (s ∷ outer) place fxy cs h = absurd cc
+is_element (element word m) groups place fxy cs h = let e : word ≡ fxy = cc in (m, ap (λ f. element f m) e, cc)
+is_element (operator word m) groups place fxy cs h = absurd cc
+is_element (fixed count body m) groups place fxy cs h = absurd cc
+is_element (delayed word body m) groups place fxy cs h = absurd cc
+
+is_operator : (more : Tree) (groups : List OpenGroup) (place fxy : ℕ) (cs : List Cell) → cells_of more place (tail_of groups) ≡ cell.Operator fxy ∷ cs → (m : Tree) × (more ≡ operator fxy m) × (cs ≡ cells_of m (place + 1) (tail_of groups))
+is_operator bare [] place fxy cs h = absurd cc
+is_operator bare (s ∷ outer) place fxy cs h = absurd cc
+is_operator (element word m) groups place fxy cs h = absurd cc
+is_operator (operator word m) groups place fxy cs h = let e : word ≡ fxy = cc in (m, ap (λ f. operator f m) e, cc)
+is_operator (fixed count body m) groups place fxy cs h = absurd cc
+is_operator (delayed word body m) groups place fxy cs h = absurd cc
+
+is_fixed : (more : Tree) (groups : List OpenGroup) (place count after : ℕ) (cs : List Cell) → cells_of more place (tail_of groups) ≡ cell.Fixed count after ∷ cs → (body m : Tree) × (more ≡ fixed count body m) × (after ≡ place + 2 + size body) × (cs ≡ cells_of body (place + 1) (cell.PassEnd ∷ cells_of m (place + 2 + size body) (tail_of groups)))
+is_fixed bare [] place count after cs h = absurd cc
+is_fixed bare (s ∷ outer) place count after cs h = absurd cc
+is_fixed (element word m) groups place count after cs h = absurd cc
+is_fixed (operator word m) groups place count after cs h = absurd cc
+is_fixed (fixed k body m) groups place count after cs h = let e : k ≡ count = cc in (body, m, ap (λ j. fixed j body m) e, cc, cc)
+is_fixed (delayed word body m) groups place count after cs h = absurd cc
+
+is_delayed : (more : Tree) (groups : List OpenGroup) (place after : ℕ) (cs : List Cell) → cells_of more place (tail_of groups) ≡ cell.Delayed after ∷ cs → (word : ℕ) × (body : Tree) × (m : Tree) × (more ≡ delayed word body m) × (after ≡ place + 3 + size body) × (cs ≡ cell.Factor word ∷ cells_of body (place + 2) (cell.PassEnd ∷ cells_of m (place + 3 + size body) (tail_of groups)))
+is_delayed bare [] place after cs h = absurd cc
+is_delayed bare (s ∷ outer) place after cs h = absurd cc
+is_delayed (element word m) groups place after cs h = absurd cc
+is_delayed (operator word m) groups place after cs h = absurd cc
+is_delayed (fixed k body m) groups place after cs h = absurd cc
+is_delayed (delayed word body m) groups place after cs h = (word, body, m, refl, cc, cc)
+
+pub no_factor : (more : Tree) (groups : List OpenGroup) (place fxy : ℕ) (cs : List Cell) → cells_of more place (tail_of groups) ≡ cell.Factor fxy ∷ cs → ⊥
+no_factor bare [] place fxy cs h = cc
+no_factor bare (s ∷ outer) place fxy cs h = cc
+no_factor (element word m) groups place fxy cs h = cc
+no_factor (operator word m) groups place fxy cs h = cc
+no_factor (fixed k body m) groups place fxy cs h = cc
+no_factor (delayed word body m) groups place fxy cs h = cc
+
+is_pass_end : (more : Tree) (groups : List OpenGroup) (place : ℕ) (cs : List Cell) → cells_of more place (tail_of groups) ≡ cell.PassEnd ∷ cs → (s : OpenGroup) × (outer : List OpenGroup) × (groups ≡ s ∷ outer) × (more ≡ bare)
+is_pass_end bare [] place cs h = absurd cc
+is_pass_end bare (s ∷ outer) place cs h = (s, outer, refl, refl)
+is_pass_end (element word m) groups place cs h = absurd cc
+is_pass_end (operator word m) groups place cs h = absurd cc
+is_pass_end (fixed k body m) groups place cs h = absurd cc
+is_pass_end (delayed word body m) groups place cs h = absurd cc
+
+is_finish : (more : Tree) (groups : List OpenGroup) (place : ℕ) (cs : List Cell) → cells_of more place (tail_of groups) ≡ cell.Finish ∷ cs → (groups ≡ []) × (more ≡ bare)
+is_finish bare [] place cs h = (refl, refl)
+is_finish bare (s ∷ outer) place cs h = absurd cc
+is_finish (element word m) groups place cs h = absurd cc
+is_finish (operator word m) groups place cs h = absurd cc
+is_finish (fixed k body m) groups place cs h = absurd cc
+is_finish (delayed word body m) groups place cs h = absurd cc
+
+-- the groups round the innermost, and that
+pub innermost : (groups : List Frame) → 0 < length groups → (outer : List Frame) × (frame : Frame) × (groups ≡ outer ++ frame ∷ [])
+innermost [] some = absurd (omega (arith, some))
+innermost (frame ∷ []) some = ([], frame, refl)
+innermost (frame ∷ next ∷ more) some =
+    let rest = innermost (next ∷ more) (omega arith) in
+    (frame ∷ rest.0, rest.1, ap (λ l. frame ∷ l) rest.2)
+
+-- the last of two lists
+last_is : (A : Type 0) (xs ys : List A) (x y : A) → xs ++ x ∷ [] ≡ ys ++ y ∷ [] → (xs ≡ ys) × (x ≡ y)
+last_is A [] [] x y h = (refl, cc)
+last_is A [] (b ∷ []) x y h = absurd cc
+last_is A [] (b ∷ c ∷ ys) x y h = absurd cc
+last_is A (a ∷ []) [] x y h = absurd cc
+last_is A (a ∷ b ∷ xs) [] x y h = absurd cc
+last_is A (a ∷ xs) (b ∷ ys) x y h = let t : xs ++ x ∷ [] ≡ ys ++ y ∷ [] = cc in let r = last_is A xs ys x y t in let e : a ≡ b = cc in (ap (λ z. z ∷ xs) e ∙ ap (λ zs. b ∷ zs) r.0, r.1)
+
+module _ {S E : Type 0} (takes : S → FieldSpec → Result Taken E → S → Type 0) (table : List Row) (cells : List Cell) where
+  -- the cell at the place
+  here_is : (place : ℕ) (stack : List Frame) (left : Rest → Rest) (d c : Cell) (st : IsAtCell cells place stack left) → get_or cells place d ≡ c → cells_of st.0 place (tail_of st.1) ≡ c ∷ drop (place + 1) cells
+  here_is place stack left d c st e = at_cell cells place st.0 st.1 d c st.2.here e
+
+  -- the walk is before other nodes
+  moved : (place : ℕ) (stack : List Frame) (left : Rest → Rest) (st : IsAtCell cells place stack left) (t : Tree) → st.0 ≡ t → IsAtNodes cells place stack left t st.1
+  moved place stack left st t e = subst (λ x. IsAtNodes cells place stack left x st.1) e st.2
+
+  -- the walk moves one cell on
+  pub turn_on : (place : ℕ) (stack : List Frame) (left : Rest → Rest) (groups : List OpenGroup) (more : Tree) (before : Tree) (s s' : OperatorModel) (f f' : S) (c c' : ℕ) → IsAtNodes cells place stack left before groups → drop (place + 1) cells ≡ cells_of more (place + 1) (tail_of groups) → depth before ≡ depth more → worst before ≡ 1 + worst more → IsLegal more
+      → HasWalked takes table (λ k. unroll before (turns_after_pass groups k)) (λ k. unroll more (turns_after_pass groups k)) s f c s' f' c' → Turned takes table cells left place stack s f c (Ok (Some (place + 1))) stack s' f' c'
+  turn_on place stack left groups more before s s' f f' c c' at next deep cost legal came = (
+    λ k. unroll more (turns_after_pass groups k),
+    (more, groups, record { frames = at.frames; here = next; deep = subst (λ d. length groups + d ≤ 32) deep at.deep; legal = legal; outer = at.outer; left_is = λ k counts. refl }),
+    came_then takes table (came_none takes table left (λ k. unroll before (turns_after_pass groups k)) s f c at.left_is) came,
+    omega (arith, cost_here cells place before groups at.here, cost_here cells (place + 1) more groups next),
+  )
+
+  pub turn_element : (place : ℕ) (stack : List Frame) (left : Rest → Rest) (d : Cell) (fxy : ℕ) (s s' : OperatorModel) (f f' : S) (c c' : ℕ) (r : Result FieldSpec TurnRefusal) (t : Taken) → IsAtCell cells place stack left → get_or cells place d ≡ cell.Element fxy → r ≡ element_spec table s fxy → TakesField takes r f (Ok t) f' → c' ≡ ticked c 1 → s' ≡ after_field s fxy t → Turned takes table cells left place stack s f c (Ok (Some (place + 1))) stack s' f' c'
+  turn_element place stack left d fxy s s' f f' c c' r t st e spec took tick answers =
+      let i = is_element st.0 st.1 place fxy _ (here_is place stack left d _ st e) in
+      let at : IsAtNodes cells place stack left (element fxy i.0) st.1 = moved place stack left st _ i.1 in
+      turn_on place stack left st.1 i.0 (element fxy i.0) s s' f f' c c' at i.2 refl refl at.legal.1
+      (subst (λ z. HasWalked takes table (λ k. unroll (element fxy i.0) (turns_after_pass st.1 k)) (λ k. unroll i.0 (turns_after_pass st.1 k)) s f c z f' c') (sym answers)
+      (came_field takes table (λ k. unroll (element fxy i.0) (turns_after_pass st.1 k)) (λ k. unroll i.0 (turns_after_pass st.1 k)) fxy s f c (element_spec table s fxy) t f' c' (λ rest counts answers. refl) (element_role table s fxy) (subst (λ q. TakesField takes q f (Ok t) f') spec took) tick))
+
+  pub fail_element : (place : ℕ) (stack : List Frame) (left : Rest → Rest) (d : Cell) (fxy : ℕ) (s : OperatorModel) (f f' : S) (c c' : ℕ) (r : Result FieldSpec TurnRefusal) (why : WalkStop E) → IsAtCell cells place stack left → get_or cells place d ≡ cell.Element fxy → r ≡ element_spec table s fxy → TakesField takes r f (Err why) f' → c' ≡ ticked c 1 → StopsIn takes table left s f c why f' c'
+  fail_element place stack left d fxy s f f' c c' r why st e spec took tick =
+      let i = is_element st.0 st.1 place fxy _ (here_is place stack left d _ st e) in
+      let at : IsAtNodes cells place stack left (element fxy i.0) st.1 = moved place stack left st _ i.1 in
+      came_stops takes table why (came_none takes table left (λ k. unroll (element fxy i.0) (turns_after_pass st.1 k)) s f c at.left_is)
+      (stops_field takes table (λ k. unroll (element fxy i.0) (turns_after_pass st.1 k)) (λ k. unroll i.0 (turns_after_pass st.1 k)) fxy s f c (element_spec table s fxy) why f' c' (λ rest counts answers. refl) (subst (λ q. TakesField takes q f (Err why) f') spec took) tick)
+
+  pub operator_legal : (place : ℕ) (stack : List Frame) (left : Rest → Rest) (d : Cell) (fxy : ℕ) → IsAtCell cells place stack left → get_or cells place d ≡ cell.Operator fxy → is_legal_operator fxy ≡ true
+  operator_legal place stack left d fxy st e =
+      let i = is_operator st.0 st.1 place fxy _ (here_is place stack left d _ st e) in
+      (moved place stack left st _ i.1).legal.1.0
+
+  pub turn_inserted : (place : ℕ) (stack : List Frame) (left : Rest → Rest) (d : Cell) (fxy : ℕ) (s s' : OperatorModel) (f f' : S) (c c' : ℕ) (r : Result FieldSpec TurnRefusal) (t : Taken) → IsAtCell cells place stack left → get_or cells place d ≡ cell.Operator fxy → is_inserted_text fxy ≡ true → r ≡ inserted_spec s fxy → TakesField takes r f (Ok t) f' → c' ≡ ticked c 1 → s' ≡ after_field s fxy t → Turned takes table cells left place stack s f c (Ok (Some (place + 1))) stack s' f' c'
+  turn_inserted place stack left d fxy s s' f f' c c' r t st e x spec took tick answers =
+      let i = is_operator st.0 st.1 place fxy _ (here_is place stack left d _ st e) in
+      let at : IsAtNodes cells place stack left (operator fxy i.0) st.1 = moved place stack left st _ i.1 in
+      let over : Rest → Rest = λ k. unroll (operator fxy i.0) (turns_after_pass st.1 k) in
+      let next : Rest → Rest = λ k. unroll i.0 (turns_after_pass st.1 k) in
+      turn_on place stack left st.1 i.0 (operator fxy i.0) s s' f f' c c' at i.2 refl refl at.legal.1.1.1
+      (subst (λ z. HasWalked takes table over next s f c z f' c') (sym answers)
+      (came_field takes table over next fxy s f c (inserted_spec s fxy) t f' c' (inserted_is takes table over next fxy s x (λ rest counts. refl)) (inserted_role s fxy) (subst (λ q. TakesField takes q f (Ok t) f') spec took) tick))
+
+  pub fail_inserted : (place : ℕ) (stack : List Frame) (left : Rest → Rest) (d : Cell) (fxy : ℕ) (s : OperatorModel) (f f' : S) (c c' : ℕ) (r : Result FieldSpec TurnRefusal) (why : WalkStop E) → IsAtCell cells place stack left → get_or cells place d ≡ cell.Operator fxy → is_inserted_text fxy ≡ true → r ≡ inserted_spec s fxy → TakesField takes r f (Err why) f' → c' ≡ ticked c 1 → StopsIn takes table left s f c why f' c'
+  fail_inserted place stack left d fxy s f f' c c' r why st e x spec took tick =
+      let i = is_operator st.0 st.1 place fxy _ (here_is place stack left d _ st e) in
+      let at : IsAtNodes cells place stack left (operator fxy i.0) st.1 = moved place stack left st _ i.1 in
+      let over : Rest → Rest = λ k. unroll (operator fxy i.0) (turns_after_pass st.1 k) in
+      let next : Rest → Rest = λ k. unroll i.0 (turns_after_pass st.1 k) in
+      came_stops takes table why (came_none takes table left over s f c at.left_is)
+      (stops_field takes table over next fxy s f c (inserted_spec s fxy) why f' c' (inserted_is takes table over next fxy s x (λ rest counts. refl)) (subst (λ q. TakesField takes q f (Err why) f') spec took) tick)
+
+  pub turn_operator : (place : ℕ) (stack : List Frame) (left : Rest → Rest) (d : Cell) (fxy : ℕ) (s s' : OperatorModel) (f : S) (c c' : ℕ) → IsAtCell cells place stack left → get_or cells place d ≡ cell.Operator fxy → is_inserted_text fxy ≡ false → after_operator s fxy ≡ Ok s' → c' ≡ ticked c 1 → Turned takes table cells left place stack s f c (Ok (Some (place + 1))) stack s' f c'
+  turn_operator place stack left d fxy s s' f c c' st e x answers tick =
+      let i = is_operator st.0 st.1 place fxy _ (here_is place stack left d _ st e) in
+      let at : IsAtNodes cells place stack left (operator fxy i.0) st.1 = moved place stack left st _ i.1 in
+      turn_on place stack left st.1 i.0 (operator fxy i.0) s s' f f c c' at i.2 refl refl at.legal.1.1.1
+      (came_operator takes table (λ k. unroll (operator fxy i.0) (turns_after_pass st.1 k)) (λ k. unroll i.0 (turns_after_pass st.1 k)) fxy s s' f c c' x (λ rest counts. refl) answers tick)
+
+  pub fail_operator : (place : ℕ) (stack : List Frame) (left : Rest → Rest) (d : Cell) (fxy : ℕ) (s : OperatorModel) (f : S) (c c' : ℕ) (why : TurnRefusal) → IsAtCell cells place stack left → get_or cells place d ≡ cell.Operator fxy → is_inserted_text fxy ≡ false → after_operator s fxy ≡ Err why → c' ≡ ticked c 1 → StopsIn takes table left s f c (stop_by why) f c'
+  fail_operator place stack left d fxy s f c c' why st e x answers tick =
+      let i = is_operator st.0 st.1 place fxy _ (here_is place stack left d _ st e) in
+      let at : IsAtNodes cells place stack left (operator fxy i.0) st.1 = moved place stack left st _ i.1 in
+      came_stops takes table (stop_by why) (came_none takes table left (λ k. unroll (operator fxy i.0) (turns_after_pass st.1 k)) s f c at.left_is)
+      (stops_operator takes table (λ k. unroll (operator fxy i.0) (turns_after_pass st.1 k)) (λ k. unroll i.0 (turns_after_pass st.1 k)) fxy s f c c' why x (λ rest counts. refl) answers tick)
+
+  -- after a body and its end
+  past_body : (start after : ℕ) (body m : Tree) (tail : List Cell) → after ≡ start + (size body + 1) → drop start cells ≡ cells_of body start (cell.PassEnd ∷ cells_of m after tail) → drop after cells ≡ cells_of m after tail
+  past_body start after body m tail e h = ap (λ j. drop j cells) e ∙ sym (drop-drop (size body + 1) start cells) ∙ ap (drop (size body + 1)) h ∙ drop_body body start (cells_of m after tail)
+
+  stack_length : (place : ℕ) (stack : List Frame) (left : Rest → Rest) (st : IsAtCell cells place stack left) → length stack ≡ length st.1
+  stack_length place stack left st = ap length st.2.frames ∙ frames_length cells st.1
+
+  pub fixed_room : (place : ℕ) (stack : List Frame) (left : Rest → Rest) (d : Cell) (count after : ℕ) → IsAtCell cells place stack left → get_or cells place d ≡ cell.Fixed count after → length stack < 32
+  fixed_room place stack left d count after st e =
+      let i = is_fixed st.0 st.1 place count after _ (here_is place stack left d _ st e) in
+      let deep : length st.1 + depth (fixed count i.0 i.1) ≤ 32 = subst (λ x. length st.1 + depth x ≤ 32) i.2 st.2.deep in
+      omega (arith, deep, stack_length place stack left st)
+
+  pub delayed_room : (place : ℕ) (stack : List Frame) (left : Rest → Rest) (d : Cell) (after : ℕ) → IsAtCell cells place stack left → get_or cells place d ≡ cell.Delayed after → length stack < 32
+  delayed_room place stack left d after st e =
+      let i = is_delayed st.0 st.1 place after _ (here_is place stack left d _ st e) in
+      let deep : length st.1 + depth (delayed i.0 i.1 i.2) ≤ 32 = subst (λ x. length st.1 + depth x ≤ 32) i.3 st.2.deep in
+      omega (arith, deep, stack_length place stack left st)
+
+  -- the factor is at the next place
+  pub factor_next : (place : ℕ) (stack : List Frame) (left : Rest → Rest) (d : Cell) (after : ℕ) → IsAtCell cells place stack left → get_or cells place d ≡ cell.Delayed after → (place + 1 < length cells) × (word : ℕ) × ((d2 : Cell) → get_or cells (place + 1) d2 ≡ cell.Factor word)
+  factor_next place stack left d after st e =
+      let i = is_delayed st.0 st.1 place after _ (here_is place stack left d _ st e) in
+      let r = drop_head cells (place + 1) _ _ i.5 in
+      (r.0, i.0, r.1)
+
+  pub turn_fixed : (place : ℕ) (stack : List Frame) (left : Rest → Rest) (d : Cell) (count after next : ℕ) (stack' : List Frame) (s : OperatorModel) (f : S) (c c' : ℕ) → IsAtCell cells place stack left → get_or cells place d ≡ cell.Fixed count after
+      → (count ≡ 0 → (next ≡ after) × (stack' ≡ stack)) → (0 < count → (next ≡ place + 1) × (stack' ≡ stack ++ record { start = place + 1; after = after; left = count - 1 } ∷ []))
+      → c' ≡ ticked c 1 → Turned takes table cells left place stack s f c (Ok (Some next)) stack' s f c'
+  turn_fixed place stack left d count after next stack' s f c c' st e none some tick =
+      let i = is_fixed st.0 st.1 place count after _ (here_is place stack left d _ st e) in
+      let body : Tree = i.0 in
+      let m : Tree = i.1 in
+      let at : IsAtNodes cells place stack left (fixed count body m) st.1 = moved place stack left st _ i.2 in
+      let h1 : drop (place + 1) cells ≡ cells_of body (place + 1) (cell.PassEnd ∷ cells_of m after (tail_of st.1)) = subst (λ a. drop (place + 1) cells ≡ cells_of body (place + 1) (cell.PassEnd ∷ cells_of m a (tail_of st.1))) (sym i.3) i.4 in
+      let h2 : drop after cells ≡ cells_of m after (tail_of st.1) = past_body (place + 1) after body m (tail_of st.1) (i.3 ∙ (let q : place + 2 + size body ≡ place + 1 + (size body + 1) = omega arith in q)) h1 in
+      let en = entered cells count body m st.1 (place + 1) after next stack stack' none some at.frames h1 h2 (omega (arith, at.deep)) (omega (arith, at.deep)) at.legal.0 at.legal.1 at.outer in (
+        en.0,
+        en.1,
+        came_then takes table (came_none takes table left (λ k. unroll (fixed count body m) (turns_after_pass st.1 k)) s f c at.left_is)
+            (came_then takes table (came_turn takes table (λ k. unroll (fixed count body m) (turns_after_pass st.1 k)) (λ k. passes count (unroll body) (unroll m (turns_after_pass st.1 k))) s f c c' tick (λ rest counts items. refl))
+            (came_none takes table (λ k. passes count (unroll body) (unroll m (turns_after_pass st.1 k))) en.0 s f c' en.2)),
+        omega (arith, en.3, cost_here cells place (fixed count body m) st.1 at.here),
+      )
+
+  pub turn_delayed : (place : ℕ) (stack : List Frame) (left : Rest → Rest) (d d2 : Cell) (after count next fxy : ℕ) (stack' : List Frame) (s s' : OperatorModel) (f f' : S) (c c' c'' : ℕ) (r : Result FieldSpec TurnRefusal) (t : Taken) → IsAtCell cells place stack left → get_or cells place d ≡ cell.Delayed after → get_or cells (place + 1) d2 ≡ cell.Factor fxy
+      → r ≡ factor_spec table s fxy → TakesField takes r f (Ok t) f' → t ≡ taken.Count count → s' ≡ after_field s fxy t → count ≤ 2 ^ 64
+      → (count ≡ 0 → (next ≡ after) × (stack' ≡ stack)) → (0 < count → (next ≡ place + 2) × (stack' ≡ stack ++ record { start = place + 2; after = after; left = count - 1 } ∷ []))
+      → c' ≡ ticked c 1 → c'' ≡ ticked c' 1 → Turned takes table cells left place stack s f c (Ok (Some next)) stack' s' f' c''
+  turn_delayed place stack left d d2 after count next fxy stack' s s' f f' c c' c'' r t st e e2 spec took is answers most none some tick tock =
+      let i = is_delayed st.0 st.1 place after _ (here_is place stack left d _ st e) in
+      let body : Tree = i.1 in
+      let m : Tree = i.2 in
+      let head = drop_head cells (place + 1) _ _ i.5 in
+      let same : i.0 ≡ fxy = let q : ◌≡◌ {A = Cell} (cell.Factor i.0) (cell.Factor fxy) = sym (head.1 d2) ∙ e2 in cc in
+      let at : IsAtNodes cells place stack left (delayed fxy body m) st.1 = moved place stack left st _ (i.3 ∙ ap (λ w. delayed w body m) same) in
+      let h1 : drop (place + 2) cells ≡ cells_of body (place + 2) (cell.PassEnd ∷ cells_of m after (tail_of st.1)) = ap (λ j. drop j cells) (let q : place + 2 ≡ place + 1 + 1 = omega arith in q) ∙ head.2 ∙ ap (λ a. cells_of body (place + 2) (cell.PassEnd ∷ cells_of m a (tail_of st.1))) (sym i.4) in
+      let h2 : drop after cells ≡ cells_of m after (tail_of st.1) = past_body (place + 2) after body m (tail_of st.1) (i.4 ∙ (let q : place + 3 + size body ≡ place + 2 + (size body + 1) = omega arith in q)) h1 in
+      let en = entered cells count body m st.1 (place + 2) after next stack stack' none some at.frames h1 h2 (omega (arith, at.deep)) (omega (arith, at.deep)) at.legal.1.0 at.legal.1.1 at.outer in
+      let set : s' ≡ after_field s fxy (taken.Count count) = answers ∙ ap (after_field s fxy) is in (
+        en.0,
+        en.1,
+        came_then takes table (came_none takes table left (λ k. unroll (delayed fxy body m) (turns_after_pass st.1 k)) s f c at.left_is)
+            (came_then takes table
+            (subst (λ z. HasWalked takes table (λ k. unroll (delayed fxy body m) (turns_after_pass st.1 k)) (λ k. passes count (unroll body) (unroll m (turns_after_pass st.1 k))) s f c z f' c'') (sym set)
+            (came_factor takes table fxy body m s f c r count f' c'' spec (subst (λ u. TakesField takes r f (Ok u) f') is took) (tock ∙ ap (λ j. ticked j 1) tick) (turns_after_pass st.1)))
+            (came_none takes table (λ k. passes count (unroll body) (unroll m (turns_after_pass st.1 k))) en.0 s' f' c'' en.2)),
+        omega (arith, en.3, cost_here cells place (delayed fxy body m) st.1 at.here, mul-le-mul_right (1 + worst body) most),
+      )
+
+  pub fail_delayed : (place : ℕ) (stack : List Frame) (left : Rest → Rest) (d d2 : Cell) (after fxy : ℕ) (s : OperatorModel) (f f' : S) (c c' c'' : ℕ) (r : Result FieldSpec TurnRefusal) (why : WalkStop E) → IsAtCell cells place stack left → get_or cells place d ≡ cell.Delayed after → get_or cells (place + 1) d2 ≡ cell.Factor fxy
+      → r ≡ factor_spec table s fxy → TakesField takes r f (Err why) f' → c' ≡ ticked c 1 → c'' ≡ ticked c' 1 → StopsIn takes table left s f c why f' c''
+  fail_delayed place stack left d d2 after fxy s f f' c c' c'' r why st e e2 spec took tick tock =
+      let i = is_delayed st.0 st.1 place after _ (here_is place stack left d _ st e) in
+      let head = drop_head cells (place + 1) _ _ i.5 in
+      let same : i.0 ≡ fxy = let q : ◌≡◌ {A = Cell} (cell.Factor i.0) (cell.Factor fxy) = sym (head.1 d2) ∙ e2 in cc in
+      let at : IsAtNodes cells place stack left (delayed fxy i.1 i.2) st.1 = moved place stack left st _ (i.3 ∙ ap (λ w. delayed w i.1 i.2) same) in
+      came_stops takes table why (came_none takes table left (λ k. unroll (delayed fxy i.1 i.2) (turns_after_pass st.1 k)) s f c at.left_is)
+      (stops_factor takes table fxy i.1 i.2 s f c r why f' c'' spec took (tock ∙ ap (λ j. ticked j 1) tick) (turns_after_pass st.1))
+
+  pub pass_end_open : (place : ℕ) (stack : List Frame) (left : Rest → Rest) (d : Cell) → IsAtCell cells place stack left → get_or cells place d ≡ cell.PassEnd → (0 < length stack) × (length stack ≤ 32)
+  pass_end_open place stack left d st e =
+      let i = is_pass_end st.0 st.1 place _ (here_is place stack left d _ st e) in
+      let more : length st.1 ≡ length (i.0 ∷ i.1) = ap length i.2 in
+      (omega (arith, more, stack_length place stack left st), omega (arith, st.2.deep, stack_length place stack left st))
+
+  pub turn_pass_end : (place : ℕ) (stack : List Frame) (left : Rest → Rest) (d : Cell) (frame : Frame) (stack1 stack' : List Frame) (next : ℕ) (s : OperatorModel) (f : S) (c c' : ℕ) → IsAtCell cells place stack left → get_or cells place d ≡ cell.PassEnd → stack ≡ stack1 ++ frame ∷ []
+      → (frame.left ≡ 0 → (next ≡ frame.after) × (stack' ≡ stack1)) → (0 < frame.left → (next ≡ frame.start) × (stack' ≡ stack1 ++ record { start = frame.start; after = frame.after; left = frame.left - 1 } ∷ []))
+      → c' ≡ ticked c 1 → Turned takes table cells left place stack s f c (Ok (Some next)) stack' s f c'
+  turn_pass_end place stack left d frame stack1 stack' next s f c c' st e popped none some tick =
+      let i = is_pass_end st.0 st.1 place _ (here_is place stack left d _ st e) in
+      let g : OpenGroup = i.0 in
+      let outer : List OpenGroup = i.1 in
+      let half : IsAtNodes cells place stack left bare st.1 = moved place stack left st _ i.3 in
+      let at : IsAtNodes cells place stack left bare (g ∷ outer) = subst (λ x. IsAtNodes cells place stack left bare x) i.2 half in
+      let last = last_is Frame stack1 (frames_of outer) frame g.frame (sym popped ∙ at.frames) in
+      let en = entered cells g.frame.left g.body g.more outer g.frame.start g.frame.after next stack1 stack'
+      (subst (λ (w : Frame). w.left ≡ 0 → (next ≡ w.after) × (stack' ≡ stack1)) last.1 none)
+      (subst (λ (w : Frame). 0 < w.left → (next ≡ w.start) × (stack' ≡ stack1 ++ record { start = w.start; after = w.after; left = w.left - 1 } ∷ [])) last.1 some)
+      last.0 at.outer.0 at.outer.1 at.outer.2 at.outer.3 at.outer.4 at.outer.5 at.outer.6 in (
+        en.0,
+        en.1,
+        came_then takes table (came_none takes table left (λ k. turns_after_pass (g ∷ outer) k) s f c at.left_is)
+            (came_then takes table (came_turn takes table (λ k. turns_after_pass (g ∷ outer) k) (λ k. passes g.frame.left (unroll g.body) (unroll g.more (turns_after_pass outer k))) s f c c' tick (λ rest counts items. refl))
+            (came_none takes table (λ k. passes g.frame.left (unroll g.body) (unroll g.more (turns_after_pass outer k))) en.0 s f c' en.2)),
+        omega (arith, en.3, cost_here cells place bare (g ∷ outer) at.here, ap (owed (costs cells 0)) (popped ∙ ap (λ w. stack1 ++ w ∷ []) last.1), owed_push (costs cells 0) stack1 g.frame, ap (λ x. g.frame.left * (1 + x)) (cost_here cells g.frame.start g.body (g ∷ outer) at.outer.0), cost_here cells g.frame.after g.more outer at.outer.1),
+      )
+
+  pub turn_finish : (place : ℕ) (stack : List Frame) (left : Rest → Rest) (d : Cell) (s : OperatorModel) (f : S) (c c' : ℕ) → IsAtCell cells place stack left → get_or cells place d ≡ cell.Finish → c' ≡ ticked c 1 → Turned takes table cells left place stack s f c (Ok None) stack s f c'
+  turn_finish place stack left d s f c c' st e tick =
+      let i = is_finish st.0 st.1 place _ (here_is place stack left d _ st e) in
+      let half : IsAtNodes cells place stack left bare st.1 = moved place stack left st _ i.1 in
+      let at : IsAtNodes cells place stack left bare [] = subst (λ x. IsAtNodes cells place stack left bare x) i.0 half in
+      (at.left_is, refl, refl, tick)
+
+-- as many cells as places
+pub flattened_length : (cells : List Cell) (template : Tree) → AreCellsOf cells template → length cells ≡ places template
+flattened_length cells template h =
+    ap length h.flattened ∙ cells_length template 0 (cell.Finish ∷ []) ∙ (let q : size template + 1 ≡ 1 + size template = omega arith in q)
+  where
+    cells_length : (t : Tree) (at : ℕ) (tail : List Cell) → length (cells_of t at tail) ≡ size t + length tail
+    cells_length bare at tail = omega arith
+    cells_length (element fxy more) at tail = omega (arith, cells_length more (at + 1) tail)
+    cells_length (operator fxy more) at tail = omega (arith, cells_length more (at + 1) tail)
+    cells_length (fixed n body more) at tail = omega (arith, cells_length body (at + 1) (cell.PassEnd ∷ cells_of more (at + 2 + size body) tail), cells_length more (at + 2 + size body) tail)
+    cells_length (delayed fxy body more) at tail = omega (arith, cells_length body (at + 2) (cell.PassEnd ∷ cells_of more (at + 3 + size body) tail), cells_length more (at + 3 + size body) tail)
+
+-- a walk before the whole template
+pub fits_first : (cells : List Cell) (template : Tree) (stack : List Frame) → AreCellsOf cells template → stack ≡ [] → IsAtCell cells 0 stack (unroll template)
+fits_first cells template stack h e = (template, [], record { frames = e; here = h.flattened; deep = omega (arith, h.shallow); legal = h.legal; outer = tt; left_is = λ k counts. refl })
+
+module _ {S E : Type 0} (takes : S → FieldSpec → Result Taken E → S → Type 0) (table : List Row) (cells : List Cell) where
+  -- a turn that led on
+  pub led_on : (left : Rest → Rest) (place : ℕ) (stack : List Frame) (s : OperatorModel) (f : S) (c : ℕ) (o : Option ℕ) (next : ℕ) (stack' : List Frame) (s' : OperatorModel) (f' : S) (c' : ℕ) → o ≡ Some next → Turned takes table cells left place stack s f c (Ok o) stack' s' f' c' → Turned takes table cells left place stack s f c (Ok (Some next)) stack' s' f' c'
+  led_on left place stack s f c o next stack' s' f' c' e t = subst (λ x. Turned takes table cells left place stack s f c (Ok x) stack' s' f' c') e t
+
+  -- a turn that ended the walk
+  pub led_out : (template : Tree) (left : Rest → Rest) (place : ℕ) (stack : List Frame) (s : OperatorModel) (f0 f : S) (c0 c : ℕ) (o : Option ℕ) (stack' : List Frame) (s' : OperatorModel) (f' : S) (c' : ℕ) → ((next : ℕ) → o ≡ Some next → ⊥) → HasWalked takes table (unroll template) left begin f0 c0 s f c → Turned takes table cells left place stack s f c (Ok o) stack' s' f' c' → Walked takes (next_item table template) f0 c0 (Ok tt) f' c'
+  unfolding next_item
+  led_out template left place stack s f0 f c0 c (Some next) stack' s' f' c' never came t = absurd (never next refl)
+  led_out template left place stack s f0 f c0 c None stack' s' f' c' never came t =
+      subst (λ g. Walked takes (course table (turns_of template) begin) f0 c0 (Ok tt) g c') (sym t.2)
+      (whole takes table template begin s f0 f c0 c c' (came_then takes table came (came_none takes table left (λ rest. rest) s f c t.0)) t.3)
+
+  -- a turn that stopped the walk
+  pub led_off : (template : Tree) (left : Rest → Rest) (s : OperatorModel) (f0 f f' : S) (c0 c c' : ℕ) (why : WalkStop E) → HasWalked takes table (unroll template) left begin f0 c0 s f c → StopsIn takes table left s f c why f' c' → Walked takes (next_item table template) f0 c0 (Err why) f' c'
+  unfolding next_item
+  led_off template left s f0 f f' c0 c c' why came w = whole_stops takes table template begin f0 f' c0 c' why (came_stops takes table why came w)
+
+  -- a walk that has made no turn
+  pub came_begun : (template : Tree) (s : OperatorModel) (f : S) (c : ℕ) → s ≡ begin → HasWalked takes table (unroll template) (unroll template) begin f c s f c
+  came_begun template s f c e = subst (λ z. HasWalked takes table (unroll template) (unroll template) begin f c z f c) (sym e) (came_none takes table (unroll template) (unroll template) begin f c (λ rest counts. refl))
