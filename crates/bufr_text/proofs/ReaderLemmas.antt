@@ -2,7 +2,6 @@
 use Rattle.std.proofs.Common.{◌≡◌, ℕ, zero, suc, ◌+◌, ◌<◌, ◌≤◌, Bool, true, List, [], ◌∷◌, ◌++◌, length, drop, refl, sym, ap, subst, ◌∙◌, arith, length-drop}
 use Rattle.std.specs.Prelude.{Option, Some, None, Err}
 use Rattle.bufr_frame.specs.Input.{InputModel}
-use Rattle.bufr_text.specs.Documents as spec
 use Rattle.bufr_text.specs.Documents as documents
 use Rattle.bufr_text.specs.Documents.{Between, Heading, BeforeSubsets, Filling, Stopped, ParseResult, Refused, NotAllowed, parse_lines, lines_of, reported_at_end}
 use Rattle.bufr_text.specs.Reader.{has_no_feed, ContinuesParse, parse, ReaderModel, position_of}
@@ -74,7 +73,7 @@ progress-between old new d held len reads step takes is same between =
     }
 
 -- the end
-pub reported-inside : (p : ParserState) (d : spec.Document) (at : ℕ) → (p ≡ place.Between → ⊥) → reported_at_end at (place_with p d) ≡ Refused at NotAllowed ∷ []
+pub reported-inside : (p : ParserState) (d : documents.Document) (at : ℕ) → (p ≡ place.Between → ⊥) → reported_at_end at (place_with p d) ≡ Refused at NotAllowed ∷ []
 reported-inside place.Between d at not = absurd (not refl)
 reported-inside place.Heading d at not = refl
 reported-inside (place.BeforeSubsets part) d at not = refl
@@ -96,7 +95,7 @@ end-reports s ended held results =
     record { goes = subst A (sym ended) (subst B (sym held) (subst C results (ends-inside s.at s.place))); passes = passes-none s.at s.held }
 
 -- a line that is too long
-pub reads-place : (p : ParserState) (d : spec.Document) → Reads (place_with p d)
+pub reads-place : (p : ParserState) (d : documents.Document) → Reads (place_with p d)
 reads-place place.Between d = tt
 reads-place place.Heading d = tt
 reads-place (place.BeforeSubsets part) d = tt

@@ -5,7 +5,6 @@ use Rattle.std.proofs.lemmas.Grind.{common_steps}
 use Rattle.std.proofs.lemmas.Bool.Decides.{nat_tests}
 use Rattle.bufr_fill.specs.Draft.{DraftValue, draft, Holds}
 use Rattle.bufr_text.specs.Line.{Item, line_of}
-use Rattle.bufr_text.specs.Documents as spec
 use Rattle.bufr_text.specs.Documents as documents
 use Rattle.bufr_text.specs.Documents.{line_within_limit, place_after, reported_at, with_entry}
 use Rattle.bufr_text.specs.Dump.{text_of_lines}
@@ -21,7 +20,7 @@ use Rattle.bufr_text.proofs.ClosingLemmas.{gives-end}
 use Rattle.bufr_text.proofs.ReadingLemmas.{takes-line, goes-further}
 
 -- a line with an item, in a subset
-pub item-turn : (at subset : ℕ) (line : List ℕ) (d new : spec.Document) (fxy : ℕ) (form : DraftValue) → length line ≤ 4096 → line_of line ≡ Item fxy form → new ≡ with_entry d (Holds (draft at fxy form))
+pub item-turn : (at subset : ℕ) (line : List ℕ) (d new : documents.Document) (fxy : ℕ) (form : DraftValue) → length line ≤ 4096 → line_of line ≡ Item fxy form → new ≡ with_entry d (Holds (draft at fxy form))
     → documents.WalkGoes (documents.Filling subset new) ≡ documents.turn at (documents.Filling subset d) (line_within_limit line)
 unfolding documents.turn
 item-turn at subset line d new fxy form short is added =
@@ -82,7 +81,7 @@ holds-after new t line s some e = subst (HoldsAfter new.at) (sym e) (turn-holds 
 further : (a b c : ReaderPosition) (x : List documents.ParseResult) → b.ended ≡ c.ended → ContinuesParse a b [] → ContinuesParse b c x → ContinuesParse a c x
 further a b c x same f g = goes-further a b c [] x (λ e. sym same ∙ e) f g
 
-pub taking-goes : (old new : Progress) (held : List ℕ) (from n : ℕ) (place : ParserState) (d : spec.Document) → IsTaking old new held from → FeedAt (drop from held) (Some n)
+pub taking-goes : (old new : Progress) (held : List ℕ) (from n : ℕ) (place : ParserState) (d : documents.Document) → IsTaking old new held from → FeedAt (drop from held) (Some n)
     → turned (turn.WalkGoes place) d ≡ documents.turn new.at (place_with new.place new.parts) (line_within_limit (take n (drop from held)))
     → IsTaking old (record { place = place; at = new.at + 1; parts = d }) held (from + (n + 1))
 taking-goes old new held from n place d is feed e = record {

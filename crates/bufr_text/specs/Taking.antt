@@ -17,7 +17,6 @@ use Rattle.bufr_text.specs.declared.document.LineEffect.{LineEffect}
 use Rattle.bufr_text.specs.Reader.{has_no_feed, ReaderPosition, ContinuesParse, TakesWholeLines, TakesEndLine}
 use Rattle.bufr_text.specs.declared.document.Progress.{Progress}
 use Rattle.bufr_text.specs.declared.document.TakeResult.{TakeResult}
-use Rattle.bufr_text.specs.Documents as spec
 use Rattle.bufr_text.specs.Line as line
 use Rattle.bufr_text.specs.Documents as documents
 use Rattle.bufr_text.specs.declared.document.ParsedLine.TheVariants as said
@@ -32,7 +31,7 @@ pub record IsHeaderInside (d : Inside) : Type 0 where
   pub known : d.known ≤ 20
   pub room : length d.header ≡ 20
 
-abbrev pub document_kept : Inside → spec.Document
+abbrev pub document_kept : Inside → documents.Document
 document_kept d = record {
   line = d.line;
   header = take d.known d.header;
@@ -64,7 +63,7 @@ part_number written.Section2 = 1
 part_number written.Descriptors = 2
 
 -- where the reading is, with the document as far as it was read
-abbrev pub place_with : ParserState → spec.Document → documents.ParserState
+abbrev pub place_with : ParserState → documents.Document → documents.ParserState
 place_with place.Between d = documents.Between
 place_with place.Heading d = documents.Heading d
 place_with (place.BeforeSubsets part) d = documents.BeforeSubsets (part_number part) d
@@ -76,13 +75,13 @@ line_fault_of refusal.SubsetCount = documents.SubsetCount
 line_fault_of refusal.HeaderRange = documents.HeaderRange
 
 -- what a turn does, with the document after it
-abbrev pub turned : LineEffect → spec.Document → documents.LineEffect
+abbrev pub turned : LineEffect → documents.Document → documents.LineEffect
 turned (turn.WalkGoes place) d = documents.WalkGoes (place_with place d)
 turned turn.Gives d = documents.Gives d
 turned (turn.Refuses refusal) d = documents.Faults (line_fault_of refusal)
 
 -- Nothing was read after the header.
-pub record IsBare (d : spec.Document) : Type 0 where
+pub record IsBare (d : documents.Document) : Type 0 where
   pub local1 : d.local1 ≡ []
   pub section2 : d.section2 ≡ []
   pub descriptors : d.descriptors ≡ []
@@ -90,10 +89,10 @@ pub record IsBare (d : spec.Document) : Type 0 where
 
 -- The parts before the subsets are octets and descriptors, and there are no octets of a section 2
 -- that is absent.
-pub record HasLineGroups (d : spec.Document) : Type 0 where
+pub record HasLineGroups (d : documents.Document) : Type 0 where
   pub local1 : AllByRecursion IsOctet d.local1
   pub section2 : AllByRecursion IsOctet d.section2
-  pub no_section2 : (spec.optional_in d == 1) ≡ false → d.section2 ≡ []
+  pub no_section2 : (documents.optional_in d == 1) ≡ false → d.section2 ≡ []
   pub descriptors : AllByRecursion IsDescriptorWord d.descriptors
 
 -- the text of an item is of octets
@@ -102,7 +101,7 @@ EntryHasOctets (Holds item) = HasOctets item.form
 EntryHasOctets (Ends line) = Unit {0}
 
 -- So many subsets were ended, and each text is of octets.
-pub record HasSubsets (ended : ℕ) (d : spec.Document) : Type 0 where
+pub record HasSubsets (ended : ℕ) (d : documents.Document) : Type 0 where
   pub texts : AllByRecursion EntryHasOctets d.entries
   pub counted : length (subsets_of d.entries) ≡ ended
 
@@ -112,7 +111,7 @@ pub record HasSubsets (ended : ℕ) (d : spec.Document) : Type 0 where
 abbrev pub IsParserState : (at : ℕ) → documents.ParserState → Type 0
 IsParserState at documents.Between = Unit {0}
 IsParserState at (documents.Heading d) =
-    (length d.header < 20) × (are_in_range (spec.edition_in d) 0 d.header ≡ true)
+    (length d.header < 20) × (are_in_range (documents.edition_in d) 0 d.header ≡ true)
     × (length d.entries < at) × IsBare d
 IsParserState at (documents.BeforeSubsets part d) =
     IsHeaded d × (length d.entries < at) × HasLineGroups d × (d.entries ≡ [])
@@ -137,7 +136,7 @@ FeedAt held (Some place) =
     × (held ≡ take place held ++ 10 ∷ drop (place + 1) held)
 
 -- what was reported
-abbrev pub step_results : TakeResult → spec.Document → List documents.ParseResult
+abbrev pub step_results : TakeResult → documents.Document → List documents.ParseResult
 step_results taken.More d = []
 step_results taken.Gives d = documents.Complete d ∷ []
 step_results (taken.Refuses line refusal) d = documents.Refused line (line_fault_of refusal) ∷ []

@@ -11,7 +11,6 @@ ghost use Rattle.bufr_text.specs.Line.{mosts};
 ghost use Rattle.bufr_text.specs.Taking.{meaning, part_number, place_with, turned, IsParserState, TakesLines, FeedAt, WantsAt};
 ghost use Rattle.bufr_text.specs.Reader.{has_no_feed};
 ghost use Rattle.bufr_text.specs.declared.document.ParserState.TheVariants.{Between};
-ghost use Rattle.bufr_text.specs.Documents as spec;
 ghost use Rattle.bufr_text.specs.Line as line;
 ghost use Rattle.bufr_text.specs.Documents as documents;
 
@@ -43,9 +42,9 @@ pub(crate) struct DocumentParts {
 }
 
 impl Model for DocumentParts {
-    ghost use Rattle.bufr_text.specs.Documents as spec;
+    ghost use Rattle.bufr_text.specs.Documents as documents;
 
-    ghost Value = { spec.Document };
+    ghost Value = { documents.Document };
 
     ghost use Rattle.bufr_text.specs.Taking.{IsHeaderInside, document_kept};
 
@@ -57,7 +56,7 @@ impl Model for DocumentParts {
 impl DocumentParts {
     /// A document of which its first line was read.
     pub(crate) fn blank(alloc: Global, line: u64) -> DocumentParts
-        ensures { result ≡ spec.blank line }
+        ensures { result ≡ documents.blank line }
     {
         DocumentParts {
             line,
@@ -72,7 +71,7 @@ impl DocumentParts {
 
     /// Begins a document of which its first line was read, in the memory of the one before.
     pub(crate) fn begin(&mut self, line: u64)
-        ensures { self.new ≡ spec.blank line }
+        ensures { self.new ≡ documents.blank line }
     {
         self.line = line;
         self.known = 0;
@@ -181,10 +180,10 @@ pub struct Document {
 }
 
 impl Model for Document {
-    ghost use Rattle.bufr_text.specs.Documents as spec;
+    ghost use Rattle.bufr_text.specs.Documents as documents;
     ghost use Rattle.bufr_text.specs.Spelling.{IsWhole};
 
-    ghost Value = { spec.Document };
+    ghost Value = { documents.Document };
 
     ghost view = { λ d. d.parts };
 

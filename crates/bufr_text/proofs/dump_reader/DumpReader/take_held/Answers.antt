@@ -1,7 +1,6 @@
 use Rattle.std.proofs.Common.{◌∙◌, ℕ, [], ◌∷◌, drop, refl, sym, ap, subst}
 use Rattle.std.specs.Prelude.{Some, Err}
 use Rattle.bufr_frame.specs.Input.{InputModel}
-use Rattle.bufr_text.specs.Documents as spec
 use Rattle.bufr_text.specs.Documents as documents
 use Rattle.bufr_text.specs.Spelling.{IsProper}
 use Rattle.bufr_text.specs.Reader.{ReaderModel, has_no_feed, TakesEndLine}
@@ -60,7 +59,7 @@ returns-in-Gives-clause-went c =
     let held = drop c.in-Ok.len v.input.held in
     let P : ReaderModel → Type 0 = λ s. ParsesHeldLines s (state d.at (place_now v.fault d) held v.input.ended v.fault v.input.reads) (documents.Complete c.whole.result ∷ []) in
     let A : ℕ → Type 0 = λ k. ParsesHeldLines old (state k (place_now v.fault d) held v.input.ended v.fault v.input.reads) (documents.Complete c.whole.result ∷ []) in
-    let D : spec.Document → Type 0 = λ x. ParsesHeldLines old (state n.at (place_now v.fault d) held v.input.ended v.fault v.input.reads) (documents.Complete x ∷ []) in
+    let D : documents.Document → Type 0 = λ x. ParsesHeldLines old (state n.at (place_now v.fault d) held v.input.ended v.fault v.input.reads) (documents.Complete x ∷ []) in
     let W : InputModel → Type 0 = λ i. ParsesHeldLines c.args.self.now (state d.at (place_now v.fault d) i.held i.ended v.fault i.reads) (documents.Complete c.whole.result ∷ []) in
     let E : ReaderModel → Type 0 = λ s. TakesEndLine s.at s.held d.at held in
     let F : ℕ → Type 0 = λ k. TakesEndLine v.progress.at v.input.held k held in
@@ -96,4 +95,4 @@ returns-in_default-clause-went c =
 pub returns-in-Gives-clause-proper : goal.returns-in-Gives-clause-proper
 returns-in-Gives-clause-proper c =
     let takes = rw c.in-Gives.is at c.in-Ok.ensures.takes in
-    subst (λ (d : spec.Document). IsProper d) (sym (c.whole.ensures ∙ c.take_parts-parts.ensures.parts)) takes.holds.0
+    subst (λ (d : documents.Document). IsProper d) (sym (c.whole.ensures ∙ c.take_parts-parts.ensures.parts)) takes.holds.0
