@@ -53,13 +53,13 @@ def owner(lines: list, line: int) -> str:
 
 
 def tagged(path: pathlib.Path):
-    """Each tag of a file with the line that it is for, from 0."""
+    """Each tag of a file with the line that it is for, from 0; attributes may come between."""
     tags = []
     for line, one in enumerate(read(path).splitlines()):
         found = TAG.match(one)
         if found:
             tags += found[1].split(", ")
-        elif tags:
+        elif tags and not one.lstrip().startswith("#["):
             yield from ((tag, line) for tag in tags)
             tags = []
 

@@ -1,5 +1,5 @@
 -- Bits as numbers and as octets: in parts, all ones, in windows, and as a writer pushes them.
-use Rattle.std.proofs.Common.{◌≡◌, ℕ, zero, suc, min, ◌+◌, ◌-◌, ◌*◌, ◌/◌, ◌%◌, ◌^◌, ◌<◌, ◌≤◌, ◌==◌, Bool, true, false, if◌then◌else◌, List, [], ◌∷◌, ◌++◌, length, take, drop, get_or, refl, sym, ap, ◌∙◌, subst, arith, length-drop, take-append-drop, length-take-le, take-add, drop-drop, pow-add, pow_mono, ◌&&◌, eqb, Option, None, Some, SomeIff, nat_eq, replicate, append_assoc, mod-eq_of_lt, append-nil, length-append, MatchOption}
+use Rattle.std.proofs.Common.{◌≡◌, ℕ, zero, suc, min, ◌+◌, ◌-◌, ◌*◌, ◌/◌, ◌%◌, ◌^◌, ◌<◌, ◌≤◌, ◌==◌, Bool, true, false, if◌then◌else◌, List, [], ◌∷◌, ◌++◌, length, take, drop, get_or, refl, sym, ap, ◌∙◌, subst, arith, length-drop, take-append-drop, length-take-le, take-add, drop-drop, pow-add, pow_mono, ◌&&◌, eqb, Option, None, Some, SomeIff, nat_eq, replicate, append_assoc, mod-eq_of_lt, append-nil, length-append}
 use Rattle.std.proofs.lemmas.Nat.{shr_high, mod_low, shl_whole, mod-pow-add, shr_split, shr_le, mod_below, shr-shr, pow_pos, shr_below, be_bytes_8}
 use Rattle.std.proofs.lemmas.Bool.Decides.{nat_tests}
 use Rattle.std.proofs.lemmas.List.{drop-append-le, take-append-le, take_all, drop_more, drop_all, take_at, drop_at, take_more, length-replicate, take_rest}
@@ -203,6 +203,11 @@ are_all_ones-bits_of (x ∷ xs) h =
 -- whole octets of a list of bits
 pub bits_at-octets : (xs : List ℕ) (first count : ℕ) → bits_at xs (8 * first) (8 * count) ≡ bits_of (take count (drop first xs))
 bits_at-octets xs first count = ap (take (8 * count)) (drop-bits_of first xs) ∙ take-bits_of count (drop first xs)
+
+pub full_octets : (xs : List ℕ) (first count : ℕ) (b : Bool) → b ≡ are_all_ones (bits_of (take (first + count - first) (drop first xs))) → b ≡ are_all_ones (bits_at xs (8 * first) (8 * count))
+full_octets xs first count b e =
+    let n : first + count - first ≡ count = omega arith in
+    e ∙ ap (λ (m : ℕ). are_all_ones (bits_of (take m (drop first xs)))) n ∙ ap are_all_ones (sym (bits_at-octets xs first count))
 
 -- all of some bits, in parts
 pub are_all_ones-more : (xs : List ℕ) (at leading rest : ℕ) → are_all_ones (bits_at xs at (leading + rest)) ≡ (are_all_ones (bits_at xs at leading) && are_all_ones (bits_at xs (at + leading) rest))
@@ -534,10 +539,10 @@ window_is xs chunk n h e small below value =
     }
 
 -- a window of the octets from a place on
-pub window_after : (xs ys : List ℕ) (first n : ℕ) → first ≤ length xs → ys ≡ take (length xs - first) (drop first xs) → IsWindow n 0 ys → IsWindow n first xs
-window_after xs ys first n h e w =
-    let same : ys ≡ drop first xs = e ∙ take_rest xs first in
-    let long : length ys ≡ length xs - first = ap length same ∙ length-drop first xs in
+pub window_from : (xs : List ℕ) (first n : ℕ) → IsWindow n 0 (take (length xs - first) (drop first xs)) → IsWindow n first xs
+window_from xs first n w =
+    let same : take (length xs - first) (drop first xs) ≡ drop first xs = take_rest xs first in
+    let long : length (take (length xs - first) (drop first xs)) ≡ length xs - first = ap length same ∙ length-drop first xs in
     let room = w.within in
     record {
       within = omega arith;
@@ -589,12 +594,6 @@ field_beyond xs at width n over part h inside few beyond o small e =
     let second : part ≡ number_of (bits_at xs (at + high) over) = e ∙ sym (number_of_part xs (at / 8 + 8) 0 over (omega arith) small (omega arith)) ∙ ap (λ (p : ℕ). number_of (bits_at xs p over)) ninth in
     let all : width ≡ high + over = omega arith in
     ap (λ (m : ℕ). n % m * 2 ^ over % 18446744073709551616 + part) mask ∙ ap (λ (m : ℕ). m + part) shifted ∙ ap (λ (m : ℕ). m * 2 ^ over + part) (sym first) ∙ ap (λ (m : ℕ). number_of (bits_at xs at high) * 2 ^ over + m) second ∙ sym (number_of_more xs at high over (omega arith)) ∙ ap (λ (k : ℕ). number_of (bits_at xs at k)) (sym all)
-
-pub window_answer : (answer : Option ℕ) (xs ys : List ℕ) (first : ℕ) → first ≤ length xs → ys ≡ take (length xs - first) (drop first xs) → MatchOption answer (length ys < 8) (λ w. IsWindow w 0 ys) → MatchOption answer (length xs < first + 8) (λ w. IsWindow w first xs)
-window_answer None xs ys first h e few =
-    let long : length ys ≡ length xs - first = ap length (e ∙ take_rest xs first) ∙ length-drop first xs in
-    omega arith
-window_answer (Some w) xs ys first h e there = window_after xs ys first w h e there
 
 -- octets are all ones where their window is the greatest number and the others are
 pub window_ones : (xs : List ℕ) (w : ℕ) → IsWindow w 0 xs → are_all_ones (bits_of xs) ≡ ((w == 2 ^ 64 - 1) && are_all_ones (bits_of (drop 8 xs)))

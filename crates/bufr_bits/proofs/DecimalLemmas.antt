@@ -380,25 +380,32 @@ first_digit : (ds more : List ℕ) → 0 < length ds → all_digits ds ≡ true 
 first_digit [] more h all = absurd (omega arith)
 first_digit (d ∷ ds) more h all = and_first (is_ascii_digit d) (all_digits ds) all
 
--- an unsigned text that writes a number at a scale
-pub record IsTextOf (text : List ℕ) (n : ℕ) (scale : ℤ) : Type 0 where
+-- an unsigned text, by the number that its digits write and how many follow the point
+pub record IsDecimalOf (text : List ℕ) (n places : ℕ) : Type 0 where
   pub form : is_unsigned text ≡ true
-  pub value : scaled (whole_part text ++ fraction_part text) (length (fraction_part text)) scale ≡ Ok n
+  pub value : digits_value 10 (whole_part text ++ fraction_part text) ≡ n
+  pub after : length (fraction_part text) ≡ places
   pub first : is_ascii_digit (get_or text 0 0) ≡ true
 
-text_with_point : (whole fraction : List ℕ) (n : ℕ) (places : ℕ) → 0 < length whole → 0 < length fraction → all_digits whole ≡ true → all_digits fraction ≡ true → length fraction ≡ places → digits_value 10 (whole ++ fraction) ≡ n → IsTextOf (whole ++ 46 ∷ fraction) n (pos places)
-text_with_point whole fraction n places sw sf hw hf len e = record {
-  form = form_with_point whole fraction sw sf hw hf;
-  value = rw (whole_with_point whole fraction hw, fraction_with_point whole fraction hw, e) (exact_quotient n places (length fraction + 0) (omega arith));
-  first = first_digit whole (46 ∷ fraction) sw hw;
-}
+decimal_with_point : (whole fraction : List ℕ) (n places : ℕ) → 0 < length whole → 0 < length fraction → all_digits whole ≡ true → all_digits fraction ≡ true → length fraction ≡ places → digits_value 10 (whole ++ fraction) ≡ n → IsDecimalOf (whole ++ 46 ∷ fraction) n places
+decimal_with_point whole fraction n places sw sf hw hf len e =
+    let f = fraction_with_point whole fraction hw in
+    record {
+      form = form_with_point whole fraction sw sf hw hf;
+      value = rw (whole_with_point whole fraction hw, f) e;
+      after = ap length f ∙ len;
+      first = first_digit whole (46 ∷ fraction) sw hw;
+    }
 
-text_alone : (whole : List ℕ) (n k : ℕ) (scale : ℤ) → 0 < length whole → all_digits whole ≡ true → digits_value 10 whole * 10 ^ positive_scale scale ≡ n * 10 ^ k → negative_scale scale ≡ k → IsTextOf whole n scale
-text_alone whole n k scale sw hw e d = record {
-  form = form_alone whole sw hw;
-  value = rw (whole_alone whole hw, fraction_alone whole hw, append-nil whole, e) (exact_quotient n k (0 + negative_scale scale) (omega arith));
-  first = rw append-nil at (first_digit whole [] sw hw);
-}
+decimal_alone : (whole : List ℕ) (n : ℕ) → 0 < length whole → all_digits whole ≡ true → digits_value 10 whole ≡ n → IsDecimalOf whole n 0
+decimal_alone whole n sw hw e =
+    let f = fraction_alone whole hw in
+    record {
+      form = form_alone whole sw hw;
+      value = rw (whole_alone whole hw, f, append-nil whole) e;
+      after = ap length f;
+      first = rw append-nil at (first_digit whole [] sw hw);
+    }
 
 decimal_digits : (n : ℕ) → n < 10 ^ 64 → all_digits (decimal n) ≡ true
 decimal_digits n h = own.from (decimal n) (decimal_is_IsNumeral_wide n h).0.1
@@ -418,8 +425,8 @@ zeros_after_value : (count : ℕ) (d : List ℕ) (n : ℕ) → digits_value 10 d
 zeros_after_value count d n e =
     value-append d (replicate count 48) ∙ ap (λ (m : ℕ). digits_value 10 d * 10 ^ length (replicate {A = ℕ} count 48) + m) (zeros_value count) ∙ ap (λ (m : ℕ). digits_value 10 d * 10 ^ m + 0) (length-replicate {A = ℕ} count 48) ∙ ap (λ (m : ℕ). m * 10 ^ count + 0) e ∙ omega arith
 
-pointed_is_text : (n places : ℕ) → n < 10 ^ 64 → IsTextOf (pointed (suc places) (decimal n)) n (pos (suc places))
-pointed_is_text n places h =
+pointed_is_decimal : (n places : ℕ) → n < 10 ^ 64 → IsDecimalOf (pointed (suc places) (decimal n)) n (suc places)
+pointed_is_decimal n places h =
     let d = decimal n in
     let count = suc places + 1 - length d in
     let padded = replicate count 48 ++ d in
@@ -429,33 +436,46 @@ pointed_is_text n places h =
     let all : all_digits padded ≡ true = list_all-append is_ascii_digit (replicate count 48) d ∙ ap (λ (t : Bool). t && all_digits d) (zeros_digits count) ∙ decimal_digits n h in
     let value : digits_value 10 padded ≡ n = padded_value count d n (decimal_value n h) in
     let both : digits_value 10 (take w padded ++ drop w padded) ≡ n = ap (digits_value 10) (take-append-drop w padded) ∙ value in
-    text_with_point (take w padded) (drop w padded) n (suc places) (omega (arith, length-take w padded)) (omega (arith, length-drop w padded)) (all_digits-take w padded all) (all_digits-drop w padded all) (omega (arith, length-drop w padded)) both
+    decimal_with_point (take w padded) (drop w padded) n (suc places) (omega (arith, length-take w padded)) (omega (arith, length-drop w padded)) (all_digits-take w padded all) (all_digits-drop w padded all) (omega (arith, length-drop w padded)) both
 
-multiplied : (n less : ℕ) → suc n < 10 ^ 64 → digits_value 10 (decimal (suc n) ++ replicate (suc less) 48) * 1 ≡ suc n * 10 ^ (less + 1)
-multiplied n less h =
-    let value = zeros_after_value (suc less) (decimal (suc n)) (suc n) (decimal_value (suc n) h) in
-    let same : suc less ≡ less + 1 = omega arith in
-    ap (λ (m : ℕ). m * 1) value ∙ ap (λ (k : ℕ). suc n * 10 ^ k * 1) same ∙ omega arith
-
-pub unsigned_is_text : (n : ℕ) (scale : ℤ) → n < 10 ^ 64 → IsTextOf (unsigned_text n scale) n scale
+-- the text of a number, read at the scale that it has
+pub unsigned_is_decimal : (n places : ℕ) → n < 10 ^ 64 → IsDecimalOf (unsigned_text n (pos places)) n places
 unfolding unsigned_text
-unsigned_is_text n (pos zero) h = text_alone (decimal n) n 0 (pos zero) (decimal_some n h) (decimal_digits n h) (ap (λ (m : ℕ). m * 1) (decimal_value n h)) refl
-unsigned_is_text n (pos (suc places)) h = pointed_is_text n places h
-unsigned_is_text zero (negsuc less) h = text_alone (decimal 0) 0 (less + 1) (negsuc less) (decimal_some 0 h) (decimal_digits 0 h) (let value = decimal_value 0 h in omega (arith, value)) refl
-unsigned_is_text (suc n) (negsuc less) h = text_alone (decimal (suc n) ++ replicate (suc less) 48) (suc n) (less + 1) (negsuc less) (omega (arith, decimal_some (suc n) h, length-append (decimal (suc n)) (replicate (suc less) 48))) (list_all-append is_ascii_digit (decimal (suc n)) (replicate (suc less) 48) ∙ ap (λ (t : Bool). t && all_digits (replicate (suc less) 48)) (decimal_digits (suc n) h) ∙ zeros_digits (suc less)) (multiplied n less h) refl
+unsigned_is_decimal n zero h = decimal_alone (decimal n) n (decimal_some n h) (decimal_digits n h) (decimal_value n h)
+unsigned_is_decimal n (suc places) h = pointed_is_decimal n places h
 
--- the sign of a text
-pub no_sign : (text : List ℕ) → is_ascii_digit (get_or text 0 0) ≡ true → starts_with_minus text ≡ false
+zeros_are_decimal : (n less : ℕ) → n < 10 ^ 64 → IsDecimalOf (unsigned_text n (negsuc less)) (n * 10 ^ suc less) 0
+unfolding unsigned_text
+zeros_are_decimal zero less h = decimal_alone (decimal 0) (0 * 10 ^ suc less) (decimal_some 0 h) (decimal_digits 0 h) (decimal_value 0 h ∙ omega arith)
+zeros_are_decimal (suc n) less h =
+    let d = decimal (suc n) in
+    let zeros = replicate {A = ℕ} (suc less) 48 in
+    decimal_alone (d ++ zeros) (suc n * 10 ^ suc less) (omega (arith, decimal_some (suc n) h, length-append d zeros)) (list_all-append is_ascii_digit d zeros ∙ ap (λ (t : Bool). t && all_digits zeros) (decimal_digits (suc n) h) ∙ zeros_digits (suc less)) (zeros_after_value (suc less) d (suc n) (decimal_value (suc n) h))
+
+no_sign : (text : List ℕ) → is_ascii_digit (get_or text 0 0) ≡ true → starts_with_minus text ≡ false
 no_sign text h = digit_no_minus (get_or text 0 0) h
 
--- a text after a sign is read as its parts
-read_after_minus : (text : List ℕ) (n : ℕ) (scale : ℤ) → IsTextOf text n scale → decimal_value_of (45 ∷ text) scale ≡ signed true n
-unfolding decimal_value_of
-read_after_minus text n scale h = rw (h.form, h.value) refl
+-- what reading digits at a scale answers
+abbrev pub number_at : (negative : Bool) (n places : ℕ) (scale : ℤ) → Result ℤ NumberFault
+number_at negative n places scale = and_then (whole_quotient (n * 10 ^ positive_scale scale) (10 ^ (places + negative_scale scale))) (signed negative)
 
-read_alone : (text : List ℕ) (n : ℕ) (scale : ℤ) → IsTextOf text n scale → decimal_value_of text scale ≡ signed false n
+-- a text is read as its digits, alone or after a sign
+pub read_after_minus : (text : List ℕ) (n places : ℕ) (scale : ℤ) → IsDecimalOf text n places → decimal_value_of (45 ∷ text) scale ≡ number_at true n places scale
 unfolding decimal_value_of
-read_alone text n scale h = rw (no_sign text h.first, h.form, h.value) refl
+read_after_minus text n places scale h = rw (h.form, h.value, h.after) refl
+
+pub read_alone : (text : List ℕ) (n places : ℕ) (scale : ℤ) → IsDecimalOf text n places → decimal_value_of text scale ≡ number_at false n places scale
+unfolding decimal_value_of
+read_alone text n places scale h = rw (no_sign text h.first, h.form, h.value, h.after) refl
+
+-- at its own scale it is its digits
+pub number_at_own : (negative : Bool) (n places : ℕ) → number_at negative n places (pos places) ≡ signed negative n
+number_at_own negative n places = ap (λ (r : Result ℕ NumberFault). and_then r (signed negative)) (exact_quotient n places (places + 0) (omega arith))
+
+number_at_zeros : (negative : Bool) (n less : ℕ) → number_at negative (n * 10 ^ suc less) 0 (negsuc less) ≡ signed negative n
+number_at_zeros negative n less =
+    let whole : n * 10 ^ suc less * 1 ≡ n * 10 ^ suc less = omega arith in
+    ap (λ (m : ℕ). and_then (whole_quotient m (10 ^ (0 + (less + 1)))) (signed negative)) whole ∙ ap (λ (r : Result ℕ NumberFault). and_then r (signed negative)) (exact_quotient n (suc less) (0 + (less + 1)) (omega arith))
 
 fits_signed : (n : ℕ) → n < 2 ^ 127 → signed false n ≡ Ok (pos n)
 fits_signed n h = let small : nat_lt n (2 ^ 127) ≡ true = lt-ltb n (2 ^ 127) h in rw small refl
@@ -466,8 +486,10 @@ fits_minus n h = let small : nat_le (suc n) (2 ^ 127) ≡ true = le-leb (suc n) 
 -- the law
 pub reads_back : (v scale : ℤ) → mag v < 2 ^ 127 → decimal_value_of (decimal_text_of v scale) scale ≡ Ok v
 unfolding decimal_text_of
-reads_back (pos n) scale h = read_alone (unsigned_text n scale) n scale (unsigned_is_text n scale (omega arith)) ∙ fits_signed n h
-reads_back (negsuc n) scale h = read_after_minus (unsigned_text (suc n) scale) (suc n) scale (unsigned_is_text (suc n) scale (omega arith)) ∙ fits_minus n h
+reads_back (pos n) (pos places) h = read_alone (unsigned_text n (pos places)) n places (pos places) (unsigned_is_decimal n places (omega arith)) ∙ number_at_own false n places ∙ fits_signed n h
+reads_back (pos n) (negsuc less) h = read_alone (unsigned_text n (negsuc less)) (n * 10 ^ suc less) 0 (negsuc less) (zeros_are_decimal n less (omega arith)) ∙ number_at_zeros false n less ∙ fits_signed n h
+reads_back (negsuc n) (pos places) h = read_after_minus (unsigned_text (suc n) (pos places)) (suc n) places (pos places) (unsigned_is_decimal (suc n) places (omega arith)) ∙ number_at_own true (suc n) places ∙ fits_minus n h
+reads_back (negsuc n) (negsuc less) h = read_after_minus (unsigned_text (suc n) (negsuc less)) (suc n * 10 ^ suc less) 0 (negsuc less) (zeros_are_decimal (suc n) less (omega arith)) ∙ number_at_zeros true (suc n) less ∙ fits_minus n h
 
 -- ---- Decimal text by its parts.
 
@@ -481,6 +503,15 @@ unsigned_pointed n (negsuc m) places h e = absurd (omega arith)
 not_zero : (n : ℕ) → (suc n == 0) ≡ false
 not_zero n = grind (arith, nat_tests)
 
+-- the zeros that follow a number, which none do after 0
+pub some_zeros : (size power : ℕ) → 0 < size → power ≡ (if size == 0 then 0 else power)
+some_zeros zero power h = absurd (omega arith)
+some_zeros (suc n) power h = rw (not_zero n) refl
+
+pub no_zeros : (size power : ℕ) → size ≤ 0 → 0 ≡ (if size == 0 then 0 else power)
+no_zeros zero power h = refl
+no_zeros (suc n) power h = absurd (omega arith)
+
 -- after a sign, with zeros
 unsigned_plain : (n : ℕ) (scale : ℤ) (places power count : ℕ) → places ≤ 0 → places ≡ positive_scale scale → power ≡ negative_scale scale → count ≡ (if n == 0 then 0 else power) → decimal n ++ replicate count 48 ≡ unsigned_text n scale
 unfolding unsigned_text
@@ -492,15 +523,15 @@ unsigned_plain (suc n) (negsuc m) places power count h u d z =
     let more : count ≡ suc m = z ∙ ap (λ (t : Bool). if t then 0 else power) (not_zero n) ∙ d ∙ omega arith in
     ap (λ (k : ℕ). decimal (suc n) ++ replicate k 48) more
 
-pub text_pointed : (old after new digits : List ℕ) (v scale : ℤ) (size places : ℕ) → 0 < places → places ≡ positive_scale scale → size ≡ unsigned_abs v → digits ≡ decimal size → after ≡ old ++ sign_of v → new ≡ after ++ pointed places digits → new ≡ old ++ decimal_text_of v scale
+pub text_pointed : (old kept after new digits : List ℕ) (v scale : ℤ) (size places : ℕ) → 0 < places → places ≡ positive_scale scale → size ≡ unsigned_abs v → digits ≡ decimal size → after ≡ kept ++ sign_of v → kept ≡ old → new ≡ after ++ pointed places digits → new ≡ old ++ decimal_text_of v scale
 unfolding decimal_text_of
-text_pointed old after new digits v scale size places h u s d a e =
-    e ∙ ap (λ (t : List ℕ). t ++ pointed places digits) a ∙ ap (λ (t : List ℕ). old ++ sign_of v ++ pointed places t) (d ∙ ap decimal s) ∙ ap (λ (t : List ℕ). old ++ sign_of v ++ t) (unsigned_pointed (unsigned_abs v) scale places h u) ∙ append_assoc old (sign_of v) (unsigned_text (unsigned_abs v) scale)
+text_pointed old kept after new digits v scale size places h u s d a k e =
+    e ∙ ap (λ (t : List ℕ). t ++ pointed places digits) (a ∙ ap (λ (t : List ℕ). t ++ sign_of v) k) ∙ ap (λ (t : List ℕ). old ++ sign_of v ++ pointed places t) (d ∙ ap decimal s) ∙ ap (λ (t : List ℕ). old ++ sign_of v ++ t) (unsigned_pointed (unsigned_abs v) scale places h u) ∙ append_assoc old (sign_of v) (unsigned_text (unsigned_abs v) scale)
 
-pub text_plain : (old after before new digits : List ℕ) (v scale : ℤ) (size places power count : ℕ) → places ≤ 0 → places ≡ positive_scale scale → power ≡ negative_scale scale → size ≡ unsigned_abs v → digits ≡ decimal size → count ≡ (if size == 0 then 0 else power) → after ≡ old ++ sign_of v → before ≡ after ++ digits → new ≡ before ++ replicate count 48 → new ≡ old ++ decimal_text_of v scale
+pub text_plain : (old kept after before new digits : List ℕ) (v scale : ℤ) (size places power count : ℕ) → places ≤ 0 → places ≡ positive_scale scale → power ≡ negative_scale scale → size ≡ unsigned_abs v → digits ≡ decimal size → count ≡ (if size == 0 then 0 else power) → after ≡ kept ++ sign_of v → kept ≡ old → before ≡ after ++ digits → new ≡ before ++ replicate count 48 → new ≡ old ++ decimal_text_of v scale
 unfolding decimal_text_of
-text_plain old after before new digits v scale size places power count h u p s d z a b e =
+text_plain old kept after before new digits v scale size places power count h u p s d z a k b e =
     let n = unsigned_abs v in
     let zeros_of : count ≡ (if n == 0 then 0 else power) = z ∙ ap (λ (m : ℕ). if m == 0 then 0 else power) s in
     let unsigned : digits ++ replicate count 48 ≡ unsigned_text n scale = ap (λ (t : List ℕ). t ++ replicate count 48) (d ∙ ap decimal s) ∙ unsigned_plain n scale places power count h u p zeros_of in
-    e ∙ ap (λ (t : List ℕ). t ++ replicate count 48) (b ∙ ap (λ (t : List ℕ). t ++ digits) a) ∙ append_assoc (old ++ sign_of v) digits (replicate count 48) ∙ ap (λ (t : List ℕ). old ++ sign_of v ++ t) unsigned ∙ append_assoc old (sign_of v) (unsigned_text n scale)
+    e ∙ ap (λ (t : List ℕ). t ++ replicate count 48) (b ∙ ap (λ (t : List ℕ). t ++ digits) (a ∙ ap (λ (t : List ℕ). t ++ sign_of v) k)) ∙ append_assoc (old ++ sign_of v) digits (replicate count 48) ∙ ap (λ (t : List ℕ). old ++ sign_of v ++ t) unsigned ∙ append_assoc old (sign_of v) (unsigned_text n scale)

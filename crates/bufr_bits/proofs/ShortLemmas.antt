@@ -1,21 +1,21 @@
 -- Short decimal texts: their digits, their parts, and their number at a scale.
-use Rattle.std.proofs.Common.{◌≡◌, ℕ, suc, ◌+◌, ◌-◌, ◌*◌, ◌/◌, ◌%◌, ◌^◌, ◌<◌, ◌≤◌, ◌==◌, ◌&&◌, Bool, true, false, if◌then◌else◌, List, [], ◌∷◌, ◌++◌, length, take, drop, get_or, Result, Ok, Err, ℤ, refl, sym, ap, ◌∙◌, subst, arith, length-append, length-drop, append-nil, length-take-le, take-append-drop, zero, replicate, pos, length-take}
+use Rattle.std.proofs.Common.{◌≡◌, ℕ, suc, ◌+◌, ◌-◌, ◌*◌, ◌/◌, ◌%◌, ◌^◌, ◌<◌, ◌≤◌, ◌==◌, ◌&&◌, Bool, true, false, if◌then◌else◌, List, [], ◌∷◌, length, take, drop, get_or, Ok, Err, refl, sym, ap, ◌∙◌, subst, arith, length-drop, length-take-le, zero, ◌++◌, replicate, Result, ℤ, pos, length-append, length-take, take-append-drop}
 use Rattle.std.specs.Int.{IsInRange}
 use Rattle.std.specs.Char.{is_ascii_digit, digit_value}
-use Rattle.std.specs.Str.Parse.{digits_value, digits_value_after, starts_with_minus}
+use Rattle.std.specs.Str.Parse.{digits_value_after, digits_value, starts_with_minus}
 use Rattle.std.proofs.lemmas.Str.{digit_value_digit}
 use Rattle.std.proofs.lemmas.Nat.{div-add-mod', mod_below}
 use Rattle.std.proofs.lemmas.Bool.Decides.{nat_tests}
-use Rattle.std.proofs.lemmas.List.{take_more, drop_more, take_all, take_at, drop_at, length-replicate}
+use Rattle.std.proofs.lemmas.List.{take_more, take_all, drop_more, take_at, drop_at, length-replicate}
 use Rattle.std.proofs.Math.Nat.{pow-suc, mul-le-mul_right, pow-le-pow_right}
-use Rattle.bufr_bits.specs.Decimal.{all_digits, whole_part, fraction_part, whole_quotient, signed, and_then, IsShortDecimal, unsigned_part, decimal_value_of, positive_scale, negative_scale, decimal_text_of, unsigned_text, pointed, signed_number, is_decimal_octet, IsPlainDecimal}
-use Rattle.bufr_bits.specs.declared.decimal.NumberFault.{NumberFault}
+use Rattle.bufr_bits.specs.Decimal.{all_digits, whole_quotient, decimal_text_of, unsigned_text, pointed, decimal_value_of, positive_scale, negative_scale, signed, and_then, unsigned_part, signed_number, is_decimal_octet, IsPlainDecimal}
 use Rattle.bufr_bits.specs.declared.decimal.NumberFault.TheVariants.{Inexact}
 use Rattle.bufr_bits.proofs.BitLemmas.{list_all-append}
-use Rattle.bufr_bits.proofs.DecimalLemmas.{value_after-is, value_after-append, value-below, quotient_is, ten_pos, ten_split, product_zero, sum_zero, whole_with_point, fraction_with_point, whole_alone, fraction_alone, form_with_point, form_alone, and_first, and_second, all_digits-take, all_digits-drop, own, unsigned_is_text, no_sign, zeros_digits, padded_value}
+use Rattle.bufr_bits.proofs.DecimalLemmas.{value_after-is, value_after-append, value-below, quotient_is, ten_pos, ten_split, product_zero, sum_zero, and_first, and_second, own, unsigned_is_decimal, read_alone, read_after_minus, number_at, number_at_own}
 use Rattle.std.specs.List.{list_all}
 use Rattle.std.specs.Fmt.{decimal}
-use Rattle.std.proofs.lemmas.Fmt.{decimal-digits_value, decimal_is_IsNumeral_wide}
+use Rattle.std.proofs.lemmas.Fmt.{decimal-digits_value}
+use Rattle.bufr_bits.specs.declared.decimal.NumberFault.{NumberFault}
 
 -- one more first digit
 digit_range : (c : ℕ) → is_ascii_digit c ≡ true → IsInRange 48 57 c
@@ -52,22 +52,6 @@ prefix_fits n value i d ds h e lt fits few =
 
 pub digit_few : (c : ℕ) → is_ascii_digit c ≡ true → (48 ≤ c) × (c - 48 ≤ 9)
 digit_few c h = let range = digit_range c h in (range.0, omega (arith, range.1))
-
--- ten more often still fits
-ten_fits_product : (n p q ten most : ℕ) → ten ≡ p * 10 → ten * n ≤ q * n → n * q < most → n * p * 10 < most
-ten_fits_product n p q ten most e product fits = let same : n * p * 10 ≡ p * 10 * n = omega arith in omega (arith, same, subst (λ (m : ℕ). m * n ≤ q * n) e product, fits)
-
-pub ten_fits : (n value i times most : ℕ) → value ≡ n * 10 ^ i → i < times → n * 10 ^ times < most → value * 10 < most
-ten_fits n value i times most e lt fits =
-    let more : 10 ^ suc i ≤ 10 ^ times = pow-le-pow_right (omega arith) (omega arith) in
-    let product = ten_fits_product n (10 ^ i) (10 ^ times) (10 ^ suc i) most (pow-suc 10 i) (mul-le-mul_right n more) fits in
-    subst (λ (m : ℕ). m * 10 < most) (sym e) product
-
-pub times_fits : (n up less most : ℕ) → n * 10 ^ up < most → n * 10 ^ (up - less) < most
-times_fits n up less most fits =
-    let fewer : 10 ^ (up - less) ≤ 10 ^ up = pow-le-pow_right (omega arith) (omega arith) in
-    let product = mul-le-mul_right n fewer in
-    omega (arith, product, fits)
 
 -- a quotient by ten and then by the other tens
 if_both : {A : Type 0} (a b : Bool) (x y : A) → (if a && b then x else y) ≡ (if b then (if a then x else y) else y)
@@ -130,57 +114,6 @@ scaled_by_quotient n up less lt =
     let parts = product_parts n q p r u (10 ^ less) (div-add-mod' n p) split in
     sym (quotient_is (n * u) (10 ^ less) q (r * u) parts small ∙ ap (λ (b : Bool). if b then Ok q else Err Inexact) (product_zero r u some))
 
--- a short text by its parts
-pub short_alone : (text : List ℕ) (count n : ℕ) → 0 < count → count ≡ length text → all_digits (take count text) ≡ true → n ≡ digits_value_after 10 0 (take count text) → IsShortDecimal text n 0
-short_alone text count n some e h v =
-    let all : take count text ≡ text = take_all count text (omega arith) in
-    let digits : all_digits text ≡ true = sym (ap all_digits all) ∙ h in
-    let value : n ≡ digits_value 10 text = v ∙ ap (digits_value 10) all in
-    let none = fraction_alone text digits in
-    let same : whole_part text ++ fraction_part text ≡ text = rw (whole_alone text digits, none) (append-nil text) in
-    record {
-      form = form_alone text (omega arith) digits;
-      value = value ∙ sym (ap (digits_value 10) same);
-      after = sym (ap length none);
-      below = subst (λ (m : ℕ). m < 10 ^ length text) (sym value) (value-below text digits);
-    }
-
-pointed_value : (whole fraction : List ℕ) (m n : ℕ) → m ≡ digits_value_after 10 0 whole → n ≡ digits_value_after 10 m fraction → n ≡ digits_value 10 (whole ++ fraction)
-pointed_value whole fraction m n hm hn = hn ∙ ap (λ (k : ℕ). digits_value_after 10 k fraction) hm ∙ sym (value_after-append 0 whole fraction)
-
-both_digits : (whole fraction : List ℕ) → all_digits whole ≡ true → all_digits fraction ≡ true → all_digits (whole ++ fraction) ≡ true
-both_digits whole fraction hw hf = list_all-append is_ascii_digit whole fraction ∙ rw (hw, hf) refl
-
-pointed_below : (whole fraction : List ℕ) (n : ℕ) → all_digits whole ≡ true → all_digits fraction ≡ true → n ≡ digits_value 10 (whole ++ fraction) → n < 10 ^ length (whole ++ 46 ∷ fraction)
-pointed_below whole fraction n hw hf e =
-    let below = value-below (whole ++ fraction) (both_digits whole fraction hw hf) in
-    let short = length-append whole fraction in
-    let long = length-append whole (46 ∷ fraction) in
-    let more : 10 ^ length (whole ++ fraction) ≤ 10 ^ length (whole ++ 46 ∷ fraction) = pow-le-pow_right (omega arith) (omega (arith, short, long)) in
-    omega (arith, below, more, e)
-
-pub short_parts : (whole fraction : List ℕ) (m n : ℕ) → 0 < length whole → 0 < length fraction → all_digits whole ≡ true → all_digits fraction ≡ true → m ≡ digits_value_after 10 0 whole → n ≡ digits_value_after 10 m fraction → IsShortDecimal (whole ++ 46 ∷ fraction) n (length fraction)
-short_parts whole fraction m n sw sf hw hf hm hn =
-    let w = whole_with_point whole fraction hw in
-    let f = fraction_with_point whole fraction hw in
-    let value = pointed_value whole fraction m n hm hn in
-    record {
-      form = form_with_point whole fraction sw sf hw hf;
-      value = rw (w, f) value;
-      after = sym (ap length f);
-      below = pointed_below whole fraction n hw hf value;
-    }
-
-pub short_pointed : (text fraction : List ℕ) (count places m n : ℕ) → 0 < count → count < length text → get_or text count 0 ≡ 46 → fraction ≡ drop (count + 1) text → 0 < places → places ≡ length fraction → all_digits (take count text) ≡ true → m ≡ digits_value_after 10 0 (take count text) → all_digits (take places fraction) ≡ true → n ≡ digits_value_after 10 m (take places fraction) → IsShortDecimal text n places
-short_pointed text fraction count places m n sw lt point f sf len hw hm hf hn =
-    let whole = take count text in
-    let all : take places fraction ≡ fraction = take_all places fraction (omega arith) in
-    let after : drop count text ≡ 46 ∷ fraction = drop_more text count 0 lt ∙ rw (point, ← f) refl in
-    let same : whole ++ 46 ∷ fraction ≡ text = ap (λ (ds : List ℕ). whole ++ ds) (sym after) ∙ take-append-drop count text in
-    let some : 0 < length whole = omega (arith, length-take-le count text (omega arith)) in
-    let parts = short_parts whole fraction m n some (omega arith) hw (sym (ap all_digits all) ∙ hf) hm (hn ∙ ap (digits_value_after 10 m) all) in
-    subst (λ (k : ℕ). IsShortDecimal text n k) (sym len) (subst (λ (ds : List ℕ). IsShortDecimal ds n (length fraction)) same parts)
-
 -- what is read after the point fits, and what ten multiplies
 pub fraction_fits : (text fraction : List ℕ) (count m : ℕ) → length text ≤ 19 → count < length text → fraction ≡ drop (count + 1) text → all_digits (take count text) ≡ true → m ≡ digits_value_after 10 0 (take count text) → (m + 1) * 10 ^ length fraction ≤ 2 ^ 64
 fraction_fits text fraction count m few lt f h e =
@@ -194,35 +127,6 @@ fraction_fits text fraction count m few lt f h e =
     let most : 10 ^ (count + length fraction) ≤ 10 ^ 19 = pow-le-pow_right (omega arith) short in
     let literal : 10 ^ 19 ≤ 2 ^ 64 = omega arith in
     omega (arith, product, split, most, literal)
-
-pub short_fits : (text : List ℕ) (n places up : ℕ) → IsShortDecimal text n places → length text + up ≤ 19 → n * 10 ^ up < 2 ^ 64
-short_fits text n places up h few =
-    let below = mul-le-mul_right (10 ^ up) h.below in
-    let split : 10 ^ (length text + up) ≡ 10 ^ length text * 10 ^ up = ten_split (length text + up) (length text) up refl in
-    let most : 10 ^ (length text + up) ≤ 10 ^ 19 = pow-le-pow_right (omega arith) few in
-    let literal : 10 ^ 19 < 2 ^ 64 = omega arith in
-    let some = ten_pos up in
-    omega (arith, below, split, most, literal, some)
-
--- what reading a short text answers
-pub value_short : (text body : List ℕ) (scale : ℤ) (up down n places : ℕ) → body ≡ unsigned_part text → IsShortDecimal body n places → up ≡ positive_scale scale → down ≡ negative_scale scale → decimal_value_of text scale ≡ and_then (whole_quotient (n * 10 ^ up) (10 ^ (places + down))) (signed (starts_with_minus text))
-unfolding decimal_value_of
-value_short text body scale up down n places b h hu hd =
-    let short : IsShortDecimal (unsigned_part text) n places = subst (λ (t : List ℕ). IsShortDecimal t n places) b h in
-    rw (short.form, hu, hd, short.value, short.after) refl
-
-pub read_short : (text body : List ℕ) (scale : ℤ) (up down n places size : ℕ) (negative : Bool) (r : Result ℤ NumberFault) → body ≡ unsigned_part text → IsShortDecimal body n places → up ≡ positive_scale scale → down ≡ negative_scale scale → negative ≡ starts_with_minus text → Ok size ≡ whole_quotient (n * 10 ^ up) (10 ^ (places + down)) → r ≡ signed negative size → r ≡ decimal_value_of text scale
-read_short text body scale up down n places size negative r b h hu hd hn e result =
-    let value = value_short text body scale up down n places b h hu hd in
-    result ∙ ap (λ (s : Bool). signed s size) hn ∙ ap (λ (q : Result ℕ NumberFault). and_then q (signed (starts_with_minus text))) e ∙ sym value
-
-pub read_short_fault : (text body : List ℕ) (scale : ℤ) (up down n places : ℕ) (fault : NumberFault) (r : Result ℤ NumberFault) → body ≡ unsigned_part text → IsShortDecimal body n places → up ≡ positive_scale scale → down ≡ negative_scale scale → Err fault ≡ whole_quotient (n * 10 ^ up) (10 ^ (places + down)) → r ≡ Err fault → r ≡ decimal_value_of text scale
-read_short_fault text body scale up down n places fault r b h hu hd e result =
-    let value = value_short text body scale up down n places b h hu hd in
-    result ∙ ap (λ (q : Result ℕ NumberFault). and_then q (signed (starts_with_minus text))) e ∙ sym value
-
-pub ten_more_prefix : (n value i : ℕ) → value ≡ n * 10 ^ i → value * 10 ≡ n * 10 ^ (i + 1)
-ten_more_prefix n value i e = let ten : 10 ^ (i + 1) ≡ 10 ^ i * 10 = ten_split (i + 1) i 1 refl in rw (e, ten) (omega arith)
 
 -- all that follows a place
 pub rest_is : (text : List ℕ) (i : ℕ) → take (length text - i) (drop i text) ≡ drop i text
@@ -331,82 +235,30 @@ plain_pointed whole fraction m n (suc p) hw hf sw sf len first hm hn small =
       octets = list_all-append is_decimal_octet whole (46 ∷ fraction) ∙ rw (digits_octets whole hw, digits_octets fraction hf) refl;
     }
 
--- a number's text is read as its digits
-short_decimal : (n : ℕ) → n < 10 ^ 64 → IsShortDecimal (decimal n) n 0
-short_decimal n h =
-    let numeral = decimal_is_IsNumeral_wide n h in
-    let d = decimal n in
-    let all : take (length d) d ≡ d = take_all (length d) d (omega arith) in
-    short_alone d (length d) n numeral.0.0 refl (rw all (own.from d numeral.0.1)) (rw all (sym numeral.1))
-
-short_pointed_text : (n places : ℕ) → n < 10 ^ 64 → IsShortDecimal (pointed (suc places) (decimal n)) n (suc places)
-short_pointed_text n places h =
-    let d = decimal n in
-    let count = suc places + 1 - length d in
-    let padded = replicate count 48 ++ d in
-    let w = length padded - suc places in
-    let whole = take w padded in
-    let fraction = drop w padded in
-    let numeral = decimal_is_IsNumeral_wide n h in
-    let long = length-append (replicate count 48) d in
-    let zeros_long : length (replicate {A = ℕ} count 48) ≡ count = length-replicate count 48 in
-    let all : all_digits padded ≡ true = list_all-append is_ascii_digit (replicate count 48) d ∙ ap (λ (t : Bool). t && all_digits d) (zeros_digits count) ∙ own.from d numeral.0.1 in
-    let value : digits_value 10 (whole ++ fraction) ≡ n = ap (digits_value 10) (take-append-drop w padded) ∙ padded_value count d n numeral.1 in
-    let after : length fraction ≡ suc places = omega (arith, length-drop w padded) in
-    subst (λ (k : ℕ). IsShortDecimal (whole ++ 46 ∷ fraction) n k) after
-    (short_parts whole fraction (digits_value_after 10 0 whole) n (omega (arith, length-take w padded)) (omega (arith, after)) (all_digits-take w padded all) (all_digits-drop w padded all) refl (sym value ∙ value_after-append 0 whole fraction))
-
-short_unsigned : (n places : ℕ) → n < 10 ^ 64 → IsShortDecimal (unsigned_text n (pos places)) n places
-unfolding unsigned_text
-short_unsigned n zero h = short_decimal n h
-short_unsigned n (suc places) h = short_pointed_text n places h
-
--- its number at a scale
-abbrev number_at : (negative : Bool) (n places : ℕ) (scale : ℤ) → Result ℤ NumberFault
-number_at negative n places scale = and_then (whole_quotient (n * 10 ^ positive_scale scale) (10 ^ (places + negative_scale scale))) (signed negative)
-
-no_minus : (text : List ℕ) → starts_with_minus text ≡ false → text ≡ unsigned_part text
-no_minus text h = rw h refl
-
-read_plain : (n places : ℕ) (scale : ℤ) → n < 10 ^ 64 → decimal_value_of (unsigned_text n (pos places)) scale ≡ number_at false n places scale
-read_plain n places scale h =
-    let text = unsigned_text n (pos places) in
-    let plain : starts_with_minus text ≡ false = no_sign text (unsigned_is_text n (pos places) h).first in
-    value_short text text scale (positive_scale scale) (negative_scale scale) n places (no_minus text plain) (short_unsigned n places h) refl refl
-    ∙ ap (λ (b : Bool). number_at b n places scale) plain
-
-read_minus : (n places : ℕ) (scale : ℤ) → n < 10 ^ 64 → decimal_value_of (45 ∷ unsigned_text n (pos places)) scale ≡ number_at true n places scale
-read_minus n places scale h =
-    let text = unsigned_text n (pos places) in
-    value_short (45 ∷ text) text scale (positive_scale scale) (negative_scale scale) n places refl (short_unsigned n places h) refl refl
-
 zero_number : (places : ℕ) (scale : ℤ) → number_at false 0 places scale ≡ number_at true 0 places scale
 zero_number places scale =
     let d = 10 ^ (places + negative_scale scale) in
     let none : whole_quotient (0 * 10 ^ positive_scale scale) d ≡ Ok 0 = quotient_is (0 * 10 ^ positive_scale scale) d 0 0 (omega arith) (ten_pos (places + negative_scale scale)) in
     ap (λ (r : Result ℕ NumberFault). and_then r (signed false)) none ∙ sym (ap (λ (r : Result ℕ NumberFault). and_then r (signed true)) none)
 
+-- the text of a number is read as its digits
 short_number_at : (negative : Bool) (n places : ℕ) (scale : ℤ) → n < 10 ^ 64 → decimal_value_of (decimal_text_of (signed_number negative n) (pos places)) scale ≡ number_at negative n places scale
 unfolding decimal_text_of
-short_number_at false n places scale h = read_plain n places scale h
-short_number_at true zero places scale h = read_plain zero places scale h ∙ zero_number places scale
-short_number_at true (suc n) places scale h = read_minus (suc n) places scale h
-
--- at its own scale it is its digits
-own_quotient : (n places : ℕ) → whole_quotient (n * 10 ^ places) (10 ^ (places + 0)) ≡ Ok n
-own_quotient n places = quotient_is (n * 10 ^ places) (10 ^ (places + 0)) n 0 (let same : places + 0 ≡ places = omega arith in rw same (omega arith)) (ten_pos (places + 0))
+short_number_at false n places scale h = read_alone (unsigned_text n (pos places)) n places scale (unsigned_is_decimal n places h)
+short_number_at true zero places scale h = read_alone (unsigned_text 0 (pos places)) 0 places scale (unsigned_is_decimal 0 places h) ∙ zero_number places scale
+short_number_at true (suc n) places scale h = read_after_minus (unsigned_text (suc n) (pos places)) (suc n) places scale (unsigned_is_decimal (suc n) places h)
 
 -- what reading its text gives: its digits at its own scale, else they are multiplied or divided
 abbrev value_at : (negative : Bool) (n places : ℕ) (scale : ℤ) → Result ℤ NumberFault
 value_at negative n places scale = decimal_value_of (decimal_text_of (signed_number negative n) (pos places)) scale
 
-module _ (negative : Bool) (n places : ℕ) (scale : ℤ) (small : n < 2 ^ 64) where
+module _ (negative : Bool) (n places : ℕ) (scale : ℤ) (small : n < 2 ^ 128) where
   value_is : value_at negative n places scale ≡ number_at negative n places scale
   value_is = short_number_at negative n places scale (omega arith)
 
   pub value_own : scale ≡ pos places → value_at negative n places scale ≡ signed negative n
   value_own e =
-      value_is ∙ ap (number_at negative n places) e ∙ ap (λ (r : Result ℕ NumberFault). and_then r (signed negative)) (own_quotient n places)
+      value_is ∙ ap (number_at negative n places) e ∙ number_at_own negative n places
 
   pub value_up : (up down : ℕ) (r : Result ℤ NumberFault) → up ≡ positive_scale scale → down ≡ negative_scale scale → places + down ≤ up → r ≡ signed negative (n * 10 ^ (up - (places + down))) → r ≡ value_at negative n places scale
   value_up up down r u d le e =

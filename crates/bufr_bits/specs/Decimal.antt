@@ -1,14 +1,14 @@
 -- Decimal texts: how a number is written at a scale, and the number that a text writes.
 -- (A choice of this project: the number v at scale s is written as v / 10^s.)
 -- Cited by public contracts.
-use Rattle.std.specs.Prelude.{ℕ, zero, suc, ◌+◌, ◌-◌, List, [], ◌∷◌, ◌++◌, length, take, drop, replicate, ℤ, pos, negsuc, unsigned_abs, ◌≡◌, ◌*◌, ◌/◌, ◌%◌, ◌^◌, ◌==◌, ◌<◌, nat_lt, nat_le, Bool, true, false, ◌&&◌, if◌then◌else◌, Result, Ok, Err, neg_ℤ, is_some, ◌||◌}
+use Rattle.std.specs.Prelude.{ℕ, zero, suc, ◌+◌, ◌-◌, List, [], ◌∷◌, ◌++◌, length, take, drop, replicate, ℤ, pos, negsuc, unsigned_abs, ◌≡◌, ◌*◌, ◌/◌, ◌%◌, ◌^◌, ◌==◌, nat_lt, nat_le, Bool, true, false, ◌&&◌, if◌then◌else◌, Result, Ok, Err, neg_ℤ, is_some, ◌||◌}
 use Rattle.std.specs.Fmt.{decimal}
 use Rattle.std.specs.List.{list_all, position, before_first, after_first}
 use Rattle.std.specs.Char.{is_ascii_digit}
 use Rattle.std.specs.Str.Parse.{digits_value, starts_with_minus}
 use Rattle.bufr_bits.specs.declared.decimal.NumberFault.{NumberFault}
 use Rattle.bufr_bits.specs.declared.decimal.NumberFault.TheVariants.{Syntax, Inexact, Large}
-use Rattle.bufr_bits.specs.declared.short_decimal.ShortDecimal.{ShortDecimal}
+use Rattle.bufr_bits.specs.declared.decimal.ShortDecimal.{ShortDecimal}
 
 -- digits with a point before the last so many, and leading zeros for one digit before the point
 -- rule: decimal-point
@@ -111,13 +111,6 @@ pub record IsParts (text whole fraction : List ℕ) : Type 0 where
   pub form : is_unsigned text ≡ true
   pub before : whole ≡ whole_part text
   pub after : fraction ≡ fraction_part text
-
--- an unsigned decimal text, by the number that its digits write and how many follow the point
-pub record IsShortDecimal (text : List ℕ) (number places : ℕ) : Type 0 where
-  pub form : is_unsigned text ≡ true
-  pub value : number ≡ digits_value 10 (whole_part text ++ fraction_part text)
-  pub after : places ≡ length (fraction_part text)
-  pub below : number < 10 ^ length text
 
 -- ---- Short decimal texts as numbers of digits. (a choice of this project)
 

@@ -66,40 +66,20 @@ impl<'a> BitSlice<'a> {
         ensures value { result ≡ number_of (bits_at (octets_of self.now) at width) }
         ensures below { result < 2 ^ width }
     {
-        match self.window_at((at / 8) as usize) {
-            Some(window) => self.by_window(window, at, width),
+        match first_window(&self.octets[(at / 8) as usize..]) {
+            Some(window) => {
+                let from = (at % 8) as u32;
+                if from + width > 64 {
+                    return self.by_nine(window, at, width);
+                }
+                (window >> (64 - from - width)) % (1 << width)
+            }
             None => self.near_end(at, width),
         }
     }
 
-    /// The number that eight octets write, or `None` where fewer are left.
-    #[inline(always)]
-    fn window_at(&self, first: usize) -> Option<u64>
-        requires { first ≤ length (octets_of self.now) }
-        ensures { MatchOption result (length (octets_of self.now) < first + 8)
-            (λ window. IsWindow window first (octets_of self.now)) }
-    {
-        first_window(&self.octets[first..])
-    }
-
-    /// The number of some bits by the eight octets that begin with bit `at`, and the ninth where
-    /// the bits reach into it.
-    #[inline(always)]
-    fn by_window(&self, window: u64, at: u64, width: u32) -> u64
-        requires some { 0 < width }
-        requires few { width ≤ 63 }
-        requires within { at + width ≤ 8 * length (octets_of self.now) }
-        requires window { IsWindow window (at / 8) (octets_of self.now) }
-        ensures { result ≡ number_of (bits_at (octets_of self.now) at width) }
-    {
-        let from = (at % 8) as u32;
-        if from + width <= 64 {
-            return (window >> (64 - from - width)) % (1 << width);
-        }
-        self.by_nine(window, at, width)
-    }
-
-    /// The same of bits that reach into the ninth octet.
+    /// The number of some bits by the eight octets that begin with bit `at`, and the ninth, into
+    /// which they reach.
     #[inline(never)]
     fn by_nine(&self, window: u64, at: u64, width: u32) -> u64
         requires few { width ≤ 63 }
@@ -123,16 +103,13 @@ impl<'a> BitSlice<'a> {
         requires near { length (octets_of self.now) < at / 8 + 8 }
         ensures { result ≡ number_of (bits_at (octets_of self.now) at width) }
     {
-        if self.octets.len() < 8 {
-            return self.by_octets(at, width);
-        }
-        let first = self.octets.len() - 8;
-        match self.window_at(first) {
+        let first = self.octets.len().saturating_sub(8);
+        match first_window(&self.octets[first..]) {
             Some(window) => {
                 let from = (at - 8 * first as u64) as u32;
                 (window >> (64 - from - width)) % (1 << width)
             }
-            None => unreachable!(),
+            None => self.by_octets(at, width),
         }
     }
 
@@ -193,45 +170,30 @@ impl<'a> BitSlice<'a> {
         if at > len || u64::from(width) > len - at {
             return None;
         }
-        Some(self.are_ones(at, width))
-    }
-
-    /// Whether `width` bits from bit `at` on, which do not go past the end, are all ones: those up
-    /// to the next octet, the whole octets, and those after them.
-    fn are_ones(&self, at: u64, width: u32) -> bool
-        requires { at + width ≤ 8 * length (octets_of self.now) }
-        ensures { result ≡ are_all_ones (bits_at (octets_of self.now) at width) }
-    {
         if width < 64 {
-            return self.few_are_ones(at, width);
+            return Some(self.few_are_ones(at, width));
         }
+        // Those up to the next octet, the whole octets, and those after them.
         let leading = (8 - at % 8) % 8;
         let rest = u64::from(width) - leading;
         let whole = rest / 8;
         if !self.few_are_ones(at, leading as u32) {
-            return false;
+            return Some(false);
         }
-        if !self.octets_are_ones(((at + leading) / 8) as usize, whole as usize) {
-            return false;
+        let first = ((at + leading) / 8) as usize;
+        if !are_full(&self.octets[first..first + whole as usize]) {
+            return Some(false);
         }
-        self.few_are_ones(at + leading + 8 * whole, (rest % 8) as u32)
+        Some(self.few_are_ones(at + leading + 8 * whole, (rest % 8) as u32))
     }
 
-    /// The same of so few bits that they are one number.
+    /// Whether so few bits that they are one number, which do not go past the end, are all ones.
     fn few_are_ones(&self, at: u64, width: u32) -> bool
         requires few { width < 64 }
         requires within { at + width ≤ 8 * length (octets_of self.now) }
         ensures { result ≡ are_all_ones (bits_at (octets_of self.now) at width) }
     {
         self.get(at, width) == Some((1 << width) - 1)
-    }
-
-    /// The same of whole octets.
-    fn octets_are_ones(&self, first: usize, count: usize) -> bool
-        requires { first + count ≤ length (octets_of self.now) }
-        ensures { result ≡ are_all_ones (bits_at (octets_of self.now) (8 * first) (8 * count)) }
-    {
-        are_full(&self.octets[first..first + count])
     }
 }
 

@@ -2,7 +2,6 @@
 ghost use Rattle.std.specs.Prelude.{◌≡◌, ◌≤◌, ◌<◌, ◌+◌, ◌*◌, ◌/◌, ◌%◌, ◌^◌, ◌++◌, [], Bool, List, ℕ, length, slice_index, vec_len, vec_capacity, OnOk, OnErr};
 ghost use Rattle.bufr_bits.specs.Bits.{bits_of, bits_in, bits_at, number_of, padding};
 
-use crate::append::put;
 use std::alloc::{AllocError, Global};
 use std::marker::Model;
 
@@ -163,25 +162,8 @@ impl BitWriter {
         ensures len { OnOk result (length self.new.bits ≡ length self.old.bits + width) }
         ensures err { OnErr result (self.new.bits ≡ self.old.bits) }
     {
-        if width > self.free {
-            return self.push_over(value, width);
-        }
+        self.reserve(u64::from(width))?;
         self.put(value, width);
-        Ok(())
-    }
-
-    /// [`BitWriter::push`] where the last number has too few free bits: the writer grows first.
-    #[inline(never)]
-    fn push_over(&mut self, value: u64, width: u32) -> Result<(), AllocError>
-        requires width { width ≤ 63 }
-        requires value { value < 2 ^ width }
-        requires room { length self.old.bits + width ≤ 2 ^ 63 }
-        ensures ok { OnOk result (self.new.bits ≡ self.old.bits ++ bits_in value width) }
-        ensures len { OnOk result (length self.new.bits ≡ length self.old.bits + width) }
-        ensures err { OnErr result (self.new.bits ≡ self.old.bits) }
-    {
-        self.grow(u64::from(width))?;
-        self.put_over(value, width);
         Ok(())
     }
 
@@ -215,6 +197,18 @@ impl BitWriter {
         } = self;
         put_last(&mut octets, last, count);
         octets
+    }
+}
+
+/// Appends octets for which there is room.
+pub(crate) fn put(out: &mut Vec<u8>, octets: &[u8])
+    requires { vec_len out.old + length octets.now ≤ vec_capacity out.old }
+    ensures items { out.new.items ≡ out.old.items ++ octets.now }
+    ensures len { vec_len out.new ≡ vec_len out.old + length octets.now }
+    ensures capacity { vec_capacity out.old ≤ vec_capacity out.new }
+{
+    if out.extend_from_slice(octets).is_err() {
+        unreachable!();
     }
 }
 

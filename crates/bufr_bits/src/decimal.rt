@@ -1,12 +1,11 @@
 //! Numbers with a decimal scale as text, and back: the number v at scale s is v / 10^s.
-ghost use Rattle.std.specs.Prelude.{◌≡◌, ◌≤◌, ◌<◌, ◌+◌, ◌*◌, ◌^◌, ◌++◌, ◌==◌, if◌then◌else◌, ℕ, ℤ, true, false, length, unsigned_abs, vec_len, vec_capacity, MatchOption, OnOk, OnErr};
+ghost use Rattle.std.specs.Prelude.{◌≡◌, ◌≤◌, ◌<◌, ◌+◌, ◌*◌, ◌^◌, ◌++◌, ◌==◌, ℕ, true, false, length, replicate, take, vec_len, vec_capacity, IfSome, MatchOption, OnOk, OnErr};
 ghost use Rattle.std.specs.List.{list_all, position};
 ghost use Rattle.std.specs.Str.Parse.{digits_value, digits_value_after, starts_with_minus};
 ghost use Rattle.bufr_bits.specs.Device.{capped, capped_ok};
-ghost use Rattle.bufr_bits.specs.Decimal.{decimal_text_of, pointed, sign_of, decimal_value_of, unsigned_part, is_unsigned, all_digits, is_digits, IsParts, positive_scale, negative_scale, whole_quotient, signed};
+ghost use Rattle.bufr_bits.specs.Decimal.{decimal_text_of, pointed, sign_of, decimal_value_of, unsigned_part, is_unsigned, all_digits, is_digits, IsParts, positive_scale, negative_scale, whole_quotient, signed, IsPlainDecimal};
 
-use crate::append::{put, put_zero_digits};
-use crate::short_decimal::{short_number, short_scaled, short_signed};
+use crate::bit_writer::put;
 use itoa::Buffer;
 use std::alloc::AllocError;
 use thiserror::Error;
@@ -40,6 +39,7 @@ pub enum NumberFault {
 /// # Errors
 ///
 /// [`AllocError`] where `out` could not grow; it is then unchanged.
+// rule: decimal-zeros-after
 pub fn decimal_text(v: i128, scale: i16, out: &mut Vec<u8>) -> Result<(), AllocError>
     ensures ok { OnOk result (out.new.items ≡ out.old.items ++ decimal_text_of v scale) }
     ensures err { OnErr result (out.new.items ≡ out.old.items) }
@@ -48,29 +48,34 @@ pub fn decimal_text(v: i128, scale: i16, out: &mut Vec<u8>) -> Result<(), AllocE
     let mut buffer = Buffer::new();
     let digits = buffer.format(size).as_bytes();
     let (places, power) = powers_of(scale);
-    let zeros = trailing_zeros(size, power);
-    out.reserve(digits.len() + places + zeros + 3)?;
+    out.reserve(digits.len() + places + power + 3)?;
     push_sign(out, v);
     if places > 0 {
         push_with_point(out, digits, places);
     } else {
         put(out, digits);
-        put_zero_digits(out, zeros);
+        if size > 0 {
+            put_zero_digits(out, power);
+        }
     }
     Ok(())
 }
 
-/// How many zeros follow the digits of a number that ten multiplies so often: none follow 0.
-// rule: decimal-zeros-after
-fn trailing_zeros(size: u128, power: usize) -> usize
-    ensures value { result ≡ (if size == 0 then 0 else power) }
-    ensures few { result ≤ power }
+/// Appends digits `0` for which there is room.
+fn put_zero_digits(out: &mut Vec<u8>, count: usize)
+    requires { vec_len out.old + count ≤ vec_capacity out.old }
+    ensures items { out.new.items ≡ out.old.items ++ replicate count 48 }
+    ensures len { vec_len out.new ≡ vec_len out.old + count }
+    ensures capacity { vec_capacity out.old ≤ vec_capacity out.new }
 {
-    if size == 0 { 0 } else { power }
+    let len = out.len();
+    if out.resize(len + count, b'0').is_err() {
+        unreachable!();
+    }
 }
 
 /// How often ten multiplies and how often it divides a number at a scale.
-pub(crate) fn powers_of(scale: i16) -> (usize, usize)
+fn powers_of(scale: i16) -> (usize, usize)
     ensures up { result.0 ≡ positive_scale scale }
     ensures down { result.1 ≡ negative_scale scale }
     ensures few { result.0 + result.1 ≤ 2 ^ 15 }
@@ -128,14 +133,9 @@ fn push_with_point(out: &mut Vec<u8>, digits: &[u8], places: usize)
 pub fn decimal_read(text: &[u8], scale: i16) -> Result<i128, NumberFault>
     ensures { result ≡ decimal_value_of text.now scale }
 {
-    let (negative, body) = without_sign(text);
-    let (up, down) = powers_of(scale);
-    match short_number(body, up + down) {
-        Some((number, places)) => {
-            let size = short_scaled(number, places, up, down)?;
-            Ok(short_signed(negative, size))
-        }
-        None => long_read(text, scale),
+    match ShortDecimal::prefix(text) {
+        Some((number, len)) if len == text.len() => number.scaled(scale),
+        _ => long_read(text, scale),
     }
 }
 
@@ -153,7 +153,7 @@ fn long_read(text: &[u8], scale: i16) -> Result<i128, NumberFault>
 }
 
 /// Whether a text begins with a minus sign, and the text after it.
-pub(crate) fn without_sign(text: &[u8]) -> (bool, &[u8])
+fn without_sign(text: &[u8]) -> (bool, &[u8])
     ensures sign { result.0 ≡ starts_with_minus text.now }
     ensures body { result.1.now ≡ unsigned_part text.now }
 {
@@ -242,7 +242,7 @@ fn extend_with_digits(number: u128, digits: &[u8]) -> u128
 }
 
 /// A number times ten so often, up to the greatest `u128`.
-pub(crate) fn times_ten(number: u128, times: usize) -> u128
+fn times_ten(number: u128, times: usize) -> u128
     ensures { (n : ℕ) → number ≡ capped n → result ≡ capped (n * 10 ^ times) }
 {
     let mut value = number;
@@ -253,7 +253,7 @@ pub(crate) fn times_ten(number: u128, times: usize) -> u128
 }
 
 /// A number with its sign, if it is within `i128`.
-pub(crate) fn apply_sign(negative: bool, number: u128) -> Result<i128, NumberFault>
+fn apply_sign(negative: bool, number: u128) -> Result<i128, NumberFault>
     ensures { (n : ℕ) → number ≡ capped n → result ≡ signed negative n }
 {
     let signed = if negative {
@@ -262,6 +262,156 @@ pub(crate) fn apply_sign(negative: bool, number: u128) -> Result<i128, NumberFau
         0i128.checked_add_unsigned(number)
     };
     signed.ok_or(NumberFault::Large)
+}
+
+/// The most digits whose number always fits a `u64`.
+const MAX_DIGITS: usize = 19;
+
+/// A number whose digits fit a `u64`, as a decimal text writes it.
+///
+/// ```
+/// let (number, len) = ShortDecimal::prefix(b"-0.50  # K").ok_or("a number")?;
+/// assert_eq!(rt; (number.digits, number.places, len), (50, 2, 5));
+/// assert_eq!(rt; number.scaled(1), Ok(-5));
+/// ```
+#[derive(Clone, Copy, Debug, PartialEq, Eq)]
+pub struct ShortDecimal {
+    /// The number that the digits write without the point.
+    pub digits: u64,
+    /// How many digits follow the point.
+    pub places: u8,
+    /// Whether the number is below zero.
+    pub negative: bool,
+}
+
+impl ShortDecimal {
+    ghost use Rattle.std.specs.Prelude.{◌≡◌, ◌≤◌, ◌<◌, true, length, take, IfSome};
+    ghost use Rattle.std.specs.List.{list_all};
+    ghost use Rattle.bufr_bits.specs.Decimal.{decimal_value_of, short_text, is_decimal_octet};
+
+    /// The number that comes first in a text, and how many octets write it. At most 19 octets
+    /// after the sign are looked at, so more octets of a number may follow. `None` where no number
+    /// comes first, where its spelling is none of [`decimal_text`](crate::decimal_text), and where
+    /// a point is the 19th octet.
+    #[inline(always)]
+    pub fn prefix(text: &[u8]) -> Option<(ShortDecimal, usize)>
+        ensures some { IfSome result (λ found. 0 < found.1) }
+        ensures within { IfSome result (λ found. found.1 ≤ length text.now) }
+        ensures text { IfSome result (λ found. take found.1 text.now ≡ short_text found.0) }
+        ensures octets { IfSome result
+            (λ found. list_all is_decimal_octet (take found.1 text.now) ≡ true) }
+    {
+        let (negative, body) = without_sign(text);
+        let (digits, places, count) = unsigned_prefix(body)?;
+        let number = ShortDecimal {
+            digits,
+            places,
+            negative,
+        };
+        if !negative {
+            return Some((number, count));
+        }
+        if digits == 0 {
+            return None;
+        }
+        Some((number, count + 1))
+    }
+
+    /// The number times 10^`scale`, as [`decimal_read`](crate::decimal_read) reads its text.
+    ///
+    /// # Errors
+    ///
+    /// [`NumberFault::Inexact`] where that is not whole, [`NumberFault::Large`] where it is outside
+    /// `i128`.
+    #[inline(always)]
+    pub fn scaled(self, scale: i16) -> Result<i128, NumberFault>
+        ensures { result ≡ decimal_value_of (short_text self) scale }
+    {
+        let digits = u128::from(self.digits);
+        if i16::from(self.places) == scale {
+            return Ok(short_signed(self.negative, self.digits));
+        }
+        let (up, down) = powers_of(scale);
+        let less = usize::from(self.places) + down;
+        if less <= up {
+            return apply_sign(self.negative, times_ten(digits, up - less));
+        }
+        let size = by_ten(self.digits, less - up)?;
+        Ok(short_signed(self.negative, size))
+    }
+}
+
+/// The number that the first octets of a text write without its point, how many digits follow the
+/// point, and how many octets these are. `None` where no such number comes first, or where one with
+/// zeros before its first digit does.
+#[inline(always)]
+fn unsigned_prefix(body: &[u8]) -> Option<(u64, u8, usize)>
+    ensures some { IfSome result (λ found. 0 < found.2) }
+    ensures within { IfSome result (λ found. found.2 ≤ length body.now) }
+    ensures plain { IfSome result
+        (λ found. IsPlainDecimal (take found.2 body.now) found.0 found.1) }
+{
+    let window = &body[..body.len().min(MAX_DIGITS)];
+    let (whole, count) = read_digits(0, window);
+    if count == 0 {
+        return None;
+    }
+    if window[0] == b'0' && count > 1 {
+        return None;
+    }
+    if count == window.len() {
+        return Some((whole, 0, count));
+    }
+    if window[count] != b'.' {
+        return Some((whole, 0, count));
+    }
+    let fraction = &window[count + 1..];
+    let (number, places) = read_digits(whole, fraction);
+    if places == 0 {
+        return None;
+    }
+    Some((number, places as u8, count + 1 + places))
+}
+
+/// The number that the first digits of a text write after a number, and how many they are.
+fn read_digits(number: u64, text: &[u8]) -> (u64, usize)
+    requires { (number + 1) * 10 ^ length text.now ≤ 2 ^ 64 }
+    ensures count { result.1 ≤ length text.now }
+    ensures digits { all_digits (take result.1 text.now) ≡ true }
+    ensures value { result.0 ≡ digits_value_after 10 number (take result.1 text.now) }
+{
+    let mut value = number;
+    let mut count = 0;
+    for octet in text {
+        if !octet.is_ascii_digit() {
+            break;
+        }
+        value = value * 10 + u64::from(*octet - b'0');
+        count += 1;
+    }
+    (value, count)
+}
+
+/// A number by ten so often, where that is whole.
+fn by_ten(number: u64, times: usize) -> Result<u64, NumberFault>
+    ensures { result ≡ whole_quotient number (10 ^ times) }
+{
+    let mut value = number;
+    for _turn in 0..times {
+        if value % 10 != 0 {
+            return Err(NumberFault::Inexact);
+        }
+        value /= 10;
+    }
+    Ok(value)
+}
+
+/// A number with its sign.
+fn short_signed(negative: bool, number: u64) -> i128
+    ensures { Ok result ≡ signed negative number }
+{
+    let size = i128::from(number);
+    if negative { -size } else { size }
 }
 
 /// Law: the text of a number at a scale, read at that scale, is the number.

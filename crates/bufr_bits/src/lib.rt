@@ -9,17 +9,14 @@
 //! and `devices` show each.
 #![tactic(auto)]
 
-mod append;
 mod bit_slice;
 mod bit_writer;
 mod decimal;
 mod device;
 mod script;
-mod short_decimal;
 
 pub use bit_slice::BitSlice;
 pub use bit_writer::{BitWriter, pushed_octets_read_back, pushed_reads_back};
-pub use decimal::{NumberFault, decimal_read, decimal_reads_back, decimal_text};
+pub use decimal::{NumberFault, ShortDecimal, decimal_read, decimal_reads_back, decimal_text};
 pub use device::{Device, Failed, Sink, Source};
 pub use script::{End, ScriptIn, ScriptOut};
-pub use short_decimal::ShortDecimal;

@@ -1,10 +1,10 @@
 -- What a run of `encode` writes, document by document.
 use Rattle.std.proofs.Common.{◌≡◌, ◌∙◌, ℕ, ◌+◌, ◌-◌, ◌==◌, ◌≤◌, ◌<◌, ◌^◌, Bool, false, if◌then◌else◌, length-append, List, [], ◌∷◌, ◌++◌, length, None, arith, append_assoc, append-nil, Option, Result, Ok, Err, refl, sym, ap, subst, inl, inr, true}
-use Rattle.std.specs.Prelude.{Some, map, flat_map, count_by, IfOk, IfSome}
+use Rattle.std.specs.Prelude.{Some, map, count_by, IfSome}
 use Rattle.std.specs.Io.KnownBytes.{Appends, Consumes, IsAtEnd, Keeps}
-use Rattle.std.proofs.KnownBytes.{Appends-kept, Consumes-trans, Consumes-whole}
+use Rattle.std.proofs.KnownBytes.{Consumes-trans}
 use Rattle.std.proofs.lemmas.Bool.{false≢true}
-use Rattle.std.proofs.lemmas.Grind.{common_steps}
+use Rattle.std.proofs.lemmas.List.{length-map}
 use Rattle.bufr_bits.specs.Device.{counted}
 use Rattle.bufr_tables.specs.TableB.{Row}
 use Rattle.bufr_tables.specs.TableD.{Sequence}
@@ -14,18 +14,18 @@ use Rattle.bufr_frame.specs.declared.fault.RunFault.TheVariants.{Read, Write, In
 use Rattle.bufr_text.specs.Documents.{Document, ParseResult, TextLineFault, Complete, Refused, NotAllowed, LineEffect, WalkGoes, Gives, Faults, ParserState, Between, Heading, BeforeSubsets, Filling, Stopped, reported_at, reported_at_end, parse_lines, line_within_limit, place_after, prepend_to_line, lines_of, documents_of, open_documents_of}
 use Rattle.bufr_text.specs.Reader.{parse, parse_open, ReaderModel, new_reader, position_of, parse_results, ReadsLines, ReturnsNextDocument, ReadsDocument, LeavesReader, CountsTextReads, HasNoWholeLine, failures_by}
 use Rattle.bufr_text.specs.Documents as documents
-use Rattle.bufr_text.specs.Writing.{GrowsByPrefix, Writes}
+use Rattle.bufr_text.specs.Writing.{Writes}
 use Rattle.bufr_text.specs.declared.fault.ReadFault.{ReadFault}
 use Rattle.bufr_text.specs.declared.encode.Form.{Form}
 use Rattle.bufr_text.specs.declared.fault.ReadFault.TheVariants.{Line, SubsetCount, HeaderRange, Run}
 use Rattle.bufr_cli.specs.FaultLine.{refused_line}
-use Rattle.bufr_cli.specs.Pieces.{result_piece, encode_pieces, up_to_refused, Piece, OnOutput, OnErrors, errors_of, is_accepted, is_refused, output_of}
-use Rattle.bufr_cli.specs.Running.{EncodeDone, EncodeStopped, LeavesDocuments, read_documents, ReadsAtMost, Tallies, WritesPieces, WrittenInPart, LeavesNext, LeavesPieces, StopsPiece, counted_accepted, counted_refused, tally_after, Blames}
+use Rattle.bufr_cli.specs.Pieces.{result_piece, encode_pieces, up_to_refused, Piece, OnOutput, OnErrors, is_accepted, is_refused}
+use Rattle.bufr_cli.specs.Running.{RunPieces, document_pieces, read_pieces, RunDone, RunStopped, RunCut, LeavesRun, ReadsFewer, ReadsAtMost, Tallies, WritesPieces, WrittenInPart, LeavesNext, LeavesPieces, StopsPiece, counted_accepted, tally_after, Blames}
 use Rattle.bufr_cli.specs.declared.outcome.Tally.{Tally}
 use Rattle.bufr_cli.specs.declared.outcome.Verdict.{Verdict}
 use Rattle.bufr_cli.specs.declared.outcome.Verdict.TheVariants as verdict
 use Rattle.bufr_text.proofs.CallLemmas.{call-none, call-then, counts-none, counts-then, reported-first, reported-first-openly, reported-at-end, reported-at-fault}
-use Rattle.bufr_cli.proofs.RunLemmas.{Written-nil, Written-then, grows-nil}
+use Rattle.bufr_cli.proofs.RunLemmas.{Tallies-then, count-append, map-append, Written-nil, Written-then, all-read, nothing-after-end, written-kept, done-cut, whole-part}
 use Rattle.bufr_cli.proofs.DumpLemmas.{errors-reported, line-stopped}
 
 -- the encoding of a document was stopped
@@ -43,38 +43,34 @@ next-stopped w w' e e' piece next document write_event f r is reports stops fail
     by Write reports' stops' = (Complete document, ap parse_results is, reports')
     by Memory reports' stops' = inr (Complete document, ap parse_results is, reports')
 
+-- what a fault of the text reports
+read-refusal : (fault : ReadFault) → ((run : RunFault) → fault ≡ Run run → ⊥) → (line : ℕ) × (why : TextLineFault) × (parse_results (Err fault) ≡ Refused line why ∷ [])
+read-refusal (Line line) some = (line, NotAllowed, refl)
+read-refusal (SubsetCount line) some = (line, documents.SubsetCount, refl)
+read-refusal (HeaderRange line) some = (line, documents.HeaderRange, refl)
+read-refusal (Run run) some = absurd (some run refl)
+
 -- the line of a fault of the text was stopped
 pub line-cut : {X : Type 0} (w e e' : Option (List ℕ)) (form : Form) (b : List Row) (d : List Sequence) (next : Result (Option Document) ReadFault) (fault : ReadFault) (first : Result X RunFault) (f : RunFault) (r : Result (Option Verdict) RunFault)
     → next ≡ Err fault → ((run : RunFault) → fault ≡ Run run → ⊥) → ((line : ℕ) (why : TextLineFault) → parse_results (Err fault) ≡ Refused line why ∷ [] → Writes e e' (refused_line line why) first)
     → first ≡ Err f → r ≡ Err f → LeavesNext w w e e' (result_piece form b d) next r
 line-cut {X = X} w e e' form b d next fault first f r is some writes fails same =
-    by fault is some writes
-  where
-    results : (line : ℕ) (why : TextLineFault) → parse_results next ≡ Refused line why ∷ [] → Writes e e' (refused_line line why) first → LeavesNext w w e e' (result_piece form b d) next r
-    results line why reports written =
-        let W : Result X RunFault → Type 0 = λ x. Writes e e' (refused_line line why) x in
-        let P : Result (Option Verdict) RunFault → Type 0 = λ x. LeavesNext w w e e' (result_piece form b d) next x in
-        let write : f ≡ Write = (subst W fails written).0 in
-        subst P (sym (same ∙ ap Err write)) (Refused line why, reports, line-stopped w e e' (refused_line line why) first Write (Err Write) (OnErrors (refused_line line why)) refl written (fails ∙ ap Err write) refl)
-
-    by : (g : ReadFault) → next ≡ Err g → ((run : RunFault) → g ≡ Run run → ⊥) → ((line : ℕ) (why : TextLineFault) → parse_results (Err g) ≡ Refused line why ∷ [] → Writes e e' (refused_line line why) first)
-        → LeavesNext w w e e' (result_piece form b d) next r
-    by (Line line) is' some' writes' = results line NotAllowed (ap parse_results is') (writes' line NotAllowed refl)
-    by (SubsetCount line) is' some' writes' = results line documents.SubsetCount (ap parse_results is') (writes' line documents.SubsetCount refl)
-    by (HeaderRange line) is' some' writes' = results line documents.HeaderRange (ap parse_results is') (writes' line documents.HeaderRange refl)
-    by (Run run) is' some' writes' = absurd (some' run refl)
+    let refusal = read-refusal fault some in
+    let text = refused_line refusal.0 refusal.1 in
+    let written = writes refusal.0 refusal.1 refusal.2 in
+    let W : Result X RunFault → Type 0 = λ x. Writes e e' text x in
+    let P : Result (Option Verdict) RunFault → Type 0 = λ x. LeavesNext w w e e' (result_piece form b d) next x in
+    let write : f ≡ Write = (subst W fails written).0 in
+    subst P (sym (same ∙ ap Err write)) (Refused refusal.0 refusal.1, ap parse_results is ∙ refusal.2, line-stopped w e e' text first Write (Err Write) (OnErrors text) refl written (fails ∙ ap Err write) refl)
 
 -- the line of a fault of the text was written
 pub line-written : (w e e' : Option (List ℕ)) (form : Form) (b : List Row) (d : List Sequence) (next : Result (Option Document) ReadFault) (fault : ReadFault)
     → next ≡ Err fault → ((run : RunFault) → fault ≡ Run run → ⊥) → ((line : ℕ) (why : TextLineFault) → parse_results (Err fault) ≡ Refused line why ∷ [] → Appends e e' (refused_line line why))
     → LeavesNext w w e e' (result_piece form b d) next (Ok (Some verdict.Refused))
-line-written w e e' form b d next (Line line) is some writes =
-    (Refused line NotAllowed, ap parse_results is, errors-reported w e e' (refused_line line NotAllowed) (OnErrors (refused_line line NotAllowed)) refl (writes line NotAllowed refl))
-line-written w e e' form b d next (SubsetCount line) is some writes =
-    (Refused line documents.SubsetCount, ap parse_results is, errors-reported w e e' (refused_line line documents.SubsetCount) (OnErrors (refused_line line documents.SubsetCount)) refl (writes line documents.SubsetCount refl))
-line-written w e e' form b d next (HeaderRange line) is some writes =
-    (Refused line documents.HeaderRange, ap parse_results is, errors-reported w e e' (refused_line line documents.HeaderRange) (OnErrors (refused_line line documents.HeaderRange)) refl (writes line documents.HeaderRange refl))
-line-written w e e' form b d next (Run run) is some writes = absurd (some run refl)
+line-written w e e' form b d next fault is some writes =
+    let refusal = read-refusal fault some in
+    let text = refused_line refusal.0 refusal.1 in
+    (Refused refusal.0 refusal.1, ap parse_results is ∙ refusal.2, errors-reported w e e' text (OnErrors text) refl (writes refusal.0 refusal.1 refusal.2))
 
 -- the reading ended
 pub run-ended : (w e : Option (List ℕ)) (piece : ParseResult → Piece) (next : Result (Option Document) ReadFault) (fault : RunFault) → next ≡ Err (Run fault) → (next ≡ Err (Run Write) → ⊥) → LeavesNext w w e e piece next (Err fault)
@@ -109,12 +105,6 @@ closed-refused pieces text open' more = ap up_to_refused (append_assoc pieces (O
 
 open-none : Open []
 open-none more = refl
-
-map-append : (piece : ParseResult → Piece) (xs ys : List ParseResult) → map piece (xs ++ ys) ≡ map piece xs ++ map piece ys
-map-append piece xs ys = grind (arith, common_steps)
-
-count-append : (f : Piece → Bool) (xs ys : List Piece) → count_by f (xs ++ ys) ≡ count_by f xs + count_by f ys
-count-append f xs ys = grind (arith, common_steps)
 
 -- a run ends at its first refusal
 at-most-one : (pieces : List Piece) → count_by is_refused (up_to_refused pieces) ≤ 1
@@ -236,32 +226,26 @@ accepted-sound form b d left left' old new (Err (SubsetCount line)) x so is one 
 accepted-sound form b d left left' old new (Err (HeaderRange line)) x so is one = absurd (refused-one form b d line documents.HeaderRange x is one)
 accepted-sound form b d left left' old new (Err (Run run)) x so is one = absurd (omega (arith, ap length is))
 
--- the octets that were read to their end are those of the input
-all-read : (left mid : Option (List ℕ)) (bs : List ℕ) → Consumes left mid bs → IsAtEnd mid → IfSome left (λ s. bs ≡ s)
-all-read left mid bs read end = Consumes-whole left mid bs (λ s. bs ≡ s) read end refl
+-- what the octets that were read spell
+abbrev read_documents : (ended : Bool) → List ℕ → List ParseResult
+read_documents true bs = documents_of bs
+read_documents false bs = open_documents_of bs
 
-Tallies-one : (tally tally' : Tally) (v : Verdict) (pieces : List Piece) (p : Piece) → Tallies tally pieces → tally' ≡ tally_after tally v
-    → counted_accepted v ≡ count_by is_accepted (p ∷ []) → counted_refused v ≡ count_by is_refused (p ∷ []) → Tallies tally' (pieces ++ p ∷ [])
-Tallies-one tally tally' v pieces p before is accepted refused =
-    let T : Tally → Type 0 = λ t. Tallies t (pieces ++ p ∷ []) in
-    subst T (sym is) (record {
-      accepted = ap (λ n. n + counted_accepted v) before.accepted ∙ ap (λ n. count_by is_accepted pieces + n) accepted ∙ sym (count-append is_accepted pieces (p ∷ []));
-      refused = ap (λ n. n + counted_refused v) before.refused ∙ ap (λ n. count_by is_refused pieces + n) refused ∙ sym (count-append is_refused pieces (p ∷ []));
-    })
+read-pieces : (form : Form) (b : List Row) (d : List Sequence) (ended : Bool) (bs : List ℕ) → read_pieces (document_pieces form b d) ended bs ≡ encode_pieces form b d (read_documents ended bs)
+read-pieces form b d true bs = refl
+read-pieces form b d false bs = refl
 
--- what was reported and then one more, as pieces
-one-more : (form : Form) (b : List Row) (d : List Sequence) (results : List ParseResult) (x : ParseResult) → map (result_piece form b d) (results ++ x ∷ []) ≡ map (result_piece form b d) results ++ result_piece form b d x ∷ []
-one-more form b d results x = map-append (result_piece form b d) results (x ∷ [])
+-- an encoding ends at its first refusal
+no-whole : {X : Type 0} → true ≡ false → X
+no-whole stops = absurd (false≢true (sym stops))
 
 -- what was reported is the first of what was read
 read-prefix : (left left' : Option (List ℕ)) (s : ReaderModel) (results : List ParseResult) (bs : List ℕ) → ReadsLines left left' new_reader s results bs → (more : List ParseResult) × (read_documents s.ended bs ≡ results ++ more)
 read-prefix left left' s results bs call = by s.ended refl
   where
-    by : (ended : Bool) → s.ended ≡ ended → (more : List ParseResult) × (read_documents s.ended bs ≡ results ++ more)
-    by true is = let R : Bool → Type 0 = λ x. (more : List ParseResult) × (read_documents x bs ≡ results ++ more) in
-        subst R (sym is) (parse (position_of s) [], ap documents_of (sym (append-nil bs)) ∙ reported-first left left' s results bs [] call (λ ended. refl))
-    by false is = let R : Bool → Type 0 = λ x. (more : List ParseResult) × (read_documents x bs ≡ results ++ more) in
-        subst R (sym is) (parse_open (position_of s) [], ap open_documents_of (sym (append-nil bs)) ∙ reported-first-openly left left' s results bs [] call is)
+    by : (ended : Bool) → s.ended ≡ ended → (more : List ParseResult) × (read_documents ended bs ≡ results ++ more)
+    by true is = (parse (position_of s) [], ap documents_of (sym (append-nil bs)) ∙ reported-first left left' s results bs [] call (λ ended. refl))
+    by false is = (parse_open (position_of s) [], ap open_documents_of (sym (append-nil bs)) ∙ reported-first-openly left left' s results bs [] call is)
 
 -- so many documents are in so many octets
 reported-few : (at : ℕ) (t : LineEffect) → length (reported_at at t) ≤ 1
@@ -311,10 +295,6 @@ counted-all (OnErrors text ∷ more) =
     let r : count_by is_refused (OnErrors text ∷ more) ≡ 1 + count_by is_refused more = count-append is_refused (OnErrors text ∷ []) more in
     omega (arith, a, r, counted-all more)
 
-as-many : (piece : ParseResult → Piece) (results : List ParseResult) → length (map piece results) ≡ length results
-as-many piece [] = refl
-as-many piece (x ∷ more) = omega (arith, as-many piece more)
-
 -- a tally cannot overflow
 pub ran-few : (form : Form) (b : List Row) (d : List Sequence) (left mid : Option (List ℕ)) (reads reads' : ℕ) (w w' e e' : Option (List ℕ)) (s : ReaderModel) (tally : Tally)
     → EncodedSoFar form b d left mid reads reads' w w' e e' s tally → tally.accepted + tally.refused < 2 ^ 63
@@ -325,7 +305,7 @@ ran-few form b d left mid reads reads' w w' e e' s tally ran =
       ran.tallies.accepted,
       ran.tallies.refused,
       counted-all (map (result_piece form b d) ran.results),
-      as-many (result_piece form b d) ran.results,
+      length-map ran.results (result_piece form b d),
       ap length all,
       length-append ran.results (parse (position_of s) []),
       documents-few ran.octets,
@@ -339,7 +319,7 @@ module _ (form : Form) (b : List Row) (d : List Sequence) (left mid left' : Opti
   pub turn : (w2 e2 : Option (List ℕ)) (tally' : Tally) → LeavesNext w1 w2 e1 e2 (result_piece form b d) next (Ok (Some verdict.Accepted)) → tally' ≡ tally_after tally verdict.Accepted
       → EncodedSoFar form b d left left' reads reads2 w w2 e e2 s' tally'
   turn w2 e2 tally' (x, is, (written, accepted, refused)) after =
-      let more = one-more form b d ran.results x in
+      let more = map-append (result_piece form b d) ran.results (x ∷ []) in
       let W : List Piece → Type 0 = λ l. WritesPieces w w2 e e2 l in
       let T : List Piece → Type 0 = λ l. Tallies tally' l in
       let O : List Piece → Type 0 = λ l. Open l in
@@ -350,13 +330,13 @@ module _ (form : Form) (b : List Row) (d : List Sequence) (left mid left' : Opti
         call = call-then left mid left' new_reader s s' ran.results (x ∷ []) ran.octets so.octets ran.call (reported-call mid left' s s' next x so is);
         counts = counts-then reads reads1 reads2 new_reader s s' ran.counts counts;
         written = subst W (sym more) (Written-then w w1 w2 e e1 e2 (map (result_piece form b d) ran.results) (p ∷ []) ran.written written);
-        tallies = subst T (sym more) (Tallies-one tally tally' verdict.Accepted (map (result_piece form b d) ran.results) p ran.tallies after accepted refused);
+        tallies = subst T (sym more) (Tallies-then tally tally' verdict.Accepted (map (result_piece form b d) ran.results) (p ∷ []) ran.tallies after accepted refused);
         open' = subst O (sym more) (accepted-open (map (result_piece form b d) ran.results) p accepted ran.open');
         sound = accepted-sound form b d mid left' s s' next x so is accepted;
       }
 
   -- the end of the text
-  pub done-end : next ≡ Ok None → EncodeDone (encode_pieces form b d) left left' w w1 e e1 (ran.octets ++ so.octets) tally
+  pub done-end : next ≡ Ok None → RunDone (document_pieces form b d) left left' w w1 e e1 (ran.octets ++ so.octets) tally
   done-end is =
       let N : Result (Option Document) ReadFault → Type 0 = λ x. ReadsDocument mid left' s s' x so.octets in
       let E : Result (Option Document) ReadFault → Type 0 = λ x. LeavesReader s' x in
@@ -365,22 +345,21 @@ module _ (form : Form) (b : List Row) (d : List Sequence) (left mid left' : Opti
       let done = (subst E is so.ends).1 in
       let all : documents_of bs ≡ ran.results = reported-at-end left left' s' (ran.results ++ []) bs call done ∙ append-nil ran.results in
       let pieces : encode_pieces form b d (documents_of bs) ≡ map (result_piece form b d) ran.results = ap (encode_pieces form b d) all ∙ open-all (map (result_piece form b d) ran.results) ran.open' in
+      let W : List Piece → Type 0 = λ l. WritesPieces w w1 e e1 l in
+      let T : List Piece → Type 0 = λ l. Tallies tally l in
       record {
         read = call.read;
         ended = true;
+        all = no-whole;
         end = λ _. all-read left left' bs call.read (call.end (λ end. absurd (false≢true end)) done.0);
-        written = λ t none. let W : List ℕ → Type 0 = λ l. WritesPieces w w1 e e1 (encode_pieces form b d (documents_of l)) in
-            let V : List Piece → Type 0 = λ l. WritesPieces w w1 e e1 l in
-            subst W (sym (append-nil bs) ∙ ap (λ l. bs ++ l) (sym (none refl))) (subst V (sym pieces) ran.written);
-        certain = let V : List Piece → Type 0 = λ l. WritesPieces w w1 e e1 l in subst V (sym pieces) ran.written;
-        tallies = λ t none. let W : List ℕ → Type 0 = λ l. Tallies tally (encode_pieces form b d (documents_of l)) in
-            let V : List Piece → Type 0 = λ l. Tallies tally l in
-            subst W (sym (append-nil bs) ∙ ap (λ l. bs ++ l) (sym (none refl))) (subst V (sym pieces) ran.tallies);
+        written = nothing-after-end (λ s. W (encode_pieces form b d (documents_of s))) bs (subst W (sym pieces) ran.written);
+        certain = subst W (sym pieces) ran.written;
+        tallies = nothing-after-end (λ s. T (encode_pieces form b d (documents_of s))) bs (subst T (sym pieces) ran.tallies);
       }
 
   -- a document was refused
   pub done-refused : (w2 e2 : Option (List ℕ)) (tally' : Tally) → LeavesNext w1 w2 e1 e2 (result_piece form b d) next (Ok (Some verdict.Refused)) → tally' ≡ tally_after tally verdict.Refused
-      → EncodeDone (encode_pieces form b d) left left' w w2 e e2 (ran.octets ++ so.octets) tally'
+      → RunDone (document_pieces form b d) left left' w w2 e e2 (ran.octets ++ so.octets) tally'
   done-refused w2 e2 tally' (x, is, (written, accepted, refused)) after =
       let bs = ran.octets ++ so.octets in
       let call = call-then left mid left' new_reader s s' ran.results (x ∷ []) ran.octets so.octets ran.call (reported-call mid left' s s' next x so is) in
@@ -389,12 +368,12 @@ module _ (form : Form) (b : List Row) (d : List Sequence) (left mid left' : Opti
       let closed = refused-closed before p accepted ran.open' in
       let pieces : (t : List ℕ) → (s'.ended ≡ true → t ≡ []) → encode_pieces form b d (documents_of (bs ++ t)) ≡ before ++ p ∷ [] = λ t none.
       ap (encode_pieces form b d) (reported-first left left' s' (ran.results ++ x ∷ []) bs t call none)
-      ∙ ap up_to_refused (map-append (result_piece form b d) (ran.results ++ x ∷ []) (parse (position_of s') t) ∙ ap (λ l. l ++ map (result_piece form b d) (parse (position_of s') t)) (one-more form b d ran.results x))
+      ∙ ap up_to_refused (map-append (result_piece form b d) (ran.results ++ x ∷ []) (parse (position_of s') t) ∙ ap (λ l. l ++ map (result_piece form b d) (parse (position_of s') t)) (map-append (result_piece form b d) ran.results (x ∷ [])))
       ∙ closed (map (result_piece form b d) (parse (position_of s') t)) in
       let prefix = read-prefix left left' s' (ran.results ++ x ∷ []) bs call in
-      let known : encode_pieces form b d (read_documents s'.ended bs) ≡ before ++ p ∷ [] =
-      ap (encode_pieces form b d) prefix.1
-      ∙ ap up_to_refused (map-append (result_piece form b d) (ran.results ++ x ∷ []) prefix.0 ∙ ap (λ l. l ++ map (result_piece form b d) prefix.0) (one-more form b d ran.results x))
+      let known : read_pieces (document_pieces form b d) s'.ended bs ≡ before ++ p ∷ [] =
+      read-pieces form b d s'.ended bs ∙ ap (encode_pieces form b d) prefix.1
+      ∙ ap up_to_refused (map-append (result_piece form b d) (ran.results ++ x ∷ []) prefix.0 ∙ ap (λ l. l ++ map (result_piece form b d) prefix.0) (map-append (result_piece form b d) ran.results (x ∷ [])))
       ∙ closed (map (result_piece form b d) prefix.0) in
       let W : List Piece → Type 0 = λ l. WritesPieces w w2 e e2 l in
       let T : List Piece → Type 0 = λ l. Tallies tally' l in
@@ -402,25 +381,26 @@ module _ (form : Form) (b : List Row) (d : List Sequence) (left mid left' : Opti
       record {
         read = call.read;
         ended = s'.ended;
+        all = no-whole;
         end = λ ended. all-read left left' bs call.read (call.end (λ end. absurd (false≢true end)) ended);
         written = λ t none. subst W (sym (pieces t none)) all;
         certain = subst W (sym known) all;
-        tallies = λ t none. subst T (sym (pieces t none)) (Tallies-one tally tally' verdict.Refused before p ran.tallies after accepted refused);
+        tallies = λ t none. subst T (sym (pieces t none)) (Tallies-then tally tally' verdict.Refused before (p ∷ []) ran.tallies after accepted refused);
       }
 
   -- the end of the text, reported by an answer
   pub done-last : (w2 e2 : Option (List ℕ)) (write_event : Result (Option Verdict) RunFault) → LeavesNext w1 w2 e1 e2 (result_piece form b d) next write_event → write_event ≡ Ok None
-      → (bs : List ℕ) × EncodeDone (encode_pieces form b d) left left' w w2 e e2 bs tally
+      → (bs : List ℕ) × RunDone (document_pieces form b d) left left' w w2 e e2 bs tally
   done-last w2 e2 write_event reports is =
       let T : Result (Option Verdict) RunFault → Type 0 = λ x. LeavesNext w1 w2 e1 e2 (result_piece form b d) next x in
       let end = subst T is reports in
-      let W : Option (List ℕ) → Type 0 = λ x. EncodeDone (encode_pieces form b d) left left' w x e e1 (ran.octets ++ so.octets) tally in
-      let E : Option (List ℕ) → Type 0 = λ x. EncodeDone (encode_pieces form b d) left left' w w2 e x (ran.octets ++ so.octets) tally in
+      let W : Option (List ℕ) → Type 0 = λ x. RunDone (document_pieces form b d) left left' w x e e1 (ran.octets ++ so.octets) tally in
+      let E : Option (List ℕ) → Type 0 = λ x. RunDone (document_pieces form b d) left left' w w2 e x (ran.octets ++ so.octets) tally in
       (ran.octets ++ so.octets, subst E (sym end.2) (subst W (sym end.1) (done-end end.0)))
 
   -- a document was refused, reported by an answer
   pub done-at-refused : (w2 e2 : Option (List ℕ)) (write_event : Result (Option Verdict) RunFault) (v : Verdict) (tally' : Tally) → LeavesNext w1 w2 e1 e2 (result_piece form b d) next write_event → write_event ≡ Ok (Some v) → v ≡ verdict.Refused
-      → tally' ≡ tally_after tally v → (bs : List ℕ) × EncodeDone (encode_pieces form b d) left left' w w2 e e2 bs tally'
+      → tally' ≡ tally_after tally v → (bs : List ℕ) × RunDone (document_pieces form b d) left left' w w2 e e2 bs tally'
   done-at-refused w2 e2 write_event v tally' reports is refused after =
       let T : Result (Option Verdict) RunFault → Type 0 = λ x. LeavesNext w1 w2 e1 e2 (result_piece form b d) next x in
       (ran.octets ++ so.octets, done-refused w2 e2 tally' (subst T (is ∙ ap (λ (x : Verdict). Ok (Some x)) refused) reports) (after ∙ ap (tally_after tally) refused))
@@ -433,7 +413,7 @@ module _ (form : Form) (b : List Row) (d : List Sequence) (left mid left' : Opti
       let accepted = accepted-else v some in
       turn w2 e2 tally' (subst T (is ∙ ap (λ (x : Verdict). Ok (Some x)) accepted) reports) (after ∙ ap (tally_after tally) accepted)
 
-  stops-read : (w2 e2 : Option (List ℕ)) → (w2 ≡ w1) → (e2 ≡ e1) → ReadsLines left left' new_reader s' (ran.results ++ []) (ran.octets ++ so.octets) → HasNoWholeLine s' → EncodeStopped (encode_pieces form b d) left left' w w2 e e2 (ran.octets ++ so.octets)
+  stops-read : (w2 e2 : Option (List ℕ)) → (w2 ≡ w1) → (e2 ≡ e1) → ReadsLines left left' new_reader s' (ran.results ++ []) (ran.octets ++ so.octets) → HasNoWholeLine s' → RunStopped (document_pieces form b d) left left' w w2 e e2 (ran.octets ++ so.octets)
   stops-read w2 e2 same_w same_e call open' =
       let bs = ran.octets ++ so.octets in
       let all : open_documents_of bs ≡ ran.results = reported-at-fault left left' s' (ran.results ++ []) bs call open' ∙ append-nil ran.results in
@@ -442,12 +422,17 @@ module _ (form : Form) (b : List Row) (d : List Sequence) (left mid left' : Opti
       record {
         read = call.read;
         written = rw (same_w, same_e) (subst (V w1 e1) (sym pieces) ran.written);
-        accepted = ap (count_by is_refused) pieces ∙ open-accepts (map (result_piece form b d) ran.results) ran.open';
+        accepted = λ _. ap (count_by is_refused) pieces ∙ open-accepts (map (result_piece form b d) ran.results) ran.open';
       }
+
+  -- a run that is cut among the pieces of what was read, after no refusal
+  memory-cut : (w2 e2 : Option (List ℕ)) (bs : List ℕ) (ended : Bool) → Consumes left left' bs → (ended ≡ true → IfSome left (λ s. bs ≡ s))
+      → (part : WrittenInPart w w2 e e2 (read_pieces (document_pieces form b d) ended bs)) × (count_by is_refused part.given ≡ 0) → LeavesRun (document_pieces form b d) left left' w w2 e e2 (Unit {0}) (ReadsFewer reads reads2) bs (Err Memory)
+  memory-cut w2 e2 bs ended read end part = (record { read = read; ended = ended; all = no-whole; end = end; written = part.0; flushed = λ not. absurd (not tt) }, no-whole, λ _. part.1)
 
   -- a writer failed, or memory was refused, in the piece of what was reported
   stops-piece : (w2 e2 : Option (List ℕ)) (f : RunFault) (x : ParseResult) → parse_results next ≡ x ∷ [] → LeavesPieces w1 w2 e1 e2 (result_piece form b d x ∷ []) (Err f)
-      → LeavesDocuments (encode_pieces form b d) left left' w w2 e e2 (Unit {0}) (ran.octets ++ so.octets) (Err Memory)
+      → LeavesRun (document_pieces form b d) left left' w w2 e e2 (Unit {0}) (ReadsFewer reads reads2) (ran.octets ++ so.octets) (Err Memory)
   stops-piece w2 e2 f x is reports =
       let bs = ran.octets ++ so.octets in
       let call = call-then left mid left' new_reader s s' ran.results (x ∷ []) ran.octets so.octets ran.call (reported-call mid left' s s' next x so is) in
@@ -455,25 +440,20 @@ module _ (form : Form) (b : List Row) (d : List Sequence) (left mid left' : Opti
       let p = result_piece form b d x in
       let prefix = read-prefix left left' s' (ran.results ++ x ∷ []) bs call in
       let tail = map (result_piece form b d) prefix.0 in
-      let following = next-piece p tail in (
+      let following = next-piece p tail in
+      memory-cut w2 e2 bs s'.ended call.read (λ ended. all-read left left' bs call.read (call.end (λ end. absurd (false≢true end)) ended)) (
         record {
-          read = call.read;
-          ended = s'.ended;
-          end = λ ended. all-read left left' bs call.read (call.end (λ end. absurd (false≢true end)) ended);
-          written = record {
-            given = before;
-            next = Some p;
-            rest = following.0;
-            parts = ap (encode_pieces form b d) prefix.1
-                ∙ ap up_to_refused (map-append (result_piece form b d) (ran.results ++ x ∷ []) prefix.0 ∙ ap (λ l. l ++ tail) (one-more form b d ran.results x) ∙ append_assoc before (p ∷ []) tail)
-                ∙ ran.open' (p ∷ tail) ∙ ap (λ l. before ++ l) following.1;
-            between_output = w1;
-            between_errors = e1;
-            whole = ran.written;
-            output = reports.0;
-            errors = reports.1;
-          };
-          flushed = λ not. absurd (not tt);
+          given = before;
+          next = Some p;
+          rest = following.0;
+          parts = read-pieces form b d s'.ended bs ∙ ap (encode_pieces form b d) prefix.1
+              ∙ ap up_to_refused (map-append (result_piece form b d) (ran.results ++ x ∷ []) prefix.0 ∙ ap (λ l. l ++ tail) (map-append (result_piece form b d) ran.results (x ∷ [])) ∙ append_assoc before (p ∷ []) tail)
+              ∙ ran.open' (p ∷ tail) ∙ ap (λ l. before ++ l) following.1;
+          between_output = w1;
+          between_errors = e1;
+          whole = ran.written;
+          output = reports.0;
+          errors = reports.1;
         },
         open-accepts before ran.open',
       )
@@ -485,62 +465,33 @@ module _ (form : Form) (b : List Row) (d : List Sequence) (left mid left' : Opti
 
     -- the pieces of all that was reported are before those of what is known beyond
     reported-part : (all more : List ParseResult) → all ≡ ran.results ++ more → (part : WrittenInPart w w2 e e2 (encode_pieces form b d all)) × (count_by is_refused part.given ≡ 0)
-    reported-part all more parts =
-        let G : Option (List ℕ) → Type 0 = λ x. GrowsByPrefix w1 x [] in
-        let H : Option (List ℕ) → Type 0 = λ x. GrowsByPrefix e1 x [] in (
-          record {
-            given = map (result_piece form b d) ran.results;
-            next = None;
-            rest = up_to_refused (map (result_piece form b d) more);
-            parts = ap (encode_pieces form b d) parts ∙ ap up_to_refused (map-append (result_piece form b d) ran.results more) ∙ ran.open' (map (result_piece form b d) more);
-            between_output = w1;
-            between_errors = e1;
-            whole = ran.written;
-            output = subst G (sym same_w) (grows-nil w1);
-            errors = subst H (sym same_e) (grows-nil e1);
-          },
-          open-accepts (map (result_piece form b d) ran.results) ran.open',
-        )
+    reported-part all more parts = (
+      whole-part w w1 w2 e e1 e2 (map (result_piece form b d) ran.results) (up_to_refused (map (result_piece form b d) more)) _ same_w same_e
+          (ap (encode_pieces form b d) parts ∙ ap up_to_refused (map-append (result_piece form b d) ran.results more) ∙ ran.open' (map (result_piece form b d) more)) ran.written,
+      open-accepts (map (result_piece form b d) ran.results) ran.open',
+    )
 
-    pub stops-memory : (bs : List ℕ) × LeavesDocuments (encode_pieces form b d) left left' w w2 e e2 (Unit {0}) bs (Err Memory)
+    pub stops-memory : (bs : List ℕ) × LeavesRun (document_pieces form b d) left left' w w2 e e2 (Unit {0}) (ReadsFewer reads reads2) bs (Err Memory)
     stops-memory = by s.ended refl
       where
-        by : (ended : Bool) → s.ended ≡ ended → (bs : List ℕ) × LeavesDocuments (encode_pieces form b d) left left' w w2 e e2 (Unit {0}) bs (Err Memory)
+        by : (ended : Bool) → s.ended ≡ ended → (bs : List ℕ) × LeavesRun (document_pieces form b d) left left' w w2 e e2 (Unit {0}) (ReadsFewer reads reads2) bs (Err Memory)
         by true ended =
-            let end = ran.call.end (λ start. absurd (false≢true start)) ended in
-            let part = reported-part (documents_of ran.octets) (parse (position_of s) []) (ap documents_of (sym (append-nil ran.octets)) ∙ reported-first left mid s ran.results ran.octets [] ran.call (λ _. refl)) in (
+            let end = ran.call.end (λ start. absurd (false≢true start)) ended in (
               ran.octets,
-              (
-                record {
-                  read = end-stays left mid left' ran.octets so.octets ran.call.read end again;
-                  ended = true;
-                  end = λ _. all-read left mid ran.octets ran.call.read end;
-                  written = part.0;
-                  flushed = λ not. absurd (not tt);
-                },
-                part.1,
-              ),
+              memory-cut w2 e2 ran.octets true (end-stays left mid left' ran.octets so.octets ran.call.read end again) (λ _. all-read left mid ran.octets ran.call.read end)
+                  (reported-part (documents_of ran.octets) (parse (position_of s) []) (ap documents_of (sym (append-nil ran.octets)) ∙ reported-first left mid s ran.results ran.octets [] ran.call (λ _. refl))),
             )
-        by false unended =
-            let part = reported-part (open_documents_of (ran.octets ++ so.octets)) (parse_open (position_of s) so.octets) (reported-first-openly left mid s ran.results ran.octets so.octets ran.call unended) in (
-              ran.octets ++ so.octets,
-              (
-                record {
-                  read = Consumes-trans left mid left' ran.octets so.octets ran.call.read again;
-                  ended = false;
-                  end = λ end. absurd (false≢true end);
-                  written = part.0;
-                  flushed = λ not. absurd (not tt);
-                },
-                part.1,
-              ),
-            )
+        by false unended = (
+          ran.octets ++ so.octets,
+          memory-cut w2 e2 (ran.octets ++ so.octets) false (Consumes-trans left mid left' ran.octets so.octets ran.call.read again) (λ end. absurd (false≢true end))
+              (reported-part (open_documents_of (ran.octets ++ so.octets)) (parse_open (position_of s) so.octets) (reported-first-openly left mid s ran.results ran.octets so.octets ran.call unended)),
+        )
 
   -- the run was stopped
   pub stops : (w2 e2 : Option (List ℕ)) (write_event : Result (Option Verdict) RunFault) (f : RunFault) (r : Result Tally RunFault) → LeavesNext w1 w2 e1 e2 (result_piece form b d) next write_event → write_event ≡ Err f → r ≡ Err f
-      → (bs : List ℕ) × LeavesDocuments (encode_pieces form b d) left left' w w2 e e2 (Unit {0}) bs r
+      → (bs : List ℕ) × LeavesRun (document_pieces form b d) left left' w w2 e e2 (Unit {0}) (ReadsFewer reads reads2) bs r
   stops w2 e2 write_event f r reports fails same =
-      let P : Result Tally RunFault → Type 0 = λ x. (bs : List ℕ) × LeavesDocuments (encode_pieces form b d) left left' w w2 e e2 (Unit {0}) bs x in
+      let P : Result Tally RunFault → Type 0 = λ x. (bs : List ℕ) × LeavesRun (document_pieces form b d) left left' w w2 e e2 (Unit {0}) (ReadsFewer reads reads2) bs x in
       let T : Result (Option Verdict) RunFault → Type 0 = λ x. LeavesNext w1 w2 e1 e2 (result_piece form b d) next x in
       subst P (sym same) (by f (subst T fails reports))
     where
@@ -550,7 +501,7 @@ module _ (form : Form) (b : List Row) (d : List Sequence) (left mid left' : Opti
       ends-so : (g : RunFault) → next ≡ Err (Run g) → LeavesReader s' (Err (Run g))
       ends-so g is = let E : Result (Option Document) ReadFault → Type 0 = λ x. LeavesReader s' x in subst E is so.ends
 
-      by : (g : RunFault) → LeavesNext w1 w2 e1 e2 (result_piece form b d) next (Err g) → (bs : List ℕ) × LeavesDocuments (encode_pieces form b d) left left' w w2 e e2 (Unit {0}) bs (Err g)
+      by : (g : RunFault) → LeavesNext w1 w2 e1 e2 (result_piece form b d) next (Err g) → (bs : List ℕ) × LeavesRun (document_pieces form b d) left left' w w2 e e2 (Unit {0}) (ReadsFewer reads reads2) bs (Err g)
       by Read (is, same_w, same_e) = (
         ran.octets ++ so.octets,
         stops-read w2 e2 same_w same_e (call-then left mid left' new_reader s s' ran.results [] ran.octets so.octets ran.call (reads-so Read is)) (ends-so Read is).1,
@@ -612,84 +563,47 @@ stop-failures w w' e e' piece next write_event f r before after reports fails sa
     by Memory (inr (x, one, _)) = is ∙ reported-keeps before next x one
 
 -- a fault before the flushes
-pub stays-unflushed : (pieces_of : List ParseResult → List Piece) (left left' w w' e e' : Option (List ℕ)) (unflushed : Type 0) → unflushed → (first : Result Tally RunFault) (f : RunFault) (r : Result Tally RunFault) → first ≡ Err f → r ≡ Err f
-    → ((bs : List ℕ) × LeavesDocuments pieces_of left left' w w' e e' (Unit {0}) bs first) → (bs : List ℕ) × LeavesDocuments pieces_of left left' w w' e e' unflushed bs r
-stays-unflushed pieces_of left left' w w' e e' unflushed kept first f r fails same (bs, so) =
-    let P : Result Tally RunFault → Type 0 = λ x. LeavesDocuments pieces_of left left' w w' e e' unflushed bs x in
-    let F : Result Tally RunFault → Type 0 = λ x. LeavesDocuments pieces_of left left' w w' e e' (Unit {0}) bs x in
+abbrev unflushed-cut : (pieces : RunPieces) (left left' w w' e e' : Option (List ℕ)) (unflushed : Type 0) (bs : List ℕ) → unflushed → RunCut pieces left left' w w' e e' (Unit {0}) bs → RunCut pieces left left' w w' e e' unflushed bs
+unflushed-cut pieces left left' w w' e e' unflushed bs kept cut = record { read = cut.read; ended = cut.ended; all = cut.all; end = cut.end; written = cut.written; flushed = λ not. absurd (not kept) }
+
+pub stays-unflushed : (pieces : RunPieces) (left left' w w' e e' : Option (List ℕ)) (unflushed early : Type 0) → unflushed → (first : Result Tally RunFault) (f : RunFault) (r : Result Tally RunFault) → first ≡ Err f → r ≡ Err f
+    → ((bs : List ℕ) × LeavesRun pieces left left' w w' e e' (Unit {0}) early bs first) → (bs : List ℕ) × LeavesRun pieces left left' w w' e e' unflushed early bs r
+stays-unflushed pieces left left' w w' e e' unflushed early kept first f r fails same (bs, so) =
+    let P : Result Tally RunFault → Type 0 = λ x. LeavesRun pieces left left' w w' e e' unflushed early bs x in
+    let F : Result Tally RunFault → Type 0 = λ x. LeavesRun pieces left left' w w' e e' (Unit {0}) early bs x in
     (bs, subst P (sym same) (by f (subst F fails so)))
   where
-    by : (g : RunFault) → LeavesDocuments pieces_of left left' w w' e e' (Unit {0}) bs (Err g) → LeavesDocuments pieces_of left left' w w' e e' unflushed bs (Err g)
+    by : (g : RunFault) → LeavesRun pieces left left' w w' e e' (Unit {0}) early bs (Err g) → LeavesRun pieces left left' w w' e e' unflushed early bs (Err g)
     by Read before = before
     by InputTooLong before = before
-    by Memory (cut, accepted) = (record { read = cut.read; ended = cut.ended; end = cut.end; written = cut.written; flushed = λ not. absurd (not kept) }, accepted)
-    by Write cut = record { read = cut.read; ended = cut.ended; end = cut.end; written = cut.written; flushed = λ not. absurd (not kept) }
-
-pub written-kept : (w w1 w2 e e1 e2 : Option (List ℕ)) (pieces : List Piece) → Keeps w1 w2 → Keeps e1 e2 → WritesPieces w w1 e e1 pieces → WritesPieces w w2 e e2 pieces
-written-kept w w1 w2 e e1 e2 pieces kept_w kept_e before = record {
-  output = Appends-kept w w1 w2 (flat_map output_of pieces) before.output kept_w;
-  errors = Appends-kept e e1 e2 (flat_map errors_of pieces) before.errors kept_e;
-}
+    by Memory (cut, early', accepted) = (unflushed-cut pieces left left' w w' e e' unflushed bs kept cut, early', accepted)
+    by Write cut = unflushed-cut pieces left left' w w' e e' unflushed bs kept cut
 
 -- all was written, and then flushed
-module _ (pieces_of : List ParseResult → List Piece) (left left' w w1 w2 e e1 e2 : Option (List ℕ)) (first : Result Tally RunFault) (tally : Tally) (is : first ≡ Ok tally) (kept_w : Keeps w1 w2) (kept_e : Keeps e1 e2)
-    (before : (bs : List ℕ) × LeavesDocuments pieces_of left left' w w1 e e1 (Unit {0}) bs first) where
-  pub encode-flushed : (bs : List ℕ) × EncodeDone pieces_of left left' w w2 e e2 bs tally
+module _ (pieces : RunPieces) (left left' w w1 w2 e e1 e2 : Option (List ℕ)) (early : Type 0) (first : Result Tally RunFault) (tally : Tally) (is : first ≡ Ok tally) (kept_w : Keeps w1 w2) (kept_e : Keeps e1 e2)
+    (before : (bs : List ℕ) × LeavesRun pieces left left' w w1 e e1 (Unit {0}) early bs first) where
+  pub encode-flushed : (bs : List ℕ) × RunDone pieces left left' w w2 e e2 bs tally
   encode-flushed =
-      let F : Result Tally RunFault → Type 0 = λ x. LeavesDocuments pieces_of left left' w w1 e e1 (Unit {0}) before.0 x in
+      let F : Result Tally RunFault → Type 0 = λ x. LeavesRun pieces left left' w w1 e e1 (Unit {0}) early before.0 x in
       let done = subst F is before.1 in (
         before.0,
         record {
           read = done.read;
           ended = done.ended;
+          all = done.all;
           end = done.end;
-          written = λ t none. written-kept w w1 w2 e e1 e2 (pieces_of (documents_of (before.0 ++ t))) kept_w kept_e (done.written t none);
-          certain = written-kept w w1 w2 e e1 e2 (pieces_of (read_documents done.ended before.0)) kept_w kept_e done.certain;
+          written = λ t none. written-kept w w1 w2 e e1 e2 (pieces.whole (before.0 ++ t)) kept_w kept_e (done.written t none);
+          certain = written-kept w w1 w2 e e1 e2 (read_pieces pieces done.ended before.0) kept_w kept_e done.certain;
           tallies = done.tallies;
         },
       )
 
   -- a flush failed
-  pub stop-encode-flush : (unflushed : Type 0) (f : RunFault) (r : Result Tally RunFault) → f ≡ Write → r ≡ Err f → (bs : List ℕ) × LeavesDocuments pieces_of left left' w w2 e e2 unflushed bs r
+  pub stop-encode-flush : (unflushed : Type 0) (f : RunFault) (r : Result Tally RunFault) → f ≡ Write → r ≡ Err f → (bs : List ℕ) × LeavesRun pieces left left' w w2 e e2 unflushed early bs r
   stop-encode-flush unflushed f r write same =
       let bs = encode-flushed.0 in
-      let done = encode-flushed.1 in
-      let all = pieces_of (read_documents done.ended bs) in
-      let P : Result Tally RunFault → Type 0 = λ x. LeavesDocuments pieces_of left left' w w2 e e2 unflushed bs x in (
-        bs,
-        subst P (sym (same ∙ ap Err write)) (record {
-          read = done.read;
-          ended = done.ended;
-          end = done.end;
-          written = record {
-            given = all;
-            next = None;
-            rest = [];
-            parts = sym (append-nil all);
-            between_output = w2;
-            between_errors = e2;
-            whole = done.certain;
-            output = grows-nil w2;
-            errors = grows-nil e2;
-          };
-          flushed = λ _. done.written;
-        }),
-      )
-
-nothing-more : (bs t : List ℕ) → bs ≡ bs ++ t → t ≡ []
-nothing-more bs [] is = refl
-nothing-more bs (c ∷ t) is = absurd (omega (arith, ap length is, length-append bs (c ∷ t)))
-
--- of an input that is known the pieces are those of all its documents
-pub encode-known : (pieces_of : List ParseResult → List Piece) (left left' w w' e e' : Option (List ℕ)) (unflushed : Type 0) (r : Result Tally RunFault)
-    → ((bs : List ℕ) × LeavesDocuments pieces_of left left' w w' e e' unflushed bs r) → IfOk r (λ tally. IfSome left (λ s. WritesPieces w w' e e' (pieces_of (documents_of s)) × Tallies tally (pieces_of (documents_of s))))
-encode-known pieces_of left left' w w' e e' unflushed (Err f) so = tt
-encode-known pieces_of None left' w w' e e' unflushed (Ok tally) so = tt
-encode-known pieces_of (Some s) None w w' e e' unflushed (Ok tally) (bs, done) = absurd done.read
-encode-known pieces_of (Some s) (Some t) w w' e e' unflushed (Ok tally) (bs, done) =
-    let none : done.ended ≡ true → t ≡ [] = λ ended. nothing-more bs t (done.end ended ∙ done.read) in
-    let P : List ℕ → Type 0 = λ l. WritesPieces w w' e e' (pieces_of (documents_of l)) × Tallies tally (pieces_of (documents_of l)) in
-    subst P (sym done.read) (done.written t none, done.tallies t none)
+      let P : Result Tally RunFault → Type 0 = λ x. LeavesRun pieces left left' w w2 e e2 unflushed early bs x in
+      (bs, subst P (sym (same ∙ ap Err write)) (done-cut pieces left left' w w2 e e2 unflushed bs tally encode-flushed.1))
 
 -- the reads of what came before
 pub reads-after : {X Y : Type 0} (reads reads' : ℕ) (first : Result X RunFault) (r : Result Y RunFault) → ReadsAtMost reads reads' first → (r ≡ Err InputTooLong → first ≡ Err InputTooLong) → ReadsAtMost reads reads' r

@@ -4,14 +4,15 @@ use Rattle.std.specs.Borrow.{Bor}
 use Rattle.std.specs.Fmt.{digits}
 use Rattle.bufr_frame.specs.declared.fault.RunFault.TheVariants.{Read, Write, InputTooLong, Memory}
 use Rattle.bufr_text.specs.Writing.{joined}
-use Rattle.bufr_cli.specs.Ending.{last_line, status_of, EndsRun, FlushesRest, Promise, WantsMemory, WasEnded, WentThrough, ran_status}
+use Rattle.bufr_cli.specs.Ending.{last_line, status_of, EndsRun, FlushesRest, WantsMemory, WasEnded, WentThrough, ran_status}
 use Rattle.bufr_cli.specs.declared.outcome.Outcome.TheVariants.{Ran, Usage, CannotOpen, TableB, TableD, Run}
 use Rattle.bufr_cli.specs.declared.outcome.Tally.{Tally}
 use Rattle.bufr_frame.specs.Scan.{scan_from}
 use Rattle.bufr_frame.specs.Sections.{sections_of, section_end}
 use Rattle.bufr_frame.specs.declared.fault.RunFault.{RunFault}
-use Rattle.bufr_cli.specs.Running.{BlamesWriter, Writer, Writers, holding}
-use Rattle.bufr_cli.specs.Program.{IsReadFault, ls_promise}
+use Rattle.bufr_cli.specs.Running.{BlamesWriter, RunPieces, Writer, Writers, event_pieces, holding}
+use Rattle.bufr_cli.specs.Pieces.{ls_piece}
+use Rattle.bufr_cli.specs.Program.{IsListing}
 use Rattle.bufr_tables.specs.declared.fault.TableFault.TheVariants as table
 
 -- ---- The last line and the exit status of each outcome computed on worked examples.
@@ -111,13 +112,13 @@ unfolding IsOk
 ok-is-no-fault tally fault is = subst IsOk is tt
 
 -- a listing of one stray word ends with status 1, and so never with 0
-a-stray-is-refused : (before after : Writers) (tally : Tally) → EndsRun ls_promise (Some (codes "BUFR")) before after (Ok tally) → status_of (Ran tally) ≡ 1
+a-stray-is-refused : (before after : Writers) (tally : Tally) → EndsRun IsListing (Some (codes "BUFR")) before after (Ok tally) → status_of (Ran tally) ≡ 1
 unfolding scan_from sections_of section_end tally_in
 a-stray-is-refused before after tally (WantsMemory is same) = absurd (ok-is-no-fault tally Memory is)
 a-stray-is-refused before after tally (WentThrough other is whole output errors flushed) =
     let same : tally ≡ other = ap (tally_in tally) is in
-    ap (λ t. ran_status t.refused) same ∙ ap ran_status whole.1.refused
-a-stray-is-refused before after tally (WasEnded fault is from to known between run input writers rest errors) = absurd (ok-is-no-fault tally fault is)
+    ap (λ t. ran_status t.refused) same ∙ ap ran_status (whole (event_pieces ls_piece) refl).1.refused
+a-stray-is-refused before after tally (WasEnded fault is from to known between bs run input writers rest errors) = absurd (ok-is-no-fault tally fault is)
 
 -- writers that counted no failure and no empty write are at no fault of a write
 abbrev idle : Writers
@@ -137,16 +138,12 @@ idle-writers-do-not-fail between output errors blames =
     none (inr (same, inl failed)) = absurd (zero-is-not-one failed.0)
     none (inr (same, inr empty)) = absurd (zero-is-not-one empty.1)
 
-no-write-fault : (promise : Promise) (octets : Option (List ℕ)) → EndsRun promise octets idle idle (Err Write) → ⊥
+no-write-fault : (may_be : RunPieces → Type 0) (octets : Option (List ℕ)) → EndsRun may_be octets idle idle (Err Write) → ⊥
 unfolding fault_in IsOk
-no-write-fault promise octets (WantsMemory is same) = subst (λ r. IsReadFault (fault_in r)) (sym is) tt
-no-write-fault promise octets (WentThrough tally is whole output errors flushed) = ok-is-no-fault tally Write (sym is)
-no-write-fault promise octets (WasEnded fault is from to known between run input writers rest errors) =
+no-write-fault may_be octets (WantsMemory is same) = absurd cc
+no-write-fault may_be octets (WentThrough tally is whole output errors flushed) = ok-is-no-fault tally Write (sym is)
+no-write-fault may_be octets (WasEnded fault is from to known between bs run input writers rest errors) =
     let same : fault ≡ Write = sym (ap fault_in is) in
     let W : RunFault → Type 0 = λ f. BlamesWriter {X = Tally} idle between (Err f) in
     let F : RunFault → Type 0 = λ f. FlushesRest {X = Tally} between.output idle.output (Err f) in
     idle-writers-do-not-fail between (subst F same rest) errors (subst W same writers)
-
--- a table that is not read is no fault of a write
-no-write-fault-of-a-table : IsReadFault Write → ⊥
-no-write-fault-of-a-table so = so

@@ -351,25 +351,12 @@ record AreBuilt (b : List Row) (d : List Sequence) (piece : StreamEvent → Piec
   results : (at : ℕ) → map piece (placed at messages) ≡ map OnOutput texts
   again : (line : ℕ) → map (result_piece AsWritten b d) (parse_lines line Between (lines_of (concat texts))) ≡ map OnOutput messages
 
--- nothing is built
-none-built : (b : List Row) (d : List Sequence) (piece : StreamEvent → Piece) → AreBuilt b d piece [] []
-unfolding up_to_refused
-none-built b d piece = record {
+-- nothing is built of pieces of which none is written before the first refusal
+none-built : (b : List Row) (d : List Sequence) (piece : StreamEvent → Piece) (pieces : List Piece) → flat_map output_of (up_to_refused pieces) ≡ [] → filter is_accepted (up_to_refused pieces) ≡ [] → AreBuilt b d piece pieces []
+none-built b d piece pieces silent none = record {
   messages = [];
-  written = refl;
-  as_many = refl;
-  scanned = λ at. scan_from-nil 0 at;
-  results = λ at. refl;
-  again = λ line. ap (map (result_piece AsWritten b d)) (nothing-spelled line);
-}
-
--- a line on the errors ends it
-fault-ends : (b : List Row) (d : List Sequence) (piece : StreamEvent → Piece) (line : List ℕ) (more : List Piece) → AreBuilt b d piece (OnErrors line ∷ more) []
-unfolding up_to_refused
-fault-ends b d piece line more = record {
-  messages = [];
-  written = refl;
-  as_many = refl;
+  written = silent;
+  as_many = ap length none;
   scanned = λ at. scan_from-nil 0 at;
   results = λ at. refl;
   again = λ line. ap (map (result_piece AsWritten b d)) (nothing-spelled line);
@@ -418,15 +405,16 @@ module _ (form : Form) (records : List Record) (b : List Row) (d : List Sequence
   -- a document is encoded, or refused
   document-more : (document : Document) (made : Result (List ℕ) RefusedAt) (pieces : List Piece) (texts : List (List ℕ)) → IsProper document → encoding_in form b d document ≡ made → AreBuilt b d piece pieces texts
       → AreBuilt b d piece (encoded made ∷ pieces) (before_refused made (normal_text form b d document) texts)
+  unfolding up_to_refused
   document-more document (Ok octets) pieces texts proper is r = one-more document octets proper is (encoded_read form records b d rows document proper octets is) pieces texts r
-  document-more document (Err refused) pieces texts proper is r = fault-ends b d piece _ pieces
+  document-more document (Err refused) pieces texts proper is r = none-built b d piece _ refl refl
 
   are-built : (results : List ParseResult) → AreProper results → AreBuilt b d piece (map (result_piece form b d) results) (normal_texts form b d results)
-  unfolding normal_texts
-  are-built [] proper = none-built b d piece
+  unfolding normal_texts up_to_refused
+  are-built [] proper = none-built b d piece [] refl refl
   are-built (Complete document ∷ more) proper =
       document-more document (encoding_in form b d document) (map (result_piece form b d) more) (normal_texts form b d more) proper.0 refl (are-built more proper.1)
-  are-built (Refused line fault ∷ more) proper = fault-ends b d piece _ (map (result_piece form b d) more)
+  are-built (Refused line fault ∷ more) proper = none-built b d piece _ refl refl
 
   -- the law
   pub one-spelling : (text : List ℕ) → IsDumpedInOneSpelling form b d piece text

@@ -1,8 +1,8 @@
 -- What a run writes, event by event, and what comes of a job.
-use Rattle.bufr_frame.specs.Input.{MakesReads, max_reads, read_failures_after}
-use Rattle.std.proofs.Common.{◌≡◌, ◌∙◌, ◌≤◌, ◌<◌, ◌^◌, ℕ, ◌+◌, ◌-◌, Bool, true, false, List, [], ◌∷◌, ◌++◌, refl, sym, ap, subst, arith, Option, None, Ok, Err, append-nil, Some, append_assoc, inl, inr}
+use Rattle.bufr_frame.specs.Input.{max_reads, read_failures_after}
+use Rattle.std.proofs.Common.{length, length-append, ◌≡◌, ◌∙◌, ◌≤◌, ◌<◌, ◌^◌, ℕ, ◌+◌, ◌-◌, Bool, true, false, List, [], ◌∷◌, ◌++◌, refl, sym, ap, subst, arith, Option, None, Ok, Err, append-nil, Some, append_assoc, inl, inr}
 use Rattle.std.specs.Prelude.{Result, flat_map, map, count_by, IfOk, IfSome, OnOk}
-use Rattle.std.specs.Io.KnownBytes.{Keeps}
+use Rattle.std.specs.Io.KnownBytes.{Consumes, IsAtEnd, Keeps}
 use Rattle.std.proofs.KnownBytes.{Appends-nil, Appends-trans, Appends-kept, Consumes-nil, Consumes-whole}
 use Rattle.std.proofs.lemmas.Bool.{false≢true}
 use Rattle.std.proofs.lemmas.Grind.{common_steps, flat_map-append}
@@ -19,12 +19,11 @@ use Rattle.bufr_frame.specs.Finder.{FinderModel, ReadsAndPasses, CountsReads, St
 use Rattle.bufr_frame.specs.Next.{ReturnsNextEvent, LeavesFinder}
 use Rattle.bufr_text.specs.Writing.{GrowsByPrefix, Stays, Fails, Writes}
 use Rattle.bufr_cli.specs.Pieces.{Piece, output_of, errors_of, is_accepted, is_refused}
-use Rattle.bufr_cli.specs.Running.{Blames, WritesPieces, Tallies, LeavesEvents, RunDone, RunStopped, RunCut, ReadsFewer, read_events, GivesPieces, LeavesPieces, StopsPiece, RunReads, counted_accepted, counted_refused, tally_after, BlamesWriter, CountsCalls, Input, Writers, ReadsAll}
+use Rattle.bufr_cli.specs.Running.{RunPieces, RunsPieces, WritesAndCounts, AreUnflushed, event_pieces, read_pieces, LeavesRun, Blames, WritesPieces, Tallies, RunDone, RunStopped, RunCut, ReadsFewer, GivesPieces, LeavesPieces, StopsPiece, RunReads, counted_accepted, counted_refused, tally_after, BlamesWriter, CountsCalls, Input, Writers, ReadsAll, WrittenInPart}
 use Rattle.bufr_cli.specs.declared.outcome.Tally.{Tally}
 use Rattle.bufr_cli.specs.declared.outcome.Verdict.{Verdict}
 use Rattle.bufr_cli.specs.Calling.{InPart, WritesHelp}
-use Rattle.bufr_cli.specs.Ending.{AreFlushed, BlamesInput, EndsRun, FlushesRest, Promise, WasEnded, WentThrough, WritesLine, run_line}
-use Rattle.bufr_cli.specs.Program.{IsReadFault}
+use Rattle.bufr_cli.specs.Ending.{AreFlushed, BlamesInput, EndsRun, FlushesRest, WasEnded, WentThrough, WritesLine, run_line}
 
 pub grows-nil : (w : Option (List ℕ)) → GrowsByPrefix w w []
 grows-nil w = record { prefix = []; back = []; parts = refl; gains = Appends-nil w }
@@ -93,44 +92,99 @@ goes-on s s' (Frame offset octets) ends some = (ends.0, ends.1)
 goes-on s s' (Stray offset cause) ends some = (ends.0, ends.1)
 goes-on s s' Done ends some = absurd some
 
+-- the events of the octets that were read
+abbrev pub read_events : (ended : Bool) → List ℕ → List StreamEvent
+read_events true bs = scan bs
+read_events false bs = open_scan bs
+
+read-pieces : (piece : StreamEvent → Piece) (ended : Bool) (bs : List ℕ) → read_pieces (event_pieces piece) ended bs ≡ map piece (read_events ended bs)
+read-pieces piece true bs = refl
+read-pieces piece false bs = refl
+
+-- the octets that were read to their end are those of the input
+pub all-read : (left left' : Option (List ℕ)) (bs : List ℕ) → Consumes left left' bs → IsAtEnd left' → IfSome left (λ s. bs ≡ s)
+all-read left left' bs read end = Consumes-whole left left' bs (λ s. bs ≡ s) read end refl
+
+-- what holds of them holds whatever comes after the end
+pub nothing-after-end : (P : List ℕ → Type 0) (bs : List ℕ) → P bs → (t : List ℕ) → (true ≡ true → t ≡ []) → P (bs ++ t)
+nothing-after-end P bs so t none = subst P (sym (append-nil bs) ∙ ap (λ l. bs ++ l) (sym (none refl))) so
+
 -- the events so far are the first of what was read
 read-prefix : (ended : Bool) (s rest : List ℕ) (events : List StreamEvent) (at : ℕ) → Advances ended 0 s events at rest → (more : List StreamEvent) × (read_events ended s ≡ events ++ more)
 read-prefix true s rest events at advances = (scan_from 0 at rest, whole-scan true s rest events at advances)
 read-prefix false s rest events at advances = events-are-certain s rest events at advances
 
-map-append : (piece : StreamEvent → Piece) (xs ys : List StreamEvent) → map piece (xs ++ ys) ≡ map piece xs ++ map piece ys
+pub map-append : {X : Type 0} (piece : X → Piece) (xs ys : List X) → map piece (xs ++ ys) ≡ map piece xs ++ map piece ys
 map-append piece xs ys = grind (arith, common_steps)
 
-count-append : (p : Piece → Bool) (xs ys : List Piece) → count_by p (xs ++ ys) ≡ count_by p xs + count_by p ys
+pub count-append : (p : Piece → Bool) (xs ys : List Piece) → count_by p (xs ++ ys) ≡ count_by p xs + count_by p ys
 count-append p xs ys = grind (arith, common_steps)
+
+-- more pieces are counted
+pub Tallies-then : (tally tally' : Tally) (v : Verdict) (pieces more : List Piece) → Tallies tally pieces → tally' ≡ tally_after tally v
+    → counted_accepted v ≡ count_by is_accepted more → counted_refused v ≡ count_by is_refused more → Tallies tally' (pieces ++ more)
+Tallies-then tally tally' v pieces more before is accepted refused =
+    let T : Tally → Type 0 = λ t. Tallies t (pieces ++ more) in
+    subst T (sym is) (record {
+      accepted = ap (λ n. n + counted_accepted v) before.accepted ∙ ap (λ n. count_by is_accepted pieces + n) accepted ∙ sym (count-append is_accepted pieces more);
+      refused = ap (λ n. n + counted_refused v) before.refused ∙ ap (λ n. count_by is_refused pieces + n) refused ∙ sym (count-append is_refused pieces more);
+    })
 
 -- the pieces of one more event were written and counted
 reported-then : (piece : StreamEvent → Piece) (w w1 w2 e e1 e2 : Option (List ℕ)) (tally tally' : Tally) (verdict : Verdict) (events here : List StreamEvent)
     → ReportedSoFar w w1 e e1 tally (map piece events) → LeavesPieces w1 w2 e1 e2 (map piece here) (Ok verdict) → tally' ≡ tally_after tally verdict
     → ReportedSoFar w w2 e e2 tally' (map piece (events ++ here))
 reported-then piece w w1 w2 e e1 e2 tally tally' verdict events here before reports counts =
-    let W : List Piece → Type 0 = λ l. WritesPieces w w2 e e2 l in
-    let both = sym (map-append piece events here) in
+    let S : List Piece → Type 0 = λ l. ReportedSoFar w w2 e e2 tally' l in
+    subst S (sym (map-append piece events here)) (record {
+      written = Written-then w w1 w2 e e1 e2 (map piece events) (map piece here) before.written reports.0;
+      tallies = Tallies-then tally tally' verdict (map piece events) (map piece here) before.tallies counts reports.1 reports.2;
+    })
+
+-- what was written is written after a flush
+pub written-kept : (w w1 w2 e e1 e2 : Option (List ℕ)) (pieces : List Piece) → Keeps w1 w2 → Keeps e1 e2 → WritesPieces w w1 e e1 pieces → WritesPieces w w2 e e2 pieces
+written-kept w w1 w2 e e1 e2 pieces kept_w kept_e before = record {
+  output = Appends-kept w w1 w2 (flat_map output_of pieces) before.output kept_w;
+  errors = Appends-kept e e1 e2 (flat_map errors_of pieces) before.errors kept_e;
+}
+
+-- these pieces were written whole, and of the next one nothing
+abbrev pub whole-part : (w w1 w2 e e1 e2 : Option (List ℕ)) (given rest pieces : List Piece) → w2 ≡ w1 → e2 ≡ e1 → pieces ≡ given ++ rest → WritesPieces w w1 e e1 given → WrittenInPart w w2 e e2 pieces
+whole-part w w1 w2 e e1 e2 given rest pieces same_w same_e parts whole = record {
+  given = given;
+  next = None;
+  rest = rest;
+  parts = parts;
+  between_output = w1;
+  between_errors = e1;
+  whole = whole;
+  output = rw same_w (grows-nil w1);
+  errors = rw same_e (grows-nil e1);
+}
+
+-- all was written, and then a flush failed
+pub done-cut : (pieces : RunPieces) (left left' w w' e e' : Option (List ℕ)) (unflushed : Type 0) (bs : List ℕ) (tally : Tally) → RunDone pieces left left' w w' e e' bs tally → RunCut pieces left left' w w' e e' unflushed bs
+done-cut pieces left left' w w' e e' unflushed bs tally done =
+    let all = read_pieces pieces done.ended bs in
     record {
-      written = subst W both (Written-then w w1 w2 e e1 e2 (map piece events) (map piece here) before.written reports.0);
-      tallies = record {
-        accepted = ap (λ t. t.accepted) counts ∙ ap (λ n. n + counted_accepted verdict) before.tallies.accepted ∙ ap (λ n. count_by is_accepted (map piece events) + n) reports.1
-            ∙ sym (count-append is_accepted (map piece events) (map piece here)) ∙ ap (count_by is_accepted) both;
-        refused = ap (λ t. t.refused) counts ∙ ap (λ n. n + counted_refused verdict) before.tallies.refused ∙ ap (λ n. count_by is_refused (map piece events) + n) reports.2
-            ∙ sym (count-append is_refused (map piece events) (map piece here)) ∙ ap (count_by is_refused) both;
-      };
+      read = done.read;
+      ended = done.ended;
+      all = λ whole _. (done.all whole).1;
+      end = done.end;
+      written = whole-part w w' w' e e' e' all [] all refl refl (sym (append-nil all)) done.certain;
+      flushed = λ _. ((λ whole. (done.all whole).0), done.written);
     }
 
 some-none : (p : Piece) → Some p ≡ None → ⊥
 some-none p is = cc
 
 -- a piece was stopped by a writer, or by want of memory
-cut-by : (pieces_of : List StreamEvent → List Piece) (left left' w w' e e' : Option (List ℕ)) (unflushed early : Type 0) (bs : List ℕ) (takes : Bool) (f : RunFault) → StopsPiece takes (Err f)
-    → (cut : RunCut pieces_of left left' w w' e e' unflushed bs) → (cut.written.next ≡ None → ⊥) → LeavesEvents pieces_of left left' w w' e e' unflushed early bs (Err f)
-cut-by pieces_of left left' w w' e e' unflushed early bs takes Read stops cut some = absurd stops
-cut-by pieces_of left left' w w' e e' unflushed early bs takes Write stops cut some = cut
-cut-by pieces_of left left' w w' e e' unflushed early bs takes InputTooLong stops cut some = absurd stops
-cut-by pieces_of left left' w w' e e' unflushed early bs takes Memory stops cut some = (cut, λ none. absurd (some none))
+cut-by : (piece : StreamEvent → Piece) (left left' w w' e e' : Option (List ℕ)) (unflushed early : Type 0) (bs : List ℕ) (takes : Bool) (f : RunFault) → StopsPiece takes (Err f)
+    → (cut : RunCut (event_pieces piece) left left' w w' e e' unflushed bs) → (cut.written.next ≡ None → ⊥) → LeavesRun (event_pieces piece) left left' w w' e e' unflushed early bs (Err f)
+cut-by piece left left' w w' e e' unflushed early bs takes Read stops cut some = absurd stops
+cut-by piece left left' w w' e e' unflushed early bs takes Write stops cut some = cut
+cut-by piece left left' w w' e e' unflushed early bs takes InputTooLong stops cut some = absurd stops
+cut-by piece left left' w w' e e' unflushed early bs takes Memory stops cut some = (cut, (λ _ none. absurd (some none)), λ stops. absurd (false≢true stops))
 
 module _ (is_piece : StreamEvent → Piece → Type 0) (left mid left' : Option (List ℕ)) (reads reads1 reads2 : ℕ) (w w1 e e1 : Option (List ℕ)) (s s' : FinderModel) (tally : Tally) (result : Result Event RunFault)
     (ran : Ran is_piece left mid reads reads1 w w1 e e1 s tally) (next : ReturnsNextEvent mid left' reads1 reads2 s s' result) where
@@ -154,7 +208,7 @@ module _ (is_piece : StreamEvent → Piece → Type 0) (left mid left' : Option 
 
   -- the finder stopped
   pub stop-next : (unflushed : Type 0) → unflushed → (f : RunFault) (r : Result Tally RunFault) → result ≡ Err f → r ≡ Err f
-      → (bs : List ℕ) × ((piece : StreamEvent → Piece) → GivesPieces is_piece piece → LeavesEvents (map piece) left left' w w1 e e1 unflushed (ReadsFewer reads reads2) bs r)
+      → (bs : List ℕ) × ((piece : StreamEvent → Piece) → GivesPieces is_piece piece → LeavesRun (event_pieces piece) left left' w w1 e e1 unflushed (ReadsFewer reads reads2) bs r)
   stop-next unflushed kept f r is same =
       let steps = rw is at next.steps in
       let ends = rw is at next.ends in
@@ -162,7 +216,7 @@ module _ (is_piece : StreamEvent → Piece → Type 0) (left mid left' : Option 
       let step = ReadsAndPasses-then left mid left' s s' ran.octets steps.0 ran.events [] ran.step steps.1 in (
         bs,
         λ piece gives.
-            let P : Result Tally RunFault → Type 0 = λ x. LeavesEvents (map piece) left left' w w1 e e1 unflushed (ReadsFewer reads reads2) bs x in
+            let P : Result Tally RunFault → Type 0 = λ x. LeavesRun (event_pieces piece) left left' w w1 e e1 unflushed (ReadsFewer reads reads2) bs x in
             subst P (sym same) (by piece (ran.wrote piece gives).written bs step f (ends.1 ran.sound)),
       )
     where
@@ -178,42 +232,33 @@ module _ (is_piece : StreamEvent → Piece → Type 0) (left mid left' : Option 
           ap (map piece) (events-are-open bs s'.rest (ran.events ++ []) s'.at (subst E so.1 step.advances) (so.2 s'.at) ∙ append-nil ran.events)
 
       stopped : (piece : StreamEvent → Piece) → WritesPieces w w1 e e1 (map piece ran.events) → (bs : List ℕ) → ReadsAndPasses left left' new_finder s' bs (ran.events ++ []) → (g : RunFault) → IsUndecided s' g
-          → RunStopped (map piece) left left' w w1 e e1 bs
+          → RunStopped (event_pieces piece) left left' w w1 e e1 bs
       stopped piece written bs step g so =
           let W : List Piece → Type 0 = λ l. WritesPieces w w1 e e1 l in
-          record { read = step.read; written = subst W (sym (opens piece bs step g so)) written }
+          record { read = step.read; written = subst W (sym (opens piece bs step g so)) written; accepted = λ stops. absurd (false≢true stops) }
 
       cut : (piece : StreamEvent → Piece) → WritesPieces w w1 e e1 (map piece ran.events) → (bs : List ℕ) → ReadsAndPasses left left' new_finder s' bs (ran.events ++ []) → (g : RunFault) → IsUndecided s' g
-          → RunCut (map piece) left left' w w1 e e1 unflushed bs
+          → RunCut (event_pieces piece) left left' w w1 e e1 unflushed bs
       cut piece written bs step g so = record {
         read = step.read;
         ended = false;
+        all = λ _ end. absurd (false≢true end);
         end = λ end. absurd (false≢true end);
-        written = record {
-          given = map piece ran.events;
-          next = None;
-          rest = [];
-          parts = opens piece bs step g so ∙ sym (append-nil (map piece ran.events));
-          between_output = w1;
-          between_errors = e1;
-          whole = written;
-          output = grows-nil w1;
-          errors = grows-nil e1;
-        };
+        written = whole-part w w1 w1 e e1 e1 (map piece ran.events) [] _ refl refl (opens piece bs step g so ∙ sym (append-nil (map piece ran.events))) written;
         flushed = λ not. absurd (not kept);
       }
 
       by : (piece : StreamEvent → Piece) → WritesPieces w w1 e e1 (map piece ran.events) → (bs : List ℕ) → ReadsAndPasses left left' new_finder s' bs (ran.events ++ []) → (g : RunFault) → StopsFinder s' g
-          → LeavesEvents (map piece) left left' w w1 e e1 unflushed (ReadsFewer reads reads2) bs (Err g)
+          → LeavesRun (event_pieces piece) left left' w w1 e e1 unflushed (ReadsFewer reads reads2) bs (Err g)
       by piece written bs step Read so = stopped piece written bs step Read so
       by piece written bs step InputTooLong so = stopped piece written bs step InputTooLong so.0
       by piece written bs step Write so = absurd so
-      by piece written bs step Memory so = (cut piece written bs step Memory so.0, λ _. fewer so.1)
+      by piece written bs step Memory so = (cut piece written bs step Memory so.0, (λ _ _. fewer so.1), λ stops. absurd (false≢true stops))
 
   -- the telling of an event was stopped
   pub stop-report : (unflushed : Type 0) → unflushed → (w2 e2 : Option (List ℕ)) (event : Event) (takes : Bool) (write_event : Result Verdict RunFault) (f : RunFault) (r : Result Tally RunFault) → result ≡ Ok event → IsEvent event
       → ((piece : StreamEvent → Piece) → GivesPieces is_piece piece → LeavesPieces w1 w2 e1 e2 (map piece (events_of event)) write_event) → StopsPiece takes write_event → write_event ≡ Err f → r ≡ Err f
-      → (bs : List ℕ) × ((piece : StreamEvent → Piece) → GivesPieces is_piece piece → LeavesEvents (map piece) left left' w w2 e e2 unflushed (ReadsFewer reads reads2) bs r)
+      → (bs : List ℕ) × ((piece : StreamEvent → Piece) → GivesPieces is_piece piece → LeavesRun (event_pieces piece) left left' w w2 e e2 unflushed (ReadsFewer reads reads2) bs r)
   stop-report unflushed kept w2 e2 event takes write_event f r is some reports stops fails same =
       let steps = rw is at next.steps in
       let bs = ran.octets ++ steps.0 in
@@ -227,16 +272,17 @@ module _ (is_piece : StreamEvent → Piece → Type 0) (left mid left' : Option 
             let lines = subst S fails (reports piece gives) in
             let O : List StreamEvent → Type 0 = λ l. GrowsByPrefix w1 w2 (flat_map output_of (map piece l)) in
             let E : List StreamEvent → Type 0 = λ l. GrowsByPrefix e1 e2 (flat_map errors_of (map piece l)) in
-            let P : Result Tally RunFault → Type 0 = λ x. LeavesEvents (map piece) left left' w w2 e e2 unflushed (ReadsFewer reads reads2) bs x in
-            subst P (sym same) (cut-by (map piece) left left' w w2 e e2 unflushed (ReadsFewer reads reads2) bs takes f (rw fails at stops) (record {
+            let P : Result Tally RunFault → Type 0 = λ x. LeavesRun (event_pieces piece) left left' w w2 e e2 unflushed (ReadsFewer reads reads2) bs x in
+            subst P (sym same) (cut-by piece left left' w w2 e e2 unflushed (ReadsFewer reads reads2) bs takes f (rw fails at stops) (record {
               read = step.read;
               ended = s'.ended;
-              end = step.end (λ end. absurd (false≢true end));
+              all = λ _. step.end (λ end. absurd (false≢true end));
+              end = λ end. all-read left left' bs step.read (step.end (λ end. absurd (false≢true end)) end);
               written = record {
                 given = map piece ran.events;
                 next = Some (piece one.0);
                 rest = map piece rest;
-                parts = ap (map piece) prefix.1
+                parts = read-pieces piece s'.ended bs ∙ ap (map piece) prefix.1
                     ∙ map-append piece (ran.events ++ events_of event) rest ∙ ap (λ l. l ++ map piece rest) (map-append piece ran.events (events_of event))
                     ∙ append_assoc (map piece ran.events) (map piece (events_of event)) (map piece rest)
                     ∙ ap (λ l. map piece ran.events ++ (map piece l ++ map piece rest)) one.1;
@@ -252,7 +298,7 @@ module _ (is_piece : StreamEvent → Piece → Type 0) (left mid left' : Option 
 
   -- all was read and written, and then flushed
   module _ (is : result ≡ Ok Done) (w2 e2 : Option (List ℕ)) (kept_w : Keeps w1 w2) (kept_e : Keeps e1 e2) where
-    pub flushed : (bs : List ℕ) × ((piece : StreamEvent → Piece) → GivesPieces is_piece piece → RunDone (map piece) left left' w w2 e e2 bs tally)
+    pub flushed : (bs : List ℕ) × ((piece : StreamEvent → Piece) → GivesPieces is_piece piece → RunDone (event_pieces piece) left left' w w2 e e2 bs tally)
     flushed =
         let steps = rw is at next.steps in
         let done = (rw is at next.ends).1 in
@@ -264,61 +310,48 @@ module _ (is_piece : StreamEvent → Piece → Type 0) (left mid left' : Option 
               let before = ran.wrote piece gives in
               let W : List StreamEvent → Type 0 = λ l. WritesPieces w w2 e e2 (map piece l) in
               let T : List StreamEvent → Type 0 = λ l. Tallies tally (map piece l) in
+              let end = step.end (λ end. absurd (false≢true end)) done.0 in
+              let written = subst W (sym all) (written-kept w w1 w2 e e1 e2 (map piece ran.events) kept_w kept_e before.written) in
               record {
                 read = step.read;
-                end = step.end (λ end. absurd (false≢true end)) done.0;
-                written = subst W (sym all) (record { output = Appends-kept w w1 w2 (flat_map output_of (map piece ran.events)) before.written.output kept_w; errors = Appends-kept e e1 e2 (flat_map errors_of (map piece ran.events)) before.written.errors kept_e });
-                tallies = subst T (sym all) before.tallies;
+                ended = true;
+                all = λ _. (refl, end);
+                end = λ _. all-read left left' bs step.read end;
+                written = nothing-after-end (λ s. W (scan s)) bs written;
+                certain = written;
+                tallies = nothing-after-end (λ s. T (scan s)) bs (subst T (sym all) before.tallies);
               },
         )
 
     -- a flush failed
     pub stop-flush : (unflushed : Type 0) (f : RunFault) (r : Result Tally RunFault) → f ≡ Write → r ≡ Err f
-        → (bs : List ℕ) × ((piece : StreamEvent → Piece) → GivesPieces is_piece piece → LeavesEvents (map piece) left left' w w2 e e2 unflushed (ReadsFewer reads reads2) bs r)
+        → (bs : List ℕ) × ((piece : StreamEvent → Piece) → GivesPieces is_piece piece → LeavesRun (event_pieces piece) left left' w w2 e e2 unflushed (ReadsFewer reads reads2) bs r)
     stop-flush unflushed f r write same = (
       flushed.0,
       λ piece gives.
-          let P : Result Tally RunFault → Type 0 = λ x. LeavesEvents (map piece) left left' w w2 e e2 unflushed (ReadsFewer reads reads2) flushed.0 x in
-          let done = flushed.1 piece gives in
-          let all = map piece (scan flushed.0) in
-          subst P (sym (same ∙ ap Err write)) (record {
-            read = done.read;
-            ended = true;
-            end = λ _. done.end;
-            written = record {
-              given = all;
-              next = None;
-              rest = [];
-              parts = sym (append-nil all);
-              between_output = w2;
-              between_errors = e2;
-              whole = done.written;
-              output = grows-nil w2;
-              errors = grows-nil e2;
-            };
-            flushed = λ _. (refl, done.written);
-          }),
+          let P : Result Tally RunFault → Type 0 = λ x. LeavesRun (event_pieces piece) left left' w w2 e e2 unflushed (ReadsFewer reads reads2) flushed.0 x in
+          subst P (sym (same ∙ ap Err write)) (done-cut (event_pieces piece) left left' w w2 e e2 unflushed flushed.0 tally (flushed.1 piece gives)),
     )
 
--- the octets that a reader reports are those that were read to its end
-pub all-known : (pieces_of : List StreamEvent → List Piece) (left left' w w' e e' : Option (List ℕ)) (unflushed early : Type 0) (r : Result Tally RunFault)
-    → ((bs : List ℕ) × LeavesEvents pieces_of left left' w w' e e' unflushed early bs r) → IfOk r (λ tally. IfSome left (λ s. WritesPieces w w' e e' (pieces_of (scan s)) × Tallies tally (pieces_of (scan s))))
-all-known pieces_of left left' w w' e e' unflushed early (Ok tally) (bs, done) =
-    Consumes-whole left left' bs (λ s. WritesPieces w w' e e' (pieces_of (scan s)) × Tallies tally (pieces_of (scan s))) done.read done.end (done.written, done.tallies)
-all-known pieces_of left left' w w' e e' unflushed early (Err f) so = tt
+nothing-more : (bs t : List ℕ) → bs ≡ bs ++ t → t ≡ []
+nothing-more bs [] is = refl
+nothing-more bs (c ∷ t) is = absurd (omega (arith, ap length is, length-append bs (c ∷ t)))
 
--- the reads of a run
-pub makes-reads : {X : Type 0} (reads reads' : ℕ) (s : FinderModel) (r : Result X RunFault) → CountsReads reads reads' new_finder s → (r ≡ Err InputTooLong → s.reads ≡ max_reads) → (r ≡ Err Memory → s.reads < max_reads) → MakesReads reads reads' r
-makes-reads reads reads' s r counts long wanted =
-    let e : s.reads - 0 ≡ s.reads = omega arith in
-    (s.reads, counts.most, counts.made ∙ ap (counted reads) e, long, wanted)
+-- of an input that is known the pieces are those of all its octets
+pub all-known : (pieces : RunPieces) (left left' w w' e e' : Option (List ℕ)) (unflushed early : Type 0) (r : Result Tally RunFault)
+    → ((bs : List ℕ) × LeavesRun pieces left left' w w' e e' unflushed early bs r) → IfOk r (λ tally. IfSome left (λ s. WritesPieces w w' e e' (pieces.whole s) × Tallies tally (pieces.whole s)))
+all-known pieces left left' w w' e e' unflushed early (Err f) so = tt
+all-known pieces None left' w w' e e' unflushed early (Ok tally) so = tt
+all-known pieces (Some s) None w w' e e' unflushed early (Ok tally) (bs, done) = absurd done.read
+all-known pieces (Some s) (Some t) w w' e e' unflushed early (Ok tally) (bs, done) =
+    let none : done.ended ≡ true → t ≡ [] = λ ended. nothing-more bs t (done.end ended ∙ done.read) in
+    let P : List ℕ → Type 0 = λ l. WritesPieces w w' e e' (pieces.whole l) × Tallies tally (pieces.whole l) in
+    subst P (sym done.read) (done.written t none, done.tallies t none)
 
 -- the reads of a run, whose texts take memory or not
 pub run-reads : {X : Type 0} (takes : Bool) (reads reads' : ℕ) (s : FinderModel) (r : Result X RunFault) → CountsReads reads reads' new_finder s → (r ≡ Err InputTooLong → s.reads ≡ max_reads) → (takes ≡ false → r ≡ Err Memory → s.reads < max_reads) → RunReads takes reads reads' r
-run-reads false reads reads' s r counts long wanted = makes-reads reads reads' s r counts long (wanted refl)
-run-reads true reads reads' s r counts long wanted =
-    let e : s.reads - 0 ≡ s.reads = omega arith in
-    (s.reads, counts.most, counts.made ∙ ap (counted reads) e, long)
+run-reads false reads reads' s r counts long wanted = let e : s.reads - 0 ≡ s.reads = omega arith in (s.reads, counts.most, counts.made ∙ ap (counted reads) e, long, wanted refl)
+run-reads true reads reads' s r counts long wanted = let e : s.reads - 0 ≡ s.reads = omega arith in (s.reads, counts.most, counts.made ∙ ap (counted reads) e, long)
 
 -- where the finder stopped
 pub run-reads-stop : (takes : Bool) (reads mid reads' : ℕ) (mid_left left' : Option (List ℕ)) (s s' : FinderModel) (result : Result Event RunFault) (f : RunFault) (r : Result Tally RunFault)
@@ -378,37 +411,39 @@ blames-report {a} {b} {c} {d} {a'} {b'} {c'} {d'} write_event f r is same go_a g
 
 -- ---- What comes of a job, from what its run answers.
 
--- a run over the octets of its input, and then the flush of the rest
-pub ends-run : (promise : Promise) (octets : Option (List ℕ)) (from to : Input) (before between after : Writers) (ran ran' : Result Tally RunFault)
-    → IfOk ran (λ tally. IfSome from.left (promise.whole before between tally)) → promise.run from to before between ran → OnOk ran (AreFlushed between) → BlamesInput from to ran → BlamesWriter before between ran
-    → ran' ≡ ran → FlushesRest between.output after.output ran → after.errors ≡ between.errors → from.left ≡ octets → EndsRun promise octets before after ran'
-ends-run promise octets from to before between after ran ran' whole run flushed input writers same rest errors known =
-    let P : Result Tally RunFault → Type 0 = λ r. EndsRun promise octets before after r in
-    subst P (sym same) (of ran whole run flushed input writers rest)
-  where
-    of : (r : Result Tally RunFault) → IfOk r (λ tally. IfSome from.left (promise.whole before between tally)) → promise.run from to before between r → OnOk r (AreFlushed between) → BlamesInput from to r → BlamesWriter before between r
-        → FlushesRest between.output after.output r → EndsRun promise octets before after r
-    of (Ok tally) whole' run' flushed' input' writers' rest' =
-        let both : after ≡ between = ap (λ o. record { output = o; errors = after.errors }) rest' ∙ ap (λ e. record { output = between.output; errors = e }) errors in
-        let Q : Writers → Type 0 = λ w. EndsRun promise octets before w (Ok tally) in
-        let known' : IfSome octets (promise.whole before between tally) = let K : Option (List ℕ) → Type 0 = λ o. IfSome o (promise.whole before between tally) in subst K known whole' in
-        subst Q (sym both) (WentThrough tally refl known' writers'.0 writers'.1 flushed')
-    of (Err fault) whole' run' flushed' input' writers' rest' = WasEnded fault refl from to known between run' input' writers' rest' errors
+-- a run leaves the same by each of the pieces that it may have
+abbrev pub RunsEach : (may_be : RunPieces → Type 0) → (from to : Input) → (before after : Writers) → Result Tally RunFault → Type 0
+RunsEach may_be from to before after ran = (bs : List ℕ) × ((pieces : RunPieces) → may_be pieces → RunsPieces pieces from to before after bs ran)
 
--- what holds of a run by each function that gives such pieces
-pub ok-any : (r : Result Tally RunFault) (octets : Option (List ℕ)) (gives : (StreamEvent → Piece) → Type 0) (ran : (StreamEvent → Piece) → Tally → List ℕ → Type 0)
-    → ((piece : StreamEvent → Piece) → gives piece → IfOk r (λ tally. IfSome octets (ran piece tally)))
-    → IfOk r (λ tally. IfSome octets (λ s. (piece : StreamEvent → Piece) → gives piece → ran piece tally s))
-ok-any (Ok tally) None gives ran so = tt
-ok-any (Ok tally) (Some s) gives ran so = so
-ok-any (Err fault) octets gives ran so = tt
+pub each-is : (only : RunPieces) (from to : Input) (before after : Writers) (ran : Result Tally RunFault) → ((bs : List ℕ) × RunsPieces only from to before after bs ran) → RunsEach (λ pieces. pieces ≡ only) from to before after ran
+each-is only from to before after ran run = (run.0, λ pieces is. subst (λ p. RunsPieces p from to before after run.0 ran) (sym is) run.1)
+
+pub each-gives : (gives : (StreamEvent → Piece) → Type 0) (from to : Input) (before after : Writers) (ran : Result Tally RunFault)
+    → ((bs : List ℕ) × ((piece : StreamEvent → Piece) → gives piece → RunsPieces (event_pieces piece) from to before after bs ran)) → RunsEach (λ pieces. (piece : StreamEvent → Piece) × gives piece × (pieces ≡ event_pieces piece)) from to before after ran
+each-gives gives from to before after ran run = (run.0, λ pieces so. subst (λ p. RunsPieces p from to before after run.0 ran) (sym so.2) (run.1 so.0 so.1))
+
+-- a run over the octets of its input, and then the flush of the rest
+pub ends-run : (may_be : RunPieces → Type 0) (octets : Option (List ℕ)) (from to : Input) (before between after : Writers) (ran ran' : Result Tally RunFault)
+    → RunsEach may_be from to before between ran → OnOk ran (AreFlushed between) → BlamesInput from to ran → BlamesWriter before between ran
+    → ran' ≡ ran → FlushesRest between.output after.output ran → after.errors ≡ between.errors → from.left ≡ octets → EndsRun may_be octets before after ran'
+ends-run may_be octets from to before between after ran ran' run flushed input writers same rest errors known =
+    let P : Result Tally RunFault → Type 0 = λ r. EndsRun may_be octets before after r in
+    subst P (sym same) (of ran run flushed input writers rest)
+  where
+    of : (r : Result Tally RunFault) → RunsEach may_be from to before between r → OnOk r (AreFlushed between) → BlamesInput from to r → BlamesWriter before between r
+        → FlushesRest between.output after.output r → EndsRun may_be octets before after r
+    of (Ok tally) run' flushed' input' writers' rest' =
+        let both : after ≡ between = ap (λ o. record { output = o; errors = after.errors }) rest' ∙ ap (λ e. record { output = between.output; errors = e }) errors in
+        let Q : Writers → Type 0 = λ w. EndsRun may_be octets before w (Ok tally) in
+        let whole : (pieces : RunPieces) → may_be pieces → IfSome octets (λ s. WritesAndCounts before between tally (pieces.whole s)) = λ pieces is.
+        let K : Option (List ℕ) → Type 0 = λ o. IfSome o (λ s. WritesAndCounts before between tally (pieces.whole s)) in
+        subst K known (all-known pieces from.left to.left before.output.taken between.output.taken before.errors.taken between.errors.taken (AreUnflushed before between) (ReadsFewer from.reads to.reads) (Ok tally) (run'.0, run'.1 pieces is)) in
+        subst Q (sym both) (WentThrough tally refl whole writers'.0 writers'.1 flushed')
+    of (Err fault) run' flushed' input' writers' rest' = WasEnded fault refl from to known between run'.0 run'.1 input' writers' rest' errors
 
 -- a fault of reading an input whole
-pub read-fault : (left left' : Option (List ℕ)) (fault : RunFault) (bs : List ℕ) → ReadsAll left left' (Err fault) bs → IsReadFault fault
-read-fault left left' Read bs so = tt
-read-fault left left' Write bs so = so
-read-fault left left' InputTooLong bs so = tt
-read-fault left left' Memory bs so = tt
+pub read-fault : (left left' : Option (List ℕ)) (fault : RunFault) (bs : List ℕ) → ReadsAll left left' (Err fault) bs → fault ≡ Write → ⊥
+read-fault left left' fault bs so is = subst (λ f. ReadsAll left left' (Err f) bs) is so
 
 -- help that was written in part ends with the line of a fault of a write
 pub help-in-part : (text : List ℕ) (before after : Writers) (status : ℕ) (fault : RunFault) → Writes {X = Unit {0}} before.output.taken after.output.taken text (Err fault) → CountsCalls {X = Unit {0}} before.output after.output (Err fault)

@@ -8,7 +8,7 @@ use Rattle.bufr_frame.specs.Input.{read_failures_after}
 use Rattle.bufr_frame.specs.declared.fault.RunFault.{RunFault}
 use Rattle.bufr_frame.specs.declared.fault.RunFault.TheVariants.{Read, Write, InputTooLong, Memory}
 use Rattle.bufr_text.specs.Writing.{GrowsByPrefix, joined}
-use Rattle.bufr_cli.specs.Running.{BlamesWriter, IsSame, Input, Writer, Writers, ReadsAtMost}
+use Rattle.bufr_cli.specs.Running.{BlamesWriter, IsSame, Input, Writer, Writers, ReadsAtMost, RunPieces, RunsPieces, WritesAndCounts}
 use Rattle.bufr_cli.specs.declared.outcome.Tally.{Tally}
 use Rattle.bufr_frame.specs.Numbers.{number_of_run_fault}
 use Rattle.bufr_tables.specs.Fxy.{fxy_text}
@@ -52,28 +52,26 @@ BlamesInput before after result =
     (after.failures ≡ read_failures_after before.failures result)
     × ReadsAtMost before.reads after.reads result
 
--- What a command promises: of the octets of an input that its run went through, and of each answer
--- by what was read and written.
-pub record Promise : Type 1 where
-  pub whole : (before after : Writers) → Tally → List ℕ → Type 0
-  pub run : (from to : Input) → (before after : Writers) → Result Tally RunFault → Type 0
-
 -- How a run of a command ended over an input with these octets, where they are known. Memory was
 -- wanted before anything was read; or the run went through, and all is handed on; or a fault ended
--- it. The input or a writer has counted that fault, and then the rest is flushed.
-pub data EndsRun (promise : Promise) (octets : Option (List ℕ)) (before after : Writers)
+-- it. The input or a writer has counted that fault, and then the rest is flushed. All that is said
+-- of pieces holds of each that the command may have.
+pub data EndsRun (may_be : RunPieces → Type 0) (octets : Option (List ℕ)) (before after : Writers)
     (ran : Result Tally RunFault) : Type 0 where
-  WantsMemory : ran ≡ Err Memory → after ≡ before → EndsRun promise octets before after ran
+  WantsMemory : ran ≡ Err Memory → after ≡ before → EndsRun may_be octets before after ran
   WentThrough : (tally : Tally) → ran ≡ Ok tally
-      → IfSome octets (promise.whole before after tally) → IsSame before.output after.output
+      → ((pieces : RunPieces) → may_be pieces
+      → IfSome octets (λ s. WritesAndCounts before after tally (pieces.whole s)))
+      → IsSame before.output after.output
       → IsSame before.errors after.errors → AreFlushed after
-      → EndsRun promise octets before after ran
+      → EndsRun may_be octets before after ran
   WasEnded : (fault : RunFault) → ran ≡ Err fault → (from to : Input) → from.left ≡ octets
-      → (between : Writers) → promise.run from to before between (Err fault)
+      → (between : Writers) → (bs : List ℕ) → ((pieces : RunPieces) → may_be pieces
+      → RunsPieces pieces from to before between bs (Err fault))
       → BlamesInput {X = Tally} from to (Err fault)
       → BlamesWriter {X = Tally} before between (Err fault)
       → FlushesRest {X = Tally} between.output after.output (Err fault)
-      → after.errors ≡ between.errors → EndsRun promise octets before after ran
+      → after.errors ≡ between.errors → EndsRun may_be octets before after ran
 
 -- the text of a fault that ends a run
 abbrev pub run_fault_text : RunFault → List ℕ

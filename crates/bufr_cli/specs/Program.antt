@@ -1,18 +1,18 @@
 -- What comes of a job, by its input. (a choice of this project)
 -- Cited by public contracts.
-use Rattle.std.specs.Prelude.{◌≡◌, ◌⊎◌, ℕ, List, map, Option, Some, None, Result, Ok, Err, IfSome}
+use Rattle.std.specs.Prelude.{◌≡◌, ◌≢◌, ◌⊎◌, ℕ, List, Option, Some, None, Result, Ok, Err, IfSome}
 use Rattle.std.specs.Borrow.{Bor}
-use Rattle.bufr_frame.specs.Scan.{StreamEvent, scan}
+use Rattle.bufr_frame.specs.Scan.{StreamEvent}
 use Rattle.bufr_frame.specs.declared.fault.RunFault.{RunFault}
-use Rattle.bufr_frame.specs.declared.fault.RunFault.TheVariants.{Read, Write, InputTooLong, Memory}
+use Rattle.bufr_frame.specs.declared.fault.RunFault.TheVariants.{Write}
 use Rattle.bufr_tables.specs.TableD.{ReadsTableD, Sequence}
 use Rattle.bufr_tables.specs.Records.{records_of, ReturnsUnlessMemory}
 use Rattle.bufr_tables.specs.TableB.{Row, table_b_of}
 use Rattle.bufr_tables.specs.declared.fault.TableFault.{TableFault}
 use Rattle.bufr_text.specs.declared.encode.Form.{Form}
-use Rattle.bufr_cli.specs.Running.{Writers, RunsEncode, GivesPieces, RunsEvents, Encodes, WritesAndCounts}
-use Rattle.bufr_cli.specs.Pieces.{IsDumpPiece, Piece, ls_piece, ls_pieces, encode_pieces}
-use Rattle.bufr_cli.specs.Ending.{EndsRun, Promise}
+use Rattle.bufr_cli.specs.Running.{Writers, RunPieces, GivesPieces, event_pieces, document_pieces}
+use Rattle.bufr_cli.specs.Pieces.{IsDumpPiece, Piece, ls_piece}
+use Rattle.bufr_cli.specs.Ending.{EndsRun}
 use Rattle.bufr_cli.specs.declared.outcome.Outcome.{Outcome}
 use Rattle.bufr_cli.specs.declared.outcome.Outcome.TheVariants.{Ran, CannotOpen, TableB, TableD, Run}
 use Rattle.bufr_cli.specs.declared.job.Job.{Job}
@@ -39,41 +39,25 @@ abbrev pub input_octets : Known → (file : Option (Bor (List ℕ))) → Option 
 input_octets inputs None = inputs.standard
 input_octets inputs (Some name) = inputs.named name.now
 
--- what a listing promises
-abbrev pub ls_promise : Promise
-ls_promise =
-    record {
-      whole = λ before after tally s. WritesAndCounts before after tally (ls_pieces s);
-      run = λ from to before after ran. (bs : List ℕ)
-          × RunsEvents (map ls_piece) from to before after bs ran;
-    }
+-- the pieces of a listing
+abbrev pub IsListing : RunPieces → Type 0
+IsListing pieces = pieces ≡ event_pieces ls_piece
 
--- what a dump by these tables promises, of each function that gives the pieces
-abbrev pub dump_promise : List Row → List Sequence → Promise
-dump_promise b d =
-    record {
-      whole = λ before after tally s. (piece : StreamEvent → Piece)
-          → GivesPieces (IsDumpPiece b d) piece
-          → WritesAndCounts before after tally (map piece (scan s));
-      run = λ from to before after ran. (bs : List ℕ)
-          × ((piece : StreamEvent → Piece) → GivesPieces (IsDumpPiece b d) piece
-          → RunsEvents (map piece) from to before after bs ran);
-    }
+-- those of a dump by these tables, by whichever function gives them
+abbrev pub IsDump : List Row → List Sequence → RunPieces → Type 0
+IsDump b d pieces =
+    (piece : StreamEvent → Piece) × GivesPieces (IsDumpPiece b d) piece
+    × (pieces ≡ event_pieces piece)
 
--- what an encoding by these tables promises
-abbrev pub encode_promise : Form → List Row → List Sequence → Promise
-encode_promise form b d =
-    record {
-      whole = Encodes form b d;
-      run = λ from to before after ran. (bs : List ℕ)
-          × RunsEncode (encode_pieces form b d) from to before after bs ran;
-    }
+-- those of an encoding by these tables
+abbrev pub IsEncoding : Form → List Row → List Sequence → RunPieces → Type 0
+IsEncoding form b d pieces = pieces ≡ document_pieces form b d
 
--- what a command promises, whose tables were read
-abbrev pub promise_of : Command → Promise
-promise_of command.Ls = ls_promise
-promise_of (command.Dump b d) = dump_promise b.now d.now
-promise_of (command.Encode form b d) = encode_promise form b.now d.now
+-- those of a command whose tables were read
+abbrev pub IsOfCommand : Command → RunPieces → Type 0
+IsOfCommand command.Ls = IsListing
+IsOfCommand (command.Dump b d) = IsDump b.now d.now
+IsOfCommand (command.Encode form b d) = IsEncoding form b.now d.now
 
 -- the file of this name is not opened, and it was not known that it can be
 abbrev pub IsClosed : (named : List ℕ → Option (List ℕ)) → (name : Bor (List ℕ)) → Outcome → Type 0
@@ -86,28 +70,21 @@ ran_outcome (Err fault) = Run fault
 
 -- What comes of a run over an input: the input cannot be opened, and nothing was written; or the
 -- run ended.
-pub data RunOutcome (promise : Promise) (inputs : Known) (file : Option (Bor (List ℕ)))
+pub data RunOutcome (may_be : RunPieces → Type 0) (inputs : Known) (file : Option (Bor (List ℕ)))
     (before after : Writers) (outcome : Outcome) : Type 0 where
   IsNotOpened : (name : Bor (List ℕ)) → file ≡ Some name → IsClosed inputs.named name outcome
-      → after ≡ before → RunOutcome promise inputs file before after outcome
+      → after ≡ before → RunOutcome may_be inputs file before after outcome
   Runs : (ran : Result Tally RunFault) → outcome ≡ ran_outcome ran
-      → EndsRun promise (input_octets inputs file) before after ran
-      → RunOutcome promise inputs file before after outcome
+      → EndsRun may_be (input_octets inputs file) before after ran
+      → RunOutcome may_be inputs file before after outcome
 
--- a fault of the reading of a file is none of a write
-abbrev pub IsReadFault : RunFault → Type 0
-IsReadFault Read = Unit {0}
-IsReadFault Write = ⊥
-IsReadFault InputTooLong = Unit {0}
-IsReadFault Memory = Unit {0}
-
--- the octets of the file of this name are not read
+-- the octets of the file of this name are not read; a fault of that is none of a write
 -- rule: table-not-read
 abbrev pub FileOutcome : (named : List ℕ → Option (List ℕ))
     → (name : Bor (List ℕ)) → Outcome → Type 0
 FileOutcome named name outcome =
     IsClosed named name outcome
-    ⊎ ((fault : RunFault) × (outcome ≡ Run fault) × IsReadFault fault)
+    ⊎ ((fault : RunFault) × (outcome ≡ Run fault) × (fault ≢ Write))
 
 -- Table B is not read from the file of this name, or is at fault
 abbrev pub TableBOutcome : (named : List ℕ → Option (List ℕ))
@@ -153,14 +130,14 @@ pub data TablesOutcome (run : List Row → List Sequence → Outcome → Type 0)
 abbrev pub CommandOutcome : Known → Subcommand → (file : Option (Bor (List ℕ)))
     → (before after : Writers) → Outcome → Type 0
 CommandOutcome inputs Ls file before after outcome =
-    RunOutcome ls_promise inputs file before after outcome
+    RunOutcome IsListing inputs file before after outcome
 CommandOutcome inputs (Dump tables) file before after outcome =
     TablesOutcome (λ b d ends. ((piece : StreamEvent → Piece)
     × GivesPieces (IsDumpPiece b d) piece)
-    × RunOutcome (dump_promise b d) inputs file before after ends)
+    × RunOutcome (IsDump b d) inputs file before after ends)
     inputs.named tables before after outcome
 CommandOutcome inputs (Encode tables form) file before after outcome =
-    TablesOutcome (λ b d ends. RunOutcome (encode_promise form b d) inputs file before after ends)
+    TablesOutcome (λ b d ends. RunOutcome (IsEncoding form b d) inputs file before after ends)
     inputs.named tables before after outcome
 
 -- what comes of a job

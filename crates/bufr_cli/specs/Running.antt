@@ -141,62 +141,97 @@ pub record Tallies (tally : Tally) (pieces : List Piece) : Type 0 where
   pub accepted : tally.accepted ≡ count_by is_accepted pieces
   pub refused : tally.refused ≡ count_by is_refused pieces
 
--- The input was read to its end, its pieces were written and counted.
-pub record RunDone (pieces_of : List StreamEvent → List Piece)
+-- What a run writes: the pieces of a whole input, those that are certain of a beginning of it, and
+-- whether its first refusal ends it.
+pub record RunPieces : Type 0 where
+  pub whole : List ℕ → List Piece
+  pub certain : List ℕ → List Piece
+  pub stops : Bool
+
+-- the pieces of the events of a stream, each by this function
+abbrev pub event_pieces : (StreamEvent → Piece) → RunPieces
+event_pieces piece =
+    record {
+      whole = λ s. map piece (scan s);
+      certain = λ s. map piece (open_scan s);
+      stops = false;
+    }
+
+-- the pieces of the documents of a text
+abbrev pub document_pieces : Form → List Row → List Sequence → RunPieces
+document_pieces form b d =
+    record {
+      whole = λ s. encode_pieces form b d (documents_of s);
+      certain = λ s. encode_pieces form b d (open_documents_of s);
+      stops = true;
+    }
+
+-- the pieces of the octets that were read: all, where the end was reached, and else those that are
+-- certain
+abbrev pub read_pieces : RunPieces → (ended : Bool) → List ℕ → List Piece
+read_pieces pieces true bs = pieces.whole bs
+read_pieces pieces false bs = pieces.certain bs
+
+-- The pieces of the whole input were written and counted, whatever is after the octets that were
+-- read: nothing, where the end was reached, and after a refusal that ends the run nothing counts.
+pub record RunDone (pieces : RunPieces)
     (left left' output output' errors errors' : Option (List ℕ)) (bs : List ℕ)
     (tally : Tally) : Type 0 where
   pub read : Consumes left left' bs
-  pub end : IsAtEnd left'
-  pub written : WritesPieces output output' errors errors' (pieces_of (scan bs))
-  pub tallies : Tallies tally (pieces_of (scan bs))
+  pub ended : Bool
+  pub all : pieces.stops ≡ false → (ended ≡ true) × IsAtEnd left'
+  pub end : ended ≡ true → IfSome left (λ s. bs ≡ s)
+  pub written : (t : List ℕ) → (ended ≡ true → t ≡ [])
+      → WritesPieces output output' errors errors' (pieces.whole (bs ++ t))
+  -- so much is certain from what was read
+  pub certain : WritesPieces output output' errors errors' (read_pieces pieces ended bs)
+  pub tallies : (t : List ℕ) → (ended ≡ true → t ≡ []) → Tallies tally (pieces.whole (bs ++ t))
 
--- The run stopped before the end, and the pieces of all that was certain were written.
+-- The run stopped before the end, and the pieces of all that was certain were written. Where a
+-- refusal ends the run none of them is one.
 -- rule: input-not-read
-pub record RunStopped (pieces_of : List StreamEvent → List Piece)
+pub record RunStopped (pieces : RunPieces)
     (left left' output output' errors errors' : Option (List ℕ)) (bs : List ℕ) : Type 0 where
   pub read : Consumes left left' bs
-  pub written : WritesPieces output output' errors errors' (pieces_of (open_scan bs))
-
--- the events of the octets that were read: all, where the end was reached, and else those that are
--- certain
-abbrev pub read_events : (ended : Bool) → List ℕ → List StreamEvent
-read_events true bs = scan bs
-read_events false bs = open_scan bs
+  pub written : WritesPieces output output' errors errors' (pieces.certain bs)
+  pub accepted : pieces.stops ≡ true → count_by is_refused (pieces.certain bs) ≡ 0
 
 -- A writer failed, or memory was refused: of what was read a prefix was written; where a flush was
 -- tried, all of it is written.
 -- rule: fault-line-not-written, reader-gone
-pub record RunCut (pieces_of : List StreamEvent → List Piece)
+pub record RunCut (pieces : RunPieces)
     (left left' output output' errors errors' : Option (List ℕ)) (unflushed : Type 0)
     (bs : List ℕ) : Type 0 where
   pub read : Consumes left left' bs
   pub ended : Bool
-  pub end : ended ≡ true → IsAtEnd left'
-  pub written : WrittenInPart output output' errors errors' (pieces_of (read_events ended bs))
-  pub flushed : ¬ unflushed
-      → (ended ≡ true) × WritesPieces output output' errors errors' (pieces_of (scan bs))
+  pub all : pieces.stops ≡ false → ended ≡ true → IsAtEnd left'
+  pub end : ended ≡ true → IfSome left (λ s. bs ≡ s)
+  pub written : WrittenInPart output output' errors errors' (read_pieces pieces ended bs)
+  pub flushed : ¬ unflushed → (pieces.stops ≡ false → ended ≡ true)
+      × ((t : List ℕ) → (ended ≡ true → t ≡ [])
+      → WritesPieces output output' errors errors' (pieces.whole (bs ++ t)))
 
 -- fewer than 2^32 reads were made
 abbrev pub ReadsFewer : (reads reads' : ℕ) → Type 0
 ReadsFewer reads reads' = (n : ℕ) × (n < max_reads) × (reads' ≡ counted reads n)
 
 -- what a run leaves that reads these octets; memory is wanted where a piece was to be written, or
--- early, before all of the reads were made
-abbrev pub LeavesEvents : (pieces_of : List StreamEvent → List Piece)
+-- early, before all of the reads were made; where a refusal ends the run there was none before
+abbrev pub LeavesRun : (pieces : RunPieces)
     → (left left' output output' errors errors' : Option (List ℕ))
     → (unflushed early : Type 0) → List ℕ → Result Tally RunFault → Type 0
-LeavesEvents pieces_of left left' output output' errors errors' unflushed early bs (Ok tally) =
-    RunDone pieces_of left left' output output' errors errors' bs tally
-LeavesEvents pieces_of left left' output output' errors errors' unflushed early bs (Err Read) =
-    RunStopped pieces_of left left' output output' errors errors' bs
-LeavesEvents pieces_of left left' output output' errors errors' unflushed early bs
-    (Err InputTooLong) =
-    RunStopped pieces_of left left' output output' errors errors' bs
-LeavesEvents pieces_of left left' output output' errors errors' unflushed early bs (Err Memory) =
-    (cut : RunCut pieces_of left left' output output' errors errors' unflushed bs)
-    × (cut.written.next ≡ None → early)
-LeavesEvents pieces_of left left' output output' errors errors' unflushed early bs (Err Write) =
-    RunCut pieces_of left left' output output' errors errors' unflushed bs
+LeavesRun pieces left left' output output' errors errors' unflushed early bs (Ok tally) =
+    RunDone pieces left left' output output' errors errors' bs tally
+LeavesRun pieces left left' output output' errors errors' unflushed early bs (Err Read) =
+    RunStopped pieces left left' output output' errors errors' bs
+LeavesRun pieces left left' output output' errors errors' unflushed early bs (Err InputTooLong) =
+    RunStopped pieces left left' output output' errors errors' bs
+LeavesRun pieces left left' output output' errors errors' unflushed early bs (Err Memory) =
+    (cut : RunCut pieces left left' output output' errors errors' unflushed bs)
+    × (pieces.stops ≡ false → cut.written.next ≡ None → early)
+    × (pieces.stops ≡ true → count_by is_refused cut.written.given ≡ 0)
+LeavesRun pieces left left' output output' errors errors' unflushed early bs (Err Write) =
+    RunCut pieces left left' output output' errors errors' unflushed bs
 
 -- no writer was flushed
 abbrev pub AreUnflushed : (before after : Writers) → Type 0
@@ -205,12 +240,18 @@ AreUnflushed before after =
 
 -- what a run leaves of its input and of its writers that reads these octets
 -- rule: fault-70
-abbrev pub RunsEvents : (pieces_of : List StreamEvent → List Piece) → (from to : Input)
-    → (before after : Writers) → List ℕ → Result Tally RunFault → Type 0
-RunsEvents pieces_of from to before after bs result =
-    LeavesEvents pieces_of from.left to.left before.output.taken after.output.taken
-    before.errors.taken after.errors.taken (AreUnflushed before after)
-    (ReadsFewer from.reads to.reads) bs result
+abbrev pub RunsPieces : RunPieces → (from to : Input) → (before after : Writers) → List ℕ
+    → Result Tally RunFault → Type 0
+RunsPieces pieces from to before after bs result =
+    LeavesRun pieces from.left to.left before.output.taken after.output.taken before.errors.taken
+    after.errors.taken (AreUnflushed before after) (ReadsFewer from.reads to.reads) bs result
+
+-- the same before anything is flushed
+abbrev pub RunsUnflushed : RunPieces → (from to : Input) → (before after : Writers) → List ℕ
+    → Result Tally RunFault → Type 0
+RunsUnflushed pieces from to before after bs result =
+    LeavesRun pieces from.left to.left before.output.taken after.output.taken before.errors.taken
+    after.errors.taken (Unit {0}) (ReadsFewer from.reads to.reads) bs result
 
 -- a run's pieces, each what its event is to put on the writers
 abbrev pub GivesPieces : (StreamEvent → Piece → Type 0) → (StreamEvent → Piece) → Type 0
@@ -240,77 +281,6 @@ abbrev pub Encodes : Form → List Row → List Sequence → (before after : Wri
     → Type 0
 Encodes form b d before after tally s =
     WritesAndCounts before after tally (encode_pieces form b d (documents_of s))
-
--- what the octets that were read spell: to their end, where it was reached
-abbrev pub read_documents : (ended : Bool) → List ℕ → List ParseResult
-read_documents true bs = documents_of bs
-read_documents false bs = open_documents_of bs
-
--- The pieces of the whole input were written and counted, whatever is after the octets that were
--- read: nothing, where the end was reached, and all that comes after a refused document counts for
--- nothing.
-pub record EncodeDone (pieces_of : List ParseResult → List Piece)
-    (left left' output output' errors errors' : Option (List ℕ)) (bs : List ℕ)
-    (tally : Tally) : Type 0 where
-  pub read : Consumes left left' bs
-  pub ended : Bool
-  pub end : ended ≡ true → IfSome left (λ s. bs ≡ s)
-  pub written : (t : List ℕ) → (ended ≡ true → t ≡ [])
-      → WritesPieces output output' errors errors' (pieces_of (documents_of (bs ++ t)))
-  -- so much is certain from what was read
-  pub certain : WritesPieces output output' errors errors' (pieces_of (read_documents ended bs))
-  pub tallies : (t : List ℕ) → (ended ≡ true → t ≡ [])
-      → Tallies tally (pieces_of (documents_of (bs ++ t)))
-
--- The run stopped before the end, and the pieces of the documents whose `end` was read with its
--- line feed were written: none of these was refused, since that would have ended the run.
-pub record EncodeStopped (pieces_of : List ParseResult → List Piece)
-    (left left' output output' errors errors' : Option (List ℕ)) (bs : List ℕ) : Type 0 where
-  pub read : Consumes left left' bs
-  pub written : WritesPieces output output' errors errors' (pieces_of (open_documents_of bs))
-  pub accepted : count_by is_refused (pieces_of (open_documents_of bs)) ≡ 0
-
--- A writer failed, or memory was refused: of what was read a prefix was written; where a flush was
--- tried, all of it is written.
-pub record EncodeCut (pieces_of : List ParseResult → List Piece)
-    (left left' output output' errors errors' : Option (List ℕ)) (unflushed : Type 0)
-    (bs : List ℕ) : Type 0 where
-  pub read : Consumes left left' bs
-  pub ended : Bool
-  pub end : ended ≡ true → IfSome left (λ s. bs ≡ s)
-  pub written : WrittenInPart output output' errors errors' (pieces_of (read_documents ended bs))
-  pub flushed : ¬ unflushed → (t : List ℕ) → (ended ≡ true → t ≡ [])
-      → WritesPieces output output' errors errors' (pieces_of (documents_of (bs ++ t)))
-
--- what a run leaves that reads these octets; where memory is wanted no document before was refused
-abbrev pub LeavesDocuments : (pieces_of : List ParseResult → List Piece)
-    → (left left' output output' errors errors' : Option (List ℕ))
-    → (unflushed : Type 0) → List ℕ → Result Tally RunFault → Type 0
-LeavesDocuments pieces_of left left' output output' errors errors' unflushed bs (Ok tally) =
-    EncodeDone pieces_of left left' output output' errors errors' bs tally
-LeavesDocuments pieces_of left left' output output' errors errors' unflushed bs (Err Read) =
-    EncodeStopped pieces_of left left' output output' errors errors' bs
-LeavesDocuments pieces_of left left' output output' errors errors' unflushed bs (Err InputTooLong) =
-    EncodeStopped pieces_of left left' output output' errors errors' bs
-LeavesDocuments pieces_of left left' output output' errors errors' unflushed bs (Err Memory) =
-    (cut : EncodeCut pieces_of left left' output output' errors errors' unflushed bs)
-    × (count_by is_refused cut.written.given ≡ 0)
-LeavesDocuments pieces_of left left' output output' errors errors' unflushed bs (Err Write) =
-    EncodeCut pieces_of left left' output output' errors errors' unflushed bs
-
--- what a run leaves of its input and of its writers that reads these octets
-abbrev pub RunsEncode : (pieces_of : List ParseResult → List Piece) → (from to : Input)
-    → (before after : Writers) → List ℕ → Result Tally RunFault → Type 0
-RunsEncode pieces_of from to before after bs result =
-    LeavesDocuments pieces_of from.left to.left before.output.taken after.output.taken
-    before.errors.taken after.errors.taken (AreUnflushed before after) bs result
-
--- the same before anything is flushed
-abbrev pub EncodesSoFar : (pieces_of : List ParseResult → List Piece) → (from to : Input)
-    → (before after : Writers) → List ℕ → Result Tally RunFault → Type 0
-EncodesSoFar pieces_of from to before after bs result =
-    LeavesDocuments pieces_of from.left to.left before.output.taken after.output.taken
-    before.errors.taken after.errors.taken (Unit {0}) bs result
 
 -- the octets that were read, to the end; or a fault, never one of a write
 abbrev pub ReadsAll : (left left' : Option (List ℕ))

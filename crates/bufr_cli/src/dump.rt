@@ -1,13 +1,11 @@
 //! `bufr dump`: writes the messages of a stream as text.
-ghost use Rattle.std.specs.Prelude.{◌≡◌, ◌≢◌, ◌≤◌, ℕ, List, [], ◌∷◌, true, Ok, IfErr, IfOk, OnOk, IfSome, length, map};
+ghost use Rattle.std.specs.Prelude.{◌≡◌, ◌≢◌, ◌≤◌, ℕ, List, [], ◌∷◌, true, Ok, IfOk, OnOk, IfSome, length, map};
 ghost use Rattle.bufr_frame.specs.Events.{events_of, IsEvent};
 ghost use Rattle.bufr_frame.specs.Input.{read_failures_after};
 ghost use Rattle.bufr_frame.specs.Scan.{StreamEvent, scan};
 ghost use Rattle.bufr_frame.specs.Sections.{sections_of};
-ghost use Rattle.bufr_walk.specs.Course.{next_item};
-ghost use Rattle.bufr_walk.specs.Refusal.{data_of, IsFault, IsReadingOf};
 ghost use Rattle.bufr_cli.specs.Pieces.{IsDataPiece, IsDumpPiece, IsMessagePiece, Piece};
-ghost use Rattle.bufr_cli.specs.Running.{BlamesWriter, input_of, writers_of, RunsEvents, GivesPieces, ReadsAtMost, WritesAndCounts, StopsPiece, ReportsPieces};
+ghost use Rattle.bufr_cli.specs.Running.{BlamesWriter, input_of, writers_of, RunsPieces, event_pieces, GivesPieces, ReadsAtMost, WritesAndCounts, StopsPiece, ReportsPieces};
 
 use crate::fault_line::{StreamFault, write_fault};
 use crate::outcome::{Tally, Verdict};
@@ -16,7 +14,7 @@ use bufr_bits::{Sink, Source};
 use bufr_frame::{Event, Message, RunFault};
 use bufr_tables::{Fxy, TableB, TableD, Template};
 use bufr_text::{DumpMemory, write_dump_by};
-use bufr_walk::{Reading, Steps, TemplateCache, WalkFault, read_by};
+use bufr_walk::{Steps, TemplateCache, WalkFault, read_by};
 use std::alloc::{AllocError, Global};
 use std::mem;
 
@@ -30,25 +28,6 @@ fn descriptors_of(alloc: Global, message: &Message<'_>) -> Result<Vec<Fxy>, Allo
         descriptors.push(Fxy::from_word(word))?;
     }
     Ok(descriptors)
-}
-
-/// Reads the data of a message. It says less than the call that it makes, so that what is proved of
-/// a run does not carry the bounds on steps.
-fn read_data<'a, 't: 'a>(
-    memory: &mut DumpMemory<'t>,
-    message: &Message<'a>,
-    template: &'a Template,
-    table: &'a TableB,
-    steps: &mut Steps,
-) -> Result<Reading<'a>, WalkFault>
-    requires { memory.old.specs ≡ table.now }
-    ensures same { memory.new.specs ≡ memory.old.specs }
-    ensures reading { IfOk result
-        (λ r. IsReadingOf table.now template.now (data_of message.now) r steps.new) }
-    ensures fault { IfErr result
-        (λ why. IsFault (next_item table.now template.now) (data_of message.now) why steps.new) }
-{
-    read_by(message, template, &mut memory.specs, steps)
 }
 
 /// What a run keeps from message to message: the last templates with the specs of their cells, and
@@ -95,10 +74,10 @@ fn dump_data<W: Sink, E: Sink>(
         offset,
         message,
         template,
-        table,
+        ..
     } = *expanded;
     let mut steps = Steps::new();
-    match read_data(memory, message, template, table, &mut steps) {
+    match read_by(message, template, &mut memory.specs, &mut steps) {
         Ok(reading) => {
             write_dump_by(memory, message, &reading, &mut steps, w)?;
             Ok(Verdict::Accepted)
@@ -287,7 +266,7 @@ pub fn run_dump<R: Source, W: Sink, E: Sink>(
     // The same over the octets that were read, and what a fault leaves.
     ensures run { (bs : List ℕ)
         × ((piece : StreamEvent → Piece) → GivesPieces (IsDumpPiece table_b.now table_d.now) piece
-        → RunsEvents (map piece) (input_of R.Source r.old) (input_of R.Source r.new)
+        → RunsPieces (event_pieces piece) (input_of R.Source r.old) (input_of R.Source r.new)
         (writers_of W.Sink w.old E.Sink e.old) (writers_of W.Sink w.new E.Sink e.new) bs result) }
 
     // Each fault comes only where its device failed in this call.

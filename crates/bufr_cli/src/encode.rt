@@ -4,8 +4,8 @@ ghost use Rattle.bufr_frame.specs.Input.{read_failures_after};
 ghost use Rattle.bufr_text.specs.Documents.{Complete};
 ghost use Rattle.bufr_text.specs.Encoding.{encoding_in, IsDocumentRefusal, reported_refusal};
 ghost use Rattle.bufr_text.specs.declared.encode.Form.TheVariants.{AsWritten};
-ghost use Rattle.bufr_cli.specs.Pieces.{encode_pieces, result_piece};
-ghost use Rattle.bufr_cli.specs.Running.{EncodesSoFar, RunsEncode, ReadsAtMost, Encodes, ReportsNext, StopsPiece, ReportsPieces, BlamesWriter, input_of, writers_of};
+ghost use Rattle.bufr_cli.specs.Pieces.{result_piece};
+ghost use Rattle.bufr_cli.specs.Running.{RunsUnflushed, RunsPieces, document_pieces, ReadsAtMost, Encodes, ReportsNext, StopsPiece, ReportsPieces, BlamesWriter, input_of, writers_of};
 
 use crate::fault_line::{write_document_fault, write_read_fault};
 use crate::outcome::{Tally, Verdict};
@@ -16,27 +16,6 @@ use bufr_tables::{TableB, TableD, TemplateFault};
 use bufr_text::{Document, DocumentFault, DumpReader, Form, ReadFault, encode_by, write_all};
 use bufr_walk::{Steps, TemplateCache};
 use std::alloc::Global;
-
-/// The octets of a document in a form, or its first fault. It says less than the call that it
-/// makes. So the proof of a run carries neither the steps nor what is said of dumps.
-fn octets_of(
-    alloc: Global,
-    document: &Document,
-    form: Form,
-    templates: &mut TemplateCache<'_>,
-) -> Result<Vec<u8>, DocumentFault>
-    ensures table_b { templates.new.table_b ≡ templates.old.table_b }
-    ensures table_d { templates.new.table_d ≡ templates.old.table_d }
-    ensures octets { IfOk result (λ octets.
-        encoding_in form templates.old.table_b templates.old.table_d document.now
-        ≡ Ok octets.items) }
-    ensures fault { IfErr result (λ why. IsDocumentRefusal (reported_refusal why)
-        (encoding_in form templates.old.table_b templates.old.table_d document.now)) }
-    ensures memory { IfErr result
-        (λ why. (line : ℕ) → why ≢ DocumentFault.Template line TemplateFault.Memory) }
-{
-    encode_by(alloc, document, form, templates, &mut Steps::new())
-}
 
 /// The form that the documents of a run are encoded in, and what is kept from one to the next.
 #[derive(Drop)]
@@ -66,7 +45,14 @@ fn encode_one<W: Sink, E: Sink>(
     ensures output_flushes { W.flushes w.new ≡ W.flushes w.old }
     ensures errors_flushes { E.flushes e.new ≡ E.flushes e.old }
 {
-    match octets_of(run.alloc, document, run.form, &mut run.templates) {
+    let mut steps = Steps::new();
+    match encode_by(
+        run.alloc,
+        document,
+        run.form,
+        &mut run.templates,
+        &mut steps,
+    ) {
         Ok(octets) => {
             write_all(octets.as_slice(), w)?;
             Ok(Verdict::Accepted)
@@ -128,7 +114,7 @@ fn encode_documents<R: Source, W: Sink, E: Sink>(
     e: &mut E,
 ) -> Result<Tally, RunFault>
     ensures run { (bs : List ℕ)
-        × EncodesSoFar (encode_pieces run.old.form run.old.templates.table_b
+        × RunsUnflushed (document_pieces run.old.form run.old.templates.table_b
         run.old.templates.table_d)
         (input_of R.Source r.old) (input_of R.Source r.new)
         (writers_of W.Sink w.old E.Sink e.old) (writers_of W.Sink w.new E.Sink e.new) bs result }
@@ -193,7 +179,7 @@ pub fn run_encode_form<R: Source, W: Sink, E: Sink>(
     ensures order { E.flushes e.new ≢ E.flushes e.old → W.all_flushed w.new ≡ true }
     ensures flushed { OnOk result ((W.all_flushed w.new ≡ true) × (E.all_flushed e.new ≡ true)) }
     // The same over the octets that were read, and what a fault leaves.
-    ensures run { (bs : List ℕ) × RunsEncode (encode_pieces form table_b.now table_d.now)
+    ensures run { (bs : List ℕ) × RunsPieces (document_pieces form table_b.now table_d.now)
         (input_of R.Source r.old) (input_of R.Source r.new)
         (writers_of W.Sink w.old E.Sink e.old) (writers_of W.Sink w.new E.Sink e.new) bs result }
 
@@ -246,7 +232,7 @@ pub fn run_encode<R: Source, W: Sink, E: Sink>(
     ensures order { E.flushes e.new ≢ E.flushes e.old → W.all_flushed w.new ≡ true }
     ensures flushed { OnOk result ((W.all_flushed w.new ≡ true) × (E.all_flushed e.new ≡ true)) }
     // The same over the octets that were read, and what a fault leaves.
-    ensures run { (bs : List ℕ) × RunsEncode (encode_pieces AsWritten table_b.now table_d.now)
+    ensures run { (bs : List ℕ) × RunsPieces (document_pieces AsWritten table_b.now table_d.now)
         (input_of R.Source r.old) (input_of R.Source r.new)
         (writers_of W.Sink w.old E.Sink e.old) (writers_of W.Sink w.new E.Sink e.new) bs result }
 

@@ -1,6 +1,7 @@
 //! The lines that report the faults of a stream and of the messages in it, and of a text and its
 //! documents.
-ghost use Rattle.std.specs.Prelude.{◌≡◌, ◌≢◌, ℕ, [], ◌∷◌, Err, IfErr, IfSome};
+ghost use Rattle.std.specs.Prelude.{◌≡◌, ◌≢◌, ℕ, [], ◌∷◌, Err, IfErr, IfSome, codes, decimal};
+ghost use Rattle.bufr_frame.specs.Numbers.{number_of_cause};
 ghost use Rattle.bufr_tables.specs.Fxy.{fxy_text};
 ghost use Rattle.bufr_text.specs.Documents.{TextLineFault, Refused};
 ghost use Rattle.bufr_text.specs.Reader.{parse_results};
@@ -32,19 +33,13 @@ pub(crate) enum StreamFault<'f> {
     Data(&'f WalkFault),
 }
 
-impl StreamFault<'_> {
-    ghost use Rattle.std.specs.Prelude.{◌≡◌};
-
-    fn number(&self) -> u8
-        ensures { result ≡ number_of_stream_fault self.now }
-    {
-        match self {
-            StreamFault::Stray(cause) => cause.number(),
-            StreamFault::Section(fault) => fault.number(),
-            StreamFault::Template(fault) => fault.number(),
-            StreamFault::Data(fault) => fault.number(),
-        }
-    }
+/// Pushes a fault's number.
+#[inline(always)]
+fn push_number<E: Sink>(line: &mut LineWriter<'_, '_, E>, number: u8)
+    ensures { Pushes line.old (joined (codes ": " ∷ decimal number ∷ codes " " ∷ [])) line.new }
+{
+    line.push_named(b": ", u64::from(number));
+    line.push(b" ");
 }
 
 /// Pushes the beginning of a fault line: a word, the place that it counts, and the fault's number.
@@ -53,10 +48,8 @@ impl StreamFault<'_> {
 fn push_place<E: Sink>(line: &mut LineWriter<'_, '_, E>, word: &[u8], place: u64, number: u8)
     ensures { Pushes line.old (joined (place_texts word.now place number)) line.new }
 {
-    line.push(word);
-    line.push_decimal(place);
-    line.push_named(b": ", u64::from(number));
-    line.push(b" ");
+    line.push_named(word, place);
+    push_number(line, number);
 }
 
 /// Pushes a text and a descriptor after it.
@@ -67,19 +60,22 @@ fn push_descriptor<E: Sink>(line: &mut LineWriter<'_, '_, E>, text: &[u8], fxy: 
     line.push(&fxy.text());
 }
 
-/// The text of a stray word.
+/// Pushes the number and the text of a stray word, and a line feed.
+#[inline(always)]
 // rule: fault-1, fault-2, fault-3
-fn stray_text(cause: Cause) -> &'static [u8]
-    ensures { result.now ≡ cause_text cause }
+fn push_stray<E: Sink>(line: &mut LineWriter<'_, '_, E>, cause: Cause)
+    ensures { Pushes line.old (joined (codes ": " ∷ decimal (number_of_cause cause) ∷ codes " "
+        ∷ cause_text cause ∷ codes "\n" ∷ [])) line.new }
 {
     match cause {
-        Cause::Cut => b"cut",
-        Cause::ShortLength => b"short length",
-        Cause::NoEnd => b"no end",
+        Cause::Cut => line.push(b": 1 cut\n"),
+        Cause::ShortLength => line.push(b": 2 short length\n"),
+        Cause::NoEnd => line.push(b": 3 no end\n"),
     }
 }
 
 /// Pushes the text of a section fault.
+#[inline(never)]
 // rule: fault-10, fault-11, fault-12, fault-13, fault-14
 fn push_section_fault<E: Sink>(line: &mut LineWriter<'_, '_, E>, fault: SectionFault)
     ensures { Pushes line.old (joined (section_fault_text fault)) line.new }
@@ -100,6 +96,7 @@ fn push_section_fault<E: Sink>(line: &mut LineWriter<'_, '_, E>, fault: SectionF
 }
 
 /// Pushes the text of a template fault.
+#[inline(never)]
 // rule: fault-20, fault-21, fault-22, fault-23, fault-24, fault-25, fault-26, fault-27, fault-28
 fn push_template_fault<E: Sink>(line: &mut LineWriter<'_, '_, E>, fault: &TemplateFault)
     requires { fault.now ≢ TemplateFault.Memory }
@@ -131,6 +128,7 @@ fn push_spot<E: Sink>(line: &mut LineWriter<'_, '_, E>, name: &[u8], spot: Spot)
 }
 
 /// Pushes the text of a fault of the data.
+#[inline(never)]
 // rule: fault-30, fault-31, fault-32, fault-33, fault-34, fault-35
 fn push_walk_fault<E: Sink>(line: &mut LineWriter<'_, '_, E>, fault: &WalkFault)
     requires { fault.now ≢ WalkFault.Memory }
@@ -147,16 +145,31 @@ fn push_walk_fault<E: Sink>(line: &mut LineWriter<'_, '_, E>, fault: &WalkFault)
     }
 }
 
-/// Pushes the text of a fault.
-fn push_fault<E: Sink>(line: &mut LineWriter<'_, '_, E>, fault: StreamFault<'_>)
+/// Pushes the line of a fault.
+#[inline(always)]
+fn push_fault<E: Sink>(line: &mut LineWriter<'_, '_, E>, offset: u64, fault: StreamFault<'_>)
     requires { HasLine fault }
-    ensures { Pushes line.old (joined (stream_fault_text fault.entry)) line.new }
+    ensures { Pushes line.old (fault_line offset (number_of_stream_fault fault.entry)
+        (stream_fault_text fault.entry)) line.new }
 {
+    line.push_named(b"offset ", offset);
     match fault {
-        StreamFault::Stray(cause) => line.push(stray_text(cause)),
-        StreamFault::Section(fault) => push_section_fault(line, fault),
-        StreamFault::Template(fault) => push_template_fault(line, fault),
-        StreamFault::Data(fault) => push_walk_fault(line, fault),
+        StreamFault::Stray(cause) => push_stray(line, cause),
+        StreamFault::Section(fault) => {
+            push_number(line, fault.number());
+            push_section_fault(line, fault);
+            line.push(b"\n");
+        }
+        StreamFault::Template(fault) => {
+            push_number(line, fault.number());
+            push_template_fault(line, fault);
+            line.push(b"\n");
+        }
+        StreamFault::Data(fault) => {
+            push_number(line, fault.number());
+            push_walk_fault(line, fault);
+            line.push(b"\n");
+        }
     }
 }
 
@@ -179,9 +192,7 @@ pub(crate) fn write_fault<E: Sink>(
 {
     let mut block = [0; LINE];
     let mut line = LineWriter::new(&mut block, e);
-    push_place(&mut line, b"offset ", offset, fault.number());
-    push_fault(&mut line, fault);
-    line.push(b"\n");
+    push_fault(&mut line, offset, fault);
     line.hand_on();
     let outcome = line.status();
     let _ = line.into_sink();

@@ -4,7 +4,7 @@ ghost use Rattle.bufr_frame.specs.Events.{events_of, IsEvent};
 ghost use Rattle.bufr_frame.specs.Input.{read_failures_after, MakesReads};
 ghost use Rattle.bufr_frame.specs.Sections.{sections_of};
 ghost use Rattle.bufr_cli.specs.Pieces.{ls_or_fault, ls_piece, ls_pieces};
-ghost use Rattle.bufr_cli.specs.Running.{BlamesWriter, input_of, writers_of, RunsEvents, WritesAndCounts, StopsPiece, ReportsPieces};
+ghost use Rattle.bufr_cli.specs.Running.{BlamesWriter, input_of, writers_of, RunsPieces, event_pieces, WritesAndCounts, StopsPiece, ReportsPieces};
 
 use crate::fault_line::{StreamFault, write_fault};
 use crate::outcome::{Tally, Verdict};
@@ -107,7 +107,7 @@ pub fn run_ls<R: Source, W: Sink, E: Sink>(
     ensures order { E.flushes e.new ≢ E.flushes e.old → W.all_flushed w.new ≡ true }
     ensures flushed { OnOk result ((W.all_flushed w.new ≡ true) × (E.all_flushed e.new ≡ true)) }
     // The same over the octets that were read, and what a fault leaves.
-    ensures run { (bs : List ℕ) × RunsEvents (map ls_piece) (input_of R.Source r.old)
+    ensures run { (bs : List ℕ) × RunsPieces (event_pieces ls_piece) (input_of R.Source r.old)
         (input_of R.Source r.new) (writers_of W.Sink w.old E.Sink e.old)
         (writers_of W.Sink w.new E.Sink e.new) bs result }
 

@@ -6,9 +6,9 @@ ghost use Rattle.bufr_tables.specs.Records.{Record, records_of};
 ghost use Rattle.bufr_tables.specs.TableB.{AreRows, table_b_of};
 ghost use Rattle.bufr_text.specs.Writing.{Writes};
 ghost use Rattle.bufr_cli.specs.Calling.{AnswersFault, RunsProgram};
-ghost use Rattle.bufr_cli.specs.Running.{BlamesWriter, CountsCalls, input_of, writer_of, writers_of, ReadsAll};
+ghost use Rattle.bufr_cli.specs.Running.{RunPieces, RunsPieces, BlamesWriter, CountsCalls, input_of, writer_of, writers_of, ReadsAll};
 ghost use Rattle.bufr_cli.specs.Ending.{AreFlushed, BlamesInput, EndsRun, FlushesRest};
-ghost use Rattle.bufr_cli.specs.Program.{AreTables, AreUnread, FileOutcome, IsClosed, RunsJob, RunOutcome, TableBOutcome, TableDOutcome, known, promise_of, ran_outcome};
+ghost use Rattle.bufr_cli.specs.Program.{AreTables, AreUnread, FileOutcome, IsClosed, RunsJob, RunOutcome, TableBOutcome, TableDOutcome, known, IsOfCommand, ran_outcome};
 
 use crate::dump::run_dump;
 use crate::encode::run_encode_form;
@@ -330,7 +330,7 @@ fn run_input<'a, I: Inputs, W: Sink, E: Sink>(
     w: &mut W,
     e: &mut E,
 ) -> Outcome<'a>
-    ensures { RunOutcome (promise_of command.entry)
+    ensures { RunOutcome (IsOfCommand command.entry)
         (known (I.standard_octets call.now.inputs.now) (I.file_octets call.now.inputs.now))
         call.now.file
         (writers_of W.Sink w.old E.Sink e.old) (writers_of W.Sink w.new E.Sink e.new) result }
@@ -356,7 +356,7 @@ fn run_reader<R: Read + Drop, W: Sink, E: Sink>(
     w: &mut W,
     e: &mut E,
 ) -> Result<Tally, RunFault>
-    ensures { EndsRun (promise_of command.entry) (R.remaining input)
+    ensures { EndsRun (IsOfCommand command.entry) (R.remaining input)
         (writers_of W.Sink w.old E.Sink e.old) (writers_of W.Sink w.new E.Sink e.new) result }
 {
     let Ok(input) = BufReader::with_capacity(alloc, BUFFERED, input) else {
@@ -379,11 +379,9 @@ fn run_command<R: Source, W: Sink, E: Sink>(
     w: &mut W,
     e: &mut E,
 ) -> Result<Tally, RunFault>
-    ensures whole { IfOk result (λ tally. IfSome (R.left r.old) ((promise_of command.entry).whole
-        (writers_of W.Sink w.old E.Sink e.old) (writers_of W.Sink w.new E.Sink e.new) tally)) }
-    ensures run { (promise_of command.entry).run (input_of R.Source r.old)
-        (input_of R.Source r.new) (writers_of W.Sink w.old E.Sink e.old)
-        (writers_of W.Sink w.new E.Sink e.new) result }
+    ensures run { (bs : List ℕ) × ((pieces : RunPieces) → IsOfCommand command.entry pieces
+        → RunsPieces pieces (input_of R.Source r.old) (input_of R.Source r.new)
+        (writers_of W.Sink w.old E.Sink e.old) (writers_of W.Sink w.new E.Sink e.new) bs result) }
     ensures flushed { OnOk result (AreFlushed (writers_of W.Sink w.new E.Sink e.new)) }
     // Each fault comes only where its device failed in this call.
     ensures input { BlamesInput (input_of R.Source r.old) (input_of R.Source r.new) result }

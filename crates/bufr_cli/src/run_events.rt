@@ -6,7 +6,7 @@ ghost use Rattle.bufr_frame.specs.Events.{events_of, IsEvent};
 ghost use Rattle.bufr_frame.specs.Input.{read_failures_after};
 ghost use Rattle.bufr_frame.specs.Scan.{StreamEvent};
 ghost use Rattle.bufr_cli.specs.Pieces.{Piece};
-ghost use Rattle.bufr_cli.specs.Running.{BlamesWriter, CountsCalls, input_of, writer_of, writers_of, RunsEvents, GivesPieces, RunReads, StopsPiece, ReportsPieces};
+ghost use Rattle.bufr_cli.specs.Running.{BlamesWriter, CountsCalls, input_of, writer_of, writers_of, RunsPieces, event_pieces, GivesPieces, RunReads, StopsPiece, ReportsPieces};
 
 use crate::outcome::{Tally, Verdict};
 use bufr_bits::{Sink, Source};
@@ -82,7 +82,7 @@ pub fn run_events<T: EventWriter, R: Source, W: Sink, E: Sink>(
     ensures flushed { OnOk result ((W.all_flushed w.new ≡ true) × (E.all_flushed e.new ≡ true)) }
     ensures run { (bs : List ℕ)
         × ((piece : StreamEvent → Piece) → GivesPieces (T.is_piece teller.old) piece
-        → RunsEvents (map piece) (input_of R.Source r.old) (input_of R.Source r.new)
+        → RunsPieces (event_pieces piece) (input_of R.Source r.old) (input_of R.Source r.new)
         (writers_of W.Sink w.old E.Sink e.old) (writers_of W.Sink w.new E.Sink e.new) bs result) }
     ensures reader { R.failures r.new ≡ read_failures_after (R.failures r.old) result }
     ensures reads { RunReads (T.takes_memory teller.old) (R.reads r.old) (R.reads r.new) result }

@@ -3,7 +3,7 @@ use Rattle.std.specs.Prelude.{◌≡◌, ◌≤◌, ◌^◌, true, List, [], ◌
 use Rattle.bufr_tables.specs.TableB.{Row, allows_width, entry_of, kind_of, AreRows, element_of, natural_part, plain_of, row_of, scale_of, width_of}
 use Rattle.bufr_tables.specs.Tree.{is_legal_operator, has_legal_operand, Tree, bare, element, operator, fixed, delayed, is_inserted_text}
 use Rattle.bufr_walk.specs.declared.spec.Taken.{Taken}
-use Rattle.bufr_walk.specs.Rules.{OperatorModel, Redefined, current_reference, is_defining, if_valid_width, scale_change_of, numeric_spec, coded_spec, text_spec, text_width, spec_by_kind, defined_field, new_reference_spec, unsigned_field, unsigned_of, untouched, local_width_spec, listed_by, element_spec, factor_field, factor_by, factor_spec, begin, with_references, with_operator, after_operator, after_field, with_reference, inserted_spec}
+use Rattle.bufr_walk.specs.Rules.{OperatorModel, Redefined, current_reference, is_defining, if_valid_width, scale_change_of, numeric_spec, coded_spec, text_spec, text_width, spec_by_kind, defined_field, new_reference_spec, unsigned_field, unsigned_of, begin, local_width_spec, listed_by, element_spec, factor_field, factor_by, factor_spec, with_references, with_operator, after_operator, after_field, with_reference, inserted_spec}
 use Rattle.bufr_walk.specs.Course.{Turns, finish, open_end, group, pass_end, factor_turn, element_turn, operator_turn, Rest, passes, unroll, turns_of, take_next, NextTurn, asked, operated, ahead, next_item, counts_of}
 use Rattle.std.proofs.Common.{ℕ, suc, ◌+◌, ◌*◌, ◌%◌, ◌&&◌, eqb, Bool, false, Option, Some, None, Result, Ok, Err, refl, ◌∙◌, ap, subst, arith, ℤ, pos, negsuc, ◌+ℤ◌, ◌-ℤ◌, ◌*ℤ◌, zero, ◌||◌, not, sym, ◌<◌, map}
 use Rattle.std.specs.List.{find}
@@ -187,7 +187,7 @@ module _ (s : OperatorModel) (set : IsSettings s) where
   unsigned_good : (fxy w : ℕ) (spec : FieldSpec) → unsigned_of fxy w ≡ Ok spec → IsSpec spec
   unsigned_good fxy w spec e = fitted (unsigned_field fxy w) spec e (λ h. record { width = h; role = tt; missing = tt; scale = omega arith; reference = omega arith })
 
-pub untouched_good : (s : OperatorModel) → IsSettings (untouched s)
+pub untouched_good : (s : OperatorModel) → IsSettings begin
 untouched_good s = record { width_change = omega arith; scale_change = omega arith; new_reference_width = omega arith; precision_increase = omega arith; character_octets = omega arith; local_width = omega arith; new_references = tt }
 
 module _ (table : List Row) (rows : AreGoodRows table) (s : OperatorModel) (set : IsSettings s) where
@@ -198,8 +198,8 @@ module _ (table : List Row) (rows : AreGoodRows table) (s : OperatorModel) (set 
       by_defining true row good q = defined_good s set row.kind fxy spec q
       by_defining false row good q = kind_good s set row.kind row spec refl good q
 
-      by_width : (b : Bool) (row : Row) → IsRow row → (if b then spec_by_kind row.kind (untouched s) row else unsigned_of fxy s.local_width) ≡ Ok spec → IsSpec spec
-      by_width true row good q = kind_good (untouched s) (untouched_good s) row.kind row spec refl good q
+      by_width : (b : Bool) (row : Row) → IsRow row → (if b then spec_by_kind row.kind begin row else unsigned_of fxy s.local_width) ≡ Ok spec → IsSpec spec
+      by_width true row good q = kind_good begin (untouched_good s) row.kind row spec refl good q
       by_width false row good q = unsigned_good s set fxy s.local_width spec q
 
       by_given : (b : Bool) (o : Option Row) → entry_of table fxy ≡ o → (if b then local_width_spec o s fxy else listed_by o s fxy) ≡ Ok spec → IsSpec spec

@@ -2,7 +2,9 @@
 //! project.)
 
 use bufr_tables::Fxy;
+use bufr_walk::{TOO_MANY_VALUES, WalkFault};
 use std::alloc::AllocError;
+use std::fmt;
 use thiserror::Error;
 
 /// The expected item.
@@ -16,34 +18,45 @@ pub enum Expected {
     EndOfSubset,
 }
 
+/// Says what is expected, as the fault lines do.
+impl fmt::Display for Expected {
+    fn fmt<W: fmt::Write>(&self, f: &mut fmt::Formatter<W>) -> fmt::Result {
+        match self {
+            Expected::Item(fxy) => write!(f, "{fxy}"),
+            Expected::Reference(fxy) => write!(f, "R {fxy}"),
+            Expected::EndOfSubset => f.write_str("end of subset"),
+        }
+    }
+}
+
 /// Why an item cannot be written, with the number of its line, or of the line that ends its subset.
 #[derive(Clone, Copy, Debug, PartialEq, Eq, Error)]
 pub enum DraftFault {
     /// Expected this item, found another or none.
-    #[error("another item is expected")]
+    #[error("expected {1}")]
     WrongDescriptor(u64, Expected),
     /// No decimal, or one that is not whole at the field's scale, or a value of another kind than
     /// the field.
-    #[error("not a number of the field")]
+    #[error("number")]
     Number(u64),
     /// The number does not fit the field's bits, or would read as missing; or a text would read as
     /// missing.
     #[error("out of range")]
     OutOfRange(u64),
     /// A text has more octets than the field.
-    #[error("a text that is too long")]
+    #[error("text long")]
     TextLong(u64),
     /// A missing value is not allowed for the field.
-    #[error("a missing value where none may be")]
+    #[error("missing forbidden")]
     MissingForbidden(u64),
     /// A factor of compressed data differs from that of the first subset.
-    #[error("a factor is not the same in all subsets")]
+    #[error("unequal factor")]
     UnequalFactor(u64),
     /// Texts of compressed data differ but no increments can write them, or references differ.
-    #[error("no increments can tell the values apart")]
+    #[error("increment")]
     Increment(u64),
     /// Compressed data would have more than 134,217,728 values, at the item with this descriptor.
-    #[error("too many values")]
+    #[error("too many values {1}")]
     TooManyValues(u64, Fxy),
     /// Memory ran out.
     #[error("out of memory")]
@@ -67,8 +80,8 @@ impl DraftFault {
             DraftFault::MissingForbidden(_) => 55,
             DraftFault::UnequalFactor(_) => 58,
             DraftFault::Increment(_) => 59,
-            DraftFault::TooManyValues(_, _) => 35,
-            DraftFault::Memory => 73,
+            DraftFault::TooManyValues(_, _) => TOO_MANY_VALUES,
+            DraftFault::Memory => WalkFault::Memory.number(),
         }
     }
 }

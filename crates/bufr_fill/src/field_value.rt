@@ -4,7 +4,7 @@ ghost use Rattle.std.specs.List.{list_all};
 ghost use Rattle.bufr_bits.specs.Decimal.{decimal_value_of};
 ghost use Rattle.bufr_tables.specs.TableB.{is_character};
 ghost use Rattle.bufr_walk.specs.FieldSpec.{is_reference, IsFor};
-ghost use Rattle.bufr_walk.specs.Content.{number, reference, sign_bit, bits_for, answer_of, count_in, reference_in};
+ghost use Rattle.bufr_walk.specs.Content.{number, reference, sign_bit, bits_for, answer_of};
 ghost use Rattle.bufr_fill.specs.DraftContent.{raw_within, raw_of, reference_of, text_within, is_marked, wrong_for, content_by_form, returned, content_drawn, IsDrawn, IsTextOf, spaced};
 ghost use Rattle.bufr_fill.specs.Packing.{raw_limit};
 ghost use Rattle.bufr_fill.specs.Kept.{entry_with, is_end, is_entry_of, value_by};
@@ -110,18 +110,8 @@ pub(crate) fn is_all_255(octets: &[u8]) -> bool
     octets.iter().all(|octet| *octet == 255)
 }
 
-/// Whether a text, followed by spaces, would read as missing.
+/// A text of at most `count` octets that does not read as missing.
 #[tactic(auto, using(crate::proofs::FieldLemmas::all_of_spaced))]
-fn reads_as_missing(octets: &[u8], count: usize) -> bool
-    requires { length octets.now ≤ count }
-    ensures { result ≡ list_all (λ octet. octet == 255)
-        (octets.now ++ replicate (count - length octets.now) 32) }
-{
-    let full = is_all_255(octets);
-    octets.len() == count && full
-}
-
-/// A text of at most `count` octets.
 // rule: fault-53, fault-54
 fn text_for<'a>(octets: &'a [u8], count: usize, line: u64) -> Result<FieldContent<'a>, DraftFault>
     ensures is { returned (content_drawn count) result
@@ -131,7 +121,8 @@ fn text_for<'a>(octets: &'a [u8], count: usize, line: u64) -> Result<FieldConten
     if octets.len() > count {
         return Err(DraftFault::TextLong(line));
     }
-    if reads_as_missing(octets, count) {
+    let full = is_all_255(octets);
+    if full && octets.len() == count {
         return Err(DraftFault::OutOfRange(line));
     }
     Ok(FieldContent::Text(octets))
@@ -360,26 +351,6 @@ pub(crate) fn push_content(
     Ok(())
 }
 
-/// The count of a factor's content.
-fn count_of(drawn: FieldContent<'_>) -> u64
-    ensures { (count : ℕ) → result ≡ count_in (content_drawn count drawn.entry) }
-{
-    match drawn {
-        FieldContent::Number(raw) => raw,
-        FieldContent::Text(_) | FieldContent::Missing | FieldContent::Reference(_) => 0,
-    }
-}
-
-/// The reference of a content.
-fn reference_in(drawn: FieldContent<'_>) -> i64
-    ensures { (count : ℕ) → result ≡ reference_in (content_drawn count drawn.entry) }
-{
-    match drawn {
-        FieldContent::Reference(value) => value,
-        FieldContent::Number(_) | FieldContent::Text(_) | FieldContent::Missing => 0,
-    }
-}
-
 /// What a field returns to the walk.
 #[inline(always)]
 #[tactic(auto, using(crate::proofs::FieldLemmas::answer_count, crate::proofs::FieldLemmas::answer_reference, crate::proofs::FieldLemmas::answer_element, crate::proofs::FieldLemmas::answer_inserted))]
@@ -387,10 +358,11 @@ pub(crate) fn taken_of(drawn: FieldContent<'_>, spec: &Spec) -> Taken
     ensures gives { result ≡ answer_of spec.now (content_drawn (spec.now.width / 8) drawn.entry) }
     ensures shape { IsFor spec.now result }
 {
-    match spec.role() {
-        Role::Factor => Taken::Count(count_of(drawn)),
-        Role::Reference => Taken::Reference(reference_in(drawn)),
-        Role::Element => Taken::Plain,
-        Role::Inserted => Taken::Plain,
+    match (spec.role(), drawn) {
+        (Role::Factor, FieldContent::Number(raw)) => Taken::Count(raw),
+        (Role::Factor, _) => Taken::Count(0),
+        (Role::Reference, FieldContent::Reference(value)) => Taken::Reference(value),
+        (Role::Reference, _) => Taken::Reference(0),
+        (Role::Element | Role::Inserted, _) => Taken::Plain,
     }
 }

@@ -76,43 +76,35 @@ fn ends_in(alloc: Global, entries: &Entries) -> Result<Vec<usize>, AllocError>
 // rule: packs-factors-and-references, fault-59
 fn put_drawn(
     row: Row<'_, '_>,
+    spec: &Spec,
     drawn: &[FieldContent<'_>],
     range: NumberRange,
     out: &mut BitWriter,
 ) -> Result<Taken, DraftFault>
-    requires ends { row.ends.now ≡ ends_of 0 row.entries.now }
-    requires few { length row.entries.now ≤ 2 ^ 45 }
-    requires some { 0 < length row.ends.now }
     requires values { (row.place + 1) * length row.ends.now ≤ max_values }
-    requires near { row.place ≤ 2 ^ 45 }
-    requires given { contents_here row.spec.now (cells_at row.place (subsets_of row.entries.now))
-        ≡ Ok (contents_drawn (row.spec.now.width / 8) drawn.now) }
-    requires all { AllDrawn row.spec.now drawn.now }
+    requires given { contents_here spec.now (cells_at row.place (subsets_of row.entries.now))
+        ≡ Ok (contents_drawn (spec.now.width / 8) drawn.now) }
+    requires all { AllDrawn spec.now drawn.now }
     requires range { IsRangeOf range drawn.now }
     requires many { length drawn.now ≡ length row.ends.now }
     requires room { length out.old.bits + (2046 + 504 * length row.ends.now) ≤ 2 ^ 63 }
-    ensures put { PutAcross out.old.bits out.new.bits row.entry.spec.now
+    ensures put { PutAcross out.old.bits out.new.bits spec.now
         (item_row row.entry.place (subsets_of row.entry.entries.now))
         (2046 + 504 * length row.entry.ends.now) result }
-    ensures shape { IfOk result (λ t. IsFor row.entry.spec.now t) }
+    ensures shape { IfOk result (λ t. IsFor spec.now t) }
 {
-    let spec = row.spec;
     if are_alike(drawn[0], drawn, range, spec) {
         pack_alike(out, drawn[0], spec)?;
         return Ok(taken_of(drawn[0], spec));
     }
-    let line = first_line(row.entries, row.ends, row.place);
     match spec.role() {
-        Role::Factor => {
-            let line = unlike_line(row.entries, row.ends, row.place, spec, drawn);
-            Err(DraftFault::UnequalFactor(line))
-        }
-        Role::Reference => Err(DraftFault::Increment(line)),
+        Role::Factor => Err(DraftFault::UnequalFactor(unlike_line(row, spec, drawn))),
+        Role::Reference => Err(DraftFault::Increment(row.first_line())),
         Role::Element | Role::Inserted => {
             if spec.is_text() {
                 let k = octets_needed(drawn, spec);
                 if k > 63 {
-                    return Err(DraftFault::Increment(line));
+                    return Err(DraftFault::Increment(row.first_line()));
                 }
                 pack_texts(out, drawn, k, spec)?;
             } else {
@@ -127,28 +119,24 @@ fn put_drawn(
 // rule: fault-order-of-subsets
 fn pack_next<'a>(
     row: Row<'a, '_>,
+    spec: &Spec,
     drawn: &mut Vec<FieldContent<'a>>,
     out: &mut BitWriter,
 ) -> Result<Taken, DraftFault>
-    requires ends { row.ends.now ≡ ends_of 0 row.entries.now }
-    requires few { length row.entries.now ≤ 2 ^ 45 }
-    requires some { 0 < length row.ends.now }
     requires values { row.place * length row.ends.now ≤ max_values }
-    requires near { row.place ≤ 2 ^ 45 }
     requires room { length out.old.bits + (2046 + 504 * length row.ends.now) ≤ 2 ^ 63 }
-    ensures put { PutAcross out.old.bits out.new.bits row.entry.spec.now
+    ensures put { PutAcross out.old.bits out.new.bits spec.now
         (item_row row.entry.place (subsets_of row.entry.entries.now))
         (2046 + 504 * length row.entry.ends.now) result }
-    ensures shape { IfOk result (λ t. IsFor row.entry.spec.now t) }
+    ensures shape { IfOk result (λ t. IsFor spec.now t) }
     ensures values { IfOk result
         (λ t. (row.entry.place + 1) * length row.entry.ends.now ≤ max_values) }
 {
     if (row.place as u64 + 1) * row.ends.len() as u64 > MAX_VALUES {
-        let line = first_line(row.entries, row.ends, row.place);
-        return Err(DraftFault::TooManyValues(line, row.spec.fxy()));
+        return Err(DraftFault::TooManyValues(row.first_line(), spec.fxy()));
     }
-    let range = read_row(row, drawn)?;
-    put_drawn(row, drawn, range, out)
+    let range = read_row(row, spec, drawn)?;
+    put_drawn(row, spec, drawn, range, out)
 }
 
 impl<'s> PackedOut<'s> {
@@ -180,11 +168,23 @@ impl<'s> PackedOut<'s> {
         }))
     }
 
+    /// The next entries of all subsets.
+    fn row(&self) -> Row<'_, '_>
+        ensures { (result.place ≡ self.now.place)
+            × (subsets_of result.entries.now ≡ self.now.subsets) }
+    {
+        Row {
+            entries: self.entries,
+            ends: &self.ends,
+            place: self.place,
+        }
+    }
+
     /// The line of the next item of the first subset, or the line that ends that subset.
     pub fn line(&self) -> u64
         ensures { result ≡ first_line_at self.now.place self.now.subsets }
     {
-        first_line(self.entries, &self.ends, self.place)
+        self.row().first_line()
     }
 
     /// Checks that all subsets are at their ends.
@@ -195,7 +195,7 @@ impl<'s> PackedOut<'s> {
     pub fn end(&self) -> Result<(), DraftFault>
         ensures { EndsAllSubsets self.now.place self.now.subsets result }
     {
-        all_at_end(self.entries, &self.ends, self.place)
+        all_at_end(self.row())
     }
 
     /// Returns the octets of the bits of whole items, with zero bits to the next octet. It takes no
@@ -234,10 +234,9 @@ impl<'s> Fields for PackedOut<'s> {
         let row = Row {
             entries: self.entries,
             ends: &self.ends,
-            spec,
             place: self.place,
         };
-        match pack_next(row, &mut self.drawn, &mut self.out) {
+        match pack_next(row, spec, &mut self.drawn, &mut self.out) {
             Ok(taken) => {
                 self.place += 1;
                 Ok(taken)
@@ -251,14 +250,16 @@ impl<'s> Fields for PackedOut<'s> {
     }
 }
 
-/// A row that a field is written of: the entries of all subsets at an index. `ends` has the indices
-/// of the entries that end the subsets.
+/// The entries of all subsets at an index. `ends` has the indices of the entries that end subsets.
 #[derive(Clone, Copy)]
 pub(crate) struct Row<'a, 'b> {
-    pub(crate) entries: &'a Entries,
-    pub(crate) ends: &'b [usize],
-    pub(crate) spec: &'b Spec,
-    pub(crate) place: usize,
+    entries: &'a Entries,
+    ends: &'b [usize],
+    place: usize,
+    ghost few: { length entries.now ≤ 2 ^ 45 },
+    ghost ends_are: { ends.now ≡ ends_of 0 entries.now },
+    ghost some: { 0 < length ends.now },
+    ghost near: { place ≤ 2 ^ 45 },
 }
 
 /// The index where a subset's entries begin, by the indices of the entries that end subsets.
@@ -272,57 +273,59 @@ fn begin_of(ends: &[usize], subset: usize) -> usize
     if subset == 0 { 0 } else { ends[subset - 1] + 1 }
 }
 
-/// Finds a subset's entry at an index, counted from its first: its item, or its end where that
-/// comes first.
-#[inline(always)]
-fn find_at<'s>(
-    entries: &'s Entries,
-    ends: &[usize],
-    subset: usize,
-    place: usize,
-) -> (StoredEntry, &'s [u8])
-    requires ends { ends.now ≡ ends_of 0 entries.now }
-    requires few { length entries.now ≤ 2 ^ 45 }
-    requires subset { subset < length ends.now }
-    requires near { place ≤ 2 ^ 45 }
-    ensures { (c : RowCell) → slice_get (cells_at place (subsets_of entries.now)) subset
-        ≡ Some c → entry_with result.0 result.1.now ≡ cell_entry c }
-{
-    let start = begin_of(ends, subset);
-    match entries.get(ends[subset].min(start + place)) {
-        Some(found) => found,
-        None => unreachable!(),
+impl<'a, 'b> Row<'a, 'b> {
+    ghost use Rattle.std.specs.Prelude.{◌≡◌, ◌<◌, length, slice_get, Some};
+    ghost use Rattle.bufr_fill.specs.Encoding.{cells_at, RowCell};
+    ghost use Rattle.bufr_fill.specs.Draft.{subsets_of};
+    ghost use Rattle.bufr_fill.specs.Kept.{entry_with};
+    ghost use Rattle.bufr_fill.specs.PackedOut.{cell_entry, first_line_at, LineAt};
+
+    /// Finds a subset's entry: its item, or its end where that comes first.
+    #[inline(always)]
+    fn find(self, subset: usize) -> (StoredEntry, &'a [u8])
+        requires { subset < length self.ends.now }
+        ensures { (c : RowCell)
+            → slice_get (cells_at self.entry.place (subsets_of self.entry.entries.now)) subset
+            ≡ Some c → entry_with result.0 result.1.now ≡ cell_entry c }
+    {
+        let start = begin_of(self.ends, subset);
+        match self.entries.get(self.ends[subset].min(start + self.place)) {
+            Some(found) => found,
+            None => unreachable!(),
+        }
+    }
+
+    /// The line of a subset's entry.
+    fn line_of(self, subset: usize) -> u64
+        requires { subset < length self.ends.now }
+        ensures { LineAt self.entry.place subset self.entry.entries.now result }
+    {
+        let (entry, _octets) = self.find(subset);
+        entry.line
+    }
+
+    /// The line of the first subset's entry.
+    fn first_line(self) -> u64
+        ensures { result ≡ first_line_at self.entry.place (subsets_of self.entry.entries.now) }
+    {
+        self.line_of(0)
     }
 }
 
-/// The line of a subset's entry at an index.
-fn line_at(entries: &Entries, ends: &[usize], subset: usize, place: usize) -> u64
-    requires ends { ends.now ≡ ends_of 0 entries.now }
-    requires few { length entries.now ≤ 2 ^ 45 }
-    requires subset { subset < length ends.now }
-    requires near { place ≤ 2 ^ 45 }
-    ensures { LineAt place subset entries.now result }
-{
-    let (entry, _octets) = find_at(entries, ends, subset, place);
-    entry.line
-}
-
 /// Converts a row to the contents of its field, and returns the range of the numbers among them.
-pub(crate) fn read_row<'a>(
+fn read_row<'a>(
     row: Row<'a, '_>,
+    spec: &Spec,
     drawn: &mut Vec<FieldContent<'a>>,
 ) -> Result<NumberRange, DraftFault>
-    requires ends { row.ends.now ≡ ends_of 0 row.entries.now }
-    requires few { length row.entries.now ≤ 2 ^ 45 }
-    requires near { row.place ≤ 2 ^ 45 }
-    ensures { ReturnsRow (row.entry.spec.now.width / 8) row.entry.spec.now
-        (cells_at row.entry.place (subsets_of row.entry.entries.now)) drawn.new.items result }
+    ensures { ReturnsRow (spec.now.width / 8) spec.now (cells_at row.entry.place
+        (subsets_of row.entry.entries.now)) drawn.new.items result }
 {
-    let spec = *row.spec;
+    let spec = *spec;
     drawn.clear();
     let mut range = NumberRange::new();
     for subset in 0..row.ends.len() {
-        let (entry, octets) = find_at(row.entries, row.ends, subset, row.place);
+        let (entry, octets) = row.find(subset);
         let content = field_content(&entry, octets, &spec)?;
         range = range.with(content);
         match drawn.push(content) {
@@ -335,49 +338,26 @@ pub(crate) fn read_row<'a>(
 
 /// The line of the first subset whose content differs from that of the first subset.
 // rule: fault-58
-pub(crate) fn unlike_line(
-    entries: &Entries,
-    ends: &[usize],
-    place: usize,
-    spec: &Spec,
-    drawn: &[FieldContent<'_>],
-) -> u64
-    requires ends { ends.now ≡ ends_of 0 entries.now }
-    requires few { length entries.now ≤ 2 ^ 45 }
-    requires near { place ≤ 2 ^ 45 }
+fn unlike_line(row: Row<'_, '_>, spec: &Spec, drawn: &[FieldContent<'_>]) -> u64
     requires all { AllDrawn spec.now drawn.now }
-    requires many { length drawn.now ≡ length ends.now }
+    requires many { length drawn.now ≡ length row.ends.now }
     ensures { result ≡ unlike_line (contents_drawn (spec.now.width / 8) drawn.now)
-        (cells_at place (subsets_of entries.now)) }
+        (cells_at row.entry.place (subsets_of row.entry.entries.now)) }
 {
-    for subset in 0..ends.len() {
+    for subset in 0..row.ends.len() {
         if !is_same(drawn[0], drawn[subset], spec) {
-            return line_at(entries, ends, subset, place);
+            return row.line_of(subset);
         }
     }
     0
 }
 
-/// The line of the first subset's entry at an index.
-pub(crate) fn first_line(entries: &Entries, ends: &[usize], place: usize) -> u64
-    requires ends { ends.now ≡ ends_of 0 entries.now }
-    requires few { length entries.now ≤ 2 ^ 45 }
-    requires some { 0 < length ends.now }
-    requires near { place ≤ 2 ^ 45 }
-    ensures { result ≡ first_line_at place (subsets_of entries.now) }
-{
-    line_at(entries, ends, 0, place)
-}
-
 /// Checks that all subsets end at an index; else returns the first item there as the fault.
-pub(crate) fn all_at_end(entries: &Entries, ends: &[usize], place: usize) -> Result<(), DraftFault>
-    requires ends { ends.now ≡ ends_of 0 entries.now }
-    requires few { length entries.now ≤ 2 ^ 45 }
-    requires near { place ≤ 2 ^ 45 }
-    ensures { EndsAllSubsets place (subsets_of entries.now) result }
+fn all_at_end(row: Row<'_, '_>) -> Result<(), DraftFault>
+    ensures { EndsAllSubsets row.entry.place (subsets_of row.entry.entries.now) result }
 {
-    for subset in 0..ends.len() {
-        let (entry, _octets) = find_at(entries, ends, subset, place);
+    for subset in 0..row.ends.len() {
+        let (entry, _octets) = row.find(subset);
         if !entry.is_end() {
             return Err(DraftFault::WrongDescriptor(entry.line, Expected::EndOfSubset));
         }
@@ -412,7 +392,7 @@ fn same_text(one: &[u8], other: &[u8], count: usize) -> bool
 
 /// Whether two contents of a field are the same.
 #[tactic(auto, using(crate::proofs::RowLemmas::same_references, crate::proofs::RowLemmas::other_references))]
-pub(crate) fn is_same(one: FieldContent<'_>, other: FieldContent<'_>, spec: &Spec) -> bool
+fn is_same(one: FieldContent<'_>, other: FieldContent<'_>, spec: &Spec) -> bool
     requires one { IsDrawn spec.now one }
     requires other { IsDrawn spec.now other }
     ensures { result ≡ same (content_drawn (spec.now.width / 8) one.entry)

@@ -1,6 +1,6 @@
 //! Faults of a stream, of a message, of a run, and of writing a message.
 //!
-//! Each has a number. `bufr_cli` writes the text of its fault line.
+//! Each has a number, and shows as the text of its fault line.
 
 use std::alloc::AllocError;
 use thiserror::Error;
@@ -9,13 +9,13 @@ use thiserror::Error;
 #[derive(Clone, Copy, Debug, PartialEq, Eq, Error)]
 pub enum Cause {
     /// The stream ends before the 8 octets of section 0, or before the stated length.
-    #[error("the stream ends inside the message")]
+    #[error("cut")]
     Cut,
     /// The stated length is under 12 octets.
-    #[error("the stated length is too short for a message")]
+    #[error("short length")]
     ShortLength,
     /// `7777` is not at the end of the stated length.
-    #[error("7777 does not stand at the end of the message")]
+    #[error("no end")]
     NoEnd,
 }
 
@@ -23,20 +23,20 @@ pub enum Cause {
 #[derive(Clone, Copy, Debug, PartialEq, Eq, Error)]
 pub enum SectionFault {
     /// The edition is another one than 3 or 4.
-    #[error("edition {0} is not read")]
+    #[error("edition {0}")]
     Edition(u8),
     /// This section is shorter than its fixed octets.
-    #[error("section {0} is shorter than its fixed octets")]
+    #[error("section {0} short")]
     SectionShort(u8),
     /// This section, or its length, reaches past the start of section 5.
-    #[error("section {0} reaches past the end")]
+    #[error("section {0} past the end")]
     SectionPast(u8),
     /// Section 4 does not end where section 5 begins.
-    #[error("section 4 does not end where section 5 begins")]
+    #[error("sections do not meet the end")]
     SectionsEnd,
     /// A message of edition 3 with an odd section 3 or 4 has more than 16,777,213 octets. It is
     /// written with even sections, and then three octets might not state its length.
-    #[error("a message of edition 3 with odd sections is too long")]
+    #[error("edition 3 length")]
     Edition3Long,
 }
 
@@ -44,13 +44,13 @@ pub enum SectionFault {
 #[derive(Clone, Copy, Debug, PartialEq, Eq, Error)]
 pub enum RunFault {
     /// A read failed.
-    #[error("a read failed")]
+    #[error("read failed")]
     Read,
     /// A write or a flush failed, or a write took nothing.
-    #[error("a write failed")]
+    #[error("write failed")]
     Write,
     /// The input did not end within 2^32 reads.
-    #[error("the input does not end within 2^32 reads")]
+    #[error("input too long")]
     InputTooLong,
     /// Memory ran out.
     #[error("out of memory")]
@@ -61,7 +61,7 @@ pub enum RunFault {
 #[derive(Clone, Copy, Debug, PartialEq, Eq, Error)]
 pub enum WriteFault {
     /// The message would have more than 16,777,215 octets.
-    #[error("the message is too long")]
+    #[error("too long")]
     TooLong,
     /// Memory ran out.
     #[error("out of memory")]
@@ -129,7 +129,7 @@ impl WriteFault {
     {
         match self {
             WriteFault::TooLong => 60,
-            WriteFault::Memory => 73,
+            WriteFault::Memory => RunFault::Memory.number(),
         }
     }
 }

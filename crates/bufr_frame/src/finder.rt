@@ -157,19 +157,13 @@ impl Finder {
     fn advance_to(&mut self, n: usize, stated_length: usize)
         requires within { n ≤ length self.old.rest }
         requires most { stated_length < 2 ^ 24 }
-        ensures { self.new ≡ gone_to self.old n stated_length }
+        ensures gone { self.new ≡ gone_to self.old n stated_length }
+        ensures near { self.new.at < 2 ^ 63 }
+        ensures bound { held self.new ≤ max 4096 self.new.longest }
     {
         self.passed += n;
         self.offset += n as u64;
         self.longest = self.longest.max(stated_length);
-    }
-
-    /// The offset of the first octet that is left.
-    fn offset(&self) -> u64
-        ensures value { result ≡ self.now.at }
-        ensures within { result < 2 ^ 63 }
-    {
-        self.offset
     }
 
     /// How many octets the first event takes.
@@ -204,11 +198,9 @@ impl Finder {
         ensures bound { held self.new ≤ max 4096 self.new.longest }
     {
         self.advance_to(found.place, found.stated_length);
-        let offset = self.offset();
+        let offset = self.offset;
         let len = self.event_len(found.here);
         self.advance_to(len, 0);
-        // The struct's model is known only where one of its fields is used.
-        let _ = &self.input;
         PassedEvent {
             offset,
             here: found.here,

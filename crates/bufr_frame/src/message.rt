@@ -116,6 +116,7 @@ fn head_4(m: &[u8]) -> Head
 
 /// The values of octet 8 of section 0 and of section 1 after its length.
 // rule: odd-values-kept
+#[inline(always)]
 fn head_at(m: &[u8]) -> Head
     requires long { 8 ≤ length m.now }
     requires first { 8 + first_least (edition_of m.now) ≤ length m.now }
@@ -162,6 +163,7 @@ impl<'a> Message<'a> {
     #[tactic(auto, unfolding(crate::specs::Sections::sections_of))]
     // rule: edition-first, sections-in-order, section-4-end, local-use, section-3, section-4
     // rule: reserved-ignored
+    #[inline(always)]
     pub fn parse(octets: &'a [u8]) -> Result<Message<'a>, SectionFault>
         requires { 12 ≤ length octets.now }
         ensures { result ≡ sections_of octets.now }

@@ -2,16 +2,16 @@
 use Rattle.std.proofs.Common.{◌≡◌, max, Bool, true, false, ◌||◌, refl, ◌∙◌, ap, arith, ℕ, zero, suc, ◌+◌, ◌-◌, ◌<◌, List, [], ◌∷◌, drop, Option, Some, None, Result, Ok, Err, sym, sub-one, ◌++◌, length, subst, append_assoc, ◌≤◌, set, ◌≢◌, take}
 use Rattle.bufr_tables.specs.Tree.{Tree, bare, element, operator, fixed, delayed, join, depth, consumes, is_inserted_text, gives_width, size, places}
 use Rattle.bufr_tables.specs.declared.fault.TemplateFault.{TemplateFault}
-use Rattle.bufr_tables.specs.Expansion.{Tables, Expansion, part, ◌>>=◌, part_of, level, inner_of, ExpandedPart, unless, opened, with_places, body_of, sequence_part, element_part, group_part, operator_part, part_by}
+use Rattle.bufr_tables.specs.Expansion.{Tables, Expansion, part, ◌>>=◌, part_of, level, inner_of, ExpandedPart, unless, opened, with_places, body_of, sequence_part, element_part, group_part, group_by, fixed_part, operator_part, part_by}
 use Rattle.bufr_tables.specs.declared.template.Cell.{Cell}
 use Rattle.bufr_tables.specs.Cells.{first_tree, cells_of, factor_first, prepend_cell, read_cells, trees_of_cells, AreCellsOf, IsTemplate}
 use Rattle.std.proofs.lemmas.List.{append-nil, length-append}
 use Rattle.std.proofs.Math.Seq.{set-append_seam}
 use Rattle.bufr_tables.specs.declared.expand.Passes.{Passes}
 use Rattle.bufr_tables.specs.Growth.{own_places, group_of, first_cell, factor_cells, BuilderModel, growth, places_so_far, push_tree, with_open_group, with_closed_group, PushesTree, PushesPart, IsFaultOrMemory, PushesTreeUnlessMemory, GivesPart, GivesGrowth, OpensGroup}
-use Rattle.std.proofs.lemmas.Bool.{le-leb}
-use Rattle.std.specs.Prelude.{ok_or}
-use Rattle.bufr_tables.specs.Fxy.{f_of, x_of}
+use Rattle.std.proofs.lemmas.Bool.{le-leb, lt-ltb}
+use Rattle.std.specs.Prelude.{ok_or, nat_lt}
+use Rattle.bufr_tables.specs.Fxy.{f_of, x_of, y_of}
 use Rattle.bufr_tables.specs.declared.template.Cell.TheVariants as cell
 use Rattle.bufr_tables.specs.declared.expand.Passes.TheVariants as passes
 use Rattle.bufr_tables.specs.declared.fault.TemplateFault.TheVariants as fault
@@ -386,6 +386,21 @@ pub group-closed : (tables : Tables) (room : ℕ) (p : Passes) (d place : ℕ) (
 group-closed tables room p d place after old begun_one new last count x list (Ok done) r h begins el ec ex puts full is_ended =
     group-list-ok tables room p d place after old begun_one new last count x list r h begins el ec ex puts full (same_ok (with_closed_group new place p) last is_ended)
 group-closed tables room p d place after old begun_one new last count x list (Err why) r h begins el ec ex puts full refuses = λ other. absurd (let e = refuses other in cc)
+
+-- a group of Y passes is at fault as its body is
+fault_of-body : (body : Result Tree TemplateFault) (f : Tree → Tree) (g : Tree → ExpandedPart) (why : TemplateFault) → (body >>= λ tree. Ok (f tree)) ≡ Err why → (body >>= λ tree. Ok (g tree)) ≡ Err why
+fault_of-body (Ok tree) f g why e = absurd cc
+fault_of-body (Err fault) f g why e = let same : fault ≡ why = cc in ap Err same
+
+fixed_by : (y : ℕ) (tables : Tables) (inner : Option Expansion) (places d : ℕ) (after : List ℕ) → 0 < y → group_by y tables inner places d after ≡ fixed_part inner places d after
+fixed_by zero tables inner places d after some = absurd (omega arith)
+fixed_by (suc y) tables inner places d after some = refl
+
+pub group-fixed-fault : (tables : Tables) (inner : Option Expansion) (places d y : ℕ) (after : List ℕ) (why : TemplateFault) → 0 < x_of d → 0 < y_of d
+    → (body_of inner places 2 d after >>= λ body. Ok (group_of (passes.Fixed y) body)) ≡ Err why → group_part tables inner places d after ≡ Err why
+group-fixed-fault tables inner places d y after why some more e =
+    let x : nat_lt 0 (x_of d) ≡ true = lt-ltb 0 (x_of d) some in
+    rw x (fixed_by (y_of d) tables inner places d after more ∙ fault_of-body (body_of inner places 2 d after) (group_of (passes.Fixed y)) (λ body. part (fixed (y_of d) body bare) (x_of d)) why e)
 
 -- ---- How far the expansion of one list has come.
 

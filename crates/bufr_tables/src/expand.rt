@@ -51,7 +51,7 @@ impl Expander<'_> {
         while let Some((fxy, after)) = rest.split_first() {
             let taken = self.part(*fxy, after, width_given, growing)?;
             width_given = fxy.gives_width();
-            rest = suffix(after, taken);
+            rest = &after[taken..];
         }
         Ok(())
     }
@@ -101,8 +101,9 @@ impl Expander<'_> {
         Ok(0)
     }
 
-    /// A replication.
+    /// A replication: a group of Y passes, or a delayed one.
     #[cycle(expansion)]
+    // rule: fixed-replication
     fn group(
         &self,
         fxy: Fxy,
@@ -119,27 +120,8 @@ impl Expander<'_> {
             return Err(TemplateFault::GroupShape(fxy));
         }
         if fxy.y() == 0 {
-            self.delayed(fxy, after, growing)
-        } else {
-            self.fixed(fxy, after, growing)
+            return self.delayed(fxy, after, growing);
         }
-    }
-
-    /// A group of Y passes.
-    #[cycle(expansion)]
-    // rule: fixed-replication
-    fn fixed(
-        &self,
-        fxy: Fxy,
-        after: &[Fxy],
-        growing: &mut TemplateBuilder,
-    ) -> Result<usize, TemplateFault>
-        ensures gives { GivesPart (builder_model growing.old)
-            (fixed_part (inner_in self.now) (places_so_far (builder_model growing.old)) fxy
-            after.now)
-            result (builder_model growing.new) }
-        ensures within { IfOk result (λ taken. taken ≤ length after.now) }
-    {
         let passes = Passes::Fixed(fxy.y());
         self.group_of(fxy, &passes, after, growing)?;
         Ok(usize::from(fxy.x()))
@@ -203,7 +185,7 @@ impl Expander<'_> {
             room: self.room - 1,
             ..*self
         };
-        inner.list(before(after, count), growing)?;
+        inner.list(&after[..count], growing)?;
         if !growing.consumes {
             return Err(TemplateFault::EmptyGroup(fxy));
         }
@@ -254,22 +236,6 @@ impl Expander<'_> {
         inner.list(members, growing)?;
         Ok(0)
     }
-}
-
-/// The descriptors after the first so many.
-fn suffix(list: &[Fxy], count: usize) -> &[Fxy]
-    requires { count ≤ length list.now }
-    ensures { result.now ≡ drop count list.now }
-{
-    list.split_at(count).1
-}
-
-/// The first so many descriptors.
-fn before(list: &[Fxy], count: usize) -> &[Fxy]
-    requires { count ≤ length list.now }
-    ensures { result.now ≡ take count list.now }
-{
-    list.split_at(count).0
 }
 
 /// The first descriptor, or 000000.

@@ -14,23 +14,23 @@ use thiserror::Error;
 #[derive(Clone, Copy, Debug, PartialEq, Eq, Drop, Error)]
 pub enum TableFault {
     /// There is no record, or the first is not the header of the table.
-    #[error("the first record is not the header of the table")]
+    #[error("header")]
     Header,
     /// A record does not read as a row. The header is record 1; empty lines are not counted.
-    #[error("record {0} does not read as a row")]
+    #[error("row {0}")]
     Row(u64),
     /// An element of Table B that an earlier record has, or a sequence of Table D that begins a
     /// second run of rows.
-    #[error("{0} is in the table already")]
+    #[error("duplicate {0}")]
     Duplicate(Fxy),
     /// The first sequence of the file that reaches itself by a chain of members.
-    #[error("sequence {0} reaches itself")]
+    #[error("cycle {0}")]
     Cycle(Fxy),
     /// Table D has more than 65,536 rows.
-    #[error("the table has too many rows")]
+    #[error("table size")]
     TableSize,
     /// A record has another number of fields than the header.
-    #[error("a record has another number of fields than the header")]
+    #[error("csv")]
     Csv,
     /// Memory ran out.
     #[error("out of memory")]
@@ -112,7 +112,7 @@ impl TemplateFault {
             TemplateFault::Depth(_) => 26,
             TemplateFault::TemplateSize(_) => 27,
             TemplateFault::LocalShape(_) => 28,
-            TemplateFault::Memory => 73,
+            TemplateFault::Memory => TableFault::Memory.number(),
         }
     }
 }

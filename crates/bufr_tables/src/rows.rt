@@ -123,7 +123,8 @@ pub(crate) fn integer(text: &[u8]) -> Option<i64>
     }
 }
 
-/// Whether a text begins with `-`.
+/// Whether a text begins with `-`. (Were `strip_prefix` called here too, it would no longer be
+/// put into the reading of a dump's lines, and encoding reports took 3 % more instructions.)
 fn is_negative(text: &[u8]) -> bool
     ensures { result ≡ (slice_index text.now 0 == 45) }
 {
@@ -143,10 +144,7 @@ fn without_first(text: &[u8]) -> &[u8]
 fn positive(size: u64) -> Option<i64>
     ensures { result ≡ if_i64 (pos size) }
 {
-    if size >= 1 << 63 {
-        return None;
-    }
-    Some(size as i64)
+    0i64.checked_add_unsigned(size)
 }
 
 /// The number below zero of this size, where an `i64` holds it.
@@ -154,13 +152,7 @@ fn positive(size: u64) -> Option<i64>
 fn negative(size: u64) -> Option<i64>
     ensures { result ≡ if_i64 (negated size) }
 {
-    if size == 0 {
-        return Some(0);
-    }
-    if size > 1 << 63 {
-        return None;
-    }
-    Some(-((size - 1) as i64) - 1)
+    0i64.checked_sub_unsigned(size)
 }
 
 /// The number that one or more digits write, or the greatest `u64` where it is over that.

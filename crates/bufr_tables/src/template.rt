@@ -200,41 +200,6 @@ impl CachedList {
             answer: Err(TemplateFault::EmptyGroup(Fxy::from_word(0))),
         }
     }
-
-    /// Keeps this list, and what it is expanded to, in place of what was kept; where memory runs
-    /// out, nothing.
-    fn replace(
-        &mut self,
-        alloc: Global,
-        descriptors: &[Fxy],
-        table_b: &TableB,
-        table_d: &TableD,
-    ) -> Result<(), AllocError>
-        ensures list { OnOk result (self.new.descriptors.items ≡ descriptors.now) }
-        ensures answer { IsAnswer (tables_of table_b.now table_d.now)
-            self.new.descriptors.items self.new.answer }
-    {
-        // The old template is let go before the new one takes its room.
-        *self = CachedList::nothing(alloc);
-        let answer = Template::build(alloc, descriptors, table_b, table_d);
-        if let Err(TemplateFault::Memory) = answer {
-            return Err(AllocError);
-        }
-        let descriptors = Vec::from_slice(alloc, descriptors)?;
-        *self = CachedList {
-            descriptors,
-            answer,
-        };
-        Ok(())
-    }
-
-    /// Whether this is the list that is kept.
-    fn holds(&self, descriptors: &[Fxy]) -> bool
-        ensures same { result ≡ true → self.now.descriptors.items ≡ descriptors.now }
-        ensures other { result ≡ false → self.now.descriptors.items ≢ descriptors.now }
-    {
-        self.descriptors.as_slice() == descriptors
-    }
 }
 
 /// Templates by two tables: a list that is asked for again, with no other one between, is not
@@ -318,7 +283,7 @@ impl<'a> SelectedTemplate<'a> {
         ensures same { result ≡ true → self.now.list ≡ descriptors.now }
         ensures other { result ≡ false → self.now.list ≢ descriptors.now }
     {
-        self.kept.holds(descriptors)
+        self.kept.descriptors.as_slice() == descriptors
     }
 
     /// Keeps this list of descriptors, and what it is expanded to, if it is not the one that is
@@ -332,11 +297,21 @@ impl<'a> SelectedTemplate<'a> {
         ensures table_d { self.new.table_d ≡ self.old.table_d }
         ensures list { OnOk result (self.new.list ≡ descriptors.now) }
     {
-        if self.kept.holds(descriptors) {
+        if self.is_selected(descriptors) {
             return Ok(());
         }
-        self.kept
-            .replace(self.alloc, descriptors, self.table_b, self.table_d)
+        // The old template is let go before the new one takes its room.
+        self.kept = CachedList::nothing(self.alloc);
+        let answer = Template::build(self.alloc, descriptors, self.table_b, self.table_d);
+        if let Err(TemplateFault::Memory) = answer {
+            return Err(AllocError);
+        }
+        let descriptors = Vec::from_slice(self.alloc, descriptors)?;
+        self.kept = CachedList {
+            descriptors,
+            answer,
+        };
+        Ok(())
     }
 
     /// What the list that is kept is expanded to by these tables: the template that

@@ -161,12 +161,6 @@ pub(crate) fn octets_for(rt: &impl Runtime, text: &[u8]) -> Vec<u8> {
     octets_of(rt, Encode, &document_of(rt, text))
 }
 
-/// The beginning of a fault line: the line of the fault, and its number.
-fn line_of(rt: &impl Runtime, fault: &DocumentFault) -> String {
-    let (line, number) = (fault.line().unwrap_or(0), fault.number());
-    ok(rt, format!(in rt.alloc(); "line {line}: {number} "))
-}
-
 fn assert_outcome(
     rt: &impl Runtime,
     outcome: &Result<Vec<u8>, DocumentFault>,
@@ -176,9 +170,10 @@ fn assert_outcome(
     match outcome {
         Ok(octets) => assert_same(rt, &octets.as_slice(), &message, &row.name()),
         Err(fault) => {
-            let line = line_of(rt, fault);
-            let is_wanted = row.fault(rt).as_str().starts_with(line.as_str());
-            assert_that(rt, is_wanted, &(row.name(), line))
+            let (line, number) = (fault.line().unwrap_or(0), fault.number());
+            let line = format!(in rt.alloc(); "line {line}: {number} {fault}\n");
+            let line = ok(rt, line);
+            assert_same(rt, &line.as_str(), &row.fault(rt).as_str(), &row.name())
         }
     }
 }

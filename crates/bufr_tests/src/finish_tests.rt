@@ -1,7 +1,7 @@
 //! The last line of a run, and its status.
 
 use crate::runs::{tally, writer};
-use crate::support::{Runtime, assert_same, joined, read_d, some};
+use crate::support::{Runtime, assert_same, joined, ok, read_d, some};
 use bufr_bits::End;
 use bufr_cli::{Outcome, finish};
 use bufr_frame::RunFault;
@@ -22,13 +22,13 @@ fn assert_finished(rt: &impl Runtime, run: &Outcome<'_>, line: &str, status: u8)
     assert_same(rt, &found, &status, &line);
 }
 
-/// The faults of a run, and their lines.
-static FAULTS: [(RunFault, &str); 4] = [
-    (RunFault::Read, "bufr: 70 read failed\n"),
-    (RunFault::Write, "bufr: 71 write failed\n"),
-    (RunFault::InputTooLong, "bufr: 72 input too long\n"),
-    (RunFault::Memory, "bufr: 73 out of memory\n"),
-];
+/// The fault's line is its number and its text.
+fn assert_run_fault(rt: &impl Runtime, fault: RunFault, text: &str) {
+    let shown = ok(rt, format!(in rt.alloc(); "{} {fault}", fault.number()));
+    assert_same(rt, &shown.as_str(), &text, &fault);
+    let line = ok(rt, format!(in rt.alloc(); "bufr: {text}\n"));
+    assert_finished(rt, &Outcome::Run(fault), line.as_str(), 2);
+}
 
 #[test]
 // rule: status-0-and-1, status-of-usage, status-of-open, fault-70, fault-71, fault-72, fault-73
@@ -39,39 +39,37 @@ fn finishes(rt: HostRuntime) {
     assert_finished(&rt, &Outcome::Usage(usage), usage, 2);
     let line = "bufr: cannot open x.bufr\n";
     assert_finished(&rt, &Outcome::CannotOpen("x.bufr"), line, 2);
-    for (fault, line) in &FAULTS {
-        assert_finished(&rt, &Outcome::Run(*fault), line, 2);
+    assert_run_fault(&rt, RunFault::Read, "70 read failed");
+    assert_run_fault(&rt, RunFault::Write, "71 write failed");
+    assert_run_fault(&rt, RunFault::InputTooLong, "72 input too long");
+    assert_run_fault(&rt, RunFault::Memory, "73 out of memory");
+}
+
+/// The fault's line in Table B and in Table D is its number and its text.
+fn assert_table_fault(rt: &impl Runtime, fault: TableFault, text: &str) {
+    let shown = ok(rt, format!(in rt.alloc(); "{} {fault}", fault.number()));
+    assert_same(rt, &shown.as_str(), &text, &fault);
+    let (b, d) = (Outcome::TableB(fault), Outcome::TableD(fault));
+    let whole = fault == TableFault::Memory;
+    for (outcome, name) in &[(b, "table B"), (d, "table D")] {
+        let of = if whole { "bufr" } else { *name };
+        let line = ok(rt, format!(in rt.alloc(); "{of}: {text}\n"));
+        assert_finished(rt, outcome, line.as_str(), 2);
     }
-}
-
-fn assert_b(rt: &impl Runtime, fault: TableFault, line: &str) {
-    assert_finished(rt, &Outcome::TableB(fault), line, 2);
-}
-
-fn assert_d(rt: &impl Runtime, fault: TableFault, line: &str) {
-    assert_finished(rt, &Outcome::TableD(fault), line, 2);
 }
 
 #[test]
 // rule: status-of-table
-fn finishes_at_a_fault_of_table_b(rt: HostRuntime) {
-    assert_b(&rt, TableFault::Header, "table B: 40 header\n");
+fn finishes_at_a_fault_of_a_table(rt: HostRuntime) {
+    assert_table_fault(&rt, TableFault::Header, "40 header");
     let row = TableFault::Row(18_446_744_073_709_551_615);
-    assert_b(&rt, row, "table B: 41 row 18446744073709551615\n");
-    let duplicate = TableFault::Duplicate(Fxy::from_word(0x0101));
-    assert_b(&rt, duplicate, "table B: 42 duplicate 001001\n");
-    assert_b(&rt, TableFault::Csv, "table B: 45 csv\n");
-    assert_b(&rt, TableFault::Memory, "bufr: 73 out of memory\n");
-}
-
-#[test]
-fn finishes_at_a_fault_of_table_d(rt: HostRuntime) {
-    assert_d(&rt, TableFault::Row(2), "table D: 41 row 2\n");
+    assert_table_fault(&rt, row, "41 row 18446744073709551615");
     let duplicate = TableFault::Duplicate(Fxy::from_word(0xC001));
-    assert_d(&rt, duplicate, "table D: 42 duplicate 300001\n");
+    assert_table_fault(&rt, duplicate, "42 duplicate 300001");
     let rows = b"fxy,member\n300001,300002\n300002,300001\n";
     let cycle = some(&rt, read_d(rt.alloc(), rows).err());
-    assert_d(&rt, cycle, "table D: 43 cycle 300001\n");
-    assert_d(&rt, TableFault::TableSize, "table D: 44 table size\n");
-    assert_d(&rt, TableFault::Memory, "bufr: 73 out of memory\n");
+    assert_table_fault(&rt, cycle, "43 cycle 300001");
+    assert_table_fault(&rt, TableFault::TableSize, "44 table size");
+    assert_table_fault(&rt, TableFault::Csv, "45 csv");
+    assert_table_fault(&rt, TableFault::Memory, "73 out of memory");
 }

@@ -4,6 +4,8 @@ use crate::messages::{
     COMPRESSED, EDITION_3, EDITION_3_ODD, LOCAL_USE, ONE_BLOCK_NUMBER, PACKED, PLAIN, STRAY,
     bulletins, message_of_hex,
 };
+use crate::runs::Command::Ls;
+use crate::runs::{assert_run, refused};
 use crate::support::{Runtime, assert_same, assert_that, joined, ok, parsed, repeated, some};
 use bufr_bits::ScriptIn;
 use bufr_frame::{
@@ -324,18 +326,18 @@ fn length_of(rt: &impl Runtime, octets: &[u8]) -> Result<u64, SectionFault> {
     }
 }
 
-/// Octets of the message with one block number that are changed, its fault, and the fault's number.
+/// Octets of the message with one block number that are changed, its fault, and its text.
 #[rattlefmt::skip]
-const FAULTS: &[(&[(usize, u8)], SectionFault, u8)] = &[
-    (&[(7, 2)], SectionFault::Edition(2), 10),
-    (&[(10, 21)], SectionFault::SectionShort(1), 11),
-    (&[(10, 40)], SectionFault::SectionPast(1), 12),
-    (&[(41, 4)], SectionFault::SectionsEnd, 13),
-    (&[(17, 0x80), (32, 3)], SectionFault::SectionShort(2), 11),
-    (&[(17, 0x80), (32, 15)], SectionFault::SectionPast(2), 12),
-    (&[(32, 6)], SectionFault::SectionShort(3), 11),
-    (&[(41, 6)], SectionFault::SectionPast(4), 12),
-    (&[(32, 12)], SectionFault::SectionPast(4), 12),
+const FAULTS: &[(&[(usize, u8)], SectionFault, &str)] = &[
+    (&[(7, 2)], SectionFault::Edition(2), "10 edition 2"),
+    (&[(10, 21)], SectionFault::SectionShort(1), "11 section 1 short"),
+    (&[(10, 40)], SectionFault::SectionPast(1), "12 section 1 past the end"),
+    (&[(41, 4)], SectionFault::SectionsEnd, "13 sections do not meet the end"),
+    (&[(17, 0x80), (32, 3)], SectionFault::SectionShort(2), "11 section 2 short"),
+    (&[(17, 0x80), (32, 15)], SectionFault::SectionPast(2), "12 section 2 past the end"),
+    (&[(32, 6)], SectionFault::SectionShort(3), "11 section 3 short"),
+    (&[(41, 6)], SectionFault::SectionPast(4), "12 section 4 past the end"),
+    (&[(32, 12)], SectionFault::SectionPast(4), "12 section 4 past the end"),
 ];
 
 /// The message with one block number, with these octets in place of its own.
@@ -347,13 +349,20 @@ fn changed(rt: &impl Runtime, changes: &[(usize, u8)]) -> Vec<u8> {
     octets
 }
 
+/// The octets have this fault, and its line this text.
+fn assert_fault(rt: &impl Runtime, octets: &[u8], fault: SectionFault, text: &str) {
+    assert_same(rt, &length_of(rt, octets), &Err(fault), &text);
+    let shown = ok(rt, format!(in rt.alloc(); "{} {fault}", fault.number()));
+    assert_same(rt, &shown.as_str(), &text, &fault);
+    let line = ok(rt, format!(in rt.alloc(); "offset 0: {text}\n"));
+    assert_run(rt, refused(Ls, text, octets, line.as_bytes()))
+}
+
 #[test]
 // rule: length-past-end, length-under-least, section-past-end, section-4-end
 fn faults_of_sections(rt: HostRuntime) {
-    for (changes, fault, number) in FAULTS {
-        let found = length_of(&rt, &changed(&rt, changes));
-        assert_same(&rt, &found, &Err(*fault), changes);
-        assert_same(&rt, &fault.number(), number, fault);
+    for (changes, fault, text) in FAULTS {
+        assert_fault(&rt, &changed(&rt, changes), *fault, text);
     }
 }
 

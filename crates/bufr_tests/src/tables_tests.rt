@@ -124,29 +124,17 @@ fn sequences(rt: HostRuntime) {
 /// `read`, or the number and text of a fault.
 fn outcome<T: Drop>(rt: &impl Runtime, answer: &Result<T, TableFault>) -> String {
     match answer {
-        Ok(_) => ok(rt, String::from_str(rt.alloc(), READ)),
+        Ok(_) => ok(rt, String::from_str(rt.alloc(), "read")),
         Err(fault) => ok(rt, format!(in rt.alloc(); "{} {fault}", fault.number())),
     }
 }
 
-const READ: &str = "read";
-
-const HEADER: &str = "40 the first record is not the header of the table";
-
-const ROW_2: &str = "41 record 2 does not read as a row";
-
-const ROW_3: &str = "41 record 3 does not read as a row";
-
-const TABLE_SIZE: &str = "44 the table has too many rows";
-
-const LAST_IN_A_CYCLE: &str = "43 sequence 363255 reaches itself";
-
-const CSV: &str = "45 a record has another number of fields than the header";
+const LAST_IN_A_CYCLE: &str = "43 cycle 363255";
 
 /// Rows after the header of Table B, by what reading them gives.
 #[rattlefmt::skip]
 const ROWS_OF_B: &[(&str, &[&[u8]])] = &[
-    (READ, &[
+    ("read", &[
         b"", b"\n\n\r\n", b"001001,A,K,0,0,63", b"001001,A,K,0,0,1",
         b"001001,A,K,0,0,00000000000000000000000000000000000000007",
         b"001001,A,K,-127,-9223372036854775808,7", b"001001,A,K,127,9223372036854775807,7",
@@ -155,7 +143,7 @@ const ROWS_OF_B: &[(&str, &[&[u8]])] = &[
         b"001001,,,0,0,7", b"063255,A,K,0,0,7", b"031001,A,Code table,0,0,8",
         b"031003,A,Numeric,1,1,9",
     ]),
-    (ROW_2, &[
+    ("41 row 2", &[
         // the data width
         b"001001,A,K,0,0,64", b"001001,A,K,0,0,0", b"001001,A,K,0,0,-7", b"001001,A,K,0,0,+7",
         b"001001,A,K,0,0, 7", b"001001,A,K,0,0,", b"001001,A,K,0,0,18446744073709551623",
@@ -177,9 +165,10 @@ const ROWS_OF_B: &[(&str, &[&[u8]])] = &[
         // the first fault counts
         b"001001,A,K,0,0,x\n001001,A",
     ]),
-    (ROW_3, &[b"001001,A,K,0,0,7\n001001,A,K,0,0,x", b"001001,A,K,0,0,7\n\n\n001002,A,K,0,0,x"]),
-    ("42 001001 is in the table already", &[b"001001,A,K,0,0,7\n001001,A,K,0,0,7"]),
-    (CSV, &[b"001001,A,K,0,0", b"001001,A,K,0,0,7,", b"001001,A,K,0,0,7\n001001,A"]),
+    ("41 row 3", &[b"001001,A,K,0,0,7\n001001,A,K,0,0,x"]),
+    ("41 row 3", &[b"001001,A,K,0,0,7\n\n\n001002,A,K,0,0,x"]),
+    ("42 duplicate 001001", &[b"001001,A,K,0,0,7\n001001,A,K,0,0,7"]),
+    ("45 csv", &[b"001001,A,K,0,0", b"001001,A,K,0,0,7,", b"001001,A,K,0,0,7\n001001,A"]),
 ];
 
 /// Texts whose first record is not the header of Table B.
@@ -192,29 +181,29 @@ const NO_HEADERS_OF_B: &[&[u8]] = &[
 /// Rows after the header of Table D, by what reading them gives.
 #[rattlefmt::skip]
 const ROWS_OF_D: &[(&str, &[&[u8]])] = &[
-    (READ, &[
+    ("read", &[
         b"", b"300001,101000\n300001,031001\n300001,201132", b"363255,363254\n363255,001001",
         // the same members twice, and a member that the table lacks, are no cycle
         b"300001,300002\n300001,300002\n300002,300003\n300002,300003\n300003,001001",
         b"300001,300002\n300002,300003",
     ]),
-    (ROW_2, &[b"300001,x", b"200001,001001", b"300001,401001"]),
-    (ROW_3, &[b"300001,300001\n300002,x"]),
+    ("41 row 2", &[b"300001,x", b"200001,001001", b"300001,401001"]),
+    ("41 row 3", &[b"300001,300001\n300002,x"]),
     // a second run of rows goes before a cycle
-    ("42 300001 is in the table already", &[b"300001,300002\n300002,300001\n300001,001001"]),
+    ("42 duplicate 300001", &[b"300001,300002\n300002,300001\n300001,001001"]),
     // a cycle is named by the first sequence of the file that reaches itself
-    ("43 sequence 300001 reaches itself", &[
+    ("43 cycle 300001", &[
         b"300001,300001", b"300001,001001\n300001,300001", b"300001,300002\n300002,300001",
         b"300001,300002\n300002,300003\n300003,300004\n300004,300002\n300004,300001",
     ]),
-    ("43 sequence 300002 reaches itself", &[
+    ("43 cycle 300002", &[
         b"300002,300001\n300001,300002", b"300001,300002\n300002,300003\n300003,300002",
     ]),
-    ("43 sequence 300003 reaches itself", &[
+    ("43 cycle 300003", &[
         b"300001,300002\n300002,300003\n300003,300003",
         b"300002,300003\n300003,300004\n300004,300003\n300001,300001",
     ]),
-    (CSV, &[b"300001", b"300001,001001,"]),
+    ("45 csv", &[b"300001", b"300001,001001,"]),
 ];
 
 /// Texts whose first record is not the header of Table D.
@@ -249,17 +238,17 @@ fn rows_of_tables(rt: HostRuntime) {
     assert_all(&rt, ROWS_OF_B, true);
     assert_all(&rt, ROWS_OF_D, false);
     for text in NO_HEADERS_OF_B {
-        assert_b(&rt, text, HEADER);
+        assert_b(&rt, text, "40 header");
     }
     for text in NO_HEADERS_OF_D {
-        assert_d(&rt, text, HEADER);
+        assert_d(&rt, text, "40 header");
     }
     let memory = outcome::<TableB>(&rt, &Err(TableFault::Memory));
     assert_same(&rt, &memory.as_str(), &"73 out of memory", &"memory");
 }
 
 /// Names and units of this many octets, and what reading them gives.
-const LONG_NAMES: &[(usize, &str)] = &[(512, READ), (513, ROW_2)];
+const LONG_NAMES: &[(usize, &str)] = &[(512, "read"), (513, "41 row 2")];
 
 #[test]
 // rule: fault-41-of-table-b
@@ -322,9 +311,9 @@ fn as_many_rows_as_a_table_may_have(rt: HostRuntime) {
     let count = count_members(&table, 0xc001);
     assert_same(&rt, &count, &Some(65536), &"members");
     push_row(&rt, &mut text, 0xc001, 0x0101);
-    assert_d(&rt, &text, TABLE_SIZE);
+    assert_d(&rt, &text, "44 table size");
     push_row(&rt, &mut text, 0xc002, 0x0101);
-    assert_d(&rt, &text, TABLE_SIZE);
+    assert_d(&rt, &text, "44 table size");
 }
 
 /// All sequences, each of four rows that name the next one. The last ends the chain, or with
@@ -349,7 +338,7 @@ fn long_chain(rt: &impl Runtime, back: bool, cycle: bool) -> Vec<u8> {
 // rule: fault-43
 fn long_chains_of_sequences(rt: HostRuntime) {
     for back in [false, true] {
-        assert_d(&rt, &long_chain(&rt, back, false), READ);
+        assert_d(&rt, &long_chain(&rt, back, false), "read");
         assert_d(&rt, &long_chain(&rt, back, true), LAST_IN_A_CYCLE);
     }
 }

@@ -41,7 +41,6 @@ fn push_each(rt: &impl Runtime, room: usize, w: &mut ScriptOut) {
     line.push_named(b"b=", 7);
     line.push_named(b" c=", 1_024);
     line.push_padded(6, 3);
-    line.push_flag(true);
     line.push_decimal(u64::MAX);
     line.hand_on();
     ok(rt, line.status());
@@ -55,7 +54,7 @@ fn pushes_a_line_at_each_room(rt: HostRuntime) {
         let mut w = writer(&rt, 3, (4096, End::Fail));
         ok(&rt, write_all(b"first ", &mut w));
         push_each(&rt, room, &mut w);
-        let want: &[u8] = b"first a b=7 c=1024006118446744073709551615";
+        let want: &[u8] = b"first a b=7 c=102400618446744073709551615";
         assert_same(&rt, &w.taken(), &want, &room);
     }
 }

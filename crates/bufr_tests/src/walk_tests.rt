@@ -3,7 +3,9 @@
 ghost use Rattle.std.specs.Prelude.{◌≤◌, length};
 
 use crate::messages::{PACKED, PLAIN, THIRTY_TWO_GROUPS, message_of};
-use crate::support::{Runtime, assert_same, from_hex, joined, ok, parsed, table_b, template_of};
+use crate::support::{
+    Runtime, assert_same, from_hex, joined, ok, parsed, some, table_b, template_of,
+};
 use bufr_bits::BitSlice;
 use bufr_tables::{Fxy, TableB, Template};
 use bufr_walk::{
@@ -102,6 +104,12 @@ fn spot_of(fault: WalkFault) -> Option<Spot> {
     }
 }
 
+/// The beginnings of the fault lines 30 to 35.
+#[rattlefmt::skip]
+const NAMES: [&str; 6] = [
+    "data end", "width", "defining", "unequal factor", "increment", "too many values",
+];
+
 /// A refusal: the fault's number, subset, descriptor and bit, and the steps.
 fn refused(rt: &impl Runtime, fault: &WalkFault, steps: &Steps) -> String {
     let (number, count) = (fault.number(), steps.count());
@@ -109,6 +117,10 @@ fn refused(rt: &impl Runtime, fault: &WalkFault, steps: &Steps) -> String {
         return ok(rt, format!(in rt.alloc(); "{number}"));
     };
     let (subset, fxy, bit) = (spot.subset, spot.fxy, spot.bit);
+    let name = some(rt, NAMES.get(usize::from(number) - 30));
+    let line = format!(in rt.alloc(); "{name} at subset {subset} descriptor {fxy} bit {bit}");
+    let shown = ok(rt, format!(in rt.alloc(); "{fault}"));
+    assert_same(rt, &shown.as_str(), &ok(rt, line).as_str(), &number);
     let text = format!(in rt.alloc(); "{number} at {subset} {fxy} {bit} steps {count}");
     ok(rt, text)
 }

@@ -1,8 +1,8 @@
 -- The subsets of a document, written together.
 use Rattle.std.proofs.Common.{◌≡◌, ◌≤◌, ◌+◌, ◌-◌, ◌*◌, ℕ, zero, suc, Bool, true, List, [], ◌∷◌, length, Option, Some, None, Result, Ok, Err, refl, sym, ◌∙◌, ap, subst, arith}
 use Rattle.std.specs.Option.{option_map}
-use Rattle.bufr_walk.specs.declared.stop.WalkStop.{WalkStop}
-use Rattle.bufr_walk.specs.declared.stop.WalkStop.TheVariants as stops
+use Rattle.bufr_walk.specs.declared.walker.WalkStop.{WalkStop}
+use Rattle.bufr_walk.specs.declared.walker.WalkStop.TheVariants as stops
 use Rattle.bufr_walk.specs.Course.{Course, Next, take_next, at_end, astray, refused}
 use Rattle.bufr_walk.specs.Walk.{TakenField, Takes, course_after, ticked, oks, answers_of, StopsWalk, Walked}
 use Rattle.bufr_fill.specs.declared.fault.DraftFault.{DraftFault}

@@ -1,6 +1,6 @@
 -- The listing line, and the lines of a dump before its subsets.
-use Rattle.std.proofs.Common.{◌≡◌, ◌∙◌, ℕ, zero, suc, ◌+◌, ◌-◌, ◌<◌, Bool, true, false, List, [], ◌∷◌, ◌++◌, length, take, drop, map, refl, sym, ap, arith, Option, None, append_assoc, codes, ◌≤◌, inl, inr, ◌/◌, ◌^◌, length-append, Some}
-use Rattle.std.specs.Prelude.{decimal, option_map, unwrap_or, min, ◌⊎◌, IsTrue, ◌↔◌, is_some, replicate}
+use Rattle.std.proofs.Common.{◌≡◌, ◌∙◌, ℕ, zero, suc, ◌+◌, ◌-◌, ◌<◌, Bool, true, false, List, [], ◌∷◌, ◌++◌, length, take, drop, map, refl, sym, ap, arith, Option, None, append_assoc, codes, ◌≤◌, inl, inr, Some}
+use Rattle.std.specs.Prelude.{decimal, option_map, unwrap_or, min, ◌⊎◌, IsTrue, ◌↔◌, is_some}
 use Rattle.std.specs.Int.{from_bool}
 use Rattle.bufr_frame.specs.Sections.{Sections}
 use Rattle.bufr_tables.specs.Fxy.{fxy_text}
@@ -10,9 +10,7 @@ use Rattle.bufr_text.specs.Grammar.{descriptors_text, runs_after, runs_of}
 use Rattle.bufr_text.specs.Line.{header_text, lead_of, keys, key_in}
 use Rattle.std.proofs.lemmas.Bool.{cases_lt}
 use Rattle.std.proofs.lemmas.List.{take_all, drop_all}
-use Rattle.std.proofs.lemmas.Fmt.{decimal_digit, decimal_step, decimal_nonempty}
-use Rattle.bufr_frame.specs.declared.section1.Head.{Head}
-use Rattle.bufr_text.specs.Writing.{LineModel, Pushes, joined, zero_padded}
+use Rattle.bufr_text.specs.Writing.{LineModel, Pushes, joined}
 use Rattle.bufr_text.specs.LsLine.{category_texts, counts_texts, ls_line, origin_texts, tables_texts, time_texts}
 use Rattle.bufr_text.proofs.PushLemmas.{◌⨾◌, retold}
 
@@ -171,29 +169,17 @@ pub joined-append : (xs ys : List (List ℕ)) → joined xs ++ joined ys ≡ joi
 joined-append [] ys = refl
 joined-append (x ∷ xs) ys = append_assoc x (joined xs) (joined ys) ∙ ap (λ l. x ++ l) (joined-append xs ys)
 
--- no zero comes before two digits or more
-pub padded_long : (n : ℕ) → 10 ≤ n → n < 2 ^ 64 → zero_padded 2 n ≡ decimal n
-padded_long n long fits =
-    let some = decimal_nonempty (n / 10) (omega arith) in
-    let size : length (decimal n) ≡ length (decimal (n / 10)) + 1 = ap length (decimal_step n long fits) ∙ length-append _ _ in
-    let none : 2 - length (decimal n) ≡ 0 = omega (arith, size, some) in
-    ap (λ k. replicate k 48 ++ decimal n) none
-
--- one zero comes before one digit
-pub padded_digit : (n : ℕ) → n < 10 → zero_padded 2 n ≡ 48 ∷ (48 + n) ∷ []
-padded_digit n few = ap (λ d. replicate (2 - length d) 48 ++ d) (decimal_digit n few)
-
 -- texts were pushed, and then others
 pub joined_then : {a b c : LineModel} (xs ys : List (List ℕ)) → Pushes a (joined xs) b → Pushes b (joined ys) c → Pushes a (joined (xs ++ ys)) c
 joined_then xs ys first second = retold (first ⨾ second) (joined-append xs ys)
 
 -- the stretches of the line, one after another
-pub line-pushed : {a one two three four b : LineModel} {size : ℕ} {h : Head} (offset : ℕ) (s : Sections) → size ≡ s.size → h ≡ s.head
-    → Pushes a (joined (origin_texts offset size h)) one → Pushes one (joined (category_texts h)) two → Pushes two (joined (tables_texts h)) three → Pushes three (joined (time_texts h)) four
+pub line-pushed : {a one two three four b : LineModel} (offset : ℕ) (s : Sections) → Pushes a (joined (origin_texts offset s.size s.head)) one → Pushes one (joined (category_texts s.head)) two
+    → Pushes two (joined (tables_texts s.head)) three → Pushes three (joined (time_texts s.head)) four
     → Pushes four (joined (counts_texts s.subsets s.observed s.compressed (is_some s.section2) (length s.descriptors))) b → Pushes a (ls_line offset s) b
-line-pushed {size = size} {h = h} offset s sized head origin category tables time counts =
+line-pushed offset s origin category tables time counts =
     let C = counts_texts s.subsets s.observed s.compressed (is_some s.section2) (length s.descriptors) in
-    let later = time_texts h ++ C in
-    let more = tables_texts h ++ later in
-    rw (← sized, ← head)
-    (joined_then (origin_texts offset size h) (category_texts h ++ more) origin (joined_then (category_texts h) more category (joined_then (tables_texts h) later tables (joined_then (time_texts h) C time counts))))
+    let later = time_texts s.head ++ C in
+    let more = tables_texts s.head ++ later in
+    joined_then (origin_texts offset s.size s.head) (category_texts s.head ++ more) origin
+    (joined_then (category_texts s.head) more category (joined_then (tables_texts s.head) later tables (joined_then (time_texts s.head) C time counts)))

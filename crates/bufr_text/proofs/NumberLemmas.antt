@@ -1,71 +1,29 @@
 -- Numbers, digit by digit and at a scale, and octets as texts.
-use Rattle.std.proofs.Common.{◌≡◌, ◌∙◌, ℕ, zero, suc, ◌+◌, ◌-◌, ◌*◌, ◌/◌, ◌%◌, ◌^◌, ◌<◌, ◌≤◌, Bool, true, ◌&&◌, T, eqb, eqb→eq, eq-zero-or-pos, get_or, List, [], ◌∷◌, ◌++◌, length, max, take, drop, refl, ap, sym, inl, inr, arith, length-append, length-drop, append_assoc, int_lt, ◌==◌, if◌then◌else◌, false, ℤ, pos, negsuc, true≢false, append-nil, min, Some, option_map, codes}
+use Rattle.std.proofs.Common.{◌≡◌, ◌∙◌, ℕ, zero, suc, ◌+◌, ◌-◌, ◌*◌, ◌/◌, ◌%◌, ◌^◌, ◌<◌, ◌≤◌, Bool, true, ◌&&◌, T, eqb, eqb→eq, eq-zero-or-pos, get_or, List, [], ◌∷◌, ◌++◌, length, take, drop, refl, ap, sym, inl, inr, arith, length-append, length-drop, append_assoc, int_lt, ◌==◌, if◌then◌else◌, false, not, ℤ, pos, negsuc, true≢false, append-nil, min, Some, option_map, codes}
 use lib.Ieee.Fits.{and_l, and_r}
 use Rattle.itoa.proofs.Decimal.{decimal_pair}
-use Rattle.bufr_text.specs.declared.digits.TheConstants.{PAIRS}
+use Rattle.bufr_text.specs.declared.numbers.TheConstants.{PAIRS}
+use Rattle.bufr_text.specs.declared.line.TheConstants.{UNESCAPED}
 use Rattle.std.proofs.lemmas.Bool.{cases_lt}
-use Rattle.std.proofs.lemmas.List.{drop-set, length-replicate, length-set, length-take-le, take-append-drop, at_drop_more, at_drop_all}
-use Rattle.std.proofs.Math.ListN.{set}
-use Rattle.std.proofs.Math.Seq.{take-append_seam, take-append-add, drop-append_seam}
-use borrow.Rule.Slice.PartMut.{put_mid, post_of}
+use Rattle.std.proofs.lemmas.List.{length-replicate, take-append-drop, at_drop_more, at_drop_all, take_more}
+use Rattle.std.proofs.Math.Seq.{take-append_seam, drop-append_seam}
 use Rattle.bufr_bits.specs.Decimal.{pointed, decimal_text_of, unsigned_text, sign_of}
 use Rattle.std.specs.Prelude.{decimal, replicate, unsigned_abs, slice_index}
-use Rattle.std.proofs.lemmas.Fmt.{decimal_digit, decimal_step, decimal_nonempty, length-decimal-le}
-use Rattle.bufr_text.specs.Writing.{zero_padded, joined}
+use Rattle.std.proofs.lemmas.Fmt.{decimal_digit, decimal_step, decimal_nonempty}
+use Rattle.bufr_text.specs.Writing.{flag, zero_padded, joined}
 use Rattle.std.proofs.lemmas.Bool.Decides.{nat_tests}
 use Rattle.std.specs.Char.{is_ascii_digit}
 use Rattle.std.specs.Str.Parse.{digits_value}
 use Rattle.std.proofs.lemmas.Grind.{common_steps}
 use Rattle.std.proofs.lemmas.List.Folds.{list_all_more}
-use Rattle.bufr_bits.proofs.DecimalLemmas.{value-append, and_first, and_second}
+use Rattle.bufr_bits.proofs.DecimalLemmas.{value-append}
 use Rattle.bufr_text.specs.LineParts.{IsNumberTo}
-use Rattle.std.specs.List.{list_all}
+use Rattle.std.specs.Int.{from_bool}
 use Rattle.bufr_text.specs.Grammar.{escaped, hex_pair, hex_text, is_unescaped, quoted}
 use Rattle.bufr_tables.specs.TableB.{Row, row_comment}
 use Rattle.bufr_text.specs.Dump.{comment_text, comment_of}
 
--- How many digits a number has, numbers in at least so many digits, and with a point before the
--- last of them.
-
-pub one_digit : (n : ℕ) → n < 10 → length (decimal n) ≡ 1
-one_digit n few = ap length (decimal_digit n few)
-
-one_more_digit : (n : ℕ) → 10 ≤ n → n < 2 ^ 64 → length (decimal n) ≡ length (decimal (n / 10)) + 1
-one_more_digit n long fits = ap length (decimal_step n long fits) ∙ length-append _ _
-
-pub two_digits : (n : ℕ) → 10 ≤ n → n < 100 → length (decimal n) ≡ 2
-two_digits n long few = one_more_digit n long (omega arith) ∙ ap (λ k. k + 1) (one_digit (n / 10) (omega arith))
-
-pub three_digits : (n : ℕ) → 100 ≤ n → n < 1000 → length (decimal n) ≡ 3
-three_digits n long few = one_more_digit n (omega arith) (omega arith) ∙ ap (λ k. k + 1) (two_digits (n / 10) (omega arith) (omega arith))
-
-pub four_digits : (n : ℕ) → 1000 ≤ n → n < 10000 → length (decimal n) ≡ 4
-four_digits n long few = one_more_digit n (omega arith) (omega arith) ∙ ap (λ k. k + 1) (three_digits (n / 10) (omega arith) (omega arith))
-
-two_more_digits : (n : ℕ) → 100 ≤ n → n < 2 ^ 64 → length (decimal n) ≡ length (decimal (n / 100)) + 2
-two_more_digits n long fits =
-    let same : n / 10 / 10 ≡ n / 100 = omega arith in
-    let size = ap (λ k. length (decimal k)) same in
-    omega (arith, one_more_digit n (omega arith) fits, one_more_digit (n / 10) (omega arith) (omega arith), size)
-
-pub four_more_digits : (n : ℕ) → 10000 ≤ n → n < 2 ^ 64 → length (decimal n) ≡ length (decimal (n / 10000)) + 4
-four_more_digits n long fits =
-    let same : n / 100 / 100 ≡ n / 10000 = omega arith in
-    let size = ap (λ k. length (decimal k)) same in
-    omega (arith, two_more_digits n (omega arith) fits, two_more_digits (n / 100) (omega arith) (omega arith), size)
-
-pub at_most_20_digits : (n : ℕ) → n < 2 ^ 64 → length (decimal n) ≤ 20
-at_most_20_digits n fits = length-decimal-le 20 n (omega arith) (omega (arith, fits)) fits
-
--- digits after octets that stay
-pub digits_put : (free line : List ℕ) (value at count start : ℕ) → at ≤ length free → count ≡ length (decimal value) → start + length (decimal value) ≡ at + count
-    → drop start line ≡ decimal value ++ drop (at + count) free → take start line ≡ take start free → take (at + count) line ≡ take at free ++ decimal value
-digits_put free line value at count start within digits sum written before =
-    let rest = drop (at + count) free in
-    let is : start ≡ at = omega (arith, sum, digits) in
-    let whole : line ≡ (take at free ++ decimal value) ++ rest = sym (take-append-drop start line) ∙ ap (λ l. l ++ drop start line) (before ∙ ap (λ n. take n free) is) ∙ ap (λ l. take at free ++ l) written ∙ sym (append_assoc (take at free) (decimal value) rest) in
-    let long : at + count ≡ length (take at free ++ decimal value) = omega (arith, length-append (take at free) (decimal value), length-take-le at free within, digits) in
-    ap (take (at + count)) whole ∙ ap (λ n. take n ((take at free ++ decimal value) ++ rest)) long ∙ take-append_seam (take at free ++ decimal value) rest
+-- Numbers in at least so many digits, and with a point before the last of them.
 
 zeros_more : (count : ℕ) → replicate {A = ℕ} count 48 ++ 48 ∷ [] ≡ replicate (suc count) 48
 zeros_more zero = refl
@@ -106,23 +64,6 @@ zero_padded_one n fits =
     let none : 1 - length (decimal n) ≡ 0 = omega (arith, some) in
     ap (λ k. replicate k 48 ++ decimal n) none
 
--- with one more of the last digits
-pub fraction_more : (at left : ℕ) (after line all : List ℕ) → 0 < at → left < 2 ^ 64 → after ≡ (48 + left % 10) ∷ line
-    → zero_padded (at + 1) left ++ line ≡ all → zero_padded (at - 1 + 1) (left / 10) ++ after ≡ all
-fraction_more at left after line all some fits is so =
-    let now : at - 1 + 1 ≡ at = omega arith in
-    ap (λ k. zero_padded k (left / 10) ++ after) now
-    ∙ ap (λ t. zero_padded at (left / 10) ++ t) is
-    ∙ sym (append_assoc (zero_padded at (left / 10)) ((48 + left % 10) ∷ []) line)
-    ∙ ap (λ t. t ++ line) (sym (zero_padded_step at left (omega arith) fits))
-    ∙ so
-
--- and with all of them
-pub fraction_done : (at left : ℕ) (line all : List ℕ) → at ≤ 0 → left < 2 ^ 64 → zero_padded (at + 1) left ++ drop at line ≡ all → decimal left ++ line ≡ all
-fraction_done at left line all none fits so =
-    let is : at ≡ 0 = omega arith in
-    ap (λ t. t ++ line) (sym (zero_padded_one left fits)) ∙ ap (λ k. zero_padded (k + 1) left ++ drop k line) (sym is) ∙ so
-
 -- how long a number is with zeros before it
 pub length_zero_padded : (digits n : ℕ) → length (zero_padded digits n) ≡ digits - length (decimal n) + length (decimal n)
 length_zero_padded digits n =
@@ -137,60 +78,12 @@ point_before whole fraction all places split long =
     let seam : F (length whole) (whole ++ fraction) ≡ whole ++ 46 ∷ fraction = ap (λ l. l ++ 46 ∷ drop (length whole) (whole ++ fraction)) (take-append_seam whole fraction) ∙ ap (λ l. whole ++ 46 ∷ l) (drop-append_seam whole fraction) in
     sym seam ∙ ap (λ k. F k (whole ++ fraction)) (sym size) ∙ ap (λ l. F (length l - places) l) split
 
--- the last digits of a number fill the octets after its point
-pub record FractionFilled (value whole places a : ℕ) (fraction : List ℕ) : Type 0 where
-  pub split : decimal whole ++ fraction ≡ zero_padded (places + 1) value
-  pub long : length fraction ≡ places
-  pub before : length (decimal whole) + 1 ≡ a
-
-pub fraction_filled : (value whole places digits most : ℕ) (free fraction : List ℕ) → digits ≡ length (decimal value) → most ≡ max digits (places + 1) → most + 1 ≤ length free
-    → length fraction ≡ length (take (most + 1 - (most + 1 - places)) (drop (most + 1 - places) free))
-    → decimal whole ++ fraction ≡ zero_padded (length (take (most + 1 - (most + 1 - places)) (drop (most + 1 - places) free)) + 1) value
-    → FractionFilled value whole places (most + 1 - places) fraction
-fraction_filled value whole places digits most free fraction count larger within same filled =
-    let a = most + 1 - places in
-    let room : most + 1 - a ≤ length (drop a free) = omega (arith, larger, within, length-drop a free) in
-    let part : length (take (most + 1 - a) (drop a free)) ≡ places = length-take-le (most + 1 - a) (drop a free) room ∙ omega (arith, larger) in
-    let split : decimal whole ++ fraction ≡ zero_padded (places + 1) value = filled ∙ ap (λ n. zero_padded (n + 1) value) part in
-    record {
-      split = split;
-      long = same ∙ part;
-      before = omega (arith, ap length split, length-append (decimal whole) fraction, length_zero_padded (places + 1) value, same, part, larger, count);
-    }
-
--- the place of the point is within the octets
-pub point_within : (a k point : ℕ) (free fraction : List ℕ) → a ≤ length free → point ≤ a → point ≤ length (set (put_mid a k free fraction) point 46)
-point_within a k point free fraction within before =
-    let ahead : length (take a free) ≡ a = length-take-le a free within in
-    omega (arith, length-set (put_mid a k free fraction) point 46, length-append (take a free) (fraction ++ post_of a k free), ahead, before)
-
--- a number with a point before its last digits, which fills a prefix
-pub pointed_filled : (value whole places point a k len start : ℕ) (free fraction line : List ℕ) → decimal whole ++ fraction ≡ zero_padded (places + 1) value → length fraction ≡ places → length (decimal whole) ≡ point
-    → a ≡ point + 1 → len ≡ a + places → len ≤ length free → start + length (decimal whole) ≡ point
-    → drop start line ≡ decimal whole ++ drop point (set (put_mid a k free fraction) point 46) → take len line ≡ pointed places (decimal value)
-pointed_filled value whole places point a k len start free fraction line split long size next sum within first written =
-    let zero_start : start ≡ 0 = omega (arith, size, first) in
-    let rest = post_of a k free in
-    let mid = put_mid a k free fraction in
-    let ahead : length (take a free) ≡ a = length-take-le a free (omega (arith, within, sum)) in
-    let mid_long : length mid ≡ a + (length fraction + length rest) = length-append (take a free) (fraction ++ rest) ∙ ap (λ n. n + length (fraction ++ rest)) ahead ∙ ap (λ n. a + n) (length-append fraction rest) in
-    let after : drop a mid ≡ fraction ++ rest = ap (λ n. drop n mid) (sym ahead) ∙ drop-append_seam (take a free) (fraction ++ rest) in
-    let pointed_rest : drop point (set mid point 46) ≡ 46 ∷ (fraction ++ rest) = drop-set mid point 46 (omega (arith, mid_long, next)) ∙ ap (λ n. 46 ∷ drop n mid) (sym next) ∙ ap (λ l. 46 ∷ l) after in
-    let text : List ℕ = decimal whole ++ 46 ∷ fraction in
-    let is : line ≡ text ++ rest = ap (λ n. drop n line) (sym zero_start) ∙ written ∙ ap (λ l. decimal whole ++ l) pointed_rest ∙ sym (append_assoc (decimal whole) (46 ∷ fraction) rest) in
-    let text_long : len ≡ length text = omega (arith, length-append (decimal whole) (46 ∷ fraction), size, long, next, sum) in
-    ap (take len) is ∙ ap (λ n. take n (text ++ rest)) text_long ∙ take-append_seam text rest ∙ point_before (decimal whole) fraction (zero_padded (places + 1) value) places split long
-
--- octets that were put after others
-pub then_more : {first second : List ℕ} (before s t : List ℕ) {all : List ℕ} → second ≡ first ++ t → first ≡ before ++ s → s ++ t ≡ all → second ≡ before ++ all
-then_more before s t two one is = two ∙ ap (λ l. l ++ t) one ∙ append_assoc before s t ∙ ap (λ l. before ++ l) is
-
 -- the two digits of a number are in the table
 abbrev are_pairs : ℕ → Bool
 are_pairs zero = true
 are_pairs (suc p) = (eqb (get_or PAIRS (p * 2) 0) (48 + p / 10) && eqb (get_or PAIRS (p * 2 + 1) 0) (48 + p % 10)) && are_pairs p
 
-pairs_below : (n p : ℕ) → T (are_pairs n) → p < n → (get_or PAIRS (p * 2) 0 ≡ 48 + p / 10) × (get_or PAIRS (p * 2 + 1) 0 ≡ 48 + p % 10)
+pub pairs_below : (n p : ℕ) → T (are_pairs n) → p < n → (get_or PAIRS (p * 2) 0 ≡ 48 + p / 10) × (get_or PAIRS (p * 2 + 1) 0 ≡ 48 + p % 10)
 pairs_below zero p t h = absurd (omega arith)
 pairs_below (suc n) p t h =
     elim (eq-zero-or-pos (n - p)) [
@@ -198,16 +91,32 @@ pairs_below (suc n) p t h =
       | inr g ↦ pairs_below n p (and_r _ (are_pairs n) t) (omega arith)
     ]
 
-pub pair_put : (p : ℕ) → p < 100 → get_or PAIRS (p * 2) 0 ∷ get_or PAIRS (p * 2 + 1) 0 ∷ [] ≡ (48 + p / 10) ∷ (48 + p % 10) ∷ []
-pair_put p h =
-    let pair = pairs_below 100 p tt h in
-    rw (pair.0, pair.1) refl
-
 -- four digits are two, and then two
 pub decimal_hundreds : (n : ℕ) → 10000 ≤ n → n < 2 ^ 64 → decimal (n / 10000) ++ (48 + n / 100 % 100 / 10) ∷ (48 + n / 100 % 100 % 10) ∷ [] ≡ decimal (n / 100)
 decimal_hundreds n long fits =
     let same : n / 100 / 100 ≡ n / 10000 = omega arith in
     ap (λ k. decimal k ++ (48 + n / 100 % 100 / 10) ∷ (48 + n / 100 % 100 % 10) ∷ []) (sym same) ∙ sym (decimal_pair (n / 100) (omega arith) (omega arith))
+
+-- two more digits of those in at least so many
+padded_pair : (m n : ℕ) → 1 ≤ m → n < 2 ^ 64 → zero_padded (m + 2) n ≡ zero_padded m (n / 100) ++ (48 + n % 100 / 10) ∷ (48 + n % 100 % 10) ∷ []
+padded_pair m n some fits =
+    let ten : List ℕ = (48 + n / 10 % 10) ∷ [] in
+    let one : List ℕ = (48 + n % 10) ∷ [] in
+    let a : n / 10 / 10 ≡ n / 100 = omega arith in
+    let b : n / 10 % 10 ≡ n % 100 / 10 = omega arith in
+    let c : n % 10 ≡ n % 100 % 10 = omega arith in
+    let e : m + 2 ≡ m + 1 + 1 = omega arith in
+    ap (λ k. zero_padded k n) e ∙ zero_padded_step (m + 1) n (omega arith) fits ∙ ap (λ t. t ++ one) (zero_padded_step m (n / 10) some (omega arith))
+    ∙ append_assoc (zero_padded m (n / 10 / 10)) ten one ∙ ap (λ k. zero_padded m k ++ (48 + n / 10 % 10) ∷ (48 + n % 10) ∷ []) a
+    ∙ ap (λ t. zero_padded m (n / 100) ++ (48 + t) ∷ (48 + n % 10) ∷ []) b ∙ ap (λ t. zero_padded m (n / 100) ++ (48 + n % 100 / 10) ∷ (48 + t) ∷ []) c
+
+-- numbers in two digits and in four
+pub padded_two : (n : ℕ) → n < 100 → zero_padded 2 n ≡ (48 + n / 10) ∷ (48 + n % 10) ∷ []
+padded_two n few =
+    zero_padded_step 1 n (omega arith) (omega arith) ∙ ap (λ t. t ++ (48 + n % 10) ∷ []) (zero_padded_one (n / 10) (omega arith) ∙ decimal_digit (n / 10) (omega arith))
+
+pub padded_four : (n : ℕ) → n < 10000 → zero_padded 4 n ≡ (48 + n / 100 / 10) ∷ (48 + n / 100 % 10) ∷ (48 + n % 100 / 10) ∷ (48 + n % 100 % 10) ∷ []
+padded_four n few = padded_pair 2 n (omega arith) (omega arith) ∙ ap (λ t. t ++ (48 + n % 100 / 10) ∷ (48 + n % 100 % 10) ∷ []) (padded_two (n / 100) (omega arith))
 
 -- tenths and hundredths
 pub tenths_put : (n : ℕ) → n < 2 ^ 64 → decimal (n / 10) ++ 46 ∷ (48 + n % 10) ∷ [] ≡ pointed 1 (decimal n)
@@ -219,38 +128,34 @@ tenths_put n fits =
 pub hundredths_put : (n : ℕ) → n < 2 ^ 64 → decimal (n / 100) ++ 46 ∷ (48 + n % 100 / 10) ∷ (48 + n % 100 % 10) ∷ [] ≡ pointed 2 (decimal n)
 hundredths_put n fits =
     let last : List ℕ = (48 + n % 100 / 10) ∷ (48 + n % 100 % 10) ∷ [] in
-    let a : n / 100 ≡ n / 10 / 10 = omega arith in
-    let b : n % 100 / 10 ≡ n / 10 % 10 = omega arith in
-    let c : n % 100 % 10 ≡ n % 10 = omega arith in
-    let ten : List ℕ = (48 + n / 10 % 10) ∷ [] in
-    let one : List ℕ = (48 + n % 10) ∷ [] in
-    let split : decimal (n / 100) ++ last ≡ zero_padded (2 + 1) n =
-    ap (λ k. decimal k ++ last) a ∙ ap (λ k. decimal (n / 10 / 10) ++ (48 + k) ∷ (48 + n % 100 % 10) ∷ []) b ∙ ap (λ k. decimal (n / 10 / 10) ++ (48 + n / 10 % 10) ∷ (48 + k) ∷ []) c
-    ∙ sym (append_assoc (decimal (n / 10 / 10)) ten one) ∙ ap (λ t. (t ++ ten) ++ one) (sym (zero_padded_one (n / 10 / 10) (omega arith)))
-    ∙ ap (λ t. t ++ one) (sym (zero_padded_step 1 (n / 10) (omega arith) (omega arith))) ∙ sym (zero_padded_step 2 n (omega arith) fits) in
+    let split : decimal (n / 100) ++ last ≡ zero_padded (2 + 1) n = ap (λ t. t ++ last) (sym (zero_padded_one (n / 100) (omega arith))) ∙ sym (padded_pair 1 n (omega arith) fits) in
     point_before (decimal (n / 100)) last (zero_padded (2 + 1) n) 2 split refl
 
 -- two more digits after the point
 pub pointed_pair : (p n : ℕ) → n < 2 ^ 64 → pointed p (decimal (n / 100)) ++ (48 + n % 100 / 10) ∷ (48 + n % 100 % 10) ∷ [] ≡ pointed (p + 2) (decimal n)
 pointed_pair p n fits =
     let pair : List ℕ = (48 + n % 100 / 10) ∷ (48 + n % 100 % 10) ∷ [] in
-    let ten : List ℕ = (48 + n / 10 % 10) ∷ [] in
-    let one : List ℕ = (48 + n % 10) ∷ [] in
     let short = zero_padded (p + 1) (n / 100) in
     let k = length short - p in
-    let a : n / 10 / 10 ≡ n / 100 = omega arith in
-    let b : n / 10 % 10 ≡ n % 100 / 10 = omega arith in
-    let c : n % 10 ≡ n % 100 % 10 = omega arith in
-    let e : p + 2 ≡ p + 1 + 1 = omega arith in
     let long : p + 1 ≤ length short = omega (arith, length_zero_padded (p + 1) (n / 100)) in
     let size : length (drop k short) ≡ p = omega (arith, length-drop k short, long) in
     let more : length (drop k short ++ pair) ≡ p + 2 = omega (arith, length-append (drop k short) pair, size) in
-    let split : short ++ pair ≡ zero_padded (p + 2 + 1) n =
-    ap (λ t. short ++ (48 + t) ∷ (48 + n % 100 % 10) ∷ []) (sym b) ∙ ap (λ t. short ++ (48 + n / 10 % 10) ∷ (48 + t) ∷ []) (sym c) ∙ sym (append_assoc short ten one)
-    ∙ ap (λ t. (zero_padded (p + 1) t ++ ten) ++ one) (sym a) ∙ ap (λ t. t ++ one) (sym (zero_padded_step (p + 1) (n / 10) (omega arith) (omega arith)))
-    ∙ ap (λ t. zero_padded t (n / 10) ++ one) (sym e) ∙ sym (zero_padded_step (p + 2) n (omega arith) fits) in
+    let e : p + 2 + 1 ≡ p + 1 + 2 = omega arith in
+    let split : short ++ pair ≡ zero_padded (p + 2 + 1) n = sym (padded_pair (p + 1) n (omega arith) fits) ∙ ap (λ t. zero_padded t n) (sym e) in
     let whole : take k short ++ (drop k short ++ pair) ≡ zero_padded (p + 2 + 1) n = sym (append_assoc (take k short) (drop k short) pair) ∙ ap (λ t. t ++ pair) (take-append-drop k short) ∙ split in
     append_assoc (take k short) (46 ∷ drop k short) pair ∙ point_before (take k short) (drop k short ++ pair) (zero_padded (p + 2 + 1) n) (p + 2) whole more
+
+-- five digits after the point
+pub five_places : (n : ℕ) → n < 2 ^ 64 → decimal (n / 100000) ++ 46 ∷ (48 + n / 10000 % 10) ∷ (48 + n / 100 % 100 / 10) ∷ (48 + n / 100 % 100 % 10) ∷ (48 + n % 100 / 10) ∷ (48 + n % 100 % 10) ∷ [] ≡ pointed 5 (decimal n)
+five_places n fits =
+    let whole : n / 100000 ≡ n / 10000 / 10 = omega arith in
+    let same : n / 10000 ≡ n / 100 / 100 = omega arith in
+    let middle : List ℕ = (48 + n / 100 % 100 / 10) ∷ (48 + n / 100 % 100 % 10) ∷ [] in
+    let last : List ℕ = (48 + n % 100 / 10) ∷ (48 + n % 100 % 10) ∷ [] in
+    let first : List ℕ = 46 ∷ (48 + n / 10000 % 10) ∷ [] in
+    sym (append_assoc (decimal (n / 100000)) first (middle ++ last)) ∙ sym (append_assoc (decimal (n / 100000) ++ first) middle last)
+    ∙ ap (λ k. ((decimal k ++ first) ++ middle) ++ last) whole ∙ ap (λ l. (l ++ middle) ++ last) (tenths_put (n / 10000) (omega arith))
+    ∙ ap (λ k. (pointed 1 (decimal k) ++ middle) ++ last) same ∙ ap (λ l. l ++ last) (pointed_pair 1 (n / 100) (omega arith)) ∙ pointed_pair 3 n fits
 
 -- ---- A number at a scale, part by part.
 
@@ -280,14 +185,6 @@ unsigned_plain zero (negsuc m) places count h e z = rw z (append-nil (decimal 0)
 unsigned_plain (suc n) (negsuc m) places count h e z =
     let more : count ≡ suc m = z ∙ ap (λ (t : Bool). if t then 0 else places) (not_zero n) ∙ e in
     ap (λ (k : ℕ). decimal (suc n) ++ replicate k 48) more
-
-pub sign_negative : (v : ℤ) → int_lt v (pos 0) ≡ true → 45 ∷ [] ≡ sign_of v
-sign_negative (pos n) h = absurd (true≢false (sym h ∙ none_below n))
-sign_negative (negsuc n) h = refl
-
-pub sign_positive : (v : ℤ) → int_lt v (pos 0) ≡ false → [] ≡ sign_of v
-sign_positive (pos n) h = refl
-sign_positive (negsuc n) h = absurd cc
 
 pub signed_text : (v scale : ℤ) (size : ℕ) → size ≡ unsigned_abs v → sign_of v ++ unsigned_text size scale ≡ decimal_text_of v scale
 unfolding decimal_text_of
@@ -319,43 +216,14 @@ pub unsigned_whole : (n : ℕ) (scale : ℤ) → scale ≡ pos 0 → decimal n �
 unfolding unsigned_text
 unsigned_whole n scale is = rw is refl
 
-unsigned_ten : (n : ℕ) → n < 2 ^ 60 → decimal (10 * n) ≡ unsigned_text n (negsuc 0)
+pub unsigned_ten : (n : ℕ) (scale : ℤ) → scale ≡ negsuc 0 → 0 < n → decimal n ++ 48 ∷ [] ≡ unsigned_text n scale
 unfolding unsigned_text
-unsigned_ten zero few = refl
-unsigned_ten (suc n) few =
-    let back : 10 * suc n / 10 ≡ suc n = omega arith in
-    let none : 10 * suc n % 10 ≡ 0 = omega arith in
-    decimal_step (10 * suc n) (omega arith) (omega arith) ∙ ap (λ k. decimal k ++ (48 + 10 * suc n % 10) ∷ []) back ∙ ap (λ k. decimal (suc n) ++ (48 + k) ∷ []) none
-
-pub unsigned_tens : (n : ℕ) (scale : ℤ) → scale ≡ negsuc 0 → n < 2 ^ 60 → decimal (10 * n) ≡ unsigned_text n scale
-unsigned_tens n scale is few = unsigned_ten n few ∙ ap (unsigned_text n) (sym is)
+unsigned_ten zero scale is some = absurd (omega arith)
+unsigned_ten (suc n) scale is some = rw is refl
 
 pub unsigned_places : (n places : ℕ) (scale : ℤ) → scale ≡ pos (suc places) → pointed (suc places) (decimal n) ≡ unsigned_text n scale
 unfolding unsigned_text
 unsigned_places n places scale is = rw is refl
-
-pub unsigned_far : (n : ℕ) (scale : ℤ) (places : ℕ) → int_lt (pos 2) scale ≡ true → places ≡ unsigned_abs scale → pointed places (decimal n) ≡ unsigned_text n scale
-unfolding unsigned_text
-unsigned_far n (pos zero) places h e = absurd cc
-unsigned_far n (pos (suc m)) places h e = ap (λ (k : ℕ). pointed k (decimal n)) e
-unsigned_far n (negsuc m) places h e = absurd cc
-
--- the parts of a line that were put one after another
-pub word_put : (free1 free2 free3 row rest start comment word : List ℕ) (at1 at2 len : ℕ) → take 7 free1 ≡ take 7 row → take 7 row ≡ start → take at1 free2 ≡ take 7 free1 ++ word
-    → take at2 free3 ≡ take at1 free2 ++ take len rest → rest ≡ drop 7 row → take len (drop 7 row) ≡ comment → take at2 free3 ≡ start ++ (word ++ comment)
-word_put free1 free2 free3 row rest start comment word at1 at2 len first is second third from ready =
-    let before : take at1 free2 ≡ start ++ word = second ∙ ap (λ l. l ++ word) (first ∙ is) in
-    let whole : take at2 free3 ≡ take at1 free2 ++ comment = third ∙ ap (λ l. take at1 free2 ++ l) (ap (take len) from ∙ ready) in
-    then_more start word comment whole before refl
-
-pub line_put : (free1 free2 free3 free4 row rest start comment : List ℕ) (number scale : ℤ) (size at1 at2 at3 len : ℕ) → take 7 free1 ≡ take 7 row → take 7 row ≡ start
-    → take at1 free2 ≡ take 7 free1 ++ sign_of number → take at2 free3 ≡ take at1 free2 ++ unsigned_text size scale → take at3 free4 ≡ take at2 free3 ++ take len rest
-    → rest ≡ drop 7 row → take len (drop 7 row) ≡ comment → size ≡ unsigned_abs number → take at3 free4 ≡ start ++ (decimal_text_of number scale ++ comment)
-line_put free1 free2 free3 free4 row rest start comment number scale size at1 at2 at3 len first is second third fourth from ready same =
-    let before : take at1 free2 ≡ start ++ sign_of number = second ∙ ap (λ l. l ++ sign_of number) (first ∙ is) in
-    let signed : take at2 free3 ≡ start ++ decimal_text_of number scale = then_more start (sign_of number) (unsigned_text size scale) third before (signed_text number scale size same) in
-    let whole : take at3 free4 ≡ take at2 free3 ++ comment = fourth ∙ ap (λ l. take at2 free3 ++ l) (ap (take len) from ∙ ready) in
-    then_more start (decimal_text_of number scale) comment whole signed refl
 
 pub parts_same : (start start' comment comment' text text' : List ℕ) → start ≡ start' → text ≡ text' → comment ≡ comment' → start ++ (text ++ comment) ≡ start' ++ (text' ++ comment')
 parts_same start start' comment comment' text text' a b c = ap (λ l. l ++ (text ++ comment)) a ∙ ap (λ l. start' ++ (l ++ comment)) b ∙ ap (λ l. start' ++ (text' ++ l)) c
@@ -389,17 +257,50 @@ pub quoted_next : (octets : List ℕ) (i : ℕ) → i < length octets → quoted
 unfolding quoted
 quoted_next octets i within = at_drop_more quoted octets i 0 within
 
-pub quoted_none : (octets : List ℕ) (i : ℕ) → length octets ≤ i → quoted (drop i octets) ≡ 34 ∷ []
+-- the first octet of a text, and the end of none
+pub quoted_step : (rest more : List ℕ) (octet : ℕ) → rest ≡ octet ∷ more → quoted rest ≡ escaped octet ++ quoted more
 unfolding quoted
-quoted_none octets i end = at_drop_all quoted octets i end
+quoted_step rest more octet is = rw is refl
 
--- a text without escapes is its octets
-pub quoted_plain : (octets : List ℕ) → list_all is_unescaped octets ≡ true → octets ++ 34 ∷ [] ≡ quoted octets
+pub quoted_end : (rest : List ℕ) → length rest ≤ 0 → quoted rest ≡ 34 ∷ []
 unfolding quoted
-quoted_plain [] all = refl
-quoted_plain (octet ∷ more) all =
-    let here : is_unescaped octet ≡ true = and_first (is_unescaped octet) (list_all is_unescaped more) all in
-    rw here (ap (λ l. octet ∷ l) (quoted_plain more (and_second (is_unescaped octet) (list_all is_unescaped more) all)))
+quoted_end [] none = refl
+quoted_end (octet ∷ more) none = absurd (omega arith)
+
+-- one more octet that needs no escape
+pub quoted_more : (octets : List ℕ) (i : ℕ) → i < length octets → is_unescaped (get_or octets i 0) ≡ true → quoted octets ≡ take i octets ++ quoted (drop i octets) → quoted octets ≡ take (i + 1) octets ++ quoted (drop (i + 1) octets)
+quoted_more octets i within plain so_far =
+    let here : escaped (get_or octets i 0) ≡ get_or octets i 0 ∷ [] = rw plain refl in
+    so_far ∙ ap (λ l. take i octets ++ l) (quoted_next octets i within ∙ ap (λ l. l ++ quoted (drop (i + 1) octets)) here)
+    ∙ sym (append_assoc (take i octets) (get_or octets i 0 ∷ []) (quoted (drop (i + 1) octets))) ∙ ap (λ l. l ++ quoted (drop (i + 1) octets)) (sym (take_more octets i 0 within))
+
+-- a flag is the digit of its number
+pub flag_digit : (on : Bool) (n : ℕ) → n ≡ from_bool on → flag on ≡ (48 + n) ∷ []
+flag_digit true n is = rw is refl
+flag_digit false n is = rw is refl
+
+-- the table says of each octet whether it needs an escape
+abbrev same : Bool → Bool → Bool
+same true b = b
+same false b = not b
+
+same→eq : (a b : Bool) → T (same a b) → a ≡ b
+same→eq true true t = refl
+same→eq true false t = absurd (t)
+same→eq false true t = absurd (t)
+same→eq false false t = refl
+
+abbrev are_told : ℕ → Bool
+are_told zero = true
+are_told (suc c) = same (eqb (get_or UNESCAPED c 0) 49) (is_unescaped c) && are_told c
+
+pub unescaped_below : (n c : ℕ) → T (are_told n) → c < n → (eqb (get_or UNESCAPED c 0) 49) ≡ is_unescaped c
+unescaped_below zero c t h = absurd (omega arith)
+unescaped_below (suc n) c t h =
+    elim (eq-zero-or-pos (n - c)) [
+      | inl z ↦ let e : c ≡ n = omega arith in rw e (same→eq _ _ (and_l _ (are_told n) t))
+      | inr g ↦ unescaped_below n c (and_r _ (are_told n) t) (omega arith)
+    ]
 
 -- ---- The comment that a row of Table B has ready.
 

@@ -1,17 +1,16 @@
 -- Texts that are pushed one after another, and the calls that show a reading.
-use Rattle.std.proofs.Common.{◌≡◌, ℕ, ◌≤◌, List, ◌++◌, length, take, drop, sym, ◌∙◌, ap, Option, Ok, Err, append_assoc, ◌+◌, zero, suc, [], ◌∷◌, replicate, refl, subst, arith, append-nil, length-append, map, inl, inr, codes}
-use Rattle.std.specs.Prelude.{Result, true, flat_map}
+use Rattle.std.proofs.Common.{◌≡◌, ℕ, ◌≤◌, List, ◌++◌, length, take, drop, sym, ◌∙◌, ap, Option, None, Some, Ok, Err, append_assoc, ◌+◌, zero, suc, [], ◌∷◌, replicate, refl, subst, arith, append-nil, length-append, map, inl, inr, codes}
+use Rattle.std.specs.Prelude.{Result, flat_map}
 use Rattle.std.specs.Io.KnownBytes.{Appends}
 use Rattle.std.proofs.KnownBytes.{Appends-trans, Appends-nil}
 use Rattle.std.proofs.lemmas.List.{take-append-drop, length-take-le}
 use Rattle.bufr_frame.specs.declared.fault.RunFault.{RunFault}
-use Rattle.bufr_text.specs.Writing.{MovesPrefix, Writes, GrowsByPrefix, CountsWrites, LineModel, Moves, MovesOn, StaysFailed, PushesFrom, Pushes}
+use Rattle.bufr_text.specs.Writing.{MovesPrefix, Writes, GrowsByPrefix, CountsWrites, LineModel, Moves, MovesOn, StaysFailed, PushesFrom, Pushes, Puts}
 use Rattle.std.proofs.Math.Seq.{take-append_seam}
 use borrow.Rule.Slice.PartMut.{put_mid, post_of}
-use Rattle.std.specs.Result.{is_ok}
 use Rattle.std.proofs.lemmas.Grind.{flat_map-append}
 use Rattle.bufr_frame.specs.Sections.{Sections}
-use Rattle.bufr_frame.specs.declared.fault.RunFault.TheVariants.{Write, Memory}
+use Rattle.bufr_frame.specs.declared.fault.RunFault.TheVariants.{Write}
 use Rattle.bufr_tables.specs.TableB.{Row}
 use Rattle.bufr_walk.specs.declared.fault.ShowFault.{ShowFault}
 use Rattle.bufr_walk.specs.Calls.{item_call, Timed, view_of, content_at, item_calls, subset_calls, compressed_item_calls, compressed_subset_calls, calls_of, turns_shown, Shows, EndsAt}
@@ -163,23 +162,6 @@ retold {a = a} {b = b} pushes is =
     let P : List ℕ → Type 0 = λ l. Pushes a l b in
     subst P is pushes
 
--- what was held and a text were written
-moves_written : (a b : LineModel) (text : List ℕ) (r : Result Unit RunFault) → b.held ≡ [] → Writes a.taken b.taken (a.held ++ text) r → Moves a.taken b.taken (a.held ++ text) b.held r
-moves_written a b text (Ok x) empty writes = rw empty (record { prefix = a.held ++ text; parts = sym (append-nil (a.held ++ text)); gains = writes })
-moves_written a b text (Err f) empty writes = writes
-
-from_ok : (a b : LineModel) (text : List ℕ) (r : Result Unit RunFault) → true ≡ is_ok r → MovesOn a text b → PushesFrom r a text b
-from_ok a b text (Ok x) ok moves = moves
-from_ok a b text (Err f) ok moves = absurd (cc)
-
-pub writes_pushes : {a b : LineModel} {text : List ℕ} → true ≡ is_ok a.status → b.held ≡ [] → Writes a.taken b.taken (a.held ++ text) b.status → CountsWrites a.failures b.failures a.empty_writes b.empty_writes b.status
-    → b.flushes ≡ a.flushes → b.sink ≡ a.sink → Pushes a text b
-writes_pushes {a = a} {b = b} {text = text} ok empty writes counts flushes sink = record {
-  from = from_ok a b text a.status ok (record { moves = moves_written a b text b.status empty writes; counts = counts });
-  flushes = flushes;
-  sink = sink;
-}
-
 -- all that was pushed and written by a writer that held nothing
 all_moved : (a b : LineModel) (text : List ℕ) (r : Result Unit RunFault) → a.held ≡ [] → b.held ≡ [] → Moves a.taken b.taken (a.held ++ text) b.held r → Writes a.taken b.taken text r
 all_moved a b text (Ok x) none empty moves =
@@ -205,6 +187,31 @@ held_filled octets free text len n k within fits is =
     let long : len + n ≡ length (take len octets ++ take n free) = omega (arith, length-append (take len octets) (take n free), ahead, filled) in
     ap (take (len + n)) split ∙ ap (λ m. take m ((take len octets ++ take n free) ++ (drop n free ++ rest))) long ∙ take-append_seam (take len octets ++ take n free) (drop n free ++ rest)
     ∙ ap (λ l. take len octets ++ l) is
+
+-- a text was put, in other words
+pub puts_retold : (old new : List ℕ) (at : ℕ) (r : Option ℕ) {s t : List ℕ} → Puts old at s new r → s ≡ t → Puts old at t new r
+puts_retold old new at r puts is =
+    let P : List ℕ → Type 0 = λ l. Puts old at l new r in
+    subst P is puts
+
+-- a text was put, and then another
+pub puts_then : (old mid new : List ℕ) (at end : ℕ) (r : Option ℕ) (s t : List ℕ) {all : List ℕ} → Puts old at s mid (Some end) → Puts mid end t new r → s ++ t ≡ all → Puts old at all new r
+puts_then old mid new at end None s t first second is = tt
+puts_then old mid new at end (Some e) s t first second is = (
+  second.0,
+  second.1 ∙ ap (λ l. l ++ t) first.1 ∙ append_assoc (take at old) s t ∙ ap (λ l. take at old ++ l) is,
+)
+
+-- a text is first
+pub puts_first : (s rest first : List ℕ) → first ≡ s → (length s ≤ length (first ++ rest)) × (take (length s) (first ++ rest) ≡ s)
+puts_first s rest first is = rw is (omega (arith, length-append s rest), take-append_seam s rest)
+
+-- a prefix of the octets from a place on was filled
+pub puts_from : (free part : List ℕ) (at n k : ℕ) {text : List ℕ} → at ≤ length free → n ≤ length part → take n part ≡ text → Puts free at text (put_mid at k free part) (Some (at + n))
+puts_from free part at n k {text} within fits is = (
+  omega (arith, length-append (take at free) (part ++ post_of at k free), length-append part (post_of at k free), length-take-le at free within, fits),
+  held_filled free part text at n k within fits is,
+)
 
 -- one more text of some
 pub zeros_more : (done : ℕ) → replicate {A = ℕ} done 48 ++ 48 ∷ [] ≡ replicate (done + 1) 48

@@ -16,7 +16,7 @@ use Rattle.bufr_walk.specs.declared.spec.TurnRefusal.{TurnRefusal}
 use Rattle.bufr_walk.specs.declared.spec.Taken.{Taken}
 use Rattle.bufr_walk.specs.FieldSpec.{FieldSpec}
 use Rattle.bufr_walk.specs.Course.{Course, take_next, NextTurn, asked, operated, ahead, next_item, counts_of, Turns, finish, open_end, group, pass_end, factor_turn, element_turn, operator_turn, Rest, passes, unroll, turns_of}
-use Rattle.bufr_walk.specs.Rules.{if_valid_width, numeric_spec, coded_spec, text_spec, text_width, spec_by_kind, defined_field, new_reference_spec, unsigned_field, unsigned_of, untouched, local_width_spec, listed_by, element_spec, factor_field, factor_by, factor_spec, inserted_spec, OperatorModel, begin, is_defining, after_operator, after_field}
+use Rattle.bufr_walk.specs.Rules.{if_valid_width, numeric_spec, coded_spec, text_spec, text_width, spec_by_kind, defined_field, new_reference_spec, unsigned_field, unsigned_of, begin, local_width_spec, listed_by, element_spec, factor_field, factor_by, factor_spec, inserted_spec, OperatorModel, is_defining, after_operator, after_field}
 use Rattle.bufr_text.specs.Dump.{IsDescriptorWord}
 use Rattle.bufr_fill.proofs.SpecLemmas as limits
 use Rattle.bufr_tables.specs.declared.table_b.Kind.TheVariants as kind
@@ -194,8 +194,8 @@ module _ (table : List Row) (all : AllByRecursion IsRead table) where
       by_defining true row good q = defined_word row.kind s fxy spec h q
       by_defining false row good q = kind_word row.kind s row spec good q
 
-      by_width : (b : Bool) (row : Row) → IsDescriptorWord row.fxy → (if b then spec_by_kind row.kind (untouched s) row else unsigned_of fxy s.local_width) ≡ Ok spec → HasWord spec
-      by_width true row good q = kind_word row.kind (untouched s) row spec good q
+      by_width : (b : Bool) (row : Row) → IsDescriptorWord row.fxy → (if b then spec_by_kind row.kind begin row else unsigned_of fxy s.local_width) ≡ Ok spec → HasWord spec
+      by_width true row good q = kind_word row.kind begin row spec good q
       by_width false row good q = word_kept (unsigned_field fxy s.local_width) spec q h
 
       by_given : (b : Bool) (o : Option Row) → entry_of table fxy ≡ o → (if b then local_width_spec o s fxy else listed_by o s fxy) ≡ Ok spec → HasWord spec

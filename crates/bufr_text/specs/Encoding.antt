@@ -26,14 +26,14 @@ use Rattle.bufr_walk.specs.Walk.{ticked}
 use Rattle.bufr_fill.specs.DraftContent.{plain_filler}
 use Rattle.bufr_fill.specs.Filling.{WrittenItem, Filler, fill}
 use Rattle.std.specs.Global.{Global}
-use Rattle.bufr_walk.specs.declared.stop.WalkStop.{WalkStop}
+use Rattle.bufr_walk.specs.declared.walker.WalkStop.{WalkStop}
 use Rattle.bufr_fill.specs.declared.fault.DraftFault.{DraftFault}
 use Rattle.bufr_fill.specs.PlainOut.{PlainOutModel, items_left, end_left}
 use Rattle.bufr_text.specs.declared.encode.Form.TheVariants as form
 use Rattle.bufr_walk.specs.declared.spec.TurnRefusal.TheVariants as refusal
 use Rattle.bufr_text.specs.declared.fault.DocumentFault.TheVariants as fault
 use Rattle.bufr_text.specs.declared.fault.WalkRefusal.TheVariants as walk
-use Rattle.bufr_walk.specs.declared.stop.WalkStop.TheVariants as stops
+use Rattle.bufr_walk.specs.declared.walker.WalkStop.TheVariants as stops
 
 -- ---- The form in which the data of a document are written. (a choice of this project)
 

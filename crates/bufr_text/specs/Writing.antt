@@ -1,7 +1,7 @@
 -- What a writer gains, whole or in part, and what a text does to a writer of lines.
 -- (A choice of this project)
 -- Cited by public contracts.
-use Rattle.std.specs.Prelude.{◌≡◌, ◌⊎◌, ℕ, ◌-◌, Bool, List, [], ◌∷◌, ◌++◌, Option, Result, Ok, Err, codes, decimal, length, replicate, if◌then◌else◌}
+use Rattle.std.specs.Prelude.{◌≡◌, ◌≤◌, ◌⊎◌, ℕ, ◌-◌, Bool, List, [], ◌∷◌, ◌++◌, Option, Result, Ok, Err, IfSome, codes, decimal, length, replicate, take, if◌then◌else◌}
 use Rattle.std.specs.Io.KnownBytes.{Appends}
 use Rattle.bufr_bits.specs.Device.{counted}
 use Rattle.bufr_frame.specs.declared.fault.RunFault.{RunFault}
@@ -51,10 +51,10 @@ abbrev pub joined : List (List ℕ) → List ℕ
 joined [] = []
 joined (text ∷ more) = text ++ joined more
 
--- texts, one after another, and what is after them
-abbrev pub joined_onto : List (List ℕ) → (suffix : List ℕ) → List ℕ
-joined_onto [] suffix = suffix
-joined_onto (text ∷ more) suffix = text ++ joined_onto more suffix
+-- a text was put into octets, after those before a place; where there was no room nothing is known
+abbrev pub Puts : (old : List ℕ) (at : ℕ) (text new : List ℕ) → Option ℕ → Type 0
+Puts old at text new result =
+    IfSome result (λ end. (end ≤ length new) × (take end new ≡ take at old ++ text))
 
 -- ---- What a writer of lines holds, and what a text does to it. (a choice of this project)
 

@@ -15,8 +15,7 @@ ghost use Rattle.bufr_text.specs.Line as line;
 ghost use Rattle.bufr_text.specs.Documents as documents;
 
 use crate::header::{MOST_WORDS, in_range};
-use crate::line::{MAX_LINE, decimal_item, read_line};
-use crate::slice::{ahead, suffix};
+use crate::line::{MAX_LINE, ahead, decimal_item, read_line, suffix};
 use bufr_bits::ShortDecimal;
 use bufr_fill::{DraftItem, DraftValue, Entries};
 use bufr_frame::Head;

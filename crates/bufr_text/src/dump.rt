@@ -1,21 +1,276 @@
-//! The text that dumps a message.
-ghost use Rattle.std.specs.Prelude.{◌≡◌, ◌≤◌, ◌*◌};
+//! The text that dumps a message: the lines before its subsets, and a line for each item.
+ghost use Rattle.std.specs.Prelude.{◌≡◌, ◌++◌, [], ◌∷◌, codes, drop, map, take, unwrap_or, option_map, ◌≤◌, ◌*◌};
+ghost use Rattle.bufr_frame.specs.Octets.{words_left};
+ghost use Rattle.bufr_text.specs.Dump.{descriptors_line, head_lines, header_lines, header_of, section2_line, text_of_lines, comment_text, dump_value_of, form_text, item_text, comment_of, dump_item_of, value_of, dump_text_of, dump_items_of};
+ghost use Rattle.bufr_text.specs.Grammar.{descriptors_text, hex_text, runs_of};
+ghost use Rattle.bufr_text.specs.Line.{header_text};
+ghost use Rattle.bufr_text.specs.Writing.{Pushes};
+ghost use Rattle.bufr_bits.specs.Decimal.{decimal_text_of};
+ghost use Rattle.bufr_tables.specs.Entry.{row_of_entry};
+ghost use Rattle.bufr_tables.specs.Fxy.{fxy_text};
+ghost use Rattle.bufr_walk.specs.Calls.{seen, seen_value, calls_of, turns_shown};
 ghost use Rattle.bufr_tables.specs.Tree.{places};
-ghost use Rattle.bufr_walk.specs.Calls.{calls_of, turns_shown};
 ghost use Rattle.bufr_walk.specs.Refusal.{course_of};
 ghost use Rattle.bufr_walk.specs.Reading.{IsReading, Values};
-ghost use Rattle.bufr_text.specs.Dump.{dump_text_of, dump_items_of};
 ghost use Rattle.bufr_text.specs.DumpWritten.{CountsFaults, MakesSteps, ReadsMessage, WritesPrefix};
 ghost use Rattle.bufr_text.specs.Pen.{Ends, subsets_text};
 
-use crate::head_lines::push_head_lines;
-use crate::item_line::push_item;
+use crate::header::KEYS;
 use crate::line_writer::{LineWriter, PAGE};
 use bufr_bits::Sink;
-use bufr_frame::{Message, RunFault};
-use bufr_tables::TableB;
-use bufr_walk::{ItemView, Reading, ShowFault, SpecCache, Steps, Visitor};
+use bufr_frame::{Message, RunFault, Words};
+use bufr_tables::{Entry, Fxy, TableB};
+use bufr_walk::{ItemView, Reading, ShowFault, SpecCache, Steps, Value, Visitor};
 use std::alloc::{AllocError, Global};
+
+/// How many octets a line holds at most.
+const OCTETS: usize = 32;
+
+/// How many descriptors a line holds at most.
+const DESCRIPTORS: usize = 8;
+
+/// Pushes the first ten keys and their values.
+fn push_origin<W: Sink>(lines: &mut LineWriter<'_, '_, W>, message: &Message<'_>)
+    ensures { Pushes lines.old (header_text 0 (take 10 (header_of message.now))) lines.new }
+{
+    let head = message.head();
+    lines.push_named(KEYS[0].0, u64::from(head.edition));
+    lines.push_named(KEYS[1].0, u64::from(head.master));
+    lines.push_named(KEYS[2].0, u64::from(head.centre));
+    lines.push_named(KEYS[3].0, u64::from(head.subcentre));
+    lines.push_named(KEYS[4].0, u64::from(head.update));
+    lines.push_named(KEYS[5].0, u64::from(head.category));
+    lines.push_named(KEYS[6].0, u64::from(head.subcategory));
+    lines.push_named(KEYS[7].0, u64::from(head.local_subcategory));
+    lines.push_named(KEYS[8].0, u64::from(head.master_version));
+    lines.push_named(KEYS[9].0, u64::from(head.local_version));
+}
+
+/// Pushes the other ten keys and their values.
+fn push_date<W: Sink>(lines: &mut LineWriter<'_, '_, W>, message: &Message<'_>)
+    ensures { Pushes lines.old (header_text 10 (drop 10 (header_of message.now))) lines.new }
+{
+    let head = message.head();
+    lines.push_named(KEYS[10].0, u64::from(head.year));
+    lines.push_named(KEYS[11].0, u64::from(head.month));
+    lines.push_named(KEYS[12].0, u64::from(head.day));
+    lines.push_named(KEYS[13].0, u64::from(head.hour));
+    lines.push_named(KEYS[14].0, u64::from(head.minute));
+    lines.push_named(KEYS[15].0, u64::from(head.second));
+    lines.push_named(KEYS[16].0, u64::from(message.observed()));
+    lines.push_named(KEYS[17].0, u64::from(message.compressed()));
+    lines.push_named(KEYS[18].0, u64::from(message.section2().is_some()));
+    lines.push_named(KEYS[19].0, u64::from(message.subsets()));
+}
+
+/// Pushes the line `message` and a line of each key and its value.
+// rule: text-header, text-header-of-edition-3
+fn push_header<W: Sink>(lines: &mut LineWriter<'_, '_, W>, message: &Message<'_>)
+    ensures { Pushes lines.old
+        (text_of_lines (codes "message" ∷ header_lines 0 (header_of message.now))) lines.new }
+{
+    lines.push(b"message");
+    push_origin(lines, message);
+    push_date(lines, message);
+    lines.push(b"\n");
+}
+
+/// Pushes a line of a word and octets.
+fn push_octet_line<W: Sink>(lines: &mut LineWriter<'_, '_, W>, word: &[u8], octets: &[u8])
+    ensures { Pushes lines.old ((word.now ++ hex_text octets.now) ++ 10 ∷ []) lines.new }
+{
+    lines.push(word);
+    lines.push_hex(octets);
+    lines.push(b"\n");
+    lines.end_line(PAGE);
+}
+
+/// Pushes lines of a word and octets, 32 on each line but the last.
+// rule: text-local1
+fn push_octet_lines<W: Sink>(lines: &mut LineWriter<'_, '_, W>, word: &[u8], octets: &[u8])
+    ensures { Pushes lines.old
+        (text_of_lines (map (λ run. word.now ++ hex_text run) (runs_of 32 octets.now))) lines.new }
+{
+    let mut rest = octets;
+    while !rest.is_empty() {
+        let (run, left) = rest.split_at(rest.len().min(OCTETS));
+        push_octet_line(lines, word, run);
+        rest = left;
+    }
+}
+
+/// Pushes the lines of section 2, where there is one.
+// rule: text-section2
+fn push_section2<W: Sink>(lines: &mut LineWriter<'_, '_, W>, message: &Message<'_>)
+    ensures { Pushes lines.old
+        (text_of_lines (map section2_line (runs_of 32 (unwrap_or message.now.section2 []))))
+        lines.new }
+{
+    if let Some(octets) = message.section2() {
+        push_octet_lines(lines, b"section2 ", octets);
+    }
+}
+
+/// Pushes the descriptors of a line, at most eight of those that are left, a space before each.
+fn push_descriptors<W: Sink>(lines: &mut LineWriter<'_, '_, W>, words: &mut Words<'_>)
+    ensures pushes { Pushes lines.old (descriptors_text (take 8 (words_left words.old)))
+        lines.new }
+    ensures words { words_left words.new ≡ drop 8 (words_left words.old) }
+{
+    'words: for _done in 0..DESCRIPTORS {
+        let Some(word) = words.next() else {
+            return;
+        };
+        lines.push(b" ");
+        lines.push(&Fxy::from_word(word).text());
+    }
+}
+
+/// Pushes a line of descriptors, at most eight of those that are left.
+fn push_descriptor_line<W: Sink>(lines: &mut LineWriter<'_, '_, W>, words: &mut Words<'_>)
+    ensures pushes { Pushes lines.old
+        (descriptors_line (take 8 (words_left words.old)) ++ 10 ∷ []) lines.new }
+    ensures words { words_left words.new ≡ drop 8 (words_left words.old) }
+{
+    lines.push(b"descriptors");
+    push_descriptors(lines, words);
+    lines.push(b"\n");
+    lines.end_line(PAGE);
+}
+
+/// Pushes the lines of the descriptors, eight on each line but the last.
+// rule: text-descriptors
+fn push_descriptor_lines<W: Sink>(lines: &mut LineWriter<'_, '_, W>, message: &Message<'_>)
+    ensures { Pushes lines.old
+        (text_of_lines (map descriptors_line (runs_of 8 message.now.descriptors))) lines.new }
+{
+    let mut words = message.descriptors();
+    while !words.is_empty() {
+        push_descriptor_line(lines, &mut words);
+    }
+}
+
+/// Pushes the lines before the subsets.
+pub(crate) fn push_head_lines<W: Sink>(lines: &mut LineWriter<'_, '_, W>, message: &Message<'_>)
+    ensures { Pushes lines.old (text_of_lines (head_lines message.now)) lines.new }
+{
+    push_header(lines, message);
+    push_octet_lines(lines, b"local1 ", message.local1());
+    push_section2(lines, message);
+    push_descriptor_lines(lines, message);
+}
+
+/// Pushes a descriptor and a space.
+#[inline(never)]
+fn push_fxy<W: Sink>(lines: &mut LineWriter<'_, '_, W>, fxy: Fxy)
+    ensures { Pushes lines.old (fxy_text fxy ++ 32 ∷ []) lines.new }
+{
+    lines.push(&fxy.text());
+    lines.push(b" ");
+}
+
+/// Pushes a descriptor and a space. An entry of this descriptor has them ready.
+#[inline(always)]
+fn push_descriptor<W: Sink>(lines: &mut LineWriter<'_, '_, W>, fxy: Fxy, entry: Option<Entry<'_>>)
+    ensures { Pushes lines.old (fxy_text fxy ++ 32 ∷ []) lines.new }
+{
+    match entry {
+        Some(entry) if entry.fxy() == fxy => lines.push(entry.line_start()),
+        _ => push_fxy(lines, fxy),
+    }
+}
+
+/// Pushes a descriptor, a space and a number.
+#[inline(always)]
+// rule: text-number
+fn push_number<W: Sink>(
+    lines: &mut LineWriter<'_, '_, W>,
+    fxy: Fxy,
+    entry: Option<Entry<'_>>,
+    value: i128,
+    scale: i16,
+)
+    ensures { Pushes lines.old (fxy_text fxy ++ 32 ∷ decimal_text_of value scale) lines.new }
+{
+    push_descriptor(lines, fxy, entry);
+    lines.push_scaled(value, scale);
+}
+
+/// Pushes an item but for its comment: `R ` before a redefined reference, descriptor and value.
+#[inline(always)]
+// rule: text-missing, text-reference
+fn push_any_form<W: Sink>(
+    lines: &mut LineWriter<'_, '_, W>,
+    fxy: Fxy,
+    entry: Option<Entry<'_>>,
+    value: Value<'_>,
+)
+    ensures { Pushes lines.old
+        (form_text fxy (dump_value_of (value_of (seen_value value.entry)))) lines.new }
+{
+    match value {
+        Value::Number(number, scale) => push_number(lines, fxy, entry, number, scale),
+        Value::Text(octets) => {
+            push_descriptor(lines, fxy, entry);
+            lines.push(b"\"");
+            lines.push_quoted(octets);
+        }
+        Value::Missing => {
+            push_descriptor(lines, fxy, entry);
+            lines.push(b"MISSING");
+        }
+        Value::Reference(reference) => {
+            lines.push(b"R ");
+            push_number(lines, fxy, entry, i128::from(reference), 0);
+        }
+    }
+}
+
+/// Pushes the comment of the entry of Table B by which an item was read, and a line feed.
+#[inline(always)]
+// rule: text-comment
+fn push_comment<W: Sink>(lines: &mut LineWriter<'_, '_, W>, entry: Option<Entry<'_>>)
+    ensures { Pushes lines.old
+        (comment_text (option_map comment_of (option_map row_of_entry entry.entry)) ++ 10 ∷ [])
+        lines.new }
+{
+    match entry {
+        Some(entry) => lines.push(entry.comment()),
+        None => lines.push(b"\n"),
+    }
+}
+
+/// Pushes the line of any item: its descriptor, its value and its comment.
+#[inline(never)]
+fn push_any_item<W: Sink>(
+    lines: &mut LineWriter<'_, '_, W>,
+    fxy: Fxy,
+    entry: Option<Entry<'_>>,
+    value: Value<'_>,
+)
+    ensures { Pushes lines.old (item_text (dump_item_of
+        (seen (record { fxy = fxy; entry = entry.entry; value = value.entry }))) ++ 10 ∷ [])
+        lines.new }
+{
+    push_any_form(lines, fxy, entry, value);
+    push_comment(lines, entry);
+}
+
+/// Pushes the line of an item. Most are numbers of 64 bits, or missing, and were read by an entry.
+#[inline(always)]
+pub(crate) fn push_item<W: Sink>(lines: &mut LineWriter<'_, '_, W>, item: &ItemView<'_>)
+    ensures { Pushes lines.old (item_text (dump_item_of (seen item.now)) ++ 10 ∷ []) lines.new }
+{
+    let (fxy, entry, value) = (item.fxy, item.entry, item.value);
+    if let Value::Number(number, scale) = value
+        && let Some(entry) = entry
+        && entry.fxy() == fxy
+        && let Ok(number) = i64::try_from(number)
+    {
+        return lines.push_number_line(entry, number, scale);
+    }
+    push_any_item(lines, fxy, entry, value);
+}
 
 /// Room for a line. The longest has 2,061 octets: a text of 255, four for each, and a name and a
 /// unit of 512 each.

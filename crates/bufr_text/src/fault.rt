@@ -5,8 +5,9 @@ ghost use Rattle.bufr_fill.specs.Faults.{draft_fault};
 ghost use Rattle.bufr_text.specs.Encoding.{number_of_document_fault, number_of_walk_refusal, report_of_draft, reported_refusal};
 
 use bufr_fill::{DraftFault, Expected};
-use bufr_frame::RunFault;
+use bufr_frame::{RunFault, WriteFault};
 use bufr_tables::{Fxy, TemplateFault};
+use bufr_walk::{DEFINING, TOO_MANY_VALUES, WIDTH};
 use std::alloc::AllocError;
 use thiserror::Error;
 
@@ -15,17 +16,17 @@ use thiserror::Error;
 pub enum ReadFault {
     /// This line is none that can be there, or it is over 4,096 octets long, or the input ends
     /// before it and inside a document.
-    #[error("line {0} is not one that can stand there")]
+    #[error("line")]
     Line(u64),
     /// This line is a `subset` with another number than the next, or past those that the header
     /// says, or an `end` before all of them.
-    #[error("line {0} does not go with the number of subsets")]
+    #[error("subset count")]
     SubsetCount(u64),
     /// The value of this line of the header is past its range.
-    #[error("the value of line {0} is past its range")]
+    #[error("header range")]
     HeaderRange(u64),
     /// The reading ended: a read failed, the input is too long, or memory ran out.
-    #[error("the reading ended")]
+    #[error("{0}")]
     Run(RunFault),
 }
 
@@ -50,13 +51,13 @@ impl ReadFault {
 #[derive(Clone, Copy, Debug, PartialEq, Eq, Error)]
 pub enum WalkRefusal {
     /// A field that is not text would be under 1 or over 63 bits wide.
-    #[error("width of {0}")]
+    #[error("descriptor {0}")]
     Width(Fxy),
     /// A descriptor that may not come while references are being defined (2 03 Y).
-    #[error("{0} while references are defined")]
+    #[error("descriptor {0}")]
     Defining(Fxy),
     /// Compressed data would have more than 134,217,728 values with this item.
-    #[error("too many values at {0}")]
+    #[error("descriptor {0}")]
     TooManyValues(Fxy),
 }
 
@@ -66,9 +67,9 @@ impl WalkRefusal {
         ensures { result ≡ number_of_walk_refusal self }
     {
         match self {
-            WalkRefusal::Width(_) => 31,
-            WalkRefusal::Defining(_) => 32,
-            WalkRefusal::TooManyValues(_) => 35,
+            WalkRefusal::Width(_) => WIDTH,
+            WalkRefusal::Defining(_) => DEFINING,
+            WalkRefusal::TooManyValues(_) => TOO_MANY_VALUES,
         }
     }
 }
@@ -79,35 +80,35 @@ impl WalkRefusal {
 #[derive(Clone, Copy, Debug, PartialEq, Eq, Error)]
 pub enum DocumentFault {
     /// Another item, or none, is where this is expected.
-    #[error("line {0}: another item is expected")]
+    #[error("expected {1}")]
     WrongDescriptor(u64, Expected),
     /// No decimal, or one that is not whole at the field's scale, or a form of another kind than
     /// the field.
-    #[error("line {0}: not a number of the field")]
+    #[error("number")]
     Number(u64),
     /// It does not fit the field's bits, or would read as missing.
-    #[error("line {0}: out of range")]
+    #[error("out of range")]
     OutOfRange(u64),
     /// A text with more octets than the field.
-    #[error("line {0}: a text that is too long")]
+    #[error("text long")]
     TextLong(u64),
     /// A missing value where none may be.
-    #[error("line {0}: a missing value where none may be")]
+    #[error("missing forbidden")]
     MissingForbidden(u64),
     /// The descriptors make no template.
-    #[error("line {0}: the descriptors make no template")]
+    #[error("template {number} {why}", number = .1.number(), why = .1)]
     Template(u64, TemplateFault),
     /// A factor of compressed data that is not that of the first subset.
-    #[error("line {0}: a factor is not the same in all subsets")]
+    #[error("unequal factor")]
     UnequalFactor(u64),
     /// Texts of compressed data that no increments can distinguish, or references that differ.
-    #[error("line {0}: no increments can tell the values apart")]
+    #[error("increment")]
     Increment(u64),
     /// The message would have more than 16,777,215 octets.
-    #[error("line {0}: the message would be too long")]
+    #[error("too long")]
     TooLong(u64),
     /// The walk over the template is refused.
-    #[error("line {0}: the walk over the template is refused")]
+    #[error("walk {number} {why}", number = .1.number(), why = .1)]
     Walk(u64, WalkRefusal),
     /// Memory ran out.
     #[error("out of memory")]
@@ -120,17 +121,19 @@ impl DocumentFault {
         ensures { result ≡ number_of_document_fault self }
     {
         match self {
-            DocumentFault::WrongDescriptor(_, _) => 51,
-            DocumentFault::Number(_) => 52,
-            DocumentFault::OutOfRange(_) => 53,
-            DocumentFault::TextLong(_) => 54,
-            DocumentFault::MissingForbidden(_) => 55,
+            DocumentFault::WrongDescriptor(line, expected) => {
+                DraftFault::WrongDescriptor(line, expected).number()
+            }
+            DocumentFault::Number(line) => DraftFault::Number(line).number(),
+            DocumentFault::OutOfRange(line) => DraftFault::OutOfRange(line).number(),
+            DocumentFault::TextLong(line) => DraftFault::TextLong(line).number(),
+            DocumentFault::MissingForbidden(line) => DraftFault::MissingForbidden(line).number(),
             DocumentFault::Template(_, _) => 56,
-            DocumentFault::UnequalFactor(_) => 58,
-            DocumentFault::Increment(_) => 59,
-            DocumentFault::TooLong(_) => 60,
+            DocumentFault::UnequalFactor(line) => DraftFault::UnequalFactor(line).number(),
+            DocumentFault::Increment(line) => DraftFault::Increment(line).number(),
+            DocumentFault::TooLong(_) => WriteFault::TooLong.number(),
             DocumentFault::Walk(_, _) => 62,
-            DocumentFault::Memory => 73,
+            DocumentFault::Memory => DraftFault::Memory.number(),
         }
     }
 

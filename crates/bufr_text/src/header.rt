@@ -6,8 +6,7 @@ ghost use Rattle.bufr_text.specs.Line.{is_named, lead_of, key_in, keys, leasts, 
 ghost use Rattle.bufr_text.specs.Grammar.{fxy_read, descriptors_read};
 ghost use Rattle.bufr_text.specs.LineParts.{Describes};
 
-use crate::line::is;
-use crate::slice::{ahead, octet_at, suffix};
+use crate::line::{ahead, is, octet_at, suffix};
 use bufr_tables::Fxy;
 
 /// A key: what is before its value (a line feed, its name and a space), and its least value. Then

@@ -2,25 +2,19 @@
 //! reading.
 #![tactic(auto)]
 
-mod digits;
 mod document;
 mod dump;
 mod dump_reader;
 mod encode;
 pub mod encode_law;
 mod fault;
-mod head_lines;
 mod header;
-mod item_line;
 pub mod law;
 mod line;
 mod line_writer;
 mod ls;
-mod number_line;
+mod numbers;
 pub mod readback_law;
-mod scaled;
-mod slice;
-mod texts;
 
 pub use document::Document;
 pub use dump::{DumpMemory, write_dump, write_dump_by};

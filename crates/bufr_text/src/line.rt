@@ -13,7 +13,6 @@ ghost use Rattle.bufr_text.specs.Line as spec;
 
 use crate::document::ParsedLine;
 use crate::header::{MOST_WORDS, describe, fxy_prefix, place, word_at};
-use crate::slice::{ahead, octet_at, suffix, without_prefix, without_space};
 use bufr_bits::ShortDecimal;
 use bufr_fill::DraftValue;
 use bufr_tables::Fxy;
@@ -366,11 +365,16 @@ fn upper_value(octet: u8) -> Option<u8>
     }
 }
 
+/// For each octet 1 where a text has it as it is, and 0 where it has an escape.
+static UNESCAPED: [u8; 256] =
+    *b"0000000000000000000000000000000011011111111111111111111111111111111111111111111111111111111101111111111111111111111111111111111000000000000000000000000000000000000000000000000000000000000000000000000000000000000000000000000000000000000000000000000000000000";
+
 /// Whether an octet of a text is unescaped.
+#[inline(always)]
 pub(crate) fn is_unescaped(octet: u8) -> bool
     ensures { result ≡ is_unescaped octet }
 {
-    octet >= 32 && octet <= 126 && octet != b'"' && octet != b'\\'
+    UNESCAPED[octet as usize] == b'1'
 }
 
 /// What begins with a backslash.
@@ -462,4 +466,51 @@ pub(crate) fn decode_hex(text: &[u8], out: &mut [u8]) -> Option<usize>
     } else {
         None
     }
+}
+
+/// The octet at a place, or 0 after the end.
+pub(crate) fn octet_at(text: &[u8], place: usize) -> u8
+    ensures { result ≡ slice_index text.now place }
+{
+    if place < text.len() { text[place] } else { 0 }
+}
+
+/// The octets before a place.
+pub(crate) fn ahead<'a>(text: &'a [u8], place: usize) -> &'a [u8]
+    requires { place ≤ length text.now }
+    ensures { result.now ≡ take place text.now }
+{
+    &text[..place]
+}
+
+/// What is after a place.
+pub(crate) fn suffix<'a>(text: &'a [u8], place: usize) -> &'a [u8]
+    requires { place ≤ length text.now }
+    ensures { result.now ≡ drop place text.now }
+{
+    &text[place..]
+}
+
+/// What is after a word.
+pub(crate) fn without_prefix<'a>(text: &'a [u8], word: &[u8]) -> Option<&'a [u8]>
+    ensures value { option_map (λ s. s.now) result ≡ without_prefix word.now text.now }
+    ensures within { IfSome result (λ s. length s.now ≤ length text.now) }
+{
+    text.strip_prefix(word)
+}
+
+/// What is after one space.
+#[tactic(auto, using(crate::proofs::ItemLemmas::space_steps))]
+#[inline(always)]
+pub(crate) fn without_space<'a>(text: &'a [u8]) -> Option<&'a [u8]>
+    ensures value { option_map (λ s. s.now) result ≡ without_space text.now }
+    ensures within { IfSome result (λ s. length s.now ≤ length text.now) }
+{
+    if text.is_empty() {
+        return None;
+    }
+    if text[0] != b' ' {
+        return None;
+    }
+    Some(suffix(text, 1))
 }

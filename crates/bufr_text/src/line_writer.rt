@@ -1,14 +1,14 @@
 //! A writer of lines: octets put into a block of memory, one text after another, and handed on to a
 //! sink.
-ghost use Rattle.std.specs.Prelude.{◌≡◌, ◌≤◌, ◌++◌, [], Ok, codes, length, take, decimal, replicate};
+ghost use Rattle.std.specs.Prelude.{◌≡◌, ◌≤◌, ◌++◌, [], Ok, codes, length, take, decimal, replicate, ◌<◌, Some, drop, false};
 ghost use Rattle.bufr_bits.specs.Decimal.{decimal_text_of};
 ghost use Rattle.bufr_tables.specs.Entry.{row_of_entry};
 ghost use Rattle.bufr_tables.specs.TableB.{row_comment, row_line_start};
-ghost use Rattle.bufr_text.specs.Writing.{Pushes, Writes, CountsWrites, flag, zero_padded};
+ghost use Rattle.bufr_text.specs.Writing.{Pushes, Writes, CountsWrites, zero_padded, Puts};
+ghost use Rattle.bufr_text.specs.Grammar.{escaped, hex_digit, hex_pair, hex_text, is_unescaped, quoted};
 
-use crate::digits::{count_digits, fill_named};
-use crate::number_line::{fill_missing_line, fill_number_line};
-use crate::slice::suffix;
+use crate::line::{is_unescaped, suffix};
+use crate::numbers::{fill_named, fill_number_line, put};
 use bufr_bits::Sink;
 use bufr_frame::RunFault;
 use bufr_tables::Entry;
@@ -102,23 +102,49 @@ fn write_after<W: Sink>(
     write_all(text, w)
 }
 
-/// Writes the octets before an index, and then a number.
+/// Writes the octets before an index, then a name and a number.
 #[inline(never)]
-fn write_decimal_after<W: Sink>(
+fn write_named_after<W: Sink>(
     octets: &mut [u8],
     at: usize,
+    name: &[u8],
     value: u64,
     w: &mut W,
 ) -> Result<(), RunFault>
     requires { at ≤ length octets.old }
-    ensures writes { Writes (W.taken w.old) (W.taken w.new) (take at octets.old ++ decimal value)
-        result }
+    ensures writes { Writes (W.taken w.old) (W.taken w.new)
+        (take at octets.old ++ (name.now ++ decimal value)) result }
     ensures counts { CountsWrites (W.failures w.old) (W.failures w.new) (W.empty_writes w.old)
         (W.empty_writes w.new) result }
     ensures flushes { W.flushes w.new ≡ W.flushes w.old }
 {
     let mut buffer = Buffer::new();
-    write_after(octets, at, buffer.format(value).as_bytes(), w)
+    write_after(octets, at, name, w)?;
+    write_all(buffer.format(value).as_bytes(), w)
+}
+
+/// The upper-case hexadecimal digit of a number.
+fn hex_digit(n: u8) -> u8
+    requires { n < 16 }
+    ensures { result ≡ hex_digit n }
+{
+    if n < 10 { b'0' + n } else { b'A' - 10 + n }
+}
+
+/// Copies the octets at the start that are unescaped, as far as there is room, and returns how many
+/// they are.
+#[inline(always)]
+fn fill_run(octets: &[u8], free: &mut [u8]) -> usize
+    ensures within { result ≤ length octets.now }
+    ensures fills { Puts free.old 0 (take result octets.now) free.new (Some result) }
+    ensures text { quoted octets.now ≡ take result octets.now ++ quoted (drop result octets.now) }
+{
+    let mut len = 0;
+    while len < octets.len() && len < free.len() && is_unescaped(octets[len]) {
+        free[len] = octets[len];
+        len += 1;
+    }
+    len
 }
 
 impl<'b, 'w, W: Sink> LineWriter<'b, 'w, W> {
@@ -190,15 +216,14 @@ impl<'b, 'w, W: Sink> LineWriter<'b, 'w, W> {
         }
     }
 
-    /// Writes what is held and a number after it. Where a write fails, both are let go.
+    /// Pushes a few octets.
     #[inline(always)]
-    fn push_decimal_through(&mut self, value: u64)
-        ensures { Pushes self.old (decimal value) self.new }
+    pub(crate) fn push_array<const N: usize>(&mut self, octets: [u8; N])
+        ensures { Pushes self.old octets.entry self.new }
     {
-        let len = self.len;
-        self.len = 0;
-        if self.status.is_ok() {
-            self.status = write_decimal_after(self.octets, len, value, self.w);
+        match put(octets, &mut self.octets[self.len..], 0) {
+            Some(len) => self.len += len,
+            None => self.push_through(&octets),
         }
     }
 
@@ -226,17 +251,11 @@ impl<'b, 'w, W: Sink> LineWriter<'b, 'w, W> {
     fn push_named_through(&mut self, name: &[u8], value: u64)
         ensures { Pushes self.old (name.now ++ decimal value) self.new }
     {
-        self.push_through(name);
-        self.push_decimal_through(value);
-    }
-
-    /// Pushes a number that may be 2^64 or more, as plain decimal digits.
-    #[inline(never)]
-    pub(crate) fn push_wide_decimal(&mut self, value: u128)
-        ensures { Pushes self.old (decimal value) self.new }
-    {
-        let mut buffer = Buffer::new();
-        self.push(buffer.format(value).as_bytes());
+        let len = self.len;
+        self.len = 0;
+        if self.status.is_ok() {
+            self.status = write_named_after(self.octets, len, name, value, self.w);
+        }
     }
 
     /// Pushes the line of a number that an entry reads.
@@ -262,29 +281,6 @@ impl<'b, 'w, W: Sink> LineWriter<'b, 'w, W> {
         self.push(entry.comment());
     }
 
-    /// Pushes the line of a missing item that an entry reads.
-    #[inline(never)]
-    // rule: text-missing
-    pub(crate) fn push_missing_line(&mut self, entry: Entry<'_>)
-        ensures { Pushes self.old (row_line_start (row_of_entry entry.entry)
-            ++ (codes "MISSING" ++ row_comment (row_of_entry entry.entry))) self.new }
-    {
-        match fill_missing_line(entry, &mut self.octets[self.len..]) {
-            Some(len) => self.len += len,
-            None => self.push_long_missing(entry),
-        }
-    }
-
-    /// Pushes the line of a missing item that an entry reads, text by text.
-    fn push_long_missing(&mut self, entry: Entry<'_>)
-        ensures { Pushes self.old (row_line_start (row_of_entry entry.entry)
-            ++ (codes "MISSING" ++ row_comment (row_of_entry entry.entry))) self.new }
-    {
-        self.push(entry.line_start());
-        self.push(b"MISSING");
-        self.push(entry.comment());
-    }
-
     /// Pushes digits `0`.
     #[inline(always)]
     pub(crate) fn push_zeros(&mut self, count: usize)
@@ -301,17 +297,81 @@ impl<'b, 'w, W: Sink> LineWriter<'b, 'w, W> {
     pub fn push_padded(&mut self, value: u64, digits: usize)
         ensures { Pushes self.old (zero_padded digits value) self.new }
     {
-        self.push_zeros(digits.saturating_sub(count_digits(value)));
-        self.push_decimal(value);
+        let mut buffer = Buffer::new();
+        let text = buffer.format(value).as_bytes();
+        self.push_zeros(digits.saturating_sub(text.len()));
+        self.push(text);
     }
 
-    /// Pushes `1` or `0`.
-    #[inline(always)]
-    // rule: listing-flags
-    pub fn push_flag(&mut self, on: bool)
-        ensures { Pushes self.old (flag on) self.new }
+    /// Pushes two hexadecimal digits for an octet.
+    // rule: text-hexadecimal
+    fn push_hex_pair(&mut self, octet: u8)
+        ensures { Pushes self.old (hex_pair octet) self.new }
     {
-        self.push(if on { b"1" } else { b"0" });
+        self.push(&[hex_digit(octet / 16), hex_digit(octet % 16)]);
+    }
+
+    /// Pushes two hexadecimal digits for each octet.
+    pub(crate) fn push_hex(&mut self, octets: &[u8])
+        ensures { Pushes self.old (hex_text octets.now) self.new }
+    {
+        for octet in octets {
+            self.push_hex_pair(*octet);
+        }
+    }
+
+    /// Pushes the escape of an octet.
+    #[inline(never)]
+    // rule: text-escapes
+    fn push_escape(&mut self, octet: u8)
+        requires { is_unescaped octet ≡ false }
+        ensures { Pushes self.old (escaped octet) self.new }
+    {
+        if octet == b'"' || octet == b'\\' {
+            return self.push(&[b'\\', octet]);
+        }
+        self.push(&[b'\\', b'x', hex_digit(octet / 16), hex_digit(octet % 16)]);
+    }
+
+    /// Pushes an octet of a text.
+    #[inline(always)]
+    fn push_escaped(&mut self, octet: u8)
+        ensures { Pushes self.old (escaped octet) self.new }
+    {
+        if is_unescaped(octet) {
+            return self.push(&[octet]);
+        }
+        self.push_escape(octet);
+    }
+
+    /// Pushes the octets at the start of a text that are unescaped, as far as there is room, and
+    /// returns how many they are.
+    #[inline(always)]
+    fn push_run(&mut self, octets: &[u8]) -> usize
+        ensures within { result ≤ length octets.now }
+        ensures pushes { Pushes self.old (take result octets.now) self.new }
+        ensures text { quoted octets.now
+            ≡ take result octets.now ++ quoted (drop result octets.now) }
+    {
+        let len = fill_run(octets, &mut self.octets[self.len..]);
+        self.len += len;
+        len
+    }
+
+    /// Pushes the octets of a text, and the quote that closes it. Few texts have escapes.
+    // rule: text-quoted, text-inserted
+    pub(crate) fn push_quoted(&mut self, octets: &[u8])
+        ensures { Pushes self.old (quoted octets.now) self.new }
+    {
+        let mut rest = octets;
+        while !rest.is_empty() {
+            rest = suffix(rest, self.push_run(rest));
+            if let Some((octet, more)) = rest.split_first() {
+                self.push_escaped(*octet);
+                rest = more;
+            }
+        }
+        self.push(b"\"");
     }
 
     /// Whether all that was pushed so far was written or is held.

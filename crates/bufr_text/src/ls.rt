@@ -1,22 +1,25 @@
 //! The line that lists a message.
 ghost use Rattle.std.specs.Prelude.{◌≡◌, ◌∷◌, is_some, length};
-ghost use Rattle.bufr_text.specs.Writing.{Pushes, Writes, CountsWrites, joined, zero_padded};
+ghost use Rattle.bufr_text.specs.Writing.{Pushes, Writes, CountsWrites, joined};
 ghost use Rattle.bufr_text.specs.LsLine.{category_texts, counts_texts, ls_line, origin_texts, tables_texts, time_texts};
 
 use crate::line_writer::LineWriter;
+use crate::numbers::pair;
 use bufr_bits::Sink;
 use bufr_frame::{Head, Message, RunFault};
 
 /// The octets in which the line is put together. The longest line has 251.
-const LINE: usize = 320;
+const LINE: usize = 256;
 
 /// Pushes where a message begins and where it comes from.
 #[inline(always)]
-fn push_origin<W: Sink>(line: &mut LineWriter<'_, '_, W>, offset: u64, size: u64, head: &Head)
-    ensures { Pushes line.old (joined (origin_texts offset size head.now)) line.new }
+fn push_origin<W: Sink>(line: &mut LineWriter<'_, '_, W>, offset: u64, message: &Message<'_>)
+    ensures { Pushes line.old
+        (joined (origin_texts offset message.now.size message.now.head)) line.new }
 {
+    let head = message.head();
     line.push_named(b"offset=", offset);
-    line.push_named(b" length=", size);
+    line.push_named(b" length=", message.length());
     line.push_named(b" edition=", u64::from(head.edition));
     line.push_named(b" centre=", u64::from(head.centre));
     line.push_named(b"/", u64::from(head.subcentre));
@@ -24,9 +27,10 @@ fn push_origin<W: Sink>(line: &mut LineWriter<'_, '_, W>, offset: u64, size: u64
 
 /// Pushes what kind of data a message has.
 #[inline(always)]
-fn push_category<W: Sink>(line: &mut LineWriter<'_, '_, W>, head: &Head)
-    ensures { Pushes line.old (joined (category_texts head.now)) line.new }
+fn push_category<W: Sink>(line: &mut LineWriter<'_, '_, W>, message: &Message<'_>)
+    ensures { Pushes line.old (joined (category_texts message.now.head)) line.new }
 {
+    let head = message.head();
     line.push_named(b" update=", u64::from(head.update));
     line.push_named(b" category=", u64::from(head.category));
     line.push_named(b"/", u64::from(head.subcategory));
@@ -35,53 +39,77 @@ fn push_category<W: Sink>(line: &mut LineWriter<'_, '_, W>, head: &Head)
 
 /// Pushes by which tables the data are written.
 #[inline(always)]
-fn push_tables<W: Sink>(line: &mut LineWriter<'_, '_, W>, head: &Head)
-    ensures { Pushes line.old (joined (tables_texts head.now)) line.new }
+fn push_tables<W: Sink>(line: &mut LineWriter<'_, '_, W>, message: &Message<'_>)
+    ensures { Pushes line.old (joined (tables_texts message.now.head)) line.new }
 {
+    let head = message.head();
     line.push_named(b" tables=", u64::from(head.master));
     line.push_named(b"/", u64::from(head.master_version));
     line.push_named(b"/", u64::from(head.local_version));
 }
 
-/// Pushes an octet and a number in at least two digits.
+/// Pushes the time that section 1 says, each value in as many digits as it has or more.
 #[inline(always)]
-fn push_pair<W: Sink>(line: &mut LineWriter<'_, '_, W>, before: u8, value: u8)
-    ensures { Pushes line.old (before ∷ zero_padded 2 value) line.new }
-{
-    if value < 10 {
-        return line.push(&[before, b'0', b'0' + value]);
-    }
-    line.push_named(&[before], u64::from(value));
-}
-
-/// Pushes the time that section 1 says.
-#[inline(always)]
-fn push_time<W: Sink>(line: &mut LineWriter<'_, '_, W>, head: &Head)
+fn push_long_time<W: Sink>(line: &mut LineWriter<'_, '_, W>, head: &Head)
     ensures { Pushes line.old (joined (time_texts head.now)) line.new }
 {
     line.push(b" time=");
     line.push_padded(u64::from(head.year), 4);
-    push_pair(line, b'-', head.month);
-    push_pair(line, b'-', head.day);
-    push_pair(line, b'T', head.hour);
-    push_pair(line, b':', head.minute);
-    push_pair(line, b':', head.second);
+    line.push(b"-");
+    line.push_padded(u64::from(head.month), 2);
+    line.push(b"-");
+    line.push_padded(u64::from(head.day), 2);
+    line.push(b"T");
+    line.push_padded(u64::from(head.hour), 2);
+    line.push(b":");
+    line.push_padded(u64::from(head.minute), 2);
+    line.push(b":");
+    line.push_padded(u64::from(head.second), 2);
+}
+
+/// Pushes the time that section 1 says. Where no value has more digits than usual, it is one text.
+#[inline(always)]
+// rule: listing-time
+fn push_time<W: Sink>(line: &mut LineWriter<'_, '_, W>, message: &Message<'_>)
+    ensures { Pushes line.old (joined (time_texts message.now.head)) line.new }
+{
+    let head = message.head();
+    if head.year > 9_999
+        || head.month > 99
+        || head.day > 99
+        || head.hour > 99
+        || head.minute > 99
+        || head.second > 99
+    {
+        return push_long_time(line, &head);
+    }
+    let (y1, y2) = pair(u64::from(head.year / 100));
+    let (y3, y4) = pair(u64::from(head.year % 100));
+    let (m1, m2) = pair(u64::from(head.month));
+    let (d1, d2) = pair(u64::from(head.day));
+    let (h1, h2) = pair(u64::from(head.hour));
+    let (n1, n2) = pair(u64::from(head.minute));
+    let (s1, s2) = pair(u64::from(head.second));
+    line.push_array([
+        b' ', b't', b'i', b'm', b'e', b'=', y1, y2, y3, y4, b'-', m1, m2, b'-', d1, d2, b'T', h1,
+        h2, b':', n1, n2, b':', s1, s2,
+    ]);
 }
 
 /// Pushes how many subsets and descriptors a message has, and its flags.
 #[inline(always)]
+// rule: listing-flags
 fn push_counts<W: Sink>(line: &mut LineWriter<'_, '_, W>, message: &Message<'_>)
     ensures { Pushes line.old (joined (counts_texts message.now.subsets message.now.observed
         message.now.compressed (is_some message.now.section2) (length message.now.descriptors)))
         line.new }
 {
     line.push_named(b" subsets=", u64::from(message.subsets()));
-    line.push(b" observed=");
-    line.push_flag(message.observed());
-    line.push(b" compressed=");
-    line.push_flag(message.compressed());
-    line.push(b" optional=");
-    line.push_flag(message.section2().is_some());
+    let mut flags = *b" observed=0 compressed=0 optional=0";
+    flags[10] += u8::from(message.observed());
+    flags[23] += u8::from(message.compressed());
+    flags[34] += u8::from(message.section2().is_some());
+    line.push_array(flags);
     line.push_named(b" descriptors=", message.descriptors().len() as u64);
     line.push(b"\n");
 }
@@ -102,13 +130,12 @@ pub fn write_ls<W: Sink>(offset: u64, message: &Message<'_>, w: &mut W) -> Resul
         (W.empty_writes w.new) result }
     ensures flushes { W.flushes w.new ≡ W.flushes w.old }
 {
-    let head = message.head();
     let mut block = [0; LINE];
     let mut line = LineWriter::new(&mut block, w);
-    push_origin(&mut line, offset, message.length(), &head);
-    push_category(&mut line, &head);
-    push_tables(&mut line, &head);
-    push_time(&mut line, &head);
+    push_origin(&mut line, offset, message);
+    push_category(&mut line, message);
+    push_tables(&mut line, message);
+    push_time(&mut line, message);
     push_counts(&mut line, message);
     line.hand_on();
     let outcome = line.status();

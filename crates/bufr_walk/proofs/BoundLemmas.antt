@@ -11,7 +11,7 @@ use Rattle.bufr_walk.specs.FieldSpec.{FieldSpec}
 use Rattle.bufr_walk.specs.Rules.{OperatorModel, begin, after_operator, after_field, element_spec, factor_spec, inserted_spec}
 use Rattle.bufr_walk.specs.Course.{Turns, finish, operator_turn, Rest, unroll, passes, pass_end, Next, take_next, refused, at_end, astray, NextTurn, ahead, asked, operated, stop, Course, next_item, counts_of}
 use Rattle.bufr_walk.specs.Walk.{TakenField, Takes, oks, answers_of, StopsWalk, Walked, ticked}
-use Rattle.bufr_walk.specs.declared.stop.WalkStop.{WalkStop}
+use Rattle.bufr_walk.specs.declared.walker.WalkStop.{WalkStop}
 use Rattle.bufr_walk.specs.declared.fault.ShowFault.{ShowFault}
 use Rattle.bufr_walk.specs.declared.reading.StoredItems.{StoredItems}
 use Rattle.bufr_walk.specs.Calls.{Call, Timed, item_calls, subset_calls, compressed_item_calls, compressed_subset_calls, calls_of, items_called, turns_shown, Shows}
@@ -20,7 +20,7 @@ use Rattle.bufr_walk.specs.StoredItems.{IsStoredReading, PaysBits, items_in}
 use Rattle.bufr_walk.specs.Refusal.{Read, course_of}
 use Rattle.bufr_walk.specs.Reading.{Item, plain, item_answer, after, next_after, turns_after, turns_in, ReadsSubsets, Values, apart, together, IsReading, IsPackedReading, max_values}
 use Rattle.bufr_walk.proofs.OneReading.{one_reading}
-use Rattle.bufr_walk.specs.declared.stop.WalkStop.TheVariants as stops
+use Rattle.bufr_walk.specs.declared.walker.WalkStop.TheVariants as stops
 
 module _ (table : List Row) (n : ℕ) where
   -- each item pays for n turns, and what follows for `a`

@@ -1,6 +1,6 @@
 -- What is cached: specs by their keys, and lists of descriptors in slots.
 use Rattle.std.proofs.Common.{◌≡◌, ℕ, ◌+◌, ◌*◌, ◌<◌, arith, ◌∙◌, sym, ◌^◌, Bool, true, false, List, Option, Some, None, Ok, Err, ap, subst, ◌≤◌, [], ◌∷◌, ◌++◌, length, length-append}
-use Rattle.bufr_walk.specs.Rules.{OperatorModel, IsKey, is_defining, element_spec, factor_spec, factor_by, factor_field, spec_by_kind, new_reference_spec, numeric_spec, coded_spec, text_spec, text_width, local_width_spec, listed_by, unsigned_of, unsigned_field, untouched, IsFieldKey, descriptor_of, key_word, spec_of}
+use Rattle.bufr_walk.specs.Rules.{OperatorModel, IsKey, is_defining, element_spec, factor_spec, factor_by, factor_field, spec_by_kind, new_reference_spec, numeric_spec, coded_spec, text_spec, text_width, local_width_spec, listed_by, unsigned_of, unsigned_field, begin, IsFieldKey, descriptor_of, key_word, spec_of}
 use Rattle.std.specs.Prelude.{◌==◌, nat_lt, if◌then◌else◌}
 use Rattle.std.proofs.lemmas.Bool.Decides.{nat_tests}
 use Rattle.bufr_tables.specs.declared.table_b.Kind.{Kind}
@@ -12,7 +12,7 @@ use Rattle.bufr_walk.proofs.WalkLemmas.{fitted_role}
 use Rattle.std.specs.List.{All}
 use Rattle.std.proofs.lemmas.List.Elements.{All-append, All-cons, All-head, All-tail, All-nil}
 use Rattle.bufr_tables.specs.TableD.{Sequence}
-use Rattle.bufr_walk.specs.declared.template_cache.Slot.{Slot}
+use Rattle.bufr_walk.specs.declared.lists.Slot.{Slot}
 use Rattle.bufr_tables.specs.declared.table_b.Kind.TheVariants as kind
 use Rattle.bufr_walk.specs.declared.spec.Role.TheVariants as role
 use Rattle.bufr_walk.specs.declared.spec.TurnRefusal.TheVariants as refusal
@@ -94,8 +94,8 @@ none_defining n h = grind (arith, nat_tests)
 element_plain : (table : List Row) (s : OperatorModel) (fxy : ℕ) (spec : FieldSpec) → s.new_reference_width ≡ 0 → element_spec table s fxy ≡ Ok spec → is_reference spec.role ≡ false
 element_plain table s fxy spec none e = by_given (nat_lt 0 s.local_width) (entry_of table fxy) e
   where
-    by_width : (b : Bool) (row : Row) → (if b then spec_by_kind row.kind (untouched s) row else unsigned_of fxy s.local_width) ≡ Ok spec → is_reference spec.role ≡ false
-    by_width true row q = kind_plain row.kind (untouched s) row spec q
+    by_width : (b : Bool) (row : Row) → (if b then spec_by_kind row.kind begin row else unsigned_of fxy s.local_width) ≡ Ok spec → is_reference spec.role ≡ false
+    by_width true row q = kind_plain row.kind begin row spec q
     by_width false row q = ap is_reference (sym (fitted_role (unsigned_field fxy s.local_width) spec q))
 
     by_defining : (b : Bool) (row : Row) → b ≡ false → (if b then new_reference_spec row.kind s fxy else spec_by_kind row.kind s row) ≡ Ok spec → is_reference spec.role ≡ false

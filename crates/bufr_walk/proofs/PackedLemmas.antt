@@ -1,7 +1,8 @@
 -- The contents of an item of compressed data, by its increments.
-use Rattle.std.proofs.Common.{◌≡◌, ℕ, zero, suc, ◌+◌, ◌^◌, ◌<◌, ◌≤◌, ◌&&◌, ◌||◌, Bool, true, false, List, ◌∷◌, length, take, drop, refl, sym, ◌∙◌, ap, subst, arith, ◌*◌, [], map, Result, Ok, Err, ◌-◌}
+use Rattle.std.proofs.Common.{◌≡◌, ℕ, zero, suc, ◌+◌, ◌^◌, ◌<◌, ◌≤◌, ◌&&◌, ◌||◌, ◌%◌, Bool, true, false, List, ◌∷◌, length, take, drop, refl, sym, ◌∙◌, ap, subst, arith, ◌*◌, [], map, Result, Ok, Err, ◌-◌}
 use Rattle.std.specs.Prelude.{◌==◌, nat_lt, not, ◌/◌, if◌then◌else◌}
 use Rattle.std.specs.List.{list_all}
+use Rattle.std.proofs.lemmas.Nat.{shl_whole}
 use Rattle.std.proofs.lemmas.List.{drop-drop, length-take, length-drop}
 use Rattle.std.proofs.Math.Nat.{pow-le-pow_right, mul-le-mul_right}
 use Rattle.std.proofs.lemmas.Bool.Decides.{nat_tests}
@@ -9,22 +10,26 @@ use Rattle.bufr_bits.specs.Bits.{number_of, are_all_ones, bits_of, bits_at}
 use Rattle.bufr_bits.proofs.BitLemmas.{number_of-below, length-bits_at}
 use Rattle.bufr_walk.specs.PackedField.{increments, ones, and_contents, increased, all_increased, padded_text, increment_bits_of, numbers_of, varied_by, same_count, if_equal, varied, contents_of, answer_first, all_same, with_suffix, item_by, packed_field}
 use Rattle.bufr_walk.specs.PackedBits.{stays_within, all_within, is_missing, numbers_hold, all_equal, increased_to, holds_by, number_from, content_from, kind_step, is_plain_role, IsItemAnswer, IsWrong}
-use Rattle.bufr_walk.specs.FieldSpec.{FieldSpec, IsSpec, HasRole}
+use Rattle.bufr_walk.specs.FieldSpec.{FieldSpec, IsSpec, HasRole, is_reference}
 use Rattle.bufr_tables.specs.declared.table_b.Kind.{Kind}
 use Rattle.bufr_walk.specs.declared.spec.Role.{Role}
 use Rattle.bufr_walk.specs.declared.spec.Taken.{Taken}
 use Rattle.bufr_walk.specs.Content.{Content, number, missing, content_in, answer_of, answer_by_role, FieldFault, increment, unequal_factor, FieldRead, data_end}
 use Rattle.bufr_bits.proofs.DecimalLemmas.{and_first, and_second}
 use Rattle.bufr_tables.specs.TableB.{is_character}
-use Rattle.bufr_walk.specs.declared.kept.IndexedItem.{IndexedItem}
+use Rattle.bufr_walk.specs.declared.item_index.IndexedItem.{IndexedItem}
 use Rattle.bufr_walk.specs.Calls.{content_at}
 use Rattle.bufr_walk.specs.StoredItems.{content_kept}
 use Rattle.bufr_walk.specs.PackedIn.{contents_found, was_found, has_base, fits_at}
-use Rattle.bufr_walk.proofs.PlainLemmas.{bits_length, ones_by_number}
+use Rattle.bufr_walk.proofs.PlainLemmas.{bits_length, ones_by_number, is_reference_role}
 use Rattle.bufr_tables.specs.declared.table_b.Kind.TheVariants as kind
 use Rattle.bufr_walk.specs.declared.spec.Role.TheVariants as role
 use Rattle.bufr_walk.specs.declared.spec.Taken.TheVariants as taken
-use Rattle.bufr_walk.specs.declared.packed_in.PackedFault.TheVariants as wrong
+use Rattle.bufr_walk.specs.declared.compressed.PackedFault.TheVariants as wrong
+
+-- the greatest number of w bits
+pub all_ones : (w v : ℕ) → w ≡ v → v ≤ 63 → 1 * 2 ^ w % 18446744073709551616 - 1 ≡ 2 ^ v - 1
+all_ones w v e h = omega (arith, shl_whole 1 1 w 64 (omega arith) (omega (arith, h, e))) ∙ ap (λ x. 2 ^ x - 1) e
 
 -- the next of some increments
 pub increments_next : (left left' k at at' : ℕ) (bits : List Bool) → left ≡ suc left' → at' ≡ at + k → increments left k (drop at bits) ≡ take k (drop at bits) ∷ increments left' k (drop at' bits)
@@ -166,76 +171,96 @@ varied_are kind.Numeric a k n base suffix b h = numbers_are a k n base suffix b 
 not_zero : (k : ℕ) → 1 ≤ k → (k == 0) ≡ false
 not_zero k h = grind (arith, nat_tests)
 
-pub step_element : (kd : Kind) (k : ℕ) → increment_bits_of role.Element kd k ≡ kind_step kd k
+step_element : (kd : Kind) (k : ℕ) → increment_bits_of role.Element kd k ≡ kind_step kd k
 step_element kind.Character k = refl
 step_element kind.Coded k = refl
 step_element kind.Numeric k = refl
 
-pub step_inserted : (kd : Kind) (k : ℕ) → increment_bits_of role.Inserted kd k ≡ kind_step kd k
+step_inserted : (kd : Kind) (k : ℕ) → increment_bits_of role.Inserted kd k ≡ kind_step kd k
 step_inserted kind.Character k = refl
 step_inserted kind.Coded k = refl
 step_inserted kind.Numeric k = refl
 
-pub step_factor : (kd : Kind) (k : ℕ) → increment_bits_of role.Factor kd k ≡ kind_step kd k
+step_factor : (kd : Kind) (k : ℕ) → increment_bits_of role.Factor kd k ≡ kind_step kd k
 step_factor kind.Character k = refl
 step_factor kind.Coded k = refl
 step_factor kind.Numeric k = refl
 
--- the contents of an element with increments
-pub element_are : (a : FieldSpec) (k n : ℕ) (base suffix : List Bool) → 1 ≤ k → a.role ≡ role.Element → contents_of a k base (increments n (increment_bits_of a.role a.kind k) suffix) ≡ varied_by a.kind a k base (increments n (kind_step a.kind k) suffix)
-element_are a k n base suffix some e =
-    ap (λ b. if b then Ok (map (λ i. content_in a base) (increments n (increment_bits_of a.role a.kind k) suffix)) else varied a.role a k base (increments n (increment_bits_of a.role a.kind k) suffix)) (not_zero k some)
-    ∙ ap (λ r. varied r a k base (increments n (increment_bits_of r a.kind k) suffix)) e ∙ ap (λ s. varied_by a.kind a k base (increments n s suffix)) (step_element a.kind k)
+-- the bits of one subset, by role and kind; a redefined reference has none
+step_value : (r : Role) (kd : Kind) (k : ℕ) → is_reference r ≡ false → increment_bits_of r kd k ≡ kind_step kd k
+step_value role.Element kd k e = step_element kd k
+step_value role.Inserted kd k e = step_inserted kd k
+step_value role.Factor kd k e = step_factor kd k
+step_value role.Reference kd k e = absurd cc
 
-pub inserted_are : (a : FieldSpec) (k n : ℕ) (base suffix : List Bool) → 1 ≤ k → a.role ≡ role.Inserted → contents_of a k base (increments n (increment_bits_of a.role a.kind k) suffix) ≡ varied_by a.kind a k base (increments n (kind_step a.kind k) suffix)
-inserted_are a k n base suffix some e =
-    ap (λ b. if b then Ok (map (λ i. content_in a base) (increments n (increment_bits_of a.role a.kind k) suffix)) else varied a.role a k base (increments n (increment_bits_of a.role a.kind k) suffix)) (not_zero k some)
-    ∙ ap (λ r. varied r a k base (increments n (increment_bits_of r a.kind k) suffix)) e ∙ ap (λ s. varied_by a.kind a k base (increments n s suffix)) (step_inserted a.kind k)
+-- the contents by role: those of a factor are the same in all subsets
+abbrev equal_by : Role → Result (List Content) FieldFault → Result (List Content) FieldFault
+equal_by role.Factor r = if_equal r
+equal_by _ r = r
 
-pub factor_are : (a : FieldSpec) (k n : ℕ) (base suffix : List Bool) → 1 ≤ k → a.role ≡ role.Factor → contents_of a k base (increments n (increment_bits_of a.role a.kind k) suffix) ≡ if_equal (varied_by a.kind a k base (increments n (kind_step a.kind k) suffix))
-factor_are a k n base suffix some e =
-    ap (λ b. if b then Ok (map (λ i. content_in a base) (increments n (increment_bits_of a.role a.kind k) suffix)) else varied a.role a k base (increments n (increment_bits_of a.role a.kind k) suffix)) (not_zero k some)
-    ∙ ap (λ r. varied r a k base (increments n (increment_bits_of r a.kind k) suffix)) e ∙ ap (λ s. if_equal (varied_by a.kind a k base (increments n s suffix))) (step_factor a.kind k)
+varied_role : (r : Role) (a : FieldSpec) (k : ℕ) (base : List Bool) (is : List (List Bool)) → is_reference r ≡ false → varied r a k base is ≡ equal_by r (varied_by a.kind a k base is)
+varied_role role.Element a k base is e = refl
+varied_role role.Inserted a k base is e = refl
+varied_role role.Factor a k base is e = refl
+varied_role role.Reference a k base is e = absurd cc
 
--- an element returns nothing to the walk
-plain_element : (a : FieldSpec) (cs : List Content) → a.role ≡ role.Element → taken.Plain ≡ answer_first a cs
-plain_element a [] e = refl
-plain_element a (c ∷ cs) e = ap (λ r. answer_by_role r c) (sym e)
+contents_varied : (a : FieldSpec) (k : ℕ) (base : List Bool) (is : List (List Bool)) → 1 ≤ k → contents_of a k base is ≡ varied a.role a k base is
+contents_varied a k base is some = ap (λ b. if b then Ok (map (λ i. content_in a base) is) else varied a.role a k base is) (not_zero k some)
 
-plain_inserted : (a : FieldSpec) (cs : List Content) → a.role ≡ role.Inserted → taken.Plain ≡ answer_first a cs
-plain_inserted a [] e = refl
-plain_inserted a (c ∷ cs) e = ap (λ r. answer_by_role r c) (sym e)
+-- the contents of an item with increments
+pub value_are : (a : FieldSpec) (k n : ℕ) (base suffix : List Bool) → 1 ≤ k → is_reference a.role ≡ false → contents_of a k base (increments n (increment_bits_of a.role a.kind k) suffix) ≡ equal_by a.role (varied_by a.kind a k base (increments n (kind_step a.kind k) suffix))
+value_are a k n base suffix some e =
+    contents_varied a k base _ some ∙ varied_role a.role a k base _ e ∙ ap (λ s. equal_by a.role (varied_by a.kind a k base (increments n s suffix))) (step_value a.role a.kind k e)
 
-pub answer_element_varied : (a : FieldSpec) (k n : ℕ) (base suffix : List Bool) → 1 ≤ k → a.role ≡ role.Element → holds_by a.kind a k n base suffix ≡ true → IsItemAnswer a k n base suffix taken.Plain
-answer_element_varied a k n base suffix some e h = record {
-  contents = map (content_from a.kind a k base) (increments n (kind_step a.kind k) suffix);
-  are = element_are a k n base suffix some e ∙ varied_are a.kind a k n base suffix true h;
-  gives = plain_element a _ e;
+-- such an item is at fault where its increments are not valid
+pub wrong_varied : (a : FieldSpec) (k n : ℕ) (base suffix : List Bool) (f : ℕ) → f ≡ a.fxy → 1 ≤ k → is_reference a.role ≡ false → holds_by a.kind a k n base suffix ≡ false → IsWrong a k n base suffix (wrong.Increment f)
+wrong_varied a k n base suffix f g some e h = record {
+  why = increment;
+  is = value_are a k n base suffix some e ∙ ap (equal_by a.role) (varied_are a.kind a k n base suffix false h) ∙ by a.role;
+  fault = ap wrong.Increment g;
 }
+  where
+    by : (r : Role) → equal_by r (Err increment) ≡ Err increment
+    by role.Element = refl
+    by role.Inserted = refl
+    by role.Factor = refl
+    by role.Reference = refl
 
-pub answer_inserted_varied : (a : FieldSpec) (k n : ℕ) (base suffix : List Bool) → 1 ≤ k → a.role ≡ role.Inserted → holds_by a.kind a k n base suffix ≡ true → IsItemAnswer a k n base suffix taken.Plain
-answer_inserted_varied a k n base suffix some e h = record {
+-- an element and an inserted text return nothing to the walk
+plain_first : (a : FieldSpec) (cs : List Content) → is_plain_role a.role ≡ true → taken.Plain ≡ answer_first a cs
+plain_first a [] e = refl
+plain_first a (c ∷ cs) e = by a.role c e
+  where
+    by : (r : Role) (c : Content) → is_plain_role r ≡ true → taken.Plain ≡ answer_by_role r c
+    by role.Element c e = refl
+    by role.Inserted c e = refl
+    by role.Factor c e = absurd cc
+    by role.Reference c e = absurd cc
+
+pub answer_varied : (a : FieldSpec) (k n : ℕ) (base suffix : List Bool) → 1 ≤ k → is_plain_role a.role ≡ true → holds_by a.kind a k n base suffix ≡ true → IsItemAnswer a k n base suffix taken.Plain
+answer_varied a k n base suffix some e h = record {
   contents = map (content_from a.kind a k base) (increments n (kind_step a.kind k) suffix);
-  are = inserted_are a k n base suffix some e ∙ varied_are a.kind a k n base suffix true h;
-  gives = plain_inserted a _ e;
+  are = value_are a k n base suffix some (value a.role e) ∙ ap (equal_by a.role) (varied_are a.kind a k n base suffix true h) ∙ by a.role _ e;
+  gives = plain_first a _ e;
 }
+  where
+    value : (r : Role) → is_plain_role r ≡ true → is_reference r ≡ false
+    value role.Element e = refl
+    value role.Inserted e = refl
+    value role.Factor e = absurd cc
+    value role.Reference e = absurd cc
 
-pub wrong_element : (a : FieldSpec) (k n : ℕ) (base suffix : List Bool) (f : ℕ) → f ≡ a.fxy → 1 ≤ k → a.role ≡ role.Element → holds_by a.kind a k n base suffix ≡ false → IsWrong a k n base suffix (wrong.Increment f)
-wrong_element a k n base suffix f g some e h = record { why = increment; is = element_are a k n base suffix some e ∙ varied_are a.kind a k n base suffix false h; fault = ap wrong.Increment g }
-
-pub wrong_inserted : (a : FieldSpec) (k n : ℕ) (base suffix : List Bool) (f : ℕ) → f ≡ a.fxy → 1 ≤ k → a.role ≡ role.Inserted → holds_by a.kind a k n base suffix ≡ false → IsWrong a k n base suffix (wrong.Increment f)
-wrong_inserted a k n base suffix f g some e h = record { why = increment; is = inserted_are a k n base suffix some e ∙ varied_are a.kind a k n base suffix false h; fault = ap wrong.Increment g }
-
-pub wrong_factor : (a : FieldSpec) (k n : ℕ) (base suffix : List Bool) (f : ℕ) → f ≡ a.fxy → 1 ≤ k → a.role ≡ role.Factor → holds_by a.kind a k n base suffix ≡ false → IsWrong a k n base suffix (wrong.Increment f)
-wrong_factor a k n base suffix f g some e h = record { why = increment; is = factor_are a k n base suffix some e ∙ ap if_equal (varied_are a.kind a k n base suffix false h); fault = ap wrong.Increment g }
+    by : (r : Role) (x : Result (List Content) FieldFault) → is_plain_role r ≡ true → equal_by r x ≡ x
+    by role.Element x e = refl
+    by role.Inserted x e = refl
+    by role.Factor x e = absurd cc
+    by role.Reference x e = absurd cc
 
 -- a redefined reference has no increments
 pub wrong_reference : (a : FieldSpec) (k n : ℕ) (base suffix : List Bool) (f : ℕ) → f ≡ a.fxy → 1 ≤ k → a.role ≡ role.Reference → IsWrong a k n base suffix (wrong.Increment f)
 wrong_reference a k n base suffix f g some e = record {
   why = increment;
-  is =
-      ap (λ b. if b then Ok (map (λ i. content_in a base) (increments n (increment_bits_of a.role a.kind k) suffix)) else varied a.role a k base (increments n (increment_bits_of a.role a.kind k) suffix)) (not_zero k some)
-      ∙ ap (λ r. varied r a k base (increments n (increment_bits_of a.role a.kind k) suffix)) e;
+  is = contents_varied a k base _ some ∙ ap (λ r. varied r a k base (increments n (increment_bits_of a.role a.kind k) suffix)) e;
   fault = ap wrong.Increment g;
 }
 
@@ -294,7 +319,7 @@ equal_are : (a : FieldSpec) (k n : ℕ) (base suffix : List Bool) (first : ℕ) 
     → contents_of a k base (increments n (increment_bits_of a.role a.kind k) suffix) ≡ (if b then Ok (map (λ i. number (number_of base + number_of i)) (increments n k suffix)) else Err unequal_factor)
 equal_are a k n base suffix first b some any spec e h f t =
     let r : HasRole role.Factor a.kind a.may_be_missing = subst (λ x. HasRole x a.kind a.may_be_missing) e spec.role in
-    factor_are a k n base suffix some e ∙ ap if_equal (varied_are a.kind a k n base suffix true h)
+    value_are a k n base suffix some (ap is_reference e) ∙ ap (λ r. equal_by r (varied_by a.kind a k base (increments n (kind_step a.kind k) suffix))) e ∙ ap if_equal (varied_are a.kind a k n base suffix true h)
     ∙ ap (λ cs. if_equal (Ok cs)) (factor_numbers a k n base suffix r.0 r.1) ∙ equal_numbers (number_of base) first n k suffix b any f t
 
 pub answer_factor_varied : (a : FieldSpec) (k n : ℕ) (base suffix : List Bool) (low first : ℕ) → 1 ≤ k → 1 ≤ n → IsSpec a → a.role ≡ role.Factor → holds_by a.kind a k n base suffix ≡ true → low ≡ number_of base → first ≡ number_of (take k suffix) → all_equal k n first suffix ≡ true → IsItemAnswer a k n base suffix (taken.Count (low + first))
@@ -310,25 +335,6 @@ wrong_unequal a k n base suffix first f g some any spec e h q t = record {
   is = equal_are a k n base suffix first false some any spec e h q t;
   fault = ap wrong.UnequalFactor g;
 }
-
--- the same for each role that returns nothing
-pub answer_varied : (a : FieldSpec) (k n : ℕ) (base suffix : List Bool) → 1 ≤ k → is_plain_role a.role ≡ true → holds_by a.kind a k n base suffix ≡ true → IsItemAnswer a k n base suffix taken.Plain
-answer_varied a k n base suffix some e h = by a.role refl e
-  where
-    by : (r : Role) → a.role ≡ r → is_plain_role r ≡ true → IsItemAnswer a k n base suffix taken.Plain
-    by role.Element q e = answer_element_varied a k n base suffix some q h
-    by role.Inserted q e = answer_inserted_varied a k n base suffix some q h
-    by role.Factor q e = absurd cc
-    by role.Reference q e = absurd cc
-
-pub wrong_varied : (a : FieldSpec) (k n : ℕ) (base suffix : List Bool) (f : ℕ) → f ≡ a.fxy → 1 ≤ k → is_plain_role a.role ≡ true → holds_by a.kind a k n base suffix ≡ false → IsWrong a k n base suffix (wrong.Increment f)
-wrong_varied a k n base suffix f g some e h = by a.role refl e
-  where
-    by : (r : Role) → a.role ≡ r → is_plain_role r ≡ true → IsWrong a k n base suffix (wrong.Increment f)
-    by role.Element q e = wrong_element a k n base suffix f g some q h
-    by role.Inserted q e = wrong_inserted a k n base suffix f g some q h
-    by role.Factor q e = absurd cc
-    by role.Reference q e = absurd cc
 
 -- ---- The content of an item of compressed data for one subset.
 
@@ -411,51 +417,45 @@ base_at a k n j base suffix cs e h are =
     let same : map (λ i. content_in a base) (increments n s suffix) ≡ cs = cc in
     ap (content_at j) (sym same) ∙ at_map (λ i. content_in a base) n s j suffix h
 
-ok_if : (b : Bool) (xs cs : List Content) → ◌≡◌ {A = Result (List Content) FieldFault} (if b then Ok xs else Err increment) (Ok cs) → xs ≡ cs
-ok_if true xs cs h = cc
+ok_if : (b : Bool) (xs cs : List Content) → ◌≡◌ {A = Result (List Content) FieldFault} (if b then Ok xs else Err increment) (Ok cs) → (b ≡ true) × (xs ≡ cs)
+ok_if true xs cs h = (refl, cc)
 ok_if false xs cs h = absurd cc
 
-equal_ok : (b : Bool) (xs cs : List Content) → if_equal (if b then Ok xs else Err increment) ≡ Ok cs → xs ≡ cs
-equal_ok true xs cs h = by (all_same xs) h
+equal_ok : (r : Role) (b : Bool) (xs cs : List Content) → equal_by r (if b then Ok xs else Err increment) ≡ Ok cs → (b ≡ true) × (xs ≡ cs)
+equal_ok role.Element b xs cs h = ok_if b xs cs h
+equal_ok role.Inserted b xs cs h = ok_if b xs cs h
+equal_ok role.Reference b xs cs h = ok_if b xs cs h
+equal_ok role.Factor true xs cs h = (refl, by (all_same xs) h)
   where
     by : (t : Bool) → ◌≡◌ {A = Result (List Content) FieldFault} (if t then Ok xs else Err unequal_factor) (Ok cs) → xs ≡ cs
     by true h = cc
     by false h = absurd cc
-equal_ok false xs cs h = absurd cc
+equal_ok role.Factor false xs cs h = absurd cc
 
--- with increments
-pub varied_contents : (a : FieldSpec) (k n : ℕ) (base suffix : List Bool) (cs : List Content) → 1 ≤ k → contents_of a k base (increments n (increment_bits_of a.role a.kind k) suffix) ≡ Ok cs → map (content_from a.kind a k base) (increments n (kind_step a.kind k) suffix) ≡ cs
-varied_contents a k n base suffix cs some are = by a.role refl
+-- with increments: they are valid, have these contents, and each subset has so many bits
+pub record IsVaried (a : FieldSpec) (k n : ℕ) (base suffix : List Bool) (cs : List Content) : Type 0 where
+  pub holds : holds_by a.kind a k n base suffix ≡ true
+  pub contents : map (content_from a.kind a k base) (increments n (kind_step a.kind k) suffix) ≡ cs
+  pub step : increment_bits_of a.role a.kind k ≡ kind_step a.kind k
+  pub value : is_reference a.role ≡ false
+
+pub varied_parts : (a : FieldSpec) (k n : ℕ) (base suffix : List Bool) (cs : List Content) → 1 ≤ k → contents_of a k base (increments n (increment_bits_of a.role a.kind k) suffix) ≡ Ok cs → IsVaried a k n base suffix cs
+varied_parts a k n base suffix cs some are = by (is_reference a.role) refl
   where
-    whole : varied_by a.kind a k base (increments n (kind_step a.kind k) suffix) ≡ (if holds_by a.kind a k n base suffix then Ok (map (content_from a.kind a k base) (increments n (kind_step a.kind k) suffix)) else Err increment)
-    whole = varied_are a.kind a k n base suffix (holds_by a.kind a k n base suffix) refl
-
-    by : (r : Role) → a.role ≡ r → map (content_from a.kind a k base) (increments n (kind_step a.kind k) suffix) ≡ cs
-    by role.Element q = ok_if (holds_by a.kind a k n base suffix) (map (content_from a.kind a k base) (increments n (kind_step a.kind k) suffix)) cs (sym (element_are a k n base suffix some q ∙ whole) ∙ are)
-    by role.Inserted q = ok_if (holds_by a.kind a k n base suffix) (map (content_from a.kind a k base) (increments n (kind_step a.kind k) suffix)) cs (sym (inserted_are a k n base suffix some q ∙ whole) ∙ are)
-    by role.Factor q = equal_ok (holds_by a.kind a k n base suffix) (map (content_from a.kind a k base) (increments n (kind_step a.kind k) suffix)) cs (sym (factor_are a k n base suffix some q ∙ ap if_equal whole) ∙ are)
-    by role.Reference q =
-        let w = wrong_reference a k n base suffix a.fxy refl some q in
+    by : (b : Bool) → is_reference a.role ≡ b → IsVaried a k n base suffix cs
+    by true q =
+        let w = wrong_reference a k n base suffix a.fxy refl some (is_reference_role a.role q) in
         let no : ◌≡◌ {A = Result (List Content) FieldFault} (Err w.why) (Ok cs) = sym w.is ∙ are in
         absurd cc
+    by false q =
+        let is = increments n (kind_step a.kind k) suffix in
+        let p = equal_ok a.role (holds_by a.kind a k n base suffix) (map (content_from a.kind a k base) is) cs (ap (equal_by a.role) (sym (varied_are a.kind a k n base suffix (holds_by a.kind a k n base suffix) refl)) ∙ sym (value_are a k n base suffix some q) ∙ are) in
+        record { holds = p.0; contents = p.1; step = step_value a.role a.kind k q; value = q }
 
 pub varied_at : (a : FieldSpec) (k n j : ℕ) (base suffix : List Bool) (cs : List Content) → 1 ≤ k → j < n → contents_of a k base (increments n (increment_bits_of a.role a.kind k) suffix) ≡ Ok cs
     → content_at j cs ≡ content_from a.kind a k base (take (kind_step a.kind k) (drop (j * kind_step a.kind k) suffix))
 varied_at a k n j base suffix cs some h are =
-    ap (content_at j) (sym (varied_contents a k n base suffix cs some are)) ∙ at_map (content_from a.kind a k base) n (kind_step a.kind k) j suffix h
-
--- the bits of one subset by role and kind; a redefined reference has none
-step_is : (a : FieldSpec) (k n : ℕ) (base suffix : List Bool) (cs : List Content) → 1 ≤ k → contents_of a k base (increments n (increment_bits_of a.role a.kind k) suffix) ≡ Ok cs → increment_bits_of a.role a.kind k ≡ kind_step a.kind k
-step_is a k n base suffix cs some are = by a.role refl
-  where
-    by : (r : Role) → a.role ≡ r → increment_bits_of a.role a.kind k ≡ kind_step a.kind k
-    by role.Element q = ap (λ r. increment_bits_of r a.kind k) q ∙ step_element a.kind k
-    by role.Inserted q = ap (λ r. increment_bits_of r a.kind k) q ∙ step_inserted a.kind k
-    by role.Factor q = ap (λ r. increment_bits_of r a.kind k) q ∙ step_factor a.kind k
-    by role.Reference q =
-        let w = wrong_reference a k n base suffix a.fxy refl some q in
-        let no : ◌≡◌ {A = Result (List Content) FieldFault} (Err w.why) (Ok cs) = sym w.is ∙ are in
-        absurd cc
+    ap (content_at j) (sym (varied_parts a k n base suffix cs some are).contents) ∙ at_map (content_from a.kind a k base) n (kind_step a.kind k) j suffix h
 
 -- the increment of each subset is within that many increments
 pub reaches : (n j s : ℕ) → j < n → (j + 1) * s ≤ n * s
@@ -465,7 +465,7 @@ pub increment_within : (bits : List Bool) (n : ℕ) (e : IndexedItem) (j : ℕ) 
 increment_within bits n e j h some below =
     let p = kept_parts bits n e h in
     let s = kind_step e.spec.kind e.step in
-    let same : increment_bits_of e.spec.role e.spec.kind e.step ≡ s = step_is e.spec e.step n _ _ _ some p.are in
+    let same : increment_bits_of e.spec.role e.spec.kind e.step ≡ s = (varied_parts e.spec e.step n _ _ _ some p.are).step in
     let far : (j + 1) * s ≤ n * s = reaches n j s below in
     let all : e.at + (e.spec.width + 6 + n * s) ≤ length bits = subst (λ x. e.at + (e.spec.width + 6 + n * x) ≤ length bits) same p.within in
     omega (arith, far, all)
@@ -540,23 +540,29 @@ kept_number octets n e h k =
     let long : length (bits_at octets e.at e.spec.width) ≡ e.spec.width = length-bits_at octets e.at e.spec.width (omega (arith, p.within, bits_length octets)) in
     (is, subst (λ w. e.base < 2 ^ w) long (subst (λ v. v < 2 ^ length (bits_at octets e.at e.spec.width)) (sym is) low))
 
--- the content of a number where a base and the greatest increment stay below all ones
-pub roomy_number : (spec : FieldSpec) (k b i : ℕ) (base incr : List Bool) → are_all_ones base ≡ false → b ≡ number_of base → i ≡ number_of incr → i < 2 ^ k → b + ones k < ones spec.width
-    → (if spec.may_be_missing && (i == ones k) then missing else number (b + i)) ≡ number_from spec k base incr
-roomy_number spec k b i base incr none is same low room =
-    let below : b + i < ones spec.width = omega (arith, low, room) in
-    let past : (b + i == ones spec.width) ≡ false = grind (arith, nat_tests, below) in
-    rw (none, ← is, ← same, past) (either spec.may_be_missing (i == ones k) (number (b + i)))
+-- what holds of increments holds of one
+all_at : (p : List Bool → Bool) (n s j : ℕ) (bits : List Bool) → j < n → list_all p (increments n s bits) ≡ true → p (take s (drop (j * s) bits)) ≡ true
+all_at p zero s j bits h all = absurd (omega arith)
+all_at p (suc n) s zero bits h all = ap (λ m. p (take s (drop m bits))) (nothing s) ∙ and_first (p (take s bits)) (list_all p (increments n s (drop s bits))) all
   where
-    either : (m c : Bool) (x : Content) → (if m && c then missing else x) ≡ (if m && c then missing else if m && false then missing else x)
-    either true c x = refl
-    either false c x = refl
+    nothing : (s : ℕ) → 0 * s ≡ 0
+    nothing s = omega arith
+all_at p (suc n) s (suc j) bits h all =
+    ap (λ x. p (take s x)) (ap (λ m. drop m bits) (next s j) ∙ sym (drop-drop (j * s) s bits))
+    ∙ all_at p n s j (drop s bits) (omega arith) (and_second (p (take s bits)) (list_all p (increments n s (drop s bits))) all)
+  where
+    next : (s j : ℕ) → suc j * s ≡ s + j * s
+    next s j = omega arith
 
-pub roomy_base : (octets : List ℕ) (n k : ℕ) (e : IndexedItem) → fits_at (bits_of octets) n e ≡ true → is_character e.spec.kind ≡ false → e.base + ones k < ones e.spec.width → are_all_ones (bits_at octets e.at e.spec.width) ≡ false
-roomy_base octets n k e h c room =
-    let less : e.base < 2 ^ e.spec.width - 1 = omega (arith, room) in
-    let other : (e.base == 2 ^ e.spec.width - 1) ≡ false = grind (arith, nat_tests, less) in
-    sym (kept_ones octets n e h c) ∙ other
+one_holds : (a : FieldSpec) (k n j : ℕ) (base suffix : List Bool) → j < n → (b : Bool) → (b || all_within a.may_be_missing a.width (number_of base) k n suffix) ≡ true → (b || stays_within a.may_be_missing a.width (number_of base) k (number_of (take k (drop (j * k) suffix)))) ≡ true
+one_holds a k n j base suffix h true all = refl
+one_holds a k n j base suffix h false all = all_at (λ i. stays_within a.may_be_missing a.width (number_of base) k (number_of i)) n k j suffix h all
+
+-- a number with an increment is valid, unless its base is missing
+pub number_holds : (kd : Kind) (a : FieldSpec) (k n j : ℕ) (base suffix : List Bool) → is_character kd ≡ false → j < n → holds_by kd a k n base suffix ≡ true → (is_missing a base || stays_within a.may_be_missing a.width (number_of base) k (number_of (take k (drop (j * k) suffix)))) ≡ true
+number_holds kind.Character a k n j base suffix c h all = absurd cc
+number_holds kind.Coded a k n j base suffix c h all = one_holds a k n j base suffix h (is_missing a base) all
+number_holds kind.Numeric a k n j base suffix c h all = one_holds a k n j base suffix h (is_missing a base) all
 
 -- the bits of an increment, at the place that is reached in 64 bits
 pub increment_at : (octets : List ℕ) (at w k j width subset step raw : ℕ) → width ≡ w → subset ≡ j → step ≡ k → raw ≡ number_of (bits_at octets (at + (width + 6) + subset * step) k)

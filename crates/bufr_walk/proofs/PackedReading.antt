@@ -5,8 +5,8 @@ use Rattle.std.proofs.lemmas.List.{length-drop, drop-drop, get_or_default, get_o
 use Rattle.std.proofs.lemmas.Bool.Decides.{nat_tests, Decides-eqb, Decides-int_eq}
 use Rattle.bufr_bits.specs.Bits.{number_of}
 use Rattle.bufr_tables.specs.TableB.{is_character, Row}
-use Rattle.bufr_walk.specs.declared.packed_in.ItemBits.{ItemBits}
-use Rattle.bufr_walk.specs.declared.packed_in.PackedFault.{PackedFault}
+use Rattle.bufr_walk.specs.declared.compressed.ItemBits.{ItemBits}
+use Rattle.bufr_walk.specs.declared.compressed.PackedFault.{PackedFault}
 use Rattle.bufr_walk.specs.FieldSpec.{FieldSpec}
 use Rattle.bufr_walk.specs.Content.{data_end, found, FieldFault, increment, unequal_factor, Content}
 use Rattle.bufr_walk.specs.PackedField.{increments, increment_bits_of, contents_of, with_suffix, item_by, packed_field}
@@ -15,24 +15,24 @@ use Rattle.std.specs.Ordering.{int_eq}
 use Rattle.std.proofs.Math.Bool.{beq}
 use Rattle.std.specs.Cmp.{booleans_Decides}
 use Rattle.std.specs.List.{All, list_all}
-use Rattle.bufr_walk.specs.declared.kept.IndexedItem.{IndexedItem}
+use Rattle.bufr_walk.specs.declared.item_index.IndexedItem.{IndexedItem}
 use Rattle.bufr_walk.specs.declared.item_index.ItemLocation.{ItemLocation}
 use Rattle.bufr_walk.specs.StoredItems.{HasSpecAt, IsPut, no_field, item_at_location, indexed_items, IsReadAndKept, IsStoredReading}
 use Rattle.std.proofs.lemmas.List.Folds.{list_all-append}
 use Rattle.bufr_walk.specs.PackedIn.{PackedCursor, item_with_contents, item_at, items_at, contents_found, was_found, has_base, fits_at, packed_view, IsPackedIn, IsPackedTaken, wrong_of, PackedTakes, remaining_bits, IsPackedWrong, refuses_packed, new_packed_in, packed_fault}
 use Rattle.bufr_walk.specs.Reading.{max_values, items_at_once, Item, packed, ReadsItems, ReadsPass, next_after, turns_after, after, Data, together, IsPackedReading, turns_together}
 use Rattle.std.proofs.Math.Nat.{mul-le-mul_left}
-use Rattle.bufr_walk.specs.declared.stop.WalkStop.{WalkStop}
+use Rattle.bufr_walk.specs.declared.walker.WalkStop.{WalkStop}
 use Rattle.bufr_walk.specs.Course.{Course, Next, take_next, at_end, astray, refused, next_item}
 use Rattle.bufr_walk.specs.Refusal.{spot, walk_fault_of, bits_before, IsRead, IsFault, IsRefused, Stop, walk_stop, too_many, field_stop, field_stop_of, stop_at, ComesToTogether, would_be_many, IsPackedShort, data_in, data_of, read_by, IsReadingOf}
 use Rattle.bufr_walk.specs.Walk.{TakenField, Takes, ticked, oks, answers_of, StopsWalk, Walked}
 use Rattle.bufr_frame.specs.Sections.{Sections}
 use Rattle.bufr_tables.specs.Tree.{Tree}
 use Rattle.bufr_walk.proofs.PlainLemmas.{used_most}
-use Rattle.bufr_walk.specs.declared.packed_in.PackedFault.TheVariants as wrong
+use Rattle.bufr_walk.specs.declared.compressed.PackedFault.TheVariants as wrong
 use Rattle.bufr_walk.specs.declared.spec.TurnRefusal.TheVariants as refusal
 use Rattle.bufr_walk.specs.declared.spec.Role.TheVariants as role
-use Rattle.bufr_walk.specs.declared.stop.WalkStop.TheVariants as stops
+use Rattle.bufr_walk.specs.declared.walker.WalkStop.TheVariants as stops
 use Rattle.bufr_walk.specs.declared.fault.WalkFault.TheVariants as fault
 use Rattle.bufr_walk.specs.declared.reading.StoredItems.TheVariants as kept
 

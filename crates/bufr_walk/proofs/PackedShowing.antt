@@ -1,22 +1,23 @@
 -- Compressed data shown from what a reading keeps.
 use Rattle.std.proofs.Common.{◌≡◌, ℕ, ◌+◌, ◌-◌, ◌*◌, ◌<◌, ◌≤◌, Bool, true, false, List, ◌++◌, length, take, drop, replicate, sym, ◌∙◌, ap, arith, zero, suc, get_or, set, Result, Ok, Err, [], ◌∷◌, inl, inr, refl, subst, add-one, append_assoc}
 use Rattle.std.specs.Prelude.{if◌then◌else◌, ◌/◌}
-use Rattle.std.proofs.lemmas.List.{drop-drop, append-nil, get_or_default, take_more_set, replicate-append-replicate}
+use Rattle.std.proofs.lemmas.List.{drop-drop, append-nil, take_more_set, replicate-append-replicate}
 use Rattle.bufr_bits.specs.Bits.{bits_of, are_all_ones}
 use Rattle.bufr_tables.specs.TableB.{is_character, Row}
-use Rattle.bufr_walk.specs.declared.kept.IndexedItem.{IndexedItem}
-use Rattle.bufr_walk.specs.Content.{octets_in, text, missing, shown_text, shown_missing, shown, content_in, Content}
+use Rattle.bufr_walk.specs.declared.item_index.IndexedItem.{IndexedItem}
+use Rattle.bufr_walk.specs.Content.{octets_in, text, missing, shown_text, shown_missing, shown, Content}
 use Rattle.bufr_walk.specs.StoredItems.{content_kept, call_kept, IsStoredReading, KeepsValues, held_of}
 use Rattle.bufr_walk.specs.PackedField.{padded_text}
 use Rattle.bufr_walk.specs.PackedIn.{fits_at, items_at}
-use Rattle.bufr_walk.proofs.PackedLemmas.{kept_parts, base_content, text_content, text_within}
-use Rattle.bufr_walk.specs.PlainIn.{Cursor, rest_of}
+use Rattle.bufr_walk.proofs.PackedLemmas.{kept_parts, text_content, text_within}
 use Rattle.bufr_walk.specs.FieldSpec.{FieldSpec}
 use Rattle.bufr_walk.proofs.PlainLemmas.{bits_length, octets_prefix}
 use Rattle.std.specs.List.{list_all}
 use Rattle.std.proofs.Math.Seq.{drop-cons}
 use Rattle.bufr_bits.proofs.DecimalLemmas.{and_first, and_second}
 use Rattle.bufr_walk.specs.declared.fault.ShowFault.{ShowFault}
+use Rattle.bufr_walk.specs.ShowSteps.{Sofar}
+use Rattle.bufr_walk.proofs.ShownLemmas.{sofar_self, sofar_then, sofar_call}
 use Rattle.bufr_walk.specs.Calls.{Call, Timed, timed, compressed_item_calls, Shows, subset_call, compressed_subset_calls, calls_of, turns_shown}
 use Rattle.bufr_walk.specs.Reading.{Item, packed, ReadsPass, Values, apart, together, IsReading, IsPackedReading, items_kept}
 use Rattle.bufr_walk.specs.declared.reading.StoredItems.{StoredItems}
@@ -51,38 +52,17 @@ span_within octets n e j h some below c = omega (arith, text_within (bits_of oct
 pub base_within : (octets : List ℕ) (n : ℕ) (e : IndexedItem) → fits_at (bits_of octets) n e ≡ true → e.at + e.spec.width ≤ 8 * length octets
 base_within octets n e h = let p = kept_parts (bits_of octets) n e h in omega (arith, p.within, bits_length octets)
 
-pub base_shown : (bits : List Bool) (n : ℕ) (e : IndexedItem) (j : ℕ) (c : Cursor) → c ≡ record { bits = bits; at = e.at } → fits_at bits n e ≡ true → e.step ≡ 0 → j < n → content_in e.spec (take e.spec.width (rest_of c)) ≡ content_kept bits n e j
-base_shown bits n e j c is h none below = ap (λ s. content_in e.spec (take e.spec.width (rest_of s))) is ∙ sym (base_content bits n e j h none below)
-
 -- ---- Calls that show compressed data, joined.
 
--- these calls were made, in no turn
-pub record SoFar {S E : Type 0} (sees : S → Call → Result (Unit {0}) E → S → Type 0) (s : S) (calls : List Timed) (s1 : S) (rest : List Timed) : Type 0 where
-  pub on : (r : Result (Unit {0}) (ShowFault E)) (s' : S) → Shows sees s1 rest 0 r s' 0 → Shows sees s calls 0 r s' 0
-
 module _ {S E : Type 0} (sees : S → Call → Result (Unit {0}) E → S → Type 0) where
-  pub sofar_none : (s : S) (calls rest : List Timed) → calls ≡ rest → SoFar sees s calls s rest
-  sofar_none s calls rest e = record { on = λ r s' h. subst (λ x. Shows sees s x 0 r s' 0) (sym e) h }
-
-  pub sofar_then : {s s1 s2 : S} {a b c : List Timed} → SoFar sees s a s1 b → SoFar sees s1 b s2 c → SoFar sees s a s2 c
-  sofar_then x y = record { on = λ r s' h. x.on r s' (y.on r s' h) }
-
-  call_on : (s s1 : S) (call : Call) (rest : List Timed) (r : Result (Unit {0}) (ShowFault E)) (s' : S) → sees s call (Ok tt) s1 → Shows sees s1 rest 0 r s' 0 → Shows sees s (timed 0 call ∷ rest) 0 r s' 0
-  call_on s s1 call rest (Ok u) s' h w = (s1, h, w)
-  call_on s s1 call rest (Err e) s' h w = inr (s1, h, w)
-
-  -- one call
-  pub sofar_call : (s s1 : S) (call : Call) (rest : List Timed) → sees s call (Ok tt) s1 → SoFar sees s (timed 0 call ∷ rest) s1 rest
-  sofar_call s s1 call rest h = record { on = λ r s' w. call_on s s1 call rest r s' h w }
-
-  all_on : (s : S) (a b : List Timed) (s1 : S) (r : Result (Unit {0}) (ShowFault E)) (s' : S) → Shows sees s a 0 (Ok tt) s1 0 → Shows sees s1 b 0 r s' 0 → Shows sees s (a ++ b) 0 r s' 0
-  all_on s [] b s1 r s' h w = subst (λ x. Shows sees x b 0 r s' 0) h.0 w
-  all_on s (t ∷ a) b s1 (Ok u) s' h w = (h.0, h.1, all_on h.0 a b s1 (Ok u) s' h.2 w)
-  all_on s (t ∷ a) b s1 (Err e) s' h w = inr (h.0, h.1, all_on h.0 a b s1 (Err e) s' h.2 w)
+  all_on : (s : S) (a b : List Timed) (s1 : S) (turns : ℕ) (r : Result (Unit {0}) (ShowFault E)) (s' : S) (steps : ℕ) → Shows sees s a 0 (Ok tt) s1 0 → Shows sees s1 b turns r s' steps → Shows sees s (a ++ b) turns r s' steps
+  all_on s [] b s1 turns r s' steps h w = subst (λ x. Shows sees x b turns r s' steps) h.0 w
+  all_on s (t ∷ a) b s1 turns (Ok u) s' steps h w = (h.0, h.1, all_on h.0 a b s1 turns (Ok u) s' steps h.2 w)
+  all_on s (t ∷ a) b s1 turns (Err e) s' steps h w = inr (h.0, h.1, all_on h.0 a b s1 turns (Err e) s' steps h.2 w)
 
   -- several calls
-  pub sofar_all : (s s1 : S) (a b : List Timed) → Shows sees s a 0 (Ok tt) s1 0 → SoFar sees s (a ++ b) s1 b
-  sofar_all s s1 a b h = record { on = λ r s' w. all_on s a b s1 r s' h w }
+  sofar_all : (s s1 : S) (a b : List Timed) → Shows sees s a 0 (Ok tt) s1 0 → Sofar sees s (a ++ b) s1 b
+  sofar_all s s1 a b h = record { on = λ turns r s' steps w. all_on s a b s1 turns r s' steps h w }
 
   -- several calls, the last of them refused
   pub shows_before : (s s1 : S) (a b : List Timed) (e : ShowFault E) → Shows sees s a 0 (Err e) s1 0 → Shows sees s (a ++ b) 0 (Err e) s1 0
@@ -105,9 +85,6 @@ pub item_there : (kept : List IndexedItem) (i : ℕ) → i < length kept → (k 
 item_there [] i h = absurd (omega (arith, h))
 item_there (k ∷ kept) zero h = (k, refl)
 item_there (k ∷ kept) (suc i) h = item_there kept i (omega (arith, h))
-
-pub item_same : (kept : List IndexedItem) (i : ℕ) (j k : IndexedItem) → i < length kept → j ≡ get_or kept i j → k ≡ get_or kept i k → j ≡ k
-item_same kept i j k h first second = first ∙ get_or_default kept i j k h ∙ sym second
 
 pub fit_after : (bits : List Bool) (n : ℕ) (kept : List IndexedItem) (i : ℕ) (k : IndexedItem) → i < length kept → k ≡ get_or kept i k → list_all (fits_at bits n) (drop i kept) ≡ true → list_all (fits_at bits n) (drop (i + 1) kept) ≡ true
 fit_after bits n kept i k h e w = and_second (fits_at bits n k) (list_all (fits_at bits n) (drop (i + 1) kept)) (subst (λ ks. list_all (fits_at bits n) ks ≡ true) (next_entry kept i k h (sym e)) w)
@@ -135,16 +112,16 @@ module _ {S E : Type 0} (sees : S → Call → Result (Unit {0}) E → S → Typ
   calls_from i = compressed_item_calls table j (items_at bits n (drop i kept))
 
   -- one entry more
-  pub items_go : (s s1 s2 : S) (i : ℕ) (k : IndexedItem) → i < length kept → k ≡ get_or kept i k → SoFar sees s (calls_from 0) s1 (calls_from i) → sees s1 (call_at k) (Ok tt) s2 → SoFar sees s (calls_from 0) s2 (calls_from (i + 1))
+  pub items_go : (s s1 s2 : S) (i : ℕ) (k : IndexedItem) → i < length kept → k ≡ get_or kept i k → Sofar sees s (calls_from 0) s1 (calls_from i) → sees s1 (call_at k) (Ok tt) s2 → Sofar sees s (calls_from 0) s2 (calls_from (i + 1))
   items_go s s1 s2 i k h e so call =
-      let so_far : SoFar sees s (calls_from 0) s1 (timed 0 (call_at k) ∷ calls_from (i + 1)) = subst (SoFar sees s (calls_from 0) s1) (next_call table bits n j kept i k h e) so in
-      sofar_then sees so_far (sofar_call sees s1 s2 (call_at k) (calls_from (i + 1)) call)
+      let so_far : Sofar sees s (calls_from 0) s1 (timed 0 (call_at k) ∷ calls_from (i + 1)) = subst (Sofar sees s (calls_from 0) s1) (next_call table bits n j kept i k h e) so in
+      sofar_then sees s s1 s2 _ _ _ so_far (sofar_call sees s1 s2 (timed 0 (call_at k)) (calls_from (i + 1)) call)
 
   -- an entry whose call is refused
-  pub items_end : (s s1 s2 : S) (i : ℕ) (k : IndexedItem) (f : E) → i < length kept → k ≡ get_or kept i k → SoFar sees s (calls_from 0) s1 (calls_from i) → sees s1 (call_at k) (Err f) s2 → Shows sees s (calls_from 0) 0 (Err (fault.Visitor f)) s2 0
+  pub items_end : (s s1 s2 : S) (i : ℕ) (k : IndexedItem) (f : E) → i < length kept → k ≡ get_or kept i k → Sofar sees s (calls_from 0) s1 (calls_from i) → sees s1 (call_at k) (Err f) s2 → Shows sees s (calls_from 0) 0 (Err (fault.Visitor f)) s2 0
   items_end s s1 s2 i k f h e so call =
-      let so_far : SoFar sees s (calls_from 0) s1 (timed 0 (call_at k) ∷ calls_from (i + 1)) = subst (SoFar sees s (calls_from 0) s1) (next_call table bits n j kept i k h e) so in
-      so_far.on (Err (fault.Visitor f)) s2 (inl (call, refl))
+      let so_far : Sofar sees s (calls_from 0) s1 (timed 0 (call_at k) ∷ calls_from (i + 1)) = subst (Sofar sees s (calls_from 0) s1) (next_call table bits n j kept i k h e) so in
+      so_far.on 0 (Err (fault.Visitor f)) s2 0 (inl (call, refl))
 
 module _ {S E : Type 0} (sees : S → Call → Result (Unit {0}) E → S → Type 0) (table : List Row) (n : ℕ) (items : List (Item (List Content))) where
   -- the calls of a subset
@@ -159,28 +136,28 @@ module _ {S E : Type 0} (sees : S → Call → Result (Unit {0}) E → S → Typ
   abbrev pub all_calls : List Timed
   all_calls = compressed_subset_calls table n 0 items
 
-  pub subsets_start : (s : S) → SoFar sees s all_calls s (subsets_from 0)
-  subsets_start s = let all : n ≡ n - 0 = omega arith in sofar_none sees s all_calls (subsets_from 0) (ap (λ left. compressed_subset_calls table left 0 items) all)
+  pub subsets_start : (s : S) → Sofar sees s all_calls s (subsets_from 0)
+  subsets_start s = let all : n ≡ n - 0 = omega arith in subst (λ x. Sofar sees s all_calls s x) (ap (λ left. compressed_subset_calls table left 0 items) all) (sofar_self sees s all_calls)
 
   next_subset : (j : ℕ) → j < n → subsets_from j ≡ subset_at j ++ subsets_from (j + 1)
   next_subset j h = let more : n - j ≡ suc (n - (j + 1)) = omega (arith, h) in ap (λ left. compressed_subset_calls table left j items) more
 
   -- one subset more
-  pub subsets_go : (s s1 s2 : S) (j : ℕ) → j < n → SoFar sees s all_calls s1 (subsets_from j) → Shows sees s1 (subset_at j) 0 (Ok tt) s2 0 → SoFar sees s all_calls s2 (subsets_from (j + 1))
+  pub subsets_go : (s s1 s2 : S) (j : ℕ) → j < n → Sofar sees s all_calls s1 (subsets_from j) → Shows sees s1 (subset_at j) 0 (Ok tt) s2 0 → Sofar sees s all_calls s2 (subsets_from (j + 1))
   subsets_go s s1 s2 j h so shows =
-      let so_far : SoFar sees s all_calls s1 (subset_at j ++ subsets_from (j + 1)) = subst (SoFar sees s all_calls s1) (next_subset j h) so in
-      sofar_then sees so_far (sofar_all sees s1 s2 (subset_at j) (subsets_from (j + 1)) shows)
+      let so_far : Sofar sees s all_calls s1 (subset_at j ++ subsets_from (j + 1)) = subst (Sofar sees s all_calls s1) (next_subset j h) so in
+      sofar_then sees s s1 s2 _ _ _ so_far (sofar_all sees s1 s2 (subset_at j) (subsets_from (j + 1)) shows)
 
-  pub subsets_end : (s s1 s2 : S) (j : ℕ) (e : ShowFault E) → j < n → SoFar sees s all_calls s1 (subsets_from j) → Shows sees s1 (subset_at j) 0 (Err e) s2 0 → Shows sees s all_calls 0 (Err e) s2 0
+  pub subsets_end : (s s1 s2 : S) (j : ℕ) (e : ShowFault E) → j < n → Sofar sees s all_calls s1 (subsets_from j) → Shows sees s1 (subset_at j) 0 (Err e) s2 0 → Shows sees s all_calls 0 (Err e) s2 0
   subsets_end s s1 s2 j e h so shows =
-      let so_far : SoFar sees s all_calls s1 (subset_at j ++ subsets_from (j + 1)) = subst (SoFar sees s all_calls s1) (next_subset j h) so in
-      so_far.on (Err e) s2 (shows_before sees s1 s2 (subset_at j) (subsets_from (j + 1)) e shows)
+      let so_far : Sofar sees s all_calls s1 (subset_at j ++ subsets_from (j + 1)) = subst (Sofar sees s all_calls s1) (next_subset j h) so in
+      so_far.on 0 (Err e) s2 0 (shows_before sees s1 s2 (subset_at j) (subsets_from (j + 1)) e shows)
 
-  pub subsets_done : (s s1 : S) (j : ℕ) → n ≤ j → SoFar sees s all_calls s1 (subsets_from j) → Shows sees s all_calls 0 (Ok tt) s1 0
+  pub subsets_done : (s s1 : S) (j : ℕ) → n ≤ j → Sofar sees s all_calls s1 (subsets_from j) → Shows sees s all_calls 0 (Ok tt) s1 0
   subsets_done s s1 j h so =
       let none : n - j ≡ 0 = omega (arith, h) in
-      let so_far : SoFar sees s all_calls s1 [] = subst (SoFar sees s all_calls s1) (ap (λ left. compressed_subset_calls table left j items) none) so in
-      so_far.on (Ok tt) s1 (refl, refl)
+      let so_far : Sofar sees s all_calls s1 [] = subst (Sofar sees s all_calls s1) (ap (λ left. compressed_subset_calls table left j items) none) so in
+      so_far.on 0 (Ok tt) s1 0 (refl, refl)
 
 -- compressed data are read in one way
 one_packed : (n : ℕ) (course : Course) (xs ys : List (Item (List Content))) (bits l m : List Bool) → IsPackedReading n course xs bits l → IsPackedReading n course ys bits m → xs ≡ ys

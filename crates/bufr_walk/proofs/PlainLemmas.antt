@@ -8,11 +8,12 @@ use Rattle.bufr_bits.specs.Bits.{bits_of, bits_at, number_of, are_all_ones}
 use Rattle.bufr_bits.proofs.BitLemmas.{length-bits_of, length-bits_at, are_all_ones-number, drop-bits_of, take-bits_of, number_of_middle, number-bits_of_octet}
 use Rattle.bufr_tables.specs.declared.table_b.Kind.{Kind}
 use Rattle.bufr_walk.specs.declared.spec.Taken.{Taken}
-use Rattle.bufr_walk.specs.FieldSpec.{FieldSpec, IsSpec, HasRole, HasWidth}
+use Rattle.bufr_walk.specs.declared.spec.Role.{Role}
+use Rattle.bufr_walk.specs.FieldSpec.{is_reference, FieldSpec, IsSpec, HasRole, HasWidth}
 use Rattle.bufr_walk.specs.Content.{missing, answer_of, answer_by_role, content_in, content_by, said_by, count_in, signed_by, plain_field, found, data_end, octets_in, Content}
 use Rattle.bufr_walk.specs.PlainIn.{Cursor, rest_of, past, IsTaken, PassComes, PassReads, PassStops, plain_fault, PlainTakes}
-use Rattle.bufr_walk.specs.declared.plain_in.DataEnd.{DataEnd}
-use Rattle.bufr_walk.specs.declared.stop.WalkStop.{WalkStop}
+use Rattle.bufr_walk.specs.declared.plain.DataEnd.{DataEnd}
+use Rattle.bufr_walk.specs.declared.walker.WalkStop.{WalkStop}
 use Rattle.bufr_walk.specs.Course.{Course, Next, take_next, at_end, astray, refused, next_item}
 use Rattle.bufr_walk.specs.Refusal.{spot, walk_stop, field_stop, field_stop_of, data_in, data_of, read_by, Read, course_of, IsRead, IsReadingOf}
 use Rattle.bufr_walk.specs.Reading.{Item, plain, ReadsItems, next_after, turns_after, after, Values, apart, together, IsReading, ReadsSubsets, max_values}
@@ -25,7 +26,7 @@ use Rattle.bufr_tables.specs.declared.table_b.Kind.TheVariants as kind
 use Rattle.bufr_walk.specs.declared.spec.Role.TheVariants as role
 use Rattle.bufr_walk.specs.declared.spec.Taken.TheVariants as taken
 use Rattle.bufr_walk.specs.declared.spec.TurnRefusal.TheVariants as refusal
-use Rattle.bufr_walk.specs.declared.stop.WalkStop.TheVariants as stops
+use Rattle.bufr_walk.specs.declared.walker.WalkStop.TheVariants as stops
 use Rattle.bufr_walk.specs.declared.fault.WalkFault.TheVariants as fault
 use Rattle.bufr_walk.specs.declared.reading.StoredItems.TheVariants as kept
 
@@ -47,6 +48,12 @@ factor_width a h e = let r : HasRole role.Factor a.kind a.may_be_missing = subst
 
 pub reference_width : (a : FieldSpec) → IsSpec a → a.role ≡ role.Reference → a.width ≤ 63
 reference_width a h e = let r : HasRole role.Reference a.kind a.may_be_missing = subst (λ x. HasRole x a.kind a.may_be_missing) e h.role in numeric_width a.kind a.width r.0 h.width
+
+pub is_reference_role : (r : Role) → is_reference r ≡ true → r ≡ role.Reference
+is_reference_role role.Element e = absurd cc
+is_reference_role role.Inserted e = absurd cc
+is_reference_role role.Factor e = absurd cc
+is_reference_role role.Reference e = refl
 
 pub answer_element : (a : FieldSpec) (bits : List Bool) → a.role ≡ role.Element → taken.Plain ≡ answer_of a (content_in a bits)
 answer_element a bits e = ap (λ r. answer_by_role r (content_by r a bits)) (sym e)
@@ -194,10 +201,6 @@ octets_prefix (suc n) bits =
   where
     eight : (n : ℕ) → 8 * suc n ≡ 8 + 8 * n
     eight n = omega arith
-
--- how many octets a text has
-pub whole_octets : (spec : FieldSpec) → spec.width % 8 ≡ 0 → 8 * (spec.width / 8) ≡ spec.width
-whole_octets spec e = omega (arith, e)
 
 -- the octets of a field of whole octets
 pub text_prefix : (spec : FieldSpec) (bits : List Bool) → spec.width % 8 ≡ 0 → octets_in (spec.width / 8) (take spec.width bits) ≡ octets_in (spec.width / 8) bits

@@ -1,6 +1,6 @@
 -- The items and subsets that a walk with a visitor shows.
 use Rattle.std.proofs.Common.{◌≡◌, ℕ, ◌+◌, ◌-◌, ◌*◌, ◌^◌, ◌<◌, ◌≤◌, false, Bool, List, [], ◌∷◌, ◌++◌, length, drop, Some, refl, sym, ◌∙◌, ap, subst, arith, length-append, length-drop, ◌/◌, ◌&&◌, true, ◌⊎◌, inl, inr, take, Option, Result, Ok, Err, ℤ, pos, ◌+ℤ◌}
-use Rattle.std.specs.Prelude.{min, max, nat_lt, if◌then◌else◌, None, option_map, nat_le, not, unsigned_abs}
+use Rattle.std.specs.Prelude.{◌==◌, ◌||◌, min, max, nat_lt, if◌then◌else◌, None, option_map, nat_le, not, unsigned_abs}
 use Rattle.bufr_bits.specs.Bits.{bits_of, number_of, are_all_ones, bits_at}
 use Rattle.bufr_walk.specs.declared.fault.WalkFault.{WalkFault}
 use Rattle.bufr_walk.specs.Content.{Content, data_end, increment, unequal_factor, answer_of, number, text, missing, content_in, content_by, value_in, said_by, octets_in, signed_by, shown_number, shown_text, shown_missing, shown_reference, shown, FieldFault, FieldRead, found, plain_field}
@@ -15,29 +15,30 @@ use Rattle.bufr_tables.specs.Entry.{row_of_entry}
 use Rattle.bufr_tables.specs.declared.table_b.Entry.{Entry}
 use Rattle.bufr_tables.specs.TableB.{Row, entry_of, is_character}
 use Rattle.bufr_walk.specs.declared.fault.ShowFault.{ShowFault}
-use Rattle.bufr_walk.specs.declared.show_plain.ShowStop.{ShowStop}
+use Rattle.bufr_walk.specs.declared.plain.ShowStop.{ShowStop}
 use Rattle.bufr_walk.specs.declared.spec.TurnRefusal.{TurnRefusal}
 use Rattle.bufr_walk.specs.declared.spec.Role.{Role}
 use Rattle.bufr_walk.specs.declared.spec.Taken.{Taken}
-use Rattle.bufr_walk.specs.declared.stop.WalkStop.{WalkStop}
-use Rattle.bufr_walk.specs.FieldSpec.{FieldSpec, IsSpec, HasRole, HasMissing, is_reference, IsFor, IsForRole, is_plain_number, is_plain, IsPlainNumber, IsSpecWith}
+use Rattle.bufr_walk.specs.declared.walker.WalkStop.{WalkStop}
+use Rattle.bufr_walk.specs.FieldSpec.{FieldSpec, IsSpec, HasRole, is_reference, IsFor, IsForRole, is_plain_number, is_plain, IsPlainNumber}
 use Rattle.bufr_walk.specs.declared.visitor.Value.{Value}
 use Rattle.bufr_walk.specs.Calls.{seen_value, Call, item_call, view, view_of, Timed, timed, item_calls, Shows, EndsAt, IsReferenceValue, subset_call, subset_calls}
 use Rattle.bufr_walk.specs.ShowSteps.{Stage, stage, IsShown, IsUnshown, ShowingTakes, IsEnd, MayEnd, Sofar, ItemsShown, ItemsEnded, ItemsGo, SubsetShown, SubsetEnded, SubsetGoes, SubsetsShown}
 use Rattle.std.proofs.lemmas.Bool.Decides.{nat_tests}
 use Rattle.bufr_bits.proofs.DecimalLemmas.{and_first, and_second}
-use Rattle.bufr_walk.specs.declared.kept.IndexedItem.{IndexedItem}
-use Rattle.bufr_walk.specs.PackedBits.{is_missing}
+use Rattle.bufr_walk.specs.declared.item_index.IndexedItem.{IndexedItem}
+use Rattle.bufr_walk.specs.PackedBits.{is_missing, stays_within, number_from}
+use Rattle.bufr_walk.specs.PackedField.{ones}
 use Rattle.bufr_walk.specs.PackedIn.{fits_at}
-use Rattle.bufr_walk.proofs.PlainLemmas.{answer_element}
-use Rattle.bufr_walk.proofs.PackedLemmas.{base_content}
+use Rattle.bufr_walk.proofs.PlainLemmas.{answer_element, is_reference_role}
+use Rattle.bufr_walk.proofs.PackedLemmas.{base_content, kept_base, kept_ones, kept_parts, number_holds, varied_parts, number_content}
 use Rattle.bufr_walk.specs.declared.fault.WalkFault.TheVariants as fault
 use Rattle.bufr_walk.specs.declared.spec.TurnRefusal.TheVariants as refusal
 use Rattle.bufr_tables.specs.declared.table_b.Kind.TheVariants as kind
 use Rattle.bufr_walk.specs.declared.fault.ShowFault.TheVariants as show_fault
-use Rattle.bufr_walk.specs.declared.show_plain.ShowStop.TheVariants as stop
+use Rattle.bufr_walk.specs.declared.plain.ShowStop.TheVariants as stop
 use Rattle.bufr_walk.specs.declared.spec.Role.TheVariants as role
-use Rattle.bufr_walk.specs.declared.stop.WalkStop.TheVariants as stops
+use Rattle.bufr_walk.specs.declared.walker.WalkStop.TheVariants as stops
 use Rattle.bufr_walk.specs.declared.spec.Taken.TheVariants as taken
 
 -- ---- Subsets that are read one after another.
@@ -198,12 +199,6 @@ content_is spec bits suffix c h = by (nat_lt (length bits) spec.width) h
     by false e = ap (λ (z : FieldRead Content). z.content) (same_found _ _ e)
 
 -- a number, and a reference, by their kind and role
-pub is_reference_role : (r : Role) → is_reference r ≡ true → r ≡ role.Reference
-is_reference_role role.Element e = absurd cc
-is_reference_role role.Inserted e = absurd cc
-is_reference_role role.Factor e = absurd cc
-is_reference_role role.Reference e = refl
-
 pub value_by : (r : Role) (spec : FieldSpec) (bits : List Bool) → is_reference r ≡ false → content_by r spec bits ≡ value_in spec bits
 value_by role.Element spec bits e = refl
 value_by role.Inserted spec bits e = refl
@@ -236,15 +231,6 @@ text_role role.Element k m h e = refl
 text_role role.Inserted k m h e = refl
 text_role role.Factor k m h e = refl
 text_role role.Reference k m h e = let f : is_character k ≡ false = ap is_character h.0 in absurd cc
-
-text_missing : (k : Kind) (m : Bool) → HasMissing k m → is_character k ≡ true → m ≡ true
-text_missing kind.Character m h e = h
-text_missing kind.Coded m h e = absurd cc
-text_missing kind.Numeric m h e = absurd cc
-
-pub text_missing_shown : (spec : FieldSpec) (bits : List Bool) → IsSpec spec → is_character spec.kind ≡ true → are_all_ones bits ≡ true → shown_missing ≡ shown spec (content_in spec bits)
-text_missing_shown spec bits h k e =
-    missing_shown spec bits (text_role spec.role spec.kind spec.may_be_missing h.role k) (ap (λ b. b && spec.may_be_missing) e ∙ text_missing spec.kind spec.may_be_missing h.missing k)
 
 and_false : (b m : Bool) → b ≡ false → (b && m) ≡ false
 and_false true m e = absurd cc
@@ -552,11 +538,125 @@ module _ {V E : Type 0} (sees : V → Call → Result (Unit {0}) E → V → Typ
       by [] whole count so_far = absurd (omega (arith, count, lt))
       by (items ∷ more) whole count so_far = so_far.on (turns_in course all) (Err why) s2 steps' (subst (λ k. Shows sees s1 (subset_calls table course h.before k (items ∷ more)) (turns_in course all) (Err why) s2 steps') n (r.ended h.before items more whole.0 (turns_in course all) whole.1 h.ticks))
 
--- ---- Plain numbers: those of elements, which stay below 2 ^ 63.
+-- ---- The number of one subset of compressed data.
 
--- a number that is made so is plain exactly where its parts say so
-pub plain_made : (a : FieldSpec) (p : Bool) → IsSpec a → is_character a.kind ≡ false → p ≡ is_plain_number a.role a.width a.reference a.listed → IsSpecWith p a
-plain_made a p h k e = record { spec = h; same = ap (λ b. not b && is_plain_number a.role a.width a.reference a.listed) k ∙ sym e }
+-- with no increments it is the base
+base_content_is : (octets : List ℕ) (n : ℕ) (e : IndexedItem) (j : ℕ) → fits_at (bits_of octets) n e ≡ true → e.step ≡ 0 → j < n → is_character e.spec.kind ≡ false → is_reference e.spec.role ≡ false → (b : Bool) → (e.base == 2 ^ e.spec.width - 1) ≡ b → (if b && e.spec.may_be_missing then missing else number e.base) ≡ content_kept (bits_of octets) n e j
+base_content_is octets n e j h none below k r b is =
+    let base = bits_at octets e.at e.spec.width in
+    ap (λ x. if x && e.spec.may_be_missing then missing else number e.base) (sym is ∙ kept_ones octets n e h k)
+    ∙ ap (λ x. if are_all_ones base && e.spec.may_be_missing then missing else x) (ap number (kept_base (bits_of octets) n e h k) ∙ sym (said_number e.spec.kind e.spec.width base k))
+    ∙ sym (value_by e.spec.role e.spec base r) ∙ sym (base_content (bits_of octets) n e j h none below)
+
+pub base_missing : (octets : List ℕ) (n : ℕ) (e : IndexedItem) (j : ℕ) → fits_at (bits_of octets) n e ≡ true → e.step ≡ 0 → j < n → is_character e.spec.kind ≡ false → is_reference e.spec.role ≡ false → e.spec.may_be_missing ≡ true → e.base ≡ 2 ^ e.spec.width - 1 → missing ≡ content_kept (bits_of octets) n e j
+base_missing octets n e j h none below k r m full =
+    let is : (e.base == 2 ^ e.spec.width - 1) ≡ true = grind (arith, nat_tests, full) in
+    sym (ap (λ x. if true && x then missing else number e.base) m) ∙ base_content_is octets n e j h none below k r true is
+
+pub base_number : (octets : List ℕ) (n : ℕ) (e : IndexedItem) (j : ℕ) → fits_at (bits_of octets) n e ≡ true → e.step ≡ 0 → j < n → is_character e.spec.kind ≡ false → is_reference e.spec.role ≡ false → (e.spec.may_be_missing ≡ true → e.base ≡ 2 ^ e.spec.width - 1 → ⊥) → number e.base ≡ content_kept (bits_of octets) n e j
+base_number octets n e j h none below k r not = by e.spec.may_be_missing refl (e.base == 2 ^ e.spec.width - 1) refl
+  where
+    whole : (b : Bool) → (e.base == 2 ^ e.spec.width - 1) ≡ b → (if b && e.spec.may_be_missing then missing else number e.base) ≡ content_kept (bits_of octets) n e j
+    whole b is = base_content_is octets n e j h none below k r b is
+
+    same_number : (a b : ℕ) → (a == b) ≡ true → a ≡ b
+    same_number a b h = grind (arith, nat_tests)
+
+    by : (m : Bool) → e.spec.may_be_missing ≡ m → (b : Bool) → (e.base == 2 ^ e.spec.width - 1) ≡ b → number e.base ≡ content_kept (bits_of octets) n e j
+    by true q true is = absurd (not q (same_number e.base (2 ^ e.spec.width - 1) is))
+    by true q false is = whole false is
+    by false q true is = sym (ap (λ x. if true && x then missing else number e.base) q) ∙ whole true is
+    by false q false is = whole false is
+
+-- with an increment: by whether the base is missing, the increment is the last, the sum exceeds the width, and is all ones
+abbrev sum_by : (full m last whole : Bool) → Content → Content
+sum_by full m last whole x = if full && m then missing else if m && last then missing else if m && whole then missing else x
+
+last_is : (full whole : Bool) (x : Content) → missing ≡ sum_by full true true whole x
+last_is true whole x = refl
+last_is false whole x = refl
+
+whole_is : (full last past whole : Bool) (x : Content) → (full && true || (true && last || not past)) ≡ true → (past || whole) ≡ true → missing ≡ sum_by full true last whole x
+whole_is true last past whole x v h = refl
+whole_is false true past whole x v h = refl
+whole_is false false true whole x v h = absurd cc
+whole_is false false false true x v h = refl
+whole_is false false false false x v h = absurd cc
+
+never_is : (full last whole : Bool) (x : Content) → x ≡ sum_by full false last whole x
+never_is true last whole x = refl
+never_is false last whole x = refl
+
+never_past : (full last past : Bool) → (full && false || (false && last || not past)) ≡ true → past ≡ false
+never_past true last true h = absurd cc
+never_past false last true h = absurd cc
+never_past full last false h = refl
+
+module _ (a : FieldSpec) (k b i : ℕ) (base incr : List Bool) (low : b ≡ number_of base) (more : i ≡ number_of incr) (full : (b == 2 ^ a.width - 1) ≡ are_all_ones base) (valid : (is_missing a base || stays_within a.may_be_missing a.width (number_of base) k (number_of incr)) ≡ true) where
+  pub sum_last : a.may_be_missing ≡ true → i ≡ ones k → missing ≡ number_from a k base incr
+  sum_last m last =
+      let is : (number_of incr == ones k) ≡ true = grind (arith, nat_tests, sym more ∙ last) in
+      rw (m, is) (last_is (are_all_ones base) (number_of base + number_of incr == ones a.width) (number (number_of base + number_of incr)))
+
+  pub sum_whole : a.may_be_missing ≡ true → ones a.width ≤ b + i → missing ≡ number_from a k base incr
+  sum_whole m far =
+      let reached : ones a.width ≤ number_of base + number_of incr = omega (arith, far, low, more) in
+      rw m (whole_is (are_all_ones base) (number_of incr == ones k) (nat_lt (ones a.width) (number_of base + number_of incr)) (number_of base + number_of incr == ones a.width) (number (number_of base + number_of incr)) (rw m at valid) (either (ones a.width) (number_of base + number_of incr) reached))
+    where
+      either : (x y : ℕ) → x ≤ y → (nat_lt x y || (y == x)) ≡ true
+      either x y h = grind (arith, nat_tests)
+
+  pub sum_never : a.may_be_missing ≡ false → (number (b + i) ≡ number_from a k base incr) × (b + i ≤ ones a.width)
+  sum_never m =
+      let past = never_past (are_all_ones base) (number_of incr == ones k) (nat_lt (ones a.width) (number_of base + number_of incr)) (rw m at valid) in
+      let most : number_of base + number_of incr ≤ ones a.width = at_most (number_of base + number_of incr) (ones a.width) past in
+      (ap number sum_same ∙ rw m (never_is (are_all_ones base) (number_of incr == ones k) (number_of base + number_of incr == ones a.width) (number (number_of base + number_of incr))), omega (arith, most, low, more))
+    where
+      sum_same : b + i ≡ number_of base + number_of incr
+      sum_same = omega (arith, low, more)
+
+      at_most : (x y : ℕ) → nat_lt y x ≡ false → x ≤ y
+      at_most x y h = grind (arith, nat_tests)
+
+  pub sum_some : (i ≡ ones k → ⊥) → b + i < ones a.width → number (b + i) ≡ number_from a k base incr
+  sum_some last far =
+      let same : b + i ≡ number_of base + number_of incr = omega (arith, low, more) in
+      let less : number_of base + number_of incr < ones a.width = omega (arith, far, same) in
+      let none : (b == 2 ^ a.width - 1) ≡ false = differ b (2 ^ a.width - 1) (omega (arith, far)) in
+      let other : (number_of incr == ones k) ≡ false = unequal (number_of incr) (ones k) (λ e. last (more ∙ e)) in
+      let short : (number_of base + number_of incr == ones a.width) ≡ false = differ (number_of base + number_of incr) (ones a.width) less in
+      ap number same ∙ rw (sym full ∙ none, other, short) (by a.may_be_missing (number (number_of base + number_of incr)))
+    where
+      differ : (x y : ℕ) → x < y → (x == y) ≡ false
+      differ x y h = grind (arith, nat_tests)
+
+      unequal : (x y : ℕ) → (x ≡ y → ⊥) → (x == y) ≡ false
+      unequal x y h = grind (arith, nat_tests)
+
+      by : (m : Bool) (x : Content) → x ≡ sum_by false m false false x
+      by true x = refl
+      by false x = refl
+
+-- the same of a kept item
+module _ (octets : List ℕ) (n : ℕ) (e : IndexedItem) (j i : ℕ) (h : fits_at (bits_of octets) n e ≡ true) (some : 1 ≤ e.step) (below : j < n) (c : is_character e.spec.kind ≡ false) (more : i ≡ number_of (take e.step (drop (j * e.step) (drop (e.at + (e.spec.width + 6)) (bits_of octets))))) where
+  kept_valid : (is_missing e.spec (bits_at octets e.at e.spec.width) || stays_within e.spec.may_be_missing e.spec.width (number_of (bits_at octets e.at e.spec.width)) e.step (number_of (take e.step (drop (j * e.step) (drop (e.at + (e.spec.width + 6)) (bits_of octets)))))) ≡ true
+  kept_valid =
+      let p = kept_parts (bits_of octets) n e h in
+      number_holds e.spec.kind e.spec e.step n j _ _ c below (varied_parts e.spec e.step n _ _ _ some p.are).holds
+
+  pub kept_last : e.spec.may_be_missing ≡ true → i ≡ ones e.step → missing ≡ content_kept (bits_of octets) n e j
+  kept_last m last = sum_last e.spec e.step e.base i (bits_at octets e.at e.spec.width) (take e.step (drop (j * e.step) (drop (e.at + (e.spec.width + 6)) (bits_of octets)))) (kept_base (bits_of octets) n e h c) more (kept_ones octets n e h c) kept_valid m last ∙ number_content (bits_of octets) n e j h some below c
+
+  pub kept_whole : e.spec.may_be_missing ≡ true → ones e.spec.width ≤ e.base + i → missing ≡ content_kept (bits_of octets) n e j
+  kept_whole m far = sum_whole e.spec e.step e.base i (bits_at octets e.at e.spec.width) (take e.step (drop (j * e.step) (drop (e.at + (e.spec.width + 6)) (bits_of octets)))) (kept_base (bits_of octets) n e h c) more (kept_ones octets n e h c) kept_valid m far ∙ number_content (bits_of octets) n e j h some below c
+
+  pub kept_never : e.spec.may_be_missing ≡ false → (number (e.base + i) ≡ content_kept (bits_of octets) n e j) × (e.base + i ≤ ones e.spec.width)
+  kept_never m = let s = sum_never e.spec e.step e.base i (bits_at octets e.at e.spec.width) (take e.step (drop (j * e.step) (drop (e.at + (e.spec.width + 6)) (bits_of octets)))) (kept_base (bits_of octets) n e h c) more (kept_ones octets n e h c) kept_valid m in (s.0 ∙ number_content (bits_of octets) n e j h some below c, s.1)
+
+  pub kept_some : (i ≡ ones e.step → ⊥) → e.base + i < ones e.spec.width → number (e.base + i) ≡ content_kept (bits_of octets) n e j
+  kept_some last far = sum_some e.spec e.step e.base i (bits_at octets e.at e.spec.width) (take e.step (drop (j * e.step) (drop (e.at + (e.spec.width + 6)) (bits_of octets)))) (kept_base (bits_of octets) n e h c) more (kept_ones octets n e h c) kept_valid last far ∙ number_content (bits_of octets) n e j h some below c
+
+-- ---- Plain numbers: those of elements, which stay below 2 ^ 63.
 
 -- what holds of a plain field
 pub plain_is : (a : FieldSpec) → is_plain a ≡ true → IsPlainNumber a
@@ -595,24 +695,6 @@ plain_missing a bits p m = missing_shown a bits (ap is_reference p.role) m
 
 pub plain_shown : (a : FieldSpec) (bits : List Bool) (raw : ℕ) → IsPlainNumber a → (are_all_ones bits && a.may_be_missing) ≡ false → raw ≡ number_of bits → shown_number (pos raw +ℤ a.reference) a.scale ≡ shown a (content_in a bits)
 plain_shown a bits raw p m is = number_shown a bits raw p.kind (ap is_reference p.role) m is
-
--- the value of a plain item with no increments, which all subsets have
-pub base_missing : (octets : List ℕ) (n : ℕ) (e : IndexedItem) (j : ℕ) → fits_at (bits_of octets) n e ≡ true → e.step ≡ 0 → j < n → IsPlainNumber e.spec → is_missing e.spec (bits_at octets e.at e.spec.width) ≡ true → missing ≡ content_kept (bits_of octets) n e j
-base_missing octets n e j h none below p m =
-    let base = bits_at octets e.at e.spec.width in
-    sym (base_content (bits_of octets) n e j h none below ∙ value_by e.spec.role e.spec base (ap is_reference p.role)
-    ∙ ap (λ b. if b then missing else said_by e.spec.kind e.spec.width base) m)
-
-pub base_number : (octets : List ℕ) (n : ℕ) (e : IndexedItem) (j raw : ℕ) → fits_at (bits_of octets) n e ≡ true → e.step ≡ 0 → j < n → IsPlainNumber e.spec → is_missing e.spec (bits_at octets e.at e.spec.width) ≡ false → raw ≡ number_of (bits_at octets e.at e.spec.width) → number raw ≡ content_kept (bits_of octets) n e j
-base_number octets n e j raw h none below p m is =
-    let base = bits_at octets e.at e.spec.width in
-    ap number is
-    ∙ sym (base_content (bits_of octets) n e j h none below ∙ value_by e.spec.role e.spec base (ap is_reference p.role)
-    ∙ ap (λ b. if b then missing else said_by e.spec.kind e.spec.width base) m ∙ said_number e.spec.kind e.spec.width base p.kind)
-
--- its row of Table B
-pub row_is : (table : List Row) (a : FieldSpec) (row : Row) → IsPlainNumber a → Some row ≡ entry_of table a.fxy → Some row ≡ (if a.listed then entry_of table a.fxy else None)
-row_is table a row p e = e ∙ ap (λ b. if b then entry_of table a.fxy else None) (sym p.listed)
 
 -- what it returns to the walk
 pub plain_answer : (a : FieldSpec) (bits : List Bool) → IsPlainNumber a → taken.Plain ≡ answer_of a (content_in a bits)

@@ -13,7 +13,7 @@ use Rattle.bufr_walk.specs.declared.spec.TurnRefusal.{TurnRefusal}
 use Rattle.bufr_walk.specs.declared.spec.Taken.{Taken}
 use Rattle.bufr_walk.specs.FieldSpec.{FieldSpec, IsFor, IsForRole}
 use Rattle.bufr_walk.specs.Course.{Course, Next, take_next, astray, refused, at_end, NextTurn, asked, operated, ahead, counts_in, counts_of, next_item, finish, open_end, group, pass_end, element_turn, operator_turn, Rest, passes, unroll}
-use Rattle.bufr_walk.specs.Rules.{if_valid_width, numeric_spec, coded_spec, text_spec, text_width, spec_by_kind, defined_field, new_reference_spec, unsigned_field, unsigned_of, untouched, local_width_spec, listed_by, element_spec, factor_field, factor_by, factor_spec, inserted_spec, OperatorModel, begin, is_defining, after_operator, after_field}
+use Rattle.bufr_walk.specs.Rules.{if_valid_width, numeric_spec, coded_spec, text_spec, text_width, spec_by_kind, defined_field, new_reference_spec, unsigned_field, unsigned_of, begin, local_width_spec, listed_by, element_spec, factor_field, factor_by, factor_spec, inserted_spec, OperatorModel, is_defining, after_operator, after_field}
 use Rattle.bufr_walk.proofs.SpecLemmas.{inserted_width}
 use Rattle.std.proofs.lemmas.List.{length-drop, drop-drop}
 use Rattle.bufr_bits.specs.Bits.{number_of, are_all_ones}
@@ -158,8 +158,8 @@ module _ (table : List Row) (rows : (fxy : ℕ) (row : Row) → entry_of table f
       by_defining true row good q = defined_steps s row.kind fxy spec q
       by_defining false row good q = kind_steps s row.kind row spec refl good q
 
-      by_width : (b : Bool) (row : Row) → allows_width row.kind row.width ≡ true → (if b then spec_by_kind row.kind (untouched s) row else unsigned_of fxy s.local_width) ≡ Ok spec → IsUncounted spec
-      by_width true row good q = kind_steps (untouched s) row.kind row spec refl good q
+      by_width : (b : Bool) (row : Row) → allows_width row.kind row.width ≡ true → (if b then spec_by_kind row.kind begin row else unsigned_of fxy s.local_width) ≡ Ok spec → IsUncounted spec
+      by_width true row good q = kind_steps begin row.kind row spec refl good q
       by_width false row good q = fitted_uncounted (unsigned_field fxy s.local_width) spec refl q
 
       by_given : (b : Bool) (o : Option Row) → entry_of table fxy ≡ o → (if b then local_width_spec o s fxy else listed_by o s fxy) ≡ Ok spec → IsUncounted spec

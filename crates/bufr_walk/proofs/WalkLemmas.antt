@@ -3,10 +3,10 @@ use Rattle.std.proofs.Common.{◌≡◌, ℕ, ◌+◌, List, [], ◌∷◌, ◌+
 use Rattle.bufr_tables.specs.TableB.{Row, entry_of}
 use Rattle.bufr_walk.specs.declared.spec.Taken.{Taken}
 use Rattle.bufr_walk.specs.FieldSpec.{FieldSpec, IsFor, IsForRole, is_reference}
-use Rattle.bufr_walk.specs.Rules.{OperatorModel, after_field, after_operator, is_defining, element_spec, factor_spec, inserted_spec, if_valid_width, spec_by_kind, new_reference_spec, defined_field, numeric_spec, coded_spec, text_spec, text_width, local_width_spec, listed_by, unsigned_of, unsigned_field, untouched, begin}
+use Rattle.bufr_walk.specs.Rules.{OperatorModel, after_field, after_operator, is_defining, element_spec, factor_spec, inserted_spec, if_valid_width, spec_by_kind, new_reference_spec, defined_field, numeric_spec, coded_spec, text_spec, text_width, local_width_spec, listed_by, unsigned_of, unsigned_field, begin}
 use Rattle.bufr_walk.specs.Course.{Rest, Course, NextTurn, later, ahead, counts_of, finish, open_end, operator_turn, unroll, passes, turns_of, asked, operated, counts_in, stop, at_end, refused, next_item}
 use Rattle.bufr_walk.specs.Walk.{TakenField, Takes, oks, answers_of, StopsWalk, WalkGoes, Stops, HasWalked, StopsIn, ticked, Walked, course, TakesField, stop_by, tail_of, costs, owed, OpenGroup, frames_of, turns_after_pass, AllGroupsFit, IsAtNodes, IsAtCell, weight, Turned}
-use Rattle.bufr_walk.specs.declared.stop.WalkStop.{WalkStop}
+use Rattle.bufr_walk.specs.declared.walker.WalkStop.{WalkStop}
 use Rattle.std.specs.Prelude.{◌==◌, nat_lt, nat_le, if◌then◌else◌}
 use Rattle.bufr_tables.specs.declared.table_b.Kind.{Kind}
 use Rattle.bufr_tables.specs.Fxy.{x_of, y_of}
@@ -16,7 +16,7 @@ use Rattle.bufr_walk.specs.declared.spec.Role.{Role}
 use Rattle.bufr_walk.specs.declared.spec.TurnRefusal.{TurnRefusal}
 use Rattle.std.proofs.lemmas.List.{drop-drop}
 use Rattle.bufr_tables.specs.declared.template.Cell.{Cell}
-use Rattle.bufr_walk.specs.declared.walking.Frame.{Frame}
+use Rattle.bufr_walk.specs.declared.walker.Frame.{Frame}
 use Rattle.bufr_tables.specs.Cells.{cells_of, AreCellsOf}
 use Rattle.std.proofs.Math.Nat.{suc-mul, mul-le-mul_right}
 use Rattle.bufr_tables.specs.Expansion.{IsLegal}
@@ -24,7 +24,7 @@ use Rattle.bufr_tables.specs.declared.table_b.Kind.TheVariants as kind
 use Rattle.bufr_walk.specs.declared.spec.Taken.TheVariants as taken
 use Rattle.bufr_walk.specs.declared.spec.Role.TheVariants as role
 use Rattle.bufr_walk.specs.declared.spec.TurnRefusal.TheVariants as refusal
-use Rattle.bufr_walk.specs.declared.stop.WalkStop.TheVariants as stops
+use Rattle.bufr_walk.specs.declared.walker.WalkStop.TheVariants as stops
 use Rattle.bufr_tables.specs.declared.template.Cell.TheVariants as cell
 
 pub ticked_twice : (s t u : ℕ) → ticked (ticked s t) u ≡ ticked s (t + u)
@@ -138,8 +138,8 @@ defined_role kind.Numeric s fxy spec e h = let q : role.Reference ≡ role.Facto
 pub element_role : (table : List Row) (s : OperatorModel) (fxy : ℕ) (spec : FieldSpec) → element_spec table s fxy ≡ Ok spec → spec.role ≡ role.Factor → ⊥
 element_role table s fxy spec e h = by_given (nat_lt 0 s.local_width) (entry_of table fxy) e
   where
-    by_width : (b : Bool) (row : Row) → (if b then spec_by_kind row.kind (untouched s) row else unsigned_of fxy s.local_width) ≡ Ok spec → ⊥
-    by_width true row q = kind_role row.kind (untouched s) row spec q h
+    by_width : (b : Bool) (row : Row) → (if b then spec_by_kind row.kind begin row else unsigned_of fxy s.local_width) ≡ Ok spec → ⊥
+    by_width true row q = kind_role row.kind begin row spec q h
     by_width false row q = let r : role.Element ≡ role.Factor = fitted_role (unsigned_field fxy s.local_width) spec q ∙ h in cc
 
     by_defining : (b : Bool) (row : Row) → (if b then new_reference_spec row.kind s fxy else spec_by_kind row.kind s row) ≡ Ok spec → ⊥

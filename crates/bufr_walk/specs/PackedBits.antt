@@ -10,9 +10,9 @@ use Rattle.bufr_tables.specs.declared.table_b.Kind.TheVariants as kind
 use Rattle.bufr_walk.specs.declared.spec.Role.{Role}
 use Rattle.bufr_walk.specs.declared.spec.Role.TheVariants as role
 use Rattle.bufr_walk.specs.declared.spec.Taken.{Taken}
-use Rattle.bufr_walk.specs.declared.packed_in.ItemBits.{ItemBits}
-use Rattle.bufr_walk.specs.declared.packed_in.PackedFault.{PackedFault}
-use Rattle.bufr_walk.specs.declared.packed_in.PackedFault.TheVariants as wrong
+use Rattle.bufr_walk.specs.declared.compressed.ItemBits.{ItemBits}
+use Rattle.bufr_walk.specs.declared.compressed.PackedFault.{PackedFault}
+use Rattle.bufr_walk.specs.declared.compressed.PackedFault.TheVariants as wrong
 use Rattle.bufr_walk.specs.FieldSpec.{FieldSpec}
 use Rattle.bufr_walk.specs.Content.{Content, number, missing, FieldFault, found}
 use Rattle.bufr_walk.specs.PackedIn.{PackedCursor, wrong_of, IsPackedWrong}

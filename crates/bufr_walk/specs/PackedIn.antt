@@ -5,11 +5,11 @@ use Rattle.std.specs.List.{list_all}
 use Rattle.bufr_bits.specs.Bits.{number_of}
 use Rattle.bufr_tables.specs.TableB.{is_character}
 use Rattle.bufr_walk.specs.declared.spec.Taken.{Taken}
-use Rattle.bufr_walk.specs.declared.kept.IndexedItem.{IndexedItem}
-use Rattle.bufr_walk.specs.declared.packed_in.PackedFault.{PackedFault}
-use Rattle.bufr_walk.specs.declared.packed_in.PackedFault.TheVariants as wrong
-use Rattle.bufr_walk.specs.declared.stop.WalkStop.{WalkStop}
-use Rattle.bufr_walk.specs.declared.stop.WalkStop.TheVariants as stops
+use Rattle.bufr_walk.specs.declared.item_index.IndexedItem.{IndexedItem}
+use Rattle.bufr_walk.specs.declared.compressed.PackedFault.{PackedFault}
+use Rattle.bufr_walk.specs.declared.compressed.PackedFault.TheVariants as wrong
+use Rattle.bufr_walk.specs.declared.walker.WalkStop.{WalkStop}
+use Rattle.bufr_walk.specs.declared.walker.WalkStop.TheVariants as stops
 use Rattle.bufr_walk.specs.declared.fault.WalkFault.{WalkFault}
 use Rattle.bufr_walk.specs.declared.fault.WalkFault.TheVariants as fault
 use Rattle.bufr_walk.specs.Refusal.{spot}

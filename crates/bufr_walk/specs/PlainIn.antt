@@ -2,8 +2,8 @@
 -- Cited by public contracts.
 use Rattle.std.specs.Prelude.{ℕ, ◌≡◌, ◌≤◌, ◌+◌, Bool, List, drop, Result, Ok, Err, ◌*◌, false, length, Some}
 use Rattle.bufr_walk.specs.declared.spec.Taken.{Taken}
-use Rattle.bufr_walk.specs.declared.plain_in.DataEnd.{DataEnd}
-use Rattle.bufr_walk.specs.declared.stop.WalkStop.{WalkStop}
+use Rattle.bufr_walk.specs.declared.plain.DataEnd.{DataEnd}
+use Rattle.bufr_walk.specs.declared.walker.WalkStop.{WalkStop}
 use Rattle.bufr_walk.specs.declared.fault.WalkFault.{WalkFault}
 use Rattle.bufr_walk.specs.FieldSpec.{FieldSpec}
 use Rattle.bufr_walk.specs.Content.{Content, answer_of, plain_field, found, data_end}
@@ -12,7 +12,7 @@ use Rattle.bufr_walk.specs.Course.{Course, Next, take_next, at_end}
 use Rattle.bufr_walk.specs.StoredItems.{items_in}
 use Rattle.bufr_walk.specs.Reading.{Item, plain, ReadsItems, next_after, turns_after, turns_in, ReadsSubsets}
 use Rattle.bufr_walk.specs.Walk.{ticked}
-use Rattle.bufr_walk.specs.declared.stop.WalkStop.TheVariants as stops
+use Rattle.bufr_walk.specs.declared.walker.WalkStop.TheVariants as stops
 use Rattle.bufr_walk.specs.declared.fault.WalkFault.TheVariants as fault
 use Rattle.bufr_walk.specs.declared.spec.Role.TheVariants as role
 

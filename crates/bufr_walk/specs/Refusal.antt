@@ -9,7 +9,7 @@ use Rattle.bufr_walk.specs.Content.{Content, FieldFault, FieldRead, data_end, in
 use Rattle.bufr_walk.specs.Reading.{Item, DataCoding, plain, packed, ReadsItems, next_after, turns_after, turns_in, ReadsSubsets, max_values, items_at_once, Data, Values, IsReading, turns_read}
 use Rattle.bufr_walk.specs.declared.fault.Spot.{Spot}
 use Rattle.bufr_walk.specs.declared.fault.WalkFault.{WalkFault}
-use Rattle.bufr_walk.specs.declared.packed_in.PackedFault.{PackedFault}
+use Rattle.bufr_walk.specs.declared.compressed.PackedFault.{PackedFault}
 use Rattle.bufr_bits.specs.Bits.{bits_of}
 use Rattle.bufr_frame.specs.Sections.{Sections}
 use Rattle.bufr_tables.specs.TableB.{Row}
@@ -18,7 +18,7 @@ use Rattle.bufr_walk.specs.Walk.{ticked}
 use Rattle.bufr_walk.specs.declared.spec.Role.TheVariants as role
 use Rattle.bufr_walk.specs.declared.spec.TurnRefusal.TheVariants as refusal
 use Rattle.bufr_walk.specs.declared.fault.WalkFault.TheVariants as fault
-use Rattle.bufr_walk.specs.declared.packed_in.PackedFault.TheVariants as wrong
+use Rattle.bufr_walk.specs.declared.compressed.PackedFault.TheVariants as wrong
 
 -- why a reading stops: the walk is refused, there would be too many values, or a field cannot be
 -- read

@@ -233,25 +233,12 @@ unsigned_field fxy width =
 abbrev pub unsigned_of : (fxy width : ℕ) → Result FieldSpec TurnRefusal
 unsigned_of fxy width = if_valid_width (unsigned_field fxy width)
 
--- the same with no operator in force
-abbrev pub untouched : OperatorModel → OperatorModel
-untouched s =
-    record {
-      width_change = 0;
-      scale_change = 0;
-      new_reference_width = 0;
-      precision_increase = 0;
-      character_octets = 0;
-      local_width = 0;
-      new_references = List.[];
-    }
-
 -- an element whose width is given: by its row alone where its width in Table B is that
 -- rule: 2-06-y, 2-06-y-width-of-table-b
 abbrev pub local_width_spec : Option Row → OperatorModel → ℕ → Result FieldSpec TurnRefusal
 local_width_spec None s fxy = unsigned_of fxy s.local_width
 local_width_spec (Some row) s fxy =
-    if row.width == s.local_width then spec_by_kind row.kind (untouched s) row
+    if row.width == s.local_width then spec_by_kind row.kind begin row
     else unsigned_of fxy s.local_width
 
 -- an element by its row; a template's elements have one

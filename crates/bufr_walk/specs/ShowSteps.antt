@@ -5,11 +5,11 @@ use Rattle.std.proofs.Common.{ap}
 use Rattle.bufr_tables.specs.TableB.{Row}
 use Rattle.bufr_walk.specs.declared.fault.ShowFault.{ShowFault}
 use Rattle.bufr_walk.specs.declared.fault.ShowFault.TheVariants as fault
-use Rattle.bufr_walk.specs.declared.show_plain.ShowStop.{ShowStop}
-use Rattle.bufr_walk.specs.declared.show_plain.ShowStop.TheVariants as stop
+use Rattle.bufr_walk.specs.declared.plain.ShowStop.{ShowStop}
+use Rattle.bufr_walk.specs.declared.plain.ShowStop.TheVariants as stop
 use Rattle.bufr_walk.specs.declared.spec.Taken.{Taken}
-use Rattle.bufr_walk.specs.declared.stop.WalkStop.{WalkStop}
-use Rattle.bufr_walk.specs.declared.stop.WalkStop.TheVariants as stops
+use Rattle.bufr_walk.specs.declared.walker.WalkStop.{WalkStop}
+use Rattle.bufr_walk.specs.declared.walker.WalkStop.TheVariants as stops
 use Rattle.bufr_walk.specs.FieldSpec.{FieldSpec}
 use Rattle.bufr_walk.specs.Calls.{Call, item_call, view_of, Timed, item_calls, subset_calls, Shows}
 use Rattle.bufr_walk.specs.Content.{Content, plain_field, data_end}

@@ -3,7 +3,7 @@
 use Rattle.std.specs.Prelude.{ℕ, ◌≡◌, ◌≤◌, ◌<◌, ◌+◌, ◌*◌, true, Bool, List, [], ◌∷◌, length, drop, ◌-◌, ◌/◌, ◌++◌, map, get_or, pos, false}
 use Rattle.std.specs.List.{list_all, All}
 use Rattle.bufr_tables.specs.TableB.{Row}
-use Rattle.bufr_walk.specs.declared.kept.IndexedItem.{IndexedItem}
+use Rattle.bufr_walk.specs.declared.item_index.IndexedItem.{IndexedItem}
 use Rattle.bufr_walk.specs.declared.reading.StoredItems.{StoredItems}
 use Rattle.bufr_walk.specs.Calls.{Call, item_call, view_of, content_at}
 use Rattle.bufr_walk.specs.Content.{Content}

@@ -2,7 +2,7 @@
 -- Cited by public contracts.
 use Rattle.std.specs.Prelude.{ℕ, ◌+◌, ◌-◌, ◌^◌, min, max, ◌≡◌, List, [], ◌∷◌, Result, Ok, Err, ◌++◌, ◌*◌, ◌<◌, ◌≤◌, Option, Some, None, length, drop, slice_index}
 use Rattle.bufr_walk.specs.declared.spec.TurnRefusal.{TurnRefusal}
-use Rattle.bufr_walk.specs.declared.stop.WalkStop.{WalkStop}
+use Rattle.bufr_walk.specs.declared.walker.WalkStop.{WalkStop}
 use Rattle.bufr_walk.specs.declared.spec.Taken.{Taken}
 use Rattle.bufr_walk.specs.FieldSpec.{FieldSpec, IsFor}
 use Rattle.bufr_walk.specs.Course.{Course, take_next, Next, at_end, refused, Rest, later, ahead, counts_of, unroll, passes, pass_end}
@@ -11,10 +11,10 @@ use Rattle.bufr_walk.specs.Rules.{OperatorModel}
 use Rattle.bufr_tables.specs.Tree.{Tree, depth}
 use Rattle.bufr_tables.specs.Expansion.{IsLegal}
 use Rattle.bufr_tables.specs.declared.template.Cell.{Cell}
-use Rattle.bufr_walk.specs.declared.walking.Frame.{Frame}
+use Rattle.bufr_walk.specs.declared.walker.Frame.{Frame}
 use Rattle.bufr_tables.specs.Cells.{cells_of}
 use Rattle.bufr_walk.specs.declared.spec.TurnRefusal.TheVariants as refusal
-use Rattle.bufr_walk.specs.declared.stop.WalkStop.TheVariants as stops
+use Rattle.bufr_walk.specs.declared.walker.WalkStop.TheVariants as stops
 use Rattle.bufr_walk.specs.declared.spec.Role.TheVariants as role
 use Rattle.bufr_tables.specs.declared.template.Cell.TheVariants as cell
 

@@ -1,8 +1,10 @@
 //! Faults in the data of a message. (Their numbers and their order are a choice of this project.)
 ghost use Rattle.std.specs.Prelude.{◌≡◌};
 
+use bufr_frame::RunFault;
 use bufr_tables::Fxy;
 use std::alloc::AllocError;
+use std::fmt;
 use thiserror::Error;
 
 /// The location of an item in the data.
@@ -28,26 +30,44 @@ impl Spot {
     }
 }
 
+/// Says where the item is, as the fault lines do.
+impl fmt::Display for Spot {
+    fn fmt<W: fmt::Write>(&self, f: &mut fmt::Formatter<W>) -> fmt::Result {
+        let Spot { subset, fxy, bit } = self;
+        write!(f, "at subset {subset} descriptor {fxy} bit {bit}")
+    }
+}
+
+/// The number of a width that no field has. A document can have this fault too.
+pub const WIDTH: u8 = 31;
+
+/// The number of what may not come while 2 03 Y defines references. A document can have this fault
+/// too.
+pub const DEFINING: u8 = 32;
+
+/// The number of too many values in compressed data. A document can have this fault too.
+pub const TOO_MANY_VALUES: u8 = 35;
+
 /// Why the data of a message cannot be read.
 #[derive(Clone, Copy, Debug, PartialEq, Eq, Error)]
 pub enum WalkFault {
     /// The data end inside the item.
-    #[error("the data end inside an item")]
+    #[error("data end {0}")]
     DataEnd(Spot),
     /// A field that is not text is under 1 or over 63 bits wide.
-    #[error("a width outside 1 to 63 bits")]
+    #[error("width {0}")]
     Width(Spot),
     /// A step that is not allowed while 2 03 Y defines references.
-    #[error("not allowed while references are being defined")]
+    #[error("defining {0}")]
     Defining(Spot),
     /// The factor of a replication is not the same in all subsets of compressed data.
-    #[error("a factor is not the same in all subsets")]
+    #[error("unequal factor {0}")]
     UnequalFactor(Spot),
     /// The increments of an item of compressed data are invalid.
-    #[error("an increment that cannot be")]
+    #[error("increment {0}")]
     Increment(Spot),
     /// Compressed data have more than 134,217,728 values.
-    #[error("too many values")]
+    #[error("too many values {0}")]
     TooManyValues(Spot),
     /// Memory ran out.
     #[error("out of memory")]
@@ -64,12 +84,12 @@ impl WalkFault {
     {
         match self {
             WalkFault::DataEnd(_) => 30,
-            WalkFault::Width(_) => 31,
-            WalkFault::Defining(_) => 32,
+            WalkFault::Width(_) => WIDTH,
+            WalkFault::Defining(_) => DEFINING,
             WalkFault::UnequalFactor(_) => 33,
             WalkFault::Increment(_) => 34,
-            WalkFault::TooManyValues(_) => 35,
-            WalkFault::Memory => 73,
+            WalkFault::TooManyValues(_) => TOO_MANY_VALUES,
+            WalkFault::Memory => RunFault::Memory.number(),
         }
     }
 }

@@ -1,14 +1,30 @@
 //! The index of the items of compressed data, and the specifications that they were read by.
-ghost use Rattle.std.specs.Prelude.{◌≡◌, ◌≤◌, ◌<◌, ◌+◌, ◌%◌, ◌^◌, ◌++◌, ◌∷◌, [], length, true, vec_len, vec_capacity, IfErr, IfSome, OnOk, OnErr};
+ghost use Rattle.bufr_walk.specs.declared.compressed.PackedFault.TheVariants as wrong;
+ghost use Rattle.std.specs.Prelude.{◌≡◌, ◌≤◌, ◌<◌, ◌+◌, ◌%◌, ◌^◌, ◌++◌, ◌∷◌, [], length, true, vec_len, vec_capacity, IfErr, OnOk, OnErr};
 ghost use Rattle.bufr_walk.specs.StoredItems.{HasSpecAt, IsPut, room_for, room_left};
 ghost use Rattle.bufr_walk.specs.Reading.{items_at_once};
-ghost use Rattle.bufr_walk.specs.declared.packed_in.PackedFault.TheVariants as wrong;
 
-use crate::kept::IndexedItem;
-use crate::packed_in::PackedFault;
+use crate::compressed::PackedFault;
 use crate::spec::Spec;
 use std::alloc::Global;
 use std::marker::Model;
+
+/// An item of compressed data that is kept: its specification, the bit where it begins, the number
+/// of its base (0 for a text), and its k.
+#[derive(Clone, Copy)]
+pub(crate) struct IndexedItem {
+    pub(crate) spec: Spec,
+    pub(crate) at: u64,
+    pub(crate) base: u64,
+    pub(crate) step: u8,
+}
+
+/// The result of a reading: how many bits the items take, and the items.
+#[derive(Drop)]
+pub(crate) struct PackedRead {
+    pub(crate) used: u64,
+    pub(crate) kept: ItemIndex,
+}
 
 /// How many items room is made for at once.
 const ITEMS_AT_ONCE: usize = 64;
@@ -110,7 +126,7 @@ pub(crate) struct ItemIndex {
 
 impl Model for ItemIndex {
     ghost use Rattle.std.specs.Prelude.{List, vec_capacity};
-    ghost use Rattle.bufr_walk.specs.declared.kept.IndexedItem.{IndexedItem};
+    ghost use Rattle.bufr_walk.specs.declared.item_index.IndexedItem.{IndexedItem};
 
     ghost Value = { List IndexedItem };
 
@@ -125,7 +141,7 @@ impl Model for ItemIndex {
 impl ItemIndex {
     ghost use Rattle.std.specs.Prelude.{◌≡◌, ◌<◌, ◌^◌, ◌%◌, ◌++◌, ◌∷◌, [], length, get_or, OnOk, OnErr, IfErr};
     ghost use Rattle.bufr_walk.specs.Reading.{items_at_once};
-    ghost use Rattle.bufr_walk.specs.declared.packed_in.PackedFault.TheVariants as wrong;
+    ghost use Rattle.bufr_walk.specs.declared.compressed.PackedFault.TheVariants as wrong;
 
     /// No item.
     pub(crate) fn new(alloc: Global) -> ItemIndex
@@ -152,12 +168,12 @@ impl ItemIndex {
         ensures { result ≡ get_or self.now place result }
     {
         let place = self.places[place];
-        IndexedItem::new(
-            self.specs[place.spec as usize],
-            place.at,
-            place.base,
-            place.step,
-        )
+        IndexedItem {
+            spec: self.specs[place.spec as usize],
+            at: place.at,
+            base: place.base,
+            step: place.step,
+        }
     }
 
     /// Appends an item, and returns the index of its field, which is looked for at the guess first.

@@ -7,39 +7,23 @@
 //! [`read_by`], [`Reading::show_by`] and [`walk_by`] use these.
 #![tactic(auto)]
 
-mod base;
-mod bits;
-mod cells;
+mod compressed;
 mod fault;
-mod fields;
 mod item_index;
-mod kept;
-pub mod law;
+pub mod laws;
+mod lists;
 mod operators;
-mod packed_in;
-mod plain_in;
-mod read_packed;
-mod read_plain;
+mod plain;
 mod reading;
-mod show_compressed;
-mod show_plain;
 mod spec;
-mod spec_cache;
-mod steps;
-mod stop;
-mod template_cache;
 mod visitor;
-mod walking;
+mod walker;
 
-pub use fault::{ShowFault, Spot, WalkFault};
-pub use fields::Fields;
-pub use packed_in::{MAX_VALUES, PackedFault, PackedIn};
-pub use plain_in::{DataEnd, PlainIn};
+pub use compressed::{MAX_VALUES, PackedFault, PackedIn};
+pub use fault::{DEFINING, ShowFault, Spot, TOO_MANY_VALUES, WIDTH, WalkFault};
+pub use lists::{SpecCache, TemplateCache};
+pub use plain::{DataEnd, PlainIn};
 pub use reading::{Reading, read_by, read_message};
 pub use spec::{Role, Spec, Taken, TurnRefusal};
-pub use spec_cache::SpecCache;
-pub use steps::Steps;
-pub use stop::WalkStop;
-pub use template_cache::TemplateCache;
 pub use visitor::{ItemView, Value, Visitor};
-pub use walking::{walk, walk_by};
+pub use walker::{Fields, Steps, WalkStop, walk, walk_by};

@@ -1,18 +1,16 @@
 //! The operators in force, and the specification of a field under them.
-ghost use Rattle.std.specs.Prelude.{◌≡◌, ◌≤◌, ◌<◌, ◌*◌, ◌+◌, ◌^◌, ◌+ℤ◌, ◌*ℤ◌, if◌then◌else◌, ◌==◌, pos, unsigned_abs, List, Result, Ok, Err, Some, OnOk, OnErr, IfOk, IfErr, IsSome, true, false};
+ghost use Rattle.std.specs.Prelude.{◌≡◌, ◌≤◌, ◌<◌, ◌*◌, ◌+◌, ◌^◌, ◌+ℤ◌, ◌*ℤ◌, if◌then◌else◌, ◌==◌, pos, unsigned_abs, List, Result, Ok, Err, Some, OnOk, IfOk, IfErr, IsSome, true, false};
 ghost use Rattle.std.specs.Ordering.{nat_cmp};
 ghost use Rattle.std.specs.BTreeMap.{get};
 ghost use Rattle.bufr_tables.specs.Entry.{row_of_entry};
 ghost use Rattle.bufr_tables.specs.Tree.{is_legal_operator, is_inserted_text};
-ghost use Rattle.bufr_tables.specs.TableB.{IsRow, entry_of, is_character};
+ghost use Rattle.bufr_tables.specs.TableB.{IsRow};
 ghost use Rattle.bufr_walk.specs.Rules.{if_valid_width, numeric_spec, coded_spec, spec_by_kind, new_reference_spec, unsigned_of, local_width_spec, element_spec, factor_by, factor_spec, inserted_spec, scale_change_of, operator_width, extra_bits, text_width, OperatorModel, Redefined, begin, after_operator, after_field, current_reference, with_reference, AreOperands, known_by, operator_model, IsOperatorKey};
 ghost use Rattle.bufr_walk.specs.declared.operators.OperatorOperands.{OperatorOperands};
-ghost use Rattle.bufr_tables.specs.declared.table_b.Kind.TheVariants as kinds;
 
-use crate::fields::Fields;
+use crate::lists::NO_KEY;
 use crate::spec::{NumberParts, Role, Spec, Taken, TurnRefusal};
-use crate::spec_cache::NO_KEY;
-use crate::stop::WalkStop;
+use crate::walker::{Fields, WalkStop};
 use bufr_tables::{Entry, Fxy, Kind, TableB};
 use std::alloc::{AllocError, Global};
 use std::collections::BTreeMap;
@@ -187,31 +185,19 @@ fn operator_width(width: u32, precision_increase: u8, width_change: u8) -> u32
     }
 }
 
-/// The change of a quantity's scale by Y - 128, where 2 02 Y is in force.
-#[inline(always)]
-// rule: 2-02-y, cancel-2-01-and-2-02
-fn scale_change_of(scale_change: u8) -> i16
-    ensures value { result ≡ scale_change_of scale_change }
-    ensures few { unsigned_abs result ≤ 128 }
-{
-    if scale_change == 0 {
-        0
-    } else {
-        i16::from(scale_change) - 128
-    }
-}
-
 /// The scale of a quantity with the changes in force (2 02 Y, 2 07 Y).
 #[inline(always)]
-// rule: 2-02-y, 2-07-y
-fn scale_change(scale: i16, change: i16, precision_increase: u8) -> i16
+// rule: 2-02-y, 2-07-y, cancel-2-01-and-2-02
+fn operator_scale(scale: i16, scale_change: u8, precision_increase: u8) -> i16
     requires scale { unsigned_abs scale ≤ 127 }
-    requires change { unsigned_abs change ≤ 128 }
     requires precision_increase { precision_increase ≤ 18 }
-    ensures value { result ≡ (scale +ℤ change) +ℤ pos precision_increase }
+    ensures value { result ≡ (scale +ℤ scale_change_of scale_change) +ℤ pos precision_increase }
     ensures few { unsigned_abs result ≤ 300 }
 {
-    scale + change + i16::from(precision_increase)
+    if scale_change == 0 {
+        return scale + i16::from(precision_increase);
+    }
+    scale + (i16::from(scale_change) - 128) + i16::from(precision_increase)
 }
 
 /// A power of ten.
@@ -267,9 +253,9 @@ fn numeric_spec(
                 operands.precision_increase,
                 operands.width_change,
             ),
-            scale: scale_change(
+            scale: operator_scale(
                 entry.scale(),
-                scale_change_of(operands.scale_change),
+                operands.scale_change,
                 operands.precision_increase,
             ),
             reference: scaled(reference, operands.precision_increase),
@@ -515,21 +501,6 @@ impl OperatorState {
         }
     }
 
-    /// The specification of a text of the template (2 05 Y).
-    #[tactic(auto, using(crate::proofs::SpecLemmas::inserted_width))]
-    #[inline(always)]
-    // rule: 2-05-y, defining-no-inserted-text
-    pub(crate) fn inserted(&self, fxy: Fxy) -> Result<Spec, TurnRefusal>
-        requires legal { is_legal_operator fxy ≡ true }
-        requires text { is_inserted_text fxy ≡ true }
-        ensures { result ≡ inserted_spec self.now fxy }
-    {
-        if self.operands.new_reference_width > 0 {
-            return Err(TurnRefusal::Defining(fxy));
-        }
-        Ok(Spec::text(Role::Inserted, fxy, 8 * u32::from(fxy.y()), false))
-    }
-
     /// Applies an operator. While references are being defined only their end is allowed. (WMO-No.
     /// 306, Volume I.2, FM 94: Table C)
     // rule: 2-03-y, 2-03-000, later-operator-replaces, 2-03-y-again, defining-no-other-operator
@@ -614,6 +585,28 @@ impl OperatorState {
             }
             Err(fault) => Err(WalkStop::Field(fault)),
         }
+    }
+
+    /// Takes a text of the template (2 05 Y).
+    #[tactic(auto, using(crate::proofs::SpecLemmas::inserted_width))]
+    #[inline(always)]
+    // rule: 2-05-y, defining-no-inserted-text
+    pub(crate) fn take_inserted<S: Fields>(
+        &mut self,
+        fxy: Fxy,
+        fields: &mut S,
+    ) -> Result<Taken, WalkStop<S::Fault>>
+        requires legal { is_legal_operator fxy ≡ true }
+        requires text { is_inserted_text fxy ≡ true }
+        ensures took { TakesField S.takes (inserted_spec self.old fxy) fields.old result
+            fields.new }
+        ensures kept { IfOk result (λ t. self.new ≡ after_field self.old fxy t) }
+    {
+        if self.operands.new_reference_width > 0 {
+            return Err(WalkStop::Defining(fxy));
+        }
+        let spec = Spec::text(Role::Inserted, fxy, 8 * u32::from(fxy.y()), false);
+        self.take(fxy, &spec, fields)
     }
 
     /// Takes a field, and changes the operators in force by it: a given width ends, and a reference

@@ -1,14 +1,14 @@
-use Rattle.std.proofs.Common.{map, subst, sym}
+use Rattle.std.proofs.Common.{subst, sym}
 use Rattle.bufr_walk.specs.TemplateCache.{Lists}
 use Rattle.bufr_cli.specs.Pieces.{IsDumpPiece}
-use Rattle.bufr_cli.specs.Running.{GivesPieces}
+use Rattle.bufr_cli.specs.Running.{event_pieces, GivesPieces}
 use Rattle.bufr_cli.proofs.RunLemmas.{all-known}
 use Rattle.bufr_cli.proofs.dump.run_dump.Goals as goal
 
 pub returns-clause-whole : goal.returns-clause-whole
 returns-clause-whole g c piece gives =
     let by_both = subst (λ (both : Lists). GivesPieces (IsDumpPiece both.table_b both.table_d) piece) (sym c.new.ensures) gives in
-    all-known (map piece) _ _ _ _ _ _ _ _ c.run_events.result (c.run_events.ensures.run.0, c.run_events.ensures.run.1 piece by_both)
+    all-known (event_pieces piece) _ _ _ _ _ _ _ _ c.run_events.result (c.run_events.ensures.run.0, c.run_events.ensures.run.1 piece by_both)
 
 pub returns-clause-run : goal.returns-clause-run
 returns-clause-run g c = (

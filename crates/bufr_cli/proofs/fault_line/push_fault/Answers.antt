@@ -1,14 +1,23 @@
-use Rattle.bufr_cli.proofs.FaultLineLemmas.{one_text}
+use Rattle.std.proofs.Common.{codes}
+use Rattle.bufr_text.proofs.PushLemmas.{◌⨾◌}
+use Rattle.bufr_cli.specs.FaultLine.{section_fault_text, template_fault_text, walk_fault_text}
+use Rattle.bufr_cli.proofs.FaultLineLemmas.{line_pushed}
 use Rattle.bufr_cli.proofs.fault_line.push_fault.Goals as goal
 
 pub returns-in-Stray : goal.returns-in-Stray
-returns-in-Stray g c = rw c.in-Stray.is (one_text (rw c.stray_text.ensures at c.push.ensures))
+returns-in-Stray g c = rw c.in-Stray.is (c.push_named.ensures ⨾ c.push_stray.ensures)
 
 pub returns-in-Section : goal.returns-in-Section
-returns-in-Section g c = rw c.in-Section.is c.push_section_fault.ensures
+returns-in-Section g c =
+    let number = rw c.number.ensures at c.push_number.ensures in
+    rw c.in-Section.is (line_pushed (codes "offset ") c.args.offset _ (section_fault_text c.in-Section.fault) (c.push_named.ensures ⨾ number) c.push_section_fault.ensures c.push.ensures)
 
 pub returns-in-Template : goal.returns-in-Template
-returns-in-Template g c = rw c.in-Template.is c.push_template_fault.ensures
+returns-in-Template g c =
+    let number = rw c.number-in-Template.ensures at c.push_number-in-Template.ensures in
+    rw c.in-Template.is (line_pushed (codes "offset ") c.args.offset _ (template_fault_text c.in-Template.fault.now) (c.push_named.ensures ⨾ number) c.push_template_fault.ensures c.push-in-Template.ensures)
 
 pub returns-in-Data : goal.returns-in-Data
-returns-in-Data g c = rw c.in-Data.is c.push_walk_fault.ensures
+returns-in-Data g c =
+    let number = rw c.number-in-Data.ensures at c.push_number-in-Data.ensures in
+    rw c.in-Data.is (line_pushed (codes "offset ") c.args.offset _ (walk_fault_text c.in-Data.fault.now) (c.push_named.ensures ⨾ number) c.push_walk_fault.ensures c.push-in-Data.ensures)

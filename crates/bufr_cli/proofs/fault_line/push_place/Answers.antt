@@ -1,7 +1,7 @@
-use Rattle.bufr_text.proofs.PushLemmas.{◌⨾◌, nothing_pushed}
+use Rattle.std.proofs.Common.{append_assoc}
+use Rattle.std.specs.Prelude.{decimal}
+use Rattle.bufr_text.proofs.PushLemmas.{◌⨾◌, retold}
 use Rattle.bufr_cli.proofs.fault_line.push_place.Goals as goal
 
 pub returns : goal.returns
-returns g c =
-    rw (← c.from.ensures)
-    (c.push.ensures ⨾ (c.push_decimal.ensures ⨾ (c.push_named.ensures ⨾ (c.push-2.ensures ⨾ nothing_pushed))))
+returns g c = retold (c.push_named.ensures ⨾ c.push_number.ensures) (append_assoc c.args.word.now (decimal c.args.place) _)

@@ -1,14 +1,12 @@
-use Rattle.bufr_cli.proofs.LineLemmas.{help-global, help-rule, long-global, long-rule, value-global, value-rule}
+use Rattle.std.proofs.Common.{◌∙◌, ap}
+use Rattle.clap.specs.Words.{rule_of}
+use Rattle.bufr_cli.proofs.LineLemmas.{long-rule, value-rule}
 use Rattle.bufr_cli.proofs.job.form_option.Goals as goal
 
 pub returns-clause-rule : goal.returns-clause-rule
 returns-clause-rule c =
     let long = long-rule c.new.result c.long.result _ _ c.long.ensures c.new.ensures.rule in
-    let named = value-rule c.long.result c.value_name.result _ _ c.value_name.ensures long in
-    help-rule c.value_name.result c.help.result _ _ c.help.ensures named
+    ap rule_of c.help.ensures ∙ value-rule c.long.result c.value_name.result _ _ c.value_name.ensures long
 
 pub returns-clause-global : goal.returns-clause-global
-returns-clause-global c =
-    let long = long-global c.new.result c.long.result _ _ c.long.ensures c.new.ensures.optional.1 in
-    let named = value-global c.long.result c.value_name.result _ _ c.value_name.ensures long in
-    help-global c.value_name.result c.help.result _ _ c.help.ensures named
+returns-clause-global c = ap (λ x. x.global) c.help.ensures ∙ ap (λ x. x.global) c.value_name.ensures ∙ ap (λ x. x.global) c.long.ensures ∙ c.new.ensures.optional.1

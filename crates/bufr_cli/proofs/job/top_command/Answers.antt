@@ -1,8 +1,10 @@
-use Rattle.bufr_cli.proofs.LineLemmas.{bin-app, command-app, version-app}
+use Rattle.std.proofs.Common.{◌∙◌, ap}
+use Rattle.clap.specs.Simple.{app_of_fields}
+use Rattle.bufr_cli.proofs.LineLemmas.{command-app, version-app}
 use Rattle.bufr_cli.proofs.job.top_command.Goals as goal
 
 pub returns : goal.returns
 returns c =
-    let named = bin-app c.named_command.result c.in_ok-command.command _ c.in_ok-command.ensures.0 c.named_command.ensures.app in
+    let named = ap app_of_fields c.in_ok-command.ensures.0 ∙ c.named_command.ensures.app in
     let version = version-app c.in_ok-command.command c.version.result _ _ c.version.ensures named in
     command-app c.version.result c.subcommand_required.result _ _ c.subcommand_required.ensures version

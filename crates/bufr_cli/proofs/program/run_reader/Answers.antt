@@ -1,10 +1,10 @@
 use Rattle.std.proofs.Common.{refl, rules}
-use Rattle.bufr_cli.specs.Program.{promise_of}
+use Rattle.bufr_cli.specs.Program.{IsOfCommand}
 use Rattle.bufr_cli.proofs.RunLemmas.{ends-run}
 use Rattle.bufr_cli.proofs.program.run_reader.Goals as goal
 
 pub returns : goal.returns
 returns g c =
-    ends-run (promise_of c.args.command) _ _ _ _ _ _ c.run_command-ran.result c.flush_rest.result
-    c.run_command-ran.ensures.whole c.run_command-ran.ensures.run c.run_command-ran.ensures.flushed c.run_command-ran.ensures.input c.run_command-ran.ensures.writers
+    ends-run (IsOfCommand c.args.command) _ _ _ _ _ _ c.run_command-ran.result c.flush_rest.result
+    c.run_command-ran.ensures.run c.run_command-ran.ensures.flushed c.run_command-ran.ensures.input c.run_command-ran.ensures.writers
     c.flush_rest.ensures.same c.flush_rest.ensures.rest refl (search rules)

@@ -5,4 +5,4 @@ use Rattle.bufr_fill.specs.PackedOut.{all_at_end}
 use Rattle.bufr_fill.proofs.packed_out.all_at_end.Given as goal
 
 abbrev pub invariant-loop-subset : goal.invariant-loop-subset
-invariant-loop-subset l = all_at_end (cells_at l.place (subsets_of l.entries)) ≡ all_at_end (drop l.subset (cells_at l.place (subsets_of l.entries)))
+invariant-loop-subset l = all_at_end (cells_at l.row.place (subsets_of l.row.entries.now)) ≡ all_at_end (drop l.subset (cells_at l.row.place (subsets_of l.row.entries.now)))

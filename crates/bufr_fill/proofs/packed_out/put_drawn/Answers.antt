@@ -17,68 +17,68 @@ use Rattle.bufr_fill.proofs.packed_out.put_drawn.Goals.{then-is_text+else-k-gt63
 pub returns-then-are_alike-clause-put : goal.returns-then-are_alike-clause-put
 returns-then-are_alike-clause-put c =
     let row = c.args.row in
-    let spec = row.spec.now in
-    let values = subst (λ n. (row.place + 1) * n ≤ max_values) (sym (count_cells row.place row.entries.now row.ends.now c.requires.ends)) c.requires.values in
+    let spec = c.args.spec.now in
+    let values = subst (λ n. (row.place + 1) * n ≤ max_values) (sym (count_cells row.place row.entries.now row.ends.now c.args.row.ends_are)) c.requires.values in
     let put = c.in_ok-pack_alike.ensures in
     put_within spec row.place (subsets_of row.entries.now) c.args.drawn.now (drawn.Number 0) c.taken_of.result c.args.out.now.bits c.pack_alike.new.out.bits
     (packed_bits (bits_for spec.width (content_drawn (spec.width / 8) (get_or c.args.drawn.now 0 (drawn.Number 0)))) 0 []) (2046 + 504 * length row.ends.now) values c.requires.given
-    (omega (arith, c.requires.many, c.requires.some)) c.taken_of.ensures.gives
-    (packed_alike spec (spec.width / 8) c.args.drawn.now (drawn.Number 0) (omega (arith, c.requires.many, c.requires.some)) (sym c.are_alike.ensures ∙ c.if-are_alike.true))
+    (omega (arith, c.requires.many, c.args.row.some)) c.taken_of.ensures.gives
+    (packed_alike spec (spec.width / 8) c.args.drawn.now (drawn.Number 0) (omega (arith, c.requires.many, c.args.row.some)) (sym c.are_alike.ensures ∙ c.if-are_alike.true))
     put.bits (parts_length c.args.out.now.bits c.pack_alike.new.out.bits _ _ put.bits (omega (arith, put.most))) put.some
 
 pub returns-in-Factor-clause-put : goal.returns-in-Factor-clause-put
 returns-in-Factor-clause-put c =
     let row = c.args.row in
-    let spec = row.spec.now in
-    let values = subst (λ n. (row.place + 1) * n ≤ max_values) (sym (count_cells row.place row.entries.now row.ends.now c.requires.ends)) c.requires.values in
+    let spec = c.args.spec.now in
+    let values = subst (λ n. (row.place + 1) * n ≤ max_values) (sym (count_cells row.place row.entries.now row.ends.now c.args.row.ends_are)) c.requires.values in
     let cs = contents_drawn (spec.width / 8) c.args.drawn.now in
-    let apart = packed_apart spec (spec.width / 8) c.args.drawn.now (drawn.Number 0) (omega (arith, c.requires.many, c.requires.some)) (sym c.are_alike.ensures ∙ c.if-are_alike.false) in (
+    let apart = packed_apart spec (spec.width / 8) c.args.drawn.now (drawn.Number 0) (omega (arith, c.requires.many, c.args.row.some)) (sym c.are_alike.ensures ∙ c.if-are_alike.false) in (
       put_unequal spec row.place (subsets_of row.entries.now) values cs c.requires.given (apart ∙ ap (λ r. packed_unlike r spec cs) (sym c.role.ensures ∙ c.in-Factor.is))
-          ∙ ap (λ n. Err (at_line n unequal_factors)) (sym c.unlike_line-line.ensures),
+          ∙ ap (λ n. Err (at_line n unequal_factors)) (sym c.unlike_line.ensures),
       refl,
     )
 
 pub returns-in-Reference-clause-put : goal.returns-in-Reference-clause-put
 returns-in-Reference-clause-put c =
     let row = c.args.row in
-    let spec = row.spec.now in
-    let values = subst (λ n. (row.place + 1) * n ≤ max_values) (sym (count_cells row.place row.entries.now row.ends.now c.requires.ends)) c.requires.values in
+    let spec = c.args.spec.now in
+    let values = subst (λ n. (row.place + 1) * n ≤ max_values) (sym (count_cells row.place row.entries.now row.ends.now c.args.row.ends_are)) c.requires.values in
     let cs = contents_drawn (spec.width / 8) c.args.drawn.now in
-    let apart = packed_apart spec (spec.width / 8) c.args.drawn.now (drawn.Number 0) (omega (arith, c.requires.many, c.requires.some)) (sym c.are_alike.ensures ∙ c.if-are_alike.false) in (
+    let apart = packed_apart spec (spec.width / 8) c.args.drawn.now (drawn.Number 0) (omega (arith, c.requires.many, c.args.row.some)) (sym c.are_alike.ensures ∙ c.if-are_alike.false) in (
       put_uneven spec row.place (subsets_of row.entries.now) values cs c.requires.given (apart ∙ ap (λ r. packed_unlike r spec cs) (sym c.role.ensures ∙ c.in-Reference.is))
-          ∙ ap (λ n. Err (at_line n uneven_increment)) (sym c.first_line-line.ensures),
+          ∙ ap (λ n. Err (at_line n uneven_increment)) (sym c.first_line.ensures),
       refl,
     )
 
 pub returns-then-k-gt63-clause-put : goal.returns-then-k-gt63-clause-put
 returns-then-k-gt63-clause-put c =
     let row = c.args.row in
-    let spec = row.spec.now in
-    let values = subst (λ n. (row.place + 1) * n ≤ max_values) (sym (count_cells row.place row.entries.now row.ends.now c.requires.ends)) c.requires.values in
+    let spec = c.args.spec.now in
+    let values = subst (λ n. (row.place + 1) * n ≤ max_values) (sym (count_cells row.place row.entries.now row.ends.now c.args.row.ends_are)) c.requires.values in
     let cs = contents_drawn (spec.width / 8) c.args.drawn.now in
-    let apart = packed_apart spec (spec.width / 8) c.args.drawn.now (drawn.Number 0) (omega (arith, c.requires.many, c.requires.some)) (sym c.are_alike.ensures ∙ c.if-are_alike.false) in
+    let apart = packed_apart spec (spec.width / 8) c.args.drawn.now (drawn.Number 0) (omega (arith, c.requires.many, c.args.row.some)) (sym c.are_alike.ensures ∙ c.if-are_alike.false) in
     let by : packed_unlike spec.role spec cs ≡ packed_by spec.kind spec cs = apart_by spec cs c.role.result c.role.ensures c.in-Element.is in (
       put_uneven spec row.place (subsets_of row.entries.now) values cs c.requires.given
           (apart ∙ by ∙ texts_apart spec c.args.drawn.now c.octets_needed-k.result (sym c.is_text.ensures ∙ c.if-is_text.true) (most_some c.args.drawn.now) c.requires.all c.octets_needed-k.ensures c.if-k-gt63.true)
-          ∙ ap (λ n. Err (at_line n uneven_increment)) (sym c.first_line-line.ensures),
+          ∙ ap (λ n. Err (at_line n uneven_increment)) (sym c.first_line-then-k-gt63.ensures),
       refl,
     )
 
 pub returns-after-is_text-clause-put : goal.returns-after-is_text-clause-put
 returns-after-is_text-clause-put c =
     let row = c.args.row in
-    let spec = row.spec.now in
+    let spec = c.args.spec.now in
     let most = 2046 + 504 * length row.ends.now in
-    let values = subst (λ n. (row.place + 1) * n ≤ max_values) (sym (count_cells row.place row.entries.now row.ends.now c.requires.ends)) c.requires.values in
+    let values = subst (λ n. (row.place + 1) * n ≤ max_values) (sym (count_cells row.place row.entries.now row.ends.now c.args.row.ends_are)) c.requires.values in
     let cs = contents_drawn (spec.width / 8) c.args.drawn.now in
-    let apart = packed_apart spec (spec.width / 8) c.args.drawn.now (drawn.Number 0) (omega (arith, c.requires.many, c.requires.some)) (sym c.are_alike.ensures ∙ c.if-are_alike.false) in
+    let apart = packed_apart spec (spec.width / 8) c.args.drawn.now (drawn.Number 0) (omega (arith, c.requires.many, c.args.row.some)) (sym c.are_alike.ensures ∙ c.if-are_alike.false) in
     let by : packed_unlike spec.role spec cs ≡ packed_by spec.kind spec cs = apart_by spec cs c.role.result c.role.ensures c.in-Element.is in
     let put = put_packed spec row.place (subsets_of row.entries.now) c.args.drawn.now (drawn.Number 0) c.taken_of-in-Element.result c.args.out.now.bits in
     elim c.if-is_text.branch [
       | then-is_text+else-k-gt63+in_ok-pack_texts-in-Element w ↦
           subst (λ bits. IsPutWithin c.args.out.now.bits bits spec (item_row row.place (subsets_of row.entries.now)) most c.taken_of-in-Element.result) (ap (λ o. o.bits) (sym w.out-is))
-          (put w.pack_texts.new.out.bits (2046 + 504 * length c.args.drawn.now) most values c.requires.given (omega (arith, c.requires.many, c.requires.some)) c.taken_of-in-Element.ensures.gives (apart ∙ by) (omega (arith, c.requires.many)) w.in_ok-pack_texts-in-Element.ensures)
+          (put w.pack_texts.new.out.bits (2046 + 504 * length c.args.drawn.now) most values c.requires.given (omega (arith, c.requires.many, c.args.row.some)) c.taken_of-in-Element.ensures.gives (apart ∙ by) (omega (arith, c.requires.many)) w.in_ok-pack_texts-in-Element.ensures)
       | else-is_text+in_ok-pack_numbers-in-Element w ↦
           subst (λ bits. IsPutWithin c.args.out.now.bits bits spec (item_row row.place (subsets_of row.entries.now)) most c.taken_of-in-Element.result) (ap (λ o. o.bits) (sym w.out-is))
-          (put w.pack_numbers.new.out.bits (69 + 63 * length c.args.drawn.now) most values c.requires.given (omega (arith, c.requires.many, c.requires.some)) c.taken_of-in-Element.ensures.gives (apart ∙ by) (omega (arith, c.requires.many)) w.in_ok-pack_numbers-in-Element.ensures)
+          (put w.pack_numbers.new.out.bits (69 + 63 * length c.args.drawn.now) most values c.requires.given (omega (arith, c.requires.many, c.args.row.some)) c.taken_of-in-Element.ensures.gives (apart ∙ by) (omega (arith, c.requires.many)) w.in_ok-pack_numbers-in-Element.ensures)
     ]

@@ -6,6 +6,6 @@ use Rattle.bufr_fill.proofs.packed_out.read_row.Given as goal
 
 abbrev pub invariant-loop-subset : goal.invariant-loop-subset
 invariant-loop-subset l = record {
-  gathered : IsGathering (l.row.spec.now.width / 8) l.row.spec.now (cells_at l.row.place (subsets_of l.row.entries.now)) l.subset l.drawn.items;
+  gathered : IsGathering (l.spec.width / 8) l.spec (cells_at l.row.place (subsets_of l.row.entries.now)) l.subset l.drawn.items;
   range : IsRangeOf l.range l.drawn.items;
 }

@@ -42,14 +42,14 @@ loop-found-preserved g c =
     let next = c.read_more.ensures.read in
     let ok = c.in_ok-read_more-in-NeedsMore.was in
     record {
-      steps = (before.steps.0 ++ next.0, turn-on _ _ c.args.self.now c.loop-found.self c.advance_to.new.self _ _ before.steps before.raised looks c.advance_to.ensures _ c.read_more.new.self c.read_more.result next);
-      each = waits-read _ _ c.args.self.now c.loop-found.self c.advance_to.new.self c.read_more.new.self _ _ before.steps.0 before.each before.steps.1 looks.0 looks.1 c.advance_to.ensures c.read_more.ensures.bound _ c.read_more.result next.0 next.1;
-      counts = adds-then _ _ _ _ _ _ (rw (sym (ap (λ s. s.reads) c.advance_to.ensures)) at before.counts) c.read_more.ensures.counts;
+      steps = (before.steps.0 ++ next.0, turn-on _ _ c.args.self.now c.loop-found.self c.advance_to.new.self _ _ before.steps before.raised looks c.advance_to.ensures.gone _ c.read_more.new.self c.read_more.result next);
+      each = waits-read _ _ c.args.self.now c.loop-found.self c.advance_to.new.self c.read_more.new.self _ _ before.steps.0 before.each before.steps.1 looks.0 looks.1 c.advance_to.ensures.gone c.read_more.ensures.bound _ c.read_more.result next.0 next.1;
+      counts = adds-then _ _ _ _ _ _ (rw (sym (ap (λ s. s.reads) c.advance_to.ensures.gone)) at before.counts) c.read_more.ensures.counts;
       failed = (rw ok at c.read_more.ensures.failed) ∙ before.failed;
       sound = rw ok at next.1.fault;
-      room = omega (arith, before.room, next.1.fills.room, ap (λ s. s.room) c.advance_to.ensures);
+      room = omega (arith, before.room, next.1.fills.room, ap (λ s. s.room) c.advance_to.ensures.gone);
       waits = inr (waits-open c.args.self.now c.loop-found.self _ _ before.waits looks.1);
-      raised = raised-on _ _ c.args.self.now c.loop-found.self c.advance_to.new.self _ _ before.steps before.raised looks c.advance_to.ensures _ c.read_more.new.self c.read_more.result next;
+      raised = raised-on _ _ c.args.self.now c.loop-found.self c.advance_to.new.self _ _ before.steps before.raised looks c.advance_to.ensures.gone _ c.read_more.new.self c.read_more.result next;
     }
 
 pub returns-in_err-read_more-in-NeedsMore-clause-steps : goal.returns-in_err-read_more-in-NeedsMore-clause-steps
@@ -58,9 +58,9 @@ returns-in_err-read_more-in-NeedsMore-clause-steps g c =
     let looks = c.in-NeedsMore.ensures.looks in
     let next = c.read_more.ensures.read in
     let p = err_from_is_err_and c.from_residual.result c.from_residual.ensures.1 in
-    let on = turn-on _ _ c.args.self.now c.loop-found.self c.advance_to.new.self _ _ before.steps before.raised looks c.advance_to.ensures _ c.read_more.new.self c.read_more.result next in
-    let raises = stop-raises _ _ c.args.self.now c.loop-found.self c.advance_to.new.self _ _ before.steps before.raised looks c.advance_to.ensures _ c.read_more.new.self c.read_more.result next _ c.in_err-read_more-in-NeedsMore.was in
-    let each = waits-read _ _ c.args.self.now c.loop-found.self c.advance_to.new.self c.read_more.new.self _ _ before.steps.0 before.each before.steps.1 looks.0 looks.1 c.advance_to.ensures c.read_more.ensures.bound _ c.read_more.result next.0 next.1 in
+    let on = turn-on _ _ c.args.self.now c.loop-found.self c.advance_to.new.self _ _ before.steps before.raised looks c.advance_to.ensures.gone _ c.read_more.new.self c.read_more.result next in
+    let raises = stop-raises _ _ c.args.self.now c.loop-found.self c.advance_to.new.self _ _ before.steps before.raised looks c.advance_to.ensures.gone _ c.read_more.new.self c.read_more.result next _ c.in_err-read_more-in-NeedsMore.was in
+    let each = waits-read _ _ c.args.self.now c.loop-found.self c.advance_to.new.self c.read_more.new.self _ _ before.steps.0 before.each before.steps.1 looks.0 looks.1 c.advance_to.ensures.gone c.read_more.ensures.bound _ c.read_more.result next.0 next.1 in
     (before.steps.0 ++ next.0, rw p.1 on, λ _. rw p.1 raises, each)
 
 pub returns-in_err-read_more-in-NeedsMore-clause-waits : goal.returns-in_err-read_more-in-NeedsMore-clause-waits

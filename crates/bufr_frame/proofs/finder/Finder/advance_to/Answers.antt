@@ -4,8 +4,8 @@ use Rattle.bufr_frame.specs.Finder.{FinderModel, gone_to}
 use Rattle.bufr_frame.proofs.ScanLemmas.{drop-twice}
 use Rattle.bufr_frame.proofs.finder.Finder.advance_to.Goals as goal
 
-pub returns : goal.returns
-returns c =
+pub returns-clause-gone : goal.returns-clause-gone
+returns-clause-gone c =
     let v = c.self.inside in
     let held = v.input.held in
     let n = c.args.n in

@@ -1,15 +1,16 @@
-use Rattle.std.proofs.Common.{◌≢◌, ℕ, List, sym, subst, arith}
+use Rattle.std.proofs.Common.{◌≢◌, ℕ, List, refl, sym, subst, arith}
+use Rattle.std.proofs.lemmas.List.{take_rest}
 use Rattle.std.proofs.lemmas.Result.{err_from_is_err_and}
 use Rattle.bufr_tables.specs.Expansion.{inner_of}
 use Rattle.bufr_tables.specs.Growing.{builder_model}
 use Rattle.bufr_tables.specs.Growth.{tables_in, places_so_far}
-use Rattle.bufr_tables.proofs.ExpansionLemmas.{Came, came_part, came_fault, came_end, gives_same, part-element, part-group, part-operator, part-sequence, group-depth, group-places, group-list-fault, group-list-empty, group-closed, sequence-depth, sequence-fault, sequence-ok}
+use Rattle.bufr_tables.proofs.ExpansionLemmas.{Came, came_part, came_fault, came_end, gives_same, part-element, part-group, part-operator, part-sequence, group-depth, group-places, group-list-fault, group-list-empty, group-closed, group-fixed-fault, sequence-depth, sequence-fault, sequence-ok}
 use Rattle.bufr_tables.proofs.expand.Expander.+expansion.Goals as goal
 
 pub list-loop-fxy-preserved : goal.list-loop-fxy-preserved
 list-loop-fxy-preserved t c =
     let came = subst (λ (l : List ℕ). Came (tables_in c.args.self.now) (inner_of (tables_in c.args.self.now) c.args.self.now.room) c.args.list.now (builder_model c.args.growing.now) c.loop-fxy.width_given l (builder_model c.loop-fxy.growing)) c.in-Some.ensures.cases.0 c.loop-fxy.invariant in
-    rw (c.gives_width-width_given.ensures, c.suffix-rest.ensures) (came_part _ _ _ _ _ _ _ _ _ _ came c.in_ok-taken.ensures.gives)
+    rw (c.gives_width-width_given.ensures, take_rest c.in-Some.after.now c.in_ok-taken.taken) (came_part _ _ _ _ _ _ _ _ _ _ came c.in_ok-taken.ensures.gives)
 
 pub list-returns : goal.list-returns
 list-returns t c = came_end _ _ _ _ _ _ _ c.in_default.ensures.cases c.loop-fxy.invariant
@@ -48,15 +49,15 @@ group_of-returns-in_err-place-clause-gives t c =
 pub group_of-returns-in_err-list-clause-gives : goal.group_of-returns-in_err-list-clause-gives
 group_of-returns-in_err-list-clause-gives t c =
     let p = err_from_is_err_and c.from_residual-in_err-list.result c.from_residual-in_err-list.ensures.1 in
-    rw (p.1, p.2) (group-list-fault (tables_in c.args.self.now) c.args.self.now.room c.args.passes.now c.args.fxy c.in_ok-place.place c.args.after.now (builder_model c.args.growing.now) (builder_model c.open.new.self) _ _ _ _ (omega arith) (omega arith) c.in_ok-place.ensures c.before-2.ensures c.from-count.ensures c.x.ensures.value c.in_err-list.ensures)
+    rw (p.1, p.2) (group-list-fault (tables_in c.args.self.now) c.args.self.now.room c.args.passes.now c.args.fxy c.in_ok-place.place c.args.after.now (builder_model c.args.growing.now) (builder_model c.open.new.self) _ _ _ _ (omega arith) (omega arith) c.in_ok-place.ensures refl c.from-count.ensures c.x.ensures.value c.in_err-list.ensures)
 
 pub group_of-returns-then-not-growing-clause-gives : goal.group_of-returns-then-not-growing-clause-gives
 group_of-returns-then-not-growing-clause-gives t c = λ other.
-    group-list-empty (tables_in c.args.self.now) c.args.self.now.room c.args.passes.now c.args.fxy c.in_ok-place.place c.args.after.now (builder_model c.args.growing.now) (builder_model c.open.new.self) (builder_model c.list.new.growing) _ _ _ (omega arith) (omega arith) c.in_ok-place.ensures c.before-2.ensures c.from-count.ensures c.x.ensures.value c.in_ok-list.ensures c.if-not-growing.true
+    group-list-empty (tables_in c.args.self.now) c.args.self.now.room c.args.passes.now c.args.fxy c.in_ok-place.place c.args.after.now (builder_model c.args.growing.now) (builder_model c.open.new.self) (builder_model c.list.new.growing) _ _ _ (omega arith) (omega arith) c.in_ok-place.ensures refl c.from-count.ensures c.x.ensures.value c.in_ok-list.ensures c.if-not-growing.true
 
 pub group_of-returns-clause-gives : goal.group_of-returns-clause-gives
 group_of-returns-clause-gives t c =
-    group-closed (tables_in c.args.self.now) c.args.self.now.room c.args.passes.now c.args.fxy c.in_ok-place.place c.args.after.now (builder_model c.args.growing.now) (builder_model c.open.new.self) (builder_model c.list.new.growing) (builder_model c.close.new.self) _ _ _ c.close.result (omega arith) (omega arith) c.in_ok-place.ensures c.before-2.ensures c.from-count.ensures c.x.ensures.value c.in_ok-list.ensures c.if-not-growing.false c.close.ensures
+    group-closed (tables_in c.args.self.now) c.args.self.now.room c.args.passes.now c.args.fxy c.in_ok-place.place c.args.after.now (builder_model c.args.growing.now) (builder_model c.open.new.self) (builder_model c.list.new.growing) (builder_model c.close.new.self) _ _ _ c.close.result (omega arith) (omega arith) c.in_ok-place.ensures refl c.from-count.ensures c.x.ensures.value c.in_ok-list.ensures c.if-not-growing.false c.close.ensures
 
 pub sequence-returns-then-self-eq0-clause-gives : goal.sequence-returns-then-self-eq0-clause-gives
 sequence-returns-then-self-eq0-clause-gives t c = λ other. sequence-depth (tables_in c.args.self.now) c.args.self.now.room (places_so_far (builder_model c.args.growing.now)) c.args.fxy c.in-Some.members.now c.if-self-eq0.true (sym c.in-Some.ensures)
@@ -68,3 +69,8 @@ sequence-returns-in_err-list-clause-gives t c =
 
 pub sequence-returns-clause-gives : goal.sequence-returns-clause-gives
 sequence-returns-clause-gives t c = sequence-ok (tables_in c.args.self.now) c.args.self.now.room c.args.fxy c.in-Some.members.now (builder_model c.args.growing.now) (builder_model c.list.new.growing) (omega arith) (sym c.in-Some.ensures) c.in_ok-list.ensures
+
+pub group-returns-in_err-group_of-clause-gives : goal.group-returns-in_err-group_of-clause-gives
+group-returns-in_err-group_of-clause-gives t c =
+    let p = err_from_is_err_and c.from_residual.result c.from_residual.ensures.1 in
+    rw (p.1, p.2) (λ other. group-fixed-fault (tables_in c.args.self.now) (inner_of (tables_in c.args.self.now) c.args.self.now.room) (places_so_far (builder_model c.args.growing.now)) c.args.fxy _ c.args.after.now _ (omega (arith, c.x.ensures.value, c.if-x-eq0.false)) (omega (arith, c.y.ensures, c.if-y-eq0.false)) (c.in_err-group_of.ensures.gives other))

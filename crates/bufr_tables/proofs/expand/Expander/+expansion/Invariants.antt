@@ -17,9 +17,6 @@ decreases-group l = 5 * l.self.now.room + 2
 abbrev pub decreases-sequence : goal.decreases-sequence
 decreases-sequence l = 5 * l.self.now.room + 2
 
-abbrev pub decreases-fixed : goal.decreases-fixed
-decreases-fixed l = 5 * l.self.now.room + 1
-
 abbrev pub decreases-delayed : goal.decreases-delayed
 decreases-delayed l = 5 * l.self.now.room + 1
 

@@ -1,4 +1,4 @@
-use Rattle.std.proofs.Common.{◌≡◌, rules}
+use Rattle.std.proofs.Common.{rules}
 use Rattle.bufr_bits.specs.Decimal.{decimal_text_of}
 use Rattle.bufr_text.proofs.PushLemmas.{◌⨾◌, retold}
 use Rattle.bufr_text.proofs.NumberLemmas.{parts_same}

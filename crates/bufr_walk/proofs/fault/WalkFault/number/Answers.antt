@@ -1,4 +1,4 @@
-use Rattle.std.proofs.Common.{sym, ap}
+use Rattle.std.proofs.Common.{sym, ap, ◌∙◌}
 use Rattle.bufr_walk.specs.Refusal.{number_of_walk_fault}
 use Rattle.bufr_walk.proofs.fault.WalkFault.number.Goals as goal
 
@@ -21,4 +21,4 @@ pub returns-in-TooManyValues : goal.returns-in-TooManyValues
 returns-in-TooManyValues c = sym (ap number_of_walk_fault c.in-TooManyValues.is)
 
 pub returns-in-Memory : goal.returns-in-Memory
-returns-in-Memory c = sym (ap number_of_walk_fault c.in-Memory.is)
+returns-in-Memory c = c.number.ensures ∙ sym (ap number_of_walk_fault c.in-Memory.is)

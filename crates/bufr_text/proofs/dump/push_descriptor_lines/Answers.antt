@@ -1,0 +1,25 @@
+use Rattle.std.proofs.Common.{◌∙◌, ◌≡◌, ◌-◌, ◌++◌, ◌∷◌, [], length, map, sym, arith, take, length-drop, ap}
+use Rattle.bufr_frame.specs.Octets.{words_left}
+use Rattle.bufr_text.specs.Dump.{descriptors_line, text_of_lines}
+use Rattle.bufr_text.specs.Grammar.{runs_of}
+use Rattle.bufr_text.proofs.HeadLemmas.{lines-next, lines-none, some-left, none-left}
+use Rattle.bufr_text.proofs.PushLemmas.{so_far_on, so_far_end}
+use Rattle.bufr_text.proofs.dump.push_descriptor_lines.Goals as goal
+
+pub loop-words-smaller : goal.loop-words-smaller
+loop-words-smaller g c =
+    let some = some-left c.is_empty.result (words_left c.loop-words.words) c.is_empty.ensures c.loop-words-test.true in
+    let left : length (words_left c.push_descriptor_line.new.words) ≡ length (words_left c.loop-words.words) - 8 = ap length c.push_descriptor_line.ensures.words ∙ length-drop 8 (words_left c.loop-words.words) in
+    omega (arith, some, left)
+
+pub loop-words-preserved : goal.loop-words-preserved
+loop-words-preserved g c =
+    let some = some-left c.is_empty.result (words_left c.loop-words.words) c.is_empty.ensures c.loop-words-test.true in
+    let next = lines-next descriptors_line 7 (words_left c.loop-words.words) some
+    ∙ ap (λ l. (descriptors_line (take 8 (words_left c.loop-words.words)) ++ 10 ∷ []) ++ text_of_lines (map descriptors_line (runs_of 8 l))) (sym c.push_descriptor_line.ensures.words) in
+    so_far_on c.loop-words.invariant next c.push_descriptor_line.ensures.pushes
+
+pub returns : goal.returns
+returns g c =
+    let none = none-left c.is_empty.result (words_left c.loop-words.words) c.is_empty.ensures c.loop-words-test.false in
+    so_far_end c.loop-words.invariant (lines-none descriptors_line 8 (words_left c.loop-words.words) none)

@@ -1,0 +1,15 @@
+use Rattle.std.proofs.Common.{map, length}
+use Rattle.bufr_frame.specs.Octets.{words_left}
+use Rattle.bufr_text.specs.Dump.{descriptors_line, text_of_lines}
+use Rattle.bufr_text.specs.Grammar.{runs_of}
+use Rattle.bufr_text.proofs.PushLemmas.{PushedSoFar}
+use Rattle.bufr_text.proofs.dump.push_descriptor_lines.Given as goal
+
+-- the lines of the descriptors before those that are left were pushed
+abbrev pub invariant-loop-words : goal.invariant-loop-words
+invariant-loop-words g l =
+    PushedSoFar l.fn.lines l.lines (text_of_lines (map descriptors_line (runs_of 8 l.message.descriptors)))
+    (text_of_lines (map descriptors_line (runs_of 8 (words_left l.words))))
+
+abbrev pub decreases-loop-words : goal.decreases-loop-words
+decreases-loop-words g l = length (words_left l.words)

@@ -1,0 +1,14 @@
+use Rattle.std.proofs.Common.{◌++◌, length, map}
+use Rattle.bufr_text.specs.Dump.{text_of_lines}
+use Rattle.bufr_text.specs.Grammar.{hex_text, runs_of}
+use Rattle.bufr_text.proofs.PushLemmas.{PushedSoFar}
+use Rattle.bufr_text.proofs.dump.push_octet_lines.Given as goal
+
+-- the lines of the octets before the rest were pushed
+abbrev pub invariant-loop-rest : goal.invariant-loop-rest
+invariant-loop-rest g l =
+    PushedSoFar l.fn.lines l.lines (text_of_lines (map (λ run. l.fn.word ++ hex_text run) (runs_of 32 l.fn.octets)))
+    (text_of_lines (map (λ run. l.fn.word ++ hex_text run) (runs_of 32 l.rest)))
+
+abbrev pub decreases-loop-rest : goal.decreases-loop-rest
+decreases-loop-rest g l = length l.rest

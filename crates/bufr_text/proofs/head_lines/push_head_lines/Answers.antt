@@ -1,6 +1,0 @@
-use Rattle.bufr_text.proofs.HeadLemmas.{head-is}
-use Rattle.bufr_text.proofs.PushLemmas.{◌⨾◌, retold}
-use Rattle.bufr_text.proofs.head_lines.push_head_lines.Goals as goal
-
-pub returns : goal.returns
-returns g c = retold (c.push_header.ensures ⨾ (rw c.local1.ensures at c.push_octet_lines.ensures ⨾ (c.push_section2.ensures ⨾ c.push_descriptor_lines.ensures))) (head-is c.args.message.now)

@@ -1,0 +1,332 @@
+//! Numbers: put into free octets where there is room, and pushed at any scale.
+ghost use Rattle.std.specs.Prelude.{◌≡◌, ◌≤◌, ◌<◌, ◌+◌, ◌/◌, ◌%◌, ◌++◌, [], ◌∷◌, decimal, length, take, ◌==◌, if◌then◌else◌, replicate};
+ghost use Rattle.bufr_bits.specs.Decimal.{decimal_text_of, pointed, sign_of, unsigned_text};
+ghost use Rattle.bufr_tables.specs.Entry.{row_of_entry};
+ghost use Rattle.bufr_tables.specs.TableB.{row_comment, row_line_start};
+ghost use Rattle.bufr_text.specs.Writing.{Puts, Pushes};
+
+use crate::line_writer::LineWriter;
+use bufr_bits::Sink;
+use bufr_tables::Entry;
+use itoa::Buffer;
+
+/// The digits of the greatest `u64`.
+const DIGITS: usize = 20;
+
+/// The octets of a number of 64 bits at a usual scale.
+const NUMBER: usize = 24;
+
+/// The octets in which the start of a line is copied: one more than it has.
+const START: usize = 8;
+
+/// The octets in which a comment is copied. Few comments are longer.
+const COMMENT: usize = 80;
+
+/// Room for a line of a number, and more.
+const LINE: usize = 128;
+
+/// The two digits of each number below 100.
+static PAIRS: [u8; 200] =
+    *b"00010203040506070809101112131415161718192021222324252627282930313233343536373839404142434445464748495051525354555657585960616263646566676869707172737475767778798081828384858687888990919293949596979899";
+
+/// The two digits of a number below 100.
+#[inline(always)]
+pub(crate) fn pair(value: u64) -> (u8, u8)
+    requires { value < 100 }
+    ensures tens { result.0 ≡ 48 + value / 10 }
+    ensures ones { result.1 ≡ 48 + value % 10 }
+{
+    let from = value as usize * 2;
+    (PAIRS[from], PAIRS[from + 1])
+}
+
+/// Puts octets after those before `at`, and returns the place after them; `None` where there is no
+/// room.
+#[inline(always)]
+pub(crate) fn put<const N: usize>(octets: [u8; N], free: &mut [u8], at: usize) -> Option<usize>
+    ensures { Puts free.old at octets.entry free.new result }
+{
+    if at > free.len() || free.len() - at < N {
+        return None;
+    }
+    free[at..at + N].copy_from_slice(&octets);
+    Some(at + N)
+}
+
+/// Puts the first `len` octets of a text, by a block of a fixed size. `None` where the text or the
+/// room is shorter than the block.
+#[inline(always)]
+fn put_block<const N: usize>(text: &[u8], len: usize, free: &mut [u8], at: usize) -> Option<usize>
+    ensures { Puts free.old at (take len text.now) free.new result }
+{
+    if at > free.len() || free.len() - at < N || len > N {
+        return None;
+    }
+    let (block, _) = text.split_first_chunk::<N>()?;
+    let block = *block;
+    free[at..at + N].copy_from_slice(&block);
+    Some(at + len)
+}
+
+/// Puts the two digits of a number below 100.
+#[inline(always)]
+fn put_pair(value: u64, free: &mut [u8], at: usize) -> Option<usize>
+    requires { value < 100 }
+    ensures { Puts free.old at ((48 + value / 10) ∷ (48 + value % 10) ∷ []) free.new result }
+{
+    let (tens, ones) = pair(value);
+    put([tens, ones], free, at)
+}
+
+/// Puts the digits of a number below 100.
+#[inline(always)]
+fn put_two(value: u64, free: &mut [u8], at: usize) -> Option<usize>
+    requires { value < 100 }
+    ensures { Puts free.old at (decimal value) free.new result }
+{
+    if value < 10 {
+        return put([b'0' + value as u8], free, at);
+    }
+    put_pair(value, free, at)
+}
+
+/// Puts the digits of a number below 10,000.
+#[inline(always)]
+fn put_four(value: u64, free: &mut [u8], at: usize) -> Option<usize>
+    requires { value < 10000 }
+    ensures { Puts free.old at (decimal value) free.new result }
+{
+    if value < 100 {
+        return put_two(value, free, at);
+    }
+    let at = put_two(value / 100, free, at)?;
+    put_pair(value % 100, free, at)
+}
+
+/// Fills a prefix with the digits of any number.
+#[inline(never)]
+fn fill_any(value: u64, free: &mut [u8]) -> Option<usize>
+    ensures { Puts free.old 0 (decimal value) free.new result }
+{
+    let mut buffer = Buffer::new();
+    let digits = buffer.format(value).as_bytes();
+    if digits.len() > free.len() {
+        return None;
+    }
+    free[..digits.len()].copy_from_slice(digits);
+    Some(digits.len())
+}
+
+/// Fills a prefix with the digits of a number that has five or more.
+#[inline(never)]
+fn fill_long(value: u64, free: &mut [u8]) -> Option<usize>
+    requires { 10000 ≤ value }
+    ensures { Puts free.old 0 (decimal value) free.new result }
+{
+    if value >= 100_000_000 || free.len() < DIGITS {
+        return fill_any(value, free);
+    }
+    let at = put_four(value / 10_000, free, 0)?;
+    let at = put_pair(value / 100 % 100, free, at)?;
+    put_pair(value % 100, free, at)
+}
+
+/// Puts the digits of a number.
+#[inline(always)]
+fn put_decimal(value: u64, free: &mut [u8], at: usize) -> Option<usize>
+    ensures { Puts free.old at (decimal value) free.new result }
+{
+    if value < 10_000 {
+        return put_four(value, free, at);
+    }
+    if at > free.len() {
+        return None;
+    }
+    Some(at + fill_long(value, &mut free[at..])?)
+}
+
+/// Fills a prefix with a name and the digits of a number after it.
+#[inline(always)]
+pub(crate) fn fill_named(name: &[u8], value: u64, free: &mut [u8]) -> Option<usize>
+    ensures { Puts free.old 0 (name.now ++ decimal value) free.new result }
+{
+    if name.len() + DIGITS > free.len() {
+        return None;
+    }
+    free[..name.len()].copy_from_slice(name);
+    // most numbers of a header have one digit or two
+    if value < 10 {
+        return put([b'0' + value as u8], free, name.len());
+    }
+    if value < 100 {
+        return put_pair(value, free, name.len());
+    }
+    put_decimal(value, free, name.len())
+}
+
+/// Puts tenths: a number with a point before the last of its digits.
+#[inline(always)]
+fn put_tenths(value: u64, free: &mut [u8], at: usize) -> Option<usize>
+    ensures { Puts free.old at (pointed 1 (decimal value)) free.new result }
+{
+    let at = put_decimal(value / 10, free, at)?;
+    put([b'.', b'0' + (value % 10) as u8], free, at)
+}
+
+/// Puts hundredths: a number with a point before the last two of its digits.
+#[inline(always)]
+fn put_hundredths(value: u64, free: &mut [u8], at: usize) -> Option<usize>
+    ensures { Puts free.old at (pointed 2 (decimal value)) free.new result }
+{
+    let at = put_decimal(value / 100, free, at)?;
+    let (tens, ones) = pair(value % 100);
+    put([b'.', tens, ones], free, at)
+}
+
+/// Puts a number with a point before the last five of its digits, as high accuracy has them.
+#[inline(always)]
+fn put_five_places(value: u64, free: &mut [u8], at: usize) -> Option<usize>
+    ensures { Puts free.old at (pointed 5 (decimal value)) free.new result }
+{
+    let at = put_decimal(value / 100_000, free, at)?;
+    let first = b'0' + (value / 10_000 % 10) as u8;
+    let (second, third) = pair(value / 100 % 100);
+    let (fourth, fifth) = pair(value % 100);
+    put([b'.', first, second, third, fourth, fifth], free, at)
+}
+
+/// Fills a prefix with a number at a scale; `None` for a scale that few elements have, too.
+#[inline(never)]
+fn fill_scaled(value: u64, scale: i16, free: &mut [u8]) -> Option<usize>
+    ensures { Puts free.old 0 (unsigned_text value scale) free.new result }
+{
+    if free.len() < NUMBER {
+        return None;
+    }
+    if scale == 0 {
+        return put_decimal(value, free, 0);
+    }
+    if scale == 1 {
+        return put_tenths(value, free, 0);
+    }
+    if scale == 2 {
+        return put_hundredths(value, free, 0);
+    }
+    if scale == 5 {
+        return put_five_places(value, free, 0);
+    }
+    if scale == -1 && value > 0 {
+        let at = put_decimal(value, free, 0)?;
+        return put([b'0'], free, at);
+    }
+    None
+}
+
+/// Puts a number at a scale. Short ones are put at once.
+#[inline(always)]
+fn put_scaled(value: u64, scale: i16, free: &mut [u8], at: usize) -> Option<usize>
+    ensures { Puts free.old at (unsigned_text value scale) free.new result }
+{
+    if scale == 0 && value < 10_000 {
+        return put_decimal(value, free, at);
+    }
+    if scale == 1 && value < 100_000 {
+        return put_tenths(value, free, at);
+    }
+    if scale == 2 && value < 1_000_000 {
+        return put_hundredths(value, free, at);
+    }
+    if at > free.len() {
+        return None;
+    }
+    Some(at + fill_scaled(value, scale, &mut free[at..])?)
+}
+
+/// Puts a minus where a number is below zero.
+#[inline(always)]
+// rule: decimal-sign
+fn put_sign(number: i64, free: &mut [u8], at: usize) -> Option<usize>
+    ensures { Puts free.old at (sign_of number) free.new result }
+{
+    if number < 0 {
+        return put([b'-'], free, at);
+    }
+    put([], free, at)
+}
+
+/// Fills a prefix with the line of a number that an entry reads. `None` where the row is long or
+/// among the last of its table, too.
+#[inline(always)]
+pub(crate) fn fill_number_line(
+    entry: Entry<'_>,
+    number: i64,
+    scale: i16,
+    free: &mut [u8],
+) -> Option<usize>
+    ensures { Puts free.old 0 (row_line_start (row_of_entry entry.entry)
+        ++ (decimal_text_of number scale ++ row_comment (row_of_entry entry.entry)))
+        free.new result }
+{
+    let (row, len) = entry.line_on();
+    // with these looks the compiler drops most of those for the parts
+    if row.len() < 7 + COMMENT || len > COMMENT || free.len() < LINE {
+        return None;
+    }
+    let at = put_block::<START>(row, 7, free, 0)?;
+    let at = put_sign(number, free, at)?;
+    let at = put_scaled(number.unsigned_abs(), scale, free, at)?;
+    put_block::<COMMENT>(&row[7..], len, free, at)
+}
+
+impl<'b, 'w, W: Sink> LineWriter<'b, 'w, W> {
+    /// Pushes digits with a point before the last `places` of them.
+    // rule: decimal-point
+    fn push_point(&mut self, digits: &[u8], places: usize)
+        ensures { Pushes self.old (pointed places digits.now) self.new }
+    {
+        if digits.len() <= places {
+            self.push(b"0.");
+            self.push_zeros(places - digits.len());
+            self.push(digits);
+            return;
+        }
+        let (whole, fraction) = digits.split_at(digits.len() - places);
+        self.push(whole);
+        self.push(b".");
+        self.push(fraction);
+    }
+
+    /// Pushes a number that is not below zero at a scale. Of 0 no zeros come after the digit.
+    // rule: decimal-zeros-after
+    fn push_unsigned(&mut self, size: u128, scale: i16)
+        ensures { Pushes self.old (unsigned_text size scale) self.new }
+    {
+        let mut buffer = Buffer::new();
+        let digits = buffer.format(size).as_bytes();
+        let places = usize::from(scale.unsigned_abs());
+        if scale > 0 {
+            return self.push_point(digits, places);
+        }
+        self.push(digits);
+        self.push_zeros(if size == 0 { 0 } else { places });
+    }
+
+    /// Pushes a minus before a number below zero.
+    // rule: decimal-sign
+    fn push_sign(&mut self, value: i128)
+        ensures { Pushes self.old (sign_of value) self.new }
+    {
+        if value < 0 {
+            self.push(b"-");
+        }
+    }
+
+    /// Pushes a number at a scale.
+    #[inline(never)]
+    pub(crate) fn push_scaled(&mut self, value: i128, scale: i16)
+        ensures { Pushes self.old (decimal_text_of value scale) self.new }
+    {
+        self.push_sign(value);
+        self.push_unsigned(value.unsigned_abs(), scale);
+    }
+}

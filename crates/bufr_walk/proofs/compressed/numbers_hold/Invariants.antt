@@ -1,0 +1,12 @@
+use Rattle.std.proofs.Common.{◌≡◌, ◌+◌, ◌-◌, ◌*◌, drop}
+use Rattle.bufr_bits.specs.Bits.{bits_of}
+use Rattle.bufr_bits.specs.BitSlice.{octets_of}
+use Rattle.bufr_walk.specs.PackedBits.{all_within}
+use Rattle.bufr_walk.proofs.compressed.numbers_hold.Given as goal
+
+abbrev pub invariant-loop-subset : goal.invariant-loop-subset
+invariant-loop-subset l = record {
+  place : l.place ≡ l.at + (l.spec.width + 6) + l.subset * l.k;
+  sofar : all_within l.spec.may_be_missing l.spec.width l.base.number l.k l.subsets (drop (l.at + (l.spec.width + 6)) (bits_of (octets_of l.bits)))
+      ≡ all_within l.spec.may_be_missing l.spec.width l.base.number l.k (l.subsets - l.subset) (drop l.place (bits_of (octets_of l.bits)));
+}

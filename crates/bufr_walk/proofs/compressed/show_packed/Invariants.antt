@@ -1,0 +1,10 @@
+use Rattle.bufr_bits.specs.Bits.{bits_of}
+use Rattle.bufr_bits.specs.BitSlice.{octets_of}
+use Rattle.bufr_walk.specs.PackedIn.{items_at}
+use Rattle.bufr_walk.specs.ShowSteps.{Sofar}
+use Rattle.bufr_walk.proofs.PackedShowing.{all_calls, subsets_from}
+use Rattle.bufr_walk.proofs.compressed.show_packed.Given as goal
+
+abbrev pub invariant-subsets : goal.invariant-subsets
+invariant-subsets g l =
+    Sofar g.V.Visitor.sees l.fn.visitor (all_calls g.V.Visitor.sees l.pack.table.now l.pack.subsets (items_at (bits_of (octets_of l.pack.bits)) l.pack.subsets l.kept)) l.visitor (subsets_from g.V.Visitor.sees l.pack.table.now l.pack.subsets (items_at (bits_of (octets_of l.pack.bits)) l.pack.subsets l.kept) l.subset)

@@ -1,0 +1,14 @@
+use Rattle.std.proofs.Common.{◌≡◌, ◌≤◌, ◌-◌, take, drop}
+use Rattle.bufr_bits.specs.Bits.{bits_of}
+use Rattle.bufr_bits.specs.BitSlice.{octets_of}
+use Rattle.bufr_walk.specs.Content.{octets_in}
+use Rattle.bufr_walk.proofs.plain.copy_octets.Given as goal
+
+abbrev pub invariant-octets : goal.invariant-octets
+invariant-octets l = take l.place l.text ≡ octets_in l.place (drop l.at (bits_of (octets_of l.bits)))
+
+abbrev pub invariant-fours : goal.invariant-fours
+invariant-fours l = (l.copied ≤ l.count) × (take l.copied l.text ≡ octets_in l.copied (drop l.at (bits_of (octets_of l.bits))))
+
+abbrev pub decreases-fours : goal.decreases-fours
+decreases-fours l = l.count - l.copied

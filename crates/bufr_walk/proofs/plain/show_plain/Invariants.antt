@@ -1,0 +1,11 @@
+use Rattle.std.proofs.Common.{◌≡◌, List, Bool, length}
+use Rattle.bufr_bits.specs.Bits.{bits_of}
+use Rattle.bufr_bits.specs.BitSlice.{octets_of}
+use Rattle.bufr_walk.specs.Content.{Content}
+use Rattle.bufr_walk.specs.Course.{next_item}
+use Rattle.bufr_walk.specs.Reading.{Item, ReadsSubsets}
+use Rattle.bufr_walk.specs.ShowSteps.{SubsetsShown}
+use Rattle.bufr_walk.proofs.plain.show_plain.Given as goal
+
+abbrev pub invariant-subsets : goal.invariant-subsets
+invariant-subsets g l = (l.cache ≡ l.fn.cache) × ((all : List (List (Item Content))) (left : List Bool) → ReadsSubsets (next_item l.fn.cache l.data.template.now) all (bits_of (octets_of l.data.bits)) left → length all ≡ l.data.subsets → SubsetsShown g.V.Visitor.sees l.fn.cache (next_item l.fn.cache l.data.template.now) all l.done left l.fn.visitor l.input l.visitor l.steps)

@@ -1,5 +1,0 @@
-use Rattle.std.proofs.Common.{◌≡◌, ◌-◌, ◌++◌, take, replicate}
-use Rattle.bufr_walk.proofs.show_compressed.pad.Given as goal
-
-abbrev pub invariant-spaces : goal.invariant-spaces
-invariant-spaces l = take l.place l.text ≡ take l.from l.fn.text ++ replicate (l.place - l.from) 32

@@ -1,6 +1,0 @@
-use Rattle.bufr_walk.proofs.CacheLemmas.{spec_got_plain}
-use Rattle.bufr_walk.proofs.walking.take_found.Goals as goal
-
-pub take_other-requires : goal.take_other-requires
-take_other-requires g c =
-    spec_got_plain c.args.cache.now c.args.in_force.now c.args.field c.key-key.result c.in-Some.spec.now c.key-key.ensures c.in-Some.ensures

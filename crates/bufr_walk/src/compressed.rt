@@ -1,0 +1,651 @@
+//! Compressed data, where each item occurs once for all subsets: fields, reading, and showing.
+ghost use Rattle.std.specs.Prelude.{◌≡◌, ◌≤◌, ◌<◌, ◌+◌, ◌*◌, ◌^◌, false, true, length, IfSome, ◌-◌, ◌/◌, ◌++◌, drop, MatchResult, IfOk, IfErr, ◌==◌, ◌&&◌, take, get_or, replicate};
+ghost use Rattle.bufr_bits.specs.Bits.{bits_at, number_of, bits_of};
+ghost use Rattle.bufr_bits.specs.BitSlice.{octets_of};
+ghost use Rattle.bufr_tables.specs.TableB.{is_character};
+ghost use Rattle.bufr_walk.specs.PackedBits.{stays_within, all_equal, numbers_hold, holds_by, AnswersAt, IsSeen, IsUnseen, sum_content};
+ghost use Rattle.bufr_walk.specs.FieldSpec.{IsFor, is_reference};
+ghost use Rattle.bufr_walk.specs.PackedField.{ones, increment_bits_of};
+ghost use Rattle.bufr_tables.specs.Tree.{places};
+ghost use Rattle.bufr_walk.specs.declared.walker.WalkStop.TheVariants as stops;
+ghost use Rattle.bufr_walk.specs.Course.{next_item};
+ghost use Rattle.bufr_walk.specs.Refusal.{bits_before, data_in, IsFault};
+ghost use Rattle.bufr_walk.specs.StoredItems.{IsReadAndKept, HasIncrement, call_kept, content_kept};
+ghost use Rattle.bufr_walk.specs.PackedIn.{packed_fault, items_at, fits_at};
+ghost use Rattle.std.specs.List.{list_all};
+ghost use Rattle.bufr_walk.specs.Calls.{compressed_item_calls, compressed_subset_calls, seen_value, Shows};
+ghost use Rattle.bufr_walk.specs.Content.{missing, number, shown};
+ghost use Rattle.bufr_walk.specs.declared.item_index.IndexedItem.{IndexedItem};
+
+use crate::fault::{ShowFault, Spot, WalkFault};
+use crate::item_index::{IndexedItem, ItemIndex, PackedRead};
+use crate::lists::SpecCache;
+use crate::plain::{answer_at, copy_octets, number_at, ones_at, raw_at, show_value, value_at};
+use crate::spec::{Role, Spec, Taken};
+use crate::visitor::{ItemView, Value, Visitor, plain_number};
+use crate::walker::{Fields, Steps, WalkStop, walk_by};
+use bufr_bits::BitSlice;
+use bufr_tables::{Fxy, Kind, TableB, Template};
+use std::alloc::Global;
+use std::marker::Model;
+use thiserror::Error;
+
+/// The fault of an item of compressed data, with its descriptor.
+#[derive(Clone, Copy, Debug, PartialEq, Eq, Error)]
+pub enum PackedFault {
+    /// The data end inside the item.
+    #[error("the data end inside an item")]
+    DataEnd(Fxy),
+    /// A sum past the width of a number, more octets than a text has, or a redefined reference with
+    /// increments.
+    #[error("an increment that cannot be")]
+    Increment(Fxy),
+    /// The factor of a replication is not the same in all subsets.
+    #[error("a factor is not the same in all subsets")]
+    UnequalFactor(Fxy),
+    /// With this item there are more than 134,217,728 values.
+    #[error("too many values")]
+    TooManyValues(Fxy),
+    /// Memory ran out: room is made at every 64th item, from the first on.
+    #[error("out of memory")]
+    Memory,
+}
+
+impl PackedFault {
+    ghost use Rattle.std.specs.Prelude.{◌≡◌};
+    ghost use Rattle.bufr_walk.specs.Refusal.{number_of_packed};
+
+    /// The number of the [`WalkFault`](crate::WalkFault) that it becomes: 30, 33 to 35, and 73
+    /// where memory ran out.
+    pub fn number(self) -> u8
+        ensures { result ≡ number_of_packed self }
+    {
+        match self {
+            PackedFault::DataEnd(_) => 30,
+            PackedFault::UnequalFactor(_) => 33,
+            PackedFault::Increment(_) => 34,
+            PackedFault::TooManyValues(_) => 35,
+            PackedFault::Memory => 73,
+        }
+    }
+}
+
+/// Whether an increment of `k` bits is valid: it is missing, or the sum stays within the width.
+// rule: compressed-past-width, compressed-class-31
+fn stays_within(spec: &Spec, base: u64, k: u32, increment: u64) -> bool
+    requires k { k ≤ 63 }
+    requires number { is_character spec.now.kind ≡ false }
+    requires base { base < 2 ^ 63 }
+    requires increment { increment < 2 ^ k }
+    ensures { result ≡ stays_within spec.now.may_be_missing spec.now.width base k increment }
+{
+    let width = spec.width();
+    if spec.may_be_missing() && increment == (1 << k) - 1 {
+        return true;
+    }
+    base + increment <= (1 << width) - 1
+}
+
+/// Whether the increments of numbers are valid; a base of all ones makes all of them valid.
+// rule: compressed-all-missing
+fn numbers_hold(bits: &BitSlice<'_>, at: u64, subsets: u16, spec: &Spec, k: u32) -> bool
+    requires increment { k ≤ 63 }
+    requires number { is_character spec.now.kind ≡ false }
+    requires within { at + (spec.now.width + 6) + subsets * k ≤ 8 * length (octets_of bits.now) }
+    ensures { result ≡ numbers_hold spec.now k subsets
+        (bits_at (octets_of bits.now) at spec.now.width)
+        (drop (at + (spec.now.width + 6)) (bits_of (octets_of bits.now))) }
+{
+    let width = spec.width();
+    let base = raw_at(bits, at, width);
+    let missing = base.all_ones && spec.may_be_missing();
+    if missing {
+        return true;
+    }
+    // Nearly always the greatest increment fits, and so each does.
+    if base.number + ((1 << k) - 1) <= (1 << width) - 1 {
+        return true;
+    }
+    let mut place = at + (u64::from(width) + 6);
+    for subset in 0..subsets {
+        let increment = number_at(bits, place, k);
+        let stays = stays_within(spec, base.number, k, increment);
+        if !stays {
+            return false;
+        }
+        place += u64::from(k);
+    }
+    true
+}
+
+/// Whether each increment of `k` bits, the first of which begins with bit `at`, is the number
+/// `first`.
+fn are_equal(bits: &BitSlice<'_>, at: u64, subsets: u16, k: u32, first: u64) -> bool
+    requires increment { k ≤ 63 }
+    requires within { at + subsets * k ≤ 8 * length (octets_of bits.now) }
+    ensures { result ≡ all_equal k subsets first (drop at (bits_of (octets_of bits.now))) }
+{
+    let mut place = at;
+    for subset in 0..subsets {
+        let increment = number_at(bits, place, k);
+        if increment != first {
+            return false;
+        }
+        place += u64::from(k);
+    }
+    true
+}
+
+/// Whether the increments of an item, or the count of octets of a text, are valid.
+// rule: compressed-text-past-width, compressed-text-base
+fn holds(bits: &BitSlice<'_>, at: u64, subsets: u16, spec: &Spec, k: u32) -> bool
+    requires increment { k ≤ 63 }
+    requires within { is_character spec.now.kind ≡ false
+        → at + (spec.now.width + 6) + subsets * k ≤ 8 * length (octets_of bits.now) }
+    ensures { result ≡ holds_by spec.now.kind spec.now k subsets
+        (bits_at (octets_of bits.now) at spec.now.width)
+        (drop (at + (spec.now.width + 6)) (bits_of (octets_of bits.now))) }
+{
+    match spec.kind() {
+        Kind::Character => k <= spec.width() / 8,
+        Kind::Coded => numbers_hold(bits, at, subsets, spec, k),
+        Kind::Numeric => numbers_hold(bits, at, subsets, spec, k),
+    }
+}
+
+/// The bits that each subset has after the base and `k`.
+fn increment_bits_of(spec: &Spec, k: u32) -> u32
+    requires { k ≤ 63 }
+    ensures value { result ≡ increment_bits_of spec.now.role spec.now.kind k }
+    ensures most { result ≤ 504 }
+{
+    match spec.role() {
+        Role::Reference => 0,
+        Role::Element | Role::Inserted | Role::Factor => match spec.kind() {
+            Kind::Character => 8 * k,
+            Kind::Coded | Kind::Numeric => k,
+        },
+    }
+}
+
+/// What an item whose `k` is known returns to the walk; of a factor it is the count that all
+/// subsets have.
+// rule: compressed-equal, compressed-references, compressed-factors, fault-34-before-33
+fn item_answer_at(
+    bits: &BitSlice<'_>,
+    at: u64,
+    subsets: u16,
+    spec: &Spec,
+    k: u32,
+) -> Result<Taken, PackedFault>
+    requires increment { k ≤ 63 }
+    requires subsets { 1 ≤ subsets }
+    requires within { at + (spec.now.width + 6) + subsets
+        * increment_bits_of spec.now.role spec.now.kind k
+        ≤ 8 * length (octets_of bits.now) }
+    ensures answer { AnswersAt (bits_of (octets_of bits.now)) at subsets spec.now k result }
+    ensures shape { IfOk result (λ t. IsFor spec.now t) }
+{
+    if k == 0 {
+        return Ok(answer_at(bits, at, spec));
+    }
+    let reference = spec.is_reference();
+    if reference {
+        return Err(PackedFault::Increment(spec.fxy()));
+    }
+    let can_be = holds(bits, at, subsets, spec, k);
+    if !can_be {
+        return Err(PackedFault::Increment(spec.fxy()));
+    }
+    match spec.role() {
+        Role::Factor => {
+            let width = spec.width();
+            let suffix = at + (u64::from(width) + 6);
+            let first = number_at(bits, suffix, k);
+            let equal = are_equal(bits, suffix, subsets, k, first);
+            if !equal {
+                return Err(PackedFault::UnequalFactor(spec.fxy()));
+            }
+            Ok(Taken::Count(number_at(bits, at, width) + first))
+        }
+        Role::Element => Ok(Taken::Plain),
+        Role::Inserted => Ok(Taken::Plain),
+        Role::Reference => unreachable!(),
+    }
+}
+
+/// An item in the bits: what it returns to the walk, its `k`, the number of its base (0 for a
+/// text), and the bit after it.
+#[derive(Clone, Copy)]
+struct ItemBits {
+    answer: Taken,
+    step: u8,
+    base: u64,
+    end: u64,
+}
+
+/// The number of the base that begins with bit `at`, 0 for a text.
+fn number_there(bits: &BitSlice<'_>, at: u64, spec: &Spec) -> u64
+    requires within { at + spec.now.width ≤ 8 * length (octets_of bits.now) }
+    ensures { is_character spec.now.kind ≡ false
+        → result ≡ number_of (bits_at (octets_of bits.now) at spec.now.width) }
+{
+    if spec.is_text() {
+        return 0;
+    }
+    number_at(bits, at, spec.width())
+}
+
+/// The item that begins with bit `at`.
+// rule: compressed-item, compressed-increments-there, fault-30-before-34
+fn item_bits_at(
+    bits: &BitSlice<'_>,
+    at: u64,
+    subsets: u16,
+    spec: &Spec,
+) -> Result<ItemBits, PackedFault>
+    requires subsets { 1 ≤ subsets }
+    requires within { at ≤ 8 * length (octets_of bits.now) }
+    ensures seen { MatchResult result (λ s. IsSeen (bits_of (octets_of bits.now)) at subsets
+        spec.now s) (λ e. IsUnseen (bits_of (octets_of bits.now)) at subsets spec.now e) }
+    ensures shape { IfOk result (λ s. IsFor spec.now s.answer) }
+{
+    let width = u64::from(spec.width());
+    let left = bits.len_bits() - at;
+    if left < width + 6 {
+        return Err(PackedFault::DataEnd(spec.fxy()));
+    }
+    let k = number_at(bits, at + width, 6) as u32;
+    let size = width + 6 + u64::from(subsets) * u64::from(increment_bits_of(spec, k));
+    if left < size {
+        return Err(PackedFault::DataEnd(spec.fxy()));
+    }
+    match item_answer_at(bits, at, subsets, spec, k) {
+        Ok(answer) => Ok(ItemBits {
+            answer,
+            step: k as u8,
+            base: number_there(bits, at, spec),
+            end: at + size,
+        }),
+        Err(wrong) => Err(wrong),
+    }
+}
+
+/// The most values of a message with compressed data, read or written: its items times its subsets.
+/// (a choice of this project)
+pub const MAX_VALUES: u64 = 134_217_728;
+
+/// Fields of compressed data: each item occurs once for all subsets. An item is a base, six bits
+/// `k`, and where `k` is above 0 an increment for each subset. It keeps the location of each item,
+/// and the fields among them. (WMO-No. 306, Volume I.2, FM 94: section 4, compression)
+#[derive(Drop)]
+pub struct PackedIn<'a> {
+    bits: BitSlice<'a>,
+    at: u64,
+    subsets: u16,
+    kept: ItemIndex,
+    /// The guess at the index of the next field.
+    next: u32,
+}
+
+impl<'a> Model for PackedIn<'a> {
+    ghost use Rattle.bufr_bits.specs.Bits.{bits_of};
+    ghost use Rattle.bufr_bits.specs.BitSlice.{octets_of};
+    ghost use Rattle.bufr_walk.specs.PackedIn.{PackedCursor, IsPackedIn, packed_view};
+
+    ghost Value = { PackedCursor };
+
+    ghost view = { λ s. packed_view (bits_of (octets_of s.bits)) s.at s.subsets s.kept };
+
+    ghost invariant = { λ s. IsPackedIn (bits_of (octets_of s.bits)) s.at s.subsets s.kept };
+}
+
+impl<'a> PackedIn<'a> {
+    ghost use Rattle.std.specs.Prelude.{◌≡◌, ◌≤◌, ◌+◌, ◌*◌, length, MatchResult, IfOk, [], true};
+    ghost use Rattle.std.specs.List.{list_all};
+    ghost use Rattle.bufr_bits.specs.Bits.{bits_of};
+    ghost use Rattle.bufr_bits.specs.BitSlice.{octets_of};
+    ghost use Rattle.bufr_walk.specs.FieldSpec.{IsFor};
+    ghost use Rattle.bufr_walk.specs.PackedBits.{IsLooked, IsUnlooked};
+    ghost use Rattle.bufr_walk.specs.PackedIn.{items_at, fits_at, new_packed_in};
+    ghost use Rattle.bufr_walk.specs.Reading.{max_values};
+
+    /// A reader of compressed data from bit 0 on, for at least one subset.
+    pub fn new(alloc: Global, bits: BitSlice<'a>, subsets: u16) -> PackedIn<'a>
+        requires { 1 ≤ subsets }
+        ensures { result ≡ new_packed_in (bits_of (octets_of bits.entry)) subsets }
+    {
+        PackedIn {
+            bits,
+            at: 0,
+            subsets,
+            kept: ItemIndex::new(alloc),
+            next: 0,
+        }
+    }
+
+    /// The next item, which is not passed.
+    // rule: too-many-values, compressed-fault-order
+    fn look(&self, spec: &Spec) -> Result<ItemBits, PackedFault>
+        ensures seen { MatchResult result (λ s. IsLooked self.now spec.now s)
+            (λ e. IsUnlooked self.now spec.now e) }
+        ensures shape { IfOk result (λ s. IsFor spec.now s.answer) }
+    {
+        let items = self.kept.len() as u64 + 1;
+        if items * u64::from(self.subsets) > MAX_VALUES {
+            return Err(PackedFault::TooManyValues(spec.fxy()));
+        }
+        item_bits_at(&self.bits, self.at, self.subsets, spec)
+    }
+}
+
+impl<'a> Fields for PackedIn<'a> {
+    type Fault = PackedFault;
+
+    ghost use Rattle.std.proofs.Common.{arith, ap};
+    ghost use Rattle.bufr_walk.specs.PackedIn.{PackedTakes, refuses_packed};
+
+    ghost used = { λ s. s.at };
+
+    ghost takes = { PackedTakes };
+
+    ghost advances = { λ s spec t next h. Prim.omega (arith, h.forth) };
+
+    ghost refuses = { λ s spec e next h. ap (λ c. c.at) (refuses_packed s spec e next h) };
+
+    fn take(&mut self, spec: &Spec) -> Result<Taken, PackedFault> {
+        let seen = self.look(spec)?;
+        let item = IndexedItem {
+            spec: *spec,
+            at: self.at,
+            base: seen.base,
+            step: seen.step,
+        };
+        let place = self.kept.keep(self.next, item)?;
+        self.next = place.saturating_add(1);
+        self.at = seen.end;
+        Ok(seen.answer)
+    }
+
+    fn look_at(&mut self, place: u32) {
+        // For the proof alone: with a field used, the reader's invariant is known.
+        let _ = &self.bits;
+        self.next = place;
+    }
+
+    fn last_place(&self) -> Option<u32> {
+        Some(self.next.saturating_sub(1))
+    }
+
+    fn bits(&self) -> u64 {
+        self.at
+    }
+}
+
+/// The fault of an item, after `bit` bits.
+fn field_fault(wrong: PackedFault, bit: u64) -> WalkFault
+    ensures { result ≡ packed_fault (stops.Field wrong) bit }
+{
+    match wrong {
+        PackedFault::DataEnd(fxy) => WalkFault::DataEnd(Spot::new(0, fxy, bit)),
+        PackedFault::Increment(fxy) => WalkFault::Increment(Spot::new(0, fxy, bit)),
+        PackedFault::UnequalFactor(fxy) => WalkFault::UnequalFactor(Spot::new(0, fxy, bit)),
+        PackedFault::TooManyValues(fxy) => WalkFault::TooManyValues(Spot::new(0, fxy, bit)),
+        PackedFault::Memory => WalkFault::Memory,
+    }
+}
+
+/// The fault of the stop of a walk, after `bit` bits.
+fn fault_at(why: WalkStop<PackedFault>, bit: u64) -> WalkFault
+    ensures { result ≡ packed_fault why bit }
+{
+    match why {
+        WalkStop::Width(fxy) => WalkFault::Width(Spot::new(0, fxy, bit)),
+        WalkStop::Defining(fxy) => WalkFault::Defining(Spot::new(0, fxy, bit)),
+        WalkStop::Field(wrong) => field_fault(wrong, bit),
+        WalkStop::Memory => WalkFault::Memory,
+    }
+}
+
+/// Reads all items, each for all subsets; where there are no subsets nothing is read.
+// rule: no-subsets
+pub(crate) fn read_packed(
+    bits: BitSlice<'_>,
+    subsets: u16,
+    template: &Template,
+    cache: &mut SpecCache<'_>,
+    steps: &mut Steps,
+) -> Result<PackedRead, WalkFault>
+    requires { steps.old ≡ 0 }
+    ensures same { cache.new ≡ cache.old }
+    ensures reading { IfOk result (λ r. IsReadAndKept (next_item cache.old template.now)
+        (data_in true subsets (octets_of bits.entry)) r.kept r.used steps.new) }
+    ensures held { IfOk result (λ r. 7 * length r.kept ≤ r.used) }
+    ensures fault { IfErr result (λ why. IsFault (next_item cache.old template.now)
+        (data_in true subsets (octets_of bits.entry)) why steps.new) }
+    ensures accepted { IfOk result (λ r. steps.new ≤ places template.now * r.used) }
+    ensures refused { IfErr result (λ why. steps.new
+        ≤ places template.now * (bits_before why (length (bits_of (octets_of bits.entry))) + 1)) }
+{
+    if subsets == 0 {
+        return Ok(PackedRead {
+            used: 0,
+            kept: ItemIndex::new(cache.allocator()),
+        });
+    }
+    let mut fields = PackedIn::new(cache.allocator(), bits, subsets);
+    match walk_by(template, cache, &mut fields, steps) {
+        Ok(()) => Ok(PackedRead {
+            used: fields.at,
+            kept: fields.kept,
+        }),
+        Err(why) => Err(fault_at(why, fields.at)),
+    }
+}
+
+/// Compressed data, how many subsets they have, and the table by which they were read.
+#[derive(Clone, Copy)]
+pub(crate) struct PackedData<'a> {
+    pub(crate) bits: BitSlice<'a>,
+    pub(crate) subsets: u16,
+    pub(crate) table: &'a TableB,
+}
+
+/// The number of a kept item for one subset, counted from 0; `None` where it is missing.
+#[inline(always)]
+// rule: compressed-equal, compressed-all-missing, compressed-missing-increment
+// rule: compressed-sum-of-ones, compressed-class-31
+fn number_of(pack: &PackedData<'_>, item: &IndexedItem, subset: u16) -> Option<u64>
+    requires fits { fits_at (bits_of (octets_of pack.now.bits)) pack.now.subsets item.now ≡ true }
+    requires subset { subset < pack.now.subsets }
+    requires number { is_character item.now.spec.kind ≡ false }
+    requires value { is_reference item.now.spec.role ≡ false }
+    ensures value { sum_content result
+        ≡ content_kept (bits_of (octets_of pack.now.bits)) pack.now.subsets item.now subset }
+    ensures below { IfSome result (λ raw. raw < 2 ^ item.now.spec.width) }
+{
+    let width = item.spec.width();
+    let may_be_missing = item.spec.may_be_missing();
+    if item.step == 0 {
+        if may_be_missing && item.base == (1 << width) - 1 {
+            return None;
+        }
+        return Some(item.base);
+    }
+    let k = u32::from(item.step);
+    let place = item.at + (u64::from(width) + 6) + u64::from(subset) * u64::from(k);
+    let increment = number_at(&pack.bits, place, k);
+    let sum = item.base + increment;
+    if !may_be_missing {
+        return Some(sum);
+    }
+    // A base of all ones is missing whatever follows it, and no other sum exceeds all ones.
+    if increment == (1 << k) - 1 || sum >= (1 << width) - 1 {
+        return None;
+    }
+    Some(sum)
+}
+
+/// Writes spaces after the first `from` of `count` octets.
+#[tactic(auto, using(crate::proofs::PackedShowing::pad_none, crate::proofs::PackedShowing::pad_more))]
+fn pad(text: &mut [u8; 255], from: usize, count: usize)
+    requires few { count ≤ 255 }
+    requires order { from ≤ count }
+    ensures { take count text.new ≡ take from text.old ++ replicate (count - from) 32 }
+{
+    'spaces: for place in from..count {
+        text[place] = b' ';
+    }
+}
+
+/// The text of a kept item with increments for one subset, counted from 0.
+// rule: compressed-text, compressed-text-missing
+fn text_of<'t>(
+    pack: &PackedData<'_>,
+    item: &IndexedItem,
+    subset: u16,
+    text: &'t mut [u8; 255],
+) -> Value<'t>
+    requires increment { HasIncrement (bits_of (octets_of pack.now.bits)) pack.now.subsets
+        item.now subset }
+    requires text { is_character item.now.spec.kind ≡ true }
+    ensures { seen_value result ≡ shown item.now.spec
+        (content_kept (bits_of (octets_of pack.now.bits)) pack.now.subsets item.now subset) }
+{
+    let width = item.spec.width();
+    let k = u32::from(item.step);
+    let place = item.at + (u64::from(width) + 6) + u64::from(subset) * u64::from(8 * k);
+    let missing = ones_at(&pack.bits, place, 8 * k);
+    if missing {
+        return Value::Missing;
+    }
+    let count = (width / 8) as usize;
+    copy_octets(&pack.bits, place, k as usize, text);
+    pad(text, k as usize, count);
+    Value::Text(&text[..count])
+}
+
+/// The value of a kept item for one subset, counted from 0.
+fn value_of<'a: 't, 't>(
+    pack: &PackedData<'a>,
+    item: &IndexedItem,
+    subset: u16,
+    text: &'t mut [u8; 255],
+) -> Value<'t>
+    requires fits { fits_at (bits_of (octets_of pack.now.bits)) pack.now.subsets item.now ≡ true }
+    requires subset { subset < pack.now.subsets }
+    ensures { seen_value result ≡ shown item.now.spec
+        (content_kept (bits_of (octets_of pack.now.bits)) pack.now.subsets item.now subset) }
+{
+    if item.step == 0 {
+        return value_at(&pack.bits, item.at, &item.spec, text);
+    }
+    if item.spec.is_text() {
+        return text_of(pack, item, subset, text);
+    }
+    match number_of(pack, item, subset) {
+        Some(raw) => Value::Number(i128::from(raw) + item.spec.reference(), item.spec.scale()),
+        None => Value::Missing,
+    }
+}
+
+/// Shows the kept item of an index for one subset, counted from 0, where it is not plain. It finds
+/// the item itself, so that a plain one is never copied.
+#[inline(never)]
+fn show_other<V: Visitor>(
+    pack: &PackedData<'_>,
+    kept: &ItemIndex,
+    place: usize,
+    subset: u16,
+    visitor: &mut V,
+) -> Result<(), V::Fault>
+    requires place { place < length kept.now }
+    requires fit { list_all (fits_at (bits_of (octets_of pack.now.bits)) pack.now.subsets)
+        (drop place kept.now) ≡ true }
+    requires subset { subset < pack.now.subsets }
+    ensures { (item : IndexedItem) → item ≡ get_or kept.now place item → V.sees visitor.old
+        (call_kept pack.now.table.now (bits_of (octets_of pack.now.bits)) pack.now.subsets item
+        subset) result visitor.new }
+{
+    let item = kept.item(place);
+    let mut text = [0u8; 255];
+    let value = value_of(pack, &item, subset, &mut text);
+    show_value(pack.table, &item.spec, value, visitor)
+}
+
+/// Shows the kept item of an index for one subset, counted from 0.
+#[inline(always)]
+fn show_item<V: Visitor>(
+    pack: &PackedData<'_>,
+    kept: &ItemIndex,
+    place: usize,
+    subset: u16,
+    visitor: &mut V,
+) -> Result<(), V::Fault>
+    requires place { place < length kept.now }
+    requires fit { list_all (fits_at (bits_of (octets_of pack.now.bits)) pack.now.subsets)
+        (drop place kept.now) ≡ true }
+    requires subset { subset < pack.now.subsets }
+    ensures { (item : IndexedItem) → item ≡ get_or kept.now place item → V.sees visitor.old
+        (call_kept pack.now.table.now (bits_of (octets_of pack.now.bits)) pack.now.subsets item
+        subset) result visitor.new }
+{
+    let item = kept.item(place);
+    let fxy = item.spec.fxy();
+    if item.spec.is_plain()
+        && let Some(entry) = pack.table.get(fxy)
+    {
+        let value = match number_of(pack, &item, subset) {
+            Some(raw) => plain_number(&item.spec, raw),
+            None => Value::Missing,
+        };
+        let entry = Some(entry);
+        return visitor.item(&ItemView { fxy, entry, value });
+    }
+    show_other(pack, kept, place, subset, visitor)
+}
+
+/// Shows the items of one subset, counted from 0.
+fn show_items<V: Visitor>(
+    pack: &PackedData<'_>,
+    kept: &ItemIndex,
+    subset: u16,
+    visitor: &mut V,
+) -> Result<(), ShowFault<V::Fault>>
+    requires fit { list_all (fits_at (bits_of (octets_of pack.now.bits)) pack.now.subsets) kept.now
+        ≡ true }
+    requires subset { subset < pack.now.subsets }
+    ensures { Shows V.sees visitor.old (compressed_item_calls pack.now.table.now subset
+        (items_at (bits_of (octets_of pack.now.bits)) pack.now.subsets kept.now)) 0 result
+        visitor.new 0 }
+{
+    'items: for place in 0..kept.len() {
+        match show_item(pack, kept, place, subset, visitor) {
+            Ok(()) => {}
+            Err(fault) => return Err(ShowFault::Visitor(fault)),
+        }
+    }
+    Ok(())
+}
+
+/// Shows each subset, and its items.
+#[tactic(auto, using(crate::proofs::PackedShowing::subsets_start, crate::proofs::PackedShowing::subsets_done))]
+pub(crate) fn show_packed<V: Visitor>(
+    pack: &PackedData<'_>,
+    kept: &ItemIndex,
+    visitor: &mut V,
+) -> Result<(), ShowFault<V::Fault>>
+    requires { list_all (fits_at (bits_of (octets_of pack.now.bits)) pack.now.subsets) kept.now
+        ≡ true }
+    ensures { Shows V.sees visitor.old (compressed_subset_calls pack.now.table.now pack.now.subsets
+        0 (items_at (bits_of (octets_of pack.now.bits)) pack.now.subsets kept.now)) 0 result
+        visitor.new 0 }
+{
+    'subsets: for subset in 0..pack.subsets {
+        match visitor.subset(subset + 1) {
+            Ok(()) => show_items(pack, kept, subset, visitor)?,
+            Err(fault) => return Err(ShowFault::Visitor(fault)),
+        }
+    }
+    Ok(())
+}

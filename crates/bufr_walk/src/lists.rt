@@ -1,0 +1,399 @@
+//! The last lists of descriptors, each with its template and the specs that its cells were read by.
+ghost use Rattle.std.specs.Prelude.{◌≡◌, ◌<◌, ◌^◌, Ok, IfSome, ◌≢◌, ◌≤◌, [], length, true, false, IfErr, OnOk, get_or, List};
+ghost use Rattle.bufr_tables.specs.TableB.{Row};
+ghost use Rattle.bufr_walk.specs.TemplateCache.{MayStay, IsSlotBy, IsOther, AreSlots};
+ghost use Rattle.std.specs.List.{All};
+ghost use Rattle.bufr_tables.specs.TableD.{Sequence};
+
+use crate::spec::{Role, Spec};
+use bufr_tables::{Fxy, SelectedTemplate, TableB, TableD, Template, TemplateFault};
+use std::alloc::{AllocError, Global};
+use std::marker::Model;
+use std::mem;
+
+/// How many cells of a template have their specs cached.
+const MAX_CELLS: usize = 1024;
+
+/// The least number that is no key: nothing is cached under it.
+pub(crate) const NO_KEY: u64 = 0x4000_0000_0000_0000;
+
+/// The key of an entry that has no spec.
+const EMPTY: u64 = u64::MAX;
+
+/// A cached spec: its key of operators and descriptor, and the index of its field in what the last
+/// reading kept.
+#[derive(Clone, Copy)]
+struct CachedSpec {
+    key: u64,
+    kept: u32,
+    spec: Spec,
+}
+
+/// The specs of a template's first 1,024 cells, by Table B: for each cell the one that was found
+/// there last. A clause sees the table alone: a spec is looked up under the operators and the
+/// descriptor that it was found for.
+///
+/// ```
+/// let mut cache = SpecCache::new(alloc, &table_b);
+/// cache.reset(template.cells().len())?;
+/// walk_by(&template, &mut cache, &mut fields, &mut steps)?;
+/// ```
+#[derive(Drop)]
+pub struct SpecCache<'a> {
+    alloc: Global,
+    table: &'a TableB,
+    entries: Vec<CachedSpec>,
+}
+
+impl<'a> Model for SpecCache<'a> {
+    ghost use Rattle.std.specs.Prelude.{List};
+    ghost use Rattle.bufr_tables.specs.TableB.{Row};
+
+    ghost Value = { List Row };
+
+    ghost use Rattle.bufr_walk.specs.TemplateCache.{AreCached};
+
+    ghost view = { λ c. c.table.now };
+
+    ghost invariant = { λ c. AreCached c.table.now c.entries.items };
+}
+
+impl<'a> SpecCache<'a> {
+    ghost use Rattle.std.specs.Prelude.{◌≡◌, ◌<◌, ◌^◌, IfSome};
+    ghost use Rattle.bufr_walk.specs.TemplateCache.{IsSpecBy};
+
+    /// No spec, and no room for one. Takes no memory.
+    pub fn new(alloc: Global, table: &'a TableB) -> SpecCache<'a>
+        ensures { result ≡ table.now }
+    {
+        SpecCache {
+            alloc,
+            table,
+            entries: Vec::new(alloc),
+        }
+    }
+
+    /// The table that the specs are found by.
+    #[inline(always)]
+    pub fn table(&self) -> &'a TableB
+        ensures { result.now ≡ self.now }
+    {
+        self.table
+    }
+
+    /// Where the cache takes memory.
+    #[inline(always)]
+    pub fn allocator(&self) -> Global {
+        self.alloc
+    }
+
+    /// Drops all specs, and makes room for those of a template of this number of cells.
+    ///
+    /// # Errors
+    ///
+    /// [`AllocError`] where memory runs out.
+    pub fn reset(&mut self, cells: usize) -> Result<(), AllocError>
+        ensures { self.new ≡ self.old }
+    {
+        self.entries.clear();
+        let spec = Spec::text(Role::Element, Fxy::from_word(0), 8, false);
+        self.entries.resize(
+            cells.min(MAX_CELLS),
+            CachedSpec {
+                key: EMPTY,
+                kept: 0,
+                spec,
+            },
+        )
+    }
+
+    /// The spec that was found last for a cell, if it was found under this key.
+    #[inline(always)]
+    pub(crate) fn get(&self, place: u32, key: u64) -> Option<&Spec>
+        requires { key < 2 ^ 63 }
+        ensures { IfSome result (λ spec. IsSpecBy self.now key spec.now) }
+    {
+        let place = place as usize;
+        if place < self.entries.len() {
+            let entry = &self.entries[place];
+            if entry.key == key {
+                return Some(&entry.spec);
+            }
+        }
+        None
+    }
+
+    /// Caches a spec that was found for a cell under this key, if that is a key.
+    pub(crate) fn insert(&mut self, place: u32, key: u64, spec: &Spec)
+        requires { key < 2 ^ 62 → IsSpecBy self.old key spec.now }
+        ensures { self.new ≡ self.old }
+    {
+        let place = place as usize;
+        if key < NO_KEY && place < self.entries.len() {
+            let kept = self.entries[place].kept;
+            self.entries[place] = CachedSpec {
+                key,
+                kept,
+                spec: *spec,
+            };
+        }
+    }
+
+    /// The last index of the field of a cell among those that are kept.
+    #[inline(always)]
+    pub(crate) fn kept(&self, place: u32) -> Option<u32> {
+        let place = place as usize;
+        if place < self.entries.len() {
+            return Some(self.entries[place].kept);
+        }
+        None
+    }
+
+    /// Notes the index of the field of a cell among those that are kept.
+    #[inline(always)]
+    pub(crate) fn set_kept(&mut self, place: u32, kept: u32)
+        ensures { self.new ≡ self.old }
+    {
+        let place = place as usize;
+        if place < self.entries.len() {
+            self.entries[place].kept = kept;
+        }
+    }
+}
+
+/// The most lists that are kept beside the last one.
+const MAX_OTHERS: usize = 15;
+
+/// The most descriptors of a list beside the last one, and the most cells of its template.
+const MAX_KEPT: usize = 1024;
+
+/// A list of descriptors with its template, and the specs of its cells.
+#[derive(Drop)]
+struct Slot<'a> {
+    templates: SelectedTemplate<'a>,
+    specs: SpecCache<'a>,
+}
+
+impl<'a> Slot<'a> {
+    ghost use Rattle.std.specs.Prelude.{◌≡◌, [], true, OnOk};
+    ghost use Rattle.bufr_walk.specs.TemplateCache.{MayStay, IsSlotBy};
+
+    /// The list of no descriptors.
+    fn new(alloc: Global, table_b: &'a TableB, table_d: &'a TableD) -> Slot<'a>
+        ensures slot { IsSlotBy table_b.now table_d.now result }
+        ensures list { result.templates.list ≡ [] }
+    {
+        Slot {
+            templates: SelectedTemplate::new(alloc, table_b, table_d),
+            specs: SpecCache::new(alloc, table_b),
+        }
+    }
+
+    /// Expands this list, and makes room for the specs of its cells.
+    fn expand(&mut self, descriptors: &[Fxy]) -> Result<(), AllocError>
+        ensures table_b { self.new.templates.table_b ≡ self.old.templates.table_b }
+        ensures table_d { self.new.templates.table_d ≡ self.old.templates.table_d }
+        ensures specs { self.new.specs ≡ self.old.specs }
+        ensures list { OnOk result (self.new.templates.list ≡ descriptors.now) }
+    {
+        self.templates.select(descriptors)?;
+        match self.templates.answer() {
+            Ok(template) => self.specs.reset(template.cells().len()),
+            Err(_) => Ok(()),
+        }
+    }
+
+    /// Whether it may stay beside the last one.
+    fn may_stay(&self) -> bool
+        ensures { result ≡ true → MayStay self.now.templates.table_b self.now.templates.table_d
+            self.now.templates.list }
+    {
+        if self.templates.len() > MAX_KEPT {
+            return false;
+        }
+        match self.templates.answer() {
+            Ok(template) => template.places() as usize <= MAX_KEPT,
+            Err(_) => false,
+        }
+    }
+}
+
+/// The index of the slot that has this list.
+fn index_of(slots: &[Slot<'_>], descriptors: &[Fxy]) -> Option<usize>
+    ensures { IfSome result (λ index. (index < length slots.now)
+        × ((d : Slot) → (get_or slots.now index d).templates.list ≡ descriptors.now)) }
+{
+    'slots: for index in 0..slots.len() {
+        let slot = &slots[index];
+        if slot.templates.is_selected(descriptors) {
+            return Some(index);
+        }
+    }
+    None
+}
+
+/// Drops the first of the slots where they are full.
+fn drop_first(slots: &mut Vec<Slot<'_>>)
+    requires { length slots.old.items ≤ 15 }
+    ensures few { length slots.new.items ≤ 14 }
+    ensures others { (b : List Row) (d : List Sequence) → All (IsOther b d) slots.old.items
+        → All (IsOther b d) slots.new.items }
+{
+    if slots.len() == MAX_OTHERS {
+        let _ = slots.remove(0);
+    }
+}
+
+/// Templates by two tables. For a list of descriptors that is selected again, neither the template
+/// nor the specs of its cells are made again. A clause sees the tables, the list that was selected
+/// last, and the others that are kept.
+///
+/// ```
+/// let mut templates = TemplateCache::new(alloc, &table_b, &table_d);
+/// templates.select(&descriptors)?;
+/// let mut specs = templates.take_specs();
+/// match templates.answer() {
+///     Ok(template) => read(template, &mut specs),
+///     Err(fault) => refuse(fault),
+/// }
+/// templates.put_specs(specs);
+/// ```
+#[derive(Drop)]
+pub struct TemplateCache<'a> {
+    alloc: Global,
+    table_b: &'a TableB,
+    table_d: &'a TableD,
+    last: Slot<'a>,
+    others: Vec<Slot<'a>>,
+}
+
+impl<'a> Model for TemplateCache<'a> {
+    ghost use Rattle.bufr_walk.specs.TemplateCache.{Lists};
+
+    ghost Value = { Lists };
+
+    ghost use Rattle.bufr_walk.specs.TemplateCache.{AreSlots, lists_of};
+
+    ghost view = { λ t. record {
+      table_b = t.table_b.now;
+      table_d = t.table_d.now;
+      list = t.last.templates.list;
+      others = lists_of t.others.items;
+    } };
+
+    ghost invariant = { λ t. AreSlots t.table_b.now t.table_d.now t.last t.others.items };
+}
+
+impl<'a> TemplateCache<'a> {
+    ghost use Rattle.std.specs.Prelude.{◌≡◌, ◌≢◌, ◌≤◌, [], length, true, Ok, Err, IfErr, IfOk, OnOk};
+    ghost use Rattle.std.specs.List.{All};
+    ghost use Rattle.bufr_tables.specs.Expansion.{tree_of, tables_of};
+    ghost use Rattle.bufr_walk.specs.TemplateCache.{MayStay};
+
+    /// Templates by these tables; the list of no descriptors is the last. Takes no memory.
+    pub fn new(alloc: Global, table_b: &'a TableB, table_d: &'a TableD) -> TemplateCache<'a>
+        ensures { result ≡ record {
+          table_b = table_b.now;
+          table_d = table_d.now;
+          list = [];
+          others = [];
+        } }
+    {
+        TemplateCache {
+            alloc,
+            table_b,
+            table_d,
+            last: Slot::new(alloc, table_b, table_d),
+            others: Vec::new(alloc),
+        }
+    }
+
+    /// Makes this list of descriptors the last one, and expands it if it is not kept. The list
+    /// before it is kept where it has at most 1,024 descriptors, and its template as many cells. At
+    /// most 15 others are kept.
+    ///
+    /// # Errors
+    ///
+    /// [`AllocError`] where memory runs out.
+    pub fn select(&mut self, descriptors: &[Fxy]) -> Result<(), AllocError>
+        ensures table_b { self.new.table_b ≡ self.old.table_b }
+        ensures table_d { self.new.table_d ≡ self.old.table_d }
+        ensures list { OnOk result (self.new.list ≡ descriptors.now) }
+    {
+        if self.last.templates.is_selected(descriptors) {
+            return Ok(());
+        }
+        if let Some(index) = index_of(&self.others, descriptors) {
+            if self.last.may_stay() {
+                mem::swap(&mut self.last, &mut self.others[index]);
+            } else {
+                self.last = self.others.remove(index);
+            }
+            return Ok(());
+        }
+        if self.last.may_stay() {
+            self.set_aside()?;
+        }
+        self.last.expand(descriptors)
+    }
+
+    /// Puts the last list among the others, of which the first is dropped where they are full. Then
+    /// the list of no descriptors is the last.
+    fn set_aside(&mut self) -> Result<(), AllocError>
+        requires { MayStay self.old.table_b self.old.table_d self.old.list }
+        ensures table_b { self.new.table_b ≡ self.old.table_b }
+        ensures table_d { self.new.table_d ≡ self.old.table_d }
+    {
+        drop_first(&mut self.others);
+        let fresh = Slot::new(self.alloc, self.table_b, self.table_d);
+        let slot = mem::replace(&mut self.last, fresh);
+        self.others.push(slot)?;
+        Ok(())
+    }
+
+    /// Takes the specs of the last list's cells, for a walk over its template.
+    /// [`TemplateCache::put_specs`] puts them back; otherwise they are made again.
+    pub fn take_specs(&mut self) -> SpecCache<'a>
+        ensures specs { result ≡ self.old.table_b }
+        ensures same { self.new ≡ self.old }
+    {
+        mem::replace(
+            &mut self.last.specs,
+            SpecCache::new(self.alloc, self.table_b),
+        )
+    }
+
+    /// Puts back the specs that were taken.
+    pub fn put_specs(&mut self, specs: SpecCache<'a>)
+        requires { specs ≡ self.old.table_b }
+        ensures { self.new ≡ self.old }
+    {
+        self.last.specs = specs;
+    }
+
+    /// The expansion of the last list: the template that [`Template::build`] makes, or its fault,
+    /// which is never `Memory`. Takes no memory.
+    pub fn answer(&self) -> &Result<Template, TemplateFault>
+        ensures answer { tree_of (tables_of self.now.table_b self.now.table_d)
+            self.now.list ≡ result.now }
+        ensures reported { IfErr result.now (λ why. why ≢ TemplateFault.Memory) }
+    {
+        self.last.templates.answer()
+    }
+
+    /// The table that gives the elements of the templates.
+    pub fn table_b(&self) -> &'a TableB
+        ensures { result.now ≡ self.now.table_b }
+    {
+        self.table_b
+    }
+
+    /// The lists that are kept beside the last one are few, and each may stay.
+    pub fn others(&self) -> usize
+        ensures value { result ≡ length self.now.others }
+        ensures few { length self.now.others ≤ 15 }
+        ensures stay { All (MayStay self.now.table_b self.now.table_d) self.now.others }
+    {
+        self.others.len()
+    }
+}

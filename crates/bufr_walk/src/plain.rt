@@ -1,0 +1,585 @@
+//! Data that are not compressed: fields, reading, and showing.
+ghost use Rattle.std.specs.Prelude.{◌≡◌, ◌≤◌, ◌<◌, ◌+◌, ◌-◌, ◌*◌, ◌^◌, length, take, drop, if◌then◌else◌, ◌==◌, pos, neg_ℤ, false, List, IfOk, IfErr, ◌/◌, Bool, Result, Some, Ok, Err};
+ghost use Rattle.bufr_bits.specs.Bits.{number_of, bits_at, bits_of, are_all_ones};
+ghost use Rattle.bufr_bits.specs.BitSlice.{octets_of};
+ghost use Rattle.bufr_walk.specs.FieldSpec.{IsFor, IsPlainNumber};
+ghost use Rattle.bufr_walk.specs.Content.{answer_of, content_in, signed_by, octets_in, Content, shown};
+ghost use Rattle.bufr_tables.specs.Tree.{places};
+ghost use Rattle.bufr_walk.specs.Course.{next_item};
+ghost use Rattle.bufr_walk.specs.Refusal.{bits_before, data_in, IsFault};
+ghost use Rattle.bufr_walk.specs.StoredItems.{IsReadAndPaid};
+ghost use Rattle.bufr_walk.specs.PlainIn.{plain_fault, rest_of};
+ghost use Rattle.bufr_walk.specs.Calls.{item_call, view_of, subset_calls, seen_value, HasRow, Shows};
+ghost use Rattle.bufr_walk.specs.Reading.{Item, plain, ReadsPass, ReadsSubsets, turns_in};
+ghost use Rattle.bufr_walk.specs.ShowSteps.{IsEnd, MayEnd, ItemsGo};
+
+use crate::fault::{ShowFault, Spot, WalkFault};
+use crate::lists::SpecCache;
+use crate::spec::{Role, Spec, Taken};
+use crate::visitor::{ItemView, Value, Visitor, plain_number};
+use crate::walker::{Fields, Steps, WalkStop, walk_by};
+use bufr_bits::BitSlice;
+use bufr_tables::{Entry, Fxy, TableB, Template};
+use std::marker::Model;
+
+/// The number that bits inside the data write.
+#[inline(always)]
+pub(crate) fn number_at(bits: &BitSlice<'_>, at: u64, width: u32) -> u64
+    requires few { width ≤ 63 }
+    requires within { at + width ≤ 8 * length (octets_of bits.now) }
+    ensures value { result ≡ number_of (bits_at (octets_of bits.now) at width) }
+    ensures below { result < 2 ^ width }
+{
+    if width == 0 {
+        return 0;
+    }
+    bits.number(at, width)
+}
+
+/// What at most 63 bits inside the data write.
+#[derive(Clone, Copy)]
+pub(crate) struct RawNumber {
+    /// Their number.
+    pub(crate) number: u64,
+    /// Whether they are all ones.
+    pub(crate) all_ones: bool,
+}
+
+/// What at least one bit, all of them inside the data, write.
+#[inline(always)]
+pub(crate) fn raw_at(bits: &BitSlice<'_>, at: u64, width: u32) -> RawNumber
+    requires some { 1 ≤ width }
+    requires few { width ≤ 63 }
+    requires within { at + width ≤ 8 * length (octets_of bits.now) }
+    ensures number { result.number ≡ number_of (bits_at (octets_of bits.now) at width) }
+    ensures below { result.number < 2 ^ width }
+    ensures ones { result.all_ones ≡ are_all_ones (bits_at (octets_of bits.now) at width) }
+{
+    let number = bits.number(at, width);
+    RawNumber {
+        number,
+        all_ones: number == (1 << width) - 1,
+    }
+}
+
+/// A number with its sign.
+// rule: reads-minus-zero
+fn signed(sign: u64, size: u64) -> i64
+    requires { size < 2 ^ 62 }
+    ensures { result ≡ (if sign == 1 then neg_ℤ (pos size) else pos size) }
+{
+    let size = size as i64;
+    if sign == 1 { -size } else { size }
+}
+
+/// The number whose first bit is its sign.
+#[tactic(auto, using(crate::proofs::PlainLemmas::signed_parts, crate::proofs::PlainLemmas::small_power))]
+// rule: new-reference
+pub(crate) fn signed_at(bits: &BitSlice<'_>, at: u64, width: u32) -> i64
+    requires some { 1 ≤ width }
+    requires few { width ≤ 63 }
+    requires within { at + width ≤ 8 * length (octets_of bits.now) }
+    ensures { result ≡ signed_by (bits_at (octets_of bits.now) at width) }
+{
+    let sign = number_at(bits, at, 1);
+    let size = number_at(bits, at + 1, width - 1);
+    signed(sign, size)
+}
+
+/// What a field that is inside the data returns to the walk.
+#[inline(always)]
+#[tactic(auto, using(crate::proofs::ShownLemmas::plain_answer, crate::proofs::ShownLemmas::plain_for, crate::proofs::PlainLemmas::answer_element, crate::proofs::PlainLemmas::answer_inserted, crate::proofs::PlainLemmas::answer_factor, crate::proofs::PlainLemmas::answer_reference, crate::proofs::PlainLemmas::some_width, crate::proofs::PlainLemmas::factor_width, crate::proofs::PlainLemmas::reference_width))]
+pub(crate) fn answer_at(bits: &BitSlice<'_>, at: u64, spec: &Spec) -> Taken
+    requires { at + spec.now.width ≤ 8 * length (octets_of bits.now) }
+    ensures value { result ≡ answer_of spec.now
+        (content_in spec.now (bits_at (octets_of bits.now) at spec.now.width)) }
+    ensures shape { IsFor spec.now result }
+{
+    if spec.is_plain() {
+        return Taken::Plain;
+    }
+    let width = spec.width();
+    match spec.role() {
+        Role::Element => Taken::Plain,
+        Role::Inserted => Taken::Plain,
+        Role::Factor => Taken::Count(number_at(bits, at, width)),
+        Role::Reference => Taken::Reference(signed_at(bits, at, width)),
+    }
+}
+
+/// Whether bits that are inside the data are all ones.
+pub(crate) fn ones_at(bits: &BitSlice<'_>, at: u64, width: u32) -> bool
+    requires { at + width ≤ 8 * length (octets_of bits.now) }
+    ensures { result ≡ are_all_ones (bits_at (octets_of bits.now) at width) }
+{
+    match bits.all_ones(at, width) {
+        Some(ones) => ones,
+        None => unreachable!(),
+    }
+}
+
+/// Copies four octets that begin at any bit, after those that were copied before.
+#[inline(always)]
+fn copy_four(bits: &BitSlice<'_>, at: u64, place: usize, text: &mut [u8; 255])
+    requires few { place + 4 ≤ 255 }
+    requires within { at + 8 * (place + 4) ≤ 8 * length (octets_of bits.now) }
+    requires copied { take place text.old
+        ≡ octets_in place (drop at (bits_of (octets_of bits.now))) }
+    ensures { take (place + 4) text.new
+        ≡ octets_in (place + 4) (drop at (bits_of (octets_of bits.now))) }
+{
+    let word = bits.number(at + 8 * place as u64, 32);
+    text[place] = (word >> 24) as u8;
+    text[place + 1] = ((word >> 16) % 256) as u8;
+    text[place + 2] = ((word >> 8) % 256) as u8;
+    text[place + 3] = (word % 256) as u8;
+}
+
+/// Copies `count` octets that begin at any bit.
+pub(crate) fn copy_octets(bits: &BitSlice<'_>, at: u64, count: usize, text: &mut [u8; 255])
+    requires few { count ≤ 255 }
+    requires within { at + 8 * count ≤ 8 * length (octets_of bits.now) }
+    ensures { take count text.new ≡ octets_in count (drop at (bits_of (octets_of bits.now))) }
+{
+    let mut copied = 0;
+    'fours: while copied + 4 <= count {
+        copy_four(bits, at, copied, text);
+        copied += 4;
+    }
+    'octets: for place in copied..count {
+        text[place] = bits.number(at + 8 * place as u64, 8) as u8;
+    }
+}
+
+/// The value of a plain field, which begins with bit `at`.
+#[tactic(auto, using(crate::proofs::ShownLemmas::plain_shown, crate::proofs::ShownLemmas::plain_missing))]
+#[inline(always)]
+pub(crate) fn plain_value_at<'t>(bits: &BitSlice<'_>, at: u64, spec: &Spec) -> Value<'t>
+    requires within { at + spec.now.width ≤ 8 * length (octets_of bits.now) }
+    requires plain { IsPlainNumber spec.now }
+    ensures { seen_value result
+        ≡ shown spec.now (content_in spec.now (bits_at (octets_of bits.now) at spec.now.width)) }
+{
+    let raw = raw_at(bits, at, spec.width());
+    if raw.all_ones && spec.may_be_missing() {
+        return Value::Missing;
+    }
+    plain_number(spec, raw.number)
+}
+
+/// The value of a field that begins with bit `at`. The octets of a text are copied where they
+/// cannot be borrowed.
+#[tactic(auto, using(crate::proofs::ShownLemmas::reference_shown, crate::proofs::ShownLemmas::missing_shown, crate::proofs::ShownLemmas::number_shown))]
+// rule: value, missing, missing-inserted-text
+pub(crate) fn value_at<'a: 't, 't>(
+    bits: &BitSlice<'a>,
+    at: u64,
+    spec: &Spec,
+    text: &'t mut [u8; 255],
+) -> Value<'t>
+    requires { at + spec.now.width ≤ 8 * length (octets_of bits.now) }
+    ensures { seen_value result
+        ≡ shown spec.now (content_in spec.now (bits_at (octets_of bits.now) at spec.now.width)) }
+{
+    let width = spec.width();
+    if spec.is_text() {
+        let missing = ones_at(bits, at, width);
+        if missing {
+            return Value::Missing;
+        }
+        let count = (width / 8) as usize;
+        if let Some(octets) = bits.octets(at, count) {
+            return Value::Text(octets);
+        }
+        copy_octets(bits, at, count, text);
+        return Value::Text(&text[..count]);
+    }
+    if spec.is_reference() {
+        return Value::Reference(signed_at(bits, at, width));
+    }
+    let raw = raw_at(bits, at, width);
+    let missing = raw.all_ones && spec.may_be_missing();
+    if missing {
+        return Value::Missing;
+    }
+    Value::Number(i128::from(raw.number) + spec.reference(), spec.scale())
+}
+
+/// The data end inside a field.
+#[derive(Clone, Copy, Debug, PartialEq, Eq)]
+pub struct DataEnd {
+    /// The field's descriptor.
+    pub fxy: Fxy,
+}
+
+/// Fields of data that are not compressed, one after another. A contract sees the bits, and how
+/// many of them were read. (WMO-No. 306, Volume I.2, FM 94: section 4)
+#[derive(Drop)]
+pub struct PlainIn<'a> {
+    bits: BitSlice<'a>,
+    at: u64,
+}
+
+impl<'a> Model for PlainIn<'a> {
+    ghost use Rattle.std.specs.Prelude.{◌≤◌, length};
+    ghost use Rattle.bufr_bits.specs.Bits.{bits_of};
+    ghost use Rattle.bufr_bits.specs.BitSlice.{octets_of};
+    ghost use Rattle.bufr_walk.specs.PlainIn.{Cursor};
+
+    ghost Value = { Cursor };
+
+    ghost view = { λ s. record { bits = bits_of (octets_of s.bits); at = s.at } };
+
+    ghost invariant = { λ s. s.at ≤ length (bits_of (octets_of s.bits)) };
+}
+
+impl<'a> PlainIn<'a> {
+    ghost use Rattle.std.specs.Prelude.{◌≡◌, ◌≤◌, ◌<◌, ◌+◌, ◌*◌, ◌/◌, ◌^◌, true, false, length, take, MatchResult, Ok, Err, IfOk, IfSome};
+    ghost use Rattle.bufr_bits.specs.Bits.{bits_of, are_all_ones};
+    ghost use Rattle.bufr_bits.specs.BitSlice.{octets_of};
+    ghost use Rattle.bufr_tables.specs.TableB.{is_character};
+    ghost use Rattle.bufr_walk.specs.FieldSpec.{IsFor, IsPlainNumber};
+    ghost use Rattle.bufr_walk.specs.Content.{content_in, octets_in, shown};
+    ghost use Rattle.bufr_walk.specs.PlainIn.{PlainTakes, past, rest_of};
+    ghost use Rattle.bufr_walk.specs.Calls.{seen_value};
+
+    /// A reader of data that are not compressed, from bit 0 on.
+    pub fn new(bits: BitSlice<'a>) -> PlainIn<'a>
+        ensures { result ≡ record { bits = bits_of (octets_of bits.entry); at = 0 } }
+    {
+        PlainIn { bits, at: 0 }
+    }
+
+    /// What the next field returns to the walk; the field is not passed.
+    ///
+    /// # Errors
+    ///
+    /// [`DataEnd`] where the data end inside the field.
+    #[tactic(auto, using(crate::proofs::PlainLemmas::taken_here, crate::proofs::PlainLemmas::ends_here, crate::proofs::PlainLemmas::bits_length))]
+    #[inline(always)]
+    // rule: field-past-end
+    pub(crate) fn peek(&self, spec: &Spec) -> Result<Taken, DataEnd>
+        ensures found { MatchResult result (λ t. PlainTakes self.now spec.now (Ok t)
+            (past self.now spec.now)) (λ e. PlainTakes self.now spec.now (Err e) self.now) }
+        ensures shape { IfOk result (λ t. IsFor spec.now t) }
+        ensures within { IfOk result (λ t. self.now.at + spec.now.width ≤ length self.now.bits) }
+        ensures small { IfOk result (λ t. self.now.at + spec.now.width < 2 ^ 64) }
+    {
+        let width = spec.width();
+        if self.bits.len_bits() - self.at < u64::from(width) {
+            return Err(DataEnd { fxy: spec.fxy() });
+        }
+        Ok(answer_at(&self.bits, self.at, spec))
+    }
+
+    /// Passes a field.
+    #[inline(always)]
+    pub(crate) fn skip(&mut self, spec: &Spec)
+        requires within { self.old.at + spec.now.width ≤ length self.old.bits }
+        requires small { self.old.at + spec.now.width < 2 ^ 64 }
+        ensures { self.new ≡ past self.old spec.now }
+    {
+        self.at += u64::from(spec.width());
+    }
+}
+
+impl<'a> Fields for PlainIn<'a> {
+    type Fault = DataEnd;
+
+    ghost use Rattle.std.proofs.Common.{arith, ap};
+    ghost use Rattle.bufr_walk.specs.PlainIn.{PlainTakes};
+
+    ghost used = { λ s. s.at };
+
+    ghost takes = { PlainTakes };
+
+    ghost advances = { λ s spec t next h. Prim.omega (arith, h.some, ap (λ c. c.at) h.next) };
+
+    ghost refuses = { λ s spec e next h. ap (λ c. c.at) h.2 };
+
+    #[inline(always)]
+    fn take(&mut self, spec: &Spec) -> Result<Taken, DataEnd> {
+        let answer = self.peek(spec)?;
+        self.at += u64::from(spec.width());
+        Ok(answer)
+    }
+
+    fn bits(&self) -> u64 {
+        self.at
+    }
+}
+
+/// The fault of the stop of a walk.
+fn plain_fault(why: WalkStop<DataEnd>, subset: u16, bit: u64) -> WalkFault
+    ensures { result ≡ plain_fault why subset bit }
+{
+    match why {
+        WalkStop::Width(fxy) => WalkFault::Width(Spot::new(subset, fxy, bit)),
+        WalkStop::Defining(fxy) => WalkFault::Defining(Spot::new(subset, fxy, bit)),
+        WalkStop::Field(end) => WalkFault::DataEnd(Spot::new(subset, end.fxy, bit)),
+        WalkStop::Memory => WalkFault::Memory,
+    }
+}
+
+/// Reads all subsets, and returns how many bits they take.
+// rule: operators-end-with-subset, subsets-without-padding, bits-left-over
+pub(crate) fn read_plain(
+    bits: BitSlice<'_>,
+    subsets: u16,
+    template: &Template,
+    cache: &mut SpecCache<'_>,
+    steps: &mut Steps,
+) -> Result<u64, WalkFault>
+    requires { steps.old ≡ 0 }
+    ensures same { cache.new ≡ cache.old }
+    ensures reading { IfOk result (λ used. IsReadAndPaid (next_item cache.old template.now)
+        (data_in false subsets (octets_of bits.entry)) used steps.new) }
+    ensures fault { IfErr result (λ why. IsFault (next_item cache.old template.now)
+        (data_in false subsets (octets_of bits.entry)) why steps.new) }
+    ensures accepted { IfOk result (λ used. steps.new ≤ places template.now * used) }
+    ensures refused { IfErr result (λ why. steps.new
+        ≤ places template.now * (bits_before why (length (bits_of (octets_of bits.entry))) + 1)) }
+{
+    let mut fields = PlainIn::new(bits);
+    'subsets: for done in 0..subsets {
+        let outcome = walk_by(template, cache, &mut fields, steps);
+        let at = fields.at;
+        match outcome {
+            Ok(()) => {}
+            Err(why) => return Err(plain_fault(why, done + 1, at)),
+        }
+    }
+    Ok(fields.at)
+}
+
+/// The row of Table B of the field's element, where the field is read by it.
+// rule: text-no-comment
+fn entry_for<'t>(table: &'t TableB, spec: &Spec) -> Option<Entry<'t>>
+    ensures { HasRow table.now spec.now result }
+{
+    if spec.listed() {
+        table.get(spec.fxy())
+    } else {
+        None
+    }
+}
+
+/// Shows a field that has this value.
+pub(crate) fn show_value<V: Visitor>(
+    table: &TableB,
+    spec: &Spec,
+    value: Value<'_>,
+    visitor: &mut V,
+) -> Result<(), V::Fault>
+    ensures { (content : Content) → seen_value value.entry ≡ shown spec.now content
+        → V.sees visitor.old (item_call (view_of table.now spec.now content)) result visitor.new }
+{
+    let fxy = spec.fxy();
+    let entry = entry_for(table, spec);
+    visitor.item(&ItemView { fxy, entry, value })
+}
+
+/// Shows a field that is not plain.
+#[inline(never)]
+fn show_other<V: Visitor>(
+    input: &PlainIn<'_>,
+    table: &TableB,
+    spec: &Spec,
+    text: &mut [u8; 255],
+    visitor: &mut V,
+) -> Result<(), V::Fault>
+    requires { input.now.at + spec.now.width ≤ length input.now.bits }
+    ensures { V.sees visitor.old (item_call (view_of table.now spec.now
+        (content_in spec.now (take spec.now.width (rest_of input.now))))) result visitor.new }
+{
+    let value = value_at(&input.bits, input.at, spec, text);
+    show_value(table, spec, value, visitor)
+}
+
+/// Shows the next field. Out of line, so that the loop over fields stays small.
+#[inline(never)]
+fn show_field<V: Visitor>(
+    input: &PlainIn<'_>,
+    table: &TableB,
+    spec: &Spec,
+    text: &mut [u8; 255],
+    visitor: &mut V,
+) -> Result<(), V::Fault>
+    requires { input.now.at + spec.now.width ≤ length input.now.bits }
+    ensures { V.sees visitor.old (item_call (view_of table.now spec.now
+        (content_in spec.now (take spec.now.width (rest_of input.now))))) result visitor.new }
+{
+    let fxy = spec.fxy();
+    if spec.is_plain()
+        && let Some(entry) = table.get(fxy)
+    {
+        let value = plain_value_at(&input.bits, input.at, spec);
+        return visitor.item(&ItemView {
+            fxy,
+            entry: Some(entry),
+            value,
+        });
+    }
+    show_other(input, table, spec, text, visitor)
+}
+
+/// Why a field is not taken.
+#[derive(Drop)]
+pub(crate) enum ShowStop<E> {
+    DataEnd,
+    Visitor(E),
+}
+
+/// Fields that are read from bits, each shown to a visitor before it is passed.
+pub(crate) struct ShowFields<'i, 't, 'v, 'b, V: Visitor> {
+    input: &'i mut PlainIn<'b>,
+    table: &'t TableB,
+    visitor: &'v mut V,
+    /// Room for a text that does not begin at an octet.
+    text: [u8; 255],
+}
+
+impl<'i, 't, 'v, 'b, V: Visitor> Fields for ShowFields<'i, 't, 'v, 'b, V> {
+    type Fault = ShowStop<V::Fault>;
+
+    ghost use Rattle.std.specs.Prelude.{ℕ};
+    ghost use Rattle.std.proofs.Common.{arith, ap};
+    ghost use Rattle.bufr_walk.specs.ShowSteps.{ShowingTakes, refusal_keeps, stage};
+
+    ghost used = { λ s. s.input.now.at };
+
+    ghost takes = { λ s spec r t. ShowingTakes V.sees
+        (stage s.input.now s.visitor.now s.table.now s.input.ghost_name s.visitor.ghost_name) spec r
+        (stage t.input.now t.visitor.now t.table.now t.input.ghost_name t.visitor.ghost_name) };
+
+    ghost advances = { λ s spec answer next h.
+        Prim.omega (arith, h.is_taken.some, ap (λ c. c.at) h.is_taken.next) };
+
+    ghost refuses = { λ s spec e next h. refusal_keeps V.sees
+        (stage s.input.now s.visitor.now s.table.now s.input.ghost_name s.visitor.ghost_name) spec e
+        (stage next.input.now next.visitor.now next.table.now next.input.ghost_name
+        next.visitor.ghost_name) h };
+
+    #[inline(always)]
+    fn take(&mut self, spec: &Spec) -> Result<Taken, ShowStop<V::Fault>> {
+        let answer = match self.input.peek(spec) {
+            Ok(answer) => answer,
+            Err(_) => return Err(ShowStop::DataEnd),
+        };
+        match show_field(self.input, self.table, spec, &mut self.text, self.visitor) {
+            Ok(()) => {
+                self.input.skip(spec);
+                Ok(answer)
+            }
+            Err(fault) => Err(ShowStop::Visitor(fault)),
+        }
+    }
+
+    fn bits(&self) -> u64 {
+        self.input.bits()
+    }
+}
+
+/// The fault of the stop of a walk over data that were read before.
+fn fault_of<E>(why: WalkStop<ShowStop<E>>) -> ShowFault<E>
+    requires { MayEnd why }
+    ensures { IsEnd why result }
+{
+    match why {
+        WalkStop::Field(ShowStop::Visitor(fault)) => ShowFault::Visitor(fault),
+        WalkStop::Memory => ShowFault::Memory,
+        _ => unreachable!(),
+    }
+}
+
+/// Walks over one subset, and shows each item.
+fn walk_showing<V: Visitor>(
+    template: &Template,
+    cache: &mut SpecCache<'_>,
+    fields: &mut ShowFields<'_, '_, '_, '_, V>,
+    steps: &mut Steps,
+) -> Result<(), ShowFault<V::Fault>>
+    requires same { fields.old.table.now ≡ cache.old }
+    requires readable { (items : List (Item Content)) × (left : List Bool) × ReadsPass plain
+        (next_item cache.old template.now) items (rest_of fields.old.input.now) left }
+    ensures same { cache.new ≡ cache.old }
+    ensures input { fields.new.input.ghost_name ≡ fields.old.input.ghost_name }
+    ensures visitor { fields.new.visitor.ghost_name ≡ fields.old.visitor.ghost_name }
+    ensures shown { ItemsGo V.sees cache.old (next_item cache.old template.now) fields.old.input.now
+        fields.old.visitor.now steps.old result fields.new.input.now
+        fields.new.visitor.now steps.new }
+{
+    match walk_by(template, cache, fields, steps) {
+        Ok(()) => Ok(()),
+        Err(why) => Err(fault_of(why)),
+    }
+}
+
+/// Shows the items of one subset.
+fn show_items<V: Visitor>(
+    template: &Template,
+    cache: &mut SpecCache<'_>,
+    input: &mut PlainIn<'_>,
+    visitor: &mut V,
+    steps: &mut Steps,
+) -> Result<(), ShowFault<V::Fault>>
+    requires { (items : List (Item Content)) × (left : List Bool)
+        × ReadsPass plain (next_item cache.old template.now) items (rest_of input.old) left }
+    ensures same { cache.new ≡ cache.old }
+    ensures shown { ItemsGo V.sees cache.old (next_item cache.old template.now) input.old
+        visitor.old steps.old result input.new visitor.new steps.new }
+{
+    let table = cache.table();
+    let mut fields = ShowFields {
+        input,
+        table,
+        visitor,
+        text: [0; 255],
+    };
+    let outcome = walk_showing(template, cache, &mut fields, steps);
+    let ShowFields {
+        input: _,
+        table: _,
+        visitor: _,
+        text: _,
+    } = fields;
+    outcome
+}
+
+/// Data that are not compressed, their subsets and their template.
+#[derive(Drop)]
+pub(crate) struct PlainData<'a> {
+    pub bits: BitSlice<'a>,
+    pub subsets: u16,
+    pub template: &'a Template,
+}
+
+/// Shows each subset, and its items.
+pub(crate) fn show_plain<V: Visitor>(
+    data: &PlainData<'_>,
+    cache: &mut SpecCache<'_>,
+    visitor: &mut V,
+    steps: &mut Steps,
+) -> Result<(), ShowFault<V::Fault>>
+    requires steps { steps.old ≡ 0 }
+    requires readable { (all : List (List (Item Content))) × (left : List Bool)
+        × ReadsSubsets (next_item cache.old data.now.template.now) all
+        (bits_of (octets_of data.now.bits)) left × (length all ≡ data.now.subsets) }
+    ensures same { cache.new ≡ cache.old }
+    ensures shown { (all : List (List (Item Content))) (left : List Bool)
+        → ReadsSubsets (next_item cache.old data.now.template.now) all
+        (bits_of (octets_of data.now.bits)) left
+        → length all ≡ data.now.subsets
+        → Shows V.sees visitor.old
+        (subset_calls cache.old (next_item cache.old data.now.template.now) 0 1 all)
+        (turns_in (next_item cache.old data.now.template.now) all) result visitor.new steps.new }
+{
+    let mut input = PlainIn::new(data.bits);
+    'subsets: for done in 0..data.subsets {
+        match visitor.subset(done + 1) {
+            Ok(()) => show_items(data.template, cache, &mut input, visitor, steps)?,
+            Err(fault) => return Err(ShowFault::Visitor(fault)),
+        }
+    }
+    Ok(())
+}

@@ -1,0 +1,403 @@
+//! The walk over the cells of a template, with the fields that it takes, its stops and its steps.
+ghost use Rattle.std.specs.Prelude.{◌≡◌, ℕ, ◌+◌, ◌-◌, ◌^◌, ◌<◌, Result, Ok, Err, IfOk, ◌≤◌, length, slice_index_or, ◌*◌, ◌++◌, ◌∷◌, [], List, OnOk, OnErr};
+ghost use Rattle.bufr_walk.specs.Walk.{ticked, IsAtCell, Turned, Walked, TakesField};
+ghost use Rattle.bufr_walk.specs.FieldSpec.{FieldSpec, IsFor};
+ghost use Rattle.bufr_walk.specs.declared.spec.Taken.{Taken};
+ghost use Rattle.arrayvec.specs.ArrayVec.{array_vec_len};
+ghost use Rattle.bufr_tables.specs.Tree.{places};
+ghost use Rattle.bufr_walk.specs.Course.{next_item, Rest};
+ghost use Rattle.bufr_walk.specs.Rules.{after_field, descriptor_of, spec_of};
+ghost use Rattle.bufr_walk.specs.declared.walker.Frame.{Frame};
+
+use crate::lists::SpecCache;
+use crate::operators::{OperatorState, TableField};
+use crate::spec::{Spec, Taken, TurnRefusal};
+use arrayvec::ArrayVec;
+use bufr_tables::{Cell, Fxy, TableB, Template};
+use std::alloc::Global;
+use std::marker::Model;
+
+/// Why a walk stopped.
+#[derive(Debug, PartialEq, Eq, Drop)]
+pub enum WalkStop<E> {
+    /// A field that is not text is under 1 or over 63 bits wide.
+    Width(Fxy),
+    /// A step that is not allowed while 2 03 Y defines references.
+    Defining(Fxy),
+    /// The field was not taken.
+    Field(E),
+    /// Memory ran out before a reference was taken.
+    Memory,
+}
+
+impl<E> From<TurnRefusal> for WalkStop<E> {
+    ghost use Rattle.std.specs.Prelude.{◌≡◌};
+    ghost use Rattle.bufr_walk.specs.Walk.{stop_by};
+
+    ghost from_gives = { λ w e. e ≡ stop_by w };
+
+    fn from(why: TurnRefusal) -> WalkStop<E> {
+        match why {
+            TurnRefusal::Width(fxy) => WalkStop::Width(fxy),
+            TurnRefusal::Defining(fxy) => WalkStop::Defining(fxy),
+        }
+    }
+}
+
+/// How many steps walks have made, up to the greatest `u64`. A step takes a descriptor, ends a pass
+/// of a group, or ends the template.
+#[derive(Drop)]
+pub struct Steps {
+    count: u64,
+}
+
+impl Model for Steps {
+    ghost Value = { ℕ };
+
+    ghost view = { λ s. s.count };
+}
+
+impl Steps {
+    /// No step was made.
+    pub fn new() -> Self
+        ensures { result ≡ 0 }
+    {
+        Steps { count: 0 }
+    }
+
+    /// How many steps were made.
+    pub fn count(&self) -> u64
+        ensures { result ≡ self.now }
+    {
+        self.count
+    }
+
+    /// Counts one more step, up to the greatest `u64`.
+    pub(crate) fn tick(&mut self)
+        ensures { self.new ≡ ticked self.old 1 }
+    {
+        self.count = self.count.saturating_add(1);
+    }
+
+    /// Counts `turns` more steps, up to the greatest `u64`.
+    pub(crate) fn add(&mut self, turns: u64)
+        ensures { self.new ≡ ticked self.old turns }
+    {
+        self.count = self.count.saturating_add(turns);
+    }
+}
+
+/// Data that are read or written field by field.
+pub trait Fields {
+    /// Why a field is not taken.
+    type Fault;
+
+    /// How many bits were used, by whole items.
+    ghost used: { Self → ℕ };
+
+    /// The relation of a call of `take`: before, the field's specification, the answer, after.
+    ghost takes: { Self → FieldSpec → Result Taken Self.Fault → Self → Type 0 };
+
+    /// Takes the next field, and returns what the walk needs of it: [`Taken::Count`] exactly for a
+    /// factor, [`Taken::Reference`] exactly for a reference that is being defined, else
+    /// [`Taken::Plain`]. A field that is taken uses at least one bit.
+    ///
+    /// # Errors
+    ///
+    /// [`Fields::Fault`] where the field is not taken; then no bit is used.
+    fn take(&mut self, spec: &Spec) -> Result<Taken, Self::Fault>
+        ensures step { takes self.old spec.now result self.new }
+        ensures shape { IfOk result (λ t. IsFor spec.now t) };
+
+    /// Where fields that are kept look first for the next field: a guess.
+    fn look_at(&mut self, place: u32)
+        ensures { self.new ≡ self.old }
+    {
+        let _ = place;
+    }
+
+    /// The index of the field that was taken last, where fields are kept.
+    fn last_place(&self) -> Option<u32> {
+        None
+    }
+
+    /// How many bits were used, by whole items.
+    fn bits(&self) -> u64
+        ensures { result ≡ used self.now };
+
+    /// A field that is taken uses at least one bit.
+    ghost advances: { (s : Self) (spec : FieldSpec) (t : Taken) (next : Self)
+        → takes s spec (Ok t) next
+        → used s < used next };
+
+    /// A refusal uses none.
+    ghost refuses: { (s : Self) (spec : FieldSpec) (e : Self.Fault) (next : Self)
+        → takes s spec (Err e) next → used next ≡ used s };
+}
+
+/// The cell at a place.
+pub(crate) fn cell_at(cells: &[Cell], place: u32) -> Cell
+    requires within { length cells.now ≤ 65535 }
+    requires inside { place < length cells.now }
+    ensures value { slice_index_or cells.now place result ≡ result }
+    ensures room { place + 2 < 2 ^ 32 }
+{
+    cells[place as usize]
+}
+
+/// An open group: first cell of its body, first cell after it, passes left after this one.
+#[derive(Clone, Copy, Default)]
+pub(crate) struct Frame {
+    start: u32,
+    after: u32,
+    left: u64,
+}
+
+/// Opens a group, or passes it where its count is 0.
+#[inline(always)]
+fn open_group(count: u64, start: u32, after: u32, stack: &mut ArrayVec<Frame, 32>) -> u32
+    requires { array_vec_len stack.old < 32 }
+    ensures fits { count < 2 ^ 64 }
+    ensures none { count ≡ 0 → (result ≡ after) × (stack.new.items ≡ stack.old.items) }
+    ensures some { 0 < count → (result ≡ start) × (stack.new.items
+        ≡ stack.old.items ++ record { start = start; after = after; left = count - 1 } ∷ []) }
+{
+    if count == 0 {
+        return after;
+    }
+    stack.push(Frame {
+        start,
+        after,
+        left: count - 1,
+    });
+    start
+}
+
+/// Goes to the next pass of the innermost open group, or past the group after its last pass.
+#[inline(always)]
+fn end_pass(groups: &mut ArrayVec<Frame, 32>) -> u32
+    requires { 0 < array_vec_len groups.old }
+    ensures last { (outer : List Frame) (frame : Frame) → groups.old.items ≡ outer ++ frame ∷ []
+        → frame.left ≡ 0 → (result ≡ frame.after) × (groups.new.items ≡ outer) }
+    ensures more { (outer : List Frame) (frame : Frame) → groups.old.items ≡ outer ++ frame ∷ []
+        → 0 < frame.left → (result ≡ frame.start) × (groups.new.items ≡ outer
+        ++ record { start = frame.start; after = frame.after; left = frame.left - 1 } ∷ []) }
+{
+    let last = groups.len() - 1;
+    let frame = groups[last];
+    if frame.left == 0 {
+        groups.pop();
+        return frame.after;
+    }
+    groups[last] = Frame {
+        left: frame.left - 1,
+        ..frame
+    };
+    frame.start
+}
+
+/// Takes a field whose spec is not cached, and caches it.
+#[tactic(auto, using(crate::proofs::CacheLemmas::spec_cached))]
+#[inline(never)]
+fn take_new<S: Fields>(
+    field: TableField,
+    place: u32,
+    cache: &mut SpecCache<'_>,
+    fields: &mut S,
+    in_force: &mut OperatorState,
+) -> Result<Taken, WalkStop<S::Fault>>
+    ensures took { TakesField S.takes (spec_of cache.old in_force.old field) fields.old result
+        fields.new }
+    ensures kept { IfOk result
+        (λ t. in_force.new ≡ after_field in_force.old (descriptor_of field) t) }
+    ensures same { cache.new ≡ cache.old }
+{
+    let fxy = field.fxy();
+    let key = in_force.key(&field);
+    let spec = in_force.spec(cache.table(), &field)?;
+    cache.insert(place, key, &spec);
+    in_force.take(fxy, &spec, fields)
+}
+
+/// Takes the field of a cell, by the spec that is cached for it, if there is one. The guess for the
+/// field is its last index among those that are kept.
+#[tactic(auto, using(crate::proofs::CacheLemmas::spec_got, crate::proofs::CacheLemmas::spec_got_plain))]
+#[inline(always)]
+fn take_field<S: Fields>(
+    field: TableField,
+    place: u32,
+    cache: &mut SpecCache<'_>,
+    fields: &mut S,
+    in_force: &mut OperatorState,
+) -> Result<Taken, WalkStop<S::Fault>>
+    ensures took { TakesField S.takes (spec_of cache.old in_force.old field) fields.old result
+        fields.new }
+    ensures kept { IfOk result
+        (λ t. in_force.new ≡ after_field in_force.old (descriptor_of field) t) }
+    ensures same { cache.new ≡ cache.old }
+{
+    if let Some(kept) = cache.kept(place) {
+        fields.look_at(kept);
+    }
+    let fxy = field.fxy();
+    let key = in_force.key(&field);
+    let answer = match cache.get(place, key) {
+        Some(spec) => in_force.take_other(fxy, spec, fields),
+        None => take_new(field, place, cache, fields, in_force),
+    };
+    if let Some(kept) = fields.last_place() {
+        cache.set_kept(place, kept);
+    }
+    answer
+}
+
+/// A place in the cells of a template.
+#[derive(Clone, Copy)]
+struct CellPlace<'c> {
+    cells: &'c [Cell],
+    index: u32,
+}
+
+/// What a walk keeps from cell to cell: the open groups, the outermost first, and the operators in
+/// force.
+#[derive(Drop)]
+struct WalkState {
+    open_groups: ArrayVec<Frame, 32>,
+    in_force: OperatorState,
+}
+
+/// Makes one step, and returns the place after it, or `None` at the end.
+#[inline(always)]
+// rule: defining-fixed-groups, fault-62-first
+fn turn<S: Fields>(
+    at: CellPlace<'_>,
+    walk: &mut WalkState,
+    cache: &mut SpecCache<'_>,
+    fields: &mut S,
+    steps: &mut Steps,
+) -> Result<Option<u32>, WalkStop<S::Fault>>
+    requires within { length at.cells.now ≤ 65535 }
+    requires fits { (left : Rest → Rest)
+        × IsAtCell at.cells.now at.index walk.old.open_groups.items left }
+    ensures same { cache.new ≡ cache.old }
+    ensures turned { (left : Rest → Rest)
+        → IsAtCell at.entry.cells.now at.entry.index walk.old.open_groups.items left
+        → Turned S.takes cache.old at.entry.cells.now left at.entry.index
+        walk.old.open_groups.items walk.old.in_force fields.old steps.old result
+        walk.new.open_groups.items walk.new.in_force fields.new steps.new }
+{
+    let place = at.index;
+    steps.tick();
+    match cell_at(at.cells, place) {
+        Cell::Element(fxy) => {
+            let element = TableField::Element(fxy);
+            take_field(element, place, cache, fields, &mut walk.in_force)?;
+            Ok(Some(place + 1))
+        }
+        Cell::Operator(fxy) => {
+            if fxy.x() == 5 {
+                walk.in_force.take_inserted(fxy, fields)?;
+                return Ok(Some(place + 1));
+            }
+            walk.in_force.apply(fxy)?;
+            Ok(Some(place + 1))
+        }
+        Cell::Fixed(count, after) => {
+            let groups = &mut walk.open_groups;
+            Ok(Some(open_group(u64::from(count), place + 1, after, groups)))
+        }
+        Cell::Delayed(after) => {
+            let Cell::Factor(fxy) = cell_at(at.cells, place + 1) else {
+                unreachable!()
+            };
+            steps.tick();
+            let factor = TableField::Factor(fxy);
+            let answer = take_field(factor, place + 1, cache, fields, &mut walk.in_force)?;
+            let groups = &mut walk.open_groups;
+            match answer {
+                Taken::Count(count) => Ok(Some(open_group(count, place + 2, after, groups))),
+                _ => unreachable!(),
+            }
+        }
+        Cell::Factor(_) => unreachable!(),
+        Cell::PassEnd => Ok(Some(end_pass(&mut walk.open_groups))),
+        Cell::Finish => Ok(None),
+    }
+}
+
+/// Walks over the cells of a template once, field by field: over one subset, or over all of them
+/// where the data are compressed. `steps` grows by one for each descriptor: an element, an
+/// operator, a replication, its factor. It grows by one for each end of a pass of a group, and for
+/// the end. Each bit that is used pays for at most as many steps as the template has places.
+/// (WMO-No. 306, Volume I.2, FM 94: section 3, Tables B and C)
+///
+/// ```
+/// let mut steps = Steps::new();
+/// let mut fields = PlainIn::new(BitSlice::new(&octets));
+/// walk(alloc, &template, &table_b, &mut fields, &mut steps)?; // one subset was read
+/// ```
+///
+/// # Errors
+///
+/// The first that is met. [`WalkStop::Defining`] for a step that is not allowed while references
+/// are being defined. [`WalkStop::Width`] for a field that is not text outside 1 to 63 bits.
+/// [`WalkStop::Field`] with the fault of [`Fields::take`]. [`WalkStop::Memory`] where memory runs
+/// out before a reference is taken.
+pub fn walk<S: Fields>(
+    alloc: Global,
+    template: &Template,
+    table: &TableB,
+    fields: &mut S,
+    steps: &mut Steps,
+) -> Result<(), WalkStop<S::Fault>>
+    ensures walked { Walked S.takes (next_item table.now template.now) fields.old steps.old result
+        fields.new steps.new }
+    ensures accepted { OnOk result
+        (steps.new ≤ steps.old + places template.now * (S.used fields.new - S.used fields.old)) }
+    ensures refused { OnErr result (steps.new
+        ≤ steps.old + places template.now * (S.used fields.new - S.used fields.old + 1)) }
+{
+    let mut cache = SpecCache::new(alloc, table);
+    walk_by(template, &mut cache, fields, steps)
+}
+
+/// Walks over the cells of a template once, as [`walk`] does. A field whose spec is cached is taken
+/// by it, and each spec that is found is cached. Takes no memory for the cache.
+///
+/// # Errors
+///
+/// Those of [`walk`].
+pub fn walk_by<S: Fields>(
+    template: &Template,
+    cache: &mut SpecCache<'_>,
+    fields: &mut S,
+    steps: &mut Steps,
+) -> Result<(), WalkStop<S::Fault>>
+    ensures same { cache.new ≡ cache.old }
+    ensures walked { Walked S.takes (next_item cache.old template.now) fields.old steps.old result
+        fields.new steps.new }
+    ensures accepted { OnOk result
+        (steps.new ≤ steps.old + places template.now * (S.used fields.new - S.used fields.old)) }
+    ensures refused { OnErr result (steps.new
+        ≤ steps.old + places template.now * (S.used fields.new - S.used fields.old + 1)) }
+{
+    let cells = template.cells();
+    let mut walk = WalkState {
+        open_groups: ArrayVec::new(),
+        in_force: OperatorState::new(cache.allocator()),
+    };
+    let mut place: u32 = 0;
+    'turns: while let Some(next) = turn(
+        CellPlace {
+            cells,
+            index: place,
+        },
+        &mut walk,
+        cache,
+        fields,
+        steps,
+    )? {
+        place = next;
+    }
+    Ok(())
+}
