@@ -14,6 +14,7 @@ import sys
 TOP = pathlib.Path(__file__).resolve().parent.parent
 HEAD = re.compile(r"^ {0,2}(?:abbrev |unfoldable |rec )*(?:pub )?(?:record |data )?([^\s:(){}]+) *(?:\([^:]*|\{[^:]*)?:(?: |$)")
 USE = re.compile(r"^use Rattle\.(bufr_\w+)\.specs\.([\w.]+?)(?:\.\{([^}]*)\}| as ([\w-]+))$")
+PASSED = re.compile(r"^(?:unfoldable )?pub use Rattle\.(bufr_\w+)\.specs\.([\w.]+)\.\{([^}]*)\}$")
 GHOST = re.compile(r"ghost use Rattle\.(bufr_\w+)\.specs\.([\w.]+?)(?:\.\{([^}]*)\}| as ([\w-]+));")
 TOKEN = re.compile(r"[^\s()\[\]{};,.:]+")
 
@@ -92,6 +93,10 @@ class House:
         if declared:
             return self.declared(crate, declared[1].split("."))
         path = TOP / "crates" / crate / "specs" / (module.replace(".", "/") + ".antt")
+        if module == "Prelude":
+            passed = (PASSED.match(line) for line in read(path))
+            place = next((it for it in passed if it and name in re.split(r",\s*", it[3])), None)
+            return self.find(place[1], place[2], name) if place else None
         return self.specs(path).get(name) if path.is_file() else None
 
     def declared(self, crate, parts):

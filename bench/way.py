@@ -1,5 +1,5 @@
 #!/usr/bin/env python3
-"""Prints the way of one octet through `dump`: each function that plain data of an accepted message pass, from the read on.
+"""Prints the way of one octet through `dump`: each function that a number in plain data passes, from the read to the write.
 
     bench/way.py [--all] [CALL]        CALL is a function of bufr_cli, `run_dump` by default
 
@@ -13,8 +13,18 @@ import re
 import sys
 
 TOP = pathlib.Path(__file__).resolve().parent.parent
-# What an octet of plain data does not pass: compressed data, the list of descriptors, the header lines, stray words.
-BESIDE = "read_packed show_packed descriptors_of select take_specs put_specs write_head_lines push_head_lines write_fault".split()
+# What an octet does not pass that holds a number, in the middle of data that are not compressed, under no operator.
+BESIDE = {
+    "what is made before it is read": "new",
+    "other sections": "section_end_at section_1 second_end is_long head_at section2_of subsets compressed descriptors_of push_head_lines",
+    "other templates": "select take_specs put_specs take_new take_new_other",
+    "other events of a stream": "classify write_stray write_fault push_stray",
+    "other cells of a template": "apply take_inserted take_reference open_group end_pass key_by",
+    "other forms of data": "read_packed show_packed",
+    "other values": "signed_at show_other push_quoted push_any_item push_any_form push_any_number fill_any fill_long",
+    "the lines round the items": "subset into_sink take_block",
+    "the end of the stream": "flush last",
+}
 CRATES = "bits tables frame walk fill text cli".split()
 IMPL = re.compile(r"^impl(?:<.*?>)? (?:([\w:]+)(?:<.*?>)? for )?(\w+)")
 FN = re.compile(r"^( *)(?:pub(?:\(crate\))? )?(?:const )?fn (\w+)")
@@ -216,7 +226,8 @@ def main():
     words = [word for word in sys.argv[1:] if word != "--all"]
     call = words[0] if words else "run_dump"
     house = House()
-    way = Way(house, [] if "--all" in sys.argv else BESIDE)
+    beside = {name for names in BESIDE.values() for name in names.split()}
+    way = Way(house, set() if "--all" in sys.argv else beside)
     start = [it for it in house.functions if it.name == call and not it.owner]
     if not start:
         sys.exit(f"{sys.argv[0]}: there is no function {call}")

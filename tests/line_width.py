@@ -11,7 +11,7 @@ import re
 from lib import TOP, finish
 
 MOST = 100
-ONE_LINE = re.compile(r"\s*((pub )?use |ghost use |#\[)")
+ONE_LINE = re.compile(r"\s*((unfoldable )?(pub )?use |ghost use |#\[)")
 
 wide = [
     f"{path.relative_to(TOP)}:{number}: {len(line)} characters"

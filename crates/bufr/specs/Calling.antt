@@ -3,10 +3,7 @@
 use Rattle.std.specs.Prelude.{◌≡◌, ◌⊎◌, ℕ, List, None, codes}
 use Rattle.std.specs.Borrow.{Bor}
 use Rattle.bufr_frame.specs.declared.fault.RunFault.TheVariants.{Memory}
-use Rattle.bufr_cli.specs.Calling.{RunsProgram}
-use Rattle.bufr_cli.specs.Running.{Writers}
-use Rattle.bufr_cli.specs.Ending.{WritesLine, last_line, status_of}
-use Rattle.bufr_cli.specs.Program.{known}
+use Rattle.bufr_cli.specs.Prelude.{Writers, WritesLine, last_line, status_of, known, RunsProgram}
 use Rattle.bufr_cli.specs.declared.outcome.Outcome.{Outcome}
 use Rattle.bufr_cli.specs.declared.outcome.Outcome.TheVariants.{Usage, Run}
 

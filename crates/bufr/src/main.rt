@@ -11,7 +11,7 @@
 #![tactic(auto)]
 
 ghost use Rattle.bufr.specs.Calling.{IsWordless, RunsArguments};
-ghost use Rattle.bufr_cli.specs.Running.{writers_of};
+ghost use Rattle.bufr_cli.specs.Prelude.{writers_of};
 
 mod process;
 

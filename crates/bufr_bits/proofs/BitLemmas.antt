@@ -1,10 +1,11 @@
 -- Bits as numbers and as octets: in parts, all ones, in windows, and as a writer pushes them.
+use Rattle.std.proofs.lemmas.Grind.{common_steps}
 use Rattle.std.proofs.Common.{◌≡◌, ℕ, zero, suc, min, ◌+◌, ◌-◌, ◌*◌, ◌/◌, ◌%◌, ◌^◌, ◌<◌, ◌≤◌, ◌==◌, Bool, true, false, if◌then◌else◌, List, [], ◌∷◌, ◌++◌, length, take, drop, get_or, refl, sym, ap, ◌∙◌, subst, arith, length-drop, take-append-drop, length-take-le, take-add, drop-drop, pow-add, pow_mono, ◌&&◌, eqb, Option, None, Some, SomeIff, nat_eq, replicate, append_assoc, mod-eq_of_lt, append-nil, length-append}
 use Rattle.std.proofs.lemmas.Nat.{shr_high, mod_low, shl_whole, mod-pow-add, shr_split, shr_le, mod_below, shr-shr, pow_pos, shr_below, be_bytes_8}
 use Rattle.std.proofs.lemmas.Bool.Decides.{nat_tests}
 use Rattle.std.proofs.lemmas.List.{drop-append-le, take-append-le, take_all, drop_more, drop_all, take_at, drop_at, take_more, length-replicate, take_rest}
 use Rattle.std.proofs.Math.Nat.{pow-suc, mul-le-mul_right}
-use Rattle.bufr_bits.specs.Bits.{bits_of_octet, bits_of, number_after_bits, number_of, bits_at, are_all_ones, bits_in, padding, IsWindow}
+use Rattle.bufr_bits.specs.Prelude.{bits_of_octet, bits_of, number_after_bits, number_of, bits_at, are_all_ones, bits_in, padding, IsWindow}
 use Rattle.std.specs.List.{list_all}
 use Rattle.std.specs.Option.{option_eq}
 use Rattle.std.specs.Int.{bytes_high_first, byte_at, from_be_bytes, w64}
@@ -47,7 +48,7 @@ number_of-below (x ∷ xs) =
     omega (arith, small, alone, p)
 
 pub bit_of_test : (n : ℕ) → bit (n % 2 == 1) ≡ n % 2
-bit_of_test n = grind (arith, nat_tests)
+bit_of_test n = grind arith
 
 -- a number is twice its half and its last bit
 halved : (n h : ℕ) → h ≡ n / 2 → n ≡ 2 * h + bit (n % 2 == 1)
@@ -58,16 +59,7 @@ eight_halves x q1 q2 q3 q4 q5 q6 q7 b0 b1 b2 b3 b4 b5 b6 b7 e0 e1 e2 e3 e4 e5 e6
 
 -- the eight bits of an octet write the octet
 pub number-bits_of_octet : (x : ℕ) → x < 256 → number_of (bits_of_octet x) ≡ x
-number-bits_of_octet x h =
-    eight_halves x (x / 2) (x / 4) (x / 8) (x / 16) (x / 32) (x / 64) (x / 128) _ _ _ _ _ _ _ _
-    (halved x (x / 2) refl)
-    (halved (x / 2) (x / 4) (omega arith))
-    (halved (x / 4) (x / 8) (omega arith))
-    (halved (x / 8) (x / 16) (omega arith))
-    (halved (x / 16) (x / 32) (omega arith))
-    (halved (x / 32) (x / 64) (omega arith))
-    (halved (x / 64) (x / 128) (omega arith))
-    (halved (x / 128) 0 (omega arith))
+number-bits_of_octet x h = grind (arith, common_steps, eight_halves, halved)
 
 -- the middle of three parts of a number
 middle_of : (a b c n w k : ℕ) → b < 2 ^ w → c < 2 ^ k → n ≡ a * 2 ^ (w + k) + (b * 2 ^ k + c) → n / 2 ^ k % 2 ^ w ≡ b
@@ -133,11 +125,7 @@ length-bits_at xs at width h = length-take-le width (drop at (bits_of xs)) (omeg
 
 -- more bits, from where the others end
 pub number_of_more : (xs : List ℕ) (at done more : ℕ) → at + done + more ≤ 8 * length xs → number_of (bits_at xs at (done + more)) ≡ number_of (bits_at xs at done) * 2 ^ more + number_of (bits_at xs (at + done) more)
-number_of_more xs at done more h =
-    let parts : bits_at xs at (done + more) ≡ bits_at xs at done ++ take more (drop done (drop at (bits_of xs))) = take-add done more (drop at (bits_of xs)) in
-    let there : take more (drop done (drop at (bits_of xs))) ≡ bits_at xs (at + done) more = ap (take more) (drop-drop done at (bits_of xs)) in
-    let l = length-bits_at xs (at + done) more h in
-    rw (parts, there, number_of-append, l) refl
+number_of_more xs at done more h = grind (arith, common_steps, take-add, drop-drop, length-bits_at, number_of-append)
 
 -- a number that bits write within the octets is below its power of two
 pub bits_at-below : (xs : List ℕ) (at width : ℕ) → at + width ≤ 8 * length xs → number_of (bits_at xs at width) < 2 ^ width
@@ -157,10 +145,7 @@ next_part xs at width done taken value part inside short more taken_is value_is 
     ap (λ (m : ℕ). m + part) (shifted ∙ ap (λ (m : ℕ). m * 2 ^ taken) value_is) ∙ ap (λ (m : ℕ). number_of (bits_at xs at done) * 2 ^ taken + m) part_there ∙ sym more_bits
 
 pub fits_in_63 : (xs : List ℕ) (at width n : ℕ) → at + width ≤ 8 * length xs → width ≤ 63 → n ≡ number_of (bits_at xs at width) → n < 2 ^ 64
-fits_in_63 xs at width n inside short e =
-    let below = bits_at-below xs at width inside in
-    let most : 2 ^ width ≤ 2 ^ 63 = pow_mono short in
-    omega arith
+fits_in_63 xs at width n inside short e = grind (arith, common_steps, bits_at-below, pow_mono)
 
 pub below_width : (xs : List ℕ) (at width n : ℕ) → at + width ≤ 8 * length xs → n ≡ number_of (bits_at xs at width) → n < 2 ^ width
 below_width xs at width n inside e = subst (λ (m : ℕ). m < 2 ^ width) (sym e) (bits_at-below xs at width inside)
@@ -178,18 +163,17 @@ list_all-append p (x ∷ xs) ys = ap (λ (b : Bool). p x && b) (list_all-append 
 
 -- whether a number in base two is the greatest, by its first digit
 greatest_ahead : (n p : ℕ) → n < p → eqb (1 * p + n) (p * 2 - 1) ≡ eqb n (p - 1)
-greatest_ahead n p h = grind (arith, nat_tests)
+greatest_ahead n p h = grind arith
 
 greatest_not : (n p : ℕ) → n < p → eqb (0 * p + n) (p * 2 - 1) ≡ false
-greatest_not n p h = grind (arith, nat_tests)
+greatest_not n p h = grind arith
 
 -- bits are all ones where they write the greatest number of their width
 pub are_all_ones-number : (xs : List Bool) → eqb (number_of xs) (2 ^ length xs - 1) ≡ are_all_ones xs
 are_all_ones-number [] = refl
 are_all_ones-number (true ∷ xs) =
     ap (λ (m : ℕ). eqb m (2 ^ suc (length xs) - 1)) (number_after_bits-is 1 xs) ∙ ap (λ (m : ℕ). eqb (1 * 2 ^ length xs + number_of xs) (m - 1)) (pow-suc 2 (length xs)) ∙ greatest_ahead (number_of xs) (2 ^ length xs) (number_of-below xs) ∙ are_all_ones-number xs
-are_all_ones-number (false ∷ xs) =
-    ap (λ (m : ℕ). eqb m (2 ^ suc (length xs) - 1)) (number_after_bits-is 0 xs) ∙ ap (λ (m : ℕ). eqb (0 * 2 ^ length xs + number_of xs) (m - 1)) (pow-suc 2 (length xs)) ∙ greatest_not (number_of xs) (2 ^ length xs) (number_of-below xs)
+are_all_ones-number (false ∷ xs) = grind (arith, common_steps, eqb, number_after_bits-is, pow-suc, greatest_not, number_of-below)
 
 -- octets are all ones where each is 255
 pub are_all_ones-bits_of : (xs : List ℕ) → ((k : ℕ) → get_or xs k 0 < 256) → list_all (λ octet. octet == 255) xs ≡ are_all_ones (bits_of xs)
@@ -205,32 +189,24 @@ pub bits_at-octets : (xs : List ℕ) (first count : ℕ) → bits_at xs (8 * fir
 bits_at-octets xs first count = ap (take (8 * count)) (drop-bits_of first xs) ∙ take-bits_of count (drop first xs)
 
 pub full_octets : (xs : List ℕ) (first count : ℕ) (b : Bool) → b ≡ are_all_ones (bits_of (take (first + count - first) (drop first xs))) → b ≡ are_all_ones (bits_at xs (8 * first) (8 * count))
-full_octets xs first count b e =
-    let n : first + count - first ≡ count = omega arith in
-    e ∙ ap (λ (m : ℕ). are_all_ones (bits_of (take m (drop first xs)))) n ∙ ap are_all_ones (sym (bits_at-octets xs first count))
+full_octets xs first count b e = grind (arith, common_steps, bits_at-octets)
 
 -- all of some bits, in parts
 pub are_all_ones-more : (xs : List ℕ) (at leading rest : ℕ) → are_all_ones (bits_at xs at (leading + rest)) ≡ (are_all_ones (bits_at xs at leading) && are_all_ones (bits_at xs (at + leading) rest))
-are_all_ones-more xs at leading rest =
-    let there : take rest (drop leading (drop at (bits_of xs))) ≡ bits_at xs (at + leading) rest = ap (take rest) (drop-drop leading at (bits_of xs)) in
-    ap are_all_ones (take-add leading rest (drop at (bits_of xs)) ∙ ap (λ (ys : List Bool). bits_at xs at leading ++ ys) there) ∙ list_all-append (λ (b : Bool). b) (bits_at xs at leading) (bits_at xs (at + leading) rest)
+are_all_ones-more xs at leading rest = grind (arith, common_steps, drop-drop, take-add, list_all-append)
 
 -- whether a read number is the greatest of its width
 pub read_greatest : (r : Option ℕ) (xs : List ℕ) (at width most : ℕ) → SomeIff r (at + width ≤ 8 * length xs) (number_of (bits_at xs at width)) → at + width ≤ 8 * length xs → most ≡ 2 ^ width - 1 → option_eq nat_eq r (Some most) ≡ are_all_ones (bits_at xs at width)
 read_greatest None xs at width most h fits e = absurd (h fits)
-read_greatest (Some value) xs at width most h fits e =
-    ap (λ (m : ℕ). eqb m most) h.1 ∙ ap (λ (m : ℕ). eqb (number_of (bits_at xs at width)) m) e ∙ ap (λ (m : ℕ). eqb (number_of (bits_at xs at width)) (2 ^ m - 1)) (sym (length-bits_at xs at width fits)) ∙ are_all_ones-number (bits_at xs at width)
+read_greatest (Some value) xs at width most h fits e = grind (arith, common_steps, eqb, length-bits_at, are_all_ones-number)
 
 -- some bits, whole octets and some bits more
 pub are_all_ones_by_octets : (xs : List ℕ) (at first leading whole back width : ℕ) → at + leading ≡ 8 * first → width ≡ leading + (8 * whole + back) → are_all_ones (bits_at xs at width) ≡ (are_all_ones (bits_at xs at leading) && (are_all_ones (bits_at xs (8 * first) (8 * whole)) && are_all_ones (bits_at xs (at + leading + 8 * whole) back)))
-are_all_ones_by_octets xs at first leading whole back width e w =
-    ap (λ (m : ℕ). are_all_ones (bits_at xs at m)) w ∙ are_all_ones-more xs at leading (8 * whole + back) ∙ ap (λ (b : Bool). are_all_ones (bits_at xs at leading) && b) (are_all_ones-more xs (at + leading) (8 * whole) back) ∙ ap (λ (m : ℕ). are_all_ones (bits_at xs at leading) && (are_all_ones (bits_at xs m (8 * whole)) && are_all_ones (bits_at xs (at + leading + 8 * whole) back))) e
+are_all_ones_by_octets xs at first leading whole back width e w = grind (arith, common_steps, are_all_ones-more)
 
 -- the same of three answers: the first that is false decides
 pub ones_by_three : (xs : List ℕ) (at first leading whole back last width : ℕ) (a b c : Bool) → at + leading ≡ 8 * first → width ≡ leading + (8 * whole + back) → last ≡ at + leading + 8 * whole → a ≡ are_all_ones (bits_at xs at leading) → b ≡ are_all_ones (bits_at xs (8 * first) (8 * whole)) → c ≡ are_all_ones (bits_at xs last back) → (a && (b && c)) ≡ are_all_ones (bits_at xs at width)
-ones_by_three xs at first leading whole back last width a b c e w l ha hb hc =
-    let third : c ≡ are_all_ones (bits_at xs (at + leading + 8 * whole) back) = hc ∙ ap (λ (m : ℕ). are_all_ones (bits_at xs m back)) l in
-    rw (are_all_ones_by_octets xs at first leading whole back width e w, ← ha, ← hb, ← third) refl
+ones_by_three xs at first leading whole back last width a b c e w l ha hb hc = grind (arith, common_steps, are_all_ones_by_octets)
 
 pub ones_not_first : (xs : List ℕ) (at leading width : ℕ) (a : Bool) → leading ≤ width → a ≡ are_all_ones (bits_at xs at leading) → a ≡ false → false ≡ are_all_ones (bits_at xs at width)
 ones_not_first xs at leading width a h ha no_ones =
@@ -287,8 +263,7 @@ bits_in-above a v (suc w) =
 
 -- two numbers as bits, one after the other
 pub bits_in-join : (a v c w : ℕ) → v < 2 ^ w → bits_in a c ++ bits_in v w ≡ bits_in (a * 2 ^ w + v) (c + w)
-bits_in-join a v c w h =
-    sym (bits_in-split (a * 2 ^ w + v) c w ∙ ap (λ (n : ℕ). bits_in n c ++ bits_in (a * 2 ^ w + v) w) (shr_high a w v h) ∙ ap (λ (xs : List Bool). bits_in a c ++ xs) (bits_in-above a v w))
+bits_in-join a v c w h = grind (arith, common_steps, bits_in-split, shr_high, bits_in-above)
 
 -- no bits are written by 0
 pub bits_in-zero : (w : ℕ) → bits_in 0 w ≡ replicate w false
@@ -346,11 +321,7 @@ number_of-bits_in v (suc w) =
 
 -- bits among others are found at their place
 pub found_between : (before after : List Bool) (octets : List ℕ) (v w : ℕ) → v < 2 ^ w → bits_of octets ≡ before ++ bits_in v w ++ after → number_of (bits_at octets (length before) w) ≡ v
-found_between before after octets v w h e =
-    let turned : bits_of octets ≡ before ++ (bits_in v w ++ after) = e ∙ append_assoc before (bits_in v w) after in
-    let there : drop (length before) (bits_of octets) ≡ bits_in v w ++ after = ap (drop (length before)) turned ∙ drop_at before (bits_in v w ++ after) (length before) refl in
-    let found : bits_at octets (length before) w ≡ bits_in v w = ap (take w) there ∙ take_at (bits_in v w) after w (length-bits_in v w) in
-    ap number_of found ∙ number_of-bits_in v w ∙ mod-eq_of_lt h
+found_between before after octets v w h e = grind (arith, common_steps, append_assoc, drop_at, take_at, length-bits_in, number_of-bits_in, mod-eq_of_lt)
 
 module _ (before after : List Bool) (among xs : List ℕ) (e : bits_of among ≡ before ++ bits_of xs ++ after) where
   -- after the first bits
@@ -417,30 +388,18 @@ last_octets xs ys bytes last count some few low b e =
 
 -- where there are no last bits there is nothing to write
 pub no_octets : (xs : List ℕ) (last count : ℕ) → count ≤ 0 → bits_of xs ≡ bits_of xs ++ (bits_in last count ++ padding count)
-no_octets xs last count none =
-    let zero_count : count ≡ 0 = omega arith in
-    let nothing : bits_in last count ++ padding count ≡ [] = ap (λ (c : ℕ). bits_in last c ++ padding c) zero_count ∙ ap (λ (bs : List Bool). bs ++ []) (bits_in-none last) in
-    sym (append-nil (bits_of xs)) ∙ ap (λ (bs : List Bool). bits_of xs ++ bs) (sym nothing)
+no_octets xs last count none = grind (arith, common_steps, bits_in-none, append-nil)
 
 pub padded : (xs ys : List ℕ) (last count : ℕ) (bits : List Bool) → bits_of ys ≡ bits_of xs ++ (bits_in last count ++ padding count) → bits_of xs ++ bits_in last count ≡ bits → bits_of ys ≡ bits ++ padding (length bits)
-padded xs ys last count bits e v =
-    let long : length bits ≡ 8 * length xs + count = ap length (sym v) ∙ length-written xs last count in
-    let free : (8 - count % 8) % 8 ≡ (8 - length bits % 8) % 8 = omega arith in
-    e ∙ sym (append_assoc (bits_of xs) (bits_in last count) (padding count)) ∙ ap (λ (bs : List Bool). bs ++ padding count) v ∙ ap (λ (k : ℕ). bits ++ replicate k false) free
+padded xs ys last count bits e v = grind (arith, common_steps, length-written, append_assoc)
 
 -- octets after whole octets
 pub appended_whole : (xs ys zs octets : List ℕ) (last count : ℕ) (bits : List Bool) → count % 8 ≡ 0 → bits_of xs ++ bits_in last count ≡ bits → bits_of ys ≡ bits_of xs ++ (bits_in last count ++ padding count) → zs ≡ ys ++ octets → bits_of zs ++ bits_in 0 0 ≡ bits ++ bits_of octets
-appended_whole xs ys zs octets last count bits whole v y z =
-    let none : (8 - count % 8) % 8 ≡ 0 = omega arith in
-    let same : bits_of ys ≡ bits = y ∙ ap (λ (k : ℕ). bits_of xs ++ (bits_in last count ++ replicate k false)) none ∙ ap (λ (bs : List Bool). bits_of xs ++ bs) (append-nil (bits_in last count)) ∙ v in
-    ap (λ (bs : List Bool). bits_of zs ++ bs) (bits_in-none 0) ∙ append-nil (bits_of zs) ∙ ap bits_of z ∙ bits_of-append ys octets ∙ ap (λ (bs : List Bool). bs ++ bits_of octets) same
+appended_whole xs ys zs octets last count bits whole v y z = grind (arith, common_steps, append-nil, bits_in-none, bits_of-append)
 
 -- ---- the number of the last bits and the new ones
 small_sum : (last count value width : ℕ) → last < 2 ^ count → value < 2 ^ width → last * 2 ^ width + value < 2 ^ (count + width)
-small_sum last count value width hl hv =
-    let most = mul-le-mul_right (2 ^ width) hl in
-    let split = pow-add 2 count width in
-    omega (arith, most, split)
+small_sum last count value width hl hv = grind (arith, common_steps, mul-le-mul_right, pow-add)
 
 -- few bits stay in the number
 both_are : (last count value width : ℕ) → count + width < 64 → last < 2 ^ count → last * 2 ^ width % 18446744073709551616 + value ≡ last * 2 ^ width + value
@@ -481,20 +440,12 @@ rest_above x v k =
 power_fits : (k : ℕ) → k < 64 → 1 * 2 ^ k % 18446744073709551616 ≡ 2 ^ k
 power_fits k few = shl_whole 1 1 k 64 (omega arith) (omega arith) ∙ omega arith
 
-pub rest_low : (value kept : ℕ) → kept < 63 → value % (1 * 2 ^ kept % 18446744073709551616) < 2 ^ kept
-rest_low value kept few = subst (λ (m : ℕ). value % m < 2 ^ kept) (sym (power_fits kept (omega arith))) (mod_below value (2 ^ kept) (pow_pos kept))
-
 -- ---- bits written as octets and bits after them
 pub bits_in-rest : (n k : ℕ) → bits_in (n % 2 ^ k) k ≡ bits_in n k
 bits_in-rest n k = sym (ap (λ (m : ℕ). bits_in m k) (sym (shr_split n k)) ∙ bits_in-above (n / 2 ^ k) (n % 2 ^ k) k)
 
 pub written : (xs ys bytes : List ℕ) (last count value width head tail whole kept : ℕ) (bits : List Bool) → bits_of xs ++ bits_in last count ≡ bits → value < 2 ^ width → count + width ≡ 8 * whole + kept → head ≡ (last * 2 ^ width + value) / 2 ^ kept → tail ≡ (last * 2 ^ width + value) % 2 ^ kept → bytes ≡ bytes_high_first whole head → ys ≡ xs ++ bytes → bits_of ys ++ bits_in tail kept ≡ bits ++ bits_in value width
-written xs ys bytes last count value width head tail whole kept bits v hv total h t b e =
-    let n = last * 2 ^ width + value in
-    let octets : bits_of bytes ≡ bits_in (n / 2 ^ kept) (8 * whole) = ap bits_of b ∙ bits_of-bytes whole head ∙ ap (λ (m : ℕ). bits_in m (8 * whole)) h in
-    let after : bits_in tail kept ≡ bits_in n kept = ap (λ (m : ℕ). bits_in m kept) t ∙ bits_in-rest n kept in
-    let new : bits_of bytes ++ bits_in tail kept ≡ bits_in last count ++ bits_in value width = ap (λ (bs : List Bool). bs ++ bits_in tail kept) octets ∙ ap (λ (bs : List Bool). bits_in (n / 2 ^ kept) (8 * whole) ++ bs) after ∙ sym (bits_in-split n (8 * whole) kept) ∙ ap (bits_in n) (sym total) ∙ sym (bits_in-join last value count width hv) in
-    ap (λ (zs : List ℕ). bits_of zs ++ bits_in tail kept) e ∙ ap (λ (bs : List Bool). bs ++ bits_in tail kept) (bits_of-append xs bytes) ∙ append_assoc (bits_of xs) (bits_of bytes) (bits_in tail kept) ∙ ap (λ (bs : List Bool). bits_of xs ++ bs) new ∙ sym (append_assoc (bits_of xs) (bits_in last count) (bits_in value width)) ∙ ap (λ (bs : List Bool). bs ++ bits_in value width) v
+written xs ys bytes last count value width head tail whole kept bits v hv total h t b e = grind (arith, common_steps, bits_of-bytes, bits_in-rest, bits_in-split, bits_in-join, bits_of-append, append_assoc)
 
 -- eight octets go out
 pub full_bits : (xs ys bytes : List ℕ) (last count value width shift kept : ℕ) → count + shift ≡ 64 → width ≡ shift + kept → kept < 63 → last < 2 ^ count → value < 2 ^ width → bytes ≡ bytes_high_first 8 (last * 2 ^ shift % 18446744073709551616 + value / 2 ^ kept) → ys ≡ xs ++ bytes → bits_of ys ++ bits_in (value % (1 * 2 ^ kept % 18446744073709551616)) kept ≡ bits_of xs ++ bits_in last count ++ bits_in value width
@@ -570,9 +521,7 @@ number_of_window xs first from width n h fits =
 
 -- a field that lies in a window, which begins before it
 pub field_in : (xs : List ℕ) (at first from width n : ℕ) → IsWindow n first xs → 8 * first + from ≡ at → from + width ≤ 64 → width ≤ 63 → n / 2 ^ (64 - from - width) % (1 * 2 ^ width % 18446744073709551616) ≡ number_of (bits_at xs at width)
-field_in xs at first from width n h place fits few =
-    let mask : 1 * 2 ^ width % 18446744073709551616 ≡ 2 ^ width = shl_whole 1 1 width 64 (omega arith) (omega arith) ∙ omega arith in
-    ap (λ (m : ℕ). n / 2 ^ (64 - from - width) % m) mask ∙ sym (number_of_window xs first from width n h fits) ∙ ap (λ (p : ℕ). number_of (bits_at xs p width)) place
+field_in xs at first from width n h place fits few = grind (arith, common_steps, shl_whole, number_of_window)
 
 -- a field that lies in the window of its first octet
 pub field_within : (xs : List ℕ) (at width n : ℕ) → IsWindow n (at / 8) xs → at % 8 + width ≤ 64 → width ≤ 63 → n / 2 ^ (64 - at % 8 - width) % (1 * 2 ^ width % 18446744073709551616) ≡ number_of (bits_at xs at width)

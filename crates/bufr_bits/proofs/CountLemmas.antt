@@ -1,7 +1,6 @@
 -- Counts that go up more than once.
-use Rattle.std.proofs.Common.{◌≡◌, ℕ, zero, suc, ◌+◌, ◌-◌, ◌^◌, ◌<◌, List, [], ◌∷◌, length, Ok, arith, refl, min, max}
-use Rattle.std.specs.Prelude.{Result}
-use Rattle.bufr_bits.specs.Device.{counted, empty_writes_after}
+use Rattle.std.proofs.Common.{◌≡◌, ℕ, zero, suc, ◌+◌, ◌-◌, ◌^◌, ◌<◌, List, [], ◌∷◌, length, Ok, arith, refl, min, max, Result}
+use Rattle.bufr_bits.specs.Prelude.{counted, empty_writes_after}
 
 twice : (count a b most : ℕ) → max (max count (min (count + a) most)) (min (max count (min (count + a) most) + b) most) ≡ max count (min (count + (a + b)) most)
 twice count a b most = omega arith
@@ -24,11 +23,3 @@ empty_writes_after-some {E} count octets r n is some = rw is (at n some)
     at : (n : ℕ) → 0 < n → (let x : Result ℕ E = Ok n in empty_writes_after count octets x ≡ count)
     at zero some = absurd (omega arith)
     at (suc n) some = refl
-
--- a write that took none of some octets is an empty one
-pub empty_writes_after-none : {E : Type 0} (count : ℕ) (octets : List ℕ) (r : Result ℕ E) (n : ℕ) → r ≡ Ok n → n ≡ 0 → 0 < length octets → empty_writes_after {E = E} count octets r ≡ counted count 1
-empty_writes_after-none {E} count octets r n is none some = rw (is, none) (at octets some)
-  where
-    at : (octets : List ℕ) → 0 < length octets → (let x : Result ℕ E = Ok 0 in empty_writes_after count octets x ≡ counted count 1)
-    at [] some = absurd (omega arith)
-    at (octet ∷ more) some = refl

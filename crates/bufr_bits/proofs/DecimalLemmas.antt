@@ -1,21 +1,20 @@
 -- Decimal texts by their parts, at a scale, and read again.
-use Rattle.std.proofs.Common.{◌≡◌, ℕ, zero, suc, min, ◌+◌, ◌-◌, ◌*◌, ◌^◌, ◌<◌, ◌≤◌, ◌==◌, ◌&&◌, Bool, true, if◌then◌else◌, List, [], ◌∷◌, ◌++◌, length, take, get_or, Ok, Err, refl, sym, ap, ◌∙◌, subst, ⊎_elim, rules, arith, false, drop, Result, ℤ, length-drop, length-take-le, take-append-drop, nat_lt, nat_le, replicate, pos, negsuc, length-append, drop-drop, lt-ltb, le-ltb, le-leb, append-nil, length-take, append_assoc}
+use Rattle.std.proofs.lemmas.Grind.{common_steps}
+use Rattle.std.proofs.Common.{◌≡◌, ℕ, zero, suc, min, ◌+◌, ◌-◌, ◌*◌, ◌^◌, ◌<◌, ◌≤◌, ◌==◌, ◌&&◌, Bool, true, if◌then◌else◌, List, [], ◌∷◌, ◌++◌, length, take, get_or, Ok, Err, refl, sym, ap, ◌∙◌, subst, ⊎_elim, rules, arith, false, drop, Result, ℤ, length-drop, length-take-le, take-append-drop, nat_lt, nat_le, replicate, pos, negsuc, length-append, drop-drop, lt-ltb, le-leb, append-nil, length-take, append_assoc, is_some, unsigned_abs}
 use Rattle.std.specs.List.{list_all, position, position_or_len}
 use Rattle.std.specs.Char.{digit_value, is_ascii_digit}
 use Rattle.std.specs.Str.Parse.{digits_value, digits_value_after, starts_with_minus}
 use Rattle.std.proofs.lemmas.Str.Parse.{IsNumeralModel, numerals_by_value, IsDigitsTest, digits_value_short, digit_at}
 use Rattle.std.proofs.lemmas.Str.{digit_value_digit}
-use Rattle.std.proofs.lemmas.Nat.{pow-add, div-mul-add, mod-mul-add}
+use Rattle.std.proofs.lemmas.Nat.{pow-add}
 use Rattle.std.proofs.lemmas.Bool.{cases_lt}
 use Rattle.std.proofs.lemmas.Bool.Decides.{nat_tests}
 use Rattle.std.proofs.Math.Nat.{pow-suc, one-le-pow, mul-le-mul_right, pow-le-pow_right}
 use Rattle.std.proofs.lemmas.List.{take_more, take_all, drop_all, take_at, drop_at, length-replicate}
-use Rattle.bufr_bits.specs.Device.{capped, capped_ok}
-use Rattle.bufr_bits.specs.Decimal.{all_digits, whole_quotient, scaled, signed, and_then, IsParts, is_unsigned, unsigned_part, decimal_value_of, positive_scale, negative_scale, decimal_text_of, unsigned_text, pointed, is_digits, whole_part, fraction_part, sign_of}
+use Rattle.bufr_bits.specs.Prelude.{capped, capped_ok, all_digits, whole_quotient, scaled, signed, and_then, IsParts, is_unsigned, unsigned_part, decimal_value_of, positive_scale, negative_scale, decimal_text_of, unsigned_text, pointed, is_digits, whole_part, fraction_part, sign_of}
 use Rattle.bufr_bits.specs.declared.decimal.NumberFault.TheVariants.{Inexact, Syntax}
 use Rattle.bufr_bits.specs.declared.decimal.NumberFault.{NumberFault}
 use Rattle.bufr_bits.proofs.BitLemmas.{list_all-append}
-use Rattle.std.specs.Prelude.{is_some, unsigned_abs}
 use lib.Signed.{mag}
 use Rattle.std.specs.Fmt.{decimal}
 use Rattle.std.proofs.lemmas.Fmt.{decimal_is_IsNumeral_wide}
@@ -49,8 +48,7 @@ value-below ds h = digits_value_short own ds (length ds) h (omega arith)
 
 -- a whole quotient, by what is left over
 pub quotient_is : (n d q r : ℕ) → n ≡ q * d + r → r < d → whole_quotient n d ≡ (if r == 0 then Ok q else Err Inexact)
-quotient_is n d q r e h =
-    rw (e, mod-mul-add q d r h, div-mul-add q d r h) refl
+quotient_is n d q r e h = grind (arith, common_steps)
 
 -- ten multiplies: digits after the point come before it, and zeros after them
 up_product : (a c d p q u : ℕ) → (a * (p * q) + (c * p + d)) * (u * q) ≡ (a * q + c) * u * (p * q) + d * (u * q)
@@ -129,16 +127,8 @@ zero_value (d ∷ ds) h =
     let moved = value_after-is (0 * 10 + digit_value d) ds in
     ap (λ (m : ℕ). m == 0) moved ∙ sum_zero (0 * 10 + digit_value d) (10 ^ length ds) (digits_value 10 ds) (ten_pos (length ds)) ∙ ap (λ (b : Bool). b && (digits_value 10 ds == 0)) here ∙ ap (λ (b : Bool). (d == 48) && b) (zero_value ds parts.1)
 
--- one digit more
-pub digit_at_place : (ds : List ℕ) (i : ℕ) → all_digits ds ≡ true → i < length ds → 48 ≤ get_or ds i 0
-digit_at_place ds i h lt = let digit = digit_at ds i (own.to ds h) lt in omega (arith, digit)
-
 pub value_after-more : (n : ℕ) (ds : List ℕ) (i : ℕ) → all_digits ds ≡ true → i < length ds → digits_value_after 10 n (take (i + 1) ds) ≡ digits_value_after 10 n (take i ds) * 10 + (get_or ds i 0 - 48)
-value_after-more n ds i h lt =
-    let digit = digit_at ds i (own.to ds h) lt in
-    let value = digit_value_digit (get_or ds i 0) digit in
-    let same : digit_value (get_or ds i 0) ≡ get_or ds i 0 - 48 = omega arith in
-    ap (digits_value_after 10 n) (take_more ds i 0 lt) ∙ value_after-append n (take i ds) (get_or ds i 0 ∷ []) ∙ ap (λ (m : ℕ). digits_value_after 10 n (take i ds) * 10 + m) same
+value_after-more n ds i h lt = grind (arith, common_steps, digit_at, own, digit_value_digit, take_more, value_after-append)
 
 pub capped_step : (a b value product sum d : ℕ) → value ≡ capped a → product ≡ min (value * 10) (2 ^ 128 - 1) → sum ≡ min (product + d) (2 ^ 128 - 1) → b ≡ a * 10 + d → sum ≡ capped b
 capped_step a b value product sum d ha hp hs hb = omega arith
@@ -231,8 +221,7 @@ pub record AreKept (whole fraction : List ℕ) (up down : ℕ) (kept cut moved l
   pub left_is : left ≡ drop (min up (length fraction)) fraction
 
 pub answer_by_parts : (whole fraction : List ℕ) (up down : ℕ) (kept cut moved left : List ℕ) → all_digits whole ≡ true → all_digits fraction ≡ true → (0 < down → up ≡ 0) → AreKept whole fraction up down kept cut moved left → whole_quotient (digits_value 10 (whole ++ fraction) * 10 ^ up) (10 ^ (length fraction + down)) ≡ kept_or_inexact kept cut moved left (up - min up (length fraction))
-answer_by_parts whole fraction up down kept cut moved left hw hf one h =
-    rw (h.kept_is, h.cut_is, h.moved_is, h.left_is) (scaled_by_parts whole fraction up down hw hf one)
+answer_by_parts whole fraction up down kept cut moved left hw hf one h = grind (arith, common_steps, scaled_by_parts)
 
 pub answer_ok : (whole fraction : List ℕ) (up down : ℕ) (kept cut moved left : List ℕ) (times r : ℕ) → all_digits whole ≡ true → all_digits fraction ≡ true → (0 < down → up ≡ 0) → AreKept whole fraction up down kept cut moved left → list_all (λ d. d == 48) cut ≡ true → list_all (λ d. d == 48) left ≡ true → times ≡ up - min up (length fraction) → r ≡ capped (digits_value_after 10 (digits_value 10 kept) moved * 10 ^ times) → Ok r ≡ capped_ok (whole_quotient (digits_value 10 (whole ++ fraction) * 10 ^ up) (10 ^ (length fraction + down)))
 answer_ok whole fraction up down kept cut moved left times r hw hf one h zero_cut zero_left t e =
@@ -266,23 +255,18 @@ capped_found (Err f) n e = absurd cc
 -- what reading a text answers, by what was found
 pub read_syntax : (text body : List ℕ) (scale : ℤ) → body ≡ unsigned_part text → is_unsigned body ≡ false → Err Syntax ≡ decimal_value_of text scale
 unfolding decimal_value_of
-read_syntax text body scale b h =
-    let no_form : is_unsigned (unsigned_part text) ≡ false = subst (λ (t : List ℕ). is_unsigned t ≡ false) b h in
-    rw no_form refl
+read_syntax text body scale b h = grind (arith, common_steps)
 
 value_by_parts : (text body whole fraction : List ℕ) (scale : ℤ) → body ≡ unsigned_part text → IsParts body whole fraction → decimal_value_of text scale ≡ and_then (scaled (whole ++ fraction) (length fraction) scale) (signed (starts_with_minus text))
 unfolding decimal_value_of
-value_by_parts text body whole fraction scale b h =
-    let parts : IsParts (unsigned_part text) whole fraction = subst (λ (t : List ℕ). IsParts t whole fraction) b h in
-    rw (parts.form, ← parts.before, ← parts.after) refl
+value_by_parts text body whole fraction scale b h = grind (arith, common_steps)
 
 -- the quotient by the powers that the code has
 abbrev quotient_of : (whole fraction : List ℕ) (up down : ℕ) → Result ℕ NumberFault
 quotient_of whole fraction up down = whole_quotient (digits_value 10 (whole ++ fraction) * 10 ^ up) (10 ^ (length fraction + down))
 
 value_by_powers : (text body whole fraction : List ℕ) (scale : ℤ) (up down : ℕ) → body ≡ unsigned_part text → IsParts body whole fraction → up ≡ positive_scale scale → down ≡ negative_scale scale → decimal_value_of text scale ≡ and_then (quotient_of whole fraction up down) (signed (starts_with_minus text))
-value_by_powers text body whole fraction scale up down b h hu hd =
-    value_by_parts text body whole fraction scale b h ∙ ap (λ (k : ℕ). and_then (quotient_of whole fraction k (negative_scale scale)) (signed (starts_with_minus text))) (sym hu) ∙ ap (λ (k : ℕ). and_then (quotient_of whole fraction up k) (signed (starts_with_minus text))) (sym hd)
+value_by_powers text body whole fraction scale up down b h hu hd = grind (arith, common_steps, value_by_parts)
 
 pub read_fault : (text body whole fraction : List ℕ) (scale : ℤ) (up down : ℕ) (fault : NumberFault) (r : Result ℤ NumberFault) → body ≡ unsigned_part text → IsParts body whole fraction → up ≡ positive_scale scale → down ≡ negative_scale scale → Err fault ≡ capped_ok (whole_quotient (digits_value 10 (whole ++ fraction) * 10 ^ up) (10 ^ (length fraction + down))) → r ≡ Err fault → r ≡ decimal_value_of text scale
 read_fault text body whole fraction scale up down fault r b h hu hd e result =
@@ -301,10 +285,10 @@ read_found text body whole fraction scale up down n negative r b h hu hd hn e re
 
 -- a digit is no point and no minus
 digit_no_point : (c : ℕ) → is_ascii_digit c ≡ true → (c == 46) ≡ false
-digit_no_point c h = grind (arith, nat_tests)
+digit_no_point c h = grind arith
 
 digit_no_minus : (c : ℕ) → is_ascii_digit c ≡ true → (c == 45) ≡ false
-digit_no_minus c h = grind (arith, nat_tests)
+digit_no_minus c h = grind arith
 
 -- the first place of a point
 pub point_after : (whole fraction : List ℕ) → all_digits whole ≡ true → position_or_len (λ c. c == 46) (whole ++ 46 ∷ fraction) ≡ length whole
@@ -349,28 +333,17 @@ is_digits_true : (ds : List ℕ) → 0 < length ds → all_digits ds ≡ true �
 is_digits_true ds some h = rw h (grind (arith, nat_tests))
 
 position_somewhere : (text : List ℕ) (i : ℕ) → position_or_len (λ c. c == 46) text ≡ i → i < length text → is_some (position (λ c. c == 46) text) ≡ true
-position_somewhere text i e h =
-    let there : nat_lt (position_or_len (λ c. c == 46) text) (length text) ≡ true = lt-ltb _ _ (omega arith) in
-    rw there refl
+position_somewhere text i e h = grind (arith, common_steps)
 
 position_none : (text : List ℕ) → position_or_len (λ c. c == 46) text ≡ length text → is_some (position (λ c. c == 46) text) ≡ false
-position_none text e =
-    let nowhere : nat_lt (position_or_len (λ c. c == 46) text) (length text) ≡ false = le-ltb _ _ (omega arith) in
-    rw nowhere refl
+position_none text e = grind (arith, common_steps)
 
 -- which texts are of the form of a number
 pub form_with_point : (whole fraction : List ℕ) → 0 < length whole → 0 < length fraction → all_digits whole ≡ true → all_digits fraction ≡ true → is_unsigned (whole ++ 46 ∷ fraction) ≡ true
-form_with_point whole fraction sw sf hw hf =
-    let text = whole ++ 46 ∷ fraction in
-    let w = whole_with_point whole fraction hw in
-    let f = fraction_with_point whole fraction hw in
-    let there : is_some (position (λ c. c == 46) text) ≡ true = position_somewhere text (length whole) (point_after whole fraction hw) (omega (arith, length-append whole (46 ∷ fraction))) in
-    rw (w, f, there, is_digits_true whole sw hw, is_digits_true fraction sf hf) refl
+form_with_point whole fraction sw sf hw hf = grind (arith, common_steps, whole_with_point, fraction_with_point, position_somewhere, point_after, length-append, is_digits_true)
 
 pub form_alone : (whole : List ℕ) → 0 < length whole → all_digits whole ≡ true → is_unsigned whole ≡ true
-form_alone whole sw hw =
-    let nowhere : is_some (position (λ c. c == 46) whole) ≡ false = position_none whole (point_nowhere whole hw) in
-    rw (whole_alone whole hw, nowhere, is_digits_true whole sw hw) refl
+form_alone whole sw hw = grind (arith, common_steps, position_none, point_nowhere, whole_alone, is_digits_true)
 
 -- a quotient of powers of ten that is whole
 exact_quotient : (n k m : ℕ) → m ≡ k → whole_quotient (n * 10 ^ k) (10 ^ m) ≡ Ok n
@@ -417,13 +390,10 @@ decimal_value : (n : ℕ) → n < 10 ^ 64 → digits_value 10 (decimal n) ≡ n
 decimal_value n h = (decimal_is_IsNumeral_wide n h).1
 
 pub padded_value : (count : ℕ) (d : List ℕ) (n : ℕ) → digits_value 10 d ≡ n → digits_value 10 (replicate count 48 ++ d) ≡ n
-padded_value count d n e =
-    let none : digits_value 10 (replicate count 48) * 10 ^ length d ≡ 0 = ap (λ (m : ℕ). m * 10 ^ length d) (zeros_value count) ∙ omega arith in
-    value-append (replicate count 48) d ∙ omega (arith, none)
+padded_value count d n e = grind (arith, common_steps, zeros_value, value-append)
 
 zeros_after_value : (count : ℕ) (d : List ℕ) (n : ℕ) → digits_value 10 d ≡ n → digits_value 10 (d ++ replicate count 48) ≡ n * 10 ^ count
-zeros_after_value count d n e =
-    value-append d (replicate count 48) ∙ ap (λ (m : ℕ). digits_value 10 d * 10 ^ length (replicate {A = ℕ} count 48) + m) (zeros_value count) ∙ ap (λ (m : ℕ). digits_value 10 d * 10 ^ m + 0) (length-replicate {A = ℕ} count 48) ∙ ap (λ (m : ℕ). m * 10 ^ count + 0) e ∙ omega arith
+zeros_after_value count d n e = grind (arith, common_steps, value-append, zeros_value, length-replicate)
 
 pointed_is_decimal : (n places : ℕ) → n < 10 ^ 64 → IsDecimalOf (pointed (suc places) (decimal n)) n (suc places)
 pointed_is_decimal n places h =
@@ -501,7 +471,7 @@ unsigned_pointed n (pos (suc m)) places h e = ap (λ (k : ℕ). pointed k (decim
 unsigned_pointed n (negsuc m) places h e = absurd (omega arith)
 
 not_zero : (n : ℕ) → (suc n == 0) ≡ false
-not_zero n = grind (arith, nat_tests)
+not_zero n = grind arith
 
 -- the zeros that follow a number, which none do after 0
 pub some_zeros : (size power : ℕ) → 0 < size → power ≡ (if size == 0 then 0 else power)
@@ -519,19 +489,12 @@ unsigned_plain zero (pos zero) places power count h u d z = rw z (append-nil (de
 unsigned_plain (suc n) (pos zero) places power count h u d z = rw (z, not_zero n, d) (append-nil (decimal (suc n)))
 unsigned_plain n (pos (suc m)) places power count h u d z = absurd (omega arith)
 unsigned_plain zero (negsuc m) places power count h u d z = rw z (append-nil (decimal 0))
-unsigned_plain (suc n) (negsuc m) places power count h u d z =
-    let more : count ≡ suc m = z ∙ ap (λ (t : Bool). if t then 0 else power) (not_zero n) ∙ d ∙ omega arith in
-    ap (λ (k : ℕ). decimal (suc n) ++ replicate k 48) more
+unsigned_plain (suc n) (negsuc m) places power count h u d z = grind (arith, common_steps)
 
 pub text_pointed : (old kept after new digits : List ℕ) (v scale : ℤ) (size places : ℕ) → 0 < places → places ≡ positive_scale scale → size ≡ unsigned_abs v → digits ≡ decimal size → after ≡ kept ++ sign_of v → kept ≡ old → new ≡ after ++ pointed places digits → new ≡ old ++ decimal_text_of v scale
 unfolding decimal_text_of
-text_pointed old kept after new digits v scale size places h u s d a k e =
-    e ∙ ap (λ (t : List ℕ). t ++ pointed places digits) (a ∙ ap (λ (t : List ℕ). t ++ sign_of v) k) ∙ ap (λ (t : List ℕ). old ++ sign_of v ++ pointed places t) (d ∙ ap decimal s) ∙ ap (λ (t : List ℕ). old ++ sign_of v ++ t) (unsigned_pointed (unsigned_abs v) scale places h u) ∙ append_assoc old (sign_of v) (unsigned_text (unsigned_abs v) scale)
+text_pointed old kept after new digits v scale size places h u s d a k e = grind (arith, common_steps, unsigned_pointed, append_assoc)
 
 pub text_plain : (old kept after before new digits : List ℕ) (v scale : ℤ) (size places power count : ℕ) → places ≤ 0 → places ≡ positive_scale scale → power ≡ negative_scale scale → size ≡ unsigned_abs v → digits ≡ decimal size → count ≡ (if size == 0 then 0 else power) → after ≡ kept ++ sign_of v → kept ≡ old → before ≡ after ++ digits → new ≡ before ++ replicate count 48 → new ≡ old ++ decimal_text_of v scale
 unfolding decimal_text_of
-text_plain old kept after before new digits v scale size places power count h u p s d z a k b e =
-    let n = unsigned_abs v in
-    let zeros_of : count ≡ (if n == 0 then 0 else power) = z ∙ ap (λ (m : ℕ). if m == 0 then 0 else power) s in
-    let unsigned : digits ++ replicate count 48 ≡ unsigned_text n scale = ap (λ (t : List ℕ). t ++ replicate count 48) (d ∙ ap decimal s) ∙ unsigned_plain n scale places power count h u p zeros_of in
-    e ∙ ap (λ (t : List ℕ). t ++ replicate count 48) (b ∙ ap (λ (t : List ℕ). t ++ digits) (a ∙ ap (λ (t : List ℕ). t ++ sign_of v) k)) ∙ append_assoc (old ++ sign_of v) digits (replicate count 48) ∙ ap (λ (t : List ℕ). old ++ sign_of v ++ t) unsigned ∙ append_assoc old (sign_of v) (unsigned_text n scale)
+text_plain old kept after before new digits v scale size places power count h u p s d z a k b e = grind (arith, common_steps, unsigned_plain, append_assoc)

@@ -1,14 +1,15 @@
 -- Short decimal texts: their digits, their parts, and their number at a scale.
+use Rattle.std.proofs.lemmas.Grind.{common_steps}
 use Rattle.std.proofs.Common.{◌≡◌, ℕ, suc, ◌+◌, ◌-◌, ◌*◌, ◌/◌, ◌%◌, ◌^◌, ◌<◌, ◌≤◌, ◌==◌, ◌&&◌, Bool, true, false, if◌then◌else◌, List, [], ◌∷◌, length, take, drop, get_or, Ok, Err, refl, sym, ap, ◌∙◌, subst, arith, length-drop, length-take-le, zero, ◌++◌, replicate, Result, ℤ, pos, length-append, length-take, take-append-drop}
 use Rattle.std.specs.Int.{IsInRange}
-use Rattle.std.specs.Char.{is_ascii_digit, digit_value}
+use Rattle.std.specs.Char.{is_ascii_digit}
 use Rattle.std.specs.Str.Parse.{digits_value_after, digits_value, starts_with_minus}
 use Rattle.std.proofs.lemmas.Str.{digit_value_digit}
 use Rattle.std.proofs.lemmas.Nat.{div-add-mod', mod_below}
 use Rattle.std.proofs.lemmas.Bool.Decides.{nat_tests}
-use Rattle.std.proofs.lemmas.List.{take_more, take_all, drop_more, take_at, drop_at, length-replicate}
+use Rattle.std.proofs.lemmas.List.{take_more, take_all, drop_more, length-replicate}
 use Rattle.std.proofs.Math.Nat.{pow-suc, mul-le-mul_right, pow-le-pow_right}
-use Rattle.bufr_bits.specs.Decimal.{all_digits, whole_quotient, decimal_text_of, unsigned_text, pointed, decimal_value_of, positive_scale, negative_scale, signed, and_then, unsigned_part, signed_number, is_decimal_octet, IsPlainDecimal}
+use Rattle.bufr_bits.specs.Prelude.{all_digits, whole_quotient, decimal_text_of, unsigned_text, pointed, decimal_value_of, positive_scale, negative_scale, signed, and_then, unsigned_part, signed_number, is_decimal_octet, IsPlainDecimal}
 use Rattle.bufr_bits.specs.declared.decimal.NumberFault.TheVariants.{Inexact}
 use Rattle.bufr_bits.proofs.BitLemmas.{list_all-append}
 use Rattle.bufr_bits.proofs.DecimalLemmas.{value_after-is, value_after-append, value-below, quotient_is, ten_pos, ten_split, product_zero, sum_zero, and_first, and_second, own, unsigned_is_decimal, read_alone, read_after_minus, number_at, number_at_own}
@@ -22,14 +23,10 @@ digit_range : (c : ℕ) → is_ascii_digit c ≡ true → IsInRange 48 57 c
 digit_range c h = (grind (arith, nat_tests), grind (arith, nat_tests))
 
 pub digits_more : (ds : List ℕ) (i : ℕ) → all_digits (take i ds) ≡ true → i < length ds → is_ascii_digit (get_or ds i 0) ≡ true → all_digits (take (i + 1) ds) ≡ true
-digits_more ds i h lt d =
-    ap all_digits (take_more ds i 0 lt) ∙ list_all-append is_ascii_digit (take i ds) (get_or ds i 0 ∷ []) ∙ rw (h, d) refl
+digits_more ds i h lt d = grind (arith, common_steps)
 
 pub prefix_more : (n : ℕ) (ds : List ℕ) (i : ℕ) → i < length ds → is_ascii_digit (get_or ds i 0) ≡ true → digits_value_after 10 n (take (i + 1) ds) ≡ digits_value_after 10 n (take i ds) * 10 + (get_or ds i 0 - 48)
-prefix_more n ds i lt d =
-    let value = digit_value_digit (get_or ds i 0) (digit_range (get_or ds i 0) d) in
-    let same : digit_value (get_or ds i 0) ≡ get_or ds i 0 - 48 = omega arith in
-    ap (digits_value_after 10 n) (take_more ds i 0 lt) ∙ value_after-append n (take i ds) (get_or ds i 0 ∷ []) ∙ ap (λ (m : ℕ). digits_value_after 10 n (take i ds) * 10 + m) same
+prefix_more n ds i lt d = grind (arith, common_steps, digit_value_digit, digit_range, take_more, value_after-append)
 
 -- a number with digits after it stays below the next one with as many places
 pub value_after-below : (n : ℕ) (ds : List ℕ) → all_digits ds ≡ true → digits_value_after 10 n ds < (n + 1) * 10 ^ length ds
@@ -81,14 +78,10 @@ quotient_next v i times lt =
     ap (λ (k : ℕ). whole_quotient v (10 ^ k)) next ∙ quotient_more v (times - (i + 1))
 
 pub quotient_goes_on : (v i times : ℕ) → i < times → v % 10 ≡ 0 → whole_quotient v (10 ^ (times - i)) ≡ whole_quotient (v / 10) (10 ^ (times - (i + 1)))
-quotient_goes_on v i times lt e =
-    let zero_left : (v % 10 == 0) ≡ true = ap (λ (m : ℕ). m == 0) e in
-    quotient_next v i times lt ∙ ap (λ (b : Bool). if b then whole_quotient (v / 10) (10 ^ (times - (i + 1))) else Err Inexact) zero_left
+quotient_goes_on v i times lt e = grind (arith, common_steps, quotient_next)
 
 pub quotient_stops : (v i times : ℕ) → i < times → 0 < v % 10 → whole_quotient v (10 ^ (times - i)) ≡ Err Inexact
-quotient_stops v i times lt some =
-    let left : (v % 10 == 0) ≡ false = grind (arith, nat_tests, some) in
-    quotient_next v i times lt ∙ ap (λ (b : Bool). if b then whole_quotient (v / 10) (10 ^ (times - (i + 1))) else Err Inexact) left
+quotient_stops v i times lt some = grind (arith, common_steps, nat_tests, quotient_next)
 
 -- ten multiplies more often than it divides, or less often
 pub scaled_by_times : (n up less : ℕ) → less ≤ up → Ok (n * 10 ^ (up - less)) ≡ whole_quotient (n * 10 ^ up) (10 ^ less)
@@ -145,9 +138,7 @@ digits_octets (d ∷ ds) h =
 
 -- digits are the digits of their number, with zeros before
 more_zeros : (k len : ℕ) (xs ds : List ℕ) → k ≤ len → replicate (len - k) 48 ++ xs ≡ ds → replicate (suc len - k) 48 ++ xs ≡ 48 ∷ ds
-more_zeros k len xs ds le h =
-    let n : suc len - k ≡ suc (len - k) = omega arith in
-    rw n (ap (λ (t : List ℕ). 48 ∷ t) h)
+more_zeros k len xs ds le h = grind (arith, common_steps)
 
 padded_least : (k : ℕ) (xs ds : List ℕ) → length xs ≡ k → replicate (length ds - k) 48 ++ xs ≡ ds → k ≤ length ds
 padded_least k xs ds e h = omega (arith, ap length h, length-append (replicate (length ds - k) 48) xs, length-replicate {A = ℕ} (length ds - k) 48)
@@ -159,7 +150,7 @@ other_first : (d : ℕ) → (d == 48) ≡ false → d ≡ 48 → (n : ℕ) → n
 other_first d h e n = absurd (grind (arith, nat_tests, h, e))
 
 same_first : (d : ℕ) → (d == 48) ≡ true → d ≡ 48
-same_first d h = grind (arith, nat_tests, h)
+same_first d h = grind arith
 
 padded_back : (ds : List ℕ) → all_digits ds ≡ true → 0 < length ds → digits_value 10 ds < 2 ^ 64 → replicate (length ds - length (decimal (digits_value 10 ds))) 48 ++ decimal (digits_value 10 ds) ≡ ds
 padded_back [] h some small = absurd (omega arith)
@@ -212,10 +203,7 @@ plain_alone ds n h some first value small =
 
 -- digits with a point
 pointed_is : (ds whole fraction : List ℕ) (places : ℕ) (digits : List ℕ) → replicate (places + 1 - length digits) 48 ++ digits ≡ ds → ds ≡ whole ++ fraction → length fraction ≡ places → whole ++ 46 ∷ fraction ≡ pointed places digits
-pointed_is ds whole fraction places digits padded e len =
-    let both = padded ∙ e in
-    let size : length (whole ++ fraction) - places ≡ length whole = omega (arith, length-append whole fraction) in
-    rw both (rw size (rw (take_at whole fraction (length whole) refl, drop_at whole fraction (length whole) refl) refl))
+pointed_is ds whole fraction places digits padded e len = grind (arith, common_steps)
 
 first_of : (whole fraction : List ℕ) → 0 < length whole → get_or (whole ++ fraction) 0 0 ≡ get_or whole 0 0
 first_of [] fraction h = absurd (omega arith)
@@ -236,10 +224,7 @@ plain_pointed whole fraction m n (suc p) hw hf sw sf len first hm hn small =
     }
 
 zero_number : (places : ℕ) (scale : ℤ) → number_at false 0 places scale ≡ number_at true 0 places scale
-zero_number places scale =
-    let d = 10 ^ (places + negative_scale scale) in
-    let none : whole_quotient (0 * 10 ^ positive_scale scale) d ≡ Ok 0 = quotient_is (0 * 10 ^ positive_scale scale) d 0 0 (omega arith) (ten_pos (places + negative_scale scale)) in
-    ap (λ (r : Result ℕ NumberFault). and_then r (signed false)) none ∙ sym (ap (λ (r : Result ℕ NumberFault). and_then r (signed true)) none)
+zero_number places scale = grind (arith, common_steps)
 
 -- the text of a number is read as its digits
 short_number_at : (negative : Bool) (n places : ℕ) (scale : ℤ) → n < 10 ^ 64 → decimal_value_of (decimal_text_of (signed_number negative n) (pos places)) scale ≡ number_at negative n places scale
@@ -283,11 +268,7 @@ first_taken (c ∷ text) (suc count) h = refl
 
 -- the number of so few digits
 small_value : (n : ℕ) (ds : List ℕ) → all_digits ds ≡ true → n ≡ digits_value_after 10 0 ds → length ds ≤ 19 → n < 2 ^ 64
-small_value n ds h e few =
-    let below : digits_value 10 ds < 10 ^ length ds = value-below ds h in
-    let most : 10 ^ length ds ≤ 10 ^ 19 = pow-le-pow_right (omega arith) few in
-    let literal : 10 ^ 19 < 2 ^ 64 = omega arith in
-    omega (arith, e, below, most, literal)
+small_value n ds h e few = grind (arith, common_steps, value-below, pow-le-pow_right)
 
 pub prefix_alone : (text : List ℕ) (most count n : ℕ) → most ≤ 19 → count ≤ length (take most text) → 0 < count → (get_or (take most text) 0 0 ≡ 48 → count ≤ 1) → all_digits (take count (take most text)) ≡ true → n ≡ digits_value_after 10 0 (take count (take most text)) → IsPlainDecimal (take count text) n 0
 prefix_alone text most count n few le some first h e =
@@ -327,11 +308,7 @@ prefix_pointed text fraction most count places m n few lt some first point f sf 
 -- a text with its sign, by the text after it
 minus_then : (text body : List ℕ) (count : ℕ) → true ≡ starts_with_minus text → body ≡ unsigned_part text → take (count + 1) text ≡ 45 ∷ take count body
 minus_then [] body count h e = absurd cc
-minus_then (c ∷ text) body count h e =
-    let minus : c ≡ 45 = grind (arith, nat_tests, h) in
-    let n : count + 1 ≡ suc count = omega arith in
-    let rest : body ≡ text = e ∙ ap (λ (b : Bool). if b then text else c ∷ text) (sym h) in
-    rw (n, minus, rest) refl
+minus_then (c ∷ text) body count h e = grind (arith, common_steps)
 
 pub minus_text : (text body : List ℕ) (count n places : ℕ) → true ≡ starts_with_minus text → body ≡ unsigned_part text → IsPlainDecimal (take count body) n places → 0 < n → take (count + 1) text ≡ decimal_text_of (signed_number true n) (pos places)
 unfolding decimal_text_of
@@ -340,6 +317,4 @@ minus_text text body count (suc n) places h e d some = minus_then text body coun
 
 pub plain_text : (text body : List ℕ) (count n places : ℕ) → false ≡ starts_with_minus text → body ≡ unsigned_part text → IsPlainDecimal (take count body) n places → take count text ≡ decimal_text_of (signed_number false n) (pos places)
 unfolding decimal_text_of
-plain_text text body count n places h e d =
-    let same : body ≡ text = e ∙ ap (λ (b : Bool). if b then drop 1 text else text) (sym h) in
-    ap (take count) (sym same) ∙ d.is
+plain_text text body count n places h e d = grind (arith, common_steps)

@@ -27,8 +27,7 @@ pub struct BitWriter {
 
 impl Model for BitWriter {
     ghost use Rattle.std.specs.Prelude.{◌≤◌, ◌<◌, ◌+◌, ◌*◌, ◌/◌, ◌^◌, ◌++◌, List, Bool, vec_len, vec_capacity};
-    ghost use Rattle.bufr_bits.specs.Bits.{bits_of, bits_in};
-    ghost use Rattle.bufr_bits.specs.Writing.{BitWriterModel, IsWriting, room_after};
+    ghost use Rattle.bufr_bits.specs.Bits.{bits_of, bits_in, BitWriterModel, IsWriting, room_after};
 
     ghost Value = { BitWriterModel };
 

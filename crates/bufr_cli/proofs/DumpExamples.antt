@@ -1,106 +1,17 @@
--- The fault lines and the pieces of a dump computed on worked examples.
-use Rattle.std.proofs.Common.{◌≡◌, true, false, List, [], ◌∷◌, refl, codes, pos, arith, ℕ, ◌++◌}
-use Rattle.std.specs.Prelude.{slice_set, take}
+-- The pieces of a dump computed on worked examples.
+use Rattle.std.proofs.Common.{true, false, List, [], ◌∷◌, refl, codes, pos, arith, ℕ, ◌++◌, slice_set, take}
 use Rattle.std.specs.Fmt.{digits}
-use Rattle.bufr_bits.specs.Bits.{bits_of}
-use Rattle.bufr_bits.specs.Decimal.{decimal_text_of, unsigned_text}
-use Rattle.bufr_frame.specs.Scan.{FrameAt, StrayAt}
-use Rattle.bufr_frame.specs.Sections.{sections_of, section_end}
+use Rattle.bufr_bits.specs.Prelude.{bits_of, decimal_text_of, unsigned_text}
+use Rattle.bufr_frame.specs.Prelude.{FrameAt, StrayAt, sections_of, section_end}
 use Rattle.bufr_frame.specs.declared.fault.Cause.TheVariants.{Cut}
-use Rattle.bufr_tables.specs.Expansion.{tree_of, inner_of, level, part_of}
-use Rattle.bufr_tables.specs.FaultNumber.{number_of_template_fault}
-use Rattle.bufr_tables.specs.TableB.{Row}
+use Rattle.bufr_tables.specs.Prelude.{tree_of, inner_of, level, part_of, Row}
 use Rattle.bufr_tables.specs.declared.table_b.Kind.TheVariants.{Numeric}
-use Rattle.bufr_tables.specs.declared.fault.TemplateFault.TheVariants as template
-use Rattle.bufr_walk.specs.Content.{number, data_end}
-use Rattle.bufr_walk.specs.Course.{next_item, take_next}
-use Rattle.bufr_walk.specs.Refusal.{number_of_walk_fault, spot, field_stop}
-use Rattle.bufr_walk.specs.Reading.{apart}
+use Rattle.bufr_walk.specs.Prelude.{number, data_end, next_item, take_next, spot, field_stop, apart}
 use Rattle.bufr_walk.specs.declared.fault.WalkFault.TheVariants as walk
 use Rattle.bufr_walk.specs.declared.spec.Role.TheVariants.{Element}
-use Rattle.bufr_text.specs.Dump.{header_lines, subset_lines}
-use Rattle.bufr_text.specs.Grammar.{descriptors_text, hex_text, runs_after}
-use Rattle.bufr_text.specs.Line.{keys}
-use Rattle.bufr_cli.specs.Pieces.{IsDumpPiece, OnOutput, OnErrors}
-use Rattle.bufr_cli.specs.FaultLine.{fault_line, template_fault_text, walk_fault_text}
+use Rattle.bufr_text.specs.Prelude.{header_lines, subset_lines, descriptors_text, hex_text, runs_after, keys}
+use Rattle.bufr_cli.specs.Prelude.{IsDumpPiece, OnOutput, OnErrors}
 use Rattle.bufr_cli.proofs.Examples.{one_block_number}
-
--- faults of templates: each number, and each name
--- rule: fault-20
-unknown-element-line : fault_line 0 (number_of_template_fault (template.UnknownElement 16383)) (template_fault_text (template.UnknownElement 16383)) ≡ codes "offset 0: 20 unknown element 063255\n"
-unfolding digits
-unknown-element-line = refl
-
--- rule: fault-21
-unknown-sequence-line : fault_line 0 (number_of_template_fault (template.UnknownSequence 64705)) (template_fault_text (template.UnknownSequence 64705)) ≡ codes "offset 0: 21 unknown sequence 360193\n"
-unfolding digits
-unknown-sequence-line = refl
-
--- rule: fault-22
-operator-line : fault_line 0 (number_of_template_fault (template.Operator 33800)) (template_fault_text (template.Operator 33800)) ≡ codes "offset 0: 22 operator 204008\n"
-unfolding digits
-operator-line = refl
-
--- rule: fault-23
-group-shape-line : fault_line 0 (number_of_template_fault (template.GroupShape 16386)) (template_fault_text (template.GroupShape 16386)) ≡ codes "offset 0: 23 group shape 100002\n"
-unfolding digits
-group-shape-line = refl
-
--- rule: fault-24
-no-factor-line : fault_line 0 (number_of_template_fault (template.NoFactor 16640)) (template_fault_text (template.NoFactor 16640)) ≡ codes "offset 0: 24 no factor 101000\n"
-unfolding digits
-no-factor-line = refl
-
--- rule: fault-25
-empty-group-line : fault_line 0 (number_of_template_fault (template.EmptyGroup 0)) (template_fault_text (template.EmptyGroup 0)) ≡ codes "offset 0: 25 empty group 000000\n"
-unfolding digits
-empty-group-line = refl
-
--- rule: fault-26
-depth-line : fault_line 48 (number_of_template_fault (template.Depth 16641)) (template_fault_text (template.Depth 16641)) ≡ codes "offset 48: 26 depth 101001\n"
-unfolding digits
-depth-line = refl
-
--- rule: fault-27
-template-size-line : fault_line 0 (number_of_template_fault (template.TemplateSize 257)) (template_fault_text (template.TemplateSize 257)) ≡ codes "offset 0: 27 template size 001001\n"
-unfolding digits
-template-size-line = refl
-
--- rule: fault-28
-local-shape-line : fault_line 0 (number_of_template_fault (template.LocalShape 34312)) (template_fault_text (template.LocalShape 34312)) ≡ codes "offset 0: 28 local shape 206008\n"
-unfolding digits
-local-shape-line = refl
-
--- faults of the data: the subset, the descriptor and the bits before the item, each in its place
--- rule: fault-30, stream-fault-place
-data-end-line : fault_line 0 (number_of_walk_fault (walk.DataEnd (spot 1 257 22))) (walk_fault_text (walk.DataEnd (spot 1 257 22))) ≡ codes "offset 0: 30 data end at subset 1 descriptor 001001 bit 22\n"
-unfolding digits
-data-end-line = refl
-
--- rule: fault-31
-width-line : fault_line 0 (number_of_walk_fault (walk.Width (spot 2 257 0))) (walk_fault_text (walk.Width (spot 2 257 0))) ≡ codes "offset 0: 31 width at subset 2 descriptor 001001 bit 0\n"
-unfolding digits
-width-line = refl
-
--- rule: fault-32
-defining-line : fault_line 0 (number_of_walk_fault (walk.Defining (spot 1 271 0))) (walk_fault_text (walk.Defining (spot 1 271 0))) ≡ codes "offset 0: 32 defining at subset 1 descriptor 001015 bit 0\n"
-unfolding digits
-defining-line = refl
-
--- rule: fault-33
-unequal-factor-line : fault_line 0 (number_of_walk_fault (walk.UnequalFactor (spot 0 7937 0))) (walk_fault_text (walk.UnequalFactor (spot 0 7937 0))) ≡ codes "offset 0: 33 unequal factor at subset 0 descriptor 031001 bit 0\n"
-unfolding digits
-unequal-factor-line = refl
-
--- rule: fault-34
-increment-line : fault_line 0 (number_of_walk_fault (walk.Increment (spot 0 257 0))) (walk_fault_text (walk.Increment (spot 0 257 0))) ≡ codes "offset 0: 34 increment at subset 0 descriptor 001001 bit 0\n"
-unfolding digits
-increment-line = refl
-
--- rule: fault-35
-too-many-values-line : fault_line 0 (number_of_walk_fault (walk.TooManyValues (spot 0 257 14336))) (walk_fault_text (walk.TooManyValues (spot 0 257 14336))) ≡ codes "offset 0: 35 too many values at subset 0 descriptor 001001 bit 14336\n"
-unfolding digits
-too-many-values-line = refl
 
 -- a table of one element
 abbrev blocks : List Row

@@ -1,32 +1,20 @@
 -- What `dump` writes for a message, from what its calls answer.
-use Rattle.std.proofs.Common.{◌≡◌, ◌∙◌, ◌⊎◌, ℕ, List, [], ◌∷◌, Option, Result, Ok, Err, refl, sym, ap, subst, inl, inr, append-nil}
+use Rattle.std.proofs.Common.{◌≡◌, ◌∙◌, ◌⊎◌, ℕ, List, [], ◌∷◌, Option, Result, Ok, Err, refl, sym, ap, inl, inr, append-nil}
 use Rattle.std.specs.Io.KnownBytes.{Appends}
 use Rattle.std.proofs.KnownBytes.{Appends-nil}
-use Rattle.bufr_frame.specs.Scan.{StreamEvent, FrameAt, StrayAt}
-use Rattle.bufr_frame.specs.Sections.{Sections, sections_of}
+use Rattle.bufr_frame.specs.Prelude.{StreamEvent, FrameAt, StrayAt, Sections, sections_of}
 use Rattle.bufr_frame.specs.declared.fault.RunFault.{RunFault}
 use Rattle.bufr_frame.specs.declared.fault.SectionFault.{SectionFault}
-use Rattle.bufr_tables.specs.Expansion.{tree_of, tables_of}
-use Rattle.bufr_tables.specs.Records.{Record}
-use Rattle.bufr_tables.specs.TableB.{Row, AreRows}
-use Rattle.bufr_tables.specs.TableD.{Sequence}
-use Rattle.bufr_tables.specs.Tree.{Tree}
+use Rattle.bufr_tables.specs.Prelude.{tree_of, tables_of, Record, Row, AreRows, Sequence, Tree}
 use Rattle.bufr_tables.specs.declared.fault.TemplateFault.{TemplateFault}
 use Rattle.bufr_tables.proofs.SoundLemmas.{tree_fine}
-use Rattle.bufr_walk.specs.Course.{Course, next_item}
-use Rattle.bufr_walk.specs.Refusal.{number_of_walk_fault, Read, course_of, data_of, read_by, IsFault, IsRefused, IsReadingOf}
-use Rattle.bufr_walk.specs.Reading.{Data, Values, apart, together, IsReading}
+use Rattle.bufr_walk.specs.Prelude.{Course, next_item, number_of_walk_fault, Read, course_of, data_of, read_by, IsFault, IsRefused, IsReadingOf, Data, Values, apart, together, IsReading}
 use Rattle.bufr_walk.specs.declared.fault.WalkFault.{WalkFault}
 use Rattle.bufr_walk.specs.declared.fault.WalkFault.TheVariants as walk
 use Rattle.bufr_walk.proofs.OneReading.{one_reading, one_refusal, not_read_and_refused}
 use Rattle.bufr_walk.proofs.SomeReading.{read_or_refused}
-use Rattle.bufr_text.specs.Dump.{dump_text_of, dump_items_of, compressed_dump_subsets}
-use Rattle.bufr_text.specs.DumpWritten.{WritesPrefix}
-use Rattle.bufr_text.specs.Writing.{GrowsByPrefix, Writes}
-use Rattle.bufr_cli.specs.Pieces.{IsDataPiece, IsTemplatePiece, IsMessagePiece, IsDumpPiece, dump_text, template_piece, Piece, OnOutput, OnErrors, stray_piece, section_piece}
-use Rattle.bufr_cli.specs.FaultLine.{fault_line, walk_fault_text}
-use Rattle.bufr_cli.specs.Running.{GivesPieces, LeavesPieces}
-use Rattle.bufr_cli.specs.declared.outcome.Verdict.{Verdict}
+use Rattle.bufr_text.specs.Prelude.{dump_text_of, dump_items_of, compressed_dump_subsets, WritesPrefix, GrowsByPrefix, Writes}
+use Rattle.bufr_cli.specs.Prelude.{IsDataPiece, IsTemplatePiece, IsMessagePiece, IsDumpPiece, dump_text, template_piece, Piece, OnOutput, OnErrors, stray_piece, section_piece, fault_line, walk_fault_text, GivesPieces, LeavesPieces, Verdict}
 use Rattle.bufr_cli.specs.declared.outcome.Verdict.TheVariants.{Accepted, Refused}
 
 -- of a text nothing was written
@@ -36,28 +24,20 @@ grows-none w text = record { prefix = []; back = text; parts = refl; gains = App
 -- a text was written on the output, or a prefix of it
 output-reported : (w w' e : Option (List ℕ)) (text : List ℕ) (piece : Piece) → piece ≡ OnOutput text → Appends w w' text → LeavesPieces w w' e e (piece ∷ []) (Ok Accepted)
 output-reported w w' e text piece is writes =
-    let P : Piece → Type 0 = λ p. LeavesPieces w w' e e (p ∷ []) (Ok Accepted) in
-    let W : List ℕ → Type 0 = λ t. Appends w w' t in
-    subst P (sym is) (record { output = subst W (sym (append-nil text)) writes; errors = Appends-nil e }, refl, refl)
+    rw is (record { output = rw (append-nil text) writes; errors = Appends-nil e }, refl, refl)
 
 output-stopped : (w w' e : Option (List ℕ)) (text : List ℕ) (piece : Piece) (f : RunFault) → piece ≡ OnOutput text → GrowsByPrefix w w' text → LeavesPieces w w' e e (piece ∷ []) (Err f)
 output-stopped w w' e text piece f is writes =
-    let P : Piece → Type 0 = λ p. LeavesPieces w w' e e (p ∷ []) (Err f) in
-    let W : List ℕ → Type 0 = λ t. GrowsByPrefix w w' t in
-    subst P (sym is) (subst W (sym (append-nil text)) writes, grows-none e [])
+    rw is (rw (append-nil text) writes, grows-none e [])
 
 -- a line was written on the errors, or a prefix of it
 pub errors-reported : (w e e' : Option (List ℕ)) (text : List ℕ) (piece : Piece) → piece ≡ OnErrors text → Appends e e' text → LeavesPieces w w e e' (piece ∷ []) (Ok Refused)
 errors-reported w e e' text piece is writes =
-    let P : Piece → Type 0 = λ p. LeavesPieces w w e e' (p ∷ []) (Ok Refused) in
-    let W : List ℕ → Type 0 = λ t. Appends e e' t in
-    subst P (sym is) (record { output = Appends-nil w; errors = subst W (sym (append-nil text)) writes }, refl, refl)
+    rw is (record { output = Appends-nil w; errors = rw (append-nil text) writes }, refl, refl)
 
 errors-stopped : (w e e' : Option (List ℕ)) (text : List ℕ) (piece : Piece) (f : RunFault) → piece ≡ OnErrors text → GrowsByPrefix e e' text → LeavesPieces w w e e' (piece ∷ []) (Err f)
 errors-stopped w e e' text piece f is writes =
-    let P : Piece → Type 0 = λ p. LeavesPieces w w e e' (p ∷ []) (Err f) in
-    let W : List ℕ → Type 0 = λ t. GrowsByPrefix e e' t in
-    subst P (sym is) (grows-none w [], subst W (sym (append-nil text)) writes)
+    rw is (grows-none w [], rw (append-nil text) writes)
 
 -- the items of a reading are those that its table and its data say
 items-same : (r : Read) (table : List Row) (template : Tree) (d : Data) (used : ℕ) (values : Values) → r.table ≡ table → r.source ≡ d → dump_items_of (read_by table template d used 0) values ≡ dump_items_of r values
@@ -97,10 +77,7 @@ fault-refuses course d walk.Memory steps some so = absurd (some refl)
 reading-of : (table : List Row) (template : Tree) (s : Sections) (r : Read) (steps : ℕ) → IsReadingOf table template (data_of s) r steps
     → (values : Values) × IsReading (next_item table template) (data_of s) values r.bits × IsReading (course_of r) r.source values r.bits
 reading-of table template s r steps (is_table, is_template, is_source, values, (read, made)) =
-    let A : List Row → Type 0 = λ t. IsReading (next_item t template) (data_of s) values r.bits in
-    let B : Tree → Type 0 = λ t. IsReading (next_item r.table t) (data_of s) values r.bits in
-    let C : Data → Type 0 = λ d. IsReading (next_item r.table r.template) d values r.bits in
-    (values, read, subst C (sym is_source) (subst B (sym is_template) (subst A (sym is_table) read)))
+    (values, read, rw is_source (rw is_template (rw is_table read)))
 
 -- the text of a reading was written, or a prefix of it
 pub reading-reported : (table : List Row) (offset : ℕ) (s : Sections) (template : Tree) (r : Read) (steps : ℕ) (w w' e : Option (List ℕ)) → IsReadingOf table template (data_of s) r steps
@@ -116,17 +93,13 @@ pub reading-stopped : {X : Type 0} (table : List Row) (offset : ℕ) (s : Sectio
 reading-stopped {X = X} table offset s template r steps w w' e first f result so writes fails same piece is =
     let found = reading-of table template s r steps so in
     let text = dump_text_of s (dump_items_of r found.0) in
-    let W : Result X RunFault → Type 0 = λ x. WritesPrefix w w' text x in
-    let P : Result Verdict RunFault → Type 0 = λ x. LeavesPieces w w' e e (piece ∷ []) x in
-    subst P (sym same) (output-stopped w w' e text piece f (read-piece table offset s template r found.0 so.0 so.2 found.1 piece is) (subst W fails (writes found.0 found.2)))
+    rw same (output-stopped w w' e text piece f (read-piece table offset s template r found.0 so.0 so.2 found.1 piece is) (rw fails at (writes found.0 found.2)))
 
 -- a prefix of a fault line was written
 pub line-stopped : {X : Type 0} (w e e' : Option (List ℕ)) (text : List ℕ) (first : Result X RunFault) (f : RunFault) (result : Result Verdict RunFault) (piece : Piece) → piece ≡ OnErrors text → Writes e e' text first → first ≡ Err f → result ≡ Err f
     → LeavesPieces w w e e' (piece ∷ []) result
 line-stopped {X = X} w e e' text first f result piece is writes fails same =
-    let W : Result X RunFault → Type 0 = λ x. Writes e e' text x in
-    let P : Result Verdict RunFault → Type 0 = λ x. LeavesPieces w w e e' (piece ∷ []) x in
-    subst P (sym same) (errors-stopped w e e' text piece f is (subst W fails writes).1)
+    rw same (errors-stopped w e e' text piece f is (rw fails at writes).1)
 
 -- the line of data that were refused
 pub refused-line : (table : List Row) (offset : ℕ) (s : Sections) (template : Tree) (why : WalkFault) (steps : ℕ) → (why ≡ walk.Memory → ⊥) → IsFault (next_item table template) (data_of s) why steps

@@ -1,28 +1,21 @@
 -- What a run of `encode` writes, document by document.
-use Rattle.std.proofs.Common.{◌≡◌, ◌∙◌, ℕ, ◌+◌, ◌-◌, ◌==◌, ◌≤◌, ◌<◌, ◌^◌, Bool, false, if◌then◌else◌, length-append, List, [], ◌∷◌, ◌++◌, length, None, arith, append_assoc, append-nil, Option, Result, Ok, Err, refl, sym, ap, subst, inl, inr, true}
-use Rattle.std.specs.Prelude.{Some, map, count_by, IfSome}
+use Rattle.std.proofs.lemmas.Grind.{common_steps}
+use Rattle.std.proofs.Common.{◌≡◌, ◌∙◌, ℕ, ◌+◌, ◌-◌, ◌==◌, ◌≤◌, ◌<◌, ◌^◌, Bool, false, if◌then◌else◌, length-append, List, [], ◌∷◌, ◌++◌, length, None, arith, append_assoc, append-nil, Option, Result, Ok, Err, refl, sym, ap, subst, inl, inr, true, Some, map, count_by, IfSome}
 use Rattle.std.specs.Io.KnownBytes.{Appends, Consumes, IsAtEnd, Keeps}
 use Rattle.std.proofs.KnownBytes.{Consumes-trans}
 use Rattle.std.proofs.lemmas.Bool.{false≢true}
 use Rattle.std.proofs.lemmas.List.{length-map}
-use Rattle.bufr_bits.specs.Device.{counted}
-use Rattle.bufr_tables.specs.TableB.{Row}
-use Rattle.bufr_tables.specs.TableD.{Sequence}
-use Rattle.bufr_frame.specs.Input.{max_reads, read_failures_after}
+use Rattle.bufr_bits.specs.Prelude.{counted}
+use Rattle.bufr_tables.specs.Prelude.{Row, Sequence}
+use Rattle.bufr_frame.specs.Prelude.{max_reads}
 use Rattle.bufr_frame.specs.declared.fault.RunFault.{RunFault}
 use Rattle.bufr_frame.specs.declared.fault.RunFault.TheVariants.{Read, Write, InputTooLong, Memory}
-use Rattle.bufr_text.specs.Documents.{Document, ParseResult, TextLineFault, Complete, Refused, NotAllowed, LineEffect, WalkGoes, Gives, Faults, ParserState, Between, Heading, BeforeSubsets, Filling, Stopped, reported_at, reported_at_end, parse_lines, line_within_limit, place_after, prepend_to_line, lines_of, documents_of, open_documents_of}
-use Rattle.bufr_text.specs.Reader.{parse, parse_open, ReaderModel, new_reader, position_of, parse_results, ReadsLines, ReturnsNextDocument, ReadsDocument, LeavesReader, CountsTextReads, HasNoWholeLine, failures_by}
+use Rattle.bufr_text.specs.Prelude.{Document, ParseResult, TextLineFault, Complete, Refused, NotAllowed, LineEffect, WalkGoes, Gives, Faults, ParserState, Between, Heading, BeforeSubsets, Filling, Stopped, reported_at, reported_at_end, parse_lines, line_within_limit, place_after, prepend_to_line, lines_of, documents_of, open_documents_of, parse, parse_open, ReaderModel, new_reader, position_of, parse_results, ReadsLines, ReturnsNextDocument, ReadsDocument, LeavesReader, CountsTextReads, HasNoWholeLine, failures_by, Writes}
 use Rattle.bufr_text.specs.Documents as documents
-use Rattle.bufr_text.specs.Writing.{Writes}
 use Rattle.bufr_text.specs.declared.fault.ReadFault.{ReadFault}
 use Rattle.bufr_text.specs.declared.encode.Form.{Form}
 use Rattle.bufr_text.specs.declared.fault.ReadFault.TheVariants.{Line, SubsetCount, HeaderRange, Run}
-use Rattle.bufr_cli.specs.FaultLine.{refused_line}
-use Rattle.bufr_cli.specs.Pieces.{result_piece, encode_pieces, up_to_refused, Piece, OnOutput, OnErrors, is_accepted, is_refused}
-use Rattle.bufr_cli.specs.Running.{RunPieces, document_pieces, read_pieces, RunDone, RunStopped, RunCut, LeavesRun, ReadsFewer, ReadsAtMost, Tallies, WritesPieces, WrittenInPart, LeavesNext, LeavesPieces, StopsPiece, counted_accepted, tally_after, Blames}
-use Rattle.bufr_cli.specs.declared.outcome.Tally.{Tally}
-use Rattle.bufr_cli.specs.declared.outcome.Verdict.{Verdict}
+use Rattle.bufr_cli.specs.Prelude.{refused_line, result_piece, encode_pieces, up_to_refused, Piece, OnOutput, OnErrors, is_accepted, is_refused, RunPieces, document_pieces, read_pieces, RunDone, RunStopped, RunCut, LeavesRun, ReadsFewer, ReadsAtMost, Tallies, WritesPieces, WrittenInPart, LeavesNext, LeavesPieces, StopsPiece, counted_accepted, tally_after, Tally, Verdict}
 use Rattle.bufr_cli.specs.declared.outcome.Verdict.TheVariants as verdict
 use Rattle.bufr_text.proofs.CallLemmas.{call-none, call-then, counts-none, counts-then, reported-first, reported-first-openly, reported-at-end, reported-at-fault}
 use Rattle.bufr_cli.proofs.RunLemmas.{Tallies-then, count-append, map-append, Written-nil, Written-then, all-read, nothing-after-end, written-kept, done-cut, whole-part}
@@ -32,10 +25,7 @@ use Rattle.bufr_cli.proofs.DumpLemmas.{errors-reported, line-stopped}
 pub next-stopped : (w w' e e' : Option (List ℕ)) (piece : ParseResult → Piece) (next : Result (Option Document) ReadFault) (document : Document) (write_event : Result Verdict RunFault) (f : RunFault) (r : Result (Option Verdict) RunFault)
     → next ≡ Ok (Some document) → LeavesPieces w w' e e' (piece (Complete document) ∷ []) write_event → StopsPiece true write_event → write_event ≡ Err f → r ≡ Err f → LeavesNext w w' e e' piece next r
 next-stopped w w' e e' piece next document write_event f r is reports stops fails same =
-    let P : Result (Option Verdict) RunFault → Type 0 = λ x. LeavesNext w w' e e' piece next x in
-    let T : Result Verdict RunFault → Type 0 = λ x. LeavesPieces w w' e e' (piece (Complete document) ∷ []) x in
-    let S : Result Verdict RunFault → Type 0 = λ x. StopsPiece true x in
-    subst P (sym same) (by f (subst T fails reports) (subst S fails stops))
+    rw same (by f (rw fails at reports) (rw fails at stops))
   where
     by : (g : RunFault) → LeavesPieces w w' e e' (piece (Complete document) ∷ []) (Err g) → StopsPiece true (Err g) → LeavesNext w w' e e' piece next (Err g)
     by Read reports' stops' = absurd stops'
@@ -58,10 +48,8 @@ line-cut {X = X} w e e' form b d next fault first f r is some writes fails same 
     let refusal = read-refusal fault some in
     let text = refused_line refusal.0 refusal.1 in
     let written = writes refusal.0 refusal.1 refusal.2 in
-    let W : Result X RunFault → Type 0 = λ x. Writes e e' text x in
-    let P : Result (Option Verdict) RunFault → Type 0 = λ x. LeavesNext w w e e' (result_piece form b d) next x in
-    let write : f ≡ Write = (subst W fails written).0 in
-    subst P (sym (same ∙ ap Err write)) (Refused refusal.0 refusal.1, ap parse_results is ∙ refusal.2, line-stopped w e e' text first Write (Err Write) (OnErrors text) refl written (fails ∙ ap Err write) refl)
+    let write : f ≡ Write = (rw fails at written).0 in
+    rw (same ∙ ap Err write) (Refused refusal.0 refusal.1, ap parse_results is ∙ refusal.2, line-stopped w e e' text first Write (Err Write) (OnErrors text) refl written (fails ∙ ap Err write) refl)
 
 -- the line of a fault of the text was written
 pub line-written : (w e e' : Option (List ℕ)) (form : Form) (b : List Row) (d : List Sequence) (next : Result (Option Document) ReadFault) (fault : ReadFault)
@@ -71,20 +59,6 @@ line-written w e e' form b d next fault is some writes =
     let refusal = read-refusal fault some in
     let text = refused_line refusal.0 refusal.1 in
     (Refused refusal.0 refusal.1, ap parse_results is ∙ refusal.2, errors-reported w e e' text (OnErrors text) refl (writes refusal.0 refusal.1 refusal.2))
-
--- the reading ended
-pub run-ended : (w e : Option (List ℕ)) (piece : ParseResult → Piece) (next : Result (Option Document) ReadFault) (fault : RunFault) → next ≡ Err (Run fault) → (next ≡ Err (Run Write) → ⊥) → LeavesNext w w e e piece next (Err fault)
-run-ended w e piece next Read is some = (is, refl, refl)
-run-ended w e piece next InputTooLong is some = (is, refl, refl)
-run-ended w e piece next Memory is some = inl (is, refl, refl)
-run-ended w e piece next Write is some = absurd (some is)
-
--- a fault that is none of a writer blames none
-pub blames-none : (X a b c d : Type 0) (fault : RunFault) → (fault ≡ Write → ⊥) → a → c → Blames {X = X} (Err fault) a b c d
-blames-none X a b c d Read some x y = (x, y)
-blames-none X a b c d InputTooLong some x y = (x, y)
-blames-none X a b c d Memory some x y = (x, y)
-blames-none X a b c d Write some x y = absurd (some refl)
 
 -- none of these pieces ends the run
 abbrev pub Open : List Piece → Type 0
@@ -189,8 +163,7 @@ ran-by-equal form b d left mid reads reads' w w' e e' s s' tally is ran = subst 
 pub ran-fresh : (form : Form) (b : List Row) (d : List Sequence) (left : Option (List ℕ)) (reads : ℕ) (w e : Option (List ℕ)) (s : ReaderModel) (tally : Tally)
     → s ≡ new_reader → tally.accepted ≡ 0 → tally.refused ≡ 0 → EncodedSoFar form b d left left reads reads w w e e s tally
 ran-fresh form b d left reads w e s tally is accepted refused =
-    let P : ReaderModel → Type 0 = λ x. EncodedSoFar form b d left left reads reads w w e e x tally in
-    subst P (sym is) (record {
+    rw is (record {
       octets = [];
       results = [];
       call = call-none left new_reader;
@@ -211,10 +184,7 @@ reported-call left left' old new (Err (HeaderRange line)) x so is = let C : List
 reported-call left left' old new (Err (Run run)) x so is = absurd (omega (arith, ap length is))
 
 refused-one : (form : Form) (b : List Row) (d : List Sequence) (line : ℕ) (why : TextLineFault) (x : ParseResult) → Refused line why ∷ [] ≡ x ∷ [] → counted_accepted verdict.Accepted ≡ count_by is_accepted (result_piece form b d x ∷ []) → ⊥
-refused-one form b d line why x is one =
-    let P : List ParseResult → Type 0 = λ l. 1 ≡ count_by is_accepted (map (result_piece form b d) l) in
-    let here : 1 ≡ 0 = subst P (sym is) one in
-    omega (arith, here)
+refused-one form b d line why x is one = grind (arith, common_steps, count_by, map)
 
 -- a document that was accepted leaves the reader without a fault
 accepted-sound : (form : Form) (b : List Row) (d : List Sequence) (left left' : Option (List ℕ)) (old new : ReaderModel) (next : Result (Option Document) ReadFault) (x : ParseResult) → ReturnsNextDocument left left' old new next → parse_results next ≡ x ∷ []
@@ -320,29 +290,24 @@ module _ (form : Form) (b : List Row) (d : List Sequence) (left mid left' : Opti
       → EncodedSoFar form b d left left' reads reads2 w w2 e e2 s' tally'
   turn w2 e2 tally' (x, is, (written, accepted, refused)) after =
       let more = map-append (result_piece form b d) ran.results (x ∷ []) in
-      let W : List Piece → Type 0 = λ l. WritesPieces w w2 e e2 l in
-      let T : List Piece → Type 0 = λ l. Tallies tally' l in
-      let O : List Piece → Type 0 = λ l. Open l in
       let p = result_piece form b d x in
       record {
         octets = ran.octets ++ so.octets;
         results = ran.results ++ x ∷ [];
         call = call-then left mid left' new_reader s s' ran.results (x ∷ []) ran.octets so.octets ran.call (reported-call mid left' s s' next x so is);
         counts = counts-then reads reads1 reads2 new_reader s s' ran.counts counts;
-        written = subst W (sym more) (Written-then w w1 w2 e e1 e2 (map (result_piece form b d) ran.results) (p ∷ []) ran.written written);
-        tallies = subst T (sym more) (Tallies-then tally tally' verdict.Accepted (map (result_piece form b d) ran.results) (p ∷ []) ran.tallies after accepted refused);
-        open' = subst O (sym more) (accepted-open (map (result_piece form b d) ran.results) p accepted ran.open');
+        written = rw more (Written-then w w1 w2 e e1 e2 (map (result_piece form b d) ran.results) (p ∷ []) ran.written written);
+        tallies = rw more (Tallies-then tally tally' verdict.Accepted (map (result_piece form b d) ran.results) (p ∷ []) ran.tallies after accepted refused);
+        open' = rw more (accepted-open (map (result_piece form b d) ran.results) p accepted ran.open');
         sound = accepted-sound form b d mid left' s s' next x so is accepted;
       }
 
   -- the end of the text
   pub done-end : next ≡ Ok None → RunDone (document_pieces form b d) left left' w w1 e e1 (ran.octets ++ so.octets) tally
   done-end is =
-      let N : Result (Option Document) ReadFault → Type 0 = λ x. ReadsDocument mid left' s s' x so.octets in
-      let E : Result (Option Document) ReadFault → Type 0 = λ x. LeavesReader s' x in
       let bs = ran.octets ++ so.octets in
-      let call = call-then left mid left' new_reader s s' ran.results [] ran.octets so.octets ran.call (subst N is so.reads) in
-      let done = (subst E is so.ends).1 in
+      let call = call-then left mid left' new_reader s s' ran.results [] ran.octets so.octets ran.call (rw is at so.reads) in
+      let done = (rw is at so.ends).1 in
       let all : documents_of bs ≡ ran.results = reported-at-end left left' s' (ran.results ++ []) bs call done ∙ append-nil ran.results in
       let pieces : encode_pieces form b d (documents_of bs) ≡ map (result_piece form b d) ran.results = ap (encode_pieces form b d) all ∙ open-all (map (result_piece form b d) ran.results) ran.open' in
       let W : List Piece → Type 0 = λ l. WritesPieces w w1 e e1 l in
@@ -376,7 +341,6 @@ module _ (form : Form) (b : List Row) (d : List Sequence) (left mid left' : Opti
       ∙ ap up_to_refused (map-append (result_piece form b d) (ran.results ++ x ∷ []) prefix.0 ∙ ap (λ l. l ++ map (result_piece form b d) prefix.0) (map-append (result_piece form b d) ran.results (x ∷ [])))
       ∙ closed (map (result_piece form b d) prefix.0) in
       let W : List Piece → Type 0 = λ l. WritesPieces w w2 e e2 l in
-      let T : List Piece → Type 0 = λ l. Tallies tally' l in
       let all = Written-then w w1 w2 e e1 e2 before (p ∷ []) ran.written written in
       record {
         read = call.read;
@@ -385,33 +349,28 @@ module _ (form : Form) (b : List Row) (d : List Sequence) (left mid left' : Opti
         end = λ ended. all-read left left' bs call.read (call.end (λ end. absurd (false≢true end)) ended);
         written = λ t none. subst W (sym (pieces t none)) all;
         certain = subst W (sym known) all;
-        tallies = λ t none. subst T (sym (pieces t none)) (Tallies-then tally tally' verdict.Refused before (p ∷ []) ran.tallies after accepted refused);
+        tallies = λ t none. rw (pieces t none) (Tallies-then tally tally' verdict.Refused before (p ∷ []) ran.tallies after accepted refused);
       }
 
   -- the end of the text, reported by an answer
   pub done-last : (w2 e2 : Option (List ℕ)) (write_event : Result (Option Verdict) RunFault) → LeavesNext w1 w2 e1 e2 (result_piece form b d) next write_event → write_event ≡ Ok None
       → (bs : List ℕ) × RunDone (document_pieces form b d) left left' w w2 e e2 bs tally
   done-last w2 e2 write_event reports is =
-      let T : Result (Option Verdict) RunFault → Type 0 = λ x. LeavesNext w1 w2 e1 e2 (result_piece form b d) next x in
-      let end = subst T is reports in
-      let W : Option (List ℕ) → Type 0 = λ x. RunDone (document_pieces form b d) left left' w x e e1 (ran.octets ++ so.octets) tally in
-      let E : Option (List ℕ) → Type 0 = λ x. RunDone (document_pieces form b d) left left' w w2 e x (ran.octets ++ so.octets) tally in
-      (ran.octets ++ so.octets, subst E (sym end.2) (subst W (sym end.1) (done-end end.0)))
+      let end = rw is at reports in
+      (ran.octets ++ so.octets, rw end.2 (rw end.1 (done-end end.0)))
 
   -- a document was refused, reported by an answer
   pub done-at-refused : (w2 e2 : Option (List ℕ)) (write_event : Result (Option Verdict) RunFault) (v : Verdict) (tally' : Tally) → LeavesNext w1 w2 e1 e2 (result_piece form b d) next write_event → write_event ≡ Ok (Some v) → v ≡ verdict.Refused
       → tally' ≡ tally_after tally v → (bs : List ℕ) × RunDone (document_pieces form b d) left left' w w2 e e2 bs tally'
   done-at-refused w2 e2 write_event v tally' reports is refused after =
-      let T : Result (Option Verdict) RunFault → Type 0 = λ x. LeavesNext w1 w2 e1 e2 (result_piece form b d) next x in
-      (ran.octets ++ so.octets, done-refused w2 e2 tally' (subst T (is ∙ ap (λ (x : Verdict). Ok (Some x)) refused) reports) (after ∙ ap (tally_after tally) refused))
+      (ran.octets ++ so.octets, done-refused w2 e2 tally' (rw (is ∙ ap (λ (x : Verdict). Ok (Some x)) refused) at reports) (after ∙ ap (tally_after tally) refused))
 
   -- one more document, reported by an answer
   pub turn-on : (w2 e2 : Option (List ℕ)) (write_event : Result (Option Verdict) RunFault) (v : Verdict) (tally' : Tally) → LeavesNext w1 w2 e1 e2 (result_piece form b d) next write_event → write_event ≡ Ok (Some v) → (v ≡ verdict.Refused → ⊥)
       → tally' ≡ tally_after tally v → EncodedSoFar form b d left left' reads reads2 w w2 e e2 s' tally'
   turn-on w2 e2 write_event v tally' reports is some after =
-      let T : Result (Option Verdict) RunFault → Type 0 = λ x. LeavesNext w1 w2 e1 e2 (result_piece form b d) next x in
       let accepted = accepted-else v some in
-      turn w2 e2 tally' (subst T (is ∙ ap (λ (x : Verdict). Ok (Some x)) accepted) reports) (after ∙ ap (tally_after tally) accepted)
+      turn w2 e2 tally' (rw (is ∙ ap (λ (x : Verdict). Ok (Some x)) accepted) at reports) (after ∙ ap (tally_after tally) accepted)
 
   stops-read : (w2 e2 : Option (List ℕ)) → (w2 ≡ w1) → (e2 ≡ e1) → ReadsLines left left' new_reader s' (ran.results ++ []) (ran.octets ++ so.octets) → HasNoWholeLine s' → RunStopped (document_pieces form b d) left left' w w2 e e2 (ran.octets ++ so.octets)
   stops-read w2 e2 same_w same_e call open' =
@@ -491,9 +450,7 @@ module _ (form : Form) (b : List Row) (d : List Sequence) (left mid left' : Opti
   pub stops : (w2 e2 : Option (List ℕ)) (write_event : Result (Option Verdict) RunFault) (f : RunFault) (r : Result Tally RunFault) → LeavesNext w1 w2 e1 e2 (result_piece form b d) next write_event → write_event ≡ Err f → r ≡ Err f
       → (bs : List ℕ) × LeavesRun (document_pieces form b d) left left' w w2 e e2 (Unit {0}) (ReadsFewer reads reads2) bs r
   stops w2 e2 write_event f r reports fails same =
-      let P : Result Tally RunFault → Type 0 = λ x. (bs : List ℕ) × LeavesRun (document_pieces form b d) left left' w w2 e e2 (Unit {0}) (ReadsFewer reads reads2) bs x in
-      let T : Result (Option Verdict) RunFault → Type 0 = λ x. LeavesNext w1 w2 e1 e2 (result_piece form b d) next x in
-      subst P (sym same) (by f (subst T fails reports))
+      rw same (by f (rw fails at reports))
     where
       reads-so : (g : RunFault) → next ≡ Err (Run g) → ReadsDocument mid left' s s' (Err (Run g)) so.octets
       reads-so g is = let N : Result (Option Document) ReadFault → Type 0 = λ x. ReadsDocument mid left' s s' x so.octets in subst N is so.reads
@@ -523,12 +480,7 @@ reads-made reads reads' s r counts long =
 -- a run that is stopped because its input is too long made all reads
 pub stop-reads : (left left' : Option (List ℕ)) (s s' : ReaderModel) (w w' e e' : Option (List ℕ)) (piece : ParseResult → Piece) (next : Result (Option Document) ReadFault) (write_event : Result (Option Verdict) RunFault) (f : RunFault) (r : Result Tally RunFault)
     → ReturnsNextDocument left left' s s' next → LeavesNext w w' e e' piece next write_event → write_event ≡ Err f → r ≡ Err f → r ≡ Err InputTooLong → s'.reads ≡ max_reads
-stop-reads left left' s s' w w' e e' piece next write_event f r so reports fails same long =
-    let T : Result (Option Verdict) RunFault → Type 0 = λ x. LeavesNext w w' e e' piece next x in
-    let E : Result (Option Document) ReadFault → Type 0 = λ x. LeavesReader s' x in
-    let long' : write_event ≡ Err InputTooLong = cc in
-    let stopped = subst T long' reports in
-    (subst E stopped.0 so.ends).2
+stop-reads left left' s s' w w' e e' piece next write_event f r so reports fails same long = grind (arith, common_steps)
 
 -- what reports something is no failure of the reader
 reported-keeps : (count : ℕ) (next : Result (Option Document) ReadFault) (x : ParseResult) → parse_results next ≡ x ∷ [] → failures_by count next ≡ count
@@ -542,25 +494,7 @@ reported-keeps count (Err (Run run)) x is = absurd (omega (arith, ap length is))
 -- the failures of the reader, where a document or a line was reported
 pub verdict-keeps : (w w' e e' : Option (List ℕ)) (piece : ParseResult → Piece) (count : ℕ) (next : Result (Option Document) ReadFault) (write_event : Result (Option Verdict) RunFault) (v : Verdict)
     → LeavesNext w w' e e' piece next write_event → write_event ≡ Ok (Some v) → failures_by count next ≡ count
-verdict-keeps w w' e e' piece count next write_event v reports is =
-    let T : Result (Option Verdict) RunFault → Type 0 = λ x. LeavesNext w w' e e' piece next x in
-    let here = subst T is reports in
-    reported-keeps count next here.0 here.1
-
--- the failures of the reader, where the run was stopped
-pub stop-failures : (w w' e e' : Option (List ℕ)) (piece : ParseResult → Piece) (next : Result (Option Document) ReadFault) (write_event : Result (Option Verdict) RunFault) (f : RunFault) (r : Result Tally RunFault) (before after : ℕ)
-    → LeavesNext w w' e e' piece next write_event → write_event ≡ Err f → r ≡ Err f → after ≡ failures_by before next → after ≡ read_failures_after before r
-stop-failures w w' e e' piece next write_event f r before after reports fails same is =
-    let P : Result Tally RunFault → Type 0 = λ x. after ≡ read_failures_after before x in
-    let T : Result (Option Verdict) RunFault → Type 0 = λ x. LeavesNext w w' e e' piece next x in
-    subst P (sym same) (by f (subst T fails reports))
-  where
-    by : (g : RunFault) → LeavesNext w w' e e' piece next (Err g) → after ≡ read_failures_after {X = Tally} before (Err g)
-    by Read (stopped, _, _) = is ∙ ap (failures_by before) stopped
-    by InputTooLong (stopped, _, _) = is ∙ ap (failures_by before) stopped
-    by Write (x, one, _) = is ∙ reported-keeps before next x one
-    by Memory (inl (stopped, _, _)) = is ∙ ap (failures_by before) stopped
-    by Memory (inr (x, one, _)) = is ∙ reported-keeps before next x one
+verdict-keeps w w' e e' piece count next write_event v reports is = grind (arith, common_steps, reported-keeps)
 
 -- a fault before the flushes
 abbrev unflushed-cut : (pieces : RunPieces) (left left' w w' e e' : Option (List ℕ)) (unflushed : Type 0) (bs : List ℕ) → unflushed → RunCut pieces left left' w w' e e' (Unit {0}) bs → RunCut pieces left left' w w' e e' unflushed bs
@@ -569,9 +503,7 @@ unflushed-cut pieces left left' w w' e e' unflushed bs kept cut = record { read 
 pub stays-unflushed : (pieces : RunPieces) (left left' w w' e e' : Option (List ℕ)) (unflushed early : Type 0) → unflushed → (first : Result Tally RunFault) (f : RunFault) (r : Result Tally RunFault) → first ≡ Err f → r ≡ Err f
     → ((bs : List ℕ) × LeavesRun pieces left left' w w' e e' (Unit {0}) early bs first) → (bs : List ℕ) × LeavesRun pieces left left' w w' e e' unflushed early bs r
 stays-unflushed pieces left left' w w' e e' unflushed early kept first f r fails same (bs, so) =
-    let P : Result Tally RunFault → Type 0 = λ x. LeavesRun pieces left left' w w' e e' unflushed early bs x in
-    let F : Result Tally RunFault → Type 0 = λ x. LeavesRun pieces left left' w w' e e' (Unit {0}) early bs x in
-    (bs, subst P (sym same) (by f (subst F fails so)))
+    (bs, rw same (by f (rw fails at so)))
   where
     by : (g : RunFault) → LeavesRun pieces left left' w w' e e' (Unit {0}) early bs (Err g) → LeavesRun pieces left left' w w' e e' unflushed early bs (Err g)
     by Read before = before
@@ -584,8 +516,7 @@ module _ (pieces : RunPieces) (left left' w w1 w2 e e1 e2 : Option (List ℕ)) (
     (before : (bs : List ℕ) × LeavesRun pieces left left' w w1 e e1 (Unit {0}) early bs first) where
   pub encode-flushed : (bs : List ℕ) × RunDone pieces left left' w w2 e e2 bs tally
   encode-flushed =
-      let F : Result Tally RunFault → Type 0 = λ x. LeavesRun pieces left left' w w1 e e1 (Unit {0}) early before.0 x in
-      let done = subst F is before.1 in (
+      let done = rw is at before.1 in (
         before.0,
         record {
           read = done.read;
@@ -602,14 +533,4 @@ module _ (pieces : RunPieces) (left left' w w1 w2 e e1 e2 : Option (List ℕ)) (
   pub stop-encode-flush : (unflushed : Type 0) (f : RunFault) (r : Result Tally RunFault) → f ≡ Write → r ≡ Err f → (bs : List ℕ) × LeavesRun pieces left left' w w2 e e2 unflushed early bs r
   stop-encode-flush unflushed f r write same =
       let bs = encode-flushed.0 in
-      let P : Result Tally RunFault → Type 0 = λ x. LeavesRun pieces left left' w w2 e e2 unflushed early bs x in
-      (bs, subst P (sym (same ∙ ap Err write)) (done-cut pieces left left' w w2 e e2 unflushed bs tally encode-flushed.1))
-
--- the reads of what came before
-pub reads-after : {X Y : Type 0} (reads reads' : ℕ) (first : Result X RunFault) (r : Result Y RunFault) → ReadsAtMost reads reads' first → (r ≡ Err InputTooLong → first ≡ Err InputTooLong) → ReadsAtMost reads reads' r
-reads-after reads reads' first r (n, most, made, long) same = (n, most, made, λ e. long (same e))
-
--- the reads of what was stopped
-pub stop-keeps-reads : {X Y : Type 0} (reads reads' : ℕ) (first : Result X RunFault) (f : RunFault) (r : Result Y RunFault) → ReadsAtMost reads reads' first → first ≡ Err f → r ≡ Err f → ReadsAtMost reads reads' r
-stop-keeps-reads reads reads' first f r so fails same =
-    reads-after reads reads' first r so (λ long. cc)
+      (bs, rw (same ∙ ap Err write) (done-cut pieces left left' w w2 e e2 unflushed bs tally encode-flushed.1))

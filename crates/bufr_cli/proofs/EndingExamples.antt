@@ -1,18 +1,13 @@
 -- Last lines and exit statuses, and ends of runs that are refused, computed.
-use Rattle.std.proofs.Common.{◌≡◌, ◌∷◌, ℕ, List, [], refl, ap, codes, ◌∙◌, Option, Some, Result, Ok, Err, sym, subst, arith, inl, inr}
+use Rattle.std.proofs.Common.{◌≡◌, ◌∷◌, ℕ, List, [], map, refl, ap, codes, ◌∙◌, Option, Some, Result, Ok, Err, sym, subst, arith, inl, inr}
 use Rattle.std.specs.Borrow.{Bor}
 use Rattle.std.specs.Fmt.{digits}
 use Rattle.bufr_frame.specs.declared.fault.RunFault.TheVariants.{Read, Write, InputTooLong, Memory}
-use Rattle.bufr_text.specs.Writing.{joined}
-use Rattle.bufr_cli.specs.Ending.{last_line, status_of, EndsRun, FlushesRest, WantsMemory, WasEnded, WentThrough, ran_status}
+use Rattle.bufr_text.specs.Prelude.{joined}
+use Rattle.bufr_cli.specs.Prelude.{last_line, status_of, EndsRun, FlushesRest, WantsMemory, WasEnded, WentThrough, ran_status, Tally, BlamesWriter, RunPieces, Writer, Writers, event_pieces, holding, ls_piece, IsListing}
 use Rattle.bufr_cli.specs.declared.outcome.Outcome.TheVariants.{Ran, Usage, CannotOpen, TableB, TableD, Run}
-use Rattle.bufr_cli.specs.declared.outcome.Tally.{Tally}
-use Rattle.bufr_frame.specs.Scan.{scan_from}
-use Rattle.bufr_frame.specs.Sections.{sections_of, section_end}
+use Rattle.bufr_frame.specs.Prelude.{scan_from, sections_of, section_end}
 use Rattle.bufr_frame.specs.declared.fault.RunFault.{RunFault}
-use Rattle.bufr_cli.specs.Running.{BlamesWriter, RunPieces, Writer, Writers, event_pieces, holding}
-use Rattle.bufr_cli.specs.Pieces.{ls_piece}
-use Rattle.bufr_cli.specs.Program.{IsListing}
 use Rattle.bufr_tables.specs.declared.fault.TableFault.TheVariants as table
 
 -- ---- The last line and the exit status of each outcome computed on worked examples.
@@ -21,78 +16,35 @@ use Rattle.bufr_tables.specs.declared.fault.TableFault.TheVariants as table
 ran-line : (tally : Tally) → last_line (Ran tally) ≡ []
 ran-line tally = refl
 
-all-accepted : status_of (Ran (record { accepted = 3; refused = 0 })) ≡ 0
-all-accepted = refl
-
-some-refused : status_of (Ran (record { accepted = 3; refused = 1 })) ≡ 1
-some-refused = refl
+statuses : map status_of (Ran (record { accepted = 3; refused = 0 }) ∷ Ran (record { accepted = 3; refused = 1 }) ∷ Run Read ∷ TableB table.Header ∷ []) ≡ 0 ∷ 1 ∷ 2 ∷ 2 ∷ []
+statuses = refl
 
 -- a fault that ended a run
-read-line : last_line (Run Read) ≡ codes "bufr: 70 read failed\n"
+run-lines : map last_line (Run Read ∷ Run Write ∷ Run InputTooLong ∷ Run Memory ∷ [])
+    ≡ codes "bufr: 70 read failed\n" ∷ codes "bufr: 71 write failed\n" ∷ codes "bufr: 72 input too long\n" ∷ codes "bufr: 73 out of memory\n" ∷ []
 unfolding digits
-read-line = refl
-
-write-line : last_line (Run Write) ≡ codes "bufr: 71 write failed\n"
-unfolding digits
-write-line = refl
-
-too-long-line : last_line (Run InputTooLong) ≡ codes "bufr: 72 input too long\n"
-unfolding digits
-too-long-line = refl
-
-memory-line : last_line (Run Memory) ≡ codes "bufr: 73 out of memory\n"
-unfolding digits
-memory-line = refl
-
-ended-status : status_of (Run Read) ≡ 2
-ended-status = refl
+run-lines = refl
 
 -- a line that was not understood, and a file that cannot be opened
-usage-line : (text : Bor (List ℕ)) → text.now ≡ codes "error: no command\n" → last_line (Usage text) ≡ codes "error: no command\n"
-usage-line text is = is
+usage-line : (text : Bor (List ℕ)) → text.now ≡ codes "error: no command\n" → (last_line (Usage text) ≡ codes "error: no command\n") × (status_of (Usage text) ≡ 2)
+usage-line text is = (is, refl)
 
-usage-status : (text : Bor (List ℕ)) → status_of (Usage text) ≡ 2
-usage-status text = refl
-
-closed-line : (name : Bor (List ℕ)) → name.now ≡ codes "a.bufr" → last_line (CannotOpen name) ≡ codes "bufr: cannot open a.bufr\n"
-closed-line name is = ap (λ octets. joined (codes "bufr: cannot open " ∷ octets ∷ codes "\n" ∷ [])) is
-
-closed-status : (name : Bor (List ℕ)) → status_of (CannotOpen name) ≡ 2
-closed-status name = refl
+closed-line : (name : Bor (List ℕ)) → name.now ≡ codes "a.bufr" → (last_line (CannotOpen name) ≡ codes "bufr: cannot open a.bufr\n") × (status_of (CannotOpen name) ≡ 2)
+closed-line name is = (ap (λ octets. joined (codes "bufr: cannot open " ∷ octets ∷ codes "\n" ∷ [])) is, refl)
 
 -- a table at fault
-header-line : last_line (TableB table.Header) ≡ codes "table B: 40 header\n"
+-- rule: status-of-table, fault-73, table-not-read
+table-lines : map last_line (TableB table.Header ∷ TableB (table.Row 2) ∷ TableB (table.Duplicate 257) ∷ TableD (table.Cycle 49153) ∷ TableD table.TableSize ∷ TableB table.Csv ∷ TableD table.Memory ∷ [])
+    ≡ codes "table B: 40 header\n"
+    ∷ codes "table B: 41 row 2\n"
+    ∷ codes "table B: 42 duplicate 001001\n"
+    ∷ codes "table D: 43 cycle 300001\n"
+    ∷ codes "table D: 44 table size\n"
+    ∷ codes "table B: 45 csv\n"
+    ∷ codes "bufr: 73 out of memory\n"
+    ∷ []
 unfolding digits
-header-line = refl
-
--- rule: status-of-table
-row-line : last_line (TableB (table.Row 2)) ≡ codes "table B: 41 row 2\n"
-unfolding digits
-row-line = refl
-
-duplicate-line : last_line (TableB (table.Duplicate 257)) ≡ codes "table B: 42 duplicate 001001\n"
-unfolding digits
-duplicate-line = refl
-
-cycle-line : last_line (TableD (table.Cycle 49153)) ≡ codes "table D: 43 cycle 300001\n"
-unfolding digits
-cycle-line = refl
-
-size-line : last_line (TableD table.TableSize) ≡ codes "table D: 44 table size\n"
-unfolding digits
-size-line = refl
-
-csv-line : last_line (TableB table.Csv) ≡ codes "table B: 45 csv\n"
-unfolding digits
-csv-line = refl
-
--- rule: fault-73, table-not-read
-no-memory-line : last_line (TableD table.Memory) ≡ codes "bufr: 73 out of memory\n"
-unfolding digits
-no-memory-line = refl
-
-table-status : status_of (TableB table.Header) ≡ 2
-table-status = refl
+table-lines = refl
 
 -- what a result is
 IsOk : Result Tally RunFault → Type 0

@@ -1,14 +1,18 @@
 -- The lines computed on worked examples.
-use Rattle.std.proofs.Common.{◌≡◌, ℕ, List, [], ◌∷◌, ◌++◌, refl, codes}
-use Rattle.std.specs.Prelude.{slice_set}
+use Rattle.std.proofs.Common.{◌≡◌, ℕ, true, false, List, [], ◌∷◌, ◌++◌, refl, codes, map, slice_set}
 use Rattle.std.specs.Fmt.{digits}
-use Rattle.bufr_frame.specs.Scan.{scan_from}
-use Rattle.bufr_frame.specs.Sections.{sections_of, section_end}
+use Rattle.bufr_frame.specs.Prelude.{scan_from, sections_of, section_end, number_of_cause, number_of_section_fault}
 use Rattle.bufr_frame.specs.declared.fault.Cause.TheVariants.{Cut, ShortLength, NoEnd}
 use Rattle.bufr_frame.specs.declared.fault.SectionFault.TheVariants.{Edition, SectionShort, SectionPast, SectionsEnd, Edition3Long}
-use Rattle.bufr_frame.specs.Numbers.{number_of_cause, number_of_section_fault}
-use Rattle.bufr_cli.specs.FaultLine.{fault_line, cause_text, section_fault_text}
-use Rattle.bufr_cli.specs.Pieces.{OnOutput, OnErrors, ls_pieces}
+use Rattle.bufr_tables.specs.Prelude.{number_of_template_fault}
+use Rattle.bufr_tables.specs.declared.fault.TemplateFault.TheVariants as template
+use Rattle.bufr_walk.specs.Prelude.{number_of_walk_fault, spot}
+use Rattle.bufr_walk.specs.declared.fault.WalkFault.TheVariants as walk
+use Rattle.bufr_walk.specs.declared.spec.TurnRefusal.TheVariants as turn
+use Rattle.bufr_fill.specs.Prelude.{wrong_descriptor, wrong_number, out_of_range, text_long, missing_forbidden, unequal_factors, uneven_increment, item_too_many, walk_refused, too_many_values}
+use Rattle.bufr_text.specs.Prelude.{Refused, NotAllowed, SubsetCount, HeaderRange, by_template, too_long}
+use Rattle.bufr_text.specs.declared.encode.Form.TheVariants.{AsWritten}
+use Rattle.bufr_cli.specs.Prelude.{fault_line, cause_text, section_fault_text, template_fault_text, walk_fault_text, refused_line, refusal_line, item_fault_line, OnOutput, OnErrors, ls_pieces, encode_pieces, up_to_refused}
 
 -- a message with one block number, 48 octets
 abbrev pub one_block_number : List ℕ
@@ -23,46 +27,86 @@ one-listed : ls_pieces one_block_number ≡ OnOutput (codes "offset=0 length=48 
 unfolding scan_from sections_of section_end digits
 one-listed = refl
 
--- the fault lines
--- rule: fault-1
-cut-line : fault_line 0 (number_of_cause Cut) (cause_text Cut ∷ []) ≡ codes "offset 0: 1 cut\n"
+-- the fault lines of stray words
+-- rule: stream-fault-line, fault-1, fault-2, fault-3
+stray-lines : map (λ cause. fault_line 12 (number_of_cause cause) (cause_text cause ∷ [])) (Cut ∷ ShortLength ∷ NoEnd ∷ [])
+    ≡ codes "offset 12: 1 cut\n" ∷ codes "offset 12: 2 short length\n" ∷ codes "offset 12: 3 no end\n" ∷ []
 unfolding digits
-cut-line = refl
+stray-lines = refl
 
--- rule: stream-fault-line, fault-2
-short-line : fault_line 12 (number_of_cause ShortLength) (cause_text ShortLength ∷ []) ≡ codes "offset 12: 2 short length\n"
+-- of sections
+-- rule: fault-10, fault-11, fault-12, fault-13, fault-14
+section-lines : map (λ fault. fault_line 0 (number_of_section_fault fault) (section_fault_text fault)) (Edition 2 ∷ SectionShort 1 ∷ SectionPast 4 ∷ SectionsEnd ∷ Edition3Long ∷ [])
+    ≡ codes "offset 0: 10 edition 2\n"
+    ∷ codes "offset 0: 11 section 1 short\n"
+    ∷ codes "offset 0: 12 section 4 past the end\n"
+    ∷ codes "offset 0: 13 sections do not meet the end\n"
+    ∷ codes "offset 0: 14 edition 3 length\n"
+    ∷ []
 unfolding digits
-short-line = refl
+section-lines = refl
 
--- rule: fault-3
-no-end-line : fault_line 8 (number_of_cause NoEnd) (cause_text NoEnd ∷ []) ≡ codes "offset 8: 3 no end\n"
+-- of templates
+-- rule: fault-20, fault-21, fault-22, fault-23, fault-24, fault-25, fault-26, fault-27, fault-28
+template-lines : map (λ fault. fault_line 48 (number_of_template_fault fault) (template_fault_text fault)) (template.UnknownElement 16383 ∷ template.UnknownSequence 64705 ∷ template.Operator 33800 ∷ template.GroupShape 16386 ∷ template.NoFactor 16640 ∷ template.EmptyGroup 0 ∷ template.Depth 16641 ∷ template.TemplateSize 257 ∷ template.LocalShape 34312 ∷ [])
+    ≡ codes "offset 48: 20 unknown element 063255\n"
+    ∷ codes "offset 48: 21 unknown sequence 360193\n"
+    ∷ codes "offset 48: 22 operator 204008\n"
+    ∷ codes "offset 48: 23 group shape 100002\n"
+    ∷ codes "offset 48: 24 no factor 101000\n"
+    ∷ codes "offset 48: 25 empty group 000000\n"
+    ∷ codes "offset 48: 26 depth 101001\n"
+    ∷ codes "offset 48: 27 template size 001001\n"
+    ∷ codes "offset 48: 28 local shape 206008\n"
+    ∷ []
 unfolding digits
-no-end-line = refl
+template-lines = refl
 
--- rule: fault-10
-edition-line : fault_line 0 (number_of_section_fault (Edition 2)) (section_fault_text (Edition 2)) ≡ codes "offset 0: 10 edition 2\n"
+-- of the data: the subset, the descriptor and the bits before the item, each in its place
+-- rule: stream-fault-place, fault-30, fault-31, fault-32, fault-33, fault-34, fault-35
+data-lines : map (λ fault. fault_line 0 (number_of_walk_fault fault) (walk_fault_text fault)) (walk.DataEnd (spot 1 257 22) ∷ walk.Width (spot 2 257 0) ∷ walk.Defining (spot 1 271 0) ∷ walk.UnequalFactor (spot 0 7937 0) ∷ walk.Increment (spot 0 257 0) ∷ walk.TooManyValues (spot 0 257 14336) ∷ [])
+    ≡ codes "offset 0: 30 data end at subset 1 descriptor 001001 bit 22\n"
+    ∷ codes "offset 0: 31 width at subset 2 descriptor 001001 bit 0\n"
+    ∷ codes "offset 0: 32 defining at subset 1 descriptor 001015 bit 0\n"
+    ∷ codes "offset 0: 33 unequal factor at subset 0 descriptor 031001 bit 0\n"
+    ∷ codes "offset 0: 34 increment at subset 0 descriptor 001001 bit 0\n"
+    ∷ codes "offset 0: 35 too many values at subset 0 descriptor 001001 bit 14336\n"
+    ∷ []
 unfolding digits
-edition-line = refl
+data-lines = refl
 
--- rule: fault-11
-section-short-line : fault_line 0 (number_of_section_fault (SectionShort 1)) (section_fault_text (SectionShort 1)) ≡ codes "offset 0: 11 section 1 short\n"
+-- of the lines of a text
+-- rule: fault-lines-of-reading
+refused-lines : map (refused_line 26) (NotAllowed ∷ SubsetCount ∷ HeaderRange ∷ [])
+    ≡ codes "line 26: 50 line\n" ∷ codes "line 26: 57 subset count\n" ∷ codes "line 26: 61 header range\n" ∷ []
 unfolding digits
-section-short-line = refl
+refused-lines = refl
 
--- rule: fault-12
-section-past-line : fault_line 0 (number_of_section_fault (SectionPast 4)) (section_fault_text (SectionPast 4)) ≡ codes "offset 0: 12 section 4 past the end\n"
+-- of documents
+-- rule: fault-lines-of-encoding
+document-lines : map (refusal_line 24) (by_template (template.EmptyGroup 0x8100) ∷ too_long ∷ [])
+    ≡ codes "line 24: 56 template 25 empty group 201000\n" ∷ codes "line 24: 60 too long\n" ∷ []
 unfolding digits
-section-past-line = refl
+document-lines = refl
 
--- rule: fault-13
-sections-end-line : fault_line 0 (number_of_section_fault SectionsEnd) (section_fault_text SectionsEnd) ≡ codes "offset 0: 13 sections do not meet the end\n"
+-- of their items
+-- rule: fault-lines-of-encoding
+item-lines : map (item_fault_line 24) (wrong_descriptor 0x0101 false ∷ wrong_descriptor 0x0C65 true ∷ item_too_many ∷ wrong_number ∷ out_of_range ∷ text_long ∷ missing_forbidden ∷ unequal_factors ∷ uneven_increment ∷ walk_refused (turn.Width 0x0101) ∷ walk_refused (turn.Defining 0x010F) ∷ too_many_values 0x0101 ∷ [])
+    ≡ codes "line 24: 51 expected 001001\n"
+    ∷ codes "line 24: 51 expected R 012101\n"
+    ∷ codes "line 24: 51 expected end of subset\n"
+    ∷ codes "line 24: 52 number\n"
+    ∷ codes "line 24: 53 out of range\n"
+    ∷ codes "line 24: 54 text long\n"
+    ∷ codes "line 24: 55 missing forbidden\n"
+    ∷ codes "line 24: 58 unequal factor\n"
+    ∷ codes "line 24: 59 increment\n"
+    ∷ codes "line 24: 62 walk 31 descriptor 001001\n"
+    ∷ codes "line 24: 62 walk 32 descriptor 001015\n"
+    ∷ codes "line 24: 62 walk 35 descriptor 001001\n"
+    ∷ []
 unfolding digits
-sections-end-line = refl
-
--- rule: fault-14
-edition-3-length-line : fault_line 0 (number_of_section_fault Edition3Long) (section_fault_text Edition3Long) ≡ codes "offset 0: 14 edition 3 length\n"
-unfolding digits
-edition-3-length-line = refl
+item-lines = refl
 
 -- the same octets said to be of edition 3: the versions of tables and the year are taken for the
 -- month, the day, the hour and the minute
@@ -88,3 +132,17 @@ edition-3-line = refl
 stray-listed : ls_pieces (codes "BUFR" ++ 0 ∷ 0 ∷ 64 ∷ 4 ∷ (slice_set one_block_number 7 2 ++ 0 ∷ 0 ∷ 0 ∷ 0 ∷ 0 ∷ 0 ∷ 0 ∷ 0 ∷ [])) ≡ OnErrors (codes "offset 0: 3 no end\n") ∷ OnErrors (codes "offset 8: 10 edition 2\n") ∷ []
 unfolding scan_from sections_of section_end digits
 stray-listed = refl
+
+-- after the first fault nothing is written
+-- rule: first-refusal-ends
+first-fault : up_to_refused (OnOutput (1 ∷ []) ∷ OnErrors (2 ∷ []) ∷ OnOutput (3 ∷ []) ∷ OnErrors (4 ∷ []) ∷ []) ≡ OnOutput (1 ∷ []) ∷ OnErrors (2 ∷ []) ∷ []
+unfolding up_to_refused
+first-fault = refl
+
+nothing : encode_pieces AsWritten [] [] [] ≡ []
+unfolding up_to_refused
+nothing = refl
+
+a-line-is-refused : encode_pieces AsWritten [] [] (Refused 3 NotAllowed ∷ []) ≡ OnErrors (codes "line 3: 50 line\n") ∷ []
+unfolding up_to_refused digits
+a-line-is-refused = refl

@@ -1,18 +1,13 @@
 -- Fault lines that are pushed, and what their sink has then.
-use Rattle.std.proofs.Common.{◌≡◌, ◌∙◌, ◌⊎◌, ℕ, List, [], ◌∷◌, ◌++◌, Option, Some, None, Ok, Err, codes, ap, refl, sym, subst, append-nil, inl, inr}
-use Rattle.std.specs.Prelude.{IfSome, Result}
+use Rattle.std.proofs.Common.{◌≡◌, ◌∙◌, ◌⊎◌, ℕ, List, [], ◌∷◌, ◌++◌, Option, Some, None, Ok, Err, codes, ap, refl, sym, subst, append-nil, inl, inr, IfSome, Result}
 use Rattle.bufr_frame.specs.declared.fault.RunFault.{RunFault}
-use Rattle.bufr_text.specs.Documents.{ParseResult, Complete, Refused, TextLineFault}
-use Rattle.bufr_text.specs.Encoding.{RefusedAt, number_of_walk_refusal, walk_report}
-use Rattle.bufr_text.specs.Writing.{LineModel, Pushes, GrowsByPrefix, Writes, joined}
-use Rattle.bufr_text.specs.Reader.{parse_results}
+use Rattle.bufr_text.specs.Prelude.{ParseResult, Complete, Refused, TextLineFault, RefusedAt, number_of_walk_refusal, walk_report, LineModel, Pushes, GrowsByPrefix, Writes, joined, parse_results}
 use Rattle.bufr_text.specs.declared.fault.WalkRefusal.{WalkRefusal}
 use Rattle.bufr_text.specs.declared.fault.WalkRefusal.TheVariants as walk
 use Rattle.bufr_text.specs.declared.fault.ReadFault.{ReadFault}
 use Rattle.bufr_text.specs.declared.fault.ReadFault.TheVariants as read
-use Rattle.bufr_text.proofs.PushLemmas.{retold}
-use Rattle.bufr_text.proofs.HeadLemmas.{joined_then}
-use Rattle.bufr_cli.specs.FaultLine.{document_line, item_fault_line, line_of_read_fault, line_of_refusal, refusal_line, refused_line, walk_text, place_texts}
+use Rattle.bufr_text.proofs.PushLemmas.{retold, joined_then}
+use Rattle.bufr_cli.specs.Prelude.{document_line, item_fault_line, line_of_read_fault, line_of_refusal, refusal_line, refused_line, walk_text, place_texts}
 
 -- one text
 pub one_text : {a b : LineModel} {text : List ℕ} → Pushes a text b → Pushes a (joined (text ∷ [])) b

@@ -1,18 +1,11 @@
 -- What clap leaves of the rules of a command, and which words give no job.
-use Rattle.std.proofs.Common.{◌≡◌, ◌∙◌, Bool, List, Some, ap, true, ℕ, ◌∷◌, inl, inr, Option, None, codes, sym, subst}
-use Rattle.std.specs.Borrow.{Bor}
-use Rattle.clap.specs.Simple.{app_of_fields}
-use Rattle.clap.specs.Words.{App, Rule, app_of, rule_of, HasKind, IsAmong, Kinds, Row, Text}
-use Rattle.clap.specs.declared.builder.arg.Arg.{Arg}
-use Rattle.clap.specs.declared.builder.command.Command.{Command}
-use Rattle.clap.specs.declared.builder.texts.Texts.TheVariants.{One}
-use Rattle.clap.specs.declared.builder.command.Command.TheViews.{out-Command}
-use Rattle.std.specs.Prelude.{◌⊎◌, IfNone}
+use Rattle.std.proofs.Common.{◌≡◌, ◌∙◌, List, Some, ◌∷◌, inl, inr, Option, None, codes, sym, subst, ◌⊎◌, IfNone}
+use Rattle.clap.specs.Words.{HasKind, IsAmong, Kinds, Row, Text}
 use Rattle.clap.specs.Values.{kind_of}
 use Rattle.clap.specs.declared.error.Error.{Error}
 use Rattle.clap.specs.declared.error.kind.ErrorKind.{ErrorKind}
 use Rattle.clap.specs.declared.error.kind.ErrorKind.TheVariants.{DisplayHelp, DisplayVersion, OutOfMemory}
-use Rattle.bufr_cli.specs.Line.{HasNoJob, HasTables, IsWhyNoJob, SaysWhy, ReportsKind, name_of}
+use Rattle.bufr_cli.specs.Prelude.{HasNoJob, HasTables, IsWhyNoJob, SaysWhy, ReportsKind, name_of}
 use Rattle.bufr_cli.specs.declared.job.NoJob.{NoJob}
 use Rattle.bufr_cli.specs.declared.job.NoJob.TheVariants.{UnknownCommand, MissingTable, UnknownForm}
 use Rattle.bufr_cli.specs.declared.job.Subcommand.{Subcommand}
@@ -21,26 +14,6 @@ use Rattle.bufr_cli.specs.declared.job.LineFault.{LineFault}
 use Rattle.bufr_cli.specs.declared.job.LineFault.TheVariants.{Help, Usage, Memory}
 
 -- ---- What a call of clap's builder leaves of the rules of an option or a command.
-
--- what an option is called and whether it must be there
-pub short-rule : (a b : Arg) (letter : ℕ) (r : Rule) → b ≡ record a { short = Some letter } → rule_of a ≡ r → rule_of b ≡ record r { short = Some letter }
-short-rule a b letter r is before = ap rule_of is ∙ ap (λ (x : Rule). record x { short = Some letter }) before
-
-pub long-rule : (a b : Arg) (name : Bor (List ℕ)) (r : Rule) → b ≡ record a { long = Some name } → rule_of a ≡ r → rule_of b ≡ record r { long = Some name.now }
-long-rule a b name r is before = ap rule_of is ∙ ap (λ (x : Rule). record x { long = Some name.now }) before
-
-pub value-rule : (a b : Arg) (name : Bor (List ℕ)) (r : Rule) → b ≡ record a { val_names = One name } → rule_of a ≡ r → rule_of b ≡ record r { value_names = 1 }
-value-rule a b name r is before = ap rule_of is ∙ ap (λ (x : Rule). record x { value_names = 1 }) before
-
-pub required-rule : (a b : Arg) (wanted : Bool) (r : Rule) → b ≡ record a { required = wanted } → rule_of a ≡ r → rule_of b ≡ record r { required = wanted }
-required-rule a b wanted r is before = ap rule_of is ∙ ap (λ (x : Rule). record x { required = wanted }) before
-
--- what a command is called and has
-pub version-app : (c d : Command) (text : Bor (List ℕ)) (app : App) → out-Command d ≡ record (out-Command c) { version = Some text } → app_of c ≡ app → app_of d ≡ record app { top = record (app.top) { has_version = true } }
-version-app c d text app is before = ap app_of_fields is ∙ ap (λ (x : App). record x { top = record (x.top) { has_version = true } }) before
-
-pub command-app : (c d : Command) (wanted : Bool) (app : App) → out-Command d ≡ record (out-Command c) { subcommand_required = wanted } → app_of c ≡ app → app_of d ≡ record app { top = record (app.top) { subcommand_required = wanted } }
-command-app c d wanted app is before = ap app_of_fields is ∙ ap (λ (x : App). record x { top = record (x.top) { subcommand_required = wanted } }) before
 
 -- what holds, holds where there is no value
 pub if-none : {A : Type 0} (o : Option A) (P : Type 0) → P → IfNone o P

@@ -1,23 +1,14 @@
 -- Streams dumped and encoded, and texts in one spelling, computed on worked examples.
-use Rattle.std.proofs.Common.{◌≡◌, ℕ, List, [], ◌∷◌, ◌++◌, refl, codes, pos}
-use Rattle.std.specs.Prelude.{slice_set}
+use Rattle.std.proofs.Common.{◌≡◌, ℕ, List, [], ◌∷◌, ◌++◌, refl, codes, pos, slice_set}
 use Rattle.std.specs.Fmt.{digits}
-use Rattle.bufr_bits.specs.Bits.{bits_of, bits_in}
-use Rattle.bufr_bits.specs.Decimal.{decimal_value_of, decimal_text_of, unsigned_text}
-use Rattle.bufr_frame.specs.Scan.{StreamEvent, FrameAt, StrayAt, scan_from}
-use Rattle.bufr_frame.specs.Sections.{sections_of, section_end}
-use Rattle.bufr_tables.specs.Expansion.{tree_of, inner_of, level, part_of}
-use Rattle.bufr_tables.specs.TableB.{Row}
+use Rattle.bufr_bits.specs.Prelude.{bits_of, bits_in, decimal_value_of, decimal_text_of, unsigned_text}
+use Rattle.bufr_frame.specs.Prelude.{StreamEvent, FrameAt, StrayAt, scan_from, sections_of, section_end}
+use Rattle.bufr_tables.specs.Prelude.{tree_of, inner_of, level, part_of, Row}
 use Rattle.bufr_tables.specs.declared.table_b.Kind.TheVariants.{Numeric}
-use Rattle.bufr_walk.specs.Course.{next_item}
-use Rattle.bufr_text.specs.Documents.{lines_of, parse_lines, turn, documents_of}
-use Rattle.bufr_text.specs.Encoding.{encoding_in}
-use Rattle.bufr_text.specs.Grammar.{prefix_while, suffix_while, without_prefix, descriptors_read, fxy_read, hex_read, is_hashed, quoted_read, descriptors_text, hex_text, runs_after}
-use Rattle.bufr_text.specs.Line.{keys, line_of, place_from, value_read, worded}
-use Rattle.bufr_cli.specs.Pieces.{up_to_refused, Piece, OnOutput, OnErrors, ls_piece}
-use Rattle.bufr_cli.specs.RoundTrip.{accepted_messages, dumped, longer_by, rebuilt, normal_texts}
+use Rattle.bufr_walk.specs.Prelude.{next_item}
+use Rattle.bufr_text.specs.Prelude.{lines_of, parse_lines, turn, documents_of, encoding_in, prefix_while, suffix_while, without_prefix, descriptors_read, fxy_read, hex_read, is_hashed, quoted_read, descriptors_text, hex_text, runs_after, keys, line_of, place_from, value_read, worded, header_lines}
+use Rattle.bufr_cli.specs.Prelude.{up_to_refused, Piece, OnOutput, OnErrors, ls_piece, accepted_messages, dumped, longer_by, rebuilt, normal_texts}
 use Rattle.bufr_cli.proofs.Examples.{edition_3, one_block_number}
-use Rattle.bufr_text.specs.Dump.{header_lines}
 use Rattle.bufr_text.specs.declared.encode.Form.TheVariants.{AsWritten}
 
 -- a stray word, a message, one of another edition, and a message of another centre

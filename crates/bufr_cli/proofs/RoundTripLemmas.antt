@@ -1,40 +1,24 @@
 -- What `dump` writes for a stream, or a text by hand, is encoded to messages with that text.
-use Rattle.std.proofs.Common.{◌≡◌, ◌∙◌, ◌⊎◌, ℕ, suc, ◌+◌, ◌<◌, ◌≤◌, List, [], ◌∷◌, ◌++◌, length, map, Option, Some, Result, Ok, Err, refl, sym, ap, subst, arith, inl, inr, length-append}
-use Rattle.std.specs.Prelude.{flat_map, count_by, slice_index}
+use Rattle.std.proofs.Common.{◌≡◌, ◌∙◌, ◌⊎◌, ℕ, suc, ◌+◌, ◌<◌, ◌≤◌, List, [], ◌∷◌, ◌++◌, length, map, Option, Some, Result, Ok, Err, refl, sym, ap, arith, inl, inr, length-append, flat_map, count_by, slice_index}
 use Rattle.std.specs.List.{AllByRecursion, AllZip, concat, filter}
 use Rattle.std.proofs.lemmas.List.Sums.{length-filter}
-use Rattle.bufr_tables.specs.Expansion.{tree_of, tables_of}
-use Rattle.bufr_tables.specs.Records.{Record}
-use Rattle.bufr_tables.specs.TableB.{Row, AreRows}
-use Rattle.bufr_tables.specs.TableD.{Sequence}
-use Rattle.bufr_tables.specs.Tree.{Tree}
+use Rattle.bufr_tables.specs.Prelude.{tree_of, tables_of, Record, Row, AreRows, Sequence, Tree}
 use Rattle.bufr_tables.specs.declared.fault.TemplateFault.{TemplateFault}
 use Rattle.bufr_tables.proofs.SoundLemmas.{tree_fine}
-use Rattle.bufr_frame.specs.Layout.{max_octets}
-use Rattle.bufr_frame.specs.Scan.{StreamEvent, FrameAt, StrayAt, scan, scan_from}
-use Rattle.bufr_frame.specs.Sections.{Sections, sections_of}
+use Rattle.bufr_frame.specs.Prelude.{max_octets, StreamEvent, FrameAt, StrayAt, scan, scan_from, Sections, sections_of}
 use Rattle.bufr_frame.specs.declared.fault.SectionFault.{SectionFault}
 use Rattle.bufr_frame.proofs.ScanLemmas.{IsSmall, framed_octets, frames-within, small-frames, scan_from-nil}
-use Rattle.bufr_walk.specs.Reading.{Values, apart, together}
-use Rattle.bufr_text.specs.Documents.{Between, lines_of, parse_lines, Document, ParseResult, Complete, Refused, documents_of}
-use Rattle.bufr_text.specs.Dump.{dump_lines, dump_text_of, IsOctet, DumpItem}
-use Rattle.bufr_text.specs.RoundTrip.{IsAccepted, HasSameReading, dump_items_in, IsReadAs}
-use Rattle.bufr_text.specs.Encoding.{RefusedAt, encoding_in}
+use Rattle.bufr_walk.specs.Prelude.{Values, apart, together}
+use Rattle.bufr_text.specs.Prelude.{Between, lines_of, parse_lines, Document, ParseResult, Complete, Refused, documents_of, dump_lines, dump_text_of, IsOctet, DumpItem, IsAccepted, HasSameReading, dump_items_in, IsReadAs, RefusedAt, encoding_in, IsProper, AreProper}
 use Rattle.bufr_text.proofs.FormLemmas.{canonical_encoded}
-use Rattle.bufr_text.proofs.DumpableLemmas.{dumpable}
-use Rattle.bufr_text.proofs.RoundTripLemmas.{accepted_again, encoded_again, same_text}
-use Rattle.bufr_text.proofs.LawLemmas.{text-spells}
-use Rattle.bufr_text.proofs.RowsLemmas.{rows-read, good-rows}
-use Rattle.bufr_cli.specs.Pieces.{IsDataPiece, IsTemplatePiece, IsMessagePiece, IsDumpPiece, dump_text, Piece, OnOutput, OnErrors, output_of, errors_of, is_accepted, is_refused, encoded, result_piece, up_to_refused}
+use Rattle.bufr_text.proofs.RoundTripLemmas.{dumpable, accepted_again, encoded_again, same_text, rows-read, good-rows}
+use Rattle.bufr_text.proofs.LawLemmas.{text-spells, spelled-proper}
+use Rattle.bufr_cli.specs.Prelude.{IsDataPiece, IsTemplatePiece, IsMessagePiece, IsDumpPiece, dump_text, Piece, OnOutput, OnErrors, output_of, errors_of, is_accepted, is_refused, encoded, result_piece, up_to_refused, accepted_in, accepted_messages, dump_pieces, dumped, longer_by, rebuilding, rebuilt, text_pieces, IsBuiltAgain, IsWholeRound, IsCanonicalMessage, RoundTrips, Written, IsDumpedInOneSpelling, before_refused, built, form_pieces, normal_by, normal_text, normal_texts, holding, Dumps, Encodes, GivesPieces, Tallies}
 use Rattle.bufr_text.specs.declared.encode.Form.TheVariants.{AsWritten}
-use Rattle.bufr_cli.specs.RoundTrip.{accepted_in, accepted_messages, dump_pieces, dumped, longer_by, event_octets, rebuilding, rebuilt, text_pieces, IsBuiltAgain, IsWholeRound, IsCanonicalMessage, RoundTrips, Written, IsDumpedInOneSpelling, before_refused, built, form_pieces, normal_by, normal_text, normal_texts}
-use Rattle.bufr_cli.specs.Running.{holding, Dumps, Encodes, GivesPieces, Tallies}
 use Rattle.bufr_cli.proofs.DumpLemmas.{one-piece}
 use Rattle.std.proofs.lemmas.List.{length-map}
-use Rattle.bufr_text.specs.Spelling.{IsProper, AreProper}
 use Rattle.bufr_text.specs.declared.encode.Form.{Form}
 use Rattle.bufr_text.proofs.NormalLemmas.{dump_is_normal, encoded_again_same, encoded_read}
-use Rattle.bufr_text.proofs.SpellingLemmas.{spelled-proper}
 
 -- the numbers of a slice of octets
 pub octets-all : (s : List ℕ) → ((i : ℕ) → slice_index s i < 256) → AllByRecursion IsOctet s
@@ -144,9 +128,7 @@ pub accepted-piece : (b : List Row) (d : List Sequence) (m : List ℕ) (s : Sect
     → IsDumpPiece b d (FrameAt offset m) (OnOutput (dump_text_of s (dump_items_in b template s values)))
 accepted-piece b d m s template values used offset a =
     let p = OnOutput (dump_text_of s (dump_items_in b template s values)) in
-    let M : Result Sections SectionFault → Type 0 = λ x. IsMessagePiece b d offset x p in
-    let T : Result Tree TemplateFault → Type 0 = λ x. IsTemplatePiece b offset s x p in
-    subst M (sym a.sections) (subst T (sym a.expands) (values, used, a.read, sym (same-items b s template values used)))
+    rw a.sections (rw a.expands (values, used, a.read, sym (same-items b s template values used)))
 
 abbrev octets_or_none : Result (List ℕ) RefusedAt → List ℕ
 octets_or_none (Ok octets) = octets
@@ -237,13 +219,10 @@ module _ (b : List Row) (d : List Sequence) (piece : StreamEvent → Piece) (giv
 
   built-more : (records : List Record) (here : StreamEvent) (es : List StreamEvent) (line : ℕ) → AreRows records b → IsFault (piece here) ⊎ IsDumped b d here (piece here) → ((at : ℕ) → BuiltOf es at) → BuiltOf (here ∷ es) line
   built-more records here es line rows (inl (text, is)) rest =
-      let P : Piece → Type 0 = λ p. Built b d piece (output_of p ++ flat_map output_of (map piece es)) (accepted_in here p ++ accepted_of piece es) (p ∷ map piece es) (framed_octets (here ∷ es)) line in
-      subst P (sym is) (built-fault here text (flat_map output_of (map piece es)) (accepted_of piece es) (map piece es) (framed_octets es) (framed_octets (here ∷ es)) line (framed-more here es) (rest line))
+      rw is (built-fault here text (flat_map output_of (map piece es)) (accepted_of piece es) (map piece es) (framed_octets es) (framed_octets (here ∷ es)) line (framed-more here es) (rest line))
   built-more records here es line rows (inr x) rest =
-      let P : Piece → Type 0 = λ p. Built b d piece (output_of p ++ flat_map output_of (map piece es)) (accepted_in here p ++ accepted_of piece es) (p ∷ map piece es) (framed_octets (here ∷ es)) line in
       let text = dump_text_of x.sections (dump_items_in b x.template x.sections x.values) in
-      let H : StreamEvent → Type 0 = λ h. Built b d piece (text ++ flat_map output_of (map piece es)) (event_octets h ++ accepted_of piece es) (OnOutput text ∷ map piece es) (framed_octets (h ∷ es)) line in
-      subst P (sym x.text) (subst H (sym x.is)
+      rw x.text (rw x.is
       (built-message x.octets x.sections x.template x.values x.used records (flat_map output_of (map piece es)) (accepted_of piece es) (map piece es) (framed_octets es) line rows x.accepted
       (rest (line + length (dump_lines x.sections (dump_items_in b x.template x.sections x.values))))))
 
@@ -271,7 +250,6 @@ module _ (b : List Row) (d : List Sequence) (piece : StreamEvent → Piece) (giv
       let events : scan (rebuilt b d piece s) ≡ placed 0 ms = ap scan are ∙ r.scanned 0 in
       let texts : dump_pieces piece (rebuilt b d piece s) ≡ filter is_accepted (dump_pieces piece s) = ap (map piece) events ∙ r.again 0 in
       let listed : accepted_messages piece (rebuilt b d piece s) ≡ ms = ap (accepted_of piece) events ∙ r.listed 0 in
-      let R : List (List ℕ) → Type 0 = λ l. AllZip (IsBuiltAgain b d) (accepted_messages piece s) l in
       let many : length ms ≡ length (filter is_accepted (dump_pieces piece s)) = sym (placed-count piece 0 ms) ∙ ap length (r.again 0) in
       record {
         none_refused = ap (count_by is_refused) pieces ∙ sym (length-filter is_refused (map OnOutput ms)) ∙ ap length (outputs-refused ms);
@@ -279,7 +257,7 @@ module _ (b : List Row) (d : List Sequence) (piece : StreamEvent → Piece) (giv
         as_many = ap (count_by is_accepted) pieces ∙ sym (length-filter is_accepted (map OnOutput ms)) ∙ outputs-accepted ms ∙ many ∙ length-filter is_accepted (dump_pieces piece s);
         messages = are ∙ ap concat (sym listed);
         no_longer = omega (arith, ap length are, r.no_longer, frames-within 0 0 s);
-        readings = subst R (sym listed) r.readings;
+        readings = rw listed r.readings;
         same_pieces = texts;
         same_text = ap (flat_map output_of) texts ∙ accepted-output (dump_pieces piece s);
         no_fault = ap (flat_map errors_of) texts ∙ accepted-silent (dump_pieces piece s);
@@ -307,7 +285,6 @@ module _ (b : List Row) (d : List Sequence) (piece : StreamEvent → Piece) (giv
       let built_from : text_pieces b d text.output ≡ rebuilding b d piece stream = ap (text_pieces b d) is_text in
       let are : messages.output ≡ rebuilt b d piece stream = is_messages ∙ ap (flat_map output_of) built_from in
       let pieces : dump_pieces piece messages.output ≡ filter is_accepted (dump_pieces piece stream) = ap (dump_pieces piece) are ∙ t.same_pieces in
-      let R : List ℕ → Type 0 = λ l. AllZip (IsBuiltAgain b d) (accepted_messages piece stream) (accepted_messages piece l) in
       record {
         same_text = is_again ∙ ap (flat_map output_of) pieces ∙ accepted-output (dump_pieces piece stream) ∙ sym is_text;
         as_many = second_counts.accepted ∙ ap (count_by is_accepted) built_from ∙ t.as_many ∙ sym first_counts.accepted;
@@ -318,7 +295,7 @@ module _ (b : List Row) (d : List Sequence) (piece : StreamEvent → Piece) (giv
         piece = piece;
         gives = gives;
         are_messages = are ∙ t.messages ∙ ap (λ l. concat (accepted_messages piece l)) (sym are);
-        readings = subst R (sym are) t.readings;
+        readings = rw are t.readings;
         no_longer = omega (arith, ap length are, t.no_longer);
         canonical = λ all. are ∙ canonical-kept records stream rows octets all;
       }
@@ -335,9 +312,8 @@ pub three-runs : (records : List Record) (b : List Row) (d : List Sequence) (str
     → IsWholeRound b d stream text messages again
 three-runs records b d stream text messages again e e' rows octets (piece, gives, (wrote, counts)) (encodes, counted) (other, given, (dumps, counts')) =
     let same : dump_pieces other messages.output ≡ dump_pieces piece messages.output = same-pieces b d other piece given gives (scan messages.output) in
-    let T : List Piece → Type 0 = λ ps. Tallies again.tally ps in
     whole-round b d piece gives records stream text messages again rows octets
-    wrote.output counts encodes.output encodes.errors counted (dumps.output ∙ ap (flat_map output_of) same) (dumps.errors ∙ ap (flat_map errors_of) same) (subst T same counts')
+    wrote.output counts encodes.output encodes.errors counted (dumps.output ∙ ap (flat_map output_of) same) (dumps.errors ∙ ap (flat_map errors_of) same) (rw same at counts')
 
 -- ---- What is encoded of any text is dumped as the texts of its documents in one spelling.
 

@@ -1,29 +1,19 @@
 -- What a run writes, event by event, and what comes of a job.
-use Rattle.bufr_frame.specs.Input.{max_reads, read_failures_after}
-use Rattle.std.proofs.Common.{length, length-append, ◌≡◌, ◌∙◌, ◌≤◌, ◌<◌, ◌^◌, ℕ, ◌+◌, ◌-◌, Bool, true, false, List, [], ◌∷◌, ◌++◌, refl, sym, ap, subst, arith, Option, None, Ok, Err, append-nil, Some, append_assoc, inl, inr}
-use Rattle.std.specs.Prelude.{Result, flat_map, map, count_by, IfOk, IfSome, OnOk}
+use Rattle.bufr_frame.specs.Prelude.{max_reads, read_failures_after, StreamEvent, FrameAt, StrayAt, scan, scan_from, open_scan, Advances, events_of, IsEvent, FinderModel, ReadsAndPasses, CountsReads, StopsFinder, IsUndecided, new_finder, ReturnsNextEvent, LeavesFinder}
+use Rattle.std.proofs.Common.{length, length-append, ◌≡◌, ◌∙◌, ◌≤◌, ◌<◌, ◌^◌, ℕ, ◌+◌, ◌-◌, Bool, true, false, List, [], ◌∷◌, ◌++◌, refl, sym, ap, subst, arith, Option, None, Ok, Err, append-nil, Some, append_assoc, inl, inr, Result, flat_map, map, count_by, IfOk, IfSome, OnOk}
 use Rattle.std.specs.Io.KnownBytes.{Consumes, IsAtEnd, Keeps}
 use Rattle.std.proofs.KnownBytes.{Appends-nil, Appends-trans, Appends-kept, Consumes-nil, Consumes-whole}
 use Rattle.std.proofs.lemmas.Bool.{false≢true}
 use Rattle.std.proofs.lemmas.Grind.{common_steps, flat_map-append}
-use Rattle.bufr_bits.specs.Device.{counted}
+use Rattle.bufr_bits.specs.Prelude.{counted}
 use Rattle.bufr_bits.proofs.CountLemmas.{counted-none}
 use Rattle.bufr_frame.specs.declared.fault.RunFault.{RunFault}
 use Rattle.bufr_frame.specs.declared.fault.RunFault.TheVariants.{Read, Write, InputTooLong, Memory}
 use Rattle.bufr_frame.specs.declared.finder.Event.{Event}
 use Rattle.bufr_frame.specs.declared.finder.Event.TheVariants.{Frame, Stray, Done}
-use Rattle.bufr_frame.specs.Scan.{StreamEvent, FrameAt, StrayAt, scan, scan_from, open_scan, Advances}
 use Rattle.bufr_frame.proofs.FinderLemmas.{events-are-open, Advances-none, Follows-none, ReadsAndPasses-then, CountsReads-then, whole-scan, events-are-certain}
-use Rattle.bufr_frame.specs.Events.{events_of, IsEvent}
-use Rattle.bufr_frame.specs.Finder.{FinderModel, ReadsAndPasses, CountsReads, StopsFinder, IsUndecided, new_finder}
-use Rattle.bufr_frame.specs.Next.{ReturnsNextEvent, LeavesFinder}
-use Rattle.bufr_text.specs.Writing.{GrowsByPrefix, Stays, Fails, Writes}
-use Rattle.bufr_cli.specs.Pieces.{Piece, output_of, errors_of, is_accepted, is_refused}
-use Rattle.bufr_cli.specs.Running.{RunPieces, RunsPieces, WritesAndCounts, AreUnflushed, event_pieces, read_pieces, LeavesRun, Blames, WritesPieces, Tallies, RunDone, RunStopped, RunCut, ReadsFewer, GivesPieces, LeavesPieces, StopsPiece, RunReads, counted_accepted, counted_refused, tally_after, BlamesWriter, CountsCalls, Input, Writers, ReadsAll, WrittenInPart}
-use Rattle.bufr_cli.specs.declared.outcome.Tally.{Tally}
-use Rattle.bufr_cli.specs.declared.outcome.Verdict.{Verdict}
-use Rattle.bufr_cli.specs.Calling.{InPart, WritesHelp}
-use Rattle.bufr_cli.specs.Ending.{AreFlushed, BlamesInput, EndsRun, FlushesRest, WasEnded, WentThrough, WritesLine, run_line}
+use Rattle.bufr_text.specs.Prelude.{GrowsByPrefix, Stays, Fails, Writes}
+use Rattle.bufr_cli.specs.Prelude.{Piece, output_of, errors_of, is_accepted, is_refused, RunPieces, RunsPieces, WritesAndCounts, AreUnflushed, event_pieces, read_pieces, LeavesRun, Blames, WritesPieces, Tallies, RunDone, RunStopped, RunCut, ReadsFewer, GivesPieces, LeavesPieces, StopsPiece, RunReads, counted_accepted, counted_refused, tally_after, BlamesWriter, CountsCalls, Input, Writers, ReadsAll, WrittenInPart, Tally, Verdict, InPart, WritesHelp, AreFlushed, BlamesInput, EndsRun, FlushesRest, WasEnded, WentThrough, WritesLine, run_line}
 
 pub grows-nil : (w : Option (List ℕ)) → GrowsByPrefix w w []
 grows-nil w = record { prefix = []; back = []; parts = refl; gains = Appends-nil w }
@@ -57,8 +47,7 @@ pub record Ran (is_piece : StreamEvent → Piece → Type 0) (left mid : Option 
 pub ran-fresh : (is_piece : StreamEvent → Piece → Type 0) (left : Option (List ℕ)) (reads : ℕ) (w e : Option (List ℕ)) (s : FinderModel) (tally : Tally)
     → s ≡ new_finder → tally.accepted ≡ 0 → tally.refused ≡ 0 → Ran is_piece left left reads reads w w e e s tally
 ran-fresh is_piece left reads w e s tally is accepted refused =
-    let P : FinderModel → Type 0 = λ x. Ran is_piece left left reads reads w w e e x tally in
-    subst P (sym is) (record {
+    rw is (record {
       octets = [];
       events = [];
       step = record {
@@ -124,8 +113,7 @@ count-append p xs ys = grind (arith, common_steps)
 pub Tallies-then : (tally tally' : Tally) (v : Verdict) (pieces more : List Piece) → Tallies tally pieces → tally' ≡ tally_after tally v
     → counted_accepted v ≡ count_by is_accepted more → counted_refused v ≡ count_by is_refused more → Tallies tally' (pieces ++ more)
 Tallies-then tally tally' v pieces more before is accepted refused =
-    let T : Tally → Type 0 = λ t. Tallies t (pieces ++ more) in
-    subst T (sym is) (record {
+    rw is (record {
       accepted = ap (λ n. n + counted_accepted v) before.accepted ∙ ap (λ n. count_by is_accepted pieces + n) accepted ∙ sym (count-append is_accepted pieces more);
       refused = ap (λ n. n + counted_refused v) before.refused ∙ ap (λ n. count_by is_refused pieces + n) refused ∙ sym (count-append is_refused pieces more);
     })
@@ -135,8 +123,7 @@ reported-then : (piece : StreamEvent → Piece) (w w1 w2 e e1 e2 : Option (List 
     → ReportedSoFar w w1 e e1 tally (map piece events) → LeavesPieces w1 w2 e1 e2 (map piece here) (Ok verdict) → tally' ≡ tally_after tally verdict
     → ReportedSoFar w w2 e e2 tally' (map piece (events ++ here))
 reported-then piece w w1 w2 e e1 e2 tally tally' verdict events here before reports counts =
-    let S : List Piece → Type 0 = λ l. ReportedSoFar w w2 e e2 tally' l in
-    subst S (sym (map-append piece events here)) (record {
+    rw (map-append piece events here) (record {
       written = Written-then w w1 w2 e e1 e2 (map piece events) (map piece here) before.written reports.0;
       tallies = Tallies-then tally tally' verdict (map piece events) (map piece here) before.tallies counts reports.1 reports.2;
     })
@@ -216,8 +203,7 @@ module _ (is_piece : StreamEvent → Piece → Type 0) (left mid left' : Option 
       let step = ReadsAndPasses-then left mid left' s s' ran.octets steps.0 ran.events [] ran.step steps.1 in (
         bs,
         λ piece gives.
-            let P : Result Tally RunFault → Type 0 = λ x. LeavesRun (event_pieces piece) left left' w w1 e e1 unflushed (ReadsFewer reads reads2) bs x in
-            subst P (sym same) (by piece (ran.wrote piece gives).written bs step f (ends.1 ran.sound)),
+            rw same (by piece (ran.wrote piece gives).written bs step f (ends.1 ran.sound)),
       )
     where
       fewer : s'.reads < max_reads → ReadsFewer reads reads2
@@ -228,14 +214,12 @@ module _ (is_piece : StreamEvent → Piece → Type 0) (left mid left' : Option 
 
       opens : (piece : StreamEvent → Piece) (bs : List ℕ) → ReadsAndPasses left left' new_finder s' bs (ran.events ++ []) → (g : RunFault) → IsUndecided s' g → map piece (open_scan bs) ≡ map piece ran.events
       opens piece bs step g so =
-          let E : Bool → Type 0 = λ x. Advances x 0 bs (ran.events ++ []) s'.at s'.rest in
-          ap (map piece) (events-are-open bs s'.rest (ran.events ++ []) s'.at (subst E so.1 step.advances) (so.2 s'.at) ∙ append-nil ran.events)
+          ap (map piece) (events-are-open bs s'.rest (ran.events ++ []) s'.at (rw so.1 at step.advances) (so.2 s'.at) ∙ append-nil ran.events)
 
       stopped : (piece : StreamEvent → Piece) → WritesPieces w w1 e e1 (map piece ran.events) → (bs : List ℕ) → ReadsAndPasses left left' new_finder s' bs (ran.events ++ []) → (g : RunFault) → IsUndecided s' g
           → RunStopped (event_pieces piece) left left' w w1 e e1 bs
       stopped piece written bs step g so =
-          let W : List Piece → Type 0 = λ l. WritesPieces w w1 e e1 l in
-          record { read = step.read; written = subst W (sym (opens piece bs step g so)) written; accepted = λ stops. absurd (false≢true stops) }
+          record { read = step.read; written = rw (opens piece bs step g so) written; accepted = λ stops. absurd (false≢true stops) }
 
       cut : (piece : StreamEvent → Piece) → WritesPieces w w1 e e1 (map piece ran.events) → (bs : List ℕ) → ReadsAndPasses left left' new_finder s' bs (ran.events ++ []) → (g : RunFault) → IsUndecided s' g
           → RunCut (event_pieces piece) left left' w w1 e e1 unflushed bs
@@ -268,12 +252,8 @@ module _ (is_piece : StreamEvent → Piece → Type 0) (left mid left' : Option 
       let one = reported-one event some in (
         bs,
         λ piece gives.
-            let S : Result Verdict RunFault → Type 0 = λ x. LeavesPieces w1 w2 e1 e2 (map piece (events_of event)) x in
-            let lines = subst S fails (reports piece gives) in
-            let O : List StreamEvent → Type 0 = λ l. GrowsByPrefix w1 w2 (flat_map output_of (map piece l)) in
-            let E : List StreamEvent → Type 0 = λ l. GrowsByPrefix e1 e2 (flat_map errors_of (map piece l)) in
-            let P : Result Tally RunFault → Type 0 = λ x. LeavesRun (event_pieces piece) left left' w w2 e e2 unflushed (ReadsFewer reads reads2) bs x in
-            subst P (sym same) (cut-by piece left left' w w2 e e2 unflushed (ReadsFewer reads reads2) bs takes f (rw fails at stops) (record {
+            let lines = rw fails at (reports piece gives) in
+            rw same (cut-by piece left left' w w2 e e2 unflushed (ReadsFewer reads reads2) bs takes f (rw fails at stops) (record {
               read = step.read;
               ended = s'.ended;
               all = λ _. step.end (λ end. absurd (false≢true end));
@@ -289,8 +269,8 @@ module _ (is_piece : StreamEvent → Piece → Type 0) (left mid left' : Option 
                 between_output = w1;
                 between_errors = e1;
                 whole = (ran.wrote piece gives).written;
-                output = subst O one.1 lines.0;
-                errors = subst E one.1 lines.1;
+                output = rw one.1 at lines.0;
+                errors = rw one.1 at lines.1;
               };
               flushed = λ not. absurd (not kept);
             }) (some-none (piece one.0))),
@@ -329,8 +309,7 @@ module _ (is_piece : StreamEvent → Piece → Type 0) (left mid left' : Option 
     stop-flush unflushed f r write same = (
       flushed.0,
       λ piece gives.
-          let P : Result Tally RunFault → Type 0 = λ x. LeavesRun (event_pieces piece) left left' w w2 e e2 unflushed (ReadsFewer reads reads2) flushed.0 x in
-          subst P (sym (same ∙ ap Err write)) (done-cut (event_pieces piece) left left' w w2 e e2 unflushed flushed.0 tally (flushed.1 piece gives)),
+          rw (same ∙ ap Err write) (done-cut (event_pieces piece) left left' w w2 e e2 unflushed flushed.0 tally (flushed.1 piece gives)),
     )
 
 nothing-more : (bs t : List ℕ) → bs ≡ bs ++ t → t ≡ []
@@ -345,8 +324,7 @@ all-known pieces None left' w w' e e' unflushed early (Ok tally) so = tt
 all-known pieces (Some s) None w w' e e' unflushed early (Ok tally) (bs, done) = absurd done.read
 all-known pieces (Some s) (Some t) w w' e e' unflushed early (Ok tally) (bs, done) =
     let none : done.ended ≡ true → t ≡ [] = λ ended. nothing-more bs t (done.end ended ∙ done.read) in
-    let P : List ℕ → Type 0 = λ l. WritesPieces w w' e e' (pieces.whole l) × Tallies tally (pieces.whole l) in
-    subst P (sym done.read) (done.written t none, done.tallies t none)
+    rw done.read (done.written t none, done.tallies t none)
 
 -- the reads of a run, whose texts take memory or not
 pub run-reads : {X : Type 0} (takes : Bool) (reads reads' : ℕ) (s : FinderModel) (r : Result X RunFault) → CountsReads reads reads' new_finder s → (r ≡ Err InputTooLong → s.reads ≡ max_reads) → (takes ≡ false → r ≡ Err Memory → s.reads < max_reads) → RunReads takes reads reads' r
@@ -398,9 +376,8 @@ fails-then f f1 f2 n n1 n2 before (inr more) = inr (more.0 ∙ before.0, more.1 
 pub blames-report : {a b c d a' b' c' d' : Type 0} (write_event : Result Verdict RunFault) (f : RunFault) (r : Result Tally RunFault) → write_event ≡ Err f → r ≡ Err f
     → (a → a') → (b → b') → (c → c') → (d → d') → Blames write_event a b c d → Blames r a' b' c' d'
 blames-report {a} {b} {c} {d} {a'} {b'} {c'} {d'} write_event f r is same go_a go_b go_c go_d blames =
-    let B : Result Verdict RunFault → Type 0 = λ x. Blames x a b c d in
     let B' : Result Tally RunFault → Type 0 = λ x. Blames x a' b' c' d' in
-    subst B' (sym same) (by f (subst B is blames))
+    subst B' (sym same) (by f (rw is at blames))
   where
     by : (g : RunFault) → Blames {X = Verdict} (Err g) a b c d → Blames {X = Tally} (Err g) a' b' c' d'
     by Read (x, y) = (go_a x, go_c y)
@@ -415,9 +392,6 @@ blames-report {a} {b} {c} {d} {a'} {b'} {c'} {d'} write_event f r is same go_a g
 abbrev pub RunsEach : (may_be : RunPieces → Type 0) → (from to : Input) → (before after : Writers) → Result Tally RunFault → Type 0
 RunsEach may_be from to before after ran = (bs : List ℕ) × ((pieces : RunPieces) → may_be pieces → RunsPieces pieces from to before after bs ran)
 
-pub each-is : (only : RunPieces) (from to : Input) (before after : Writers) (ran : Result Tally RunFault) → ((bs : List ℕ) × RunsPieces only from to before after bs ran) → RunsEach (λ pieces. pieces ≡ only) from to before after ran
-each-is only from to before after ran run = (run.0, λ pieces is. subst (λ p. RunsPieces p from to before after run.0 ran) (sym is) run.1)
-
 pub each-gives : (gives : (StreamEvent → Piece) → Type 0) (from to : Input) (before after : Writers) (ran : Result Tally RunFault)
     → ((bs : List ℕ) × ((piece : StreamEvent → Piece) → gives piece → RunsPieces (event_pieces piece) from to before after bs ran)) → RunsEach (λ pieces. (piece : StreamEvent → Piece) × gives piece × (pieces ≡ event_pieces piece)) from to before after ran
 each-gives gives from to before after ran run = (run.0, λ pieces so. subst (λ p. RunsPieces p from to before after run.0 ran) (sym so.2) (run.1 so.0 so.1))
@@ -427,18 +401,15 @@ pub ends-run : (may_be : RunPieces → Type 0) (octets : Option (List ℕ)) (fro
     → RunsEach may_be from to before between ran → OnOk ran (AreFlushed between) → BlamesInput from to ran → BlamesWriter before between ran
     → ran' ≡ ran → FlushesRest between.output after.output ran → after.errors ≡ between.errors → from.left ≡ octets → EndsRun may_be octets before after ran'
 ends-run may_be octets from to before between after ran ran' run flushed input writers same rest errors known =
-    let P : Result Tally RunFault → Type 0 = λ r. EndsRun may_be octets before after r in
-    subst P (sym same) (of ran run flushed input writers rest)
+    rw same (of ran run flushed input writers rest)
   where
     of : (r : Result Tally RunFault) → RunsEach may_be from to before between r → OnOk r (AreFlushed between) → BlamesInput from to r → BlamesWriter before between r
         → FlushesRest between.output after.output r → EndsRun may_be octets before after r
     of (Ok tally) run' flushed' input' writers' rest' =
         let both : after ≡ between = ap (λ o. record { output = o; errors = after.errors }) rest' ∙ ap (λ e. record { output = between.output; errors = e }) errors in
-        let Q : Writers → Type 0 = λ w. EndsRun may_be octets before w (Ok tally) in
         let whole : (pieces : RunPieces) → may_be pieces → IfSome octets (λ s. WritesAndCounts before between tally (pieces.whole s)) = λ pieces is.
-        let K : Option (List ℕ) → Type 0 = λ o. IfSome o (λ s. WritesAndCounts before between tally (pieces.whole s)) in
-        subst K known (all-known pieces from.left to.left before.output.taken between.output.taken before.errors.taken between.errors.taken (AreUnflushed before between) (ReadsFewer from.reads to.reads) (Ok tally) (run'.0, run'.1 pieces is)) in
-        subst Q (sym both) (WentThrough tally refl whole writers'.0 writers'.1 flushed')
+        rw known at (all-known pieces from.left to.left before.output.taken between.output.taken before.errors.taken between.errors.taken (AreUnflushed before between) (ReadsFewer from.reads to.reads) (Ok tally) (run'.0, run'.1 pieces is)) in
+        rw both (WentThrough tally refl whole writers'.0 writers'.1 flushed')
     of (Err fault) run' flushed' input' writers' rest' = WasEnded fault refl from to known between run'.0 run'.1 input' writers' rest' errors
 
 -- a fault of reading an input whole
@@ -449,5 +420,4 @@ read-fault left left' fault bs so is = subst (λ f. ReadsAll left left' (Err f) 
 pub help-in-part : (text : List ℕ) (before after : Writers) (status : ℕ) (fault : RunFault) → Writes {X = Unit {0}} before.output.taken after.output.taken text (Err fault) → CountsCalls {X = Unit {0}} before.output after.output (Err fault)
     → WritesLine before.errors after.errors (run_line fault) → status ≡ 2 → WritesHelp text before after status
 help-in-part text before after status fault writes counts line is =
-    let P : RunFault → Type 0 = λ f. WritesLine before.errors after.errors (run_line f) in
-    InPart writes.1 counts (subst P writes.0 line) is
+    InPart writes.1 counts (rw writes.0 at line) is

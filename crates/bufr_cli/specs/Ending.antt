@@ -3,16 +3,14 @@
 -- Cited by public contracts.
 use Rattle.std.specs.Prelude.{◌≡◌, ◌⊎◌, ◌<◌, ◌-◌, ◌^◌, ℕ, true, List, Option, Result, Ok, Err, IfSome, zero, suc, [], ◌∷◌, ◌++◌, codes, decimal}
 use Rattle.std.specs.Io.KnownBytes.{Appends, Keeps}
-use Rattle.bufr_bits.specs.Device.{counted}
-use Rattle.bufr_frame.specs.Input.{read_failures_after}
+use Rattle.bufr_bits.specs.Prelude.{counted}
+use Rattle.bufr_frame.specs.Prelude.{read_failures_after, number_of_run_fault}
 use Rattle.bufr_frame.specs.declared.fault.RunFault.{RunFault}
 use Rattle.bufr_frame.specs.declared.fault.RunFault.TheVariants.{Read, Write, InputTooLong, Memory}
-use Rattle.bufr_text.specs.Writing.{GrowsByPrefix, joined}
+use Rattle.bufr_text.specs.Prelude.{GrowsByPrefix, joined}
 use Rattle.bufr_cli.specs.Running.{BlamesWriter, IsSame, Input, Writer, Writers, ReadsAtMost, RunPieces, RunsPieces, WritesAndCounts}
 use Rattle.bufr_cli.specs.declared.outcome.Tally.{Tally}
-use Rattle.bufr_frame.specs.Numbers.{number_of_run_fault}
-use Rattle.bufr_tables.specs.Fxy.{fxy_text}
-use Rattle.bufr_tables.specs.FaultNumber.{number_of_table_fault}
+use Rattle.bufr_tables.specs.Prelude.{fxy_text, number_of_table_fault}
 use Rattle.bufr_tables.specs.declared.fault.TableFault.{TableFault}
 use Rattle.bufr_tables.specs.declared.fault.TableFault.TheVariants as table
 use Rattle.bufr_cli.specs.declared.outcome.Outcome.{Outcome}

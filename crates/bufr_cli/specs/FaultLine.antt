@@ -6,22 +6,19 @@ use Rattle.bufr_frame.specs.declared.fault.Cause.{Cause}
 use Rattle.bufr_frame.specs.declared.fault.Cause.TheVariants.{Cut, ShortLength, NoEnd}
 use Rattle.bufr_frame.specs.declared.fault.SectionFault.{SectionFault}
 use Rattle.bufr_frame.specs.declared.fault.SectionFault.TheVariants.{Edition, SectionShort, SectionPast, SectionsEnd, Edition3Long}
-use Rattle.bufr_frame.specs.Numbers.{number_of_cause, number_of_section_fault}
-use Rattle.bufr_tables.specs.FaultNumber.{number_of_template_fault}
-use Rattle.bufr_tables.specs.Fxy.{fxy_text}
+use Rattle.bufr_frame.specs.Prelude.{number_of_section_fault}
+use Rattle.bufr_tables.specs.Prelude.{number_of_template_fault, fxy_text}
 use Rattle.bufr_tables.specs.declared.fault.TemplateFault.{TemplateFault}
 use Rattle.bufr_tables.specs.declared.fault.TemplateFault.TheVariants as template
 use Rattle.bufr_walk.specs.declared.fault.Spot.{Spot}
 use Rattle.bufr_walk.specs.declared.fault.WalkFault.{WalkFault}
 use Rattle.bufr_walk.specs.declared.fault.WalkFault.TheVariants as walk
-use Rattle.bufr_walk.specs.Refusal.{number_of_walk_fault}
-use Rattle.bufr_text.specs.Writing.{joined}
+use Rattle.bufr_walk.specs.Prelude.{number_of_walk_fault}
+use Rattle.bufr_text.specs.Prelude.{joined, TextLineFault, NotAllowed, SubsetCount, HeaderRange, DocumentRefusal, RefusedAt, by_template, by_item, too_long}
 use Rattle.bufr_cli.specs.declared.fault_line.StreamFault.{StreamFault}
 use Rattle.bufr_cli.specs.declared.fault_line.StreamFault.TheVariants as stream
 use Rattle.bufr_walk.specs.declared.spec.TurnRefusal.TheVariants as turn
-use Rattle.bufr_fill.specs.Faults.{DraftFaultKind, wrong_descriptor, wrong_number, out_of_range, text_long, missing_forbidden, unequal_factors, uneven_increment, item_too_many, walk_refused, too_many_values, no_count}
-use Rattle.bufr_text.specs.Documents.{TextLineFault, NotAllowed, SubsetCount, HeaderRange}
-use Rattle.bufr_text.specs.Encoding.{DocumentRefusal, RefusedAt, by_template, by_item, too_long}
+use Rattle.bufr_fill.specs.Prelude.{DraftFaultKind, wrong_descriptor, wrong_number, out_of_range, text_long, missing_forbidden, unequal_factors, uneven_increment, item_too_many, walk_refused, too_many_values, no_count}
 use Rattle.bufr_text.specs.declared.fault.ReadFault.{ReadFault}
 use Rattle.bufr_text.specs.declared.fault.ReadFault.TheVariants as read
 
@@ -76,21 +73,18 @@ walk_fault_text walk.Memory = []
 
 -- the number of a fault of a stream
 abbrev pub number_of_stream_fault : StreamFault → ℕ
-number_of_stream_fault (stream.Stray cause) = number_of_cause cause
 number_of_stream_fault (stream.Section fault) = number_of_section_fault fault
 number_of_stream_fault (stream.Template fault) = number_of_template_fault fault.now
 number_of_stream_fault (stream.Data fault) = number_of_walk_fault fault.now
 
 -- its text
 abbrev pub stream_fault_text : StreamFault → List (List ℕ)
-stream_fault_text (stream.Stray cause) = cause_text cause ∷ []
 stream_fault_text (stream.Section fault) = section_fault_text fault
 stream_fault_text (stream.Template fault) = template_fault_text fault.now
 stream_fault_text (stream.Data fault) = walk_fault_text fault.now
 
 -- it is not want of memory, which has no line
 abbrev pub HasLine : StreamFault → Type 0
-HasLine (stream.Stray cause) = Unit {0}
 HasLine (stream.Section fault) = Unit {0}
 HasLine (stream.Template fault) = fault.now ≢ template.Memory
 HasLine (stream.Data fault) = fault.now ≢ walk.Memory

@@ -6,11 +6,11 @@ pub mod Running
 pub mod FaultLine
 -- a text for one of the two writers, and what each command writes for an input
 pub mod Pieces
--- what a call of the program comes to: a job done and reported, help, a mistaken line
-pub mod Calling
 -- how a run of the program ended, what is flushed after it, its last line, and the exit status
 pub mod Ending
 -- the command line, as clap reads it: commands, options, which job is meant, which fault
 pub mod Line
--- what comes of a job, by its input: tables that are not read, a file that is not opened, a run
+-- what comes of a job by its input, and of a call of the program: a job, help, a mistaken line
 pub mod Program
+-- the names that others cite, from one place
+pub mod Prelude

@@ -111,18 +111,6 @@ no_job_text UnknownForm =
     codes "error: invalid value for '--form <WORD>'\n"
     ++ codes "  [possible values: plain, compressed]\n\nFor more information, try '--help'.\n"
 
--- the tables that a command reads
-abbrev pub tables_asked : Subcommand → Option TableNames
-tables_asked Ls = None
-tables_asked (Dump tables) = Some tables
-tables_asked (Encode tables form) = Some tables
-
--- the form that a command writes
-abbrev pub form_asked : Subcommand → Option Form
-form_asked Ls = None
-form_asked (Dump tables) = None
-form_asked (Encode tables form) = Some form
-
 -- no job is that of the subcommand that was met
 abbrev pub HasNoJob : Option (Text × List Row) → Type 0
 HasNoJob subcommand = (job : Job) → ¬ IsJobOf subcommand job

@@ -1,26 +1,15 @@
 -- What each command writes for an input, in order, and on which writer. (a choice of this project)
 -- Cited by public contracts.
 use Rattle.std.specs.Prelude.{ℕ, Bool, true, false, List, [], ◌∷◌, map, Result, Ok, Err, ◌≡◌}
-use Rattle.bufr_frame.specs.Scan.{StreamEvent, FrameAt, StrayAt, scan}
-use Rattle.bufr_frame.specs.Numbers.{number_of_cause, number_of_section_fault}
-use Rattle.bufr_frame.specs.Sections.{Sections, sections_of}
+use Rattle.bufr_frame.specs.Prelude.{StreamEvent, FrameAt, StrayAt, scan, number_of_cause, number_of_section_fault, Sections, sections_of}
 use Rattle.bufr_frame.specs.declared.fault.Cause.{Cause}
 use Rattle.bufr_frame.specs.declared.fault.SectionFault.{SectionFault}
-use Rattle.bufr_text.specs.LsLine.{ls_line}
+use Rattle.bufr_text.specs.Prelude.{ls_line, dump_text_of, dump_items_of, ParseResult, Complete, Refused, RefusedAt, encoding_in}
 use Rattle.bufr_cli.specs.FaultLine.{fault_line, cause_text, section_fault_text, template_fault_text, walk_fault_text, refused_line, refusal_line}
-use Rattle.bufr_tables.specs.Expansion.{tree_of, tables_of}
-use Rattle.bufr_tables.specs.FaultNumber.{number_of_template_fault}
-use Rattle.bufr_tables.specs.TableB.{Row}
-use Rattle.bufr_tables.specs.TableD.{Sequence}
-use Rattle.bufr_tables.specs.Tree.{Tree}
+use Rattle.bufr_tables.specs.Prelude.{tree_of, tables_of, number_of_template_fault, Row, Sequence, Tree}
 use Rattle.bufr_tables.specs.declared.fault.TemplateFault.{TemplateFault}
-use Rattle.bufr_walk.specs.Course.{next_item}
-use Rattle.bufr_walk.specs.Refusal.{number_of_walk_fault, data_of, read_by, IsRefused}
-use Rattle.bufr_walk.specs.Reading.{Values, IsReading}
+use Rattle.bufr_walk.specs.Prelude.{next_item, number_of_walk_fault, data_of, read_by, IsRefused, Values, IsReading}
 use Rattle.bufr_walk.specs.declared.fault.WalkFault.{WalkFault}
-use Rattle.bufr_text.specs.Dump.{dump_text_of, dump_items_of}
-use Rattle.bufr_text.specs.Documents.{ParseResult, Complete, Refused}
-use Rattle.bufr_text.specs.Encoding.{RefusedAt, encoding_in}
 use Rattle.bufr_text.specs.declared.encode.Form.{Form}
 
 -- a text for the output, or one for the errors

@@ -1,18 +1,16 @@
--- What comes of a job, by its input. (a choice of this project)
+-- What comes of a job by its input, and of a call of the program. (a choice of this project)
 -- Cited by public contracts.
-use Rattle.std.specs.Prelude.{◌≡◌, ◌≢◌, ◌⊎◌, ℕ, List, Option, Some, None, Result, Ok, Err, IfSome}
+use Rattle.std.specs.Prelude.{◌≡◌, ◌≢◌, ◌⊎◌, ℕ, List, Option, Some, None, Result, Ok, Err, IfSome, true, string_bytes}
 use Rattle.std.specs.Borrow.{Bor}
-use Rattle.bufr_frame.specs.Scan.{StreamEvent}
+use Rattle.bufr_frame.specs.Prelude.{StreamEvent}
 use Rattle.bufr_frame.specs.declared.fault.RunFault.{RunFault}
 use Rattle.bufr_frame.specs.declared.fault.RunFault.TheVariants.{Write}
-use Rattle.bufr_tables.specs.TableD.{ReadsTableD, Sequence}
-use Rattle.bufr_tables.specs.Records.{records_of, ReturnsUnlessMemory}
-use Rattle.bufr_tables.specs.TableB.{Row, table_b_of}
+use Rattle.bufr_tables.specs.Prelude.{ReadsTableD, Sequence, records_of, ReturnsUnlessMemory, Row, table_b_of}
 use Rattle.bufr_tables.specs.declared.fault.TableFault.{TableFault}
 use Rattle.bufr_text.specs.declared.encode.Form.{Form}
-use Rattle.bufr_cli.specs.Running.{Writers, RunPieces, GivesPieces, event_pieces, document_pieces}
+use Rattle.bufr_cli.specs.Running.{Writers, RunPieces, GivesPieces, event_pieces, document_pieces, HasFailed, IsSame}
 use Rattle.bufr_cli.specs.Pieces.{IsDumpPiece, Piece, ls_piece}
-use Rattle.bufr_cli.specs.Ending.{EndsRun}
+use Rattle.bufr_cli.specs.Ending.{EndsRun, WritesLine, last_line, run_line, status_of}
 use Rattle.bufr_cli.specs.declared.outcome.Outcome.{Outcome}
 use Rattle.bufr_cli.specs.declared.outcome.Outcome.TheVariants.{Ran, CannotOpen, TableB, TableD, Run}
 use Rattle.bufr_cli.specs.declared.job.Job.{Job}
@@ -22,6 +20,13 @@ use Rattle.bufr_cli.specs.declared.job.TableNames.{TableNames}
 use Rattle.bufr_cli.specs.declared.program.Command.{Command}
 use Rattle.bufr_cli.specs.declared.program.Command.TheVariants as command
 use Rattle.bufr_cli.specs.declared.outcome.Tally.{Tally}
+use Rattle.std.specs.Io.KnownBytes.{Appends}
+use Rattle.clap.specs.Words.{Text, fault_of, subcommand_of}
+use Rattle.bufr_frame.specs.declared.fault.RunFault.TheVariants as ended
+use Rattle.bufr_text.specs.Prelude.{GrowsByPrefix}
+use Rattle.bufr_cli.specs.Line.{IsJobOf, SaysWhy, bufr_app}
+use Rattle.bufr_cli.specs.declared.job.LineFault.{LineFault}
+use Rattle.bufr_cli.specs.declared.job.LineFault.TheVariants.{Help, Usage, Memory}
 
 -- What is known of the inputs: the octets of standard input, and those of each file of which it is
 -- known that it can be opened.
@@ -144,3 +149,37 @@ CommandOutcome inputs (Encode tables form) file before after outcome =
 abbrev pub RunsJob : Known → Job → (before after : Writers) → Outcome → Type 0
 RunsJob inputs job before after outcome =
     CommandOutcome inputs job.command job.file before after outcome
+
+-- What comes of help that was asked for: it was written and handed on; or the output failed at it,
+-- and the last line says so.
+pub data WritesHelp (text : List ℕ) (before after : Writers) (status : ℕ) : Type 0 where
+  InWhole : Appends before.output.taken after.output.taken text
+      → after.output.all_flushed ≡ true → IsSame before.output after.output
+      → after.errors ≡ before.errors → status ≡ 0 → WritesHelp text before after status
+  InPart : GrowsByPrefix before.output.taken after.output.taken text
+      → HasFailed before.output after.output
+      → WritesLine before.errors after.errors (run_line ended.Write) → status ≡ 2
+      → WritesHelp text before after status
+
+-- what comes of a line without a job: nothing goes to the output but help
+abbrev pub AnswersFault : LineFault → (before after : Writers) → (status : ℕ) → Type 0
+AnswersFault (Help text) before after status = WritesHelp (string_bytes text) before after status
+AnswersFault (Usage text) before after status =
+    (after.output ≡ before.output) × WritesLine before.errors after.errors (string_bytes text)
+    × (status ≡ 2)
+AnswersFault Memory before after status =
+    (after.output ≡ before.output)
+    × WritesLine before.errors after.errors (run_line ended.Memory) × (status ≡ 2)
+
+-- What a call with these words comes to: their job was done, and then the last line and the status
+-- say how it came out; or there is no job, and that was answered.
+-- rule: status-of-help
+pub data RunsProgram (words : List Text) (inputs : Known) (before after : Writers)
+    (status : ℕ) : Type 0 where
+  Does : (job : Job) → IsJobOf (subcommand_of bufr_app words) job → (outcome : Outcome)
+      → (between : Writers) → RunsJob inputs job before between outcome
+      → after.output ≡ between.output
+      → WritesLine between.errors after.errors (last_line outcome) → status ≡ status_of outcome
+      → RunsProgram words inputs before after status
+  Answers : (why : LineFault) → SaysWhy (fault_of bufr_app words) (subcommand_of bufr_app words) why
+      → AnswersFault why before after status → RunsProgram words inputs before after status

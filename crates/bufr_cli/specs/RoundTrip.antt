@@ -3,25 +3,18 @@
 -- Cited by public contracts.
 use Rattle.std.specs.Prelude.{◌≡◌, ℕ, ◌+◌, ◌≤◌, List, [], ◌∷◌, length, map, flat_map, count_by, Result, Ok, Err}
 use Rattle.std.specs.List.{AllByRecursion, AllZip, concat, filter}
-use Rattle.bufr_bits.specs.Script.{taken_of}
-use Rattle.bufr_frame.specs.Scan.{StreamEvent, FrameAt, StrayAt, scan}
-use Rattle.bufr_frame.specs.Sections.{Sections}
-use Rattle.bufr_tables.specs.TableB.{Row}
-use Rattle.bufr_tables.specs.TableD.{Sequence}
-use Rattle.bufr_tables.specs.Tree.{Tree}
-use Rattle.bufr_walk.specs.Reading.{Values}
-use Rattle.bufr_text.specs.RoundTrip.{IsCanonical, IsAccepted, HasSameReading, extra_octets}
-use Rattle.bufr_text.specs.Documents.{documents_of, Document, ParseResult, Complete, Refused}
+use Rattle.bufr_bits.specs.Prelude.{taken_of}
+use Rattle.bufr_frame.specs.Prelude.{StreamEvent, FrameAt, StrayAt, scan, Sections}
+use Rattle.bufr_tables.specs.Prelude.{Row, Sequence, Tree, tree_of, tables_of}
+use Rattle.bufr_walk.specs.Prelude.{Values}
+use Rattle.bufr_text.specs.Prelude.{IsCanonical, IsAccepted, HasSameReading, extra_octets, documents_of, Document, ParseResult, Complete, Refused, RefusedAt, encoding_in, normal}
 use Rattle.bufr_text.specs.declared.encode.Form.TheVariants.{AsWritten}
 use Rattle.bufr_cli.specs.Pieces.{IsDumpPiece, Piece, OnOutput, OnErrors, output_of, errors_of, is_accepted, is_refused, encode_pieces}
 use Rattle.bufr_cli.specs.Running.{GivesPieces, Tallies}
 use Rattle.bufr_cli.specs.declared.laws.Round.{Round}
 use Rattle.bufr_cli.specs.declared.laws.RunInMemory.{RunInMemory}
 use Rattle.bufr_cli.specs.declared.outcome.Tally.{Tally}
-use Rattle.bufr_tables.specs.Expansion.{tree_of, tables_of}
 use Rattle.bufr_tables.specs.declared.fault.TemplateFault.{TemplateFault}
-use Rattle.bufr_text.specs.Encoding.{RefusedAt, encoding_in}
-use Rattle.bufr_text.specs.Spelling.{normal}
 use Rattle.bufr_text.specs.declared.encode.Form.{Form}
 
 -- what `dump` writes for a stream, each event by its piece, and what of that is on its output

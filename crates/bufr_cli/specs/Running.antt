@@ -4,21 +4,17 @@
 use Rattle.std.specs.Prelude.{ℕ, Bool, true, List, Option, ◌≡◌, ◌⊎◌, Result, Ok, Err, ◌<◌, ◌≤◌, false, ◌++◌, None, flat_map, count_by, option_to_list, map, [], IfSome, Vec, ◌+◌, ◌∷◌, Some}
 use Rattle.bufr_frame.specs.declared.fault.RunFault.{RunFault}
 use Rattle.bufr_frame.specs.declared.fault.RunFault.TheVariants.{Read, Write, InputTooLong, Memory}
-use Rattle.bufr_text.specs.Writing.{Stays, Fails, CountsWrites, GrowsByPrefix}
+use Rattle.bufr_text.specs.Prelude.{Stays, Fails, CountsWrites, GrowsByPrefix, documents_of, ParseResult, open_documents_of, Document, parse_results}
 use Rattle.std.specs.Io.KnownBytes.{Consumes, Appends, IsAtEnd}
-use Rattle.bufr_bits.specs.Device.{counted}
-use Rattle.bufr_frame.specs.Input.{max_reads, MakesReads}
-use Rattle.bufr_frame.specs.Scan.{StreamEvent, scan, open_scan}
+use Rattle.bufr_bits.specs.Prelude.{counted}
+use Rattle.bufr_frame.specs.Prelude.{max_reads, MakesReads, StreamEvent, scan, open_scan}
 use Rattle.bufr_cli.specs.Pieces.{Piece, output_of, errors_of, is_accepted, is_refused, IsDumpPiece, encode_pieces}
 use Rattle.bufr_cli.specs.declared.outcome.Tally.{Tally}
-use Rattle.bufr_tables.specs.TableB.{Row}
-use Rattle.bufr_tables.specs.TableD.{Sequence}
+use Rattle.bufr_tables.specs.Prelude.{Row, Sequence}
 use Rattle.bufr_text.specs.declared.encode.Form.{Form}
-use Rattle.bufr_text.specs.Documents.{documents_of, ParseResult, open_documents_of, Document}
 use Rattle.std.specs.Global.{Global}
 use Rattle.bufr_cli.specs.declared.outcome.Verdict.{Verdict}
 use Rattle.bufr_cli.specs.declared.outcome.Verdict.TheVariants.{Accepted, Refused}
-use Rattle.bufr_text.specs.Reader.{parse_results}
 use Rattle.bufr_text.specs.declared.fault.ReadFault.{ReadFault}
 use Rattle.bufr_text.specs.declared.fault.ReadFault.TheVariants.{Run}
 use Rattle.bufr_bits.specs.declared.device.Sink as sink

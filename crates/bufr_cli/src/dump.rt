@@ -1,13 +1,10 @@
 //! `bufr dump`: writes the messages of a stream as text.
 ghost use Rattle.std.specs.Prelude.{◌≡◌, ◌≢◌, ◌≤◌, ℕ, List, [], ◌∷◌, true, Ok, IfOk, OnOk, IfSome, length, map};
-ghost use Rattle.bufr_frame.specs.Events.{events_of, IsEvent};
-ghost use Rattle.bufr_frame.specs.Input.{read_failures_after};
-ghost use Rattle.bufr_frame.specs.Scan.{StreamEvent, scan};
-ghost use Rattle.bufr_frame.specs.Sections.{sections_of};
+ghost use Rattle.bufr_frame.specs.Prelude.{events_of, IsEvent, read_failures_after, StreamEvent, scan, sections_of};
 ghost use Rattle.bufr_cli.specs.Pieces.{IsDataPiece, IsDumpPiece, IsMessagePiece, Piece};
 ghost use Rattle.bufr_cli.specs.Running.{BlamesWriter, input_of, writers_of, RunsPieces, event_pieces, GivesPieces, ReadsAtMost, WritesAndCounts, StopsPiece, ReportsPieces};
 
-use crate::fault_line::{StreamFault, write_fault};
+use crate::fault_line::{StreamFault, write_fault, write_stray};
 use crate::outcome::{Tally, Verdict};
 use crate::run_events::{EventWriter, run_events};
 use bufr_bits::{Sink, Source};
@@ -216,7 +213,7 @@ impl<'a> EventWriter for DumpRun<'a> {
         match event {
             Event::Frame(offset, octets) => dump_frame(offset, octets, self, w, e),
             Event::Stray(offset, cause) => {
-                write_fault(offset, StreamFault::Stray(cause), e)?;
+                write_stray(offset, cause, e)?;
                 Ok(Verdict::Refused)
             }
             Event::Done => unreachable!(),

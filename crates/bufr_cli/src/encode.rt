@@ -1,8 +1,7 @@
 //! `bufr encode`: writes the messages that a text spells.
 ghost use Rattle.std.specs.Prelude.{◌≡◌, ◌≢◌, ℕ, List, [], ◌∷◌, Ok, Err, true, IfErr, IfOk, OnOk, IfSome};
-ghost use Rattle.bufr_frame.specs.Input.{read_failures_after};
-ghost use Rattle.bufr_text.specs.Documents.{Complete};
-ghost use Rattle.bufr_text.specs.Encoding.{encoding_in, IsDocumentRefusal, reported_refusal};
+ghost use Rattle.bufr_frame.specs.Prelude.{read_failures_after};
+ghost use Rattle.bufr_text.specs.Prelude.{Complete, encoding_in, IsDocumentRefusal, reported_refusal};
 ghost use Rattle.bufr_text.specs.declared.encode.Form.TheVariants.{AsWritten};
 ghost use Rattle.bufr_cli.specs.Pieces.{result_piece};
 ghost use Rattle.bufr_cli.specs.Running.{RunsUnflushed, RunsPieces, document_pieces, ReadsAtMost, Encodes, ReportsNext, StopsPiece, ReportsPieces, BlamesWriter, input_of, writers_of};

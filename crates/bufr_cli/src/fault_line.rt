@@ -1,12 +1,9 @@
 //! The lines that report the faults of a stream and of the messages in it, and of a text and its
 //! documents.
 ghost use Rattle.std.specs.Prelude.{◌≡◌, ◌≢◌, ℕ, [], ◌∷◌, Err, IfErr, IfSome, codes, decimal};
-ghost use Rattle.bufr_frame.specs.Numbers.{number_of_cause};
-ghost use Rattle.bufr_tables.specs.Fxy.{fxy_text};
-ghost use Rattle.bufr_text.specs.Documents.{TextLineFault, Refused};
-ghost use Rattle.bufr_text.specs.Reader.{parse_results};
-ghost use Rattle.bufr_text.specs.Encoding.{number_of_document_fault, reported_refusal, walk_report};
-ghost use Rattle.bufr_text.specs.Writing.{Pushes, Writes, joined};
+ghost use Rattle.bufr_frame.specs.Prelude.{number_of_cause};
+ghost use Rattle.bufr_tables.specs.Prelude.{fxy_text};
+ghost use Rattle.bufr_text.specs.Prelude.{TextLineFault, Refused, parse_results, number_of_document_fault, reported_refusal, walk_report, Pushes, Writes, joined};
 ghost use Rattle.bufr_cli.specs.FaultLine.{HasLine, cause_text, fault_line, number_of_stream_fault, place_texts, section_fault_text, spot_text, stream_fault_text, template_fault_text, walk_fault_text, document_line, item_fault_line, line_of_read_fault, line_of_refusal, refusal_line, refused_line};
 ghost use Rattle.bufr_cli.specs.Running.{OnlyWrites, writer_of};
 
@@ -20,11 +17,12 @@ use bufr_walk::{Spot, WalkFault};
 /// The octets in which a line is put together. The longest, of a fault of the data, has 107.
 const LINE: usize = 112;
 
-/// Why a message of a stream is refused, or why a `BUFR` begins none.
+/// The octets in which the line of a stray `BUFR` is put together. The longest has 44.
+const STRAY_LINE: usize = 48;
+
+/// Why a message of a stream is refused.
 #[derive(Clone, Copy)]
 pub(crate) enum StreamFault<'f> {
-    /// A `BUFR` begins no message.
-    Stray(Cause),
     /// The message cannot be taken apart.
     Section(SectionFault),
     /// Its descriptors make no template.
@@ -154,7 +152,6 @@ fn push_fault<E: Sink>(line: &mut LineWriter<'_, '_, E>, offset: u64, fault: Str
 {
     line.push_named(b"offset ", offset);
     match fault {
-        StreamFault::Stray(cause) => push_stray(line, cause),
         StreamFault::Section(fault) => {
             push_number(line, fault.number());
             push_section_fault(line, fault);
@@ -171,6 +168,27 @@ fn push_fault<E: Sink>(line: &mut LineWriter<'_, '_, E>, offset: u64, fault: Str
             line.push(b"\n");
         }
     }
+}
+
+/// Writes the line of a `BUFR` at `offset`, in octets from 0, that begins no message. It takes no
+/// memory.
+///
+/// # Errors
+///
+/// [`RunFault::Write`] where the writer fails or takes nothing; a prefix of the line was taken.
+pub(crate) fn write_stray<E: Sink>(offset: u64, cause: Cause, e: &mut E) -> Result<(), RunFault>
+    ensures writes { Writes (E.taken e.old) (E.taken e.new)
+        (fault_line offset (number_of_cause cause) (cause_text cause ∷ [])) result }
+    ensures counts { OnlyWrites (writer_of E.Sink e.old) (writer_of E.Sink e.new) result }
+{
+    let mut block = [0; STRAY_LINE];
+    let mut line = LineWriter::new(&mut block, e);
+    line.push_named(b"offset ", offset);
+    push_stray(&mut line, cause);
+    line.hand_on();
+    let outcome = line.status();
+    let _ = line.into_sink();
+    outcome
 }
 
 /// Writes the line of a fault at `offset`, in octets from 0. Want of memory has no line. It takes

@@ -41,45 +41,6 @@ pub struct Job<'a> {
     pub file: Option<&'a str>,
 }
 
-impl<'a> Job<'a> {
-    ghost use Rattle.std.specs.Prelude.{◌≡◌};
-    ghost use Rattle.bufr_cli.specs.Line.{form_asked, tables_asked};
-
-    /// What is to be done.
-    pub fn command(&self) -> Subcommand<'a>
-        ensures { result ≡ self.now.command }
-    {
-        self.command
-    }
-
-    /// The input's file name; `None` for standard input.
-    pub fn file(&self) -> Option<&'a str>
-        ensures { result ≡ self.now.file }
-    {
-        self.file
-    }
-
-    /// The names of the files of Tables B and D; `None` for `ls`.
-    pub fn tables(&self) -> Option<TableNames<'a>>
-        ensures { result ≡ tables_asked self.now.command }
-    {
-        match self.command {
-            Subcommand::Ls => None,
-            Subcommand::Dump(tables) | Subcommand::Encode(tables, _) => Some(tables),
-        }
-    }
-
-    /// The form that `encode` writes; `None` for the other commands.
-    pub fn form(&self) -> Option<Form>
-        ensures { result ≡ form_asked self.now.command }
-    {
-        match self.command {
-            Subcommand::Encode(_, form) => Some(form),
-            _ => None,
-        }
-    }
-}
-
 /// Why a command line gives no job.
 #[derive(Debug, Drop, thiserror::Error)]
 pub enum LineFault {
@@ -402,11 +363,6 @@ impl NoJob {
 }
 
 /// The subcommand of this name, with its tables and its form.
-///
-/// # Errors
-///
-/// [`NoJob::UnknownCommand`] where the name is unknown, then [`NoJob::MissingTable`], then
-/// [`NoJob::UnknownForm`].
 fn command_of<'a>(name: &str, found: &ArgMatches<'a>) -> Result<Subcommand<'a>, NoJob>
     ensures name { IfOk result (λ command. name.now ≡ name_of command) }
     ensures tables { IfOk result (HasTables (rows_of (found_of found.now))) }
@@ -434,10 +390,6 @@ fn command_of<'a>(name: &str, found: &ArgMatches<'a>) -> Result<Subcommand<'a>, 
 }
 
 /// The job of the subcommand of this name.
-///
-/// # Errors
-///
-/// Those of [`command_of`].
 fn job_of<'a>(name: &str, found: &ArgMatches<'a>) -> Result<Job<'a>, NoJob>
     ensures job { IfOk result (IsJobOf (Some (name.now, rows_of (found_of found.now)))) }
     ensures lacks { IfErr result (IsWhyNoJob name.now (rows_of (found_of found.now))) }

@@ -5,14 +5,12 @@ ghost use Rattle.std.specs.Prelude.{◌≡◌, List, ℕ, [], Option, Some, IfOk
 ghost use Rattle.bufr_cli.specs.RoundTrip.{IsDumpedInOneSpelling, RoundTrips, IsWholeRound, IsCanonicalMessage, Written, accepted_messages, rebuilt, RunsInMemory, IsWholeRoundOf, dump_pieces, text_pieces};
 ghost use Rattle.bufr_cli.specs.Running.{holding, GivesPieces, Dumps, Encodes};
 ghost use Rattle.bufr_cli.specs.Pieces.{IsDumpPiece, Piece};
-ghost use Rattle.bufr_frame.specs.Scan.{StreamEvent};
-ghost use Rattle.bufr_tables.specs.Records.{Record};
-ghost use Rattle.bufr_tables.specs.TableB.{Row, AreRows};
-ghost use Rattle.bufr_tables.specs.TableD.{Sequence};
-ghost use Rattle.bufr_text.specs.Dump.{IsOctet};
+ghost use Rattle.bufr_frame.specs.Prelude.{StreamEvent};
+ghost use Rattle.bufr_tables.specs.Prelude.{Record, Row, AreRows, Sequence};
+ghost use Rattle.bufr_text.specs.Prelude.{IsOctet};
 ghost use Rattle.bufr_text.specs.declared.encode.Form.{Form};
 ghost use Rattle.bufr_text.specs.declared.encode.Form.TheVariants.{AsWritten};
-ghost use Rattle.bufr_bits.specs.Script.{taken_of};
+ghost use Rattle.bufr_bits.specs.Prelude.{taken_of};
 
 use crate::dump::run_dump;
 use crate::encode::run_encode;

@@ -1,12 +1,10 @@
 //! `bufr ls`: lists the messages of a stream.
 ghost use Rattle.std.specs.Prelude.{◌≡◌, ◌≢◌, ◌≤◌, ℕ, List, [], ◌∷◌, true, false, IfOk, OnOk, IfSome, length, map};
-ghost use Rattle.bufr_frame.specs.Events.{events_of, IsEvent};
-ghost use Rattle.bufr_frame.specs.Input.{read_failures_after, MakesReads};
-ghost use Rattle.bufr_frame.specs.Sections.{sections_of};
+ghost use Rattle.bufr_frame.specs.Prelude.{events_of, IsEvent, read_failures_after, MakesReads, sections_of};
 ghost use Rattle.bufr_cli.specs.Pieces.{ls_or_fault, ls_piece, ls_pieces};
 ghost use Rattle.bufr_cli.specs.Running.{BlamesWriter, input_of, writers_of, RunsPieces, event_pieces, WritesAndCounts, StopsPiece, ReportsPieces};
 
-use crate::fault_line::{StreamFault, write_fault};
+use crate::fault_line::{StreamFault, write_fault, write_stray};
 use crate::outcome::{Tally, Verdict};
 use crate::run_events::{EventWriter, run_events};
 use bufr_bits::{Sink, Source};
@@ -67,7 +65,7 @@ impl EventWriter for LsRun {
         match event {
             Event::Frame(offset, octets) => list_frame(offset, octets, w, e),
             Event::Stray(offset, cause) => {
-                write_fault(offset, StreamFault::Stray(cause), e)?;
+                write_stray(offset, cause, e)?;
                 Ok(Verdict::Refused)
             }
             Event::Done => unreachable!(),

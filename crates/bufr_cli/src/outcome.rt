@@ -1,7 +1,7 @@
 //! The end of a run: its counts, its last line and its exit status.
 ghost use Rattle.std.specs.Prelude.{◌≡◌, ◌<◌, ◌-◌, ◌^◌, ◌∷◌, [], codes, decimal};
 ghost use Rattle.std.specs.Io.KnownBytes.{Appends};
-ghost use Rattle.bufr_text.specs.Writing.{Pushes, GrowsByPrefix, joined};
+ghost use Rattle.bufr_text.specs.Prelude.{Pushes, GrowsByPrefix, joined};
 ghost use Rattle.bufr_cli.specs.Ending.{last_line, run_fault_text, run_line, status_of, table_line};
 ghost use Rattle.bufr_cli.specs.Running.{IsSame, writer_of};
 

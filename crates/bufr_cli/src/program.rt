@@ -1,14 +1,11 @@
 //! The program below `main`: what it does with a command line, its inputs and its writers.
 ghost use Rattle.std.specs.Prelude.{◌≡◌, ℕ, true, List, Option, None, Ok, IfOk, IfErr, IfSome, OnOk, map};
-ghost use Rattle.bufr_frame.specs.Input.{read_failures_after, MakesReads};
-ghost use Rattle.bufr_tables.specs.TableD.{ReadsTableD};
-ghost use Rattle.bufr_tables.specs.Records.{Record, records_of};
-ghost use Rattle.bufr_tables.specs.TableB.{AreRows, table_b_of};
-ghost use Rattle.bufr_text.specs.Writing.{Writes};
-ghost use Rattle.bufr_cli.specs.Calling.{AnswersFault, RunsProgram};
+ghost use Rattle.bufr_frame.specs.Prelude.{read_failures_after, MakesReads};
+ghost use Rattle.bufr_tables.specs.Prelude.{ReadsTableD, Record, records_of, AreRows, table_b_of};
+ghost use Rattle.bufr_text.specs.Prelude.{Writes};
 ghost use Rattle.bufr_cli.specs.Running.{RunPieces, RunsPieces, BlamesWriter, CountsCalls, input_of, writer_of, writers_of, ReadsAll};
 ghost use Rattle.bufr_cli.specs.Ending.{AreFlushed, BlamesInput, EndsRun, FlushesRest};
-ghost use Rattle.bufr_cli.specs.Program.{AreTables, AreUnread, FileOutcome, IsClosed, RunsJob, RunOutcome, TableBOutcome, TableDOutcome, known, IsOfCommand, ran_outcome};
+ghost use Rattle.bufr_cli.specs.Program.{AreTables, AreUnread, FileOutcome, IsClosed, RunsJob, RunOutcome, TableBOutcome, TableDOutcome, known, IsOfCommand, ran_outcome, AnswersFault, RunsProgram};
 
 use crate::dump::run_dump;
 use crate::encode::run_encode_form;
@@ -178,10 +175,6 @@ fn run_job<'a, I: Inputs, W: Sink, E: Sink>(
 }
 
 /// The file of this name.
-///
-/// # Errors
-///
-/// [`Outcome::CannotOpen`].
 fn open_file<'a, I: Inputs>(name: &'a str, inputs: &I) -> Result<I::File, Outcome<'a>>
     ensures file { IfOk result
         (λ file. I.File.remaining file ≡ I.file_octets inputs.now name.entry.now) }
@@ -194,10 +187,6 @@ fn open_file<'a, I: Inputs>(name: &'a str, inputs: &I) -> Result<I::File, Outcom
 }
 
 /// The octets of the file of this name.
-///
-/// # Errors
-///
-/// [`Outcome::CannotOpen`], and [`Outcome::Run`] where it cannot be read to its end.
 // rule: table-not-read
 fn read_file<'a, I: Inputs>(
     alloc: Global,
@@ -219,10 +208,6 @@ fn read_file<'a, I: Inputs>(
 }
 
 /// Table B of the file of this name.
-///
-/// # Errors
-///
-/// As [`read_file`], and [`Outcome::TableB`].
 fn read_table_b<'a, I: Inputs>(
     alloc: Global,
     name: &'a str,
@@ -244,10 +229,6 @@ fn read_table_b<'a, I: Inputs>(
 }
 
 /// Table D of the file of this name.
-///
-/// # Errors
-///
-/// As [`read_file`], and [`Outcome::TableD`].
 fn read_table_d<'a, I: Inputs>(
     alloc: Global,
     name: &'a str,
@@ -275,10 +256,6 @@ struct Tables {
 }
 
 /// Table B, then Table D, of the files of these names.
-///
-/// # Errors
-///
-/// Those of [`read_table_b`], then those of [`read_table_d`].
 fn read_tables<'a, I: Inputs>(
     alloc: Global,
     names: TableNames<'a>,
@@ -345,10 +322,6 @@ fn run_input<'a, I: Inputs, W: Sink, E: Sink>(
 }
 
 /// Runs a command over what a reader gives, and flushes the rest.
-///
-/// # Errors
-///
-/// Those of [`run_command`], and [`RunFault::Memory`] before anything is read.
 fn run_reader<R: Read + Drop, W: Sink, E: Sink>(
     alloc: Global,
     command: Command<'_>,
@@ -368,10 +341,6 @@ fn run_reader<R: Read + Drop, W: Sink, E: Sink>(
 }
 
 /// Runs a command over an input.
-///
-/// # Errors
-///
-/// Those of the command's run.
 fn run_command<R: Source, W: Sink, E: Sink>(
     alloc: Global,
     command: Command<'_>,

@@ -1,10 +1,8 @@
 //! A run over the events of a stream, whatever is written for each of them.
 ghost use Rattle.std.specs.Prelude.{◌≡◌, ◌≢◌, ℕ, Bool, List, true, OnOk, IfErr, map};
 ghost use Rattle.std.specs.Io.KnownBytes.{Keeps};
-ghost use Rattle.bufr_bits.specs.Device.{counted};
-ghost use Rattle.bufr_frame.specs.Events.{events_of, IsEvent};
-ghost use Rattle.bufr_frame.specs.Input.{read_failures_after};
-ghost use Rattle.bufr_frame.specs.Scan.{StreamEvent};
+ghost use Rattle.bufr_bits.specs.Prelude.{counted};
+ghost use Rattle.bufr_frame.specs.Prelude.{events_of, IsEvent, read_failures_after, StreamEvent};
 ghost use Rattle.bufr_cli.specs.Pieces.{Piece};
 ghost use Rattle.bufr_cli.specs.Running.{BlamesWriter, CountsCalls, input_of, writer_of, writers_of, RunsPieces, event_pieces, GivesPieces, RunReads, StopsPiece, ReportsPieces};
 

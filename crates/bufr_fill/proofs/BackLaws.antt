@@ -1,34 +1,16 @@
 -- The bits that are written of drafts read as the contents of the drafts.
-use Rattle.std.proofs.Common.{◌≡◌, ℕ, zero, suc, ◌+◌, ◌*◌, ◌≤◌, Bool, true, false, List, [], ◌∷◌, ◌++◌, length, drop, Option, Some, None, Result, Ok, Err, refl, sym, ◌∙◌, ap, subst, arith, append_assoc}
-use Rattle.std.specs.Prelude.{slice_get, nat_lt, if◌then◌else◌}
+use Rattle.std.proofs.Common.{◌≡◌, ℕ, zero, suc, ◌+◌, ◌*◌, ◌≤◌, Bool, true, false, List, [], ◌∷◌, ◌++◌, length, drop, Option, Some, None, Result, Ok, Err, refl, sym, ◌∙◌, ap, subst, arith, append_assoc, slice_get, if◌then◌else◌}
+use Rattle.bufr_fill.proofs.FieldLemmas.{same_ok}
+use Rattle.bufr_fill.proofs.EntryLemmas.{length-cells}
+use Rattle.std.proofs.lemmas.Bool.{ltb-false}
 use Rattle.std.specs.List.{AllByRecursion}
-use Rattle.std.proofs.lemmas.Bool.Decides.{nat_tests}
-use Rattle.bufr_tables.specs.Expansion.{IsLegal}
-use Rattle.bufr_tables.specs.Records.{Record}
-use Rattle.bufr_tables.specs.TableB.{Row, AreRows}
-use Rattle.bufr_tables.specs.Tree.{Tree}
-use Rattle.bufr_walk.specs.FieldSpec.{FieldSpec, IsSpec}
-use Rattle.bufr_walk.specs.Calls.{content_at}
-use Rattle.bufr_walk.specs.Content.{Content, bits_for, FieldFault, found}
-use Rattle.bufr_walk.specs.Course.{Course, Next, take_next, at_end, astray, refused, next_item}
-use Rattle.bufr_walk.specs.Reading.{max_values, Item, DataCoding, plain, packed, ReadsPass}
-use Rattle.bufr_fill.specs.Draft.{Draft, Subset}
-use Rattle.bufr_fill.specs.DraftContent.{content_of, plainly, plain_filler}
-use Rattle.bufr_fill.specs.Encoding.{RowCell, ItemRow, cells_at, rows, longest, at_line_if_fault, content_here, contents_here, packed_to, are_many, pack_across, packed_filler, plain_data, packed_data, first_line, ◌>>=◌}
-use Rattle.bufr_fill.specs.Faults.{DraftFaultKind, FaultAt, at_line, too_many_values}
-use Rattle.bufr_fill.specs.Filling.{WrittenItem, written_item, Filler, fill, fill_one, fill_none, filled, with_bits_before}
-use Rattle.bufr_fill.specs.RoundTrip.{Fits, AllFit, HasOctets, HaveOctets, AllHaveOctets, IsSaid, AreSaidFrom, IsReadBack, IsPackedReadBack, AreDrafts, items_of_subset}
+use Rattle.bufr_tables.specs.Prelude.{IsLegal, Record, Row, AreRows, Tree}
+use Rattle.bufr_walk.specs.Prelude.{FieldSpec, IsSpec, Content, bits_for, FieldFault, found, content_at, Course, Next, take_next, at_end, astray, refused, next_item, max_values, Item, DataCoding, plain, packed, ReadsPass}
+use Rattle.bufr_fill.specs.Prelude.{Draft, Subset, DraftFaultKind, FaultAt, at_line, too_many_values, content_of, plainly, plain_filler, RowCell, ItemRow, cells_at, rows, longest, at_line_if_fault, content_here, contents_here, packed_to, are_many, pack_across, packed_filler, plain_data, packed_data, first_line, ◌>>=◌, WrittenItem, written_item, Filler, fill, fill_one, fill_none, filled, with_bits_before, packing, Fits, AllFit, HasOctets, HaveOctets, AllHaveOctets, IsSaid, AreSaidFrom, IsReadBack, IsPackedReadBack, AreDrafts, items_of_subset}
 use Rattle.bufr_fill.proofs.SpecLemmas.{IsWithin, table_good}
-use Rattle.bufr_fill.specs.Packing.{packing}
 use Rattle.bufr_fill.proofs.GoodReads.{draft_fits, IsGoodCourse, template_good, answer_within}
 use Rattle.bufr_fill.proofs.PackedLaws.{fitting_again}
 use Rattle.bufr_fill.proofs.PlainLaws.{plain_again}
-
-same_ok : {A E : Type 0} (a b : A) → ◌≡◌ {A = Result A E} (Ok a) (Ok b) → a ≡ b
-same_ok a b e = cc
-
-item_with : {C : Type 0} → FieldSpec → C → Item C
-item_with spec c = record { spec = spec; content = c }
 
 -- ---- one item after another
 
@@ -172,10 +154,7 @@ abbrev IsRowOf : ℕ → ItemRow → Type 0
 IsRowOf n a = (length a.cells ≡ n) × AllByRecursion (λ (cell : RowCell). OctetsIn cell.draft) a.cells
 
 few_of : (place n : ℕ) → are_many place n ≡ false → (place + 1) * n ≤ max_values
-few_of place n h = at_most max_values ((place + 1) * n) h
-  where
-    at_most : (a b : ℕ) → nat_lt a b ≡ false → b ≤ a
-    at_most a b h = grind (arith, nat_tests)
+few_of place n h = ltb-false max_values ((place + 1) * n) h
 
 packed_one : (n : ℕ) → 1 ≤ n → (spec : FieldSpec) (a : ItemRow) (w : WrittenItem (List Content)) → IsSpec spec → IsRowOf n a → pack_across spec a ≡ Ok w → IsOneBack (packed n) (IsSaidAcross n) spec a w
 packed_one n some spec a w good row e = by_many (are_many a.place (length a.cells)) refl e
@@ -201,10 +180,6 @@ packed_one n some spec a w good row e = by_many (are_many a.place (length a.cell
     by_many false p q = by_contents (subst (λ k. (a.place + 1) * k ≤ max_values) row.0 (few_of a.place (length a.cells) p)) (contents_here spec a.cells) refl q
 
 -- ---- rows and subsets
-
-length-cells : (p : ℕ) (ss : List Subset) → length (cells_at p ss) ≡ length ss
-length-cells p [] = refl
-length-cells p (s ∷ ss) = ap suc (length-cells p ss)
 
 draft_octets : (ds : List Draft) (p : ℕ) → HaveOctets ds → OctetsIn (slice_get ds p)
 draft_octets [] zero h = tt

@@ -1,23 +1,16 @@
 -- Stored entries, and the indices of subsets among them.
-use Rattle.std.proofs.Common.{◌≡◌, ℕ, zero, suc, ◌+◌, ◌-◌, ◌≤◌, ◌<◌, Bool, List, [], ◌∷◌, ◌++◌, true, false, length, drop, get_or, min, Option, Some, None, refl, sym, ◌∙◌, ap, arith, add-one, map, length-append, ◌/◌, Result, Ok, Err, subst}
-use Rattle.std.specs.Prelude.{slice_get, option_map, ◌==◌, slice_range}
+use Rattle.std.proofs.lemmas.Grind.{common_steps}
+use Rattle.std.proofs.Common.{◌≡◌, ℕ, zero, suc, ◌+◌, ◌-◌, ◌≤◌, ◌<◌, Bool, List, [], ◌∷◌, ◌++◌, true, false, length, drop, get_or, min, Option, Some, None, refl, sym, ◌∙◌, ap, arith, add-one, map, length-append, ◌/◌, Result, Ok, Err, subst, slice_get, option_map, ◌==◌, slice_range}
+use Rattle.bufr_tables.proofs.TableBLemmas.{range-append}
 use Rattle.std.proofs.Math.Seq.{drop-cons, drop-append_seam}
-use Rattle.std.proofs.lemmas.List.{append_assoc, take-append-le, drop-append-le, length-drop, length-map, map-append, take_all, drop_all}
-use Rattle.std.proofs.lemmas.Option.{none-some, slice_get-get_or, slice_get-map, slice_get_past, slice_get_within, get_or_from_slice_get}
+use Rattle.std.proofs.lemmas.List.{append_assoc, map-append, take_all, drop_all}
+use Rattle.std.proofs.lemmas.Option.{none-some, slice_get-get_or, slice_get_within, get_or_from_slice_get}
 use Rattle.std.proofs.lemmas.Bool.Decides.{nat_tests}
-use Rattle.bufr_fill.specs.Draft.{Draft, DraftEntry, Holds, Ends, Subset, subset, prepend_to_subset, subsets_of}
-use Rattle.bufr_fill.specs.Encoding.{RowCell, cells_at, at_line_if_fault}
-use Rattle.bufr_fill.specs.PackedOut.{begin_of, entry_or_end, cell_entry, ends_of, entry_line, entry_here}
-use Rattle.bufr_fill.specs.Kept.{is_end, entry_by, entry_with, entry_stored, entries_stored, IsPlaced, IsEntryInside, AreInside}
-use Rattle.bufr_fill.specs.PlainOut.{line_at, PlainOutModel, plain_out_model, IsFilled, IsFaultOf, IfDraftFault, after_end}
+use Rattle.bufr_fill.specs.Prelude.{Draft, DraftEntry, Holds, Ends, Subset, subset, prepend_to_subset, subsets_of, DraftFaultKind, FaultAt, at_line, item_too_many, RowCell, cells_at, at_line_if_fault, begin_of, entry_or_end, cell_entry, ends_of, entry_line, entry_here, is_end, entry_by, entry_with, entry_stored, entries_stored, IsPlaced, IsEntryInside, AreInside, line_at, PlainOutModel, plain_out_model, IsFilled, IsFaultOf, IfDraftFault, after_end, FieldContent, content_of, content_drawn}
 use Rattle.bufr_fill.specs.declared.draft.EntryKind.{EntryKind}
 use Rattle.bufr_fill.specs.declared.draft.StoredEntry.{StoredEntry}
 use Rattle.bufr_walk.specs.declared.spec.Taken.{Taken}
-use Rattle.bufr_fill.specs.declared.field_value.FieldContent.{FieldContent}
-use Rattle.bufr_walk.specs.FieldSpec.{FieldSpec}
-use Rattle.bufr_walk.specs.Content.{Content, answer_of, bits_for}
-use Rattle.bufr_fill.specs.DraftContent.{content_of, content_drawn}
-use Rattle.bufr_fill.specs.Faults.{DraftFaultKind, FaultAt, at_line, item_too_many}
+use Rattle.bufr_walk.specs.Prelude.{FieldSpec, Content, answer_of, bits_for}
 use Rattle.bufr_fill.specs.declared.draft.EntryKind.TheVariants as kind
 
 -- the first subset among entries
@@ -90,9 +83,7 @@ begin_after from (e ∷ ends) zero d h = refl
 begin_after from (e ∷ ends) (suc s) d h = begin_after (suc e) ends s d (omega (arith, h))
 
 pub begin_more : (ends : List ℕ) (s : ℕ) (d : ℕ) → 1 ≤ s → s < length ends → begin_of 0 ends s ≡ get_or ends (s - 1) d + 1
-begin_more ends s d some h =
-    let e : s ≡ suc (s - 1) = omega arith in
-    ap (begin_of 0 ends) e ∙ begin_after 0 ends (s - 1) d (omega (arith, h)) ∙ sym (next (get_or ends (s - 1) d))
+begin_more ends s d some h = grind (arith, common_steps, begin_after, next)
 
 pub length-subsets : (from : ℕ) (xs : List DraftEntry) → length (subsets_of xs) ≡ length (ends_of from xs)
 length-subsets from [] = refl
@@ -186,14 +177,7 @@ end_within xs ends s e h = omega (arith, ap (λ l. get_or l s 0) e, end_small 0 
 -- the entry that the code finds
 pub found_entry : (place s : ℕ) (xs : List DraftEntry) (ends : List ℕ) (z : ℕ) (begin : ℕ) (e : DraftEntry) → ends ≡ ends_of 0 xs → s < length ends → begin ≡ begin_of 0 ends s → slice_get xs (min (get_or ends s z) (begin + place)) ≡ Some e
     → (c : RowCell) → slice_get (cells_at place (subsets_of xs)) s ≡ Some c → e ≡ cell_entry c
-found_entry place s xs ends z begin e is h b found c cell =
-    let q : slice_get (ends_of 0 xs) s ≡ Some (get_or ends s z) = ap (λ l. slice_get l s) (sym is) ∙ get_there ends s z h in
-    let r = entry_there place s xs (get_or ends s z) c q cell in
-    let m : begin_of 0 (ends_of 0 xs) s ≡ begin = ap (λ l. begin_of 0 l s) (sym is) ∙ sym b in
-    same_entry e (cell_entry c) (sym found ∙ ap (λ n. slice_get xs (min (get_or ends s z) (n + place))) (sym m) ∙ r)
-  where
-    same_entry : (a b : DraftEntry) → ◌≡◌ {A = Option DraftEntry} (Some a) (Some b) → a ≡ b
-    same_entry a b q = cc
+found_entry place s xs ends z begin e is h b found c cell = grind (arith, common_steps, slice_get, get_there, entry_there)
 
 pub ends_few : (from : ℕ) (xs : List DraftEntry) → length (ends_of from xs) ≤ length xs
 ends_few from [] = omega arith
@@ -202,10 +186,7 @@ ends_few from (Ends line ∷ more) = omega (arith, ends_few (from + 1) more)
 
 pub empty_is : (xs : List ℕ) (n : ℕ) → n ≡ length xs → (n == 0) ≡ true → xs ≡ []
 empty_is [] n e h = refl
-empty_is (x ∷ xs) n e h = absurd (omega (arith, e, zero_from n h))
-  where
-    zero_from : (n : ℕ) → (n == 0) ≡ true → n ≡ 0
-    zero_from n h = grind (arith, nat_tests)
+empty_is (x ∷ xs) n e h = grind (arith, common_steps, nat_tests)
 
 some-same : {a b : Bool} → Some a ≡ Some b → a ≡ b
 some-same e = cc
@@ -222,31 +203,15 @@ next_of xs place h = drop-cons xs place (Ends 0) h ∙ ap (λ j. get_or xs place
 
 pub ends_here : (xs : List DraftEntry) (ends new : List ℕ) (place : ℕ) (b : Bool) → place < length xs → Some b ≡ option_map is_end (slice_get xs place) → b ≡ true → new ≡ ends ++ place ∷ []
     → ends ++ ends_of place (drop place xs) ≡ ends_of 0 xs → new ++ ends_of (place + 1) (drop (place + 1) xs) ≡ ends_of 0 xs
-ends_here xs ends new place b within is so grown before =
-    by (get_or xs place (Ends 0)) (is ∙ ap (option_map is_end) (slice_get-get_or xs place (Ends 0) within)) (next_of xs place within)
-  where
-    by : (e : DraftEntry) → Some b ≡ Some (is_end e) → drop place xs ≡ e ∷ drop (place + 1) xs → new ++ ends_of (place + 1) (drop (place + 1) xs) ≡ ends_of 0 xs
-    by (Holds d) odd at = absurd (true-false (sym so ∙ some-same odd))
-    by (Ends line) so at =
-        ap (λ l. l ++ ends_of (place + 1) (drop (place + 1) xs)) grown ∙ append_assoc ends (place ∷ []) (ends_of (place + 1) (drop (place + 1) xs))
-        ∙ ap (λ l. ends ++ ends_of place l) (sym at) ∙ before
+ends_here xs ends new place b within is so grown before = grind (arith, common_steps, option_map, slice_get-get_or, next_of, true-false, some-same, append_assoc)
 
 pub ends_after : (xs : List DraftEntry) (ends new : List ℕ) (place : ℕ) (b : Bool) → place < length xs → Some b ≡ option_map is_end (slice_get xs place) → b ≡ false → new ≡ ends
     → ends ++ ends_of place (drop place xs) ≡ ends_of 0 xs → new ++ ends_of (place + 1) (drop (place + 1) xs) ≡ ends_of 0 xs
-ends_after xs ends new place b within is so same before =
-    by (get_or xs place (Ends 0)) (is ∙ ap (option_map is_end) (slice_get-get_or xs place (Ends 0) within)) (next_of xs place within)
-  where
-    by : (e : DraftEntry) → Some b ≡ Some (is_end e) → drop place xs ≡ e ∷ drop (place + 1) xs → new ++ ends_of (place + 1) (drop (place + 1) xs) ≡ ends_of 0 xs
-    by (Holds d) was at = ap (λ l. l ++ ends_of (place + 1) (drop (place + 1) xs)) same ∙ ap (λ l. ends ++ ends_of place l) (sym at) ∙ before
-    by (Ends line) odd at = absurd (false-true (sym so ∙ some-same odd))
+ends_after xs ends new place b within is so same before = grind (arith, common_steps, option_map, slice_get-get_or, next_of, false-true, some-same)
 
 -- ---- The entries of a block and its stored entries.
 
 -- octets after the block leave the entries unchanged
-range-append : (xs ys : List ℕ) (i j : ℕ) → i ≤ j → j ≤ length xs → slice_range (xs ++ ys) i j ≡ slice_range xs i j
-range-append xs ys i j before inside =
-    rw (drop-append-le i xs ys (omega arith), take-append-le (j - i) (drop i xs) ys (omega (arith, length-drop i xs))) refl
-
 range-after : (xs ys : List ℕ) (j : ℕ) → j ≡ length xs + length ys → slice_range (xs ++ ys) (length xs) j ≡ ys
 range-after xs ys j e = rw (drop-append_seam xs ys) (take_all (j - length xs) ys (omega arith))
 
@@ -268,58 +233,19 @@ entries-append octets more (one ∷ cells) (here, all) = rw (entry-append octets
 -- one more entry, with its octets after the block
 pub entries-push : (octets more new : List ℕ) (cells : List StoredEntry) (one : StoredEntry) (e : DraftEntry) → AreInside (length octets) cells → new ≡ octets ++ more → one.start ≡ length octets → one.end ≡ length new → entry_by one.kind one.line one.fxy one.start more ≡ e
     → entries_stored new (cells ++ one ∷ []) ≡ entries_stored octets cells ++ e ∷ []
-entries-push octets more new cells one e all is from at said =
-    let stop : one.end ≡ length octets + length more = at ∙ ap length is ∙ length-append octets more in
-    let range : slice_range new one.start one.end ≡ more = ap (λ (t : List ℕ). slice_range t one.start one.end) is ∙ ap (λ n. slice_range (octets ++ more) n one.end) from ∙ range-after octets more one.end stop in
-    map-append (entry_stored new) cells (one ∷ [])
-    ∙ ap (λ (t : List ℕ). map (entry_stored new) cells ++ entry_by one.kind one.line one.fxy one.start t ∷ []) range
-    ∙ ap (λ (x : DraftEntry). map (entry_stored new) cells ++ x ∷ []) said
-    ∙ ap (λ (t : List ℕ). map (entry_stored t) cells ++ e ∷ []) is
-    ∙ ap (λ (t : List DraftEntry). t ++ e ∷ []) (entries-append octets more cells all)
+entries-push octets more new cells one e all is from at said = grind (arith, common_steps, length-append, slice_range, range-after, map-append, map, entries-append)
 
 -- no more entry, though octets were put after the block
 pub entries-same : (octets more new : List ℕ) (cells same : List StoredEntry) → AreInside (length octets) cells → new ≡ octets ++ more → same ≡ cells → entries_stored new same ≡ entries_stored octets cells
-entries-same octets more new cells same all is kept =
-    ap (entries_stored new) kept
-    ∙ ap (λ (t : List ℕ). entries_stored t cells) is
-    ∙ entries-append octets more cells all
-
--- the entry at an index
-pub kept-there : (octets block : List ℕ) (cells : List StoredEntry) (entries : List DraftEntry) (place : ℕ) (one : StoredEntry) (e : DraftEntry) → entries_stored octets cells ≡ entries → place < length cells → one ≡ get_or cells place one → block ≡ octets → e ≡ entry_stored block one
-    → Some e ≡ slice_get entries place
-kept-there octets block cells entries place one e are within here is said =
-    sym (ap (λ (t : List DraftEntry). slice_get t place) (sym are)
-    ∙ slice_get-map (entry_stored octets) cells place
-    ∙ ap (option_map (entry_stored octets)) (slice_get-get_or cells place one within)
-    ∙ ap (λ (k : StoredEntry). Some (entry_stored octets k)) (sym here)
-    ∙ ap (λ (t : List ℕ). Some (entry_stored t one)) (sym is)
-    ∙ ap (λ (x : DraftEntry). Some x) (sym said))
-
--- and none after the last
-pub kept-past : (octets : List ℕ) (cells : List StoredEntry) (entries : List DraftEntry) (place : ℕ) → entries_stored octets cells ≡ entries → length cells ≤ place → None ≡ slice_get entries place
-kept-past octets cells entries place are past =
-    sym (ap (λ (t : List DraftEntry). slice_get t place) (sym are)
-    ∙ slice_get_past (entries_stored octets cells) place (omega (arith, length-map cells (entry_stored octets))))
+entries-same octets more new cells same all is kept = grind (arith, common_steps, entries-append)
 
 -- the line of an entry is the one that is stored
 pub line-is : (k : StoredEntry) (octets : List ℕ) → entry_line (entry_with k octets) ≡ k.line
-line-is k octets = by k.kind
-  where
-    by : (one : EntryKind) → entry_line (entry_by one k.line k.fxy k.start octets) ≡ k.line
-    by (kind.Decimal places negative) = refl
-    by kind.Number = refl
-    by kind.Text = refl
-    by kind.Missing = refl
-    by kind.Reference = refl
-    by kind.End = refl
+line-is k octets = grind (arith, common_steps)
 
 -- and so is that of the entries which it begins
 pub line-with : (k : StoredEntry) (octets : List ℕ) (more : List DraftEntry) → line_at (entry_with k octets ∷ more) ≡ k.line
-line-with k octets more = by (entry_with k octets) (line-is k octets)
-  where
-    by : (e : DraftEntry) → entry_line e ≡ k.line → line_at (e ∷ more) ≡ k.line
-    by (Holds d) h = h
-    by (Ends line) h = h
+line-with k octets more = grind (arith, common_steps, line-is)
 
 -- ---- One item that the code wrote, in data that are not compressed.
 
@@ -351,8 +277,7 @@ filled_here entries place (Holds item) spec d t old new s view here drawn gives 
 
 -- what a writer has left, by the entry that the code found
 pub left_there : (entries : List DraftEntry) (place : ℕ) (old : List Bool) (s : PlainOutModel) (e : DraftEntry) → plain_out_model (drop place entries) old ≡ s → Some e ≡ slice_get entries place → s.left ≡ e ∷ drop (place + 1) entries
-left_there entries place old s e view here =
-    sym (ap (λ (p : PlainOutModel). p.left) view) ∙ next_there entries place e (sym here)
+left_there entries place old s e view here = grind (arith, common_steps, next_there)
 
 pub left_none : (entries : List DraftEntry) (place : ℕ) (old : List Bool) (s : PlainOutModel) → plain_out_model (drop place entries) old ≡ s → None ≡ slice_get entries place → s.left ≡ []
 left_none entries place old s view here = sym (ap (λ (p : PlainOutModel). p.left) view) ∙ drop_all place entries (none_there entries place here)

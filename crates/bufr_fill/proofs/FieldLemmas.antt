@@ -1,27 +1,18 @@
 -- An item as the content of its field, and the bits of a content.
-use Rattle.std.proofs.Common.{◌≡◌, ℕ, zero, suc, ◌+◌, ◌-◌, ◌*◌, ◌/◌, ◌%◌, ◌^◌, ◌<◌, ◌≤◌, ◌&&◌, eqb, Bool, true, false, List, [], ◌∷◌, ◌++◌, length, take, drop, replicate, get_or, refl, sym, ◌∙◌, ap, subst, arith, ℤ, pos, negsuc, neg_ℤ, nat_abs, mod-eq_of_lt, Ok, Err, pow_mono, ◌-ℤ◌, FitsSigned, to_z, of_z, SFits, w64, ◌<ℤ◌, ◌≤ℤ◌, not}
-use Rattle.std.specs.Prelude.{◌==◌, if◌then◌else◌, nat_lt, unsigned_abs}
+use Rattle.std.proofs.lemmas.Grind.{common_steps}
+use Rattle.std.proofs.Common.{Result, Ok, ◌≡◌, ℕ, zero, suc, ◌+◌, ◌-◌, ◌*◌, ◌/◌, ◌%◌, ◌^◌, ◌<◌, ◌≤◌, ◌&&◌, eqb, Bool, true, false, List, [], ◌∷◌, ◌++◌, length, take, drop, replicate, get_or, refl, sym, ◌∙◌, ap, subst, arith, ℤ, pos, negsuc, neg_ℤ, nat_abs, mod-eq_of_lt, Ok, Err, pow_mono, ◌<ℤ◌, ◌≤ℤ◌, not, ◌==◌, if◌then◌else◌, nat_lt, unsigned_abs}
 use Rattle.std.specs.List.{list_all}
 use Rattle.bufr_bits.proofs.DecimalLemmas.{and_second}
 use Rattle.std.proofs.lemmas.List.{nil_from_length, take-append-drop, take_at, drop_at, length-replicate, length-take-le, length-drop, append-nil, take-replicate, drop-replicate}
 use Rattle.std.proofs.lemmas.Bool.Decides.{nat_tests}
 use Rattle.std.proofs.lemmas.Nat.{shr_high}
-use Rattle.bufr_bits.specs.Bits.{bits_of, bits_of_octet, bits_in, number_after_bits, number_of, are_all_ones}
-use Rattle.bufr_bits.proofs.BitLemmas.{bit, number_after_bits-is, number_of-below, number-bits_of_octet, length-bits_of, bits_in-above, bits_in-octet, length-bits_in, number_of-bits_in, are_all_ones-number, are_all_ones-bits_of}
+use Rattle.bufr_bits.specs.Prelude.{bits_of, bits_of_octet, bits_in, number_after_bits, number_of, are_all_ones}
+use Rattle.bufr_bits.proofs.BitLemmas.{bit, number_after_bits-is, number_of-below, number-bits_of_octet, length-bits_of, bits_in-above, bits_in-octet, length-bits_in, number_of-bits_in, are_all_ones-number, are_all_ones-bits_of, and_false}
 use Rattle.bufr_tables.specs.declared.table_b.Kind.{Kind}
-use Rattle.bufr_walk.specs.FieldSpec.{HasWidth, HasMissing, FieldSpec, is_reference}
-use Rattle.bufr_walk.specs.Content.{Content, number, text, missing, reference, octets_in, signed_by, said_by, sign_bit, bits_for, answer_of, answer_by_role, count_in, reference_in}
-use Rattle.bufr_fill.specs.RoundTrip.{AreOctets, FitsKind}
-use Rattle.bufr_fill.specs.Packing.{raw_limit}
-use Rattle.std.specs.Int.{FitsUnsigned, w128}
-use Rattle.std.proofs.lemmas.Int.{ints, to_z-of_z, fits_signed_from_abs}
-use Rattle.bufr_fill.specs.Faults.{out_of_range, at_line}
-use Rattle.bufr_fill.specs.DraftContent.{raw_within, is_of, is_marked, wrong_for, content_of, content_by_form}
-use Rattle.std.proofs.lemmas.Bool.{false≢true}
-use Rattle.bufr_fill.specs.Draft.{Draft, draft, number_token, text_form, missing_form, reference_token, DraftEntry, Holds, Ends}
-use Rattle.bufr_fill.specs.Encoding.{at_line_if_fault}
-use Rattle.bufr_fill.specs.Kept.{entry_by, value_by, is_end, is_entry_of}
-use Rattle.bufr_fill.specs.PackedOut.{entry_here}
+use Rattle.bufr_walk.specs.Prelude.{HasWidth, HasMissing, FieldSpec, is_reference, Content, number, text, missing, reference, octets_in, signed_by, said_by, sign_bit, bits_for, answer_of, answer_by_role, count_in, reference_in}
+use Rattle.bufr_fill.specs.Prelude.{AreOctets, FitsKind, raw_limit, raw_within, is_of, is_marked, wrong_for, content_of, content_by_form, out_of_range, Draft, draft, number_token, text_form, missing_form, reference_token, DraftEntry, Holds, Ends, at_line_if_fault, entry_by, value_by, is_end, is_entry_of, entry_here}
+use Rattle.std.proofs.lemmas.Int.{ints}
+use Rattle.std.proofs.lemmas.Bool.{false≢true, eq-eqb, eqb-true, le-ltb}
 use Rattle.bufr_fill.specs.declared.draft.EntryKind.{EntryKind}
 use Rattle.bufr_tables.specs.declared.table_b.Kind.TheVariants as kind
 use Rattle.bufr_walk.specs.declared.spec.Role.TheVariants as role
@@ -34,6 +25,9 @@ number_again v w h = number_of-bits_in v w ∙ mod-eq_of_lt h
 
 pub ones_test : (xs : List Bool) (w : ℕ) → length xs ≡ w → eqb (number_of xs) (2 ^ w - 1) ≡ are_all_ones xs
 ones_test xs w e = subst (λ n. eqb (number_of xs) (2 ^ n - 1) ≡ are_all_ones xs) e (are_all_ones-number xs)
+
+pub same_ok : {A E : Type 0} (a b : A) → ◌≡◌ {A = Result A E} (Ok a) (Ok b) → a ≡ b
+same_ok a b e = cc
 
 pub top_below : (m : Bool) (w v : ℕ) → v < raw_limit m w → v < 2 ^ w
 top_below true w v h = omega arith
@@ -211,36 +205,22 @@ abs_neg (suc n) = refl
 
 pub signed_below : (bits : List Bool) (w : ℕ) → length bits ≡ w → 1 ≤ w → nat_abs (signed_by bits) < 2 ^ (w - 1)
 signed_below [] w e h = absurd (omega (arith, e, h))
-signed_below (true ∷ bits) w e h =
-    let l : length bits ≡ w - 1 = omega (arith, e) in
-    subst (λ k. k < 2 ^ (w - 1)) (sym (abs_neg (number_of bits))) (subst (λ k. number_of bits < 2 ^ k) l (number_of-below bits))
-signed_below (false ∷ bits) w e h =
-    let l : length bits ≡ w - 1 = omega (arith, e) in
-    subst (λ k. number_of bits < 2 ^ k) l (number_of-below bits)
+signed_below (true ∷ bits) w e h = grind (arith, common_steps, abs_neg, number_of-below)
+signed_below (false ∷ bits) w e h = grind (arith, common_steps, number_of-below)
 
 -- ---- Numbers that no field can have.
-
-past : (a b : ℕ) → b ≤ a → nat_lt a b ≡ false
-past a b h = grind (arith, nat_tests)
 
 top_least : (m : Bool) (w raw : ℕ) → w ≤ 63 → 2 ^ 63 ≤ raw → raw_limit m w ≤ raw
 top_least true w raw h g = let p : 2 ^ w ≤ 2 ^ 63 = pow_mono h in omega arith
 top_least false w raw h g = let p : 2 ^ w ≤ 2 ^ 63 = pow_mono h in omega arith
 
 pub beyond : (m : Bool) (w : ℕ) (z : ℤ) → w ≤ 63 → ((raw : ℕ) → z ≡ pos raw → 2 ^ 63 ≤ raw) → Err out_of_range ≡ raw_within m w z
-beyond m w (pos raw) h g = ap (λ b. if b then Ok (number raw) else Err out_of_range) (sym (past raw (raw_limit m w) (top_least m w raw h (g raw refl))))
+beyond m w (pos raw) h g = ap (λ b. if b then Ok (number raw) else Err out_of_range) (sym (le-ltb raw (raw_limit m w) (top_least m w raw h (g raw refl))))
 beyond m w (negsuc n) h g = refl
 
 by_order : (b : Bool) (a c : ℕ) → nat_lt a c ≡ b → (a < c → ⊥) → c ≤ a
 by_order true a c e h = absurd (h (grind (arith, nat_tests)))
 by_order false a c e h = grind (arith, nat_tests)
-
-pub not_signed : (v r : ℤ) (raw : ℕ) → SFits w128 v → SFits w128 r → v -ℤ r ≡ pos raw → (FitsSigned w128 (to_z w128 (of_z w128 v) -ℤ to_z w128 (of_z w128 r)) → ⊥) → 2 ^ 63 ≤ raw
-not_signed v r raw fv fr e h = by_order (nat_lt raw (2 ^ 63)) raw (2 ^ 63) refl (λ small.
-    h (subst (FitsSigned w128) (sym (ap (λ x. x -ℤ to_z w128 (of_z w128 r)) (to_z-of_z w128 v fv) ∙ ap (λ x. v -ℤ x) (to_z-of_z w128 r fr) ∙ e)) (fits_signed_from_abs w128 (pos raw) (let s : raw < 2 ^ 127 = omega arith in s))))
-
-pub not_unsigned : (z : ℤ) (raw : ℕ) → z ≡ pos raw → (FitsUnsigned w64 (to_z w128 (of_z w128 z)) → ⊥) → SFits w128 z → 2 ^ 63 ≤ raw
-not_unsigned z raw e h f = by_order (nat_lt raw (2 ^ 63)) raw (2 ^ 63) refl (λ small. h (subst (FitsUnsigned w64) (sym (to_z-of_z w128 z f ∙ e)) (omega (arith, ints), omega (arith, ints))))
 
 ones_is : (w : ℕ) → number_of (replicate w true) ≡ 2 ^ w - 1
 ones_is w =
@@ -293,24 +273,14 @@ positive_bits (negsuc n) w size pos_v some e h = absurd (omega (arith, ints, pos
 pub all_of_spaced : (octets : List ℕ) (count : ℕ) (full : Bool) → length octets ≤ count → full ≡ list_all (λ octet. octet == 255) octets → ((length octets == count) && full) ≡ list_all (λ octet. octet == 255) (octets ++ replicate (count - length octets) 32)
 all_of_spaced octets count full h e = by (count - length octets) (length octets == count) refl refl
   where
-    equal_from : (a b : ℕ) → (a == b) ≡ true → a ≡ b
-    equal_from a b q = grind (arith, nat_tests)
-
-    equal_to : (a b : ℕ) → a ≡ b → (a == b) ≡ true
-    equal_to a b q = grind (arith, nat_tests)
-
     none : (os : List ℕ) (n : ℕ) → list_all (λ octet. octet == 255) (os ++ replicate (suc n) 32) ≡ false
     none [] n = refl
     none (o ∷ os) n = ap (λ b. (o == 255) && b) (none os n) ∙ and_false (o == 255)
-      where
-        and_false : (b : Bool) → (b && false) ≡ false
-        and_false true = refl
-        and_false false = refl
 
     by : (n : ℕ) (b : Bool) → count - length octets ≡ n → (length octets == count) ≡ b → (b && full) ≡ list_all (λ octet. octet == 255) (octets ++ replicate (count - length octets) 32)
     by zero true p q = e ∙ ap (list_all (λ octet. octet == 255)) (sym (append-nil octets) ∙ ap (λ n. octets ++ replicate n 32) (sym p))
-    by zero false p q = absurd (false≢true (sym q ∙ equal_to (length octets) count (omega arith)))
-    by (suc n) true p q = absurd (omega (arith, p, equal_from (length octets) count q))
+    by zero false p q = absurd (false≢true (sym q ∙ eq-eqb (length octets) count (omega arith)))
+    by (suc n) true p q = absurd (omega (arith, p, eqb-true (length octets) count q))
     by (suc n) false p q = sym (ap (λ k. list_all (λ octet. octet == 255) (octets ++ replicate k 32)) p ∙ none octets n)
 
 -- octets of ones
@@ -329,19 +299,11 @@ eighths_ones w h = let e : 8 * (w / 8) ≡ w = omega arith in ap (λ n. replicat
 
 -- an item of a field has the field's mark
 marks : (spec : FieldSpec) (d : Draft) → is_of spec d ≡ true → is_reference spec.role ≡ is_marked d.form
-marks spec d h = by (is_reference spec.role) (is_marked d.form) (and_second (d.fxy == spec.fxy) _ h)
-  where
-    by : (a b : Bool) → (if a then b else not b) ≡ true → a ≡ b
-    by true b q = sym q
-    by false true q = q
-    by false false q = refl
+marks spec d h = grind (arith, common_steps, and_second, not)
 
 -- an item of a field has its value's content
 content_there : (spec : FieldSpec) (d : Draft) → is_of spec d ≡ true → content_of spec d ≡ content_by_form d.form spec
 content_there spec d h = ap (λ b. if b then content_by_form d.form spec else Err (wrong_for spec)) h
-
-content_wrong : (spec : FieldSpec) (d : Draft) → is_of spec d ≡ false → content_of spec d ≡ Err (wrong_for spec)
-content_wrong spec d h = ap (λ b. if b then content_by_form d.form spec else Err (wrong_for spec)) h
 
 -- the same of an entry, by its kind
 pub marks_at : (spec : FieldSpec) (k : EntryKind) (line fxy digits : ℕ) (octets : List ℕ) → is_entry_of spec (entry_by k line fxy digits octets) ≡ true → is_reference spec.role ≡ is_marked (value_by k digits octets)
@@ -364,15 +326,6 @@ content_at spec entry_kind.Text line fxy digits octets h = sym (ap (at_line_if_f
 content_at spec entry_kind.Missing line fxy digits octets h = sym (ap (at_line_if_fault line) (content_there spec (draft line fxy missing_form) h))
 content_at spec entry_kind.Reference line fxy digits octets h = sym (ap (at_line_if_fault line) (content_there spec (draft line fxy (reference_token octets)) h))
 content_at spec entry_kind.End line fxy digits octets h = absurd cc
-
-pub wrong_at : (spec : FieldSpec) (k : EntryKind) (line fxy digits : ℕ) (octets : List ℕ) → is_entry_of spec (entry_by k line fxy digits octets) ≡ false
-    → Err (at_line line (wrong_for spec)) ≡ entry_here spec (entry_by k line fxy digits octets)
-wrong_at spec (entry_kind.Decimal places negative) line fxy digits octets h = sym (ap (at_line_if_fault line) (content_wrong spec (draft line fxy (value_by (entry_kind.Decimal places negative) digits octets)) h))
-wrong_at spec entry_kind.Number line fxy digits octets h = sym (ap (at_line_if_fault line) (content_wrong spec (draft line fxy (number_token octets)) h))
-wrong_at spec entry_kind.Text line fxy digits octets h = sym (ap (at_line_if_fault line) (content_wrong spec (draft line fxy (text_form octets)) h))
-wrong_at spec entry_kind.Missing line fxy digits octets h = sym (ap (at_line_if_fault line) (content_wrong spec (draft line fxy missing_form) h))
-wrong_at spec entry_kind.Reference line fxy digits octets h = sym (ap (at_line_if_fault line) (content_wrong spec (draft line fxy (reference_token octets)) h))
-wrong_at spec entry_kind.End line fxy digits octets h = refl
 
 -- what each role returns to the walk
 pub answer_element : (spec : FieldSpec) (c : Content) → spec.role ≡ role.Element → taken.Plain ≡ answer_of spec c

@@ -1,25 +1,15 @@
 -- Items that were read in one form are written in the other so that they are read again.
-use Rattle.std.proofs.Common.{◌≡◌, ℕ, ◌+◌, ◌*◌, ◌≤◌, Bool, false, List, [], ◌∷◌, length, Option, Some, None, Ok, Err, refl, sym, ◌∙◌, ap, subst, arith, zero, suc, ◌<◌, true, ◌++◌, Result, append_assoc, ◌⊎◌, inl, inr, max, drop}
-use Rattle.std.specs.Prelude.{nat_lt, if◌then◌else◌, slice_get}
-use Rattle.std.proofs.lemmas.Bool.Decides.{nat_tests}
-use Rattle.bufr_walk.specs.FieldSpec.{FieldSpec, IsSpec}
-use Rattle.bufr_walk.specs.Content.{Content, found, bits_for, answer_by_role, answer_of, FieldFault, plain_field, missing, data_end, increment, unequal_factor}
-use Rattle.bufr_walk.specs.PackedField.{packed_field, answer_first}
-use Rattle.bufr_fill.specs.Packing.{packing, same, are_same, packed_bits, packed_unlike}
-use Rattle.bufr_fill.specs.RoundTrip.{Fits, AllFit, subsets_from, IsWrittenApart, IsDumped, AreDrafts, AreDumped, AreDumpedFrom, items_of_subset, IsUnlike, IsTogetherOrNot}
-use Rattle.bufr_walk.specs.Reading.{max_values, Item, packed, plain, after, ReadsPass, ReadsSubsets, IsPackedReading}
+use Rattle.std.proofs.lemmas.Grind.{common_steps}
+use Rattle.std.proofs.Common.{◌≡◌, ℕ, ◌+◌, ◌*◌, ◌≤◌, Bool, false, List, [], ◌∷◌, length, Option, Some, None, Ok, Err, refl, sym, ◌∙◌, ap, subst, arith, zero, suc, ◌<◌, true, ◌++◌, Result, append_assoc, ◌⊎◌, inl, inr, max, drop, if◌then◌else◌, slice_get}
+use Rattle.std.specs.List.{AllByRecursion, AllZip}
+use Rattle.std.proofs.lemmas.Bool.{le-ltb}
+use Rattle.bufr_walk.specs.Prelude.{FieldSpec, IsSpec, Content, found, bits_for, answer_by_role, answer_of, FieldFault, plain_field, missing, data_end, increment, unequal_factor, packed_field, answer_first, max_values, Item, packed, plain, after, ReadsPass, ReadsSubsets, IsPackedReading, content_at, Course, take_next, at_end}
+use Rattle.bufr_fill.specs.Prelude.{packing, same, are_same, packed_bits, packed_unlike, written_item, fill, fill_one, fill_none, filled, with_bits_before, plain_filler, RowCell, ItemRow, at_line_if_fault, content_here, contents_here, packed_to, pack_across, packed_filler, first_line, ◌>>=◌, plain_data, item_row, cells_at, rows, longest, packing_fault, are_many, packed_data, Fits, AllFit, subsets_from, IsWrittenApart, IsDumped, AreDrafts, AreDumped, AreDumpedFrom, items_of_subset, IsUnlike, IsTogetherOrNot, Draft, Subset, at_line, too_many_values, FaultAt, content_of}
 use Rattle.bufr_fill.proofs.PlainLaws.{IsCellOf, AreCellsOf, IsDumpedAcross, IsRewritten, draft_again, same_draft, AllSpecs, plain_again, EachSpecs, width_least, plain_read}
-use Rattle.bufr_fill.specs.Filling.{written_item, fill, fill_one, fill_none, filled, with_bits_before}
-use Rattle.bufr_fill.specs.Draft.{Draft, Subset}
-use Rattle.bufr_fill.specs.Faults.{at_line, too_many_values, FaultAt}
-use Rattle.bufr_fill.specs.DraftContent.{content_of, plainly, plain_filler}
-use Rattle.bufr_fill.specs.Encoding.{RowCell, ItemRow, at_line_if_fault, content_here, contents_here, packed_to, pack_across, packed_filler, first_line, ◌>>=◌, plain_data, item_row, cells_at, rows, longest, packing_fault, are_many, packed_data}
 use Rattle.bufr_fill.proofs.PackedLaws.{packed_again, packed_count, fitting_again}
 use Rattle.bufr_bits.proofs.DecimalLemmas.{and_first, and_second}
 use Rattle.bufr_walk.specs.declared.spec.Role.{Role}
 use Rattle.bufr_walk.specs.declared.spec.Taken.{Taken}
-use Rattle.bufr_walk.specs.Calls.{content_at}
-use Rattle.bufr_walk.specs.Course.{Course, take_next, at_end}
 use Rattle.bufr_fill.proofs.LeastLemmas.{content_same}
 use Rattle.bufr_walk.specs.declared.spec.Role.TheVariants as role
 
@@ -35,15 +25,8 @@ all_here spec good (c ∷ cs) (cell ∷ cells) fits h =
     ap (λ r. r >>= λ first. contents_here spec cells >>= λ rest. Ok (first ∷ rest)) (one_here spec good c cell.draft cell.end_line fits.0 h.0)
     ∙ ap (λ r. r >>= λ rest. Ok (c ∷ rest)) (all_here spec good cs cells fits.1 h.1)
 
-pub past : (a b : ℕ) → b ≤ a → nat_lt a b ≡ false
-past a b h = grind (arith, nat_tests)
-
 across_again : (n : ℕ) (spec : FieldSpec) → IsSpec spec → (cs : List Content) (a : ItemRow) (out : List Bool) → AllFit spec cs → AreCellsOf spec cs a.cells → length a.cells ≡ n → (a.place + 1) * n ≤ max_values → packing spec cs ≡ Ok out → pack_across spec a ≡ Ok (written_item cs out)
-across_again n spec good cs a out fits cells total few e =
-    let within : (a.place + 1) * length a.cells ≤ max_values = subst (λ m. (a.place + 1) * m ≤ max_values) (sym total) few in
-    ap (λ b. if b then Err (at_line (first_line a.cells) (too_many_values spec.fxy)) else (contents_here spec a.cells >>= λ xs. packed_to xs a.cells (packing spec xs))) (past max_values ((a.place + 1) * length a.cells) within)
-    ∙ ap (λ r. r >>= λ xs. packed_to xs a.cells (packing spec xs)) (all_here spec good cs a.cells fits cells)
-    ∙ ap (packed_to cs a.cells) e
+across_again n spec good cs a out fits cells total few e = grind (arith, common_steps, le-ltb, all_here)
 
 -- the field law of compressed data
 pub packed_rewritten : (n : ℕ) (end_line : ℕ) (many : Bool) → 1 ≤ n → (i : Item (List Content)) (a : ItemRow) (bits mid : List Bool) → IsSpec i.spec → IsDumpedAcross n i a → packed_field n i.spec bits ≡ Ok (found i.content mid) → IsRewritten (packed n) (packed_filler end_line many) i a bits mid
@@ -82,12 +65,7 @@ pub record IsPlainSubset (end_line : ℕ) (course : Course) (items : List (Item 
 -- the bits of the first item, and those of the rest
 join : (end_line : ℕ) (course : Course) (i : Item Content) (d : Draft) (ds : List Draft) (w out : List Bool) → (course []).next ≡ take_next i.spec → content_of i.spec d ≡ Ok i.content → bits_for i.spec.width i.content ≡ w
     → fill (plain_filler end_line) (after plain course i) ds ≡ Ok out → fill (plain_filler end_line) course (d ∷ ds) ≡ Ok (w ++ out)
-join end_line course i d ds w out next fills bits rest =
-    let filler = plain_filler end_line in
-    ap (λ n. fill_one filler n d (λ t. fill filler (λ answer_of. course (t ∷ answer_of)) ds)) next
-    ∙ ap (λ r. filled filler i.spec (plainly d.line i.spec r) (λ t. fill filler (λ answer_of. course (t ∷ answer_of)) ds)) fills
-    ∙ ap (λ b. with_bits_before filler b (fill filler (after plain course i) ds)) bits
-    ∙ ap (with_bits_before filler w) rest
+join end_line course i d ds w out next fills bits rest = grind (arith, common_steps)
 
 pub plain_subset : (end_line : ℕ) (course : Course) (items : List (Item Content)) (ds : List Draft) → Follows course items → AreDrafts IsDumped items ds → IsPlainSubset end_line course items ds
 plain_subset end_line course [] [] h dumped = record {
@@ -118,8 +96,7 @@ plain_subset end_line course (i ∷ items) (d ∷ ds) h dumped =
 -- ---- all subsets
 
 abbrev pub AllFollow : Course → List (List (Item Content)) → Type 0
-AllFollow course [] = Unit {0}
-AllFollow course (items ∷ subsets) = Follows course items × AllFollow course subsets
+AllFollow course subsets = AllByRecursion (λ (items : List (Item Content)). Follows course items) subsets
 
 record ArePlain (course : Course) (subsets : List (List (Item Content))) (drafts : List Subset) : Type 0 where
   out : List Bool
@@ -248,10 +225,7 @@ longest_left (r ∷ rs) = max (length r) (longest_left rs)
 
 -- the drafts from an index on are those of what is left
 abbrev DumpedAt : ℕ → List (List (Item Content)) → List Subset → Type 0
-DumpedAt p [] [] = Unit {0}
-DumpedAt p [] (s ∷ ss) = ⊥
-DumpedAt p (r ∷ rs) [] = ⊥
-DumpedAt p (r ∷ rs) (s ∷ ss) = AreDrafts IsDumped r (drop p s.items) × DumpedAt p rs ss
+DumpedAt p rs ss = AllZip (λ (r : List (Item Content)) (s : Subset). AreDrafts IsDumped r (drop p s.items)) rs ss
 
 -- the next item of a subset is of this field, and fits it
 abbrev IsHeaded : FieldSpec → List (Item Content) → Type 0
@@ -259,8 +233,7 @@ IsHeaded spec [] = ⊥
 IsHeaded spec (i ∷ items) = (i.spec ≡ spec) × Fits spec i.content
 
 abbrev AreHeaded : FieldSpec → List (List (Item Content)) → Type 0
-AreHeaded spec [] = Unit {0}
-AreHeaded spec (r ∷ rs) = IsHeaded spec r × AreHeaded spec rs
+AreHeaded spec rs = AllByRecursion (λ (r : List (Item Content)). IsHeaded spec r) rs
 
 one_headed : (course : Course) (spec : FieldSpec) (r : List (Item Content)) → (course []).next ≡ take_next spec → Follows course r → IsHeaded spec r
 one_headed course spec [] e h = let x : take_next spec ≡ at_end = sym e ∙ h in absurd cc
@@ -336,14 +309,13 @@ across_gives : (spec : FieldSpec) → IsSpec spec → (p : ℕ) (rs : List (List
 across_gives spec good p rs ss h d few =
     let cells = cells_at p ss in
     let within : (p + 1) * length cells ≤ max_values = subst (λ n. (p + 1) * n ≤ max_values) (sym (length-dumped p rs ss d)) few in
-    ap (λ b. if b then Err (at_line (first_line cells) (too_many_values spec.fxy)) else (contents_here spec cells >>= λ xs. packed_to xs cells (packing spec xs))) (past max_values ((p + 1) * length cells) within)
+    ap (λ b. if b then Err (at_line (first_line cells) (too_many_values spec.fxy)) else (contents_here spec cells >>= λ xs. packed_to xs cells (packing spec xs))) (le-ltb max_values ((p + 1) * length cells) within)
     ∙ ap (λ r. r >>= λ xs. packed_to xs cells (packing spec xs)) (all_here spec good (firsts rs) cells (all_fit spec rs h) (cells_there spec p rs ss h d))
 
 -- ---- the course continues the same for all
 
 abbrev AllAnswer : FieldSpec → Taken → List Content → Type 0
-AllAnswer spec t [] = Unit {0}
-AllAnswer spec t (c ∷ cs) = (answer_of spec c ≡ t) × AllAnswer spec t cs
+AllAnswer spec t cs = AllByRecursion (λ (c : Content). answer_of spec c ≡ t) cs
 
 all_answer : (spec : FieldSpec) (t : Taken) (cs : List Content) → ((j : ℕ) → j < length cs → answer_of spec (content_at j cs) ≡ t) → AllAnswer spec t cs
 all_answer spec t [] h = tt
@@ -503,11 +475,11 @@ all_plain course (items ∷ subsets) bits suffix specs r =
     let rest = all_plain course subsets r.0 suffix specs.1 r.2 in
     ((first.0, rest.0), omega (arith, first.1, rest.1))
 
-lengths : (items : List (Item Content)) (ds : List Draft) → AreDrafts IsDumped items ds → length ds ≡ length items
-lengths [] [] h = refl
-lengths [] (d ∷ ds) h = absurd h
-lengths (i ∷ items) [] h = absurd h
-lengths (i ∷ items) (d ∷ ds) h = ap suc (lengths items ds h.1)
+pub drafts_length : {C D : Type 0} (r : Item C → D → Type 0) (items : List (Item C)) (ds : List D) → AreDrafts r items ds → length ds ≡ length items
+drafts_length r [] [] h = refl
+drafts_length r [] (d ∷ ds) h = absurd h
+drafts_length r (i ∷ items) [] h = absurd h
+drafts_length r (i ∷ items) (d ∷ ds) h = ap suc (drafts_length r items ds h.1)
 
 dumped_at : (subsets : List (List (Item Content))) (ss : List Subset) → AreDumped subsets ss → DumpedAt 0 subsets ss × (longest ss ≡ longest_left subsets)
 dumped_at [] [] h = (tt, refl)
@@ -515,7 +487,7 @@ dumped_at [] (s ∷ ss) h = absurd h
 dumped_at (items ∷ subsets) [] h = absurd h
 dumped_at (items ∷ subsets) (s ∷ ss) h =
     let rest = dumped_at subsets ss h.1 in
-    ((h.0, rest.0), omega (arith, rest.1, lengths items s.items h.0))
+    ((h.0, rest.0), omega (arith, rest.1, drafts_length IsDumped items s.items h.0))
 
 -- data that were read subset after subset are written together, where their contents can be
 pub together : (course : Course) (subsets : List (List (Item Content))) (drafts : List Subset) (bits suffix : List Bool) → length bits ≤ max_values → EachSpecs subsets → AreDumped subsets drafts → ReadsSubsets course subsets bits suffix → IsTogetherOrNot course subsets drafts

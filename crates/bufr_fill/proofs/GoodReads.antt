@@ -1,31 +1,22 @@
 -- The fields of a reading are specifications, and the content of an item fits its field.
-use Rattle.std.proofs.Common.{◌≡◌, ℕ, ◌-◌, ◌^◌, ◌≤◌, Bool, List, [], ◌∷◌, Ok, arith, pow_mono, zero, suc, ◌/◌, ◌<◌, true, false, not, ◌++◌, length, replicate, Result, Err, refl, sym, subst, ℤ, pos, negsuc, nat_abs, ◌-ℤ◌}
+use Rattle.std.proofs.Common.{◌≡◌, ℕ, ◌-◌, ◌^◌, ◌≤◌, Bool, List, [], ◌∷◌, Ok, arith, pow_mono, ◌/◌, true, false, not, ◌++◌, length, replicate, Result, Err, refl, sym, subst, ℤ, pos, negsuc, nat_abs, ◌-ℤ◌, ◌==◌, nat_lt, if◌then◌else◌}
+use Rattle.bufr_fill.proofs.PackedBack.{AreOctets-append, AreOctets-spaces}
+use Rattle.bufr_fill.proofs.FieldLemmas.{same_ok}
+use Rattle.std.proofs.lemmas.Bool.{ltb-false, ltb-true}
 use Rattle.bufr_tables.specs.declared.table_b.Kind.{Kind}
-use Rattle.bufr_tables.specs.TableB.{Row, is_character}
-use Rattle.bufr_tables.specs.Tree.{Tree}
-use Rattle.bufr_tables.specs.Expansion.{IsLegal}
+use Rattle.bufr_tables.specs.Prelude.{Row, is_character, Tree, IsLegal}
 use Rattle.bufr_walk.specs.declared.spec.Role.{Role}
 use Rattle.bufr_walk.specs.declared.spec.Taken.{Taken}
-use Rattle.bufr_walk.specs.FieldSpec.{FieldSpec, IsSpec, HasWidth, HasRole, is_reference}
-use Rattle.bufr_walk.specs.Course.{Course, take_next, next_item}
-use Rattle.bufr_walk.specs.Content.{Content, number, text, missing, reference, answer_by_role, answer_of, found, plain_field}
-use Rattle.bufr_walk.specs.PackedField.{packed_field, answer_first}
-use Rattle.bufr_fill.specs.RoundTrip.{FitsRole, AreOctets, FitsNumber, FitsText, FitsReference, FitsKind, Fits, HasOctets}
-use Rattle.bufr_walk.specs.Reading.{Item, DataCoding, plain, packed, ReadsItems, ReadsSubsets, item_answer, after}
+use Rattle.bufr_walk.specs.Prelude.{FieldSpec, IsSpec, HasWidth, HasRole, is_reference, Content, number, text, missing, reference, answer_by_role, answer_of, found, plain_field, packed_field, answer_first, Course, take_next, next_item, Item, DataCoding, plain, packed, ReadsItems, ReadsSubsets, item_answer, after}
+use Rattle.bufr_fill.specs.Prelude.{FitsRole, AreOctets, FitsNumber, FitsText, FitsReference, FitsKind, Fits, HasOctets, DraftValue, number_token, text_form, missing_form, reference_token, Draft, wrong_number, out_of_range, text_long, missing_forbidden, is_marked, raw_within, raw_of, reference_of, text_within, missing_of, content_by_form, is_of, wrong_for, content_of, raw_limit}
 use Rattle.bufr_fill.proofs.SpecLemmas.{AreGoodRows, IsWithin, AreWithin, next_good}
 use Rattle.bufr_fill.proofs.PlainLaws.{AllSpecs, EachSpecs, plain_read}
 use Rattle.bufr_fill.proofs.PackedLaws.{packed_again}
-use Rattle.std.specs.Prelude.{◌==◌, nat_lt, if◌then◌else◌}
 use Rattle.std.specs.List.{list_all}
 use Rattle.std.proofs.lemmas.List.{length-append, length-replicate}
-use Rattle.std.proofs.lemmas.Bool.Decides.{nat_tests}
 use Rattle.bufr_bits.proofs.DecimalLemmas.{and_second}
-use Rattle.bufr_bits.specs.Decimal.{decimal_value_of}
+use Rattle.bufr_bits.specs.Prelude.{decimal_value_of}
 use Rattle.bufr_bits.specs.declared.decimal.NumberFault.{NumberFault}
-use Rattle.bufr_fill.specs.Draft.{DraftValue, number_token, text_form, missing_form, reference_token, Draft}
-use Rattle.bufr_fill.specs.DraftContent.{is_marked, raw_within, raw_of, reference_of, text_within, missing_of, content_by_form, is_of, wrong_for, content_of}
-use Rattle.bufr_fill.specs.Faults.{DraftFaultKind, wrong_number, out_of_range, text_long, missing_forbidden}
-use Rattle.bufr_fill.specs.Packing.{raw_limit}
 use Rattle.bufr_tables.specs.declared.table_b.Kind.TheVariants as kind
 use Rattle.bufr_walk.specs.declared.spec.Role.TheVariants as role
 
@@ -77,18 +68,9 @@ packed_specs n course items bits suffix good h = specs_of_reads (packed n) (pack
 
 -- ---- The content of an item fits its field.
 
-same_ok : {A : Type 0} (a b : A) → ◌≡◌ {A = Result A DraftFaultKind} (Ok a) (Ok b) → a ≡ b
-same_ok a b e = cc
-
-below_from : (a b : ℕ) → nat_lt a b ≡ true → a < b
-below_from a b h = grind (arith, nat_tests)
-
-at_most : (a b : ℕ) → nat_lt a b ≡ false → b ≤ a
-at_most a b h = grind (arith, nat_tests)
-
 module _ (m : Bool) (w : ℕ) (c : Content) where
   number_test : (raw : ℕ) (b : Bool) → nat_lt raw (raw_limit m w) ≡ b → (if b then Ok (number raw) else Err out_of_range) ≡ Ok c → FitsNumber m w c
-  number_test raw true p e = subst (FitsNumber m w) (same_ok (number raw) c e) (below_from raw (raw_limit m w) p)
+  number_test raw true p e = subst (FitsNumber m w) (same_ok (number raw) c e) (ltb-true raw (raw_limit m w) p)
   number_test raw false p e = cc
 
   number_fits : (v : ℤ) → raw_within m w v ≡ Ok c → FitsNumber m w c
@@ -104,14 +86,6 @@ module _ (m : Bool) (w : ℕ) (c : Content) where
   missing_fits kind.Coded e = subst (FitsNumber m w) (sym (missing_test m refl e).1) (missing_test m refl e).0
   missing_fits kind.Numeric e = subst (FitsNumber m w) (sym (missing_test m refl e).1) (missing_test m refl e).0
 
-octets_and : (xs ys : List ℕ) → AreOctets xs → AreOctets ys → AreOctets (xs ++ ys)
-octets_and [] ys h g = g
-octets_and (x ∷ xs) ys h g = (h.0, octets_and xs ys h.1 g)
-
-spaces_are : (n : ℕ) → AreOctets (replicate n 32)
-spaces_are zero = tt
-spaces_are (suc n) = (omega arith, spaces_are n)
-
 text_fits : (count : ℕ) (octets : List ℕ) (c : Content) → AreOctets octets → text_within count octets ≡ Ok c → FitsText count c
 text_fits count octets c h e = by_tests (nat_lt count (length octets)) (list_all (λ octet. octet == 255) (octets ++ replicate (count - length octets) 32)) refl refl e
   where
@@ -120,10 +94,10 @@ text_fits count octets c h e = by_tests (nat_lt count (length octets)) (list_all
     by_tests true b p q r = cc
     by_tests false true p q r = cc
     by_tests false false p q r =
-        let short : length octets ≤ count = at_most count (length octets) p in
+        let short : length octets ≤ count = ltb-false count (length octets) p in
         let whole = octets ++ replicate (count - length octets) 32 in
         let size : length whole ≡ count = omega (arith, short, length-append octets (replicate (count - length octets) 32), length-replicate {A = ℕ} (count - length octets) 32) in
-        subst (FitsText count) (same_ok (text whole) c r) (size, octets_and octets (replicate (count - length octets) 32) h (spaces_are (count - length octets)), q)
+        subst (FitsText count) (same_ok (text whole) c r) (size, AreOctets-append octets (replicate (count - length octets) 32) h (AreOctets-spaces (count - length octets)), q)
 
 module _ (spec : FieldSpec) (c : Content) where
   raw_fits : (r : Result ℤ NumberFault) → raw_of spec r ≡ Ok c → FitsNumber spec.may_be_missing spec.width c
@@ -131,7 +105,7 @@ module _ (spec : FieldSpec) (c : Content) where
   raw_fits (Err why) e = cc
 
   reference_test : (v : ℤ) (b : Bool) → nat_lt (nat_abs v) (2 ^ (spec.width - 1)) ≡ b → (if b then Ok (reference v) else Err out_of_range) ≡ Ok c → FitsReference spec.width c
-  reference_test v true p e = subst (FitsReference spec.width) (same_ok (reference v) c e) (below_from (nat_abs v) (2 ^ (spec.width - 1)) p)
+  reference_test v true p e = subst (FitsReference spec.width) (same_ok (reference v) c e) (ltb-true (nat_abs v) (2 ^ (spec.width - 1)) p)
   reference_test v false p e = cc
 
   reference_fits : (r : Result ℤ NumberFault) → reference_of spec r ≡ Ok c → FitsReference spec.width c

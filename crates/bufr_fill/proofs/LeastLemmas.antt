@@ -1,26 +1,17 @@
 -- The least base and the least k of numbers and of texts.
-use Rattle.std.proofs.Common.{◌≡◌, ℕ, zero, suc, ◌+◌, ◌<◌, ◌≤◌, ◌≢◌, ◌&&◌, min, Bool, true, false, List, [], ◌∷◌, map, Option, Some, None, refl, sym, ◌∙◌, ap, arith, ℤ, pos, negsuc, nat_abs, ◌-◌, ◌^◌, max, ◌++◌, length, Ok, pow_mono, append_assoc, subst, ◌/◌, not, take, replicate, Err}
-use Rattle.std.specs.Prelude.{◌==◌, if◌then◌else◌, nat_lt, unwrap_or, nat_le}
-use Rattle.std.proofs.lemmas.Bool.{false≢true}
-use Rattle.std.proofs.lemmas.Bool.Decides.{nat_tests}
+use Rattle.std.proofs.lemmas.Grind.{common_steps}
+use Rattle.std.proofs.Common.{◌≡◌, ℕ, zero, suc, ◌+◌, ◌<◌, ◌≤◌, ◌≢◌, ◌&&◌, min, Bool, true, false, List, [], ◌∷◌, map, Option, Some, None, refl, sym, ◌∙◌, ap, arith, ℤ, pos, negsuc, nat_abs, ◌-◌, ◌^◌, max, ◌++◌, length, Ok, pow_mono, append_assoc, subst, ◌/◌, not, take, replicate, Err, ◌==◌, if◌then◌else◌, nat_lt, unwrap_or, nat_le}
+use Rattle.std.proofs.lemmas.Bool.{false≢true, eqb-true, le-leb, le-ltb, leb-false, leb-true, lt-leb, lt-ltb, ltb-false, ltb-true, eq-eqb}
 use Rattle.bufr_bits.proofs.DecimalLemmas.{and_first, and_second}
-use Rattle.bufr_walk.specs.Content.{Content, number, text, missing, reference, sign_bit, increment}
-use Rattle.bufr_fill.specs.Packing.{raw_limit, same_octets, same_sign, same, are_same, smaller, lowest, first_from, has_bits, least_k, increment_bits, packed_bits, numbers_over, packed_by, gives_again, has_octets, octet_bits, packed_texts}
-use Rattle.bufr_fill.specs.RoundTrip.{FitsNumber}
-use Rattle.std.specs.List.{list_all, flat_map}
+use Rattle.bufr_walk.specs.Prelude.{Content, number, text, missing, reference, sign_bit, increment, FieldSpec, is_reference}
+use Rattle.bufr_fill.specs.Prelude.{raw_limit, spaced, HasRoom, content_drawn, same_octets, same_sign, same, are_same, smaller, lowest, first_from, has_bits, least_k, increment_bits, packed_bits, numbers_over, packed_by, gives_again, has_octets, octet_bits, packed_texts, FitsNumber, FieldContent, AllDrawn, contents_drawn, spread, least_from, AreShort, trimmed, need, most_need, over_of, number_or, least_number}
+use Rattle.std.specs.List.{list_all, flat_map, AllByRecursion}
 use Rattle.std.proofs.lemmas.List.{length-append}
-use Rattle.bufr_bits.specs.Bits.{bits_in}
+use Rattle.bufr_bits.specs.Prelude.{bits_in}
 use Rattle.bufr_tables.specs.declared.table_b.Kind.{Kind}
-use Rattle.bufr_tables.specs.TableB.{is_character}
-use Rattle.bufr_fill.specs.declared.field_value.FieldContent.{FieldContent}
-use Rattle.bufr_walk.specs.FieldSpec.{FieldSpec, is_reference}
-use Rattle.bufr_fill.specs.PackedOut.{AllDrawn, contents_drawn, spread, least_from, AreShort, trimmed, need, most_need, over_of, number_or, least_number}
-use Rattle.bufr_fill.specs.DraftContent.{spaced, HasRoom, content_drawn}
+use Rattle.bufr_tables.specs.Prelude.{is_character}
 use Rattle.bufr_tables.specs.declared.table_b.Kind.TheVariants as kind
 use Rattle.bufr_fill.specs.declared.field_value.FieldContent.TheVariants as drawn
-
-equal_from : (a b : ℕ) → (a == b) ≡ true → a ≡ b
-equal_from a b h = grind (arith, nat_tests)
 
 -- the first number that passes is at most any that does
 first_step : (b : Bool) (from k x : ℕ) → from ≤ k → (b ≡ false → x ≤ k) → (if b then from else x) ≤ k
@@ -55,16 +46,16 @@ pub octets_same : (a b : List ℕ) → same_octets a b ≡ true → a ≡ b
 octets_same [] [] h = refl
 octets_same [] (y ∷ ys) h = cc
 octets_same (x ∷ xs) [] h = cc
-octets_same (x ∷ xs) (y ∷ ys) h = ap (λ n. n ∷ xs) (equal_from x y (and_first (x == y) (same_octets xs ys) h)) ∙ ap (λ zs. y ∷ zs) (octets_same xs ys (and_second (x == y) (same_octets xs ys) h))
+octets_same (x ∷ xs) (y ∷ ys) h = ap (λ n. n ∷ xs) (eqb-true x y (and_first (x == y) (same_octets xs ys) h)) ∙ ap (λ zs. y ∷ zs) (octets_same xs ys (and_second (x == y) (same_octets xs ys) h))
 
 signs_same : (a b : ℤ) → (same_sign (sign_bit a) (sign_bit b) && (nat_abs a == nat_abs b)) ≡ true → a ≡ b
-signs_same (pos a) (pos b) h = ap pos (equal_from a b h)
+signs_same (pos a) (pos b) h = ap pos (eqb-true a b h)
 signs_same (pos a) (negsuc b) h = cc
 signs_same (negsuc a) (pos b) h = cc
-signs_same (negsuc a) (negsuc b) h = let e : suc a ≡ suc b = equal_from (suc a) (suc b) h in ap negsuc (omega arith)
+signs_same (negsuc a) (negsuc b) h = let e : suc a ≡ suc b = eqb-true (suc a) (suc b) h in ap negsuc (omega arith)
 
 pub content_same : (c d : Content) → same c d ≡ true → c ≡ d
-content_same (number a) (number b) h = ap number (equal_from a b h)
+content_same (number a) (number b) h = ap number (eqb-true a b h)
 content_same (number a) (text b) h = cc
 content_same (number a) missing h = cc
 content_same (number a) (reference b) h = cc
@@ -81,19 +72,16 @@ content_same (reference a) (text b) h = cc
 content_same (reference a) missing h = cc
 content_same (reference a) (reference b) h = ap reference (signs_same a b h)
 
-equal_test : (a : ℕ) → (a == a) ≡ true
-equal_test a = grind (arith, nat_tests)
-
 pub octets_self : (a : List ℕ) → same_octets a a ≡ true
 octets_self [] = refl
-octets_self (x ∷ xs) = ap (λ b. b && same_octets xs xs) (equal_test x) ∙ octets_self xs
+octets_self (x ∷ xs) = ap (λ b. b && same_octets xs xs) (eq-eqb x x refl) ∙ octets_self xs
 
 pub content_self : (c : Content) → same c c ≡ true
-content_self (number a) = equal_test a
+content_self (number a) = eq-eqb a a refl
 content_self (text a) = octets_self a
 content_self missing = refl
-content_self (reference (pos a)) = equal_test a
-content_self (reference (negsuc a)) = equal_test (suc a)
+content_self (reference (pos a)) = eq-eqb a a refl
+content_self (reference (negsuc a)) = eq-eqb (suc a) (suc a) refl
 
 -- contents that are all one content are the same
 pub are_same_copies : {X : Type 0} (c : Content) (is : List X) → are_same c (map (λ i. c) is) ≡ true
@@ -106,12 +94,10 @@ IsOver m (number n) = m ≤ n
 IsOver m _ = Unit {0}
 
 abbrev pub AreOver : ℕ → List Content → Type 0
-AreOver m [] = Unit {0}
-AreOver m (c ∷ cs) = IsOver m c × AreOver m cs
+AreOver m cs = AllByRecursion (λ (c : Content). IsOver m c) cs
 
 abbrev pub AreNumbers : Bool → ℕ → List Content → Type 0
-AreNumbers m w [] = Unit {0}
-AreNumbers m w (c ∷ cs) = FitsNumber m w c × AreNumbers m w cs
+AreNumbers m w cs = AllByRecursion (λ (c : Content). FitsNumber m w c) cs
 
 over_less : (a b : ℕ) (cs : List Content) → a ≤ b → AreOver b cs → AreOver a cs
 over_less a b [] h g = tt
@@ -142,11 +128,7 @@ lowest_over (reference v ∷ cs) m e = (tt, lowest_over cs m e)
 -- the least number fits as each does
 pub lowest_fits : (may : Bool) (w : ℕ) (cs : List Content) (m : ℕ) → AreNumbers may w cs → lowest cs ≡ Some m → m < raw_limit may w
 lowest_fits may w [] m h e = absurd cc
-lowest_fits may w (number n ∷ cs) m h e = by_rest (lowest cs) e
-  where
-    by_rest : (o : Option ℕ) → Some (smaller n o) ≡ Some m → m < raw_limit may w
-    by_rest None q = let s : n ≡ m = cc in omega (arith, h.0)
-    by_rest (Some l) q = let s : min n l ≡ m = cc in omega (arith, h.0)
+lowest_fits may w (number n ∷ cs) m h e = grind (arith, common_steps)
 lowest_fits may w (text o ∷ cs) m h e = absurd h.0
 lowest_fits may w (missing ∷ cs) m h e = lowest_fits may w cs m h.1 e
 lowest_fits may w (reference v ∷ cs) m h e = absurd h.0
@@ -177,7 +159,7 @@ true_false : (b : Bool) → b ≡ true → b ≡ false → ⊥
 true_false true e f = cc
 true_false false e f = cc
 
-top_some : (m : Bool) (w : ℕ) → 1 ≤ w → 1 ≤ raw_limit m w
+pub top_some : (m : Bool) (w : ℕ) → 1 ≤ w → 1 ≤ raw_limit m w
 top_some true w h = let p : 2 ^ 1 ≤ 2 ^ w = pow_mono h in omega (arith, p)
 top_some false w h = let p : 2 ^ 1 ≤ 2 ^ w = pow_mono h in omega (arith, p)
 
@@ -209,20 +191,14 @@ module _ (spec : FieldSpec) (numeric : is_character spec.kind ≡ false) (elemen
       by None e = omega (arith, top_some false spec.width some)
       by (Some n) e = omega (arith, lowest_fits spec.may_be_missing spec.width (contents_drawn count ds) n (numbers_fit count ds all) e, top_below spec.may_be_missing spec.width)
 
-below_test : (a b : ℕ) → a < b → nat_lt a b ≡ true
-below_test a b h = grind (arith, nat_tests)
-
-below_from : (a b : ℕ) → nat_lt a b ≡ true → a < b
-below_from a b h = grind (arith, nat_tests)
-
 -- the least k is one of those that pass, and at most a width that does
 pub least_most : (m : Bool) (s w : ℕ) → 1 ≤ w → w ≤ 63 → s < raw_limit m w → least_from m s 1 ≤ w
 unfolding least_from
-least_most m s w some most h = first_least (λ k. nat_lt s (raw_limit m k)) (64 - 1) 1 w some (below_test s (raw_limit m w) h)
+least_most m s w some most h = first_least (λ k. nat_lt s (raw_limit m k)) (64 - 1) 1 w some (lt-ltb s (raw_limit m w) h)
 
 pub least_fits : (m : Bool) (s w : ℕ) → 1 ≤ w → w ≤ 63 → s < raw_limit m w → s < raw_limit m (least_from m s 1)
 unfolding least_from
-least_fits m s w some most h = below_from s (raw_limit m (first_from (λ k. nat_lt s (raw_limit m k)) (64 - 1) 1)) (first_passes (λ k. nat_lt s (raw_limit m k)) (64 - 1) 1 w some (omega (arith, most)) (below_test s (raw_limit m w) h))
+least_fits m s w some most h = ltb-true s (raw_limit m (first_from (λ k. nat_lt s (raw_limit m k)) (64 - 1) 1)) (first_passes (λ k. nat_lt s (raw_limit m k)) (64 - 1) 1 w some (omega (arith, most)) (lt-ltb s (raw_limit m w) h))
 
 pub all_short : (m : Bool) (base k : ℕ) (ds : List FieldContent) → spread base ds < raw_limit m k → AreShort base k ds
 all_short m base k [] h = tt
@@ -233,24 +209,13 @@ all_short m base k (drawn.Reference v ∷ ds) h = (tt, all_short m base k ds (om
 
 -- all increments have the bits where the greatest has
 max_test : (a b t : ℕ) → nat_lt (max a b) t ≡ (nat_lt a t && nat_lt b t)
-max_test a b t = by (nat_lt a t) (nat_lt b t) refl refl
-  where
-    past : (a b : ℕ) → b ≤ a → nat_lt a b ≡ false
-    past a b h = grind (arith, nat_tests)
-
-    from_false : (a b : ℕ) → nat_lt a b ≡ false → b ≤ a
-    from_false a b h = grind (arith, nat_tests)
-
-    by : (x y : Bool) → nat_lt a t ≡ x → nat_lt b t ≡ y → nat_lt (max a b) t ≡ (x && y)
-    by true true p q = below_test (max a b) t (omega (arith, below_from a t p, below_from b t q))
-    by true false p q = past (max a b) t (omega (arith, from_false b t q))
-    by false y p q = past (max a b) t (omega (arith, from_false a t p))
+max_test a b t = grind (arith, common_steps, nat_lt, lt-ltb, ltb-true, le-ltb, ltb-false)
 
 zero_max : (s t : ℕ) → nat_lt s t ≡ nat_lt (max 0 s) t
 zero_max s t = let e : s ≡ max 0 s = omega arith in ap (λ n. nat_lt n t) e
 
 all_have : (m : Bool) (base k count : ℕ) (ds : List FieldContent) → 1 ≤ k → list_all (has_bits m base k) (contents_drawn count ds) ≡ nat_lt (spread base ds) (raw_limit m k)
-all_have m base k count [] h = sym (below_test 0 (raw_limit m k) (omega (arith, top_some m k h)))
+all_have m base k count [] h = sym (lt-ltb 0 (raw_limit m k) (omega (arith, top_some m k h)))
 all_have m base k count (drawn.Number n ∷ ds) h = ap (λ b. nat_lt (n - base) (raw_limit m k) && b) (all_have m base k count ds h) ∙ sym (max_test (n - base) (spread base ds) (raw_limit m k))
 all_have m base k count (drawn.Text t ∷ ds) h = all_have m base k count ds h ∙ zero_max (spread base ds) (raw_limit m k)
 all_have m base k count (drawn.Missing ∷ ds) h = all_have m base k count ds h ∙ zero_max (spread base ds) (raw_limit m k)
@@ -288,37 +253,15 @@ numbers_packed spec count ds base k numeric b l =
 
 -- what was written, one part after another
 pub parts_put : (old one two three base k rest : List Bool) → one ≡ old ++ base → two ≡ one ++ k → three ≡ two ++ rest → three ≡ old ++ (base ++ (k ++ rest))
-parts_put old one two three base k rest a b c =
-    c ∙ ap (λ x. x ++ rest) (b ∙ ap (λ x. x ++ k) a) ∙ append_assoc (old ++ base) k rest ∙ append_assoc old base (k ++ rest)
+parts_put old one two three base k rest a b c = grind (arith, common_steps, append_assoc)
 
 pub parts_length : (old new more : List Bool) (n : ℕ) → new ≡ old ++ more → length new ≤ length old + n → length more ≤ n
 parts_length old new more n e h = omega (arith, ap length e, length-append old more, h)
 
 -- ---- Texts are packed by the least k.
 
-le_test : (a b : ℕ) → a ≤ b → nat_le a b ≡ true
-le_test a b h = grind (arith, nat_tests)
-
-le_past : (a b : ℕ) → b < a → nat_le a b ≡ false
-le_past a b h = grind (arith, nat_tests)
-
-le_from : (a b : ℕ) → nat_le a b ≡ true → a ≤ b
-le_from a b h = grind (arith, nat_tests)
-
-le_not : (a b : ℕ) → nat_le a b ≡ false → b < a
-le_not a b h = grind (arith, nat_tests)
-
 le_same : (a b x y : ℕ) → (a ≤ b → x ≤ y) → (x ≤ y → a ≤ b) → nat_le a b ≡ nat_le x y
-le_same a b x y f g = by (nat_le a b) (nat_le x y) refl refl
-  where
-    by : (p q : Bool) → nat_le a b ≡ p → nat_le x y ≡ q → nat_le a b ≡ nat_le x y
-    by true q e h = e ∙ sym (le_test x y (f (le_from a b e)))
-    by false true e h = le_test a b (g (le_from x y h)) ∙ sym h
-    by false false e h = e ∙ sym h
-
-both_first : (a b : Bool) → (a && b) ≡ true → a ≡ true
-both_first true b h = refl
-both_first false b h = h
+le_same a b x y f g = grind (arith, common_steps, nat_le, le-leb, leb-true)
 
 -- k octets and spaces are the text again where only spaces follow them
 abbrev again : ℕ → List ℕ → Bool
@@ -328,22 +271,12 @@ suc_le : (a b : ℕ) → nat_le (suc a) (suc b) ≡ nat_le a b
 suc_le a b = le_same (suc a) (suc b) a b (λ h. omega (arith, h)) (λ h. omega (arith, h))
 
 again_more : (t : Bool) (o k : ℕ) (os : List ℕ) → ((trimmed os == 0) && (o == 32)) ≡ t → again k os ≡ nat_le (trimmed os) k → again (suc k) (o ∷ os) ≡ nat_le (if t then 0 else suc (trimmed os)) (suc k)
-again_more true o k os e h =
-    let n : suc (length os) - suc k ≡ length os - k = omega arith in
-    ap (λ m. same_octets (o ∷ take k os ++ replicate m 32) (o ∷ os)) n
-    ∙ ap (λ b. b && again k os) (equal_test o) ∙ h ∙ le_test (trimmed os) k (omega (arith, equal_from (trimmed os) 0 (both_first (trimmed os == 0) (o == 32) e))) ∙ sym (le_test 0 (suc k) (omega arith))
-again_more false o k os e h =
-    let n : suc (length os) - suc k ≡ length os - k = omega arith in
-    ap (λ m. same_octets (o ∷ take k os ++ replicate m 32) (o ∷ os)) n
-    ∙ ap (λ b. b && again k os) (equal_test o) ∙ h ∙ sym (suc_le (trimmed os) k)
+again_more true o k os e h = grind (arith, common_steps, eq-eqb, le-leb, eqb-true, and_first)
+again_more false o k os e h = grind (arith, common_steps, eq-eqb, suc_le)
 
 same_32 : (o : ℕ) (b : Bool) → (o == 32) ≡ b → (32 == o) ≡ b
-same_32 o true e = ap (λ x. 32 == x) (equal_from o 32 e)
-same_32 o false e = by (32 == o) refl
-  where
-    by : (c : Bool) → (32 == o) ≡ c → (32 == o) ≡ false
-    by true q = absurd (true_false (o == 32) (ap (λ x. x == 32) (sym (equal_from 32 o q))) e)
-    by false q = q
+same_32 o true e = ap (λ x. 32 == x) (eqb-true o 32 e)
+same_32 o false e = grind (arith, common_steps, true_false, eqb-true)
 
 again_none : (o : ℕ) (os : List ℕ) (x y : Bool) → (trimmed os == 0) ≡ x → (o == 32) ≡ y → again 0 os ≡ nat_le (trimmed os) 0 → again 0 (o ∷ os) ≡ nat_le (if x && y then 0 else suc (trimmed os)) 0
 again_none o os x y p q h = whole ∙ by x y p
@@ -355,14 +288,14 @@ again_none o os x y p q h = whole ∙ by x y p
     whole = ap (λ m. same_octets (replicate m 32) (o ∷ os)) len ∙ ap (λ b. b && same_octets (replicate (length os - 0) 32) os) (same_32 o y q) ∙ ap (λ b. y && b) h
 
     by : (x y : Bool) → (trimmed os == 0) ≡ x → (y && nat_le (trimmed os) 0) ≡ nat_le (if x && y then 0 else suc (trimmed os)) 0
-    by true true e = le_test (trimmed os) 0 (omega (arith, equal_from (trimmed os) 0 e)) ∙ sym (le_test 0 0 (omega arith))
-    by true false e = sym (le_past (suc (trimmed os)) 0 (omega arith))
-    by false false e = sym (le_past (suc (trimmed os)) 0 (omega arith))
+    by true true e = le-leb (trimmed os) 0 (omega (arith, eqb-true (trimmed os) 0 e)) ∙ sym (le-leb 0 0 (omega arith))
+    by true false e = sym (lt-leb (suc (trimmed os)) 0 (omega arith))
+    by false false e = sym (lt-leb (suc (trimmed os)) 0 (omega arith))
     by false true e = by_zero (nat_le (trimmed os) 0) refl
       where
         by_zero : (b : Bool) → nat_le (trimmed os) 0 ≡ b → nat_le (trimmed os) 0 ≡ nat_le (suc (trimmed os)) 0
-        by_zero false g = g ∙ sym (le_past (suc (trimmed os)) 0 (omega arith))
-        by_zero true g = absurd (apart (ap (λ n. n == 0) (zero_is (le_from (trimmed os) 0 g))))
+        by_zero false g = g ∙ sym (lt-leb (suc (trimmed os)) 0 (omega arith))
+        by_zero true g = absurd (apart (ap (λ n. n == 0) (zero_is (leb-true (trimmed os) 0 g))))
           where
             zero_is : trimmed os ≤ 0 → trimmed os ≡ 0
             zero_is l = omega (arith, l)
@@ -371,11 +304,7 @@ again_none o os x y p q h = whole ∙ by x y p
             apart z = cc
 
 again_is : (k : ℕ) (os : List ℕ) → again k os ≡ nat_le (trimmed os) k
-again_is k [] = nil k
-  where
-    nil : (k : ℕ) → again k [] ≡ nat_le 0 k
-    nil zero = sym (le_test 0 0 (omega arith))
-    nil (suc k) = let n : 0 - suc k ≡ 0 = omega arith in ap (λ m. same_octets (replicate m 32) []) n ∙ sym (le_test 0 (suc k) (omega arith))
+again_is k [] = grind (arith, common_steps, nat_le, le-leb)
 again_is zero (o ∷ os) = again_none o os (trimmed os == 0) (o == 32) refl refl (again_is zero os)
 again_is (suc k) (o ∷ os) = again_more ((trimmed os == 0) && (o == 32)) o k os refl (again_is k os)
 
@@ -387,39 +316,17 @@ abbrev need_by : ℕ → List ℕ → ℕ
 need_by n os = if full (take n os) then suc n else n
 
 not_full_none : (o : ℕ) (os : List ℕ) → trimmed (o ∷ os) ≤ 0 → false ≡ nat_le (need (o ∷ os)) 0
-not_full_none o os h =
-    let e : trimmed (o ∷ os) ≡ 0 = omega (arith, h) in
-    sym (le_past 1 0 (omega arith)) ∙ ap (λ n. nat_le (need_by n (o ∷ os)) 0) (sym e)
+not_full_none o os h = grind (arith, common_steps, lt-leb, nat_le)
 
 not_full_other : (o k : ℕ) (os : List ℕ) (t : Bool) → (o == 255) ≡ false → ((trimmed os == 0) && (o == 32)) ≡ t → trimmed (o ∷ os) ≤ suc k → not (full (take (suc k) (o ∷ os))) ≡ nat_le (need (o ∷ os)) (suc k)
-not_full_other o k os t e s h = ap (λ b. not (b && full (take k os))) e ∙ by t s (trimmed (o ∷ os)) refl
-  where
-    by : (t : Bool) → ((trimmed os == 0) && (o == 32)) ≡ t → (n : ℕ) → trimmed (o ∷ os) ≡ n → true ≡ nat_le (need (o ∷ os)) (suc k)
-    by true s n q =
-        let z : trimmed (o ∷ os) ≡ 0 = ap (λ b. if b then 0 else suc (trimmed os)) s in
-        sym (le_test 1 (suc k) (omega arith)) ∙ ap (λ n. nat_le (need_by n (o ∷ os)) (suc k)) (sym z)
-    by false s n q =
-        let z : trimmed (o ∷ os) ≡ suc (trimmed os) = ap (λ b. if b then 0 else suc (trimmed os)) s in
-        sym (le_test (suc (trimmed os)) (suc k) (omega (arith, h, z)))
-        ∙ ap (λ b. nat_le (if b && full (take (trimmed os) os) then suc (suc (trimmed os)) else suc (trimmed os)) (suc k)) (sym e)
-        ∙ ap (λ n. nat_le (need_by n (o ∷ os)) (suc k)) (sym z)
+not_full_other o k os t e s h = grind (arith, common_steps, not, nat_le, le-leb)
 
 need_suc : (b : Bool) (n k : ℕ) → nat_le (if b then suc n else n) k ≡ nat_le (if b then suc (suc n) else suc n) (suc k)
 need_suc true n k = sym (suc_le (suc n) k)
 need_suc false n k = sym (suc_le n k)
 
 not_full_one : (o k : ℕ) (os : List ℕ) → (o == 255) ≡ true → trimmed (o ∷ os) ≤ suc k → (trimmed os ≤ k → not (full (take k os)) ≡ nat_le (need os) k) → not (full (take (suc k) (o ∷ os))) ≡ nat_le (need (o ∷ os)) (suc k)
-not_full_one o k os e h go =
-    let is : o ≡ 255 = equal_from o 255 e in
-    let z : trimmed (o ∷ os) ≡ suc (trimmed os) = ap (λ x. if (trimmed os == 0) && (x == 32) then 0 else suc (trimmed os)) is ∙ no_space (trimmed os == 0) (suc (trimmed os)) in
-    ap (λ b. not (b && full (take k os))) e ∙ go (omega (arith, h, z))
-    ∙ need_suc (full (take (trimmed os) os)) (trimmed os) k
-    ∙ ap (λ b. nat_le (if b && full (take (trimmed os) os) then suc (suc (trimmed os)) else suc (trimmed os)) (suc k)) (sym e)
-    ∙ ap (λ n. nat_le (need_by n (o ∷ os)) (suc k)) (sym z)
-  where
-    no_space : (b : Bool) (n : ℕ) → (if b && false then 0 else n) ≡ n
-    no_space true n = refl
-    no_space false n = refl
+not_full_one o k os e h go = grind (arith, common_steps, eqb-true, not, need_suc, nat_le)
 
 not_full : (os : List ℕ) (k : ℕ) → full os ≡ false → trimmed os ≤ k → not (full (take k os)) ≡ nat_le (need os) k
 not_full [] k f h = absurd cc
@@ -431,18 +338,10 @@ not_full (o ∷ os) (suc k) f h = by (o == 255) refl f (λ g l. not_full os k g 
     by false e f go = not_full_other o k os ((trimmed os == 0) && (o == 32)) e refl h
 
 need_least : (os : List ℕ) → trimmed os ≤ need os
-need_least os = by (full (take (trimmed os) os))
-  where
-    by : (b : Bool) → trimmed os ≤ (if b then suc (trimmed os) else trimmed os)
-    by true = omega arith
-    by false = omega arith
+need_least os = grind (arith, common_steps)
 
 gives_is : (os : List ℕ) (k : ℕ) → full os ≡ false → gives_again k os ≡ nat_le (need os) k
-gives_is os k f = by (nat_le (trimmed os) k) refl
-  where
-    by : (b : Bool) → nat_le (trimmed os) k ≡ b → gives_again k os ≡ nat_le (need os) k
-    by true e = ap (λ b. b && not (full (take k os))) (again_is k os ∙ e) ∙ not_full os k f (le_from (trimmed os) k e)
-    by false e = ap (λ b. b && not (full (take k os))) (again_is k os ∙ e) ∙ sym (le_past (need os) k (omega (arith, le_not (trimmed os) k e, need_least os)))
+gives_is os k f = grind (arith, common_steps, nat_le, not, again_is, not_full, leb-true, lt-leb, leb-false, need_least)
 
 -- spaces after a text do not count
 trimmed_none : (n : ℕ) → trimmed (replicate n 32) ≡ 0
@@ -467,9 +366,7 @@ take_prefix (suc n) [] r h = absurd (omega (arith, h))
 take_prefix (suc n) (o ∷ os) r h = ap (λ xs. o ∷ xs) (take_prefix n os r (omega (arith, h)))
 
 need_spaced : (count : ℕ) (os : List ℕ) → need (spaced count os) ≡ need os
-need_spaced count os =
-    ap (λ n. need_by n (spaced count os)) (trimmed_spaced os (count - length os))
-    ∙ ap (λ xs. if full xs then suc (trimmed os) else trimmed os) (take_prefix (trimmed os) os (replicate (count - length os) 32) (trimmed_within os))
+need_spaced count os = grind (arith, common_steps, trimmed_spaced, take_prefix, trimmed_within)
 
 take_all : (os : List ℕ) (n : ℕ) → length os ≤ n → take n os ≡ os
 take_all [] zero h = refl
@@ -495,8 +392,8 @@ need_room count os h = by (full (take (trimmed os) os)) refl
     less l n = by_order (nat_le (suc (trimmed os)) count) refl
       where
         by_order : (b : Bool) → nat_le (suc (trimmed os)) count ≡ b → suc (trimmed os) ≤ count
-        by_order true e = le_from (suc (trimmed os)) count e
-        by_order false e = absurd (n (omega (arith, l, le_not (suc (trimmed os)) count e)))
+        by_order true e = leb-true (suc (trimmed os)) count e
+        by_order false e = absurd (n (omega (arith, l, leb-false (suc (trimmed os)) count e)))
 
     by : (b : Bool) → full (take (trimmed os) os) ≡ b → (if b then suc (trimmed os) else trimmed os) ≤ count
     by true e = less (omega (arith, trimmed_within os, h.0)) (λ q. none q e)
@@ -511,18 +408,13 @@ most_room spec (drawn.Reference v ∷ ds) some all = omega (arith, some, most_ro
 
 -- the text that needs most octets determines those of all texts
 max_le : (a b k : ℕ) → nat_le (max a b) k ≡ (nat_le a k && nat_le b k)
-max_le a b k = by (nat_le a k) (nat_le b k) refl refl
-  where
-    by : (x y : Bool) → nat_le a k ≡ x → nat_le b k ≡ y → nat_le (max a b) k ≡ (x && y)
-    by true true p q = le_test (max a b) k (omega (arith, le_from a k p, le_from b k q))
-    by true false p q = le_past (max a b) k (omega (arith, le_not b k q))
-    by false y p q = le_past (max a b) k (omega (arith, le_not a k p))
+max_le a b k = grind (arith, common_steps, nat_le, le-leb, leb-true, lt-leb, leb-false)
 
 one_le : (s k : ℕ) → 1 ≤ k → nat_le s k ≡ nat_le (max 1 s) k
-one_le s k h = sym (max_le 1 s k ∙ ap (λ b. b && nat_le s k) (le_test 1 k h))
+one_le s k h = sym (max_le 1 s k ∙ ap (λ b. b && nat_le s k) (le-leb 1 k h))
 
 texts_pass : (spec : FieldSpec) (ds : List FieldContent) (k : ℕ) → 1 ≤ k → AllDrawn spec ds → list_all (has_octets k) (contents_drawn (spec.width / 8) ds) ≡ nat_le (most_need ds) k
-texts_pass spec [] k h all = sym (le_test 1 k h)
+texts_pass spec [] k h all = sym (le-leb 1 k h)
 texts_pass spec (drawn.Number n ∷ ds) k h all = texts_pass spec ds k h all.1 ∙ one_le (most_need ds) k h
 texts_pass spec (drawn.Text t ∷ ds) k h all =
     ap (λ b. b && list_all (has_octets k) (contents_drawn (spec.width / 8) ds)) (gives_is (spaced (spec.width / 8) t.now) k all.0.2.1 ∙ ap (λ n. nat_le n k) (need_spaced (spec.width / 8) t.now))
@@ -535,8 +427,8 @@ first_at m zero from h = let e : from ≡ min m (from + 0) = omega (arith, h) in
 first_at m (suc fuel) from h = by (nat_le m from) refl (λ g. first_at m fuel (from + 1) g)
   where
     by : (b : Bool) → nat_le m from ≡ b → (from + 1 ≤ m → first_from (λ k. nat_le m k) fuel (from + 1) ≡ min m (from + 1 + fuel)) → (if nat_le m from then from else first_from (λ k. nat_le m k) fuel (from + 1)) ≡ min m (from + suc fuel)
-    by true e go = ap (λ b. if b then from else first_from (λ k. nat_le m k) fuel (from + 1)) e ∙ (let q : from ≡ min m (from + suc fuel) = omega (arith, h, le_from m from e) in q)
-    by false e go = ap (λ b. if b then from else first_from (λ k. nat_le m k) fuel (from + 1)) e ∙ go (omega (arith, le_not m from e)) ∙ (let q : min m (from + 1 + fuel) ≡ min m (from + suc fuel) = omega arith in q)
+    by true e go = ap (λ b. if b then from else first_from (λ k. nat_le m k) fuel (from + 1)) e ∙ (let q : from ≡ min m (from + suc fuel) = omega (arith, h, leb-true m from e) in q)
+    by false e go = ap (λ b. if b then from else first_from (λ k. nat_le m k) fuel (from + 1)) e ∙ go (omega (arith, leb-false m from e)) ∙ (let q : min m (from + 1 + fuel) ≡ min m (from + suc fuel) = omega arith in q)
 
 least_of : (p q : ℕ → Bool) (fuel m : ℕ) → ((k : ℕ) → 1 ≤ k → p k ≡ q k) → (first_from q fuel 1 ≡ min m (1 + fuel)) → first_from p fuel 1 ≡ min m (1 + fuel)
 least_of p q fuel m h e = first_same p q fuel 1 h ∙ e
@@ -558,13 +450,10 @@ pub texts_packed : (spec : FieldSpec) (ds : List FieldContent) (k : ℕ) → is_
 texts_packed spec ds k char some all is few =
     let least : least_k has_octets (contents_drawn (spec.width / 8) ds) ≡ k = texts_least spec ds some all ∙ (let q : min (most_need ds) 64 ≡ k = omega (arith, is, few) in q) in
     kind_texts spec.kind spec (contents_drawn (spec.width / 8) ds) char ∙ ap (λ n. packed_texts spec.width n (contents_drawn (spec.width / 8) ds)) least
-    ∙ texts_by spec.width k (contents_drawn (spec.width / 8) ds) true (le_test k 63 few)
+    ∙ texts_by spec.width k (contents_drawn (spec.width / 8) ds) true (le-leb k 63 few)
 
 pub texts_apart : (spec : FieldSpec) (ds : List FieldContent) (k : ℕ) → is_character spec.kind ≡ true → 1 ≤ most_need ds → AllDrawn spec ds → k ≡ most_need ds → 63 < k → packed_by spec.kind spec (contents_drawn (spec.width / 8) ds) ≡ Err increment
-texts_apart spec ds k char some all is many =
-    let least : least_k has_octets (contents_drawn (spec.width / 8) ds) ≡ 64 = texts_least spec ds some all ∙ (let q : min (most_need ds) 64 ≡ 64 = omega (arith, is, many) in q) in
-    kind_texts spec.kind spec (contents_drawn (spec.width / 8) ds) char ∙ ap (λ n. packed_texts spec.width n (contents_drawn (spec.width / 8) ds)) least
-    ∙ texts_by spec.width 64 (contents_drawn (spec.width / 8) ds) false (le_past 64 63 (omega arith))
+texts_apart spec ds k char some all is many = grind (arith, common_steps, texts_least, kind_texts, texts_by, lt-leb)
 
 -- ---- The least and the greatest number of an item, gathered content after content.
 
@@ -631,13 +520,6 @@ spread_over base (drawn.Text t ∷ ds) = omega (arith, spread_over base ds)
 spread_over base (drawn.Missing ∷ ds) = omega (arith, spread_over base ds)
 spread_over base (drawn.Reference v ∷ ds) = omega (arith, spread_over base ds)
 
-both_second : (a b : Bool) → (a && b) ≡ true → b ≡ true
-both_second true b h = h
-both_second false b h = absurd cc
-
-equal_numbers : (a b : ℕ) → (a == b) ≡ true → a ≡ b
-equal_numbers a b h = grind (arith, nat_tests)
-
 smaller_least : (a n : ℕ) (o : Option ℕ) → a ≡ n → smaller a o ≡ a → smaller n o ≡ a
 smaller_least a n o e h = ap (λ m. smaller m o) (sym e) ∙ h
 
@@ -645,8 +527,8 @@ smaller_least a n o e h = ap (λ m. smaller m o) (sym e) ∙ h
 all_one : (count a : ℕ) (ds : List FieldContent) → are_same (number a) (contents_drawn count ds) ≡ true → (smaller a (lowest (contents_drawn count ds)) ≡ a) × (max a (spread 0 ds) ≡ a)
 all_one count a [] h = (refl, omega arith)
 all_one count a (drawn.Number n ∷ ds) h =
-    let e = equal_numbers a n (both_first (a == n) (are_same (number a) (contents_drawn count ds)) h) in
-    let rest = all_one count a ds (both_second (a == n) (are_same (number a) (contents_drawn count ds)) h) in
+    let e = eqb-true a n (and_first (a == n) (are_same (number a) (contents_drawn count ds)) h) in
+    let rest = all_one count a ds (and_second (a == n) (are_same (number a) (contents_drawn count ds)) h) in
     let least = smaller_least a n (lowest (contents_drawn count ds)) e rest.0 in (
       omega (arith, least),
       omega (arith, e, rest.1),
@@ -658,14 +540,10 @@ all_one count a (drawn.Reference v ∷ ds) h = absurd cc
 -- contents that are all the same, and no number
 all_none : (count : ℕ) (c : Content) (ds : List FieldContent) → ((n : ℕ) → same c (number n) ≡ false) → are_same c (contents_drawn count ds) ≡ true → (lowest (contents_drawn count ds) ≡ None) × (spread 0 ds ≡ 0)
 all_none count c [] differs h = (refl, refl)
-all_none count c (drawn.Number n ∷ ds) differs h = absurd (differ (same c (number n)) (both_first (same c (number n)) (are_same c (contents_drawn count ds)) h) (differs n))
-  where
-    differ : (b : Bool) → b ≡ true → b ≡ false → ⊥
-    differ true p q = cc
-    differ false p q = cc
-all_none count c (drawn.Text t ∷ ds) differs h = let rest = all_none count c ds differs (both_second (same c (content_drawn count (drawn.Text t))) (are_same c (contents_drawn count ds)) h) in (rest.0, omega (arith, rest.1))
-all_none count c (drawn.Missing ∷ ds) differs h = let rest = all_none count c ds differs (both_second (same c missing) (are_same c (contents_drawn count ds)) h) in (rest.0, omega (arith, rest.1))
-all_none count c (drawn.Reference v ∷ ds) differs h = let rest = all_none count c ds differs (both_second (same c (reference v)) (are_same c (contents_drawn count ds)) h) in (rest.0, omega (arith, rest.1))
+all_none count c (drawn.Number n ∷ ds) differs h = absurd (true_false (same c (number n)) (and_first (same c (number n)) (are_same c (contents_drawn count ds)) h) (differs n))
+all_none count c (drawn.Text t ∷ ds) differs h = let rest = all_none count c ds differs (and_second (same c (content_drawn count (drawn.Text t))) (are_same c (contents_drawn count ds)) h) in (rest.0, omega (arith, rest.1))
+all_none count c (drawn.Missing ∷ ds) differs h = let rest = all_none count c ds differs (and_second (same c missing) (are_same c (contents_drawn count ds)) h) in (rest.0, omega (arith, rest.1))
+all_none count c (drawn.Reference v ∷ ds) differs h = let rest = all_none count c ds differs (and_second (same c (reference v)) (are_same c (contents_drawn count ds)) h) in (rest.0, omega (arith, rest.1))
 
 no_range : (count : ℕ) (ds : List FieldContent) → (lowest (contents_drawn count ds) ≡ None) × (spread 0 ds ≡ 0) → unwrap_or (lowest (contents_drawn count ds)) 0 ≡ spread 0 ds
 no_range count ds h = ap (λ o. unwrap_or o 0) h.0 ∙ sym h.1
@@ -673,10 +551,7 @@ no_range count ds h = ap (λ o. unwrap_or o 0) h.0 ∙ sym h.1
 -- the least and the greatest number of contents that are all the same are one
 pub range_of_same : (count : ℕ) (c : Content) (ds : List FieldContent) → are_same c (contents_drawn count ds) ≡ true → unwrap_or (lowest (contents_drawn count ds)) 0 ≡ spread 0 ds
 range_of_same count (number a) [] h = refl
-range_of_same count (number a) (drawn.Number n ∷ ds) h =
-    let e = equal_numbers a n (both_first (a == n) (are_same (number a) (contents_drawn count ds)) h) in
-    let rest = all_one count a ds (both_second (a == n) (are_same (number a) (contents_drawn count ds)) h) in
-    smaller_least a n (lowest (contents_drawn count ds)) e rest.0 ∙ omega (arith, e, rest.1)
+range_of_same count (number a) (drawn.Number n ∷ ds) h = grind (arith, common_steps, eqb-true, and_first, all_one, and_second, smaller_least)
 range_of_same count (number a) (drawn.Text t ∷ ds) h = absurd cc
 range_of_same count (number a) (drawn.Missing ∷ ds) h = absurd cc
 range_of_same count (number a) (drawn.Reference v ∷ ds) h = absurd cc
@@ -686,8 +561,4 @@ range_of_same count (reference v) ds h = no_range count ds (all_none count (refe
 
 -- contents with two numbers are not all the same
 pub not_alike : (count : ℕ) (c : Content) (ds : List FieldContent) → (unwrap_or (lowest (contents_drawn count ds)) 0 ≡ spread 0 ds → ⊥) → false ≡ are_same c (contents_drawn count ds)
-not_alike count c ds h = by (are_same c (contents_drawn count ds)) refl
-  where
-    by : (b : Bool) → are_same c (contents_drawn count ds) ≡ b → false ≡ are_same c (contents_drawn count ds)
-    by true e = absurd (h (range_of_same count c ds e))
-    by false e = sym e
+not_alike count c ds h = grind (arith, common_steps, range_of_same)

@@ -1,23 +1,21 @@
 -- The bits of a packed item read as its contents.
-use Rattle.std.proofs.Common.{◌≡◌, ℕ, zero, suc, ◌+◌, ◌-◌, ◌*◌, ◌^◌, ◌<◌, ◌≤◌, ◌≢◌, ◌&&◌, eqb, Bool, true, false, not, List, [], ◌∷◌, ◌++◌, length, take, drop, map, replicate, Result, Ok, Err, refl, sym, ◌∙◌, ap, arith, append_assoc, subst, pow_mono}
-use Rattle.std.specs.Prelude.{◌==◌, nat_lt, if◌then◌else◌}
-use Rattle.std.specs.List.{list_all, flat_map}
+use Rattle.std.proofs.lemmas.Grind.{common_steps}
+use Rattle.std.proofs.Common.{◌≡◌, ℕ, zero, suc, ◌+◌, ◌-◌, ◌*◌, ◌^◌, ◌<◌, ◌≤◌, ◌≢◌, ◌&&◌, eqb, Bool, true, false, not, List, [], ◌∷◌, ◌++◌, length, take, drop, map, replicate, Result, Ok, Err, refl, sym, ◌∙◌, ap, arith, append_assoc, subst, pow_mono, ◌==◌, nat_lt, if◌then◌else◌}
+use Rattle.std.proofs.lemmas.Bool.{le-ltb, lt-ltb, ltb-false, ltb-true, ne_eqb, eq-eqb}
+use Rattle.std.specs.List.{list_all, flat_map, AllByRecursion}
 use Rattle.std.proofs.lemmas.List.{take_at, drop_at, length-append, length-replicate, length-take-le, length-drop}
 use Rattle.std.proofs.lemmas.Bool.Decides.{nat_tests}
-use Rattle.bufr_bits.specs.Bits.{bits_of, bits_in, number_of, are_all_ones}
+use Rattle.bufr_bits.specs.Prelude.{bits_of, bits_in, number_of, are_all_ones}
 use Rattle.bufr_bits.proofs.BitLemmas.{length-bits_of, length-bits_in, number_of-below, list_all-append}
 use Rattle.bufr_bits.proofs.DecimalLemmas.{and_first, and_second}
-use Rattle.bufr_walk.specs.Content.{Content, number, text, missing, reference, octets_in, FieldFault, increment}
-use Rattle.bufr_walk.specs.PackedField.{ones, and_contents, increased, increments, all_increased, padded_text}
-use Rattle.bufr_fill.specs.Packing.{raw_limit, same_octets, has_bits, has_octets, increment_bits, octet_bits}
-use Rattle.bufr_fill.specs.RoundTrip.{AreOctets, FitsNumber, FitsText}
-use Rattle.bufr_fill.proofs.FieldLemmas.{number_again, ones_test, ones_set, octets_again, full_test, length-octets_in, octets_in-are, octet_bits_again}
+use Rattle.bufr_walk.specs.Prelude.{Content, number, text, missing, reference, octets_in, FieldFault, increment, ones, and_contents, increased, increments, all_increased, padded_text}
+use Rattle.bufr_fill.specs.Prelude.{raw_limit, same_octets, has_bits, has_octets, increment_bits, octet_bits, AreOctets, FitsNumber, FitsText}
+use Rattle.bufr_fill.proofs.FieldLemmas.{number_again, ones_test, ones_set, octets_again, full_test, length-octets_in, octets_in-are, octet_bits_again, top_below}
 use Rattle.bufr_fill.proofs.LeastLemmas.{AreNumbers, IsOver, AreOver, octets_same, octets_self}
 
 -- pieces of one length, one for each of a list
 abbrev pub AreLong : {X : Type 0} → (X → List Bool) → ℕ → List X → Type 0
-AreLong f k [] = Unit {0}
-AreLong f k (x ∷ xs) = (length (f x) ≡ k) × AreLong f k xs
+AreLong {X} f k xs = AllByRecursion (λ (x : X). length (f x) ≡ k) xs
 
 module _ {X : Type 0} (f : X → List Bool) (k : ℕ) where
   pub pieces_length : (xs : List X) → AreLong f k xs → length (flat_map f xs) ≡ length xs * k
@@ -35,31 +33,12 @@ module _ {X : Type 0} (f : X → List Bool) (k : ℕ) where
       ∙ ap (λ bss. f x ∷ bss) (pieces_found xs more long.1)
 
 -- a number from its increment
-within : (a b : ℕ) → b ≤ a → nat_lt a b ≡ false
-within a b h = grind (arith, nat_tests)
-
-apart : (a b : ℕ) → a ≢ b → (a == b) ≡ false
-apart a b h = grind (arith, nat_tests)
-
-equal : (a : ℕ) → (a == a) ≡ true
-equal a = grind (arith, nat_tests)
-
-below_from : (a b : ℕ) → nat_lt a b ≡ true → a < b
-below_from a b h = grind (arith, nat_tests)
-
 not_both : (m : Bool) (a b : ℕ) → (m ≡ true → a ≢ b) → (m && (a == b)) ≡ false
-not_both true a b h = apart a b (h refl)
+not_both true a b h = ne_eqb a b (h refl)
 not_both false a b h = refl
 
 by_tests : (a b c : Bool) (x y : Content) → a ≡ false → b ≡ false → c ≡ false → x ≡ y → ◌≡◌ {A = Result Content FieldFault} (if a then Ok missing else if b then Err increment else if c then Ok missing else Ok x) (Ok y)
-by_tests a b c x y p q r e =
-    ap (λ t. if t then Ok missing else if b then Err increment else if c then Ok missing else Ok x) p
-    ∙ ap (λ t. if t then Err increment else if c then Ok missing else Ok x) q
-    ∙ ap (λ t. if t then Ok missing else Ok x) r ∙ ap Ok e
-
-top_pow : (m : Bool) (k v : ℕ) → v < raw_limit m k → v < 2 ^ k
-top_pow true k v h = omega arith
-top_pow false k v h = h
+by_tests a b c x y p q r e = grind (arith, common_steps)
 
 top_ones : (m : Bool) (k v : ℕ) → v < raw_limit m k → m ≡ true → v < ones k
 top_ones true k v h e = h
@@ -68,12 +47,12 @@ top_ones false k v h e = absurd cc
 module _ (m : Bool) (w base k : ℕ) where
   number_increased : (n : ℕ) → base ≤ n → n < raw_limit m w → n - base < raw_limit m k → increased m w base k (number_of (bits_in (n - base) k)) ≡ Ok (number n)
   number_increased n increment_over fits short =
-      let i : number_of (bits_in (n - base) k) ≡ n - base = number_again (n - base) k (top_pow m k (n - base) short) in
+      let i : number_of (bits_in (n - base) k) ≡ n - base = number_again (n - base) k (top_below m k (n - base) short) in
       let e : base + (n - base) ≡ n = omega arith in
       ap (increased m w base k) i
       ∙ by_tests (m && (n - base == ones k)) (nat_lt (ones w) (base + (n - base))) (m && (base + (n - base) == ones w)) (number (base + (n - base))) (number n)
       (not_both m (n - base) (ones k) (λ t. let s = top_ones m k (n - base) short t in λ q. omega (arith, s, q)))
-      (within (ones w) (base + (n - base)) (let p = top_pow m w n fits in omega (arith, p, e)))
+      (le-ltb (ones w) (base + (n - base)) (let p = top_below m w n fits in omega (arith, p, e)))
       (not_both m (base + (n - base)) (ones w) (λ t. let s = top_ones m w n fits t in λ q. omega (arith, s, q, e)))
       (ap number e)
 
@@ -86,10 +65,10 @@ module _ (m : Bool) (w base k : ℕ) where
   missing_increased e =
       ap (increased m w base k) ones_number
       ∙ ap (λ b. if b && (ones k == ones k) then Ok missing else if nat_lt (ones w) (base + ones k) then Err increment else if m && (base + ones k == ones w) then Ok missing else Ok (number (base + ones k))) e
-      ∙ ap (λ b. if b then Ok missing else if nat_lt (ones w) (base + ones k) then Err increment else if m && (base + ones k == ones w) then Ok missing else Ok (number (base + ones k))) (equal (ones k))
+      ∙ ap (λ b. if b then Ok missing else if nat_lt (ones w) (base + ones k) then Err increment else if m && (base + ones k == ones w) then Ok missing else Ok (number (base + ones k))) (eq-eqb (ones k) (ones k) refl)
 
   one_increased : (c : Content) → FitsNumber m w c → IsOver base c → has_bits m base k c ≡ true → increased m w base k (number_of (increment_bits base k c)) ≡ Ok c
-  one_increased (number n) h o p = number_increased n o h (below_from (n - base) (raw_limit m k) p)
+  one_increased (number n) h o p = number_increased n o h (ltb-true (n - base) (raw_limit m k) p)
   one_increased (text os) h o p = absurd h
   one_increased missing h o p = missing_increased h
   one_increased (reference v) h o p = absurd h
@@ -113,8 +92,7 @@ module _ (m : Bool) (w base k : ℕ) where
 
 -- texts
 abbrev pub AreTexts : ℕ → List Content → Type 0
-AreTexts count [] = Unit {0}
-AreTexts count (c ∷ cs) = FitsText count c × AreTexts count cs
+AreTexts count cs = AllByRecursion (λ (c : Content). FitsText count c) cs
 
 not_true : (b : Bool) → not b ≡ true → b ≡ false
 not_true true h = cc
@@ -163,8 +141,7 @@ module _ (count k : ℕ) (short : k ≤ count) where
 
 -- lists of bits of one length
 abbrev pub AllLong : ℕ → List (List Bool) → Type 0
-AllLong k [] = Unit {0}
-AllLong k (i ∷ is) = (length i ≡ k) × AllLong k is
+AllLong k is = AllByRecursion (λ (i : List Bool). length i ≡ k) is
 
 pub increments_all : (n k : ℕ) (bits : List Bool) → n * k ≤ length bits → AllLong k (increments n k bits) × (length (increments n k bits) ≡ n)
 increments_all zero k bits h = (tt, refl)
@@ -179,8 +156,7 @@ IsShort m base k (number n) = n - base < raw_limit m k
 IsShort m base k _ = Unit {0}
 
 abbrev pub AreShort : Bool → (base k : ℕ) → List Content → Type 0
-AreShort m base k [] = Unit {0}
-AreShort m base k (c ∷ cs) = IsShort m base k c × AreShort m base k cs
+AreShort m base k cs = AllByRecursion (λ (c : Content). IsShort m base k c) cs
 
 -- what holds of a number that was read from an increment
 pub record IsIncreased (m : Bool) (w base k : ℕ) (c : Content) : Type 0 where
@@ -195,9 +171,6 @@ both_not false a b h e = absurd cc
 top_from : (m : Bool) (w v : ℕ) → v < 2 ^ w → (m ≡ true → v ≢ ones w) → v < raw_limit m w
 top_from true w v h e = let a : v ≢ ones w = e refl in omega arith
 top_from false w v h e = h
-
-at_most : (a b : ℕ) → nat_lt a b ≡ false → b ≤ a
-at_most a b h = grind (arith, nat_tests)
 
 power_pos : (w : ℕ) → 0 < 2 ^ w
 power_pos w = let p : 2 ^ 0 ≤ 2 ^ w = pow_mono (zero_least w) in omega arith
@@ -214,7 +187,7 @@ read_by_tests m false false true w base k i x small p q r e =
     let is : missing ≡ x = cc in subst (λ y. IsIncreased m w base k y) is (record { fits = and_first m (base + i == ones w) r; increment_over = tt; short = tt })
 read_by_tests m false false false w base k i x small p q r e =
     let is : number (base + i) ≡ x = cc in
-    let most : base + i ≤ ones w = at_most (ones w) (base + i) q in
+    let most : base + i ≤ ones w = ltb-false (ones w) (base + i) q in
     let pos : 0 < 2 ^ w = power_pos w in
     let back : (base + i) - base ≡ i = omega arith in
     subst (λ y. IsIncreased m w base k y) is (record {
@@ -251,11 +224,8 @@ numbers_read m w base k (i ∷ is) cs long e =
     (λ xs q. numbers_read m w base k is xs long.1 q) e
 
 -- over a greater base increments are no longer
-below_test : (a b : ℕ) → a < b → nat_lt a b ≡ true
-below_test a b h = grind (arith, nat_tests)
-
 has_over : (m : Bool) (base low k : ℕ) (c : Content) → base ≤ low → IsShort m base k c → has_bits m low k c ≡ true
-has_over m base low k (number n) h s = below_test (n - low) (raw_limit m k) (omega (arith, s))
+has_over m base low k (number n) h s = lt-ltb (n - low) (raw_limit m k) (omega (arith, s))
 has_over m base low k (text os) h s = refl
 has_over m base low k missing h s = refl
 has_over m base low k (reference v) h s = refl
@@ -265,11 +235,11 @@ all_over m base low k [] h s = refl
 all_over m base low k (c ∷ cs) h s = ap (λ b. b && list_all (has_bits m low k) cs) (has_over m base low k c h s.0) ∙ all_over m base low k cs h s.1
 
 -- texts
-AreOctets-append : (xs ys : List ℕ) → AreOctets xs → AreOctets ys → AreOctets (xs ++ ys)
+pub AreOctets-append : (xs ys : List ℕ) → AreOctets xs → AreOctets ys → AreOctets (xs ++ ys)
 AreOctets-append [] ys h g = g
 AreOctets-append (x ∷ xs) ys h g = (h.0, AreOctets-append xs ys h.1 g)
 
-AreOctets-spaces : (n : ℕ) → AreOctets (replicate n 32)
+pub AreOctets-spaces : (n : ℕ) → AreOctets (replicate n 32)
 AreOctets-spaces zero = tt
 AreOctets-spaces (suc n) = (omega arith, AreOctets-spaces n)
 

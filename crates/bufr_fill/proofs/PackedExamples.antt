@@ -1,19 +1,12 @@
 -- Worked examples of items packed for all subsets.
-use Rattle.std.proofs.Common.{◌≡◌, Bool, [], ◌∷◌, ◌++◌, replicate, Ok, Err, pos, refl}
-use Rattle.std.specs.Prelude.{codes, take}
-use Rattle.bufr_bits.specs.Bits.{bits_of, bits_in}
-use Rattle.bufr_bits.specs.Decimal.{decimal_value_of}
+use Rattle.std.proofs.Common.{◌≡◌, Bool, [], ◌∷◌, ◌++◌, replicate, Ok, Err, pos, refl, codes, take}
+use Rattle.bufr_bits.specs.Prelude.{bits_of, bits_in, decimal_value_of}
 use Rattle.bufr_tables.specs.declared.table_b.Kind.TheVariants as kind
 use Rattle.bufr_walk.specs.declared.spec.TurnRefusal.TheVariants as refusal
 use Rattle.bufr_walk.specs.declared.spec.Role.TheVariants as role
-use Rattle.bufr_walk.specs.FieldSpec.{FieldSpec}
-use Rattle.bufr_walk.specs.Content.{number, missing, found}
-use Rattle.bufr_walk.specs.PackedField.{packed_field}
-use Rattle.bufr_tables.specs.Tree.{bare, operator}
-use Rattle.bufr_fill.specs.Draft.{draft, text_form, missing_form, reference_token, subset}
-use Rattle.bufr_fill.specs.Faults.{at_line, wrong_descriptor, wrong_number, out_of_range, item_too_many, unequal_factors, uneven_increment, too_many_values, walk_refused}
-use Rattle.bufr_fill.specs.Encoding.{item_row, pack_across, none_across}
-use Rattle.bufr_fill.specs.Packing.{k_of, packing}
+use Rattle.bufr_walk.specs.Prelude.{FieldSpec, number, missing, found, packed_field}
+use Rattle.bufr_tables.specs.Prelude.{bare, operator}
+use Rattle.bufr_fill.specs.Prelude.{draft, text_form, missing_form, reference_token, subset, at_line, wrong_descriptor, wrong_number, out_of_range, item_too_many, unequal_factors, uneven_increment, too_many_values, walk_refused, item_row, pack_across, none_across, k_of, packing}
 use Rattle.bufr_fill.proofs.ExampleTables.{temperature, block, coded_spec, name, four_letters, delayed_blocks, redefined, width_of_none, numbered, packed_to_bits, ok_bits, zeros, letters}
 
 missing_written : packed_to_bits temperature (subset (numbered 24 3173 (codes "288.15") ∷ []) 25 ∷ subset (draft 26 3173 missing_form ∷ []) 27 ∷ []) ≡ ok_bits (112 ∷ 143 ∷ 5 ∷ []) 24
@@ -148,13 +141,11 @@ unfolding as_quantity
 last_value = refl
 
 -- rule: fault-62
-values_too_many : pack_across as_quantity (item_row 67108864 (subset [] 25 ∷ subset [] 26 ∷ [])) ≡ Err (at_line 25 (too_many_values 3173))
+values_too_many :
+    (pack_across as_quantity (item_row 67108864 (subset [] 25 ∷ subset [] 26 ∷ [])) ≡ Err (at_line 25 (too_many_values 3173)))
+    × (none_across 25 Bool.true as_quantity ≡ at_line 25 (too_many_values 3173))
 unfolding as_quantity
-values_too_many = refl
-
-values_too_many_at_the_end : none_across 25 Bool.true as_quantity ≡ at_line 25 (too_many_values 3173)
-unfolding as_quantity
-values_too_many_at_the_end = refl
+values_too_many = (refl, refl)
 
 -- two temperatures are packed with a k of 2; bits with a k of 3, or over a lesser base, read the
 -- same
@@ -162,21 +153,13 @@ least_k_packed : packing as_quantity (number 28815 ∷ number 28816 ∷ []) ≡ 
 unfolding as_quantity bits_in bits_of
 least_k_packed = refl
 
-least_k_reported : k_of as_quantity (bits_of (112 ∷ 143 ∷ 8 ∷ 64 ∷ [])) ≡ 2
+least_k_reported :
+    (k_of as_quantity (bits_of (112 ∷ 143 ∷ 8 ∷ 64 ∷ [])) ≡ 2)
+    × (packed_field 2 as_quantity (take 28 (bits_of (112 ∷ 143 ∷ 12 ∷ 16 ∷ []))) ≡ Ok (found (number 28815 ∷ number 28816 ∷ []) []))
+    × (k_of as_quantity (take 28 (bits_of (112 ∷ 143 ∷ 12 ∷ 16 ∷ []))) ≡ 3)
+    × (packed_field 2 as_quantity (take 26 (bits_of (112 ∷ 142 ∷ 9 ∷ 128 ∷ []))) ≡ Ok (found (number 28815 ∷ number 28816 ∷ []) []))
 unfolding as_quantity bits_of
-least_k_reported = refl
-
-greater_k_read : packed_field 2 as_quantity (take 28 (bits_of (112 ∷ 143 ∷ 12 ∷ 16 ∷ []))) ≡ Ok (found (number 28815 ∷ number 28816 ∷ []) [])
-unfolding as_quantity bits_of
-greater_k_read = refl
-
-greater_k_reported : k_of as_quantity (take 28 (bits_of (112 ∷ 143 ∷ 12 ∷ 16 ∷ []))) ≡ 3
-unfolding as_quantity bits_of
-greater_k_reported = refl
-
-lesser_base_read : packed_field 2 as_quantity (take 26 (bits_of (112 ∷ 142 ∷ 9 ∷ 128 ∷ []))) ≡ Ok (found (number 28815 ∷ number 28816 ∷ []) [])
-unfolding as_quantity bits_of
-lesser_base_read = refl
+least_k_reported = (refl, refl, refl, refl)
 
 -- with a k of 1 the second is missing
 lesser_k_read : packed_field 2 as_quantity (take 24 (bits_of (112 ∷ 143 ∷ 5 ∷ []))) ≡ Ok (found (number 28815 ∷ missing ∷ []) [])

@@ -1,35 +1,24 @@
 -- An item of compressed data that was read is packed and read again, in no more bits.
-use Rattle.std.proofs.Common.{◌≡◌, ℕ, ◌+◌, ◌*◌, ◌/◌, ◌^◌, ◌<◌, ◌≤◌, ◌≢◌, ◌&&◌, Bool, true, false, List, [], ◌∷◌, ◌++◌, length, take, drop, map, replicate, Option, Some, None, Result, Ok, Err, refl, sym, ◌∙◌, ap, subst, arith, append_assoc, pow_mono, zero, suc, ◌-◌, not}
-use Rattle.std.specs.Prelude.{◌==◌, nat_lt, nat_le, if◌then◌else◌, unwrap_or}
-use Rattle.std.specs.List.{list_all, flat_map}
+use Rattle.std.proofs.lemmas.Grind.{common_steps}
+use Rattle.std.proofs.Common.{◌≡◌, ℕ, ◌+◌, ◌*◌, ◌/◌, ◌^◌, ◌<◌, ◌≤◌, ◌≢◌, ◌&&◌, Bool, true, false, List, [], ◌∷◌, ◌++◌, length, take, drop, map, replicate, Option, Some, None, Result, Ok, Err, refl, sym, ◌∙◌, ap, subst, arith, append_assoc, pow_mono, zero, suc, ◌-◌, not, ◌==◌, nat_lt, nat_le, if◌then◌else◌, unwrap_or}
+use Rattle.std.proofs.lemmas.Bool.{le-leb, le-ltb, leb-true, lt-ltb, ltb-false, eqb-true}
+use Rattle.std.specs.List.{list_all, flat_map, AllByRecursion}
 use Rattle.std.proofs.lemmas.List.{take_at, drop_at, drop-drop, length-append, length-replicate, length-take, length-take-le, length-drop, length-map, append-nil, take_all}
 use Rattle.std.proofs.lemmas.Bool.Decides.{nat_tests}
 use Rattle.std.proofs.Math.Nat.{mul-le-mul_left, le_of_mul-le-mul_left}
-use Rattle.bufr_bits.specs.Bits.{bits_in, number_of, are_all_ones}
+use Rattle.bufr_bits.specs.Prelude.{bits_in, number_of, are_all_ones}
 use Rattle.bufr_bits.proofs.BitLemmas.{number_of-below, length-bits_in}
 use Rattle.bufr_bits.proofs.DecimalLemmas.{and_first, and_second}
 use Rattle.bufr_tables.specs.declared.table_b.Kind.{Kind}
 use Rattle.bufr_walk.specs.declared.spec.Role.{Role}
-use Rattle.bufr_walk.specs.FieldSpec.{FieldSpec, IsSpec, HasWidth}
-use Rattle.bufr_walk.specs.Content.{Content, number, text, missing, reference, content_in, bits_for, FieldFault, data_end, increment, unequal_factor, FieldRead, found}
-use Rattle.bufr_walk.specs.PackedField.{increments, all_increased, padded_text, increment_bits_of, numbers_of, texts_of, varied_by, same_count, all_same, if_equal, varied, contents_of, with_suffix, item_by, packed_field}
-use Rattle.bufr_fill.specs.Packing.{raw_limit, same, are_same, lowest, has_bits, has_octets, least_k, increment_bits, octet_bits, packed_bits, numbers_over, packed_by, packed_unlike, packing, k_of, HasLeastK, same_octets, gives_again, first_from}
-use Rattle.bufr_fill.specs.RoundTrip.{FitsNumber, FitsText, FitsKind, FitsRole, Fits, AllFit}
-use Rattle.bufr_fill.proofs.FieldLemmas.{number_again, number_back, top_below}
-use Rattle.bufr_fill.proofs.LeastLemmas.{first_least, first_passes, first_from_start, content_same, are_same_copies, AreNumbers, AreOver, none_over, lowest_over, lowest_fits, under_lowest, octets_self}
+use Rattle.bufr_walk.specs.Prelude.{FieldSpec, IsSpec, HasWidth, Content, number, text, missing, reference, content_in, bits_for, FieldFault, data_end, increment, FieldRead, found, increments, all_increased, padded_text, increment_bits_of, numbers_of, texts_of, varied_by, same_count, all_same, if_equal, varied, contents_of, with_suffix, item_by, packed_field}
+use Rattle.bufr_fill.specs.Prelude.{raw_limit, same, are_same, lowest, has_bits, has_octets, least_k, increment_bits, octet_bits, packed_bits, numbers_over, packed_by, packed_unlike, packing, k_of, HasLeastK, gives_again, first_from, FitsNumber, FitsText, FitsKind, FitsRole, Fits, AllFit}
+use Rattle.bufr_fill.proofs.FieldLemmas.{number_again, number_back, top_below, same_ok}
+use Rattle.bufr_fill.proofs.LeastLemmas.{first_least, first_passes, first_from_start, content_same, are_same_copies, AreNumbers, AreOver, none_over, lowest_over, lowest_fits, under_lowest, octets_self, top_some}
 use Rattle.bufr_fill.proofs.PackedBack.{pieces_length, pieces_found, numbers_back, increments_long, AreTexts, octets_long, texts_back, AllLong, increments_all, numbers_read, all_over, texts_fit, texts_again}
 use Rattle.bufr_fill.proofs.PlainLaws.{content_back, content_length, content_fits}
 use Rattle.bufr_tables.specs.declared.table_b.Kind.TheVariants as kind
 use Rattle.bufr_walk.specs.declared.spec.Role.TheVariants as role
-
-past : (a b : ℕ) → b ≤ a → nat_lt a b ≡ false
-past a b h = grind (arith, nat_tests)
-
-at_most : (a b : ℕ) → nat_lt a b ≡ false → b ≤ a
-at_most a b h = grind (arith, nat_tests)
-
-same_ok : {A : Type 0} (a b : A) → ◌≡◌ {A = Result A FieldFault} (Ok a) (Ok b) → a ≡ b
-same_ok a b e = cc
 
 -- ---- the parts of bits that were read
 
@@ -56,8 +45,8 @@ module _ (n : ℕ) (spec : FieldSpec) where
       let suffix = drop (spec.width + 6) bits in
       let step = increment_bits_of spec.role spec.kind k in
       let f = with_rest (contents_of spec k (take spec.width bits) (increments n step suffix)) (drop (n * step) suffix) cs mid e in
-      let long : spec.width + 6 ≤ length bits = at_most (length bits) (spec.width + 6) p in
-      let enough : n * step ≤ length suffix = at_most (length suffix) (n * step) q in
+      let long : spec.width + 6 ≤ length bits = ltb-false (length bits) (spec.width + 6) p in
+      let enough : n * step ≤ length suffix = ltb-false (length suffix) (n * step) q in
       record {
         small = small;
         base = length-take-le spec.width bits (omega arith);
@@ -92,8 +81,8 @@ module _ (n : ℕ) (spec : FieldSpec) where
       let is_k : number_of (take 6 (drop w all)) ≡ k = ap number_of six ∙ number_again k 6 (omega arith) in
       let suffix : drop (w + 6) all ≡ pieces ++ more = sym (drop-drop 6 w all) ∙ ap (drop 6) rest ∙ drop_at (bits_in k 6) (pieces ++ more) 6 (length-bits_in k 6) in
       let size : length all ≡ w + 6 + (length pieces + length more) = omega (arith, ap length turned, length-append base (bits_in k 6 ++ (pieces ++ more)), length-append (bits_in k 6) (pieces ++ more), length-append pieces more, lb, length-bits_in k 6) in
-      let none : nat_lt (length all) (w + 6) ≡ false = past (length all) (w + 6) (omega (arith, size)) in
-      let enough : nat_lt (length (pieces ++ more)) (n * step) ≡ false = past (length (pieces ++ more)) (n * step) (omega (arith, length-append pieces more, lp)) in
+      let none : nat_lt (length all) (w + 6) ≡ false = le-ltb (length all) (w + 6) (omega (arith, size)) in
+      let enough : nat_lt (length (pieces ++ more)) (n * step) ≡ false = le-ltb (length (pieces ++ more)) (n * step) (omega (arith, length-append pieces more, lp)) in
       ap (λ b. if b then Err data_end else item_by spec n (number_of (take 6 (drop w all))) all) none
       ∙ ap (λ j. item_by spec n j all) is_k
       ∙ ap (λ x. if nat_lt (length x) (n * step) then Err data_end else with_suffix (contents_of spec k (take w all) (increments n step x)) (drop (n * step) x)) suffix
@@ -147,7 +136,7 @@ module _ (spec : FieldSpec) (k : ℕ) where
   texts_varied true is cs long p e = cc
   texts_varied false is cs long p e =
       let f : map (padded_text (spec.width / 8) k) is ≡ cs = same_ok _ _ e in
-      let short : k ≤ spec.width / 8 = at_most (spec.width / 8) k p in (
+      let short : k ≤ spec.width / 8 = ltb-false (spec.width / 8) k p in (
         (
           subst (AreTexts (spec.width / 8)) f (texts_fit (spec.width / 8) k is short long),
           subst (λ xs. list_all (has_octets k) xs ≡ true) f (texts_again (spec.width / 8) k is short long),
@@ -169,13 +158,6 @@ none_has m low k (number n ∷ cs) e = absurd cc
 none_has m low k (text os ∷ cs) e = none_has m low k cs e
 none_has m low k (missing ∷ cs) e = none_has m low k cs e
 none_has m low k (reference v ∷ cs) e = none_has m low k cs e
-
-le_test : (a b : ℕ) → a ≤ b → nat_le a b ≡ true
-le_test a b h = grind (arith, nat_tests)
-
-pos_top : (m : Bool) (w : ℕ) → 1 ≤ w → 0 < raw_limit m w
-pos_top true w h = let p : 2 ^ 1 ≤ 2 ^ w = pow_mono h in omega arith
-pos_top false w h = let p : 2 ^ 1 ≤ 2 ^ w = pow_mono h in omega arith
 
 -- what holds of contents that differ, by kind
 pub record IsWritten (kd : Kind) (spec : FieldSpec) (cs : List Content) (most : ℕ) : Type 0 where
@@ -238,7 +220,7 @@ module _ (spec : FieldSpec) (cs : List Content) (most : ℕ) (some : 1 ≤ most)
       numbers_at b = Ok (numbers_over spec.may_be_missing spec.width b cs)
 
   number_item_of : (o : Option ℕ) → lowest cs ≡ o → 1 ≤ spec.width → IsVaried kind.Numeric spec.may_be_missing spec.width most cs → IsWritten kind.Numeric spec cs most
-  number_item_of None e h v = number_item 0 (pos_top spec.may_be_missing spec.width h) v.0 (none_over cs 0 e) (none_has spec.may_be_missing 0 most cs e) (ap (λ o. unwrap_or o 0) e)
+  number_item_of None e h v = number_item 0 (top_some spec.may_be_missing spec.width h) v.0 (none_over cs 0 e) (none_has spec.may_be_missing 0 most cs e) (ap (λ o. unwrap_or o 0) e)
   number_item_of (Some low) e h v = number_item low (lowest_fits spec.may_be_missing spec.width cs low v.0 e) v.0 (lowest_over cs low e) (v.1 low e) (ap (λ o. unwrap_or o 0) e)
 
   as_coded : IsWritten kind.Numeric spec cs most → IsWritten kind.Coded spec cs most
@@ -252,7 +234,7 @@ module _ (spec : FieldSpec) (cs : List Content) (most : ℕ) (some : 1 ≤ most)
       let short : k ≤ count = omega (arith, least, wide) in
       let passed : list_all (has_octets k) cs ≡ true = ap (λ j. list_all (has_octets j) cs) e ∙ least_passes has_octets pass in
       ap (λ is. texts_of spec k is) (pieces_found (octet_bits k) (8 * k) cs more (octets_long count k short cs are))
-      ∙ ap (λ b. if b then Err increment else Ok (map (padded_text count k) (map (octet_bits k) cs))) (past count k short)
+      ∙ ap (λ b. if b then Err increment else Ok (map (padded_text count k) (map (octet_bits k) cs))) (le-ltb count k short)
       ∙ ap Ok (texts_back count k short cs are passed)
 
   text_item : IsVaried kind.Character spec.may_be_missing spec.width most cs → IsWritten kind.Character spec cs most
@@ -263,7 +245,7 @@ module _ (spec : FieldSpec) (cs : List Content) (most : ℕ) (some : 1 ≤ most)
         base = replicate spec.width false;
         k = k;
         pieces = flat_map (octet_bits k) cs;
-        is = ap (λ b. if b then Ok (packed_bits (replicate spec.width false) k (flat_map (octet_bits k) cs)) else Err increment) (le_test k 63 (omega (arith, least)));
+        is = ap (λ b. if b then Ok (packed_bits (replicate spec.width false) k (flat_map (octet_bits k) cs)) else Err increment) (le-leb k 63 (omega (arith, least)));
         long = length-replicate spec.width false;
         some = least_some has_octets v.1;
         small = omega (arith, least);
@@ -291,18 +273,14 @@ copies_fit : {X : Type 0} (spec : FieldSpec) (c : Content) (is : List X) → Fit
 copies_fit spec c [] h = tt
 copies_fit spec c (i ∷ is) h = (h, copies_fit spec c is h)
 
-numbers_fit : (spec : FieldSpec) (m : Bool) (w : ℕ) (cs : List Content) → ((c : Content) → FitsNumber m w c → Fits spec c) → AreNumbers m w cs → AllFit spec cs
-numbers_fit spec m w [] h f = tt
-numbers_fit spec m w (c ∷ cs) h f = (h c f.0, numbers_fit spec m w cs h f.1)
-
-texts_all_fit : (spec : FieldSpec) (count : ℕ) (cs : List Content) → ((c : Content) → FitsText count c → Fits spec c) → AreTexts count cs → AllFit spec cs
-texts_all_fit spec count [] h f = tt
-texts_all_fit spec count (c ∷ cs) h f = (h c f.0, texts_all_fit spec count cs h f.1)
+all_map : {A : Type 0} {P Q : A → Type 0} (xs : List A) → ((x : A) → P x → Q x) → AllByRecursion P xs → AllByRecursion Q xs
+all_map [] f h = tt
+all_map (x ∷ xs) f h = (f x h.0, all_map xs f h.1)
 
 varied_fit : (spec : FieldSpec) (kd : Kind) (m : Bool) (w k : ℕ) (cs : List Content) → ((c : Content) → FitsKind kd m w c → Fits spec c) → IsVaried kd m w k cs → AllFit spec cs
-varied_fit spec kind.Character m w k cs h v = texts_all_fit spec (w / 8) cs h v.0
-varied_fit spec kind.Coded m w k cs h v = numbers_fit spec m w cs h v.0
-varied_fit spec kind.Numeric m w k cs h v = numbers_fit spec m w cs h v.0
+varied_fit spec kind.Character m w k cs h v = all_map cs h v.0
+varied_fit spec kind.Coded m w k cs h v = all_map cs h v.0
+varied_fit spec kind.Numeric m w k cs h v = all_map cs h v.0
 
 same_copies : (c : Content) (cs : List Content) → are_same c cs ≡ true → cs ≡ map (λ i. c) cs
 same_copies c [] h = refl
@@ -329,25 +307,11 @@ step_none role.Reference kd = refl
 
 same_counts : (c : Content) (cs : List Content) → list_all (same_count c) cs ≡ true → are_same c cs ≡ true
 same_counts c [] h = refl
-same_counts c (d ∷ cs) h =
-    ap (λ b. b && are_same c cs) (one_count c d (and_first (same_count c d) (list_all (same_count c) cs) h)) ∙ same_counts c cs (and_second (same_count c d) (list_all (same_count c) cs) h)
-  where
-    one_count : (c d : Content) → same_count c d ≡ true → same c d ≡ true
-    one_count (number a) (number b) h = h
-    one_count (number a) (text b) h = cc
-    one_count (number a) missing h = cc
-    one_count (number a) (reference b) h = cc
-    one_count (text a) d h = cc
-    one_count missing d h = cc
-    one_count (reference a) d h = cc
+same_counts c (d ∷ cs) h = grind (arith, common_steps, and_first, and_second)
 
 if_equal_gives : (r : Result (List Content) FieldFault) (cs : List Content) → if_equal r ≡ Ok cs → (r ≡ Ok cs) × (all_same cs ≡ true)
 if_equal_gives (Err why) cs e = cc
-if_equal_gives (Ok xs) cs e = by_test (all_same xs) refl e
-  where
-    by_test : (b : Bool) → all_same xs ≡ b → (if b then Ok xs else Err unequal_factor) ≡ Ok cs → ((◌≡◌ {A = Result (List Content) FieldFault} (Ok xs) (Ok cs)) × (all_same cs ≡ true))
-    by_test true p e = (e, subst (λ ys. all_same ys ≡ true) (same_ok xs cs e) p)
-    by_test false p e = cc
+if_equal_gives (Ok xs) cs e = grind (arith, common_steps, same_ok)
 
 zero_or_some : (k : ℕ) (b : Bool) → (k == 0) ≡ b → b ≡ false → 1 ≤ k
 zero_or_some k b p q = grind (arith, nat_tests)
@@ -493,9 +457,6 @@ module _ (n : ℕ) (spec : FieldSpec) (good : IsSpec spec) where
 -- the same contents differ in length by their k alone. So an item is packed in no more bits than
 -- any that were read.
 
-none_from : (k : ℕ) → (k == 0) ≡ true → k ≡ 0
-none_from k h = grind (arith, nat_tests)
-
 -- where an increment is no longer, its k is no greater
 lesser_step : (r : Role) (kd : Kind) (k j : ℕ) → r ≢ role.Reference → increment_bits_of r kd k ≤ increment_bits_of r kd j → k ≤ j
 lesser_step role.Element kind.Character k j h g = omega (arith, g)
@@ -513,7 +474,7 @@ module _ (n : ℕ) (spec : FieldSpec) (some : 1 ≤ n) where
   -- a reference has no k but 0
   lesser_k : (r : Role) (b : Bool) (k j : ℕ) (base : List Bool) (is : List (List Bool)) (cs : List Content) → (k == 0) ≡ b → (if b then Ok (map (λ i. content_in spec base) is) else varied r spec k base is) ≡ Ok cs
       → n * increment_bits_of r spec.kind k ≤ n * increment_bits_of r spec.kind j → k ≤ j
-  lesser_k r true k j base is cs p e h = omega (arith, none_from k p)
+  lesser_k r true k j base is cs p e h = omega (arith, eqb-true k 0 p)
   lesser_k role.Element false k j base is cs p e h = lesser_step role.Element spec.kind k j (λ q. cc) (le_of_mul-le-mul_left h some)
   lesser_k role.Inserted false k j base is cs p e h = lesser_step role.Inserted spec.kind k j (λ q. cc) (le_of_mul-le-mul_left h some)
   lesser_k role.Factor false k j base is cs p e h = lesser_step role.Factor spec.kind k j (λ q. cc) (le_of_mul-le-mul_left h some)
@@ -563,12 +524,9 @@ found_from p (suc fuel) from h = found_step p (p from) from (first_from p fuel (
 
 -- ---- numbers
 
-below : (a b : ℕ) → a < b → nat_lt a b ≡ true
-below a b h = grind (arith, nat_tests)
-
 -- the whole width is enough
 number_has : (m : Bool) (w low : ℕ) (c : Content) → FitsNumber m w c → has_bits m low w c ≡ true
-number_has m w low (number n) h = below (n - low) (raw_limit m w) (omega (arith, h))
+number_has m w low (number n) h = lt-ltb (n - low) (raw_limit m w) (omega (arith, h))
 number_has m w low (text os) h = absurd h
 number_has m w low missing h = refl
 number_has m w low (reference v) h = absurd h
@@ -581,14 +539,7 @@ numbers_have m w low (c ∷ cs) h = ap (λ b. b && list_all (has_bits m low w) c
 
 -- all octets are enough
 whole_again : (count : ℕ) (os : List ℕ) → length os ≡ count → list_all (λ octet. octet == 255) os ≡ false → gives_again count os ≡ true
-whole_again count os l none =
-    let all : take count os ≡ os = take_all count os (omega (arith, l)) in
-    let spaces : length os - count ≡ 0 = omega (arith, l) in
-    ap (λ xs. same_octets (xs ++ replicate (length os - count) 32) os && not (list_all (λ octet. octet == 255) xs)) all
-    ∙ ap (λ n. same_octets (os ++ replicate n 32) os && not (list_all (λ octet. octet == 255) os)) spaces
-    ∙ ap (λ xs. same_octets xs os && not (list_all (λ octet. octet == 255) os)) (append-nil os)
-    ∙ ap (λ b. b && not (list_all (λ octet. octet == 255) os)) (octets_self os)
-    ∙ ap not none
+whole_again count os l none = grind (arith, common_steps, take_all, not, append-nil, octets_self)
 
 text_has : (count : ℕ) (c : Content) → FitsText count c → has_octets count c ≡ true
 text_has count (text os) h = whole_again count os h.0 h.2
@@ -600,26 +551,10 @@ texts_have : (count : ℕ) (cs : List Content) → AreTexts count cs → list_al
 texts_have count [] h = refl
 texts_have count (c ∷ cs) h = ap (λ b. b && list_all (has_octets count) cs) (text_has count c h.0) ∙ texts_have count cs h.1
 
-up_to : (a b : ℕ) → nat_le a b ≡ true → a ≤ b
-up_to a b h = grind (arith, nat_tests)
-
 -- ---- contents that differ
 
 abbrev AllKind : Kind → Bool → ℕ → List Content → Type 0
-AllKind k m w [] = Unit {0}
-AllKind k m w (c ∷ cs) = FitsKind k m w c × AllKind k m w cs
-
-all_numeric : (m : Bool) (w : ℕ) (cs : List Content) → AllKind kind.Numeric m w cs → AreNumbers m w cs
-all_numeric m w [] h = tt
-all_numeric m w (c ∷ cs) h = (h.0, all_numeric m w cs h.1)
-
-all_coded : (m : Bool) (w : ℕ) (cs : List Content) → AllKind kind.Coded m w cs → AreNumbers m w cs
-all_coded m w [] h = tt
-all_coded m w (c ∷ cs) h = (h.0, all_coded m w cs h.1)
-
-all_texts : (m : Bool) (w : ℕ) (cs : List Content) → AllKind kind.Character m w cs → AreTexts (w / 8) cs
-all_texts m w [] h = tt
-all_texts m w (c ∷ cs) h = (h.0, all_texts m w cs h.1)
+AllKind k m w cs = AllByRecursion (λ (c : Content). FitsKind k m w c) cs
 
 -- a k that they can be written with
 abbrev Varies : Kind → Bool → ℕ → List Content → Type 0
@@ -630,25 +565,24 @@ text_varies : (b : Bool) (m : Bool) (w : ℕ) (cs : List Content) (out : List Bo
 text_varies false m w cs out wide are q e = absurd cc
 text_varies true m w cs out wide are q e =
     let k = least_k has_octets cs in
-    let few : k ≤ 63 = up_to k 63 q in
+    let few : k ≤ 63 = leb-true k 63 q in
     let some : 1 ≤ w / 8 = omega (arith, wide) in
     let passes : list_all (has_octets k) cs ≡ true = found_from (λ k. list_all (has_octets k) cs) 63 1 (omega (arith, few)) in
     let least : k ≤ w / 8 = first_least (λ k. list_all (has_octets k) cs) 63 1 (w / 8) some (texts_have (w / 8) cs are) in
     (k, first_from_start (λ k. list_all (has_octets k) cs) 63 1, few, (are, passes, least))
 
 kind_varies : (kd : Kind) (spec : FieldSpec) (cs : List Content) (out : List Bool) → HasWidth kd spec.width → AllKind kd spec.may_be_missing spec.width cs → packed_by kd spec cs ≡ Ok out → Varies kd spec.may_be_missing spec.width cs
-kind_varies kind.Character spec cs out hw h e = text_varies (nat_le (least_k has_octets cs) 63) spec.may_be_missing spec.width cs out hw.0 (all_texts spec.may_be_missing spec.width cs h) refl e
+kind_varies kind.Character spec cs out hw h e = text_varies (nat_le (least_k has_octets cs) 63) spec.may_be_missing spec.width cs out hw.0 h refl e
 kind_varies kind.Coded spec cs out hw h e =
-    let are = all_coded spec.may_be_missing spec.width cs h in (spec.width, hw.0, hw.1, (are, λ low q. numbers_have spec.may_be_missing spec.width low cs are))
+    (spec.width, hw.0, hw.1, (h, λ low q. numbers_have spec.may_be_missing spec.width low cs h))
 kind_varies kind.Numeric spec cs out hw h e =
-    let are = all_numeric spec.may_be_missing spec.width cs h in (spec.width, hw.0, hw.1, (are, λ low q. numbers_have spec.may_be_missing spec.width low cs are))
+    (spec.width, hw.0, hw.1, (h, λ low q. numbers_have spec.may_be_missing spec.width low cs h))
 
 -- ---- the item
 
 module _ (n : ℕ) (spec : FieldSpec) (good : IsSpec spec) where
   kinds_of : (r : Role) → spec.role ≡ r → ((x : Content) → FitsRole r spec x → FitsKind spec.kind spec.may_be_missing spec.width x) → (cs : List Content) → AllFit spec cs → AllKind spec.kind spec.may_be_missing spec.width cs
-  kinds_of r er f [] h = tt
-  kinds_of r er f (c ∷ cs) h = (f c (subst (λ r. FitsRole r spec c) er h.0), kinds_of r er f cs h.1)
+  kinds_of r er f cs h = all_map cs (λ x g. f x (subst (λ r. FitsRole r spec x) er g)) h
 
   unlike_by_role : (r : Role) → spec.role ≡ r → (c : Content) (cs : List Content) (out : List Bool) → AllFit spec (c ∷ cs) → length (c ∷ cs) ≡ n → are_same c cs ≡ false → packed_unlike r spec (c ∷ cs) ≡ Ok out → (most : ℕ) × PacksWithin n spec (c ∷ cs) most
   unlike_by_role role.Factor er c cs out fits count unlike e = absurd cc
@@ -667,14 +601,11 @@ module _ (n : ℕ) (spec : FieldSpec) (good : IsSpec spec) where
   by_same true c cs out fits count q e = (spec.width + 6, uniform n spec good c cs (spec.width + 6) fits.0 q count (omega arith))
   by_same false c cs out fits count q e = unlike_by_role spec.role refl c cs out fits count q e
 
-  same_out : (out out' : List Bool) → ◌≡◌ {A = Result (List Bool) FieldFault} (Ok out) (Ok out') → out ≡ out'
-  same_out out out' e = cc
-
   -- contents that fit, where they can be packed, are read again
   pub fitting_again : (c : Content) (cs : List Content) (out more : List Bool) → AllFit spec (c ∷ cs) → length (c ∷ cs) ≡ n → packing spec (c ∷ cs) ≡ Ok out → packed_field n spec (out ++ more) ≡ Ok (found (c ∷ cs) more)
   fitting_again c cs out more fits count e =
       let p = by_same (are_same c cs) c cs out fits count refl e in
-      let is : out ≡ p.1.out = same_out out p.1.out (sym e ∙ p.1.is) in
+      let is : out ≡ p.1.out = same_ok out p.1.out (sym e ∙ p.1.is) in
       ap (λ bits. packed_field n spec (bits ++ more)) is ∙ p.1.again more
 
 -- and with the least k

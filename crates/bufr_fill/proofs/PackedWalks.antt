@@ -1,35 +1,20 @@
 -- A walk over the items of all subsets writes, or refuses, as the definition does.
-use Rattle.std.proofs.Common.{◌≡◌, ℕ, zero, suc, ◌+◌, ◌-◌, ◌<◌, Bool, true, false, List, [], ◌∷◌, ◌++◌, length, Option, Some, None, Result, Ok, Err, refl, sym, ◌∙◌, ap, arith, ◌≤◌, max}
-use Rattle.std.specs.Prelude.{slice_get, if◌then◌else◌}
+use Rattle.std.proofs.lemmas.Grind.{common_steps}
+use Rattle.std.proofs.Common.{◌≡◌, ℕ, zero, suc, ◌+◌, ◌-◌, ◌<◌, Bool, true, false, List, [], ◌∷◌, ◌++◌, length, Option, Some, None, Result, Ok, Err, refl, sym, ◌∙◌, ap, arith, ◌≤◌, max, slice_get, if◌then◌else◌}
 use Rattle.std.proofs.lemmas.List.{append-nil}
 use Rattle.bufr_walk.specs.declared.spec.Taken.{Taken}
-use Rattle.bufr_walk.specs.FieldSpec.{FieldSpec}
-use Rattle.bufr_walk.specs.Content.{Content}
-use Rattle.bufr_walk.specs.Course.{Course, Next, take_next, at_end, astray, refused}
-use Rattle.bufr_walk.specs.Walk.{TakenField, Takes, course_after, oks, answers_of}
-use Rattle.bufr_fill.specs.Draft.{Draft, Subset}
-use Rattle.bufr_fill.specs.Faults.{FaultAt, at_line, too_many_values, item_too_many, walk_refused}
-use Rattle.bufr_fill.specs.Filling.{WrittenItem, written_item, fill, with_bits_before, Filler, fill_one, fill_none}
+use Rattle.bufr_walk.specs.Prelude.{FieldSpec, Content, Course, Next, take_next, at_end, astray, refused, TakenField, Takes, course_after, oks, answers_of}
+use Rattle.bufr_fill.specs.Prelude.{Draft, Subset, FaultAt, at_line, too_many_values, item_too_many, walk_refused, WrittenItem, written_item, fill, with_bits_before, Filler, fill_one, fill_none, item_row, cells_at, rows, longest, are_many, content_here, contents_here, packed_to, pack_across, packed_filler, ◌>>=◌, ItemRow, first_there, there_or, line_in, none_across, packed_data, packing, PackedOutModel, IsPacked, PackedFills, rows_left, new_packed_out, and_end, all_at_end, first_line_at, IsFaultHere}
 use Rattle.bufr_fill.proofs.WalkLemmas.{HasFilled, walk_fills, after_answers, unfilled}
-use Rattle.bufr_fill.specs.Encoding.{item_row, cells_at, rows, longest, are_many, first_line, content_here, contents_here, packed_to, pack_across, packed_filler, ◌>>=◌, ItemRow, first_there, there_or, line_in, none_across, packed_data}
-use Rattle.bufr_fill.specs.Packing.{packing}
-use Rattle.bufr_fill.specs.PackedOut.{PackedOutModel, IsPacked, PackedFills, rows_left, new_packed_out, and_end, all_at_end, first_line_at, IsFaultHere}
 use Rattle.bufr_fill.proofs.EntryLemmas.{length-cells}
 use Rattle.bufr_walk.specs.declared.spec.TurnRefusal.TheVariants as refusal
 
 written_bits : (a b : WrittenItem (List Content)) → ◌≡◌ {A = Result (WrittenItem (List Content)) FaultAt} (Ok a) (Ok b) → a.bits ≡ b.bits
-written_bits a b e = (λ j. (same a b e j).bits)
-  where
-    same : (a b : WrittenItem (List Content)) → ◌≡◌ {A = Result (WrittenItem (List Content)) FaultAt} (Ok a) (Ok b) → a ≡ b
-    same a b e = cc
+written_bits a b e = grind (arith, common_steps)
 
 -- without a subset nothing is written
 none_written : (spec : FieldSpec) (place : ℕ) (cs : List Content) (item : List Bool) → pack_across spec (item_row place []) ≡ Ok (written_item cs item) → item ≡ []
-none_written spec place cs item e = by (are_many place 0) e
-  where
-    by : (b : Bool) → (if b then Err (at_line (first_line []) (too_many_values spec.fxy)) else Ok (written_item [] [])) ≡ Ok (written_item cs item) → item ≡ []
-    by true q = absurd cc
-    by false q = sym (written_bits (written_item [] []) (written_item cs item) q)
+none_written spec place cs item e = grind (arith, common_steps, written_bits)
 
 pub some_there : {X : Type 0} (xs : List X) (k : ℕ) (x : X) → slice_get xs k ≡ Some x → k < length xs
 some_there [] k x e = absurd cc
@@ -38,17 +23,7 @@ some_there (y ∷ xs) (suc k) x e = omega (arith, some_there xs k x e)
 
 -- an item that was written is in the first subset
 first_has_place : (spec : FieldSpec) (place : ℕ) (s : Subset) (ss : List Subset) (w : WrittenItem (List Content)) → pack_across spec (item_row place (s ∷ ss)) ≡ Ok w → place < length s.items
-first_has_place spec place s ss w e = by (slice_get s.items place) refl (are_many place (length (cells_at place (s ∷ ss)))) e
-  where
-    by : (o : Option Draft) → slice_get s.items place ≡ o → (b : Bool)
-        → (if b then Err (at_line (first_line (cells_at place (s ∷ ss))) (too_many_values spec.fxy)) else ((content_here spec (slice_get s.items place) s.end_line >>= λ first. contents_here spec (cells_at place ss) >>= λ rest. Ok (first ∷ rest)) >>= λ cs. packed_to cs (cells_at place (s ∷ ss)) (packing spec cs))) ≡ Ok w
-        → place < length s.items
-    by (Some d) p b q = some_there s.items place d p
-    by None p true q = absurd cc
-    by None p false q = absurd (none (ap (λ o. (content_here spec o s.end_line >>= λ first. contents_here spec (cells_at place ss) >>= λ rest. Ok (first ∷ rest)) >>= λ cs. packed_to cs (cells_at place (s ∷ ss)) (packing spec cs)) (sym p) ∙ q))
-      where
-        none : {f : FaultAt} → ◌≡◌ {A = Result (WrittenItem (List Content)) FaultAt} (Err f) (Ok w) → ⊥
-        none e = cc
+first_has_place spec place s ss w e = grind (arith, common_steps, slice_get, some_there)
 
 pub within : (s s' : PackedOutModel) (spec : FieldSpec) (t : Taken) → IsPacked s spec t s' → s.place < longest s.subsets
 within s s' spec t h = by s.subsets refl

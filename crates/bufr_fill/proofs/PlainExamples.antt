@@ -1,11 +1,8 @@
 -- Worked examples of items written one subset after another.
-use Rattle.std.proofs.Common.{◌≡◌, Bool, [], ◌∷◌, Err, refl}
-use Rattle.std.specs.Prelude.{codes}
-use Rattle.bufr_bits.specs.Bits.{bits_of, bits_in}
-use Rattle.bufr_bits.specs.Decimal.{decimal_value_of}
+use Rattle.std.proofs.Common.{◌≡◌, Bool, [], ◌∷◌, Err, refl, codes}
+use Rattle.bufr_bits.specs.Prelude.{bits_of, bits_in, decimal_value_of}
 use Rattle.bufr_walk.specs.declared.spec.TurnRefusal.TheVariants as refusal
-use Rattle.bufr_fill.specs.Draft.{draft, text_form, missing_form, reference_token, subset, subsets_of, Holds, Ends}
-use Rattle.bufr_fill.specs.Faults.{at_line, wrong_descriptor, wrong_number, out_of_range, missing_forbidden, text_long, item_too_many, walk_refused}
+use Rattle.bufr_fill.specs.Prelude.{draft, text_form, missing_form, reference_token, subset, subsets_of, Holds, Ends, at_line, wrong_descriptor, wrong_number, out_of_range, missing_forbidden, text_long, item_too_many, walk_refused}
 use Rattle.bufr_fill.proofs.ExampleTables.{temperature, latitude, coded_spec, four_letters, delayed_blocks, redefined, width_of_none, numbered, plain_bits, ok_bits}
 
 -- the greatest number that is not missing
@@ -79,13 +76,11 @@ blocks_written = refl
 
 -- spaces follow a short text
 -- rule: fault-54
-text_written : plain_bits four_letters (subset (draft 24 34052 (text_form (codes "AB")) ∷ []) 25 ∷ []) ≡ ok_bits (65 ∷ 66 ∷ 32 ∷ 32 ∷ []) 32
+text_written :
+    (plain_bits four_letters (subset (draft 24 34052 (text_form (codes "AB")) ∷ []) 25 ∷ []) ≡ ok_bits (65 ∷ 66 ∷ 32 ∷ 32 ∷ []) 32)
+    × (plain_bits four_letters (subset (draft 24 34052 missing_form ∷ []) 25 ∷ []) ≡ ok_bits (255 ∷ 255 ∷ 255 ∷ 255 ∷ []) 32)
 unfolding plain_bits ok_bits four_letters bits_of
-text_written = refl
-
-text_missing : plain_bits four_letters (subset (draft 24 34052 missing_form ∷ []) 25 ∷ []) ≡ ok_bits (255 ∷ 255 ∷ 255 ∷ 255 ∷ []) 32
-unfolding plain_bits ok_bits four_letters bits_of
-text_missing = refl
+text_written = (refl, refl)
 
 number_for_a_text : plain_bits four_letters (subset (numbered 24 34052 (codes "1") ∷ []) 25 ∷ []) ≡ Err (at_line 24 wrong_number)
 unfolding plain_bits four_letters
@@ -138,14 +133,11 @@ reference_for_a_number = refl
 
 -- another descriptor comes before its number
 -- rule: fault-51, fault-order-of-an-item
-other_descriptor : plain_bits temperature (subset (numbered 24 257 (codes "1-") ∷ []) 25 ∷ []) ≡ Err (at_line 24 (wrong_descriptor 3173 Bool.false))
+other_descriptor :
+    (plain_bits temperature (subset (numbered 24 257 (codes "1-") ∷ []) 25 ∷ []) ≡ Err (at_line 24 (wrong_descriptor 3173 Bool.false)))
+    × (plain_bits temperature (subset [] 24 ∷ []) ≡ Err (at_line 24 (wrong_descriptor 3173 Bool.false)))
 unfolding plain_bits temperature
-other_descriptor = refl
-
--- rule: fault-51
-item_left_out : plain_bits temperature (subset [] 24 ∷ []) ≡ Err (at_line 24 (wrong_descriptor 3173 Bool.false))
-unfolding plain_bits temperature
-item_left_out = refl
+other_descriptor = (refl, refl)
 
 -- rule: fault-51
 second_item : plain_bits temperature (subset (numbered 24 3173 (codes "1") ∷ numbered 25 3173 (codes "1") ∷ []) 26 ∷ []) ≡ Err (at_line 25 item_too_many)
@@ -154,14 +146,11 @@ second_item = refl
 
 -- the walk's refusal comes before another descriptor, and before the end
 -- rule: fault-62, fault-62-first
-width_refused : plain_bits width_of_none (subset (numbered 24 3173 (codes "0") ∷ []) 25 ∷ []) ≡ Err (at_line 24 (walk_refused (refusal.Width 257)))
+width_refused :
+    (plain_bits width_of_none (subset (numbered 24 3173 (codes "0") ∷ []) 25 ∷ []) ≡ Err (at_line 24 (walk_refused (refusal.Width 257))))
+    × (plain_bits width_of_none (subset [] 25 ∷ []) ≡ Err (at_line 25 (walk_refused (refusal.Width 257))))
 unfolding plain_bits width_of_none
-width_refused = refl
-
--- rule: fault-62
-width_refused_at_the_end : plain_bits width_of_none (subset [] 25 ∷ []) ≡ Err (at_line 25 (walk_refused (refusal.Width 257)))
-unfolding plain_bits width_of_none
-width_refused_at_the_end = refl
+width_refused = (refl, refl)
 
 -- each subset begins where the one before ends, without bits between
 two_subsets : plain_bits latitude (subset (numbered 24 1282 (codes "-0.05") ∷ []) 25 ∷ subset (numbered 26 1282 (codes "-90") ∷ []) 27 ∷ []) ≡ ok_bits (70 ∷ 70 ∷ 0 ∷ 0 ∷ []) 30

@@ -1,30 +1,21 @@
 -- A plain field that was read is written from the item that a dump writes, and read again.
-use Rattle.std.specs.Prelude.{◌≡◌, ℕ, ◌+◌, ◌*◌, ◌≤◌, List, [], ◌∷◌, length, Option, Some, None, ◌==◌, nat_lt, if◌then◌else◌, unsigned_abs}
-use Rattle.bufr_walk.specs.FieldSpec.{FieldSpec, IsSpec, HasWidth, HasRole, HasMissing, is_reference}
-use Rattle.bufr_walk.specs.Content.{Content, found, number, text, missing, reference, content_by, content_in, bits_for, FieldFault, data_end, FieldRead, plain_field, signed_by, said_by, sign_bit}
-use Rattle.bufr_walk.specs.Reading.{max_values, Item, DataCoding, ReadsItems, ReadsPass, after, plain}
-use Rattle.bufr_fill.specs.Draft.{Draft, DraftValue, number_token, text_form, missing_form, reference_token}
-use Rattle.bufr_fill.specs.DraftContent.{draft_value_of, content_of, content_by_form, raw_within, raw_of, reference_of, text_within, missing_of, is_marked, wrong_for, plainly, plain_filler, IsMinusZero, is_of, decimal_again, normal_form}
-use Rattle.bufr_fill.specs.Encoding.{RowCell, ItemRow}
-use Rattle.std.proofs.Common.{Bool, ◌++◌, Ok, refl, sym, ◌∙◌, ap, subst, arith, append_assoc, suc, ◌-◌, ◌/◌, ◌^◌, ◌<◌, ◌&&◌, ltb, true, false, not, replicate, Err, ℤ, pos, negsuc, ◌+ℤ◌, ◌-ℤ◌, nat_abs, pow_mono, take, drop, Result, zero, ◌%◌, neg_ℤ}
+use Rattle.std.proofs.lemmas.Grind.{common_steps}
+use Rattle.std.proofs.lemmas.Bool.{eqb-true, le-ltb, lt-ltb, eq-eqb}
+use Rattle.bufr_walk.specs.Prelude.{FieldSpec, IsSpec, HasWidth, HasRole, HasMissing, is_reference, Content, found, number, text, missing, reference, content_by, content_in, bits_for, data_end, FieldRead, plain_field, signed_by, said_by, sign_bit, max_values, Item, DataCoding, ReadsItems, ReadsPass, after, plain, Course, Next, take_next, at_end}
+use Rattle.bufr_fill.specs.Prelude.{Draft, DraftValue, number_token, text_form, missing_form, reference_token, wrong_number, out_of_range, text_long, missing_forbidden, draft_value_of, content_of, content_by_form, raw_within, raw_of, reference_of, text_within, missing_of, is_marked, wrong_for, IsMinusZero, is_of, decimal_again, normal_form, raw_limit, plainly, plain_filler, RowCell, ItemRow, written_item, Filler, fill, fill_one, fill_none, filled, with_bits_before, AreDrafts, FitsText, FitsKind, FitsRole, Fits, IsDumped}
+use Rattle.std.proofs.Common.{Bool, ◌++◌, Ok, refl, sym, ◌∙◌, ap, subst, arith, append_assoc, suc, ◌-◌, ◌/◌, ◌^◌, ◌<◌, ◌&&◌, ltb, true, false, not, replicate, Err, ℤ, pos, negsuc, ◌+ℤ◌, ◌-ℤ◌, nat_abs, pow_mono, take, drop, Result, zero, neg_ℤ, ◌≡◌, ℕ, ◌+◌, ◌*◌, ◌≤◌, List, [], ◌∷◌, length, Option, Some, None, ◌==◌, nat_lt, if◌then◌else◌, unsigned_abs}
 use Rattle.std.proofs.lemmas.List.{length-append, append-nil, take_at, drop_at, length-take-le, length-drop}
-use Rattle.bufr_walk.specs.Course.{Course, Next, take_next, at_end}
-use Rattle.bufr_fill.specs.RoundTrip.{AreDrafts, FitsText, FitsKind, FitsRole, Fits, IsDumped}
-use Rattle.bufr_fill.specs.Filling.{written_item, Filler, fill, fill_one, fill_none, filled, with_bits_before}
-use Rattle.std.specs.List.{list_all}
+use Rattle.std.specs.List.{list_all, AllByRecursion, AllZip}
 use Rattle.std.proofs.lemmas.Int.{ints}
 use Rattle.std.proofs.lemmas.Bool.Decides.{nat_tests}
 use lib.Signed.{mag}
-use Rattle.bufr_bits.specs.Decimal.{decimal_text_of, decimal_value_of}
+use Rattle.bufr_bits.specs.Prelude.{decimal_text_of, decimal_value_of, bits_in, number_of, are_all_ones}
 use Rattle.bufr_bits.proofs.DecimalLemmas.{reads_back, and_first, and_second}
 use Rattle.bufr_tables.specs.declared.table_b.Kind.{Kind}
-use Rattle.bufr_tables.specs.TableB.{is_character}
+use Rattle.bufr_tables.specs.Prelude.{is_character}
 use Rattle.bufr_walk.specs.declared.spec.Role.{Role}
-use Rattle.bufr_fill.specs.Packing.{raw_limit}
-use Rattle.bufr_fill.specs.Faults.{wrong_number, out_of_range, text_long, DraftFaultKind, missing_forbidden}
-use Rattle.bufr_bits.proofs.BitLemmas.{length-bits_in}
-use Rattle.bufr_fill.proofs.FieldLemmas.{kind_back, kind_length, kind_fits, signed_back, signed_below, bits_again, octet_bits_again}
-use Rattle.bufr_bits.specs.Bits.{bits_in, number_of, are_all_ones}
+use Rattle.bufr_bits.proofs.BitLemmas.{length-bits_in, bits_in-zero}
+use Rattle.bufr_fill.proofs.FieldLemmas.{kind_back, kind_length, kind_fits, signed_back, signed_below, bits_again, octet_bits_again, same_ok}
 use Rattle.bufr_bits.specs.declared.decimal.NumberFault.{NumberFault}
 use Rattle.bufr_tables.specs.declared.table_b.Kind.TheVariants as kind
 use Rattle.bufr_walk.specs.declared.spec.Role.TheVariants as role
@@ -34,17 +25,14 @@ use Rattle.bufr_walk.specs.declared.spec.Role.TheVariants as role
 
 -- each item's specification is one
 abbrev pub AllSpecs : {C : Type 0} → List (Item C) → Type 0
-AllSpecs [] = Unit {0}
-AllSpecs (i ∷ items) = IsSpec i.spec × AllSpecs items
+AllSpecs {C} items = AllByRecursion (λ (i : Item C). IsSpec i.spec) items
 
 abbrev pub EachSpecs : List (List (Item Content)) → Type 0
-EachSpecs [] = Unit {0}
-EachSpecs (items ∷ subsets) = AllSpecs items × EachSpecs subsets
+EachSpecs subsets = AllByRecursion (λ (items : List (Item Content)). AllSpecs items) subsets
 
 -- each item has so many contents
 abbrev pub HaveContents : ℕ → List (Item (List Content)) → Type 0
-HaveContents n [] = Unit {0}
-HaveContents n (i ∷ items) = (length i.content ≡ n) × HaveContents n items
+HaveContents n items = AllByRecursion (λ (i : Item (List Content)). length i.content ≡ n) items
 
 -- each cell has the draft that a dump writes for its content
 abbrev pub IsCellOf : FieldSpec → Content → Option Draft → Type 0
@@ -52,10 +40,7 @@ IsCellOf spec c None = ⊥
 IsCellOf spec c (Some d) = (d.fxy ≡ spec.fxy) × (d.form ≡ draft_value_of spec c)
 
 abbrev pub AreCellsOf : FieldSpec → List Content → List RowCell → Type 0
-AreCellsOf spec [] [] = Unit {0}
-AreCellsOf spec [] (cell ∷ cells) = ⊥
-AreCellsOf spec (c ∷ cs) [] = ⊥
-AreCellsOf spec (c ∷ cs) (cell ∷ cells) = IsCellOf spec c cell.draft × AreCellsOf spec cs cells
+AreCellsOf spec cs cells = AllZip (λ (c : Content) (cell : RowCell). IsCellOf spec c cell.draft) cs cells
 
 -- so many subsets' drafts of one item, at an index that is not past the most values
 pub record IsDumpedAcross (n : ℕ) (i : Item (List Content)) (a : ItemRow) : Type 0 where
@@ -116,22 +101,9 @@ module _ {C D E : Type 0} (form : DataCoding C) (filler : Filler D C E) (of_item
 
 -- ---- The item that a dump writes for a content has that content.
 
-below_test : (a b : ℕ) → a < b → nat_lt a b ≡ true
-below_test a b h = grind (arith, nat_tests)
-
-past_test : (a b : ℕ) → b ≤ a → nat_lt a b ≡ false
-past_test a b h = grind (arith, nat_tests)
-
-equal_test : (a : ℕ) → (a == a) ≡ true
-equal_test a = grind (arith, nat_tests)
-
 sum_within : (raw : ℕ) (z : ℤ) → raw < 2 ^ 63 → unsigned_abs z ≤ 2 ^ 125 → mag (pos raw +ℤ z) < 2 ^ 127
 sum_within raw (pos r) h g = omega arith
-sum_within raw (negsuc r) h g = by_order (ltb raw (suc r)) raw r h g
-  where
-    by_order : (b : Bool) (raw r : ℕ) → raw < 2 ^ 63 → suc r ≤ 2 ^ 125 → mag (if b then negsuc (suc r - suc raw) else pos (raw - suc r)) < 2 ^ 127
-    by_order true raw r h g = omega arith
-    by_order false raw r h g = omega arith
+sum_within raw (negsuc r) h g = grind (arith, common_steps, ltb, pos)
 
 minus_back : (raw : ℕ) (z : ℤ) → (pos raw +ℤ z) -ℤ z ≡ pos raw
 minus_back raw z = omega (arith, ints)
@@ -146,14 +118,14 @@ module _ (spec : FieldSpec) (good : IsSpec spec) where
   raw_again raw narrow h =
       ap (raw_of spec) (reads_back (pos raw +ℤ spec.reference) spec.scale (sum_within raw spec.reference (top_most spec.may_be_missing spec.width raw narrow h) good.reference))
       ∙ ap (raw_within spec.may_be_missing spec.width) (minus_back raw spec.reference)
-      ∙ ap (λ b. if b then Ok (number raw) else Err out_of_range) (below_test raw (raw_limit spec.may_be_missing spec.width) h)
+      ∙ ap (λ b. if b then Ok (number raw) else Err out_of_range) (lt-ltb raw (raw_limit spec.may_be_missing spec.width) h)
 
   -- a text
   text_again : (count : ℕ) (octets : List ℕ) → FitsText count (text octets) → text_within count octets ≡ Ok (text octets)
   text_again count octets h =
       let none : count - length octets ≡ 0 = omega (arith, h.0) in
       let whole : octets ++ replicate (count - length octets) 32 ≡ octets = ap (λ n. octets ++ replicate n 32) none ∙ append-nil octets in
-      ap (λ b. if b then Err text_long else (if list_all (λ octet. octet == 255) (octets ++ replicate (count - length octets) 32) then Err out_of_range else Ok (text (octets ++ replicate (count - length octets) 32)))) (past_test count (length octets) (omega (arith, h.0)))
+      ap (λ b. if b then Err text_long else (if list_all (λ octet. octet == 255) (octets ++ replicate (count - length octets) 32) then Err out_of_range else Ok (text (octets ++ replicate (count - length octets) 32)))) (le-ltb count (length octets) (omega (arith, h.0)))
       ∙ ap (λ os. if list_all (λ octet. octet == 255) os then Err out_of_range else Ok (text os)) whole
       ∙ ap (λ b. if b then Err out_of_range else Ok (text octets)) h.2
 
@@ -182,7 +154,7 @@ module _ (spec : FieldSpec) (good : IsSpec spec) where
       let narrow : spec.width - 1 ≤ 62 = omega arith in
       let p : 2 ^ (spec.width - 1) ≤ 2 ^ 62 = pow_mono narrow in
       ap (reference_of spec) (reads_back v (pos 0) (abs_mag v (omega (arith, p, h))))
-      ∙ ap (λ b. if b then Ok (reference v) else Err out_of_range) (below_test (nat_abs v) (2 ^ (spec.width - 1)) h)
+      ∙ ap (λ b. if b then Ok (reference v) else Err out_of_range) (lt-ltb (nat_abs v) (2 ^ (spec.width - 1)) h)
     where
       abs_mag : (v : ℤ) → nat_abs v < 2 ^ 62 → mag v < 2 ^ 127
       abs_mag (pos n) h = omega arith
@@ -222,7 +194,7 @@ module _ (spec : FieldSpec) (good : IsSpec spec) where
   -- on any line
   pub draft_again : (line : ℕ) (c : Content) → Fits spec c → content_of spec (record { line = line; fxy = spec.fxy; form = draft_value_of spec c }) ≡ Ok c
   draft_again line c h =
-      ap (λ b. if b && (if is_reference spec.role then is_marked (draft_value_of spec c) else not (is_marked (draft_value_of spec c))) then content_by_form (draft_value_of spec c) spec else Err (wrong_for spec)) (equal_test spec.fxy)
+      ap (λ b. if b && (if is_reference spec.role then is_marked (draft_value_of spec c) else not (is_marked (draft_value_of spec c))) then content_by_form (draft_value_of spec c) spec else Err (wrong_for spec)) (eq-eqb spec.fxy spec.fxy refl)
       ∙ ap (λ b. if b then content_by_form (draft_value_of spec c) spec else Err (wrong_for spec)) (marked spec.role c h)
       ∙ role_again spec.role c good.role h
 
@@ -267,26 +239,20 @@ module _ (spec : FieldSpec) (good : IsSpec spec) where
   pub content_fits : (bits : List Bool) → length bits ≡ spec.width → Fits spec (content_in spec bits)
   content_fits bits l = role_fits spec.role bits l
 
-  within_test : (a b : ℕ) → b ≤ a → nat_lt a b ≡ false
-  within_test a b h = grind (arith, nat_tests)
-
   -- a content that fits is read from its bits, whatever follows them
   pub plain_again : (c : Content) → Fits spec c → (more : List Bool) → plain_field spec (bits_for spec.width c ++ more) ≡ Ok (found c more)
   plain_again c h more =
       let bits = bits_for spec.width c in
       let l : length bits ≡ spec.width = content_length c h in
-      ap (λ b. if b then Err data_end else Ok (found (content_in spec (take spec.width (bits ++ more))) (drop spec.width (bits ++ more)))) (within_test (length (bits ++ more)) spec.width (omega (arith, l, length-append bits more)))
+      ap (λ b. if b then Err data_end else Ok (found (content_in spec (take spec.width (bits ++ more))) (drop spec.width (bits ++ more)))) (le-ltb (length (bits ++ more)) spec.width (omega (arith, l, length-append bits more)))
       ∙ ap (λ x. Ok (found (content_in spec x) (drop spec.width (bits ++ more)))) (take_at bits more spec.width l)
       ∙ ap (λ x. Ok (found (content_in spec bits) x)) (drop_at bits more spec.width l)
       ∙ ap (λ x. Ok (found x more)) (content_back c h)
 
-  same_found : {C : Type 0} (a b : FieldRead C) → ◌≡◌ {A = Result (FieldRead C) FieldFault} (Ok a) (Ok b) → a ≡ b
-  same_found a b e = cc
-
   by_end : (b : Bool) (bits mid : List Bool) (c : Content) → b ≡ nat_lt (length bits) spec.width → (if b then Err data_end else Ok (found (content_in spec (take spec.width bits)) (drop spec.width bits))) ≡ Ok (found c mid) → Fits spec c × (spec.width + length mid ≤ length bits)
   by_end true bits mid c t e = cc
   by_end false bits mid c t e =
-      let f = same_found _ _ e in
+      let f = same_ok _ _ e in
       let at : spec.width ≤ length bits = grind (arith, nat_tests) in
       let l : length (take spec.width bits) ≡ spec.width = length-take-le spec.width bits at in (
         subst (λ x. Fits spec x) (ap (λ (x : FieldRead Content). x.content) f) (content_fits (take spec.width bits) l),
@@ -327,18 +293,7 @@ kind_same false m kind.Coded w bits l h e = number_same w bits l
 kind_same false m kind.Numeric w bits l h e = number_same w bits l
 
 zeros_are : (bits : List Bool) → number_of bits ≡ 0 → bits ≡ replicate (length bits) false
-unfolding bits_in
-zeros_are bits e = sym (bits_again bits) ∙ ap (λ n. bits_in n (length bits)) e ∙ zero_bits (length bits)
-  where
-    zero_bits : (w : ℕ) → bits_in 0 w ≡ replicate w false
-    zero_bits zero = refl
-    zero_bits (suc w) = let q : 0 / 2 ^ w % 2 ≡ 0 = nothing w in ap (λ n. is_one n ∷ bits_in 0 w) q ∙ ap (λ bs. false ∷ bs) (zero_bits w)
-      where
-        is_one : ℕ → Bool
-        is_one n = n == 1
-
-        nothing : (w : ℕ) → 0 / 2 ^ w % 2 ≡ 0
-        nothing w = grind arith
+zeros_are bits e = sym (bits_again bits) ∙ ap (λ n. bits_in n (length bits)) e ∙ bits_in-zero (length bits)
 
 negative_same : (n : ℕ) (bits : List Bool) (w : ℕ) → number_of bits ≡ n → length bits ≡ w - 1 → (true ∷ bits ≡ true ∷ replicate (length bits) false → ⊥) → sign_bit (neg_ℤ (pos n)) ∷ bits_in (nat_abs (neg_ℤ (pos n))) (w - 1) ≡ true ∷ bits
 negative_same zero bits w e l h = absurd (h (ap (λ xs. true ∷ xs) (zeros_are bits e)))
@@ -347,28 +302,18 @@ negative_same (suc n) bits w e l h = ap (λ k. true ∷ bits_in k (w - 1)) (sym 
 signed_same : (bits : List Bool) (w : ℕ) → length bits ≡ w → 1 ≤ w → (bits ≡ true ∷ replicate (length bits - 1) false → ⊥) → sign_bit (signed_by bits) ∷ bits_in (nat_abs (signed_by bits)) (w - 1) ≡ bits
 signed_same [] w l h g = absurd (omega (arith, l))
 signed_same (false ∷ bits) w l h g = ap (λ xs. false ∷ xs) (number_same (w - 1) bits (omega (arith, l)))
-signed_same (true ∷ bits) w l h g =
-    let e : suc (length bits) - 1 ≡ length bits = omega arith in
-    negative_same (number_of bits) bits w refl (omega (arith, l)) (λ q. g (q ∙ ap (λ n. true ∷ replicate n false) (sym e)))
-
-least : (k : Kind) (w : ℕ) → HasWidth k w → 1 ≤ w
-least kind.Character w h = omega (arith, h.0)
-least kind.Coded w h = h.0
-least kind.Numeric w h = h.0
+signed_same (true ∷ bits) w l h g = grind (arith, common_steps, negative_same)
 
 role_same : (r : Role) (spec : FieldSpec) → IsSpec spec → (bits : List Bool) → length bits ≡ spec.width → (IsMinusZero r bits → ⊥) → bits_for spec.width (content_by r spec bits) ≡ bits
 role_same role.Element spec good bits l h = kind_same (are_all_ones bits && spec.may_be_missing) spec.may_be_missing spec.kind spec.width bits l good.width refl
 role_same role.Inserted spec good bits l h = kind_same (are_all_ones bits && spec.may_be_missing) spec.may_be_missing spec.kind spec.width bits l good.width refl
 role_same role.Factor spec good bits l h = kind_same (are_all_ones bits && spec.may_be_missing) spec.may_be_missing spec.kind spec.width bits l good.width refl
-role_same role.Reference spec good bits l h = signed_same bits spec.width l (least spec.kind spec.width good.width) h
+role_same role.Reference spec good bits l h = signed_same bits spec.width l (width_least spec.kind spec.width good.width) h
 
 pub same_bits : (spec : FieldSpec) → IsSpec spec → (bits : List Bool) → length bits ≡ spec.width → (IsMinusZero spec.role bits → ⊥) → bits_for spec.width (content_in spec bits) ≡ bits
 same_bits spec good bits l h = role_same spec.role spec good bits l h
 
 -- ---- The one spelling of an item is the value of its content.
-
-same_ok : {A : Type 0} (a b : A) → ◌≡◌ {A = Result A DraftFaultKind} (Ok a) (Ok b) → a ≡ b
-same_ok a b e = cc
 
 sum_back : (v r z : ℤ) → v -ℤ r ≡ z → v ≡ z +ℤ r
 sum_back v r z e = omega (arith, ints, e)
@@ -426,11 +371,4 @@ normal_dumped spec d c e = by_draft spec c d (is_of spec d) e
 
 -- a draft with a content of a field has the field's descriptor
 pub said_fxy : (spec : FieldSpec) (d : Draft) (c : Content) → content_of spec d ≡ Ok c → d.fxy ≡ spec.fxy
-said_fxy spec d c e = by (is_of spec d) refl e
-  where
-    same : (a b : ℕ) → (a == b) ≡ true → a ≡ b
-    same a b h = grind (arith, nat_tests)
-
-    by : (b : Bool) → is_of spec d ≡ b → (if b then content_by_form d.form spec else Err (wrong_for spec)) ≡ Ok c → d.fxy ≡ spec.fxy
-    by true p q = same d.fxy spec.fxy (and_first (d.fxy == spec.fxy) (if is_reference spec.role then is_marked d.form else not (is_marked d.form)) p)
-    by false p q = absurd cc
+said_fxy spec d c e = grind (arith, common_steps, eqb-true, and_first, not)

@@ -1,19 +1,13 @@
 -- Worked examples of the contents of drafts, and of the one spelling of an item.
-use Rattle.std.proofs.Common.{◌≡◌, ℕ, ℤ, pos, true, [], ◌∷◌, Err, refl, arith}
-use Rattle.std.specs.Prelude.{codes}
+use Rattle.std.proofs.Common.{◌≡◌, ℕ, ℤ, pos, true, [], ◌∷◌, Err, refl, arith, codes}
 use Rattle.std.specs.Fmt.{digits}
-use Rattle.bufr_bits.specs.Decimal.{decimal_text_of, unsigned_text, decimal_value_of}
+use Rattle.bufr_bits.specs.Prelude.{decimal_text_of, unsigned_text, decimal_value_of}
 use Rattle.bufr_tables.specs.declared.table_b.Kind.{Kind}
 use Rattle.bufr_tables.specs.declared.table_b.Kind.TheVariants as kind
 use Rattle.bufr_walk.specs.declared.spec.Role.{Role}
 use Rattle.bufr_walk.specs.declared.spec.Role.TheVariants as role
-use Rattle.bufr_walk.specs.FieldSpec.{FieldSpec}
-use Rattle.bufr_walk.specs.Content.{Content, number, text, missing, reference}
-use Rattle.bufr_walk.specs.Reading.{Item}
-use Rattle.bufr_fill.specs.RoundTrip.{AllAlike, HasOctets, AllHaveOctets, IsSaid, AreSaid, AreSaidFrom}
-use Rattle.bufr_fill.specs.Draft.{draft, number_token, text_form, missing_form, reference_token, subset}
-use Rattle.bufr_fill.specs.DraftContent.{content_of, normal_form}
-use Rattle.bufr_fill.specs.Faults.{out_of_range, text_long}
+use Rattle.bufr_walk.specs.Prelude.{FieldSpec, Content, number, text, missing, reference, Item}
+use Rattle.bufr_fill.specs.Prelude.{AllAlike, HasOctets, AllHaveOctets, IsSaid, AreSaid, AreSaidFrom, draft, number_token, text_form, missing_form, reference_token, subset, out_of_range, text_long, content_of, normal_form}
 
 -- fields: a number in 7 bits, one of two places in 16, a text of four octets, and a reference in 10
 -- bits
@@ -37,35 +31,24 @@ item spec content = record { spec = spec; content = content }
 
 -- ---- the content of an item
 
-point_and_zero : IsSaid (item block (number 1)) (draft 24 257 (number_token (codes "1.0")))
+point_and_zero :
+    (IsSaid (item block (number 1)) (draft 24 257 (number_token (codes "1.0"))))
+    × (IsSaid (item block (number 0)) (draft 24 257 (number_token (codes "-0"))))
+    × (IsSaid (item temperature (number 1250)) (draft 24 257 (number_token (codes "0012.5000"))))
+    × (IsSaid (item block (number 126)) (draft 24 257 (number_token (codes "126"))))
 unfolding decimal_value_of
-point_and_zero = refl
-
-minus_zero : IsSaid (item block (number 0)) (draft 24 257 (number_token (codes "-0")))
-unfolding decimal_value_of
-minus_zero = refl
-
-leading_zeros : IsSaid (item temperature (number 1250)) (draft 24 257 (number_token (codes "0012.5000")))
-unfolding decimal_value_of
-leading_zeros = refl
-
-greatest_number : IsSaid (item block (number 126)) (draft 24 257 (number_token (codes "126")))
-unfolding decimal_value_of
-greatest_number = refl
+point_and_zero = (refl, refl, refl, refl)
 
 -- all ones would be read as missing
 one_above : content_of block (draft 24 257 (number_token (codes "127"))) ≡ Err out_of_range
 unfolding decimal_value_of
 one_above = refl
 
-short_text : IsSaid (item letters (text (codes "AB  "))) (draft 24 257 (text_form (codes "AB")))
-short_text = refl
-
-text_too_long : content_of letters (draft 24 257 (text_form (codes "ABCDE"))) ≡ Err text_long
-text_too_long = refl
-
-nothing_there : IsSaid (item temperature missing) (draft 24 257 missing_form)
-nothing_there = refl
+short_text :
+    (IsSaid (item letters (text (codes "AB  "))) (draft 24 257 (text_form (codes "AB"))))
+    × (content_of letters (draft 24 257 (text_form (codes "ABCDE"))) ≡ Err text_long)
+    × (IsSaid (item temperature missing) (draft 24 257 missing_form))
+short_text = (refl, refl, refl)
 
 minus_zero_reference : IsSaid (item redefining (reference (pos 0))) (draft 24 257 (reference_token (codes "-0.0")))
 unfolding decimal_value_of
@@ -93,19 +76,16 @@ one : normal_form block (number_token (codes "1.0")) ≡ number_token (codes "1"
 unfolding decimal_value_of decimal_text_of unsigned_text digits
 one = refl
 
-zero : normal_form temperature (number_token (codes "-0")) ≡ number_token (codes "0.00")
+zero :
+    (normal_form temperature (number_token (codes "-0")) ≡ number_token (codes "0.00"))
+    × (normal_form temperature (number_token (codes "0012.5000")) ≡ number_token (codes "12.50"))
 unfolding decimal_value_of decimal_text_of unsigned_text digits
-zero = refl
+zero = (refl, refl)
 
-twelve_and_half : normal_form temperature (number_token (codes "0012.5000")) ≡ number_token (codes "12.50")
-unfolding decimal_value_of decimal_text_of unsigned_text digits
-twelve_and_half = refl
-
-padded : normal_form letters (text_form (codes "AB")) ≡ text_form (codes "AB  ")
-padded = refl
-
-still_missing : normal_form temperature missing_form ≡ missing_form
-still_missing = refl
+padded :
+    (normal_form letters (text_form (codes "AB")) ≡ text_form (codes "AB  "))
+    × (normal_form temperature missing_form ≡ missing_form)
+padded = (refl, refl)
 
 whole_reference : normal_form redefining (reference_token (codes "-007.0")) ≡ reference_token (codes "-7")
 unfolding decimal_value_of decimal_text_of unsigned_text digits

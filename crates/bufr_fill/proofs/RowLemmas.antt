@@ -1,29 +1,17 @@
 -- One item of all subsets, as the code reads and packs it.
-use Rattle.std.proofs.Common.{◌≡◌, ℕ, zero, suc, ◌+◌, ◌-◌, ◌*◌, ◌/◌, ◌%◌, ◌<◌, ◌≤◌, ◌&&◌, max, Bool, true, false, List, [], ◌∷◌, ◌++◌, length, take, drop, get_or, replicate, refl, sym, ◌∙◌, ap, arith, add-one, append_assoc, ℤ, Option, Some, None, Result, Ok, Err, ◌⊎◌, inl, inr}
-use Rattle.std.specs.Prelude.{nat_lt, if◌then◌else◌, slice_get, option_map, ◌==◌}
+use Rattle.std.proofs.lemmas.Grind.{common_steps}
+use Rattle.std.proofs.Common.{◌≡◌, ℕ, zero, suc, ◌+◌, ◌-◌, ◌*◌, ◌/◌, ◌%◌, ◌<◌, ◌≤◌, ◌&&◌, max, Bool, true, false, List, [], ◌∷◌, ◌++◌, length, take, drop, get_or, replicate, refl, sym, ◌∙◌, ap, arith, add-one, append_assoc, ℤ, Option, Some, None, Result, Ok, Err, ◌⊎◌, inl, inr, nat_lt, if◌then◌else◌, slice_get, option_map, ◌==◌}
+use Rattle.std.proofs.lemmas.Bool.{eq-eqb, le-ltb, lt-ltb, ne_eqb}
 use Rattle.std.specs.List.{flat_map}
 use Rattle.std.proofs.Math.Nat.{mul-le-mul_right}
 use Rattle.std.proofs.Math.Seq.{drop-cons}
-use Rattle.std.proofs.lemmas.Bool.Decides.{nat_tests}
 use Rattle.std.proofs.lemmas.List.{append-nil, take-replicate, length-append}
-use Rattle.bufr_bits.specs.Bits.{bits_of}
-use Rattle.bufr_fill.specs.declared.field_value.FieldContent.{FieldContent}
-use Rattle.bufr_walk.specs.FieldSpec.{FieldSpec}
-use Rattle.bufr_walk.specs.Content.{Content, reference, answer_of, bits_for, increment, unequal_factor}
-use Rattle.bufr_fill.specs.DraftContent.{content_drawn, IsDrawn, spaced}
-use Rattle.bufr_fill.specs.PackedOut.{AllDrawn, contents_drawn, need_of, most_need, FitsIncrement, AreShort, least_from, entry_or_end, cell_entry, entry_here, entry_line, with_contents_before, IsGathering, unlike_from, and_end, all_at_end, IsPutWithin, trimmed, octet_in}
-use Rattle.bufr_fill.specs.Packing.{same, are_same, raw_limit, first_from, packing, packed_bits, packed_by, packed_unlike, same_octets}
+use Rattle.bufr_bits.specs.Prelude.{bits_of}
+use Rattle.bufr_fill.specs.Prelude.{FieldContent, content_drawn, IsDrawn, spaced, raw_limit, AllDrawn, contents_drawn, need_of, most_need, FitsIncrement, AreShort, least_from, entry_or_end, cell_entry, entry_here, entry_line, with_contents_before, IsGathering, unlike_from, and_end, all_at_end, IsPutWithin, trimmed, octet_in, same, are_same, first_from, packing, packed_bits, packed_by, packed_unlike, same_octets, RowCell, content_here, contents_here, first_unlike, unlike_line, cell_line, line_in, first_line, ◌>>=◌, item_row, cells_at, packed_to, pack_across, written_item, Draft, DraftEntry, Holds, Ends, Subset, FaultAt, at_line, item_too_many, unequal_factors, uneven_increment, too_many_values, IfDraftFault, is_end}
+use Rattle.bufr_walk.specs.Prelude.{FieldSpec, Content, reference, answer_of, bits_for, increment, unequal_factor, answer_first, max_values}
 use Rattle.bufr_fill.proofs.LeastLemmas.{content_same, content_self}
-use Rattle.bufr_fill.specs.Draft.{Draft, DraftEntry, Holds, Ends, Subset}
-use Rattle.bufr_fill.specs.Faults.{FaultAt, at_line, item_too_many, unequal_factors, uneven_increment, too_many_values}
-use Rattle.bufr_fill.specs.Encoding.{RowCell, content_here, contents_here, first_unlike, unlike_line, cell_line, line_in, first_line, ◌>>=◌, item_row, cells_at, packed_to, pack_across}
-use Rattle.bufr_fill.specs.PlainOut.{IfDraftFault}
-use Rattle.bufr_fill.specs.Kept.{is_end}
 use Rattle.bufr_walk.specs.declared.spec.Role.{Role}
 use Rattle.bufr_walk.specs.declared.spec.Taken.{Taken}
-use Rattle.bufr_walk.specs.PackedField.{answer_first}
-use Rattle.bufr_walk.specs.Reading.{max_values}
-use Rattle.bufr_fill.specs.Filling.{written_item}
 use Rattle.bufr_walk.specs.declared.spec.Role.TheVariants as role
 
 -- references that are equal, and those that are not
@@ -66,21 +54,13 @@ first_later : (p : ℕ → Bool) (fuel k : ℕ) → 1 ≤ fuel → p k ≡ false
 first_later p zero k h e = absurd (omega (arith, h))
 first_later p (suc fuel) k h e = let q : fuel ≡ suc fuel - 1 = omega arith in ap (λ b. if b then k else first_from p fuel (k + 1)) e ∙ ap (λ f. first_from p f (k + 1)) q
 
-below_test : (a b : ℕ) → a < b → nat_lt a b ≡ true
-below_test a b h = grind (arith, nat_tests)
-
-above_test : (a b : ℕ) → b ≤ a → nat_lt a b ≡ false
-above_test a b h = grind (arith, nat_tests)
-
 pub least_here : (m : Bool) (s k : ℕ) → k < 64 → s < raw_limit m k → least_from m s k ≡ k
 unfolding least_from
-least_here m s k h e = first_here (λ k. nat_lt s (raw_limit m k)) (64 - k) k (omega (arith, h)) (below_test s (raw_limit m k) e)
+least_here m s k h e = first_here (λ k. nat_lt s (raw_limit m k)) (64 - k) k (omega (arith, h)) (lt-ltb s (raw_limit m k) e)
 
 pub least_later : (m : Bool) (s k : ℕ) → k < 64 → raw_limit m k ≤ s → least_from m s k ≡ least_from m s (k + 1)
 unfolding least_from
-least_later m s k h e =
-    let q : 64 - k - 1 ≡ 64 - (k + 1) = omega arith in
-    first_later (λ k. nat_lt s (raw_limit m k)) (64 - k) k (omega (arith, h)) (above_test s (raw_limit m k) e) ∙ ap (λ f. first_from (λ k. nat_lt s (raw_limit m k)) f (k + 1)) q
+least_later m s k h e = grind (arith, common_steps, first_later, nat_lt, le-ltb)
 
 pub least_end : (m : Bool) (s k : ℕ) → 64 ≤ k → least_from m s k ≡ k
 unfolding least_from
@@ -116,18 +96,13 @@ flat_one f old now new bits rest all inv is = ap (λ x. x ++ rest) is ∙ append
 pub flat_more : (f : Content → List Bool) (count : ℕ) (old now new : List Bool) (ds : List FieldContent) (i : ℕ) (z : FieldContent) → i < length ds
     → now ++ flat_map f (contents_drawn count (drop i ds)) ≡ old ++ flat_map f (contents_drawn count ds) → new ≡ now ++ f (content_drawn count (get_or ds i z))
     → new ++ flat_map f (contents_drawn count (drop (i + 1) ds)) ≡ old ++ flat_map f (contents_drawn count ds)
-flat_more f count old now new ds i z h inv is =
-    flat_one f old now new (f (content_drawn count (get_or ds i z))) (flat_map f (contents_drawn count (drop (i + 1) ds))) (flat_map f (contents_drawn count ds))
-    (sym (ap (λ xs. now ++ flat_map f (contents_drawn count xs)) (at_index ds i z h)) ∙ inv) is
+flat_more f count old now new ds i z h inv is = grind (arith, common_steps, flat_one, at_index)
 
 pub flat_done : (f : Content → List Bool) (count : ℕ) (old now : List Bool) (ds : List FieldContent) (i : ℕ) → length ds ≤ i
     → now ++ flat_map f (contents_drawn count (drop i ds)) ≡ old ++ flat_map f (contents_drawn count ds) → now ≡ old ++ flat_map f (contents_drawn count ds)
 flat_done f count old now ds i h inv = sym (append-nil now) ∙ ap (λ xs. now ++ flat_map f (contents_drawn count xs)) (sym (drop_all ds i h)) ∙ inv
 
 -- n numbers of k bits, of which i were put: there is room for the next, and for those after it
-pub room_here : (n i k room : ℕ) → i < n → n * k ≤ room + i * k → k ≤ room
-room_here n i k room h e = let most = mul-le-mul_right k h in omega (arith, most, e)
-
 pub room_next : (n i k room next : ℕ) → n * k ≤ room + i * k → room ≤ next + k → n * k ≤ next + (i + 1) * k
 room_next n i k room next e h = omega (arith, e, h)
 
@@ -186,12 +161,6 @@ line_same : (o : Option Draft) (line : ℕ) → entry_line (entry_or_end o line)
 line_same None line = refl
 line_same (Some d) line = refl
 
-drop_none : {X : Type 0} (xs : List X) (n : ℕ) → length xs ≤ n → drop n xs ≡ []
-drop_none [] zero h = refl
-drop_none [] (suc n) h = refl
-drop_none (x ∷ xs) zero h = absurd (omega (arith, h))
-drop_none (x ∷ xs) (suc n) h = drop_none xs n (omega (arith, h))
-
 contents_more : (count : ℕ) (ds : List FieldContent) (d : FieldContent) → contents_drawn count (ds ++ d ∷ []) ≡ contents_drawn count ds ++ content_drawn count d ∷ []
 contents_more count [] d = refl
 contents_more count (x ∷ ds) d = ap (λ cs. content_drawn count x ∷ cs) (contents_more count ds d)
@@ -229,7 +198,7 @@ module _ (count : ℕ) (spec : FieldSpec) (cells : List RowCell) (j : ℕ) (ds :
   }
 
 pub gathered : (count : ℕ) (spec : FieldSpec) (cells : List RowCell) (j : ℕ) (ds : List FieldContent) → IsGathering count spec cells j ds → length cells ≤ j → contents_here spec cells ≡ Ok (contents_drawn count ds)
-gathered count spec cells j ds inv h = inv.so ∙ ap (λ cs. with_contents_before (contents_drawn count ds) (contents_here spec cs)) (drop_none cells j h) ∙ ap Ok (append-nil (contents_drawn count ds))
+gathered count spec cells j ds inv h = inv.so ∙ ap (λ cs. with_contents_before (contents_drawn count ds) (contents_here spec cs)) (drop_all cells j h) ∙ ap Ok (append-nil (contents_drawn count ds))
 
 -- whether all subsets end
 pub end_item : (cells : List RowCell) (j : ℕ) (e : DraftEntry) → j < length cells → ((c : RowCell) → slice_get cells j ≡ Some c → e ≡ cell_entry c) → is_end e ≡ false → all_at_end cells ≡ all_at_end (drop j cells) → all_at_end cells ≡ Err (at_line (entry_line e) item_too_many)
@@ -255,7 +224,7 @@ end_more cells j (Ends line) h here is inv = by (cell_at cells j h)
     by k = inv ∙ ap all_at_end k.left ∙ ends k.cell.draft k.cell.end_line (sym (here k.cell k.is)) (all_at_end (drop (j + 1) cells))
 
 pub end_done : (cells : List RowCell) (j : ℕ) → length cells ≤ j → all_at_end cells ≡ all_at_end (drop j cells) → all_at_end cells ≡ Ok tt
-end_done cells j h inv = inv ∙ ap all_at_end (drop_none cells j h)
+end_done cells j h inv = inv ∙ ap all_at_end (drop_all cells j h)
 
 -- the first subset's line
 pub first_is : (cells : List RowCell) (e : DraftEntry) (n : ℕ) → 0 < length cells → ((c : RowCell) → slice_get cells 0 ≡ Some c → e ≡ cell_entry c) → n ≡ entry_line e → n ≡ first_line cells
@@ -294,24 +263,18 @@ module _ (count : ℕ) (ds : List FieldContent) (cells : List RowCell) (j : ℕ)
 
 -- ---- One item of all subsets, as the code writes it.
 
-few_test : (a b : ℕ) → b ≤ a → nat_lt a b ≡ false
-few_test a b h = grind (arith, nat_tests)
-
-many_test : (a b : ℕ) → a < b → nat_lt a b ≡ true
-many_test a b h = grind (arith, nat_tests)
-
 module _ (spec : FieldSpec) (place : ℕ) (subsets : List Subset) where
   -- with too many values
   pub many_fault : max_values < (place + 1) * length (cells_at place subsets) → pack_across spec (item_row place subsets) ≡ Err (at_line (first_line (cells_at place subsets)) (too_many_values spec.fxy))
   many_fault h =
       ap (λ b. if b then Err (at_line (first_line (cells_at place subsets)) (too_many_values spec.fxy)) else (contents_here spec (cells_at place subsets) >>= λ cs. packed_to cs (cells_at place subsets) (packing spec cs)))
-      (many_test max_values ((place + 1) * length (cells_at place subsets)) h)
+      (lt-ltb max_values ((place + 1) * length (cells_at place subsets)) h)
 
   module _ (few : (place + 1) * length (cells_at place subsets) ≤ max_values) where
     across_is : pack_across spec (item_row place subsets) ≡ (contents_here spec (cells_at place subsets) >>= λ cs. packed_to cs (cells_at place subsets) (packing spec cs))
     across_is =
         ap (λ b. if b then Err (at_line (first_line (cells_at place subsets)) (too_many_values spec.fxy)) else (contents_here spec (cells_at place subsets) >>= λ cs. packed_to cs (cells_at place subsets) (packing spec cs)))
-        (few_test max_values ((place + 1) * length (cells_at place subsets)) few)
+        (le-ltb max_values ((place + 1) * length (cells_at place subsets)) few)
 
     pub put_fault : (o : Option FaultAt) → IfDraftFault o (λ f. contents_here spec (cells_at place subsets) ≡ Err f) → IfDraftFault o (λ f. pack_across spec (item_row place subsets) ≡ Err f)
     put_fault None h = tt
@@ -338,16 +301,12 @@ answers_first spec count (d ∷ ds) z t h e = e
 pub packed_alike : (spec : FieldSpec) (count : ℕ) (ds : List FieldContent) (z : FieldContent) → 0 < length ds → are_same (content_drawn count (get_or ds 0 z)) (contents_drawn count ds) ≡ true
     → packing spec (contents_drawn count ds) ≡ Ok (packed_bits (bits_for spec.width (content_drawn count (get_or ds 0 z))) 0 [])
 packed_alike spec count [] z h e = absurd (omega (arith, h))
-packed_alike spec count (d ∷ ds) z h e =
-    ap (λ b. if b then Ok (packed_bits (bits_for spec.width (content_drawn count d)) 0 []) else packed_unlike spec.role spec (contents_drawn count (d ∷ ds)))
-    (ap (λ t. t && are_same (content_drawn count d) (contents_drawn count ds)) (sym (content_self (content_drawn count d))) ∙ e)
+packed_alike spec count (d ∷ ds) z h e = grind (arith, common_steps, content_self)
 
 pub packed_apart : (spec : FieldSpec) (count : ℕ) (ds : List FieldContent) (z : FieldContent) → 0 < length ds → are_same (content_drawn count (get_or ds 0 z)) (contents_drawn count ds) ≡ false
     → packing spec (contents_drawn count ds) ≡ packed_unlike spec.role spec (contents_drawn count ds)
 packed_apart spec count [] z h e = absurd (omega (arith, h))
-packed_apart spec count (d ∷ ds) z h e =
-    ap (λ b. if b then Ok (packed_bits (bits_for spec.width (content_drawn count d)) 0 []) else packed_unlike spec.role spec (contents_drawn count (d ∷ ds)))
-    (ap (λ t. t && are_same (content_drawn count d) (contents_drawn count ds)) (sym (content_self (content_drawn count d))) ∙ e)
+packed_apart spec count (d ∷ ds) z h e = grind (arith, common_steps, content_self)
 
 -- elements that differ go by their kind
 pub apart_by : (spec : FieldSpec) (cs : List Content) (r : Role) → r ≡ spec.role → (r ≡ role.Element) ⊎ (r ≡ role.Inserted) → packed_unlike spec.role spec cs ≡ packed_by spec.kind spec cs
@@ -381,22 +340,6 @@ put_packed spec place subsets ds z t old new few most values given some gives ap
 
 -- ---- Steps of the code that reads texts.
 
-equal_test : (a : ℕ) → (a == a) ≡ true
-equal_test a = grind (arith, nat_tests)
-
-equal_from : (a b : ℕ) → (a == b) ≡ true → a ≡ b
-equal_from a b h = grind (arith, nat_tests)
-
-equal_to : (a b : ℕ) → a ≡ b → (a == b) ≡ true
-equal_to a b h = grind (arith, nat_tests)
-
-apart_test : (a b : ℕ) → (a ≡ b → ⊥) → (a == b) ≡ false
-apart_test a b h = by (a == b) refl
-  where
-    by : (t : Bool) → (a == b) ≡ t → (a == b) ≡ false
-    by true e = absurd (h (equal_from a b e))
-    by false e = e
-
 -- the octet at an index
 pub octet_inside : (os : List ℕ) (i x : ℕ) → i < length os → x ≡ get_or os i x → x ≡ octet_in os i
 octet_inside [] i x h e = absurd (omega (arith, h))
@@ -425,15 +368,11 @@ spaced_at count os i h l = by os (count - length os) i (omega (arith, h, l))
 pub text_more : (count : ℕ) (a b : List ℕ) (i x y : ℕ) → length a ≤ count → length b ≤ count → i < count → x ≡ octet_in a i → y ≡ octet_in b i → x ≡ y
     → same_octets (spaced count a) (spaced count b) ≡ same_octets (drop i (spaced count a)) (drop i (spaced count b))
     → same_octets (spaced count a) (spaced count b) ≡ same_octets (drop (i + 1) (spaced count a)) (drop (i + 1) (spaced count b))
-text_more count a b i x y ha hb l ea eb e inv =
-    inv ∙ ap (λ z. same_octets z (drop i (spaced count b))) (spaced_at count a i ha l) ∙ ap (λ z. same_octets (octet_in a i ∷ drop (i + 1) (spaced count a)) z) (spaced_at count b i hb l)
-    ∙ ap (λ t. t && same_octets (drop (i + 1) (spaced count a)) (drop (i + 1) (spaced count b))) (equal_to (octet_in a i) (octet_in b i) (sym ea ∙ e ∙ eb))
+text_more count a b i x y ha hb l ea eb e inv = grind (arith, common_steps, spaced_at, eq-eqb)
 
 pub text_not : (count : ℕ) (a b : List ℕ) (i x y : ℕ) → length a ≤ count → length b ≤ count → i < count → x ≡ octet_in a i → y ≡ octet_in b i → (x ≡ y → ⊥)
     → same_octets (spaced count a) (spaced count b) ≡ same_octets (drop i (spaced count a)) (drop i (spaced count b)) → same_octets (spaced count a) (spaced count b) ≡ false
-text_not count a b i x y ha hb l ea eb e inv =
-    inv ∙ ap (λ z. same_octets z (drop i (spaced count b))) (spaced_at count a i ha l) ∙ ap (λ z. same_octets (octet_in a i ∷ drop (i + 1) (spaced count a)) z) (spaced_at count b i hb l)
-    ∙ ap (λ t. t && same_octets (drop (i + 1) (spaced count a)) (drop (i + 1) (spaced count b))) (apart_test (octet_in a i) (octet_in b i) (λ q. e (ea ∙ q ∙ sym eb)))
+text_not count a b i x y ha hb l ea eb e inv = grind (arith, common_steps, spaced_at, ne_eqb)
 
 -- the spaces at the end of a text
 trimmed_space : (b : Bool) (os : List ℕ) (n : ℕ) → trimmed os ≡ n → trimmed (os ++ 32 ∷ []) ≡ n
@@ -441,9 +380,9 @@ trimmed_space b [] n e = e
 trimmed_space b (o ∷ os) n e = ap (λ t. if (t == 0) && (o == 32) then 0 else suc t) (trimmed_space b os (trimmed os) refl) ∙ e
 
 trimmed_other : (os : List ℕ) (x : ℕ) → (x ≡ 32 → ⊥) → trimmed (os ++ x ∷ []) ≡ suc (length os)
-trimmed_other [] x h = ap (λ b. if b then 0 else 1) (apart_test x 32 h)
+trimmed_other [] x h = ap (λ b. if b then 0 else 1) (ne_eqb x 32 h)
 trimmed_other (o ∷ os) x h =
-    ap (λ t. if (t == 0) && (o == 32) then 0 else suc t) (trimmed_other os x h) ∙ ap (λ b. if b && (o == 32) then 0 else suc (suc (length os))) (apart_test (suc (length os)) 0 (λ q. absurd (omega (arith, q))))
+    ap (λ t. if (t == 0) && (o == 32) then 0 else suc t) (trimmed_other os x h) ∙ ap (λ b. if b && (o == 32) then 0 else suc (suc (length os))) (ne_eqb (suc (length os)) 0 (λ q. absurd (omega (arith, q))))
 
 take_one : (os : List ℕ) (n x z : ℕ) → n < length os → x ≡ get_or os n z → take (suc n) os ≡ take n os ++ x ∷ []
 take_one [] n x z h e = absurd (omega (arith, h))
@@ -456,19 +395,10 @@ length-take_one [] (suc n) h = absurd (omega (arith, h))
 length-take_one (o ∷ os) (suc n) h = ap suc (length-take_one os n (omega (arith, h)))
 
 pub trimmed_here : (os : List ℕ) (spaces x z : ℕ) → spaces < length os → x ≡ get_or os (length os - 1 - spaces) z → (x ≡ 32 → ⊥) → trimmed (take (length os - spaces) os) ≡ trimmed os → length os - spaces ≡ trimmed os
-trimmed_here os spaces x z h e other inv =
-    let n : length os - spaces ≡ suc (length os - 1 - spaces) = omega (arith, h) in
-    let within : length os - 1 - spaces < length os = omega (arith, h) in
-    n ∙ ap suc (sym (length-take_one os (length os - 1 - spaces) (omega (arith, within)))) ∙ sym (trimmed_other (take (length os - 1 - spaces) os) x other)
-    ∙ ap trimmed (sym (take_one os (length os - 1 - spaces) x z within e)) ∙ ap (λ k. trimmed (take k os)) (sym n) ∙ inv
+trimmed_here os spaces x z h e other inv = grind (arith, common_steps, length-take_one, trimmed_other, take_one)
 
 pub trimmed_later : (os : List ℕ) (spaces x z : ℕ) → spaces < length os → x ≡ get_or os (length os - 1 - spaces) z → x ≡ 32 → trimmed (take (length os - spaces) os) ≡ trimmed os → trimmed (take (length os - (spaces + 1)) os) ≡ trimmed os
-trimmed_later os spaces x z h e is inv =
-    let n : length os - spaces ≡ suc (length os - 1 - spaces) = omega (arith, h) in
-    let m : length os - (spaces + 1) ≡ length os - 1 - spaces = omega (arith, h) in
-    let within : length os - 1 - spaces < length os = omega (arith, h) in
-    ap (λ k. trimmed (take k os)) m ∙ sym (trimmed_space true (take (length os - 1 - spaces) os) (trimmed (take (length os - 1 - spaces) os)) refl)
-    ∙ ap (λ y. trimmed (take (length os - 1 - spaces) os ++ y ∷ [])) (sym is) ∙ ap trimmed (sym (take_one os (length os - 1 - spaces) x z within e)) ∙ ap (λ k. trimmed (take k os)) (sym n) ∙ inv
+trimmed_later os spaces x z h e is inv = grind (arith, common_steps, trimmed_space, take_one)
 
 pub trimmed_all : (os : List ℕ) (spaces : ℕ) → length os ≤ spaces → trimmed (take (length os - spaces) os) ≡ trimmed os → 0 ≡ trimmed os
 trimmed_all os spaces h inv = let n : 0 ≡ length os - spaces = omega (arith, h) in ap (λ k. trimmed (take k os)) n ∙ inv

@@ -1,24 +1,17 @@
 -- Each specification of a reading is within the limits of a field.
-use Rattle.std.specs.Prelude.{◌≡◌, ◌≤◌, ◌^◌, true, List, [], ◌∷◌, unsigned_abs, ◌==◌, nat_le, nat_lt, if◌then◌else◌}
-use Rattle.bufr_tables.specs.TableB.{Row, allows_width, entry_of, kind_of, AreRows, element_of, natural_part, plain_of, row_of, scale_of, width_of}
-use Rattle.bufr_tables.specs.Tree.{is_legal_operator, has_legal_operand, Tree, bare, element, operator, fixed, delayed, is_inserted_text}
+use Rattle.std.proofs.lemmas.Grind.{common_steps}
+use Rattle.bufr_walk.proofs.SpecLemmas.{text_good, product_small}
+use Rattle.std.proofs.lemmas.Bool.{eqb-true, leb-true, ltb-true}
+use Rattle.bufr_tables.specs.Prelude.{Row, allows_width, entry_of, kind_of, AreRows, element_of, plain_of, row_of, scale_of, width_of, is_legal_operator, has_legal_operand, Tree, bare, element, operator, fixed, delayed, is_inserted_text, x_of, y_of, IsLegal, i64_of, fits_i64, if_i64, integer_of, Record, field_of, only_if}
 use Rattle.bufr_walk.specs.declared.spec.Taken.{Taken}
-use Rattle.bufr_walk.specs.Rules.{OperatorModel, Redefined, current_reference, is_defining, if_valid_width, scale_change_of, numeric_spec, coded_spec, text_spec, text_width, spec_by_kind, defined_field, new_reference_spec, unsigned_field, unsigned_of, begin, local_width_spec, listed_by, element_spec, factor_field, factor_by, factor_spec, with_references, with_operator, after_operator, after_field, with_reference, inserted_spec}
-use Rattle.bufr_walk.specs.Course.{Turns, finish, open_end, group, pass_end, factor_turn, element_turn, operator_turn, Rest, passes, unroll, turns_of, take_next, NextTurn, asked, operated, ahead, next_item, counts_of}
-use Rattle.std.proofs.Common.{ℕ, suc, ◌+◌, ◌*◌, ◌%◌, ◌&&◌, eqb, Bool, false, Option, Some, None, Result, Ok, Err, refl, ◌∙◌, ap, subst, arith, ℤ, pos, negsuc, ◌+ℤ◌, ◌-ℤ◌, ◌*ℤ◌, zero, ◌||◌, not, sym, ◌<◌, map}
-use Rattle.std.specs.List.{find}
-use Rattle.std.proofs.lemmas.Int.{unsigned_abs-mul}
+use Rattle.bufr_walk.specs.Prelude.{OperatorModel, Redefined, current_reference, is_defining, if_valid_width, scale_change_of, numeric_spec, coded_spec, text_spec, text_width, spec_by_kind, defined_field, new_reference_spec, unsigned_field, unsigned_of, begin, local_width_spec, listed_by, element_spec, factor_field, factor_by, factor_spec, with_references, with_operator, after_operator, after_field, with_reference, inserted_spec, Turns, finish, open_end, group, pass_end, factor_turn, element_turn, operator_turn, Rest, passes, unroll, turns_of, take_next, NextTurn, asked, operated, ahead, next_item, counts_of, FieldSpec, IsSpec, HasWidth}
+use Rattle.std.proofs.Common.{ℕ, suc, ◌+◌, ◌*◌, ◌%◌, ◌&&◌, eqb, Bool, false, Option, Some, None, Result, Ok, Err, refl, ◌∙◌, ap, subst, arith, ℤ, pos, negsuc, ◌+ℤ◌, zero, ◌||◌, not, sym, map, ◌≡◌, ◌≤◌, ◌^◌, true, List, [], ◌∷◌, unsigned_abs, ◌==◌, nat_le, nat_lt, if◌then◌else◌}
+use Rattle.std.specs.List.{find, AllByRecursion}
 use Rattle.std.proofs.lemmas.Bool.Decides.{nat_tests}
-use Rattle.std.proofs.Math.Nat.{mul-le-mul_left, mul-le-mul_right, pow-le-pow_right}
 use Rattle.bufr_bits.proofs.DecimalLemmas.{and_first, and_second}
 use Rattle.bufr_tables.specs.declared.table_b.Kind.{Kind}
-use Rattle.bufr_walk.specs.declared.spec.Role.{Role}
 use Rattle.bufr_walk.specs.declared.spec.TurnRefusal.{TurnRefusal}
-use Rattle.bufr_walk.specs.FieldSpec.{FieldSpec, IsSpec, HasWidth, HasRole}
-use Rattle.bufr_tables.specs.Fxy.{x_of, y_of}
-use Rattle.bufr_tables.specs.Expansion.{IsLegal}
 use Rattle.std.proofs.lemmas.Option.{option_and_then_some}
-use Rattle.bufr_tables.specs.Records.{i64_of, fits_i64, if_i64, integer_of, Record, field_of, only_if}
 use Rattle.bufr_walk.specs.declared.spec.Taken.TheVariants as taken
 use Rattle.bufr_tables.specs.declared.table_b.Kind.TheVariants as kind
 use Rattle.bufr_walk.specs.declared.spec.Role.TheVariants as role
@@ -31,8 +24,7 @@ pub record IsRow (row : Row) : Type 0 where
   pub reference : unsigned_abs row.reference ≤ 2 ^ 63
 
 abbrev pub AreGoodRows : List Row → Type 0
-AreGoodRows [] = Unit {0}
-AreGoodRows (row ∷ rows) = IsRow row × AreGoodRows rows
+AreGoodRows rows = AllByRecursion (λ (row : Row). IsRow row) rows
 
 -- references that were defined are of 64 bits
 abbrev pub IsWithin : Taken → Type 0
@@ -41,12 +33,10 @@ IsWithin (taken.Count n) = Unit {0}
 IsWithin (taken.Reference r) = unsigned_abs r ≤ 2 ^ 63
 
 abbrev pub AreWithin : List Taken → Type 0
-AreWithin [] = Unit {0}
-AreWithin (t ∷ answers) = IsWithin t × AreWithin answers
+AreWithin answers = AllByRecursion (λ (t : Taken). IsWithin t) answers
 
 abbrev pub AreRedefined : List Redefined → Type 0
-AreRedefined [] = Unit {0}
-AreRedefined (r ∷ more) = (unsigned_abs r.reference ≤ 2 ^ 63) × AreRedefined more
+AreRedefined more = AllByRecursion (λ (r : Redefined). unsigned_abs r.reference ≤ 2 ^ 63) more
 
 -- operands in force are those of legal operators
 pub record IsSettings (s : OperatorModel) : Type 0 where
@@ -77,35 +67,11 @@ same_ok a b e = cc
 abs_sum : (a b : ℤ) → unsigned_abs (a +ℤ b) ≤ unsigned_abs a + unsigned_abs b
 abs_sum (pos a) (pos b) = omega arith
 abs_sum (negsuc a) (negsuc b) = omega arith
-abs_sum (pos a) (negsuc b) = by (eqb 0 0) (a) (b)
-  where
-    by : Bool → (a b : ℕ) → unsigned_abs (pos a +ℤ negsuc b) ≤ a + suc b
-    by t a b = grind arith
-abs_sum (negsuc a) (pos b) = by a b
-  where
-    by : (a b : ℕ) → unsigned_abs (negsuc a +ℤ pos b) ≤ suc a + b
-    by a b = grind arith
+abs_sum (pos a) (negsuc b) = grind (arith, common_steps, eqb, unsigned_abs)
+abs_sum (negsuc a) (pos b) = grind (arith, common_steps, unsigned_abs)
 
 change_small : (y : ℕ) → y ≤ 255 → unsigned_abs (scale_change_of y) ≤ 128
-change_small y h = by (y == 0) refl
-  where
-    by : (b : Bool) → (y == 0) ≡ b → unsigned_abs (if b then pos 0 else pos y -ℤ pos 128) ≤ 128
-    by true e = omega arith
-    by false e = increment_over y h
-      where
-        increment_over : (y : ℕ) → y ≤ 255 → unsigned_abs (pos y -ℤ pos 128) ≤ 128
-        increment_over y h = grind arith
-
-power_small : (y : ℕ) → y ≤ 18 → 10 ^ y ≤ 10 ^ 18
-power_small y h = pow-le-pow_right {n = 10} (omega arith) h
-
-product_small : (r : ℤ) (y : ℕ) → unsigned_abs r ≤ 2 ^ 63 → y ≤ 18 → unsigned_abs (r *ℤ pos (10 ^ y)) ≤ 2 ^ 125
-product_small r y h g =
-    let e : unsigned_abs (r *ℤ pos (10 ^ y)) ≡ unsigned_abs r * 10 ^ y = unsigned_abs-mul r (pos (10 ^ y)) in
-    let p : 10 ^ y ≤ 10 ^ 18 = power_small y g in
-    let a : unsigned_abs r * 10 ^ y ≤ unsigned_abs r * 10 ^ 18 = mul-le-mul_left (unsigned_abs r) p in
-    let b : unsigned_abs r * 10 ^ 18 ≤ 2 ^ 63 * 10 ^ 18 = mul-le-mul_right (10 ^ 18) h in
-    omega (arith, e, a, b)
+change_small y h = grind (arith, common_steps, unsigned_abs, pos)
 
 reference_small : (rs : List Redefined) (fxy : ℕ) (listed : ℤ) → AreRedefined rs → unsigned_abs listed ≤ 2 ^ 63 → unsigned_abs (current_reference rs fxy listed) ≤ 2 ^ 63
 reference_small [] fxy listed h g = g
@@ -124,22 +90,16 @@ row_found (r ∷ rows) fxy row h e = by (r.fxy == fxy) (λ q. row_found rows fxy
     by true g q = let is : r ≡ row = cc in subst IsRow is h.0
     by false g q = g q
 
-le_from : (a b : ℕ) → nat_le a b ≡ true → a ≤ b
-le_from a b h = grind (arith, nat_tests)
-
 -- a width that fits
 fitted : (a : FieldSpec) (b : FieldSpec) → if_valid_width a ≡ Ok b → ((1 ≤ a.width) × (a.width ≤ 63) → IsSpec a) → IsSpec b
 fitted a b e h = by (nat_le 1 a.width && nat_le a.width 63) refl e
   where
     by : (t : Bool) → (nat_le 1 a.width && nat_le a.width 63) ≡ t → (if t then Ok a else Err (refusal.Width a.fxy)) ≡ Ok b → IsSpec b
-    by true p q = let is : a ≡ b = cc in subst IsSpec is (h (le_from 1 a.width (and_first (nat_le 1 a.width) (nat_le a.width 63) p), le_from a.width 63 (and_second (nat_le 1 a.width) (nat_le a.width 63) p)))
+    by true p q = let is : a ≡ b = cc in subst IsSpec is (h (leb-true 1 a.width (and_first (nat_le 1 a.width) (nat_le a.width 63) p), leb-true a.width 63 (and_second (nat_le 1 a.width) (nat_le a.width 63) p)))
     by false p q = absurd cc
 
 character_width : (w : ℕ) → allows_width kind.Character w ≡ true → HasWidth kind.Character w
-character_width w h = (le_from 8 w (and_first (nat_le 8 w) (nat_le w 2040) (and_first (nat_le 8 w && nat_le w 2040) (w % 8 == 0) h)), le_from w 2040 (and_second (nat_le 8 w) (nat_le w 2040) (and_first (nat_le 8 w && nat_le w 2040) (w % 8 == 0) h)), equal_from (w % 8) 0 (and_second (nat_le 8 w && nat_le w 2040) (w % 8 == 0) h))
-  where
-    equal_from : (a b : ℕ) → (a == b) ≡ true → a ≡ b
-    equal_from a b h = grind (arith, nat_tests)
+character_width w h = (leb-true 8 w (and_first (nat_le 8 w) (nat_le w 2040) (and_first (nat_le 8 w && nat_le w 2040) (w % 8 == 0) h)), leb-true w 2040 (and_second (nat_le 8 w) (nat_le w 2040) (and_first (nat_le 8 w && nat_le w 2040) (w % 8 == 0) h)), eqb-true (w % 8) 0 (and_second (nat_le 8 w && nat_le w 2040) (w % 8 == 0) h))
 
 letters_width : (y w : ℕ) → y ≤ 255 → HasWidth kind.Character w → HasWidth kind.Character (if y == 0 then w else 8 * y)
 letters_width y w h g = by (y == 0) refl
@@ -169,9 +129,6 @@ module _ (s : OperatorModel) (set : IsSettings s) where
     scale = omega (arith, good.scale);
     reference = omega (arith, reference_small s.new_references row.fxy row.reference set.new_references good.reference);
   }
-
-  text_good : (r : Role) (fxy w : ℕ) (listed : Bool) → HasWidth kind.Character w → HasRole r kind.Character true → IsSpec (text_spec r fxy w listed)
-  text_good r fxy w listed h g = record { width = h; role = g; missing = refl; scale = omega arith; reference = omega arith }
 
   kind_good : (kd : Kind) (row : Row) (spec : FieldSpec) → kd ≡ row.kind → IsRow row → spec_by_kind kd s row ≡ Ok spec → IsSpec spec
   kind_good kind.Numeric row spec q good e = fitted (numeric_spec s row) spec e (quantity_good row good)
@@ -222,41 +179,20 @@ module _ (table : List Row) (rows : AreGoodRows table) (s : OperatorModel) (set 
 
 -- operands of legal operators
 operand_five : (x y : ℕ) → (x == 5) ≡ true → has_legal_operand x y ≡ true → 1 ≤ y
-operand_five x y e h = by x y (equal_from x 5 e) h
-  where
-    equal_from : (a b : ℕ) → (a == b) ≡ true → a ≡ b
-    equal_from a b h = grind (arith, nat_tests)
-
-    le_from : (y : ℕ) → nat_le 1 y ≡ true → 1 ≤ y
-    le_from y h = grind (arith, nat_tests)
-
-    by : (x y : ℕ) → x ≡ 5 → has_legal_operand x y ≡ true → 1 ≤ y
-    by x y e h = le_from y (subst (λ z. has_legal_operand z y ≡ true) e h)
+operand_five x y e h = grind (arith, common_steps, eqb-true, leb-true)
 
 operand_three : (x y : ℕ) → (x == 3) ≡ true → has_legal_operand x y ≡ true → (y == 255) ≡ false → y ≤ 63
-operand_three x y e h g = by (subst (λ z. has_legal_operand z y ≡ true) (equal_from x 3 e) h)
+operand_three x y e h g = by (subst (λ z. has_legal_operand z y ≡ true) (eqb-true x 3 e) h)
   where
-    equal_from : (a b : ℕ) → (a == b) ≡ true → a ≡ b
-    equal_from a b h = grind (arith, nat_tests)
-
-    le_from : (y : ℕ) → nat_le y 63 ≡ true → y ≤ 63
-    le_from y h = grind (arith, nat_tests)
-
     or_false : (b : Bool) → (b || false) ≡ true → b ≡ true
     or_false true h = refl
     or_false false h = h
 
     by : (nat_le y 63 || y == 255) ≡ true → y ≤ 63
-    by q = le_from y (or_false (nat_le y 63) (ap (λ b. nat_le y 63 || b) (sym g) ∙ q))
+    by q = leb-true y 63 (or_false (nat_le y 63) (ap (λ b. nat_le y 63 || b) (sym g) ∙ q))
 
 operand_seven : (x y : ℕ) → (x == 7) ≡ true → has_legal_operand x y ≡ true → y ≤ 18
-operand_seven x y e h = le_from y (subst (λ z. has_legal_operand z y ≡ true) (equal_from x 7 e) h)
-  where
-    equal_from : (a b : ℕ) → (a == b) ≡ true → a ≡ b
-    equal_from a b h = grind (arith, nat_tests)
-
-    le_from : (y : ℕ) → nat_le y 18 ≡ true → y ≤ 18
-    le_from y h = grind (arith, nat_tests)
+operand_seven x y e h = leb-true y 18 (subst (λ z. has_legal_operand z y ≡ true) (eqb-true x 7 e) h)
 
 operand_most : (fxy : ℕ) → y_of fxy ≤ 255
 operand_most fxy = omega arith
@@ -370,20 +306,13 @@ passed : {A P : Type 0} (test : Bool) (x y : A) → only_if test x ≡ Some y �
 passed true x y is go = go refl (cc is)
 passed false x y is go = absurd (cc is)
 
-lt_from : (a b : ℕ) → nat_lt a b ≡ true → a < b
-lt_from a b h = grind (arith, nat_tests)
-
 within : (z : ℤ) → fits_i64 z ≡ true → unsigned_abs z ≤ 2 ^ 63
-within (pos n) h = omega (arith, lt_from n (2 ^ 63) h)
-within (negsuc n) h = omega (arith, lt_from n (2 ^ 63) h)
+within (pos n) h = omega (arith, ltb-true n (2 ^ 63) h)
+within (negsuc n) h = omega (arith, ltb-true n (2 ^ 63) h)
 
 fits_64_bits : (z r : ℤ) → if_i64 z ≡ Some r → unsigned_abs r ≤ 2 ^ 63
 unfolding if_i64
-fits_64_bits z r is = by (fits_i64 z) refl is
-  where
-    by : (b : Bool) → fits_i64 z ≡ b → (if b then Some z else None) ≡ Some r → unsigned_abs r ≤ 2 ^ 63
-    by true e q = let same : z ≡ r = cc in subst (λ x. unsigned_abs x ≤ 2 ^ 63) same (within z e)
-    by false e q = absurd cc
+fits_64_bits z r is = grind (arith, common_steps, unsigned_abs, within)
 
 reference_within : (text : List ℕ) (r : ℤ) → i64_of text ≡ Some r → unsigned_abs r ≤ 2 ^ 63
 unfolding i64_of
@@ -391,15 +320,11 @@ reference_within text r is = option_and_then_some _ (integer_of text) r is (λ z
 
 scale_within : (text : List ℕ) (scale : ℤ) → scale_of text ≡ Some scale → unsigned_abs scale ≤ 127
 unfolding scale_of
-scale_within text scale is =
-    option_and_then_some _ (i64_of text) scale is (λ z read is. passed _ z scale is (λ test same. subst (λ z. unsigned_abs z ≤ 127) same (le_from (unsigned_abs z) 127 test)))
+scale_within text scale is = grind (arith, common_steps, option_and_then_some, passed, unsigned_abs, leb-true)
 
 width_allowed : (kind : Kind) (text : List ℕ) (width : ℕ) → width_of kind text ≡ Some width → allows_width kind width ≡ true
 unfolding width_of
-width_allowed kind text width is =
-    option_and_then_some _ (i64_of text) width is (λ z read is.
-    option_and_then_some _ (natural_part z) width is (λ n part is.
-    passed _ n width is (λ test same. subst (λ n. allows_width kind n ≡ true) same test)))
+width_allowed kind text width is = grind (arith, common_steps, option_and_then_some, passed)
 
 written_row : (r : Record) (row : Row) → row_of r ≡ Some row → IsRow row
 unfolding row_of

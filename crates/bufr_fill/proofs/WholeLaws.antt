@@ -1,30 +1,17 @@
 -- The round trip of all data.
-use Rattle.std.proofs.Common.{◌≡◌, ℕ, zero, suc, ◌+◌, ◌*◌, ◌<◌, ◌≤◌, List, [], ◌∷◌, length, drop, Some, refl, sym, ◌∙◌, ap, subst, arith, Bool, ◌++◌, Ok, append_assoc, Result, Err}
-use Rattle.std.specs.Prelude.{slice_get, flat_map, if◌then◌else◌}
+use Rattle.std.proofs.Common.{◌≡◌, ℕ, zero, suc, ◌+◌, ◌*◌, ◌<◌, ◌≤◌, List, [], ◌∷◌, length, drop, Some, refl, sym, ◌∙◌, ap, subst, arith, Bool, ◌++◌, Ok, append_assoc, Result, Err, slice_get, flat_map, if◌then◌else◌}
+use Rattle.bufr_fill.proofs.EntryLemmas.{length-cells}
+use Rattle.std.proofs.lemmas.Bool.{le-ltb}
 use Rattle.std.proofs.Math.Nat.{mul-le-mul_right}
-use Rattle.bufr_walk.specs.Content.{Content, bits_for, FieldFault, found, plain_field}
-use Rattle.bufr_walk.specs.Reading.{max_values, Item, plain, packed, ReadsSubsets, ReadsItems, after, IsPackedReading, DataCoding, ReadsPass}
-use Rattle.bufr_fill.specs.Draft.{Draft, Subset}
-use Rattle.bufr_fill.specs.Encoding.{cells_at, rows, longest, plain_data, packed_filler, are_many, ◌>>=◌, ItemRow, at_line_if_fault, content_here, contents_here, packed_to, pack_across, packed_data, first_line}
-use Rattle.bufr_fill.specs.RoundTrip.{IsDumped, AreDrafts, items_of_subset, AreDumpedFrom, AreDumped, IsWrittenAgain, IsPackedAgain, IsWrittenApart, IsTogetherOrNot, IsSaid, AreSaid, AreSaidFrom, subsets_from, AreAlike, AllAlike, AllHaveOctets}
+use Rattle.bufr_walk.specs.Prelude.{Content, bits_for, FieldFault, found, plain_field, FieldSpec, IsSpec, packed_field, max_values, Item, plain, packed, ReadsSubsets, ReadsItems, after, IsPackedReading, DataCoding, ReadsPass, content_at, Course, next_item}
+use Rattle.bufr_fill.specs.Prelude.{Draft, Subset, at_line, too_many_values, cells_at, rows, longest, plain_data, packed_filler, are_many, ◌>>=◌, ItemRow, at_line_if_fault, content_here, contents_here, packed_to, pack_across, packed_data, first_line, plain_filler, plainly, written_item, Filler, fill, fill_none, packing, IsDumped, AreDrafts, items_of_subset, AreDumpedFrom, AreDumped, IsWrittenAgain, IsPackedAgain, IsWrittenApart, IsTogetherOrNot, IsSaid, AreSaid, AreSaidFrom, subsets_from, AreAlike, AllAlike, AllHaveOctets, content_of}
 use Rattle.bufr_fill.proofs.PlainLaws.{IsCellOf, AreCellsOf, IsDumpedAcross, HaveContents, AllSpecs, EachSpecs, rewritten, plain_rewritten, join, draft_again, same_draft}
-use Rattle.bufr_walk.specs.Calls.{content_at}
 use Rattle.std.proofs.lemmas.List.{length-append}
-use Rattle.bufr_walk.specs.Course.{Course, next_item}
-use Rattle.bufr_fill.specs.DraftContent.{plain_filler, plainly, content_of}
-use Rattle.bufr_tables.specs.TableB.{Row, AreRows}
-use Rattle.bufr_tables.specs.Tree.{Tree}
-use Rattle.bufr_tables.specs.Expansion.{IsLegal}
+use Rattle.bufr_tables.specs.Prelude.{Row, AreRows, Tree, IsLegal, Record}
 use Rattle.bufr_fill.proofs.SpecLemmas.{AreGoodRows, table_good}
 use Rattle.bufr_fill.proofs.GoodReads.{template_good, plain_specs, packed_specs}
 use Rattle.bufr_fill.proofs.PackedLaws.{packed_count, packed_again}
-use Rattle.bufr_fill.proofs.FormLaws.{packed_rewritten, together, apart, past, all_plain, Follows, AllFollow, follow_reading}
-use Rattle.bufr_tables.specs.Records.{Record}
-use Rattle.bufr_walk.specs.FieldSpec.{FieldSpec, IsSpec}
-use Rattle.bufr_walk.specs.PackedField.{packed_field}
-use Rattle.bufr_fill.specs.Faults.{at_line, too_many_values}
-use Rattle.bufr_fill.specs.Filling.{written_item, Filler, fill, fill_none}
-use Rattle.bufr_fill.specs.Packing.{packing}
+use Rattle.bufr_fill.proofs.FormLaws.{drafts_length, packed_rewritten, together, apart, all_plain, Follows, AllFollow, follow_reading}
 use Rattle.bufr_fill.proofs.BackLaws.{plain_template_back, packed_template_back}
 
 -- ---- The dump of compressed data, subset after subset, has the rows of the items.
@@ -64,10 +51,6 @@ cells_there items p i rest j (s ∷ ss) e n h =
       cells_there items p i rest (suc j) ss e (omega (arith, n)) h.1,
     )
 
-pub length-cells : (p : ℕ) (ss : List Subset) → length (cells_at p ss) ≡ length ss
-length-cells p [] = refl
-length-cells p (s ∷ ss) = ap suc (length-cells p ss)
-
 pub drop_next : (items : List (Item (List Content))) (p : ℕ) (i : Item (List Content)) (rest : List (Item (List Content))) → drop p items ≡ i ∷ rest → drop (p + 1) items ≡ rest
 drop_next [] zero i rest e = absurd cc
 drop_next [] (suc p) i rest e = absurd cc
@@ -85,12 +68,6 @@ rows_are n items ss (i ∷ rest) p count have h e few = (
   },
   rows_are n items ss rest (p + 1) count have.1 h (drop_next items p i rest e) (let q : p + 1 + length rest ≡ p + length (i ∷ rest) = omega arith in subst (λ k. k * n ≤ max_values) (sym q) few),
 )
-
-pub drafts_length : {C D : Type 0} (r : Item C → D → Type 0) (items : List (Item C)) (ds : List D) → AreDrafts r items ds → length ds ≡ length items
-drafts_length r [] [] h = refl
-drafts_length r [] (d ∷ ds) h = absurd h
-drafts_length r (i ∷ items) [] h = absurd h
-drafts_length r (i ∷ items) (d ∷ ds) h = ap suc (drafts_length r items ds h.1)
 
 pub length-items_of : (j : ℕ) (items : List (Item (List Content))) → length (items_of_subset j items) ≡ length items
 length-items_of j [] = refl
@@ -152,35 +129,30 @@ pub packed_template_again : (n : ℕ) (table : List Row) (tree : Tree) (items : 
 packed_template_again n table tree items drafts bits suffix rows legal count dumped h =
     items_packed_again n (next_item table tree) items drafts bits suffix count (reads_specs n table tree items bits suffix rows legal h) dumped h
 
--- ---- The round trip of data, over the tables of records.
-
-pub plain_round_trip : (records : List Record) (table : List Row) (template : Tree) (subsets : List (List (Item Content))) (drafts : List Subset) (bits suffix : List Bool) → AreRows records table → IsLegal template → AreDumped subsets drafts → ReadsSubsets (next_item table template) subsets bits suffix
-    → IsWrittenAgain (next_item table template) subsets drafts bits suffix
-plain_round_trip records table template subsets drafts bits suffix rows legal dumped h = plain_template_again table template subsets drafts bits suffix (table_good records table rows) legal dumped h
-
-pub packed_round_trip : (n : ℕ) (records : List Record) (table : List Row) (template : Tree) (items : List (Item (List Content))) (drafts : List Subset) (bits suffix : List Bool) → AreRows records table → IsLegal template → length drafts ≡ n → AreDumpedFrom 0 items drafts → IsPackedReading n (next_item table template) items bits suffix
-    → IsPackedAgain n (next_item table template) items drafts bits suffix
-packed_round_trip n records table template items drafts bits suffix rows legal count dumped h = packed_template_again n table template items drafts bits suffix (table_good records table rows) legal count dumped h
-
--- ---- Data are written in the other form, over the tables of records.
-
 -- nothing is required of the specifications
 pub template_apart : (n : ℕ) (table : List Row) (template : Tree) (items : List (Item (List Content))) (drafts : List Subset) (bits suffix : List Bool) → AreGoodRows table → IsLegal template → length drafts ≡ n → AreDumpedFrom 0 items drafts → IsPackedReading n (next_item table template) items bits suffix
     → IsWrittenApart n (next_item table template) items drafts
 template_apart n table template items drafts bits suffix rows legal count dumped h = apart n (next_item table template) items drafts bits suffix count (reads_specs n table template items bits suffix rows legal h) dumped h
-
-pub written_apart : (n : ℕ) (records : List Record) (table : List Row) (template : Tree) (items : List (Item (List Content))) (drafts : List Subset) (bits suffix : List Bool) → AreRows records table → IsLegal template → length drafts ≡ n → AreDumpedFrom 0 items drafts → IsPackedReading n (next_item table template) items bits suffix
-    → IsWrittenApart n (next_item table template) items drafts
-written_apart n records table template items drafts bits suffix rows legal count dumped h = template_apart n table template items drafts bits suffix (table_good records table rows) legal count dumped h
 
 pub template_together : (table : List Row) (template : Tree) (subsets : List (List (Item Content))) (drafts : List Subset) (bits suffix : List Bool) → length bits ≤ max_values → AreGoodRows table → IsLegal template → AreDumped subsets drafts → ReadsSubsets (next_item table template) subsets bits suffix
     → IsTogetherOrNot (next_item table template) subsets drafts
 template_together table template subsets drafts bits suffix few rows legal dumped h =
     together (next_item table template) subsets drafts bits suffix few (plain_specs (next_item table template) subsets bits suffix (template_good table template rows legal) h) dumped h
 
-pub written_together : (records : List Record) (table : List Row) (template : Tree) (subsets : List (List (Item Content))) (drafts : List Subset) (bits suffix : List Bool) → length bits ≤ max_values → AreRows records table → IsLegal template → AreDumped subsets drafts → ReadsSubsets (next_item table template) subsets bits suffix
-    → IsTogetherOrNot (next_item table template) subsets drafts
-written_together records table template subsets drafts bits suffix few rows legal dumped h = template_together table template subsets drafts bits suffix few (table_good records table rows) legal dumped h
+-- ---- The round trip of data, and the other form, over the tables of records.
+
+module _ (records : List Record) (table : List Row) (template : Tree) (rows : AreRows records table) (legal : IsLegal template) where
+  pub plain_round_trip : (subsets : List (List (Item Content))) (drafts : List Subset) (bits suffix : List Bool) → AreDumped subsets drafts → ReadsSubsets (next_item table template) subsets bits suffix → IsWrittenAgain (next_item table template) subsets drafts bits suffix
+  plain_round_trip subsets drafts bits suffix dumped h = plain_template_again table template subsets drafts bits suffix (table_good records table rows) legal dumped h
+
+  pub packed_round_trip : (n : ℕ) (items : List (Item (List Content))) (drafts : List Subset) (bits suffix : List Bool) → length drafts ≡ n → AreDumpedFrom 0 items drafts → IsPackedReading n (next_item table template) items bits suffix → IsPackedAgain n (next_item table template) items drafts bits suffix
+  packed_round_trip n items drafts bits suffix count dumped h = packed_template_again n table template items drafts bits suffix (table_good records table rows) legal count dumped h
+
+  pub written_apart : (n : ℕ) (items : List (Item (List Content))) (drafts : List Subset) (bits suffix : List Bool) → length drafts ≡ n → AreDumpedFrom 0 items drafts → IsPackedReading n (next_item table template) items bits suffix → IsWrittenApart n (next_item table template) items drafts
+  written_apart n items drafts bits suffix count dumped h = template_apart n table template items drafts bits suffix (table_good records table rows) legal count dumped h
+
+  pub written_together : (subsets : List (List (Item Content))) (drafts : List Subset) (bits suffix : List Bool) → length bits ≤ max_values → AreDumped subsets drafts → ReadsSubsets (next_item table template) subsets bits suffix → IsTogetherOrNot (next_item table template) subsets drafts
+  written_together subsets drafts bits suffix few dumped h = template_together table template subsets drafts bits suffix few (table_good records table rows) legal dumped h
 
 -- ---- The contents of drafts determine the bits that are written.
 
@@ -275,7 +247,7 @@ all_rows_said n items s ss count have h few =
 row_written : (n : ℕ) → 1 ≤ n → (i : Item (List Content)) (a : ItemRow) (bits mid : List Bool) → IsSpec i.spec → IsSaidRow n i a → packed_field n i.spec bits ≡ Ok (found i.content mid) → pack_across i.spec a ≡ Ok (written_item i.content (packed_encoded i))
 row_written n some i a bits mid good row e =
     let within : (a.place + 1) * length a.cells ≤ max_values = subst (λ m. (a.place + 1) * m ≤ max_values) (sym row.total) row.few in
-    ap (λ b. if b then Err (at_line (first_line a.cells) (too_many_values i.spec.fxy)) else (contents_here i.spec a.cells >>= λ xs. packed_to xs a.cells (packing i.spec xs))) (past max_values ((a.place + 1) * length a.cells) within)
+    ap (λ b. if b then Err (at_line (first_line a.cells) (too_many_values i.spec.fxy)) else (contents_here i.spec a.cells >>= λ xs. packed_to xs a.cells (packing i.spec xs))) (le-ltb max_values ((a.place + 1) * length a.cells) within)
     ∙ ap (λ r. r >>= λ xs. packed_to xs a.cells (packing i.spec xs)) row.contents
     ∙ by i.content e
   where
@@ -368,7 +340,7 @@ length-alike [] (t ∷ ts) a = absurd a
 length-alike (s ∷ ss) [] a = absurd a
 length-alike (s ∷ ss) (t ∷ ts) a = ap suc (length-alike ss ts a.1)
 
-module _ (records : List Record) (table : List Row) (template : Tree) (drafts others : List Subset) (bits : List Bool) (rows : AreRows records table) (legal : IsLegal template) (texts : AllHaveOctets drafts) (alike : AllAlike drafts others) where
+module _ (records : List Record) (table : List Row) (template : Tree) (rows : AreRows records table) (legal : IsLegal template) (drafts others : List Subset) (bits : List Bool) (texts : AllHaveOctets drafts) (alike : AllAlike drafts others) where
   pub plain_alike : plain_data (next_item table template) drafts ≡ Ok bits → plain_data (next_item table template) others ≡ Ok bits
   plain_alike e =
       let w = plain_template_back records table template drafts bits rows legal texts e in

@@ -3,16 +3,12 @@
 -- Cited by public contracts.
 use Rattle.std.specs.Prelude.{ℕ, ◌-◌, ◌/◌, ◌^◌, ◌==◌, ◌&&◌, nat_lt, not, Bool, true, false, if◌then◌else◌, List, ◌++◌, length, replicate, ℤ, pos, negsuc, nat_abs, ◌+ℤ◌, ◌-ℤ◌, Result, Ok, Err, ◌≡◌, ◌≤◌, ◌<◌, unsigned_abs, Option, Some, option_map, ◌∷◌}
 use Rattle.std.specs.List.{list_all}
-use Rattle.bufr_bits.specs.Decimal.{decimal_text_of, decimal_value_of}
+use Rattle.bufr_bits.specs.Prelude.{decimal_text_of, decimal_value_of}
 use Rattle.bufr_bits.specs.declared.decimal.NumberFault.{NumberFault}
 use Rattle.bufr_bits.specs.declared.decimal.NumberFault.TheVariants.{Syntax, Inexact, Large}
-use Rattle.bufr_tables.specs.TableB.{is_character}
-use Rattle.bufr_walk.specs.FieldSpec.{FieldSpec, is_reference}
-use Rattle.bufr_walk.specs.Content.{Content, number, text, missing, reference, bits_for, answer_of}
-use Rattle.bufr_fill.specs.Draft.{DraftValue, number_token, text_form, missing_form, reference_token, Draft}
-use Rattle.bufr_fill.specs.Faults.{DraftFaultKind, wrong_descriptor, wrong_number, out_of_range, text_long, missing_forbidden, item_too_many, walk_refused, no_count, FaultAt, at_line, draft_fault}
-use Rattle.bufr_fill.specs.Packing.{raw_limit}
-use Rattle.bufr_fill.specs.Filling.{WrittenItem, written_item, Filler}
+use Rattle.bufr_tables.specs.Prelude.{is_character}
+use Rattle.bufr_walk.specs.Prelude.{FieldSpec, is_reference, Content, number, text, missing, reference, ones}
+use Rattle.bufr_fill.specs.Draft.{DraftValue, number_token, text_form, missing_form, reference_token, Draft, DraftFaultKind, wrong_descriptor, wrong_number, out_of_range, text_long, missing_forbidden, FaultAt, draft_fault}
 use Rattle.bufr_fill.specs.declared.fault.DraftFault.{DraftFault}
 use Rattle.bufr_fill.specs.declared.field_value.FieldContent.{FieldContent}
 use Rattle.bufr_walk.specs.declared.spec.Role.{Role}
@@ -26,13 +22,17 @@ is_marked (text_form octets) = false
 is_marked missing_form = false
 is_marked (reference_token digits) = true
 
--- a text that is no decimal, or not whole at its scale, is no number; a value past the greatest is
--- out of range
+-- the fault of a text that is no decimal, or not whole at its scale, or past the greatest value
 -- rule: fault-52
 abbrev pub number_fault : NumberFault → DraftFaultKind
 number_fault Syntax = wrong_number
 number_fault Inexact = wrong_number
 number_fault Large = out_of_range
+
+-- the limit of the numbers that `width` bits write, without all ones where that is missing
+-- rule: packs-class-31
+abbrev pub raw_limit : (may_be_missing : Bool) (width : ℕ) → ℕ
+raw_limit m width = if m then ones width else 2 ^ width
 
 -- a number that fits its bits and does not read as missing
 -- rule: fault-53
@@ -87,8 +87,7 @@ is_of spec d =
 abbrev pub wrong_for : FieldSpec → DraftFaultKind
 wrong_for spec = wrong_descriptor spec.fxy (is_reference spec.role)
 
--- an item as the content of its field; the first fault is another field's item, then another kind,
--- then a value that does not fit
+-- an item as the content of its field; first it must be of the field, then of its kind, then fit
 -- rule: fault-order-of-an-item
 abbrev pub content_of : FieldSpec → Draft → Result Content DraftFaultKind
 content_of spec d = if is_of spec d then content_by_form d.form spec else Err (wrong_for spec)
@@ -100,25 +99,6 @@ draft_value_of spec (number raw) = number_token
 draft_value_of spec (text octets) = text_form octets
 draft_value_of spec missing = missing_form
 draft_value_of spec (reference value) = reference_token (decimal_text_of value (pos 0))
-
--- a content and its bits, in data that are not compressed, or the fault on the line
-abbrev pub plainly : ℕ → FieldSpec → Result Content DraftFaultKind
-    → Result (WrittenItem Content) FaultAt
-plainly line spec (Ok c) = Ok (written_item c (bits_for spec.width c))
-plainly line spec (Err why) = Err (at_line line why)
-
--- how the items of one subset are written, which ends on a line
--- rule: fault-51, fault-62
-abbrev pub plain_filler : (end_line : ℕ) → Filler Draft Content FaultAt
-plain_filler end_line = record {
-  fills = λ spec d. plainly d.line spec (content_of spec d);
-  gives = answer_of;
-  none_left = λ spec. at_line end_line (wrong_for spec);
-  left_over = λ d. at_line d.line item_too_many;
-  refused_at = λ d why. at_line d.line (walk_refused why);
-  refused_at_end = λ why. at_line end_line (walk_refused why);
-  lost = at_line end_line no_count;
-}
 
 -- ---- The content of a field from an item, as the code has it.
 
@@ -161,10 +141,7 @@ abbrev pub IsTextOf : (count : ℕ) → List ℕ → FieldContent → Type 0
 IsTextOf count octets (drawn.Text t) = (t.now ≡ octets) × HasRoom count octets
 IsTextOf count octets _ = ⊥
 
--- A reference that is minus zero. (WMO-No. 306, Volume I.2, FM 94: Table C, 2 03 Y; that none is
--- written is a choice of this project)
-
--- minus zero: the sign bit alone
+-- minus zero: the sign bit alone; none is written (a choice of this project)
 abbrev pub IsMinusZero : Role → List Bool → Type 0
 IsMinusZero role.Reference bits = bits ≡ true ∷ replicate (length bits - 1) false
 IsMinusZero _ bits = ⊥

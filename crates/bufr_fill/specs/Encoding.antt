@@ -1,17 +1,217 @@
--- The data bits of a document: subset after subset, or item after item of all subsets together.
--- (WMO-No. 306, Volume I.2, FM 94: section 4; the order of the faults is a choice of this project)
+-- The data bits of a document: how items are written, one after another, and how the contents of
+-- one item are packed, with the least base and the least k. (WMO-No. 306, Volume I.2, FM 94:
+-- section 4; the order of the faults and the least k are choices of this project)
 -- Cited by public contracts.
-use Rattle.std.specs.Prelude.{ℕ, zero, suc, ◌+◌, ◌*◌, nat_lt, max, Bool, if◌then◌else◌, List, [], ◌∷◌, ◌++◌, length, slice_get, Option, Some, None, Result, Ok, Err}
-use Rattle.bufr_walk.specs.FieldSpec.{FieldSpec}
-use Rattle.bufr_walk.specs.Course.{Course}
-use Rattle.bufr_walk.specs.Content.{Content, FieldFault, unequal_factor}
-use Rattle.bufr_walk.specs.Reading.{max_values}
-use Rattle.bufr_walk.specs.PackedField.{answer_first}
-use Rattle.bufr_fill.specs.Packing.{packing, same}
-use Rattle.bufr_fill.specs.Filling.{WrittenItem, written_item, Filler, fill}
-use Rattle.bufr_fill.specs.Draft.{Draft, Subset}
-use Rattle.bufr_fill.specs.Faults.{DraftFaultKind, FaultAt, at_line, unequal_factors, uneven_increment, item_too_many, walk_refused, too_many_values, no_count}
-use Rattle.bufr_fill.specs.DraftContent.{content_of, wrong_for, plain_filler}
+use Rattle.std.specs.Prelude.{Bool, List, [], ◌∷◌, ◌++◌, Result, Ok, Err, ℕ, zero, suc, ◌+◌, ◌-◌, ◌*◌, ◌==◌, ◌&&◌, nat_lt, nat_le, min, not, true, false, if◌then◌else◌, take, replicate, length, Option, Some, None, unwrap_or, nat_abs, ◌≡◌, ◌≤◌, drop, max, slice_get}
+use Rattle.bufr_walk.specs.declared.spec.TurnRefusal.{TurnRefusal}
+use Rattle.bufr_walk.specs.declared.spec.Taken.{Taken}
+use Rattle.bufr_walk.specs.Prelude.{FieldSpec, Content, number, text, missing, reference, bits_for, sign_bit, FieldFault, increment, unequal_factor, found, answer_of, packed_field, answer_first, Course, Next, take_next, at_end, astray, refused, max_values}
+use Rattle.std.specs.List.{list_all, flat_map}
+use Rattle.bufr_bits.specs.Prelude.{bits_of, bits_in, number_of}
+use Rattle.bufr_tables.specs.declared.table_b.Kind.{Kind}
+use Rattle.bufr_walk.specs.declared.spec.Role.{Role}
+use Rattle.bufr_tables.specs.declared.table_b.Kind.TheVariants as kind
+use Rattle.bufr_walk.specs.declared.spec.Role.TheVariants as role
+use Rattle.bufr_fill.specs.Draft.{Draft, Subset, DraftFaultKind, FaultAt, at_line, unequal_factors, uneven_increment, item_too_many, walk_refused, too_many_values, no_count}
+use Rattle.bufr_fill.specs.DraftContent.{content_of, wrong_for, raw_limit}
+
+-- an item that was written: its content and its bits
+pub record WrittenItem (C : Type 0) : Type 0 where
+  pub content : C
+  pub bits : List Bool
+
+-- a written item from its parts
+abbrev pub written_item : {C : Type 0} → C → List Bool → WrittenItem C
+written_item content bits = record { content = content; bits = bits }
+
+-- how drafts D are written as contents C and their bits, and the faults E
+pub record Filler (D C E : Type 0) : Type 0 where
+  pub fills : FieldSpec → D → Result (WrittenItem C) E
+  pub gives : FieldSpec → C → Taken
+  pub none_left : FieldSpec → E
+  pub left_over : D → E
+  pub refused_at : D → TurnRefusal → E
+  pub refused_at_end : TurnRefusal → E
+  pub lost : E
+
+module _ {D C E : Type 0} (filler : Filler D C E) where
+  -- bits, followed by the bits of the rest
+  abbrev pub with_bits_before : List Bool → Result (List Bool) E → Result (List Bool) E
+  with_bits_before bits (Err why) = Err why
+  with_bits_before bits (Ok suffix) = Ok (bits ++ suffix)
+
+  -- one item that was written, and the rest
+  abbrev pub filled : FieldSpec → Result (WrittenItem C) E → (Taken → Result (List Bool) E)
+      → Result (List Bool) E
+  filled spec (Err why) rest = Err why
+  filled spec (Ok w) rest = with_bits_before w.bits (rest (filler.gives spec w.content))
+
+  -- what comes next, where there is a draft
+  abbrev pub fill_one : Next → D → (Taken → Result (List Bool) E) → Result (List Bool) E
+  fill_one (take_next spec) d rest = filled spec (filler.fills spec d) rest
+  fill_one at_end d rest = Err (filler.left_over d)
+  fill_one (refused why) d rest = Err (filler.refused_at d why)
+  fill_one astray d rest = Err filler.lost
+
+  -- what comes next, where there is no draft
+  abbrev pub fill_none : Next → Result (List Bool) E
+  fill_none (take_next spec) = Err (filler.none_left spec)
+  fill_none at_end = Ok []
+  fill_none (refused why) = Err (filler.refused_at_end why)
+  fill_none astray = Err filler.lost
+
+  -- the bits of drafts, each at the field that comes next, to the end; or the first fault
+  -- rule: fault-62-first
+  abbrev pub fill : Course → List D → Result (List Bool) E
+  fill course [] = fill_none (course []).next
+  fill course (d ∷ ds) =
+      fill_one (course []).next d (λ t. fill (λ answers. course (t ∷ answers)) ds)
+
+-- whether two texts are the same
+abbrev pub same_octets : List ℕ → List ℕ → Bool
+same_octets [] [] = true
+same_octets [] (y ∷ ys) = false
+same_octets (x ∷ xs) [] = false
+same_octets (x ∷ xs) (y ∷ ys) = (x == y) && same_octets xs ys
+
+-- whether two signs are the same
+abbrev pub same_sign : Bool → Bool → Bool
+same_sign true b = b
+same_sign false b = not b
+
+-- whether two contents are the same
+abbrev pub same : Content → Content → Bool
+same (number a) (number b) = a == b
+same (text a) (text b) = same_octets a b
+same missing missing = true
+same (reference a) (reference b) = same_sign (sign_bit a) (sign_bit b) && (nat_abs a == nat_abs b)
+same _ _ = false
+
+-- whether each is the same as the first
+abbrev pub are_same : Content → List Content → Bool
+are_same c cs = list_all (same c) cs
+
+-- the lesser of a number and of another, if there is one
+abbrev pub smaller : ℕ → Option ℕ → ℕ
+smaller n None = n
+smaller n (Some m) = min n m
+
+-- the least number among contents, if there is one
+-- rule: packs-numbers
+abbrev pub lowest : List Content → Option ℕ
+lowest [] = None
+lowest (number n ∷ cs) = Some (smaller n (lowest cs))
+lowest (_ ∷ cs) = lowest cs
+
+-- whether a content's increment over a base has k bits, and is not all ones where that is missing
+abbrev pub has_bits : Bool → (base k : ℕ) → Content → Bool
+has_bits m base k (number n) = nat_lt (n - base) (raw_limit m k)
+has_bits m base k _ = true
+
+-- whether the first k octets of a text, then spaces, are the text again, and are not all 255
+-- rule: packs-texts-not-missing
+abbrev pub gives_again : (k : ℕ) → List ℕ → Bool
+gives_again k octets =
+    same_octets (take k octets ++ replicate (length octets - k) 32) octets
+    && not (list_all (λ octet. octet == 255) (take k octets))
+
+-- the same of a content that is a text
+abbrev pub has_octets : (k : ℕ) → Content → Bool
+has_octets k (text octets) = gives_again k octets
+has_octets k _ = true
+
+-- the first number from one on, of so many, that passes a test
+abbrev pub first_from : (ℕ → Bool) → ℕ → ℕ → ℕ
+first_from p zero k = k
+first_from p (suc fuel) k = if p k then k else first_from p fuel (k + 1)
+
+-- the least k, from 1 to 63, that all contents pass, or 64
+-- rule: packs-numbers
+abbrev pub least_k : (ℕ → Content → Bool) → List Content → ℕ
+least_k passes cs = first_from (λ k. list_all (passes k) cs) 63 1
+
+-- the bits of one increment
+abbrev pub increment_bits : (base k : ℕ) → Content → List Bool
+increment_bits base k (number n) = bits_in (n - base) k
+increment_bits base k _ = replicate k true
+
+-- the bits of k octets of a text
+abbrev pub octet_bits : (k : ℕ) → Content → List Bool
+octet_bits k (text octets) = bits_of (take k octets)
+octet_bits k _ = replicate (8 * k) true
+
+-- a base, k, and what follows
+abbrev pub packed_bits : (base : List Bool) (k : ℕ) (more : List Bool) → List Bool
+packed_bits base k more = base ++ (bits_in k 6 ++ more)
+
+-- numbers that differ, over the least of them
+abbrev pub packed_numbers : (width base k : ℕ) → List Content → List Bool
+packed_numbers width base k cs =
+    packed_bits (bits_in base width) k (flat_map (increment_bits base k) cs)
+
+-- numbers that differ, over a base, with the least k
+abbrev pub numbers_over : (m : Bool) (width base : ℕ) → List Content → List Bool
+numbers_over m width base cs = packed_numbers width base (least_k (has_bits m base) cs) cs
+
+-- texts that differ: the base is zero bits
+-- rule: packs-texts, fault-59
+abbrev pub packed_texts : (width k : ℕ) → List Content → Result (List Bool) FieldFault
+packed_texts width k cs =
+    if nat_le k 63
+    then Ok (packed_bits (replicate width false) k (flat_map (octet_bits k) cs)) else Err increment
+
+-- contents that differ, by kind
+abbrev pub packed_by : Kind → FieldSpec → List Content → Result (List Bool) FieldFault
+packed_by kind.Character spec cs = packed_texts spec.width (least_k has_octets cs) cs
+packed_by _ spec cs = Ok (numbers_over spec.may_be_missing spec.width (unwrap_or (lowest cs) 0) cs)
+
+-- contents that differ, by role: counts and references must not
+-- rule: packs-factors-and-references, fault-59
+abbrev pub packed_unlike : Role → FieldSpec → List Content → Result (List Bool) FieldFault
+packed_unlike role.Factor spec cs = Err unequal_factor
+packed_unlike role.Reference spec cs = Err increment
+packed_unlike _ spec cs = packed_by spec.kind spec cs
+
+-- the contents of one item for all subsets, where they can be packed
+-- rule: packs-equal, packs-all-missing
+abbrev pub packing : FieldSpec → List Content → Result (List Bool) FieldFault
+packing spec [] = Ok []
+packing spec (c ∷ cs) =
+    if are_same c cs then Ok (packed_bits (bits_for spec.width c) 0 [])
+    else packed_unlike spec.role spec (c ∷ cs)
+
+-- the k of an item: the number of the six bits after its base
+abbrev pub k_of : FieldSpec → List Bool → ℕ
+k_of spec bits = number_of (take 6 (drop spec.width bits))
+
+-- contents are packed in bits that read as them; no other such bits have a lesser k or are fewer
+pub record HasLeastK (n : ℕ) (spec : FieldSpec) (contents : List Content) : Type 0 where
+  pub out : List Bool
+  pub is : packing spec contents ≡ Ok out
+  pub again : (more : List Bool) → packed_field n spec (out ++ more) ≡ Ok (found contents more)
+  pub least : (bits suffix : List Bool) → packed_field n spec bits ≡ Ok (found contents suffix)
+      → k_of spec out ≤ k_of spec bits
+  pub short : (bits suffix : List Bool) → packed_field n spec bits ≡ Ok (found contents suffix)
+      → length out + length suffix ≤ length bits
+
+-- a content and its bits, in data that are not compressed, or the fault on the line
+abbrev pub plainly : ℕ → FieldSpec → Result Content DraftFaultKind
+    → Result (WrittenItem Content) FaultAt
+plainly line spec (Ok c) = Ok (written_item c (bits_for spec.width c))
+plainly line spec (Err why) = Err (at_line line why)
+
+-- how the items of one subset are written, which ends on a line
+-- rule: fault-51, fault-62
+abbrev pub plain_filler : (end_line : ℕ) → Filler Draft Content FaultAt
+plain_filler end_line = record {
+  fills = λ spec d. plainly d.line spec (content_of spec d);
+  gives = answer_of;
+  none_left = λ spec. at_line end_line (wrong_for spec);
+  left_over = λ d. at_line d.line item_too_many;
+  refused_at = λ d why. at_line d.line (walk_refused why);
+  refused_at_end = λ why. at_line end_line (walk_refused why);
+  lost = at_line end_line no_count;
+}
 
 -- the result of the second of two steps, or the first fault
 infixl 10 ◌>>=◌
@@ -138,14 +338,12 @@ pack_across spec a =
     then Err (at_line (first_line a.cells) (too_many_values spec.fxy))
     else (contents_here spec a.cells >>= λ cs. packed_to cs a.cells (packing spec cs))
 
--- no subset has an item left: the fault is on the line that ends the first one, and too many values
--- come first
+-- the fault where no subset has an item left; too many values come first
 abbrev pub none_across : (end_line : ℕ) (many : Bool) → FieldSpec → FaultAt
 none_across end_line many spec =
     if many then at_line end_line (too_many_values spec.fxy) else at_line end_line (wrong_for spec)
 
--- how rows are written, where the first subset ends on a line; `many` is whether one more row has
--- too many values
+-- how rows are written; `many` is whether one more row has too many values
 -- rule: fault-62
 abbrev pub packed_filler : (end_line : ℕ) (many : Bool) → Filler ItemRow (List Content) FaultAt
 packed_filler end_line many = record {

@@ -1,15 +1,18 @@
--- The stored entries: a block of octets for tokens and texts, and of each entry its indices in it
--- or its digits.
--- Cited by private steps only.
+-- The items of the code, as the definitions name them; and the stored entries: a block of octets
+-- for tokens and texts, and of each entry its indices in it or its digits.
+-- Cited by public contracts.
 use Rattle.std.specs.Prelude.{ℕ, ◌≤◌, Bool, true, false, List, map, slice_range}
 use Rattle.std.specs.List.{AllByRecursion}
-use Rattle.bufr_bits.specs.Decimal.{short_text}
-use Rattle.bufr_fill.specs.Draft.{DraftValue, draft, number_token, text_form, missing_form, reference_token, DraftEntry, Holds, Ends}
-use Rattle.bufr_walk.specs.FieldSpec.{FieldSpec}
+use Rattle.bufr_bits.specs.Prelude.{short_text}
+use Rattle.bufr_fill.specs.Draft.{DraftValue, draft, number_token, text_form, missing_form, reference_token, DraftEntry, Holds, Ends, Draft}
+use Rattle.bufr_walk.specs.Prelude.{FieldSpec}
 use Rattle.bufr_fill.specs.DraftContent.{is_of}
 use Rattle.bufr_fill.specs.declared.draft.EntryKind.{EntryKind}
 use Rattle.bufr_fill.specs.declared.draft.EntryKind.TheVariants as kind
 use Rattle.bufr_fill.specs.declared.draft.StoredEntry.{StoredEntry}
+use Rattle.bufr_fill.specs.declared.draft.DraftValue as given
+use Rattle.bufr_fill.specs.declared.draft.DraftValue.TheVariants as form
+use Rattle.bufr_fill.specs.declared.draft.DraftItem.{DraftItem}
 
 -- the text of a short decimal
 abbrev pub decimal_of : (digits places : ℕ) → (negative : Bool) → List ℕ
@@ -74,3 +77,14 @@ IsEntryInside size k = IsPlaced k.kind size k.start k.end
 -- the same of all entries
 abbrev pub AreInside : ℕ → List StoredEntry → Type 0
 AreInside size kept = AllByRecursion (IsEntryInside size) kept
+
+-- the value of an item
+abbrev pub form_in : given.DraftValue → DraftValue
+form_in (form.Number digits) = number_token digits.now
+form_in (form.Text octets) = text_form octets.now
+form_in form.Missing = missing_form
+form_in (form.Reference digits) = reference_token digits.now
+
+-- an item
+abbrev pub draft_in : DraftItem → Draft
+draft_in item = draft item.line item.fxy (form_in item.form)

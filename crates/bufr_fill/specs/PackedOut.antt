@@ -4,21 +4,14 @@
 use Rattle.std.specs.Prelude.{ℕ, ◌≡◌, ◌≤◌, ◌<◌, ◌+◌, ◌-◌, ◌*◌, ◌^◌, Bool, List, [], ◌∷◌, ◌++◌, length, Option, Some, None, Result, Ok, Err, zero, suc, ◌==◌, ◌&&◌, nat_lt, max, min, if◌then◌else◌, take, drop, slice_get}
 use Rattle.bufr_walk.specs.declared.spec.Taken.{Taken}
 use Rattle.bufr_fill.specs.declared.fault.DraftFault.{DraftFault}
-use Rattle.bufr_walk.specs.FieldSpec.{FieldSpec}
-use Rattle.bufr_walk.specs.Content.{Content, FieldFault}
-use Rattle.bufr_walk.specs.Course.{Next, take_next, at_end, astray, refused}
-use Rattle.bufr_walk.specs.PackedField.{answer_first}
-use Rattle.bufr_walk.specs.Reading.{max_values}
-use Rattle.bufr_fill.specs.Draft.{Draft, DraftEntry, Holds, Ends, Subset, subsets_of}
-use Rattle.bufr_fill.specs.Faults.{FaultAt, at_line, item_too_many, walk_refused, draft_fault}
-use Rattle.bufr_fill.specs.Filling.{written_item}
-use Rattle.bufr_fill.specs.Encoding.{RowCell, ItemRow, rows, longest, item_row, cells_at, first_line, pack_across, content_here, contents_here, first_unlike}
+use Rattle.bufr_walk.specs.Prelude.{FieldSpec, Content, FieldFault, answer_first, Next, take_next, at_end, astray, refused, max_values}
+use Rattle.bufr_fill.specs.Draft.{Draft, DraftEntry, Holds, Ends, Subset, subsets_of, FaultAt, at_line, item_too_many, walk_refused, draft_fault}
+use Rattle.bufr_fill.specs.Encoding.{written_item, RowCell, ItemRow, rows, longest, item_row, cells_at, first_line, pack_across, content_here, contents_here, first_unlike, first_from}
 use Rattle.bufr_fill.specs.PlainOut.{IfDraftFault}
-use Rattle.std.specs.List.{list_all}
+use Rattle.std.specs.List.{list_all, AllByRecursion}
 use Rattle.bufr_fill.specs.declared.field_value.FieldContent.{FieldContent}
-use Rattle.bufr_fill.specs.Packing.{raw_limit, first_from}
+use Rattle.bufr_fill.specs.DraftContent.{raw_limit, content_drawn, IsDrawn}
 use Rattle.bufr_fill.specs.declared.packed_out.NumberRange.{NumberRange}
-use Rattle.bufr_fill.specs.DraftContent.{content_drawn, IsDrawn}
 use Rattle.bufr_fill.specs.declared.field_value.FieldContent.TheVariants as drawn
 
 -- the writer: the subsets, how many items of each were taken, and the bits that were written
@@ -71,8 +64,7 @@ pub record IsPacked (s : PackedOutModel) (spec : FieldSpec) (t : Taken)
 abbrev pub IsFaultAcross : FieldSpec → PackedOutModel → FaultAt → Type 0
 IsFaultAcross spec s f = pack_across spec (item_row s.place s.subsets) ≡ Err f
 
--- one call: the next item of all subsets was packed, or it is at fault, or memory ran out; a fault
--- changes nothing
+-- one call: the next item was packed, or is at fault, or memory ran out; a fault changes nothing
 abbrev pub PackedFills : PackedOutModel → FieldSpec → Result Taken DraftFault → PackedOutModel
     → Type 0
 PackedFills s spec (Ok t) s' = IsPacked s spec t s'
@@ -102,8 +94,7 @@ first_line_at place subsets = first_line (cells_at place subsets)
 abbrev pub rows_left : PackedOutModel → List ItemRow
 rows_left s = rows (longest s.subsets - s.place) s.place s.subsets
 
--- the fault of the writer, by what comes next: that of the item, that of the walk on the next
--- item's line, or an item that is left over
+-- the fault by what comes next: of the item, of the walk on its line, or of an item left over
 abbrev pub IsFaultHere : Next → PackedOutModel → FaultAt → Type 0
 IsFaultHere (take_next spec) s f = IsFaultAcross spec s f
 IsFaultHere (refused why) s f = f ≡ at_line (first_line_at s.place s.subsets) (walk_refused why)
@@ -141,8 +132,7 @@ abbrev pub trimmed : List ℕ → ℕ
 trimmed [] = 0
 trimmed (o ∷ os) = if (trimmed os == 0) && (o == 32) then 0 else suc (trimmed os)
 
--- how many octets determine a text: those before the spaces at its end, and one more where these
--- read as missing
+-- how many octets determine a text: those before its last spaces, one more where all are 255
 abbrev pub need : List ℕ → ℕ
 need os =
     if list_all (λ octet. octet == 255) (take (trimmed os) os) then suc (trimmed os) else trimmed os
@@ -178,8 +168,7 @@ FitsIncrement base k _ = Unit {0}
 
 -- the same of all contents
 abbrev pub AreShort : (base k : ℕ) → List FieldContent → Type 0
-AreShort base k [] = Unit {0}
-AreShort base k (d ∷ ds) = FitsIncrement base k d × AreShort base k ds
+AreShort base k ds = AllByRecursion (λ (d : FieldContent). FitsIncrement base k d) ds
 
 -- the item of all subsets in a row was written, in at most `most` bits
 pub record IsPutWithin (old new : List Bool) (spec : FieldSpec) (a : ItemRow) (most : ℕ)
@@ -235,8 +224,7 @@ pub record LineAt (place subset : ℕ) (entries : List DraftEntry) (line : ℕ) 
 
 -- each content is one that the field can have
 abbrev pub AllDrawn : FieldSpec → List FieldContent → Type 0
-AllDrawn spec [] = Unit {0}
-AllDrawn spec (d ∷ ds) = IsDrawn spec d × AllDrawn spec ds
+AllDrawn spec ds = AllByRecursion (λ (d : FieldContent). IsDrawn spec d) ds
 
 -- the contents, whose texts have `count` octets
 abbrev pub contents_drawn : (count : ℕ) → List FieldContent → List Content

@@ -4,11 +4,8 @@
 use Rattle.std.specs.Prelude.{ℕ, ◌≡◌, ◌≤◌, ◌<◌, ◌*◌, ◌^◌, Bool, List, [], ◌∷◌, ◌++◌, length, Option, Some, None, Result, Ok, Err}
 use Rattle.bufr_walk.specs.declared.spec.Taken.{Taken}
 use Rattle.bufr_fill.specs.declared.fault.DraftFault.{DraftFault}
-use Rattle.bufr_walk.specs.FieldSpec.{FieldSpec}
-use Rattle.bufr_walk.specs.Content.{Content, answer_of, bits_for}
-use Rattle.bufr_walk.specs.Course.{Next, take_next, at_end, astray, refused}
-use Rattle.bufr_fill.specs.Draft.{Draft, DraftEntry, Holds, Ends}
-use Rattle.bufr_fill.specs.Faults.{DraftFaultKind, FaultAt, at_line, item_too_many, walk_refused, draft_fault}
+use Rattle.bufr_walk.specs.Prelude.{FieldSpec, Content, answer_of, bits_for, Next, take_next, at_end, astray, refused}
+use Rattle.bufr_fill.specs.Draft.{Draft, DraftEntry, Holds, Ends, DraftFaultKind, FaultAt, at_line, item_too_many, walk_refused, draft_fault}
 use Rattle.bufr_fill.specs.DraftContent.{content_of, wrong_for}
 
 -- the writer: the entries that are left, and the bits that were written
@@ -37,8 +34,7 @@ pub record IsFilled (s : PlainOutModel) (spec : FieldSpec) (t : Taken)
   pub bits : s'.bits ≡ s.bits ++ bits_for spec.width content
   pub forth : length s.bits < length s'.bits
 
--- the fault of the next item, or of the line that ends the subset; after the last subset the line
--- is 0
+-- the fault of the next item, or of the line that ends the subset, which is 0 after the last
 abbrev pub IsFaultOf : FieldSpec → List DraftEntry → FaultAt → Type 0
 IsFaultOf spec [] f = f ≡ at_line 0 (wrong_for spec)
 IsFaultOf spec (Ends line ∷ more) f = f ≡ at_line line (wrong_for spec)
@@ -50,8 +46,7 @@ abbrev pub IfDraftFault : Option FaultAt → (FaultAt → Type 0) → Type 0
 IfDraftFault None p = Unit {0}
 IfDraftFault (Some f) p = p f
 
--- one call: the next item was written, or it is at fault, or memory ran out; a fault changes
--- nothing
+-- one call: the next item was written, or is at fault, or memory ran out; a fault changes nothing
 abbrev pub PlainFills : PlainOutModel → FieldSpec → Result Taken DraftFault → PlainOutModel → Type 0
 PlainFills s spec (Ok t) s' = IsFilled s spec t s'
 PlainFills s spec (Err e) s' = IfDraftFault (draft_fault e) (IsFaultOf spec s.left) × (s' ≡ s)
@@ -74,8 +69,7 @@ EndsSubset s (Ok _) s' = (after_end s.left ≡ Ok s'.left) × (s'.bits ≡ s.bit
 EndsSubset s (Err e) s' =
     ((f : FaultAt) × (draft_fault e ≡ Some f) × (after_end s.left ≡ Err f)) × (s' ≡ s)
 
--- the fault at the next entry, by what comes next: that of the item, that of the walk on the
--- entry's line, or an item that is left over
+-- the fault by what comes next: of the item, of the walk on its line, or of an item left over
 abbrev pub IsFaultNext : Next → List DraftEntry → FaultAt → Type 0
 IsFaultNext (take_next spec) left f = IsFaultOf spec left f
 IsFaultNext (refused why) left f = f ≡ at_line (line_at left) (walk_refused why)

@@ -2,32 +2,20 @@
 -- (WMO-No. 306, Volume I.2, FM 94: section 4)
 -- Cited by public contracts.
 use Rattle.std.specs.Prelude.{ℕ, ◌≡◌, ◌<◌, ◌-◌, ◌/◌, ◌^◌, ◌==◌, Bool, true, false, List, [], ◌∷◌, length, nat_abs, suc, ◌+◌, ◌≤◌, ◌++◌, Ok, ◌⊎◌, zero, Err}
-use Rattle.std.specs.List.{list_all, AllByRecursion}
+use Rattle.std.specs.List.{list_all, AllByRecursion, AllZip}
 use Rattle.bufr_tables.specs.declared.table_b.Kind.{Kind}
 use Rattle.bufr_walk.specs.declared.spec.Role.{Role}
-use Rattle.bufr_walk.specs.FieldSpec.{FieldSpec}
-use Rattle.bufr_walk.specs.Content.{Content, number, text, missing, reference}
-use Rattle.bufr_fill.specs.Packing.{raw_limit}
-use Rattle.bufr_walk.specs.Course.{Course, next_item}
-use Rattle.bufr_walk.specs.Calls.{content_at}
-use Rattle.bufr_walk.specs.Reading.{Item, IsPackedReading, ReadsSubsets, IsPlainReading}
-use Rattle.bufr_fill.specs.Draft.{Draft, Subset, DraftValue, number_token, text_form, missing_form, reference_token}
-use Rattle.bufr_fill.specs.DraftContent.{draft_value_of, content_of}
-use Rattle.bufr_fill.specs.Encoding.{plain_data, packed_data}
-use Rattle.bufr_fill.specs.Faults.{DraftFaultKind, unequal_factors, uneven_increment, FaultAt}
-use Rattle.bufr_tables.specs.Expansion.{IsLegal}
-use Rattle.bufr_tables.specs.Records.{Record}
-use Rattle.bufr_tables.specs.TableB.{Row, AreRows}
-use Rattle.bufr_tables.specs.Tree.{Tree}
-use Rattle.bufr_walk.specs.Walk.{TakenField, course_after}
-use Rattle.bufr_fill.specs.Filling.{Filler, fill, with_bits_before}
+use Rattle.bufr_walk.specs.Prelude.{FieldSpec, Content, number, text, missing, reference, Course, next_item, TakenField, course_after, content_at, Item, IsPackedReading, ReadsSubsets, IsPlainReading}
+use Rattle.bufr_fill.specs.DraftContent.{raw_limit, draft_value_of, content_of}
+use Rattle.bufr_fill.specs.Draft.{Draft, Subset, DraftValue, number_token, text_form, missing_form, reference_token, DraftFaultKind, unequal_factors, uneven_increment, FaultAt}
+use Rattle.bufr_fill.specs.Encoding.{plain_data, packed_data, Filler, fill, with_bits_before}
+use Rattle.bufr_tables.specs.Prelude.{IsLegal, Record, Row, AreRows, Tree}
 use Rattle.bufr_tables.specs.declared.table_b.Kind.TheVariants as kind
 use Rattle.bufr_walk.specs.declared.spec.Role.TheVariants as role
 
 -- each number is an octet
 abbrev pub AreOctets : List ℕ → Type 0
-AreOctets [] = Unit {0}
-AreOctets (x ∷ xs) = (x < 256) × AreOctets xs
+AreOctets xs = AllByRecursion (λ (x : ℕ). x < 256) xs
 
 -- a number that fits its bits and does not read as missing
 abbrev pub FitsNumber : Bool → ℕ → Content → Type 0
@@ -64,11 +52,7 @@ Fits spec c = FitsRole spec.role spec c
 
 -- contents that all fit the field
 abbrev pub AllFit : FieldSpec → List Content → Type 0
-AllFit spec [] = Unit {0}
-AllFit spec (c ∷ cs) = Fits spec c × AllFit spec cs
-
--- The round trip of data: a reading, its dump, and the bits that are written from it. (a choice of
--- this project)
+AllFit spec cs = AllByRecursion (λ (c : Content). Fits spec c) cs
 
 -- a draft is the one that a dump writes for an item, on any line
 abbrev pub IsDumped : Item Content → Draft → Type 0
@@ -76,20 +60,13 @@ IsDumped i d = (d.fxy ≡ i.spec.fxy) × (d.form ≡ draft_value_of i.spec i.con
 
 -- the drafts belong to the items, one by one
 abbrev pub AreDrafts : {C D : Type 0} → (Item C → D → Type 0) → List (Item C) → List D → Type 0
-AreDrafts of_item [] [] = Unit {0}
-AreDrafts of_item [] (d ∷ ds) = ⊥
-AreDrafts of_item (i ∷ items) [] = ⊥
-AreDrafts of_item (i ∷ items) (d ∷ ds) = of_item i d × AreDrafts of_item items ds
+AreDrafts of_item items ds = AllZip of_item items ds
 
 -- the drafts are those of the dump, subset by subset
 abbrev pub AreDumped : List (List (Item Content)) → List Subset → Type 0
-AreDumped [] [] = Unit {0}
-AreDumped [] (s ∷ ss) = ⊥
-AreDumped (items ∷ subsets) [] = ⊥
-AreDumped (items ∷ subsets) (s ∷ ss) = AreDrafts IsDumped items s.items × AreDumped subsets ss
+AreDumped = AllZip (λ (items : List (Item Content)) (s : Subset). AreDrafts IsDumped items s.items)
 
--- items that were read from bits are written again from the drafts of their dump; the new bits have
--- the same reading, and are no more
+-- items are written again from the drafts of their dump; the bits read the same, and are no more
 pub record IsWrittenAgain (course : Course) (subsets : List (List (Item Content)))
     (drafts : List Subset) (bits suffix : List Bool) : Type 0 where
   pub out : List Bool
@@ -117,25 +94,19 @@ AreDumpedFrom j items [] = Unit {0}
 AreDumpedFrom j items (s ∷ ss) =
     AreDrafts IsDumped (items_of_subset j items) s.items × AreDumpedFrom (suc j) items ss
 
--- A change of form: data that were read in one form, and written in the other from their dump. (a
--- choice of this project)
-
--- the items of `left` subsets of compressed data, each subset by itself; `subset` is the first of
--- them, from 0
+-- the items of `left` subsets of compressed data, each by itself, from one on, counted from 0
 abbrev pub subsets_from : (left subset : ℕ) → List (Item (List Content))
     → List (List (Item Content))
 subsets_from zero j items = []
 subsets_from (suc left) j items = items_of_subset j items ∷ subsets_from left (suc j) items
 
--- a fault of contents that compressed data cannot have: factors that differ, or contents that no
--- increments can write
+-- the faults of contents that compressed data cannot have
 abbrev pub IsUnlike : DraftFaultKind → Type 0
 IsUnlike unequal_factors = Unit {0}
 IsUnlike uneven_increment = Unit {0}
 IsUnlike _ = ⊥
 
--- the items of n compressed subsets are written subset after subset, and each subset's items are
--- read from the bits
+-- the items of n compressed subsets are written subset after subset, and are read from the bits
 pub record IsWrittenApart (n : ℕ) (course : Course) (items : List (Item (List Content)))
     (drafts : List Subset) : Type 0 where
   pub out : List Bool
@@ -143,8 +114,7 @@ pub record IsWrittenApart (n : ℕ) (course : Course) (items : List (Item (List 
   pub again : (more : List Bool)
       → IsPlainReading n course (subsets_from n 0 items) (out ++ more) more
 
--- the items of subsets that are not compressed are written together, and the items of each subset
--- are read from the bits
+-- the items of subsets that are not compressed are written together, and read from the bits
 pub record IsWrittenTogether (course : Course) (subsets : List (List (Item Content)))
     (drafts : List Subset) : Type 0 where
   pub items : List (Item (List Content))
@@ -187,10 +157,7 @@ IsSaid i d = content_of i.spec d ≡ Ok i.content
 
 -- each subset's items have the contents of its drafts, one by one
 abbrev pub AreSaid : List (List (Item Content)) → List Subset → Type 0
-AreSaid [] [] = Unit {0}
-AreSaid [] (s ∷ ss) = ⊥
-AreSaid (items ∷ subsets) [] = ⊥
-AreSaid (items ∷ subsets) (s ∷ ss) = AreDrafts IsSaid items s.items × AreSaid subsets ss
+AreSaid = AllZip (λ (items : List (Item Content)) (s : Subset). AreDrafts IsSaid items s.items)
 
 -- the same of the subsets of compressed data, from one on
 abbrev pub AreSaidFrom : (subset : ℕ) → List (Item (List Content)) → List Subset → Type 0
@@ -220,17 +187,11 @@ IsAlike a b = (spec : FieldSpec) → content_of spec a ≡ content_of spec b
 
 -- two lists of drafts, alike one by one
 abbrev pub AreAlike : List Draft → List Draft → Type 0
-AreAlike [] [] = Unit {0}
-AreAlike [] (b ∷ bs) = ⊥
-AreAlike (a ∷ more) [] = ⊥
-AreAlike (a ∷ more) (b ∷ bs) = IsAlike a b × AreAlike more bs
+AreAlike ds es = AllZip IsAlike ds es
 
 -- alike subset by subset, whatever lines end them
 abbrev pub AllAlike : List Subset → List Subset → Type 0
-AllAlike [] [] = Unit {0}
-AllAlike [] (t ∷ ts) = ⊥
-AllAlike (s ∷ ss) [] = ⊥
-AllAlike (s ∷ ss) (t ∷ ts) = AreAlike s.items t.items × AllAlike ss ts
+AllAlike ss ts = AllZip (λ (s t : Subset). AreAlike s.items t.items) ss ts
 
 -- ---- Definitions that the laws on writing share.
 

@@ -1,8 +1,7 @@
 //! The items of a dump text, and the entries of a document, which are kept in one block.
 ghost use Rattle.std.specs.Prelude.{◌≡◌, ◌≤◌, ℕ, List, length, option_map, slice_get};
 ghost use Rattle.bufr_fill.specs.Draft.{draft, DraftEntry, Holds};
-ghost use Rattle.bufr_fill.specs.Given.{form_in};
-ghost use Rattle.bufr_fill.specs.Kept.{entry_by, entry_stored, entry_with, IsEntryInside, IsPlaced};
+ghost use Rattle.bufr_fill.specs.Kept.{form_in, entry_by, entry_stored, entry_with, IsEntryInside, IsPlaced};
 
 use bufr_bits::ShortDecimal;
 use bufr_tables::Fxy;
@@ -49,8 +48,7 @@ pub(crate) enum EntryKind {
     End,
 }
 
-/// An entry, as it is kept. Its octets go from `start` to `end` of one block; of a short decimal
-/// `start` has the digits.
+/// An entry, as it is kept: its octets in one block, or the digits of a short decimal in `start`.
 #[derive(Clone, Copy)]
 pub(crate) struct StoredEntry {
     pub(crate) line: u64,
@@ -139,9 +137,8 @@ impl Model for Entries {
 impl Entries {
     ghost use Rattle.std.specs.Prelude.{◌≡◌, ◌<◌, [], ◌∷◌, ◌++◌, length, option_map, slice_get, Some, OnOk, OnErr};
     ghost use Rattle.bufr_fill.specs.Draft.{draft, number_token, Holds, Ends};
-    ghost use Rattle.bufr_bits.specs.Decimal.{short_text};
-    ghost use Rattle.bufr_fill.specs.Kept.{entry_with, is_end};
-    ghost use Rattle.bufr_fill.specs.Given.{draft_in};
+    ghost use Rattle.bufr_bits.specs.Prelude.{short_text};
+    ghost use Rattle.bufr_fill.specs.Kept.{entry_with, is_end, draft_in};
 
     /// No entries. It takes no memory.
     pub fn new(alloc: Global) -> Entries

@@ -65,7 +65,7 @@ pub enum DraftFault {
 
 impl DraftFault {
     ghost use Rattle.std.specs.Prelude.{◌≡◌};
-    ghost use Rattle.bufr_fill.specs.Faults.{number_of_draft_fault};
+    ghost use Rattle.bufr_fill.specs.Draft.{number_of_draft_fault};
 
     /// The number of this fault: 51 to 55, 58, 59, 35 for too many values, and 73 where memory ran
     /// out.

@@ -1,17 +1,14 @@
 //! Converts an item of a dump text to the content of its field, and writes that as its bits.
 ghost use Rattle.std.specs.Prelude.{◌≡◌, ℕ, List, ◌≤◌, ◌<◌, ◌-ℤ◌, ◌-◌, ◌/◌, ◌^◌, ◌==◌, ◌++◌, false, pos, length, replicate, unsigned_abs, Some, IfOk, ◌+◌, ◌*◌, ◌∷◌, true, OnOk, OnErr};
 ghost use Rattle.std.specs.List.{list_all};
-ghost use Rattle.bufr_bits.specs.Decimal.{decimal_value_of};
-ghost use Rattle.bufr_tables.specs.TableB.{is_character};
-ghost use Rattle.bufr_walk.specs.FieldSpec.{is_reference, IsFor};
-ghost use Rattle.bufr_walk.specs.Content.{number, reference, sign_bit, bits_for, answer_of};
-ghost use Rattle.bufr_fill.specs.DraftContent.{raw_within, raw_of, reference_of, text_within, is_marked, wrong_for, content_by_form, returned, content_drawn, IsDrawn, IsTextOf, spaced};
-ghost use Rattle.bufr_fill.specs.Packing.{raw_limit};
+ghost use Rattle.bufr_bits.specs.Prelude.{decimal_value_of, bits_of, bits_in};
+ghost use Rattle.bufr_tables.specs.Prelude.{is_character};
+ghost use Rattle.bufr_walk.specs.Prelude.{is_reference, IsFor, number, reference, sign_bit, bits_for, answer_of};
+ghost use Rattle.bufr_fill.specs.DraftContent.{raw_within, raw_of, reference_of, text_within, is_marked, wrong_for, content_by_form, returned, content_drawn, IsDrawn, IsTextOf, spaced, raw_limit};
 ghost use Rattle.bufr_fill.specs.Kept.{entry_with, is_end, is_entry_of, value_by};
 ghost use Rattle.bufr_fill.specs.PackedOut.{entry_here};
-ghost use Rattle.bufr_fill.specs.Faults.{draft_fault, at_line};
+ghost use Rattle.bufr_fill.specs.Draft.{draft_fault, at_line};
 ghost use Rattle.bufr_fill.specs.Encoding.{at_line_if_fault};
-ghost use Rattle.bufr_bits.specs.Bits.{bits_of, bits_in};
 
 use crate::draft::{EntryKind, StoredEntry};
 use crate::fault::{DraftFault, Expected};

@@ -8,7 +8,7 @@
 mod draft;
 mod fault;
 mod field_value;
-pub mod law;
+pub mod laws;
 mod packed_out;
 mod plain_out;
 

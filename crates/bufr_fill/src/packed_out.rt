@@ -1,18 +1,15 @@
 //! The writer of compressed data, from the items of a dump text.
 ghost use Rattle.std.specs.Prelude.{◌≡◌, ◌≤◌, ◌<◌, ◌+◌, ◌*◌, ◌/◌, ◌^◌, IfOk, Ok, length, ℕ, slice_get, get_or, Some, List, ◌-◌, ◌++◌, ◌∷◌, [], true, false, map, take, replicate, nat_lt, OnOk, OnErr, unwrap_or};
-ghost use Rattle.bufr_walk.specs.FieldSpec.{IsFor, is_reference};
-ghost use Rattle.bufr_walk.specs.Reading.{max_values};
-ghost use Rattle.bufr_fill.specs.Encoding.{item_row, cells_at, contents_here, RowCell, unlike_line};
+ghost use Rattle.bufr_walk.specs.Prelude.{IsFor, is_reference, bits_for, max_values};
+ghost use Rattle.bufr_fill.specs.Encoding.{item_row, cells_at, contents_here, RowCell, unlike_line, same, same_octets, are_same, lowest, first_from, least_k, has_bits, has_octets, increment_bits, octet_bits, packed_bits, numbers_over, packed_numbers, packed_texts, packed_by, packed_unlike, packing};
 ghost use Rattle.bufr_fill.specs.Draft.{subsets_of};
 ghost use Rattle.bufr_fill.specs.PackedOut.{AllDrawn, contents_drawn, IsRangeOf, begin_of, cell_entry, LineAt, ReturnsRow, IsIncrementWidth, PutAcross, number_or, spread, trimmed, need, need_of, most_need, octet_in, PacksItem, FitsIncrement, AreShort, least_from, ends_of, first_line_at, EndsAllSubsets};
 ghost use Rattle.bufr_fill.specs.Kept.{entry_with};
 ghost use Rattle.std.specs.List.{list_all, flat_map};
-ghost use Rattle.bufr_bits.specs.Bits.{bits_in, bits_of};
-ghost use Rattle.bufr_tables.specs.TableB.{is_character};
-ghost use Rattle.bufr_fill.specs.DraftContent.{content_drawn, spaced, IsDrawn};
+ghost use Rattle.bufr_bits.specs.Prelude.{bits_in, bits_of};
+ghost use Rattle.bufr_tables.specs.Prelude.{is_character};
+ghost use Rattle.bufr_fill.specs.DraftContent.{content_drawn, spaced, IsDrawn, raw_limit};
 ghost use Rattle.bufr_fill.specs.declared.field_value.FieldContent.{FieldContent};
-ghost use Rattle.bufr_fill.specs.Packing.{raw_limit, same, same_octets, are_same, lowest, first_from, least_k, has_bits, has_octets, increment_bits, octet_bits, packed_bits, numbers_over, packed_numbers, packed_texts, packed_by, packed_unlike, packing};
-ghost use Rattle.bufr_walk.specs.Content.{bits_for};
 
 use crate::draft::{Entries, StoredEntry};
 use crate::fault::{DraftFault, Expected};
@@ -70,8 +67,7 @@ fn ends_in(alloc: Global, entries: &Entries) -> Result<Vec<usize>, AllocError>
     Ok(ends)
 }
 
-/// Writes the contents of an item for all subsets, with the least number as the base (zero bits for
-/// texts) and the least `k`.
+/// Writes the contents of an item for all subsets, with the least base and the least `k`.
 #[tactic(auto, using(crate::proofs::RowLemmas::drawn_at))]
 // rule: packs-factors-and-references, fault-59
 fn put_drawn(
@@ -141,7 +137,7 @@ fn pack_next<'a>(
 
 impl<'s> PackedOut<'s> {
     ghost use Rattle.std.specs.Prelude.{◌≡◌, ◌≤◌, ◌<◌, ◌+◌, ◌/◌, ◌^◌, ◌++◌, length, vec_len, IfOk};
-    ghost use Rattle.bufr_bits.specs.Bits.{bits_of, padding};
+    ghost use Rattle.bufr_bits.specs.Prelude.{bits_of, padding};
     ghost use Rattle.bufr_fill.specs.Draft.{subsets_of};
     ghost use Rattle.bufr_fill.specs.PackedOut.{StartsPackedOut, first_line_at, EndsAllSubsets};
 
@@ -455,7 +451,7 @@ impl NumberRange {
     ghost use Rattle.std.specs.Prelude.{ℕ, List, ◌≡◌, [], ◌∷◌, ◌++◌, unwrap_or};
     ghost use Rattle.bufr_fill.specs.declared.field_value.FieldContent.{FieldContent};
     ghost use Rattle.bufr_fill.specs.PackedOut.{IsRangeOf, contents_drawn};
-    ghost use Rattle.bufr_fill.specs.Packing.{lowest};
+    ghost use Rattle.bufr_fill.specs.Encoding.{lowest};
 
     /// The range of no contents.
     pub(crate) fn new() -> NumberRange
@@ -492,8 +488,7 @@ impl NumberRange {
     }
 }
 
-/// The least `k` from 1 to 63 whose bits write an increment, without all ones where that is
-/// missing; 64 where none does.
+/// The least `k` from 1 to 63 whose bits write an increment that is not missing, else 64.
 #[tactic(auto, using(crate::proofs::RowLemmas::least_here, crate::proofs::RowLemmas::least_later, crate::proofs::RowLemmas::least_end))]
 // rule: packs-class-31
 fn least_bits(spread: u64, may_be_missing: bool) -> u32

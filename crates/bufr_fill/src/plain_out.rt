@@ -37,7 +37,7 @@ impl<'s> Model for PlainOut<'s> {
 
 impl<'s> PlainOut<'s> {
     ghost use Rattle.std.specs.Prelude.{◌≡◌, ◌≤◌, ◌+◌, ◌/◌, ◌^◌, ◌++◌, [], length, vec_len};
-    ghost use Rattle.bufr_bits.specs.Bits.{bits_of, padding};
+    ghost use Rattle.bufr_bits.specs.Prelude.{bits_of, padding};
     ghost use Rattle.bufr_fill.specs.PlainOut.{plain_out_model, line_at, EndsSubset};
 
     /// The items of all subsets and the lines that end them, at most 2^45 together. It takes no

@@ -1,22 +1,18 @@
 -- A message parsed, and written again from its parts.
-use Rattle.std.proofs.Common.{inl, inr, ◌≡◌, ◌≢◌, ◌==◌, ◌∙◌, ℕ, zero, suc, ◌+◌, ◌-◌, ◌*◌, ◌/◌, ◌%◌, ◌<◌, ◌≤◌, Bool, true, false, List, [], ◌∷◌, ◌++◌, length, take, drop, refl, ap, sym, subst, arith, Some, None, Ok, Err, get_or, codes, append_assoc, length-take, length-drop}
-use Rattle.std.specs.Prelude.{Result, if◌then◌else◌, nat_lt, nat_le, not, is_some, slice_range, All, ◌&&◌, ◌||◌, slice_index}
+use Rattle.std.proofs.lemmas.Grind.{common_steps}
+use Rattle.std.proofs.Common.{inl, inr, ◌≡◌, ◌==◌, ◌∙◌, ℕ, zero, suc, ◌+◌, ◌-◌, ◌*◌, ◌/◌, ◌%◌, ◌<◌, ◌≤◌, Bool, true, false, List, [], ◌∷◌, ◌++◌, length, take, drop, refl, ap, sym, subst, arith, Some, None, Ok, Err, get_or, codes, append_assoc, length-take, length-drop, Result, if◌then◌else◌, nat_lt, nat_le, not, is_some, slice_range, All, ◌&&◌, ◌||◌, slice_index}
 use Rattle.std.proofs.Math.Seq.{drop-cons, take-add}
 use Rattle.std.proofs.lemmas.Bool.Decides.{nat_tests}
 use Rattle.std.proofs.lemmas.Bool.{true≢false, cases_Bool}
 use Rattle.std.proofs.lemmas.List.{take-append-drop, get_or-take, get_or-drop}
 use Rattle.bufr_frame.specs.declared.fault.SectionFault.{SectionFault}
-use Rattle.bufr_frame.specs.declared.fault.SectionFault.TheVariants.{SectionShort, SectionPast, SectionsEnd, Edition3Long}
-use Rattle.bufr_frame.specs.Octets.{u24_at, u16_at, words, three_octets, two_octets, octets_of_words}
-use Rattle.bufr_frame.specs.Section1.{Flags, is_edition, slots_of, slots_3, slots_4, first_least, octets_of_slots, slot_octets, slot_value, head_in, head_value, Field, Master, Centre, Subcentre, Update, Category, Subcategory, LocalSubcategory, MasterVersion, LocalVersion, Year, Month, Day, Hour, Minute, Second, Slot, Single, Double, is_for, width, read_slot, most, most_in}
-use Rattle.bufr_frame.specs.Sections.{Sections, sections_of, section_end, parts, edition_of, slots_in, has_section2, head_of, is_long_edition_3, is_padded, parts_if_end_matches, ◌>>=◌, IsPlain, section2_begins, section3_begins, section4_begins}
-use Rattle.bufr_frame.specs.Layout.{parts_in, message_size, message_octets, section0_octets, section1_octets, section2_octets, section2_size, section3_octets, section4_octets, head_octets, data_flags, even_size, with_even_length, max_extra_octets, max_octets, IsFitting, is_writable, fits_3}
+use Rattle.bufr_frame.specs.declared.fault.SectionFault.TheVariants.{SectionShort, SectionPast}
+use Rattle.bufr_frame.specs.Prelude.{u24_at, u16_at, words, three_octets, two_octets, octets_of_words, Flags, is_edition, slots_of, slots_3, slots_4, first_least, octets_of_slots, slot_octets, slot_value, head_in, head_value, Field, Master, Centre, Subcentre, Update, Category, Subcategory, LocalSubcategory, MasterVersion, LocalVersion, Year, Month, Day, Hour, Minute, Second, Slot, Single, Double, is_for, width, read_slot, most, most_in, Sections, sections_of, section_end, parts, edition_of, slots_in, has_section2, head_of, is_long_edition_3, parts_if_end_matches, ◌>>=◌, IsPlain, section2_begins, section3_begins, section4_begins, parts_in, message_size, message_octets, section0_octets, section1_octets, section2_octets, section2_size, section3_octets, section4_octets, head_octets, data_flags, even_size, with_even_length, max_extra_octets, max_octets, IsFitting, is_writable, fits_3, Head}
 use Rattle.bufr_frame.proofs.LayoutLemmas.{length-octets_of_words, even-3, length-words}
 use Rattle.std.proofs.lemmas.List.Elements.{All-take, All-drop}
 use Rattle.std.proofs.lemmas.List.Folds.{drop_split}
 use Rattle.bufr_frame.proofs.ScanLemmas.{drop-twice}
 use Rattle.std.specs.List.{AllByRecursion}
-use Rattle.bufr_frame.specs.declared.section1.Head.{Head}
 
 -- the last of three tests that a number passed
 passed-all : (a b c : Bool) (e1 e2 e3 : SectionFault) (n q : ℕ) → (if a then Err e1 else if b then Err e2 else if c then Err e3 else Ok n) ≡ Ok q
@@ -51,13 +47,7 @@ unless-ok true e r y is = (refl, is)
 unless-ok false e r y is = cc
 
 met-ok : (m : List ℕ) (p1 p2 p3 p4 : ℕ) (y : Sections) → parts_if_end_matches m p1 p2 p3 p4 ≡ Ok y → (p4 ≡ length m - 4) × (is_long_edition_3 m p2 p3 p4 ≡ false) × (parts m p1 p2 p3 p4 ≡ y)
-met-ok m p1 p2 p3 p4 y is = by (p4 == (length m - 4)) (is_long_edition_3 m p2 p3 p4) refl refl is
-  where
-    by : (a b : Bool) → (p4 == (length m - 4)) ≡ a → is_long_edition_3 m p2 p3 p4 ≡ b → (if not a then Err SectionsEnd else if b then Err Edition3Long else Ok (parts m p1 p2 p3 p4)) ≡ Ok y
-        → (p4 ≡ length m - 4) × (is_long_edition_3 m p2 p3 p4 ≡ false) × (parts m p1 p2 p3 p4 ≡ y)
-    by false b f g h = absurd (cc)
-    by true true f g h = absurd (cc)
-    by true false f g h = (grind (arith, nat_tests, f), g, (cc))
+met-ok m p1 p2 p3 p4 y is = grind arith
 
 -- where the sections of a message end
 pub record Ended (m : List ℕ) (s : Sections) : Type 0 where
@@ -126,18 +116,7 @@ second-size false m p q within there absent = omega (arith, absent refl)
 sizes : (m : List ℕ) (s : Sections) (e : Ended m s)
     → message_size (edition_of m) (parts_in (parts m e.p1 e.p2 e.p3 e.p4))
     ≡ e.p2 + even_size (edition_of m) (7 + 2 * ((e.p3 - (e.p2 + 7)) / 2)) + even_size (edition_of m) (e.p4 - e.p3) + 4
-sizes m s e =
-    let second = second-size (has_section2 m) m e.p1 e.p2 (omega (arith, e.third.three_long, e.third.least_long)) (λ there. (e.second there).least_long) e.no_second in
-    let least = first_least (edition_of m) in
-    let l1 : length (slice_range m (8 + least) e.p1) ≡ e.p1 - (8 + least) = slice-long m (8 + least) e.p1 (omega (arith, e.fourth.least_long, e.fourth.within, e.third.least_long, second)) in
-    let l3 : length (words (slice_range m (e.p2 + 7) e.p3)) ≡ (e.p3 - (e.p2 + 7)) / 2 =
-    length-words (slice_range m (e.p2 + 7) e.p3) ∙ ap (λ n. n / 2) (slice-long m (e.p2 + 7) e.p3 (omega (arith, e.fourth.least_long, e.fourth.within))) in
-    let l4 : 4 + length (slice_range m (e.p3 + 4) e.p4) ≡ e.p4 - e.p3 = omega (arith, slice-long m (e.p3 + 4) e.p4 (omega (arith, e.fourth.within)), e.fourth.least_long) in
-    let prefix : 8 + (least + length (slice_range m (8 + least) e.p1)) + section2_size (if has_section2 m then Some (slice_range m (e.p1 + 4) e.p2) else None) ≡ e.p2 =
-    omega (arith, l1, e.first.least_long, second) in
-    ap (λ n. n + even_size (edition_of m) (7 + 2 * length (words (slice_range m (e.p2 + 7) e.p3))) + even_size (edition_of m) (4 + length (slice_range m (e.p3 + 4) e.p4)) + 4) prefix
-    ∙ ap (λ n. e.p2 + even_size (edition_of m) (7 + 2 * n) + even_size (edition_of m) (4 + length (slice_range m (e.p3 + 4) e.p4)) + 4) l3
-    ∙ ap (λ n. e.p2 + even_size (edition_of m) (7 + 2 * ((e.p3 - (e.p2 + 7)) / 2)) + even_size (edition_of m) n + 4) l4
+sizes m s e = grind (arith, common_steps, second-size, slice-long, length-words)
 
 -- in edition 4
 sizes-4 : (m : List ℕ) (s : Sections) (e : Ended m s) → edition_of m ≡ 4 → message_size (edition_of m) (parts_in (parts m e.p1 e.p2 e.p3 e.p4)) + (e.p3 - (e.p2 + 7)) % 2 ≡ length m
@@ -161,29 +140,18 @@ sizes-3 m s e is =
 pub no-longer : (m : List ℕ) (s : Sections) → sections_of m ≡ Ok s → message_size s.head.edition (parts_in s) ≤ length m + max_extra_octets s.head.edition
 no-longer m s is =
     let e = sections-ended m s is in
-    let P : Sections → Type 0 = λ x. message_size x.head.edition (parts_in x) ≤ length m + max_extra_octets x.head.edition in
-    subst P (sym e.is) (edition-cases (edition_of m) e.edition
+    rw e.is (edition-cases (edition_of m) e.edition
     (λ is. let l : max_extra_octets (edition_of m) ≡ 2 = ap max_extra_octets is in omega (arith, sizes-3 m s e is, l))
     (λ is. omega (arith, sizes-4 m s e is)))
 
 -- nor is it too long
 no-odd : (m : List ℕ) (p2 p3 p4 : ℕ) → edition_of m ≡ 3 → is_long_edition_3 m p2 p3 p4 ≡ false → length m ≤ max_octets → length m + (p3 - p2) % 2 + (p4 - p3) % 2 ≤ max_octets
-no-odd m p2 p3 p4 is short few = by (nat_lt 16777213 (length m)) ((p3 - p2) % 2 == 1) ((p4 - p3) % 2 == 1) refl refl refl (sym (ap (λ n. nat_lt 16777213 (length m) && (is_padded n (p3 - p2) || is_padded n (p4 - p3))) is) ∙ short)
-  where
-    by : (a b c : Bool) → nat_lt 16777213 (length m) ≡ a → ((p3 - p2) % 2 == 1) ≡ b → ((p4 - p3) % 2 == 1) ≡ c → (a && (b || c)) ≡ false → length m + (p3 - p2) % 2 + (p4 - p3) % 2 ≤ max_octets
-    by false b c f g h none = let l : length m ≤ 16777213 = grind (arith, nat_tests, f) in omega (arith, l)
-    by true true c f g h none = absurd (cc)
-    by true false true f g h none = absurd (cc)
-    by true false false f g h none =
-        let x : (p3 - p2) % 2 ≢ 1 = grind (arith, nat_tests, g) in
-        let y : (p4 - p3) % 2 ≢ 1 = grind (arith, nat_tests, h) in
-        omega (arith, x, y, few)
+no-odd m p2 p3 p4 is short few = grind (arith, common_steps)
 
 pub not-too-long : (m : List ℕ) (s : Sections) → sections_of m ≡ Ok s → length m ≤ max_octets → message_size s.head.edition (parts_in s) ≤ max_octets
 not-too-long m s is few =
     let e = sections-ended m s is in
-    let P : Sections → Type 0 = λ x. message_size x.head.edition (parts_in x) ≤ max_octets in
-    subst P (sym e.is) (edition-cases (edition_of m) e.edition
+    rw e.is (edition-cases (edition_of m) e.edition
     (λ is. omega (arith, sizes-3 m s e is, no-odd m e.p2 e.p3 e.p4 is e.short few))
     (λ is. omega (arith, sizes-4 m s e is, few)))
 
@@ -218,19 +186,10 @@ slice-begins n m a c fits within =
 
 -- the octets that write a number of three octets, of two
 three-back : (a b c : ℕ) → a < 256 → b < 256 → c < 256 → three_octets (65536 * a + 256 * b + c) ≡ a ∷ b ∷ c ∷ []
-three-back a b c la lb lc =
-    let n = 65536 * a + 256 * b + c in
-    let x : n / 65536 ≡ a = omega arith in
-    let y : n / 256 ≡ 256 * a + b = omega arith in
-    let y' : n / 256 % 256 ≡ b = ap (λ k. k % 256) y ∙ omega arith in
-    let z : n % 256 ≡ c = omega arith in
-    rw (x, y', z) refl
+three-back a b c la lb lc = grind (arith, common_steps)
 
 two-back : (a b : ℕ) → b < 256 → two_octets (256 * a + b) ≡ a ∷ b ∷ []
-two-back a b lb =
-    let x : (256 * a + b) / 256 ≡ a = omega arith in
-    let y : (256 * a + b) % 256 ≡ b = omega arith in
-    rw (x, y) refl
+two-back a b lb = grind (arith, common_steps)
 
 words-back : (m : List ℕ) → All (λ octet. octet < 256) m → length m % 2 ≡ 0 → octets_of_words (words m) ≡ m
 words-back [] small even = refl
@@ -275,13 +234,7 @@ four-at m p = let e : p + 1 + 1 ≡ p + 2 = omega arith in let f : p + 1 + 1 + 1
 seven-at : (m : List ℕ) (p : ℕ) → octets_from 7 p m
     ≡ get_or m p 0 ∷ get_or m (p + 1) 0 ∷ get_or m (p + 2) 0 ∷ get_or m (p + 3) 0 ∷ get_or m (p + 4) 0 ∷ get_or m (p + 4 + 1) 0 ∷ get_or m (p + 6) 0 ∷ []
 unfolding octets_from
-seven-at m p =
-    let a : p + 1 + 1 ≡ p + 2 = omega arith in
-    let b : p + 1 + 1 + 1 ≡ p + 3 = omega arith in
-    let c : p + 1 + 1 + 1 + 1 ≡ p + 4 = omega arith in
-    let d : p + 1 + 1 + 1 + 1 + 1 ≡ p + 4 + 1 = omega arith in
-    let e : p + 1 + 1 + 1 + 1 + 1 + 1 ≡ p + 6 = omega arith in
-    cc
+seven-at m p = grind (arith, common_steps)
 
 module _ (m : List ℕ) (small : All (λ octet. octet < 256) m) where
   -- the octets of a length
@@ -423,10 +376,7 @@ module _ (m : List ℕ) (small : All (λ octet. octet < 256) m) where
 
 -- the first eight octets
 prefix-back : (m : List ℕ) → All (λ octet. octet < 256) m → 8 ≤ length m → take 4 m ≡ codes "BUFR" → (n : ℕ) → n ≡ u24_at m 4 → section0_octets n (get_or m 7 0) ≡ take 8 m
-prefix-back m small long word n is =
-    let four : take 4 (drop 4 m) ≡ octets_from 4 4 m = slice-octets 4 4 m (omega arith) in
-    ap (λ l. codes "BUFR" ++ l ++ get_or m 7 0 ∷ []) (length-back m small 4 n (omega arith) is)
-    ∙ ap (λ l. codes "BUFR" ++ l) (sym (four ∙ four-at m 4)) ∙ ap (λ l. l ++ take 4 (drop 4 m)) (sym word) ∙ sym (take-add 4 4 m)
+prefix-back m small long word n is = grind (arith, common_steps)
 
 -- where sections 3 and 4 begin
 module _ (m : List ℕ) (s : Sections) (e : Ended m s) where
@@ -471,8 +421,7 @@ module _ (m : List ℕ) (plain : IsPlain m) (s : Sections) (e : Ended m s) where
       let even4 : u24_at m e.p3 % 2 ≡ 0 = subst P (sym at4) (plain.even4 is) in
       omega (arith, even3, even4, e.third.long, e.fourth.long, sizes-3 m s e is, plain.size))
       (λ is.
-      let P : ℕ → Type 0 = λ p. u24_at m p % 2 ≡ 1 in
-      let odd : u24_at m e.p2 % 2 ≡ 1 = subst P (sym at3) (plain.whole is) in
+      let odd : u24_at m e.p2 % 2 ≡ 1 = rw at3 (plain.whole is) in
       let even : (e.p3 - (e.p2 + 7)) % 2 ≡ 0 = omega (arith, odd, e.third.long, e.third.least_long) in
       omega (arith, even, sizes-4 m s e is, plain.size))
 
@@ -483,8 +432,7 @@ module _ (m : List ℕ) (plain : IsPlain m) (s : Sections) (e : Ended m s) where
       let P : ℕ → Type 0 = λ n. with_even_length n 4 x ≡ x in
       edition-cases (edition_of m) known
       (λ is.
-      let Q : ℕ → Type 0 = λ p. u24_at m p % 2 ≡ 0 in
-      let even4 : u24_at m e.p3 % 2 ≡ 0 = subst Q (sym at4) (plain.even4 is) in
+      let even4 : u24_at m e.p3 % 2 ≡ 0 = rw at4 (plain.even4 is) in
       let n : (4 + length x) % 2 ≡ 0 = omega (arith, even4, e.fourth.long, slice-long m (e.p3 + 4) e.p4 (omega (arith, order)), order) in
       subst P (sym is) (ap (λ k. if k == 1 then x ++ 0 ∷ [] else x) n))
       (λ is. subst P (sym is) refl)
@@ -496,16 +444,14 @@ module _ (m : List ℕ) (plain : IsPlain m) (s : Sections) (e : Ended m s) where
       let small = plain.octets in
       let w = words (slice_range m (e.p2 + 7) e.p3) in
       let R : ℕ → Type 0 = λ p. get_or m (p + 3) 0 ≡ 0 in
-      let F : ℕ → Type 0 = λ p. get_or m (p + 6) 0 % 64 ≡ 0 in
-      let L : ℕ → Type 0 = λ p. get_or m (p - 1) 0 ≡ 0 in
       let odd : edition_of m ≡ 4 → u24_at m e.p2 % 2 ≡ 1 = λ is. subst (λ p. u24_at m p % 2 ≡ 1) (sym at3) (plain.whole is) in
       let even : edition_of m ≡ 3 → u24_at m e.p2 % 2 ≡ 0 = λ is. subst (λ p. u24_at m p % 2 ≡ 0) (sym at3) (plain.even3 is) in
       let s0 = prefix-back m small (omega (arith, o)) plain.word (message_size (edition_of m) (parts_in (parts m e.p1 e.p2 e.p3 e.p4))) size in
       let s1 = first-back m small b e.p1 known (omega (arith, e.first.least_long)) (omega (arith, o)) e.first.long refl plain.flags in
       let s2 = second-back m small b e.p1 e.p2 (omega (arith, o)) (λ there. ((e.second there).least_long, (e.second there).long, subst R (sym place2) (plain.section2 there))) e.no_second in
       let c3 = with_even_length (edition_of m) 7 (octets_of_words w) in
-      let content = content-words m small e.p2 e.p3 known o.2 (omega (arith, o)) e.third.long odd even (λ is. subst L (sym at4) (plain.left_over is)) in
-      let s3 = third-back m small c3 e.p2 e.p3 o.2 (omega (arith, o)) e.third.long content (subst R (sym at3) plain.section3) (subst F (sym at3) plain.data_flags) in
+      let content = content-words m small e.p2 e.p3 known o.2 (omega (arith, o)) e.third.long odd even (λ is. rw at4 (plain.left_over is)) in
+      let s3 = third-back m small c3 e.p2 e.p3 o.2 (omega (arith, o)) e.third.long content (subst R (sym at3) plain.section3) (rw at3 plain.data_flags) in
       let s4 = ap section4_octets payload ∙ content-back m small e.p3 e.p4 o.3 (omega (arith, o)) e.fourth.long (subst R (sym at4) plain.section4) in
       let end : drop e.p4 m ≡ codes "7777" = ap (λ n. drop n m) e.last ∙ plain.end in
       let h = some-back m small b (slice_range m (e.p1 + 4) e.p2) in
@@ -533,14 +479,12 @@ least-when-even m s is edition even3 even4 =
     let e = sections-ended m s is in
     let third : u24_at m e.p2 % 2 ≡ 0 = ap (λ p. u24_at m p % 2) (begins3 m s e) ∙ even3 in
     let fourth : u24_at m e.p3 % 2 ≡ 0 = ap (λ p. u24_at m p % 2) (begins4 m s e) ∙ even4 in
-    let P : Sections → Type 0 = λ x. message_size x.head.edition (parts_in x) ≤ length m in
-    subst P (sym e.is) (omega (arith, third, fourth, e.third.long, e.fourth.long, sizes-3 m s e edition))
+    rw e.is (omega (arith, third, fourth, e.third.long, e.fourth.long, sizes-3 m s e edition))
 
 pub written-again : (m : List ℕ) (s : Sections) → IsPlain m → sections_of m ≡ Ok s → message_octets s.head (parts_in s) ≡ m
 written-again m s plain is =
     let e = sections-ended m s is in
-    let P : Sections → Type 0 = λ x. message_octets x.head (parts_in x) ≡ m in
-    subst P (sym e.is) (again m plain s e)
+    rw e.is (again m plain s e)
 
 -- ---- The values of a head, and the octets of its edition.
 
@@ -548,7 +492,7 @@ both : (a b : Bool) → a ≡ true → b ≡ true → (a && b) ≡ true
 both a b h k = rw (h, k) refl
 
 up : (a b : ℕ) → a ≤ b → nat_le a b ≡ true
-up a b h = grind (arith, nat_tests)
+up a b h = grind arith
 
 -- ---- heads that can be written
 
@@ -556,9 +500,7 @@ pub writable-4 : (h : Head) → h.edition ≡ 4 → is_writable h ≡ true
 writable-4 h e = ap (λ n. (n == 4) || ((n == 3) && (fits_3 h Centre && (fits_3 h Subcentre && (fits_3 h Year && (fits_3 h LocalSubcategory && fits_3 h Second)))))) e
 
 pub writable-3 : (h : Head) → h.edition ≡ 3 → h.centre ≤ 255 → h.subcentre ≤ 255 → h.year ≤ 255 → h.local_subcategory ≤ 0 → h.second ≤ 0 → is_writable h ≡ true
-writable-3 h e c s y l z =
-    ap (λ n. (n == 4) || ((n == 3) && (fits_3 h Centre && (fits_3 h Subcentre && (fits_3 h Year && (fits_3 h LocalSubcategory && fits_3 h Second)))))) e
-    ∙ both _ _ (up h.centre 255 c) (both _ _ (up h.subcentre 255 s) (both _ _ (up h.year 255 y) (both _ _ (up h.local_subcategory 0 l) (up h.second 0 z))))
+writable-3 h e c s y l z = grind (arith, common_steps)
 
 pub fitting-writable : (h : Head) → IsFitting h → is_writable h ≡ true
 fitting-writable h fits =

@@ -1,10 +1,6 @@
 -- The definitions computed on worked examples.
-use Rattle.std.proofs.Common.{◌≡◌, ℕ, zero, suc, Bool, true, false, List, [], ◌∷◌, ◌++◌, refl, take, length, codes, Option, Some, None, Ok, Err}
-use Rattle.std.specs.Prelude.{slice_set, ◌==◌, ◌&&◌, ◌+◌}
-use Rattle.bufr_frame.specs.Scan.{StreamEvent, FrameAt, StrayAt, scan, scan_from, open_scan, longest_of, first_event}
-use Rattle.bufr_frame.specs.Sections.{sections_of, section_end, Sections}
-use Rattle.bufr_frame.specs.Layout.{MessageParts, parts_of, parts_in, message_octets, is_writable}
-use Rattle.bufr_frame.specs.declared.section1.Head.{Head}
+use Rattle.std.proofs.Common.{◌≡◌, ℕ, zero, suc, Bool, true, false, List, [], ◌∷◌, ◌++◌, refl, take, length, codes, Option, Some, None, Ok, Err, slice_set, ◌==◌, ◌&&◌, ◌+◌}
+use Rattle.bufr_frame.specs.Prelude.{StreamEvent, FrameAt, StrayAt, scan, scan_from, open_scan, longest_of, first_event, sections_of, section_end, Sections, MessageParts, parts_of, parts_in, message_octets, is_writable, Head}
 use Rattle.bufr_frame.specs.declared.fault.Cause.TheVariants.{Cut, ShortLength, NoEnd}
 use Rattle.bufr_frame.specs.declared.fault.SectionFault.TheVariants.{Edition, SectionShort, SectionPast, SectionsEnd}
 
@@ -56,170 +52,83 @@ the_parts local1 section2 = parts_of local1 section2 (257 ∷ []) 1 true false (
 abbrev the_sections : List ℕ → Option (List ℕ) → ℕ → Sections
 the_sections local1 section2 size = record { head = the_head; local1 = local1; section2 = section2; descriptors = 257 ∷ []; subsets = 1; observed = true; compressed = false; payload = 0x14 ∷ []; size = size }
 
--- rule: section-0, section-5, reserved-zero, writes-no-pad-octet
-one-written-out : message_octets the_head (the_parts [] None) ≡ one_block_number
-one-written-out = refl
-
--- rule: sections-1-and-2-as-given
-local-written-out : message_octets the_head (the_parts (0xAB ∷ 0xCD ∷ []) (Some (1 ∷ 2 ∷ []))) ≡ local_use
-local-written-out = refl
-
--- rule: section-1-of-edition-4, section-3, section-4
-one-sections : sections_of one_block_number ≡ Ok (the_sections [] None 48)
-unfolding sections_of section_end
-one-sections = refl
-
--- rule: section-2-flag, local-use, section-2, sections-in-order
-local-sections : sections_of local_use ≡ Ok (the_sections (0xAB ∷ 0xCD ∷ []) (Some (1 ∷ 2 ∷ [])) 56)
-unfolding sections_of section_end
-local-sections = refl
-
--- rule: section-1-of-edition-3, local-use, descriptors-of-section-3, edition-3-lacks
--- rule: year-of-the-century
-edition-3-sections : sections_of edition_3 ≡ Ok (sections_of_edition_3 (0x14 ∷ 0 ∷ []) 46)
-unfolding sections_of section_end
-edition-3-sections = refl
-
--- odd sections are read, and written even
--- rule: odd-sections-read
-edition-3-odd : sections_of edition_3_odd ≡ Ok (sections_of_edition_3 (0x14 ∷ []) 44)
-unfolding sections_of section_end
-edition-3-odd = refl
-
+-- rule: section-0, section-5, reserved-zero, writes-no-pad-octet, sections-1-and-2-as-given
 -- rule: least-lengths, becomes-canonical
-edition-3-written-out : message_octets head_of_edition_3 (parts_in (sections_of_edition_3 (0x14 ∷ []) 44)) ≡ edition_3
-edition-3-written-out = refl
+written :
+    (message_octets the_head (the_parts [] None) ≡ one_block_number)
+    × (message_octets the_head (parts_in (the_sections [] None 48)) ≡ one_block_number)
+    × (message_octets the_head (the_parts (0xAB ∷ 0xCD ∷ []) (Some (1 ∷ 2 ∷ []))) ≡ local_use)
+    × (message_octets head_of_edition_3 (parts_in (sections_of_edition_3 (0x14 ∷ []) 44)) ≡ edition_3)
+    × (message_octets head_of_edition_3 (parts_in (sections_of_edition_3 (0x14 ∷ 0 ∷ []) 46)) ≡ edition_3)
+written = (refl, refl, refl, refl, refl)
 
-edition-3-again : message_octets head_of_edition_3 (parts_in (sections_of_edition_3 (0x14 ∷ 0 ∷ []) 46)) ≡ edition_3
-edition-3-again = refl
+-- rule: section-1-of-edition-4, section-3, section-4, section-2-flag, local-use, section-2
+-- rule: sections-in-order, section-1-of-edition-3, descriptors-of-section-3, edition-3-lacks
+-- rule: year-of-the-century, odd-sections-read, reserved-ignored
+sections :
+    (sections_of one_block_number ≡ Ok (the_sections [] None 48))
+    × (sections_of local_use ≡ Ok (the_sections (0xAB ∷ 0xCD ∷ []) (Some (1 ∷ 2 ∷ [])) 56))
+    × (sections_of edition_3 ≡ Ok (sections_of_edition_3 (0x14 ∷ 0 ∷ []) 46))
+    -- odd sections are read, and written even
+    × (sections_of edition_3_odd ≡ Ok (sections_of_edition_3 (0x14 ∷ []) 44))
+    -- a reserved bit makes no difference
+    × (sections_of (slice_set one_block_number 36 129) ≡ Ok (the_sections [] None 48))
+unfolding sections_of section_end
+sections = (refl, refl, refl, refl, refl)
 
 -- octets of edition 4 read as edition 3: other values, and five octets of local use
 abbrev head_by_edition_3 : Head
 head_by_edition_3 = record { edition = 3; master = 0; centre = 98; subcentre = 0; update = 0; category = 0; subcategory = 0; local_subcategory = 0; master_version = 0; local_version = 0; year = 0; month = 14; day = 0; hour = 7; minute = 232; second = 0 }
 
 -- rule: odd-values-kept
-by-edition-3 : sections_of (slice_set one_block_number 7 3)
-    ≡ Ok (record { head = head_by_edition_3; local1 = 1 ∷ 2 ∷ 3 ∷ 4 ∷ 5 ∷ []; section2 = None; descriptors = 257 ∷ []; subsets = 1; observed = true; compressed = false; payload = 0x14 ∷ []; size = 48 })
+by-edition-3 : sections_of (slice_set one_block_number 7 3) ≡ Ok (record { head = head_by_edition_3; local1 = 1 ∷ 2 ∷ 3 ∷ 4 ∷ 5 ∷ []; section2 = None; descriptors = 257 ∷ []; subsets = 1; observed = true; compressed = false; payload = 0x14 ∷ []; size = 48 })
 unfolding sections_of section_end
 by-edition-3 = refl
 
 -- what can be written in edition 3
-not-so-large : is_writable (record head_of_edition_3 { centre = 256 }) ≡ false
-not-so-large = refl
-
-no-seconds : is_writable (record head_of_edition_3 { second = 5 }) ≡ false
-no-seconds = refl
-
--- section 1 of 16 octets is short in edition 3
--- rule: length-under-least
-first-short-3 : sections_of (slice_set edition_3 10 16) ≡ Err (SectionShort 1)
-unfolding sections_of section_end
-first-short-3 = refl
-
--- the flags of edition 3 say that there is a section 2
-second-past-3 : sections_of (slice_set (slice_set edition_3 15 128) 28 30) ≡ Err (SectionPast 2)
-unfolding sections_of section_end
-second-past-3 = refl
+writable :
+    (is_writable (record head_of_edition_3 { centre = 256 }) ≡ false)
+    × (is_writable (record head_of_edition_3 { second = 5 }) ≡ false)
+writable = (refl, refl)
 
 -- the section faults: another edition, a section short, a section past the end, sections that do
 -- not meet the end
--- rule: edition-first
-edition-2 : sections_of (slice_set one_block_number 7 2) ≡ Err (Edition 2)
+-- rule: edition-first, length-under-least, section-past-end, section-4-end, length-past-end
+section-faults :
+    (sections_of (slice_set one_block_number 7 2) ≡ Err (Edition 2))
+    × (sections_of (slice_set one_block_number 10 21) ≡ Err (SectionShort 1))
+    × (sections_of (slice_set one_block_number 10 40) ≡ Err (SectionPast 1))
+    × (sections_of (slice_set one_block_number 41 4) ≡ Err SectionsEnd)
+    × (sections_of (slice_set (slice_set one_block_number 17 128) 32 3) ≡ Err (SectionShort 2))
+    × (sections_of (slice_set (slice_set one_block_number 17 128) 32 15) ≡ Err (SectionPast 2))
+    × (sections_of (slice_set one_block_number 32 6) ≡ Err (SectionShort 3))
+    -- section 1 of 34 octets leaves no three octets before the last four for the length of section 3
+    × (sections_of (slice_set one_block_number 10 34) ≡ Err (SectionPast 3))
+    × (sections_of (slice_set one_block_number 41 3) ≡ Err (SectionShort 4))
+    × (sections_of (slice_set one_block_number 41 6) ≡ Err (SectionPast 4))
+    -- section 1 of 16 octets is short in edition 3, and its flags say that there is a section 2
+    × (sections_of (slice_set edition_3 10 16) ≡ Err (SectionShort 1))
+    × (sections_of (slice_set (slice_set edition_3 15 128) 28 30) ≡ Err (SectionPast 2))
 unfolding sections_of section_end
-edition-2 = refl
-
--- rule: length-under-least
-first-short : sections_of (slice_set one_block_number 10 21) ≡ Err (SectionShort 1)
-unfolding sections_of section_end
-first-short = refl
-
--- rule: section-past-end
-first-past : sections_of (slice_set one_block_number 10 40) ≡ Err (SectionPast 1)
-unfolding sections_of section_end
-first-past = refl
-
--- rule: section-4-end
-no-meeting : sections_of (slice_set one_block_number 41 4) ≡ Err SectionsEnd
-unfolding sections_of section_end
-no-meeting = refl
-
-second-short : sections_of (slice_set (slice_set one_block_number 17 128) 32 3) ≡ Err (SectionShort 2)
-unfolding sections_of section_end
-second-short = refl
-
-second-past : sections_of (slice_set (slice_set one_block_number 17 128) 32 15) ≡ Err (SectionPast 2)
-unfolding sections_of section_end
-second-past = refl
-
-third-short : sections_of (slice_set one_block_number 32 6) ≡ Err (SectionShort 3)
-unfolding sections_of section_end
-third-short = refl
-
--- section 1 of 34 octets leaves no three octets before the last four for the length of section 3
--- rule: length-past-end
-third-past : sections_of (slice_set one_block_number 10 34) ≡ Err (SectionPast 3)
-unfolding sections_of section_end
-third-past = refl
-
-fourth-short : sections_of (slice_set one_block_number 41 3) ≡ Err (SectionShort 4)
-unfolding sections_of section_end
-fourth-short = refl
-
--- rule: section-past-end
-fourth-past : sections_of (slice_set one_block_number 41 6) ≡ Err (SectionPast 4)
-unfolding sections_of section_end
-fourth-past = refl
+section-faults = (refl, refl, refl, refl, refl, refl, refl, refl, refl, refl, refl, refl)
 
 -- the events: one message, two, a message without its end, a stray word first, short and cut
 -- lengths
-one-event : scan one_block_number ≡ FrameAt 0 one_block_number ∷ []
+-- rule: frame, stray-no-end, after-a-stray, stray-short-length, stray-cut, input-ends-early
+-- rule: input-without-bufr, output-waits
+events :
+    (scan one_block_number ≡ FrameAt 0 one_block_number ∷ [])
+    × (scan (one_block_number ++ one_block_number) ≡ FrameAt 0 one_block_number ∷ FrameAt 48 one_block_number ∷ [])
+    × (scan (slice_set one_block_number 47 54) ≡ StrayAt 0 NoEnd ∷ [])
+    × (scan (codes "BUFR" ++ 0 ∷ 0 ∷ 64 ∷ 4 ∷ one_block_number ++ 0 ∷ 0 ∷ 0 ∷ 0 ∷ 0 ∷ 0 ∷ 0 ∷ 0 ∷ []) ≡ StrayAt 0 NoEnd ∷ FrameAt 8 one_block_number ∷ [])
+    × (scan (codes "BUFR" ++ 0 ∷ 0 ∷ 11 ∷ 4 ∷ codes "abcd") ≡ StrayAt 0 ShortLength ∷ [])
+    × (scan (codes "BUFR" ++ 0 ∷ 0 ∷ 11 ∷ 4 ∷ codes "ab") ≡ StrayAt 0 Cut ∷ [])
+    × (scan (take 47 one_block_number) ≡ StrayAt 0 Cut ∷ [])
+    × (scan (take 4 one_block_number) ≡ StrayAt 0 Cut ∷ [])
+    × (scan (take 3 one_block_number) ≡ [])
+    × (open_scan (one_block_number ++ take 47 one_block_number) ≡ FrameAt 0 one_block_number ∷ [])
 unfolding scan_from
-one-event = refl
-
--- rule: frame
-two-events : scan (one_block_number ++ one_block_number) ≡ FrameAt 0 one_block_number ∷ FrameAt 48 one_block_number ∷ []
-unfolding scan_from
-two-events = refl
-
--- rule: stray-no-end
-no-end : scan (slice_set one_block_number 47 54) ≡ StrayAt 0 NoEnd ∷ []
-unfolding scan_from
-no-end = refl
-
--- rule: after-a-stray
-stray-in-prefix : scan (codes "BUFR" ++ 0 ∷ 0 ∷ 64 ∷ 4 ∷ one_block_number ++ 0 ∷ 0 ∷ 0 ∷ 0 ∷ 0 ∷ 0 ∷ 0 ∷ 0 ∷ []) ≡ StrayAt 0 NoEnd ∷ FrameAt 8 one_block_number ∷ []
-unfolding scan_from
-stray-in-prefix = refl
-
--- rule: stray-short-length
-short-length : scan (codes "BUFR" ++ 0 ∷ 0 ∷ 11 ∷ 4 ∷ codes "abcd") ≡ StrayAt 0 ShortLength ∷ []
-unfolding scan_from
-short-length = refl
-
--- rule: stray-short-length
-cut-before-short : scan (codes "BUFR" ++ 0 ∷ 0 ∷ 11 ∷ 4 ∷ codes "ab") ≡ StrayAt 0 Cut ∷ []
-unfolding scan_from
-cut-before-short = refl
-
--- rule: stray-cut, input-ends-early
-cut-at-47 : scan (take 47 one_block_number) ≡ StrayAt 0 Cut ∷ []
-unfolding scan_from
-cut-at-47 = refl
-
--- rule: stray-cut
-cut-at-4 : scan (take 4 one_block_number) ≡ StrayAt 0 Cut ∷ []
-unfolding scan_from
-cut-at-4 = refl
-
--- rule: input-without-bufr
-cut-at-3 : scan (take 3 one_block_number) ≡ []
-unfolding scan_from
-cut-at-3 = refl
-
--- rule: output-waits
-open-before-the-cut : open_scan (one_block_number ++ take 47 one_block_number) ≡ FrameAt 0 one_block_number ∷ []
-unfolding scan_from
-open-before-the-cut = refl
+events = (refl, refl, refl, refl, refl, refl, refl, refl, refl, refl)
 
 -- 4,096 octets of the word alone
 abbrev words_only : ℕ → List ℕ
@@ -231,14 +140,12 @@ are_cut at [] = true
 are_cut at (StrayAt offset Cut ∷ more) = (offset == at) && are_cut (at + 4) more
 are_cut at (event ∷ more) = false
 
-words-only : length (scan (words_only 1024)) ≡ 1024
-unfolding scan_from
-words-only = refl
-
 -- rule: after-a-stray
-words-only-cut : are_cut 0 (scan (words_only 1024)) ≡ true
+words-only :
+    (length (scan (words_only 1024)) ≡ 1024)
+    × (are_cut 0 (scan (words_only 1024)) ≡ true)
 unfolding scan_from
-words-only-cut = refl
+words-only = (refl, refl)
 
 -- words eight octets apart, each of which states 64 octets: the last seven are cut
 abbrev stating_64 : ℕ → List ℕ
@@ -253,54 +160,20 @@ abbrev cuts : (at n : ℕ) → List StreamEvent
 cuts at zero = []
 cuts at (suc n) = StrayAt at Cut ∷ cuts (at + 8) n
 
-stating-events : scan (stating_64 16) ≡ no_ends 0 9 (cuts 72 7)
-unfolding scan_from
-stating-events = refl
-
-stating-open : open_scan (stating_64 16) ≡ no_ends 0 9 []
-unfolding scan_from
-stating-open = refl
-
-stating-longest : longest_of 0 (stating_64 16) (scan (stating_64 16)) ≡ 64
-unfolding scan_from
-stating-longest = refl
-
--- a run cut in two: the events of the first 58 octets, and the scan after them
-open-at-a-fault : open_scan (one_block_number ++ take 10 one_block_number) ≡ FrameAt 0 one_block_number ∷ []
-unfolding scan_from
-open-at-a-fault = refl
-
-goes-on : scan (one_block_number ++ one_block_number) ≡ FrameAt 0 one_block_number ∷ scan_from 0 48 one_block_number
-unfolding scan_from
-goes-on = refl
-
--- the greatest length: of a message, of one followed by a word that is not yet certain, and of a
--- word without a length
-longest-of-one : longest_of 0 one_block_number (scan one_block_number) ≡ 48
-unfolding scan_from
-longest-of-one = refl
-
-longest-with-the-open-word : longest_of 0 (one_block_number ++ codes "BUFR" ++ 0 ∷ 1 ∷ 0 ∷ 4 ∷ []) (FrameAt 0 one_block_number ∷ first_event (scan_from 0 48 (codes "BUFR" ++ 0 ∷ 1 ∷ 0 ∷ 4 ∷ []))) ≡ 256
-unfolding scan_from
-longest-with-the-open-word = refl
-
-longest-of-a-bare-word : longest_of 0 (codes "BUFR") (scan (codes "BUFR")) ≡ 0
-unfolding scan_from
-longest-of-a-bare-word = refl
-
--- the stray words of the worked streams, and lengths under 12
 -- rule: first-bufr
-stray-after-messages : scan (codes "BUFR" ++ 0 ∷ 0 ∷ 64 ∷ 4 ∷ one_block_number ++ codes "xyBUF" ++ one_block_number ++ codes "BUFR" ++ 0 ∷ 0 ∷ 11 ∷ 4 ∷ codes "abcBUFR")
-    ≡ StrayAt 0 NoEnd ∷ FrameAt 8 one_block_number ∷ FrameAt 61 one_block_number ∷ StrayAt 109 ShortLength ∷ StrayAt 120 Cut ∷ []
+stating-events :
+    (scan (stating_64 16) ≡ no_ends 0 9 (cuts 72 7))
+    × (open_scan (stating_64 16) ≡ no_ends 0 9 [])
+    × (longest_of 0 (stating_64 16) (scan (stating_64 16)) ≡ 64)
+    -- a run cut in two: the events of the first 58 octets, and the scan after them
+    × (open_scan (one_block_number ++ take 10 one_block_number) ≡ FrameAt 0 one_block_number ∷ [])
+    × (scan (one_block_number ++ one_block_number) ≡ FrameAt 0 one_block_number ∷ scan_from 0 48 one_block_number)
+    -- the greatest length: of a message, of one followed by a word that is not yet certain, and of a
+    -- word without a length
+    × (longest_of 0 one_block_number (scan one_block_number) ≡ 48)
+    × (longest_of 0 (one_block_number ++ codes "BUFR" ++ 0 ∷ 1 ∷ 0 ∷ 4 ∷ []) (FrameAt 0 one_block_number ∷ first_event (scan_from 0 48 (codes "BUFR" ++ 0 ∷ 1 ∷ 0 ∷ 4 ∷ []))) ≡ 256)
+    × (longest_of 0 (codes "BUFR") (scan (codes "BUFR")) ≡ 0)
+    -- the stray words of the worked streams, and lengths under 12
+    × (scan (codes "BUFR" ++ 0 ∷ 0 ∷ 64 ∷ 4 ∷ one_block_number ++ codes "xyBUF" ++ one_block_number ++ codes "BUFR" ++ 0 ∷ 0 ∷ 11 ∷ 4 ∷ codes "abcBUFR") ≡ StrayAt 0 NoEnd ∷ FrameAt 8 one_block_number ∷ FrameAt 61 one_block_number ∷ StrayAt 109 ShortLength ∷ StrayAt 120 Cut ∷ [])
 unfolding scan_from
-stray-after-messages = refl
-
--- parts written again: the plain message has the same octets; one with a reserved bit set has other
--- octets, and is as long
-one-again : message_octets (the_sections [] None 48).head (parts_in (the_sections [] None 48)) ≡ one_block_number
-one-again = refl
-
--- rule: reserved-ignored
-reserved-bit : sections_of (slice_set one_block_number 36 129) ≡ Ok (the_sections [] None 48)
-unfolding sections_of section_end
-reserved-bit = refl
+stating-events = (refl, refl, refl, refl, refl, refl, refl, refl, refl)

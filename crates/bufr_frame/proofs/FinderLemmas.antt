@@ -1,26 +1,21 @@
 -- Steps and calls of a finder, and the reads that they make.
-use Rattle.std.proofs.Common.{◌≡◌, ℕ, ◌+◌, ◌-◌, ◌<◌, ◌≤◌, List, [], ◌++◌, sym, ◌∙◌, ap, subst, arith, Option, Ok, Err, append_assoc, append-nil, ◌∷◌, length, take, drop, refl, length-take, length-drop, inl, inr, Bool, true, false, length-append, ◌⊎◌, ◌*◌, zero, suc, codes}
-use Rattle.std.specs.Prelude.{Result, slice_range, take_while, Some, None, max}
+use Rattle.std.proofs.Common.{◌≡◌, ℕ, ◌+◌, ◌-◌, ◌<◌, ◌≤◌, List, [], ◌++◌, sym, ◌∙◌, ap, subst, arith, Option, Ok, Err, append_assoc, append-nil, ◌∷◌, length, take, drop, refl, length-take, length-drop, inl, inr, Bool, true, false, length-append, ◌⊎◌, ◌*◌, zero, suc, codes, Result, slice_range, take_while, Some, None, max}
 use Rattle.std.specs.Io.KnownBytes.{Consumes, IsAtEnd}
 use Rattle.std.proofs.KnownBytes.{Consumes-nil, Consumes-trans}
-use Rattle.bufr_bits.specs.Device.{counted}
+use Rattle.bufr_bits.specs.Prelude.{counted}
 use Rattle.bufr_bits.proofs.CountLemmas.{counted-counted, counted-none}
-use Rattle.bufr_frame.specs.Input.{AddsReads, max_reads, ReadsOnce, ReadsInput, InputEnds, FillFails, FillEnds}
+use Rattle.bufr_frame.specs.Prelude.{AddsReads, max_reads, ReadsOnce, ReadsInput, InputEnds, FillFails, FillEnds, Candidate, StreamEvent, FrameAt, scan, scan_from, open_scan, stream_event, candidate_len, is_decided, Advances, NoEventCertain, first_event, StrayAt, has_word_at, classify, length_here, longest_of, offset_of, IsNextEvent, IsIncomplete, event_by, gone_to, ReadsMore, FinderModel, ReadsAndPasses, Follows, CountsReads, new_finder, IsStatedLength, Raised, input_left, RaisesLongest, HasNoMoreEvents, held, EachReadIsNeeded, CallReadsAreNeeded, ReturnsNextEvent, LeavesFinder, events_returned}
 use Rattle.bufr_frame.specs.declared.fault.RunFault.{RunFault}
 use Rattle.bufr_frame.specs.declared.fault.RunFault.TheVariants.{Read, Write, InputTooLong, Memory}
-use Rattle.std.proofs.lemmas.List.{drop-take, take_at, drop-append-le, drop_at}
+use Rattle.std.proofs.lemmas.List.{drop-take, take_at, drop-append-le}
 use Rattle.std.proofs.Math.Seq.{take-add}
 use Rattle.bufr_frame.proofs.ScanLemmas.{drop-twice, take_while-all, open-sees, raised-open, raised-read, scan_from-nil, scan_from-here, scan_from-nothing, verdict-nothing, taken-bounds, cut-so, length-eight, stated-prefix}
 use Rattle.std.specs.List.{list_all, concat}
 use Rattle.std.proofs.lemmas.Bool.{true≢false, cases_Bool, false≢true, cases_lt, and_parts}
 use Rattle.std.proofs.lemmas.Grind.{common_steps}
-use Rattle.bufr_frame.specs.declared.finder.Candidate.{Candidate}
 use Rattle.bufr_frame.specs.declared.finder.Candidate.TheVariants.{Nothing, Stray, Frame}
-use Rattle.bufr_frame.specs.Scan.{StreamEvent, FrameAt, scan, scan_from, open_scan, stated_length, stream_event, candidate_len, is_decided, Advances, NoEventCertain, first_event, StrayAt, has_word_at, classify, length_here, longest_of, offset_of}
-use Rattle.bufr_frame.specs.Finder.{IsNextEvent, IsIncomplete, event_by, gone_to, ReadsMore, FinderModel, ReadsAndPasses, Follows, CountsReads, new_finder, IsStatedLength, Raised, input_left, RaisesLongest, HasNoMoreEvents, held, EachReadIsNeeded, CallReadsAreNeeded}
 use Rattle.bufr_frame.specs.declared.fault.Cause.TheVariants.{Cut}
 use Rattle.bufr_frame.specs.declared.finder.Event.{Event}
-use Rattle.bufr_frame.specs.Next.{ReturnsNextEvent, LeavesFinder, events_returned}
 use Rattle.std.proofs.lemmas.List.Folds.{concat-append}
 use Rattle.bufr_frame.specs.declared.finder.Event.TheVariants as event
 
@@ -111,9 +106,7 @@ after-read a b items lent room filled to size n same sizes long prefix fits with
 
 -- octets after those of a part
 pub part-append : (s s' bs : List ℕ) (a b n : ℕ) → a ≤ b → b ≤ length s → take (b + n) s' ≡ take b s ++ bs → slice_range s' a (b + n) ≡ slice_range s a b ++ bs
-part-append s s' bs a b n order within same =
-    let fits : a ≤ length (take b s) = omega (arith, length-take b s) in
-    part-prefix s' a (b + n) (omega arith) ∙ ap (drop a) same ∙ drop-append-le a (take b s) bs fits ∙ ap (λ l. l ++ bs) (sym (part-prefix s a b order))
+part-append s s' bs a b n order within same = grind (arith, common_steps, length-take, part-prefix, drop-append-le)
 
 pub empty-of : (l : List ℕ) → length l ≡ 0 → l ≡ []
 empty-of [] none = refl
@@ -160,12 +153,10 @@ Follows-none at r = record { passed = 0; within = omega arith; offset = omega ar
 
 pub step-none : (left : Option (List ℕ)) (s : FinderModel) → ReadsAndPasses left left s s [] []
 step-none left s =
-    let A : List ℕ → Type 0 = λ l. Advances s.ended s.at l [] s.at s.rest in
-    let F : List ℕ → Type 0 = λ l. Follows s.at l s.at s.rest in
     record {
       read = Consumes-nil left;
-      advances = subst A (sym (append-nil s.rest)) (Advances-none s.ended s.at s.rest);
-      follows = subst F (sym (append-nil s.rest)) (Follows-none s.at s.rest);
+      advances = rw (append-nil s.rest) (Advances-none s.ended s.at s.rest);
+      follows = rw (append-nil s.rest) (Follows-none s.at s.rest);
       kept = λ end. (end, refl, refl);
       end = λ before. before;
     }
@@ -174,16 +165,10 @@ module _ (left mid : Option (List ℕ)) (old s s' : FinderModel) (bs : List ℕ)
   -- events are passed, and nothing is read
   pub pass-step : (es' : List StreamEvent) → ReadsAndPasses left mid old s bs es → s'.ended ≡ s.ended → s'.reads ≡ s.reads → Advances s'.ended s.at s.rest es' s'.at s'.rest → Follows s.at s.rest s'.at s'.rest → ReadsAndPasses left mid old s' bs (es ++ es')
   pass-step es' step same reads goes suffix =
-      let E : Bool → Type 0 = λ e. Advances e old.at (old.rest ++ bs) (es ++ es') s'.at s'.rest in
-      let R : List ℕ → Type 0 = λ l. Advances s.ended s.at l es' s'.at s'.rest in
-      let I : Bool → Type 0 = λ e. Advances e s.at s.rest es' s'.at s'.rest in
-      let Q : List ℕ → Type 0 = λ l. Advances s.ended old.at l (es ++ es') s'.at s'.rest in
-      let F : List ℕ → Type 0 = λ l. Follows s.at l s'.at s'.rest in
-      let G : List ℕ → Type 0 = λ l. Follows old.at l s'.at s'.rest in
       record {
         read = step.read;
-        advances = subst E (sym same) (subst Q (append-nil (old.rest ++ bs)) (Advances-then s.ended s.ended old.at s.at s'.at (old.rest ++ bs) s.rest s'.rest [] es es' (λ end. (end, refl)) step.advances (subst R (sym (append-nil s.rest)) (subst I same goes))));
-        follows = subst G (append-nil (old.rest ++ bs)) (Follows-then old.at s.at s'.at (old.rest ++ bs) s.rest s'.rest [] step.follows (subst F (sym (append-nil s.rest)) suffix));
+        advances = rw same (rw (append-nil (old.rest ++ bs)) at (Advances-then s.ended s.ended old.at s.at s'.at (old.rest ++ bs) s.rest s'.rest [] es es' (λ end. (end, refl)) step.advances (rw (append-nil s.rest) (rw same at goes))));
+        follows = rw (append-nil (old.rest ++ bs)) at (Follows-then old.at s.at s'.at (old.rest ++ bs) s.rest s'.rest [] step.follows (rw (append-nil s.rest) suffix));
         kept = λ end. (same ∙ (step.kept end).0, (step.kept end).1, reads ∙ (step.kept end).2);
         end = λ before ended. step.end before (sym same ∙ ended);
       }
@@ -192,7 +177,6 @@ module _ (left mid : Option (List ℕ)) (old s s' : FinderModel) (bs : List ℕ)
   pub read-step : (left' : Option (List ℕ)) (result : Result (Unit {0}) RunFault) (bs' : List ℕ) → ReadsAndPasses left mid old s bs es → s.ended ≡ false → ReadsMore mid left' s s' result bs' → ReadsAndPasses left left' old s' (bs ++ bs') es
   read-step left' result bs' step going next =
       let whole : old.rest ++ (bs ++ bs') ≡ (old.rest ++ bs) ++ bs' = sym (append_assoc old.rest bs bs') in
-      let F : List ℕ → Type 0 = λ l. Follows old.at l s'.at s'.rest in
       let same : Follows s.at (s.rest ++ bs') s'.at s'.rest = record { passed = 0; within = omega arith; offset = omega (arith, next.at); left = next.fills.held } in
       record {
         read = Consumes-trans left mid left' bs bs' step.read next.fills.read;
@@ -204,22 +188,16 @@ module _ (left mid : Option (List ℕ)) (old s s' : FinderModel) (bs : List ℕ)
               ∙ ap (λ n. es ++ scan_from 0 n (s'.rest ++ t)) (sym next.at);
           decided = λ _. step.advances.decided going;
         };
-        follows = subst F (sym whole) (Follows-then old.at s.at s'.at (old.rest ++ bs) s.rest s'.rest bs' step.follows same);
+        follows = rw whole (Follows-then old.at s.at s'.at (old.rest ++ bs) s.rest s'.rest bs' step.follows same);
         kept = λ end. absurd (true≢false (sym (step.kept end).0 ∙ going));
         end = λ _. next.fills.end;
       }
-
-last-taken : (before m : List ℕ) (k : ℕ) → k ≤ length m → drop (length (before ++ take k m) - k) (before ++ take k m) ≡ take k m
-last-taken before m k within =
-    let n : length before ≡ length (before ++ take k m) - k = omega (arith, length-append before (take k m), length-take k m) in
-    drop_at before (take k m) _ n
 
 event-is : (s : FinderModel) (m before : List ℕ) (offset : ℕ) (here : Candidate) → s.before ≡ before ++ take (candidate_len m here) m → candidate_len m here ≤ length m
     → event_by s offset (candidate_len m here) here ≡ stream_event offset m here
 event-is s m before offset Nothing is within = refl
 event-is s m before offset (Stray cause) is within = refl
-event-is s m before offset Frame is within =
-    ap (λ l. FrameAt offset (drop (length l - stated_length m) l) ∷ []) is ∙ ap (λ l. FrameAt offset l ∷ []) (last-taken before m (stated_length m) within)
+event-is s m before offset Frame is within = grind (arith, common_steps)
 
 -- the event that a finder passes
 module _ (old s s' : FinderModel) (place len size : ℕ) (here : Candidate) (found : IsNextEvent old.ended old.rest place here)
@@ -228,24 +206,17 @@ module _ (old s s' : FinderModel) (place len size : ℕ) (here : Candidate) (fou
   found-step =
       let m = drop place old.rest in
       let k = candidate_len m here in
-      let A : FinderModel → Type 0 = λ x. Advances x.ended old.at old.rest (event_by x s.at len here) x.at x.rest in
-      let B : ℕ → Type 0 = λ n. Advances s.ended old.at old.rest (event_by (gone_to s n 0) s.at n here) (s.at + n) (drop n s.rest) in
-      let C : FinderModel → Type 0 = λ x. Advances x.ended old.at old.rest (event_by (gone_to x (candidate_len x.rest here) 0) x.at (candidate_len x.rest here) here) (x.at + candidate_len x.rest here) (drop (candidate_len x.rest here) x.rest) in
       let D : List StreamEvent → Type 0 = λ e. Advances old.ended old.at old.rest e (old.at + place + k) (drop k m) in
-      let R : List ℕ → Type 0 = λ l. Advances old.ended old.at old.rest (stream_event (old.at + place) m here) (old.at + place + k) l in
-      subst A (sym is') (subst B (sym takes) (subst C (sym is)
+      rw is' (rw takes (rw is
       (subst D (sym (event-is (gone_to (gone_to old place size) k 0) m (old.before ++ take place old.rest) (old.at + place) here refl (omega (arith, found.within, length-drop place old.rest))))
-      (subst R (sym (drop-twice k place old.rest)) (found.advances old.at)))))
+      (rw (drop-twice k place old.rest) (found.advances old.at)))))
 
 module _ (left mid : Option (List ℕ)) (old s s' : FinderModel) (bs : List ℕ) (step : ReadsAndPasses left mid old s bs []) where
   -- a turn that needs more octets passes those that are no event's
   pub turn-pass : (place size : ℕ) → s.ended ≡ false → IsIncomplete s.rest place size → s' ≡ gone_to s place size → ReadsAndPasses left mid old s' bs []
   turn-pass place size going open' is =
-      let A : FinderModel → Type 0 = λ x. Advances x.ended s.at s.rest [] x.at x.rest in
-      let F : FinderModel → Type 0 = λ x. Follows s.at s.rest x.at x.rest in
-      let E : Bool → Type 0 = λ e. Advances e s.at s.rest [] (s.at + place) (drop place s.rest) in
-      pass-step left mid old s s' bs [] [] step (ap (λ x. x.ended) is) (ap (λ x. x.reads) is) (subst A (sym is) (subst E (sym going) (open'.advances s.at)))
-      (subst F (sym is) (record { passed = place; within = open'.within; offset = refl; left = refl }))
+      pass-step left mid old s s' bs [] [] step (ap (λ x. x.ended) is) (ap (λ x. x.reads) is) (rw is (rw going (open'.advances s.at)))
+      (rw is (record { passed = place; within = open'.within; offset = refl; left = refl }))
 
 -- the scan of octets is the events that were passed and those of what is left
 pub whole-scan : (ended : Bool) (s rest : List ℕ) (events : List StreamEvent) (at : ℕ) → Advances ended 0 s events at rest → scan s ≡ events ++ scan_from 0 at rest
@@ -266,12 +237,10 @@ pub steps-compose : (left mid left' : Option (List ℕ)) (old s s' : FinderModel
     → ReadsAndPasses left mid old s bs events → ReadsAndPasses mid left' s s' bs' es → ReadsAndPasses left left' old s' (bs ++ bs') (events ++ es)
 steps-compose left mid left' old s s' bs bs' events es one u16_at =
     let whole : (old.rest ++ bs) ++ bs' ≡ old.rest ++ (bs ++ bs') = append_assoc old.rest bs bs' in
-    let A : List ℕ → Type 0 = λ l. Advances s'.ended old.at l (events ++ es) s'.at s'.rest in
-    let F : List ℕ → Type 0 = λ l. Follows old.at l s'.at s'.rest in
     record {
       read = Consumes-trans left mid left' bs bs' one.read u16_at.read;
-      advances = subst A whole (Advances-then s.ended s'.ended old.at s.at s'.at (old.rest ++ bs) s.rest s'.rest bs' events es (λ end. ((u16_at.kept end).0, (u16_at.kept end).1)) one.advances u16_at.advances);
-      follows = subst F whole (Follows-then old.at s.at s'.at (old.rest ++ bs) s.rest s'.rest bs' one.follows u16_at.follows);
+      advances = rw whole at (Advances-then s.ended s'.ended old.at s.at s'.at (old.rest ++ bs) s.rest s'.rest bs' events es (λ end. ((u16_at.kept end).0, (u16_at.kept end).1)) one.advances u16_at.advances);
+      follows = rw whole at (Follows-then old.at s.at s'.at (old.rest ++ bs) s.rest s'.rest bs' one.follows u16_at.follows);
       kept = λ end.
           let a = one.kept end in
           let b = u16_at.kept a.0 in
@@ -300,11 +269,10 @@ some-none x a some none = let e : Some a ≡ None = sym some ∙ none in cc
 pub waits-open : (old s : FinderModel) (place size : ℕ) → ((s ≡ old) ⊎ NoEventCertain old.at old.rest) → IsIncomplete s.rest place size → NoEventCertain old.at old.rest
 waits-open old s place size (inr none) open' = none
 waits-open old s place size (inl same) open' =
-    let N : FinderModel → Type 0 = λ x. NoEventCertain x.at x.rest in
     let D : List ℕ → Type 0 = λ l. NoEventCertain (s.at + place) l in
     let moved : scan_from 0 s.at s.rest ≡ scan_from 0 (s.at + place) (drop place s.rest) =
     ap (scan_from 0 s.at) (sym (append-nil s.rest)) ∙ (open'.advances s.at).whole [] (λ _. refl) ∙ ap (scan_from 0 (s.at + place)) (append-nil (drop place s.rest)) in
-    subst N same (ap (take_while is_decided) moved ∙ open'.none (s.at + place))
+    rw same at (ap (take_while is_decided) moved ∙ open'.none (s.at + place))
 
 module _ (left mid : Option (List ℕ)) (old s s1 : FinderModel) (place size : ℕ) (steps : (bs : List ℕ) × ReadsAndPasses left mid old s bs []) (raised : Raised old.longest s.longest s.rest)
     (looks : (s.ended ≡ false) × IsIncomplete s.rest place size × IsStatedLength (drop place s.rest) size) (is : s1 ≡ gone_to s place size) where
@@ -321,10 +289,7 @@ module _ (left mid : Option (List ℕ)) (old s s1 : FinderModel) (place size : �
 
     pub raised-on : Raised old.longest s2.longest s2.rest
     raised-on =
-        let R : List ℕ → Type 0 = λ l. Raised old.longest s2.longest l in
-        let L : ℕ → Type 0 = λ n. Raised old.longest n (s1.rest ++ next.0) in
-        let S : FinderModel → Type 0 = λ x. Raised old.longest x.longest x.rest in
-        subst R (sym next.1.fills.held) (subst L (sym next.1.longest) (raised-read old.longest s1.longest s1.rest next.0 (subst S (sym is) (raised-open old.longest s.longest place size s.rest raised looks.1 looks.2.0))))
+        rw next.1.fills.held (rw next.1.longest (raised-read old.longest s1.longest s1.rest next.0 (rw is (raised-open old.longest s.longest place size s.rest raised looks.1 looks.2.0))))
 
     -- there is a fault
     module _ (fault : RunFault) (same : result ≡ Err fault) where
@@ -336,17 +301,14 @@ module _ (left mid : Option (List ℕ)) (old s s1 : FinderModel) (place size : �
 
       pub stop-raises : RaisesLongest old s2 (steps.0 ++ next.0) (first_event (scan_from 0 s2.at s2.rest))
       stop-raises =
-          let S : List ℕ → Type 0 = λ l. RaisesLongest old s2 l (first_event (scan_from 0 s2.at s2.rest)) in
-          subst S (sym (ap (λ l. steps.0 ++ l) none-read.0 ∙ append-nil steps.0))
+          rw (ap (λ l. steps.0 ++ l) none-read.0 ∙ append-nil steps.0)
           (open-sees old s s2 steps.0 place size steps.1.follows raised looks.1 looks.2.0 (next.1.at ∙ ap (λ x. x.at) is) rest-is (next.1.longest ∙ ap (λ x. x.longest) is))
 
 -- ---- Several calls of a finder together.
 
 -- nothing that is left is certain: the events are the open scan
 pub events-are-open : (s rest : List ℕ) (events : List StreamEvent) (at : ℕ) → Advances false 0 s events at rest → NoEventCertain at rest → open_scan s ≡ events
-events-are-open s rest events at advances none =
-    ap (take_while is_decided) (whole-scan false s rest events at advances) ∙ take_while-all events (scan_from 0 at rest) (advances.decided refl)
-    ∙ ap (λ l. events ++ l) none ∙ append-nil events
+events-are-open s rest events at advances none = grind (arith, common_steps, whole-scan, take_while-all, append-nil)
 
 -- the offsets of the events of octets
 abbrev Placed : ℕ → List ℕ → StreamEvent → Type 0
@@ -379,8 +341,7 @@ placed-here at m Frame long = ((omega arith, λ yes. omega (arith, long)), tt)
 
 placed-cut : (at : ℕ) (m : List ℕ) (v : Candidate) → v ≡ Stray Cut → AllPlaced at m (stream_event at m v)
 placed-cut at m v is =
-    let P : Candidate → Type 0 = λ x. AllPlaced at m (stream_event at m x) in
-    subst P (sym is) ((omega arith, λ yes. absurd (false≢true yes)), tt)
+    rw is ((omega arith, λ yes. absurd (false≢true yes)), tt)
 
 scan-placed : (n at : ℕ) (s : List ℕ) → length s ≤ n → AllPlaced at s (scan_from 0 at s)
 scan-placed n at [] within = let P : List StreamEvent → Type 0 = λ l. AllPlaced at [] l in subst P (sym (scan_from-nil 0 at)) tt
@@ -431,29 +392,15 @@ longest-back s at t (e ∷ es) all is =
 -- the greatest length after more calls
 more-longest : (s s' : FinderModel) (bs bs' : List ℕ) (events seen : List StreamEvent) (left mid : Option (List ℕ)) → ReadsAndPasses left mid new_finder s bs events → s.longest ≡ longest_of 0 bs events
     → (s.ended ≡ true → bs' ≡ []) → AllPlaced s.at (s.rest ++ bs') seen → RaisesLongest s s' bs' seen → s'.longest ≡ longest_of 0 (bs ++ bs') (events ++ seen)
-more-longest s s' bs bs' events seen left mid one known kept placed grown =
-    let f = one.follows in
-    let at_is : s.at ≡ f.passed = omega (arith, f.offset) in
-    let rest_is : s.rest ++ bs' ≡ drop s.at (bs ++ bs') = ap (λ l. l ++ bs') (f.left ∙ ap (λ n. drop n bs) (sym at_is)) ∙ sym (drop-append-le s.at bs bs' (omega (arith, f.within, at_is))) in
-    let prefix : longest_of 0 (bs ++ bs') events ≡ longest_of 0 bs events = elim (cases_Bool s.ended) [
-      | inl end ↦ ap (λ l. longest_of 0 (bs ++ l) events) (kept end) ∙ ap (λ l. longest_of 0 l events) (append-nil bs)
-      | inr going ↦
-          let all : AllPlaced 0 bs (events ++ scan_from 0 s.at s.rest) =
-          (let P : List StreamEvent → Type 0 = λ l. AllPlaced 0 bs l in subst P (whole-scan s.ended bs s.rest events s.at one.advances) (scan-placed (length bs) 0 bs (omega arith))) in
-          longest-prefix bs bs' events (placed-prefix 0 bs events (scan_from 0 s.at s.rest) all) (one.advances.decided going)
-    ] in
-    grown ∙ ap (λ n. max n (longest_of s.at (s.rest ++ bs') seen)) (known ∙ sym prefix)
-    ∙ ap (max (longest_of 0 (bs ++ bs') events)) (longest-back (bs ++ bs') s.at (s.rest ++ bs') seen placed rest_is)
-    ∙ sym (longest-append 0 (bs ++ bs') events seen)
+more-longest s s' bs bs' events seen left mid one known kept placed grown = grind (arith, common_steps, drop-append-le, cases_Bool, inl, append-nil, inr, whole-scan, scan-placed, longest-prefix, placed-prefix, longest-back, longest-append)
 
 pub longest-events : (left mid left' : Option (List ℕ)) (s s' : FinderModel) (bs bs' : List ℕ) (events es : List StreamEvent)
     → ReadsAndPasses left mid new_finder s bs events → s.longest ≡ longest_of 0 bs events → ReadsAndPasses mid left' s s' bs' es → RaisesLongest s s' bs' es → s'.longest ≡ longest_of 0 (bs ++ bs') (events ++ es)
 longest-events left mid left' s s' bs bs' events es one known u16_at grown =
-    let P : List StreamEvent → Type 0 = λ l. AllPlaced s.at (s.rest ++ bs') l in
     let whole : scan_from 0 s.at (s.rest ++ bs') ≡ es ++ scan_from 0 s'.at s'.rest =
     ap (scan_from 0 s.at) (sym (append-nil (s.rest ++ bs'))) ∙ u16_at.advances.whole [] (λ _. refl) ∙ ap (λ l. es ++ scan_from 0 s'.at l) (append-nil s'.rest) in
     more-longest s s' bs bs' events es left mid one known (λ end. (u16_at.kept end).1)
-    (placed-prefix s.at (s.rest ++ bs') es (scan_from 0 s'.at s'.rest) (subst P whole (scan-placed (length (s.rest ++ bs')) s.at (s.rest ++ bs') (omega arith)))) grown
+    (placed-prefix s.at (s.rest ++ bs') es (scan_from 0 s'.at s'.rest) (rw whole at (scan-placed (length (s.rest ++ bs')) s.at (s.rest ++ bs') (omega arith)))) grown
 
 pub longest-stopped : (left mid left' : Option (List ℕ)) (s s' : FinderModel) (bs bs' : List ℕ) (events : List StreamEvent)
     → ReadsAndPasses left mid new_finder s bs events → s.longest ≡ longest_of 0 bs events → ReadsAndPasses mid left' s s' bs' [] → RaisesLongest s s' bs' (first_event (scan_from 0 s'.at s'.rest))
@@ -491,8 +438,7 @@ wider most most' at left (octets ∷ given) more all = (all.0, omega (arith, all
 one-more : (most at : ℕ) (left : List ℕ) (given : List (List ℕ)) (last : List ℕ) → EachReadIsNeeded most at left given → NoEventCertain at (left ++ concat given) → length last ≤ most → EachReadIsNeeded most at left (given ++ last ∷ [])
 one-more most at left [] last all none few = let N : List ℕ → Type 0 = λ l. NoEventCertain at l in (subst N (append-nil left) none, few, tt)
 one-more most at left (octets ∷ given) last all none few =
-    let N : List ℕ → Type 0 = λ l. NoEventCertain at l in
-    (all.0, all.1, one-more most at (left ++ octets) given last all.2 (subst N (sym (append_assoc left octets (concat given))) none) few)
+    (all.0, all.1, one-more most at (left ++ octets) given last all.2 (rw (append_assoc left octets (concat given)) none) few)
 
 -- before any read
 pub none-waited : (s : FinderModel) → CallReadsAreNeeded s s []
@@ -525,13 +471,12 @@ module _ (left mid : Option (List ℕ)) (old s s1 s2 : FinderModel) (place size 
   waits-more : s2.reads ≡ s1.reads + 1 → CallReadsAreNeeded old s2 (bs ++ bs')
   waits-more reads =
       let most = max 4096 s2.longest in
-      let N : List ℕ → Type 0 = λ l. NoEventCertain old.at (old.rest ++ l) in
       record {
         given = each.given ++ bs' ∷ [];
         octets = ap (λ l. l ++ bs') each.octets ∙ ap (λ l. concat each.given ++ l) (sym (append-nil bs')) ∙ sym (concat-append each.given (bs' ∷ []));
         made = omega (arith, reads, ap (λ x. x.reads) is, each.made, length-append each.given (bs' ∷ []));
         waited = one-more most old.at old.rest each.given bs' (wider (max 4096 s.longest) most old.at old.rest each.given (omega (arith, longer)) each.waited)
-            (subst N each.octets (none-in-all left mid old s bs place size step going open'))
+            (rw each.octets at (none-in-all left mid old s bs place size step going open'))
             (omega (arith, bound, ap length read.fills.held, length-append s1.rest bs'));
       }
 
@@ -541,8 +486,7 @@ module _ (left mid : Option (List ℕ)) (old s s1 s2 : FinderModel) (place size 
     where
       none : bs' ≡ [] → s2.reads ≡ s1.reads → CallReadsAreNeeded old s2 (bs ++ bs')
       none nothing same =
-          let E : List ℕ → Type 0 = λ l. CallReadsAreNeeded old s2 l in
-          subst E (sym (ap (λ l. bs ++ l) nothing ∙ append-nil bs)) (waits-still old s s2 bs each (same ∙ ap (λ x. x.reads) is) longer)
+          rw (ap (λ l. bs ++ l) nothing ∙ append-nil bs) (waits-still old s s2 bs each (same ∙ ap (λ x. x.reads) is) longer)
 
       by : (r : Result (Unit {0}) RunFault) → FillEnds (s1.room < 2 * max 4096 s1.longest) (input_left s1) (input_left s2) bs' r → CallReadsAreNeeded old s2 (bs ++ bs')
       by (Ok u) ends = waits-more ends.0

@@ -1,15 +1,9 @@
 -- A message that was written, section by section, read again.
-use Rattle.std.proofs.Common.{◌≡◌, ◌==◌, ◌-◌, ℕ, true, false, List, Ok, length, refl, eq-eqb, ◌≢◌, ◌∙◌, ◌+◌, ◌*◌, ◌/◌, ◌%◌, ◌≤◌, Bool, [], ◌∷◌, ◌++◌, take, ap, sym, subst, arith, Option, Some, None, get_or, codes, append_assoc, length-append, Err, append-nil, zero, suc, ◌<◌, slice_get}
-use Rattle.std.specs.Prelude.{if◌then◌else◌, nat_lt, nat_le, is_some, slice_range, ◌&&◌, ◌||◌, Result, OnOk, option_map}
-use Rattle.bufr_frame.specs.Section1.{is_edition, first_least, Slot, Field, Flags, Single, Double, slots_of, octets_of_slots, slot_octets, slot_value, head_value, head_in}
-use Rattle.bufr_frame.specs.Sections.{sections_of, section_end, parts, edition_of, has_section2, is_long_edition_3, head_of, Sections, is_padded}
-use Rattle.std.proofs.Math.Seq.{get_or-append_right, take-length}
-use Rattle.std.proofs.lemmas.List.{drop_at, take-append-le}
+use Rattle.std.proofs.lemmas.Grind.{common_steps}
+use Rattle.std.proofs.Common.{◌≡◌, ◌==◌, ◌-◌, ℕ, true, false, List, Ok, length, refl, eq-eqb, ◌∙◌, ◌+◌, ◌*◌, ◌/◌, ◌%◌, ◌≤◌, Bool, [], ◌∷◌, ◌++◌, ap, sym, subst, arith, Option, Some, None, get_or, codes, append_assoc, length-append, Err, append-nil, zero, suc, ◌<◌, slice_get, if◌then◌else◌, nat_lt, nat_le, is_some, slice_range, ◌&&◌, ◌||◌, Result, OnOk, option_map}
+use Rattle.bufr_frame.specs.Prelude.{is_edition, first_least, Slot, Field, Flags, Single, Double, slots_of, octets_of_slots, slot_octets, slot_value, head_value, head_in, sections_of, section_end, parts, edition_of, has_section2, is_long_edition_3, head_of, Sections, is_padded, u24_at, u16_at, words, three_octets, two_octets, octets_of_words, MessageParts, message_octets, message_size, section0_octets, section1_octets, section2_octets, section2_size, section3_octets, section4_octets, data_flags, sections_from, head_octets, even_size, with_even_length, with_pad_octet, is_writable, size_from, parts_of, Head}
 use Rattle.std.proofs.lemmas.Bool.Decides.{nat_tests}
-use Rattle.bufr_frame.specs.Octets.{u24_at, u16_at, words, three_octets, two_octets, octets_of_words}
-use Rattle.bufr_frame.specs.Layout.{MessageParts, message_octets, message_size, section0_octets, section1_octets, section2_octets, section2_size, section3_octets, section4_octets, data_flags, sections_from, head_octets, even_size, with_even_length, with_pad_octet, is_writable, size_from, parts_of}
-use Rattle.bufr_frame.specs.declared.section1.Head.{Head}
-use Rattle.bufr_bits.specs.Bits.{bits_of, bits_of_octet}
+use Rattle.bufr_bits.specs.Prelude.{bits_of, bits_of_octet}
 
 -- ---- The sections of a message, one after another.
 
@@ -17,9 +11,7 @@ use Rattle.bufr_bits.specs.Bits.{bits_of, bits_of_octet}
 pub sections-are : (m : List ℕ) (p1 p2 p3 p4 : ℕ) → is_edition (edition_of m) ≡ true → section_end m 1 (first_least (edition_of m)) 8 ≡ Ok p1 → (if has_section2 m then section_end m 2 4 p1 else Ok p1) ≡ Ok p2
     → section_end m 3 7 p2 ≡ Ok p3 → section_end m 4 4 p3 ≡ Ok p4 → p4 ≡ length m - 4 → is_long_edition_3 m p2 p3 p4 ≡ false → sections_of m ≡ Ok (parts m p1 p2 p3 p4)
 unfolding sections_of
-sections-are m p1 p2 p3 p4 edition a b c d last short =
-    let l : (p4 == (length m - 4)) ≡ true = eq-eqb p4 (length m - 4) last in
-    rw (edition, a, b, c, d, l, short) refl
+sections-are m p1 p2 p3 p4 edition a b c d last short = grind (arith, common_steps, eq-eqb)
 
 -- octets write their number
 pub two-number : (n : ℕ) → 256 * (n / 256) + n % 256 ≡ n
@@ -61,11 +53,7 @@ length-evened edition prefix octets = length-padded (is_padded edition (prefix +
 
 -- in edition 3 the remainder of a division by 2 is added
 pub even-3 : (n : ℕ) → even_size 3 n ≡ n + n % 2
-even-3 n = by (n % 2 == 1) refl
-  where
-    by : (odd : Bool) → (n % 2 == 1) ≡ odd → (if odd then n + 1 else n) ≡ n + n % 2
-    by true is = let h : n % 2 ≡ 1 = grind (arith, nat_tests, is) in omega (arith, h)
-    by false is = let h : n % 2 ≢ 1 = grind (arith, nat_tests, is) in omega (arith, h)
+even-3 n = grind (arith, common_steps)
 
 -- what was made even is not padded again
 pub even-stays : (edition n : ℕ) → is_padded edition (even_size edition n) ≡ false
@@ -87,30 +75,16 @@ length-octets_in (Double field ∷ more) says = omega (arith, length-octets_in m
 
 -- what comes after a prefix
 pub index-after : (prefix rest : List ℕ) (p k : ℕ) → p ≡ length prefix → get_or (prefix ++ rest) (p + k) 0 ≡ get_or rest k 0
-index-after prefix rest p k is =
-    let e : p + k - length prefix ≡ k = omega arith in
-    get_or-append_right prefix rest (p + k) 0 (omega arith) ∙ ap (λ n. get_or rest n 0) e
+index-after prefix rest p k is = grind (arith, common_steps)
 
 pub range-after : (prefix x rest : List ℕ) (i j : ℕ) → i ≡ length prefix → j ≡ i + length x → slice_range (prefix ++ (x ++ rest)) i j ≡ x
-range-after prefix x rest i j is to =
-    let n : j - i ≡ length x = omega arith in
-    ap (take (j - i)) (drop_at prefix (x ++ rest) i (sym is)) ∙ ap (λ k. take k (x ++ rest)) n ∙ take-append-le (length x) x rest (omega arith) ∙ take-length x
+range-after prefix x rest i j is to = grind (arith, common_steps)
 
 -- where a section ends that states its length
 pub section-at : (m prefix rest : List ℕ) (k least p n : ℕ) → m ≡ prefix ++ (three_octets n ++ rest) → p ≡ length prefix → least ≤ n → 3 ≤ n → p + n + 4 ≤ length m
     → section_end m k least p ≡ Ok (p + n)
 unfolding section_end
-section-at m prefix rest k least p n is at least_n three_n within =
-    let a : get_or m (p + 0) 0 ≡ n / 65536 = ap (λ l. get_or l (p + 0) 0) is ∙ index-after prefix (three_octets n ++ rest) p 0 at in
-    let b : get_or m (p + 1) 0 ≡ n / 256 % 256 = ap (λ l. get_or l (p + 1) 0) is ∙ index-after prefix (three_octets n ++ rest) p 1 at in
-    let c : get_or m (p + 2) 0 ≡ n % 256 = ap (λ l. get_or l (p + 2) 0) is ∙ index-after prefix (three_octets n ++ rest) p 2 at in
-    let z : p + 0 ≡ p = omega arith in
-    let a' : get_or m p 0 ≡ n / 65536 = ap (λ i. get_or m i 0) (sym z) ∙ a in
-    let t : u24_at m p ≡ n = rw (a', b, c) (three-number n) in
-    let e : nat_lt (length m - 4) (p + 3) ≡ false = grind (arith, nat_tests) in
-    let f : nat_lt n least ≡ false = grind (arith, nat_tests) in
-    let g : nat_lt (length m - 4) (p + n) ≡ false = grind (arith, nat_tests) in
-    rw (e, t, f, g) refl
+section-at m prefix rest k least p n is at least_n three_n within = grind (arith, common_steps)
 
 second-at : (m prefix rest : List ℕ) (optional : Option (List ℕ)) (p : ℕ) → m ≡ prefix ++ (section2_octets optional ++ rest) → p ≡ length prefix → has_section2 m ≡ is_some optional
     → p + section2_size optional + 4 ≤ length m → (if has_section2 m then section_end m 2 4 p else Ok p) ≡ Ok (p + section2_size optional)
@@ -131,10 +105,10 @@ and-both true b is = (refl, is)
 and-both false b is = absurd (cc)
 
 equal : (a b : ℕ) → (a == b) ≡ true → a ≡ b
-equal a b is = grind (arith, nat_tests, is)
+equal a b is = grind arith
 
 none-fits : (n : ℕ) → nat_le n 0 ≡ true → n ≡ 0
-none-fits n is = grind (arith, nat_tests, is)
+none-fits n is = grind arith
 
 -- a head that can be written is of edition 4, or of edition 3 and then says nothing of what that
 -- lacks
@@ -319,12 +293,7 @@ read-back h p writable =
 
 -- six parts
 pub six-parts : (a b c d e f u v w x y z : List ℕ) → u ≡ a → v ≡ u ++ b → w ≡ v ++ c → x ≡ w ++ d → y ≡ x ++ e → z ≡ y ++ f → z ≡ a ++ (b ++ (c ++ (d ++ (e ++ f))))
-six-parts a b c d e f u v w x y z hu hv hw hx hy hz =
-    hz ∙ ap (λ l. l ++ f) hy ∙ append_assoc x e f
-    ∙ ap (λ l. l ++ (e ++ f)) hx ∙ append_assoc w d (e ++ f)
-    ∙ ap (λ l. l ++ (d ++ (e ++ f))) hw ∙ append_assoc v c (d ++ (e ++ f))
-    ∙ ap (λ l. l ++ (c ++ (d ++ (e ++ f)))) hv ∙ append_assoc u b (c ++ (d ++ (e ++ f)))
-    ∙ ap (λ l. l ++ (b ++ (c ++ (d ++ (e ++ f))))) hu
+six-parts a b c d e f u v w x y z hu hv hw hx hy hz = grind (arith, common_steps)
 
 pub is_some-map : {X Y : Type 0} (f : X → Y) (o : Option X) → is_some o ≡ is_some (option_map f o)
 is_some-map f (Some x) = refl
@@ -341,17 +310,7 @@ pub third : {X E : Type 0} (r : Result X E) (edition : ℕ) (words : List ℕ) (
     → one ≡ old ++ three_octets n → u16_at ≡ (one ++ (0 ∷ two_octets subsets ++ flags ∷ [])) ++ octets_of_words words
     → OnOk r (new ≡ with_pad_octet b u16_at) → OnOk r (new ≡ old ++ section3_octets (with_even_length edition 7 (octets_of_words words)) subsets flags)
 third (Err e) edition words subsets flags n b old one u16_at new size is p q last = tt
-third (Ok x) edition words subsets flags n b old one u16_at new size is p q last =
-    let w = octets_of_words words in
-    let f = 0 ∷ two_octets subsets ++ flags ∷ [] in
-    let c = with_even_length edition 7 w in
-    let long : n ≡ 7 + length c = size ∙ ap (λ k. even_size edition (7 + k)) (sym (length-octets_of_words words)) ∙ sym (length-evened edition 7 w) in
-    let prefix : u16_at ≡ ((old ++ three_octets n) ++ f) ++ w = q ∙ ap (λ l. (l ++ f) ++ w) p in
-    let content : with_pad_octet b w ≡ c = ap (λ k. with_pad_octet k w) (is ∙ ap (λ k. is_padded edition (7 + k)) (sym (length-octets_of_words words))) in
-    let whole : with_pad_octet b u16_at ≡ ((old ++ three_octets n) ++ f) ++ c =
-    ap (with_pad_octet b) prefix ∙ padded-after b ((old ++ three_octets n) ++ f) w ∙ ap (λ l. ((old ++ three_octets n) ++ f) ++ l) content in
-    let apart : ((old ++ three_octets n) ++ f) ++ c ≡ old ++ (three_octets n ++ (f ++ c)) = append_assoc (old ++ three_octets n) f c ∙ append_assoc old (three_octets n) (f ++ c) in
-    last ∙ whole ∙ apart ∙ ap (λ k. old ++ (three_octets k ++ (f ++ c))) long
+third (Ok x) edition words subsets flags n b old one u16_at new size is p q last = grind (arith, common_steps, length-octets_of_words, length-evened, padded-after, append_assoc)
 
 -- ---- Sections made even.
 
@@ -365,17 +324,7 @@ pub even-least : (edition n : ℕ) → n ≤ even_size edition n
 even-least edition n = least-by (is_padded edition n) n
 
 pub even-mono : (edition n k : ℕ) → n ≤ k → even_size edition n ≤ even_size edition k
-even-mono edition n k h = by (edition == 3) (n % 2 == 1) (k % 2 == 1) refl refl
-  where
-    by : (third odd-n odd-k : Bool) → (n % 2 == 1) ≡ odd-n → (k % 2 == 1) ≡ odd-k → (if third && odd-n then n + 1 else n) ≤ (if third && odd-k then k + 1 else k)
-    by false odd-n odd-k e f = h
-    by true false false e f = h
-    by true false true e f = omega (arith, h)
-    by true true true e f = omega (arith, h)
-    by true true false e f =
-        let odd : n % 2 ≡ 1 = grind (arith, nat_tests, e) in
-        let even : k % 2 ≢ 1 = grind (arith, nat_tests, f) in
-        omega (arith, h, odd, even)
+even-mono edition n k h = grind (arith, common_steps)
 
 -- a shorter payload makes no longer message
 pub size-least : (edition : ℕ) (local1 : ℕ) (section2 : Option (List ℕ)) (descriptors n k most : ℕ) → n ≤ k → size_from edition local1 section2 descriptors k ≤ most → size_from edition local1 section2 descriptors n ≤ most
@@ -383,23 +332,10 @@ size-least edition local1 section2 descriptors n k most h g = omega (arith, even
 
 -- ---- octets
 
--- made even once, it stays
-pub evened-twice : (edition prefix : ℕ) (octets : List ℕ) → with_even_length edition prefix (with_even_length edition prefix octets) ≡ with_even_length edition prefix octets
-evened-twice edition prefix octets =
-    ap (λ b. with_pad_octet b (with_even_length edition prefix octets)) (ap (is_padded edition) (length-evened edition prefix octets) ∙ even-stays edition (prefix + length octets))
-
-even-twice : (edition n : ℕ) → even_size edition (even_size edition n) ≡ even_size edition n
-even-twice edition n = ap (λ b. if b then even_size edition n + 1 else even_size edition n) (even-stays edition n)
-
 -- a payload that is even already is written as the payload that it was made from
 pub written-even : (h : Head) (local1 : List ℕ) (section2 : Option (List ℕ)) (descriptors : List ℕ) (subsets : ℕ) (observed compressed : Bool) (payload : List ℕ)
     → message_octets h (parts_of local1 section2 descriptors subsets observed compressed (with_even_length h.edition 4 payload)) ≡ message_octets h (parts_of local1 section2 descriptors subsets observed compressed payload)
-written-even h local1 section2 descriptors subsets observed compressed payload =
-    let long : even_size h.edition (4 + length (with_even_length h.edition 4 payload)) ≡ even_size h.edition (4 + length payload) =
-    ap (even_size h.edition) (length-evened h.edition 4 payload) ∙ even-twice h.edition (4 + length payload) in
-    λ j. section0_octets (8 + (first_least h.edition + length local1) + section2_size section2 + even_size h.edition (7 + 2 * length descriptors) + long j + 4) h.edition
-    ++ (section1_octets h local1 (is_some section2) ++ (section2_octets section2 ++ (section3_octets (with_even_length h.edition 7 (octets_of_words descriptors)) subsets (data_flags observed compressed)
-    ++ (section4_octets (evened-twice h.edition 4 payload j) ++ codes "7777"))))
+written-even h local1 section2 descriptors subsets observed compressed payload = grind (arith, common_steps)
 
 bits-append : (xs ys : List ℕ) → bits_of (xs ++ ys) ≡ bits_of xs ++ bits_of ys
 unfolding bits_of
@@ -417,9 +353,7 @@ evened-bits edition prefix octets = bits-by (is_padded edition (prefix + length 
 -- ---- The words of octets, one by one.
 
 two-after : (a b i : ℕ) (m : List ℕ) → u16_at (a ∷ b ∷ m) (2 * suc i) ≡ u16_at m (2 * i)
-two-after a b i m = let e : 2 * suc i ≡ suc (suc (2 * i)) = omega arith in
-    let f : suc (suc (2 * i)) + 1 ≡ suc (suc (2 * i + 1)) = omega arith in
-    rw (e, f) refl
+two-after a b i m = grind (arith, common_steps)
 
 -- past the last whole word there is none
 pub words-none : (m : List ℕ) (i : ℕ) → length m < 2 * i + 2 → slice_get (words m) i ≡ None

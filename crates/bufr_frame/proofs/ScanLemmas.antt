@@ -1,23 +1,19 @@
 -- How a scan goes on, and what octets after it cannot change.
-use Rattle.std.proofs.Common.{◌≡◌, ℕ, zero, suc, ◌+◌, ◌-◌, ◌<◌, ◌≤◌, Bool, true, false, List, [], ◌∷◌, ◌++◌, length, take, drop, codes, refl, sym, ◌∙◌, ap, subst, arith, add-zero, length-take, length-drop, Option, Some, None, ◌⊎◌, inl, inr, ◌*◌, append_assoc, length-append, get_or, append-nil, below_more}
+use Rattle.std.proofs.Common.{◌≡◌, ℕ, zero, suc, ◌+◌, ◌-◌, ◌<◌, ◌≤◌, Bool, true, false, List, [], ◌∷◌, ◌++◌, length, take, drop, codes, refl, sym, ◌∙◌, ap, subst, arith, add-zero, length-take, length-drop, Option, Some, None, ◌⊎◌, inl, inr, ◌*◌, append_assoc, length-append, get_or, append-nil, below_more, MatchOption, nat_lt, not, ◌≢◌, if◌then◌else◌, take_while, min, max, slice_index}
 use Rattle.std.proofs.Math.Seq.{drop-nil, drop-length}
 use Rattle.std.proofs.lemmas.Bool.{false_from_ne_true, true≢false, cases_Bool, cases_lt, and_parts}
 use Rattle.std.proofs.lemmas.Slice.Eq.{bytes_eq-Decides}
 use Rattle.std.proofs.lemmas.Grind.{common_steps}
-use Rattle.std.specs.Prelude.{MatchOption, nat_lt, not, ◌≢◌, if◌then◌else◌, take_while, min, max, slice_index}
 use Rattle.memchr.specs.Find.{OccursAt, FindsNeedle, Nowhere}
 use Rattle.memchr.proofs.lemmas.MatchLemmas.{OccursAt-from_part, OccursAt-part}
-use Rattle.bufr_frame.specs.declared.finder.Candidate.{Candidate}
+use Rattle.bufr_frame.specs.Prelude.{Candidate, scan_from, classify, has_word_at, stated_length, stream_event, candidate_len, StreamEvent, scan, open_scan, is_decided, Advances, NoEventCertain, length_here, longest_of, first_event, FrameAt, StrayAt, StartsWithBufr, IsNextEvent, IsIncomplete, HasNoFurtherEvent, Raised, event_by, FinderModel, Follows, RaisesLongest, max_octets}
 use Rattle.bufr_frame.specs.declared.finder.Candidate.TheVariants.{Nothing, Stray, Frame}
 use Rattle.bufr_frame.specs.declared.fault.Cause.TheVariants.{Cut, ShortLength, NoEnd}
-use Rattle.bufr_frame.specs.Scan.{scan_from, classify, has_word_at, stated_length, stream_event, candidate_len, StreamEvent, scan, open_scan, is_decided, Advances, NoEventCertain, length_here, longest_of, first_event, FrameAt, StrayAt}
 use Rattle.std.specs.List.{list_all, prefix_len, AllByRecursion}
 use Rattle.std.specs.Str.{bytes_eq}
 use Rattle.std.proofs.lemmas.Bool.Decides.{nat_tests}
 use Rattle.std.proofs.lemmas.List.{get_or-drop, get_or_append_left, take-append-le, drop-append-le}
 use Rattle.std.proofs.lemmas.List.Folds.{list_all-append}
-use Rattle.bufr_frame.specs.Finder.{StartsWithBufr, IsNextEvent, IsIncomplete, HasNoFurtherEvent, Raised, event_by, FinderModel, Follows, RaisesLongest}
-use Rattle.bufr_frame.specs.Layout.{max_octets}
 
 pub scan_from-nil : (k at : ℕ) → scan_from k at [] ≡ []
 unfolding scan_from
@@ -38,17 +34,12 @@ one-on (suc k) at x m goes = let e : suc k - 1 ≡ k = omega arith in rw e (ap (
 pub scan_from-here : (at : ℕ) (m : List ℕ) → 0 < length m → 0 < candidate_len m (classify m) → scan_from 0 at m ≡ stream_event at m (classify m) ++ scan_from 0 (at + candidate_len m (classify m)) (drop (candidate_len m (classify m)) m)
 unfolding scan_from
 scan_from-here at [] some _ = absurd (omega arith)
-scan_from-here at (x ∷ m) some goes =
-    let k = candidate_len (x ∷ m) (classify (x ∷ m)) in
-    ap (λ t. stream_event at (x ∷ m) (classify (x ∷ m)) ++ t)
-    (scan_from-skip (k - 1) (at + 1) m ∙ one-on k at x m goes)
+scan_from-here at (x ∷ m) some goes = grind (arith, common_steps, scan_from-skip, one-on)
 
 -- where no event is, the scan goes on one octet further
 pub scan_from-nothing : (at x : ℕ) (m : List ℕ) → classify (x ∷ m) ≡ Nothing → scan_from 0 at (x ∷ m) ≡ scan_from 0 (at + 1) m
 unfolding scan_from
-scan_from-nothing at x m nothing =
-    let P : Candidate → Type 0 = λ v. stream_event at (x ∷ m) v ++ scan_from (candidate_len (x ∷ m) v - 1) (at + 1) m ≡ scan_from 0 (at + 1) m in
-    subst P (sym nothing) refl
+scan_from-nothing at x m nothing = grind (arith, common_steps)
 
 -- no event is at the first k indices
 pub scan_from-past : (k at : ℕ) (m : List ℕ) → k ≤ length m → ((j : ℕ) → j < k → classify (drop j m) ≡ Nothing) → scan_from 0 at m ≡ scan_from 0 (at + k) (drop k m)
@@ -95,25 +86,15 @@ verdict-there s j occurs = verdict-some (drop j s) ((bytes_eq-Decides (take 4 (d
 -- the event at an index, and the rest of the scan after it
 pub scan_from-prefix : (s : List ℕ) (at place k : ℕ) → place < length s → k ≡ candidate_len (drop place s) (classify (drop place s)) → 0 < k
     → scan_from 0 at (drop place s) ≡ stream_event at (drop place s) (classify (drop place s)) ++ scan_from 0 (at + k) (drop (place + k) s)
-scan_from-prefix s at place k within is goes =
-    let m = drop place s in
-    let Q : ℕ → Type 0 = λ n. 0 < n in
-    let P : ℕ → Type 0 = λ n. scan_from 0 at m ≡ stream_event at m (classify m) ++ scan_from 0 (at + n) (drop n m) in
-    subst P (sym is) (scan_from-here at m (omega (arith, length-drop {A = ℕ})) (subst Q is goes))
-    ∙ ap (λ t. stream_event at m (classify m) ++ scan_from 0 (at + k) t) (drop-twice k place s)
+scan_from-prefix s at place k within is goes = grind (arith, common_steps, scan_from-here, length-drop, drop-twice)
 
 -- ---- Octets that come after do not change what was certain.
 
 pub holds-prefix : (text : List ℕ) (p : ℕ) (m t : List ℕ) → p + 4 ≤ length m → has_word_at text p (m ++ t) ≡ has_word_at text p m
-holds-prefix text p m t long =
-    ap (λ l. bytes_eq (take 4 l) text) (drop-append-le p m t (omega arith))
-    ∙ ap (λ l. bytes_eq l text) (take-append-le 4 (drop p m) t (omega (arith, length-drop {A = ℕ})))
+holds-prefix text p m t long = grind (arith, common_steps, drop-append-le, take-append-le, length-drop)
 
 pub stated-prefix : (m t : List ℕ) → 8 ≤ length m → stated_length (m ++ t) ≡ stated_length m
-stated-prefix m t long =
-    ap (λ n. 65536 * n + 256 * get_or (m ++ t) 5 0 + get_or (m ++ t) 6 0) (get_or_append_left m t 0 4 (omega arith))
-    ∙ ap (λ n. 65536 * get_or m 4 0 + 256 * n + get_or (m ++ t) 6 0) (get_or_append_left m t 0 5 (omega arith))
-    ∙ ap (λ n. 65536 * get_or m 4 0 + 256 * get_or m 5 0 + n) (get_or_append_left m t 0 6 (omega arith))
+stated-prefix m t long = grind (arith, common_steps, get_or_append_left)
 
 -- what is certain stays so
 verdict-prefix : (m t : List ℕ) → 8 ≤ length m → stated_length m ≤ length m → classify (m ++ t) ≡ classify m
@@ -171,14 +152,10 @@ unfolding chain
 is-chain m here = rw here refl
 
 pub four-long : (m : List ℕ) → has_word_at (codes "BUFR") 0 m ≡ true → 4 ≤ length m
-four-long m here =
-    let same : take 4 m ≡ codes "BUFR" = (bytes_eq-Decides (take 4 m) (codes "BUFR")).0 here in
-    omega (arith, length-take {A = ℕ}, ap length same)
+four-long m here = grind (arith, common_steps, codes, bytes_eq-Decides, length-take)
 
 pub taken-bounds : (m : List ℕ) → has_word_at (codes "BUFR") 0 m ≡ true → (4 ≤ candidate_len m (classify m)) × (candidate_len m (classify m) ≤ length m)
-taken-bounds m here =
-    let P : Candidate → Type 0 = λ v. (4 ≤ candidate_len m v) × (candidate_len m v ≤ length m) in
-    subst P (sym (is-chain m here)) (chain-bounds _ _ _ _ m (four-long m here) (λ whole. grind (arith, nat_tests, whole)) (λ least. grind (arith, nat_tests, least)))
+taken-bounds m here = grind (arith, common_steps, is-chain, chain-bounds, four-long, nat_tests)
 
 chain-frame : (a b c d : Bool) → chain a b c d ≡ Frame → c ≡ false
 unfolding chain
@@ -189,15 +166,10 @@ chain-frame false false false d is = refl
 
 -- a message has at least 12 octets
 frame-long : (m : List ℕ) → has_word_at (codes "BUFR") 0 m ≡ true → classify m ≡ Frame → 12 ≤ stated_length m
-frame-long m here is =
-    let least : nat_lt (stated_length m) 12 ≡ false = chain-frame _ _ _ _ (sym (is-chain m here) ∙ is) in
-    grind (arith, nat_tests, least)
+frame-long m here is = grind (arith, common_steps, chain-frame, is-chain, nat_tests)
 
 pub certain : (m : List ℕ) (at : ℕ) → has_word_at (codes "BUFR") 0 m ≡ true → 8 ≤ length m → stated_length m ≤ length m → list_all is_decided (stream_event at m (classify m)) ≡ true
-certain m at here long whole =
-    let a : nat_lt (length m) 8 ≡ false = grind (arith, nat_tests) in
-    let b : nat_lt (length m) (stated_length m) ≡ false = grind (arith, nat_tests) in
-    rw (is-chain m here, a, b) (chain-decided _ _ at m)
+certain m at here long whole = grind (arith, common_steps, nat_tests, is-chain, chain-decided)
 
 happening-prefix : (at : ℕ) (m t : List ℕ) (v : Candidate) → 8 ≤ length m → stated_length m ≤ length m → stream_event at (m ++ t) v ≡ stream_event at m v
 happening-prefix at m t Nothing long whole = refl
@@ -217,8 +189,7 @@ found-prefix m t at here long whole =
     let v : classify (m ++ t) ≡ classify m = verdict-prefix m t long whole in
     let k : candidate_len (m ++ t) (classify (m ++ t)) ≡ candidate_len m (classify m) = ap (candidate_len (m ++ t)) v ∙ taken-prefix m t (classify m) long in
     let h : stream_event at (m ++ t) (classify (m ++ t)) ≡ stream_event at m (classify m) = ap (stream_event at (m ++ t)) v ∙ happening-prefix at m t (classify m) long whole in
-    let P : ℕ → Type 0 = λ n. 0 < n in
-    scan_from-here at (m ++ t) (omega (arith, length-append m t)) (subst P (sym k) (omega (arith, bounds.0)))
+    scan_from-here at (m ++ t) (omega (arith, length-append m t)) (rw k (omega (arith, bounds.0)))
     ∙ ap (λ e. e ++ scan_from 0 (at + candidate_len (m ++ t) (classify (m ++ t))) (drop (candidate_len (m ++ t) (classify (m ++ t))) (m ++ t))) h
     ∙ ap (λ n. stream_event at m (classify m) ++ scan_from 0 (at + n) (drop n (m ++ t))) k
     ∙ ap (λ l. stream_event at m (classify m) ++ scan_from 0 (at + candidate_len m (classify m)) l) (drop-append-le (candidate_len m (classify m)) m t bounds.1)
@@ -258,16 +229,14 @@ nowhere-after s near far before suffix k low below occurs = elim (cases_lt k nea
 
 pub found-after : (s m : List ℕ) (near k : ℕ) → m ≡ drop near s → Nowhere (OccursAt s (codes "BUFR")) 0 near → FindsNeedle m (codes "BUFR") 0 (Some k) → FindsNeedle s (codes "BUFR") 0 (Some (near + k))
 found-after s m near k is before found =
-    let F : List ℕ → Type 0 = λ l. FindsNeedle l (codes "BUFR") 0 (Some k) in
-    let there = subst F is found in
+    let there = rw is at found in
     let here = occurs-before s near k there.1 in
     (record { low = omega arith; high = omega (arith, here.fits); before = nowhere-after s near k before there.0.before }, here)
 
 pub none-after : (s m : List ℕ) (near : ℕ) → m ≡ drop near s → near ≤ length s → Nowhere (OccursAt s (codes "BUFR")) 0 near → FindsNeedle m (codes "BUFR") 0 None → FindsNeedle s (codes "BUFR") 0 None
 none-after s m near is within before none =
-    let F : List ℕ → Type 0 = λ l. FindsNeedle l (codes "BUFR") 0 None in
     let N : ℕ → Type 0 = λ n. Nowhere (OccursAt s (codes "BUFR")) 0 n in
-    subst N (omega (arith, length-drop near s)) (nowhere-after s near (length (drop near s) + 1) before (subst F is none))
+    subst N (omega (arith, length-drop near s)) (nowhere-after s near (length (drop near s) + 1) before (rw is at none))
 
 -- the indices before the first `BUFR`
 to-first : (s : List ℕ) (place : ℕ) → FindsNeedle s (codes "BUFR") 0 (Some place) → (t : List ℕ) (at : ℕ) → scan_from 0 at (s ++ t) ≡ scan_from 0 (at + place) (drop place s ++ t)
@@ -323,36 +292,26 @@ found-so-end s place found =
       advances = λ at. record {
         whole = λ t none.
             let e : t ≡ [] = none refl in
-            let P : List ℕ → Type 0 = λ t'. scan_from 0 at (s ++ t') ≡ stream_event (at + place) m (classify m) ++ scan_from 0 (at + place + k) (drop (place + k) s ++ t') in
-            subst P (sym e) (rw (append-nil, append-nil) (scan_from-found s (Some place) found at ∙ scan_from-prefix s (at + place) place k (omega (arith, found.1.fits)) refl (omega (arith, bounds.0))));
+            rw e (rw (append-nil, append-nil) (scan_from-found s (Some place) found at ∙ scan_from-prefix s (at + place) place k (omega (arith, found.1.fits)) refl (omega (arith, bounds.0))));
         decided = λ going. absurd (true≢false going);
       };
     }
 
 none-cut : (at : ℕ) (m : List ℕ) → 0 < length m → classify m ≡ Stray Cut → NoEventCertain at m
 none-cut at m some cut =
-    let P : Candidate → Type 0 = λ v. 0 < candidate_len m v in
-    let Q : Candidate → Type 0 = λ v. take_while is_decided (stream_event at m v ++ scan_from 0 (at + candidate_len m v) (drop (candidate_len m v) m)) ≡ [] in
     let goes : 0 < candidate_len m (Stray Cut) = omega arith in
-    ap (take_while is_decided) (scan_from-here at m some (subst P (sym cut) goes)) ∙ subst Q (sym cut) refl
+    ap (take_while is_decided) (scan_from-here at m some (rw cut goes)) ∙ rw cut refl
 
 pub cut-so : (m : List ℕ) → has_word_at (codes "BUFR") 0 m ≡ true → ((length m < 8) ⊎ (length m < stated_length m)) → classify m ≡ Stray Cut
-cut-so m here (inl short) =
-    let a : nat_lt (length m) 8 ≡ true = grind (arith, nat_tests) in
-    rw (is-chain m here, a) (chain-cut _ _ _)
-cut-so m here (inr short) =
-    let a : nat_lt (length m) (stated_length m) ≡ true = grind (arith, nat_tests) in
-    rw (is-chain m here, a) (chain-cut-second _ _ _)
+cut-so m here (inl short) = grind (arith, common_steps, nat_tests, is-chain, chain-cut)
+cut-so m here (inr short) = grind (arith, common_steps, nat_tests, is-chain, chain-cut-second)
 
 pub length-eight : (m : List ℕ) → 8 ≤ length m → length_here m ≡ stated_length m
 length-eight m long = let a : nat_lt (length m) 8 ≡ false = grind (arith, nat_tests) in rw a refl
 
 -- the word with too few octets after it
 pub cut-here : (m : List ℕ) (size : ℕ) → StartsWithBufr m → size ≡ length_here m → length m < max 8 size → classify m ≡ Stray Cut
-cut-here m size here is few = elim (cases_lt (length m) 8) [
-  | inl short ↦ cut-so m here (inl short)
-  | inr long ↦ cut-so m here (inr (let e : size ≡ stated_length m = is ∙ length-eight m long in omega arith))
-]
+cut-here m size here is few = grind (arith, common_steps, cases_lt, inl, cut-so, inr, length-eight)
 
 -- more octets are needed after the first `BUFR`
 pub open-so : (s : List ℕ) (place size : ℕ) → FindsNeedle s (codes "BUFR") 0 (Some place) → size ≡ length_here (drop place s) → length (drop place s) < max 8 size → IsIncomplete s place size
@@ -385,11 +344,7 @@ none-so s found =
 
 -- and they state no length
 pub none-stated : (s : List ℕ) → 0 ≡ length_here (drop (length s - min (length s) 3) s)
-none-stated s =
-    let m = drop (length s - min (length s) 3) s in
-    let short : length m < 8 = omega (arith, length-drop (length s - min (length s) 3) s) in
-    let a : nat_lt (length m) 8 ≡ true = grind (arith, nat_tests) in
-    rw a refl
+none-stated s = grind (arith, common_steps, length-drop, nat_tests)
 
 pub end-so : (s : List ℕ) → FindsNeedle s (codes "BUFR") 0 None → HasNoFurtherEvent s
 end-so s found = record {
@@ -401,19 +356,13 @@ end-so s found = record {
 pub found-at-end : (ended : Bool) (s m : List ℕ) (place : ℕ) (v : Candidate) → FindsNeedle s (codes "BUFR") 0 (Some place) → ended ≡ true
     → m ≡ drop place s → v ≡ classify m → IsNextEvent ended s place v
 found-at-end ended s m place v found end is here =
-    let E : Bool → Type 0 = λ e. IsNextEvent e s place v in
-    let V : Candidate → Type 0 = λ v'. IsNextEvent true s place v' in
-    subst E (sym end) (subst V (sym (here ∙ ap classify is)) (found-so-end s place found))
+    rw end (rw (here ∙ ap classify is) (found-so-end s place found))
 
 pub found-whole : (ended : Bool) (s m : List ℕ) (place size : ℕ) (v : Candidate) → FindsNeedle s (codes "BUFR") 0 (Some place)
     → size ≡ length_here m → 8 ≤ length m → size ≤ length m → m ≡ drop place s → v ≡ classify m → IsNextEvent ended s place v
 found-whole ended s m place size v found states long whole is here =
-    let V : Candidate → Type 0 = λ v'. IsNextEvent ended s place v' in
-    let L : List ℕ → Type 0 = λ l. 8 ≤ length l in
-    let W : List ℕ → Type 0 = λ l. stated_length l ≤ length l in
     let size_is : size ≡ stated_length m = states ∙ length-eight m long in
-    let Z : ℕ → Type 0 = λ z. z ≤ length m in
-    subst V (sym (here ∙ ap classify is)) (found-so ended s place found (subst L is long) (subst W is (subst Z size_is whole)))
+    rw (here ∙ ap classify is) (found-so ended s place found (rw is at long) (rw is at (rw size_is at whole)))
 
 -- what is certain of a stream, and how far that reaches
 pub record Certain (at : ℕ) (s : List ℕ) : Type 0 where
@@ -490,10 +439,7 @@ max-none n = omega arith
 -- the length at a place, where the greatest length grows by it
 pub raise : (a b place size : ℕ) (rest : List ℕ) → Raised a b rest → (StartsWithBufr rest → place ≡ 0) → size ≡ length_here (drop place rest) → max b size ≡ max a size
 raise a b place size rest (inl same) first is = ap (λ n. max n size) same
-raise a b place size rest (inr (word, long, grown)) first is =
-    let P : ℕ → Type 0 = λ p. size ≡ length_here (drop p rest) in
-    let size_is : size ≡ stated_length rest = subst P (first word) is ∙ length-eight rest long in
-    omega (arith, grown, size_is)
+raise a b place size rest (inr (word, long, grown)) first is = grind (arith, common_steps, length-eight)
 
 -- it stays so when octets come after
 pub raised-read : (a b : ℕ) (rest bs : List ℕ) → Raised a b rest → Raised a b (rest ++ bs)
@@ -528,9 +474,7 @@ longest-event at s x offset len Frame some = max-none (length_here (drop (offset
 
 -- where a place of the rest is in all octets
 place-in : (at at' place offset : ℕ) (s rest : List ℕ) → Follows at s at' rest → offset ≡ at' + place → drop (offset - at) s ≡ drop place rest
-place-in at at' place offset s rest follows is =
-    let e : offset - at ≡ follows.passed + place = omega (arith, follows.offset, is) in
-    ap (λ n. drop n s) e ∙ sym (drop-twice place follows.passed s) ∙ ap (drop place) (sym follows.left)
+place-in at at' place offset s rest follows is = grind (arith, common_steps, drop-twice)
 
 -- an event is passed
 pub found-sees : (old s s' : FinderModel) (bs : List ℕ) (offset len place size : ℕ) (here : Candidate) → Follows old.at (old.rest ++ bs) s.at s.rest → Raised old.longest s.longest s.rest
@@ -548,11 +492,9 @@ first-open at old_at size m s there (inl short) is few =
 first-open at old_at size m s there (inr word) is few =
     let cut = cut-here m size word is few in
     let some : 0 < length m = omega (arith, four-long m word) in
-    let P : Candidate → Type 0 = λ v. 0 < candidate_len m v in
-    let Q : Candidate → Type 0 = λ v. longest_of old_at s (first_event (stream_event at m v ++ scan_from 0 (at + candidate_len m v) (drop (candidate_len m v) m))) ≡ size in
     let goes : 0 < candidate_len m (Stray Cut) = omega arith in
-    ap (λ l. longest_of old_at s (first_event l)) (scan_from-here at m some (subst P (sym cut) goes))
-    ∙ subst Q (sym cut) (max-none (length_here (drop (at - old_at) s)) ∙ ap length_here there ∙ sym is)
+    ap (λ l. longest_of old_at s (first_event l)) (scan_from-here at m some (rw cut goes))
+    ∙ rw cut (max-none (length_here (drop (at - old_at) s)) ∙ ap length_here there ∙ sym is)
 
 -- the finder stops where the first event that is left is not certain
 pub open-sees : (old s s' : FinderModel) (bs : List ℕ) (place size : ℕ) → Follows old.at (old.rest ++ bs) s.at s.rest → Raised old.longest s.longest s.rest
@@ -560,9 +502,8 @@ pub open-sees : (old s s' : FinderModel) (bs : List ℕ) (place size : ℕ) → 
     → RaisesLongest old s' bs (first_event (scan_from 0 s'.at s'.rest))
 open-sees old s s' bs place size follows raised open' is at left grown =
     let m = drop place s.rest in
-    let L : List ℕ → Type 0 = λ l. longest_of old.at (old.rest ++ bs) (first_event (scan_from 0 s'.at l)) ≡ size in
     grown ∙ raise old.longest s.longest place size s.rest raised open'.first is
-    ∙ ap (max old.longest) (sym (subst L (sym left) (first-open s'.at old.at size m (old.rest ++ bs) (place-in old.at s.at place s'.at (old.rest ++ bs) s.rest follows at) open'.here is open'.few)))
+    ∙ ap (max old.longest) (sym (rw left (first-open s'.at old.at size m (old.rest ++ bs) (place-in old.at s.at place s'.at (old.rest ++ bs) s.rest follows at) open'.here is open'.few)))
 
 -- ---- The octets of the frames of a stream.
 

@@ -2,7 +2,7 @@
 -- (A choice of this project)
 -- Cited by public contracts.
 use Rattle.std.specs.Prelude.{◌≡◌, ℕ, ◌-◌, ◌<◌, ◌≤◌, ◌^◌, Result, Ok, Err, ◌+◌, Bool, true, false, List, [], ◌++◌, length, Option, MatchResult}
-use Rattle.bufr_bits.specs.Device.{counted}
+use Rattle.bufr_bits.specs.Prelude.{counted}
 use Rattle.bufr_frame.specs.declared.fault.RunFault.{RunFault}
 use Rattle.bufr_frame.specs.declared.fault.RunFault.TheVariants.{Read, Write, InputTooLong, Memory}
 use Rattle.std.specs.Io.KnownBytes.{Consumes, IsAtEnd}

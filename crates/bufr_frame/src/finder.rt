@@ -96,13 +96,12 @@ impl Finder {
     ghost use Rattle.std.specs.Prelude.{◌≡◌, ◌≢◌, ◌≤◌, ◌<◌, ◌+◌, ◌-◌, ◌^◌, ℕ, List, [], ◌++◌, Option, Some, None, true, false, max, length, take, drop, IfSome, IfNone, Err};
     ghost use Rattle.std.specs.Borrow.{sem};
     ghost use Rattle.std.specs.Io.BufRead.{Rests};
-    ghost use Rattle.bufr_bits.specs.Device.{counted};
+    ghost use Rattle.bufr_bits.specs.Prelude.{counted};
     ghost use Rattle.bufr_frame.specs.contracts.finder.Finder.{the_row};
     ghost use Rattle.bufr_frame.specs.Scan.{candidate_len, scan_from, Advances, length_here};
     ghost use Rattle.bufr_frame.specs.Events.{events_of, IsEvent};
-    ghost use Rattle.bufr_frame.specs.Finder.{IsSearchResult, IsNextEvent, AdvancesFinder, PassesEvent, ReadsMore, KeepsRun, events_by, seen_by, passed_events, gone_to, FinderModel, held, Follows, ReadsOn, CountsReads, HasNoMoreEvents, ReadsOnlyIfUndecided, new_finder};
+    ghost use Rattle.bufr_frame.specs.Finder.{IsSearchResult, IsNextEvent, AdvancesFinder, PassesEvent, ReadsMore, KeepsRun, events_by, seen_by, passed_events, gone_to, FinderModel, held, Follows, ReadsOn, CountsReads, HasNoMoreEvents, ReadsOnlyIfUndecided, new_finder, ReturnsNextEvent, RepeatsFault, events_returned};
     ghost use Rattle.bufr_frame.specs.Input.{read_failures_after, max_reads};
-    ghost use Rattle.bufr_frame.specs.Next.{ReturnsNextEvent, RepeatsFault, events_returned};
 
     /// A finder that has read nothing.
     pub fn new(alloc: Global) -> Finder

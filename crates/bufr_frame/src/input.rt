@@ -1,7 +1,7 @@
 //! An input, read piece by piece or to its end.
 ghost use Rattle.std.specs.Prelude.{◌≡◌, ◌≤◌, ◌<◌, ◌+◌, ◌-◌, ◌*◌, ◌^◌, ℕ, List, ◌++◌, take, length, drop, slice_range, Ok, IfOk, IfErr, OnErr, vec_len, vec_capacity};
 ghost use Rattle.std.specs.Io.KnownBytes.{Consumes, Keeps, IsAtEnd};
-ghost use Rattle.bufr_bits.specs.Device.{counted, failures_after};
+ghost use Rattle.bufr_bits.specs.Prelude.{counted, failures_after};
 ghost use Rattle.bufr_frame.specs.Input.{read_failures_after, max_reads, ReadsOnce, ReadsInput};
 
 use crate::fault::RunFault;

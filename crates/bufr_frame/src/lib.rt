@@ -10,7 +10,7 @@
 mod fault;
 mod finder;
 mod input;
-pub mod law;
+pub mod laws;
 mod message;
 mod section1;
 mod write;

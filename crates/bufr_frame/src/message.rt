@@ -144,7 +144,7 @@ fn section2_of(m: &[u8], first: usize, second: usize) -> Option<&[u8]>
 impl<'a> Message<'a> {
     ghost use Rattle.std.specs.Prelude.{◌≡◌, ◌≤◌, ◌<◌, ◌^◌, length, slice_get};
     ghost use Rattle.std.specs.Option.{option_map};
-    ghost use Rattle.bufr_bits.specs.BitSlice.{octets_of};
+    ghost use Rattle.bufr_bits.specs.Prelude.{octets_of};
     ghost use Rattle.bufr_frame.specs.Sections.{sections_of, parts};
     ghost use Rattle.bufr_frame.specs.Octets.{words_left};
 

@@ -1,10 +1,7 @@
 //! Writing a message from its parts.
 ghost use Rattle.std.specs.Prelude.{◌≡◌, ◌≢◌, ◌≤◌, ◌<◌, ◌+◌, ◌*◌, ◌/◌, ◌%◌, ◌^◌, ◌↔◌, ◌++◌, ◌∷◌, [], length, IfOk, OnOk, Ok, Err, Some, SomeIff, IsTrue, codes, if◌then◌else◌};
 ghost use Rattle.std.specs.Option.{option_map};
-ghost use Rattle.bufr_frame.specs.Octets.{three_octets, two_octets, octets_of_words};
-ghost use Rattle.bufr_frame.specs.Sections.{sections_of};
-ghost use Rattle.bufr_frame.specs.Layout.{data_flags, even_size, with_even_length, is_writable, message_octets, message_size, max_octets, with_pad_octet, parts_of, sections_from, head_octets, section0_octets, section1_octets, section2_octets, section3_octets, section4_octets, section2_size, size_from};
-ghost use Rattle.bufr_frame.specs.Section1.{first_least, is_edition, slot_octets, head_value, slots_3, slots_4};
+ghost use Rattle.bufr_frame.specs.Prelude.{three_octets, two_octets, octets_of_words, sections_of, data_flags, even_size, with_even_length, is_writable, message_octets, message_size, max_octets, with_pad_octet, parts_of, sections_from, head_octets, section0_octets, section1_octets, section2_octets, section3_octets, section4_octets, section2_size, size_from, first_least, is_edition, slot_octets, head_value, slots_3, slots_4};
 
 use crate::fault::WriteFault;
 use crate::message::{high, low, three_octets_of};

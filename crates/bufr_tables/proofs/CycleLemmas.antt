@@ -1,13 +1,11 @@
 -- Chains of members, and what the search for a cycle knows of them.
-use Rattle.std.proofs.Common.{◌≡◌, ℕ, ◌+◌, ◌<◌, ◌≤◌, ◌⊎◌, inl, inr, Bool, true, false, List, [], ◌∷◌, ◌++◌, length, set, take, drop, Option, Some, None, refl, sym, ap, ◌∙◌, arith, suc, zero, get_or, length-append, replicate}
-use Rattle.std.specs.Prelude.{◌==◌, cond, option_map, slice_index, IsSome, Contains}
+use Rattle.std.proofs.Common.{◌≡◌, ℕ, ◌+◌, ◌<◌, ◌≤◌, ◌⊎◌, inl, inr, Bool, true, false, List, [], ◌∷◌, ◌++◌, length, set, take, drop, Option, Some, None, refl, sym, ap, ◌∙◌, arith, suc, zero, get_or, length-append, replicate, ◌==◌, cond, option_map, slice_index, IsSome, Contains}
 use Rattle.std.proofs.lemmas.Bool.{eqb-true}
 use Rattle.std.proofs.lemmas.List.{append_assoc, get_or_append_left, get_or-set_same, get_or_default, length-set, drop_more, take-append-drop, get_or-map, get_or-take, length-take-le}
 use Rattle.std.proofs.lemmas.List.Elements.{Contains-append_cases, Contains-append_left, Contains-append_right, Contains-push, Contains-push_cases, Contains-get_or}
 use Rattle.std.specs.List.{find}
 use borrow.Author.Count.{below_more}
-use Rattle.bufr_tables.specs.TableD.{Chain, HasNoCycle, IsFirstCycle, Leads, ReachesItself, one, more, Sequence, fxys_of, members_or_none, members_of}
-use Rattle.bufr_tables.specs.Cycle.{AreSeen, IsAbove, IsPassed, IsSearched, IsSet, IsVisited, NeverRises, NeverRisesFirst, rank_of, unset}
+use Rattle.bufr_tables.specs.Prelude.{Chain, HasNoCycle, IsFirstCycle, Leads, ReachesItself, one, more, Sequence, fxys_of, members_or_none, members_of, AreSeen, IsAbove, IsPassed, IsSearched, IsSet, IsVisited, NeverRises, NeverRisesFirst, rank_of, unset}
 
 -- chains one after another
 pub chain-append : {table : List Sequence} {a b c : ℕ} → Chain table a b → Chain table b c → Chain table a c
@@ -73,14 +71,7 @@ chain-falls table ranks never (more l rest) =
 
 -- a sequence above its members does not reach itself
 pub falls-none : (table : List Sequence) (ranks : List ℕ) (fxy rank : ℕ) → NeverRises table ranks → IsAbove table ranks fxy rank → rank < rank_of ranks fxy → ReachesItself table fxy → ⊥
-falls-none table ranks fxy rank never above below chain = let least : rank_of ranks fxy ≤ rank = by refl chain in omega arith
-  where
-    by : {a b : ℕ} → a ≡ fxy → Chain table a b → rank_of ranks b ≤ rank
-    by e (one l) = above _ (rw e at l)
-    by e (more l rest) =
-        let first = above _ (rw e at l) in
-        let last = chain-falls table ranks never rest in
-        omega arith
+falls-none table ranks fxy rank never above below chain = grind (arith, chain-falls)
 
 -- a visit of one sequence
 module _ (table : List Sequence) (fxy : ℕ) (old : List Bool) (queue : List ℕ) where

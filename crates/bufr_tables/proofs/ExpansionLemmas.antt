@@ -1,17 +1,10 @@
 -- Steps of the expansion: trees, cells that are read back, and one part at a time.
+use Rattle.std.proofs.lemmas.Grind.{common_steps}
 use Rattle.std.proofs.Common.{◌≡◌, max, Bool, true, false, ◌||◌, refl, ◌∙◌, ap, arith, ℕ, zero, suc, ◌+◌, ◌-◌, ◌<◌, List, [], ◌∷◌, drop, Option, Some, None, Result, Ok, Err, sym, sub-one, ◌++◌, length, subst, append_assoc, ◌≤◌, set, ◌≢◌, take}
-use Rattle.bufr_tables.specs.Tree.{Tree, bare, element, operator, fixed, delayed, join, depth, consumes, is_inserted_text, gives_width, size, places}
-use Rattle.bufr_tables.specs.declared.fault.TemplateFault.{TemplateFault}
-use Rattle.bufr_tables.specs.Expansion.{Tables, Expansion, part, ◌>>=◌, part_of, level, inner_of, ExpandedPart, unless, opened, with_places, body_of, sequence_part, element_part, group_part, group_by, fixed_part, operator_part, part_by}
-use Rattle.bufr_tables.specs.declared.template.Cell.{Cell}
-use Rattle.bufr_tables.specs.Cells.{first_tree, cells_of, factor_first, prepend_cell, read_cells, trees_of_cells, AreCellsOf, IsTemplate}
+use Rattle.bufr_tables.specs.Prelude.{Tree, bare, element, operator, fixed, delayed, join, depth, consumes, is_inserted_text, gives_width, size, places, TemplateFault, Tables, Expansion, part, ◌>>=◌, part_of, level, inner_of, ExpandedPart, unless, opened, with_places, body_of, sequence_part, element_part, group_part, operator_part, part_by, Cell, first_tree, cells_of, factor_first, prepend_cell, read_cells, trees_of_cells, AreCellsOf, IsTemplate, own_places, group_of, first_cell, factor_cells, BuilderModel, growth, places_so_far, push_tree, with_open_group, with_closed_group, PushesTree, PushesPart, IsFaultOrMemory, PushesTreeUnlessMemory, GivesPart, GivesGrowth, OpensGroup, f_of, x_of, y_of}
 use Rattle.std.proofs.lemmas.List.{append-nil, length-append}
 use Rattle.std.proofs.Math.Seq.{set-append_seam}
 use Rattle.bufr_tables.specs.declared.expand.Passes.{Passes}
-use Rattle.bufr_tables.specs.Growth.{own_places, group_of, first_cell, factor_cells, BuilderModel, growth, places_so_far, push_tree, with_open_group, with_closed_group, PushesTree, PushesPart, IsFaultOrMemory, PushesTreeUnlessMemory, GivesPart, GivesGrowth, OpensGroup}
-use Rattle.std.proofs.lemmas.Bool.{le-leb, lt-ltb}
-use Rattle.std.specs.Prelude.{ok_or, nat_lt}
-use Rattle.bufr_tables.specs.Fxy.{f_of, x_of, y_of}
 use Rattle.bufr_tables.specs.declared.template.Cell.TheVariants as cell
 use Rattle.bufr_tables.specs.declared.expand.Passes.TheVariants as passes
 use Rattle.bufr_tables.specs.declared.fault.TemplateFault.TheVariants as fault
@@ -72,14 +65,11 @@ level-skip tables inner given (suc skip) places (d ∷ after) = level-skip table
 -- one part, and what follows it
 pub level-part : (tables : Tables) (inner : Option Expansion) (given : Bool) (places d : ℕ) (after : List ℕ) (tree : Tree) (taken : ℕ) → part_of tables inner given places d after ≡ Ok (part tree taken) → level tables inner given 0 places (d ∷ after) ≡ prefixed tree (level tables inner (gives_width d) 0 (places + size tree) (drop taken after))
 unfolding level
-level-part tables inner given places d after tree taken h =
-    ap (λ r. r >>= λ first. level tables inner (gives_width d) first.taken (places + size first.tree) after >>= λ rest. Ok (join first.tree rest)) h
-    ∙ ap (prefixed tree) (level-skip tables inner (gives_width d) taken (places + size tree) after)
+level-part tables inner given places d after tree taken h = grind (arith, common_steps, level-skip)
 
 pub level-fault : (tables : Tables) (inner : Option Expansion) (given : Bool) (places d : ℕ) (after : List ℕ) (why : TemplateFault) → part_of tables inner given places d after ≡ Err why → level tables inner given 0 places (d ∷ after) ≡ Err why
 unfolding level
-level-fault tables inner given places d after why h =
-    ap (λ r. r >>= λ first. level tables inner (gives_width d) first.taken (places + size first.tree) after >>= λ rest. Ok (join first.tree rest)) h
+level-fault tables inner given places d after why h = grind (arith, common_steps)
 
 pub inner_of-room : (tables : Tables) (room : ℕ) → 0 < room → inner_of tables room ≡ Some (level tables (inner_of tables (room - 1)) false 0)
 unfolding inner_of
@@ -132,9 +122,7 @@ length-kept cells depth_reported t h = length-flattened cells t h.is_flattened
 
 -- a body, then the rest, then the tail
 cells_group : (body : Tree) (at : ℕ) (rest tail suffix : List Cell) → ((t : List Cell) → cells_of body at t ≡ cells_of body at [] ++ t) → suffix ≡ rest ++ tail → cells_of body at (cell.PassEnd ∷ suffix) ≡ cells_of body at (cell.PassEnd ∷ rest) ++ tail
-cells_group body at rest tail suffix h e =
-    h (cell.PassEnd ∷ suffix) ∙ ap (λ l. cells_of body at [] ++ (cell.PassEnd ∷ l)) e ∙ sym (append_assoc (cells_of body at []) (cell.PassEnd ∷ rest) tail)
-    ∙ ap (λ l. l ++ tail) (sym (h (cell.PassEnd ∷ rest)))
+cells_group body at rest tail suffix h e = grind (arith, common_steps)
 
 pub cells-tail : (t : Tree) (at : ℕ) (tail : List Cell) → cells_of t at tail ≡ cells_of t at [] ++ tail
 cells-tail bare at tail = refl
@@ -181,43 +169,18 @@ pub grow-bare : (g : BuilderModel) → g.groups ≤ g.deep → g ≡ push_tree g
 grow-bare g h = same_growth g.cells (g.cells ++ []) g.groups g.groups g.deep (max g.deep (g.groups + 0)) g.full (g.full || false) (sym (append-nil g.cells)) refl (omega arith) (or_false g.full)
 
 pub grow-grow : (g : BuilderModel) (a b : Tree) → push_tree (push_tree g a) b ≡ push_tree g (join a b)
-grow-grow g a b =
-    let at : ℕ = length g.cells in
-    same_growth (push_tree (push_tree g a) b).cells (push_tree g (join a b)).cells g.groups g.groups (push_tree (push_tree g a) b).deep (push_tree g (join a b)).deep (push_tree (push_tree g a) b).full (push_tree g (join a b)).full
-    (append_assoc g.cells (cells_of a at []) (cells_of b (length (push_tree g a).cells) [])
-    ∙ ap (λ k. g.cells ++ (cells_of a at [] ++ cells_of b k [])) (length-grow g a)
-    ∙ ap (λ l. g.cells ++ l) (sym (cells-tail a at (cells_of b (at + size a) [])) ∙ sym (cells-join a b at [])))
-    refl
-    (omega (arith, depth-join a b))
-    (sym (or_assoc g.full (consumes a) (consumes b)) ∙ ap (λ c. g.full || c) (sym (consumes-join a b)))
+grow-grow g a b = grind (arith, common_steps, same_growth, append_assoc, length-grow, cells-tail, cells-join, depth-join, or_assoc, consumes-join)
 
 -- the cells of a group, from those that exist when its body is flattened
 group_cells : (cells : List Cell) (p : Passes) (body : Tree) (place : ℕ) → place ≡ length cells
     → set (((cells ++ first_cell p 0 ∷ factor_cells p) ++ cells_of body (length (cells ++ first_cell p 0 ∷ factor_cells p)) []) ++ cell.PassEnd ∷ []) place (first_cell p (length cells + own_places p + size body))
     ≡ cells ++ cells_of (group_of p body) (length cells) []
-group_cells cells (passes.Fixed count) body place e =
-    let at : ℕ = length cells in
-    let here : length (cells ++ cell.Fixed count 0 ∷ []) ≡ at + 1 = omega (arith, length-append cells (cell.Fixed count 0 ∷ [])) in
-    ap (λ k. set (((cells ++ cell.Fixed count 0 ∷ []) ++ cells_of body k []) ++ cell.PassEnd ∷ []) place (cell.Fixed count (at + 2 + size body))) here
-    ∙ ap (λ l. set l place (cell.Fixed count (at + 2 + size body))) (append_assoc (cells ++ cell.Fixed count 0 ∷ []) (cells_of body (at + 1) []) (cell.PassEnd ∷ []) ∙ append_assoc cells (cell.Fixed count 0 ∷ []) (cells_of body (at + 1) [] ++ cell.PassEnd ∷ []))
-    ∙ ap (λ k. set (cells ++ cell.Fixed count 0 ∷ (cells_of body (at + 1) [] ++ cell.PassEnd ∷ [])) k (cell.Fixed count (at + 2 + size body))) e
-    ∙ set-append_seam cells (cell.Fixed count 0) (cells_of body (at + 1) [] ++ cell.PassEnd ∷ []) (cell.Fixed count (at + 2 + size body))
-    ∙ ap (λ l. cells ++ cell.Fixed count (at + 2 + size body) ∷ l) (sym (cells-tail body (at + 1) (cell.PassEnd ∷ [])))
-group_cells cells (passes.Delayed factor) body place e =
-    let at : ℕ = length cells in
-    let here : length (cells ++ cell.Delayed 0 ∷ cell.Factor factor ∷ []) ≡ at + 2 = omega (arith, length-append cells (cell.Delayed 0 ∷ cell.Factor factor ∷ [])) in
-    ap (λ k. set (((cells ++ cell.Delayed 0 ∷ cell.Factor factor ∷ []) ++ cells_of body k []) ++ cell.PassEnd ∷ []) place (cell.Delayed (at + 3 + size body))) here
-    ∙ ap (λ l. set l place (cell.Delayed (at + 3 + size body))) (append_assoc (cells ++ cell.Delayed 0 ∷ cell.Factor factor ∷ []) (cells_of body (at + 2) []) (cell.PassEnd ∷ []) ∙ append_assoc cells (cell.Delayed 0 ∷ cell.Factor factor ∷ []) (cells_of body (at + 2) [] ++ cell.PassEnd ∷ []))
-    ∙ ap (λ k. set (cells ++ cell.Delayed 0 ∷ cell.Factor factor ∷ (cells_of body (at + 2) [] ++ cell.PassEnd ∷ [])) k (cell.Delayed (at + 3 + size body))) e
-    ∙ set-append_seam cells (cell.Delayed 0) (cell.Factor factor ∷ (cells_of body (at + 2) [] ++ cell.PassEnd ∷ [])) (cell.Delayed (at + 3 + size body))
-    ∙ ap (λ l. cells ++ cell.Delayed (at + 3 + size body) ∷ cell.Factor factor ∷ l) (sym (cells-tail body (at + 2) (cell.PassEnd ∷ [])))
+group_cells cells (passes.Fixed count) body place e = grind (arith, common_steps, length-append, set, append_assoc, set-append_seam, cells-tail)
+group_cells cells (passes.Delayed factor) body place e = grind (arith, common_steps, length-append, set, append_assoc, set-append_seam, cells-tail)
 
 pub length-begun : (g : BuilderModel) (p : Passes) → length (with_open_group g p).cells + 1 ≡ length g.cells + own_places p
 length-begun g (passes.Fixed count) = omega (arith, length-append g.cells (cell.Fixed count 0 ∷ []))
 length-begun g (passes.Delayed factor) = omega (arith, length-append g.cells (cell.Delayed 0 ∷ cell.Factor factor ∷ []))
-
-pub places_of-begun : (g : BuilderModel) (p : Passes) → places_so_far (with_open_group g p) ≡ places_so_far g + own_places p
-places_of-begun g p = omega (arith, length-begun g p)
 
 group_depth : (p : Passes) (body : Tree) → depth (group_of p body) ≡ 1 + depth body
 group_depth (passes.Fixed count) body = omega arith
@@ -271,60 +234,41 @@ opened_body expand places own d after =
     with_places places own d >>= λ _. expand (places + own) (take (x_of d) after) >>= λ body. unless (consumes body) (fault.EmptyGroup d) >>= λ _. Ok body
 
 body_fits : (inner : Option Expansion) (places own d : ℕ) (after : List ℕ) → x_of d ≤ length after → body_of inner places own d after ≡ (opened inner d >>= λ expand. opened_body expand places own d after)
-body_fits inner places own d after h =
-    ap (λ b. unless b (fault.GroupShape d) >>= λ _. opened inner d >>= λ expand. opened_body expand places own d after) (le-leb (x_of d) (length after) h)
+body_fits inner places own d after h = grind (arith, common_steps)
 
 -- the expansion within, where there is room
 abbrev pub within : Tables → ℕ → Expansion
 within tables room = level tables (inner_of tables (room - 1)) false 0
 
 body_open : (tables : Tables) (room places own d : ℕ) (after : List ℕ) → 0 < room → x_of d ≤ length after → body_of (inner_of tables room) places own d after ≡ opened_body (within tables room) places own d after
-body_open tables room places own d after r h =
-    body_fits (inner_of tables room) places own d after h
-    ∙ ap (λ (i : Option Expansion). opened i d >>= λ expand. opened_body expand places own d after) (inner_of-room tables room r)
+body_open tables room places own d after r h = grind (arith, common_steps, body_fits, inner_of-room)
 
 pub body-depth : (tables : Tables) (room places own d : ℕ) (after : List ℕ) → room ≡ 0 → x_of d ≤ length after → body_of (inner_of tables room) places own d after ≡ Err (fault.Depth d)
-body-depth tables room places own d after r h =
-    body_fits (inner_of tables room) places own d after h
-    ∙ ap (λ (i : Option Expansion). opened i d >>= λ expand. opened_body expand places own d after) (inner_of-none tables room r)
+body-depth tables room places own d after r h = grind (arith, common_steps, body_fits, inner_of-none)
 
 pub body-places : (tables : Tables) (room places own d : ℕ) (after : List ℕ) (why : TemplateFault) → 0 < room → x_of d ≤ length after → with_places places own d ≡ Err why → body_of (inner_of tables room) places own d after ≡ Err why
-body-places tables room places own d after why r h e =
-    body_open tables room places own d after r h
-    ∙ ap (λ z. z >>= λ _. within tables room (places + own) (take (x_of d) after) >>= λ body. unless (consumes body) (fault.EmptyGroup d) >>= λ _. Ok body) e
+body-places tables room places own d after why r h e = grind (arith, common_steps, body_open)
 
 body_room : (tables : Tables) (room places own d : ℕ) (after : List ℕ) → 0 < room → x_of d ≤ length after → with_places places own d ≡ Ok tt → body_of (inner_of tables room) places own d after ≡ (within tables room (places + own) (take (x_of d) after) >>= λ body. unless (consumes body) (fault.EmptyGroup d) >>= λ _. Ok body)
-body_room tables room places own d after r h e =
-    body_open tables room places own d after r h
-    ∙ ap (λ z. z >>= λ _. within tables room (places + own) (take (x_of d) after) >>= λ body. unless (consumes body) (fault.EmptyGroup d) >>= λ _. Ok body) e
+body_room tables room places own d after r h e = grind (arith, common_steps, body_open)
 
 pub body-fault : (tables : Tables) (room places own d : ℕ) (after : List ℕ) (why : TemplateFault) → 0 < room → x_of d ≤ length after → with_places places own d ≡ Ok tt → within tables room (places + own) (take (x_of d) after) ≡ Err why → body_of (inner_of tables room) places own d after ≡ Err why
-body-fault tables room places own d after why r h e f =
-    body_room tables room places own d after r h e ∙ ap (λ z. z >>= λ body. unless (consumes body) (fault.EmptyGroup d) >>= λ _. Ok body) f
+body-fault tables room places own d after why r h e f = grind (arith, common_steps, body_room)
 
 pub body-empty : (tables : Tables) (room places own d : ℕ) (after : List ℕ) (tree : Tree) → 0 < room → x_of d ≤ length after → with_places places own d ≡ Ok tt → within tables room (places + own) (take (x_of d) after) ≡ Ok tree → consumes tree ≡ false → body_of (inner_of tables room) places own d after ≡ Err (fault.EmptyGroup d)
-body-empty tables room places own d after tree r h e f empty =
-    body_room tables room places own d after r h e ∙ ap (λ z. z >>= λ body. unless (consumes body) (fault.EmptyGroup d) >>= λ _. Ok body) f
-    ∙ ap (λ b. unless b (fault.EmptyGroup d) >>= λ _. Ok tree) empty
+body-empty tables room places own d after tree r h e f empty = grind (arith, common_steps, body_room)
 
 pub body-ok : (tables : Tables) (room places own d : ℕ) (after : List ℕ) (tree : Tree) → 0 < room → x_of d ≤ length after → with_places places own d ≡ Ok tt → within tables room (places + own) (take (x_of d) after) ≡ Ok tree → consumes tree ≡ true → body_of (inner_of tables room) places own d after ≡ Ok tree
-body-ok tables room places own d after tree r h e f full =
-    body_room tables room places own d after r h e ∙ ap (λ z. z >>= λ body. unless (consumes body) (fault.EmptyGroup d) >>= λ _. Ok body) f
-    ∙ ap (λ b. unless b (fault.EmptyGroup d) >>= λ _. Ok tree) full
+body-ok tables room places own d after tree r h e f full = grind (arith, common_steps, body_room)
 
 sequence_listed : (tables : Tables) (inner : Option Expansion) (places d : ℕ) (members : List ℕ) → tables.members d ≡ Some members → sequence_part tables inner places d ≡ (opened inner d >>= λ expand. expand places members >>= λ tree. Ok (part tree 0))
-sequence_listed tables inner places d members e =
-    ap (λ z. ok_or z (fault.UnknownSequence d) >>= λ ms. opened inner d >>= λ expand. expand places ms >>= λ tree. Ok (part tree 0)) e
+sequence_listed tables inner places d members e = grind (arith, common_steps)
 
 pub sequence-depth : (tables : Tables) (room places d : ℕ) (members : List ℕ) → room ≡ 0 → tables.members d ≡ Some members → sequence_part tables (inner_of tables room) places d ≡ Err (fault.Depth d)
-sequence-depth tables room places d members r e =
-    sequence_listed tables (inner_of tables room) places d members e
-    ∙ ap (λ (i : Option Expansion). opened i d >>= λ expand. expand places members >>= λ tree. Ok (part tree 0)) (inner_of-none tables room r)
+sequence-depth tables room places d members r e = grind (arith, common_steps, sequence_listed, inner_of-none)
 
 sequence_open : (tables : Tables) (room places d : ℕ) (members : List ℕ) → 0 < room → tables.members d ≡ Some members → sequence_part tables (inner_of tables room) places d ≡ (within tables room places members >>= λ tree. Ok (part tree 0))
-sequence_open tables room places d members r e =
-    sequence_listed tables (inner_of tables room) places d members e
-    ∙ ap (λ (i : Option Expansion). opened i d >>= λ expand. expand places members >>= λ tree. Ok (part tree 0)) (inner_of-room tables room r)
+sequence_open tables room places d members r e = grind (arith, common_steps, sequence_listed, inner_of-room)
 
 pub sequence-fault : (tables : Tables) (room places d : ℕ) (members : List ℕ) (why : TemplateFault) → 0 < room → tables.members d ≡ Some members → IsFaultOrMemory (within tables room places members) why → IsFaultOrMemory (sequence_part tables (inner_of tables room) places d) why
 sequence-fault tables room places d members why r e refuses other =
@@ -350,10 +294,7 @@ group-places tables room p places d after why r h refuses other =
 
 -- the body's list, as the code has it
 same_list : (tables : Tables) (room : ℕ) (p : Passes) (d place : ℕ) (after : List ℕ) (old begun_one : BuilderModel) (count x : ℕ) (list : List ℕ) → OpensGroup old p d place begun_one → list ≡ take count after → count ≡ x → x ≡ x_of d → level tables (inner_of tables (room - 1)) false 0 (places_so_far begun_one) list ≡ within tables room (places_so_far old + own_places p) (take (x_of d) after)
-same_list tables room p d place after old begun_one count x list begins el ec ex =
-    ap (λ (g : BuilderModel). within tables room (places_so_far g) list) begins.is_begun
-    ∙ ap (λ k. within tables room k list) (places_of-begun old p)
-    ∙ ap (within tables room (places_so_far old + own_places p)) (el ∙ ap (λ k. take k after) (ec ∙ ex))
+same_list tables room p d place after old begun_one count x list begins el ec ex = grind (arith, common_steps)
 
 pub group-list-fault : (tables : Tables) (room : ℕ) (p : Passes) (d place : ℕ) (after : List ℕ) (old begun_one : BuilderModel) (why : TemplateFault) (count x : ℕ) (list : List ℕ) → 0 < room → x_of d ≤ length after → OpensGroup old p d place begun_one → list ≡ take count after → count ≡ x → x ≡ x_of d → IsFaultOrMemory (level tables (inner_of tables (room - 1)) false 0 (places_so_far begun_one) list) why → IsFaultOrMemory (grouped tables room p (places_so_far old) d after) why
 group-list-fault tables room p d place after old begun_one why count x list r h begins el ec ex refuses other =
@@ -365,9 +306,7 @@ same_full : (old begun_one new : BuilderModel) (p : Passes) (d place : ℕ) (tre
 same_full old begun_one new p d place tree begins e = ap (λ (g : BuilderModel). g.full) e ∙ ap (λ (g : BuilderModel). (push_tree g tree).full) begins.is_begun
 
 pub group-list-empty : (tables : Tables) (room : ℕ) (p : Passes) (d place : ℕ) (after : List ℕ) (old begun_one new : BuilderModel) (count x : ℕ) (list : List ℕ) → 0 < room → x_of d ≤ length after → OpensGroup old p d place begun_one → list ≡ take count after → count ≡ x → x ≡ x_of d → PushesTree begun_one (level tables (inner_of tables (room - 1)) false 0 (places_so_far begun_one) list) new → new.full ≡ false → grouped tables room p (places_so_far old) d after ≡ Err (fault.EmptyGroup d)
-group-list-empty tables room p d place after old begun_one new count x list r h begins el ec ex puts empty =
-    ap (λ z. z >>= λ body. Ok (group_of p body))
-    (body-empty tables room (places_so_far old) (own_places p) d after puts.tree r h begins.is_left (sym (same_list tables room p d place after old begun_one count x list begins el ec ex) ∙ puts.is_defined) (sym (same_full old begun_one new p d place puts.tree begins puts.is_put) ∙ empty))
+group-list-empty tables room p d place after old begun_one new count x list r h begins el ec ex puts empty = grind (arith, common_steps, body-empty, same_list, same_full)
 
 same_ok : (a b : BuilderModel) → ◌≡◌ {A = Result BuilderModel TemplateFault} (Ok a) (Ok b) → a ≡ b
 same_ok a b h = cc
@@ -387,20 +326,9 @@ group-closed tables room p d place after old begun_one new last count x list (Ok
     group-list-ok tables room p d place after old begun_one new last count x list r h begins el ec ex puts full (same_ok (with_closed_group new place p) last is_ended)
 group-closed tables room p d place after old begun_one new last count x list (Err why) r h begins el ec ex puts full refuses = λ other. absurd (let e = refuses other in cc)
 
--- a group of Y passes is at fault as its body is
-fault_of-body : (body : Result Tree TemplateFault) (f : Tree → Tree) (g : Tree → ExpandedPart) (why : TemplateFault) → (body >>= λ tree. Ok (f tree)) ≡ Err why → (body >>= λ tree. Ok (g tree)) ≡ Err why
-fault_of-body (Ok tree) f g why e = absurd cc
-fault_of-body (Err fault) f g why e = let same : fault ≡ why = cc in ap Err same
-
-fixed_by : (y : ℕ) (tables : Tables) (inner : Option Expansion) (places d : ℕ) (after : List ℕ) → 0 < y → group_by y tables inner places d after ≡ fixed_part inner places d after
-fixed_by zero tables inner places d after some = absurd (omega arith)
-fixed_by (suc y) tables inner places d after some = refl
-
 pub group-fixed-fault : (tables : Tables) (inner : Option Expansion) (places d y : ℕ) (after : List ℕ) (why : TemplateFault) → 0 < x_of d → 0 < y_of d
     → (body_of inner places 2 d after >>= λ body. Ok (group_of (passes.Fixed y) body)) ≡ Err why → group_part tables inner places d after ≡ Err why
-group-fixed-fault tables inner places d y after why some more e =
-    let x : nat_lt 0 (x_of d) ≡ true = lt-ltb 0 (x_of d) some in
-    rw x (fixed_by (y_of d) tables inner places d after more ∙ fault_of-body (body_of inner places 2 d after) (group_of (passes.Fixed y)) (λ body. part (fixed (y_of d) body bare) (x_of d)) why e)
+group-fixed-fault tables inner places d y after why some more e = grind (arith, common_steps)
 
 -- ---- How far the expansion of one list has come.
 

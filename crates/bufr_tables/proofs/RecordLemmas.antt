@@ -1,24 +1,21 @@
 -- Steps of a reader of records, its rows and its numbers.
-use Rattle.std.proofs.Common.{◌≡◌, ℕ, ◌+◌, ◌^◌, ◌<◌, ◌≤◌, Bool, true, false, List, [], ◌∷◌, ◌++◌, length, Option, Some, None, refl, ap, ◌∙◌, add-one, arith, suc, zero, Bor, inl, inr, sym, drop, get_or, Result, Ok, Err, ◌≢◌, ◌-◌, ◌*◌, min, nat_lt, take, ℤ, pos, option_map, rules, tests}
-use Rattle.std.specs.Prelude.{IsSome, if◌then◌else◌, ◌==◌, ◌&&◌, not, nat_le, option_and_then}
-use Rattle.std.proofs.lemmas.Bool.{cases_Bool, cases_lt}
+use Rattle.std.proofs.lemmas.Grind.{common_steps}
+use Rattle.std.proofs.Common.{◌≡◌, ℕ, ◌+◌, ◌^◌, ◌<◌, ◌≤◌, Bool, true, false, List, [], ◌∷◌, ◌++◌, length, Option, Some, None, refl, ap, ◌∙◌, add-one, arith, suc, zero, Bor, inl, inr, sym, drop, get_or, Result, Ok, Err, ◌≢◌, ◌-◌, ◌*◌, min, take, ℤ, pos, option_map, IsSome, if◌then◌else◌, ◌==◌, ◌&&◌, not, option_and_then}
+use Rattle.std.proofs.lemmas.Bool.{cases_Bool}
 use Rattle.std.proofs.lemmas.Option.{same_Some}
 use Rattle.csv.specs.Machine.{Read, ends_at_end, fields_after, field_after, is_end, next_record, step, is_byte, in_field, start_field, start_record, ends_with, after_end}
-use Rattle.csv.specs.Reading.{NextIs, ReadRecord, ReadsNext, records_from, records_next, pending_of, default_config, is_flexible, reader_state, strip_bom, is_bom, took_first}
+use Rattle.csv.specs.Reading.{NextIs, ReadRecord, ReadsNext, records_from, records_next, pending_of, default_config, is_flexible, reader_state, strip_bom, took_first}
 use Rattle.csv.specs.declared.parser.Config.{Config}
 use Rattle.csv.specs.declared.parser.State.{State}
 use Rattle.csv.specs.declared.parser.Terminator.{Terminator}
 use Rattle.csv.specs.declared.parser.Action.{Action}
 use Rattle.csv.specs.declared.reader.Reader.{Reader}
-use Rattle.bufr_tables.specs.Records.{Record, GivesNext, IsBetween, count_of, record_given, records_after, text_left, field_of, IsOpened, records_left, field_texts, has_fields, has_header, table_from, table_of, ReturnsUnlessMemory, and_then, number_after_digits, if_i64, i64_of, integer_of, natural_of, negated}
+use Rattle.bufr_tables.specs.Prelude.{Record, GivesNext, IsBetween, count_of, record_given, records_after, text_left, field_of, IsOpened, records_left, field_texts, has_fields, has_header, table_from, table_of, ReturnsUnlessMemory, and_then, number_after_digits, if_i64, i64_of, integer_of, natural_of, negated, TableFault, ReadsTableD, Sequence, table_d_of, with_record_d}
 use Rattle.bufr_tables.specs.declared.rows.RecordReader.{RecordReader}
 use Rattle.std.specs.Str.{bytes_eq}
 use Rattle.csv.specs.Records.{field_at}
-use Rattle.bufr_tables.specs.declared.fault.TableFault.{TableFault}
 use Rattle.bufr_tables.specs.declared.fault.TableFault.TheVariants.{Header, Row, Duplicate, Cycle, TableSize, Csv, Memory}
-use Rattle.bufr_tables.specs.TableD.{ReadsTableD, Member, Sequence, added, begins_again, columns_d, member_of, table_d_of, with_member, with_record_d}
 use Rattle.std.proofs.lemmas.List.{take_more}
-use Rattle.std.proofs.lemmas.Bool.Decides.{nat_tests}
 use Rattle.csv.specs.declared.parser.State.TheVariants as st
 use Rattle.csv.specs.declared.parser.Terminator.TheVariants as term
 
@@ -132,11 +129,7 @@ found-record a b (Some xs) (Some ys) fields between known read = found-next a b 
 -- a read that found none
 found-no_more : (a b : State) (xs ys : List ℕ) (fields : Record) → NextIs (next_record default_config a [] [] xs) false fields b ys → records_after a (Some xs) ≡ []
 unfolding records_from
-found-no_more a b xs ys fields next = rw add-one (by (next_record default_config a [] [] xs) next)
-  where
-    by : (o : Option Read) → NextIs o false fields b ys → records_next (records_from default_config (length xs)) o ≡ []
-    by None next = refl
-    by (Some read) next = cc next.0
+found-no_more a b xs ys fields next = grind (arith, common_steps)
 
 pub found-end : (a b : State) (before after : Option (List ℕ)) (fields : Record) → IsSome before
     → ReadsNext default_config a before after false fields b → records_after a before ≡ []
@@ -150,11 +143,7 @@ unfolding strip_bom
 stripped-count [] m h = omega arith
 stripped-count (a ∷ []) m h = omega arith
 stripped-count (a ∷ b ∷ []) m h = omega arith
-stripped-count (a ∷ b ∷ c ∷ rest) m h = by (is_bom a b c)
-  where
-    by : (t : Bool) → 0 + length (if t then rest else a ∷ b ∷ c ∷ rest) < m
-    by true = omega arith
-    by false = omega arith
+stripped-count (a ∷ b ∷ c ∷ rest) m h = grind (arith, common_steps)
 
 -- after the start of a text the reader reads from its buffer
 pending-is : (reader : Reader (Bor (List ℕ))) → reader.bom_checked ≡ true → text_left reader ≡ pending_of (Some reader.rdr.now) reader
@@ -290,23 +279,9 @@ gives-fault A expected answer TableSize is same = rw is (same (λ e. cc e))
 gives-fault A expected answer Csv is same = rw is (same (λ e. cc e))
 gives-fault A expected answer Memory is same = rw is tt
 
--- no record is at fault for a cycle
-member-no_cycle : (n : ℕ) (table : List Sequence) (o : Option Member) (fxy : ℕ) → with_member n table o ≡ Err (Cycle fxy) → ⊥
-member-no_cycle n table None fxy e = cc e
-member-no_cycle n table (Some row) fxy e = by (begins_again table row) (nat_le 65536 (n - 2)) e
-  where
-    by : (again large : Bool) → (if again then Err (Duplicate row.sequence) else if large then Err TableSize else Ok (added table row)) ≡ Err (Cycle fxy) → ⊥
-    by true large e = cc e
-    by false true e = cc e
-    by false false e = cc e
-
 record-no_cycle : (n : ℕ) (table : List Sequence) (r : Record) (fxy : ℕ) → with_record_d n table r ≡ Err (Cycle fxy) → ⊥
 unfolding with_record_d
-record-no_cycle n table r fxy e = by (length r == 2) e
-  where
-    by : (b : Bool) → (if b then with_member n table (member_of r) else Err Csv) ≡ Err (Cycle fxy) → ⊥
-    by true e = member-no_cycle n table (member_of r) fxy e
-    by false e = cc e
+record-no_cycle n table r fxy e = grind (arith, common_steps)
 
 rows-no_cycle : (n : ℕ) (table : List Sequence) (rs : List Record) (fxy : ℕ) → table_from with_record_d n table rs ≡ Err (Cycle fxy) → ⊥
 unfolding table_from
@@ -321,11 +296,7 @@ rows-no_cycle n table (r ∷ rs) fxy e = by (with_record_d n table r) refl e (λ
 table-no_cycle : (records : List Record) (fxy : ℕ) → table_d_of records ≡ Err (Cycle fxy) → ⊥
 unfolding table_of
 table-no_cycle [] fxy e = cc e
-table-no_cycle (first ∷ rest) fxy e = by (has_fields columns_d first) e
-  where
-    by : (b : Bool) → (if b then table_from with_record_d 2 [] rest else Err Header) ≡ Err (Cycle fxy) → ⊥
-    by true e = rows-no_cycle 2 [] rest fxy e
-    by false e = cc e
+table-no_cycle (first ∷ rest) fxy e = grind (arith, common_steps, rows-no_cycle)
 
 -- the same of a read of Table D, which comes to the cycles only after all records
 pub reads-fault : (records : List Record) (answer : Result (List Sequence) TableFault) (fault : TableFault) → answer ≡ Err fault → ReturnsUnlessMemory (table_d_of records) answer → ReadsTableD records answer
@@ -349,47 +320,36 @@ pub number_more : (digits : List ℕ) (i number m tens digit more : ℕ) → i <
     → number ≡ min (number_after_digits 0 (take i digits)) m
     → tens ≡ min (number * 10) m → digit ≡ get_or digits i 0 - 48 → more ≡ min (tens + digit) m
     → more ≡ min (number_after_digits 0 (take (i + 1) digits)) m
-number_more digits i number m tens digit more inside is by_ten last sum =
-    rw (take_more digits i 0 inside, number_after-push 0 (take i digits) (get_or digits i 0)) (omega arith)
+number_more digits i number m tens digit more inside is by_ten last sum = grind (arith, common_steps, take_more, number_after-push)
 
 -- a magnitude past 64 bits fits no more than the greatest of 64 bits
 pub fitting-capped : (n : ℕ) → if_i64 (pos (min n (2 ^ 64 - 1))) ≡ if_i64 (pos n)
 unfolding if_i64
-fitting-capped n = grind (arith, nat_tests)
+fitting-capped n = grind arith
 
 past : (k : ℕ) → 2 ^ 63 < k → if_i64 (negated k) ≡ None
 unfolding if_i64
 past zero h = absurd (omega arith)
-past (suc k) h =
-    let large : nat_lt k (2 ^ 63) ≡ false = search (rules, tests) in
-    rw large refl
+past (suc k) h = grind (arith, common_steps)
 
 pub fitting-negated_capped : (n : ℕ) → if_i64 (negated (min n (2 ^ 64 - 1))) ≡ if_i64 (negated n)
 unfolding if_i64
 fitting-negated_capped zero = refl
-fitting-negated_capped (suc n) =
-    elim (cases_lt n (2 ^ 64 - 1)) [
-      | inl small ↦ let same : min (suc n) (2 ^ 64 - 1) ≡ suc n = omega arith in ap (λ (k : ℕ). if_i64 (negated k)) same
-      | inr large ↦ past (min (suc n) (2 ^ 64 - 1)) (omega arith) ∙ sym (past (suc n) (omega arith))
-    ]
+fitting-negated_capped (suc n) = grind (arith, common_steps)
 
 -- what follows from the number that digits write, whether there is one or not
 capped_then : (o : Option ℕ) (f : ℕ → ℤ) (m : ℕ) → ((n : ℕ) → if_i64 (f (min n (2 ^ 64 - 1))) ≡ if_i64 (f n))
     → Some m ≡ option_map (λ n. min n (2 ^ 64 - 1)) o → if_i64 (f m) ≡ option_and_then if_i64 (option_map f o)
 capped_then None f m same is = cc is
-capped_then (Some n) f m same is =
-    let at : m ≡ min n (2 ^ 64 - 1) = same_Some _ _ is in
-    rw at (same n)
+capped_then (Some n) f m same is = grind (arith, common_steps)
 
 -- what an `i64` holds of a magnitude that was held at most the greatest `u64`
 pub i64_of-negative : (text digits : List ℕ) (m : ℕ) (result : Option ℤ) → (get_or text 0 0 == 45) ≡ true → digits ≡ drop 1 text
     → Some m ≡ option_map (λ n. min n (2 ^ 64 - 1)) (natural_of digits) → result ≡ if_i64 (negated m) → result ≡ i64_of text
 unfolding i64_of integer_of
-i64_of-negative text digits m result minus rest is so =
-    rw (minus, so) (capped_then (natural_of (drop 1 text)) negated m fitting-negated_capped (rw rest at is))
+i64_of-negative text digits m result minus rest is so = grind (arith, common_steps, capped_then, fitting-negated_capped)
 
 pub i64_of-positive : (text : List ℕ) (m : ℕ) (result : Option ℤ) → (get_or text 0 0 == 45) ≡ false
     → Some m ≡ option_map (λ n. min n (2 ^ 64 - 1)) (natural_of text) → result ≡ if_i64 (pos m) → result ≡ i64_of text
 unfolding i64_of integer_of
-i64_of-positive text m result plus is so =
-    rw (plus, so) (capped_then (natural_of text) pos m fitting-capped is)
+i64_of-positive text m result plus is so = grind (arith, common_steps, capped_then, pos, fitting-capped)

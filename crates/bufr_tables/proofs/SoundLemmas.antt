@@ -1,17 +1,10 @@
 -- What is true of each tree that the expansion gives.
-use Rattle.std.proofs.Common.{◌≡◌, ◌≢◌, ℕ, zero, suc, ◌+◌, ◌<◌, ◌≤◌, ◌==◌, Bool, true, false, not, ◌&&◌, ◌||◌, List, [], ◌∷◌, length, take, Option, Some, None, Result, Ok, Err, refl, sym, ◌∙◌, ap, subst, arith, inl, inr, ◌++◌, drop, append_assoc, IfOk, max}
+use Rattle.std.proofs.lemmas.Grind.{common_steps}
+use Rattle.std.proofs.Common.{◌≡◌, ◌≢◌, ℕ, zero, suc, ◌+◌, ◌<◌, ◌≤◌, ◌==◌, Bool, true, false, not, ◌&&◌, ◌||◌, List, [], ◌∷◌, length, take, Option, Some, None, Result, Ok, Err, refl, sym, ◌∙◌, ap, subst, arith, inl, inr, ◌++◌, drop, append_assoc, IfOk, nat_le, nat_lt, ok_or}
 use Rattle.std.proofs.lemmas.Bool.{ne_eqb, eqb-true}
-use Rattle.std.specs.Prelude.{nat_le, nat_lt, ok_or}
-use Rattle.bufr_tables.specs.declared.fault.TemplateFault.{TemplateFault}
-use Rattle.bufr_tables.specs.Fxy.{f_of, x_of, y_of}
-use Rattle.bufr_tables.specs.Tree.{is_legal_operator, gives_width, Tree, bare, element, operator, fixed, delayed, join, size, depth, consumes}
-use Rattle.bufr_tables.specs.Expansion.{Tables, Expansion, ExpandedPart, part, ◌>>=◌, unless, with_places, is_factor, begins_with_element, element_part, operator_part, body_of, fixed_part, delayed_part, group_by, group_part, sequence_part, part_by, part_of, level, inner_of, tree_of, first_of, max_open, IsKnownAfter, IsKnown, IsLegal, is_element_first, EveryGroupConsumes, IsSound, leaves, ListsLeaves, says_nothing, says_itself, says_replication, says_sequence}
-use Rattle.bufr_tables.proofs.ExpansionLemmas.{depth-join, part-element, cells-tail, length-cells, raised_flattened, kept_raised, same_growth}
+use Rattle.bufr_tables.specs.Prelude.{TemplateFault, f_of, x_of, y_of, is_legal_operator, gives_width, Tree, bare, element, operator, fixed, delayed, join, size, depth, consumes, Tables, Expansion, ExpandedPart, part, ◌>>=◌, unless, with_places, is_factor, begins_with_element, element_part, operator_part, body_of, fixed_part, delayed_part, group_by, group_part, sequence_part, part_by, part_of, level, inner_of, tree_of, first_of, max_open, IsKnownAfter, IsKnown, IsLegal, is_element_first, EveryGroupConsumes, IsSound, leaves, ListsLeaves, says_nothing, says_itself, says_replication, says_sequence, IsAnswer, Cell, cells_of, trees_of_cells, AreCellsOf, IsTemplate, BuilderModel, growth, places_so_far, push_tree, PushesTree, IsFaultOrMemory}
+use Rattle.bufr_tables.proofs.ExpansionLemmas.{depth-join, part-element, cells-tail, length-cells, raised_flattened, kept_raised}
 use Rattle.std.proofs.lemmas.List.{append-nil, take-append-drop}
-use Rattle.bufr_tables.specs.Templates.{IsAnswer}
-use Rattle.bufr_tables.specs.declared.template.Cell.{Cell}
-use Rattle.bufr_tables.specs.Cells.{cells_of, trees_of_cells, AreCellsOf, IsTemplate}
-use Rattle.bufr_tables.specs.Growth.{BuilderModel, growth, places_so_far, push_tree, PushesTree, IsFaultOrMemory}
 use Rattle.bufr_tables.specs.declared.fault.TemplateFault.TheVariants as fault
 use Rattle.bufr_tables.specs.declared.template.Cell.TheVariants as cell
 
@@ -213,16 +206,7 @@ part_by_joins (suc (suc (suc f))) tables room inner fine given places d after fi
 level_begins : (tables : Tables) (inner : Option Expansion) (given : Bool) (places : ℕ) (after : List ℕ) (rest : Tree) → begins_with_element after ≡ true → level tables inner given 0 places after ≡ Ok rest → is_element_first rest ≡ true
 unfolding level
 level_begins tables inner given places [] rest b h = absurd cc
-level_begins tables inner given places (d ∷ after) rest b h =
-    let k : ExpandedPart → Result Tree TemplateFault = λ first. level tables inner (gives_width d) first.taken (places + size first.tree) after >>= λ rest. Ok (join first.tree rest) in
-    let one = steps (part_of tables inner given places d after) k rest h in
-    let two = steps (level tables inner (gives_width d) one.middle.taken (places + size one.middle.tree) after) (λ rest. Ok (join one.middle.tree rest)) rest one.then_is in
-    let here = part-element tables inner given places d after (f_of d) refl (eqb-true (f_of d) 0 b) ∙ one.first_is in
-    let known = tested (given || tables.known d) (fault.UnknownElement d) (with_places places 1 d >>= λ _. Ok (part (element d bare) 0)) one.middle here in
-    let sized = tested (nat_le (places + 1) 65535) (fault.TemplateSize d) (Ok (part (element d bare) 0)) one.middle known.then_is in
-    let e = part_is (part (element d bare) 0) one.middle sized.then_is in
-    let t = tree_is (join one.middle.tree two.middle) rest two.then_is in
-    ap is_element_first (sym t) ∙ ap (λ (p : ExpandedPart). is_element_first (join p.tree two.middle)) (sym e)
+level_begins tables inner given places (d ∷ after) rest b h = grind (arith, common_steps, steps, part-element, eqb-true, tested, part_is, tree_is)
 
 -- what a list gives is fine
 level_fine : (tables : Tables) (room : ℕ) (inner : Option Expansion) → IsInnerFine tables.known room inner → (given : Bool) (skip places : ℕ) (list : List ℕ) (tree : Tree) → level tables inner given skip places list ≡ Ok tree → IsFine tables.known room given tree
@@ -438,16 +422,11 @@ whole-fault tables list start why e refuses other = ap (after_list list) (same_s
 
 -- what is after no cells
 put_tree : (start new : BuilderModel) (tree : Tree) → start ≡ growth [] 0 0 false → new ≡ push_tree start tree → new ≡ growth (cells_of tree 0 []) 0 (depth tree) (consumes tree)
-put_tree start new tree es e =
-    e ∙ ap (λ (g : BuilderModel). push_tree g tree) es
-    ∙ same_growth (cells_of tree 0 []) (cells_of tree 0 []) 0 0 (max 0 (0 + depth tree)) (depth tree) (consumes tree) (consumes tree) refl refl (omega arith) refl
+put_tree start new tree es e = grind (arith, common_steps)
 
 pub whole-empty : (tables : Tables) (list : List ℕ) (start new : BuilderModel) (first : ℕ) → start ≡ growth [] 0 0 false → PushesTree start (level tables (inner_of tables max_open) false 0 (places_so_far start) list) new → new.full ≡ false → first ≡ first_of list → tree_of tables list ≡ Err (fault.EmptyGroup first)
 unfolding tree_of after_list
-whole-empty tables list start new first es puts empty ef =
-    ap (after_list list) (same_start tables list start es ∙ puts.is_defined)
-    ∙ ap (λ b. unless b (fault.EmptyGroup (first_of list)) >>= λ _. Ok puts.tree) (ap (λ (g : BuilderModel). g.full) (sym (put_tree start new puts.tree es puts.is_put)) ∙ empty)
-    ∙ ap (λ d. Err (fault.EmptyGroup d)) (sym ef)
+whole-empty tables list start new first es puts empty ef = grind (arith, common_steps)
 
 -- a tree is defined, and its cells have been flattened
 pub record IsWhole (tables : Tables) (list : List ℕ) (new : BuilderModel) : Type 0 where

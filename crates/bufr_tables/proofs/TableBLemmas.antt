@@ -1,21 +1,15 @@
 -- The rows of Table B, and what is kept of them.
-use Rattle.std.proofs.Common.{◌≡◌, ◌≢◌, ℕ, ◌+◌, ◌-◌, ◌<◌, ◌≤◌, Bool, true, false, List, [], ◌∷◌, ◌++◌, length, Option, Some, None, refl, sym, ap, ◌∙◌, arith, suc, eqb, inl, inr, option_map, get_or, set, length-append, rules, tests, ◌/◌, take, drop, append_assoc, append-nil, codes, ℤ, subst, Result, Ok, Err}
-use Rattle.std.specs.Prelude.{cond, map, nat_eq, ◌==◌, ◌||◌, if◌then◌else◌, IfSome, slice_range, is_some}
+use Rattle.std.proofs.lemmas.Grind.{common_steps}
+use Rattle.std.proofs.Common.{◌≡◌, ◌≢◌, ℕ, ◌+◌, ◌-◌, ◌<◌, ◌≤◌, Bool, true, false, List, [], ◌∷◌, ◌++◌, length, Option, Some, None, refl, sym, ap, ◌∙◌, arith, suc, eqb, inl, inr, option_map, get_or, set, length-append, rules, tests, append_assoc, append-nil, codes, ℤ, subst, Result, Ok, Err, cond, map, nat_eq, ◌==◌, ◌||◌, if◌then◌else◌, IfSome, slice_range, is_some}
 use Rattle.std.specs.List.{AllByRecursion, IsDistinct, find, list_any}
 use Rattle.std.proofs.lemmas.Bool.{cases_eq, eqb-true}
-use Rattle.std.proofs.lemmas.List.{get_or-set_same, get_or-set_other, drop_at, take-append-le, drop-append-le, length-drop, map-append, map-id}
+use Rattle.std.proofs.lemmas.List.{get_or-set_same, get_or-set_other, map-append, map-id}
 use Rattle.std.proofs.lemmas.Map.Steps.{length-le_from_distinct_below}
 use Rattle.std.proofs.lemmas.Option.{same_Some, option_and_then_some}
-use Rattle.bufr_tables.specs.Directory.{mark_of, place_of}
-use Rattle.std.proofs.Math.Seq.{take-append_seam}
-use Rattle.bufr_tables.specs.Fxy.{f_of, fxy_text, key_of}
-use Rattle.bufr_tables.specs.TableBRows.{ExtendsBlock, IsStored, row_parsed, rows_kept, IsRowKept, row_kept}
-use Rattle.bufr_tables.specs.TableB.{Row, entry_of, row_comment, row_line_start, kind_of, IsRow, allows_scale, allows_width, element_of, is_name, natural_part, plain_of, row_of, scale_of, width_of, AreRows, columns_b, table_b_of, with_record_b, with_row}
+use Rattle.bufr_tables.specs.Prelude.{mark_of, place_of, f_of, fxy_text, key_of, ExtendsBlock, IsStored, row_parsed, rows_kept, IsRowKept, row_kept, Row, entry_of, row_comment, row_line_start, kind_of, IsRow, allows_scale, allows_width, element_of, is_name, plain_of, row_of, scale_of, width_of, AreRows, columns_b, table_b_of, with_record_b, with_row, i64_of, Record, field_of, only_if, and_then, has_fields, table_from, table_of, TableFault}
 use Rattle.bufr_tables.specs.declared.table_b.ParsedRow.{ParsedRow}
 use Rattle.bufr_tables.specs.declared.table_b.Stored.{Stored}
-use Rattle.bufr_tables.specs.Records.{i64_of, Record, field_of, only_if, and_then, has_fields, table_from, table_of}
 use Rattle.bufr_tables.specs.declared.table_b.Kind.{Kind}
-use Rattle.bufr_tables.specs.declared.fault.TableFault.{TableFault}
 use Rattle.bufr_tables.specs.declared.fault.TableFault.TheVariants.{Csv, Duplicate, Header}
 
 -- ---- A list of keys with one more key, and how many keys there are.
@@ -98,11 +92,7 @@ count-added keys key n below distinct small absent =
 pub marks-added : (keys : List ℕ) (key : ℕ) (marks : List ℕ) (n : ℕ) → length marks ≡ n → key < n → place_of keys key ≡ None
     → ((other : ℕ) → other < n → get_or marks other 0 ≡ mark_of (place_of keys other))
     → (other : ℕ) → other < n → get_or (set marks key (length keys + 1)) other 0 ≡ mark_of (place_of (keys ++ key ∷ []) other)
-marks-added keys key marks n size small absent was other inside =
-    elim (cases_eq other key) [
-      | inl same ↦ rw (same, place_of-added keys key absent) (get_or-set_same marks key (length keys + 1) 0 (omega arith))
-      | inr differ ↦ rw (place_of-other keys key other (λ e. differ (sym e))) (get_or-set_other marks key other (length keys + 1) 0 differ ∙ was other inside)
-    ]
+marks-added keys key marks n size small absent was other inside = grind (arith, common_steps, cases_eq, inl, place_of-added, get_or-set_same, inr, place_of-other, get_or-set_other)
 
 -- a mark that is not 0 is that of a place inside the list
 pub mark-inside : (keys : List ℕ) (key mark : ℕ) → mark ≡ mark_of (place_of keys key) → mark ≢ 0 → mark - 1 < length keys
@@ -177,14 +167,10 @@ entry-other octets (s ∷ stored) fxy elements large =
 
 -- octets after the block leave the rows as they are
 pub range-append : (xs ys : List ℕ) (i j : ℕ) → i ≤ j → j ≤ length xs → slice_range (xs ++ ys) i j ≡ slice_range xs i j
-range-append xs ys i j before inside =
-    rw (drop-append-le i xs ys (omega arith), take-append-le (j - i) (drop i xs) ys (omega (arith, length-drop i xs))) refl
+range-append xs ys i j before inside = grind (arith, common_steps)
 
 row_kept-append : (octets more : List ℕ) (s : Stored) → IsRowKept octets s → row_kept (octets ++ more) s ≡ row_kept octets s
-row_kept-append octets more s kept =
-    let name = range-append octets more (s.start + 11) s.middle kept.name (omega (arith, kept.unit, kept.inside)) in
-    let unit = range-append octets more (s.middle + 2) (s.end - 2) (omega (arith, kept.unit)) (omega (arith, kept.inside)) in
-    cc
+row_kept-append octets more s kept = grind (arith, common_steps)
 
 kept-append : (octets more : List ℕ) (s : Stored) → IsRowKept octets s → IsRowKept (octets ++ more) s
 kept-append octets more s kept = record {
@@ -211,9 +197,7 @@ all-push P [] s all here = (here, tt)
 all-push P (t ∷ stored) s all here = (all.0, all-push P stored s all.1 here)
 
 range-after : (before xs more : List ℕ) (i j : ℕ) → i ≡ length before → j ≡ i + length xs → slice_range (before ++ (xs ++ more)) i j ≡ xs
-range-after before xs more i j at to =
-    let long : j - i ≡ length xs = omega arith in
-    ap (take (j - i)) (drop_at before (xs ++ more) i (sym at)) ∙ ap (λ n. take n (xs ++ more)) long ∙ take-append_seam xs more
+range-after before xs more i j at to = grind (arith, common_steps)
 
 -- a row that was pushed onto a block is there
 module _ (before digits name unit : List ℕ) where
@@ -308,10 +292,7 @@ element-key fxy small = omega arith
 
 -- a descriptor that is not of an element has no row
 pub entry-not_element : (octets : List ℕ) (stored : List Stored) (fxy : ℕ) → AllByRecursion (λ s. s.fxy < 16384) stored → f_of fxy ≢ 0 → entry_of (rows_kept octets stored) fxy ≡ None
-entry-not_element octets stored fxy elements other = entry-other octets stored fxy elements (large fxy other)
-  where
-    large : (n : ℕ) → n / 16384 ≢ 0 → 16384 ≤ n
-    large n h = omega arith
+entry-not_element octets stored fxy elements other = grind (arith, common_steps, entry-other)
 
 -- the row that is found is that of the element at its place
 pub entry-row : (octets : List ℕ) (stored : List Stored) (fxy place : ℕ) (s : Stored) → place_of (fxys_of stored) fxy ≡ Some place
@@ -321,9 +302,7 @@ entry-row octets stored fxy place s found at = rw (entry-found octets stored fxy
 -- the rows with one more element
 pub rows_kept-push : (old new : List ℕ) (stored : List Stored) (s : Stored) (row : ParsedRow) → AllByRecursion (IsRowKept old) stored → ExtendsBlock old new
     → IsStored new row s → rows_kept new (stored ++ s ∷ []) ≡ rows_kept old stored ++ row_parsed row ∷ []
-rows_kept-push old new stored s row kept grows is =
-    map-append (row_kept new) stored (s ∷ [])
-    ∙ rw (is.same, grows.1) (ap (λ (rows : List Row). rows ++ row_parsed row ∷ []) (rows_kept-append old grows.0 stored kept))
+rows_kept-push old new stored s row kept grows is = grind (arith, common_steps, map-append, rows_kept-append)
 
 pub kept-grown : (old new : List ℕ) (stored : List Stored) → AllByRecursion (IsRowKept old) stored → ExtendsBlock old new → AllByRecursion (IsRowKept new) stored
 kept-grown old new stored kept grows = rw grows.1 (all-kept old grows.0 stored kept)
@@ -341,15 +320,11 @@ name-plain text name is = passed _ text name is (λ test same. subst (λ t. is_n
 
 scale-allowed : (text : List ℕ) (scale : ℤ) → scale_of text ≡ Some scale → allows_scale scale ≡ true
 unfolding scale_of
-scale-allowed text scale is =
-    option_and_then_some _ (i64_of text) scale is (λ z read is. passed _ z scale is (λ test same. subst (λ z. allows_scale z ≡ true) same test))
+scale-allowed text scale is = grind (arith, common_steps)
 
 width-allowed : (kind : Kind) (text : List ℕ) (width : ℕ) → width_of kind text ≡ Some width → allows_width kind width ≡ true
 unfolding width_of
-width-allowed kind text width is =
-    option_and_then_some _ (i64_of text) width is (λ z read is.
-    option_and_then_some _ (natural_part z) width is (λ n part is.
-    passed _ n width is (λ test same. subst (λ n. allows_width kind n ≡ true) same test)))
+width-allowed kind text width is = grind (arith, common_steps)
 
 -- a row that a record writes
 pub row-limits : (r : Record) (row : Row) → row_of r ≡ Some row → IsRow row

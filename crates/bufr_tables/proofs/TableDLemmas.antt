@@ -1,18 +1,12 @@
 -- The sequences of Table D, and their members.
-use Rattle.std.proofs.Common.{◌≡◌, ◌≢◌, ℕ, ◌+◌, ◌-◌, ◌/◌, ◌<◌, ◌≤◌, false, List, [], ◌∷◌, ◌++◌, length, take, drop, map, set, Option, Some, None, refl, ap, ◌∙◌, arith, suc, zero, get_or, option_map, length-append, rules, tests, Bool, true, sym, Result, Ok, Err}
-use Rattle.std.specs.Prelude.{◌==◌, slice_index, slice_range, ◌&&◌, cond, if◌then◌else◌, is_some, nat_eq, nat_le, not, unwrap_or}
+use Rattle.std.proofs.lemmas.Grind.{common_steps}
+use Rattle.std.proofs.Common.{◌≡◌, ◌≢◌, ℕ, ◌+◌, ◌-◌, ◌/◌, ◌<◌, ◌≤◌, false, List, [], ◌∷◌, ◌++◌, length, map, set, Option, Some, None, refl, ap, ◌∙◌, arith, suc, zero, get_or, option_map, rules, tests, Bool, true, sym, Result, Ok, Err, ◌==◌, slice_index, slice_range, ◌&&◌, cond, if◌then◌else◌, is_some, nat_eq, nat_le, not, unwrap_or}
 use Rattle.std.specs.List.{AllByRecursion, IsDistinct, find}
-use Rattle.std.proofs.lemmas.List.{take_all, drop-append-le, drop_at, length-drop, map-append, append-nil, append_assoc, map-id}
-use Rattle.std.proofs.lemmas.Bool.Decides.{nat_tests}
+use Rattle.std.proofs.lemmas.List.{take_all, drop_at, map-append, append-nil, append_assoc, map-id}
 use Rattle.bufr_tables.proofs.TableBLemmas.{find-absent, find-found, place-absent, range-append, distinct-added, distinct-none}
-use Rattle.bufr_tables.specs.Directory.{place_of}
-use Rattle.bufr_tables.specs.Fxy.{f_of, key_of}
-use Rattle.bufr_tables.specs.Runs.{IsMemberRange, LastEnds, run_key, sequence_kept, sequences_kept}
-use Rattle.bufr_tables.specs.TableD.{Sequence, extended, fxys_of, is_last, members_of, AreSequences, Member, added, begins_again, columns_d, members_or_none, member_of, members_in, table_d_of, with_member, with_record_d}
+use Rattle.bufr_tables.specs.Prelude.{place_of, f_of, key_of, IsMemberRange, LastEnds, run_key, sequence_kept, sequences_kept, Sequence, extended, fxys_of, is_last, members_of, AreSequences, Member, added, begins_again, columns_d, members_or_none, member_of, members_in, table_d_of, with_member, with_record_d, Record, and_then, has_fields, table_from, table_of, TableFault}
 use Rattle.bufr_tables.specs.declared.table_d.MemberRange.{MemberRange}
 use Rattle.std.proofs.lemmas.Bool.{eqb-true}
-use Rattle.bufr_tables.specs.Records.{Record, and_then, has_fields, table_from, table_of}
-use Rattle.bufr_tables.specs.declared.fault.TableFault.{TableFault}
 use Rattle.bufr_tables.specs.declared.fault.TableFault.TheVariants.{Csv, Duplicate, Header, TableSize}
 
 abbrev pub IsSequence : MemberRange → Type 0
@@ -23,7 +17,7 @@ key-is : (a : ℕ) → 49152 ≤ a → a < 65536 → key_of a ≡ a - 49152
 key-is a low high = omega arith
 
 same-difference : (a b : ℕ) → 49152 ≤ a → 49152 ≤ b → (a == b) ≡ (a - 49152 == b - 49152)
-same-difference a b low high = grind (arith, nat_tests)
+same-difference a b low high = grind arith
 
 same-key : (a b : ℕ) → 49152 ≤ a → a < 65536 → 49152 ≤ b → b < 65536 → (a == b) ≡ (key_of a == key_of b)
 same-key a b a_low a_high b_low b_high = rw (key-is a a_low a_high, key-is b b_low b_high) (same-difference a b a_low b_low)
@@ -75,12 +69,7 @@ abbrev pub longer : MemberRange → MemberRange
 longer run = record { fxy = run.fxy; start = run.start; end = run.end + 1 }
 
 range-push : (xs : List ℕ) (x i j : ℕ) → i ≤ j → j ≡ length xs → slice_range (xs ++ x ∷ []) i (j + 1) ≡ slice_range xs i j ++ x ∷ []
-range-push xs x i j before end =
-    let back = drop-append-le i xs (x ∷ []) (omega arith) in
-    let size = length-drop i xs in
-    let all : take (j + 1 - i) (drop i xs ++ x ∷ []) ≡ drop i xs ++ x ∷ [] = take_all (j + 1 - i) (drop i xs ++ x ∷ []) (omega (arith, length-append (drop i xs) (x ∷ []))) in
-    let rest : take (j - i) (drop i xs) ≡ drop i xs = take_all (j - i) (drop i xs) (omega arith) in
-    rw (back, all, rest) refl
+range-push xs x i j before end = grind (arith, common_steps)
 
 abbrev pub alone : ℕ → List ℕ → List Sequence
 alone fxy ms = record { fxy = fxy; members = ms } ∷ []
@@ -154,12 +143,7 @@ last-end n (r ∷ t ∷ runs) (suc i) run ends last at = last-end n (t ∷ runs)
 pub sequences_kept-begun : (members : List ℕ) (member : ℕ) (runs : List MemberRange) (run : MemberRange) (fxy : ℕ) → AllByRecursion (IsMemberRange (length members)) runs
     → run ≡ record { fxy = fxy; start = length members; end = length members + 1 }
     → sequences_kept (members ++ member ∷ []) (runs ++ run ∷ []) ≡ sequences_kept members runs ++ record { fxy = fxy; members = member ∷ [] } ∷ []
-sequences_kept-begun members member runs run fxy inside is =
-    let back = drop_at members (member ∷ []) (length members) refl in
-    let one : take (length members + 1 - length members) (member ∷ []) ≡ member ∷ [] = take_all (length members + 1 - length members) (member ∷ []) (omega arith) in
-    let range : slice_range (members ++ member ∷ []) (length members) (length members + 1) ≡ member ∷ [] = rw (back, one) refl in
-    rw is (map-append (sequence_kept (members ++ member ∷ [])) runs (record { fxy = fxy; start = length members; end = length members + 1 } ∷ [])
-    ∙ rw (sequences_kept-append members (member ∷ []) runs inside) (ap (λ (ms : List ℕ). sequences_kept members runs ++ alone fxy ms) range))
+sequences_kept-begun members member runs run fxy inside is = grind (arith, common_steps, drop_at, take_all, map-append, sequences_kept-append)
 
 pub some-runs : (members : List ℕ) (runs : List MemberRange) → sequences_kept members runs ≢ [] → 0 < length runs
 some-runs members [] some = absurd (some refl)
@@ -199,11 +183,7 @@ lacks s table fxy absent = by (s.fxy == fxy) refl absent
 -- a sequence after a table that lacks it
 begun-listed : (table : List Sequence) (new : Sequence) (fxy : ℕ) → members_of table new.fxy ≡ None
     → members_or_none (table ++ new ∷ []) fxy ≡ members_or_none table fxy ++ only new.fxy new.members fxy
-begun-listed [] new fxy absent = by (new.fxy == fxy)
-  where
-    by : (b : Bool) → unwrap_or (option_map (λ (q : Sequence). q.members) (cond b (Some new) None)) [] ≡ [] ++ (if b then new.members else [])
-    by true = refl
-    by false = refl
+begun-listed [] new fxy absent = grind (arith, common_steps)
 begun-listed (s ∷ table) new fxy absent =
     let parts = lacks s table new.fxy absent in
     by (s.fxy == fxy) refl parts.first (begun-listed table new fxy parts.rest)
@@ -227,12 +207,7 @@ extended-listed : (table : List Sequence) (sequence member fxy : ℕ) → is_las
     → members_or_none (extended table member) fxy ≡ members_or_none table fxy ++ only sequence (member ∷ []) fxy
 unfolding IsDistinct
 extended-listed [] sequence member fxy last distinct = cc last
-extended-listed (s ∷ []) sequence member fxy last distinct = rw (← eqb-true s.fxy sequence last) (by (s.fxy == fxy))
-  where
-    by : (b : Bool) → unwrap_or (option_map (λ (q : Sequence). q.members) (cond b (Some (record { fxy = s.fxy; members = s.members ++ member ∷ [] })) None)) []
-        ≡ unwrap_or (option_map (λ (q : Sequence). q.members) (cond b (Some s) None)) [] ++ (if b then member ∷ [] else [])
-    by true = refl
-    by false = refl
+extended-listed (s ∷ []) sequence member fxy last distinct = grind (arith, common_steps)
 extended-listed (s ∷ t ∷ table) sequence member fxy last distinct =
     by (s.fxy == fxy) refl (last-differs (t ∷ table) s.fxy sequence last distinct.0) (extended-listed (t ∷ table) sequence member fxy last distinct.1)
   where
@@ -315,11 +290,7 @@ record AddRows (before : List Sequence) (rs : List Record) (table : List Sequenc
   members : (fxy : ℕ) → members_or_none table fxy ≡ members_or_none before fxy ++ members_in rows fxy
 
 only-more : (row : Member) (rows : List Member) (fxy : ℕ) → only row.sequence (row.fxy ∷ []) fxy ++ members_in rows fxy ≡ members_in (row ∷ rows) fxy
-only-more row rows fxy = by (row.sequence == fxy)
-  where
-    by : (b : Bool) → (if b then row.fxy ∷ [] else []) ++ members_in rows fxy ≡ (if b then row.fxy ∷ members_in rows fxy else members_in rows fxy)
-    by true = refl
-    by false = refl
+only-more row rows fxy = grind (arith, common_steps)
 
 rows-add : (n : ℕ) (before : List Sequence) (rs : List Record) (table : List Sequence) → table_from with_record_d n before rs ≡ Ok table → IsDistinct nat_eq (fxys_of before) → AddRows before rs table
 unfolding table_from

@@ -1,13 +1,8 @@
 -- Worked examples of the expansion, computed.
 use Rattle.std.proofs.Common.{◌≡◌, ℕ, Option, zero, suc, ◌+◌, ◌*◌, ◌==◌, ◌||◌, Bool, false, cond, List, [], ◌∷◌, length, Some, None, Result, Ok, Err, refl}
-use Rattle.bufr_tables.specs.declared.fault.TemplateFault.{TemplateFault}
+use Rattle.bufr_tables.specs.Prelude.{TemplateFault, Cell, f_of, y_of, cells_of, trees_of_cells, Tree, bare, element, operator, fixed, delayed, places, depth, Tables, tree_of, inner_of, level, part_of, ◌>>=◌}
 use Rattle.bufr_tables.specs.declared.fault.TemplateFault.TheVariants as fault
-use Rattle.bufr_tables.specs.declared.template.Cell.{Cell}
 use Rattle.bufr_tables.specs.declared.template.Cell.TheVariants as cell
-use Rattle.bufr_tables.specs.Fxy.{f_of, y_of}
-use Rattle.bufr_tables.specs.Cells.{cells_of, trees_of_cells}
-use Rattle.bufr_tables.specs.Tree.{Tree, bare, element, operator, fixed, delayed, places, depth}
-use Rattle.bufr_tables.specs.Expansion.{Tables, tree_of, inner_of, level, part_of, ◌>>=◌}
 
 -- a descriptor of six digits
 abbrev fxy : ℕ → ℕ → ℕ → ℕ
@@ -43,107 +38,45 @@ nested : ℕ → List ℕ
 nested zero = fxy 0 1 1 ∷ []
 nested (suc n) = fxy 1 (n + 1) 1 ∷ nested n
 
-one_block_number : given (fxy 0 1 1 ∷ []) ≡ Ok (element (fxy 0 1 1) bare)
+-- rule: delayed-replication, 2-06-y-unknown-element, descriptor-kinds, fixed-replication
+-- rule: replication-before-expansion
+trees :
+    (given (fxy 0 1 1 ∷ []) ≡ Ok (element (fxy 0 1 1) bare))
+    × (given (fxy 1 1 0 ∷ fxy 0 31 1 ∷ fxy 0 1 1 ∷ []) ≡ Ok (delayed (fxy 0 31 1) (element (fxy 0 1 1) bare) bare))
+    × (given (fxy 1 1 0 ∷ fxy 0 31 0 ∷ fxy 0 1 1 ∷ []) ≡ Ok (delayed (fxy 0 31 0) (element (fxy 0 1 1) bare) bare))
+    × (given (fxy 3 60 192 ∷ []) ≡ Ok (element (fxy 0 1 1) (element (fxy 0 12 101) bare)))
+    × (given (fxy 2 6 12 ∷ fxy 0 63 255 ∷ []) ≡ Ok (operator (fxy 2 6 12) (element (fxy 0 63 255) bare)))
+    × (given (fxy 1 1 2 ∷ fxy 3 60 192 ∷ fxy 0 20 3 ∷ []) ≡ Ok (fixed 2 (element (fxy 0 1 1) (element (fxy 0 12 101) bare)) (element (fxy 0 20 3) bare)))
 unfolding given
-one_block_number = refl
+trees = (refl, refl, refl, refl, refl, refl)
 
--- rule: delayed-replication
-delayed_twice : given (fxy 1 1 0 ∷ fxy 0 31 1 ∷ fxy 0 1 1 ∷ []) ≡ Ok (delayed (fxy 0 31 1) (element (fxy 0 1 1) bare) bare)
-unfolding given
-delayed_twice = refl
-
-delayed_twice_is_measured : measured (given (fxy 1 1 0 ∷ fxy 0 31 1 ∷ fxy 0 1 1 ∷ [])) ≡ Ok (5, 1)
-unfolding given measured
-delayed_twice_is_measured = refl
-
-short_factor : given (fxy 1 1 0 ∷ fxy 0 31 0 ∷ fxy 0 1 1 ∷ []) ≡ Ok (delayed (fxy 0 31 0) (element (fxy 0 1 1) bare) bare)
-unfolding given
-short_factor = refl
-
--- rule: groups-take-bits
-empty_group_of_operators : given (fxy 1 1 255 ∷ fxy 2 1 0 ∷ []) ≡ Err (fault.EmptyGroup (fxy 1 1 255))
-unfolding given
-empty_group_of_operators = refl
-
-empty_whole : given (fxy 2 1 0 ∷ []) ≡ Err (fault.EmptyGroup (fxy 2 1 0))
-unfolding given
-empty_whole = refl
-
--- rule: groups-take-bits
-empty_list : given [] ≡ Err (fault.EmptyGroup 0)
-unfolding given
-empty_list = refl
-
-sequence_of_two : given (fxy 3 60 192 ∷ []) ≡ Ok (element (fxy 0 1 1) (element (fxy 0 12 101) bare))
-unfolding given
-sequence_of_two = refl
-
-sequence_of_two_is_measured : measured (given (fxy 3 60 192 ∷ [])) ≡ Ok (3, 0)
-unfolding given measured
-sequence_of_two_is_measured = refl
-
--- rule: 2-06-y-unknown-element
-local_descriptor : given (fxy 2 6 12 ∷ fxy 0 63 255 ∷ []) ≡ Ok (operator (fxy 2 6 12) (element (fxy 0 63 255) bare))
-unfolding given
-local_descriptor = refl
-
-local_descriptor_alone : given (fxy 0 63 255 ∷ []) ≡ Err (fault.UnknownElement (fxy 0 63 255))
-unfolding given
-local_descriptor_alone = refl
-
-thirty_two_groups : measured (given (nested 32)) ≡ Ok (66, 32)
-unfolding given measured nested
-thirty_two_groups = refl
-
-thirty_three_groups : given (nested 33) ≡ Err (fault.Depth (fxy 1 1 1))
-unfolding given nested
-thirty_three_groups = refl
-
-group_past_the_list : given (fxy 1 2 2 ∷ fxy 0 1 1 ∷ []) ≡ Err (fault.GroupShape (fxy 1 2 2))
-unfolding given
-group_past_the_list = refl
-
--- rule: delayed-replication
-no_factor : given (fxy 1 1 0 ∷ fxy 0 1 1 ∷ []) ≡ Err (fault.NoFactor (fxy 1 1 0))
-unfolding given
-no_factor = refl
-
--- rule: 2-06-y-before-an-element
-local_shape : given (fxy 2 6 12 ∷ fxy 2 1 0 ∷ []) ≡ Err (fault.LocalShape (fxy 2 6 12))
-unfolding given
-local_shape = refl
-
--- rule: operators-known
-unknown_operator : given (fxy 2 4 1 ∷ []) ≡ Err (fault.Operator (fxy 2 4 1))
-unfolding given
-unknown_operator = refl
-
-unknown_sequence : given (fxy 3 0 1 ∷ []) ≡ Err (fault.UnknownSequence (fxy 3 0 1))
-unfolding given
-unknown_sequence = refl
-
-delayed_in_delayed : measured (given (fxy 1 3 0 ∷ fxy 0 31 1 ∷ fxy 1 1 0 ∷ fxy 0 31 1 ∷ fxy 0 1 1 ∷ [])) ≡ Ok (8, 2)
-unfolding given measured
-delayed_in_delayed = refl
-
-inserted_text_in_a_group : measured (given (fxy 1 1 2 ∷ fxy 2 5 4 ∷ [])) ≡ Ok (4, 1)
-unfolding given measured
-inserted_text_in_a_group = refl
-
--- rule: 2-06-y-before-an-element
-width_at_the_end_of_a_group : given (fxy 1 1 2 ∷ fxy 2 6 12 ∷ fxy 0 63 255 ∷ []) ≡ Err (fault.LocalShape (fxy 2 6 12))
-unfolding given
-width_at_the_end_of_a_group = refl
-
+-- rule: delayed-replication, 2-06-y-before-an-element, operators-known, groups-take-bits
 -- rule: replication-in-one-list
-group_past_the_group : given (fxy 1 1 2 ∷ fxy 1 1 2 ∷ fxy 0 1 1 ∷ []) ≡ Err (fault.GroupShape (fxy 1 1 2))
-unfolding given
-group_past_the_group = refl
+faults :
+    (given (fxy 1 1 255 ∷ fxy 2 1 0 ∷ []) ≡ Err (fault.EmptyGroup (fxy 1 1 255)))
+    × (given (fxy 2 1 0 ∷ []) ≡ Err (fault.EmptyGroup (fxy 2 1 0)))
+    × (given [] ≡ Err (fault.EmptyGroup 0))
+    × (given (fxy 0 63 255 ∷ []) ≡ Err (fault.UnknownElement (fxy 0 63 255)))
+    × (given (nested 33) ≡ Err (fault.Depth (fxy 1 1 1)))
+    × (given (fxy 1 2 2 ∷ fxy 0 1 1 ∷ []) ≡ Err (fault.GroupShape (fxy 1 2 2)))
+    × (given (fxy 1 1 2 ∷ fxy 1 1 2 ∷ fxy 0 1 1 ∷ []) ≡ Err (fault.GroupShape (fxy 1 1 2)))
+    × (given (fxy 1 1 0 ∷ fxy 0 1 1 ∷ []) ≡ Err (fault.NoFactor (fxy 1 1 0)))
+    × (given (fxy 2 6 12 ∷ fxy 2 1 0 ∷ []) ≡ Err (fault.LocalShape (fxy 2 6 12)))
+    × (given (fxy 1 1 2 ∷ fxy 2 6 12 ∷ fxy 0 63 255 ∷ []) ≡ Err (fault.LocalShape (fxy 2 6 12)))
+    × (given (fxy 2 4 1 ∷ []) ≡ Err (fault.Operator (fxy 2 4 1)))
+    × (given (fxy 3 0 1 ∷ []) ≡ Err (fault.UnknownSequence (fxy 3 0 1)))
+unfolding given nested
+faults = (refl, refl, refl, refl, refl, refl, refl, refl, refl, refl, refl, refl)
 
--- rule: descriptor-kinds, fixed-replication, replication-before-expansion
-group_of_a_sequence : given (fxy 1 1 2 ∷ fxy 3 60 192 ∷ fxy 0 20 3 ∷ []) ≡ Ok (fixed 2 (element (fxy 0 1 1) (element (fxy 0 12 101) bare)) (element (fxy 0 20 3) bare))
-unfolding given
-group_of_a_sequence = refl
+measures :
+    (measured (given (fxy 1 1 0 ∷ fxy 0 31 1 ∷ fxy 0 1 1 ∷ [])) ≡ Ok (5, 1))
+    × (measured (given (fxy 3 60 192 ∷ [])) ≡ Ok (3, 0))
+    × (measured (given (fxy 1 3 0 ∷ fxy 0 31 1 ∷ fxy 1 1 0 ∷ fxy 0 31 1 ∷ fxy 0 1 1 ∷ [])) ≡ Ok (8, 2))
+    × (measured (given (fxy 1 1 2 ∷ fxy 2 5 4 ∷ [])) ≡ Ok (4, 1))
+    × (measured (given (nested 32)) ≡ Ok (66, 32))
+    × ((flattened (given (nested 32)) >>= λ cells. Ok (length cells)) ≡ Ok 66)
+unfolding given measured flattened nested
+measures = (refl, refl, refl, refl, refl, refl)
 
 -- a chain of seventeen sequences that each hold the next one twice, and the last one an element
 -- twice
@@ -154,34 +87,13 @@ doubling_sequences : tree_of (record { known = λ d. d == fxy 0 1 1; members = d
 unfolding doubled tree_of inner_of level part_of
 doubling_sequences = refl
 
-one_block_number_is_flattened : flattened (given (fxy 0 1 1 ∷ [])) ≡ Ok (cell.Element (fxy 0 1 1) ∷ cell.Finish ∷ [])
-unfolding given flattened
-one_block_number_is_flattened = refl
-
-delayed_twice_is_flattened : flattened (given (fxy 1 1 0 ∷ fxy 0 31 1 ∷ fxy 0 1 1 ∷ [])) ≡ Ok (cell.Delayed 4 ∷ cell.Factor (fxy 0 31 1) ∷ cell.Element (fxy 0 1 1) ∷ cell.PassEnd ∷ cell.Finish ∷ [])
-unfolding given flattened
-delayed_twice_is_flattened = refl
-
-delayed_twice_is_raised : trees_of_cells (cell.Delayed 4 ∷ cell.Factor (fxy 0 31 1) ∷ cell.Element (fxy 0 1 1) ∷ cell.PassEnd ∷ cell.Finish ∷ []) ≡ delayed (fxy 0 31 1) (element (fxy 0 1 1) bare) bare
-delayed_twice_is_raised = refl
-
 -- rule: replication-nested
-delayed_in_delayed_is_flattened : flattened (given (fxy 1 3 0 ∷ fxy 0 31 1 ∷ fxy 1 1 0 ∷ fxy 0 31 1 ∷ fxy 0 1 1 ∷ [])) ≡ Ok (cell.Delayed 7 ∷ cell.Factor (fxy 0 31 1) ∷ cell.Delayed 6 ∷ cell.Factor (fxy 0 31 1) ∷ cell.Element (fxy 0 1 1) ∷ cell.PassEnd ∷ cell.PassEnd ∷ cell.Finish ∷ [])
+cells :
+    (flattened (given (fxy 0 1 1 ∷ [])) ≡ Ok (cell.Element (fxy 0 1 1) ∷ cell.Finish ∷ []))
+    × (flattened (given (fxy 1 1 0 ∷ fxy 0 31 1 ∷ fxy 0 1 1 ∷ [])) ≡ Ok (cell.Delayed 4 ∷ cell.Factor (fxy 0 31 1) ∷ cell.Element (fxy 0 1 1) ∷ cell.PassEnd ∷ cell.Finish ∷ []))
+    × (trees_of_cells (cell.Delayed 4 ∷ cell.Factor (fxy 0 31 1) ∷ cell.Element (fxy 0 1 1) ∷ cell.PassEnd ∷ cell.Finish ∷ []) ≡ delayed (fxy 0 31 1) (element (fxy 0 1 1) bare) bare)
+    × (flattened (given (fxy 1 3 0 ∷ fxy 0 31 1 ∷ fxy 1 1 0 ∷ fxy 0 31 1 ∷ fxy 0 1 1 ∷ [])) ≡ Ok (cell.Delayed 7 ∷ cell.Factor (fxy 0 31 1) ∷ cell.Delayed 6 ∷ cell.Factor (fxy 0 31 1) ∷ cell.Element (fxy 0 1 1) ∷ cell.PassEnd ∷ cell.PassEnd ∷ cell.Finish ∷ []))
+    × (flattened (given (fxy 1 1 2 ∷ fxy 3 60 192 ∷ fxy 0 20 3 ∷ [])) ≡ Ok (cell.Fixed 2 4 ∷ cell.Element (fxy 0 1 1) ∷ cell.Element (fxy 0 12 101) ∷ cell.PassEnd ∷ cell.Element (fxy 0 20 3) ∷ cell.Finish ∷ []))
+    × (flattened (given (fxy 2 6 12 ∷ fxy 0 63 255 ∷ [])) ≡ Ok (cell.Operator (fxy 2 6 12) ∷ cell.Element (fxy 0 63 255) ∷ cell.Finish ∷ []))
 unfolding given flattened
-delayed_in_delayed_is_flattened = refl
-
-group_of_a_sequence_is_flattened : flattened (given (fxy 1 1 2 ∷ fxy 3 60 192 ∷ fxy 0 20 3 ∷ [])) ≡ Ok (cell.Fixed 2 4 ∷ cell.Element (fxy 0 1 1) ∷ cell.Element (fxy 0 12 101) ∷ cell.PassEnd ∷ cell.Element (fxy 0 20 3) ∷ cell.Finish ∷ [])
-unfolding given flattened
-group_of_a_sequence_is_flattened = refl
-
-local_descriptor_is_flattened : flattened (given (fxy 2 6 12 ∷ fxy 0 63 255 ∷ [])) ≡ Ok (cell.Operator (fxy 2 6 12) ∷ cell.Element (fxy 0 63 255) ∷ cell.Finish ∷ [])
-unfolding given flattened
-local_descriptor_is_flattened = refl
-
--- how many cells there are
-counted : Result (List Cell) TemplateFault → Result ℕ TemplateFault
-counted cells = cells >>= λ c. Ok (length c)
-
-thirty_two_groups_are_flattened : counted (flattened (given (nested 32))) ≡ Ok 66
-unfolding given flattened counted nested
-thirty_two_groups_are_flattened = refl
+cells = (refl, refl, refl, refl, refl, refl)

@@ -5,8 +5,7 @@ use Rattle.std.specs.Cmp.{IsEquivalence, and_equiv, int_eq_equiv, nat_eq_equiv, 
 use Rattle.std.specs.Cmp.Lexicographic.{nat_list_eq_equiv}
 use Rattle.std.specs.Ordering.{int_eq}
 use Rattle.std.specs.Str.{bytes_eq}
-use Rattle.bufr_tables.specs.TableBRows.{row_kept}
-use Rattle.bufr_tables.specs.TableB.{Row}
+use Rattle.bufr_tables.specs.TableB.{row_kept, Row}
 use Rattle.bufr_tables.specs.contracts.table_b.KindEq.TheImpl.Laws as kind_law
 use Rattle.bufr_tables.specs.contracts.table_b.KindPartialEq.TheImpl as kind
 use Rattle.bufr_tables.specs.declared.table_b.Entry.{Entry}

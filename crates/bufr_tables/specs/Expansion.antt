@@ -2,14 +2,15 @@
 -- (WMO-No. 306, Volume I.2, FM 94: section 3, replications, Tables C and D. The faults, their order
 -- and the limits are a choice of this project.)
 -- Cited by public contracts.
-use Rattle.std.specs.Prelude.{ℕ, zero, suc, ◌+◌, ◌==◌, nat_lt, nat_le, not, ◌||◌, Bool, true, false, List, [], ◌∷◌, length, take, Option, Some, None, Result, Ok, Err, ok_or, is_some, ◌≡◌, ◌≤◌, ◌⊎◌, ◌++◌, ◌<◌}
+use Rattle.std.specs.Prelude.{ℕ, zero, suc, ◌+◌, ◌==◌, nat_lt, nat_le, not, ◌||◌, Bool, true, false, List, [], ◌∷◌, length, take, Option, Some, None, Result, Ok, Err, ok_or, is_some, ◌≡◌, ◌≤◌, ◌⊎◌, ◌++◌, ◌<◌, ◌≢◌, IfOk, IfErr}
 use Rattle.bufr_tables.specs.declared.fault.TemplateFault.{TemplateFault}
 use Rattle.bufr_tables.specs.Fxy.{f_of, x_of, y_of}
 pub use Rattle.bufr_tables.specs.Fxy.{is_factor}
-use Rattle.bufr_tables.specs.Tree.{is_legal_operator, gives_width, Tree, bare, element, operator, fixed, delayed, join, size, consumes}
+use Rattle.bufr_tables.specs.Tree.{is_legal_operator, gives_width, Tree, bare, element, operator, fixed, delayed, join, size, consumes, places}
 use Rattle.bufr_tables.specs.TableB.{Row, entry_of}
 use Rattle.bufr_tables.specs.TableD.{Sequence, members_of}
 use Rattle.bufr_tables.specs.declared.fault.TemplateFault.TheVariants as fault
+use Rattle.bufr_tables.specs.declared.fault.TemplateFault.TheVariants.{Memory}
 
 -- what the tables say: which elements Table B knows, and the members of a sequence of Table D
 pub record Tables : Type 0 where
@@ -259,3 +260,19 @@ IsKnownAfter known width_given (delayed factor body rest) =
 
 abbrev pub IsKnown : (known : ℕ → Bool) → Tree → Type 0
 IsKnown known tree = IsKnownAfter known false tree
+
+-- ---- Templates that are asked for again: by which tables, and the list that is kept.
+
+-- Table B and Table D, and the list of descriptors that was expanded last by them
+pub record ListByTables : Type 0 where
+  pub table_b : List Row
+  pub table_d : List Sequence
+  pub list : List ℕ
+
+-- an answer is what a list of descriptors means, no template is too long, and no fault is
+-- want of memory
+pub record IsAnswer (tables : Tables) (list : List ℕ)
+    (answer : Result Tree TemplateFault) : Type 0 where
+  pub is_defined : tree_of tables list ≡ answer
+  pub within : IfOk answer (λ template. places template ≤ 65535)
+  pub reported : IfErr answer (λ why. why ≢ Memory)

@@ -1,9 +1,10 @@
 -- A descriptor as its 16 bits: F (2 bits), X (6 bits) and Y (8 bits). Its text is six digits, one
 -- for F, two for X and three for Y. (WMO-No. 306, Volume I.2, FM 94: section 3, descriptors)
 -- Cited by public contracts.
-use Rattle.std.specs.Prelude.{ℕ, ◌+◌, ◌-◌, ◌*◌, ◌/◌, ◌%◌, ◌==◌, ◌&&◌, Bool, nat_le, if◌then◌else◌, List, [], ◌∷◌, length, slice_index, Option, Some, None}
+use Rattle.std.specs.Prelude.{ℕ, ◌+◌, ◌-◌, ◌*◌, ◌/◌, ◌%◌, ◌==◌, ◌&&◌, Bool, nat_le, if◌then◌else◌, List, [], ◌∷◌, length, slice_index, Option, Some, None, ◌≡◌, suc, ◌<◌, ◌≤◌, nat_eq, vec_capacity, option_map}
 use Rattle.std.specs.Char.{is_ascii_digit}
-use Rattle.std.specs.List.{list_all}
+use Rattle.std.specs.List.{list_all, AllByRecursion, IsDistinct}
+use Rattle.bufr_tables.specs.declared.index.FxyIndex.TheInside.{Inside}
 
 -- the kind of descriptor: 0 an element, 1 a replication, 2 an operator, 3 a sequence
 abbrev pub f_of : ℕ → ℕ
@@ -66,3 +67,24 @@ is_fxy text =
 -- rule: descriptor-fxy
 abbrev pub fxy_of : List ℕ → Option ℕ
 fxy_of text = if is_fxy text then Some (16384 * f_in text + 256 * x_in text + y_in text) else None
+
+-- ---- The place of a number in a list. Cited by private steps only.
+
+-- the first place where a number is in a list, counted from 0
+abbrev pub place_of : List ℕ → ℕ → Option ℕ
+place_of [] n = None
+place_of (first ∷ rest) n = if first == n then Some 0 else option_map suc (place_of rest n)
+
+-- a mark for no place is 0, and for a place one more than it
+abbrev pub mark_of : Option ℕ → ℕ
+mark_of None = 0
+mark_of (Some place) = place + 1
+
+-- the marks are those of the places in the list of keys, and no key is there twice
+pub record IsDirectory (a : Inside) : Type 0 where
+  pub room : 16384 ≤ vec_capacity a.keys
+  pub size : length a.marks.items ≡ 16384
+  pub marks : (key : ℕ) → key < 16384
+      → slice_index a.marks.items key ≡ mark_of (place_of a.keys.items key)
+  pub below : AllByRecursion (λ key. key < 16384) a.keys.items
+  pub distinct : IsDistinct nat_eq a.keys.items

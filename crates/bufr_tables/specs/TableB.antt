@@ -2,16 +2,19 @@
 -- (WMO-No. 306, Volume I.2, FM 94: Table B. The form of the text, its limits, its faults and the
 -- kinds are a choice of this project. ASCII case makes no difference in a unit.)
 -- Cited by public contracts.
-use Rattle.std.specs.Prelude.{ℕ, Bool, if◌then◌else◌, ◌||◌, List, length, take, codes, ◌≡◌, ◌%◌, ◌==◌, ◌&&◌, true, false, not, nat_le, ℤ, pos, negsuc, [], ◌∷◌, ◌++◌, map, nat_eq, Option, Some, None, is_some, Result, Ok, Err}
+use Rattle.std.specs.Prelude.{ℕ, Bool, if◌then◌else◌, ◌||◌, List, length, take, codes, ◌≡◌, ◌%◌, ◌==◌, ◌&&◌, true, false, not, nat_le, ℤ, pos, negsuc, [], ◌∷◌, ◌++◌, map, nat_eq, Option, Some, None, is_some, Result, Ok, Err, ◌+◌, ◌-◌, ◌≤◌, slice_range, ◌<◌}
 use Rattle.std.specs.Str.{str_eq_ignore_ascii_case}
 use Rattle.bufr_tables.specs.declared.table_b.Kind.{Kind}
 use Rattle.bufr_tables.specs.declared.table_b.Kind.TheVariants.{Character, Coded, Numeric}
-use Rattle.std.specs.List.{IsDistinct, find, list_all}
+use Rattle.std.specs.List.{IsDistinct, find, list_all, AllByRecursion}
 use Rattle.std.specs.Int.RustNames.{unsigned_abs}
 use Rattle.bufr_tables.specs.declared.fault.TableFault.{TableFault}
 use Rattle.bufr_tables.specs.declared.fault.TableFault.TheVariants.{Row as RowFault, Duplicate, Csv}
 use Rattle.bufr_tables.specs.Fxy.{f_of, fxy_of, fxy_text, is_factor, y_of}
 use Rattle.bufr_tables.specs.Records.{i64_of, Record, field_of, ◌>>=◌, only_if, has_fields, table_of}
+use Rattle.bufr_tables.specs.declared.table_b.Stored.{Stored}
+use Rattle.bufr_tables.specs.declared.table_b.ParsedRow.{ParsedRow}
+use Rattle.bufr_tables.specs.declared.table_b.TableB.TheInside.{Inside}
 
 -- What an element's unit says of its values. (A choice of this project: Table B of WMO-No. 306,
 -- Volume I.2, FM 94 gives the unit as a text.) ASCII case makes no difference.
@@ -181,3 +184,66 @@ pub record AreRows (records : List Record) (table : List Row) : Type 0 where
   pub named : has_fields columns_b first ≡ true
   pub rows : map row_of rest ≡ map Some table
   pub distinct : IsDistinct nat_eq (map (λ row. row.fxy) table)
+
+-- ---- How Table B is kept: the texts of its rows one after another in one block of octets.
+
+-- the row of an element that is kept: `FXXYYY   # ` is before its name, and ` [` and `]` about its
+-- unit
+abbrev pub row_kept : List ℕ → Stored → Row
+row_kept octets s =
+    record {
+      fxy = s.fxy;
+      name = slice_range octets (s.start + 11) s.middle;
+      unit = slice_range octets (s.middle + 2) (s.end - 2);
+      kind = s.kind;
+      scale = s.scale;
+      reference = s.reference;
+      width = s.width;
+    }
+
+-- the places of an element are in order and inside the block, and its two texts are there
+pub record IsRowKept (octets : List ℕ) (s : Stored) : Type 0 where
+  pub name : s.start + 11 ≤ s.middle
+  pub unit : s.middle + 4 ≤ s.end
+  pub inside : s.end ≤ length octets
+  pub line_start : slice_range octets s.start (s.start + 7) ≡ row_line_start (row_kept octets s)
+  pub comment : slice_range octets (s.start + 7) s.end ≡ row_comment (row_kept octets s)
+
+-- ---- How Table B is kept: the texts of its rows one after another in one block of octets, and for
+-- each element the places in it.
+
+-- the row that was read of a record
+abbrev pub row_parsed : ParsedRow → Row
+row_parsed r =
+    record {
+      fxy = r.fxy;
+      name = r.name.now;
+      unit = r.unit.now;
+      kind = r.kind;
+      scale = r.scale;
+      reference = r.reference;
+      width = r.width;
+    }
+
+abbrev pub rows_kept : List ℕ → List Stored → List Row
+rows_kept octets stored = map (row_kept octets) stored
+
+-- a block of octets has more of them after those that it had
+abbrev pub ExtendsBlock : List ℕ → List ℕ → Type 0
+ExtendsBlock old new = (more : List ℕ) × (new ≡ old ++ more)
+
+-- an element is kept in the block as its row says
+pub record IsStored (octets : List ℕ) (row : ParsedRow) (s : Stored) : Type 0 where
+  pub same : row_kept octets s ≡ row_parsed row
+  pub kept : IsRowKept octets s
+
+-- every element is kept inside the block and within the limits, and the directory has their
+-- descriptors
+pub record IsTableB (a : Inside) : Type 0 where
+  pub kept : AllByRecursion (IsRowKept a.octets.items) a.stored.items
+  pub elements : AllByRecursion (λ s. s.fxy < 16384) a.stored.items
+  pub members_or_none : a.directory ≡ map (λ s. s.fxy) a.stored.items
+  pub limits : AllByRecursion IsRow (rows_kept a.octets.items a.stored.items)
+
+abbrev pub table_b_rows : Inside → List Row
+table_b_rows a = rows_kept a.octets.items a.stored.items

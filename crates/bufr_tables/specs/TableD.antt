@@ -2,12 +2,14 @@
 -- (WMO-No. 306, Volume I.2, FM 94: Table D. The form of the text, its limits and its faults are a
 -- choice of this project.)
 -- Cited by public contracts.
-use Rattle.std.specs.Prelude.{◌≡◌, ℕ, ◌-◌, ◌==◌, ◌&&◌, Bool, true, false, not, nat_le, if◌then◌else◌, List, [], ◌∷◌, ◌++◌, length, map, codes, Option, Some, None, is_some, option_map, unwrap_or, Result, Ok, Err, IsSome, Contains, All, ⊤}
-use Rattle.std.specs.List.{find}
+use Rattle.std.specs.Prelude.{◌≡◌, ℕ, ◌-◌, ◌==◌, ◌&&◌, Bool, true, false, not, nat_le, if◌then◌else◌, List, [], ◌∷◌, ◌++◌, length, map, codes, Option, Some, None, is_some, option_map, unwrap_or, Result, Ok, Err, IsSome, Contains, All, ⊤, ◌≤◌, ◌<◌, slice_range, ◌+◌, ◌⊎◌, slice_index, slice_index_or}
+use Rattle.std.specs.List.{find, AllByRecursion}
 use Rattle.bufr_tables.specs.declared.fault.TableFault.{TableFault}
 use Rattle.bufr_tables.specs.declared.fault.TableFault.TheVariants.{Row as RowFault, Duplicate, TableSize, Csv, Header, Row, Cycle, Memory}
-use Rattle.bufr_tables.specs.Fxy.{f_of, fxy_of}
+use Rattle.bufr_tables.specs.Fxy.{f_of, fxy_of, key_of}
 use Rattle.bufr_tables.specs.Records.{Record, field_of, ◌>>=◌, only_if, has_fields, table_of}
+use Rattle.bufr_tables.specs.declared.table_d.MemberRange.{MemberRange}
+use Rattle.bufr_tables.specs.declared.table_d.TableD.TheInside.{Inside}
 
 -- a sequence of the table: its descriptor, and its members in order
 pub record Sequence : Type 0 where
@@ -151,3 +153,110 @@ ReadsTableD records (Err (Duplicate fxy)) = table_d_of records ≡ Err (Duplicat
 ReadsTableD records (Err TableSize) = table_d_of records ≡ Err TableSize
 ReadsTableD records (Err Csv) = table_d_of records ≡ Err Csv
 ReadsTableD records (Err Memory) = ⊤
+
+-- ---- How Table D is kept: all members one after another, and for each sequence its places.
+
+-- the sequence of a run of members
+abbrev pub sequence_kept : List ℕ → MemberRange → Sequence
+sequence_kept members run =
+    record { fxy = run.fxy; members = slice_range members run.start run.end }
+
+abbrev pub sequences_kept : List ℕ → List MemberRange → List Sequence
+sequences_kept members runs = map (sequence_kept members) runs
+
+-- a run lies inside the members, and has one at least
+abbrev pub IsMemberRange : ℕ → MemberRange → Type 0
+IsMemberRange size run = (run.start < run.end) × (run.end ≤ size)
+
+-- X and Y of a sequence
+abbrev pub run_key : MemberRange → ℕ
+run_key run = key_of run.fxy
+
+-- the last run goes on to the end of the members
+abbrev pub LastEnds : ℕ → List MemberRange → Type 0
+LastEnds size [] = ⊤
+LastEnds size (run ∷ []) = run.end ≡ size
+LastEnds size (run ∷ next ∷ rest) = LastEnds size (next ∷ rest)
+
+-- every run lies inside the members, and the directory has the sequences' X and Y
+pub record IsTableD (a : Inside) : Type 0 where
+  pub inside : AllByRecursion (IsMemberRange (length a.members.items)) a.runs.items
+  pub sequences : AllByRecursion (λ run. (49152 ≤ run.fxy) × (run.fxy < 65536)) a.runs.items
+  pub members_or_none : a.directory ≡ map run_key a.runs.items
+  pub last : LastEnds (length a.members.items) a.runs.items
+
+abbrev pub table_d_rows : Inside → List Sequence
+table_d_rows a = sequences_kept a.members.items a.runs.items
+
+abbrev pub member_with : ℕ → ℕ → Member
+member_with sequence member = record { sequence = sequence; fxy = member }
+
+-- ---- What the search for a cycle knows as it goes on. Flags are by descriptor: one for each word.
+
+-- the rank of a sequence, which is at its X and Y
+abbrev pub rank_of : List ℕ → ℕ → ℕ
+rank_of ranks fxy = slice_index ranks (key_of fxy)
+
+-- no member of a sequence that is a sequence has a rank above this
+abbrev pub IsAbove : List Sequence → List ℕ → ℕ → ℕ → Type 0
+IsAbove table ranks fxy rank = (to : ℕ) → Leads table fxy to → rank_of ranks to ≤ rank
+
+-- no sequence has a rank below that of a member
+abbrev pub NeverRises : List Sequence → List ℕ → Type 0
+NeverRises table ranks = (fxy : ℕ) → IsAbove table ranks fxy (rank_of ranks fxy)
+
+-- the same of the first members of a sequence, so many, and of the first sequences of the file
+abbrev pub IsAboveFirst : List Sequence → List ℕ → ℕ → ℕ → ℕ → Type 0
+IsAboveFirst table ranks fxy rank count = (k : ℕ) → k < count → k
+    < length (members_or_none table fxy)
+    → IsSome (members_of table (slice_index (members_or_none table fxy) k))
+    → rank_of ranks (slice_index (members_or_none table fxy) k) ≤ rank
+
+abbrev pub NeverRisesFirst : List Sequence → List ℕ → ℕ → Type 0
+NeverRisesFirst table ranks count = (k : ℕ) → k < count → k < length table
+    → IsAbove table ranks (slice_index (fxys_of table) k)
+    (rank_of ranks (slice_index (fxys_of table) k))
+
+-- the flag of a descriptor is set
+abbrev pub IsSet : List Bool → ℕ → Type 0
+IsSet flags fxy = slice_index_or flags fxy false ≡ true
+
+-- how many flags are not set
+abbrev pub unset : List Bool → ℕ
+unset [] = 0
+unset (flag ∷ flags) = (if flag then 0 else 1) + unset flags
+
+-- the first members of a sequence, so many, were seen, where they are sequences; those that were
+-- not seen before come after the queue
+pub record IsVisited (table : List Sequence) (fxy count : ℕ) (old : List Bool) (queue : List ℕ)
+    (new : List Bool) (longer : List ℕ) : Type 0 where
+  pub more : List ℕ
+  pub queued : longer ≡ queue ++ more
+  pub flags : length new ≡ length old
+  pub leads : (to : ℕ) → Contains more to → Leads table fxy to
+  pub kept : (to : ℕ) → IsSet old to → IsSet new to
+  pub news : (to : ℕ) → IsSet new to → IsSet old to ⊎ Contains more to
+  pub balance : unset new + length more ≡ unset old
+  pub seen : (k : ℕ) → k < count → k < length (members_or_none table fxy)
+      → IsSome (members_of table (slice_index (members_or_none table fxy) k))
+      → IsSet new (slice_index (members_or_none table fxy) k)
+
+-- each member of a sequence that is a sequence was seen
+abbrev pub AreSeen : List Sequence → List Bool → ℕ → Type 0
+AreSeen table seen fxy = (to : ℕ) → Leads table fxy to → IsSet seen to
+
+-- a chain from the start leads to what is in the queue, which has all that was seen; the members of
+-- the start and of the first of the queue, so many, were seen
+pub record IsSearched (table : List Sequence) (start : ℕ) (seen : List Bool) (queue : List ℕ)
+    (next : ℕ) : Type 0 where
+  pub flags : length seen ≡ 65536
+  pub inside : next ≤ length queue
+  pub chains : (to : ℕ) → Contains queue to → Chain table start to
+  pub queued : (to : ℕ) → IsSet seen to → Contains queue to
+  pub first : AreSeen table seen start
+  pub visited : (k : ℕ) → k < next → AreSeen table seen (slice_index queue k)
+
+-- none of the first sequences of the file, so many, reaches itself
+abbrev pub IsPassed : List Sequence → ℕ → Type 0
+IsPassed table count =
+    (k : ℕ) → k < count → k < length table → ¬ ReachesItself table (slice_index (fxys_of table) k)

@@ -1,6 +1,6 @@
 //! Finds a descriptor by its X and Y in one step.
 ghost use Rattle.std.specs.Prelude.{◌≡◌, ◌<◌, [], ◌∷◌, ◌++◌, length, None, IfOk, IfSome};
-ghost use Rattle.bufr_tables.specs.Directory.{place_of};
+ghost use Rattle.bufr_tables.specs.Fxy.{place_of};
 
 use std::alloc::{AllocError, Global};
 use std::marker::Model;
@@ -25,7 +25,7 @@ impl Model for FxyIndex {
 
     ghost view = { λ a. a.keys.items };
 
-    ghost use Rattle.bufr_tables.specs.Directory.{IsDirectory};
+    ghost use Rattle.bufr_tables.specs.Fxy.{IsDirectory};
 
     ghost invariant = { IsDirectory };
 }

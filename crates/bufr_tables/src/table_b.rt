@@ -3,9 +3,8 @@ ghost use Rattle.std.specs.Prelude.{◌≡◌, ◌≢◌, ◌<◌, [], ◌∷◌
 ghost use Rattle.std.specs.List.{list_all};
 ghost use Rattle.csv.specs.Records.{fields_of};
 ghost use Rattle.bufr_tables.specs.declared.fault.TableFault.TheVariants.{Memory};
-ghost use Rattle.bufr_tables.specs.TableBRows.{ExtendsBlock, IsStored, row_parsed, IsRowKept};
+ghost use Rattle.bufr_tables.specs.TableB.{ExtendsBlock, IsStored, row_parsed, IsRowKept, AreRows, IsRow, Row, element_of, entry_of, is_valid_factor, factor_width, is_printed, plain_of, row_of, scale_of, table_b_of, width_of, with_record_b, begins_with, is_words, kind_of, is_code_table};
 ghost use Rattle.bufr_tables.specs.Records.{records_of, ReturnsUnlessMemory};
-ghost use Rattle.bufr_tables.specs.TableB.{AreRows, IsRow, Row, element_of, entry_of, is_valid_factor, factor_width, is_printed, plain_of, row_of, scale_of, table_b_of, width_of, with_record_b, begins_with, is_words, kind_of, is_code_table};
 
 use crate::fault::TableFault;
 use crate::fxy::Fxy;
@@ -213,14 +212,7 @@ fn read_plain(text: &[u8]) -> Option<&[u8]>
 fn is_printable_text(text: &[u8]) -> bool
     ensures { result ≡ list_all is_printed text.now }
 {
-    text.iter().all(|octet| is_printed(*octet))
-}
-
-/// Whether an octet is no control character of ASCII.
-fn is_printed(octet: u8) -> bool
-    ensures { result ≡ is_printed octet }
-{
-    octet >= 32 && octet != 127
+    text.iter().all(|octet| *octet >= 32 && *octet != 127)
 }
 
 /// A scale.
@@ -345,7 +337,7 @@ impl Model for TableB {
 
     ghost Value = { List Row };
 
-    ghost use Rattle.bufr_tables.specs.TableBRows.{IsTableB, table_b_rows};
+    ghost use Rattle.bufr_tables.specs.TableB.{IsTableB, table_b_rows};
 
     ghost view = { table_b_rows };
 
@@ -357,9 +349,8 @@ impl TableB {
     ghost use Rattle.csv.specs.Records.{fields_of};
     ghost use Rattle.bufr_tables.specs.declared.fault.TableFault.TheVariants.{Memory};
     ghost use Rattle.bufr_tables.specs.Entry.{row_of_entry};
-    ghost use Rattle.bufr_tables.specs.TableBRows.{row_parsed};
+    ghost use Rattle.bufr_tables.specs.TableB.{row_parsed, AreRows, IsRow, entry_of, table_b_of, with_record_b};
     ghost use Rattle.bufr_tables.specs.Records.{records_of, ReturnsUnlessMemory};
-    ghost use Rattle.bufr_tables.specs.TableB.{AreRows, IsRow, entry_of, table_b_of, with_record_b};
 
     /// Reads Table B from the octets of a CSV file.
     ///

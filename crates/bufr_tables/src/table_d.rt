@@ -12,10 +12,8 @@
 ghost use Rattle.std.specs.Prelude.{◌≡◌, ◌≢◌, ◌≤◌, ◌<◌, [], ◌∷◌, ◌++◌, None, length, slice_index, OnOk, IfErr, IfOk, IfSome, is_some, option_map, Ok, Err, vec_len, IsTrue, MatchOption, ◌↔◌};
 ghost use Rattle.csv.specs.Records.{fields_of};
 ghost use Rattle.bufr_tables.specs.declared.fault.TableFault.TheVariants.{Memory};
-ghost use Rattle.bufr_tables.specs.TableD.{ReadsTableD, HasNoCycle, IsFirstCycle, ReachesItself, AreSequences, extended, fxys_of, is_last, members_or_none, member_of, members_of, sequence_of, table_d_of, with_record_d};
-ghost use Rattle.bufr_tables.specs.Runs.{member_with};
+ghost use Rattle.bufr_tables.specs.TableD.{ReadsTableD, HasNoCycle, IsFirstCycle, ReachesItself, AreSequences, extended, fxys_of, is_last, members_or_none, member_of, members_of, sequence_of, table_d_of, with_record_d, member_with, IsAbove, IsVisited, NeverRises, rank_of};
 ghost use Rattle.bufr_tables.specs.Records.{records_of, ReturnsUnlessMemory};
-ghost use Rattle.bufr_tables.specs.Cycle.{IsAbove, IsVisited, NeverRises, rank_of};
 
 use crate::fault::TableFault;
 use crate::fxy::Fxy;
@@ -90,7 +88,7 @@ impl Model for TableD {
 
     ghost Value = { List Sequence };
 
-    ghost use Rattle.bufr_tables.specs.Runs.{IsTableD, table_d_rows};
+    ghost use Rattle.bufr_tables.specs.TableD.{IsTableD, table_d_rows};
 
     ghost view = { table_d_rows };
 

@@ -5,9 +5,8 @@ ghost use Rattle.std.specs.Prelude.{◌≡◌, ◌≢◌, ◌≤◌, length, Ok,
 ghost use Rattle.bufr_tables.specs.TableB.{entry_of};
 ghost use Rattle.bufr_tables.specs.TableD.{members_of};
 ghost use Rattle.bufr_tables.specs.Tree.{places as places_of, depth as depth_of};
-ghost use Rattle.bufr_tables.specs.Expansion.{leaves, ListsLeaves, IsKnown, IsLegal, IsSound, tree_of, Tables, tables_of};
+ghost use Rattle.bufr_tables.specs.Expansion.{leaves, ListsLeaves, IsKnown, IsLegal, IsSound, tree_of, Tables, tables_of, IsAnswer};
 ghost use Rattle.bufr_tables.specs.Cells.{AreCellsOf};
-ghost use Rattle.bufr_tables.specs.Templates.{IsAnswer};
 
 use crate::expand::{Expander, TemplateBuilder, first_of, push_cell};
 use crate::fault::TemplateFault;
@@ -225,12 +224,11 @@ pub struct SelectedTemplate<'a> {
 }
 
 impl<'a> Model for SelectedTemplate<'a> {
-    ghost use Rattle.bufr_tables.specs.Templates.{ListByTables};
+    ghost use Rattle.bufr_tables.specs.Expansion.{ListByTables};
 
     ghost Value = { ListByTables };
 
-    ghost use Rattle.bufr_tables.specs.Templates.{IsAnswer};
-    ghost use Rattle.bufr_tables.specs.Expansion.{tables_of};
+    ghost use Rattle.bufr_tables.specs.Expansion.{IsAnswer, tables_of};
 
     ghost view = { λ a. record {
       table_b = a.table_b.now;

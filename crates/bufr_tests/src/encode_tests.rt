@@ -9,8 +9,7 @@ use bufr_bits::ScriptIn;
 use bufr_fill::Expected;
 use bufr_tables::{Fxy, TemplateFault};
 use bufr_text::{
-    Document, DocumentFault, DumpReader, Form, WalkRefusal, encode_document, encode_form,
-    encode_law, readback_law,
+    Document, DocumentFault, DumpReader, Form, WalkRefusal, encode_document, encode_form, laws,
 };
 use bufr_walk::Steps;
 
@@ -215,22 +214,22 @@ fn encodes_in_a_form(rt: HostRuntime) {
 
 #[test]
 fn laws() {
-    encode_law::accepted_messages_are_dumpable();
-    encode_law::dumped_messages_are_encoded_again();
-    encode_law::same_readings_have_the_same_dump_text();
-    encode_law::encoded_messages_are_accepted();
-    encode_law::dump_texts_are_encoded_again();
-    encode_law::dumped_messages_are_refused_for_want_of_memory_alone();
-    encode_law::canonical_messages_are_encoded_to_themselves();
-    encode_law::dumped_messages_are_encoded_in_each_form();
-    encode_law::dumped_messages_are_refused_for_their_form_alone();
-    encode_law::messages_in_each_form_are_accepted();
-    encode_law::forms_change_the_flag_of_a_dump_text_alone();
-    encode_law::canonical_messages_come_back_from_each_form();
-    readback_law::encoded_documents_are_read();
-    readback_law::normal_is_the_dump();
-    readback_law::normal_is_encoded_the_same();
-    readback_law::normal_of_normal();
+    laws::accepted_messages_are_dumpable();
+    laws::dumped_messages_are_encoded_again();
+    laws::same_readings_have_the_same_dump_text();
+    laws::encoded_messages_are_accepted();
+    laws::dump_texts_are_encoded_again();
+    laws::dumped_messages_are_refused_for_want_of_memory_alone();
+    laws::canonical_messages_are_encoded_to_themselves();
+    laws::dumped_messages_are_encoded_in_each_form();
+    laws::dumped_messages_are_refused_for_their_form_alone();
+    laws::messages_in_each_form_are_accepted();
+    laws::forms_change_the_flag_of_a_dump_text_alone();
+    laws::canonical_messages_come_back_from_each_form();
+    laws::encoded_documents_are_read();
+    laws::normal_is_the_dump();
+    laws::normal_is_encoded_the_same();
+    laws::normal_of_normal();
 }
 
 /// A document from `observed` to its subsets: as many as there may be, of two texts each.

@@ -2,7 +2,7 @@
 
 use crate::support::{Runtime, assert_same, assert_that, from_hex, ok, table_b, template_of};
 use bufr_bits::ShortDecimal;
-use bufr_fill::{DraftFault, DraftItem, DraftValue, Entries, Expected, PackedOut, PlainOut, law};
+use bufr_fill::{DraftFault, DraftItem, DraftValue, Entries, Expected, PackedOut, PlainOut, laws};
 use bufr_tables::{Fxy, TableB, Template};
 use bufr_walk::{Fields, Steps, WalkStop, walk};
 
@@ -104,21 +104,21 @@ fn write_compressed(
 
 #[test]
 fn laws() {
-    law::plain_data_round_trip();
-    law::written_plain_data_are_read();
-    law::plain_data_are_fixed_by_what_is_said();
-    law::alike_drafts_have_the_same_plain_data();
-    law::plain_walk_writes_as_defined();
-    law::plain_fault_is_as_defined();
-    law::packed_data_round_trip();
-    law::written_packed_data_are_read();
-    law::packed_data_are_fixed_by_what_is_said();
-    law::alike_drafts_have_the_same_packed_data();
-    law::fitting_items_are_packed_with_the_least_k();
-    law::items_are_packed_with_the_least_k();
-    law::packed_walk_writes_as_defined();
-    law::packed_data_are_written_as_defined();
-    law::packed_fault_is_as_defined();
+    laws::plain_data_round_trip();
+    laws::written_plain_data_are_read();
+    laws::plain_data_are_fixed_by_what_is_said();
+    laws::alike_drafts_have_the_same_plain_data();
+    laws::plain_walk_writes_as_defined();
+    laws::plain_fault_is_as_defined();
+    laws::packed_data_round_trip();
+    laws::written_packed_data_are_read();
+    laws::packed_data_are_fixed_by_what_is_said();
+    laws::alike_drafts_have_the_same_packed_data();
+    laws::fitting_items_are_packed_with_the_least_k();
+    laws::items_are_packed_with_the_least_k();
+    laws::packed_walk_writes_as_defined();
+    laws::packed_data_are_written_as_defined();
+    laws::packed_fault_is_as_defined();
 }
 
 /// Asserts what is written of an item, and how many bits it takes.

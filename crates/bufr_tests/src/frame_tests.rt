@@ -9,7 +9,7 @@ use crate::runs::{assert_run, refused};
 use crate::support::{Runtime, assert_same, assert_that, joined, ok, parsed, repeated, some};
 use bufr_bits::ScriptIn;
 use bufr_frame::{
-    Cause, Event, Finder, Head, InputBuffer, Message, RunFault, SectionFault, WriteFault, law,
+    Cause, Event, Finder, Head, InputBuffer, Message, RunFault, SectionFault, WriteFault, laws,
     read_to_end, write_message,
 };
 use std::alloc::Global;
@@ -203,22 +203,22 @@ fn a_long_message_is_held(rt: HostRuntime) {
 
 #[test]
 fn laws() {
-    law::open_scan_is_prefix();
-    law::events_to_the_end_are_the_scan();
-    law::events_before_the_end_are_certain();
-    law::events_at_a_fault_are_the_open_scan();
-    law::octets_from_an_event_on_are_held();
-    law::longest_is_that_of_the_events();
-    law::longest_at_a_fault_counts_the_open_word();
-    law::steps_compose();
-    law::done_comes_again();
-    law::written_again_is_no_longer();
-    law::even_sections_are_written_no_longer();
-    law::written_again_is_not_too_long();
-    law::heads_of_messages_can_be_written();
-    law::even_payloads_have_one_layout();
-    law::shorter_payloads_make_no_longer_messages();
-    law::plain_messages_are_written_again();
+    laws::open_scan_is_prefix();
+    laws::events_to_the_end_are_the_scan();
+    laws::events_before_the_end_are_certain();
+    laws::events_at_a_fault_are_the_open_scan();
+    laws::octets_from_an_event_on_are_held();
+    laws::longest_is_that_of_the_events();
+    laws::longest_at_a_fault_counts_the_open_word();
+    laws::steps_compose();
+    laws::done_comes_again();
+    laws::written_again_is_no_longer();
+    laws::even_sections_are_written_no_longer();
+    laws::written_again_is_not_too_long();
+    laws::heads_of_messages_can_be_written();
+    laws::even_payloads_have_one_layout();
+    laws::shorter_payloads_make_no_longer_messages();
+    laws::plain_messages_are_written_again();
 }
 
 #[rattlefmt::skip]

@@ -7,7 +7,7 @@ use crate::runs::{assert_run, refused};
 use crate::support::{Runtime, assert_same, assert_that, joined, ok, repeated, some, words_of};
 use bufr_bits::{Device, ScriptIn, Source};
 use bufr_frame::{Message, RunFault};
-use bufr_text::{Document, DumpReader, ReadFault, law};
+use bufr_text::{Document, DumpReader, ReadFault, laws};
 
 /// How many octets a read gives.
 const STEPS: [usize; 3] = [1, 3, 4096];
@@ -320,18 +320,18 @@ fn read_faults_have_texts(rt: HostRuntime) {
 
 #[test]
 fn laws() {
-    law::dump_text_spells_its_document();
-    law::dump_text_is_one_document();
-    law::documents_are_proper();
-    law::lines_are_those_of_the_documents();
-    law::open_documents_are_prefix();
-    law::calls_compose();
-    law::documents_reported_are_the_first();
-    law::documents_reported_are_the_first_open();
-    law::documents_reported_are_the_documents();
-    law::documents_reported_are_the_open_documents();
-    law::none_comes_again();
-    law::octets_after_the_lines_are_held();
+    laws::dump_text_spells_its_document();
+    laws::dump_text_is_one_document();
+    laws::documents_are_proper();
+    laws::lines_are_those_of_the_documents();
+    laws::open_documents_are_prefix();
+    laws::calls_compose();
+    laws::documents_reported_are_the_first();
+    laws::documents_reported_are_the_first_open();
+    laws::documents_reported_are_the_documents();
+    laws::documents_reported_are_the_open_documents();
+    laws::none_comes_again();
+    laws::octets_after_the_lines_are_held();
 }
 
 /// What a reader of octets in memory reads next.

@@ -1,23 +1,16 @@
 -- Messages that are accepted, canonical or not: what the laws on messages that are encoded again
 -- ask for.
-use Rattle.std.proofs.Common.{◌≡◌, ◌∙◌, ℕ, zero, suc, ◌<◌, false, true, List, [], ◌∷◌, ◌++◌, drop, length, None, Ok, Err, refl, ap, arith, codes, pos}
-use Rattle.std.specs.Prelude.{◌&&◌, ◌||◌, ◌-◌, ◌==◌, if◌then◌else◌, nat_lt, not, slice_set}
+use Rattle.std.proofs.Common.{◌≡◌, ◌∙◌, ℕ, zero, suc, ◌<◌, false, true, List, [], ◌∷◌, ◌++◌, drop, length, None, Ok, Err, refl, ap, arith, codes, pos, ◌&&◌, ◌||◌, ◌-◌, ◌==◌, if◌then◌else◌, nat_lt, not, slice_set}
 use Rattle.std.specs.List.{All, AllByRecursion}
-use Rattle.bufr_bits.specs.Bits.{bits_of, bits_in}
+use Rattle.bufr_bits.specs.Prelude.{bits_of, bits_in}
 use Rattle.bufr_tables.specs.declared.table_b.Kind.TheVariants as kind
-use Rattle.bufr_tables.specs.Expansion.{part_of, level, inner_of, tree_of}
-use Rattle.bufr_tables.specs.TableB.{Row}
-use Rattle.bufr_tables.specs.Tree.{element, bare}
+use Rattle.bufr_tables.specs.Prelude.{part_of, level, inner_of, tree_of, Row, element, bare}
 use Rattle.bufr_frame.specs.declared.section1.Head.{Head}
 use Rattle.bufr_frame.specs.declared.fault.SectionFault.TheVariants.{Edition3Long, SectionsEnd}
-use Rattle.bufr_frame.specs.Layout.{max_octets, size_from}
-use Rattle.bufr_frame.specs.Octets.{three_octets, u24_at}
-use Rattle.bufr_frame.specs.Sections.{IsPlain, Sections, sections_of, section_end, parts, parts_if_end_matches, edition_of, is_long_edition_3, is_padded}
+use Rattle.bufr_frame.specs.Prelude.{max_octets, size_from, three_octets, u24_at, IsPlain, Sections, sections_of, section_end, parts, parts_if_end_matches, edition_of, is_long_edition_3, is_padded}
 use Rattle.bufr_walk.specs.declared.spec.Role.TheVariants as role
-use Rattle.bufr_walk.specs.Content.{number, missing}
-use Rattle.bufr_walk.specs.Course.{next_item}
-use Rattle.bufr_walk.specs.Reading.{Values, apart, together}
-use Rattle.bufr_text.specs.RoundTrip.{IsCanonical, IsAccepted}
+use Rattle.bufr_walk.specs.Prelude.{number, missing, next_item, Values, apart, together}
+use Rattle.bufr_text.specs.Prelude.{IsCanonical, IsAccepted}
 
 -- each octet is small
 all_of : (xs : List ℕ) → AllByRecursion (λ octet. octet < 256) xs → All (λ octet. octet < 256) xs

@@ -1,32 +1,22 @@
 -- What a call of a reader of dump texts reports.
-use Rattle.std.proofs.Common.{inl, inr, ◌⊎◌, ◌≡◌, ℕ, ◌<◌, Bool, true, false, List, [], ◌∷◌, ◌++◌, length, refl, sym, ap, subst, ◌∙◌, arith, append_assoc, append-nil, length-append, ◌+◌, ◌≤◌}
-use Rattle.std.specs.Prelude.{Option, Ok, Some, None, Result, Err, IfOk, IfSome}
-use Rattle.std.proofs.KnownBytes.{Consumes-nil, Consumes-trans}
+use Rattle.std.proofs.Common.{inl, inr, ◌⊎◌, ◌≡◌, ℕ, ◌<◌, Bool, true, false, List, [], ◌∷◌, ◌++◌, length, refl, sym, ap, subst, ◌∙◌, arith, append_assoc, append-nil, length-append, ◌+◌, ◌≤◌, Option, Ok, Some, None, Result, Err, IfOk, IfSome}
+use Rattle.std.proofs.KnownBytes.{Consumes-trans}
 use Rattle.std.proofs.lemmas.Bool.{true≢false}
 use Rattle.std.proofs.lemmas.List.{nil_from_length}
-use Rattle.bufr_text.specs.Documents.{ParserState, ParseResult, parse_lines, parse_open_lines, lines_of, split_of, Document, Complete, Refused, NotAllowed, documents_of, open_documents_of}
-use Rattle.bufr_text.specs.Dump.{text_of_lines}
-use Rattle.bufr_text.specs.Reader.{has_no_feed, ReaderPosition, ContinuesParse, TakesWholeLines, TakesEndLine, ReaderModel, position_of, position_after, IsMissingFeed, ReadsLines, EndsAtEndLine, parse, parse_open, new_reader, HasNoMoreLines, KeepsUnread, ReadsOnlyIfNoLine, ReturnsNextDocument, HasNoWholeLine, CountsTextReads}
-use Rattle.bufr_text.specs.Filling.{ParsesHeldLines, ReadsMoreText, TakesHeldLines, HandlesEnd, FillsBuffer, text_input, stopped}
-use Rattle.bufr_text.proofs.ReadingLemmas.{goes-further, stays, line-held, one-line, nothing-yet, some-held, call-keeps, keeps-same}
-use Rattle.bufr_text.proofs.TakingLemmas.{text-append, all-append, passes-none}
+use Rattle.bufr_text.specs.Prelude.{ParserState, ParseResult, parse_lines, parse_open_lines, lines_of, split_of, Document, Complete, Refused, NotAllowed, documents_of, open_documents_of, text_of_lines, has_no_feed, ReaderPosition, ContinuesParse, TakesWholeLines, TakesEndLine, ReaderModel, position_of, position_after, IsMissingFeed, ReadsLines, EndsAtEndLine, parse, parse_open, new_reader, HasNoMoreLines, KeepsUnread, ReadsOnlyIfNoLine, ReturnsNextDocument, HasNoWholeLine, CountsTextReads, ParsesHeldLines, ReadsMoreText, TakesHeldLines, HandlesEnd, FillsBuffer, text_input, stopped, IsProper, ReadFault}
+use Rattle.bufr_text.proofs.ReaderLemmas.{goes-further, line-held, one-line, nothing-yet, some-held, call-keeps, keeps-same, passes-none}
 use Rattle.std.specs.Io.KnownBytes.{Consumes}
-use Rattle.bufr_frame.specs.Input.{max_reads, FillEnds, FillFails}
+use Rattle.bufr_frame.specs.Prelude.{max_reads, FillEnds, FillFails}
 use Rattle.bufr_frame.specs.declared.fault.RunFault.{RunFault}
 use Rattle.bufr_frame.specs.declared.fault.RunFault.TheVariants.{Read, Write, InputTooLong, Memory}
 use Rattle.bufr_frame.proofs.FinderLemmas.{adds-none, adds-then}
-use Rattle.bufr_text.specs.Spelling.{IsProper}
-use Rattle.bufr_text.specs.declared.fault.ReadFault.{ReadFault}
-use Rattle.bufr_text.specs.declared.fault.ReadFault.TheVariants.{Line, SubsetCount, HeaderRange, Run}
+use Rattle.bufr_text.specs.declared.fault.ReadFault.TheVariants.{Line, Run}
+use Rattle.std.proofs.lemmas.Bool.Decides.{nat_tests}
+use Rattle.std.proofs.lemmas.Grind.{common_steps}
 
 -- lines after lines
 pub passes-then : (at at' at'' : ℕ) (held rest rest' : List ℕ) → TakesWholeLines at held at' rest → TakesWholeLines at' rest at'' rest' → TakesWholeLines at held at'' rest'
-passes-then at at' at'' held rest rest' p q = record {
-  lines = p.lines ++ q.lines;
-  single = all-append (λ line. has_no_feed line ≡ true) p.lines q.lines p.single q.single;
-  counted = omega (arith, p.counted, q.counted, length-append p.lines q.lines);
-  octets = p.octets ∙ ap (λ (t : List ℕ). text_of_lines p.lines ++ t) q.octets ∙ sym (append_assoc (text_of_lines p.lines) (text_of_lines q.lines) rest') ∙ ap (λ (t : List ℕ). t ++ rest') (sym (text-append p.lines q.lines));
-}
+passes-then at at' at'' held rest rest' h1 h2 = grind (arith, nat_tests, common_steps)
 
 -- lines, and then an `end` line
 passes-end : (at at' at'' : ℕ) (held rest rest' : List ℕ) → TakesWholeLines at held at' rest → TakesEndLine at' rest at'' rest' → TakesEndLine at held at'' rest'
@@ -42,34 +32,15 @@ passes-end at at' at'' held rest rest' p q = record {
 pub closes-then : (left left' : Option (List ℕ)) (old s s' : ReaderModel) (results : List ParseResult) (bs : List ℕ) → ReadsLines left left' old s results bs → TakesEndLine s.at s.held s'.at s'.held → s'.ended ≡ s.ended → EndsAtEndLine old s' bs
 closes-then left left' old s s' results bs call end ended =
     let feed = call.lines.0 in
-    let M : Bool → Type 0 = λ e. IsMissingFeed old.ended e feed in
-    (feed, subst M (sym ended) call.lines.1, passes-end old.at s.at s'.at ((old.held ++ bs) ++ feed) s.held s'.held call.lines.2 end)
+    (feed, rw ended call.lines.1, passes-end old.at s.at s'.at ((old.held ++ bs) ++ feed) s.held s'.held call.lines.2 end)
 
 pub passes-more : (at at' : ℕ) (held rest more : List ℕ) → TakesWholeLines at held at' rest → TakesWholeLines at (held ++ more) at' (rest ++ more)
-passes-more at at' held rest more p = record {
-  lines = p.lines;
-  single = p.single;
-  counted = p.counted;
-  octets = ap (λ (t : List ℕ). t ++ more) p.octets ∙ append_assoc (text_of_lines p.lines) rest more;
-}
+passes-more at at' held rest more h1 = grind (arith, nat_tests, common_steps)
 
 -- more octets are held at both
 goes-more : (a b : ReaderPosition) (x : List ParseResult) (bs : List ℕ) (e : Bool) → ContinuesParse a b x → (b.ended ≡ true → (e ≡ true) × (bs ≡ []))
     → ContinuesParse (record a { held = a.held ++ bs }) (record b { held = b.held ++ bs; ended = e }) x
-goes-more a b x bs e f kept = record {
-  whole = λ t none.
-      ap (λ (z : List ℕ). parse_lines a.at a.place (lines_of z)) (append_assoc a.held bs t)
-      ∙ f.whole (bs ++ t) (λ ended. ap (λ (z : List ℕ). z ++ t) (kept ended).1 ∙ none (kept ended).0)
-      ∙ ap (λ (z : List ℕ). x ++ parse_lines b.at b.place (lines_of z)) (sym (append_assoc b.held bs t));
-  openly = λ unended t.
-      ap (λ (z : List ℕ). parse_open_lines a.at a.place (split_of z).whole (split_of z).rest) (append_assoc a.held bs t)
-      ∙ f.openly (still b.ended (λ ended. true≢false (sym (kept ended).0 ∙ unended))) (bs ++ t)
-      ∙ ap (λ (z : List ℕ). x ++ parse_open_lines b.at b.place (split_of z).whole (split_of z).rest) (sym (append_assoc b.held bs t));
-}
-  where
-    still : (b : Bool) → (b ≡ true → ⊥) → b ≡ false
-    still true h = absurd (h refl)
-    still false h = refl
+goes-more a b x bs e h1 h2 = grind (arith, nat_tests, common_steps)
 
 -- the line feeds that two parts of a call lack
 module _ (left mid left' : Option (List ℕ)) (old s s' : ReaderModel) (results results' : List ParseResult) (bs bs' : List ℕ) (one : ReadsLines left mid old s results bs) (two : ReadsLines mid left' s s' results' bs') where
@@ -78,20 +49,16 @@ module _ (left mid left' : Option (List ℕ)) (old s s' : ReaderModel) (results 
 
   goes : ContinuesParse (position_after old (bs ++ bs')) (position_of s') (results ++ results')
   goes =
-      let G : List ℕ → Type 0 = λ h. ContinuesParse (record { at = old.at; place = old.place; held = h; ended = old.ended }) (position_of s') (results ++ results') in
-      subst G (sym whole)
+      rw whole
       (goes-further (record { at = old.at; place = old.place; held = (old.held ++ bs) ++ bs'; ended = old.ended }) (position_after s bs') (position_of s') results results' (λ e. (two.kept e).0)
       (goes-more (position_after old bs) (position_of s) results bs' s.ended one.goes (λ e. (e, (two.kept e).1))) two.goes)
 
   -- the end was not reached before, or nothing more came
   lines-open : one.lines.0 ≡ [] → (feed : List ℕ) × IsMissingFeed old.ended s'.ended feed × TakesWholeLines old.at ((old.held ++ (bs ++ bs')) ++ feed) s'.at s'.held
   lines-open none =
-      let P : List ℕ → Type 0 = λ f. TakesWholeLines old.at ((old.held ++ bs) ++ f) s.at s.held in
-      let Q : List ℕ → Type 0 = λ h. TakesWholeLines old.at h s.at s.held in
-      let R : List ℕ → Type 0 = λ h. TakesWholeLines old.at (h ++ two.lines.0) s'.at s'.held in
-      let first : TakesWholeLines old.at (old.held ++ bs) s.at s.held = subst Q (append-nil (old.held ++ bs)) (subst P none one.lines.2) in
+      let first : TakesWholeLines old.at (old.held ++ bs) s.at s.held = rw (append-nil (old.held ++ bs)) at (rw none at one.lines.2) in
       let more = passes-more old.at s.at ((old.held ++ bs) ++ bs') (s.held ++ bs') two.lines.0 (passes-more old.at s.at (old.held ++ bs) s.held bs' first) in
-      (two.lines.0, missing two.lines.1, subst R (sym whole) (passes-then old.at s.at s'.at (((old.held ++ bs) ++ bs') ++ two.lines.0) ((s.held ++ bs') ++ two.lines.0) s'.held more two.lines.2))
+      (two.lines.0, missing two.lines.1, rw whole (passes-then old.at s.at s'.at (((old.held ++ bs) ++ bs') ++ two.lines.0) ((s.held ++ bs') ++ two.lines.0) s'.held more two.lines.2))
     where
       kept-open : (b : Bool) → old.ended ≡ b → s.ended ≡ false → old.ended ≡ false
       kept-open true e f = absurd (true≢false (sym (one.kept e).0 ∙ f))
@@ -104,10 +71,8 @@ module _ (left mid left' : Option (List ℕ)) (old s s' : ReaderModel) (results 
   lines-ended : (old.ended ≡ false) × (s.ended ≡ true) × (one.lines.0 ≡ 10 ∷ []) → (feed : List ℕ) × IsMissingFeed old.ended s'.ended feed × TakesWholeLines old.at ((old.held ++ (bs ++ bs')) ++ feed) s'.at s'.held
   lines-ended (a, b, e) =
       let nothing = (two.kept b).1 in
-      let P : List ℕ → Type 0 = λ h. TakesWholeLines old.at (h ++ one.lines.0) s.at s.held in
-      let S : List ℕ → Type 0 = λ h. TakesWholeLines s.at h s'.at s'.held in
-      let first : TakesWholeLines old.at ((old.held ++ (bs ++ bs')) ++ one.lines.0) s.at s.held = subst P (sym (whole ∙ ap (λ (z : List ℕ). (old.held ++ bs) ++ z) nothing ∙ append-nil (old.held ++ bs))) one.lines.2 in
-      let second : TakesWholeLines s.at s.held s'.at s'.held = subst S (ap (λ (z : List ℕ). (s.held ++ z) ++ two.lines.0) nothing ∙ ap (λ (z : List ℕ). z ++ two.lines.0) (append-nil s.held) ∙ ap (λ (z : List ℕ). s.held ++ z) (none two.lines.1) ∙ append-nil s.held) two.lines.2 in
+      let first : TakesWholeLines old.at ((old.held ++ (bs ++ bs')) ++ one.lines.0) s.at s.held = rw (whole ∙ ap (λ (z : List ℕ). (old.held ++ bs) ++ z) nothing ∙ append-nil (old.held ++ bs)) one.lines.2 in
+      let second : TakesWholeLines s.at s.held s'.at s'.held = rw (ap (λ (z : List ℕ). (s.held ++ z) ++ two.lines.0) nothing ∙ ap (λ (z : List ℕ). z ++ two.lines.0) (append-nil s.held) ∙ ap (λ (z : List ℕ). s.held ++ z) (none two.lines.1) ∙ append-nil s.held) at two.lines.2 in
       (one.lines.0, inr (a, (two.kept b).0, e), passes-then old.at s.at s'.at ((old.held ++ (bs ++ bs')) ++ one.lines.0) s.held s'.held first second)
     where
       none : IsMissingFeed s.ended s'.ended two.lines.0 → two.lines.0 ≡ []
@@ -160,35 +125,11 @@ module _ (left mid left' : Option (List ℕ)) (old s s' : ReaderModel) (results 
   }
 
 pub call-none : (left : Option (List ℕ)) (s : ReaderModel) → ReadsLines left left s s [] []
-call-none left s =
-    let G : List ℕ → Type 0 = λ h. ContinuesParse (record { at = s.at; place = s.place; held = h; ended = s.ended }) (position_of s) [] in
-    let P : List ℕ → Type 0 = λ h. TakesWholeLines s.at h s.at s.held in
-    record {
-      read = Consumes-nil left;
-      order = omega arith;
-      few = omega arith;
-      goes = subst G (sym (append-nil s.held)) (stays (position_of s));
-      lines = ([], inl refl, subst P (sym (append-nil (s.held ++ []) ∙ append-nil s.held)) (passes-none s.at s.held));
-      kept = λ e. (e, refl, refl);
-      end = λ before. before;
-      fed = λ before ended _. absurd (true≢false (sym ended ∙ before));
-    }
+call-none left s = grind (arith, nat_tests, common_steps)
 
 -- lines that are taken
 pub takes-call : (left : Option (List ℕ)) (s s' : ReaderModel) (results : List ParseResult) → ParsesHeldLines s s' results → s'.ended ≡ s.ended → s'.reads ≡ s.reads → ReadsLines left left s s' results []
-takes-call left s s' results reports ended reads =
-    let G : List ℕ → Type 0 = λ h. ContinuesParse (record { at = s.at; place = s.place; held = h; ended = s.ended }) (position_of s') results in
-    let P : List ℕ → Type 0 = λ h. TakesWholeLines s.at h s'.at s'.held in
-    record {
-      read = Consumes-nil left;
-      order = omega (arith, reads);
-      few = omega arith;
-      goes = subst G (sym (append-nil s.held)) reports.goes;
-      lines = ([], inl refl, subst P (sym (append-nil (s.held ++ []) ∙ append-nil s.held)) reports.passes);
-      kept = λ e. (ended ∙ e, refl, reads);
-      end = λ before e. before (sym ended ∙ e);
-      fed = λ before e _. absurd (true≢false (sym e ∙ ended ∙ before));
-    }
+takes-call left s s' results h1 h2 h3 = grind (arith, nat_tests, common_steps)
 
 module _ (left left' : Option (List ℕ)) (s s' : ReaderModel) (bs : List ℕ) (read : ReadsMoreText left left' s s' (Ok tt) bs) (open' : s.ended ≡ false) (clean : has_no_feed s.held ≡ true) where
   same-hold : (h : List ℕ) (t : List ℕ) → parse_lines s.at s.place (lines_of (h ++ t)) ≡ parse_lines s'.at s'.place (lines_of (h ++ t))
@@ -251,17 +192,11 @@ waits-same left old s s' bs bs' (inr w) same is = inr (let W : List ℕ → Type
 
 pub call-takes : (left mid : Option (List ℕ)) (old s s' : ReaderModel) (bs : List ℕ) (results : List ParseResult) → ReadsLines left mid old s [] bs → ParsesHeldLines s s' results → s'.ended ≡ s.ended → s'.reads ≡ s.reads → ReadsLines left mid old s' results bs
 call-takes left mid old s s' bs results call reports ended reads =
-    let C : List ℕ → Type 0 = λ l. ReadsLines left mid old s' results l in
-    subst C (append-nil bs) (call-then left mid mid old s s' [] results bs [] call (takes-call mid s s' results reports ended reads))
+    rw (append-nil bs) at (call-then left mid mid old s s' [] results bs [] call (takes-call mid s s' results reports ended reads))
 
 -- where the end was reached before, what is held was held before
 held-before : (left mid : Option (List ℕ)) (old s : ReaderModel) (bs : List ℕ) (results : List ParseResult) → ReadsLines left mid old s results bs → old.ended ≡ true → 0 < length s.held → 0 < length old.held
-held-before left mid old s bs results call e some = by-feed call.lines.1
-  where
-    by-feed : IsMissingFeed old.ended s.ended call.lines.0 → 0 < length old.held
-    by-feed (inl none) =
-        omega (arith, some, ap length call.lines.2.octets, length-append (text_of_lines call.lines.2.lines) s.held, length-append (old.held ++ bs) call.lines.0, length-append old.held bs, ap length none, ap length (call.kept e).1)
-    by-feed (inr (open', ended, feed)) = absurd (true≢false (sym e ∙ open'))
+held-before left mid old s bs results h1 h2 h3 = grind (arith, nat_tests, common_steps)
 
 module _ (left mid : Option (List ℕ)) (old s s' : ReaderModel) (bs : List ℕ) (call : ReadsLines left mid old s [] bs) (waits : (s.reads ≡ old.reads) ⊎ ReadsOnlyIfNoLine left old s.reads bs) (ended : s'.ended ≡ s.ended) (reads : s'.reads ≡ s.reads) where
   -- a document
@@ -279,13 +214,11 @@ module _ (left mid : Option (List ℕ)) (old s s' : ReaderModel) (bs : List ℕ)
 
   -- a line that is refused, or want of memory
   pub went-fault : (f : ReadFault) → TakesHeldLines s s' (Err f) → ReturnsNextDocument left mid old s' (Err f)
-  went-fault (Line line) went = record { octets = bs; reads = call-takes left mid old s s' bs _ call went.0 ended reads; keeps = went-keeps _ went.0; waits = waits-same left old s s' bs bs waits reads refl; ends = went.1 }
-  went-fault (SubsetCount line) went = record { octets = bs; reads = call-takes left mid old s s' bs _ call went.0 ended reads; keeps = went-keeps _ went.0; waits = waits-same left old s s' bs bs waits reads refl; ends = went.1 }
-  went-fault (HeaderRange line) went = record { octets = bs; reads = call-takes left mid old s s' bs _ call went.0 ended reads; keeps = went-keeps _ went.0; waits = waits-same left old s s' bs bs waits reads refl; ends = went.1 }
   went-fault (Run Read) went = absurd went
   went-fault (Run Write) went = absurd went
   went-fault (Run InputTooLong) went = absurd went
   went-fault (Run Memory) went = record { octets = bs; keeps = keeps-same old s s' bs (call-keeps left mid old s [] bs call) went.2 ended; reads = (call.read, omega (arith, call.few, reads), λ e. held-before left mid old s bs [] call e (some-held s.held went.1), inr (record { mid = went.3.mid; taken = call-takes left mid old s went.3.mid bs [] call went.3.taken went.3.ended went.3.reads; next = went.3.next })); waits = waits-same left old s s' bs bs waits reads refl; ends = (went.0, inl (ap has_no_feed went.2 ∙ went.1)) }
+  went-fault f went = record { octets = bs; reads = call-takes left mid old s s' bs _ call went.0 ended reads; keeps = went-keeps _ went.0; waits = waits-same left old s s' bs bs waits reads refl; ends = went.1 }
 
 -- the end
 module _ (left mid : Option (List ℕ)) (old s s' : ReaderModel) (bs : List ℕ) (call : ReadsLines left mid old s [] bs) (waits : (s.reads ≡ old.reads) ⊎ ReadsOnlyIfNoLine left old s.reads bs) (sound : s.fault ≡ None) (ended : s.ended ≡ true) where
@@ -298,48 +231,21 @@ module _ (left mid : Option (List ℕ)) (old s s' : ReaderModel) (bs : List ℕ)
         waits = waits-same left old s s' bs bs waits (ap (λ x. x.reads) so.0) refl;
         ends = (ap (λ x. x.fault) so.0 ∙ sound, (ap (λ x. x.ended) so.0 ∙ ended, so.1, so.2));
       }
-  end-next (Ok (Some d)) so = absurd so
   end-next (Err (Line line)) so = record { octets = bs; reads = call-takes left mid old s s' bs _ call so.0 so.2 so.3; keeps = call-keeps left mid old s' _ bs (call-takes left mid old s s' bs _ call so.0 so.2 so.3); waits = waits-same left old s s' bs bs waits so.3 refl; ends = so.1 }
-  end-next (Err (SubsetCount line)) so = absurd so
-  end-next (Err (HeaderRange line)) so = absurd so
-  end-next (Err (Run f)) so = absurd so
+  end-next result so = absurd so
 
 -- the end reports no document
 pub end-proper : (s s' : ReaderModel) (result : Result (Option Document) ReadFault) → HandlesEnd s s' result → IfOk result (λ found. IfSome found (λ document. IsProper document))
-end-proper s s' (Ok None) so = tt
 end-proper s s' (Ok (Some d)) so = absurd so
-end-proper s s' (Err f) so = tt
+end-proper s s' result so = tt
 
 -- nothing is reported, and nothing but the fault and the reads is new
 quiet-reports : (s s' : ReaderModel) → s'.at ≡ s.at → s'.place ≡ s.place → s'.held ≡ s.held → s'.ended ≡ s.ended → ParsesHeldLines s s' []
-quiet-reports s s' at place held ended =
-    let A : ℕ → Type 0 = λ k. TakesWholeLines s.at s.held k s'.held in
-    let H : List ℕ → Type 0 = λ h. TakesWholeLines s.at s.held s.at h in record {
-      goes = record {
-        whole = λ t none. ap (λ (k : ℕ). parse_lines k s.place (lines_of (s.held ++ t))) (sym at) ∙ ap (λ (p : ParserState). parse_lines s'.at p (lines_of (s.held ++ t))) (sym place) ∙ ap (λ (h : List ℕ). parse_lines s'.at s'.place (lines_of (h ++ t))) (sym held);
-        openly = λ unended t.
-            ap (λ (k : ℕ). parse_open_lines k s.place (split_of (s.held ++ t)).whole (split_of (s.held ++ t)).rest) (sym at)
-            ∙ ap (λ (p : ParserState). parse_open_lines s'.at p (split_of (s.held ++ t)).whole (split_of (s.held ++ t)).rest) (sym place)
-            ∙ ap (λ (h : List ℕ). parse_open_lines s'.at s'.place (split_of (h ++ t)).whole (split_of (h ++ t)).rest) (sym held);
-      };
-      passes = subst A (sym at) (subst H (sym held) (passes-none s.at s.held));
-    }
+quiet-reports s s' h1 h2 h3 h4 = grind (arith, nat_tests, common_steps)
 
 -- no octets come, and the end is not reached
 open-call : (left left' : Option (List ℕ)) (s s' : ReaderModel) (results : List ParseResult) (bs : List ℕ) → bs ≡ [] → Consumes left left' bs → ParsesHeldLines s s' results → s.ended ≡ false → s'.ended ≡ false → s.reads ≤ s'.reads → ReadsLines left left' s s' results bs
-open-call left left' s s' results bs none read reports before after order =
-    let G : List ℕ → Type 0 = λ h. ContinuesParse (record { at = s.at; place = s.place; held = h; ended = s.ended }) (position_of s') results in
-    let P : List ℕ → Type 0 = λ h. TakesWholeLines s.at h s'.at s'.held in
-    let same : s.held ++ bs ≡ s.held = ap (λ (l : List ℕ). s.held ++ l) none ∙ append-nil s.held in record {
-      read = read;
-      order = order;
-      few = omega (arith, ap length none);
-      goes = subst G (sym same) reports.goes;
-      lines = ([], inl refl, subst P (sym (append-nil (s.held ++ bs) ∙ same)) reports.passes);
-      kept = λ e. absurd (true≢false (sym e ∙ before));
-      end = λ reached e. absurd (true≢false (sym e ∙ after));
-      fed = λ _ e _. absurd (true≢false (sym e ∙ after));
-    }
+open-call left left' s s' results bs h1 h2 h3 h4 h5 h6 = grind (arith, nat_tests, common_steps)
 
 -- a read, after what was read so far in a call
 module _ (left mid left' : Option (List ℕ)) (old s s' : ReaderModel) (bs bs' : List ℕ) (call : ReadsLines left mid old s [] bs) (waits : (s.reads ≡ old.reads) ⊎ ReadsOnlyIfNoLine left old s.reads bs) (open' : s.ended ≡ false) (clean : has_no_feed s.held ≡ true) where
@@ -394,8 +300,6 @@ module _ (left mid left' : Option (List ℕ)) (old s s' : ReaderModel) (bs bs' :
         waits = waits-same left old s s' bs (bs ++ bs') waits so.5 (nothing so.1);
         ends = so.3;
       }
-  fill-fault (SubsetCount line) so = absurd so
-  fill-fault (HeaderRange line) so = absurd so
   fill-fault (Run f) (x, read, is, short) = let N : ReaderModel → Type 0 = λ n. ReturnsNextDocument left left' old n (Err (Run f)) in subst N (sym is) (by f read.fills.ends)
     where
       by : (f : RunFault) → FillEnds (s.reads ≡ 0) (text_input s s.held) (text_input x (s.held ++ bs')) bs' (Err f) → ReturnsNextDocument left left' old (stopped x (Run f)) (Err (Run f))
@@ -425,32 +329,13 @@ module _ (left mid left' : Option (List ℕ)) (old s s' : ReaderModel) (bs bs' :
                 waits = same fails.0;
                 ends = (refl, inr first);
               }
-
--- after the end was reported it is reported again
-none-reported : (left : Option (List ℕ)) (old new : ReaderModel) (results : List ParseResult) (bs : List ℕ) (left' : Option (List ℕ)) → ReadsLines left left' old new results bs → HasNoMoreLines old → results ≡ []
-none-reported left old new results bs left' call (ended, held, none) =
-    let kept = call.kept ended in
-    let H : List ℕ → Type 0 = λ h. parse_lines old.at old.place (lines_of (h ++ [])) ≡ results ++ parse (position_of new) [] in
-    let before : old.held ++ bs ≡ old.held = ap (λ (l : List ℕ). old.held ++ l) kept.1 ∙ append-nil old.held in
-    prefix-none results (parse (position_of new) []) (sym (subst H before (call.goes.whole [] (λ e. refl))) ∙ none)
-  where
-    prefix-none : (xs ys : List ParseResult) → xs ++ ys ≡ [] → xs ≡ []
-    prefix-none [] ys e = refl
-    prefix-none (x ∷ xs) ys e = absurd (omega (arith, ap length e))
+  fill-fault f so = absurd so
 
 some-none : (x : ParseResult) → x ∷ [] ≡ [] → ⊥
 some-none x e = omega (arith, ap length e)
 
 pub done-again : (left left' : Option (List ℕ)) (old new : ReaderModel) (result : Result (Option Document) ReadFault) → ReturnsNextDocument left left' old new result → HasNoMoreLines old → (result ≡ Ok None) × (new.reads ≡ old.reads)
-done-again left left' old new (Ok None) next done = (refl, (next.reads.kept done.0).2)
-done-again left left' old new (Ok (Some d)) next done = absurd (some-none _ (none-reported left old new _ next.octets left' next.reads.0 done))
-done-again left left' old new (Err (Line line)) next done = absurd (some-none _ (none-reported left old new _ next.octets left' next.reads done))
-done-again left left' old new (Err (SubsetCount line)) next done = absurd (some-none _ (none-reported left old new _ next.octets left' next.reads done))
-done-again left left' old new (Err (HeaderRange line)) next done = absurd (some-none _ (none-reported left old new _ next.octets left' next.reads done))
-done-again left left' old new (Err (Run Read)) next done = absurd (true≢false (sym (next.reads.kept done.0).0 ∙ next.ends.1.0))
-done-again left left' old new (Err (Run Write)) next done = absurd next.reads
-done-again left left' old new (Err (Run InputTooLong)) next done = absurd (true≢false (sym (next.reads.kept done.0).0 ∙ next.ends.1.0))
-done-again left left' old new (Err (Run Memory)) next done = absurd (omega (arith, next.reads.2 done.0, ap length done.1))
+done-again left left' old new result h1 h2 = grind (arith, nat_tests, common_steps)
 
 -- the documents that calls reported from the beginning
 pub reported-first : (left left' : Option (List ℕ)) (s : ReaderModel) (results : List ParseResult) (bs t : List ℕ) → ReadsLines left left' new_reader s results bs → (s.ended ≡ true → t ≡ []) → documents_of (bs ++ t) ≡ results ++ parse (position_of s) t

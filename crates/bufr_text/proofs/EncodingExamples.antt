@@ -1,18 +1,15 @@
 -- Documents and what they are encoded to.
 use Rattle.std.proofs.Common.{◌≡◌, ℕ, false, List, [], ◌∷◌, ◌++◌, replicate, Result, Ok, Err, refl, codes, ℤ, pos}
-use Rattle.bufr_bits.specs.Bits.{bits_of, bits_in}
-use Rattle.bufr_bits.specs.Decimal.{decimal_value_of}
+use Rattle.bufr_bits.specs.Prelude.{bits_of, bits_in, decimal_value_of}
 use Rattle.bufr_tables.specs.declared.table_b.Kind.{Kind}
+use Rattle.bufr_tables.specs.Prelude.{part_of, level, inner_of, tree_of, Row}
+use Rattle.bufr_walk.specs.Prelude.{next_item}
+use Rattle.bufr_fill.specs.Prelude.{draft, number_token, text_form, missing_form, DraftEntry, Holds, Ends, reference_token, wrong_descriptor, wrong_number, out_of_range, text_long, missing_forbidden, unequal_factors, uneven_increment, item_too_many, walk_refused}
+use Rattle.bufr_text.specs.Prelude.{Document, RefusedAt, refused_at, by_template, by_item, encoding_in, encoding_of, turns_by, Form}
+use Rattle.bufr_text.specs.declared.encode.Form.TheVariants.{AsWritten, Plain, Compressed}
 use Rattle.bufr_tables.specs.declared.table_b.Kind.TheVariants as kind
 use Rattle.bufr_tables.specs.declared.fault.TemplateFault.TheVariants as template
-use Rattle.bufr_tables.specs.Expansion.{part_of, level, inner_of, tree_of}
-use Rattle.bufr_tables.specs.TableB.{Row}
-use Rattle.bufr_walk.specs.Course.{next_item}
 use Rattle.bufr_walk.specs.declared.spec.TurnRefusal.TheVariants as walk
-use Rattle.bufr_fill.specs.Draft.{draft, number_token, text_form, missing_form, DraftEntry, Holds, Ends}
-use Rattle.bufr_fill.specs.Faults.{wrong_descriptor, wrong_number, out_of_range, text_long, missing_forbidden, unequal_factors, uneven_increment, item_too_many, walk_refused}
-use Rattle.bufr_text.specs.Documents.{Document}
-use Rattle.bufr_text.specs.Encoding.{RefusedAt, refused_at, by_template, by_item, encoding_in, encoding_of}
 
 unfoldable pub listed : (fxy : ℕ) → Kind → (scale reference : ℤ) → (width : ℕ) → Row
 listed fxy k s r w = record { fxy = fxy; name = []; unit = []; kind = k; scale = s; reference = r; width = w }
@@ -50,117 +47,127 @@ message size sections = Ok (codes "BUFR" ++ 0 ∷ 0 ∷ size ∷ 4
     ∷ 0 ∷ 0 ∷ 0x16 ∷ 0 ∷ 0 ∷ 0x62 ∷ 0 ∷ 0 ∷ 0 ∷ 0 ∷ 0 ∷ 0 ∷ 0 ∷ 0x0E ∷ 0 ∷ 0x07 ∷ 0xE8 ∷ 1 ∷ 2 ∷ 3 ∷ 4 ∷ 5
     ∷ sections ++ codes "7777")
 
--- rule: writes-section-4
-one_block_number : encoded (document 0 1 (0x0101 ∷ []) (number 24 0x0101 (codes "10") ∷ Ends 25 ∷ []))
-    ≡ message 48 (0 ∷ 0 ∷ 9 ∷ 0 ∷ 0 ∷ 1 ∷ 0x80 ∷ 1 ∷ 1 ∷ 0 ∷ 0 ∷ 5 ∷ 0 ∷ 0x14 ∷ [])
-unfolding listed table document number encoded message encoding_in tree_of level part_of inner_of next_item decimal_value_of bits_in bits_of
-one_block_number = refl
-
-delayed_twice : encoded (document 0 1 (0x4100 ∷ 0x1F01 ∷ 0x0101 ∷ []) (number 24 0x1F01 (codes "2") ∷ number 25 0x0101 (codes "10") ∷ number 26 0x0101 (codes "11") ∷ Ends 27 ∷ []))
-    ≡ message 54 (0 ∷ 0 ∷ 0x0D ∷ 0 ∷ 0 ∷ 1 ∷ 0x80 ∷ 0x41 ∷ 0 ∷ 0x1F ∷ 1 ∷ 1 ∷ 1 ∷ 0 ∷ 0 ∷ 7 ∷ 0 ∷ 2 ∷ 0x14 ∷ 0x2C ∷ [])
-unfolding listed table document number encoded message encoding_in tree_of level part_of inner_of next_item decimal_value_of bits_in bits_of
-delayed_twice = refl
-
-compressed_missing : encoded (document 1 2 (0x0C65 ∷ []) (number 24 0x0C65 (codes "288.15") ∷ Ends 25 ∷ missing 26 0x0C65 ∷ Ends 27 ∷ []))
-    ≡ message 50 (0 ∷ 0 ∷ 9 ∷ 0 ∷ 0 ∷ 2 ∷ 0xC0 ∷ 0x0C ∷ 0x65 ∷ 0 ∷ 0 ∷ 7 ∷ 0 ∷ 0x70 ∷ 0x8F ∷ 5 ∷ [])
-unfolding listed table document number missing encoded message encoding_in tree_of level part_of inner_of next_item decimal_value_of bits_in bits_of
-compressed_missing = refl
-
--- no subset: the template is still looked at
-no_subsets : encoded (document 0 0 (0x0101 ∷ []) []) ≡ message 47 (0 ∷ 0 ∷ 9 ∷ 0 ∷ 0 ∷ 0 ∷ 0x80 ∷ 1 ∷ 1 ∷ 0 ∷ 0 ∷ 4 ∷ 0 ∷ [])
-unfolding listed table document encoded message encoding_in tree_of level part_of inner_of next_item bits_in bits_of
-no_subsets = refl
-
-no_subsets_of_an_unknown_element : encoded (document 0 0 (0x0102 ∷ []) []) ≡ Err (refused_at 1 (by_template (template.UnknownElement 0x0102)))
-unfolding listed table document encoded encoding_in tree_of level part_of inner_of
-no_subsets_of_an_unknown_element = refl
-
--- rule: writes-local-use
-local_use_sections : encoded (record {
-  line = 1;
-  header = 4 ∷ 0 ∷ 98 ∷ 0 ∷ 0 ∷ 0 ∷ 0 ∷ 0 ∷ 14 ∷ 0 ∷ 2024 ∷ 1 ∷ 2 ∷ 3 ∷ 4 ∷ 5 ∷ 1 ∷ 0 ∷ 1 ∷ 1 ∷ [];
-  local1 = 0xAB ∷ 0xCD ∷ [];
-  section2 = 1 ∷ 2 ∷ [];
-  descriptors = 0x0101 ∷ [];
-  entries = number 26 0x0101 (codes "10") ∷ Ends 27 ∷ [];
-})
+-- rule: writes-section-4, writes-local-use, fault-56, fault-56-first-60-last, writes-even-sections
+documents_encoded :
+    (encoded (document 0 1 (0x0101 ∷ []) (number 24 0x0101 (codes "10") ∷ Ends 25 ∷ []))
+    ≡ message 48 (0 ∷ 0 ∷ 9 ∷ 0 ∷ 0 ∷ 1 ∷ 0x80 ∷ 1 ∷ 1 ∷ 0 ∷ 0 ∷ 5 ∷ 0 ∷ 0x14 ∷ []))
+    × (encoded (document 0 1 (0x4100 ∷ 0x1F01 ∷ 0x0101 ∷ []) (number 24 0x1F01 (codes "2") ∷ number 25 0x0101 (codes "10") ∷ number 26 0x0101 (codes "11") ∷ Ends 27 ∷ []))
+    ≡ message 54 (0 ∷ 0 ∷ 0x0D ∷ 0 ∷ 0 ∷ 1 ∷ 0x80 ∷ 0x41 ∷ 0 ∷ 0x1F ∷ 1 ∷ 1 ∷ 1 ∷ 0 ∷ 0 ∷ 7 ∷ 0 ∷ 2 ∷ 0x14 ∷ 0x2C ∷ []))
+    × (encoded (document 1 2 (0x0C65 ∷ []) (number 24 0x0C65 (codes "288.15") ∷ Ends 25 ∷ missing 26 0x0C65 ∷ Ends 27 ∷ []))
+    ≡ message 50 (0 ∷ 0 ∷ 9 ∷ 0 ∷ 0 ∷ 2 ∷ 0xC0 ∷ 0x0C ∷ 0x65 ∷ 0 ∷ 0 ∷ 7 ∷ 0 ∷ 0x70 ∷ 0x8F ∷ 5 ∷ []))
+    -- no subset: the template is still looked at
+    × (encoded (document 0 0 (0x0101 ∷ []) []) ≡ message 47 (0 ∷ 0 ∷ 9 ∷ 0 ∷ 0 ∷ 0 ∷ 0x80 ∷ 1 ∷ 1 ∷ 0 ∷ 0 ∷ 4 ∷ 0 ∷ []))
+    × (encoded (document 0 0 (0x0102 ∷ []) []) ≡ Err (refused_at 1 (by_template (template.UnknownElement 0x0102))))
+    × (encoded (record {
+      line = 1;
+      header = 4 ∷ 0 ∷ 98 ∷ 0 ∷ 0 ∷ 0 ∷ 0 ∷ 0 ∷ 14 ∷ 0 ∷ 2024 ∷ 1 ∷ 2 ∷ 3 ∷ 4 ∷ 5 ∷ 1 ∷ 0 ∷ 1 ∷ 1 ∷ [];
+      local1 = 0xAB ∷ 0xCD ∷ [];
+      section2 = 1 ∷ 2 ∷ [];
+      descriptors = 0x0101 ∷ [];
+      entries = number 26 0x0101 (codes "10") ∷ Ends 27 ∷ [];
+    })
     ≡ Ok (codes "BUFR" ++ 0 ∷ 0 ∷ 56 ∷ 4 ∷ 0 ∷ 0 ∷ 0x18 ∷ 0 ∷ 0 ∷ 0x62 ∷ 0 ∷ 0 ∷ 0 ∷ 0x80 ∷ 0 ∷ 0 ∷ 0 ∷ 0x0E ∷ 0 ∷ 0x07 ∷ 0xE8 ∷ 1 ∷ 2 ∷ 3 ∷ 4 ∷ 5 ∷ 0xAB ∷ 0xCD
-    ∷ 0 ∷ 0 ∷ 6 ∷ 0 ∷ 1 ∷ 2 ∷ 0 ∷ 0 ∷ 9 ∷ 0 ∷ 0 ∷ 1 ∷ 0x80 ∷ 1 ∷ 1 ∷ 0 ∷ 0 ∷ 5 ∷ 0 ∷ 0x14 ∷ codes "7777")
-unfolding listed table number encoded encoding_in tree_of level part_of inner_of next_item decimal_value_of bits_in bits_of
-local_use_sections = refl
-
--- a number with one octet more of data, and faults of numbers
-greatest_temperature : encoded (document 0 1 (0x0C65 ∷ []) (number 24 0x0C65 (codes "655.34") ∷ Ends 25 ∷ []))
-    ≡ message 49 (0 ∷ 0 ∷ 9 ∷ 0 ∷ 0 ∷ 1 ∷ 0x80 ∷ 0x0C ∷ 0x65 ∷ 0 ∷ 0 ∷ 6 ∷ 0 ∷ 0xFF ∷ 0xFE ∷ [])
-unfolding listed table document number encoded message encoding_in tree_of level part_of inner_of next_item decimal_value_of bits_in bits_of
-greatest_temperature = refl
-
-would_read_as_missing : encoded (document 0 1 (0x0C65 ∷ []) (number 24 0x0C65 (codes "655.35") ∷ Ends 25 ∷ [])) ≡ Err (refused_at 24 (by_item out_of_range))
-unfolding listed table document number encoded encoding_in tree_of level part_of inner_of next_item decimal_value_of
-would_read_as_missing = refl
-
-not_whole_at_its_scale : encoded (document 0 1 (0x0C65 ∷ []) (number 24 0x0C65 (codes "288.155") ∷ Ends 25 ∷ [])) ≡ Err (refused_at 24 (by_item wrong_number))
-unfolding listed table document number encoded encoding_in tree_of level part_of inner_of next_item decimal_value_of
-not_whole_at_its_scale = refl
-
--- items that are not those of the template
-another_descriptor : encoded (document 0 1 (0x0101 ∷ []) (number 24 0x0C65 (codes "5") ∷ Ends 25 ∷ [])) ≡ Err (refused_at 24 (by_item (wrong_descriptor 0x0101 false)))
-unfolding listed table document number encoded encoding_in tree_of level part_of inner_of next_item
-another_descriptor = refl
-
-item_left_out : encoded (document 0 1 (0x0101 ∷ []) (Ends 24 ∷ [])) ≡ Err (refused_at 24 (by_item (wrong_descriptor 0x0101 false)))
-unfolding listed table document encoded encoding_in tree_of level part_of inner_of next_item
-item_left_out = refl
-
-second_item : encoded (document 0 1 (0x0101 ∷ []) (number 24 0x0101 (codes "10") ∷ number 25 0x0101 (codes "10") ∷ Ends 26 ∷ [])) ≡ Err (refused_at 25 (by_item item_too_many))
-unfolding listed table document number encoded encoding_in tree_of level part_of inner_of next_item decimal_value_of bits_in
-second_item = refl
-
-missing_factor : encoded (document 0 1 (0x4100 ∷ 0x1F01 ∷ 0x0101 ∷ []) (missing 24 0x1F01 ∷ Ends 25 ∷ [])) ≡ Err (refused_at 24 (by_item missing_forbidden))
-unfolding listed table document missing encoded encoding_in tree_of level part_of inner_of next_item
-missing_factor = refl
-
-name_of_21_characters : encoded (document 0 1 (0x010F ∷ []) (text 24 0x010F (replicate 21 65) ∷ Ends 25 ∷ [])) ≡ Err (refused_at 24 (by_item text_long))
-unfolding listed table document text encoded encoding_in tree_of level part_of inner_of next_item
-name_of_21_characters = refl
-
--- items that cannot be packed
-factors_unequal : encoded (document 1 2 (0x4100 ∷ 0x1F01 ∷ 0x0101 ∷ []) (number 24 0x1F01 (codes "1") ∷ number 25 0x0101 (codes "10") ∷ Ends 26 ∷ number 27 0x1F01 (codes "2") ∷ number 28 0x0101 (codes "10") ∷ number 29 0x0101 (codes "11") ∷ Ends 30 ∷ []))
-    ≡ Err (refused_at 27 (by_item unequal_factors))
-unfolding listed table document number encoded encoding_in tree_of level part_of inner_of next_item decimal_value_of bits_in
-factors_unequal = refl
-
-texts_too_long_apart : encoded (document 1 2 (0x8540 ∷ []) (text 24 0x8540 (replicate 64 65) ∷ Ends 25 ∷ text 26 0x8540 (replicate 63 65 ++ 66 ∷ []) ∷ Ends 27 ∷ [])) ≡ Err (refused_at 24 (by_item uneven_increment))
-unfolding listed table document text encoded encoding_in tree_of level part_of inner_of next_item bits_in bits_of
-texts_too_long_apart = refl
-
--- the template, and the walk over it
--- rule: fault-56
-empty_group : encoded (document 0 1 (0x8100 ∷ []) (Ends 24 ∷ [])) ≡ Err (refused_at 1 (by_template (template.EmptyGroup 0x8100)))
-unfolding listed table document encoded encoding_in tree_of level part_of inner_of
-empty_group = refl
-
-width_of_none : encoded (document 0 1 (0x8179 ∷ 0x0101 ∷ []) (number 24 0x0101 (codes "0") ∷ Ends 25 ∷ [])) ≡ Err (refused_at 24 (by_item (walk_refused (walk.Width 0x0101))))
-unfolding listed table document number encoded encoding_in tree_of level part_of inner_of next_item
-width_of_none = refl
-
--- the template goes before the items
--- rule: fault-56-first-60-last
-template_goes_before : encoded (document 0 1 (0x0101 ∷ 0x0102 ∷ []) (number 24 0x0C65 (codes "5") ∷ Ends 25 ∷ [])) ≡ Err (refused_at 1 (by_template (template.UnknownElement 0x0102)))
-unfolding listed table document number encoded encoding_in tree_of level part_of inner_of
-template_goes_before = refl
-
--- edition 3: one octet of local use makes section 1 even, and sections 3 and 4 are made even
--- rule: writes-even-sections
-edition_3 : encoded (record {
-  line = 1;
-  header = 3 ∷ 0 ∷ 98 ∷ 0 ∷ 0 ∷ 0 ∷ 0 ∷ 0 ∷ 14 ∷ 0 ∷ 24 ∷ 1 ∷ 2 ∷ 3 ∷ 4 ∷ 0 ∷ 1 ∷ 0 ∷ 0 ∷ 1 ∷ [];
-  local1 = 0 ∷ [];
-  section2 = [];
-  descriptors = 0x0101 ∷ [];
-  entries = number 25 0x0101 (codes "10") ∷ Ends 26 ∷ [];
-})
+    ∷ 0 ∷ 0 ∷ 6 ∷ 0 ∷ 1 ∷ 2 ∷ 0 ∷ 0 ∷ 9 ∷ 0 ∷ 0 ∷ 1 ∷ 0x80 ∷ 1 ∷ 1 ∷ 0 ∷ 0 ∷ 5 ∷ 0 ∷ 0x14 ∷ codes "7777"))
+    -- a number with one octet more of data, and faults of numbers
+    × (encoded (document 0 1 (0x0C65 ∷ []) (number 24 0x0C65 (codes "655.34") ∷ Ends 25 ∷ []))
+    ≡ message 49 (0 ∷ 0 ∷ 9 ∷ 0 ∷ 0 ∷ 1 ∷ 0x80 ∷ 0x0C ∷ 0x65 ∷ 0 ∷ 0 ∷ 6 ∷ 0 ∷ 0xFF ∷ 0xFE ∷ []))
+    × (encoded (document 0 1 (0x0C65 ∷ []) (number 24 0x0C65 (codes "655.35") ∷ Ends 25 ∷ [])) ≡ Err (refused_at 24 (by_item out_of_range)))
+    × (encoded (document 0 1 (0x0C65 ∷ []) (number 24 0x0C65 (codes "288.155") ∷ Ends 25 ∷ [])) ≡ Err (refused_at 24 (by_item wrong_number)))
+    -- items that are not those of the template
+    × (encoded (document 0 1 (0x0101 ∷ []) (number 24 0x0C65 (codes "5") ∷ Ends 25 ∷ [])) ≡ Err (refused_at 24 (by_item (wrong_descriptor 0x0101 false))))
+    × (encoded (document 0 1 (0x0101 ∷ []) (Ends 24 ∷ [])) ≡ Err (refused_at 24 (by_item (wrong_descriptor 0x0101 false))))
+    × (encoded (document 0 1 (0x0101 ∷ []) (number 24 0x0101 (codes "10") ∷ number 25 0x0101 (codes "10") ∷ Ends 26 ∷ [])) ≡ Err (refused_at 25 (by_item item_too_many)))
+    × (encoded (document 0 1 (0x4100 ∷ 0x1F01 ∷ 0x0101 ∷ []) (missing 24 0x1F01 ∷ Ends 25 ∷ [])) ≡ Err (refused_at 24 (by_item missing_forbidden)))
+    × (encoded (document 0 1 (0x010F ∷ []) (text 24 0x010F (replicate 21 65) ∷ Ends 25 ∷ [])) ≡ Err (refused_at 24 (by_item text_long)))
+    -- items that cannot be packed
+    × (encoded (document 1 2 (0x4100 ∷ 0x1F01 ∷ 0x0101 ∷ []) (number 24 0x1F01 (codes "1") ∷ number 25 0x0101 (codes "10") ∷ Ends 26 ∷ number 27 0x1F01 (codes "2") ∷ number 28 0x0101 (codes "10") ∷ number 29 0x0101 (codes "11") ∷ Ends 30 ∷ []))
+    ≡ Err (refused_at 27 (by_item unequal_factors)))
+    × (encoded (document 1 2 (0x8540 ∷ []) (text 24 0x8540 (replicate 64 65) ∷ Ends 25 ∷ text 26 0x8540 (replicate 63 65 ++ 66 ∷ []) ∷ Ends 27 ∷ [])) ≡ Err (refused_at 24 (by_item uneven_increment)))
+    -- the template, and the walk over it
+    × (encoded (document 0 1 (0x8100 ∷ []) (Ends 24 ∷ [])) ≡ Err (refused_at 1 (by_template (template.EmptyGroup 0x8100))))
+    × (encoded (document 0 1 (0x8179 ∷ 0x0101 ∷ []) (number 24 0x0101 (codes "0") ∷ Ends 25 ∷ [])) ≡ Err (refused_at 24 (by_item (walk_refused (walk.Width 0x0101)))))
+    -- the template goes before the items
+    × (encoded (document 0 1 (0x0101 ∷ 0x0102 ∷ []) (number 24 0x0C65 (codes "5") ∷ Ends 25 ∷ [])) ≡ Err (refused_at 1 (by_template (template.UnknownElement 0x0102))))
+    -- edition 3: one octet of local use makes section 1 even, and sections 3 and 4 are made even
+    × (encoded (record {
+      line = 1;
+      header = 3 ∷ 0 ∷ 98 ∷ 0 ∷ 0 ∷ 0 ∷ 0 ∷ 0 ∷ 14 ∷ 0 ∷ 24 ∷ 1 ∷ 2 ∷ 3 ∷ 4 ∷ 0 ∷ 1 ∷ 0 ∷ 0 ∷ 1 ∷ [];
+      local1 = 0 ∷ [];
+      section2 = [];
+      descriptors = 0x0101 ∷ [];
+      entries = number 25 0x0101 (codes "10") ∷ Ends 26 ∷ [];
+    })
     ≡ Ok (codes "BUFR" ++ 0 ∷ 0 ∷ 0x2E ∷ 3 ∷ 0 ∷ 0 ∷ 0x12 ∷ 0 ∷ 0 ∷ 0x62 ∷ 0 ∷ 0 ∷ 0 ∷ 0 ∷ 0x0E ∷ 0 ∷ 0x18 ∷ 1 ∷ 2 ∷ 3 ∷ 4 ∷ 0
-    ∷ 0 ∷ 0 ∷ 0x0A ∷ 0 ∷ 0 ∷ 1 ∷ 0x80 ∷ 1 ∷ 1 ∷ 0 ∷ 0 ∷ 0 ∷ 6 ∷ 0 ∷ 0x14 ∷ 0 ∷ codes "7777")
-unfolding listed table number encoded encoding_in tree_of level part_of inner_of next_item decimal_value_of bits_in bits_of
-edition_3 = refl
+    ∷ 0 ∷ 0 ∷ 0x0A ∷ 0 ∷ 0 ∷ 1 ∷ 0x80 ∷ 1 ∷ 1 ∷ 0 ∷ 0 ∷ 0 ∷ 6 ∷ 0 ∷ 0x14 ∷ 0 ∷ codes "7777"))
+unfolding listed table document number encoded message encoding_in tree_of level part_of inner_of next_item decimal_value_of bits_in bits_of missing text
+documents_encoded = (refl, refl, refl, refl, refl, refl, refl, refl, refl, refl, refl, refl, refl, refl, refl, refl, refl, refl, refl, refl)
+
+-- ---- How many turns the encoding of a document makes, computed from the definitions.
+
+turns : Document → ℕ
+turns d = turns_by AsWritten table [] d
+
+block : (line : ℕ) → List ℕ → DraftEntry
+block line digits = number line 0x0101 digits
+
+factor : (line : ℕ) → List ℕ → DraftEntry
+factor line digits = number line 0x1F01 digits
+
+turns_made :
+    -- an element and the end: fails where the end is no turn
+    (turns (document 0 1 (0x0101 ∷ []) (block 24 (codes "10") ∷ Ends 25 ∷ [])) ≡ 2)
+    -- a group, its factor, twice an element and the end of a pass, and the end: fails where the ends of
+    -- passes are no turns
+    × (turns (document 0 1 (0x4100 ∷ 0x1F01 ∷ 0x0101 ∷ []) (factor 24 (codes "2") ∷ block 25 (codes "10") ∷ block 26 (codes "11") ∷ Ends 27 ∷ [])) ≡ 7)
+    -- a group in a group, with one pass and with two: fails where a count serves all passes
+    × (turns (document 0 1 (0x4300 ∷ 0x1F01 ∷ 0x4100 ∷ 0x1F01 ∷ 0x0101 ∷ [])
+    (factor 24 (codes "2") ∷ factor 25 (codes "1") ∷ block 26 (codes "10") ∷ factor 27 (codes "2") ∷ block 28 (codes "11") ∷ block 29 (codes "12") ∷ Ends 30 ∷ [])) ≡ 15)
+    -- an operator is a turn, of fields too that a walk refuses, with an item or with none
+    × (turns (document 0 1 (0x8179 ∷ 0x0101 ∷ []) (block 24 (codes "0") ∷ Ends 25 ∷ [])) ≡ 2)
+    × (turns (document 0 1 (0x8179 ∷ 0x0101 ∷ []) (Ends 24 ∷ [])) ≡ 2)
+    -- an item that is refused ends the turns, itself one of them: fails where the rest of the template,
+    -- or of the items, counts
+    × (turns (document 0 1 (0x4100 ∷ 0x1F01 ∷ 0x0101 ∷ []) (factor 24 (codes "3") ∷ block 25 (codes "10") ∷ block 26 (codes "1000") ∷ block 27 (codes "12") ∷ Ends 28 ∷ [])) ≡ 5)
+    × (turns (document 0 1 (0x4100 ∷ 0x1F01 ∷ 0x0101 ∷ []) (factor 24 (codes "3") ∷ block 25 (codes "10") ∷ Ends 26 ∷ [])) ≡ 5)
+    × (turns (document 0 1 (0x4100 ∷ 0x1F01 ∷ 0x0101 ∷ []) (missing 24 0x1F01 ∷ Ends 25 ∷ [])) ≡ 2)
+    × (turns (document 0 1 (0x0101 ∷ 0x0101 ∷ []) (number 24 0x0C65 (codes "5") ∷ block 25 (codes "5") ∷ Ends 26 ∷ [])) ≡ 1)
+    -- an item too many comes after the end of the template
+    × (turns (document 0 1 (0x0101 ∷ []) (block 24 (codes "10") ∷ block 25 (codes "10") ∷ Ends 26 ∷ [])) ≡ 2)
+    -- a pass for each subset: fails where the second begins with the turns of the first, and where
+    -- subsets after a refused one count
+    × (turns (document 0 2 (0x4100 ∷ 0x1F01 ∷ 0x0101 ∷ []) (factor 24 (codes "1") ∷ block 25 (codes "10") ∷ Ends 26 ∷ factor 27 (codes "0") ∷ Ends 28 ∷ [])) ≡ 8)
+    × (turns (document 0 3 (0x0101 ∷ []) (block 24 (codes "10") ∷ Ends 25 ∷ block 26 (codes "x") ∷ Ends 27 ∷ block 28 (codes "10") ∷ Ends 29 ∷ [])) ≡ 3)
+    -- one pass for all subsets of compressed data: fails where each is a pass
+    × (turns (document 1 2 (0x0C65 ∷ []) (number 24 0x0C65 (codes "288.15") ∷ Ends 25 ∷ missing 26 0x0C65 ∷ Ends 27 ∷ [])) ≡ 2)
+    × (turns (document 1 2 (0x4100 ∷ 0x1F01 ∷ 0x0101 ∷ []) (factor 24 (codes "1") ∷ block 25 (codes "10") ∷ Ends 26 ∷ factor 27 (codes "2") ∷ block 28 (codes "10") ∷ block 29 (codes "11") ∷ Ends 30 ∷ [])) ≡ 2)
+    × (turns (document 1 2 (0x0101 ∷ []) (block 24 (codes "10") ∷ Ends 25 ∷ block 26 (codes "10") ∷ block 27 (codes "11") ∷ Ends 28 ∷ [])) ≡ 2)
+    -- no pass without a subset, and none without a template
+    × (turns (document 0 0 (0x0101 ∷ []) []) ≡ 0)
+    × (turns (document 1 0 (0x0101 ∷ []) []) ≡ 0)
+    × (turns (document 0 1 (0x0101 ∷ 0x0102 ∷ []) (block 24 (codes "10") ∷ Ends 25 ∷ [])) ≡ 0)
+unfolding turns block listed table document number tree_of level part_of inner_of next_item decimal_value_of bits_in factor missing
+turns_made = (refl, refl, refl, refl, refl, refl, refl, refl, refl, refl, refl, refl, refl, refl, refl, refl, refl, refl)
+
+-- ---- Documents and what they are encoded to in another form than they say.
+
+formed : Form → Document → Result (List ℕ) RefusedAt
+formed form d = encoding_in form table [] d
+
+-- a message of so many octets, from section 3 on
+-- rule: writes-form, form-option
+documents_formed :
+    (formed Compressed (document 0 1 (0x4100 ∷ 0x1F01 ∷ 0x0101 ∷ []) (number 24 0x1F01 (codes "2") ∷ number 25 0x0101 (codes "10") ∷ number 26 0x0101 (codes "11") ∷ Ends 27 ∷ []))
+    ≡ message 56 (0 ∷ 0 ∷ 0x0D ∷ 0 ∷ 0 ∷ 1 ∷ 0xC0 ∷ 0x41 ∷ 0 ∷ 0x1F ∷ 1 ∷ 1 ∷ 1 ∷ 0 ∷ 0 ∷ 9 ∷ 0 ∷ 2 ∷ 0 ∷ 0x50 ∷ 2 ∷ 0xC0 ∷ []))
+    × (formed Plain (document 1 2 (0x0C65 ∷ []) (number 24 0x0C65 (codes "288.15") ∷ Ends 25 ∷ missing 26 0x0C65 ∷ Ends 27 ∷ []))
+    ≡ message 51 (0 ∷ 0 ∷ 9 ∷ 0 ∷ 0 ∷ 2 ∷ 0x80 ∷ 0x0C ∷ 0x65 ∷ 0 ∷ 0 ∷ 8 ∷ 0 ∷ 0x70 ∷ 0x8F ∷ 0xFF ∷ 0xFF ∷ []))
+    -- and back
+    × (formed Compressed (document 0 2 (0x0C65 ∷ []) (number 24 0x0C65 (codes "288.15") ∷ Ends 25 ∷ missing 26 0x0C65 ∷ Ends 27 ∷ []))
+    ≡ message 50 (0 ∷ 0 ∷ 9 ∷ 0 ∷ 0 ∷ 2 ∷ 0xC0 ∷ 0x0C ∷ 0x65 ∷ 0 ∷ 0 ∷ 7 ∷ 0 ∷ 0x70 ∷ 0x8F ∷ 5 ∷ []))
+    × (formed Compressed (document 0 0 (0x0101 ∷ []) []) ≡ message 47 (0 ∷ 0 ∷ 9 ∷ 0 ∷ 0 ∷ 0 ∷ 0xC0 ∷ 1 ∷ 1 ∷ 0 ∷ 0 ∷ 4 ∷ 0 ∷ []))
+    × (formed Compressed (document 0 2 (0x4100 ∷ 0x1F01 ∷ 0x0101 ∷ []) (number 24 0x1F01 (codes "1") ∷ number 25 0x0101 (codes "10") ∷ Ends 26 ∷ number 27 0x1F01 (codes "2") ∷ number 28 0x0101 (codes "10") ∷ number 29 0x0101 (codes "11") ∷ Ends 30 ∷ []))
+    ≡ Err (refused_at 27 (by_item unequal_factors)))
+    -- 2 03 010, 0 12 101, 2 03 255: references that differ
+    × (formed Compressed (document 0 2 (0x830A ∷ 0x0C65 ∷ 0x83FF ∷ []) (Holds (draft 24 0x0C65 (reference_token (codes "-400"))) ∷ Ends 25 ∷ Holds (draft 26 0x0C65 (reference_token (codes "-401"))) ∷ Ends 27 ∷ []))
+    ≡ Err (refused_at 24 (by_item uneven_increment)))
+unfolding listed table document number formed message encoding_in tree_of level part_of inner_of next_item decimal_value_of bits_in bits_of missing
+documents_formed = (refl, refl, refl, refl, refl, refl)

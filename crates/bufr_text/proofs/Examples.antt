@@ -1,17 +1,105 @@
--- The definitions computed on worked examples.
-use Rattle.std.proofs.Common.{◌≡◌, ℕ, ◌≤◌, true, false, List, [], ◌∷◌, ◌++◌, refl, arith, drop, take, codes, Some, None, pos}
+-- Lines computed on examples, each rule beside its nearest wrong neighbour.
+use Rattle.std.proofs.Common.{◌≡◌, ℕ, List, [], ◌∷◌, ◌++◌, refl, codes, replicate, map, ◌≤◌, true, false, arith, drop, take, Some, None, pos, ◌+◌, inl}
+use Rattle.bufr_fill.specs.Prelude.{number_token, text_form, missing_form, reference_token, draft, Holds, Ends}
+use Rattle.bufr_text.specs.Prelude.{prefix_while, suffix_while, without_prefix, hex_read, fxy_read, descriptors_read, quoted_read, is_hashed, quoted, hex_text, descriptors_text, runs_after, Line, Passed, Header, Local1, Section2, Descriptors, Begins, Item, Wrong, keys, place_from, value_read, worded, line_of, Opens, Closes, line_within_limit, ParseResult, Complete, Refused, NotAllowed, SubsetCount, HeaderRange, turn, parse_lines, lines_of, documents_of, Document, open_documents_of, split_of, parse_open_lines, IsText, item_text, local1_line, descriptors_line, text_of_lines, IsDumpable, dump_text_of, header_lines, subset_lines, item_entries, subset_entries, document_of, DumpItem, IsNumber, ls_line, AreEnded, IsProper, NumberedLine, numbered_line, numbered_lines, SubsetHeard, subsets_heard, entries_heard, IsDocument}
 use Rattle.bufr_frame.specs.declared.section1.Head.{Head}
-use Rattle.bufr_frame.specs.Layout.{IsFitting}
-use Rattle.bufr_frame.specs.Section1.{Field, Master, Centre, Subcentre, Update, Flags, Category, Subcategory, LocalSubcategory, MasterVersion, LocalVersion, Year, Month, Day, Hour, Minute, Second, most_in, slots_4}
-use Rattle.bufr_frame.specs.Section1 as section1
-use Rattle.bufr_frame.specs.Sections.{Sections}
-use Rattle.bufr_fill.specs.Draft.{draft, number_token, Holds, Ends}
-use Rattle.bufr_text.specs.Documents.{Document, Complete, Refused, NotAllowed, SubsetCount, HeaderRange, documents_of, open_documents_of, lines_of, split_of, parse_lines, parse_open_lines, turn}
+use Rattle.bufr_frame.specs.Prelude.{IsFitting, Field, Master, Centre, Subcentre, Update, Flags, Category, Subcategory, LocalSubcategory, MasterVersion, LocalVersion, Year, Month, Day, Hour, Minute, Second, most_in, slots_4, Sections}
 use Rattle.std.specs.Fmt.{digits}
-use Rattle.bufr_bits.specs.Decimal.{decimal_text_of, unsigned_text}
-use Rattle.bufr_text.specs.Grammar.{prefix_while, suffix_while, without_prefix, runs_after, hex_text, hex_read, fxy_read, descriptors_text, descriptors_read, quoted, quoted_read, is_hashed}
-use Rattle.bufr_text.specs.Line.{keys, place_from, value_read, worded, line_of}
-use Rattle.bufr_text.specs.Dump.{IsDumpable, dump_text_of, header_lines, subset_lines, item_entries, subset_entries, document_of, text_of_lines, DumpItem, IsNumber}
+use Rattle.bufr_bits.specs.Prelude.{decimal_text_of, unsigned_text}
+use Rattle.bufr_text.proofs.EncodingExamples.{document, number}
+use Rattle.bufr_frame.specs.Section1 as section1
+
+-- an inserted text with a quote, a backslash, a line feed and an octet that is no character
+abbrev inserted : List ℕ
+inserted = 34 ∷ 92 ∷ 10 ∷ 254 ∷ []
+
+abbrev inserted_line : List ℕ
+inserted_line = codes "205004 " ++ 34 ∷ 92 ∷ 34 ∷ 92 ∷ 92 ∷ 92 ∷ codes "x0A" ++ 92 ∷ codes "xFE" ++ 34 ∷ []
+
+abbrev all_said : List (List ℕ) → List Line
+all_said lines = map line_within_limit lines
+
+ten : Line
+ten = Item 257 (number_token (codes "10"))
+
+-- the lines of a document, with these from the one of `centre` to that of `subsets`, and these
+-- after them
+abbrev document_with : (centre optional subsets : List ℕ) → (more : List (List ℕ)) → List ℕ
+document_with centre optional subsets more = text_of_lines (
+    codes "message" ∷ codes "edition 4" ∷ codes "master 0" ∷ centre ∷ codes "subcentre 0" ∷ codes "update 0" ∷ codes "category 0"
+    ∷ codes "subcategory 0" ∷ codes "localsubcategory 0" ∷ codes "masterversion 14" ∷ codes "localversion 0" ∷ codes "year 2024" ∷ codes "month 1"
+    ∷ codes "day 2" ∷ codes "hour 3" ∷ codes "minute 4" ∷ codes "second 5" ∷ codes "observed 1" ∷ codes "compressed 0" ∷ optional ∷ subsets ∷ more)
+
+abbrev none_with : (more : List (List ℕ)) → List ParseResult
+none_with more = documents_of (document_with (codes "centre 98") (codes "optional 1") (codes "subsets 0") more)
+
+abbrev header_written : List ℕ
+header_written = 4 ∷ 0 ∷ 98 ∷ 0 ∷ 0 ∷ 0 ∷ 0 ∷ 0 ∷ 14 ∷ 0 ∷ 2024 ∷ 1 ∷ 2 ∷ 3 ∷ 4 ∷ 5 ∷ 1 ∷ 0 ∷ 1 ∷ 0 ∷ []
+
+-- within a line: what is no line goes before a value past its range, and that before a count
+abbrev centre_with : List ℕ → List ParseResult
+centre_with centre = documents_of (document_with centre (codes "optional 0") (codes "subsets 1") (codes "end" ∷ []))
+
+-- rule: reading-number, reading-reference, reading-header-number, reading-long-lists
+-- rule: reading-longest-line, reading-blanks, reading-carriage-return, reading-after-a-value
+-- rule: reading-hexadecimal, reading-descriptor, reading-quoted, reading-header-ranges
+-- rule: fault-order-of-a-line, reading-header-order, reading-subsets, reading-line-numbers
+lines_read :
+    (item_text (record { fxy = 0x8504; comment = None; value = IsText inserted }) ≡ inserted_line)
+    × (all_said (
+    inserted_line ∷ codes "012101 MISSING" ∷ codes "R 012101 -400" ∷ codes "005002 -0.05 #" ∷ codes "005002 -0.05  # LATITUDE [degree]" ∷ [])
+    ≡ Item 0x8504 (text_form inserted) ∷ Item 0x0C65 missing_form ∷ Item 0x0C65 (reference_token (codes "-400")) ∷ Item 0x0502 (number_token (codes "-0.05")) ∷ Item 0x0502 (number_token (codes "-0.05")) ∷ [])
+    × (all_said (
+    codes "001001 10 " ∷ codes "001001 10# x" ∷ codes "001001  10" ∷ codes "001001 " ∷ codes "001001 x" ∷ codes "R 012101 MISSING" ∷ codes "064001 1" ∷ codes "01001 1"
+    ∷ (codes "205001 " ++ 34 ∷ 65 ∷ []) ∷ (codes "205001 " ++ 34 ∷ 92 ∷ codes "xfe" ++ 34 ∷ []) ∷ (codes "205001 " ++ 34 ∷ 9 ∷ 34 ∷ []) ∷ [])
+    ≡ Wrong ∷ Wrong ∷ Wrong ∷ Wrong ∷ Wrong ∷ Wrong ∷ Wrong ∷ Wrong ∷ Wrong ∷ Wrong ∷ Wrong ∷ [])
+    × (all_said (
+    [] ∷ codes "#" ∷ (35 ∷ 13 ∷ []) ∷ codes "local1 abCD" ∷ codes "section2 0102" ∷ codes "descriptors 001001 363255" ∷ codes "subset 01" ∷ codes "year 99999999999999999999999" ∷ [])
+    ≡ Passed ∷ Passed ∷ Passed ∷ Local1 (0xAB ∷ 0xCD ∷ []) ∷ Section2 (1 ∷ 2 ∷ []) ∷ Descriptors (257 ∷ 65535 ∷ []) ∷ Begins 1 ∷ Header 10 65536 ∷ [])
+    × (all_said (
+    (13 ∷ []) ∷ codes " " ∷ codes "message " ∷ codes "local1 ABC" ∷ codes "local1 " ∷ codes "local1" ∷ codes "descriptors" ∷ codes "descriptors  001001" ∷ codes "subset " ∷ codes "subset -1" ∷ codes "years 1" ∷ codes "end." ∷ [])
+    ≡ Wrong ∷ Wrong ∷ Wrong ∷ Wrong ∷ Wrong ∷ Wrong ∷ Wrong ∷ Wrong ∷ Wrong ∷ Wrong ∷ Wrong ∷ Wrong ∷ [])
+    -- runs of 32 octets and of 8 descriptors are the most
+    × (all_said (local1_line (replicate 32 255) ∷ local1_line (replicate 33 255) ∷ descriptors_line (replicate 8 257) ∷ descriptors_line (replicate 9 257) ∷ [])
+    ≡ Local1 (replicate 32 255) ∷ Wrong ∷ Descriptors (replicate 8 257) ∷ Wrong ∷ [])
+    -- 4,096 octets are the most, comment lines too
+    × (all_said ((35 ∷ replicate 4095 120) ∷ (35 ∷ replicate 4096 120) ∷ []) ≡ Passed ∷ Wrong ∷ [])
+    -- one space is after a descriptor, and no tab or second one
+    × (all_said (codes "001001 10" ∷ (codes "001001" ++ 9 ∷ codes "10") ∷ codes "001001  10" ∷ [] ∷ codes "  " ∷ (9 ∷ []) ∷ []) ≡ ten ∷ Wrong ∷ Wrong ∷ Passed ∷ Wrong ∷ Wrong ∷ [])
+    -- a carriage return is an octet of the line: it may come after `#` alone
+    × (all_said ((35 ∷ 13 ∷ []) ∷ (13 ∷ []) ∷ (codes "001001 10 #" ++ 13 ∷ []) ∷ (codes "001001 10" ++ 13 ∷ []) ∷ (codes "end" ++ 13 ∷ []) ∷ []) ≡ Passed ∷ Wrong ∷ ten ∷ Wrong ∷ Wrong ∷ [])
+    -- after a value, `#` comes after spaces, and nothing else comes
+    × (all_said (codes "001001 10 #" ∷ codes "001001 10    # x" ∷ codes "001001 10#" ∷ codes "001001 10 x" ∷ codes "001001 10 " ∷ codes " # x" ∷ []) ≡ ten ∷ ten ∷ Wrong ∷ Wrong ∷ Wrong ∷ Wrong ∷ [])
+    -- two digits of either case for an octet
+    × (all_said (codes "local1 0aF9" ∷ codes "local1 0aF" ∷ codes "local1 0g" ∷ codes "section2 ff" ∷ codes "section2 f" ∷ codes "local1  0a" ∷ codes "local1 0a " ∷ [])
+    ≡ Local1 (10 ∷ 249 ∷ []) ∷ Wrong ∷ Wrong ∷ Section2 (255 ∷ []) ∷ Wrong ∷ Wrong ∷ Wrong ∷ [])
+    -- a descriptor is six digits whose F, X and Y fit their bits, on every line
+    × (all_said (codes "descriptors 001001" ∷ codes "descriptors 0010010" ∷ codes "descriptors 00100" ∷ codes "descriptors 363255" ∷ codes "descriptors 364255" ∷ codes "descriptors 363256" ∷ codes "descriptors 463255" ∷ codes "363255 10" ∷ codes "363256 10" ∷ codes "0010010 10" ∷ [])
+    ≡ Descriptors (257 ∷ []) ∷ Wrong ∷ Wrong ∷ Descriptors (65535 ∷ []) ∷ Wrong ∷ Wrong ∷ Wrong ∷ Item 65535 (number_token (codes "10")) ∷ Wrong ∷ Wrong ∷ [])
+    -- in a text: escapes with upper-case digits, for any octet; nothing that cannot be printed; the
+    -- closing quote
+    × (all_said (
+    (codes "205001 " ++ 34 ∷ 92 ∷ codes "x41" ++ 34 ∷ []) ∷ (codes "205001 " ++ 34 ∷ 92 ∷ codes "xaf" ++ 34 ∷ []) ∷ (codes "205001 " ++ 34 ∷ 92 ∷ codes "n" ++ 34 ∷ []) ∷ (codes "205001 " ++ 34 ∷ 126 ∷ 34 ∷ []) ∷ (codes "205001 " ++ 34 ∷ 127 ∷ 34 ∷ [])
+    ∷ (codes "205001 " ++ 34 ∷ 254 ∷ 34 ∷ []) ∷ (codes "205001 " ++ 34 ∷ 65 ∷ []) ∷ (codes "205001 " ++ 34 ∷ 34 ∷ 34 ∷ []) ∷ [])
+    ≡ Item 0x8501 (text_form (65 ∷ [])) ∷ Wrong ∷ Wrong ∷ Item 0x8501 (text_form (126 ∷ [])) ∷ Wrong ∷ Wrong ∷ Wrong ∷ Wrong ∷ [])
+    -- lines of octets and of descriptors may be short in the middle; their kinds come in order
+    × (none_with (codes "local1 01" ∷ codes "local1 0203" ∷ codes "section2 04" ∷ codes "section2 0506" ∷ codes "descriptors 001001" ∷ codes "descriptors 012101 001001" ∷ codes "end" ∷ [])
+    ≡ Complete (record { line = 1; header = header_written; local1 = 1 ∷ 2 ∷ 3 ∷ []; section2 = 4 ∷ 5 ∷ 6 ∷ []; descriptors = 257 ∷ 0x0C65 ∷ 257 ∷ []; entries = [] }) ∷ [])
+    × (none_with (codes "section2 04" ∷ codes "local1 01" ∷ codes "end" ∷ []) ≡ Refused 23 NotAllowed ∷ [])
+    × (none_with (codes "descriptors 001001" ∷ codes "section2 04" ∷ codes "end" ∷ []) ≡ Refused 23 NotAllowed ∷ [])
+    × (centre_with (codes "centre 65535") ≡ Refused 22 SubsetCount ∷ [])
+    × (centre_with (codes "centre 65536") ≡ Refused 4 HeaderRange ∷ [])
+    × (centre_with (codes "centre 65536 ") ≡ Refused 4 NotAllowed ∷ [])
+    × (centre_with (codes "subcentre 65536") ≡ Refused 4 NotAllowed ∷ [])
+    × (none_with (codes "subset x" ∷ []) ≡ Refused 22 NotAllowed ∷ [])
+    × (none_with (codes "subset 1" ∷ []) ≡ Refused 22 SubsetCount ∷ [])
+    -- lines are counted on over documents; a comment between them is counted
+    × (documents_of (document_with (codes "centre 98") (codes "optional 1") (codes "subsets 0") (codes "end" ∷ codes "# x" ∷ []) ++ document_with (codes "centre 98") (codes "optional 1") (codes "subsets 0") (codes "end" ∷ []))
+    ≡ Complete (record { line = 1; header = header_written; local1 = []; section2 = []; descriptors = []; entries = [] }) ∷ Complete (record { line = 24; header = header_written; local1 = []; section2 = []; descriptors = []; entries = [] }) ∷ [])
+unfolding quoted line_of worded prefix_while suffix_while without_prefix fxy_read value_read quoted_read is_hashed place_from keys hex_read descriptors_read hex_text descriptors_text ten parse_lines lines_of turn
+lines_read = (refl, refl, refl, refl, refl, refl, refl, refl, refl, refl, refl, refl, refl, refl, refl, refl, refl, refl, refl, refl, refl, refl, refl)
+
+-- ---- The definitions computed on worked examples.
 
 abbrev the_head : Head
 the_head = record { edition = 4; master = 0; centre = 98; subcentre = 0; update = 0; category = 0; subcategory = 0; local_subcategory = 0; master_version = 14; local_version = 0; year = 2024; month = 1; day = 2; hour = 3; minute = 4; second = 5 }
@@ -42,10 +130,6 @@ the_text = text_of_lines (head_lines ++ item_lines)
 abbrev the_document : Document
 the_document = document_of 1 one_block_number block_number
 
-the_dump : dump_text_of one_block_number block_number ≡ the_text
-unfolding header_lines subset_lines item_entries subset_entries keys digits runs_after hex_text descriptors_text quoted decimal_text_of unsigned_text
-the_dump = refl
-
 abbrev the_document_written : Document
 the_document_written = record {
   line = 1;
@@ -56,67 +140,9 @@ the_document_written = record {
   entries = Holds (draft 24 257 (number_token (codes "10"))) ∷ Ends 25 ∷ [];
 }
 
-as_document : the_document ≡ the_document_written
-unfolding header_lines subset_lines item_entries subset_entries keys digits runs_after hex_text descriptors_text quoted decimal_text_of unsigned_text
-as_document = refl
-
--- rule: reading-subset-end
-read_back : documents_of the_text ≡ Complete the_document_written ∷ []
-unfolding parse_lines lines_of turn line_of worded prefix_while suffix_while place_from keys without_prefix descriptors_read fxy_read value_read quoted_read hex_read is_hashed
-read_back = refl
-
-read_openly : open_documents_of the_text ≡ Complete the_document_written ∷ []
-unfolding parse_open_lines split_of turn line_of worded prefix_while suffix_while place_from keys without_prefix descriptors_read fxy_read value_read quoted_read hex_read is_hashed
-read_openly = refl
-
 -- an empty line and a note before the subset, and no comment
 abbrev noted_document : Document
 noted_document = record the_document_written { entries = Holds (draft 26 257 (number_token (codes "10"))) ∷ Ends 27 ∷ [] }
-
--- rule: reading-empty-lines
-noted : documents_of (text_of_lines (head_lines ++ [] ∷ codes "# note" ∷ codes "subset 1" ∷ codes "001001 10" ∷ codes "end" ∷ [])) ≡ Complete noted_document ∷ []
-unfolding parse_lines lines_of turn line_of worded prefix_while suffix_while place_from keys without_prefix descriptors_read fxy_read value_read quoted_read hex_read is_hashed
-noted = refl
-
--- rule: fault-50
-not_a_number : documents_of (text_of_lines (head_lines ++ [] ∷ codes "# note" ∷ codes "subset 1" ∷ codes "001001 x" ∷ codes "end" ∷ [])) ≡ Refused 26 NotAllowed ∷ []
-unfolding parse_lines lines_of turn line_of worded prefix_while suffix_while place_from keys without_prefix descriptors_read fxy_read value_read quoted_read hex_read is_hashed
-not_a_number = refl
-
--- rule: fault-61
-centre_past_its_range : documents_of (text_of_lines (head_with (codes "centre 65536") (codes "subsets 1") ++ item_lines)) ≡ Refused 4 HeaderRange ∷ []
-unfolding parse_lines lines_of turn line_of worded prefix_while suffix_while place_from keys without_prefix descriptors_read fxy_read value_read quoted_read hex_read is_hashed
-centre_past_its_range = refl
-
--- rule: reading-subsets, fault-57
-one_subset_of_two : documents_of (text_of_lines (head_with (codes "centre 98") (codes "subsets 2") ++ item_lines)) ≡ Refused 25 SubsetCount ∷ []
-unfolding parse_lines lines_of turn line_of worded prefix_while suffix_while place_from keys without_prefix descriptors_read fxy_read value_read quoted_read hex_read is_hashed
-one_subset_of_two = refl
-
--- rule: fault-50, input-ends-early
-cut_after_24 : documents_of (text_of_lines (take 24 (head_lines ++ item_lines))) ≡ Refused 25 NotAllowed ∷ []
-unfolding parse_lines lines_of turn line_of worded prefix_while suffix_while place_from keys without_prefix descriptors_read fxy_read value_read quoted_read hex_read is_hashed
-cut_after_24 = refl
-
-open_after_24 : open_documents_of (text_of_lines (take 24 (head_lines ++ item_lines))) ≡ []
-unfolding parse_open_lines split_of turn line_of worded prefix_while suffix_while place_from keys without_prefix descriptors_read fxy_read value_read quoted_read hex_read is_hashed
-open_after_24 = refl
-
--- the last line may lack its line feed; while the end is not known it is not whole
--- rule: reading-last-line
-last_feed_lacks : documents_of (text_of_lines (head_lines ++ take 2 item_lines) ++ codes "end") ≡ Complete the_document_written ∷ []
-unfolding parse_lines lines_of turn line_of worded prefix_while suffix_while place_from keys without_prefix descriptors_read fxy_read value_read quoted_read hex_read is_hashed
-last_feed_lacks = refl
-
-last_feed_lacks_openly : open_documents_of (text_of_lines (head_lines ++ take 2 item_lines) ++ codes "end") ≡ []
-unfolding parse_open_lines split_of turn line_of worded prefix_while suffix_while place_from keys without_prefix descriptors_read fxy_read value_read quoted_read hex_read is_hashed
-last_feed_lacks_openly = refl
-
--- between documents only `message` may come
--- rule: reading-between-documents
-second_document : documents_of (the_text ++ text_of_lines (codes "centre 98" ∷ [])) ≡ Complete the_document_written ∷ Refused 26 NotAllowed ∷ []
-unfolding parse_lines lines_of turn line_of worded prefix_while suffix_while place_from keys without_prefix descriptors_read fxy_read value_read quoted_read hex_read is_hashed
-second_document = refl
 
 -- the lines of a document of edition 3, with these for `edition`, `centre` and `second`
 abbrev lines_3 : (edition centre second : List ℕ) → List (List ℕ)
@@ -135,34 +161,6 @@ document_3 = record {
   descriptors = 257 ∷ [];
   entries = Holds (draft 25 257 (number_token (codes "10"))) ∷ Ends 26 ∷ [];
 }
-
--- edition 3: its ranges are what one octet holds, and 0 for what it lacks
-edition_3 : documents_of (text_of_lines (lines_3 (codes "edition 3") (codes "centre 98") (codes "second 0") ++ item_lines)) ≡ Complete document_3 ∷ []
-unfolding parse_lines lines_of turn line_of worded prefix_while suffix_while place_from keys without_prefix descriptors_read fxy_read value_read quoted_read hex_read is_hashed
-edition_3 = refl
-
--- rule: reading-header-ranges
-edition_3_centre : documents_of (text_of_lines (lines_3 (codes "edition 3") (codes "centre 256") (codes "second 0") ++ item_lines)) ≡ Refused 4 HeaderRange ∷ []
-unfolding parse_lines lines_of turn line_of worded prefix_while suffix_while place_from keys without_prefix descriptors_read fxy_read value_read quoted_read hex_read is_hashed
-edition_3_centre = refl
-
-edition_3_second : documents_of (text_of_lines (lines_3 (codes "edition 3") (codes "centre 98") (codes "second 5") ++ item_lines)) ≡ Refused 17 HeaderRange ∷ []
-unfolding parse_lines lines_of turn line_of worded prefix_while suffix_while place_from keys without_prefix descriptors_read fxy_read value_read quoted_read hex_read is_hashed
-edition_3_second = refl
-
-edition_2 : documents_of (text_of_lines (lines_3 (codes "edition 2") (codes "centre 98") (codes "second 0") ++ item_lines)) ≡ Refused 2 HeaderRange ∷ []
-unfolding parse_lines lines_of turn line_of worded prefix_while suffix_while place_from keys without_prefix descriptors_read fxy_read value_read quoted_read hex_read is_hashed
-edition_2 = refl
-
-edition_5 : documents_of (text_of_lines (lines_3 (codes "edition 5") (codes "centre 98") (codes "second 0") ++ item_lines)) ≡ Refused 2 HeaderRange ∷ []
-unfolding parse_lines lines_of turn line_of worded prefix_while suffix_while place_from keys without_prefix descriptors_read fxy_read value_read quoted_read hex_read is_hashed
-edition_5 = refl
-
--- a document of edition 4 that says edition 3 is refused at its year
--- rule: reading-header-ranges
-year_of_edition_4 : documents_of (text_of_lines (codes "message" ∷ codes "edition 3" ∷ drop 2 head_lines ++ item_lines)) ≡ Refused 12 HeaderRange ∷ []
-unfolding parse_lines lines_of turn line_of worded prefix_while suffix_while place_from keys without_prefix descriptors_read fxy_read value_read quoted_read hex_read is_hashed
-year_of_edition_4 = refl
 
 -- the head of edition 4 fits its octets
 the_head_fits : IsFitting the_head
@@ -196,4 +194,145 @@ one_is_dumpable = record {
   few = omega arith;
   counted = refl;
   items = ((record { word = omega arith; value = (omega arith, omega arith); comment = (record { printed = refl; short = omega arith }, record { printed = refl; short = omega arith }) }, tt), tt);
+}
+
+-- rule: reading-subset-end, reading-empty-lines, fault-50, fault-61, reading-subsets, fault-57
+-- rule: input-ends-early, reading-last-line, reading-between-documents, reading-header-ranges
+documents_read :
+    (dump_text_of one_block_number block_number ≡ the_text)
+    × (the_document ≡ the_document_written)
+    × (documents_of the_text ≡ Complete the_document_written ∷ [])
+    × (open_documents_of the_text ≡ Complete the_document_written ∷ [])
+    × (documents_of (text_of_lines (head_lines ++ [] ∷ codes "# note" ∷ codes "subset 1" ∷ codes "001001 10" ∷ codes "end" ∷ [])) ≡ Complete noted_document ∷ [])
+    × (documents_of (text_of_lines (head_lines ++ [] ∷ codes "# note" ∷ codes "subset 1" ∷ codes "001001 x" ∷ codes "end" ∷ [])) ≡ Refused 26 NotAllowed ∷ [])
+    × (documents_of (text_of_lines (head_with (codes "centre 65536") (codes "subsets 1") ++ item_lines)) ≡ Refused 4 HeaderRange ∷ [])
+    × (documents_of (text_of_lines (head_with (codes "centre 98") (codes "subsets 2") ++ item_lines)) ≡ Refused 25 SubsetCount ∷ [])
+    × (documents_of (text_of_lines (take 24 (head_lines ++ item_lines))) ≡ Refused 25 NotAllowed ∷ [])
+    × (open_documents_of (text_of_lines (take 24 (head_lines ++ item_lines))) ≡ [])
+    -- the last line may lack its line feed; while the end is not known it is not whole
+    × (documents_of (text_of_lines (head_lines ++ take 2 item_lines) ++ codes "end") ≡ Complete the_document_written ∷ [])
+    × (open_documents_of (text_of_lines (head_lines ++ take 2 item_lines) ++ codes "end") ≡ [])
+    -- between documents only `message` may come
+    × (documents_of (the_text ++ text_of_lines (codes "centre 98" ∷ [])) ≡ Complete the_document_written ∷ Refused 26 NotAllowed ∷ [])
+    -- edition 3: its ranges are what one octet holds, and 0 for what it lacks
+    × (documents_of (text_of_lines (lines_3 (codes "edition 3") (codes "centre 98") (codes "second 0") ++ item_lines)) ≡ Complete document_3 ∷ [])
+    × (documents_of (text_of_lines (lines_3 (codes "edition 3") (codes "centre 256") (codes "second 0") ++ item_lines)) ≡ Refused 4 HeaderRange ∷ [])
+    × (documents_of (text_of_lines (lines_3 (codes "edition 3") (codes "centre 98") (codes "second 5") ++ item_lines)) ≡ Refused 17 HeaderRange ∷ [])
+    × (documents_of (text_of_lines (lines_3 (codes "edition 2") (codes "centre 98") (codes "second 0") ++ item_lines)) ≡ Refused 2 HeaderRange ∷ [])
+    × (documents_of (text_of_lines (lines_3 (codes "edition 5") (codes "centre 98") (codes "second 0") ++ item_lines)) ≡ Refused 2 HeaderRange ∷ [])
+    -- a document of edition 4 that says edition 3 is refused at its year
+    × (documents_of (text_of_lines (codes "message" ∷ codes "edition 3" ∷ drop 2 head_lines ++ item_lines)) ≡ Refused 12 HeaderRange ∷ [])
+unfolding header_lines subset_lines item_entries subset_entries keys digits runs_after hex_text descriptors_text quoted decimal_text_of unsigned_text parse_lines lines_of turn line_of worded prefix_while suffix_while place_from without_prefix descriptors_read fxy_read value_read quoted_read hex_read is_hashed parse_open_lines split_of
+documents_read = (refl, refl, refl, refl, refl, refl, refl, refl, refl, refl, refl, refl, refl, refl, refl, refl, refl, refl, refl)
+
+-- ---- The listing line computed on a message.
+
+-- a message whose values all differ, so that each is in its place
+abbrev all_different : Sections
+all_different = record {
+  head = record { edition = 4; master = 11; centre = 1234; subcentre = 56; update = 7; category = 8; subcategory = 9; local_subcategory = 10; master_version = 12; local_version = 13; year = 987; month = 14; day = 15; hour = 232; minute = 6; second = 0 };
+  local1 = [];
+  section2 = Some [];
+  descriptors = 1 ∷ 2 ∷ 3 ∷ [];
+  subsets = 65535;
+  observed = false;
+  compressed = true;
+  payload = [];
+  size = 77;
+}
+
+-- rule: listing-line, listing-offset-and-length, listing-time, listing-flags
+different-listed : ls_line 4294967296 all_different ≡ codes "offset=4294967296 length=77 edition=4 centre=1234/56 update=7 category=8/9/10 tables=11/12/13 time=0987-14-15T232:06:00 subsets=65535 observed=0 compressed=1 optional=1 descriptors=3\n"
+unfolding digits
+different-listed = refl
+
+-- ---- Documents that lines can spell, each beside its nearest wrong neighbour, and the lines of one.
+
+-- ---- documents that lines can spell
+
+one_item : IsProper (document 0 1 (257 ∷ []) (number 24 257 (codes "10") ∷ Ends 25 ∷ []))
+unfolding document number keys
+one_item = record {
+  headed = record { whole = refl; ranges = refl };
+  local1 = tt;
+  section2 = tt;
+  no_section2 = λ e. refl;
+  descriptors = (omega arith, tt);
+  texts = ((tt, tt), tt);
+  counted = refl;
+  ended = tt;
+}
+
+-- a subset less than `subsets` says
+one_of_two : IsProper (document 0 2 (257 ∷ []) (number 24 257 (codes "10") ∷ Ends 25 ∷ [])) → ⊥
+unfolding document number
+one_of_two h = omega (arith, h.counted)
+
+-- an item after the end of the last subset
+no_end : AreEnded (Ends 24 ∷ number 25 257 (codes "10") ∷ []) → ⊥
+unfolding number
+no_end h = h
+
+-- an octet of local use that is none
+past_an_octet : (d : Document) → IsProper (record d { local1 = 256 ∷ [] }) → ⊥
+past_an_octet d h = omega (arith, h.local1.0)
+
+some-none : (x : ℕ) (more : List ℕ) → x ∷ more ≡ [] → ⊥
+some-none x more e = cc
+
+-- octets of section 2, where `optional` is 0
+no_section2 : IsProper (record (document 0 0 [] []) { section2 = 1 ∷ [] }) → ⊥
+unfolding document
+no_section2 h = some-none 1 [] (h.no_section2 refl)
+
+-- ---- lines that are heard
+
+-- comments and empty lines are counted, and passed over
+passed_over : numbered_lines 21 (codes "# x" ∷ [] ∷ codes "subset 1" ∷ codes "001001 10  # x" ∷ codes "end" ∷ codes "x" ∷ [])
+    ≡ numbered_line 23 (Begins 1) ∷ numbered_line 24 (Item 257 (number_token (codes "10"))) ∷ numbered_line 25 Closes ∷ numbered_line 26 Wrong ∷ []
+unfolding numbered_lines line_of worded prefix_while suffix_while without_prefix fxy_read value_read is_hashed place_from keys
+passed_over = refl
+
+abbrev subset_at : (at : ℕ) → SubsetHeard
+subset_at at = record { at = at; items = record { at = at + 1; fxy = 257; form = number_token (codes "10") } ∷ [] }
+
+-- a subset ends on the line that begins the next one, and the last on `end`
+two_ends : entries_heard (subset_at 23 ∷ subset_at 25 ∷ []) 27 ≡ number 24 257 (codes "10") ∷ Ends 25 ∷ number 26 257 (codes "10") ∷ Ends 27 ∷ []
+unfolding number
+two_ends = refl
+
+-- subsets are numbered from one on
+two_subsets : subsets_heard 1 (subset_at 23 ∷ subset_at 25 ∷ [])
+    ≡ numbered_line 23 (Begins 1) ∷ numbered_line 24 (Item 257 (number_token (codes "10"))) ∷ numbered_line 25 (Begins 2) ∷ numbered_line 26 (Item 257 (number_token (codes "10"))) ∷ []
+two_subsets = refl
+
+-- ---- the lines of a document
+
+abbrev header_heard : List NumberedLine
+header_heard =
+    numbered_line 2 (Header 0 4) ∷ numbered_line 3 (Header 1 0) ∷ numbered_line 4 (Header 2 98) ∷ numbered_line 5 (Header 3 0) ∷ numbered_line 6 (Header 4 0)
+    ∷ numbered_line 7 (Header 5 0) ∷ numbered_line 8 (Header 6 0) ∷ numbered_line 9 (Header 7 0) ∷ numbered_line 10 (Header 8 14) ∷ numbered_line 11 (Header 9 0)
+    ∷ numbered_line 12 (Header 10 2024) ∷ numbered_line 13 (Header 11 1) ∷ numbered_line 14 (Header 12 2) ∷ numbered_line 15 (Header 13 3) ∷ numbered_line 16 (Header 14 4)
+    ∷ numbered_line 17 (Header 15 5) ∷ numbered_line 18 (Header 16 1) ∷ numbered_line 19 (Header 17 0) ∷ numbered_line 20 (Header 18 0) ∷ numbered_line 21 (Header 19 1) ∷ []
+
+one_document : IsDocument (document 0 1 (257 ∷ []) (number 24 257 (codes "10") ∷ Ends 25 ∷ []))
+    (numbered_line 1 Opens ∷ header_heard ++ numbered_line 22 (Descriptors (257 ∷ [])) ∷ numbered_line 23 (Begins 1) ∷ numbered_line 24 (Item 257 (number_token (codes "10"))) ∷ numbered_line 25 Closes ∷ [])
+unfolding document number
+one_document = record {
+  header = header_heard;
+  local1 = [];
+  section2 = [];
+  descriptors = (257 ∷ []) ∷ [];
+  written = numbered_line 22 (Descriptors (257 ∷ [])) ∷ [];
+  subsets = subset_at 23 ∷ [];
+  end = 25;
+  are = refl;
+  in_order = refl;
+  parts = refl;
+  local1_is = refl;
+  section2_is = refl;
+  descriptors_are = refl;
+  flagged = inl refl;
+  counted = refl;
+  entries = refl;
 }

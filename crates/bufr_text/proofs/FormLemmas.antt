@@ -1,54 +1,31 @@
 -- The document of an accepted message is encoded in a form; a canonical one to the same octets.
-use Rattle.std.proofs.Common.{◌≡◌, ℕ, zero, suc, ◌+◌, ◌≤◌, Bool, true, false, List, [], ◌∷◌, ◌++◌, length, take, drop, map, Result, Ok, Err, refl, sym, ◌∙◌, ap, subst, arith, append_assoc, ◌⊎◌, inl, inr, ◌*◌, ◌/◌, Some}
-use Rattle.std.specs.Prelude.{nat_lt, if◌then◌else◌, flat_map, Vec, IfOk, IfErr}
+use Rattle.std.proofs.Common.{◌≡◌, ℕ, zero, suc, ◌+◌, ◌≤◌, Bool, true, false, List, [], ◌∷◌, ◌++◌, length, take, drop, map, Result, Ok, Err, refl, sym, ◌∙◌, ap, subst, arith, append_assoc, ◌⊎◌, inl, inr, ◌*◌, ◌/◌, Some, nat_lt, if◌then◌else◌, flat_map, Vec, IfOk, IfErr}
 use Rattle.std.proofs.lemmas.Bool.Decides.{nat_tests}
-use Rattle.std.proofs.lemmas.List.{length-append, length-take-le, length-drop, take_at, take-append-drop}
-use Rattle.bufr_bits.specs.Bits.{bits_of, padding}
-use Rattle.bufr_tables.specs.TableB.{Row, AreRows}
-use Rattle.bufr_tables.specs.TableD.{Sequence}
-use Rattle.bufr_tables.specs.Tree.{Tree}
-use Rattle.bufr_tables.specs.Expansion.{IsLegal, tables_of, tree_of}
-use Rattle.bufr_walk.specs.FieldSpec.{FieldSpec, IsSpec}
-use Rattle.bufr_walk.specs.Content.{Content, content_in, bits_for, FieldFault, data_end, FieldRead, found, plain_field}
-use Rattle.bufr_walk.specs.Course.{Course, next_item}
-use Rattle.bufr_walk.specs.Reading.{Item, plain, packed, ReadsItems, ReadsPass, ReadsSubsets, IsPackedReading, after, apart, together, Values, IsReading, max_values, IsPlainReading}
-use Rattle.bufr_fill.specs.DraftContent.{IsMinusZero, plain_filler, plainly, content_of}
-use Rattle.bufr_fill.specs.Filling.{WrittenItem, written_item, Filler, fill, fill_none}
-use Rattle.bufr_fill.specs.Faults.{FaultAt, at_line, too_many_values}
-use Rattle.bufr_fill.specs.Draft.{Subset, subsets_of, Draft, DraftEntry}
-use Rattle.bufr_fill.specs.Encoding.{plain_data, ◌>>=◌, ItemRow, RowCell, rows, longest, are_many, packed_filler, packed_data, pack_across, packed_to, contents_here, first_line}
-use Rattle.bufr_fill.specs.RoundTrip.{AreDrafts, AreDumped, IsDumped, AreDumpedFrom, subsets_from, IsUnlike, IsTogetherOrNot}
+use Rattle.std.proofs.lemmas.List.{take-append-drop}
+use Rattle.bufr_bits.specs.Prelude.{bits_of, padding}
+use Rattle.bufr_tables.specs.Prelude.{Row, AreRows, Sequence, Tree, IsLegal, tables_of, Record}
+use Rattle.bufr_walk.specs.Prelude.{FieldSpec, IsSpec, Content, content_in, bits_for, FieldFault, FieldRead, found, plain_field, Course, next_item, Item, plain, packed, ReadsItems, ReadsPass, ReadsSubsets, IsPackedReading, after, apart, together, Values, IsReading, max_values, IsPlainReading, data_of, content_at}
+use Rattle.bufr_fill.specs.Prelude.{IsMinusZero, content_of, plain_filler, plainly, written_item, Filler, fill, fill_none, plain_data, ◌>>=◌, ItemRow, RowCell, rows, longest, are_many, packed_filler, packed_data, pack_across, packed_to, contents_here, first_line, packing, FaultAt, at_line, too_many_values, Subset, subsets_of, Draft, DraftEntry, AreDrafts, AreDumped, IsDumped, AreDumpedFrom, subsets_from, IsUnlike, IsTogetherOrNot}
 use Rattle.bufr_fill.proofs.PlainLaws.{AllSpecs, EachSpecs, draft_again, plain_read, same_draft, same_bits, IsDumpedAcross, HaveContents, join}
-use Rattle.bufr_walk.specs.Refusal.{data_of}
-use Rattle.bufr_frame.specs.Layout.{with_even_length, message_octets, message_size, max_octets, MessageParts, parts_of, sections_from}
-use Rattle.bufr_frame.specs.Sections.{Sections, sections_of}
+use Rattle.bufr_frame.specs.Prelude.{with_even_length, message_octets, message_size, max_octets, MessageParts, parts_of, sections_from, Sections, sections_of}
 use Rattle.bufr_frame.proofs.AgainLemmas.{not-too-long, written-again, fitting-writable}
 use Rattle.bufr_frame.proofs.LayoutLemmas.{even-least, written-even, length-evened, evened-bits, read-back}
-use Rattle.bufr_fill.specs.Packing.{packing}
 use Rattle.bufr_fill.proofs.SpecLemmas.{AreGoodRows}
 use Rattle.bufr_fill.proofs.WholeLaws.{rows_dumped, template_apart, template_together, plain_template_again, packed_template_again}
 use Rattle.bufr_fill.proofs.GoodReads.{template_good, plain_specs, packed_specs}
 use Rattle.bufr_fill.proofs.PackedLaws.{packed_count}
 use Rattle.bufr_fill.proofs.FormLaws.{packed_rewritten}
-use Rattle.bufr_text.specs.Dump.{subset_entries, document_of, lines_before, items_apart, compressed_dump_subsets, DumpItem, compressed_dump_items, dump_text_of}
-use Rattle.bufr_text.specs.RoundTrip.{IsAccepted, dump_items_in, HaveNoMinusZero, ArePacked, AreWritten, IsCanonical, IsEncodedAgain, each_subset, HasReadingIn, IsForForm, IsFormed, IsFaultIn, EncodesForm}
-use Rattle.bufr_text.specs.Encoding.{data_bits, octets_of_bits, parts_of_document, encoding_of, by_item, too_long, RefusedAt, refused_at, report_of_items, parts_as, compressed_as, message_of, encoding_in, IsDocumentRefusal, reported_refusal, compressed_by, form_of_flag}
-use Rattle.bufr_text.specs.Documents.{compressed_in, Document}
-use Rattle.bufr_text.proofs.RoundTripLemmas.{all_apart, all_together, encoded_to, parts_back, parts_with, size_least, fills_as, bit_back, section2_back, padded, payload_bits, size_is, enough, suffix, encoded_again, as_written, no_data, octets_small, framed}
+use Rattle.bufr_text.specs.Prelude.{subset_entries, document_of, lines_before, items_apart, compressed_dump_subsets, DumpItem, compressed_dump_items, IsAccepted, dump_items_in, HaveNoMinusZero, ArePacked, AreWritten, IsCanonical, IsEncodedAgain, each_subset, HasReadingIn, IsForForm, IsFormed, IsFaultIn, EncodesForm, data_bits, octets_of_bits, parts_of_document, encoding_of, by_item, too_long, RefusedAt, refused_at, report_of_items, parts_as, compressed_as, message_of, encoding_in, IsDocumentRefusal, reported_refusal, compressed_by, form_of_flag, compressed_in, Document, DocumentFault, Form}
+use Rattle.bufr_text.proofs.RoundTripLemmas.{all_apart, all_together, encoded_to, parts_back, parts_with, size_least, fills_as, bit_back, section2_back, padded, payload_bits, size_is, enough, suffix, encoded_again, as_written, no_data, octets_small, framed, octets_are, sections_given, rows-read, good-rows}
 use Rattle.std.specs.Global.{Global}
 use Rattle.bufr_bits.proofs.BitLemmas.{length-bits_of}
 use Rattle.bufr_tables.proofs.SoundLemmas.{tree_fine}
-use Rattle.bufr_tables.specs.Records.{Record}
-use Rattle.bufr_walk.specs.Calls.{content_at}
 use Rattle.bufr_fill.proofs.FieldLemmas.{octets_in-are}
-use Rattle.bufr_text.specs.declared.fault.DocumentFault.{DocumentFault}
-use Rattle.bufr_text.specs.declared.encode.Form.{Form}
-use Rattle.bufr_text.proofs.DumpableLemmas.{octets_are, sections_given}
-use Rattle.bufr_text.proofs.RowsLemmas.{rows-read, good-rows}
 use Rattle.bufr_frame.specs.Layout as layout
 use Rattle.bufr_walk.specs.Reading as reading
 use Rattle.bufr_fill.specs.RoundTrip as again
 use Rattle.bufr_text.specs.declared.encode.Form.TheVariants as form
+use Rattle.std.proofs.lemmas.Grind.{common_steps}
 
 -- ---- A canonical message is encoded to the same octets.
 
@@ -63,20 +40,10 @@ record IsTaken (spec : FieldSpec) (bits mid : List Bool) (c : Content) : Type 0 
   enough : length (take spec.width bits) ≡ spec.width
 
 field_taken : (spec : FieldSpec) (bits mid : List Bool) (c : Content) → plain_field spec bits ≡ Ok (found c mid) → IsTaken spec bits mid c
-field_taken spec bits mid c e = by (nat_lt (length bits) spec.width) refl e
-  where
-    at : (a b : ℕ) → nat_lt a b ≡ false → b ≤ a
-    at a b h = grind (arith, nat_tests)
-
-    by : (b : Bool) → nat_lt (length bits) spec.width ≡ b → (if b then Err data_end else Ok (found (content_in spec (take spec.width bits)) (drop spec.width bits))) ≡ Ok (found c mid) → IsTaken spec bits mid c
-    by true p q = absurd cc
-    by false p q = let f = same_found _ _ q in record { is = ap (λ (x : FieldRead Content). x.content) f; suffix = ap (λ (x : FieldRead Content). x.suffix) f; enough = length-take-le spec.width bits (at (length bits) spec.width p) }
+field_taken spec bits mid c h1 = grind (arith, nat_tests, common_steps)
 
 field_bits : (spec : FieldSpec) → IsSpec spec → (bits mid : List Bool) (c : Content) → IsTaken spec bits mid c → (IsMinusZero spec.role (take spec.width bits) → ⊥) → bits ≡ bits_for spec.width c ++ mid
-field_bits spec good bits mid c t plus =
-    sym (take-append-drop spec.width bits)
-    ∙ ap (λ x. x ++ drop spec.width bits) (sym (same_bits spec good (take spec.width bits) t.enough plus) ∙ ap (bits_for spec.width) t.is)
-    ∙ ap (λ x. bits_for spec.width c ++ x) t.suffix
+field_bits spec h1 bits mid c h2 h3 = grind (arith, nat_tests, common_steps, take-append-drop, same_bits, enough, suffix)
 
 -- ---- the items of one subset
 
@@ -137,15 +104,9 @@ subsets_filled course (items ∷ subsets) (s ∷ ss) bits suffix specs dumped h 
 same_bits_ok : (a b : List Bool) → ◌≡◌ {A = Result (List Bool) FieldFault} (Ok a) (Ok b) → a ≡ b
 same_bits_ok a b e = cc
 
-same_written : (a b : WrittenItem (List Content)) → ◌≡◌ {A = Result (WrittenItem (List Content)) FaultAt} (Ok a) (Ok b) → a ≡ b
-same_written a b e = cc
-
 -- what is packed is the packing of its contents
 packs_as : (spec : FieldSpec) (cs : List Content) (cells : List RowCell) (xs : List Content) (out : List Bool) (p : Result (List Bool) FieldFault) → packing spec xs ≡ p → packed_to xs cells p ≡ Ok (written_item cs out) → packing spec cs ≡ Ok out
-packs_as spec cs cells xs out (Ok bits) e q =
-    let w = same_written (written_item xs bits) (written_item cs out) q in
-    ap (packing spec) (sym (ap (λ (x : WrittenItem (List Content)). x.content) w)) ∙ e ∙ ap (λ (x : WrittenItem (List Content)). Ok x.bits) w
-packs_as spec cs cells xs out (Err why) e q = absurd cc
+packs_as spec cs cells xs out p h1 h2 = grind (arith, nat_tests, common_steps)
 
 packed_as : (spec : FieldSpec) (cs : List Content) (a : ItemRow) (out : List Bool) → pack_across spec a ≡ Ok (written_item cs out) → packing spec cs ≡ Ok out
 packed_as spec cs a out e = by (are_many a.place (length a.cells)) (contents_here spec a.cells) e
@@ -211,9 +172,7 @@ within_data table template s (apart subsets) used h = h.1
 within_data table template s (together items) used h = h.1
 
 prefix_is : (bits out : List Bool) (used : ℕ) → used ≤ length bits → bits ≡ out ++ drop used bits → out ≡ take used bits
-prefix_is bits out used few e =
-    let l : length out ≡ used = omega (arith, ap length e, length-append out (drop used bits), length-drop used bits, few) in
-    sym (ap (take used) e ∙ take_at out (drop used bits) used l)
+prefix_is bits out used h1 h2 = grind (arith, nat_tests, common_steps)
 
 pub canonical_encoded : (table : List Row) (sequences : List Sequence) (m : List ℕ) (s : Sections) (template : Tree) (values : Values) (used at : ℕ) → AreGoodRows table → IsLegal template
     → IsAccepted table sequences m s template values used → IsCanonical m s values used → encoding_of table sequences (document_of at s (dump_items_in table template s values)) ≡ Ok m
@@ -261,19 +220,11 @@ items_each table template s (together items) = apart_subsets table s.subsets 0 i
 -- how the bits that are written are read
 pub plain_reading : (course : Course) (subsets : List (List (reading.Item Content))) (n : ℕ) (out : List Bool) → ((more : List Bool) → IsPlainReading n course subsets (out ++ more) more) → (octets : List ℕ) (more : List Bool) → bits_of octets ≡ out ++ more
     → IsReading course (record { compressed = false; subsets = n; bits = bits_of octets }) (apart subsets) (length out)
-plain_reading course subsets n out w octets more e = (
-  refl,
-  enough out more (bits_of octets) e,
-  subst (λ b. IsPlainReading n course subsets b (drop (length out) (bits_of octets))) (sym e) (subst (λ b. IsPlainReading n course subsets (out ++ more) b) (sym (suffix out more (bits_of octets) e)) (w more)),
-)
+plain_reading course subsets n out h1 octets more h2 = grind (arith, nat_tests, common_steps)
 
 pub packed_reading : (course : Course) (items : List (reading.Item (List Content))) (n : ℕ) (out : List Bool) → ((more : List Bool) → IsPackedReading n course items (out ++ more) more) → (octets : List ℕ) (more : List Bool) → bits_of octets ≡ out ++ more
     → IsReading course (record { compressed = true; subsets = n; bits = bits_of octets }) (together items) (length out)
-packed_reading course items n out w octets more e = (
-  refl,
-  enough out more (bits_of octets) e,
-  subst (λ b. IsPackedReading n course items b (drop (length out) (bits_of octets))) (sym e) (subst (λ b. IsPackedReading n course items (out ++ more) b) (sym (suffix out more (bits_of octets) e)) (w more)),
-)
+packed_reading course items n out h1 octets more h2 = grind (arith, nat_tests, common_steps)
 
 -- the bits that are written for a message's values in a form, and what is read from them
 record IsFilled (b : Bool) (table : List Row) (template : Tree) (s : Sections) (values : Values) (entries : List DraftEntry) : Type 0 where
@@ -421,21 +372,7 @@ not_written table sequences m s template values used at a f =
 
 as_it_is : (table : List Row) (m : List ℕ) (s : Sections) (template : Tree) (values : Values) (used at : ℕ) (sequences : List Sequence) → length m ≤ max_octets → IsEncodedAgain table sequences m s template values (document_of at s (dump_items_in table template s values))
     → IsFormed form.AsWritten table s template values (encoding_in form.AsWritten table sequences (document_of at s (dump_items_in table template s values)))
-as_it_is table m s template values used at sequences few e =
-    let h = e.same in
-    subst (IsFormed form.AsWritten table s template values) (sym e.is) (record {
-      few = h.few;
-      octets = h.octets;
-      framed = h.framed;
-      sections = h.sections;
-      are = h.are;
-      same = h.same;
-      found = values;
-      used = h.used;
-      read = h.read;
-      each = refl;
-      items = items_each table template h.sections values ∙ ap (λ n. map (items_apart table) (each_subset n values)) h.same.subsets ∙ sym (items_each table template s values);
-    })
+as_it_is table m s template values used at sequences h1 h2 = grind (arith, nat_tests, common_steps)
 
 -- the document of an accepted message, in each form
 pub formed : (form : Form) (table : List Row) (sequences : List Sequence) (m : List ℕ) (s : Sections) (template : Tree) (values : Values) (used at : ℕ) → AreGoodRows table → IsLegal template → IsAccepted table sequences m s template values used
@@ -455,10 +392,7 @@ formed form.Compressed table sequences m s template values used at rows legal a 
 
 -- what is answered is what the definition says
 pub answered : (form : Form) (table : List Row) (s : Sections) (template : Tree) (values : Values) (defined : Result (List ℕ) RefusedAt) (why : DocumentFault) → IsFormed form table s template values defined → IsDocumentRefusal (reported_refusal why) defined → IsFaultIn form why
-answered form table s template values defined why h r = λ f q. refused f (subst (λ o. IsDocumentRefusal o defined) q r)
-  where
-    refused : (f : RefusedAt) → defined ≡ Err f → IsForForm form f.why
-    refused f e = subst (IsFormed form table s template values) e h
+answered form table s template values defined why h1 h2 = grind (arith, nat_tests, common_steps)
 
 pub answered_well : (form : Form) (table : List Row) (s : Sections) (template : Tree) (values : Values) (defined : Result (List ℕ) RefusedAt) (octets : List ℕ) → IsFormed form table s template values defined → defined ≡ Ok octets → HasReadingIn form table s template values octets
 answered_well form table s template values defined octets h e = subst (IsFormed form table s template values) e h
@@ -477,34 +411,6 @@ form_so form table s template values defined (Err why) ok err h = answered form 
 
 -- A message in another form is accepted, and its dump text differs in the flag alone. From it a
 -- canonical message comes back in its own form.
-
-pub formed_accepted : (form : Form) (table : List Row) (sequences : List Sequence) (m : List ℕ) (s : Sections) (template : Tree) (values : Values) (used : ℕ) (octets : List ℕ)
-    → IsAccepted table sequences m s template values used → (again : HasReadingIn form table s template values octets) → IsAccepted table sequences octets again.sections template again.found again.used
-formed_accepted form table sequences m s template values used octets a h = record {
-  octets = h.octets;
-  few = h.few;
-  sections = h.are;
-  expands = ap (tree_of (tables_of table sequences)) h.same.descriptors ∙ a.expands;
-  read = h.read;
-}
-
--- its dump text is that of the message with the flag of the form
-pub formed_text : (form : Form) (table : List Row) (s : Sections) (template : Tree) (values : Values) (octets : List ℕ) → (again : HasReadingIn form table s template values octets)
-    → dump_text_of again.sections (dump_items_in table template again.sections again.found) ≡ dump_text_of (record s { compressed = compressed_by form s.compressed }) (dump_items_in table template s values)
-formed_text form table s template values octets again =
-    let same = again.same in
-    ap (dump_text_of again.sections) again.items
-    ∙ (λ j. dump_text_of (record {
-      head = same.head j;
-      local1 = same.local1 j;
-      section2 = same.section2 j;
-      descriptors = same.descriptors j;
-      subsets = same.subsets j;
-      observed = same.observed j;
-      compressed = same.compressed j;
-      payload = s.payload;
-      size = s.size;
-    }) (dump_items_in table template s values))
 
 -- in the form that is asked for, a document is encoded alike whatever it says of its form
 in_the_form : (table : List Row) (sequences : List Sequence) (at : ℕ) (s : Sections) (said flag : Bool) (items : List (List DumpItem))

@@ -1,26 +1,17 @@
 -- What a line says is of octets; the values of a header; the state after each line.
-use Rattle.std.proofs.Common.{◌≡◌, ℕ, ◌+◌, List, [], ◌∷◌, ◌++◌, length, refl, ap, ◌∙◌, subst, sym, arith, zero, suc, ◌-◌, ◌*◌, ◌<◌, ◌≤◌, ◌==◌, nat_le, nat_lt, Bool, true, false, Option, Some, None, codes, if◌then◌else◌, length-append, cond, map, take, drop, get_or}
-use Rattle.std.specs.List.{AllByRecursion, list_all, position_from, position_or_len}
-use Rattle.bufr_fill.specs.Draft.{Draft, DraftEntry, Holds, Ends, Subset, prepend_to_subset, subsets_of, DraftValue, number_token, text_form, missing_form, reference_token, draft}
-use Rattle.bufr_fill.specs.RoundTrip.{HasOctets, AllHaveOctets, AreOctets}
-use Rattle.bufr_text.specs.Documents.{Document, line_within_limit, edition_in, optional_in, subsets_in, ParserState, Between, Heading, BeforeSubsets, Filling, Stopped, LineEffect, WalkGoes, Gives, Faults, NotAllowed, SubsetCount, HeaderRange, in_range, heading, before_subsets, filling, beginning, closing, with_value, with_local1, with_section2, with_entry, turn, are_in_range, head_from_values, IsHeaded}
-use Rattle.bufr_text.specs.Dump.{IsOctet, IsDescriptorWord}
-use Rattle.bufr_text.specs.Spelling.{AreEnded}
-use Rattle.bufr_text.specs.Taking.{IsBare, HasLineGroups, EntryHasOctets, HasSubsets, IsParserState, HoldsAfter}
-use Rattle.std.specs.Prelude.{◌&&◌, ◌||◌, not, IfSome, slice_index, option_map, position}
-use Rattle.std.specs.Char.{is_ascii_digit}
+use Rattle.std.proofs.Common.{◌≡◌, ℕ, ◌+◌, List, [], ◌∷◌, ◌++◌, length, refl, ap, ◌∙◌, subst, sym, arith, zero, suc, ◌-◌, ◌*◌, ◌<◌, ◌≤◌, ◌==◌, nat_le, nat_lt, Bool, true, false, Option, Some, None, codes, if◌then◌else◌, length-append, cond, map, take, drop, get_or, ◌&&◌, not, IfSome, slice_index, option_map, position}
+use Rattle.std.specs.List.{AllByRecursion, position_from}
+use Rattle.bufr_fill.specs.Prelude.{Draft, DraftEntry, Holds, Ends, Subset, prepend_to_subset, subsets_of, DraftValue, number_token, text_form, missing_form, reference_token, draft, HasOctets, AllHaveOctets, AreOctets}
+use Rattle.bufr_text.specs.Prelude.{Document, line_within_limit, edition_in, subsets_in, ParserState, Between, Heading, BeforeSubsets, Filling, Stopped, LineEffect, in_range, heading, before_subsets, filling, beginning, closing, with_value, with_entry, turn, are_in_range, head_from_values, IsHeaded, IsOctet, IsDescriptorWord, AreEnded, IsBare, HasLineGroups, EntryHasOctets, HasSubsets, IsParserState, HoldsAfter, without_space, upper_value, either_value, pair_value, onto_read, hex_read, fxy_read, descriptors_read, number_read, QuotedToken, ListsLeaves, quoting_of, quoted_on, quoted_read, is_number_octet, is_passed_after, prefix_while, suffix_while, Line, Passed, Opens, Header, Local1, Section2, Descriptors, Begins, Item, Closes, Wrong, keys, place_from, made, with_one_to, item_if_comment, number_value, value_read, valued, item_line, worded, line_of, leasts, mosts, is_named, lead_of, key_in}
 use Rattle.std.specs.Str.{bytes_eq}
 use Rattle.std.proofs.lemmas.Bool.Decides.{nat_tests}
 use Rattle.bufr_bits.proofs.DecimalLemmas.{and_first, and_second}
-use Rattle.bufr_tables.specs.Fxy.{fxy_of, is_fxy, f_in, x_in, y_in}
-use Rattle.bufr_text.specs.Grammar.{without_space, upper_value, either_value, pair_value, onto_read, hex_read, fxy_read, descriptors_read, number_read, QuotedToken, Closed, ListsLeaves, Nothing, is_unescaped, says_pair, escape_of, quoting_of, octet_onto, quoted_on, quoted_read, is_number_octet, is_passed_after, prefix_while, suffix_while}
-use Rattle.bufr_text.specs.Line.{Line, Passed, Opens, Header, Local1, Section2, Descriptors, Begins, Item, Closes, Wrong, keys, place_from, made, with_one_to, item_if_comment, text_value, number_value, missing_value, value_read, valued, item_line, worded, is_no_space, line_of, leasts, mosts, is_named, lead_of, key_in}
-use Rattle.std.proofs.lemmas.Bool.{true≢false}
-use Rattle.bufr_frame.specs.Layout.{IsFitting}
-use Rattle.bufr_frame.specs.Section1.{Field, Master, Centre, Subcentre, Update, Flags, Category, Subcategory, LocalSubcategory, MasterVersion, LocalVersion, Year, Month, Day, Hour, Minute, Second, is_edition, most_in, slots_of, slots_3, slots_4}
+use Rattle.bufr_tables.specs.Prelude.{fxy_of, is_fxy, f_in, x_in, y_in}
+use Rattle.bufr_frame.specs.Prelude.{IsFitting, Field, Master, Centre, Subcentre, Update, Flags, Category, Subcategory, LocalSubcategory, MasterVersion, LocalVersion, Year, Month, Day, Hour, Minute, Second, is_edition, most_in, slots_of, slots_3, slots_4}
 use Rattle.std.proofs.lemmas.Iterator.Adapters.{position_from-zero}
 use Rattle.bufr_frame.specs.Section1 as section1
 use Rattle.bufr_text.specs.Line as line
+use Rattle.std.proofs.lemmas.Grind.{common_steps}
 
 -- ---- The entries of a document, and the subsets that they are.
 
@@ -44,11 +35,9 @@ end-ends-one (Holds first ∷ es) at = onto-length first (subsets_of (es ++ Ends
 end-ends-one (Ends line ∷ es) at = omega (arith, end-ends-one es at)
 
 pub ends-last : (es : List DraftEntry) (at : ℕ) → AreEnded (es ++ Ends at ∷ [])
-ends-last [] at = tt
-ends-last (Holds item ∷ []) at = tt
-ends-last (Ends line ∷ []) at = tt
 ends-last (Holds item ∷ next ∷ more) at = ends-last (next ∷ more) at
 ends-last (Ends line ∷ next ∷ more) at = ends-last (next ∷ more) at
+ends-last es at = tt
 
 -- the texts of the subsets
 onto-octets : (item : Draft) (ss : List Subset) → HasOctets item.form → AllHaveOctets ss → AllHaveOctets (prepend_to_subset item ss)
@@ -62,150 +51,66 @@ drafts-octets (Ends line ∷ es) (h, all) = (tt, drafts-octets es all)
 
 -- nothing was read after the header
 pub written-bare : (d : Document) → IsBare d → HasLineGroups d
-written-bare d bare = record {
-  local1 = subst (λ (l : List ℕ). AllByRecursion IsOctet l) (sym bare.local1) tt;
-  section2 = subst (λ (l : List ℕ). AllByRecursion IsOctet l) (sym bare.section2) tt;
-  no_section2 = λ _. bare.section2;
-  descriptors = subst (λ (l : List ℕ). AllByRecursion IsDescriptorWord l) (sym bare.descriptors) tt;
-}
+written-bare d h1 = grind (arith, nat_tests, common_steps)
 
 -- ---- What a line says is of octets and of descriptors.
 
 -- what a line says is of octets and of descriptors
 abbrev pub IsSound : Line → Type 0
-IsSound Passed = Unit {0}
-IsSound Opens = Unit {0}
-IsSound (Header key value) = Unit {0}
 IsSound (Local1 octets) = AllByRecursion IsOctet octets
 IsSound (Section2 octets) = AllByRecursion IsOctet octets
 IsSound (Descriptors words) = AllByRecursion IsDescriptorWord words
-IsSound (Begins subset) = Unit {0}
 IsSound (Item fxy form) = HasOctets form
-IsSound Closes = Unit {0}
-IsSound Wrong = Unit {0}
+IsSound other = Unit {0}
 
 if-some : {X : Type 0} (P : X → Type 0) (b : Bool) (x y : Option X) → (b ≡ true → IfSome x P) → (b ≡ false → IfSome y P) → IfSome (if b then x else y) P
 if-some P true x y p q = p refl
 if-some P false x y p q = q refl
 
--- hexadecimal digits
-digit-small : (c : ℕ) → is_ascii_digit c ≡ true → c - 48 < 16
-digit-small c h = grind (arith, nat_tests, h)
-
-upper-small : (c : ℕ) → (nat_le 65 c && nat_le c 70) ≡ true → c - 55 < 16
-upper-small c h = let le : nat_le c 70 ≡ true = and_second (nat_le 65 c) (nat_le c 70) h in grind (arith, nat_tests, le)
-
 lower-small : (c : ℕ) → (nat_le 97 c && nat_le c 102) ≡ true → c - 87 < 16
 lower-small c h = let le : nat_le c 102 ≡ true = and_second (nat_le 97 c) (nat_le c 102) h in grind (arith, nat_tests, le)
 
 upper-digit : (c : ℕ) → IfSome (upper_value c) (λ n. n < 16)
-upper-digit c =
-    if-some (λ n. n < 16) (is_ascii_digit c) (Some (c - 48)) (if nat_le 65 c && nat_le c 70 then Some (c - 55) else None) (digit-small c) (λ _.
-    if-some (λ n. n < 16) (nat_le 65 c && nat_le c 70) (Some (c - 55)) None (upper-small c) (λ _. tt))
+upper-digit c = grind (arith, nat_tests, common_steps)
 
 either-digit : (c : ℕ) → IfSome (either_value c) (λ n. n < 16)
 either-digit c = if-some (λ n. n < 16) (nat_le 97 c && nat_le c 102) (Some (c - 87)) (upper_value c) (lower-small c) (λ _. upper-digit c)
 
 pair-octet : (high low : Option ℕ) → IfSome high (λ n. n < 16) → IfSome low (λ n. n < 16) → IfSome (pair_value high low) IsOctet
-pair-octet (Some high) (Some low) h l = omega (arith, h, l)
-pair-octet (Some high) None h l = tt
-pair-octet None low h l = tt
+pair-octet high low h1 h2 = grind (arith, nat_tests, common_steps)
 
 onto-all : (P : ℕ → Type 0) (x : Option ℕ) (xs : Option (List ℕ)) → IfSome x P → IfSome xs (λ l. AllByRecursion P l) → IfSome (onto_read x xs) (λ l. AllByRecursion P l)
-onto-all P (Some x) (Some xs) h t = (h, t)
-onto-all P (Some x) None h t = tt
-onto-all P None xs h t = tt
+onto-all P x xs h1 h2 = grind (arith, nat_tests, common_steps)
 
 hex-octets : (text : List ℕ) → IfSome (hex_read text) (λ l. AllByRecursion IsOctet l)
 unfolding hex_read
-hex-octets [] = tt
-hex-octets (high ∷ []) = tt
 hex-octets (high ∷ low ∷ more) = onto-all IsOctet (pair_value (either_value high) (either_value low)) (hex_read more) (pair-octet (either_value high) (either_value low) (either-digit high) (either-digit low)) (hex-octets more)
+hex-octets text = tt
 
 -- descriptors
 fxy-fits : (text : List ℕ) → is_fxy text ≡ true → 16384 * f_in text + 256 * x_in text + y_in text < 65536
-fxy-fits text h =
-    let four = and_first ((length text == 6) && list_all is_ascii_digit text && nat_le (f_in text) 3 && nat_le (x_in text) 63) (nat_le (y_in text) 255) h in
-    let three = and_first ((length text == 6) && list_all is_ascii_digit text && nat_le (f_in text) 3) (nat_le (x_in text) 63) four in
-    let f : nat_le (f_in text) 3 ≡ true = and_second ((length text == 6) && list_all is_ascii_digit text) (nat_le (f_in text) 3) three in
-    let x : nat_le (x_in text) 63 ≡ true = and_second ((length text == 6) && list_all is_ascii_digit text && nat_le (f_in text) 3) (nat_le (x_in text) 63) four in
-    let y : nat_le (y_in text) 255 ≡ true = and_second ((length text == 6) && list_all is_ascii_digit text && nat_le (f_in text) 3 && nat_le (x_in text) 63) (nat_le (y_in text) 255) h in
-    small (f_in text) (x_in text) (y_in text) f x y
-  where
-    small : (f x y : ℕ) → nat_le f 3 ≡ true → nat_le x 63 ≡ true → nat_le y 255 ≡ true → 16384 * f + 256 * x + y < 65536
-    small f x y a b c =
-        let p : f ≤ 3 = grind (arith, nat_tests, a) in
-        let q : x ≤ 63 = grind (arith, nat_tests, b) in
-        let r : y ≤ 255 = grind (arith, nat_tests, c) in
-        omega (arith, p, q, r)
+fxy-fits text h1 = grind (arith, nat_tests, common_steps, and_first, and_second)
 
 fxy-word : (text : List ℕ) → IfSome (fxy_of text) IsDescriptorWord
 fxy-word text = if-some IsDescriptorWord (is_fxy text) (Some (16384 * f_in text + 256 * x_in text + y_in text)) None (fxy-fits text) (λ _. tt)
 
 descriptors-words : (text : List ℕ) → IfSome (descriptors_read text) (λ l. AllByRecursion IsDescriptorWord l)
 unfolding descriptors_read
-descriptors-words [] = tt
-descriptors-words (s ∷ []) = tt
-descriptors-words (s ∷ a ∷ []) = tt
-descriptors-words (s ∷ a ∷ b ∷ []) = tt
-descriptors-words (s ∷ a ∷ b ∷ c ∷ []) = tt
-descriptors-words (s ∷ a ∷ b ∷ c ∷ d ∷ []) = tt
-descriptors-words (s ∷ a ∷ b ∷ c ∷ d ∷ e ∷ []) = tt
 descriptors-words (s ∷ a ∷ b ∷ c ∷ d ∷ e ∷ g ∷ more) =
     if-some (λ l. AllByRecursion IsDescriptorWord l) (s == 32) (onto_read (fxy_of (a ∷ b ∷ c ∷ d ∷ e ∷ g ∷ [])) (descriptors_read more)) None
     (λ _. onto-all IsDescriptorWord (fxy_of (a ∷ b ∷ c ∷ d ∷ e ∷ g ∷ [])) (descriptors_read more) (fxy-word (a ∷ b ∷ c ∷ d ∷ e ∷ g ∷ [])) (descriptors-words more)) (λ _. tt)
+descriptors-words text = tt
 
 -- texts
 abbrev SaysOctet : QuotedToken → Type 0
-SaysOctet Closed = Unit {0}
 SaysOctet (ListsLeaves octet written) = octet < 256
-SaysOctet Nothing = Unit {0}
-
-if-says : (b : Bool) (x y : QuotedToken) → (b ≡ true → SaysOctet x) → (b ≡ false → SaysOctet y) → SaysOctet (if b then x else y)
-if-says true x y p q = p refl
-if-says false x y p q = q refl
-
-pair-says : (octet : Option ℕ) → IfSome octet IsOctet → SaysOctet (says_pair octet)
-pair-says (Some octet) h = h
-pair-says None h = tt
-
-escaped-small : (c : ℕ) → ((c == 34) || (c == 92)) ≡ true → c < 256
-escaped-small c h = by (c == 34) refl h
-  where
-    by : (b : Bool) → (c == 34) ≡ b → (b || (c == 92)) ≡ true → c < 256
-    by true e h = grind (arith, nat_tests, e)
-    by false e h = grind (arith, nat_tests, h)
-
-plain-small : (c : ℕ) → is_unescaped c ≡ true → c < 256
-plain-small c h =
-    let first = and_first (nat_le 32 c && nat_le c 126 && not (c == 34)) (not (c == 92)) h in
-    let second = and_first (nat_le 32 c && nat_le c 126) (not (c == 34)) first in
-    let le : nat_le c 126 ≡ true = and_second (nat_le 32 c) (nat_le c 126) second in
-    grind (arith, nat_tests, le)
-
-escape-says : (text : List ℕ) → SaysOctet (escape_of text)
-escape-says text =
-    if-says ((slice_index text 1 == 34) || (slice_index text 1 == 92)) (ListsLeaves (slice_index text 1) 2)
-    (if slice_index text 1 == 120 then says_pair (pair_value (upper_value (slice_index text 2)) (upper_value (slice_index text 3))) else Nothing)
-    (escaped-small (slice_index text 1))
-    (λ _. if-says (slice_index text 1 == 120) (says_pair (pair_value (upper_value (slice_index text 2)) (upper_value (slice_index text 3)))) Nothing
-    (λ _. pair-says (pair_value (upper_value (slice_index text 2)) (upper_value (slice_index text 3)))
-    (pair-octet (upper_value (slice_index text 2)) (upper_value (slice_index text 3)) (upper-digit (slice_index text 2)) (upper-digit (slice_index text 3)))) (λ _. tt))
+SaysOctet other = Unit {0}
 
 quoting-says : (text : List ℕ) → SaysOctet (quoting_of text)
-quoting-says text =
-    if-says (slice_index text 0 == 34) Closed (if slice_index text 0 == 92 then escape_of text else if is_unescaped (slice_index text 0) then ListsLeaves (slice_index text 0) 1 else Nothing) (λ _. tt) (λ _.
-    if-says (slice_index text 0 == 92) (escape_of text) (if is_unescaped (slice_index text 0) then ListsLeaves (slice_index text 0) 1 else Nothing) (λ _. escape-says text) (λ _.
-    if-says (is_unescaped (slice_index text 0)) (ListsLeaves (slice_index text 0) 1) Nothing (plain-small (slice_index text 0)) (λ _. tt)))
-
-octet-onto : (octet : ℕ) (read : Option (List ℕ × List ℕ)) → octet < 256 → IfSome read (λ r. AreOctets (r.0)) → IfSome (octet_onto octet read) (λ r. AreOctets (r.0))
-octet-onto octet None h t = tt
-octet-onto octet (Some read) h t = (h, t)
+quoting-says text = grind (arith, nat_tests, common_steps)
 
 quoted-on : (q : QuotedToken) (closed : List ℕ) (more : ℕ → Option (List ℕ × List ℕ)) → SaysOctet q → ((skip : ℕ) → IfSome (more skip) (λ r. AreOctets (r.0))) → IfSome (quoted_on q closed more) (λ r. AreOctets (r.0))
-quoted-on Closed closed more says rest = tt
-quoted-on (ListsLeaves octet written) closed more says rest = octet-onto octet (more (written - 1)) says (rest (written - 1))
-quoted-on Nothing closed more says rest = tt
+quoted-on q closed more h1 h2 = grind (arith, nat_tests, common_steps)
 
 quoted-octets : (skip : ℕ) (text : List ℕ) → IfSome (quoted_read skip text) (λ r. AreOctets (r.0))
 unfolding quoted_read
@@ -232,10 +137,7 @@ reference-sound (c ∷ more) = if-some (λ r. HasOctets (r.0)) (is_number_octet 
 
 value-sound : (text : List ℕ) → IfSome (value_read text) (λ r. HasOctets (r.0))
 unfolding value_read
-value-sound [] = tt
-value-sound (c ∷ more) =
-    if-some (λ r. HasOctets (r.0)) (c == 34) (text_value more) (if is_number_octet c then number_value number_token (c ∷ more) else missing_value (c ∷ more)) (λ _. text-sound (quoted_read 0 more) (quoted-octets 0 more)) (λ _.
-    if-some (λ r. HasOctets (r.0)) (is_number_octet c) (number_value number_token (c ∷ more)) (missing_value (c ∷ more)) (λ _. number-sound (c ∷ more)) (λ _. missing-sound _))
+value-sound text = grind (arith, nat_tests, common_steps, if-some, text-sound, quoted-octets, number-sound, missing-sound)
 
 -- lines
 if-line : (b : Bool) (x y : Line) → IsSound x → IsSound y → IsSound (if b then x else y)
@@ -283,11 +185,7 @@ worded-sound word rest =
 
 line-sound : (line : List ℕ) → IsSound (line_of line)
 unfolding line_of
-line-sound [] = tt
-line-sound (c ∷ more) =
-    if-line (c == 35) Passed _ tt
-    (if-line (is_ascii_digit c) (item_line value_read (c ∷ more)) (worded (prefix_while is_no_space (c ∷ more)) (suffix_while is_no_space (c ∷ more))) (item-line-sound value_read (c ∷ more) value-sound)
-    (worded-sound (prefix_while is_no_space (c ∷ more)) (suffix_while is_no_space (c ∷ more))))
+line-sound line = grind (arith, nat_tests, common_steps, if-line, item-line-sound, value-sound, worded-sound)
 
 pub said-sound : (line : List ℕ) → IsSound (line_within_limit line)
 said-sound line = if-line (nat_lt 4096 (length line)) Wrong (line_of line) tt (line-sound line)
@@ -317,13 +215,6 @@ pub subsets-few : (d : Document) → IsHeaded d → subsets_in d < 65536
 unfolding keys
 subsets-few d h = let most : slice_index d.header 19 ≤ 65535 = header-most d 19 h in omega (arith, most)
 
-pub not-3 : (e : ℕ) → (e ≡ 3 → ⊥) → (e == 3) ≡ false
-not-3 e other = by (e == 3) refl
-  where
-    by : (b : Bool) → (e == 3) ≡ b → b ≡ false
-    by true is = let three : e ≡ 3 = grind (arith, nat_tests, is) in absurd (other three)
-    by false is = refl
-
 -- no range of edition 3 is wider than that of edition 4
 none-above : List ℕ → List ℕ → Bool
 none-above [] bs = true
@@ -351,19 +242,7 @@ value-least e [] some h = absurd (omega (arith, some))
 value-least e (x ∷ xs) some h = and_first (in_range e 0 x) (are_in_range e 1 xs) h
 
 known : (n : ℕ) → (nat_le 3 n && nat_le n 4) ≡ true → is_edition n ≡ true
-known n h =
-    let a : nat_le 3 n ≡ true = and_first (nat_le 3 n) (nat_le n 4) h in
-    let b : nat_le n 4 ≡ true = and_second (nat_le 3 n) (nat_le n 4) h in
-    let c : 3 ≤ n = grind (arith, nat_tests, a) in
-    let e : n ≤ 4 = grind (arith, nat_tests, b) in
-    by (n == 3) refl c e
-  where
-    by : (b : Bool) → (n == 3) ≡ b → 3 ≤ n → n ≤ 4 → (b || (n == 4)) ≡ true
-    by true f c e = refl
-    by false f c e =
-        let other : n ≡ 3 → ⊥ = λ is. (let g : (n == 3) ≡ true = grind (arith, nat_tests, is) in cc) in
-        let four : n ≡ 4 = omega (arith, other, c, e) in
-        grind (arith, nat_tests, four)
+known n h1 = grind (arith, nat_tests, common_steps)
 
 pub headed-fits : (d : Document) → IsHeaded d → IsFitting (head_from_values d)
 unfolding keys
@@ -409,22 +288,14 @@ ranges-again (x ∷ xs) v h g =
     ranges-more x 0 (x ∷ xs) v h (ap (λ (n : ℕ). in_range x n v) (sym same) ∙ g)
 
 pub later : (at : ℕ) (place : ParserState) → IsParserState at place → IsParserState (at + 1) place
-later at Between s = tt
-later at (Heading d) s = (s.0, s.1, omega (arith, s.2), s.3)
-later at (BeforeSubsets part d) s = (s.0, omega (arith, s.1), s.2, s.3)
-later at (Filling subset d) s = (s.0, omega (arith, s.1), s.2, s.3, s.4)
-later at Stopped s = tt
+later at place h1 = grind (arith, nat_tests, common_steps)
 
 if-so : (at : ℕ) (b : Bool) (x y : LineEffect) → (b ≡ true → HoldsAfter at x) → (b ≡ false → HoldsAfter at y) → HoldsAfter at (if b then x else y)
 if-so at true x y p q = p refl
 if-so at false x y p q = q refl
 
 same-key : (key n : ℕ) → not (key == n) ≡ false → key ≡ n
-same-key key n e = by (key == n) refl e
-  where
-    by : (b : Bool) → (key == n) ≡ b → not b ≡ false → key ≡ n
-    by true h e = grind (arith, nat_tests, h)
-    by false h e = absurd cc
+same-key key n h1 = grind (arith, nat_tests, common_steps)
 
 not-false : (b : Bool) → not b ≡ false → b ≡ true
 not-false true e = refl
@@ -435,20 +306,10 @@ still-bare d value bare = record { local1 = bare.local1; section2 = bare.section
 
 value-so : (at key value : ℕ) (d : Document) (b : Bool) → (key == 19) ≡ b → length d.header < 20 → are_in_range (edition_in d) 0 d.header ≡ true → length d.entries < at → key ≡ length d.header → in_range (edition_in d) key value ≡ true → IsBare d
     → IsParserState (at + 1) (if b then BeforeSubsets 0 (with_value d value) else Heading (with_value d value))
-value-so at key value d true last few ranges lines same fits bare =
-    let is : key ≡ 19 = grind (arith, nat_tests, last) in
-    (record { whole = omega (arith, length-append d.header (value ∷ []), is, same); ranges = ranges-again d.header value ranges (ap (λ (n : ℕ). in_range (edition_in d) n value) (sym same) ∙ fits) }, omega (arith, lines), written-bare (with_value d value) (still-bare d value bare), bare.entries)
-value-so at key value d false last few ranges lines same fits bare =
-    let other : key ≡ 19 → ⊥ = λ is. (let e : (key == 19) ≡ true = grind (arith, nat_tests, is) in cc) in
-    (omega (arith, length-append d.header (value ∷ []), other, same, few), ranges-again d.header value ranges (ap (λ (n : ℕ). in_range (edition_in d) n value) (sym same) ∙ fits), omega (arith, lines), still-bare d value bare)
+value-so at key value d b h1 h2 h3 h4 h5 h6 h7 = grind (arith, nat_tests, common_steps, length-append, ranges-again, written-bare, still-bare)
 
 heading-so : (at key value : ℕ) (d : Document) → length d.header < 20 → are_in_range (edition_in d) 0 d.header ≡ true → length d.entries < at → IsBare d → HoldsAfter at (heading d (Header key value))
-heading-so at key value d few ranges lines bare =
-    let taken : LineEffect = WalkGoes (if key == 19 then BeforeSubsets 0 (with_value d value) else Heading (with_value d value)) in
-    let ranged : LineEffect = if not (in_range (edition_in d) key value) then Faults HeaderRange else taken in
-    if-so at (not (key == length d.header)) (Faults NotAllowed) ranged (λ e. tt) (λ e.
-    if-so at (not (in_range (edition_in d) key value)) (Faults HeaderRange) taken (λ f. tt) (λ f.
-    value-so at key value d (key == 19) refl few ranges lines (same-key key (length d.header) e) (not-false (in_range (edition_in d) key value) f) bare))
+heading-so at key value d h1 h2 h3 h4 = grind (arith, nat_tests, common_steps, if-so, value-so, same-key, not-false)
 
 subset-few : (a b n : ℕ) → ((a == b) && nat_le a n) ≡ true → a ≤ n
 subset-few a b n h = let le : nat_le a n ≡ true = and_second (a == b) (nat_le a n) h in grind (arith, nat_tests, le)
@@ -457,64 +318,16 @@ same-number : (a b n : ℕ) → ((a == b) && nat_le a n) ≡ true → a ≡ b
 same-number a b n h = let is : (a == b) ≡ true = and_first (a == b) (nat_le a n) h in grind (arith, nat_tests, is)
 
 beginning-so : (at read subset : ℕ) (d : Document) → IsHeaded d → length d.entries < at + 1 → HasLineGroups d → HasSubsets read d → HoldsAfter at (beginning read d subset)
-beginning-so at read subset d h lines written has =
-    if-so at ((subset == read + 1) && nat_le subset (subsets_in d)) (WalkGoes (Filling subset d)) (Faults SubsetCount)
-    (λ e. (h, lines, omega (arith, subset-few subset (read + 1) (subsets_in d) e, subsets-few d h), written, (read, same-number subset (read + 1) (subsets_in d) e, has))) (λ e. tt)
+beginning-so at read subset d h1 h2 h3 h4 = grind (arith, nat_tests, common_steps, if-so, subset-few, subsets-few, same-number)
 
 equal : (a b : ℕ) → (a == b) ≡ true → a ≡ b
 equal a b e = grind (arith, nat_tests, e)
 
 closing-so : (at read : ℕ) (d : Document) → IsHeaded d → length d.entries ≤ at → HasLineGroups d → HasSubsets read d → AreEnded d.entries → HoldsAfter at (closing read d)
-closing-so at read d h lines written has closed =
-    if-so at (read == subsets_in d) (Gives d) (Faults SubsetCount) (λ e. (
-      record {
-        headed = h;
-        local1 = written.local1;
-        section2 = written.section2;
-        no_section2 = written.no_section2;
-        descriptors = written.descriptors;
-        texts = drafts-octets d.entries has.texts;
-        counted = has.counted ∙ equal read (subsets_in d) e;
-        ended = closed;
-      },
-      lines,
-    )) (λ e. tt)
-
--- no entries, no subsets
-none-ended : (d : Document) → d.entries ≡ [] → HasSubsets 0 d
-none-ended d none = record { texts = subst (λ (l : List DraftEntry). AllByRecursion EntryHasOctets l) (sym none) tt; counted = ap (λ (l : List DraftEntry). length (subsets_of l)) none }
-
-none-last : (es : List DraftEntry) → es ≡ [] → AreEnded es
-none-last es none = subst (λ (l : List DraftEntry). AreEnded l) (sym none) tt
+closing-so at read d h1 h2 h3 h4 h5 = grind (arith, nat_tests, common_steps, if-so, drafts-octets, equal)
 
 before_subsets-so : (at part : ℕ) (d : Document) (line : Line) → IsSound line → IsHeaded d → length d.entries < at → HasLineGroups d → d.entries ≡ [] → HoldsAfter at (before_subsets part d line)
-before_subsets-so at part d Passed sound h lines written none = tt
-before_subsets-so at part d Opens sound h lines written none = tt
-before_subsets-so at part d (Header key value) sound h lines written none = tt
-before_subsets-so at part d (Local1 octets) sound h lines written none =
-    if-so at (part == 0) (WalkGoes (BeforeSubsets 0 (with_local1 d octets))) (Faults NotAllowed) (λ e. (
-      record { whole = h.whole; ranges = h.ranges },
-      omega (arith, lines),
-      record { local1 = all-more IsOctet d.local1 octets written.local1 sound; section2 = written.section2; no_section2 = written.no_section2; descriptors = written.descriptors },
-      none,
-    )) (λ e. tt)
-before_subsets-so at part d (Section2 octets) sound h lines written none =
-    if-so at (nat_le part 1 && (optional_in d == 1)) (WalkGoes (BeforeSubsets 1 (with_section2 d octets))) (Faults NotAllowed) (λ e. (
-      record { whole = h.whole; ranges = h.ranges },
-      omega (arith, lines),
-      record { local1 = written.local1; section2 = all-more IsOctet d.section2 octets written.section2 sound; no_section2 = λ other. absurd (true≢false (sym (and_second (nat_le part 1) (optional_in d == 1) e) ∙ other)); descriptors = written.descriptors },
-      none,
-    )) (λ e. tt)
-before_subsets-so at part d (Descriptors words) sound h lines written none = (
-  record { whole = h.whole; ranges = h.ranges },
-  omega (arith, lines),
-  record { local1 = written.local1; section2 = written.section2; no_section2 = written.no_section2; descriptors = all-more IsDescriptorWord d.descriptors words written.descriptors sound },
-  none,
-)
-before_subsets-so at part d (Begins subset) sound h lines written none = beginning-so at 0 subset d h (omega (arith, lines)) written (none-ended d none)
-before_subsets-so at part d (Item fxy form) sound h lines written none = tt
-before_subsets-so at part d Closes sound h lines written none = closing-so at 0 d h (omega (arith, lines)) written (none-ended d none) (none-last d.entries none)
-before_subsets-so at part d Wrong sound h lines written none = tt
+before_subsets-so at part d line h1 h2 h3 h4 h5 = grind (arith, nat_tests, common_steps)
 
 one-entry : (d : Document) (entry : DraftEntry) → length (with_entry d entry).entries ≡ length d.entries + 1
 one-entry d entry = omega (arith, length-append d.entries (entry ∷ []))
@@ -527,21 +340,12 @@ still-written : (d : Document) (entry : DraftEntry) → HasLineGroups d → HasL
 still-written d entry written = record { local1 = written.local1; section2 = written.section2; no_section2 = written.no_section2; descriptors = written.descriptors }
 
 one-more : (at ended : ℕ) (d : Document) → HasSubsets ended d → HasSubsets (ended + 1) (with_entry d (Ends at))
-one-more at ended d has = record {
-  texts = all-more EntryHasOctets d.entries (Ends at ∷ []) has.texts (tt, tt);
-  counted = end-ends-one d.entries at ∙ ap (λ (n : ℕ). n + 1) has.counted;
-}
+one-more at ended d h1 = grind (arith, nat_tests, common_steps, all-more, end-ends-one)
 
 by-number : (subset ended : ℕ) (d : Document) → subset ≡ ended + 1 → HasSubsets (ended + 1) d → HasSubsets subset d
 by-number subset ended d is has = subst (λ (n : ℕ). HasSubsets n d) (sym is) has
 
 filling-so : (at subset : ℕ) (d : Document) (line : Line) → IsSound line → IsHeaded d → length d.entries < at → subset < 65536 → HasLineGroups d → ((ended : ℕ) × (subset ≡ ended + 1) × HasSubsets ended d) → HoldsAfter at (filling at subset d line)
-filling-so at subset d Passed sound h lines few written has = tt
-filling-so at subset d Opens sound h lines few written has = tt
-filling-so at subset d (Header key value) sound h lines few written has = tt
-filling-so at subset d (Local1 octets) sound h lines few written has = tt
-filling-so at subset d (Section2 octets) sound h lines few written has = tt
-filling-so at subset d (Descriptors words) sound h lines few written has = tt
 filling-so at subset d (Begins next) sound h lines few written (ended, is, has) =
     beginning-so at subset next (with_entry d (Ends at)) (still-headed d (Ends at) h) (omega (arith, lines, one-entry d (Ends at))) (still-written d (Ends at) written) (by-number subset ended (with_entry d (Ends at)) is (one-more at ended d has))
 filling-so at subset d (Item fxy form) sound h lines few written (ended, is, has) = (
@@ -560,76 +364,26 @@ filling-so at subset d (Item fxy form) sound h lines few written (ended, is, has
 )
 filling-so at subset d Closes sound h lines few written (ended, is, has) =
     closing-so at subset (with_entry d (Ends at)) (still-headed d (Ends at) h) (omega (arith, lines, one-entry d (Ends at))) (still-written d (Ends at) written) (by-number subset ended (with_entry d (Ends at)) is (one-more at ended d has)) (ends-last d.entries at)
-filling-so at subset d Wrong sound h lines few written has = tt
+filling-so at subset d line sound h lines few written has = tt
 
 -- what holds of a place holds of the place after the line
 pub turn-holds : (at : ℕ) (place : ParserState) (line : Line) → 0 < at → IsSound line → IsParserState at place → HoldsAfter at (turn at place line)
 unfolding turn
-turn-holds at Between Passed some sound s = tt
 turn-holds at Between Opens some sound s = (omega arith, refl, omega arith, record { local1 = refl; section2 = refl; descriptors = refl; entries = refl })
-turn-holds at Between (Header key value) some sound s = tt
-turn-holds at Between (Local1 octets) some sound s = tt
-turn-holds at Between (Section2 octets) some sound s = tt
-turn-holds at Between (Descriptors words) some sound s = tt
-turn-holds at Between (Begins subset) some sound s = tt
-turn-holds at Between (Item fxy form) some sound s = tt
-turn-holds at Between Closes some sound s = tt
-turn-holds at Between Wrong some sound s = tt
 turn-holds at (Heading d) Passed some sound s = later at (Heading d) s
-turn-holds at (Heading d) Opens some sound s = tt
 turn-holds at (Heading d) (Header key value) some sound s = heading-so at key value d s.0 s.1 s.2 s.3
-turn-holds at (Heading d) (Local1 octets) some sound s = tt
-turn-holds at (Heading d) (Section2 octets) some sound s = tt
-turn-holds at (Heading d) (Descriptors words) some sound s = tt
-turn-holds at (Heading d) (Begins subset) some sound s = tt
-turn-holds at (Heading d) (Item fxy form) some sound s = tt
-turn-holds at (Heading d) Closes some sound s = tt
-turn-holds at (Heading d) Wrong some sound s = tt
 turn-holds at (BeforeSubsets part d) Passed some sound s = later at (BeforeSubsets part d) s
-turn-holds at (BeforeSubsets part d) Opens some sound s = tt
-turn-holds at (BeforeSubsets part d) (Header key value) some sound s = tt
-turn-holds at (BeforeSubsets part d) (Local1 octets) some sound s = before_subsets-so at part d (Local1 octets) sound s.0 s.1 s.2 s.3
-turn-holds at (BeforeSubsets part d) (Section2 octets) some sound s = before_subsets-so at part d (Section2 octets) sound s.0 s.1 s.2 s.3
-turn-holds at (BeforeSubsets part d) (Descriptors words) some sound s = before_subsets-so at part d (Descriptors words) sound s.0 s.1 s.2 s.3
-turn-holds at (BeforeSubsets part d) (Begins subset) some sound s = before_subsets-so at part d (Begins subset) sound s.0 s.1 s.2 s.3
-turn-holds at (BeforeSubsets part d) (Item fxy form) some sound s = tt
-turn-holds at (BeforeSubsets part d) Closes some sound s = before_subsets-so at part d Closes sound s.0 s.1 s.2 s.3
-turn-holds at (BeforeSubsets part d) Wrong some sound s = tt
+turn-holds at (BeforeSubsets part d) line some sound s = before_subsets-so at part d line sound s.0 s.1 s.2 s.3
 turn-holds at (Filling subset d) Passed some sound s = later at (Filling subset d) s
-turn-holds at (Filling subset d) Opens some sound s = tt
-turn-holds at (Filling subset d) (Header key value) some sound s = tt
-turn-holds at (Filling subset d) (Local1 octets) some sound s = tt
-turn-holds at (Filling subset d) (Section2 octets) some sound s = tt
-turn-holds at (Filling subset d) (Descriptors words) some sound s = tt
-turn-holds at (Filling subset d) (Begins next) some sound s = filling-so at subset d (Begins next) sound s.0 s.1 s.2 s.3 s.4
-turn-holds at (Filling subset d) (Item fxy form) some sound s = filling-so at subset d (Item fxy form) sound s.0 s.1 s.2 s.3 s.4
-turn-holds at (Filling subset d) Closes some sound s = filling-so at subset d Closes sound s.0 s.1 s.2 s.3 s.4
-turn-holds at (Filling subset d) Wrong some sound s = tt
+turn-holds at (Filling subset d) line some sound s = filling-so at subset d line sound s.0 s.1 s.2 s.3 s.4
 turn-holds at Stopped Passed some sound s = tt
-turn-holds at Stopped Opens some sound s = tt
-turn-holds at Stopped (Header key value) some sound s = tt
-turn-holds at Stopped (Local1 octets) some sound s = tt
-turn-holds at Stopped (Section2 octets) some sound s = tt
-turn-holds at Stopped (Descriptors words) some sound s = tt
-turn-holds at Stopped (Begins subset) some sound s = tt
-turn-holds at Stopped (Item fxy form) some sound s = tt
-turn-holds at Stopped Closes some sound s = tt
-turn-holds at Stopped Wrong some sound s = tt
+turn-holds at place line some sound s = tt
 
 -- ---- The table of the keys of the header, beside its definition.
 
 -- what is before the value of a key has the key's name and no other
-prefix-all : (xs : List ℕ) (c : ℕ) → take (length xs) (xs ++ c ∷ []) ≡ xs
-prefix-all [] c = refl
-prefix-all (x ∷ xs) c = ap (λ l. x ∷ l) (prefix-all xs c)
-
 named : (key : line.Key) (name : List ℕ) → is_named (lead_of key) name ≡ bytes_eq name key.name
-named key name =
-    let long : nat_le 2 (length (lead_of key)) ≡ true = grind (arith, nat_tests, length-append key.name (32 ∷ [])) in
-    let count : length (lead_of key) - 2 ≡ length key.name = omega (arith, length-append key.name (32 ∷ [])) in
-    ap (λ b. b && bytes_eq name (take (length (lead_of key) - 2) (key.name ++ 32 ∷ []))) long
-    ∙ ap (λ n. bytes_eq name (take n (key.name ++ 32 ∷ []))) count
-    ∙ ap (bytes_eq name) (prefix-all key.name 32)
+named key name = grind (arith, nat_tests, common_steps)
 
 -- the place of a key is that of what is before its value
 module _ {Row : Type 0} (lead : Row → List ℕ) (name : List ℕ) where
@@ -670,26 +424,4 @@ module _ {Row : Type 0} (lead : Row → List ℕ) where
       let count : length (10 ∷ word) - 1 ≡ length word = omega arith in
       ap (λ l. take (length l - 1) (drop 1 l)) is_lead ∙ ap (λ n. take n word) count ∙ take_all word
 
--- a place is below the number of places
-pub place-few : {Row : Type 0} (p : Row → Bool) (rows : List Row) (o : Option ℕ) → o ≡ position p rows → IfSome o (λ i. i < length rows)
-place-few p rows o is = let P : Option ℕ → Type 0 = λ o. IfSome o (λ i. i < length rows) in subst P (sym is) (by (nat_lt (position_or_len p rows) (length rows)) refl)
-  where
-    by : (b : Bool) → nat_lt (position_or_len p rows) (length rows) ≡ b → IfSome (cond b (Some (position_or_len p rows)) None) (λ i. i < length rows)
-    by true h = grind (arith, nat_tests, h)
-    by false h = tt
-
--- a number of a row is at the same place of its column
-pub column : {Row : Type 0} (f : Row → ℕ) (rows : List Row) (xs : List ℕ) (i : ℕ) (d : Row) → map f rows ≡ xs → i < length rows → f (get_or rows i d) ≡ slice_index xs i
-column f rows xs i d same below = at f rows i d below ∙ ap (λ l. slice_index l i) same
-  where
-    at : {Row : Type 0} (f : Row → ℕ) (rows : List Row) (i : ℕ) (d : Row) → i < length rows → f (get_or rows i d) ≡ slice_index (map f rows) i
-    at f [] i d below = absurd (omega (arith, below))
-    at f (row ∷ rows) zero d below = refl
-    at f (row ∷ rows) (suc i) d below = at f rows i d (omega (arith, below))
-
--- the greatest value goes by the edition
-pub most-3 : {Row : Type 0} (f : Row → ℕ) (rows : List Row) (edition i : ℕ) (d : Row) → map f rows ≡ mosts slots_3 → i < length rows → edition ≡ 3 → f (get_or rows i d) ≡ slice_index (mosts (slots_of edition)) i
-most-3 f rows edition i d same below is = column f rows (mosts slots_3) i d same below ∙ ap (λ (n : ℕ). slice_index (mosts (slots_of n)) i) (sym is)
-
-pub most-4 : {Row : Type 0} (f : Row → ℕ) (rows : List Row) (edition i : ℕ) (d : Row) → map f rows ≡ mosts slots_4 → i < length rows → (edition ≡ 3 → ⊥) → f (get_or rows i d) ≡ slice_index (mosts (slots_of edition)) i
-most-4 f rows edition i d same below other = column f rows (mosts slots_4) i d same below ∙ ap (λ (b : Bool). slice_index (mosts (if b then slots_3 else slots_4)) i) (sym (not-3 edition other))
+pub ruleset octet_steps = (header-widest)

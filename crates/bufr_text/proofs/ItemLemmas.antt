@@ -1,6 +1,5 @@
 -- How a line is taken apart: its word, descriptors, digits and quoted texts.
-use Rattle.std.proofs.Common.{◌≡◌, ℕ, zero, suc, ◌+◌, ◌<◌, ◌≤◌, ◌==◌, Bool, true, false, List, [], ◌∷◌, ◌++◌, length, take, drop, refl, sym, ap, ◌∙◌, arith, Option, Some, None, append-nil, append_assoc, if◌then◌else◌, ◌&&◌, not, codes, ◌*◌, nat_le, nat_lt, length-drop, length-set, length-take, ◌-◌, subst}
-use Rattle.std.specs.Prelude.{slice_index, option_map, MatchOption, slice_set, unwrap_or, ◌||◌}
+use Rattle.std.proofs.Common.{◌≡◌, ℕ, zero, suc, ◌+◌, ◌<◌, ◌≤◌, ◌==◌, Bool, true, false, List, [], ◌∷◌, ◌++◌, length, take, drop, refl, sym, ap, ◌∙◌, arith, Option, Some, None, append-nil, append_assoc, if◌then◌else◌, ◌&&◌, not, codes, ◌*◌, nat_le, nat_lt, length-drop, length-set, length-take, subst, slice_index, option_map, MatchOption, slice_set, unwrap_or, ◌||◌}
 use Rattle.std.specs.Borrow.{Bor}
 use Rattle.std.specs.List.{list_all}
 use Rattle.std.specs.Str.{bytes_eq}
@@ -8,11 +7,9 @@ use Rattle.std.proofs.lemmas.Bool.Decides.{nat_tests}
 use Rattle.std.proofs.lemmas.Grind.{common_steps}
 use Rattle.std.proofs.lemmas.List.{drop_all}
 use Rattle.bufr_bits.proofs.DecimalLemmas.{and_first, and_second}
-use Rattle.bufr_tables.specs.Fxy.{fxy_of, is_fxy, f_in, x_in, y_in}
-use Rattle.bufr_text.specs.Grammar.{prefix_while, suffix_while, without_space, without_prefix, fxy_read, is_number_octet, is_hashed, is_passed_after, hex_read, onto_read, descriptors_read, either_value, pair_value, QuotedToken, Closed, ListsLeaves, Nothing, is_unescaped, upper_value, says_pair, escape_of, quoting_of, octet_onto, quoted_on, quoted_read}
-use Rattle.bufr_text.specs.LineParts.{IsTokenTo, Describes, IsDescribing, Unhexes, IsUnhexing, octets_onto, Unquotes, IsUnquoting}
-use Rattle.bufr_fill.specs.Draft.{number_token, reference_token, DraftValue}
-use Rattle.bufr_text.specs.Line.{value_read, text_value, number_value, missing_value, Passed, Item, Local1, Section2, made, with_one_to, item_line, worded, line_of, is_no_space, Descriptors, Wrong}
+use Rattle.bufr_tables.specs.Prelude.{fxy_of, is_fxy, f_in, x_in, y_in}
+use Rattle.bufr_text.specs.Prelude.{prefix_while, suffix_while, without_space, without_prefix, fxy_read, is_number_octet, is_hashed, is_passed_after, hex_read, onto_read, descriptors_read, either_value, pair_value, QuotedToken, Closed, ListsLeaves, Nothing, is_unescaped, upper_value, says_pair, escape_of, quoting_of, octet_onto, quoted_on, quoted_read, IsTokenTo, Describes, IsDescribing, Unhexes, IsUnhexing, octets_onto, Unquotes, IsUnquoting, value_read, text_value, number_value, missing_value, Passed, Item, Local1, Section2, made, with_one_to, item_line, worded, line_of, is_no_space, Descriptors, Wrong}
+use Rattle.bufr_fill.specs.Prelude.{number_token, reference_token, DraftValue}
 use Rattle.memchr.specs.Find.{IsFirstByte, is_byte}
 use Rattle.std.specs.Char.{is_ascii_digit}
 use Rattle.std.proofs.Math.Seq.{drop-nil}
@@ -20,22 +17,11 @@ use Rattle.std.proofs.Math.Seq.{drop-nil}
 pub fxy-six : (text : List ℕ) → 6 ≤ length text → fxy_read text ≡ option_map (λ fxy. (fxy, drop 6 text)) (fxy_of (take 6 text))
 unfolding fxy_read
 fxy-six (a ∷ b ∷ c ∷ d ∷ e ∷ g ∷ more) h = refl
-fxy-six [] h = absurd (omega arith)
-fxy-six (a ∷ []) h = absurd (omega arith)
-fxy-six (a ∷ b ∷ []) h = absurd (omega arith)
-fxy-six (a ∷ b ∷ c ∷ []) h = absurd (omega arith)
-fxy-six (a ∷ b ∷ c ∷ d ∷ []) h = absurd (omega arith)
-fxy-six (a ∷ b ∷ c ∷ d ∷ e ∷ []) h = absurd (omega arith)
+fxy-six text h = absurd (omega arith)
 
 pub fxy-few : (text : List ℕ) → length text < 6 → fxy_read text ≡ None
 unfolding fxy_read
-fxy-few (a ∷ b ∷ c ∷ d ∷ e ∷ g ∷ more) h = absurd (omega arith)
-fxy-few [] h = refl
-fxy-few (a ∷ []) h = refl
-fxy-few (a ∷ b ∷ []) h = refl
-fxy-few (a ∷ b ∷ c ∷ []) h = refl
-fxy-few (a ∷ b ∷ c ∷ d ∷ []) h = refl
-fxy-few (a ∷ b ∷ c ∷ d ∷ e ∷ []) h = refl
+fxy-few text h1 = grind (arith, nat_tests, common_steps)
 
 pub ruleset by_six = (fxy-six, fxy-few)
 
@@ -71,31 +57,18 @@ one-taken text at h = grind (arith, common_steps)
 
 pub token-on : (text : List ℕ) (at : ℕ) → IsTokenTo text at → at < length text → is_number_octet (slice_index text at) ≡ true → IsTokenTo text (at + 1)
 unfolding prefix_while suffix_while
-token-on text at is h e = record {
-  within = omega arith;
-  ahead = is.ahead ∙ ap (λ (t : List ℕ). take at text ++ prefix_while is_number_octet t) (one-on text at h)
-      ∙ rw e (sym (append_assoc (take at text) (slice_index text at ∷ []) (prefix_while is_number_octet (drop (at + 1) text)))) ∙ ap (λ (t : List ℕ). t ++ prefix_while is_number_octet (drop (at + 1) text)) (sym (one-taken text at h));
-  suffix_while = is.suffix_while ∙ ap (suffix_while is_number_octet) (one-on text at h) ∙ rw e refl;
-}
+token-on text at h1 h2 h3 = grind (arith, nat_tests, common_steps)
 
 stop-first : (c : ℕ) (more : List ℕ) → is_number_octet c ≡ false → (prefix_while is_number_octet (c ∷ more) ≡ []) × (suffix_while is_number_octet (c ∷ more) ≡ c ∷ more)
 unfolding prefix_while suffix_while
 stop-first c more e = (rw e refl, rw e refl)
 
 pub token-stop : (text : List ℕ) (at : ℕ) → IsTokenTo text at → at < length text → is_number_octet (slice_index text at) ≡ false → (take at text ≡ prefix_while is_number_octet text) × (drop at text ≡ suffix_while is_number_octet text)
-token-stop text at is h e =
-    let stop = stop-first (slice_index text at) (drop (at + 1) text) e in (
-      sym (is.ahead ∙ ap (λ (t : List ℕ). take at text ++ t) (ap (prefix_while is_number_octet) (one-on text at h) ∙ stop.0) ∙ append-nil (take at text)),
-      sym (is.suffix_while ∙ ap (suffix_while is_number_octet) (one-on text at h) ∙ stop.1 ∙ sym (one-on text at h)),
-    )
+token-stop text at h1 h2 h3 = grind (arith, nat_tests, common_steps, stop-first, one-on, append-nil)
 
 pub token-end : (text : List ℕ) (at : ℕ) → IsTokenTo text at → length text ≤ at → (take at text ≡ prefix_while is_number_octet text) × (drop at text ≡ suffix_while is_number_octet text)
 unfolding prefix_while suffix_while
-token-end text at is h =
-    let none = drop_all at text h in (
-      sym (is.ahead ∙ ap (λ (t : List ℕ). take at text ++ prefix_while is_number_octet t) none ∙ append-nil (take at text)),
-      none ∙ sym (is.suffix_while ∙ ap (suffix_while is_number_octet) none),
-    )
+token-end text at h1 h2 = grind (arith, nat_tests, common_steps)
 
 -- values
 pub value-quote : (text : List ℕ) → slice_index text 0 ≡ 34 → value_read text ≡ text_value (drop 1 text)
@@ -105,17 +78,11 @@ value-quote (c ∷ more) e = let q : (c == 34) ≡ true = grind (arith, nat_test
 
 pub value-token : (text : List ℕ) → is_number_octet (slice_index text 0) ≡ true → value_read text ≡ Some (number_token (prefix_while is_number_octet text), suffix_while is_number_octet text)
 unfolding value_read
-value-token [] e = absurd cc
-value-token (c ∷ more) e =
-    let q : (c == 34) ≡ false = grind (arith, nat_tests, e) in
-    rw (q, e) refl
+value-token text h1 = grind (arith, nat_tests, common_steps)
 
 pub value-word : (text : List ℕ) → (slice_index text 0 ≡ 34 → ⊥) → is_number_octet (slice_index text 0) ≡ false → value_read text ≡ missing_value text
 unfolding value_read without_prefix
-value-word [] q e = refl
-value-word (c ∷ more) q e =
-    let n : (c == 34) ≡ false = grind (arith, nat_tests, q) in
-    rw (n, e) refl
+value-word text h1 h2 = grind (arith, nat_tests, common_steps)
 
 pub word-is : (word text : List ℕ) (r : Option (Bor (List ℕ))) → MatchOption r (bytes_eq (take (length word) text) word ≡ false) (λ x. (bytes_eq (take (length word) text) word ≡ true) × (x.now ≡ drop (length word) text) × (length x.now + length word ≡ length text)) → option_map (λ s. s.now) r ≡ without_prefix word text
 word-is word text None h = sym (word-absent word text h)
@@ -133,9 +100,7 @@ octets-while (c ∷ text) (suc count) le all stop =
     (rw one (ap (λ (t : List ℕ). c ∷ t) rest.0), rw one rest.1)
 
 octet-first : (text : List ℕ) (count : ℕ) → 0 < count → count ≤ length text → list_all is_number_octet (take count text) ≡ true → is_number_octet (slice_index text 0) ≡ true
-octet-first text zero some le all = absurd (omega arith)
-octet-first [] (suc count) some le all = absurd (omega arith)
-octet-first (c ∷ text) (suc count) some le all = and_first (is_number_octet c) (list_all is_number_octet (take count text)) all
+octet-first text count h1 h2 h3 = grind (arith, nat_tests, common_steps)
 
 pub value-decimal : (text token : List ℕ) (count : ℕ) → 0 < count → count ≤ length text → take count text ≡ token → list_all is_number_octet (take count text) ≡ true → is_number_octet (slice_index (drop count text) 0) ≡ false → value_read text ≡ Some (number_token token, drop count text)
 value-decimal text token count some le is all stop =
@@ -195,10 +160,7 @@ passed-none (c ∷ more) e = absurd (omega arith)
 
 pub passed-comment : (text : List ℕ) → 3 ≤ length text → slice_index text 0 ≡ 32 → slice_index text 1 ≡ 32 → slice_index text 2 ≡ 35 → is_passed_after text ≡ true
 unfolding is_hashed
-passed-comment [] le a b c = absurd (omega arith)
-passed-comment (x ∷ []) le a b c = absurd (omega arith)
-passed-comment (x ∷ y ∷ []) le a b c = absurd (omega arith)
-passed-comment (x ∷ y ∷ z ∷ more) le a b c = rw (a, b, c) refl
+passed-comment text h1 h2 h3 h4 = grind (arith, nat_tests, common_steps)
 
 pub ruleset hash_steps = (hashed-space, hashed-other, hashed-end, passed-space, passed-other, passed-none, passed-comment)
 
@@ -216,11 +178,7 @@ pub ruleset reference_steps = (reference-some, reference-none)
 -- ---- The first word of a line.
 
 no-space : (c : ℕ) → ((c == 32) ≡ true → ⊥) → is_no_space c ≡ true
-no-space c h = by (c == 32) h
-  where
-    by : (b : Bool) → (b ≡ true → ⊥) → not b ≡ true
-    by true h = absurd (h refl)
-    by false h = refl
+no-space c h1 = grind (arith, nat_tests, common_steps)
 
 a-space : (c : ℕ) → (c == 32) ≡ true → is_no_space c ≡ false
 a-space c h = ap not h
@@ -312,24 +270,11 @@ one-set out count word h = grind (arith, common_steps)
 first-on : (t : List ℕ) → 7 ≤ length t → descriptors_read t ≡ (if slice_index t 0 == 32 then onto_read (fxy_of (take 6 (drop 1 t))) (descriptors_read (drop 7 t)) else None)
 unfolding descriptors_read
 first-on (s ∷ a ∷ b ∷ c ∷ d ∷ e ∷ g ∷ more) h = refl
-first-on [] h = absurd (omega arith)
-first-on (s ∷ []) h = absurd (omega arith)
-first-on (s ∷ a ∷ []) h = absurd (omega arith)
-first-on (s ∷ a ∷ b ∷ []) h = absurd (omega arith)
-first-on (s ∷ a ∷ b ∷ c ∷ []) h = absurd (omega arith)
-first-on (s ∷ a ∷ b ∷ c ∷ d ∷ []) h = absurd (omega arith)
-first-on (s ∷ a ∷ b ∷ c ∷ d ∷ e ∷ []) h = absurd (omega arith)
+first-on t h = absurd (omega arith)
 
 few-none : (t : List ℕ) → 0 < length t → length t < 7 → descriptors_read t ≡ None
 unfolding descriptors_read
-few-none (s ∷ a ∷ b ∷ c ∷ d ∷ e ∷ g ∷ more) some h = absurd (omega arith)
-few-none [] some h = absurd (omega arith)
-few-none (s ∷ []) some h = refl
-few-none (s ∷ a ∷ []) some h = refl
-few-none (s ∷ a ∷ b ∷ []) some h = refl
-few-none (s ∷ a ∷ b ∷ c ∷ []) some h = refl
-few-none (s ∷ a ∷ b ∷ c ∷ d ∷ []) some h = refl
-few-none (s ∷ a ∷ b ∷ c ∷ d ∷ e ∷ []) some h = refl
+few-none t h1 h2 = grind (arith, nat_tests, common_steps)
 
 no-space-on : (t : List ℕ) → 7 ≤ length t → (slice_index t 0 ≡ 32 → ⊥) → descriptors_read t ≡ None
 no-space-on t h e =
@@ -337,14 +282,10 @@ no-space-on t h e =
     first-on t h ∙ rw q refl
 
 no-fxy-on : (t : List ℕ) → 7 ≤ length t → slice_index t 0 ≡ 32 → fxy_of (take 6 (drop 1 t)) ≡ None → descriptors_read t ≡ None
-no-fxy-on t h e f =
-    let q : (slice_index t 0 == 32) ≡ true = grind (arith, nat_tests, e) in
-    first-on t h ∙ rw q (ap (λ (w : Option ℕ). onto_read w (descriptors_read (drop 7 t))) f)
+no-fxy-on t h1 h2 h3 = grind (arith, nat_tests, common_steps, first-on)
 
 fxy-on : (t : List ℕ) (word : ℕ) → 7 ≤ length t → slice_index t 0 ≡ 32 → fxy_of (take 6 (drop 1 t)) ≡ Some word → descriptors_read t ≡ onto_read (Some word) (descriptors_read (drop 7 t))
-fxy-on t word h e f =
-    let q : (slice_index t 0 == 32) ≡ true = grind (arith, nat_tests, e) in
-    first-on t h ∙ rw q (ap (λ (w : Option ℕ). onto_read w (descriptors_read (drop 7 t))) f)
+fxy-on t word h1 h2 h3 = grind (arith, nat_tests, common_steps, first-on)
 
 onto-more : (xs : List ℕ) (word : ℕ) (read : Option (List ℕ)) → option_map (λ more. xs ++ more) (onto_read (Some word) read) ≡ option_map (λ more. (xs ++ word ∷ []) ++ more) read
 onto-more xs word None = refl
@@ -399,10 +340,7 @@ some-same : (a b : List ℕ) → Some a ≡ Some b → a ≡ b
 some-same a b e = ap (λ (o : Option (List ℕ)). unwrap_or o []) e
 
 onto-some : (b : Bool) (w : Option ℕ) (r : Option (List ℕ)) (xs : List ℕ) → (if b then onto_read w r else None) ≡ Some xs → (word : ℕ) × (ys : List ℕ) × (r ≡ Some ys) × (xs ≡ word ∷ ys)
-onto-some false w r xs e = absurd cc
-onto-some true None r xs e = absurd cc
-onto-some true (Some w) None xs e = absurd cc
-onto-some true (Some w) (Some ys) xs e = (w, ys, refl, sym (some-same (w ∷ ys) xs e))
+onto-some b w r xs h1 = grind (arith, nat_tests, common_steps)
 
 length-read : (t xs : List ℕ) → descriptors_read t ≡ Some xs → length t ≡ 7 * length xs
 unfolding descriptors_read
@@ -410,21 +348,10 @@ length-read [] xs e = omega (arith, ap length (some-same [] xs e))
 length-read (s ∷ a ∷ b ∷ c ∷ d ∷ f ∷ g ∷ more) xs e =
     let (word, ys, r, same) = onto-some (s == 32) (fxy_of (a ∷ b ∷ c ∷ d ∷ f ∷ g ∷ [])) (descriptors_read more) xs e in
     omega (arith, length-read more ys r, ap length same)
-length-read (s ∷ []) xs e = absurd cc
-length-read (s ∷ a ∷ []) xs e = absurd cc
-length-read (s ∷ a ∷ b ∷ []) xs e = absurd cc
-length-read (s ∷ a ∷ b ∷ c ∷ []) xs e = absurd cc
-length-read (s ∷ a ∷ b ∷ c ∷ d ∷ []) xs e = absurd cc
-length-read (s ∷ a ∷ b ∷ c ∷ d ∷ f ∷ []) xs e = absurd cc
+length-read t xs e = absurd cc
 
 pub describing-long : (text out : List ℕ) → 56 < length text → Describes text out None
-describing-long text out long = by (descriptors_read text) refl
-  where
-    by : (read : Option (List ℕ)) → descriptors_read text ≡ read → made (with_one_to 8 Descriptors) read ≡ Wrong
-    by None e = refl
-    by (Some xs) e =
-        let many : (nat_lt 0 (length xs) && nat_le (length xs) 8) ≡ false = grind (arith, nat_tests, length-read text xs e, long) in
-        rw many refl
+describing-long text out h1 = grind (arith, nat_tests, common_steps, length-read)
 
 pub describing-none : (text out : List ℕ) → length text ≡ 0 → Describes text out None
 unfolding descriptors_read
@@ -442,21 +369,7 @@ hex-two a b more = refl
 
 pub unhexing-on : (text out : List ℕ) (count high low : ℕ) → IsUnhexing text out count → 2 * count + 1 < length text → Some high ≡ either_value (slice_index text (2 * count)) → Some low ≡ either_value (slice_index text (2 * count + 1))
     → IsUnhexing text (slice_set out count (16 * high + low)) (count + 1)
-unhexing-on text out count high low is h e f =
-    let a = slice_index text (2 * count) in
-    let b = slice_index text (2 * count + 1) in
-    let octet = 16 * high + low in
-    let next : 2 * count + 2 ≡ 2 * (count + 1) = omega arith in
-    record {
-      within = omega arith;
-      room = omega (arith, is.room, length-set out count octet);
-      read = is.read
-          ∙ ap (λ (t : List ℕ). option_map (λ more. take count out ++ more) (hex_read t)) (two-on text (2 * count) h)
-          ∙ ap (option_map (λ more. take count out ++ more)) (hex-two a b (drop (2 * count + 2) text) ∙ rw (← e, ← f) refl)
-          ∙ onto-more (take count out) octet (hex_read (drop (2 * count + 2) text))
-          ∙ ap (λ (t : List ℕ). option_map (λ more. t ++ more) (hex_read (drop (2 * count + 2) text))) (sym (one-set out count octet (omega (arith, is.room))))
-          ∙ ap (λ (k : ℕ). option_map (λ more. take (count + 1) (slice_set out count octet) ++ more) (hex_read (drop k text))) next;
-    }
+unhexing-on text out count high low h1 h2 h3 h4 = grind (arith, nat_tests, common_steps, length-set, two-on, hex-two, onto-more, one-set)
 
 none-left : (v : Option ℕ) → pair_value v None ≡ None
 none-left (Some x) = refl
@@ -466,10 +379,7 @@ none-read : (read : Option (List ℕ)) (v : Option ℕ) → v ≡ None → onto_
 none-read read v e = ap (λ (t : Option ℕ). onto_read t read) e
 
 pub unhexing-wrong : (text out : List ℕ) (count : ℕ) → IsUnhexing text out count → 2 * count + 1 < length text → pair_value (either_value (slice_index text (2 * count))) (either_value (slice_index text (2 * count + 1))) ≡ None → hex_read text ≡ None
-unhexing-wrong text out count is h e =
-    is.read
-    ∙ ap (λ (t : List ℕ). option_map (λ more. take count out ++ more) (hex_read t)) (two-on text (2 * count) h)
-    ∙ ap (option_map (λ more. take count out ++ more)) (hex-two (slice_index text (2 * count)) (slice_index text (2 * count + 1)) (drop (2 * count + 2) text) ∙ none-read (hex_read (drop (2 * count + 2) text)) _ e)
+unhexing-wrong text out count h1 h2 h3 = grind (arith, nat_tests, common_steps, two-on, hex-two, none-read)
 
 pub high-wrong : (text : List ℕ) (count : ℕ) → None ≡ either_value (slice_index text (2 * count)) → pair_value (either_value (slice_index text (2 * count))) (either_value (slice_index text (2 * count + 1))) ≡ None
 high-wrong text count e = ap (λ (t : Option ℕ). pair_value t (either_value (slice_index text (2 * count + 1)))) (sym e)
@@ -484,9 +394,7 @@ unhexing-whole text out count is h =
 
 odd : (rest : List ℕ) → length rest ≡ 1 → hex_read rest ≡ None
 unfolding hex_read
-odd [] h = absurd (omega arith)
-odd (a ∷ []) h = refl
-odd (a ∷ b ∷ more) h = absurd (omega arith)
+odd rest h1 = grind (arith, nat_tests, common_steps)
 
 pub unhexing-odd : (text out : List ℕ) (count : ℕ) → IsUnhexing text out count → length text ≤ 2 * count + 1 → (2 * count ≡ length text → ⊥) → hex_read text ≡ None
 unhexing-odd text out count is h e =
@@ -502,9 +410,8 @@ quoted-skip zero (c ∷ text) = refl
 quoted-skip (suc k) (c ∷ text) = quoted-skip k text
 
 written-in : QuotedToken → ℕ
-written-in Closed = 1
 written-in (ListsLeaves octet written) = written
-written-in Nothing = 1
+written-in other = 1
 
 within : (xs : List ℕ) (i : ℕ) → 0 < slice_index xs i → i < length xs
 within [] i h = absurd (omega arith)
@@ -514,16 +421,9 @@ within (x ∷ xs) (suc i) h = omega (arith, within xs i h)
 IsIn : List ℕ → QuotedToken → Type 0
 IsIn text q = (1 ≤ written-in q) × (0 < length text → written-in q ≤ length text)
 
-some-in : (text : List ℕ) (octet : Option ℕ) → 3 < length text → IsIn text (says_pair octet)
-unfolding IsIn written-in
-some-in text (Some octet) h = (omega arith, λ some. omega arith)
-some-in text None h = (omega arith, λ some. omega arith)
-
 pair-in : (text : List ℕ) (high : Option ℕ) (c : ℕ) → c ≡ slice_index text 3 → IsIn text (says_pair (pair_value high (upper_value c)))
 unfolding IsIn written-in
-pair-in text (Some high) zero e = (omega arith, λ some. omega arith)
-pair-in text None zero e = (omega arith, λ some. omega arith)
-pair-in text high (suc n) e = some-in text (pair_value high (upper_value (suc n))) (within text 3 (omega (arith, e)))
+pair-in text high c h1 = grind (arith, nat_tests, common_steps)
 
 escape-by : (text : List ℕ) (a b : Bool) → ((slice_index text 1 == 34) || (slice_index text 1 == 92)) ≡ a → (slice_index text 1 == 120) ≡ b
     → IsIn text (if a then ListsLeaves (slice_index text 1) 2 else if b then says_pair (pair_value (upper_value (slice_index text 2)) (upper_value (slice_index text 3))) else Nothing)
@@ -554,12 +454,7 @@ says-in text octet written e some =
 -- what is read after an octet
 pub says-on : (text : List ℕ) (octet written : ℕ) → ListsLeaves octet written ≡ quoting_of text → 0 < length text → quoted_read 0 text ≡ octet_onto octet (quoted_read 0 (drop written text))
 unfolding quoted_read
-says-on [] octet written e some = absurd (omega arith)
-says-on (c ∷ more) octet zero e some = absurd (omega (arith, (says-in (c ∷ more) octet 0 e some).0))
-says-on (c ∷ more) octet (suc k) e some =
-    let less : suc k - 1 ≡ k = omega arith in
-    ap (λ (q : QuotedToken). quoted_on q more (λ skip. quoted_read skip more)) (sym e)
-    ∙ ap (λ (n : ℕ). octet_onto octet (quoted_read n more)) less ∙ ap (octet_onto octet) (quoted-skip k more)
+says-on text octet written h1 h2 = grind (arith, nat_tests, common_steps, says-in, quoted-skip)
 
 pub closed-on : (text : List ℕ) → Closed ≡ quoting_of text → 0 < length text → quoted_read 0 text ≡ Some ([], drop 1 text)
 unfolding quoted_read
@@ -611,3 +506,8 @@ pub unquoting-end : (text out : List ℕ) (count at : ℕ) → IsUnquoting text 
 unfolding quoted_read
 unquoting-end text out count at is h =
     is.read ∙ ap (λ (t : List ℕ). octets_onto (take count out) (quoted_read 0 t)) (drop_all at text h)
+
+-- what closes the goals of single functions
+pub ruleset describing_steps = (describing-none, describing-long, describing-short, describing-no-space, describing-no-fxy, describing-on, describing-whole)
+
+pub ruleset unhexing_steps = (unhexing-wrong, high-wrong, low-wrong, unhexing-on, unhexing-whole, unhexing-odd)

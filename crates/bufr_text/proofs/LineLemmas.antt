@@ -1,25 +1,20 @@
 -- Each line of a dump text has what it was written for, and is short.
-use Rattle.std.proofs.Common.{◌≡◌, ℕ, ◌+◌, ◌-◌, ◌*◌, ◌/◌, ◌%◌, ◌<◌, nat_le, true, refl, ap, arith, Some, ◌==◌, nat_lt, min, Bool, false, not, List, [], ◌∷◌, ◌++◌, length, ◌∙◌, if◌then◌else◌, append_assoc, zero, suc, ◌^◌, ◌≤◌, ◌&&◌, take, drop, replicate, ℤ, pos, negsuc, length-append, length-take, length-drop, sym, Option, None, codes}
+use Rattle.std.proofs.Common.{◌≡◌, ℕ, ◌+◌, ◌-◌, ◌*◌, ◌/◌, ◌%◌, ◌<◌, nat_le, true, refl, ap, arith, Some, ◌==◌, nat_lt, Bool, false, not, List, [], ◌∷◌, ◌++◌, length, ◌∙◌, if◌then◌else◌, append_assoc, zero, suc, ◌^◌, ◌≤◌, ◌&&◌, take, drop, replicate, ℤ, pos, negsuc, length-append, length-take, length-drop, sym, Option, None, codes, ◌||◌, option_map, unsigned_abs, IfSome}
 use Rattle.std.specs.Char.{is_ascii_digit}
 use Rattle.std.specs.List.{list_all, AllByRecursion, concat}
 use Rattle.std.proofs.lemmas.Bool.Decides.{nat_tests}
-use Rattle.bufr_tables.specs.Fxy.{fxy_of, fxy_text, f_of, x_of, y_of, f_in, x_in, y_in}
-use Rattle.std.specs.Prelude.{◌||◌, option_map, unsigned_abs, IfSome}
+use Rattle.bufr_tables.specs.Prelude.{fxy_of, fxy_text, f_of, x_of, y_of, f_in, x_in, y_in, is_printed}
 use Rattle.std.specs.Fmt.{decimal}
 use Rattle.std.proofs.lemmas.Fmt.{decimal_is_IsNumeral_wide, length-decimal-le_wide}
 use Rattle.bufr_bits.proofs.DecimalLemmas.{own, and_first, and_second, all_digits-take, all_digits-drop, zeros_digits}
-use Rattle.bufr_text.specs.Grammar.{prefix_while, suffix_while, hex_digit, upper_value, either_value, pair_value, hex_pair, hex_text, hex_read, fxy_read, descriptors_text, descriptors_read, number_read, is_unescaped, escaped, quoted, octet_onto, quoted_read, is_number_octet, without_prefix, is_hashed, is_passed_after, runs_after, runs_of}
-use Rattle.bufr_text.specs.Dump.{IsOctet, IsDescriptorWord, IsScale, header_line, local1_line, section2_line, descriptors_line, subset_line, comment_text, Comment, DumpValue, IsNumber, IsText, IsMissing, IsReference, dump_value_of, form_text, item_text, IsValue, IsName, IsComment, IsItem, text_of_lines}
+use Rattle.bufr_text.specs.Prelude.{prefix_while, suffix_while, hex_digit, upper_value, either_value, pair_value, hex_pair, hex_text, hex_read, fxy_read, descriptors_text, descriptors_read, number_read, is_unescaped, escaped, quoted, octet_onto, quoted_read, is_number_octet, without_prefix, is_hashed, is_passed_after, runs_after, runs_of, IsOctet, IsDescriptorWord, IsScale, header_line, local1_line, section2_line, descriptors_line, subset_line, comment_text, Comment, DumpValue, IsNumber, IsText, IsMissing, IsReference, dump_value_of, form_text, item_text, IsValue, IsName, IsComment, IsItem, text_of_lines, Opens, Header, Local1, Section2, Descriptors, Begins, Item, Closes, key_in, keys, made, place_from, number_value, value_read, worded, line_of, Line, Key, lines_of}
 use Rattle.std.proofs.lemmas.List.{length-replicate, take-append-drop}
 use Rattle.std.proofs.lemmas.List.Folds.{list_all-append}
-use Rattle.bufr_bits.specs.Decimal.{decimal_text_of, unsigned_text, pointed}
-use Rattle.bufr_fill.specs.Draft.{DraftValue, number_token, text_form, missing_form, reference_token}
-use Rattle.bufr_text.specs.Line.{Opens, Header, Local1, Section2, Descriptors, Begins, Item, Closes, key_in, keys, made, place_from, number_value, value_read, worded, line_of, Line, Key}
-use Rattle.bufr_tables.specs.TableB.{is_printed}
-use Rattle.bufr_text.specs.Writing.{joined}
-use Rattle.bufr_text.specs.Documents.{lines_of}
+use Rattle.bufr_bits.specs.Prelude.{decimal_text_of, unsigned_text, pointed}
+use Rattle.bufr_fill.specs.Prelude.{DraftValue, number_token, text_form, missing_form, reference_token}
 use Rattle.std.proofs.Math.Seq.{drop-nil}
 use Rattle.bufr_text.specs.Dump as dump
+use Rattle.std.proofs.lemmas.Grind.{common_steps}
 
 -- ---- Descriptors as six digits, read back.
 
@@ -84,9 +79,6 @@ either-back n h = grind (arith, nat_tests, upper-back)
 halves : (c : ℕ) → 16 * (c / 16) + c % 16 ≡ c
 halves c = omega arith
 
-upper-pair : (c : ℕ) → c < 256 → pair_value (upper_value (hex_digit (c / 16))) (upper_value (hex_digit (c % 16))) ≡ Some c
-upper-pair c h = rw (upper-back (c / 16) (omega arith), upper-back (c % 16) (omega arith)) (ap Some (halves c))
-
 either-pair : (c : ℕ) → c < 256 → pair_value (either_value (hex_digit (c / 16))) (either_value (hex_digit (c % 16))) ≡ Some c
 either-pair c h = rw (either-back (c / 16) (omega arith), either-back (c % 16) (omega arith)) (ap Some (halves c))
 
@@ -107,37 +99,16 @@ descriptors_back (w ∷ ws) (word, all) = rw (fxy_back w word, descriptors_back 
 
 -- numbers
 pub number_back : (n : ℕ) → n < 65536 → number_read (decimal n) ≡ Some n
-number_back n h =
-    let numeral = decimal_is_IsNumeral_wide n (omega arith) in
-    let digits : list_all is_ascii_digit (decimal n) ≡ true = own.from (decimal n) numeral.0.1 in
-    let some : nat_lt 0 (length (decimal n)) ≡ true = grind (arith, nat_tests, numeral.0.0) in
-    let few : min n 65536 ≡ n = omega arith in
-    rw (digits, some, numeral.1) (ap Some few)
-
--- texts
-is_quote : (c : ℕ) → (c == 34) ≡ true → c ≡ 34
-is_quote c h = grind (arith, nat_tests)
-
-is_backslash : (c : ℕ) → (c == 92) ≡ true → c ≡ 92
-is_backslash c h = grind (arith, nat_tests)
+number_back n h1 = grind (arith, nat_tests, common_steps, decimal_is_IsNumeral_wide, own)
 
 read-plain : (c : ℕ) (rest : List ℕ) → is_unescaped c ≡ true → quoted_read 0 (c ∷ rest) ≡ octet_onto c (quoted_read 0 rest)
 unfolding quoted_read
-read-plain c rest h =
-    let no_quote : (c == 34) ≡ false = grind (arith, nat_tests, h) in
-    let no_backslash : (c == 92) ≡ false = grind (arith, nat_tests, h) in
-    rw (h, no_quote, no_backslash) refl
-
-read-hex : (c : ℕ) (rest : List ℕ) → c < 256 → quoted_read 0 (92 ∷ 120 ∷ hex_pair c ++ rest) ≡ octet_onto c (quoted_read 0 rest)
-unfolding quoted_read
-read-hex c rest h = rw (upper-pair c h) refl
+read-plain c rest h1 = grind (arith, nat_tests, common_steps)
 
 by-marks : (c : ℕ) (rest : List ℕ) (q b : Bool) → (c == 34) ≡ q → (c == 92) ≡ b → c < 256
     → quoted_read 0 ((if q || b then 92 ∷ c ∷ [] else 92 ∷ 120 ∷ hex_pair c) ++ rest) ≡ octet_onto c (quoted_read 0 rest)
 unfolding quoted_read
-by-marks c rest true b q e h = rw (is_quote c q) refl
-by-marks c rest false true q e h = rw (is_backslash c e) refl
-by-marks c rest false false q e h = read-hex c rest h
+by-marks c rest q b h1 h2 h3 = grind (arith, nat_tests, common_steps)
 
 by-plain : (c : ℕ) (rest : List ℕ) (p : Bool) → is_unescaped c ≡ p → c < 256
     → quoted_read 0 ((if p then c ∷ [] else if (c == 34) || (c == 92) then 92 ∷ c ∷ [] else 92 ∷ 120 ∷ hex_pair c) ++ rest) ≡ octet_onto c (quoted_read 0 rest)
@@ -263,27 +234,7 @@ end-says = refl
 -- header lines
 pub key-says : (k : ℕ) (rest : List ℕ) → k < 20 → line_of ((key_in keys k).name ++ 32 ∷ rest) ≡ made (Header k) (number_read rest)
 unfolding line_of worded prefix_while suffix_while without_prefix place_from keys
-key-says zero rest h = refl
-key-says (suc zero) rest h = refl
-key-says (suc (suc zero)) rest h = refl
-key-says (suc (suc (suc zero))) rest h = refl
-key-says (suc (suc (suc (suc zero)))) rest h = refl
-key-says (suc (suc (suc (suc (suc zero))))) rest h = refl
-key-says (suc (suc (suc (suc (suc (suc zero)))))) rest h = refl
-key-says (suc (suc (suc (suc (suc (suc (suc zero))))))) rest h = refl
-key-says (suc (suc (suc (suc (suc (suc (suc (suc zero)))))))) rest h = refl
-key-says (suc (suc (suc (suc (suc (suc (suc (suc (suc zero))))))))) rest h = refl
-key-says (suc (suc (suc (suc (suc (suc (suc (suc (suc (suc zero)))))))))) rest h = refl
-key-says (suc (suc (suc (suc (suc (suc (suc (suc (suc (suc (suc zero))))))))))) rest h = refl
-key-says (suc (suc (suc (suc (suc (suc (suc (suc (suc (suc (suc (suc zero)))))))))))) rest h = refl
-key-says (suc (suc (suc (suc (suc (suc (suc (suc (suc (suc (suc (suc (suc zero))))))))))))) rest h = refl
-key-says (suc (suc (suc (suc (suc (suc (suc (suc (suc (suc (suc (suc (suc (suc zero)))))))))))))) rest h = refl
-key-says (suc (suc (suc (suc (suc (suc (suc (suc (suc (suc (suc (suc (suc (suc (suc zero))))))))))))))) rest h = refl
-key-says (suc (suc (suc (suc (suc (suc (suc (suc (suc (suc (suc (suc (suc (suc (suc (suc zero)))))))))))))))) rest h = refl
-key-says (suc (suc (suc (suc (suc (suc (suc (suc (suc (suc (suc (suc (suc (suc (suc (suc (suc zero))))))))))))))))) rest h = refl
-key-says (suc (suc (suc (suc (suc (suc (suc (suc (suc (suc (suc (suc (suc (suc (suc (suc (suc (suc zero)))))))))))))))))) rest h = refl
-key-says (suc (suc (suc (suc (suc (suc (suc (suc (suc (suc (suc (suc (suc (suc (suc (suc (suc (suc (suc zero))))))))))))))))))) rest h = refl
-key-says (suc (suc (suc (suc (suc (suc (suc (suc (suc (suc (suc (suc (suc (suc (suc (suc (suc (suc (suc (suc k)))))))))))))))))))) rest h = absurd (omega arith)
+key-says k rest h1 = grind (arith, nat_tests, common_steps)
 
 pub header-says : (k v : ℕ) → k < 20 → v < 65536 → line_of (header_line k v) ≡ Header k v
 header-says k v h n = key-says k (decimal v) h ∙ ap (made (Header k)) (number_back v n)
@@ -443,12 +394,7 @@ literal : (text : List ℕ) (most : ℕ) → list_all is_above text ≡ true →
 literal text most h k = record { clean = h; short = k }
 
 comment-clean : (comment : Option Comment) → IsComment comment → IsClean (comment_text comment) 1040
-comment-clean None given = record { clean = refl; short = omega arith }
-comment-clean (Some comment) (name, unit) =
-    joined-two (codes "  # ") (joined (comment.name ∷ codes " [" ∷ comment.unit ∷ codes "]" ∷ [])) 4 1036 1040 (literal (codes "  # ") 4 refl (omega arith))
-    (joined-two comment.name (joined (codes " [" ∷ comment.unit ∷ codes "]" ∷ [])) 512 524 1036 (name-clean comment.name name)
-    (joined-two (codes " [") (joined (comment.unit ∷ codes "]" ∷ [])) 2 522 524 (literal (codes " [") 2 refl (omega arith))
-    (joined-two comment.unit (codes "]") 512 10 522 (name-clean comment.unit unit) (literal (codes "]") 10 refl (omega arith)) (omega arith)) (omega arith)) (omega arith)) (omega arith)
+comment-clean comment h1 = grind (arith, nat_tests, common_steps, joined-two, literal, name-clean)
 
 -- the lines
 pub message-line : IsLineOf (codes "message") Opens
@@ -490,9 +436,7 @@ key-at (k ∷ ks) zero h below = and_first (key-passes k) (list_all key-passes k
 key-at (k ∷ ks) (suc i) h below = key-at ks i (and_second (key-passes k) (list_all key-passes ks) h) (omega arith)
 
 key-clean : (k : Key) → key-passes k ≡ true → IsClean k.name 16
-key-clean k h =
-    let few : nat_le (length k.name) 16 ≡ true = and_first (nat_le (length k.name) 16) (list_all is_above k.name) h in
-    record { clean = and_second (nat_le (length k.name) 16) (list_all is_above k.name) h; short = grind (arith, nat_tests, few) }
+key-clean k h1 = grind (arith, nat_tests, common_steps)
 
 pub header-line : (k v : ℕ) → k < 20 → v < 65536 → IsLineOf (header_line k v) (Header k v)
 header-line k v h n =

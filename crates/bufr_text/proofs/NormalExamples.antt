@@ -1,20 +1,14 @@
 -- Texts of documents in one spelling.
 use Rattle.std.proofs.Common.{◌≡◌, ℕ, List, [], ◌∷◌, refl, codes, ℤ, pos}
 use Rattle.std.specs.Fmt.{digits}
-use Rattle.bufr_bits.specs.Decimal.{decimal_text_of, unsigned_text, decimal_value_of}
+use Rattle.bufr_bits.specs.Prelude.{decimal_text_of, unsigned_text, decimal_value_of}
 use Rattle.bufr_tables.specs.declared.table_b.Kind.{Kind}
 use Rattle.bufr_tables.specs.declared.table_b.Kind.TheVariants as kind
-use Rattle.bufr_tables.specs.TableB.{Row}
-use Rattle.bufr_tables.specs.Tree.{Tree, bare, element, operator, delayed}
-use Rattle.bufr_walk.specs.Course.{next_item}
-use Rattle.bufr_fill.specs.Draft.{draft, text_form, reference_token, DraftEntry, Holds, Ends, subsets_of}
-use Rattle.bufr_text.specs.declared.encode.Form.{Form}
+use Rattle.bufr_tables.specs.Prelude.{Row, Tree, bare, element, operator, delayed}
+use Rattle.bufr_walk.specs.Prelude.{next_item}
+use Rattle.bufr_fill.specs.Prelude.{draft, text_form, reference_token, DraftEntry, Holds, Ends, subsets_of}
+use Rattle.bufr_text.specs.Prelude.{Form, Document, header_lines, text_of_lines, runs_after, hex_text, descriptors_text, quoted, keys, header_as, normal_subsets, normal}
 use Rattle.bufr_text.specs.declared.encode.Form.TheVariants.{AsWritten, Plain, Compressed}
-use Rattle.bufr_text.specs.Documents.{Document}
-use Rattle.bufr_text.specs.Dump.{header_lines, text_of_lines}
-use Rattle.bufr_text.specs.Grammar.{runs_after, hex_text, descriptors_text, quoted}
-use Rattle.bufr_text.specs.Line.{keys}
-use Rattle.bufr_text.specs.Spelling.{header_as, normal_subsets, normal}
 use Rattle.bufr_text.proofs.EncodingExamples.{document, number, missing}
 
 unfoldable listed : (fxy : ℕ) → (name unit : List ℕ) → Kind → (scale : ℤ) → (width : ℕ) → Row
@@ -52,27 +46,16 @@ compressed_flag = refl
 plain_flag : header_as Plain (1 ∷ 2 ∷ 3 ∷ 4 ∷ 5 ∷ 6 ∷ 7 ∷ 8 ∷ 9 ∷ 10 ∷ 11 ∷ 12 ∷ 13 ∷ 14 ∷ 15 ∷ 16 ∷ 17 ∷ 1 ∷ 19 ∷ 20 ∷ []) ≡ 1 ∷ 2 ∷ 3 ∷ 4 ∷ 5 ∷ 6 ∷ 7 ∷ 8 ∷ 9 ∷ 10 ∷ 11 ∷ 12 ∷ 13 ∷ 14 ∷ 15 ∷ 16 ∷ 17 ∷ 0 ∷ 19 ∷ 20 ∷ []
 plain_flag = refl
 
--- the scale's places, and leading zeros are gone
-two_places : items_in (element 3173 bare) (number 24 3173 (codes "0288.1") ∷ Ends 25 ∷ missing 26 3173 ∷ Ends 27 ∷ [])
-    ≡ codes "subset 1\n012101 288.10  # AIR TEMPERATURE [K]\nsubset 2\n012101 MISSING  # AIR TEMPERATURE [K]\n"
-unfolding items_in number missing digits decimal_text_of unsigned_text decimal_value_of
-two_places = refl
-
-minus_zero : items_in (element 3173 bare) (number 24 3173 (codes "-0") ∷ Ends 25 ∷ []) ≡ codes "subset 1\n012101 0.00  # AIR TEMPERATURE [K]\n"
-unfolding items_in number digits decimal_text_of unsigned_text decimal_value_of
-minus_zero = refl
-
-short_text : items_in (element 271 bare) (Holds (draft 24 271 (text_form (codes "AB"))) ∷ Ends 25 ∷ []) ≡ codes "subset 1\n001015 \"AB  \"  # NAME [CCITT IA5]\n"
-unfolding items_in quoted digits
-short_text = refl
-
--- a factor says how many items follow
-factor : items_in (delayed 7937 (element 257 bare) bare) (number 24 7937 (codes "02") ∷ number 25 257 (codes "1.0") ∷ number 26 257 (codes "2") ∷ Ends 27 ∷ [])
-    ≡ codes "subset 1\n031001 2  # FACTOR [Numeric]\n001001 1  # WMO BLOCK NUMBER [Numeric]\n001001 2  # WMO BLOCK NUMBER [Numeric]\n"
-unfolding items_in number digits decimal_text_of unsigned_text decimal_value_of
-factor = refl
-
--- 2 03 010: a redefined reference is a whole number
-redefined : items_in (operator 0x830A (element 3173 (operator 0x83FF bare))) (Holds (draft 24 3173 (reference_token (codes "-400.0"))) ∷ Ends 25 ∷ []) ≡ codes "subset 1\nR 012101 -400\n"
-unfolding items_in digits decimal_text_of unsigned_text decimal_value_of
-redefined = refl
+normal_texts :
+    -- the scale's places, and leading zeros are gone
+    (items_in (element 3173 bare) (number 24 3173 (codes "0288.1") ∷ Ends 25 ∷ missing 26 3173 ∷ Ends 27 ∷ [])
+    ≡ codes "subset 1\n012101 288.10  # AIR TEMPERATURE [K]\nsubset 2\n012101 MISSING  # AIR TEMPERATURE [K]\n")
+    × (items_in (element 3173 bare) (number 24 3173 (codes "-0") ∷ Ends 25 ∷ []) ≡ codes "subset 1\n012101 0.00  # AIR TEMPERATURE [K]\n")
+    × (items_in (element 271 bare) (Holds (draft 24 271 (text_form (codes "AB"))) ∷ Ends 25 ∷ []) ≡ codes "subset 1\n001015 \"AB  \"  # NAME [CCITT IA5]\n")
+    -- a factor says how many items follow
+    × (items_in (delayed 7937 (element 257 bare) bare) (number 24 7937 (codes "02") ∷ number 25 257 (codes "1.0") ∷ number 26 257 (codes "2") ∷ Ends 27 ∷ [])
+    ≡ codes "subset 1\n031001 2  # FACTOR [Numeric]\n001001 1  # WMO BLOCK NUMBER [Numeric]\n001001 2  # WMO BLOCK NUMBER [Numeric]\n")
+    -- 2 03 010: a redefined reference is a whole number
+    × (items_in (operator 0x830A (element 3173 (operator 0x83FF bare))) (Holds (draft 24 3173 (reference_token (codes "-400.0"))) ∷ Ends 25 ∷ []) ≡ codes "subset 1\nR 012101 -400\n")
+unfolding items_in number missing digits decimal_text_of unsigned_text decimal_value_of quoted
+normal_texts = (refl, refl, refl, refl, refl)

@@ -1,51 +1,30 @@
 -- What a document is encoded to says what the document says, in one spelling.
-use Rattle.std.proofs.Common.{◌≡◌, ℕ, ◌+◌, ◌/◌, ◌≤◌, suc, Bool, true, false, List, [], ◌∷◌, ◌++◌, length, Some, None, Result, Ok, Err, refl, sym, ◌∙◌, ap, subst, arith, append_assoc, zero, map, take, drop}
-use Rattle.std.specs.Prelude.{◌==◌, nat_lt, unwrap_or, if◌then◌else◌, codes, is_some, slice_index}
+use Rattle.std.proofs.Common.{◌≡◌, ℕ, ◌+◌, ◌/◌, ◌≤◌, suc, Bool, true, false, List, [], ◌∷◌, ◌++◌, length, Some, None, Result, Ok, Err, refl, sym, ◌∙◌, ap, subst, arith, append_assoc, zero, map, take, drop, ◌==◌, nat_lt, unwrap_or, if◌then◌else◌, codes, is_some, slice_index}
 use Rattle.std.specs.List.{AllByRecursion}
 use Rattle.std.proofs.lemmas.Bool.Decides.{nat_tests}
-use Rattle.bufr_bits.specs.Bits.{bits_of, padding}
+use Rattle.bufr_bits.specs.Prelude.{bits_of, padding}
 use Rattle.bufr_tables.specs.declared.fault.TemplateFault.{TemplateFault}
-use Rattle.bufr_tables.specs.Expansion.{tree_of, IsLegal, tables_of}
-use Rattle.bufr_tables.specs.Records.{Record}
-use Rattle.bufr_tables.specs.TableB.{Row, AreRows}
-use Rattle.bufr_tables.specs.TableD.{Sequence}
-use Rattle.bufr_tables.specs.Tree.{Tree}
+use Rattle.bufr_tables.specs.Prelude.{tree_of, IsLegal, tables_of, Record, Row, AreRows, Sequence, Tree}
 use Rattle.bufr_tables.proofs.SoundLemmas.{tree_fine}
-use Rattle.bufr_frame.specs.Layout.{with_even_length, message_octets, message_size, max_octets, sections_from, MessageParts, parts_of}
+use Rattle.bufr_frame.specs.Prelude.{with_even_length, message_octets, message_size, max_octets, sections_from, MessageParts, parts_of}
 use Rattle.bufr_frame.proofs.LayoutLemmas.{evened-bits, read-back}
 use Rattle.bufr_frame.proofs.AgainLemmas.{fitting-writable}
-use Rattle.bufr_walk.specs.Content.{Content}
-use Rattle.bufr_walk.specs.Course.{next_item, Course}
-use Rattle.bufr_walk.specs.Reading.{Values, apart, together, Item, IsReading, plain, after}
-use Rattle.bufr_fill.specs.Draft.{Subset, subsets_of, Draft}
-use Rattle.bufr_fill.specs.Faults.{FaultAt}
-use Rattle.bufr_fill.specs.RoundTrip.{AllHaveOctets, AreSaid, IsSaid, AreDrafts}
+use Rattle.bufr_walk.specs.Prelude.{Content, FieldSpec, next_item, Course, Values, apart, together, Item, IsReading, plain, after, data_of, view_of}
+use Rattle.bufr_fill.specs.Prelude.{Subset, subsets_of, Draft, FaultAt, AllHaveOctets, AreSaid, IsSaid, AreDrafts, content_of}
 use Rattle.bufr_fill.proofs.BackLaws.{plain_template_back, packed_template_back}
 use Rattle.bufr_fill.proofs.FieldLemmas.{octets_in-are}
-use Rattle.bufr_text.specs.declared.encode.Form.{Form}
-use Rattle.bufr_text.specs.Documents.{Document, optional_in, head_from_values, Complete, documents_of, IsHeaded, observed_in, compressed_in, section2_in}
-use Rattle.bufr_text.specs.Encoding.{too_long, refused_at, ◌>>=◌, report_of_template, report_of_items, data_bits, octets_of_bits, parts_as, compressed_as, message_of, encoding_in, RefusedAt, parts_of_document, encoding_of}
-use Rattle.bufr_text.specs.Dump.{IsOctet, DumpItem, bit, header_lines, local1_line, section2_line, descriptors_line, head_lines, form_text, comment_text, item_text, subset_line, subset_lines, text_of_lines, dump_text_of, subset_entries, lines_before, document_of, dump_item_of, items_apart, compressed_dump_subsets}
-use Rattle.bufr_text.specs.Spelling.{IsProper, header_as, normal_head, comment_at, normal_line, draft_answer, line_and, normal_items, normal_subsets, normal}
-use Rattle.bufr_text.specs.RoundTrip.{AreValuesOf, IsReadAs, dump_items_in, each_subset}
-use Rattle.bufr_text.proofs.DumpableLemmas.{octets_are, dumpable}
-use Rattle.bufr_text.proofs.RoundTripLemmas.{padded, payload_bits, size_is, octets_small, framed, same_form, all_apart, all_together, bit_back, parts_back, parts_with}
+use Rattle.bufr_text.specs.Prelude.{Form, Document, optional_in, head_from_values, Complete, documents_of, IsHeaded, observed_in, compressed_in, section2_in, too_long, refused_at, ◌>>=◌, report_of_template, report_of_items, data_bits, octets_of_bits, parts_as, compressed_as, message_of, encoding_in, RefusedAt, parts_of_document, encoding_of, IsOctet, DumpItem, bit, header_lines, local1_line, section2_line, descriptors_line, head_lines, item_text, subset_line, subset_lines, text_of_lines, dump_text_of, subset_entries, lines_before, document_of, dump_item_of, items_apart, compressed_dump_subsets, IsProper, header_as, normal_head, normal_line, draft_answer, line_and, normal_items, normal_subsets, normal, AreValuesOf, IsReadAs, dump_items_in, each_subset, runs_of, keys}
+use Rattle.bufr_text.proofs.RoundTripLemmas.{octets_are, dumpable, padded, payload_bits, size_is, octets_small, framed, same_form, all_apart, all_together, bit_back, parts_back, parts_with, rows-read}
 use Rattle.bufr_text.proofs.FormLemmas.{plain_reading, packed_reading, items_each}
 use Rattle.bufr_text.proofs.HeaderLemmas.{headed-fits, subsets-few, header-widest}
 use Rattle.bufr_frame.specs.declared.section1.Head.{Head}
-use Rattle.bufr_walk.specs.FieldSpec.{FieldSpec}
-use Rattle.bufr_walk.specs.Calls.{view_of}
-use Rattle.bufr_walk.specs.Refusal.{data_of}
-use Rattle.bufr_fill.specs.DraftContent.{content_of, normal_form}
 use Rattle.bufr_fill.proofs.PlainLaws.{normal_dumped, said_fxy}
 use Rattle.bufr_fill.proofs.FormLaws.{Follows, AllFollow}
 use Rattle.bufr_fill.proofs.WholeLaws.{subsets_said, together_said, said_from, plain_follows, packed_follows, plain_said_alike, packed_said_alike}
 use Rattle.bufr_text.specs.declared.encode.Form.TheVariants.{AsWritten, Plain, Compressed}
-use Rattle.bufr_text.specs.Grammar.{runs_of}
-use Rattle.bufr_text.specs.Line.{keys}
 use Rattle.bufr_text.proofs.LawLemmas.{one-document}
-use Rattle.bufr_text.proofs.RowsLemmas.{rows-read}
 use Rattle.bufr_walk.specs.Reading as reading
+use Rattle.std.proofs.lemmas.Grind.{common_steps}
 
 -- ---- The message of a document that was encoded is accepted, and says what the document says.
 
@@ -146,9 +125,7 @@ module _ (form : Form) (records : List Record) (table : List Row) (sequences : L
 -- ---- the items
 
 line_is : (table : List Row) (spec : FieldSpec) (d : Draft) (c : Content) → content_of spec d ≡ Ok c → normal_line table spec d ≡ item_text (dump_item_of (view_of table spec c))
-line_is table spec d c said =
-    ap (λ f. form_text f (normal_form spec d.form) ++ comment_text (comment_at table spec)) (said_fxy spec d c said)
-    ∙ ap (λ f. form_text spec.fxy f ++ comment_text (comment_at table spec)) (normal_dumped spec d c said ∙ sym (same_form spec c))
+line_is table spec d c h1 = grind (arith, nat_tests, common_steps, said_fxy, normal_dumped, same_form)
 
 items_are : (table : List Row) (course : Course) (items : List (reading.Item Content)) (ds : List Draft) → Follows course items → AreDrafts IsSaid items ds → normal_items table course ds ≡ map item_text (items_apart table items)
 items_are table course [] [] f said = refl
@@ -188,11 +165,7 @@ all_values (suc n) (x ∷ xs) h = let l : length xs ≡ n = omega (arith, h) in 
 
 -- a flag of 0 or 1
 flag_back : (v : ℕ) → v ≤ 1 → bit (v == 1) ≡ v
-flag_back v h = by (v == 1) refl
-  where
-    by : (b : Bool) → (v == 1) ≡ b → bit b ≡ v
-    by true e = let is : v ≡ 1 = grind (arith, nat_tests) in sym is
-    by false e = let is : v ≡ 0 = grind (arith, nat_tests) in sym is
+flag_back v h1 = grind (arith, nat_tests, common_steps)
 
 section2_flag : (b : Bool) (octets : List ℕ) → bit (is_some (if b then Some octets else None)) ≡ bit b
 section2_flag true octets = refl

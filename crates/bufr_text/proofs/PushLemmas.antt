@@ -1,29 +1,36 @@
 -- Texts that are pushed one after another, and the calls that show a reading.
-use Rattle.std.proofs.Common.{◌≡◌, ℕ, ◌≤◌, List, ◌++◌, length, take, drop, sym, ◌∙◌, ap, Option, None, Some, Ok, Err, append_assoc, ◌+◌, zero, suc, [], ◌∷◌, replicate, refl, subst, arith, append-nil, length-append, map, inl, inr, codes}
-use Rattle.std.specs.Prelude.{Result, flat_map}
+use Rattle.std.proofs.Common.{◌≡◌, ℕ, ◌≤◌, List, ◌++◌, length, take, drop, sym, ◌∙◌, ap, Option, None, Some, Ok, Err, append_assoc, ◌+◌, zero, suc, [], ◌∷◌, replicate, refl, subst, arith, append-nil, length-append, map, inl, inr, codes, ◌-◌, ◌<◌, Bool, true, false, ◌*◌, ◌/◌, ◌%◌, ◌^◌, ◌&&◌, T, eqb, eqb→eq, eq-zero-or-pos, get_or, length-drop, int_lt, ◌==◌, if◌then◌else◌, not, ℤ, pos, negsuc, min, option_map, Result, flat_map, decimal, unwrap_or, IsTrue, ◌↔◌, is_some, unsigned_abs, slice_index}
 use Rattle.std.specs.Io.KnownBytes.{Appends}
-use Rattle.std.proofs.KnownBytes.{Appends-trans, Appends-nil}
-use Rattle.std.proofs.lemmas.List.{take-append-drop, length-take-le}
+use Rattle.std.proofs.KnownBytes.{Appends-trans}
+use Rattle.std.proofs.lemmas.List.{take-append-drop, length-take-le, take_all, length-replicate, at_drop_more, at_drop_all, take_more, length-set, take_more_set}
 use Rattle.bufr_frame.specs.declared.fault.RunFault.{RunFault}
-use Rattle.bufr_text.specs.Writing.{MovesPrefix, Writes, GrowsByPrefix, CountsWrites, LineModel, Moves, MovesOn, StaysFailed, PushesFrom, Pushes, Puts}
+use Rattle.bufr_text.specs.Prelude.{MovesPrefix, Writes, GrowsByPrefix, CountsWrites, LineModel, Moves, MovesOn, StaysFailed, PushesFrom, Pushes, Puts, joined, flag, zero_padded, item_text, subset_line, subset_lines, text_of_lines, head_lines, dump_text_of, items_apart, dump_items_of, bit, header_of, header_lines, local1_line, section2_line, descriptors_line, CountsFaults, MakesSteps, StepsWithin, WritesPrefix, call_line, Ends, IsFirstFault, PushesCall, PushesPrefix, subsets_text, descriptors_text, runs_after, runs_of, escaped, hex_pair, hex_text, is_unescaped, quoted, header_text, lead_of, keys, key_in, IsNumberTo, category_texts, counts_texts, ls_line, origin_texts, tables_texts, time_texts, DocumentFault, RefusedAt, IsDocumentRefusal, reported_refusal}
 use Rattle.std.proofs.Math.Seq.{take-append_seam}
 use borrow.Rule.Slice.PartMut.{put_mid, post_of}
-use Rattle.std.proofs.lemmas.Grind.{flat_map-append}
-use Rattle.bufr_frame.specs.Sections.{Sections}
+use Rattle.std.proofs.lemmas.Grind.{flat_map-append, common_steps}
+use Rattle.bufr_frame.specs.Prelude.{Sections}
 use Rattle.bufr_frame.specs.declared.fault.RunFault.TheVariants.{Write}
-use Rattle.bufr_tables.specs.TableB.{Row}
+use Rattle.bufr_tables.specs.Prelude.{Row, fxy_text}
 use Rattle.bufr_walk.specs.declared.fault.ShowFault.{ShowFault}
-use Rattle.bufr_walk.specs.Calls.{item_call, Timed, view_of, content_at, item_calls, subset_calls, compressed_item_calls, compressed_subset_calls, calls_of, turns_shown, Shows, EndsAt}
-use Rattle.bufr_walk.specs.Content.{Content}
-use Rattle.bufr_walk.specs.Course.{Course}
-use Rattle.bufr_walk.specs.Reading.{Item, Values, apart, together, plain, after, turns_after}
-use Rattle.bufr_walk.specs.Walk.{ticked}
-use Rattle.bufr_text.specs.Dump.{item_text, subset_line, subset_lines, text_of_lines, head_lines, dump_text_of, items_apart, dump_items_of}
-use Rattle.bufr_text.specs.DumpWritten.{CountsFaults, MakesSteps, StepsWithin, WritesPrefix}
-use Rattle.bufr_text.specs.Pen.{call_line, Ends, IsFirstFault, PushesCall, PushesPrefix, subsets_text}
+use Rattle.bufr_walk.specs.Prelude.{item_call, Timed, view_of, content_at, item_calls, subset_calls, compressed_item_calls, compressed_subset_calls, calls_of, turns_shown, Shows, EndsAt, Content, Course, ticked, Item, Values, apart, together, plain, after, turns_after}
+use Rattle.std.specs.Int.{from_bool}
+use Rattle.std.proofs.lemmas.Bool.{cases_lt}
+use lib.Ieee.Fits.{and_l, and_r}
+use Rattle.itoa.proofs.Decimal.{decimal_pair, decimal_two}
+use Rattle.bufr_text.specs.declared.numbers.TheConstants.{PAIRS}
+use Rattle.bufr_text.specs.declared.line.TheConstants.{UNESCAPED}
+use Rattle.bufr_bits.specs.Prelude.{pointed, decimal_text_of, unsigned_text, sign_of}
+use Rattle.std.proofs.lemmas.Fmt.{decimal_digit, decimal_step, decimal_nonempty}
+use Rattle.std.proofs.lemmas.Bool.Decides.{nat_tests}
+use Rattle.std.specs.Char.{is_ascii_digit}
+use Rattle.std.specs.Str.Parse.{digits_value}
+use Rattle.std.proofs.lemmas.List.Folds.{list_all_more}
+use Rattle.bufr_bits.proofs.DecimalLemmas.{value-append}
 use Rattle.bufr_walk.specs.declared.fault.ShowFault.TheVariants as show
-use Rattle.bufr_walk.specs.Refusal as outcome
+use Rattle.bufr_walk.specs.Reading as outcome
 use Rattle.bufr_text.specs.Dump as dumped
+use Rattle.bufr_text.specs.declared.fault.DocumentFault.TheVariants as fault
+use Rattle.bufr_bits.proofs.CountLemmas.{empty_writes_after-some}
 
 -- ---- Texts that are written one after another.
 
@@ -42,18 +49,11 @@ module _ (a b c : Option (List ℕ)) (s t : List ℕ) where
   )
 
 prefix-more : (a b : Option (List ℕ)) (s t : List ℕ) → GrowsByPrefix a b s → GrowsByPrefix a b (s ++ t)
-prefix-more a b s t first = record {
-  prefix = first.prefix;
-  back = first.back ++ t;
-  parts = ap (λ l. l ++ t) first.parts ∙ append_assoc first.prefix first.back t;
-  gains = first.gains;
-}
+prefix-more a b s t h1 = grind (arith, nat_tests, common_steps)
 
 -- the first could not be written
 pub Writes-stop : {X Y : Type 0} (a b : Option (List ℕ)) (s t : List ℕ) (first : Result X RunFault) (r : Result Y RunFault) (f : RunFault) → Writes a b s first → first ≡ Err f → r ≡ Err f → Writes a b (s ++ t) r
-Writes-stop a b s t first r f writes is same =
-    let here = rw is at writes in
-    rw same (here.0, prefix-more a b s t here.1)
+Writes-stop a b s t first r f h1 h2 h3 = grind (arith, nat_tests, common_steps)
 
 -- one more write of the rest
 pub more-written : (a b c : Option (List ℕ)) (octets rest rest' : List ℕ) (n : ℕ) → MovesPrefix a b octets rest → n ≤ length rest → Appends b c (take n rest) → rest' ≡ drop n rest
@@ -132,49 +132,20 @@ pub ◌⨾◌ : {a b c : LineModel} {s t : List ℕ} → Pushes a s b → Pushes
   sink = second.sink ∙ first.sink;
 }
 
--- a text is held after what was held
-holds_from : (a b : LineModel) (text : List ℕ) (r : Result Unit RunFault) → a.status ≡ r → b.status ≡ a.status → b.taken ≡ a.taken → b.failures ≡ a.failures → b.empty_writes ≡ a.empty_writes → b.held ≡ a.held ++ text → PushesFrom r a text b
-holds_from a b text (Ok x) is same taken failures empty held = record {
-  moves = rw (same, is) (record { prefix = []; parts = sym held; gains = rw taken (Appends-nil a.taken) });
-  counts = rw (same, is) (failures, empty);
-}
-holds_from a b text (Err f) is same taken failures empty held = record {
-  status = same ∙ is;
-  taken = taken;
-  failures = failures;
-  empty_writes = empty;
-}
-
 pub holds_pushes : {a b : LineModel} {text : List ℕ} → b.status ≡ a.status → b.taken ≡ a.taken → b.failures ≡ a.failures → b.empty_writes ≡ a.empty_writes → b.flushes ≡ a.flushes → b.sink ≡ a.sink
     → b.held ≡ a.held ++ text → Pushes a text b
-holds_pushes {a = a} {b = b} {text = text} status taken failures empty flushes sink held = record {
-  from = holds_from a b text a.status refl status taken failures empty held;
-  flushes = flushes;
-  sink = sink;
-}
+holds_pushes h1 h2 h3 h4 h5 h6 h7 = grind (arith, nat_tests, common_steps)
 
 pub nothing_pushed : {a : LineModel} → Pushes a [] a
 nothing_pushed {a = a} = holds_pushes refl refl refl refl refl refl (sym (append-nil a.held))
 
 -- the same text in other words
 pub retold : {a b : LineModel} {s t : List ℕ} → Pushes a s b → s ≡ t → Pushes a t b
-retold {a = a} {b = b} pushes is =
-    let P : List ℕ → Type 0 = λ l. Pushes a l b in
-    subst P is pushes
-
--- all that was pushed and written by a writer that held nothing
-all_moved : (a b : LineModel) (text : List ℕ) (r : Result Unit RunFault) → a.held ≡ [] → b.held ≡ [] → Moves a.taken b.taken (a.held ++ text) b.held r → Writes a.taken b.taken text r
-all_moved a b text (Ok x) none empty moves =
-    let P : List ℕ → Type 0 = λ l. Appends a.taken b.taken l in
-    subst P (sym (append-nil moves.prefix) ∙ ap (λ l. moves.prefix ++ l) (sym empty) ∙ sym moves.parts ∙ ap (λ l. l ++ text) none) moves.gains
-all_moved a b text (Err f) none empty moves = rw none at moves
+retold h1 h2 = grind (arith, nat_tests, common_steps)
 
 pub all_written : {a b c : LineModel} {text : List ℕ} {r : Result Unit RunFault} {old new : Option (List ℕ)} (x : Unit) → Pushes a text b → Pushes b [] c → a.status ≡ Ok x → a.held ≡ [] → c.held ≡ []
     → a.taken ≡ old → new ≡ c.taken → r ≡ c.status → Writes old new text r
-all_written {a = a} {b = b} {c = c} {text = text} {r = r} x pushed handed ok none empty was is ends =
-    let pushes = pushed ⨾ handed in
-    let from = rw ok at pushes.from in
-    rw (← was, is, ends) (rw append-nil at (all_moved a c (text ++ []) c.status none empty from.moves))
+all_written x h1 h2 h3 h4 h5 h6 h7 h8 = grind (arith, nat_tests, common_steps)
 
 -- what is held with a prefix of the free octets filled
 pub held_filled : (octets free text : List ℕ) (len n k : ℕ) → len ≤ length octets → n ≤ length free → take n free ≡ text → take (len + n) (put_mid len k octets free) ≡ take len octets ++ text
@@ -190,17 +161,11 @@ held_filled octets free text len n k within fits is =
 
 -- a text was put, in other words
 pub puts_retold : (old new : List ℕ) (at : ℕ) (r : Option ℕ) {s t : List ℕ} → Puts old at s new r → s ≡ t → Puts old at t new r
-puts_retold old new at r puts is =
-    let P : List ℕ → Type 0 = λ l. Puts old at l new r in
-    subst P is puts
+puts_retold old new at r h1 h2 = grind (arith, nat_tests, common_steps)
 
 -- a text was put, and then another
 pub puts_then : (old mid new : List ℕ) (at end : ℕ) (r : Option ℕ) (s t : List ℕ) {all : List ℕ} → Puts old at s mid (Some end) → Puts mid end t new r → s ++ t ≡ all → Puts old at all new r
-puts_then old mid new at end None s t first second is = tt
-puts_then old mid new at end (Some e) s t first second is = (
-  second.0,
-  second.1 ∙ ap (λ l. l ++ t) first.1 ∙ append_assoc (take at old) s t ∙ ap (λ l. take at old ++ l) is,
-)
+puts_then old mid new at end r s t h1 h2 h3 = grind (arith, nat_tests, common_steps)
 
 -- a text is first
 pub puts_first : (s rest first : List ℕ) → first ≡ s → (length s ≤ length (first ++ rest)) × (take (length s) (first ++ rest) ≡ s)
@@ -208,10 +173,7 @@ puts_first s rest first is = rw is (omega (arith, length-append s rest), take-ap
 
 -- a prefix of the octets from a place on was filled
 pub puts_from : (free part : List ℕ) (at n k : ℕ) {text : List ℕ} → at ≤ length free → n ≤ length part → take n part ≡ text → Puts free at text (put_mid at k free part) (Some (at + n))
-puts_from free part at n k {text} within fits is = (
-  omega (arith, length-append (take at free) (part ++ post_of at k free), length-append part (post_of at k free), length-take-le at free within, fits),
-  held_filled free part text at n k within fits is,
-)
+puts_from free part at n k h1 h2 h3 = grind (arith, nat_tests, common_steps, length-append, length-take-le, held_filled)
 
 -- one more text of some
 pub zeros_more : (done : ℕ) → replicate {A = ℕ} done 48 ++ 48 ∷ [] ≡ replicate (done + 1) 48
@@ -225,9 +187,6 @@ pub record PushedSoFar (before after : LineModel) (text rest : List ℕ) : Type 
   pub prefix : List ℕ
   pub parts : text ≡ prefix ++ rest
   pub pushes : Pushes before prefix after
-
-pub so_far_start : {a : LineModel} {text : List ℕ} → PushedSoFar a a text text
-so_far_start {a = a} {text = text} = record { prefix = []; parts = refl; pushes = nothing_pushed }
 
 pub so_far_on : {a b c : LineModel} {text rest here more : List ℕ} → PushedSoFar a b text rest → rest ≡ here ++ more → Pushes b here c → PushedSoFar a c text more
 so_far_on {here = here} {more = more} before next pushes = record {
@@ -250,10 +209,6 @@ so_far_end before none = so_far_last before none nothing_pushed
 abbrev pub calls_text : List Timed → List ℕ
 calls_text calls = flat_map (λ t. call_line t.call ++ 10 ∷ []) calls
 
-calls-append : (xs ys : List Timed) → calls_text (xs ++ ys) ≡ calls_text xs ++ calls_text ys
-calls-append [] ys = refl
-calls-append (t ∷ xs) ys = ap (λ l. (call_line t.call ++ 10 ∷ []) ++ l) (calls-append xs ys) ∙ sym (append_assoc (call_line t.call ++ 10 ∷ []) (calls_text xs) (calls_text ys))
-
 text-append : (xs ys : List (List ℕ)) → text_of_lines (xs ++ ys) ≡ text_of_lines xs ++ text_of_lines ys
 text-append xs ys = flat_map-append (λ line. line ++ 10 ∷ []) xs ys
 
@@ -271,9 +226,7 @@ together-text table j (i ∷ items) =
 -- a subset, and those after it
 subset-text : (number : ℕ) (calls more : List Timed) (lines suffix : List (List ℕ)) → calls_text calls ≡ text_of_lines lines → calls_text more ≡ text_of_lines suffix
     → (subset_line number ++ 10 ∷ []) ++ calls_text (calls ++ more) ≡ text_of_lines (subset_line number ∷ (lines ++ suffix))
-subset-text number calls more lines suffix here there =
-    ap (λ l. (subset_line number ++ 10 ∷ []) ++ l)
-    (calls-append calls more ∙ ap (λ l. l ++ calls_text more) here ∙ ap (λ l. text_of_lines lines ++ l) there ∙ sym (text-append lines suffix))
+subset-text number calls more lines suffix h1 h2 = grind (arith, nat_tests, common_steps)
 
 subsets-text : (table : List Row) (course : Course) (before number : ℕ) (subsets : List (List (Item Content))) → calls_text (subset_calls table course before number subsets) ≡ text_of_lines (subset_lines number (map (items_apart table) subsets))
 unfolding subset_lines
@@ -296,22 +249,8 @@ pub reading-text : (r : outcome.Read) (values : Values) → calls_text (calls_of
 reading-text r (apart subsets) = subsets-text r.table (outcome.course_of r) 0 1 subsets
 reading-text r (together items) = all-together-text r.table r.source.subsets 0 items
 
--- the lines before the subsets, the subsets and the last line
-pub dump-text-is : (s : Sections) (r : outcome.Read) (values : Values) → text_of_lines (head_lines s) ++ subsets_text r values ≡ dump_text_of s (dump_items_of r values)
-dump-text-is s r values =
-    let subsets = dump_items_of r values in
-    ap (λ l. text_of_lines (head_lines s) ++ l) (sym (text-append (subset_lines 1 subsets) (codes "end" ∷ [])))
-    ∙ sym (text-append (head_lines s) (subset_lines 1 subsets ++ codes "end" ∷ []))
-
--- a write had failed: whatever comes after it is as if it were pushed
-stuck_from : (a : LineModel) (t : List ℕ) (f : RunFault) (r : Result Unit RunFault) → a.status ≡ r → r ≡ Err f → PushesFrom r a t a
-stuck_from a t f (Ok x) same is = absurd (cc)
-stuck_from a t f (Err g) same is = record { status = same; taken = refl; failures = refl; empty_writes = refl }
-
 pub fails_pushes : {a b : LineModel} {s : List ℕ} (t : List ℕ) (f : RunFault) → Pushes a s b → b.status ≡ Err f → Pushes a (s ++ t) b
-fails_pushes {b = b} t f pushes is =
-    let on : Pushes b t b = record { from = stuck_from b t f b.status refl is; flushes = refl; sink = refl } in
-    pushes ⨾ on
+fails_pushes t f h1 h2 = grind (arith, nat_tests, common_steps)
 
 -- What the calls of a showing push: all their lines, or a prefix where memory ran out.
 abbrev pub PushesCalls : LineModel → List ℕ → Result (Unit {0}) (ShowFault RunFault) → LineModel → Type 0
@@ -335,13 +274,11 @@ calls-end : (a b : LineModel) (t : Timed) (text : List ℕ) (why : ShowFault Run
 calls-end a b t text (show.Visitor f) here = (fails_pushes text f here.pushes (sym here.status), sym here.status)
 calls-end a b t text show.Memory here =
     let whole = (call_line t.call ++ 10 ∷ []) ++ text in
-    let P : LineModel → Type 0 = λ z. PushesPrefix a whole z in
-    subst P (sym here.0) (record { prefix = []; suffix = whole; parts = refl; pushes = nothing_pushed })
+    rw here.0 (record { prefix = []; suffix = whole; parts = refl; pushes = nothing_pushed })
 
 pub calls-pushed : (a : LineModel) (calls : List Timed) (turns : ℕ) (r : Result (Unit {0}) (ShowFault RunFault)) (b : LineModel) (steps : ℕ) → Shows PushesCall a calls turns r b steps → PushesCalls a (calls_text calls) r b
 calls-pushed a [] turns (Ok x) b steps (same, made) =
-    let P : LineModel → Type 0 = λ z. Pushes a [] z in
-    subst P (sym same) nothing_pushed
+    rw same nothing_pushed
 calls-pushed a [] turns (Err why) b steps none = absurd none
 calls-pushed a (t ∷ calls) turns (Ok x) b steps (mid, one, more) = calls-on a mid b (call_line t.call ++ 10 ∷ []) (calls_text calls) (Ok x) one.pushes (calls-pushed mid calls turns (Ok x) b steps more)
 calls-pushed a (t ∷ calls) turns (Err why) b steps (inl (here, made)) = calls-end a b t (calls_text calls) why here
@@ -379,12 +316,7 @@ none-made r values steps result fault is none = rw (is, none) (no-steps r values
 
 -- a prefix of a text was pushed, and with it one of a longer text
 prefix-longer : {a b : LineModel} {s : List ℕ} (t : List ℕ) → PushesPrefix a s b → PushesPrefix a (s ++ t) b
-prefix-longer t first = record {
-  prefix = first.prefix;
-  suffix = first.suffix ++ t;
-  parts = ap (λ l. l ++ t) first.parts ∙ append_assoc first.prefix first.suffix t;
-  pushes = first.pushes;
-}
+prefix-longer t h1 = grind (arith, nat_tests, common_steps)
 
 module _ (a b : LineModel) (r : outcome.Read) (values : Values) where
   text-is : subsets_text r values ≡ calls_text (calls_of r values) ++ codes "end\n"
@@ -407,8 +339,7 @@ module _ (a b : LineModel) (r : outcome.Read) (values : Values) where
   -- a prefix of the calls was made
   pub ends-first : (first : RunFault) → PushesPrefix a (calls_text (calls_of r values)) b → IsFirstFault b.status first → Ends a (subsets_text r values) (Err first) b
   ends-first first within is =
-      let P : List ℕ → Type 0 = λ l. PushesPrefix a l b in
-      (subst P (sym text-is) (prefix-longer (codes "end\n") within), is)
+      (rw (text-is) (prefix-longer (codes "end\n") within), is)
 
   -- a write failed
   pub ends-failed : (fault : RunFault) → Pushes a (calls_text (calls_of r values)) b → b.status ≡ Err fault → Ends a (subsets_text r values) (Err fault) b
@@ -475,6 +406,377 @@ module _ {a b c : LineModel} {head : List ℕ} (rest : List ℕ) (ok : a.status 
 -- the dump text of a message, by a writer of lines over a sink
 pub all-written-of : {a c : LineModel} {old new : Option (List ℕ)} (s : Sections) (read : outcome.Read) (values : Values) (r : Result Unit RunFault) → LeavesSink a (text_of_lines (head_lines s) ++ subsets_text read values) r c → a.taken ≡ old → new ≡ c.taken
     → WritesPrefix old new (dump_text_of s (dump_items_of read values)) r
-all-written-of {a = a} {c = c} s read values r left was is =
-    let P : List ℕ → Type 0 = λ l. WritesPrefix a.taken c.taken l r in
-    rw (← was, is) (subst P (dump-text-is s read values) left.writes)
+all-written-of s read values r h1 h2 h3 = grind (arith, nat_tests, common_steps)
+
+-- ---- The listing line, and the lines of a dump before its subsets.
+
+line-on : (name value more : List ℕ) → ((name ++ 32 ∷ value) ++ 10 ∷ []) ++ more ≡ name ++ (32 ∷ (value ++ 10 ∷ more))
+line-on name value more = append_assoc (name ++ 32 ∷ value) (10 ∷ []) more ∙ append_assoc name (32 ∷ value) (10 ∷ more)
+
+key-on : (name value more : List ℕ) → name ++ (32 ∷ (value ++ (more ++ 10 ∷ []))) ≡ ((name ++ 32 ∷ []) ++ (value ++ more)) ++ 10 ∷ []
+key-on name value more = grind (arith, nat_tests, common_steps)
+
+-- lines of keys, with the line feed before each in place of the one after it
+header-lines : (key : ℕ) (values : List ℕ) → 10 ∷ text_of_lines (header_lines key values) ≡ header_text key values ++ 10 ∷ []
+unfolding header_lines header_text
+header-lines key [] = refl
+header-lines key (value ∷ more) =
+    let name : List ℕ = (key_in keys key).name in
+    ap (λ (l : List ℕ). 10 ∷ l) (line-on name (decimal value) (text_of_lines (header_lines (key + 1) more))
+    ∙ ap (λ l. name ++ (32 ∷ (decimal value ++ l))) (header-lines (key + 1) more)
+    ∙ key-on name (decimal value) (header_text (key + 1) more))
+
+header-append : (key : ℕ) (xs ys : List ℕ) → header_text key xs ++ header_text (key + length xs) ys ≡ header_text key (xs ++ ys)
+unfolding header_text
+header-append key [] ys = let none : key + 0 ≡ key = omega arith in ap (λ k. header_text k ys) none
+header-append key (x ∷ xs) ys =
+    let lead : List ℕ = lead_of (key_in keys key) in
+    let next : key + suc (length xs) ≡ key + 1 + length xs = omega arith in
+    append_assoc lead (decimal x ++ header_text (key + 1) xs) (header_text (key + suc (length xs)) ys)
+    ∙ ap (λ l. lead ++ l) (append_assoc (decimal x) (header_text (key + 1) xs) (header_text (key + suc (length xs)) ys)
+    ∙ ap (λ l. decimal x ++ l) (ap (λ k. header_text (key + 1) xs ++ header_text k ys) next ∙ header-append (key + 1) xs ys))
+
+-- the line `message`, and the lines of the keys
+pub header-is : (s : Sections) → codes "message" ++ (header_text 0 (take 10 (header_of s)) ++ header_text 10 (drop 10 (header_of s)) ++ codes "\n") ≡ text_of_lines (codes "message" ∷ header_lines 0 (header_of s))
+header-is s =
+    ap (λ l. codes "message" ++ l) (ap (λ l. l ++ codes "\n") (header-append 0 (take 10 (header_of s)) (drop 10 (header_of s))) ∙ sym (header-lines 0 (header_of s)))
+
+-- a flag as a number
+pub flag-is : (on : Bool) → from_bool on ≡ bit on
+flag-is true = refl
+flag-is false = refl
+
+-- no section 2, no lines
+pub no-section2 : {X : Type 0} (f : X → List ℕ) (o : Option X) (section2 : Option (List ℕ)) → option_map f o ≡ section2 → o ≡ None → text_of_lines (map section2_line (runs_of 32 (unwrap_or section2 []))) ≡ []
+unfolding runs_after
+no-section2 f o section2 h1 h2 = grind (arith, nat_tests, common_steps)
+
+-- one more descriptor of a line of at most eight
+pub descriptors-next : (left left' : List ℕ) (done w : ℕ) → done < 8 → left ≡ w ∷ left' → descriptors_text (take (8 - done) left) ≡ (32 ∷ fxy_text w) ++ descriptors_text (take (8 - (done + 1)) left')
+unfolding descriptors_text
+descriptors-next left left' done w h1 h2 = grind (arith, nat_tests, common_steps)
+
+pub left-next : (left left' all : List ℕ) (done w : ℕ) → done < 8 → left ≡ w ∷ left' → drop (8 - done) left ≡ all → drop (8 - (done + 1)) left' ≡ all
+left-next left left' all done w few is whole =
+    let e : 8 - done ≡ suc (8 - (done + 1)) = omega arith in
+    sym (ap (λ n. drop n (w ∷ left')) e) ∙ sym (ap (λ l. drop (8 - done) l) is) ∙ whole
+
+-- no descriptor is left, or the line takes no more
+pub descriptors-none : (n : ℕ) (left : List ℕ) → left ≡ [] → descriptors_text (take n left) ≡ []
+unfolding descriptors_text
+descriptors-none n left h1 = grind (arith, nat_tests, common_steps)
+
+pub descriptors-full : (n : ℕ) (left : List ℕ) → n ≡ 0 → descriptors_text (take n left) ≡ []
+unfolding descriptors_text
+descriptors-full n left full = ap (λ k. descriptors_text (take k left)) full
+
+-- the lines before the subsets, one kind after another
+pub head-is : (s : Sections)
+    → text_of_lines (codes "message" ∷ header_lines 0 (header_of s)) ++ (text_of_lines (map local1_line (runs_of 32 s.local1))
+    ++ (text_of_lines (map section2_line (runs_of 32 (unwrap_or s.section2 []))) ++ text_of_lines (map descriptors_line (runs_of 8 s.descriptors))))
+    ≡ text_of_lines (head_lines s)
+head-is s = grind (arith, nat_tests, common_steps)
+
+-- ---- The lines of octets and of descriptors, one after another.
+
+-- a list in runs: the first and the others
+runs-skip : (skip less : ℕ) (xs : List ℕ) → runs_after skip (suc less) xs ≡ runs_after 0 (suc less) (drop skip xs)
+unfolding runs_after
+runs-skip zero less xs = refl
+runs-skip (suc skip) less [] = refl
+runs-skip (suc skip) less (x ∷ xs) = runs-skip skip less xs
+
+pub runs-next : (less : ℕ) (xs : List ℕ) → 0 < length xs → runs_of (suc less) xs ≡ take (suc less) xs ∷ runs_of (suc less) (drop (suc less) xs)
+unfolding runs_after
+runs-next less xs h1 = grind (arith, nat_tests, common_steps, runs-skip)
+
+-- the lines of runs: the first and the others
+pub lines-next : (f : List ℕ → List ℕ) (less : ℕ) (xs : List ℕ) → 0 < length xs → text_of_lines (map f (runs_of (suc less) xs)) ≡ (f (take (suc less) xs) ++ 10 ∷ []) ++ text_of_lines (map f (runs_of (suc less) (drop (suc less) xs)))
+lines-next f less xs some = ap (λ (l : List (List ℕ)). text_of_lines (map f l)) (runs-next less xs some)
+
+pub lines-none : (f : List ℕ → List ℕ) (most : ℕ) (xs : List ℕ) → length xs ≤ 0 → text_of_lines (map f (runs_of most xs)) ≡ []
+unfolding runs_after
+lines-none f most [] none = refl
+lines-none f most (x ∷ xs) none = absurd (omega (arith, none))
+
+-- a run that is cut at the end of the list
+cut-run : (n m : ℕ) (xs : List ℕ) → m ≡ min (length xs) n → (take m xs ≡ take n xs) × (drop m xs ≡ drop n xs)
+cut-run n m xs h1 = grind (arith, nat_tests, common_steps)
+
+-- the lines of octets after a word: the first and the others
+pub octet-lines-next : (f : List ℕ → List ℕ) (less m : ℕ) (rest run suffix : List ℕ) → 0 < length rest → m ≡ min (length rest) (suc less) → run ≡ take m rest → suffix ≡ drop m rest
+    → text_of_lines (map f (runs_of (suc less) rest)) ≡ (f run ++ 10 ∷ []) ++ text_of_lines (map f (runs_of (suc less) suffix))
+octet-lines-next f less m rest run suffix some is prefix back =
+    let cut = cut-run (suc less) m rest is in
+    lines-next f less rest some
+    ∙ ap (λ l. (f l ++ 10 ∷ []) ++ text_of_lines (map f (runs_of (suc less) (drop (suc less) rest)))) (sym (prefix ∙ cut.0))
+    ∙ ap (λ l. (f run ++ 10 ∷ []) ++ text_of_lines (map f (runs_of (suc less) l))) (sym (back ∙ cut.1))
+
+-- whether anything is left
+pub some-left : (b : Bool) (xs : List ℕ) → IsTrue b ↔ (xs ≡ []) → b ≡ false → 0 < length xs
+some-left b xs h1 h2 = grind (arith, nat_tests, common_steps)
+
+pub none-left : (b : Bool) (xs : List ℕ) → IsTrue b ↔ (xs ≡ []) → b ≡ true → length xs ≤ 0
+none-left true xs is e = let none : length xs ≡ 0 = ap length (is.0 refl) in omega (arith, none)
+none-left false xs is e = absurd cc
+
+-- ---- The line of a message, from what a message answers.
+
+pub is_some-map : {X Y : Type 0} (f : X → Y) (o : Option X) → is_some (option_map f o) ≡ is_some o
+is_some-map f (Some x) = refl
+is_some-map f None = refl
+
+pub joined-append : (xs ys : List (List ℕ)) → joined xs ++ joined ys ≡ joined (xs ++ ys)
+joined-append [] ys = refl
+joined-append (x ∷ xs) ys = append_assoc x (joined xs) (joined ys) ∙ ap (λ l. x ++ l) (joined-append xs ys)
+
+-- texts were pushed, and then others
+pub joined_then : {a b c : LineModel} (xs ys : List (List ℕ)) → Pushes a (joined xs) b → Pushes b (joined ys) c → Pushes a (joined (xs ++ ys)) c
+joined_then xs ys first second = retold (first ⨾ second) (joined-append xs ys)
+
+-- the stretches of the line, one after another
+pub line-pushed : {a one two three four b : LineModel} (offset : ℕ) (s : Sections) → Pushes a (joined (origin_texts offset s.size s.head)) one → Pushes one (joined (category_texts s.head)) two
+    → Pushes two (joined (tables_texts s.head)) three → Pushes three (joined (time_texts s.head)) four
+    → Pushes four (joined (counts_texts s.subsets s.observed s.compressed (is_some s.section2) (length s.descriptors))) b → Pushes a (ls_line offset s) b
+line-pushed offset s origin category tables time counts =
+    let C = counts_texts s.subsets s.observed s.compressed (is_some s.section2) (length s.descriptors) in
+    let later = time_texts s.head ++ C in
+    let more = tables_texts s.head ++ later in
+    joined_then (origin_texts offset s.size s.head) (category_texts s.head ++ more) origin
+    (joined_then (category_texts s.head) more category (joined_then (tables_texts s.head) later tables (joined_then (time_texts s.head) C time counts)))
+
+-- ---- Numbers, digit by digit and at a scale, and octets as texts.
+
+-- Numbers in at least so many digits, and with a point before the last of them.
+
+zeros_suc : (count : ℕ) → replicate {A = ℕ} count 48 ++ 48 ∷ [] ≡ replicate (suc count) 48
+zeros_suc zero = refl
+zeros_suc (suc count) = ap (λ (t : List ℕ). 48 ∷ t) (zeros_suc count)
+
+step_long : (m n : ℕ) → 10 ≤ n → n < 2 ^ 64 → zero_padded (m + 1) n ≡ zero_padded m (n / 10) ++ (48 + n % 10) ∷ []
+step_long m n h1 h2 = grind (arith, nat_tests, common_steps, decimal_step, length-append, append_assoc)
+
+step_short : (k n : ℕ) → n < 10 → zero_padded (suc k + 1) n ≡ zero_padded (suc k) (n / 10) ++ (48 + n % 10) ∷ []
+step_short k n h1 = grind (arith, nat_tests, common_steps, decimal_digit, zeros_suc)
+
+-- the last digit of two or more
+zero_padded_step : (m n : ℕ) → 1 ≤ m → n < 2 ^ 64 → zero_padded (m + 1) n ≡ zero_padded m (n / 10) ++ (48 + n % 10) ∷ []
+zero_padded_step zero n some fits = absurd (omega arith)
+zero_padded_step (suc k) n some fits = elim (cases_lt n 10) [ inl few ↦ step_short k n few | inr long ↦ step_long (suc k) n long fits ]
+
+-- one digit asks for no zero
+zero_padded_one : (n : ℕ) → n < 2 ^ 64 → zero_padded 1 n ≡ decimal n
+zero_padded_one n h1 = grind (arith, nat_tests, common_steps, decimal_nonempty)
+
+-- how long a number is with zeros before it
+pub length_zero_padded : (digits n : ℕ) → length (zero_padded digits n) ≡ digits - length (decimal n) + length (decimal n)
+length_zero_padded digits n =
+    length-append (replicate (digits - length (decimal n)) 48) (decimal n) ∙ ap (λ k. k + length (decimal n)) (length-replicate _ _)
+
+-- a point before the last of some octets
+point_before : (whole fraction all : List ℕ) (places : ℕ) → whole ++ fraction ≡ all → length fraction ≡ places
+    → whole ++ 46 ∷ fraction ≡ take (length all - places) all ++ 46 ∷ drop (length all - places) all
+point_before whole fraction all places h1 h2 = grind (arith, nat_tests, common_steps)
+
+-- the two digits of a number are in the table
+abbrev are_pairs : ℕ → Bool
+are_pairs zero = true
+are_pairs (suc p) = (eqb (get_or PAIRS (p * 2) 0) (48 + p / 10) && eqb (get_or PAIRS (p * 2 + 1) 0) (48 + p % 10)) && are_pairs p
+
+pub pairs_below : (n p : ℕ) → T (are_pairs n) → p < n → (get_or PAIRS (p * 2) 0 ≡ 48 + p / 10) × (get_or PAIRS (p * 2 + 1) 0 ≡ 48 + p % 10)
+pairs_below zero p t h = absurd (omega arith)
+pairs_below (suc n) p t h =
+    elim (eq-zero-or-pos (n - p)) [
+      | inl z ↦ let e : p ≡ n = omega arith in let a = and_l _ (are_pairs n) t in rw e (eqb→eq _ _ (and_l _ _ a), eqb→eq _ _ (and_r _ _ a))
+      | inr g ↦ pairs_below n p (and_r _ (are_pairs n) t) (omega arith)
+    ]
+
+-- four digits are two, and then two
+pub decimal_hundreds : (n : ℕ) → 10000 ≤ n → n < 2 ^ 64 → decimal (n / 10000) ++ (48 + n / 100 % 100 / 10) ∷ (48 + n / 100 % 100 % 10) ∷ [] ≡ decimal (n / 100)
+decimal_hundreds n h1 h2 = grind (arith, nat_tests, common_steps, decimal_pair)
+
+-- two more digits of those in at least so many
+padded_pair : (m n : ℕ) → 1 ≤ m → n < 2 ^ 64 → zero_padded (m + 2) n ≡ zero_padded m (n / 100) ++ (48 + n % 100 / 10) ∷ (48 + n % 100 % 10) ∷ []
+padded_pair m n some fits =
+    let ten : List ℕ = (48 + n / 10 % 10) ∷ [] in
+    let one : List ℕ = (48 + n % 10) ∷ [] in
+    let a : n / 10 / 10 ≡ n / 100 = omega arith in
+    let b : n / 10 % 10 ≡ n % 100 / 10 = omega arith in
+    let c : n % 10 ≡ n % 100 % 10 = omega arith in
+    let e : m + 2 ≡ m + 1 + 1 = omega arith in
+    ap (λ k. zero_padded k n) e ∙ zero_padded_step (m + 1) n (omega arith) fits ∙ ap (λ t. t ++ one) (zero_padded_step m (n / 10) some (omega arith))
+    ∙ append_assoc (zero_padded m (n / 10 / 10)) ten one ∙ ap (λ k. zero_padded m k ++ (48 + n / 10 % 10) ∷ (48 + n % 10) ∷ []) a
+    ∙ ap (λ t. zero_padded m (n / 100) ++ (48 + t) ∷ (48 + n % 10) ∷ []) b ∙ ap (λ t. zero_padded m (n / 100) ++ (48 + n % 100 / 10) ∷ (48 + t) ∷ []) c
+
+-- numbers in two digits and in four
+pub padded_two : (n : ℕ) → n < 100 → zero_padded 2 n ≡ (48 + n / 10) ∷ (48 + n % 10) ∷ []
+padded_two n few =
+    zero_padded_step 1 n (omega arith) (omega arith) ∙ ap (λ t. t ++ (48 + n % 10) ∷ []) (zero_padded_one (n / 10) (omega arith) ∙ decimal_digit (n / 10) (omega arith))
+
+pub padded_four : (n : ℕ) → n < 10000 → zero_padded 4 n ≡ (48 + n / 100 / 10) ∷ (48 + n / 100 % 10) ∷ (48 + n % 100 / 10) ∷ (48 + n % 100 % 10) ∷ []
+padded_four n few = padded_pair 2 n (omega arith) (omega arith) ∙ ap (λ t. t ++ (48 + n % 100 / 10) ∷ (48 + n % 100 % 10) ∷ []) (padded_two (n / 100) (omega arith))
+
+-- tenths and hundredths
+pub tenths_put : (n : ℕ) → n < 2 ^ 64 → decimal (n / 10) ++ 46 ∷ (48 + n % 10) ∷ [] ≡ pointed 1 (decimal n)
+tenths_put n fits =
+    let last : List ℕ = (48 + n % 10) ∷ [] in
+    let split : decimal (n / 10) ++ last ≡ zero_padded (1 + 1) n = ap (λ t. t ++ last) (sym (zero_padded_one (n / 10) (omega arith))) ∙ sym (zero_padded_step 1 n (omega arith) fits) in
+    point_before (decimal (n / 10)) last (zero_padded (1 + 1) n) 1 split refl
+
+pub hundredths_put : (n : ℕ) → n < 2 ^ 64 → decimal (n / 100) ++ 46 ∷ (48 + n % 100 / 10) ∷ (48 + n % 100 % 10) ∷ [] ≡ pointed 2 (decimal n)
+hundredths_put n fits =
+    let last : List ℕ = (48 + n % 100 / 10) ∷ (48 + n % 100 % 10) ∷ [] in
+    let split : decimal (n / 100) ++ last ≡ zero_padded (2 + 1) n = ap (λ t. t ++ last) (sym (zero_padded_one (n / 100) (omega arith))) ∙ sym (padded_pair 1 n (omega arith) fits) in
+    point_before (decimal (n / 100)) last (zero_padded (2 + 1) n) 2 split refl
+
+-- two more digits after the point
+pub pointed_pair : (p n : ℕ) → n < 2 ^ 64 → pointed p (decimal (n / 100)) ++ (48 + n % 100 / 10) ∷ (48 + n % 100 % 10) ∷ [] ≡ pointed (p + 2) (decimal n)
+pointed_pair p n fits =
+    let pair : List ℕ = (48 + n % 100 / 10) ∷ (48 + n % 100 % 10) ∷ [] in
+    let short = zero_padded (p + 1) (n / 100) in
+    let k = length short - p in
+    let long : p + 1 ≤ length short = omega (arith, length_zero_padded (p + 1) (n / 100)) in
+    let size : length (drop k short) ≡ p = omega (arith, length-drop k short, long) in
+    let more : length (drop k short ++ pair) ≡ p + 2 = omega (arith, length-append (drop k short) pair, size) in
+    let e : p + 2 + 1 ≡ p + 1 + 2 = omega arith in
+    let split : short ++ pair ≡ zero_padded (p + 2 + 1) n = sym (padded_pair (p + 1) n (omega arith) fits) ∙ ap (λ t. zero_padded t n) (sym e) in
+    let whole : take k short ++ (drop k short ++ pair) ≡ zero_padded (p + 2 + 1) n = sym (append_assoc (take k short) (drop k short) pair) ∙ ap (λ t. t ++ pair) (take-append-drop k short) ∙ split in
+    append_assoc (take k short) (46 ∷ drop k short) pair ∙ point_before (take k short) (drop k short ++ pair) (zero_padded (p + 2 + 1) n) (p + 2) whole more
+
+-- five digits after the point
+pub five_places : (n : ℕ) → n < 2 ^ 64 → decimal (n / 100000) ++ 46 ∷ (48 + n / 10000 % 10) ∷ (48 + n / 100 % 100 / 10) ∷ (48 + n / 100 % 100 % 10) ∷ (48 + n % 100 / 10) ∷ (48 + n % 100 % 10) ∷ [] ≡ pointed 5 (decimal n)
+five_places n fits =
+    let whole : n / 100000 ≡ n / 10000 / 10 = omega arith in
+    let same : n / 10000 ≡ n / 100 / 100 = omega arith in
+    let middle : List ℕ = (48 + n / 100 % 100 / 10) ∷ (48 + n / 100 % 100 % 10) ∷ [] in
+    let last : List ℕ = (48 + n % 100 / 10) ∷ (48 + n % 100 % 10) ∷ [] in
+    let first : List ℕ = 46 ∷ (48 + n / 10000 % 10) ∷ [] in
+    sym (append_assoc (decimal (n / 100000)) first (middle ++ last)) ∙ sym (append_assoc (decimal (n / 100000) ++ first) middle last)
+    ∙ ap (λ k. ((decimal k ++ first) ++ middle) ++ last) whole ∙ ap (λ l. (l ++ middle) ++ last) (tenths_put (n / 10000) (omega arith))
+    ∙ ap (λ k. (pointed 1 (decimal k) ++ middle) ++ last) same ∙ ap (λ l. l ++ last) (pointed_pair 1 (n / 100) (omega arith)) ∙ pointed_pair 3 n fits
+
+-- ---- A number at a scale, part by part.
+
+not_zero : (n : ℕ) → (suc n == 0) ≡ false
+not_zero n = grind (arith, nat_tests)
+
+-- a number that is not below zero, at a scale above 0
+pub unsigned_pointed : (n : ℕ) (scale : ℤ) (places : ℕ) → int_lt (pos 0) scale ≡ true → places ≡ unsigned_abs scale → pointed places (decimal n) ≡ unsigned_text n scale
+unfolding unsigned_text
+unsigned_pointed n (pos (suc m)) places h e = ap (λ (k : ℕ). pointed k (decimal n)) e
+unsigned_pointed n scale places h e = absurd cc
+
+-- and at one of 0 or below
+pub unsigned_plain : (n : ℕ) (scale : ℤ) (places count : ℕ) → int_lt (pos 0) scale ≡ false → places ≡ unsigned_abs scale → count ≡ (if n == 0 then 0 else places) → decimal n ++ replicate count 48 ≡ unsigned_text n scale
+unfolding unsigned_text
+unsigned_plain n scale places count h1 h2 h3 = grind (arith, nat_tests, common_steps)
+
+pub signed_text : (v scale : ℤ) (size : ℕ) → size ≡ unsigned_abs v → sign_of v ++ unsigned_text size scale ≡ decimal_text_of v scale
+unfolding decimal_text_of
+signed_text v scale size e = ap (λ k. sign_of v ++ unsigned_text k scale) e
+
+-- digits with a point before the last of them, where these are few or many
+pub pointed_few : (digits zeros : List ℕ) (places count : ℕ) → length digits ≤ places → count ≡ places - length digits → zeros ≡ replicate count 48 → 48 ∷ 46 ∷ (zeros ++ digits) ≡ pointed places digits
+pointed_few digits zeros places count h1 h2 h3 = grind (arith, nat_tests, common_steps)
+
+pub pointed_many : (digits whole fraction : List ℕ) (places : ℕ) → places < length digits → whole ≡ take (length digits - places) digits → fraction ≡ drop (length digits - places) digits → whole ++ 46 ∷ fraction ≡ pointed places digits
+pointed_many digits whole fraction places h1 h2 h3 = grind (arith, nat_tests, common_steps)
+
+-- a number at scale 0, and at -1
+pub unsigned_whole : (n : ℕ) (scale : ℤ) → scale ≡ pos 0 → decimal n ≡ unsigned_text n scale
+unfolding unsigned_text
+unsigned_whole n scale is = rw is refl
+
+pub unsigned_ten : (n : ℕ) (scale : ℤ) → scale ≡ negsuc 0 → 0 < n → decimal n ++ 48 ∷ [] ≡ unsigned_text n scale
+unfolding unsigned_text
+unsigned_ten zero scale is some = absurd (omega arith)
+unsigned_ten (suc n) scale is some = rw is refl
+
+pub unsigned_places : (n places : ℕ) (scale : ℤ) → scale ≡ pos (suc places) → pointed (suc places) (decimal n) ≡ unsigned_text n scale
+unfolding unsigned_text
+unsigned_places n places scale is = rw is refl
+
+pub parts_same : (start start' comment comment' text text' : List ℕ) → start ≡ start' → text ≡ text' → comment ≡ comment' → start ++ (text ++ comment) ≡ start' ++ (text' ++ comment')
+parts_same start start' comment comment' text text' a b c = ap (λ l. l ++ (text ++ comment)) a ∙ ap (λ l. start' ++ (l ++ comment)) b ∙ ap (λ l. start' ++ (text' ++ l)) c
+
+digit-of : (c : ℕ) → is_ascii_digit c ≡ true → digits_value 10 (c ∷ []) ≡ c - 48
+digit-of c h = grind (arith, nat_tests)
+
+one-taken : (text : List ℕ) (at : ℕ) → at < length text → take (at + 1) text ≡ take at text ++ slice_index text at ∷ []
+one-taken text at h = grind (arith, common_steps)
+
+value-on : (text : List ℕ) (at : ℕ) → at < length text → is_ascii_digit (slice_index text at) ≡ true → digits_value 10 (take (at + 1) text) ≡ digits_value 10 (take at text) * 10 + (slice_index text at - 48)
+value-on text at h e = ap (digits_value 10) (one-taken text at h) ∙ value-append (take at text) (slice_index text at ∷ []) ∙ omega (arith, digit-of (slice_index text at) e)
+
+pub number-on : (text : List ℕ) (at n m : ℕ) → IsNumberTo text at n → at < length text → is_ascii_digit (slice_index text at) ≡ true → m ≡ min (10 * n + (slice_index text at - 48)) 65536 → IsNumberTo text (at + 1) m
+number-on text at n m h1 h2 h3 h4 = grind (arith, nat_tests, common_steps, list_all_more, value-on)
+
+-- ---- Octets as hexadecimal digits and as a text in quotes, octet by octet.
+
+pub hex_next : (octets : List ℕ) (i : ℕ) → i < length octets → hex_text (drop i octets) ≡ hex_pair (get_or octets i 0) ++ hex_text (drop (i + 1) octets)
+unfolding hex_text
+hex_next octets i within = at_drop_more hex_text octets i 0 within
+
+pub hex_none : (octets : List ℕ) (i : ℕ) → length octets ≤ i → hex_text (drop i octets) ≡ []
+unfolding hex_text
+hex_none octets i end = at_drop_all hex_text octets i end
+
+pub quoted_next : (octets : List ℕ) (i : ℕ) → i < length octets → quoted (drop i octets) ≡ escaped (get_or octets i 0) ++ quoted (drop (i + 1) octets)
+unfolding quoted
+quoted_next octets i within = at_drop_more quoted octets i 0 within
+
+-- the first octet of a text, and the end of none
+pub quoted_step : (rest more : List ℕ) (octet : ℕ) → rest ≡ octet ∷ more → quoted rest ≡ escaped octet ++ quoted more
+unfolding quoted
+quoted_step rest more octet is = rw is refl
+
+pub quoted_end : (rest : List ℕ) → length rest ≤ 0 → quoted rest ≡ 34 ∷ []
+unfolding quoted
+quoted_end [] none = refl
+quoted_end (octet ∷ more) none = absurd (omega arith)
+
+-- one more octet that needs no escape
+pub quoted_more : (octets : List ℕ) (i : ℕ) → i < length octets → is_unescaped (get_or octets i 0) ≡ true → quoted octets ≡ take i octets ++ quoted (drop i octets) → quoted octets ≡ take (i + 1) octets ++ quoted (drop (i + 1) octets)
+quoted_more octets i h1 h2 h3 = grind (arith, nat_tests, common_steps, quoted_next, append_assoc, take_more)
+
+-- a flag is the digit of its number
+pub flag_digit : (on : Bool) (n : ℕ) → n ≡ from_bool on → flag on ≡ (48 + n) ∷ []
+flag_digit true n is = rw is refl
+flag_digit false n is = rw is refl
+
+-- the table says of each octet whether it needs an escape
+abbrev same : Bool → Bool → Bool
+same true b = b
+same false b = not b
+
+same→eq : (a b : Bool) → T (same a b) → a ≡ b
+same→eq a b h1 = grind (arith, nat_tests, common_steps)
+
+abbrev are_told : ℕ → Bool
+are_told zero = true
+are_told (suc c) = same (eqb (get_or UNESCAPED c 0) 49) (is_unescaped c) && are_told c
+
+pub unescaped_below : (n c : ℕ) → T (are_told n) → c < n → (eqb (get_or UNESCAPED c 0) 49) ≡ is_unescaped c
+unescaped_below zero c t h = absurd (omega arith)
+unescaped_below (suc n) c t h =
+    elim (eq-zero-or-pos (n - c)) [
+      | inl z ↦ let e : c ≡ n = omega arith in rw e (same→eq _ _ (and_l _ (are_told n) t))
+      | inr g ↦ unescaped_below n c (and_r _ (are_told n) t) (omega arith)
+    ]
+
+-- ---- The comment that a row of Table B has ready.
+
+-- ---- Which faults report want of memory.
+
+-- what is encoded is refused for nothing else
+pub memory_alone : (why : DocumentFault) (defined : Result (List ℕ) RefusedAt) (octets : List ℕ) → defined ≡ Ok octets → IsDocumentRefusal (reported_refusal why) defined → why ≡ fault.Memory
+memory_alone why defined octets h1 h2 = grind (arith, nat_tests, common_steps)
+
+-- what closes the goals of single functions, and those of `numbers`
+pub ruleset held_steps = (holds_pushes, held_filled)
+
+pub ruleset run_steps = (length-set, take_more_set, take_more, quoted_more)
+
+pub ruleset write_steps = (more-written, empty_writes_after-some)
+
+pub ruleset number_steps = (puts_then, puts_retold, puts_first, decimal_hundreds, decimal_pair, decimal_digit, decimal_two, signed_text, unsigned_whole, unsigned_places, unsigned_ten, five_places, hundredths_put, tenths_put, pairs_below, append_assoc, take_all, length-drop)

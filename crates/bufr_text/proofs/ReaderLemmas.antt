@@ -1,23 +1,466 @@
--- What the steps of a reader of dump texts do.
-use Rattle.std.proofs.Common.{◌≡◌, ℕ, zero, suc, ◌+◌, ◌<◌, ◌≤◌, Bool, true, List, [], ◌∷◌, ◌++◌, length, drop, refl, sym, ap, subst, ◌∙◌, arith, length-drop}
-use Rattle.std.specs.Prelude.{Option, Some, None, Err}
-use Rattle.bufr_frame.specs.Input.{InputModel}
-use Rattle.bufr_text.specs.Documents as documents
-use Rattle.bufr_text.specs.Documents.{Between, Heading, BeforeSubsets, Filling, Stopped, ParseResult, Refused, NotAllowed, parse_lines, lines_of, reported_at_end}
-use Rattle.bufr_text.specs.Reader.{has_no_feed, ContinuesParse, parse, ReaderModel, position_of}
-use Rattle.bufr_text.specs.Filling.{place_now, ends_by_feed, IsProgress, IsReader, ParsesHeldLines, WantsHere, TakesHeldLines, read_fault_at, stopped}
-use Rattle.bufr_text.specs.Taking.{place_with, line_fault_of, IsParserState, step_results, place_following, TakesLines, WantsAt}
+-- How a reading goes on, line feed by line feed, and what the calls of a reader do.
+use Rattle.std.proofs.Common.{◌≡◌, ℕ, ◌+◌, ◌<◌, ◌≤◌, ◌==◌, nat_lt, not, Bool, true, false, List, [], ◌∷◌, ◌++◌, length, refl, sym, ap, ◌∙◌, arith, append_assoc, append-nil, length-append, subst, if◌then◌else◌, ◌⊎◌, inl, inr, zero, suc, ◌&&◌, take, drop, Option, Some, None, ◌-◌, length-drop, Result, Ok, Err, OnErr, slice_index}
+use Rattle.std.proofs.lemmas.Bool.Decides.{nat_tests}
+use Rattle.bufr_bits.proofs.DecimalLemmas.{and_first, and_second}
+use Rattle.bufr_text.specs.Prelude.{Line, Passed, Item, Closes, Wrong, line_of, ParserState, Between, Heading, BeforeSubsets, Filling, Stopped, WalkGoes, Faults, ParseResult, Refused, NotAllowed, turn, line_within_limit, parse_lines, place_after, reported_at, reported_at_end, lines_of, prepend_to_line, Split, onto_split, octet_onto_split, split_of, parse_open_lines, documents_of, open_documents_of, Document, LineEffect, Gives, with_entry, has_no_feed, ReaderPosition, parse, parse_open, ContinuesParse, ReaderModel, KeepsUnread, IsMissingFeed, ReadsLines, TakesWholeLines, position_of, FeedAt, place_with, line_fault_of, turned, IsParserState, HoldsAfter, step_results, position_with, position_after_take, TakesLines, IsTaking, place_following, WantsAt, ends_by_feed, place_now, IsProgress, IsReader, ParsesHeldLines, WantsHere, TakesHeldLines, read_fault_at, stopped, text_of_lines, ReadFault}
+use Rattle.std.proofs.lemmas.Bool.{true≢false}
+use Rattle.memchr.specs.Find.{IsFirstByte, is_byte}
+use Rattle.std.proofs.lemmas.List.{take_at}
+use Rattle.bufr_fill.specs.Prelude.{DraftValue, draft, Holds}
+use Rattle.std.specs.List.{AllByRecursion}
+use Rattle.std.proofs.lemmas.Grind.{common_steps}
 use Rattle.bufr_text.specs.declared.document.Progress.{Progress}
-use Rattle.bufr_text.specs.declared.document.TakeResult.{TakeResult}
-use Rattle.bufr_text.specs.declared.document.TakeResult.TheVariants as taken
-use Rattle.bufr_text.specs.declared.document.ParserState.{ParserState}
-use Rattle.bufr_text.specs.declared.document.ParserState.TheVariants as place
+use Rattle.bufr_text.specs.declared.document.ParserState.{ParserState as CodeState}
 use Rattle.bufr_text.specs.declared.document.LineRefusal.{LineRefusal}
+use Rattle.bufr_text.proofs.HeaderLemmas.{turn-holds, said-sound}
+use Rattle.bufr_frame.specs.Prelude.{InputModel}
+use Rattle.bufr_text.specs.declared.document.TakeResult.{TakeResult}
+use Rattle.bufr_text.specs.Documents as documents
+use Rattle.bufr_text.specs.declared.document.TakeResult.TheVariants as taken
+use Rattle.bufr_text.specs.declared.document.LineEffect.TheVariants as turn
+use Rattle.bufr_text.specs.declared.document.ParserState.TheVariants as place
 use Rattle.bufr_text.specs.declared.document.LineRefusal.TheVariants as refusal
-use Rattle.bufr_text.specs.declared.fault.ReadFault.{ReadFault}
 use Rattle.bufr_text.specs.declared.fault.ReadFault.TheVariants as fault
-use Rattle.bufr_text.proofs.ReadingLemmas.{ends-inside, refuses-long, Reads, ends-drop, ends-none}
-use Rattle.bufr_text.proofs.TakingLemmas.{passes-none}
+
+-- after a fault nothing is reported
+stays-stopped : (at : ℕ) (meaning : Line) → turn at Stopped meaning ≡ WalkGoes Stopped
+unfolding turn
+stays-stopped at Passed = refl
+stays-stopped at meaning = refl
+
+pub stopped-reports : (at : ℕ) (lines : List (List ℕ)) → parse_lines at Stopped lines ≡ []
+unfolding parse_lines
+stopped-reports at [] = refl
+stopped-reports at (line ∷ lines) = rw (stays-stopped at (line_within_limit line)) (stopped-reports (at + 1) lines)
+
+pub stopped-reports-openly : (at : ℕ) (lines : List (List ℕ)) (rest : List ℕ) → parse_open_lines at Stopped lines rest ≡ []
+unfolding parse_open_lines
+stopped-reports-openly at [] rest = by-length (nat_lt 4096 (length rest))
+  where
+    by-length : (b : Bool) → (if b then reported_at at (turn at Stopped Wrong) else []) ≡ []
+    by-length true = ap (reported_at at) (stays-stopped at Wrong)
+    by-length false = refl
+stopped-reports-openly at (line ∷ lines) rest = rw (stays-stopped at (line_within_limit line)) (stopped-reports-openly (at + 1) lines rest)
+
+-- a line that is held whole
+no-feed-first : (c : ℕ) → not (c == 10) ≡ true → (c == 10) ≡ false
+no-feed-first c h = grind (arith, nat_tests, h)
+
+pub line-held : (line t : List ℕ) → has_no_feed line ≡ true → lines_of (line ++ 10 ∷ t) ≡ line ∷ lines_of t
+unfolding lines_of
+line-held [] t h = refl
+line-held (c ∷ line) t h =
+    rw (no-feed-first c (and_first (not (c == 10)) (has_no_feed line) h), line-held line t (and_second (not (c == 10)) (has_no_feed line) h)) refl
+
+split-octet : (c : ℕ) (t : List ℕ) (s : Split) → (c == 10) ≡ false → split_of t ≡ s → split_of (c ∷ t) ≡ onto_split c s.whole s.rest
+unfolding split_of
+split-octet c t s h e = ap (octet_onto_split c) e ∙ rw h refl
+
+pub line-split : (line t : List ℕ) → has_no_feed line ≡ true → split_of (line ++ 10 ∷ t) ≡ record { whole = line ∷ (split_of t).whole; rest = (split_of t).rest }
+unfolding split_of
+line-split [] t h = refl
+line-split (c ∷ line) t h =
+    split-octet c (line ++ 10 ∷ t) (record { whole = line ∷ (split_of t).whole; rest = (split_of t).rest }) (no-feed-first c (and_first (not (c == 10)) (has_no_feed line) h)) (line-split line t (and_second (not (c == 10)) (has_no_feed line) h))
+
+abbrev openly-from : ℕ → ParserState → Split → List ParseResult
+openly-from at place s = parse_open_lines at place s.whole s.rest
+
+pub takes-line : (at : ℕ) (place : ParserState) (line rest : List ℕ) (ended : Bool) → has_no_feed line ≡ true
+    → let here = turn at place (line_within_limit line) in
+    ContinuesParse (record { at = at; place = place; held = line ++ 10 ∷ rest; ended = ended }) (record { at = at + 1; place = place_after here; held = rest; ended = ended }) (reported_at at here)
+unfolding parse_lines parse_open_lines
+takes-line at place line rest ended h1 = grind (arith, nat_tests, common_steps, append_assoc, line-held, line-split)
+
+still-open : (b c : Bool) → (b ≡ true → c ≡ true) → c ≡ false → b ≡ false
+still-open true c kept unended = sym (kept refl) ∙ unended
+still-open false c kept unended = refl
+
+-- what was reported is followed by what is reported next
+pub goes-further : (a b c : ReaderPosition) (x y : List ParseResult) → (b.ended ≡ true → c.ended ≡ true) → ContinuesParse a b x → ContinuesParse b c y → ContinuesParse a c (x ++ y)
+goes-further a b c x y h1 h2 h3 = grind (arith, nat_tests, common_steps)
+
+pub stays : (a : ReaderPosition) → ContinuesParse a a []
+stays a = record { whole = λ t none. refl; openly = λ unended t. refl }
+
+-- a line that is too long is refused before its end is seen
+onto-some : (c : ℕ) (ls : List (List ℕ)) → (more : List ℕ) × (rest : List (List ℕ)) × (prepend_to_line c ls ≡ (c ∷ more) ∷ rest)
+onto-some c [] = ([], [], refl)
+onto-some c (line ∷ ls) = (line, ls, refl)
+
+onto-line : (c : ℕ) (t : List ℕ) → (c == 10) ≡ false → lines_of (c ∷ t) ≡ prepend_to_line c (lines_of t)
+unfolding lines_of
+onto-line c t h = rw h refl
+
+long-first : (held t : List ℕ) → has_no_feed held ≡ true → 0 < length held → (more : List ℕ) × (rest : List (List ℕ)) × (lines_of (held ++ t) ≡ (held ++ more) ∷ rest)
+long-first [] t h some = absurd (omega arith)
+long-first (c ∷ []) t h some =
+    let (more, rest, e) = onto-some c (lines_of t) in
+    (more, rest, onto-line c t (no-feed-first c (and_first (not (c == 10)) true h)) ∙ e)
+long-first (c ∷ d ∷ held) t h some =
+    let (more, rest, e) = long-first (d ∷ held) t (and_second (not (c == 10)) (has_no_feed (d ∷ held)) h) (omega arith) in
+    (more, rest, onto-line c ((d ∷ held) ++ t) (no-feed-first c (and_first (not (c == 10)) (has_no_feed (d ∷ held)) h)) ∙ ap (prepend_to_line c) e)
+
+-- the reading has met no fault
+abbrev pub Reads : ParserState → Type 0
+Reads Stopped = ⊥
+Reads other = Unit {0}
+
+pub wrong-faults : (at : ℕ) (place : ParserState) → Reads place → turn at place Wrong ≡ Faults NotAllowed
+unfolding turn
+wrong-faults at Stopped r = absurd r
+wrong-faults at place r = refl
+
+-- the first line or the rest is too long
+LongSplit : List ℕ → Split → Type 0
+LongSplit held s = (more : List ℕ) × (rest : List ℕ) × (lines : List (List ℕ)) × ((s ≡ record { whole = (held ++ more) ∷ lines; rest = rest }) ⊎ (s ≡ record { whole = []; rest = held ++ more }))
+
+onto-long : (c : ℕ) (s : Split) → LongSplit (c ∷ []) (onto_split c s.whole s.rest)
+unfolding LongSplit
+onto-long c s = by-whole s.whole s.rest
+  where
+    by-whole : (whole : List (List ℕ)) (rest : List ℕ) → LongSplit (c ∷ []) (onto_split c whole rest)
+    by-whole [] rest = (rest, rest, [], inr refl)
+    by-whole (line ∷ lines) rest = (line, rest, lines, inl refl)
+
+long-onto : (c : ℕ) (held : List ℕ) (s : Split) → LongSplit held s → LongSplit (c ∷ held) (onto_split c s.whole s.rest)
+unfolding LongSplit
+long-onto c held s (more, rest, lines, inl e) = (more, rest, lines, inl (ap (λ (z : Split). onto_split c z.whole z.rest) e))
+long-onto c held s (more, rest, lines, inr e) = (more, rest, lines, inr (ap (λ (z : Split). onto_split c z.whole z.rest) e))
+
+long-split : (held t : List ℕ) → has_no_feed held ≡ true → 0 < length held → LongSplit held (split_of (held ++ t))
+long-split [] t h some = absurd (omega arith)
+long-split (c ∷ []) t h some =
+    subst (LongSplit (c ∷ [])) (sym (split-octet c t (split_of t) (no-feed-first c (and_first (not (c == 10)) true h)) refl)) (onto-long c (split_of t))
+long-split (c ∷ d ∷ held) t h some =
+    let rest = long-split (d ∷ held) t (and_second (not (c == 10)) (has_no_feed (d ∷ held)) h) (omega arith) in
+    subst (LongSplit (c ∷ d ∷ held)) (sym (split-octet c ((d ∷ held) ++ t) (split_of ((d ∷ held) ++ t)) (no-feed-first c (and_first (not (c == 10)) (has_no_feed (d ∷ held)) h)) refl)) (long-onto c (d ∷ held) (split_of ((d ∷ held) ++ t)) rest)
+
+openly-long : (at : ℕ) (place : ParserState) (held : List ℕ) (s : Split) → Reads place → 4096 < length held → LongSplit held s → openly-from at place s ≡ Refused at NotAllowed ∷ []
+unfolding LongSplit parse_open_lines
+openly-long at place held s h1 h2 h3 = grind (arith, nat_tests, common_steps, LongSplit, length-append, wrong-faults, stopped-reports-openly)
+
+refuses-openly : (at : ℕ) (place : ParserState) (held t : List ℕ) → Reads place → has_no_feed held ≡ true → 4096 < length held
+    → openly-from at place (split_of (held ++ t)) ≡ Refused at NotAllowed ∷ openly-from at Stopped (split_of (held ++ t))
+refuses-openly at place held t h1 h2 h3 = grind (arith, nat_tests, common_steps, openly-long, long-split, stopped-reports-openly)
+
+pub refuses-long : (at : ℕ) (place : ParserState) (held : List ℕ) (ended : Bool) → Reads place → has_no_feed held ≡ true → 4096 < length held
+    → ContinuesParse (record { at = at; place = place; held = held; ended = ended }) (record { at = at; place = Stopped; held = held; ended = ended }) (Refused at NotAllowed ∷ [])
+unfolding parse_lines
+refuses-long at place held ended r h long = record {
+  openly = λ unended t. refuses-openly at place held t r h long;
+  whole = λ t none.
+      let (more, rest, e) = long-first held t h (omega (arith, long)) in
+      let over : nat_lt 4096 (length (held ++ more)) ≡ true = grind (arith, nat_tests, length-append held more, long) in
+      ap (parse_lines at place) e
+      ∙ rw (over, wrong-faults at place r) (ap (λ (z : List ParseResult). Refused at NotAllowed ∷ z) (stopped-reports (at + 1) rest))
+      ∙ ap (λ (z : List ParseResult). Refused at NotAllowed ∷ z) (sym (stopped-reports at (lines_of (held ++ t))));
+}
+
+-- at the end the last line may lack its line feed
+pub one-line : (held : List ℕ) → has_no_feed held ≡ true → 0 < length held → lines_of held ≡ held ∷ []
+unfolding lines_of
+one-line [] h some = absurd (omega arith)
+one-line (c ∷ []) h some = rw (no-feed-first c (and_first (not (c == 10)) true h)) refl
+one-line (c ∷ d ∷ held) h some =
+    rw (no-feed-first c (and_first (not (c == 10)) (has_no_feed (d ∷ held)) h)) (ap (prepend_to_line c) (one-line (d ∷ held) (and_second (not (c == 10)) (has_no_feed (d ∷ held)) h) (omega arith)))
+
+pub ends-inside : (at : ℕ) (place : ParserState)
+    → ContinuesParse (record { at = at; place = place; held = []; ended = true }) (record { at = at; place = Stopped; held = []; ended = true }) (reported_at_end at place)
+unfolding parse_lines lines_of
+ends-inside at place = grind (arith, nat_tests, common_steps)
+
+-- where no whole line is held and the rest is short, nothing is reported before the end is known
+rest-alone : (held : List ℕ) → has_no_feed held ≡ true → split_of held ≡ record { whole = []; rest = held }
+unfolding split_of
+rest-alone [] h = refl
+rest-alone (c ∷ held) h = split-octet c held (record { whole = []; rest = held }) (no-feed-first c (and_first (not (c == 10)) (has_no_feed held) h)) (rest-alone held (and_second (not (c == 10)) (has_no_feed held) h))
+
+pub nothing-yet : (at : ℕ) (place : ParserState) (held : List ℕ) (ended : Bool) → has_no_feed held ≡ true → length held ≤ 4096 → parse_open (record { at = at; place = place; held = held; ended = ended }) [] ≡ []
+unfolding parse_open_lines
+nothing-yet at place held ended h1 h2 = grind (arith, nat_tests, common_steps, append-nil, rest-alone)
+
+-- ---- The first line feed.
+
+both : (a b : Bool) → a ≡ true → b ≡ true → (a && b) ≡ true
+both a b h k = rw (h, k) refl
+
+no-feed : (c : ℕ) → ((c == 10) ≡ true → ⊥) → not (c == 10) ≡ true
+no-feed c h1 = grind (arith, nat_tests, common_steps)
+
+nowhere : (held : List ℕ) → ((k : ℕ) → 0 ≤ k → k < length held → (slice_index held k == 10) ≡ true → ⊥) → has_no_feed held ≡ true
+nowhere [] h = refl
+nowhere (c ∷ held) h = both (not (c == 10)) (has_no_feed held) (no-feed c (h 0 (omega arith) (omega arith))) (nowhere held (λ k low below. h (suc k) (omega arith) (omega arith)))
+
+before : (held : List ℕ) (n : ℕ) → n < length held → ((k : ℕ) → 0 ≤ k → k < n → (slice_index held k == 10) ≡ true → ⊥) → has_no_feed (take n held) ≡ true
+before held zero h none = refl
+before [] (suc n) h none = absurd (omega arith)
+before (c ∷ held) (suc n) h none = both (not (c == 10)) (has_no_feed (take n held)) (no-feed c (none 0 (omega arith) (omega arith))) (before held n (omega arith) (λ k low below. none (suc k) (omega arith) (omega arith)))
+
+at-feed : (held : List ℕ) (n : ℕ) → n < length held → (slice_index held n == 10) ≡ true → held ≡ take n held ++ 10 ∷ drop (n + 1) held
+at-feed [] n h e = absurd (omega arith)
+at-feed (c ∷ held) zero h e = let is : c ≡ 10 = grind (arith, nat_tests, e) in ap (λ (x : ℕ). x ∷ held) is
+at-feed (c ∷ held) (suc n) h e =
+    let next : suc (n + 1) ≡ suc n + 1 = omega arith in
+    ap (λ (t : List ℕ). c ∷ t) (at-feed held n (omega arith) e) ∙ ap (λ (k : ℕ). c ∷ (take n held ++ 10 ∷ drop k (c ∷ held))) next
+
+pub feed-at : (held : List ℕ) (r : Option ℕ) → IsFirstByte (is_byte 10) held r → FeedAt held r
+feed-at held None h = nowhere held h
+feed-at held (Some n) h = (h.0.high, before held n h.0.high h.0.before, at-feed held n h.0.high h.1)
+
+-- octets with a line feed
+neither : (a b : Bool) → b ≡ false → (a && b) ≡ false
+neither true b e = e
+neither false b e = refl
+
+pub some-held : (held : List ℕ) → has_no_feed held ≡ false → 0 < length held
+some-held [] e = absurd (true≢false e)
+some-held (c ∷ held) e = omega arith
+
+-- what holds anyway holds at a refusal
+pub refused-holds : {X E : Type 0} (r : Result X E) (P : Type 0) → P → OnErr r P
+refused-holds (Ok x) P p = tt
+refused-holds (Err e) P p = p
+
+-- ---- Octets that end by a line feed.
+
+ends-tail : (c : ℕ) (xs : List ℕ) → ends_by_feed (c ∷ xs) ≡ true → ends_by_feed xs ≡ true
+ends-tail c [] e = refl
+ends-tail c (d ∷ more) e = e
+
+pub ends-drop : (n : ℕ) (xs : List ℕ) → ends_by_feed xs ≡ true → ends_by_feed (drop n xs) ≡ true
+ends-drop zero xs e = e
+ends-drop (suc n) [] e = refl
+ends-drop (suc n) (x ∷ xs) e = ends-drop n xs (ends-tail x xs e)
+
+pub ends-append : (xs : List ℕ) → ends_by_feed (xs ++ 10 ∷ []) ≡ true
+ends-append (c ∷ d ∷ more) = ends-append (d ∷ more)
+ends-append xs = refl
+
+not-both : (b : Bool) → b ≡ true → not b ≡ true → ⊥
+not-both true e f = cc
+not-both false e f = cc
+
+pub ends-none : (xs : List ℕ) → ends_by_feed xs ≡ true → has_no_feed xs ≡ true → xs ≡ []
+ends-none [] e f = refl
+ends-none (c ∷ []) e f = absurd (not-both (c == 10) e (and_first (not (c == 10)) true f))
+ends-none (c ∷ d ∷ more) e f =
+    let none : d ∷ more ≡ [] = ends-none (d ∷ more) e (and_second (not (c == 10)) (has_no_feed (d ∷ more)) f) in
+    absurd (omega (arith, ap length none))
+
+-- ---- What is reported while the end is not known is the first of what is reported of the whole.
+
+-- the whole lines, and what the rest becomes
+split-octet-before : (c : ℕ) (s t : List ℕ) (b : Bool) → (c == 10) ≡ b → lines_of (s ++ t) ≡ (split_of s).whole ++ lines_of ((split_of s).rest ++ t)
+    → lines_of (c ∷ (s ++ t)) ≡ (split_of (c ∷ s)).whole ++ lines_of ((split_of (c ∷ s)).rest ++ t)
+unfolding lines_of split_of
+split-octet-before c s t b h1 h2 = grind (arith, nat_tests, common_steps)
+
+lines-split : (s t : List ℕ) → lines_of (s ++ t) ≡ (split_of s).whole ++ lines_of ((split_of s).rest ++ t)
+unfolding split_of
+lines-split [] t = refl
+lines-split (c ∷ s) t = split-octet-before c s t (c == 10) refl (lines-split s t)
+
+rest-octet : (c : ℕ) (s : List ℕ) (b : Bool) → (c == 10) ≡ b → has_no_feed (split_of s).rest ≡ true → has_no_feed (split_of (c ∷ s)).rest ≡ true
+unfolding split_of
+rest-octet c s b h1 h2 = grind (arith, nat_tests, common_steps)
+
+rest-clean : (s : List ℕ) → has_no_feed (split_of s).rest ≡ true
+unfolding split_of
+rest-clean [] = refl
+rest-clean (c ∷ s) = rest-octet c s (c == 10) refl (rest-clean s)
+
+abbrev IsPrefix : List ParseResult → List ParseResult → Type 0
+IsPrefix results all = (more : List ParseResult) × (all ≡ results ++ more)
+
+prefix-more : (x results all : List ParseResult) → IsPrefix results all → IsPrefix (x ++ results) (x ++ all)
+prefix-more x results all (more, e) = (more, ap (λ (z : List ParseResult). x ++ z) e ∙ sym (append_assoc x results more))
+
+-- a rest that is short reports nothing yet, one that is long is refused either way
+rest-prefix : (at : ℕ) (place : ParserState) (rest t : List ℕ) (b : Bool) → nat_lt 4096 (length rest) ≡ b → Reads place → has_no_feed rest ≡ true → IsPrefix (parse_open_lines at place [] rest) (parse_lines at place (lines_of (rest ++ t)))
+unfolding parse_open_lines
+rest-prefix at place rest t true h r clean =
+    let long : 4096 < length rest = grind (arith, nat_tests, h) in
+    (parse_lines at Stopped (lines_of (rest ++ t)), rw (h, wrong-faults at place r) ((refuses-long at place rest false r clean long).whole t (λ e. absurd cc)))
+rest-prefix at place rest t false h r clean = (parse_lines at place (lines_of (rest ++ t)), rw h refl)
+
+any-prefix : (at : ℕ) (place : ParserState) (rest t : List ℕ) → has_no_feed rest ≡ true → IsPrefix (parse_open_lines at place [] rest) (parse_lines at place (lines_of (rest ++ t)))
+any-prefix at Between rest t clean = rest-prefix at Between rest t (nat_lt 4096 (length rest)) refl tt clean
+any-prefix at (Heading d) rest t clean = rest-prefix at (Heading d) rest t (nat_lt 4096 (length rest)) refl tt clean
+any-prefix at (BeforeSubsets part d) rest t clean = rest-prefix at (BeforeSubsets part d) rest t (nat_lt 4096 (length rest)) refl tt clean
+any-prefix at (Filling subset d) rest t clean = rest-prefix at (Filling subset d) rest t (nat_lt 4096 (length rest)) refl tt clean
+any-prefix at Stopped rest t clean = (parse_lines at Stopped (lines_of (rest ++ t)), ap (λ (z : List ParseResult). z ++ parse_lines at Stopped (lines_of (rest ++ t))) (sym (stopped-reports-openly at [] rest)))
+
+lines-prefix : (lines : List (List ℕ)) (at : ℕ) (place : ParserState) (rest t : List ℕ) → has_no_feed rest ≡ true → IsPrefix (parse_open_lines at place lines rest) (parse_lines at place (lines ++ lines_of (rest ++ t)))
+unfolding parse_lines parse_open_lines
+lines-prefix [] at place rest t clean = any-prefix at place rest t clean
+lines-prefix (line ∷ lines) at place rest t clean =
+    prefix-more (reported_at at (turn at place (line_within_limit line))) _ _ (lines-prefix lines (at + 1) (place_after (turn at place (line_within_limit line))) rest t clean)
+
+-- the documents that are reported while the end is not known stay the first ones, whatever comes
+-- after
+pub open-prefix : (s t : List ℕ) → IsPrefix (open_documents_of s) (documents_of (s ++ t))
+open-prefix s t =
+    let (more, e) = lines-prefix (split_of s).whole 1 Between (split_of s).rest t (rest-clean s) in
+    (more, ap (parse_lines 1 Between) (lines-split s t) ∙ e)
+
+-- ---- What is held of the text itself.
+
+abbrev cut : List ℕ → List ℕ
+cut xs = take (length xs - 1) xs
+
+cut-back : (xs : List ℕ) → cut (xs ++ 10 ∷ []) ≡ xs
+cut-back xs = take_at xs (10 ∷ []) (length (xs ++ 10 ∷ []) - 1) (omega (arith, length-append xs (10 ∷ [])))
+
+cut-prefix : (xs : List ℕ) (y : ℕ) (ys : List ℕ) → cut (xs ++ y ∷ ys) ≡ xs ++ cut (y ∷ ys)
+cut-prefix [] y ys = refl
+cut-prefix (x ∷ xs) y ys =
+    let n : length (x ∷ xs ++ y ∷ ys) - 1 ≡ suc (length (xs ++ y ∷ ys) - 1) = omega (arith, length-append xs (y ∷ ys)) in
+    ap (λ (k : ℕ). take k (x ∷ xs ++ y ∷ ys)) n ∙ ap (λ (t : List ℕ). x ∷ t) (cut-prefix xs y ys)
+
+none-kept : (b : Bool) → (if b then cut [] else []) ≡ []
+none-kept true = refl
+none-kept false = refl
+
+-- what is cut off is the line feed that was lacking
+keeps-by : (a b : Bool) (h bs feed t k : List ℕ) → IsMissingFeed a b feed → (a ≡ true → (b ≡ true) × (bs ≡ [])) → (a ≡ false → b ≡ true → feed ≡ [] → k ≡ []) → (h ++ bs) ++ feed ≡ t ++ k
+    → (taken : List ℕ) × ((if a then cut h else h) ++ bs ≡ taken ++ (if b then cut k else k))
+keeps-by a b h bs feed t [] missing kept fed same = ((if a then cut h else h) ++ bs, sym (ap (λ (z : List ℕ). ((if a then cut h else h) ++ bs) ++ z) (none-kept b) ∙ append-nil ((if a then cut h else h) ++ bs)))
+keeps-by true b h bs feed t (k ∷ more) (inr (open', ended, e)) kept fed same = absurd (true≢false open')
+keeps-by true false h bs feed t (k ∷ more) (inl none) kept fed same = absurd (true≢false (sym (kept refl).0))
+keeps-by true true h bs feed t (k ∷ more) (inl none) kept fed same =
+    let nothing = (kept refl).1 in
+    let is : h ≡ t ++ k ∷ more = sym (ap (λ (z : List ℕ). (h ++ bs) ++ z) none ∙ append-nil (h ++ bs) ∙ ap (λ (z : List ℕ). h ++ z) nothing ∙ append-nil h) ∙ same in
+    (t, ap (λ (z : List ℕ). cut h ++ z) nothing ∙ append-nil (cut h) ∙ ap (λ (z : List ℕ). cut z) is ∙ cut-prefix t k more)
+keeps-by false false h bs feed t (k ∷ more) (inl none) kept fed same = (t, sym (ap (λ (z : List ℕ). (h ++ bs) ++ z) none ∙ append-nil (h ++ bs)) ∙ same)
+keeps-by false false h bs feed t (k ∷ more) (inr (open', ended, e)) kept fed same = absurd (true≢false (sym ended))
+keeps-by false true h bs feed t (k ∷ more) (inl none) kept fed same = absurd (omega (arith, ap length (fed refl refl none)))
+keeps-by false true h bs feed t (k ∷ more) (inr (open', ended, e)) kept fed same =
+    (t, sym (cut-back (h ++ bs)) ∙ ap (λ (z : List ℕ). cut ((h ++ bs) ++ z)) (sym e) ∙ ap (λ (z : List ℕ). cut z) same ∙ cut-prefix t k more)
+
+pub call-keeps : (left left' : Option (List ℕ)) (old new : ReaderModel) (results : List ParseResult) (bs : List ℕ) → ReadsLines left left' old new results bs → KeepsUnread old new bs
+call-keeps left left' old new results bs call =
+    keeps-by old.ended new.ended old.held bs call.lines.0 (text_of_lines call.lines.2.lines) new.held call.lines.1 (λ e. ((call.kept e).0, (call.kept e).1)) call.fed call.lines.2.octets
+
+-- the same is held
+pub keeps-same : (old s new : ReaderModel) (bs : List ℕ) → KeepsUnread old s bs → new.held ≡ s.held → new.ended ≡ s.ended → KeepsUnread old new bs
+keeps-same old s new bs (taken, same) held ended = (taken, same ∙ ap (λ (z : List ℕ). taken ++ z) (ap (λ (b : Bool). if b then cut s.held else s.held) (sym ended) ∙ ap (λ (h : List ℕ). if new.ended then cut h else h) (sym held)))
+
+-- ---- Only an `end` line makes a document whole.
+
+-- a turn that gives a document was made by an `end` line
+abbrev IsByEnd : Line → LineEffect → Type 0
+IsByEnd line (Gives d) = line ≡ Closes
+IsByEnd line other = Unit {0}
+
+turn-end : (at : ℕ) (place : ParserState) (line : Line) → IsByEnd line (turn at place line)
+unfolding turn
+turn-end at place line = grind (arith, nat_tests, common_steps)
+
+pub gives-end : (at : ℕ) (place : ParserState) (line : Line) (d : Document) → Gives d ≡ turn at place line → line ≡ Closes
+gives-end at place line d e = subst (IsByEnd line) (sym e) (turn-end at place line)
+
+-- ---- Lines that are taken one after another.
+
+-- a line with an item, in a subset
+pub item-turn : (at subset : ℕ) (line : List ℕ) (d new : documents.Document) (fxy : ℕ) (form : DraftValue) → length line ≤ 4096 → line_of line ≡ Item fxy form → new ≡ with_entry d (Holds (draft at fxy form))
+    → documents.WalkGoes (documents.Filling subset new) ≡ documents.turn at (documents.Filling subset d) (line_within_limit line)
+unfolding documents.turn
+item-turn at subset line d new fxy form h1 h2 h3 = grind (arith, nat_tests, common_steps)
+
+drop-on : (a b : ℕ) (s : List ℕ) → drop a (drop b s) ≡ drop (b + a) s
+drop-on a b s = grind (arith, common_steps)
+
+-- a line is taken
+line-taken : (new : Progress) (held : List ℕ) (from n : ℕ) (t : documents.LineEffect) (ended : Bool) → FeedAt (drop from held) (Some n)
+    → t ≡ documents.turn new.at (place_with new.place new.parts) (line_within_limit (take n (drop from held)))
+    → ContinuesParse (position_with new (drop from held) ended) (record { at = new.at + 1; place = place_after t; held = drop (from + (n + 1)) held; ended = ended }) (reported_at new.at t)
+line-taken new held from n t ended h1 h2 = grind (arith, nat_tests, common_steps, before, takes-line, drop-on)
+
+-- lines, and then more
+pub text-append : (a b : List (List ℕ)) → text_of_lines (a ++ b) ≡ text_of_lines a ++ text_of_lines b
+text-append [] b = refl
+text-append (line ∷ a) b = ap (λ (t : List ℕ). (line ++ 10 ∷ []) ++ t) (text-append a b) ∙ sym (append_assoc (line ++ 10 ∷ []) (text_of_lines a) (text_of_lines b))
+
+pub all-append : (P : List ℕ → Type 0) (a b : List (List ℕ)) → AllByRecursion P a → AllByRecursion P b → AllByRecursion P (a ++ b)
+all-append P [] b x y = y
+all-append P (line ∷ a) b x y = (x.0, all-append P a b x.1 y)
+
+pub passes-none : (at : ℕ) (held : List ℕ) → TakesWholeLines at held at held
+passes-none at held = record { lines = []; single = tt; counted = omega arith; octets = refl }
+
+pub passes-line : (at at' : ℕ) (held rest line more : List ℕ) → TakesWholeLines at held at' rest → has_no_feed line ≡ true → rest ≡ line ++ 10 ∷ more → TakesWholeLines at held (at' + 1) more
+passes-line at at' held rest line more p clean e = record {
+  lines = p.lines ++ line ∷ [];
+  single = all-append (λ line. has_no_feed line ≡ true) p.lines (line ∷ []) p.single (clean, tt);
+  counted = omega (arith, p.counted, length-append p.lines (line ∷ []));
+  octets = p.octets ∙ ap (λ (t : List ℕ). text_of_lines p.lines ++ t) e
+      ∙ ap (λ (t : List ℕ). text_of_lines p.lines ++ t) (sym (append_assoc line (10 ∷ []) more))
+      ∙ sym (append_assoc (text_of_lines p.lines) (line ++ 10 ∷ []) more)
+      ∙ ap (λ (t : List ℕ). t ++ more) (ap (λ (t : List ℕ). text_of_lines p.lines ++ t) (one-line line) ∙ sym (text-append p.lines (line ∷ [])));
+}
+  where
+    one-line : (line : List ℕ) → line ++ 10 ∷ [] ≡ text_of_lines (line ∷ [])
+    one-line line = sym (append-nil (line ++ 10 ∷ []))
+
+passes-feed : (at at' : ℕ) (held : List ℕ) (from n : ℕ) → TakesWholeLines at held at' (drop from held) → FeedAt (drop from held) (Some n) → TakesWholeLines at held (at' + 1) (drop (from + (n + 1)) held)
+passes-feed at at' held from n h1 h2 = grind (arith, nat_tests, common_steps, drop-on, passes-line)
+
+-- what holds after a turn
+holds-after : (new : Progress) (t : documents.LineEffect) (line : List ℕ) → IsParserState new.at (place_with new.place new.parts) → 0 < new.at → t ≡ documents.turn new.at (place_with new.place new.parts) (line_within_limit line) → HoldsAfter new.at t
+holds-after new t line s some e = subst (HoldsAfter new.at) (sym e) (turn-holds new.at (place_with new.place new.parts) (line_within_limit line) some (said-sound line) s)
+
+further : (a b c : ReaderPosition) (x : List documents.ParseResult) → b.ended ≡ c.ended → ContinuesParse a b [] → ContinuesParse b c x → ContinuesParse a c x
+further a b c x same f g = goes-further a b c [] x (λ e. sym same ∙ e) f g
+
+pub taking-goes : (old new : Progress) (held : List ℕ) (from n : ℕ) (place : CodeState) (d : documents.Document) → IsTaking old new held from → FeedAt (drop from held) (Some n)
+    → turned (turn.WalkGoes place) d ≡ documents.turn new.at (place_with new.place new.parts) (line_within_limit (take n (drop from held)))
+    → IsTaking old (record { place = place; at = new.at + 1; parts = d }) held (from + (n + 1))
+taking-goes old new held from n place d is feed e = record {
+  goes = λ ended. further (position_with old held ended) (position_with new (drop from held) ended) (position_with (record { place = place; at = new.at + 1; parts = d }) (drop (from + (n + 1)) held) ended) [] refl (is.goes ended) (line-taken new held from n (turned (turn.WalkGoes place) d) ended feed e);
+  within = omega (arith, feed.0, length-drop from held);
+  holds = holds-after new (turned (turn.WalkGoes place) d) (take n (drop from held)) is.holds is.some e;
+  some = omega arith;
+  near = omega (arith, is.near);
+  passes = passes-feed old.at new.at held from n is.passes feed;
+}
+
+pub taking-gives : (old new : Progress) (held : List ℕ) (from n : ℕ) (last : Progress) → IsTaking old new held from → FeedAt (drop from held) (Some n) → last.at ≡ new.at + 1
+    → turned turn.Gives last.parts ≡ documents.turn new.at (place_with new.place new.parts) (line_within_limit (take n (drop from held)))
+    → TakesLines old last held (from + (n + 1)) taken.Gives
+taking-gives old new held from n last is feed at e = record {
+  goes = λ ended. further (position_with old held ended) (position_with new (drop from held) ended) (position_after_take taken.Gives last (drop (from + (n + 1)) held) ended) (step_results taken.Gives last.parts) refl (is.goes ended)
+      (subst (λ (k : ℕ). ContinuesParse (position_with new (drop from held) ended) (record { at = k; place = documents.Between; held = drop (from + (n + 1)) held; ended = ended }) (step_results taken.Gives last.parts)) (sym at) (line-taken new held from n (turned turn.Gives last.parts) ended feed e));
+  all = λ more. absurd cc;
+  within = omega (arith, feed.0, length-drop from held);
+  near = omega (arith, is.near, at);
+  passes = subst (λ (k : ℕ). TakesWholeLines old.at held k (drop (from + (n + 1)) held)) (sym at) (passes-feed old.at new.at held from n is.passes feed);
+  holds = (let after = holds-after new (turned turn.Gives last.parts) (take n (drop from held)) is.holds is.some e in (after.0, omega (arith, after.1, at)));
+  closes = λ gives. record {
+    line = new.at;
+    last = take n (drop from held);
+    prefix = (let P : List ℕ → Type 0 = λ t. TakesWholeLines old.at held new.at (take n (drop from held) ++ 10 ∷ t) in let Q : List ℕ → Type 0 = λ t. TakesWholeLines old.at held new.at t in subst P (drop-on (n + 1) from held) (subst Q feed.2 is.passes));
+    single = feed.1;
+    closes = gives-end new.at (place_with new.place new.parts) (line_within_limit (take n (drop from held))) last.parts e;
+    counted = at;
+  };
+}
+
+pub taking-refuses : (old new : Progress) (held : List ℕ) (from n line : ℕ) (refusal : LineRefusal) (last : Progress) → IsTaking old new held from → FeedAt (drop from held) (Some n) → last.at ≡ new.at + 1 → line ≡ new.at
+    → turned (turn.Refuses refusal) last.parts ≡ documents.turn new.at (place_with new.place new.parts) (line_within_limit (take n (drop from held)))
+    → TakesLines old last held (from + (n + 1)) (taken.Refuses line refusal)
+taking-refuses old new held from n line refusal last is feed at here e = record {
+  goes = λ ended. further (position_with old held ended) (position_with new (drop from held) ended) (position_after_take (taken.Refuses line refusal) last (drop (from + (n + 1)) held) ended) (step_results (taken.Refuses line refusal) last.parts) refl (is.goes ended)
+      (subst (λ (k : ℕ). ContinuesParse (position_with new (drop from held) ended) (record { at = last.at; place = documents.Stopped; held = drop (from + (n + 1)) held; ended = ended }) (documents.Refused k (line_fault_of refusal) ∷ [])) (sym here)
+      (subst (λ (k : ℕ). ContinuesParse (position_with new (drop from held) ended) (record { at = k; place = documents.Stopped; held = drop (from + (n + 1)) held; ended = ended }) (documents.Refused new.at (line_fault_of refusal) ∷ [])) (sym at) (line-taken new held from n (turned (turn.Refuses refusal) last.parts) ended feed e)));
+  all = λ more. absurd cc;
+  within = omega (arith, feed.0, length-drop from held);
+  near = omega (arith, is.near, at);
+  passes = subst (λ (k : ℕ). TakesWholeLines old.at held k (drop (from + (n + 1)) held)) (sym at) (passes-feed old.at new.at held from n is.passes feed);
+  holds = tt;
+  closes = λ gives. absurd cc;
+}
+
+-- ---- What the steps of a reader of dump texts do.
 
 -- where a reader is that goes on
 pub place-sound : (f : Option ReadFault) (progress : Progress) → f ≡ None → place_now f progress ≡ place_with progress.place progress.parts
@@ -32,20 +475,16 @@ state at place held ended fault reads = record { at = at; place = place; held = 
 pub takes-reports : (old new : Progress) (f f' : Option ReadFault) (held : List ℕ) (len : ℕ) (ended : Bool) (reads : ℕ) (step : TakeResult) (p : documents.ParserState)
     → TakesLines old new held len step → f ≡ None → p ≡ place_following step new
     → ParsesHeldLines (state old.at (place_now f old) held ended f reads) (state new.at p (drop len held) ended f' reads) (step_results step new.parts)
-takes-reports old new f f' held len ended reads step p takes none place =
-    let A : documents.ParserState → Type 0 = λ q. ContinuesParse (record { at = old.at; place = q; held = held; ended = ended }) (record { at = new.at; place = p; held = drop len held; ended = ended }) (step_results step new.parts) in
-    let B : documents.ParserState → Type 0 = λ q. ContinuesParse (record { at = old.at; place = place_with old.place old.parts; held = held; ended = ended }) (record { at = new.at; place = q; held = drop len held; ended = ended }) (step_results step new.parts) in
-    record { goes = subst A (sym (place-sound f old none)) (subst B (sym place) (takes.goes ended)); passes = takes.passes }
+takes-reports old new f f' held len ended reads step p h1 h2 h3 = grind (arith, nat_tests, common_steps)
 
 -- where memory was wanted
 pub wants-here : (old : Progress) (f : Option ReadFault) (held : List ℕ) (ended : Bool) (reads : ℕ) → WantsAt old held → f ≡ None → WantsHere (state old.at (place_now f old) held ended f reads)
 wants-here old f held ended reads w none =
     let n = w.progress in
     let place = place_with n.place n.parts in
-    let A : documents.ParserState → Type 0 = λ q. ContinuesParse (record { at = old.at; place = q; held = held; ended = ended }) (record { at = n.at; place = place; held = drop w.place held; ended = ended }) [] in
     record {
       mid = state n.at place (drop w.place held) ended None reads;
-      taken = record { goes = subst A (sym (place-sound f old none)) (w.taking.goes ended); passes = w.taking.passes };
+      taken = record { goes = rw (place-sound f old none) (w.taking.goes ended); passes = w.taking.passes };
       ended = refl;
       reads = refl;
       next = record { line = w.line; rest = w.rest; held = w.holds; single = w.single; adds_to = w.adds_to };
@@ -57,27 +496,15 @@ reader-skips f f' old new input len progress is = (omega (arith, is.0, length-dr
 
 -- the progress of a reader that goes on
 pub progress-more : (old new : Progress) (held : List ℕ) (len reads : ℕ) → TakesLines old new held len taken.More → IsProgress old (length held) reads → IsProgress new (length (drop len held)) reads
-progress-more old new held len reads takes is = record {
-  holds = takes.holds;
-  some = omega (arith, is.some, takes.passes.counted);
-  near = omega (arith, is.near, takes.near, takes.within, length-drop len held);
-}
+progress-more old new held len reads h1 h2 = grind (arith, nat_tests, common_steps)
 
 pub progress-between : (old new d : Progress) (held : List ℕ) (len reads : ℕ) (step : TakeResult) → TakesLines old new held len step → IsProgress old (length held) reads → d.at ≡ new.at → d.place ≡ place.Between → IsProgress d (length (drop len held)) reads
-progress-between old new d held len reads step takes is same between =
-    let S : ParserState → Type 0 = λ p. IsParserState d.at (place_with p d.parts) in
-    record {
-      holds = subst S (sym between) tt;
-      some = omega (arith, is.some, takes.passes.counted, same);
-      near = omega (arith, is.near, takes.near, takes.within, length-drop len held, same);
-    }
+progress-between old new d held len reads step h1 h2 h3 h4 = grind (arith, nat_tests, common_steps)
 
 -- the end
-pub reported-inside : (p : ParserState) (d : documents.Document) (at : ℕ) → (p ≡ place.Between → ⊥) → reported_at_end at (place_with p d) ≡ Refused at NotAllowed ∷ []
+pub reported-inside : (p : CodeState) (d : documents.Document) (at : ℕ) → (p ≡ place.Between → ⊥) → reported_at_end at (place_with p d) ≡ Refused at NotAllowed ∷ []
 reported-inside place.Between d at not = absurd (not refl)
-reported-inside place.Heading d at not = refl
-reported-inside (place.BeforeSubsets part) d at not = refl
-reported-inside (place.Filling subset) d at not = refl
+reported-inside p d at not = refl
 
 pub none-held : (s : ReaderModel) → s.ended ≡ true → (s.ended ≡ true → ends_by_feed s.held ≡ true) → has_no_feed s.held ≡ true → s.held ≡ []
 none-held s ended ends clean = ends-none s.held (ends ended) clean
@@ -88,18 +515,12 @@ done-between s place held =
     ap (λ (z : List ℕ). parse_lines s.at s.place (lines_of (z ++ []))) held ∙ ap (λ (p : documents.ParserState). parse_lines s.at p []) place
 
 pub end-reports : (s : ReaderModel) → s.ended ≡ true → s.held ≡ [] → reported_at_end s.at s.place ≡ Refused s.at NotAllowed ∷ [] → ParsesHeldLines s (stopped s (fault.Line s.at)) (Refused s.at NotAllowed ∷ [])
-end-reports s ended held results =
-    let A : Bool → Type 0 = λ e. ContinuesParse (record { at = s.at; place = s.place; held = s.held; ended = e }) (record { at = s.at; place = Stopped; held = s.held; ended = e }) (Refused s.at NotAllowed ∷ []) in
-    let B : List ℕ → Type 0 = λ h. ContinuesParse (record { at = s.at; place = s.place; held = h; ended = true }) (record { at = s.at; place = Stopped; held = h; ended = true }) (Refused s.at NotAllowed ∷ []) in
-    let C : List ParseResult → Type 0 = λ t. ContinuesParse (record { at = s.at; place = s.place; held = []; ended = true }) (record { at = s.at; place = Stopped; held = []; ended = true }) t in
-    record { goes = subst A (sym ended) (subst B (sym held) (subst C results (ends-inside s.at s.place))); passes = passes-none s.at s.held }
+end-reports s h1 h2 h3 = grind (arith, nat_tests, common_steps, ends-inside, passes-none)
 
 -- a line that is too long
-pub reads-place : (p : ParserState) (d : documents.Document) → Reads (place_with p d)
+pub reads-place : (p : CodeState) (d : documents.Document) → Reads (place_with p d)
 reads-place place.Between d = tt
-reads-place place.Heading d = tt
-reads-place (place.BeforeSubsets part) d = tt
-reads-place (place.Filling subset) d = tt
+reads-place p d = tt
 
 pub long-reports : (s : ReaderModel) → Reads s.place → has_no_feed s.held ≡ true → 4096 < length s.held → ParsesHeldLines s (stopped s (fault.Line s.at)) (Refused s.at NotAllowed ∷ [])
 long-reports s reads clean long = record { goes = refuses-long s.at s.place s.held s.ended reads clean long; passes = passes-none s.at s.held }
@@ -125,3 +546,8 @@ progress-read d held held' reads is few = record { holds = is.holds; some = is.s
 pub room-made : (reads reads' room room' : ℕ) → (0 < reads → 8192 ≤ room) → room ≤ room' → (reads ≡ 0 → 0 < reads' → 8192 ≤ room') → 0 < reads' → 8192 ≤ room'
 room-made zero reads' room room' made order first some = first refl some
 room-made (suc reads) reads' room room' made order first some = omega (arith, made (omega arith), order)
+
+-- what closes the goals of single functions
+pub ruleset finish_steps = (none-held, place-sound, done-between, reported-inside, end-reports)
+
+pub ruleset more_steps = (length-append, ends-append, progress-read, room-made)

@@ -2,8 +2,8 @@
 -- (A choice of this project)
 -- Cited by public contracts.
 use Rattle.std.specs.Prelude.{ℕ, List, [], slice_index, ◌+◌, ◌==◌, nat_le, nat_lt, Bool, true, false, not, ◌&&◌, if◌then◌else◌, ◌∷◌, ◌++◌, length, ◌≡◌, ◌^◌, Option, Some, None}
-use Rattle.bufr_fill.specs.Draft.{DraftEntry, draft, Holds, Ends}
-use Rattle.bufr_frame.specs.Section1.{slots_of}
+use Rattle.bufr_fill.specs.Prelude.{DraftEntry, draft, Holds, Ends}
+use Rattle.bufr_frame.specs.Prelude.{slots_of}
 use Rattle.bufr_text.specs.Line.{Line, Passed, Opens, Header, Local1, Section2, Descriptors, Begins, Item, Closes, Wrong, leasts, mosts, line_of}
 use Rattle.bufr_frame.specs.declared.section1.Head.{Head}
 
@@ -177,10 +177,8 @@ reported_at at (Faults fault) = Refused at fault ∷ []
 -- rule: fault-50, input-ends-early
 abbrev pub reported_at_end : (at : ℕ) → ParserState → List ParseResult
 reported_at_end at Between = []
-reported_at_end at (Heading d) = Refused at NotAllowed ∷ []
-reported_at_end at (BeforeSubsets part d) = Refused at NotAllowed ∷ []
-reported_at_end at (Filling subset d) = Refused at NotAllowed ∷ []
 reported_at_end at Stopped = []
+reported_at_end at place = Refused at NotAllowed ∷ []
 
 -- the documents that lines spell, from a place on
 -- rule: reading-line-numbers

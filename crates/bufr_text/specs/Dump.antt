@@ -2,21 +2,16 @@
 -- (A choice of this project)
 -- Cited by public contracts.
 use Rattle.std.specs.Prelude.{ℕ, ◌+◌, Bool, if◌then◌else◌, List, [], ◌∷◌, ◌++◌, length, map, flat_map, codes, decimal, Option, Some, None, is_some, unwrap_or, ℤ, pos, zero, suc, option_map, ◌≡◌, ◌^◌, ◌<◌, ◌≤◌, true, negsuc, unsigned_abs}
-use Rattle.bufr_bits.specs.Decimal.{decimal_text_of}
-use Rattle.bufr_tables.specs.Fxy.{fxy_text}
-use Rattle.bufr_frame.specs.Sections.{Sections}
-use Rattle.bufr_fill.specs.Draft.{DraftValue, draft, number_token, text_form, missing_form, reference_token, DraftEntry, Holds, Ends}
+use Rattle.bufr_bits.specs.Prelude.{decimal_text_of}
+use Rattle.bufr_tables.specs.Prelude.{fxy_text, Row, is_printed}
+use Rattle.bufr_frame.specs.Prelude.{Sections, IsFitting}
+use Rattle.bufr_fill.specs.Prelude.{DraftValue, draft, number_token, text_form, missing_form, reference_token, DraftEntry, Holds, Ends}
 use Rattle.bufr_text.specs.Documents.{Document}
 use Rattle.bufr_text.specs.Grammar.{runs_of, hex_text, descriptors_text, quoted}
 use Rattle.bufr_text.specs.Line.{keys, key_in}
 pub use Rattle.bufr_text.specs.Writing.{joined}
-use Rattle.bufr_tables.specs.TableB.{Row, is_printed}
-use Rattle.bufr_walk.specs.Calls.{View, view_of, content_at}
-use Rattle.bufr_walk.specs.Content.{Content, ShownValue, shown_number, shown_text, shown_missing, shown_reference}
-use Rattle.bufr_walk.specs.Refusal.{Read}
-use Rattle.bufr_walk.specs.Reading.{Values, apart, together}
+use Rattle.bufr_walk.specs.Prelude.{View, view_of, content_at, Content, ShownValue, shown_number, shown_text, shown_missing, shown_reference, Read, Values, apart, together}
 use Rattle.std.specs.List.{list_all, AllByRecursion}
-use Rattle.bufr_frame.specs.Layout.{IsFitting}
 use Rattle.bufr_walk.specs.Reading as reading
 
 -- what was read for an item

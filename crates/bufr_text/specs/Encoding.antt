@@ -3,32 +3,21 @@
 -- Cited by public contracts.
 use Rattle.std.specs.Prelude.{Bool, true, false, ℕ, ◌+◌, ◌/◌, nat_lt, if◌then◌else◌, List, ◌++◌, length, Result, Ok, Err, ◌≡◌, Option, Some, None, ◌≤◌, [], ◌∷◌, Vec, ◌*◌}
 use Rattle.bufr_text.specs.declared.encode.Form.{Form}
-use Rattle.bufr_bits.specs.Bits.{padding, bits_of}
+use Rattle.bufr_bits.specs.Prelude.{padding, bits_of}
 use Rattle.bufr_tables.specs.declared.fault.TemplateFault.{TemplateFault}
-use Rattle.bufr_tables.specs.Expansion.{tree_of, tables_of}
-use Rattle.bufr_tables.specs.TableB.{Row}
-use Rattle.bufr_tables.specs.TableD.{Sequence}
-use Rattle.bufr_tables.specs.Tree.{Tree, places}
+use Rattle.bufr_tables.specs.Prelude.{tree_of, tables_of, Row, Sequence, Tree, places}
 use Rattle.bufr_frame.specs.declared.section1.Head.{Head}
-use Rattle.bufr_frame.specs.Layout.{MessageParts, parts_of, message_octets, message_size, max_octets}
-use Rattle.bufr_walk.specs.Content.{octets_in}
-use Rattle.bufr_walk.specs.Course.{Course, next_item, Next, take_next, at_end, astray, refused}
-use Rattle.bufr_fill.specs.Encoding.{plain_data, packed_data, packed_filler, rows, longest, are_many}
-use Rattle.bufr_fill.specs.Draft.{Subset, subsets_of, DraftEntry, Holds, Ends}
-use Rattle.bufr_fill.specs.Faults.{DraftFaultKind, FaultAt, wrong_number, out_of_range, text_long, missing_forbidden, unequal_factors, uneven_increment, walk_refused, too_many_values, other_than, at_line, draft_fault}
+use Rattle.bufr_frame.specs.Prelude.{MessageParts, parts_of, message_octets, message_size, max_octets}
+use Rattle.bufr_walk.specs.Prelude.{octets_in, FieldSpec, Course, next_item, Next, take_next, at_end, astray, refused, ticked}
+use Rattle.bufr_fill.specs.Prelude.{plain_data, packed_data, packed_filler, rows, longest, are_many, plain_filler, WrittenItem, Filler, fill, Subset, subsets_of, DraftEntry, Holds, Ends, DraftFaultKind, FaultAt, wrong_number, out_of_range, text_long, missing_forbidden, unequal_factors, uneven_increment, walk_refused, too_many_values, other_than, at_line, draft_fault, PlainOutModel, items_left, end_left}
 use Rattle.bufr_text.specs.declared.encode.Form.TheVariants.{AsWritten}
 use Rattle.bufr_text.specs.Documents.{Document, subsets_in, head_from_values, observed_in, compressed_in, section2_in}
 use Rattle.bufr_text.specs.declared.fault.DocumentFault.{DocumentFault}
 use Rattle.bufr_text.specs.declared.fault.WalkRefusal.{WalkRefusal}
 use Rattle.bufr_walk.specs.declared.spec.Taken.{Taken}
-use Rattle.bufr_walk.specs.FieldSpec.{FieldSpec}
-use Rattle.bufr_walk.specs.Walk.{ticked}
-use Rattle.bufr_fill.specs.DraftContent.{plain_filler}
-use Rattle.bufr_fill.specs.Filling.{WrittenItem, Filler, fill}
 use Rattle.std.specs.Global.{Global}
 use Rattle.bufr_walk.specs.declared.walker.WalkStop.{WalkStop}
 use Rattle.bufr_fill.specs.declared.fault.DraftFault.{DraftFault}
-use Rattle.bufr_fill.specs.PlainOut.{PlainOutModel, items_left, end_left}
 use Rattle.bufr_text.specs.declared.encode.Form.TheVariants as form
 use Rattle.bufr_walk.specs.declared.spec.TurnRefusal.TheVariants as refusal
 use Rattle.bufr_text.specs.declared.fault.DocumentFault.TheVariants as fault

@@ -4,7 +4,7 @@ use Rattle.std.specs.Prelude.{ℕ, zero, suc, ◌+◌, ◌-◌, ◌*◌, ◌/◌
 use Rattle.std.specs.List.{list_all}
 use Rattle.std.specs.Char.{is_ascii_digit}
 use Rattle.std.specs.Str.Parse.{digits_value}
-use Rattle.bufr_tables.specs.Fxy.{fxy_of, fxy_text}
+use Rattle.bufr_tables.specs.Prelude.{fxy_of, fxy_text}
 
 -- the longest prefix of elements that pass a test, and the rest
 unfoldable pub prefix_while : (ℕ → Bool) → List ℕ → List ℕ

@@ -11,22 +11,18 @@ pub mod Reader
 pub mod Writing
 -- what a dump leaves on its writer, and the steps that are made for it
 pub mod DumpWritten
--- private: what the calls of a showing push to a writer of lines
-pub mod Pen
 -- what a line says, apart from where it is, and the keys of the header
 pub mod Line
 -- a message as its text gives it, what each line does to it, and the documents of a text
 pub mod Documents
 -- what the lines of a document are, in order, and the one spelling that a dump has
 pub mod Spelling
--- private: what the readers of descriptors, hexadecimal digits and quoted texts return
-pub mod LineParts
 -- private: how a document is kept while it is read, and what taking held lines comes to
 pub mod Taking
 -- ---- how a reader goes on
--- private: what the steps of a reader do, one by one
-pub mod Filling
 -- the message that a document is encoded to, or its first refusal, with the turns made
 pub mod Encoding
 -- an accepted message and the message that its dump text is encoded to, in either form
 pub mod RoundTrip
+-- the names that others cite, from one place
+pub mod Prelude

@@ -1,12 +1,17 @@
 -- What a line says, apart from where it is, and the keys of the header.
 -- (A choice of this project)
 -- Cited by public contracts.
-use Rattle.std.specs.Prelude.{ℕ, zero, suc, ◌+◌, ◌==◌, nat_le, nat_lt, Bool, not, ◌&&◌, if◌then◌else◌, List, [], ◌∷◌, Option, Some, None, option_map, codes, length, map, ◌-◌, ◌++◌, decimal, take, drop}
+use Rattle.std.specs.Prelude.{ℕ, zero, suc, ◌+◌, ◌==◌, nat_le, nat_lt, Bool, not, ◌&&◌, if◌then◌else◌, List, [], ◌∷◌, Option, Some, None, option_map, codes, length, map, ◌-◌, ◌++◌, decimal, take, drop, ◌≡◌, ◌*◌, ◌<◌, ◌≤◌, true, min}
 use Rattle.std.specs.Char.{is_ascii_digit}
 use Rattle.std.specs.Str.{bytes_eq}
-use Rattle.bufr_frame.specs.Section1.{Field, Master, Centre, Subcentre, Update, Category, Subcategory, LocalSubcategory, MasterVersion, LocalVersion, Year, Month, Day, Hour, Minute, Second, Slot, most_in}
-use Rattle.bufr_fill.specs.Draft.{DraftValue, number_token, text_form, missing_form, reference_token}
+use Rattle.bufr_frame.specs.Prelude.{Field, Master, Centre, Subcentre, Update, Category, Subcategory, LocalSubcategory, MasterVersion, LocalVersion, Year, Month, Day, Hour, Minute, Second, Slot, most_in}
+use Rattle.bufr_fill.specs.Prelude.{DraftValue, number_token, text_form, missing_form, reference_token}
 use Rattle.bufr_text.specs.Grammar.{prefix_while, suffix_while, without_prefix, without_space, hex_read, fxy_read, descriptors_read, number_read, quoted_read, is_number_octet, is_passed_after}
+use Rattle.std.specs.List.{list_all}
+use Rattle.std.specs.Str.Parse.{digits_value}
+use Rattle.bufr_text.specs.declared.line.QuotedToken.{QuotedToken}
+use Rattle.bufr_text.specs.Grammar as grammar
+use Rattle.bufr_text.specs.declared.line.QuotedToken.TheVariants as quoting
 
 -- what a line says; `Header` has the place of its key, `Wrong` is no line of a document
 pub data Line : Type 0 where
@@ -31,9 +36,7 @@ pub data Bound : Type 0 where
 
 abbrev pub least_of : Bound → ℕ
 least_of Editions = 3
-least_of (Holds field) = 0
-least_of Bit = 0
-least_of Count = 0
+least_of bound = 0
 
 -- rule: reading-header-ranges
 abbrev pub most_of : List Slot → Bound → ℕ
@@ -177,3 +180,75 @@ unfoldable pub header_text : (key : ℕ) → List ℕ → List ℕ
 header_text key [] = []
 header_text key (value ∷ more) =
     lead_of (key_in keys key) ++ (decimal value ++ header_text (key + 1) more)
+
+-- ---- Private: what the readers of descriptors, hexadecimal digits and quoted texts return.
+
+-- the descriptors are a prefix of `out`, or the text is none of a line
+abbrev pub Describes : (text out : List ℕ) → Option ℕ → Type 0
+Describes text out None = made (with_one_to 8 Descriptors) (descriptors_read text) ≡ Wrong
+Describes text out (Some count) =
+    (count ≤ length out)
+    × (made (with_one_to 8 Descriptors) (descriptors_read text) ≡ Descriptors (take count out))
+
+-- the descriptors that were read are a prefix of `out`
+pub record IsDescribing (text out : List ℕ) (count : ℕ) : Type 0 where
+  pub within : 7 * count ≤ length text
+  pub some : 0 < length text
+  pub short : length text ≤ 56
+  pub room : length out ≡ 8
+  pub read : descriptors_read text
+      ≡ option_map (λ more. take count out ++ more) (descriptors_read (drop (7 * count) text))
+
+-- ---- What undoing hexadecimal digits answers.
+
+-- the octets are a prefix of `out`, half as many as digits, or the text writes none
+abbrev pub Unhexes : (text out : List ℕ) → Option ℕ → Type 0
+Unhexes text out None = hex_read text ≡ None
+Unhexes text out (Some count) =
+    (2 * count ≡ length text) × (count ≤ length out) × (hex_read text ≡ Some (take count out))
+
+-- the octets that were read are a prefix of `out`
+pub record IsUnhexing (text out : List ℕ) (count : ℕ) : Type 0 where
+  pub within : 2 * count ≤ length text
+  pub room : length text ≤ 2 * length out
+  pub read : hex_read text
+      ≡ option_map (λ more. take count out ++ more) (hex_read (drop (2 * count) text))
+
+-- ---- What unquoting a text answers.
+
+abbrev pub quoting_said : QuotedToken → grammar.QuotedToken
+quoting_said quoting.Closed = grammar.Closed
+quoting_said (quoting.ListsLeaves octet written) = grammar.ListsLeaves octet written
+quoting_said quoting.Nothing = grammar.Nothing
+
+-- octets that were read, before what is read on
+abbrev pub octets_onto : List ℕ → Option (List ℕ × List ℕ) → Option (List ℕ × List ℕ)
+octets_onto octets None = None
+octets_onto octets (Some read) = Some (octets ++ read.0, read.1)
+
+-- the octets of the text come first, and what is after the closing quote begins at a place; or
+-- there is none
+abbrev pub Unquotes : (text out : List ℕ) → Option (ℕ × ℕ) → Type 0
+Unquotes text out None = quoted_read 0 text ≡ None
+Unquotes text out (Some (count, at)) =
+    (count ≤ length out) × (at ≤ length text)
+    × (quoted_read 0 text ≡ Some (take count out, drop at text))
+
+-- what was read is a prefix of `out`
+pub record IsUnquoting (text out : List ℕ) (count at : ℕ) : Type 0 where
+  pub few : count ≤ at
+  pub within : at ≤ length text
+  pub room : length text ≤ length out
+  pub read : quoted_read 0 text ≡ octets_onto (take count out) (quoted_read 0 (drop at text))
+
+-- the octets of a token that were passed come first
+pub record IsTokenTo (text : List ℕ) (at : ℕ) : Type 0 where
+  pub within : at ≤ length text
+  pub ahead : prefix_while is_number_octet text ≡ take at text ++ prefix_while is_number_octet
+      (drop at text)
+  pub suffix_while : suffix_while is_number_octet text ≡ suffix_while is_number_octet (drop at text)
+
+-- the digits that were passed write a number
+pub record IsNumberTo (text : List ℕ) (at n : ℕ) : Type 0 where
+  pub digits : list_all is_ascii_digit (take at text) ≡ true
+  pub value : n ≡ min (digits_value 10 (take at text)) 65536

@@ -1,7 +1,7 @@
 -- The line that lists a message. (a choice of this project)
 -- Cited by public contracts.
 use Rattle.std.specs.Prelude.{ℕ, Bool, List, [], ◌∷◌, ◌++◌, codes, decimal, length, is_some}
-use Rattle.bufr_frame.specs.Sections.{Sections}
+use Rattle.bufr_frame.specs.Prelude.{Sections}
 use Rattle.bufr_frame.specs.declared.section1.Head.{Head}
 use Rattle.bufr_text.specs.Writing.{joined, zero_padded, flag}
 

@@ -2,7 +2,7 @@
 -- (A choice of this project)
 -- Cited by public contracts.
 use Rattle.std.specs.Prelude.{ℕ, ◌≡◌, ◌+◌, ◌==◌, Bool, true, false, not, List, [], ◌∷◌, ◌++◌, length, ◌⊎◌, ◌-◌, ◌*◌, ◌<◌, ◌≤◌, if◌then◌else◌, take, Option, Some, None, Result, Ok, Err}
-use Rattle.bufr_frame.specs.Numbers.{number_of_run_fault}
+use Rattle.bufr_frame.specs.Prelude.{number_of_run_fault, AddsReads, max_reads, read_failures_after}
 use Rattle.bufr_text.specs.declared.fault.ReadFault.{ReadFault}
 use Rattle.bufr_text.specs.declared.fault.ReadFault.TheVariants.{Line, SubsetCount, HeaderRange, Run}
 use Rattle.std.specs.List.{list_all, AllByRecursion}
@@ -10,7 +10,6 @@ use Rattle.bufr_text.specs.Documents.{ParserState, ParseResult, line_within_limi
 use Rattle.bufr_text.specs.Dump.{text_of_lines}
 use Rattle.bufr_text.specs.Line.{Closes}
 use Rattle.std.specs.Io.KnownBytes.{Consumes, IsAtEnd}
-use Rattle.bufr_frame.specs.Input.{AddsReads, max_reads, read_failures_after}
 use Rattle.bufr_frame.specs.declared.fault.RunFault.TheVariants.{Read, Write, InputTooLong, Memory}
 use Rattle.bufr_text.specs.Documents as documents
 
@@ -97,12 +96,11 @@ position_after s bs = record { at = s.at; place = s.place; held = s.held ++ bs; 
 
 -- what an answer reports
 abbrev pub parse_results : Result (Option Document) ReadFault → List ParseResult
-parse_results (Ok None) = []
 parse_results (Ok (Some document)) = Complete document ∷ []
 parse_results (Err (Line line)) = Refused line documents.NotAllowed ∷ []
 parse_results (Err (SubsetCount line)) = Refused line documents.SubsetCount ∷ []
 parse_results (Err (HeaderRange line)) = Refused line documents.HeaderRange ∷ []
-parse_results (Err (Run fault)) = []
+parse_results result = []
 
 -- the line feed that the last line may lack, where the end was reached
 abbrev pub IsMissingFeed : (ended ended' : Bool) → List ℕ → Type 0
@@ -215,13 +213,12 @@ ReadsDocument left left' old new (Err (SubsetCount line)) bs =
     ReadsLines left left' old new (parse_results (Err (SubsetCount line))) bs
 ReadsDocument left left' old new (Err (HeaderRange line)) bs =
     ReadsLines left left' old new (parse_results (Err (HeaderRange line))) bs
-ReadsDocument left left' old new (Err (Run Read)) bs = ReadsLines left left' old new [] bs
 ReadsDocument left left' old new (Err (Run Write)) bs = ⊥
-ReadsDocument left left' old new (Err (Run InputTooLong)) bs = ReadsLines left left' old new [] bs
 ReadsDocument left left' old new (Err (Run Memory)) bs =
     Consumes left left' bs × (length bs ≤ 4096 * (new.reads - old.reads))
     × (old.ended ≡ true → 0 < length old.held)
     × ((new.reads ≡ 0) ⊎ NeedsMemoryForLine left left' old bs)
+ReadsDocument left left' old new result bs = ReadsLines left left' old new [] bs
 
 -- A call reports the next document, or why there is none.
 pub record ReturnsNextDocument (left left' : Option (List ℕ)) (old new : ReaderModel)
@@ -238,8 +235,5 @@ CountsTextReads reads reads' old new = AddsReads reads reads' old.reads new.read
 
 -- the reader's count of failures after a call: a refused line leaves it
 abbrev pub failures_by : {X : Type 0} → ℕ → Result X ReadFault → ℕ
-failures_by count (Ok x) = count
-failures_by count (Err (Line line)) = count
-failures_by count (Err (SubsetCount line)) = count
-failures_by count (Err (HeaderRange line)) = count
 failures_by count (Err (Run fault)) = read_failures_after {X = Unit {0}} count (Err fault)
+failures_by count result = count

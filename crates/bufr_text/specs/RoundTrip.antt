@@ -2,30 +2,18 @@
 -- Cited by public contracts.
 use Rattle.std.specs.Prelude.{◌≡◌, ℕ, ◌+◌, ◌%◌, ◌≤◌, ◌==◌, ◌&&◌, ◌||◌, Bool, List, ◌∷◌, ◌++◌, length, if◌then◌else◌, Ok, Vec, Some, Result, Err, [], take, drop, flat_map}
 use Rattle.std.specs.List.{AllByRecursion}
-use Rattle.bufr_tables.specs.Expansion.{tree_of, tables_of}
-use Rattle.bufr_tables.specs.TableB.{Row}
-use Rattle.bufr_tables.specs.TableD.{Sequence}
-use Rattle.bufr_tables.specs.Tree.{Tree}
-use Rattle.bufr_frame.specs.Layout.{max_octets, with_even_length}
-use Rattle.bufr_frame.specs.Octets.{u24_at}
-use Rattle.bufr_frame.specs.Sections.{section3_begins, section4_begins, Sections, sections_of, edition_of, IsPlain}
-use Rattle.bufr_frame.specs.Scan.{FrameAt, scan_from}
-use Rattle.bufr_walk.specs.Course.{next_item}
-use Rattle.bufr_walk.specs.Refusal.{read_by, data_of}
-use Rattle.bufr_walk.specs.Reading.{Values, IsReading, Item, apart, together}
+use Rattle.bufr_tables.specs.Prelude.{tree_of, tables_of, Row, Sequence, Tree}
+use Rattle.bufr_frame.specs.Prelude.{max_octets, with_even_length, u24_at, section3_begins, section4_begins, Sections, sections_of, edition_of, IsPlain, FrameAt, scan_from}
+use Rattle.bufr_walk.specs.Prelude.{next_item, read_by, data_of, Values, IsReading, Item, apart, together, Content}
 use Rattle.bufr_text.specs.declared.encode.Form.{Form}
 use Rattle.bufr_text.specs.declared.encode.Form.TheVariants.{AsWritten}
 use Rattle.bufr_text.specs.Documents.{Document, subsets_in, head_from_values, observed_in, section2_in}
 use Rattle.bufr_text.specs.Dump.{DumpItem, dump_items_of, IsOctet}
 use Rattle.bufr_text.specs.Encoding.{compressed_by, encoding_of, DocumentRefusal, by_template, by_item, too_long, RefusedAt, reported_refusal, octets_of_bits, compressed_as}
 use Rattle.std.specs.Global.{Global}
-use Rattle.bufr_walk.specs.Content.{Content}
-use Rattle.bufr_fill.specs.RoundTrip.{subsets_from, IsUnlike, AreSaid, AreSaidFrom}
+use Rattle.bufr_fill.specs.Prelude.{subsets_from, IsUnlike, AreSaid, AreSaidFrom, IsMinusZero, packing, Subset, subsets_of}
 use Rattle.bufr_text.specs.declared.fault.DocumentFault.{DocumentFault}
-use Rattle.bufr_bits.specs.Bits.{bits_of}
-use Rattle.bufr_fill.specs.DraftContent.{IsMinusZero}
-use Rattle.bufr_fill.specs.Packing.{packing}
-use Rattle.bufr_fill.specs.Draft.{Subset, subsets_of}
+use Rattle.bufr_bits.specs.Prelude.{bits_of}
 use Rattle.bufr_text.specs.declared.encode.Form.TheVariants as form
 
 -- a message that is accepted by these tables: it has sections, its descriptors a template, and its

@@ -3,19 +3,13 @@
 -- Cited by public contracts.
 use Rattle.std.specs.Prelude.{◌≡◌, ◌==◌, false, List, [], ◌∷◌, length, ◌≤◌, ◌⊎◌, ℕ, ◌+◌, ◌++◌, map, if◌then◌else◌, take, drop, codes, Option, None, option_map, Result, Ok, Err}
 use Rattle.std.specs.List.{AllByRecursion, concat}
-use Rattle.bufr_fill.specs.RoundTrip.{AllHaveOctets}
-use Rattle.bufr_fill.specs.Draft.{DraftEntry, Holds, Ends, subsets_of, DraftValue, draft, Draft, Subset}
+use Rattle.bufr_fill.specs.Prelude.{AllHaveOctets, DraftEntry, Holds, Ends, subsets_of, DraftValue, draft, Draft, Subset, DraftFaultKind, content_of, normal_form}
 use Rattle.bufr_text.specs.Documents.{Document, optional_in, subsets_in, IsHeaded, ParseResult, Complete, Refused, most_entries, line_within_limit}
 use Rattle.bufr_text.specs.Dump.{IsOctet, IsDescriptorWord, Comment, header_lines, local1_line, section2_line, descriptors_line, form_text, comment_text, subset_line, text_of_lines, comment_of}
 use Rattle.bufr_text.specs.Line.{Line, Passed, Opens, Header, Local1, Section2, Descriptors, Begins, Item, Closes, Wrong}
-use Rattle.bufr_tables.specs.TableB.{Row, entry_of}
-use Rattle.bufr_tables.specs.Tree.{Tree}
+use Rattle.bufr_tables.specs.Prelude.{Row, entry_of, Tree}
 use Rattle.bufr_walk.specs.declared.spec.Taken.{Taken}
-use Rattle.bufr_walk.specs.FieldSpec.{FieldSpec}
-use Rattle.bufr_walk.specs.Content.{Content, answer_of}
-use Rattle.bufr_walk.specs.Course.{Course, Next, take_next, at_end, astray, refused, next_item}
-use Rattle.bufr_fill.specs.DraftContent.{content_of, normal_form}
-use Rattle.bufr_fill.specs.Faults.{DraftFaultKind}
+use Rattle.bufr_walk.specs.Prelude.{FieldSpec, Content, answer_of, Course, Next, take_next, at_end, astray, refused, next_item}
 use Rattle.bufr_text.specs.declared.encode.Form.{Form}
 use Rattle.bufr_text.specs.declared.encode.Form.TheVariants.{AsWritten, Plain, Compressed}
 use Rattle.bufr_text.specs.Grammar.{runs_of}
@@ -25,10 +19,9 @@ use Rattle.bufr_walk.specs.declared.spec.Taken.TheVariants as taken
 
 -- the last entry, where there is one, is an end: each item is in a subset
 abbrev pub AreEnded : List DraftEntry → Type 0
-AreEnded [] = Unit {0}
 AreEnded (Holds item ∷ []) = ⊥
-AreEnded (Ends line ∷ []) = Unit {0}
 AreEnded (entry ∷ next ∷ more) = AreEnded (next ∷ more)
+AreEnded entries = Unit {0}
 
 -- its values are within their ranges, its octets are octets and its descriptors words; it has
 -- octets of section 2 only where it says that there is one; it has as many subsets as it says

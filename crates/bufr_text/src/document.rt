@@ -1,10 +1,8 @@
 //! A message as its text gives it, and how its lines build it.
 ghost use Rattle.std.specs.Prelude.{◌≡◌, ℕ, ◌+◌, ◌<◌, ◌≤◌, List, [], ◌∷◌, ◌++◌, length, take, map, OnOk, IsTrue, slice_index, option_map, true, IfOk, OnErr, ◌^◌, drop, false};
-ghost use Rattle.bufr_bits.specs.Decimal.{short_text};
-ghost use Rattle.bufr_fill.specs.Draft.{draft, number_token, Holds, Ends, subsets_of};
-ghost use Rattle.bufr_frame.specs.Layout.{is_writable};
-ghost use Rattle.bufr_frame.specs.Section1.{slots_4};
-ghost use Rattle.bufr_fill.specs.Given.{form_in};
+ghost use Rattle.bufr_bits.specs.Prelude.{short_text};
+ghost use Rattle.bufr_fill.specs.Prelude.{draft, number_token, Holds, Ends, subsets_of, form_in};
+ghost use Rattle.bufr_frame.specs.Prelude.{is_writable, slots_4};
 ghost use Rattle.bufr_text.specs.Documents.{subsets_in, with_value, with_local1, with_section2, with_descriptors, with_entry, heading, before_subsets, filling, beginning, closing, opening, turn, adds, line_within_limit, head_from_values, observed_in, compressed_in, section2_in, most_entries};
 ghost use Rattle.bufr_text.specs.Spelling.{IsWhole};
 ghost use Rattle.bufr_text.specs.Line.{mosts};
@@ -213,6 +211,7 @@ impl Document {
     }
 
     /// The value of a key that has one octet; none has more in edition 3.
+    #[tactic(auto, using(crate::proofs::HeaderLemmas::octet_steps))]
     fn octet(&self, key: usize) -> u8
         requires place { key < 20 }
         requires few { slice_index (mosts slots_4) key ≤ 255 }

@@ -1,19 +1,14 @@
 //! The text that dumps a message: the lines before its subsets, and a line for each item.
 ghost use Rattle.std.specs.Prelude.{◌≡◌, ◌++◌, [], ◌∷◌, codes, drop, map, take, unwrap_or, option_map, ◌≤◌, ◌*◌};
-ghost use Rattle.bufr_frame.specs.Octets.{words_left};
+ghost use Rattle.bufr_frame.specs.Prelude.{words_left};
 ghost use Rattle.bufr_text.specs.Dump.{descriptors_line, head_lines, header_lines, header_of, section2_line, text_of_lines, comment_text, dump_value_of, form_text, item_text, comment_of, dump_item_of, value_of, dump_text_of, dump_items_of};
 ghost use Rattle.bufr_text.specs.Grammar.{descriptors_text, hex_text, runs_of};
 ghost use Rattle.bufr_text.specs.Line.{header_text};
 ghost use Rattle.bufr_text.specs.Writing.{Pushes};
-ghost use Rattle.bufr_bits.specs.Decimal.{decimal_text_of};
-ghost use Rattle.bufr_tables.specs.Entry.{row_of_entry};
-ghost use Rattle.bufr_tables.specs.Fxy.{fxy_text};
-ghost use Rattle.bufr_walk.specs.Calls.{seen, seen_value, calls_of, turns_shown};
-ghost use Rattle.bufr_tables.specs.Tree.{places};
-ghost use Rattle.bufr_walk.specs.Refusal.{course_of};
-ghost use Rattle.bufr_walk.specs.Reading.{IsReading, Values};
-ghost use Rattle.bufr_text.specs.DumpWritten.{CountsFaults, MakesSteps, ReadsMessage, WritesPrefix};
-ghost use Rattle.bufr_text.specs.Pen.{Ends, subsets_text};
+ghost use Rattle.bufr_bits.specs.Prelude.{decimal_text_of};
+ghost use Rattle.bufr_tables.specs.Prelude.{row_of_entry, fxy_text, places};
+ghost use Rattle.bufr_walk.specs.Prelude.{seen, seen_value, calls_of, turns_shown, course_of, IsReading, Values};
+ghost use Rattle.bufr_text.specs.DumpWritten.{CountsFaults, MakesSteps, ReadsMessage, WritesPrefix, Ends, subsets_text};
 
 use crate::header::KEYS;
 use crate::line_writer::{LineWriter, PAGE};
@@ -317,7 +312,7 @@ fn take_block(block: &mut Vec<u8>) -> Result<(), AllocError> {
 }
 
 impl<'b, 'w, W: Sink> Visitor for LineWriter<'b, 'w, W> {
-    ghost use Rattle.bufr_text.specs.Pen.{PushesCall};
+    ghost use Rattle.bufr_text.specs.DumpWritten.{PushesCall};
 
     type Fault = RunFault;
 

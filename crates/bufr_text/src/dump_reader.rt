@@ -38,7 +38,7 @@ pub struct DumpReader {
 
 impl Model for DumpReader {
     ghost use Rattle.bufr_text.specs.Reader.{ReaderModel};
-    ghost use Rattle.bufr_text.specs.Filling.{place_now, IsReader};
+    ghost use Rattle.bufr_text.specs.Taking.{place_now, IsReader};
 
     ghost Value = { ReaderModel };
 
@@ -56,7 +56,7 @@ impl Model for DumpReader {
 
 impl LineRefusal {
     ghost use Rattle.std.specs.Prelude.{◌≡◌};
-    ghost use Rattle.bufr_text.specs.Filling.{read_fault_at};
+    ghost use Rattle.bufr_text.specs.Taking.{read_fault_at};
 
     /// The fault of this line.
     fn at(self, line: u64) -> ReadFault
@@ -72,11 +72,11 @@ impl LineRefusal {
 
 impl DumpReader {
     ghost use Rattle.std.specs.Prelude.{◌≡◌, ◌≤◌, ◌<◌, ◌-◌, ℕ, List, None, Some, Err, true, false, length, IfSome, IfOk};
-    ghost use Rattle.bufr_bits.specs.Device.{counted};
-    ghost use Rattle.bufr_frame.specs.Input.{read_failures_after, max_reads};
+    ghost use Rattle.bufr_bits.specs.Prelude.{counted};
+    ghost use Rattle.bufr_frame.specs.Prelude.{read_failures_after, max_reads};
     ghost use Rattle.bufr_text.specs.Spelling.{IsProper};
     ghost use Rattle.bufr_text.specs.Reader.{has_no_feed, ReaderModel, new_reader, unfed, ReturnsNextDocument, CountsTextReads, failures_by};
-    ghost use Rattle.bufr_text.specs.Filling.{TakesHeldLines, HandlesEnd, FillsBuffer, ReadsMoreText, stopped};
+    ghost use Rattle.bufr_text.specs.Taking.{TakesHeldLines, HandlesEnd, FillsBuffer, ReadsMoreText, stopped};
 
     /// A reader that has read nothing. It takes no memory.
     pub fn new(alloc: Global) -> DumpReader
@@ -162,6 +162,7 @@ impl DumpReader {
     }
 
     /// What the end of the input comes to, where no line is left: none may be missing.
+    #[tactic(auto, using(crate::proofs::ReaderLemmas::finish_steps))]
     // rule: fault-50, input-ends-early
     fn finish(&mut self) -> Result<Option<Document>, ReadFault>
         requires sound { self.old.fault ≡ None }
@@ -180,6 +181,7 @@ impl DumpReader {
     }
 
     /// Reads once, after the octets that are held. At the end the last line is ended.
+    #[tactic(auto, using(crate::proofs::ReaderLemmas::more_steps))]
     // rule: reading-last-line
     fn read_more<R: Source>(&mut self, r: &mut R) -> Result<(), RunFault>
         requires sound { self.old.fault ≡ None }

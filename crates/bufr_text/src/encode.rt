@@ -1,16 +1,11 @@
 //! The message of a document, in a form.
 ghost use Rattle.std.specs.Prelude.{ℕ, ◌≡◌, ◌≢◌, ◌≤◌, ◌*◌, ◌+◌, ◌^◌, List, [], Bool, length, IfOk, IfErr, OnOk, OnErr, Ok, option_map, false, true};
-ghost use Rattle.bufr_tables.specs.Expansion.{tree_of, tables_of};
-ghost use Rattle.bufr_tables.specs.Tree.{Tree, places};
-ghost use Rattle.bufr_tables.specs.Records.{Record};
-ghost use Rattle.bufr_tables.specs.TableB.{AreRows};
-ghost use Rattle.bufr_frame.specs.Sections.{Sections};
-ghost use Rattle.bufr_walk.specs.Reading.{Values};
+ghost use Rattle.bufr_tables.specs.Prelude.{tree_of, tables_of, Tree, places, Record, AreRows};
+ghost use Rattle.bufr_frame.specs.Prelude.{Sections};
+ghost use Rattle.bufr_walk.specs.Prelude.{Values, next_item, ticked};
 ghost use Rattle.bufr_text.specs.Dump.{document_of};
 ghost use Rattle.bufr_text.specs.RoundTrip.{IsAccepted, dump_items_in, EncodesForm};
-ghost use Rattle.bufr_walk.specs.Course.{next_item};
-ghost use Rattle.bufr_walk.specs.Walk.{ticked};
-ghost use Rattle.bufr_fill.specs.Draft.{subsets_of};
+ghost use Rattle.bufr_fill.specs.Prelude.{subsets_of};
 ghost use Rattle.bufr_text.specs.Encoding.{encoding_in, encoding_of, report_of_template, octets_of_bits, message_of, compressed_as, parts_as, IsDocumentRefusal, report_of_draft, reported_refusal, AreOctetsOf, WritesData, WritesSubset, reported_stop, CountsSteps, places_by, bits_by, turns_by, compressed_by};
 ghost use Rattle.bufr_text.specs.Documents.{head_from_values, most_entries};
 ghost use Rattle.bufr_text.specs.declared.encode.Form.TheVariants.{AsWritten};
@@ -22,13 +17,6 @@ use bufr_frame::{WriteFault, write_message};
 use bufr_tables::{Fxy, TableB, TableD, Template, TemplateFault};
 use bufr_walk::{SpecCache, Steps, TemplateCache, WalkStop, walk_by};
 use std::alloc::{AllocError, Global};
-
-/// A document, and the form of its data.
-#[derive(Clone, Copy)]
-struct FormedDocument<'a> {
-    document: &'a Document,
-    form: Form,
-}
 
 /// The fault of a walk that stopped, where the next entry is on a line.
 // rule: fault-62
@@ -148,33 +136,24 @@ fn write_packed(
     }
 }
 
-/// Whether the data of a document are compressed in a form.
-// rule: form-option
-fn is_compressed(formed: FormedDocument<'_>) -> bool
-    ensures { result ≡ compressed_as formed.entry.form formed.entry.document.now }
-{
-    formed.form.is_compressed(formed.document.compressed())
-}
-
 /// The octets of a document's data in a form.
+// rule: form-option
 fn write_data(
     template: &Template,
-    formed: FormedDocument<'_>,
+    document: &Document,
+    form: Form,
     cache: &mut SpecCache<'_>,
     steps: &mut Steps,
 ) -> Result<Vec<u8>, DocumentFault>
     requires { steps.old ≡ 0 }
     ensures same { cache.new ≡ cache.old }
-    ensures written { WritesData (places template.now)
-        (compressed_as formed.entry.form formed.entry.document.now)
-        (next_item cache.old template.now)
-        (subsets_of formed.entry.document.now.entries) result steps.new }
+    ensures written { WritesData (places template.now) (compressed_as form document.now)
+        (next_item cache.old template.now) (subsets_of document.now.entries) result steps.new }
 {
-    let entries = formed.document.items();
-    if is_compressed(formed) {
-        write_packed(template, entries, cache, steps)
+    if form.is_compressed(document.compressed()) {
+        write_packed(template, document.items(), cache, steps)
     } else {
-        write_plain(template, entries, formed.document.subsets(), cache, steps)
+        write_plain(template, document.items(), document.subsets(), cache, steps)
     }
 }
 
@@ -182,77 +161,70 @@ fn write_data(
 // rule: writes-local-use, fault-60
 fn write_whole(
     alloc: Global,
-    formed: FormedDocument<'_>,
+    document: &Document,
+    form: Form,
     payload: &[u8],
 ) -> Result<Vec<u8>, DocumentFault>
-    ensures octets { IfOk result (λ octets. message_of formed.entry.document.now.line
-        (head_from_values formed.entry.document.now)
-        (parts_as (compressed_as formed.entry.form formed.entry.document.now)
-        formed.entry.document.now payload.now) ≡ Ok octets.items) }
+    ensures octets { IfOk result (λ octets. message_of document.now.line
+        (head_from_values document.now)
+        (parts_as (compressed_as form document.now) document.now payload.now) ≡ Ok octets.items) }
     ensures fault { IfErr result (λ why. IsDocumentRefusal (reported_refusal why)
-        (message_of formed.entry.document.now.line (head_from_values formed.entry.document.now)
-        (parts_as (compressed_as formed.entry.form formed.entry.document.now)
-        formed.entry.document.now payload.now))) }
+        (message_of document.now.line (head_from_values document.now)
+        (parts_as (compressed_as form document.now) document.now payload.now))) }
     ensures payload { (bits : List Bool) → AreOctetsOf payload.now bits
         → payload.now ≡ octets_of_bits bits }
 {
     let written = write_message(
         alloc,
-        &formed.document.head(),
-        formed.document.local1(),
-        formed.document.section2(),
-        formed.document.descriptors(),
-        formed.document.subsets(),
-        formed.document.observed(),
-        is_compressed(formed),
+        &document.head(),
+        document.local1(),
+        document.section2(),
+        document.descriptors(),
+        document.subsets(),
+        document.observed(),
+        form.is_compressed(document.compressed()),
         payload,
     );
     match written {
         Ok(octets) => Ok(octets),
-        Err(WriteFault::TooLong) => Err(DocumentFault::TooLong(formed.document.line())),
+        Err(WriteFault::TooLong) => Err(DocumentFault::TooLong(document.line())),
         Err(WriteFault::Memory) => Err(DocumentFault::Memory),
     }
 }
 
 /// The octets of a document's message in a form, by the template that was selected for it.
 fn encode_selected(
-    alloc: Global,
-    formed: FormedDocument<'_>,
+    document: &Document,
+    form: Form,
     templates: &TemplateCache<'_>,
     cache: &mut SpecCache<'_>,
     steps: &mut Steps,
 ) -> Result<Vec<u8>, DocumentFault>
     requires none { steps.old ≡ 0 }
-    requires list { templates.now.list ≡ formed.document.now.descriptors }
+    requires list { templates.now.list ≡ document.now.descriptors }
     requires cached { cache.old ≡ templates.now.table_b }
     ensures same { cache.new ≡ cache.old }
     ensures octets { IfOk result (λ octets.
-        encoding_in formed.entry.form templates.now.table_b templates.now.table_d
-        formed.entry.document.now
+        encoding_in form templates.now.table_b templates.now.table_d document.now
         ≡ Ok octets.items) }
     ensures fault { IfErr result (λ why. IsDocumentRefusal (reported_refusal why)
-        (encoding_in formed.entry.form templates.now.table_b templates.now.table_d
-        formed.entry.document.now)) }
+        (encoding_in form templates.now.table_b templates.now.table_d document.now)) }
     ensures memory { IfErr result
         (λ why. (line : ℕ) → why ≢ DocumentFault.Template line TemplateFault.Memory) }
     ensures made { OnOk result (steps.new
-        ≡ ticked 0 (turns_by formed.entry.form templates.now.table_b templates.now.table_d
-        formed.entry.document.now)) }
+        ≡ ticked 0 (turns_by form templates.now.table_b templates.now.table_d document.now)) }
     ensures made_refused { IfErr result (λ why. CountsSteps (reported_refusal why) 0
-        (turns_by formed.entry.form templates.now.table_b templates.now.table_d
-        formed.entry.document.now) steps.new) }
+        (turns_by form templates.now.table_b templates.now.table_d document.now) steps.new) }
     ensures accepted { OnOk result (steps.new
-        ≤ places_by templates.now.table_b templates.now.table_d formed.entry.document.now
-        * bits_by formed.entry.form templates.now.table_b templates.now.table_d
-        formed.entry.document.now) }
+        ≤ places_by templates.now.table_b templates.now.table_d document.now
+        * bits_by form templates.now.table_b templates.now.table_d document.now) }
     ensures refused { OnErr result (steps.new
-        ≤ places_by templates.now.table_b templates.now.table_d formed.entry.document.now
-        * (bits_by formed.entry.form templates.now.table_b templates.now.table_d
-        formed.entry.document.now + 1)) }
+        ≤ places_by templates.now.table_b templates.now.table_d document.now
+        * (bits_by form templates.now.table_b templates.now.table_d document.now + 1)) }
 {
-    let template = template_of(formed.document.line(), templates)?;
-    let payload = write_data(template, formed, cache, steps)?;
-    write_whole(alloc, formed, &payload)
+    let template = template_of(document.line(), templates)?;
+    let payload = write_data(template, document, form, cache, steps)?;
+    write_whole(cache.allocator(), document, form, &payload)
 }
 
 /// The octets of a document's message in a form, by the tables of `templates`, which keeps the last
@@ -302,8 +274,7 @@ pub fn encode_by(
     let descriptors = descriptors_of(alloc, document.descriptors())?;
     templates.select(&descriptors)?;
     let mut cache = templates.take_specs();
-    let formed = FormedDocument { document, form };
-    let outcome = encode_selected(alloc, formed, templates, &mut cache, steps);
+    let outcome = encode_selected(document, form, templates, &mut cache, steps);
     templates.put_specs(cache);
     outcome
 }

@@ -1,7 +1,7 @@
 //! What can be wrong with a dump text, and why a document cannot be encoded. (The numbers and
 //! their order are a choice of this project.)
 ghost use Rattle.std.specs.Prelude.{◌≡◌, option_map};
-ghost use Rattle.bufr_fill.specs.Faults.{draft_fault};
+ghost use Rattle.bufr_fill.specs.Prelude.{draft_fault};
 ghost use Rattle.bufr_text.specs.Encoding.{number_of_document_fault, number_of_walk_refusal, report_of_draft, reported_refusal};
 
 use bufr_fill::{DraftFault, Expected};

@@ -1,10 +1,9 @@
 //! The twenty keys of the header of a dump text, and the descriptors of a line.
 ghost use Rattle.std.specs.Prelude.{◌≡◌, ◌<◌, ◌++◌, [], ◌∷◌, length, map, position, slice_index, true, IfSome, ℕ, ◌+◌, ◌*◌, ◌≤◌, List, take, drop, option_map};
-ghost use Rattle.bufr_frame.specs.Section1.{slots_3, slots_4, slots_of};
+ghost use Rattle.bufr_frame.specs.Prelude.{slots_3, slots_4, slots_of};
 ghost use Rattle.bufr_text.specs.Documents.{in_range};
-ghost use Rattle.bufr_text.specs.Line.{is_named, lead_of, key_in, keys, leasts, mosts, place_from};
+ghost use Rattle.bufr_text.specs.Line.{is_named, lead_of, key_in, keys, leasts, mosts, place_from, Describes};
 ghost use Rattle.bufr_text.specs.Grammar.{fxy_read, descriptors_read};
-ghost use Rattle.bufr_text.specs.LineParts.{Describes};
 
 use crate::line::{ahead, is, octet_at, suffix};
 use bufr_tables::Fxy;
@@ -136,6 +135,7 @@ pub(crate) fn fxy_prefix<'a>(text: &'a [u8]) -> Option<(u16, &'a [u8])>
 
 /// Puts descriptors, each after one space, to the start of `out`; answers how many they are, 1 to
 /// 8.
+#[tactic(auto, using(crate::proofs::ItemLemmas::describing_steps))]
 // rule: reading-descriptor
 pub(crate) fn describe(text: &[u8], out: &mut [u16]) -> Option<usize>
     requires { length out.old ≡ 8 }

@@ -6,15 +6,13 @@ mod document;
 mod dump;
 mod dump_reader;
 mod encode;
-pub mod encode_law;
 mod fault;
 mod header;
-pub mod law;
+pub mod laws;
 mod line;
 mod line_writer;
 mod ls;
 mod numbers;
-pub mod readback_law;
 
 pub use document::Document;
 pub use dump::{DumpMemory, write_dump, write_dump_by};

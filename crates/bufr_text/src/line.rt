@@ -3,12 +3,10 @@ ghost use Rattle.std.specs.Prelude.{◌≡◌, ℕ, ◌<◌, ◌≤◌, ◌==◌
 ghost use Rattle.std.specs.Str.{bytes_eq};
 ghost use Rattle.bufr_text.specs.Documents.{line_within_limit};
 ghost use Rattle.bufr_text.specs.Grammar.{prefix_while, suffix_while, without_space, hex_read, number_read, descriptors_read, without_prefix, fxy_read, is_number_octet, is_hashed, is_passed_after, is_unescaped, upper_value, pair_value, escape_of, quoting_of, either_value};
-ghost use Rattle.bufr_text.specs.Line.{Line, made, with_one_to, place_from, keys, is_no_space, worded, line_of, value_read, item_line, number_value, Item};
+ghost use Rattle.bufr_text.specs.Line.{Line, made, with_one_to, place_from, keys, is_no_space, worded, line_of, value_read, item_line, number_value, Item, quoting_said, Unquotes, Unhexes};
 ghost use Rattle.bufr_text.specs.Taking.{meaning};
-ghost use Rattle.bufr_bits.specs.Decimal.{short_text};
-ghost use Rattle.bufr_fill.specs.Draft.{number_token, reference_token};
-ghost use Rattle.bufr_fill.specs.Given.{form_in};
-ghost use Rattle.bufr_text.specs.LineParts.{quoting_said, Unquotes, Unhexes};
+ghost use Rattle.bufr_bits.specs.Prelude.{short_text};
+ghost use Rattle.bufr_fill.specs.Prelude.{number_token, reference_token, form_in};
 ghost use Rattle.bufr_text.specs.Line as spec;
 
 use crate::document::ParsedLine;
@@ -48,37 +46,6 @@ fn octets_after<'a>(rest: &[u8], scratch: &'a mut [u8]) -> Option<&'a [u8]>
     Some(ahead(scratch, count))
 }
 
-/// A line of descriptors; they are put into `words`.
-// rule: reading-long-lists
-fn descriptors<'a>(rest: &[u8], words: &'a mut [u16]) -> Option<ParsedLine<'a>>
-    requires { length words.old ≡ 8 }
-    ensures { made meaning result
-        ≡ made (with_one_to 8 spec.Descriptors) (descriptors_read rest.now) }
-{
-    let count = describe(rest, words)?;
-    Some(ParsedLine::Descriptors(&words[..count]))
-}
-
-/// A line of the header: the place of its key, and the number after one space.
-fn header<'a>(word: &[u8], rest: &[u8]) -> Option<ParsedLine<'a>>
-    ensures { made meaning result ≡ made (λ place.
-        made (λ text. made (spec.Header place) (number_read text)) (without_space rest.now))
-        (place_from 0 word.now keys) }
-{
-    let key = place(word)?;
-    let value = number(without_space(rest)?)?;
-    Some(ParsedLine::Header { key, value })
-}
-
-/// `subset` and its number after one space.
-fn subset<'a>(rest: &[u8]) -> Option<ParsedLine<'a>>
-    ensures { made meaning result
-        ≡ made (λ text. made spec.Begins (number_read text)) (without_space rest.now) }
-{
-    let subset = number(without_space(rest)?)?;
-    Some(ParsedLine::Begins(subset))
-}
-
 /// What a word alone says.
 fn alone<'a>(rest: &[u8], line_within_limit: ParsedLine<'a>) -> Option<ParsedLine<'a>>
     ensures { made meaning result
@@ -92,6 +59,7 @@ fn alone<'a>(rest: &[u8], line_within_limit: ParsedLine<'a>) -> Option<ParsedLin
 }
 
 /// What a line says that begins with this word.
+// rule: reading-long-lists
 #[tactic(auto, unfolding(crate::specs::Line::worded))]
 fn worded<'a>(
     word: &[u8],
@@ -114,10 +82,12 @@ fn worded<'a>(
         return Some(ParsedLine::Section2(octets));
     }
     if is(word, b"descriptors") {
-        return descriptors(rest, words.as_mut_slice());
+        let words = words.as_mut_slice();
+        let count = describe(rest, words)?;
+        return Some(ParsedLine::Descriptors(&words[..count]));
     }
     if is(word, b"subset") {
-        return subset(rest);
+        return Some(ParsedLine::Begins(number(without_space(rest)?)?));
     }
     if is(word, b"R") {
         return reference(without_space(rest)?);
@@ -125,7 +95,9 @@ fn worded<'a>(
     if is(word, b"end") {
         return alone(rest, ParsedLine::Closes);
     }
-    header(word, rest)
+    let key = place(word)?;
+    let value = number(without_space(rest)?)?;
+    Some(ParsedLine::Header { key, value })
 }
 
 /// The number of a header line, where this key comes first.
@@ -450,6 +422,7 @@ fn either_value(octet: u8) -> Option<u8>
 }
 
 /// Puts the octets that digits write to the start of `out`; answers how many they are.
+#[tactic(auto, using(crate::proofs::ItemLemmas::unhexing_steps))]
 pub(crate) fn decode_hex(text: &[u8], out: &mut [u8]) -> Option<usize>
     requires { length text.now ≤ 2 * length out.old }
     ensures { Unhexes text.now out.new result }

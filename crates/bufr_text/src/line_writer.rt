@@ -1,9 +1,8 @@
 //! A writer of lines: octets put into a block of memory, one text after another, and handed on to a
 //! sink.
 ghost use Rattle.std.specs.Prelude.{◌≡◌, ◌≤◌, ◌++◌, [], Ok, codes, length, take, decimal, replicate, ◌<◌, Some, drop, false};
-ghost use Rattle.bufr_bits.specs.Decimal.{decimal_text_of};
-ghost use Rattle.bufr_tables.specs.Entry.{row_of_entry};
-ghost use Rattle.bufr_tables.specs.TableB.{row_comment, row_line_start};
+ghost use Rattle.bufr_bits.specs.Prelude.{decimal_text_of};
+ghost use Rattle.bufr_tables.specs.Prelude.{row_of_entry, row_comment, row_line_start};
 ghost use Rattle.bufr_text.specs.Writing.{Pushes, Writes, CountsWrites, zero_padded, Puts};
 ghost use Rattle.bufr_text.specs.Grammar.{escaped, hex_digit, hex_pair, hex_text, is_unescaped, quoted};
 
@@ -54,6 +53,7 @@ impl<'b, 'w, W: Sink> Model for LineWriter<'b, 'w, W> {
 /// # Errors
 ///
 /// [`RunFault::Write`] where the writer fails or takes nothing; a prefix of the octets was taken.
+#[tactic(auto, using(crate::proofs::PushLemmas::write_steps))]
 // rule: one-write-a-line
 pub fn write_all<W: Sink>(octets: &[u8], w: &mut W) -> Result<(), RunFault>
     ensures writes { Writes (W.taken w.old) (W.taken w.new) octets.now result }
@@ -133,6 +133,7 @@ fn hex_digit(n: u8) -> u8
 
 /// Copies the octets at the start that are unescaped, as far as there is room, and returns how many
 /// they are.
+#[tactic(auto, using(crate::proofs::PushLemmas::run_steps))]
 #[inline(always)]
 fn fill_run(octets: &[u8], free: &mut [u8]) -> usize
     ensures within { result ≤ length octets.now }
@@ -217,6 +218,7 @@ impl<'b, 'w, W: Sink> LineWriter<'b, 'w, W> {
     }
 
     /// Pushes a few octets.
+    #[tactic(auto, using(crate::proofs::PushLemmas::held_steps))]
     #[inline(always)]
     pub(crate) fn push_array<const N: usize>(&mut self, octets: [u8; N])
         ensures { Pushes self.old octets.entry self.new }
@@ -236,6 +238,7 @@ impl<'b, 'w, W: Sink> LineWriter<'b, 'w, W> {
     }
 
     /// Pushes a name and a number after it.
+    #[tactic(auto, using(crate::proofs::PushLemmas::held_steps))]
     #[inline(always)]
     pub fn push_named(&mut self, name: &[u8], value: u64)
         ensures { Pushes self.old (name.now ++ decimal value) self.new }
@@ -346,6 +349,7 @@ impl<'b, 'w, W: Sink> LineWriter<'b, 'w, W> {
 
     /// Pushes the octets at the start of a text that are unescaped, as far as there is room, and
     /// returns how many they are.
+    #[tactic(auto, using(crate::proofs::PushLemmas::held_steps))]
     #[inline(always)]
     fn push_run(&mut self, octets: &[u8]) -> usize
         ensures within { result ≤ length octets.now }

@@ -1,7 +1,6 @@
 //! The line that lists a message.
 ghost use Rattle.std.specs.Prelude.{◌≡◌, ◌∷◌, is_some, length};
-ghost use Rattle.bufr_text.specs.Writing.{Pushes, Writes, CountsWrites, joined};
-ghost use Rattle.bufr_text.specs.LsLine.{category_texts, counts_texts, ls_line, origin_texts, tables_texts, time_texts};
+ghost use Rattle.bufr_text.specs.Prelude.{Pushes, Writes, CountsWrites, joined, category_texts, counts_texts, ls_line, origin_texts, tables_texts, time_texts};
 
 use crate::line_writer::LineWriter;
 use crate::numbers::pair;

@@ -1,9 +1,10 @@
 //! Numbers: put into free octets where there is room, and pushed at any scale.
+#![tactic(auto, using(crate::proofs::PushLemmas::number_steps))]
+
 ghost use Rattle.std.specs.Prelude.{◌≡◌, ◌≤◌, ◌<◌, ◌+◌, ◌/◌, ◌%◌, ◌++◌, [], ◌∷◌, decimal, length, take, ◌==◌, if◌then◌else◌, replicate};
-ghost use Rattle.bufr_bits.specs.Decimal.{decimal_text_of, pointed, sign_of, unsigned_text};
-ghost use Rattle.bufr_tables.specs.Entry.{row_of_entry};
-ghost use Rattle.bufr_tables.specs.TableB.{row_comment, row_line_start};
-ghost use Rattle.bufr_text.specs.Writing.{Puts, Pushes};
+ghost use Rattle.bufr_bits.specs.Prelude.{decimal_text_of, pointed, sign_of, unsigned_text};
+ghost use Rattle.bufr_tables.specs.Prelude.{row_of_entry, row_comment, row_line_start};
+ghost use Rattle.bufr_text.specs.Prelude.{Puts, Pushes};
 
 use crate::line_writer::LineWriter;
 use bufr_bits::Sink;

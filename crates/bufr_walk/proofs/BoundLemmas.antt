@@ -1,24 +1,10 @@
 -- Bounds on the items and the steps of readings and showings.
-use Rattle.std.proofs.Common.{◌≡◌, ℕ, zero, suc, ◌+◌, ◌-◌, ◌*◌, ◌<◌, ◌≤◌, List, [], ◌∷◌, length, Bool, true, false, ◌||◌, Result, Ok, Err, refl, ap, subst, arith, ◌++◌, inl, inr, drop, sym, ◌∙◌}
-use Rattle.std.specs.Prelude.{if◌then◌else◌}
+use Rattle.std.proofs.lemmas.Grind.{common_steps}
+use Rattle.std.proofs.Common.{◌≡◌, ℕ, zero, suc, ◌+◌, ◌-◌, ◌*◌, ◌<◌, ◌≤◌, List, [], ◌∷◌, length, Bool, true, false, ◌||◌, Result, Ok, Err, refl, ap, subst, arith, ◌++◌, inl, inr, drop, sym, ◌∙◌, if◌then◌else◌}
 use Rattle.std.proofs.Math.Nat.{mul-le-mul_left}
-use Rattle.bufr_tables.specs.Tree.{Tree, bare, element, operator, fixed, delayed, size, places, consumes, is_inserted_text}
-use Rattle.bufr_tables.specs.TableB.{Row}
-use Rattle.bufr_tables.specs.Expansion.{EveryGroupConsumes, IsSound}
-use Rattle.bufr_walk.specs.declared.spec.Taken.{Taken}
-use Rattle.bufr_walk.specs.declared.spec.TurnRefusal.{TurnRefusal}
-use Rattle.bufr_walk.specs.FieldSpec.{FieldSpec}
-use Rattle.bufr_walk.specs.Rules.{OperatorModel, begin, after_operator, after_field, element_spec, factor_spec, inserted_spec}
-use Rattle.bufr_walk.specs.Course.{Turns, finish, operator_turn, Rest, unroll, passes, pass_end, Next, take_next, refused, at_end, astray, NextTurn, ahead, asked, operated, stop, Course, next_item, counts_of}
-use Rattle.bufr_walk.specs.Walk.{TakenField, Takes, oks, answers_of, StopsWalk, Walked, ticked}
-use Rattle.bufr_walk.specs.declared.walker.WalkStop.{WalkStop}
-use Rattle.bufr_walk.specs.declared.fault.ShowFault.{ShowFault}
+use Rattle.bufr_tables.specs.Prelude.{Tree, bare, element, operator, fixed, delayed, size, places, consumes, is_inserted_text, Row, EveryGroupConsumes, IsSound}
+use Rattle.bufr_walk.specs.Prelude.{Taken, TurnRefusal, FieldSpec, Content, OperatorModel, begin, after_operator, after_field, element_spec, factor_spec, inserted_spec, Turns, finish, operator_turn, Rest, unroll, passes, pass_end, Next, take_next, refused, at_end, astray, NextTurn, ahead, asked, operated, stop, Course, next_item, counts_of, TakenField, Takes, oks, answers_of, StopsWalk, Walked, ticked, WalkStop, ShowFault, Call, Timed, item_calls, subset_calls, compressed_item_calls, compressed_subset_calls, calls_of, items_called, turns_shown, Shows, IsStoredReading, PaysBits, items_in, Read, course_of, Item, plain, item_answer, after, next_after, turns_after, turns_in, ReadsSubsets, Values, apart, together, IsReading, IsPackedReading, max_values}
 use Rattle.bufr_walk.specs.declared.reading.StoredItems.{StoredItems}
-use Rattle.bufr_walk.specs.Calls.{Call, Timed, item_calls, subset_calls, compressed_item_calls, compressed_subset_calls, calls_of, items_called, turns_shown, Shows}
-use Rattle.bufr_walk.specs.Content.{Content}
-use Rattle.bufr_walk.specs.StoredItems.{IsStoredReading, PaysBits, items_in}
-use Rattle.bufr_walk.specs.Refusal.{Read, course_of}
-use Rattle.bufr_walk.specs.Reading.{Item, plain, item_answer, after, next_after, turns_after, turns_in, ReadsSubsets, Values, apart, together, IsReading, IsPackedReading, max_values}
 use Rattle.bufr_walk.proofs.OneReading.{one_reading}
 use Rattle.bufr_walk.specs.declared.walker.WalkStop.TheVariants as stops
 
@@ -253,13 +239,7 @@ packed_few table (suc n) used course items bits suffix h = h.1
 
 -- the items of all calls
 pub few_items : (r : Read) (k : StoredItems) → IsStoredReading r k → (values : Values) → IsReading (course_of r) r.source values r.bits → items_called (calls_of r values) ≤ max_values
-few_items r k h values reading =
-    let same = one_reading (course_of r) r.source h.values values r.bits r.bits h.reading reading in
-    subst (λ v. items_called (calls_of r v) ≤ max_values) same.0 (by h.values h.reading h.pays)
-  where
-    by : (values : Values) → IsReading (course_of r) r.source values r.bits → PaysBits values r.bits → items_called (calls_of r values) ≤ max_values
-    by (apart subsets) g p = omega (arith, called_subsets r.table (course_of r) 0 1 subsets, p, h.short)
-    by (together items) g p = omega (arith, called_all r.table r.source.subsets 0 items, packed_few r.table r.source.subsets 0 (course_of r) items r.source.bits (drop r.bits r.source.bits) g.2)
+few_items r k h values reading = grind (arith, common_steps, one_reading, called_subsets, called_all, packed_few)
 
 -- calls before each of which at most so many turns are made
 abbrev AllWithin : ℕ → List Timed → Type 0

@@ -1,21 +1,17 @@
 -- What is cached: specs by their keys, and lists of descriptors in slots.
-use Rattle.std.proofs.Common.{◌≡◌, ℕ, ◌+◌, ◌*◌, ◌<◌, arith, ◌∙◌, sym, ◌^◌, Bool, true, false, List, Option, Some, None, Ok, Err, ap, subst, ◌≤◌, [], ◌∷◌, ◌++◌, length, length-append}
-use Rattle.bufr_walk.specs.Rules.{OperatorModel, IsKey, is_defining, element_spec, factor_spec, factor_by, factor_field, spec_by_kind, new_reference_spec, numeric_spec, coded_spec, text_spec, text_width, local_width_spec, listed_by, unsigned_of, unsigned_field, begin, IsFieldKey, descriptor_of, key_word, spec_of}
-use Rattle.std.specs.Prelude.{◌==◌, nat_lt, if◌then◌else◌}
+use Rattle.std.proofs.lemmas.Grind.{common_steps}
+use Rattle.std.proofs.Common.{◌≡◌, ℕ, ◌+◌, ◌*◌, ◌<◌, arith, sym, ◌^◌, Bool, true, false, List, Option, Some, None, Ok, ap, subst, ◌≤◌, [], ◌∷◌, ◌++◌, length, length-append, ◌==◌, nat_lt, if◌then◌else◌}
+use Rattle.bufr_walk.specs.Prelude.{OperatorModel, IsKey, is_defining, element_spec, factor_spec, spec_by_kind, new_reference_spec, numeric_spec, coded_spec, text_spec, text_width, local_width_spec, listed_by, unsigned_of, unsigned_field, begin, IsFieldKey, descriptor_of, key_word, spec_of, FieldSpec, is_reference, IsSpecBy, MayStay, IsOther, list_of, lists_of}
 use Rattle.std.proofs.lemmas.Bool.Decides.{nat_tests}
 use Rattle.bufr_tables.specs.declared.table_b.Kind.{Kind}
-use Rattle.bufr_tables.specs.TableB.{Row, entry_of}
-use Rattle.bufr_walk.specs.FieldSpec.{FieldSpec, is_reference}
+use Rattle.bufr_tables.specs.Prelude.{Row, entry_of, Sequence}
 use Rattle.bufr_walk.specs.declared.operators.TableField.{TableField}
-use Rattle.bufr_walk.specs.TemplateCache.{IsSpecBy, MayStay, IsOther, list_of, lists_of}
 use Rattle.bufr_walk.proofs.WalkLemmas.{fitted_role}
 use Rattle.std.specs.List.{All}
 use Rattle.std.proofs.lemmas.List.Elements.{All-append, All-cons, All-head, All-tail, All-nil}
-use Rattle.bufr_tables.specs.TableD.{Sequence}
 use Rattle.bufr_walk.specs.declared.lists.Slot.{Slot}
 use Rattle.bufr_tables.specs.declared.table_b.Kind.TheVariants as kind
 use Rattle.bufr_walk.specs.declared.spec.Role.TheVariants as role
-use Rattle.bufr_walk.specs.declared.spec.TurnRefusal.TheVariants as refusal
 use Rattle.bufr_walk.specs.declared.operators.TableField.TheVariants as field
 
 -- a word is added to the key of the operators
@@ -37,28 +33,7 @@ last_octet a b x y p q e = (omega arith, omega arith)
 
 -- a key has one list of operators and one word
 pub same_key : (a b : OperatorModel) (v w key : ℕ) → IsKey a v key → IsKey b w key → (a ≡ b) × (v ≡ w)
-same_key a b v w key h g =
-    let e0 : a.width_change + 256 * (a.scale_change + 256 * (a.precision_increase + 256 * (a.character_octets + 256 * (a.local_width + 256 * v))))
-    ≡ b.width_change + 256 * (b.scale_change + 256 * (b.precision_increase + 256 * (b.character_octets + 256 * (b.local_width + 256 * w)))) =
-    omega (arith, h.is, g.is) in
-    let e1 = last_octet a.width_change b.width_change _ _ h.width_change g.width_change e0 in
-    let e2 = last_octet a.scale_change b.scale_change _ _ h.scale_change g.scale_change e1.1 in
-    let e3 = last_octet a.precision_increase b.precision_increase _ _ h.precision_increase g.precision_increase e2.1 in
-    let e4 = last_octet a.character_octets b.character_octets _ _ h.character_octets g.character_octets e3.1 in
-    let e5 = last_octet a.local_width b.local_width v w h.local_width g.local_width e4.1 in
-    let new_reference_width : a.new_reference_width ≡ b.new_reference_width = h.new_reference_width ∙ sym g.new_reference_width in
-    let new_references : a.new_references ≡ b.new_references = h.new_references ∙ sym g.new_references in (
-      λ j. record {
-        width_change = e1.0 j;
-        scale_change = e2.0 j;
-        new_reference_width = new_reference_width j;
-        precision_increase = e3.0 j;
-        character_octets = e4.0 j;
-        local_width = e5.0 j;
-        new_references = new_references j;
-      },
-      e5.1,
-    )
+same_key a b v w key h g = grind (arith, common_steps, last_octet)
 
 -- ---- The specs that are cached, and their keys.
 
@@ -110,12 +85,7 @@ element_plain table s fxy spec none e = by_given (nat_lt 0 s.local_width) (entry
 
 -- no factor is one
 factor_plain : (table : List Row) (s : OperatorModel) (fxy : ℕ) (spec : FieldSpec) → factor_spec table s fxy ≡ Ok spec → is_reference spec.role ≡ false
-factor_plain table s fxy spec e = by (is_defining s) (entry_of table fxy) e
-  where
-    by : (b : Bool) (o : Option Row) → (if b then Err (refusal.Defining fxy) else factor_by o fxy) ≡ Ok spec → is_reference spec.role ≡ false
-    by true o q = absurd cc
-    by false None q = absurd cc
-    by false (Some row) q = ap is_reference (sym (fitted_role (factor_field row fxy) spec q))
+factor_plain table s fxy spec e = grind (arith, common_steps, fitted_role)
 
 -- what is cached is no reference
 pub spec_got_plain : (table : List Row) (s : OperatorModel) (f : TableField) (key : ℕ) (spec : FieldSpec) → IsFieldKey s f key → IsSpecBy table key spec → is_reference spec.role ≡ false

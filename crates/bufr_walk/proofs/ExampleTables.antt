@@ -1,18 +1,11 @@
 -- The table of the worked examples, and readings by it: a pass over a template with all that it
 -- shows, and its end.
-use Rattle.std.proofs.Common.{ℕ, zero, suc, ◌+◌, ◌-◌, ◌*◌, Bool, List, [], ◌∷◌, ◌++◌, length, map, Result, Ok, Err, ℤ, pos, negsuc}
-use Rattle.std.specs.Prelude.{drop}
-use Rattle.bufr_bits.specs.Bits.{bits_of}
+use Rattle.std.proofs.Common.{ℕ, zero, suc, ◌+◌, ◌-◌, ◌*◌, Bool, List, [], ◌∷◌, ◌++◌, length, map, Result, Ok, Err, ℤ, pos, negsuc, drop}
+use Rattle.bufr_bits.specs.Prelude.{bits_of}
 use Rattle.bufr_tables.specs.declared.table_b.Kind.{Kind}
 use Rattle.bufr_tables.specs.declared.table_b.Kind.TheVariants as kind
-use Rattle.bufr_tables.specs.TableB.{Row}
-use Rattle.bufr_tables.specs.Tree.{Tree}
-use Rattle.bufr_walk.specs.declared.spec.TurnRefusal.{TurnRefusal}
-use Rattle.bufr_walk.specs.declared.spec.Taken.{Taken}
-use Rattle.bufr_walk.specs.FieldSpec.{FieldSpec}
-use Rattle.bufr_walk.specs.Course.{Course, Next, take_next, at_end, astray, refused, next_item}
-use Rattle.bufr_walk.specs.Content.{ShownValue, shown, FieldFault, FieldRead}
-use Rattle.bufr_walk.specs.Reading.{DataCoding, plain, packed}
+use Rattle.bufr_tables.specs.Prelude.{Row, Tree}
+use Rattle.bufr_walk.specs.Prelude.{TurnRefusal, Taken, FieldSpec, ShownValue, shown, FieldFault, FieldRead, Course, Next, take_next, at_end, astray, refused, next_item, DataCoding, plain, packed}
 
 -- the descriptor of F, X and Y
 unfoldable pub fxy : (f x y : ℕ) → ℕ

@@ -1,15 +1,11 @@
 -- Worked examples of groups, of subsets one after another, and of where the data end, computed from
 -- the definitions.
-use Rattle.std.proofs.Common.{◌≡◌, ℕ, Bool, true, false, List, [], ◌∷◌, pos, negsuc, refl, arith}
-use Rattle.std.specs.Prelude.{take, drop}
-use Rattle.bufr_bits.specs.Bits.{bits_of}
+use Rattle.std.proofs.Common.{◌≡◌, ℕ, Bool, true, false, List, [], ◌∷◌, pos, negsuc, refl, arith, take, drop}
+use Rattle.bufr_bits.specs.Prelude.{bits_of}
 use Rattle.bufr_tables.specs.declared.table_b.Kind.TheVariants as kind
-use Rattle.bufr_tables.specs.Tree.{Tree, bare, element, operator, fixed, delayed}
+use Rattle.bufr_tables.specs.Prelude.{Tree, bare, element, operator, fixed, delayed}
 use Rattle.bufr_walk.specs.declared.spec.Role.TheVariants as role
-use Rattle.bufr_walk.specs.Course.{Course, next_item}
-use Rattle.bufr_walk.specs.Content.{Content, reference, number, text, shown_number, shown_text, shown_reference, data_end}
-use Rattle.bufr_walk.specs.Reading.{Item, turns_in, IsPlainReading}
-use Rattle.bufr_walk.specs.Refusal.{Stop, field_stop, IsPlainRefused}
+use Rattle.bufr_walk.specs.Prelude.{Course, next_item, Content, reference, number, text, shown_number, shown_text, shown_reference, data_end, Item, turns_in, IsPlainReading, Stop, field_stop, IsPlainRefused}
 use Rattle.bufr_walk.proofs.ExampleTables.{fxy, table, done, field_fault, one, two, gives}
 
 -- A group of so many passes leaves the operators of its passes in force. Fails where a pass or a
@@ -22,34 +18,24 @@ fixed_group = refl
 -- Counts come in the order of the data, an inner one anew in each pass of the outer. A group that
 -- is not opened has none. Fails where the counts of inner and outer groups are mixed up, or where
 -- one count serves all passes.
-group_in_a_group : one (delayed (fxy 0 31 1) (delayed (fxy 0 31 1) (element (fxy 0 1 1) bare) bare) bare) (2 ∷ 1 ∷ 20 ∷ 4 ∷ 44 ∷ 96 ∷ [])
-    ≡ gives ((7937, shown_number (pos 2) (pos 0)) ∷ (7937, shown_number (pos 1) (pos 0)) ∷ (257, shown_number (pos 10) (pos 0)) ∷ (7937, shown_number (pos 2) (pos 0)) ∷ (257, shown_number (pos 11) (pos 0)) ∷ (257, shown_number (pos 12) (pos 0)) ∷ []) (done 3 15)
+group_in_a_group :
+    (one (delayed (fxy 0 31 1) (delayed (fxy 0 31 1) (element (fxy 0 1 1) bare) bare) bare) (2 ∷ 1 ∷ 20 ∷ 4 ∷ 44 ∷ 96 ∷ [])
+    ≡ gives ((7937, shown_number (pos 2) (pos 0)) ∷ (7937, shown_number (pos 1) (pos 0)) ∷ (257, shown_number (pos 10) (pos 0)) ∷ (7937, shown_number (pos 2) (pos 0)) ∷ (257, shown_number (pos 11) (pos 0)) ∷ (257, shown_number (pos 12) (pos 0)) ∷ []) (done 3 15))
+    × (one (delayed (fxy 0 31 1) (element (fxy 0 1 1) bare) (delayed (fxy 0 31 0) (element (fxy 0 12 101) bare) bare)) (1 ∷ 21 ∷ 112 ∷ 143 ∷ [])
+    ≡ gives ((7937, shown_number (pos 1) (pos 0)) ∷ (257, shown_number (pos 10) (pos 0)) ∷ (7936, shown_number (pos 1) (pos 0)) ∷ (3173, shown_number (pos 28815) (pos 2)) ∷ []) (done 0 9))
+    × (one (delayed (fxy 0 31 1) (delayed (fxy 0 31 1) (element (fxy 0 1 1) bare) bare) (element (fxy 0 1 1) bare)) (0 ∷ 20 ∷ [])
+    ≡ gives ((7937, shown_number (pos 0) (pos 0)) ∷ (257, shown_number (pos 10) (pos 0)) ∷ []) (done 1 4))
 unfolding one gives fxy
-group_in_a_group = refl
-
-group_after_a_group : one (delayed (fxy 0 31 1) (element (fxy 0 1 1) bare) (delayed (fxy 0 31 0) (element (fxy 0 12 101) bare) bare)) (1 ∷ 21 ∷ 112 ∷ 143 ∷ [])
-    ≡ gives ((7937, shown_number (pos 1) (pos 0)) ∷ (257, shown_number (pos 10) (pos 0)) ∷ (7936, shown_number (pos 1) (pos 0)) ∷ (3173, shown_number (pos 28815) (pos 2)) ∷ []) (done 0 9)
-unfolding one gives fxy
-group_after_a_group = refl
-
-group_after_no_pass : one (delayed (fxy 0 31 1) (delayed (fxy 0 31 1) (element (fxy 0 1 1) bare) bare) (element (fxy 0 1 1) bare)) (0 ∷ 20 ∷ [])
-    ≡ gives ((7937, shown_number (pos 0) (pos 0)) ∷ (257, shown_number (pos 10) (pos 0)) ∷ []) (done 1 4)
-unfolding one gives fxy
-group_after_no_pass = refl
+group_in_a_group = (refl, refl, refl)
 
 -- The data may end at a factor, or at the first or the last item of a group: fails where an earlier
 -- item is dropped, or where the place is another.
-data_end_at_a_factor : one (delayed (fxy 0 31 1) (element (fxy 0 1 1) bare) bare) [] ≡ gives [] (field_fault 7937 data_end 0 2)
+data_end_at_a_factor :
+    (one (delayed (fxy 0 31 1) (element (fxy 0 1 1) bare) bare) [] ≡ gives [] (field_fault 7937 data_end 0 2))
+    × (one (delayed (fxy 0 31 1) (element (fxy 0 1 1) bare) bare) (2 ∷ []) ≡ gives ((7937, shown_number (pos 2) (pos 0)) ∷ []) (field_fault 257 data_end 0 3))
+    × (one (delayed (fxy 0 31 1) (element (fxy 0 1 1) bare) bare) (2 ∷ 20 ∷ []) ≡ gives ((7937, shown_number (pos 2) (pos 0)) ∷ (257, shown_number (pos 10) (pos 0)) ∷ []) (field_fault 257 data_end 1 5))
 unfolding one gives fxy
-data_end_at_a_factor = refl
-
-data_end_at_the_first_pass : one (delayed (fxy 0 31 1) (element (fxy 0 1 1) bare) bare) (2 ∷ []) ≡ gives ((7937, shown_number (pos 2) (pos 0)) ∷ []) (field_fault 257 data_end 0 3)
-unfolding one gives fxy
-data_end_at_the_first_pass = refl
-
-data_end_at_the_last_pass : one (delayed (fxy 0 31 1) (element (fxy 0 1 1) bare) bare) (2 ∷ 20 ∷ []) ≡ gives ((7937, shown_number (pos 2) (pos 0)) ∷ (257, shown_number (pos 10) (pos 0)) ∷ []) (field_fault 257 data_end 1 5)
-unfolding one gives fxy
-data_end_at_the_last_pass = refl
+data_end_at_a_factor = (refl, refl, refl)
 
 -- What is in force ends with its subset: fails where a width, a scale, a precision or a reference
 -- reaches the next one.

@@ -1,13 +1,8 @@
 -- Data have at most one reading or one refusal.
+use Rattle.std.proofs.lemmas.Grind.{common_steps}
 use Rattle.std.proofs.Common.{◌≡◌, ℕ, suc, ◌+◌, ◌<◌, Bool, false, List, [], ◌∷◌, length, Option, Some, None, Result, Ok, refl, sym, ◌∙◌, ap, subst, arith, zero, ◌*◌, ◌≤◌, true, drop, length-drop}
-use Rattle.bufr_walk.specs.FieldSpec.{FieldSpec}
-use Rattle.bufr_walk.specs.Course.{Course, Next, take_next, at_end, astray, refused}
-use Rattle.bufr_walk.specs.Content.{FieldFault, FieldRead, found, Content}
-use Rattle.bufr_walk.specs.Reading.{Item, DataCoding, ReadsItems, next_after, after, plain, packed, ReadsPass, ReadsSubsets, turns_after, turns_in, max_values, Data, Values, apart, together, IsPackedReading, IsReading}
-use Rattle.bufr_walk.specs.Refusal.{Stop, stop_at, field_stop_of, walk_fault_of, IsStopped, IsRefused, would_be_many, IsPlainRefused, IsPackedRefused}
-use Rattle.std.specs.Prelude.{nat_lt}
-use Rattle.std.proofs.lemmas.Bool.Decides.{nat_tests}
-use Rattle.bufr_walk.specs.declared.fault.WalkFault.{WalkFault}
+use Rattle.std.proofs.lemmas.Bool.{le-ltb}
+use Rattle.bufr_walk.specs.Prelude.{FieldSpec, FieldFault, FieldRead, found, Content, Course, Next, take_next, at_end, astray, refused, Item, DataCoding, ReadsItems, next_after, after, plain, packed, ReadsPass, ReadsSubsets, turns_after, turns_in, max_values, Data, Values, apart, together, IsPackedReading, IsReading, Stop, stop_at, field_stop_of, IsStopped, IsRefused, would_be_many, IsPlainRefused, IsPackedRefused, WalkFault}
 
 -- ---- A pass has one outcome: its items, and the end or what stops it.
 
@@ -142,13 +137,7 @@ module _ (course : Course) where
 
 -- so few items that one more is not too many
 few_values : (n items j : ℕ) → items * n ≤ max_values → j < items → would_be_many n (0 + j) ≡ false
-few_values n items j h lt = below max_values ((0 + j + 1) * n) (omega (arith, h, scaled (0 + j + 1) items n (omega (arith, lt))))
-  where
-    below : (a b : ℕ) → b ≤ a → nat_lt a b ≡ false
-    below a b g = grind (arith, nat_tests)
-
-    scaled : (a b n : ℕ) → a ≤ b → a * n ≤ b * n
-    scaled a b n g = grind arith
+few_values n items j h lt = grind (arith, common_steps, le-ltb)
 
 from_zero : (a b : ℕ) → a ≡ b → a ≡ 0 + b
 from_zero a b e = omega arith
@@ -218,9 +207,7 @@ one_stop true n course bits stop stop' subset subset' before before' turns turns
     let o = packed_stops_one n course bits stop stop' before before' turns turns' h.1 g.1 in (o.0, h.0 ∙ sym g.0, o.1, o.2)
 
 pub one_refusal : (course : Course) (d : Data) (why why' : WalkFault) (turns turns' : ℕ) → IsRefused course d why turns → IsRefused course d why' turns' → (why ≡ why') × (turns ≡ turns')
-one_refusal course d why why' turns turns' h g =
-    let o = one_stop d.compressed d.subsets course d.bits h.stop g.stop h.subset g.subset h.before g.before turns turns' h.stopped g.stopped in
-    (h.is ∙ ap (λ s. walk_fault_of s h.subset h.before) o.0 ∙ ap (λ k. walk_fault_of g.stop k h.before) o.1 ∙ ap (walk_fault_of g.stop g.subset) o.2 ∙ sym g.is, o.3)
+one_refusal course d why why' turns turns' h g = grind (arith, common_steps, one_stop)
 
 pub not_read_and_refused : (course : Course) (d : Data) (v : Values) (used : ℕ) (why : WalkFault) (turns : ℕ) → IsReading course d v used → IsRefused course d why turns → ⊥
 not_read_and_refused course d v used why turns h g = by d.compressed v h refl g.stopped

@@ -1,29 +1,23 @@
 -- Worked examples of compressed data, computed from the definitions.
-use Rattle.std.proofs.Common.{◌≡◌, ℕ, ◌*◌, ◌+◌, Bool, true, false, List, [], ◌∷◌, Some, None, pos, negsuc, refl, arith}
-use Rattle.std.specs.Prelude.{nat_lt}
-use Rattle.bufr_bits.specs.Bits.{bits_of}
-use Rattle.bufr_tables.specs.Tree.{bare, element, operator, delayed}
+use Rattle.std.proofs.Common.{◌≡◌, ℕ, ◌*◌, ◌+◌, Bool, true, false, List, [], ◌∷◌, Some, None, pos, negsuc, refl, arith, nat_lt}
+use Rattle.bufr_bits.specs.Prelude.{bits_of}
+use Rattle.bufr_tables.specs.Prelude.{bare, element, operator, delayed}
 use Rattle.bufr_walk.specs.declared.spec.TurnRefusal.TheVariants as refusal
 use Rattle.bufr_walk.specs.declared.spec.Taken.TheVariants as taken
-use Rattle.bufr_walk.specs.Course.{Course, next_item}
-use Rattle.bufr_walk.specs.Content.{shown_number, shown_text, shown_missing, shown_reference, data_end, increment}
-use Rattle.bufr_walk.specs.Reading.{packed, turns_together, IsPackedReading, max_values}
-use Rattle.bufr_walk.specs.Refusal.{Stop, walk_stop, too_many, field_stop, stop_at, IsPackedRefused}
+use Rattle.bufr_walk.specs.Prelude.{Course, next_item, shown_number, shown_text, shown_missing, shown_reference, data_end, increment, packed, turns_together, IsPackedReading, max_values, Stop, walk_stop, too_many, field_stop, stop_at, IsPackedRefused}
 use Rattle.bufr_walk.proofs.ExampleTables.{fxy, table, done, walk_fault, field_fault, together, gives}
 
 -- A base of all ones is missing in all subsets, whatever the increments are, but the increments
 -- must be there. Fails where the base is a number, or where an increment past the width is a fault.
 -- Fails where the increments are read as the next item, or where they may be absent.
 -- rule: compressed-all-missing
-base_of_all_ones : together 2 (element (fxy 0 12 101) (element (fxy 0 1 1) bare)) (255 ∷ 255 ∷ 9 ∷ 5 ∷ 0 ∷ [])
-    ≡ gives ((3173, shown_missing ∷ shown_missing ∷ []) ∷ (257, shown_number (pos 10) (pos 0) ∷ shown_number (pos 10) (pos 0) ∷ []) ∷ []) (done 1 3)
+base_of_all_ones :
+    (together 2 (element (fxy 0 12 101) (element (fxy 0 1 1) bare)) (255 ∷ 255 ∷ 9 ∷ 5 ∷ 0 ∷ [])
+    ≡ gives ((3173, shown_missing ∷ shown_missing ∷ []) ∷ (257, shown_number (pos 10) (pos 0) ∷ shown_number (pos 10) (pos 0) ∷ []) ∷ []) (done 1 3))
+    × (together 2 (element (fxy 0 12 101) bare) (255 ∷ 255 ∷ 0 ∷ [])
+    ≡ gives ((3173, shown_missing ∷ shown_missing ∷ []) ∷ []) (done 2 2))
 unfolding together gives fxy
-base_of_all_ones = refl
-
-base_of_all_ones_alone : together 2 (element (fxy 0 12 101) bare) (255 ∷ 255 ∷ 0 ∷ [])
-    ≡ gives ((3173, shown_missing ∷ shown_missing ∷ []) ∷ []) (done 2 2)
-unfolding together gives fxy
-base_of_all_ones_alone = refl
+base_of_all_ones = (refl, refl)
 
 -- rule: compressed-increments-there
 base_of_all_ones_data_end : together 2 (element (fxy 0 12 101) bare) (255 ∷ 255 ∷ 128 ∷ [])
@@ -34,15 +28,13 @@ base_of_all_ones_data_end = refl
 -- An increment of all ones is missing before the sum is examined, and may have more bits than the
 -- item. Fails where such a sum is a fault, or where the number of bits is.
 -- rule: compressed-missing-increment
-increment_of_all_ones : together 2 (element (fxy 0 1 1) bare) (252 ∷ 17 ∷ 128 ∷ [])
-    ≡ gives ((257, shown_number (pos 126) (pos 0) ∷ shown_missing ∷ []) ∷ []) (done 7 2)
+increment_of_all_ones :
+    (together 2 (element (fxy 0 1 1) bare) (252 ∷ 17 ∷ 128 ∷ [])
+    ≡ gives ((257, shown_number (pos 126) (pos 0) ∷ shown_missing ∷ []) ∷ []) (done 7 2))
+    × (together 2 (element (fxy 0 1 1) bare) (10 ∷ 80 ∷ 7 ∷ 255 ∷ 128 ∷ [])
+    ≡ gives ((257, shown_number (pos 8) (pos 0) ∷ shown_missing ∷ []) ∷ []) (done 7 2))
 unfolding together gives fxy
-increment_of_all_ones = refl
-
-increment_over_the_width : together 2 (element (fxy 0 1 1) bare) (10 ∷ 80 ∷ 7 ∷ 255 ∷ 128 ∷ [])
-    ≡ gives ((257, shown_number (pos 8) (pos 0) ∷ shown_missing ∷ []) ∷ []) (done 7 2)
-unfolding together gives fxy
-increment_over_the_width = refl
+increment_of_all_ones = (refl, refl)
 
 -- The data end where an increment is absent: fails where the increments that are there are at fault
 -- first.
@@ -54,16 +46,13 @@ increment_data_end = refl
 -- In class 31 a base, an increment and a sum of all ones are numbers, and a sum past the width is a
 -- fault. Fails where one of them is missing, or where the sum wraps.
 -- rule: compressed-class-31
-class_31_together : together 2 (element (fxy 0 31 1) (element (fxy 0 31 1) (element (fxy 0 31 1) (element (fxy 0 31 21) bare)))) (255 ∷ 4 ∷ 250 ∷ 11 ∷ 127 ∷ 129 ∷ 127 ∷ 0 ∷ [])
-    ≡ gives ((7937, shown_number (pos 255) (pos 0) ∷ shown_number (pos 255) (pos 0) ∷ []) ∷ (7937, shown_number (pos 253) (pos 0) ∷ shown_number (pos 251) (pos 0) ∷ []) ∷ (7937, shown_number (pos 254) (pos 0) ∷ shown_number (pos 255) (pos 0) ∷ []) ∷ (7957, shown_number (pos 63) (pos 0) ∷ shown_number (pos 63) (pos 0) ∷ []) ∷ []) (done 2 5)
+class_31_together :
+    (together 2 (element (fxy 0 31 1) (element (fxy 0 31 1) (element (fxy 0 31 1) (element (fxy 0 31 21) bare)))) (255 ∷ 4 ∷ 250 ∷ 11 ∷ 127 ∷ 129 ∷ 127 ∷ 0 ∷ [])
+    ≡ gives ((7937, shown_number (pos 255) (pos 0) ∷ shown_number (pos 255) (pos 0) ∷ []) ∷ (7937, shown_number (pos 253) (pos 0) ∷ shown_number (pos 251) (pos 0) ∷ []) ∷ (7937, shown_number (pos 254) (pos 0) ∷ shown_number (pos 255) (pos 0) ∷ []) ∷ (7957, shown_number (pos 63) (pos 0) ∷ shown_number (pos 63) (pos 0) ∷ []) ∷ []) (done 2 5))
+    × (together 2 (element (fxy 0 31 1) bare) (255 ∷ 5 ∷ [])
+    ≡ gives [] (field_fault 7937 increment 16 1))
 unfolding together gives fxy
-class_31_together = refl
-
--- rule: compressed-class-31
-class_31_past_the_width : together 2 (element (fxy 0 31 1) bare) (255 ∷ 5 ∷ [])
-    ≡ gives [] (field_fault 7937 increment 16 1)
-unfolding together gives fxy
-class_31_past_the_width = refl
+class_31_together = (refl, refl)
 
 -- One subset may be compressed too, with an increment of its own: fails where it is read as data
 -- that are not compressed.
@@ -73,15 +62,13 @@ one_subset_together = refl
 
 -- The operators in force act as on data that are not compressed. Fails where the changes are not in
 -- force, or where a text in a definition is read.
-changes_together : together 2 (operator (fxy 2 3 10) (element (fxy 0 5 2) (operator (fxy 2 3 255) (operator (fxy 2 1 130) (operator (fxy 2 2 129) (operator (fxy 2 7 1) (element (fxy 0 5 2) bare))))))) (228 ∷ 0 ∷ 0 ∷ 125 ∷ 0 ∷ 76 ∷ [])
-    ≡ gives ((1282, shown_reference (negsuc 399) ∷ shown_reference (negsuc 399) ∷ []) ∷ (1282, shown_number (pos 1) (pos 4) ∷ shown_number (pos 2) (pos 4) ∷ []) ∷ []) (done 1 8)
+changes_together :
+    (together 2 (operator (fxy 2 3 10) (element (fxy 0 5 2) (operator (fxy 2 3 255) (operator (fxy 2 1 130) (operator (fxy 2 2 129) (operator (fxy 2 7 1) (element (fxy 0 5 2) bare))))))) (228 ∷ 0 ∷ 0 ∷ 125 ∷ 0 ∷ 76 ∷ [])
+    ≡ gives ((1282, shown_reference (negsuc 399) ∷ shown_reference (negsuc 399) ∷ []) ∷ (1282, shown_number (pos 1) (pos 4) ∷ shown_number (pos 2) (pos 4) ∷ []) ∷ []) (done 1 8))
+    × (together 2 (operator (fxy 2 3 10) (element (fxy 0 1 15) bare)) []
+    ≡ gives [] (walk_fault (refusal.Defining 271) 0 2))
 unfolding together gives fxy
-changes_together = refl
-
-defining_together : together 2 (operator (fxy 2 3 10) (element (fxy 0 1 15) bare)) []
-    ≡ gives [] (walk_fault (refusal.Defining 271) 0 2)
-unfolding together gives fxy
-defining_together = refl
+changes_together = (refl, refl)
 
 -- A text has so many octets and then spaces. Fails where it is cut or ends with zeros, where the
 -- base begins it, or where the bits are counted in place of the octets.
@@ -128,20 +115,15 @@ text_octets_past_the_data = refl
 -- A factor may have increments if all its counts are the same, and one of all ones is a count.
 -- Fails where increments are a fault, where the base alone counts, or where all ones is missing.
 -- rule: compressed-factors
-factor_with_increments : together 2 (delayed (fxy 0 31 1) (element (fxy 0 1 1) bare) bare) (1 ∷ 12 ∷ 145 ∷ 64 ∷ 11 ∷ 0 ∷ [])
-    ≡ gives ((7937, shown_number (pos 2) (pos 0) ∷ shown_number (pos 2) (pos 0) ∷ []) ∷ (257, shown_number (pos 10) (pos 0) ∷ shown_number (pos 10) (pos 0) ∷ []) ∷ (257, shown_number (pos 11) (pos 0) ∷ shown_number (pos 11) (pos 0) ∷ []) ∷ []) (done 2 7)
+factor_with_increments :
+    (together 2 (delayed (fxy 0 31 1) (element (fxy 0 1 1) bare) bare) (1 ∷ 12 ∷ 145 ∷ 64 ∷ 11 ∷ 0 ∷ [])
+    ≡ gives ((7937, shown_number (pos 2) (pos 0) ∷ shown_number (pos 2) (pos 0) ∷ []) ∷ (257, shown_number (pos 10) (pos 0) ∷ shown_number (pos 10) (pos 0) ∷ []) ∷ (257, shown_number (pos 11) (pos 0) ∷ shown_number (pos 11) (pos 0) ∷ []) ∷ []) (done 2 7))
+    × (together 2 (delayed (fxy 0 31 0) (element (fxy 0 1 1) bare) bare) (3 ∷ 138 ∷ 0 ∷ [])
+    ≡ gives ((7936, shown_number (pos 1) (pos 0) ∷ shown_number (pos 1) (pos 0) ∷ []) ∷ (257, shown_number (pos 10) (pos 0) ∷ shown_number (pos 10) (pos 0) ∷ []) ∷ []) (done 2 5))
+    × (together 2 (delayed (fxy 0 31 0) (element (fxy 0 1 1) bare) bare) (128 ∷ 40 ∷ 0 ∷ [])
+    ≡ gives ((7936, shown_number (pos 1) (pos 0) ∷ shown_number (pos 1) (pos 0) ∷ []) ∷ (257, shown_number (pos 10) (pos 0) ∷ shown_number (pos 10) (pos 0) ∷ []) ∷ []) (done 4 5))
 unfolding together gives fxy
-factor_with_increments = refl
-
-factor_increment_of_all_ones : together 2 (delayed (fxy 0 31 0) (element (fxy 0 1 1) bare) bare) (3 ∷ 138 ∷ 0 ∷ [])
-    ≡ gives ((7936, shown_number (pos 1) (pos 0) ∷ shown_number (pos 1) (pos 0) ∷ []) ∷ (257, shown_number (pos 10) (pos 0) ∷ shown_number (pos 10) (pos 0) ∷ []) ∷ []) (done 2 5)
-unfolding together gives fxy
-factor_increment_of_all_ones = refl
-
-factor_of_all_ones : together 2 (delayed (fxy 0 31 0) (element (fxy 0 1 1) bare) bare) (128 ∷ 40 ∷ 0 ∷ [])
-    ≡ gives ((7936, shown_number (pos 1) (pos 0) ∷ shown_number (pos 1) (pos 0) ∷ []) ∷ (257, shown_number (pos 10) (pos 0) ∷ shown_number (pos 10) (pos 0) ∷ []) ∷ []) (done 4 5)
-unfolding together gives fxy
-factor_of_all_ones = refl
+factor_with_increments = (refl, refl, refl)
 
 -- At a factor too the data end first, and then comes a sum past the width: fails where the counts
 -- are compared before.
@@ -158,57 +140,36 @@ factor_past_the_width = refl
 
 -- A reference has no increments, and is never missing. Fails where they are read or passed, where
 -- the data end is examined before them, or where all ones is missing.
-reference_together : together 2 (operator (fxy 2 3 10) (element (fxy 0 12 101) (operator (fxy 2 3 255) (element (fxy 0 12 101) bare)))) (228 ∷ 0 ∷ 112 ∷ 143 ∷ 5 ∷ [])
-    ≡ gives ((3173, shown_reference (negsuc 399) ∷ shown_reference (negsuc 399) ∷ []) ∷ (3173, shown_number (pos 28415) (pos 2) ∷ shown_missing ∷ []) ∷ []) (done 0 5)
+reference_together :
+    (together 2 (operator (fxy 2 3 10) (element (fxy 0 12 101) (operator (fxy 2 3 255) (element (fxy 0 12 101) bare)))) (228 ∷ 0 ∷ 112 ∷ 143 ∷ 5 ∷ [])
+    ≡ gives ((3173, shown_reference (negsuc 399) ∷ shown_reference (negsuc 399) ∷ []) ∷ (3173, shown_number (pos 28415) (pos 2) ∷ shown_missing ∷ []) ∷ []) (done 0 5))
+    × (together 2 (operator (fxy 2 3 10) (element (fxy 0 12 101) bare)) (228 ∷ 1 ∷ [])
+    ≡ gives [] (field_fault 3173 increment 16 2))
+    × (together 2 (operator (fxy 2 3 11) (element (fxy 0 12 101) bare)) (255 ∷ 255 ∷ [])
+    ≡ gives [] (field_fault 3173 data_end 16 2))
+    × (together 2 (operator (fxy 2 3 10) (element (fxy 0 12 101) bare)) (255 ∷ 192 ∷ [])
+    ≡ gives ((3173, shown_reference (negsuc 510) ∷ shown_reference (negsuc 510) ∷ []) ∷ []) (done 0 3))
 unfolding together gives fxy
-reference_together = refl
-
-reference_with_increments : together 2 (operator (fxy 2 3 10) (element (fxy 0 12 101) bare)) (228 ∷ 1 ∷ [])
-    ≡ gives [] (field_fault 3173 increment 16 2)
-unfolding together gives fxy
-reference_with_increments = refl
-
-reference_data_end : together 2 (operator (fxy 2 3 11) (element (fxy 0 12 101) bare)) (255 ∷ 255 ∷ [])
-    ≡ gives [] (field_fault 3173 data_end 16 2)
-unfolding together gives fxy
-reference_data_end = refl
-
-reference_of_all_ones_together : together 2 (operator (fxy 2 3 10) (element (fxy 0 12 101) bare)) (255 ∷ 192 ∷ [])
-    ≡ gives ((3173, shown_reference (negsuc 510) ∷ shown_reference (negsuc 510) ∷ []) ∷ []) (done 0 3)
-unfolding together gives fxy
-reference_of_all_ones_together = refl
+reference_together = (refl, refl, refl, refl)
 
 -- More than 134217728 values are too many, counted before an item is read and after the faults of
 -- the walk. Fails where the data end first, where a refused width or a text in a definition comes
 -- later, or where the bound is another.
 -- rule: compressed-fault-order
-too_many_before_the_data_end : stop_at (packed 65535) (nat_lt max_values (2049 * 65535)) (next_item table (element (fxy 0 12 101) bare) []).next [] ≡ Some (too_many 3173)
+too_many_before_the_data_end :
+    (stop_at (packed 65535) (nat_lt max_values (2049 * 65535)) (next_item table (element (fxy 0 12 101) bare) []).next [] ≡ Some (too_many 3173))
+    × (stop_at (packed 2) (nat_lt max_values (2048 * 65535)) (next_item table (element (fxy 0 12 101) bare) []).next [] ≡ Some (field_stop 3173 data_end))
+    × (stop_at (packed 65535) true (next_item table (operator (fxy 2 1 121) (element (fxy 0 1 1) bare)) []).next [] ≡ Some (walk_stop (refusal.Width 257)))
+    × (stop_at (packed 65535) true (next_item table (operator (fxy 2 3 10) (element (fxy 0 1 15) bare)) []).next [] ≡ Some (walk_stop (refusal.Defining 271)))
+    × (stop_at (packed 65535) true (next_item table (element (fxy 0 12 101) bare) (taken.Plain ∷ [])).next [] ≡ None)
 unfolding table next_item fxy
-too_many_before_the_data_end = refl
-
-not_yet_too_many : stop_at (packed 2) (nat_lt max_values (2048 * 65535)) (next_item table (element (fxy 0 12 101) bare) []).next [] ≡ Some (field_stop 3173 data_end)
-unfolding table next_item fxy
-not_yet_too_many = refl
-
--- rule: compressed-fault-order
-width_before_too_many : stop_at (packed 65535) true (next_item table (operator (fxy 2 1 121) (element (fxy 0 1 1) bare)) []).next [] ≡ Some (walk_stop (refusal.Width 257))
-unfolding table next_item fxy
-width_before_too_many = refl
-
-defining_before_too_many : stop_at (packed 65535) true (next_item table (operator (fxy 2 3 10) (element (fxy 0 1 15) bare)) []).next [] ≡ Some (walk_stop (refusal.Defining 271))
-unfolding table next_item fxy
-defining_before_too_many = refl
-
-none_too_many_at_the_end : stop_at (packed 65535) true (next_item table (element (fxy 0 12 101) bare) (taken.Plain ∷ [])).next [] ≡ None
-unfolding table next_item fxy
-none_too_many_at_the_end = refl
+too_many_before_the_data_end = (refl, refl, refl, refl, refl)
 
 -- rule: too-many-values
-just_not_too_many : nat_lt max_values (4096 * 32768) ≡ false
-just_not_too_many = refl
-
-just_too_many : nat_lt max_values (4096 * 32768 + 1) ≡ true
-just_too_many = refl
+just_not_too_many :
+    (nat_lt max_values (4096 * 32768) ≡ false)
+    × (nat_lt max_values (4096 * 32768 + 1) ≡ true)
+just_not_too_many = (refl, refl)
 
 -- rule: too-many-values
 refused_as_too_many : IsPackedRefused 134217729 (next_item table (element (fxy 0 12 101) bare)) [] (too_many 3173) 0 1

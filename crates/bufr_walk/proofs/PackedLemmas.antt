@@ -1,26 +1,18 @@
 -- The contents of an item of compressed data, by its increments.
-use Rattle.std.proofs.Common.{◌≡◌, ℕ, zero, suc, ◌+◌, ◌^◌, ◌<◌, ◌≤◌, ◌&&◌, ◌||◌, ◌%◌, Bool, true, false, List, ◌∷◌, length, take, drop, refl, sym, ◌∙◌, ap, subst, arith, ◌*◌, [], map, Result, Ok, Err, ◌-◌}
-use Rattle.std.specs.Prelude.{◌==◌, nat_lt, not, ◌/◌, if◌then◌else◌}
+use Rattle.std.proofs.lemmas.Grind.{common_steps}
+use Rattle.std.proofs.Common.{◌≡◌, ℕ, zero, suc, ◌+◌, ◌^◌, ◌<◌, ◌≤◌, ◌&&◌, ◌||◌, ◌%◌, Bool, true, false, List, ◌∷◌, length, take, drop, refl, sym, ◌∙◌, ap, subst, arith, ◌*◌, [], map, Result, Ok, Err, ◌-◌, ◌==◌, nat_lt, not, ◌/◌, if◌then◌else◌}
+use Rattle.std.proofs.lemmas.Bool.{eq-eqb, eqb-true, le-ltb, ltb-false, ne_eqb}
 use Rattle.std.specs.List.{list_all}
 use Rattle.std.proofs.lemmas.Nat.{shl_whole}
 use Rattle.std.proofs.lemmas.List.{drop-drop, length-take, length-drop}
 use Rattle.std.proofs.Math.Nat.{pow-le-pow_right, mul-le-mul_right}
 use Rattle.std.proofs.lemmas.Bool.Decides.{nat_tests}
-use Rattle.bufr_bits.specs.Bits.{number_of, are_all_ones, bits_of, bits_at}
+use Rattle.bufr_bits.specs.Prelude.{number_of, are_all_ones, bits_of, bits_at}
 use Rattle.bufr_bits.proofs.BitLemmas.{number_of-below, length-bits_at}
-use Rattle.bufr_walk.specs.PackedField.{increments, ones, and_contents, increased, all_increased, padded_text, increment_bits_of, numbers_of, varied_by, same_count, if_equal, varied, contents_of, answer_first, all_same, with_suffix, item_by, packed_field}
-use Rattle.bufr_walk.specs.PackedBits.{stays_within, all_within, is_missing, numbers_hold, all_equal, increased_to, holds_by, number_from, content_from, kind_step, is_plain_role, IsItemAnswer, IsWrong}
-use Rattle.bufr_walk.specs.FieldSpec.{FieldSpec, IsSpec, HasRole, is_reference}
+use Rattle.bufr_walk.specs.Prelude.{increments, ones, and_contents, increased, all_increased, padded_text, increment_bits_of, numbers_of, varied_by, same_count, if_equal, varied, contents_of, answer_first, with_suffix, item_by, packed_field, FieldSpec, IsSpec, HasRole, is_reference, Content, number, missing, content_in, answer_of, answer_by_role, FieldFault, increment, unequal_factor, FieldRead, data_end, stays_within, all_within, is_missing, numbers_hold, all_equal, increased_to, holds_by, number_from, content_from, kind_step, is_plain_role, IsItemAnswer, IsWrong, content_kept, contents_found, was_found, has_base, fits_at, Role, Taken, IndexedItem, content_at}
 use Rattle.bufr_tables.specs.declared.table_b.Kind.{Kind}
-use Rattle.bufr_walk.specs.declared.spec.Role.{Role}
-use Rattle.bufr_walk.specs.declared.spec.Taken.{Taken}
-use Rattle.bufr_walk.specs.Content.{Content, number, missing, content_in, answer_of, answer_by_role, FieldFault, increment, unequal_factor, FieldRead, data_end}
 use Rattle.bufr_bits.proofs.DecimalLemmas.{and_first, and_second}
-use Rattle.bufr_tables.specs.TableB.{is_character}
-use Rattle.bufr_walk.specs.declared.item_index.IndexedItem.{IndexedItem}
-use Rattle.bufr_walk.specs.Calls.{content_at}
-use Rattle.bufr_walk.specs.StoredItems.{content_kept}
-use Rattle.bufr_walk.specs.PackedIn.{contents_found, was_found, has_base, fits_at}
+use Rattle.bufr_tables.specs.Prelude.{is_character}
 use Rattle.bufr_walk.proofs.PlainLemmas.{bits_length, ones_by_number, is_reference_role}
 use Rattle.bufr_tables.specs.declared.table_b.Kind.TheVariants as kind
 use Rattle.bufr_walk.specs.declared.spec.Role.TheVariants as role
@@ -33,31 +25,22 @@ all_ones w v e h = omega (arith, shl_whole 1 1 w 64 (omega arith) (omega (arith,
 
 -- the next of some increments
 pub increments_next : (left left' k at at' : ℕ) (bits : List Bool) → left ≡ suc left' → at' ≡ at + k → increments left k (drop at bits) ≡ take k (drop at bits) ∷ increments left' k (drop at' bits)
-increments_next left left' k at at' bits e f =
-    ap (λ n. increments n k (drop at bits)) e ∙ ap (λ bs. take k (drop at bits) ∷ increments left' k bs) (drop-drop k at bits ∙ ap (λ j. drop j bits) (sym f))
+increments_next left left' k at at' bits e f = grind (arith, common_steps, drop-drop)
 
 -- the test of all increments goes on after one that passes
 pub passes_next : (p : List Bool → Bool) (left left' k at at' : ℕ) (bits : List Bool) (whole : Bool) → left ≡ suc left' → at' ≡ at + k → whole ≡ list_all p (increments left k (drop at bits)) → p (take k (drop at bits)) ≡ true → whole ≡ list_all p (increments left' k (drop at' bits))
-passes_next p left left' k at at' bits whole e f h t =
-    h ∙ ap (list_all p) (increments_next left left' k at at' bits e f) ∙ ap (λ b. b && list_all p (increments left' k (drop at' bits))) t
+passes_next p left left' k at at' bits whole e f h t = grind (arith, common_steps, increments_next)
 
 -- and ends at one that fails
 pub fails_next : (p : List Bool → Bool) (left left' k at : ℕ) (bits : List Bool) (whole : Bool) → left ≡ suc left' → whole ≡ list_all p (increments left k (drop at bits)) → p (take k (drop at bits)) ≡ false → whole ≡ false
-fails_next p left left' k at bits whole e h t =
-    h ∙ ap (list_all p) (increments_next left left' k at (at + k) bits e refl) ∙ ap (λ b. b && list_all p (increments left' k (drop (at + k) bits))) t
+fails_next p left left' k at bits whole e h t = grind (arith, common_steps, increments_next)
 
 -- tests of one increment
 pub is_other : (n first m : ℕ) → n ≡ m → (n ≡ first → ⊥) → (m == first) ≡ false
-is_other n first m e h = let g : m ≡ first → ⊥ = λ x. h (e ∙ x) in by m first g
-  where
-    by : (a b : ℕ) → (a ≡ b → ⊥) → (a == b) ≡ false
-    by a b g = grind (arith, nat_tests)
+is_other n first m e h = let g : m ≡ first → ⊥ = λ x. h (e ∙ x) in ne_eqb m first g
 
 pub is_first : (n first m : ℕ) → n ≡ m → n ≡ first → (m == first) ≡ true
-is_first n first m e h = by m first (sym e ∙ h)
-  where
-    by : (a b : ℕ) → a ≡ b → (a == b) ≡ true
-    by a b g = grind (arith, nat_tests)
+is_first n first m e h = eq-eqb m first (sym e ∙ h)
 
 pub stays_here : (m : Bool) (w base k n i : ℕ) (stays b : Bool) → n ≡ i → stays ≡ stays_within m w base k n → stays ≡ b → stays_within m w base k i ≡ b
 stays_here m w base k n i stays b e h g = ap (stays_within m w base k) (sym e) ∙ sym h ∙ g
@@ -67,7 +50,7 @@ pub all_fit : (m : Bool) (w base k : ℕ) (n : ℕ) (bits : List Bool) → base 
 all_fit m w base k zero bits h = refl
 all_fit m w base k (suc n) bits h =
     let low : number_of (take k bits) < 2 ^ k = below_pow k bits in
-    ap (λ b. b && all_within m w base k n (drop k bits)) (fits m (number_of (take k bits) == ones k) (nat_lt (ones w) (base + number_of (take k bits))) (not_past (ones w) (base + number_of (take k bits)) (omega (arith, h, low))))
+    ap (λ b. b && all_within m w base k n (drop k bits)) (fits m (number_of (take k bits) == ones k) (nat_lt (ones w) (base + number_of (take k bits))) (le-ltb (ones w) (base + number_of (take k bits)) (omega (arith, h, low))))
     ∙ all_fit m w base k n (drop k bits) h
   where
     below_pow : (k : ℕ) (bits : List Bool) → number_of (take k bits) < 2 ^ k
@@ -76,22 +59,13 @@ all_fit m w base k (suc n) bits h =
         let top : 2 ^ length (take k bits) ≤ 2 ^ k = pow-le-pow_right {n = 2} (omega arith) short in
         omega (arith, number_of-below (take k bits), top)
 
-    not_past : (a b : ℕ) → b ≤ a → nat_lt a b ≡ false
-    not_past a b h = grind (arith, nat_tests)
-
     fits : (m is_missing past : Bool) → past ≡ false → (m && is_missing || not past) ≡ true
     fits true true past e = refl
     fits true false past e = ap not e
     fits false is_missing past e = ap not e
 
 pub numbers_fit : (a : FieldSpec) (k n value width : ℕ) (base suffix : List Bool) → value ≡ number_of base → width ≡ a.width → value + ones k ≤ ones width → numbers_hold a k n base suffix ≡ true
-numbers_fit a k n value width base suffix e f h =
-    let fits : number_of base + ones k ≤ ones a.width = subst (λ w. number_of base + ones k ≤ ones w) f (subst (λ v. v + ones k ≤ ones width) e h) in
-    ap (λ b. is_missing a base || b) (all_fit a.may_be_missing a.width (number_of base) k n suffix fits) ∙ either (is_missing a base)
-  where
-    either : (b : Bool) → (b || true) ≡ true
-    either true = refl
-    either false = refl
+numbers_fit a k n value width base suffix e f h = grind (arith, common_steps, all_fit)
 
 -- ---- The contents of an item of compressed data, by tests of its increments.
 
@@ -209,8 +183,7 @@ contents_varied a k base is some = ap (λ b. if b then Ok (map (λ i. content_in
 
 -- the contents of an item with increments
 pub value_are : (a : FieldSpec) (k n : ℕ) (base suffix : List Bool) → 1 ≤ k → is_reference a.role ≡ false → contents_of a k base (increments n (increment_bits_of a.role a.kind k) suffix) ≡ equal_by a.role (varied_by a.kind a k base (increments n (kind_step a.kind k) suffix))
-value_are a k n base suffix some e =
-    contents_varied a k base _ some ∙ varied_role a.role a k base _ e ∙ ap (λ s. equal_by a.role (varied_by a.kind a k base (increments n s suffix))) (step_value a.role a.kind k e)
+value_are a k n base suffix some e = grind (arith, common_steps, contents_varied, varied_role, step_value)
 
 -- such an item is at fault where its increments are not valid
 pub wrong_varied : (a : FieldSpec) (k n : ℕ) (base suffix : List Bool) (f : ℕ) → f ≡ a.fxy → 1 ≤ k → is_reference a.role ≡ false → holds_by a.kind a k n base suffix ≡ false → IsWrong a k n base suffix (wrong.Increment f)
@@ -229,13 +202,7 @@ wrong_varied a k n base suffix f g some e h = record {
 -- an element and an inserted text return nothing to the walk
 plain_first : (a : FieldSpec) (cs : List Content) → is_plain_role a.role ≡ true → taken.Plain ≡ answer_first a cs
 plain_first a [] e = refl
-plain_first a (c ∷ cs) e = by a.role c e
-  where
-    by : (r : Role) (c : Content) → is_plain_role r ≡ true → taken.Plain ≡ answer_by_role r c
-    by role.Element c e = refl
-    by role.Inserted c e = refl
-    by role.Factor c e = absurd cc
-    by role.Reference c e = absurd cc
+plain_first a (c ∷ cs) e = grind (arith, common_steps)
 
 pub answer_varied : (a : FieldSpec) (k n : ℕ) (base suffix : List Bool) → 1 ≤ k → is_plain_role a.role ≡ true → holds_by a.kind a k n base suffix ≡ true → IsItemAnswer a k n base suffix taken.Plain
 answer_varied a k n base suffix some e h = record {
@@ -292,24 +259,12 @@ self_equal n = grind (arith, nat_tests)
 
 -- factors are never missing
 factor_numbers : (a : FieldSpec) (k n : ℕ) (base suffix : List Bool) → a.kind ≡ kind.Numeric → a.may_be_missing ≡ false → map (content_from a.kind a k base) (increments n (kind_step a.kind k) suffix) ≡ map (λ i. number (number_of base + number_of i)) (increments n k suffix)
-factor_numbers a k n base suffix e f =
-    ap (λ x. map (content_from x a k base) (increments n (kind_step x k) suffix)) e
-    ∙ ap (λ m. map (λ i. if are_all_ones base && m then missing else increased_to m a.width (number_of base) k (number_of i)) (increments n k suffix)) f
-    ∙ plainly (are_all_ones base)
-  where
-    plainly : (b : Bool) → map (λ i. if b && false then missing else increased_to false a.width (number_of base) k (number_of i)) (increments n k suffix) ≡ map (λ i. number (number_of base + number_of i)) (increments n k suffix)
-    plainly true = refl
-    plainly false = refl
+factor_numbers a k n base suffix e f = grind (arith, common_steps, map)
 
 equal_numbers : (base first n k : ℕ) (suffix : List Bool) (b : Bool) → 1 ≤ n → first ≡ number_of (take k suffix) → all_equal k n first suffix ≡ b
     → if_equal (Ok (map (λ i. number (base + number_of i)) (increments n k suffix))) ≡ (if b then Ok (map (λ i. number (base + number_of i)) (increments n k suffix)) else Err unequal_factor)
 equal_numbers base first zero k suffix b h e t = absurd (omega arith)
-equal_numbers base first (suc n) k suffix b h e t =
-    let i = take k suffix in
-    let is = increments n k (drop k suffix) in
-    let cs = map (λ i. number (base + number_of i)) is in
-    ap (λ x. if x then Ok (number (base + number_of i) ∷ cs) else Err unequal_factor)
-    (ap (λ f. list_all (same_count (number (base + f))) cs) (sym e) ∙ same_numbers base first is ∙ sym (ap (λ x. x && list_all (λ j. number_of j == first) is) (ap (λ f. f == first) (sym e) ∙ self_equal first)) ∙ t)
+equal_numbers base first (suc n) k suffix b h e t = grind (arith, common_steps, map, same_numbers, self_equal)
 
 first_number : (base first n k : ℕ) (suffix : List Bool) (a : FieldSpec) → 1 ≤ n → first ≡ number_of (take k suffix) → a.role ≡ role.Factor → taken.Count (base + first) ≡ answer_first a (map (λ i. number (base + number_of i)) (increments n k suffix))
 first_number base first zero k suffix a h e r = absurd (omega arith)
@@ -347,9 +302,6 @@ after_found : (r : Result (List Content) FieldFault) (bs : List Bool) → was_fo
 after_found (Ok cs) bs h = refl
 after_found (Err why) bs h = absurd cc
 
-at_most : (a b : ℕ) → nat_lt a b ≡ false → b ≤ a
-at_most a b h = grind (arith, nat_tests)
-
 -- an item at a bit, with its contents
 pub record IsAt (bits : List Bool) (at n : ℕ) (a : FieldSpec) (k : ℕ) (cs : List Content) : Type 0 where
   pub within : at + (a.width + 6 + n * increment_bits_of a.role a.kind k) ≤ length bits
@@ -370,27 +322,19 @@ parts bits at n a k h is =
     let same : back ≡ drop (at + (a.width + 6)) bits = drop-drop (a.width + 6) at bits in
     let cs = contents_found (packed_field n a here) in
     let all : contents_found (with_suffix (contents_of a k base (increments n s back)) (drop (n * s) back)) ≡ cs = sym (first.2 ∙ ap (λ x. contents_found (item_by a n x here)) same_k ∙ second.2) in
-    let long : a.width + 6 ≤ length here = at_most (length here) (a.width + 6) first.0 in
-    let room : n * s ≤ length back = at_most (length back) (n * s) second.0 in
+    let long : a.width + 6 ≤ length here = ltb-false (length here) (a.width + 6) first.0 in
+    let room : n * s ≤ length back = ltb-false (length back) (n * s) second.0 in
     record {
       within = omega (arith, long, room, length-drop at bits, length-drop (a.width + 6) here);
       are = subst (λ b. contents_of a k base (increments n s b) ≡ Ok cs) same (are ∙ ap Ok all);
     }
 
-same_number : (a b : ℕ) → (a == b) ≡ true → a ≡ b
-same_number a b h = grind (arith, nat_tests)
-
 kept_step : (bits : List Bool) (n : ℕ) (e : IndexedItem) → fits_at bits n e ≡ true → e.step ≡ number_of (take 6 (drop (e.at + e.spec.width) bits))
-kept_step bits n e h =
-    let step = e.step == number_of (take 6 (drop (e.at + e.spec.width) bits)) in
-    same_number e.step (number_of (take 6 (drop (e.at + e.spec.width) bits))) (and_first step (has_base bits e) (and_second (was_found (packed_field n e.spec (drop e.at bits))) (step && has_base bits e) h))
+kept_step bits n e h = grind (arith, common_steps, eqb-true, and_first, and_second)
 
 -- the base of a kept item that is a number
 pub kept_base : (bits : List Bool) (n : ℕ) (e : IndexedItem) → fits_at bits n e ≡ true → is_character e.spec.kind ≡ false → e.base ≡ number_of (take e.spec.width (drop e.at bits))
-kept_base bits n e h k =
-    let step = e.step == number_of (take 6 (drop (e.at + e.spec.width) bits)) in
-    let has : has_base bits e ≡ true = and_second step (has_base bits e) (and_second (was_found (packed_field n e.spec (drop e.at bits))) (step && has_base bits e) h) in
-    same_number e.base (number_of (take e.spec.width (drop e.at bits))) (ap (λ b. b || (e.base == number_of (take e.spec.width (drop e.at bits)))) (sym k) ∙ has)
+kept_base bits n e h k = grind (arith, common_steps, and_second, eqb-true)
 
 -- the parts of a kept item
 pub kept_parts : (bits : List Bool) (n : ℕ) (e : IndexedItem) → fits_at bits n e ≡ true → IsAt bits e.at n e.spec e.step (contents_found (packed_field n e.spec (drop e.at bits)))
@@ -411,11 +355,7 @@ at_map f (suc n) s (suc j) bits h = at_map f n s j (drop s bits) (omega arith) �
 
 -- with no increments
 pub base_at : (a : FieldSpec) (k n j : ℕ) (base suffix : List Bool) (cs : List Content) → k ≡ 0 → j < n → contents_of a k base (increments n (increment_bits_of a.role a.kind k) suffix) ≡ Ok cs → content_at j cs ≡ content_in a base
-base_at a k n j base suffix cs e h are =
-    let s = increment_bits_of a.role a.kind k in
-    let all : ◌≡◌ {A = Result (List Content) FieldFault} (Ok (map (λ i. content_in a base) (increments n s suffix))) (Ok cs) = sym (ap (λ x. if x == 0 then Ok (map (λ i. content_in a base) (increments n s suffix)) else varied a.role a x base (increments n s suffix)) e) ∙ are in
-    let same : map (λ i. content_in a base) (increments n s suffix) ≡ cs = cc in
-    ap (content_at j) (sym same) ∙ at_map (λ i. content_in a base) n s j suffix h
+base_at a k n j base suffix cs e h are = grind (arith, common_steps, map, at_map)
 
 ok_if : (b : Bool) (xs cs : List Content) → ◌≡◌ {A = Result (List Content) FieldFault} (if b then Ok xs else Err increment) (Ok cs) → (b ≡ true) × (xs ≡ cs)
 ok_if true xs cs h = (refl, cc)
@@ -425,11 +365,7 @@ equal_ok : (r : Role) (b : Bool) (xs cs : List Content) → equal_by r (if b the
 equal_ok role.Element b xs cs h = ok_if b xs cs h
 equal_ok role.Inserted b xs cs h = ok_if b xs cs h
 equal_ok role.Reference b xs cs h = ok_if b xs cs h
-equal_ok role.Factor true xs cs h = (refl, by (all_same xs) h)
-  where
-    by : (t : Bool) → ◌≡◌ {A = Result (List Content) FieldFault} (if t then Ok xs else Err unequal_factor) (Ok cs) → xs ≡ cs
-    by true h = cc
-    by false h = absurd cc
+equal_ok role.Factor true xs cs h = grind (arith, common_steps)
 equal_ok role.Factor false xs cs h = absurd cc
 
 -- with increments: they are valid, have these contents, and each subset has so many bits
@@ -454,33 +390,17 @@ varied_parts a k n base suffix cs some are = by (is_reference a.role) refl
 
 pub varied_at : (a : FieldSpec) (k n j : ℕ) (base suffix : List Bool) (cs : List Content) → 1 ≤ k → j < n → contents_of a k base (increments n (increment_bits_of a.role a.kind k) suffix) ≡ Ok cs
     → content_at j cs ≡ content_from a.kind a k base (take (kind_step a.kind k) (drop (j * kind_step a.kind k) suffix))
-varied_at a k n j base suffix cs some h are =
-    ap (content_at j) (sym (varied_parts a k n base suffix cs some are).contents) ∙ at_map (content_from a.kind a k base) n (kind_step a.kind k) j suffix h
+varied_at a k n j base suffix cs some h are = grind (arith, common_steps, varied_parts, at_map)
 
 -- the increment of each subset is within that many increments
 pub reaches : (n j s : ℕ) → j < n → (j + 1) * s ≤ n * s
 reaches n j s h = mul-le-mul_right s (omega (arith, h))
 
 pub increment_within : (bits : List Bool) (n : ℕ) (e : IndexedItem) (j : ℕ) → fits_at bits n e ≡ true → 1 ≤ e.step → j < n → e.at + (e.spec.width + 6) + (j + 1) * kind_step e.spec.kind e.step ≤ length bits
-increment_within bits n e j h some below =
-    let p = kept_parts bits n e h in
-    let s = kind_step e.spec.kind e.step in
-    let same : increment_bits_of e.spec.role e.spec.kind e.step ≡ s = (varied_parts e.spec e.step n _ _ _ some p.are).step in
-    let far : (j + 1) * s ≤ n * s = reaches n j s below in
-    let all : e.at + (e.spec.width + 6 + n * s) ≤ length bits = subst (λ x. e.at + (e.spec.width + 6 + n * x) ≤ length bits) same p.within in
-    omega (arith, far, all)
+increment_within bits n e j h some below = grind (arith, common_steps, kept_parts, varied_parts, reaches)
 
 pub step_small : (bits : List Bool) (n : ℕ) (e : IndexedItem) → fits_at bits n e ≡ true → e.step ≤ 63
-step_small bits n e h =
-    let six = take 6 (drop (e.at + e.spec.width) bits) in
-    let is : e.step ≡ number_of six = kept_step bits n e h in
-    let low : number_of six < 2 ^ length six = number_of-below six in
-    let short : length six ≤ 6 = length-take-most 6 (drop (e.at + e.spec.width) bits) in
-    let top : 2 ^ length six ≤ 2 ^ 6 = pow-le-pow_right {n = 2} (omega arith) short in
-    omega (arith, is, low, top)
-  where
-    length-take-most : (n : ℕ) (xs : List Bool) → length (take n xs) ≤ n
-    length-take-most n xs = omega (arith, length-take n xs)
+step_small bits n e h = grind (arith, common_steps, kept_step, number_of-below, pow-le-pow_right, length-take)
 
 -- the content of one subset, by the bits of its item
 pub base_content : (bits : List Bool) (n : ℕ) (e : IndexedItem) (j : ℕ) → fits_at bits n e ≡ true → e.step ≡ 0 → j < n → content_kept bits n e j ≡ content_in e.spec (take e.spec.width (drop e.at bits))
@@ -527,18 +447,11 @@ text_within bits n e j h some below c = subst (λ s. e.at + (e.spec.width + 6) +
 
 -- whether the base of a kept item is all ones, by its number
 pub kept_ones : (octets : List ℕ) (n : ℕ) (e : IndexedItem) → fits_at (bits_of octets) n e ≡ true → is_character e.spec.kind ≡ false → (e.base == 2 ^ e.spec.width - 1) ≡ are_all_ones (bits_at octets e.at e.spec.width)
-kept_ones octets n e h k =
-    let p = kept_parts (bits_of octets) n e h in
-    ones_by_number octets e.at e.spec.width e.base (omega (arith, p.within, bits_length octets)) (kept_base (bits_of octets) n e h k)
+kept_ones octets n e h k = grind (arith, common_steps, kept_parts, ones_by_number, bits_length, kept_base)
 
 -- and that number
 pub kept_number : (octets : List ℕ) (n : ℕ) (e : IndexedItem) → fits_at (bits_of octets) n e ≡ true → is_character e.spec.kind ≡ false → (e.base ≡ number_of (bits_at octets e.at e.spec.width)) × (e.base < 2 ^ e.spec.width)
-kept_number octets n e h k =
-    let is = kept_base (bits_of octets) n e h k in
-    let p = kept_parts (bits_of octets) n e h in
-    let low : number_of (bits_at octets e.at e.spec.width) < 2 ^ length (bits_at octets e.at e.spec.width) = number_of-below (bits_at octets e.at e.spec.width) in
-    let long : length (bits_at octets e.at e.spec.width) ≡ e.spec.width = length-bits_at octets e.at e.spec.width (omega (arith, p.within, bits_length octets)) in
-    (is, subst (λ w. e.base < 2 ^ w) long (subst (λ v. v < 2 ^ length (bits_at octets e.at e.spec.width)) (sym is) low))
+kept_number octets n e h k = grind (arith, common_steps, kept_base, kept_parts, number_of-below, length-bits_at, bits_length)
 
 -- what holds of increments holds of one
 all_at : (p : List Bool → Bool) (n s j : ℕ) (bits : List Bool) → j < n → list_all p (increments n s bits) ≡ true → p (take s (drop (j * s) bits)) ≡ true
@@ -567,6 +480,4 @@ number_holds kind.Numeric a k n j base suffix c h all = one_holds a k n j base s
 -- the bits of an increment, at the place that is reached in 64 bits
 pub increment_at : (octets : List ℕ) (at w k j width subset step raw : ℕ) → width ≡ w → subset ≡ j → step ≡ k → raw ≡ number_of (bits_at octets (at + (width + 6) + subset * step) k)
     → raw ≡ number_of (take k (drop (j * k) (drop (at + (w + 6)) (bits_of octets))))
-increment_at octets at w k j width subset step raw a b c is =
-    is ∙ ap (λ n. number_of (bits_at octets n k)) (ap (λ x. at + (x + 6) + subset * step) a ∙ ap (λ x. at + (w + 6) + x * step) b ∙ ap (λ x. at + (w + 6) + j * x) c)
-    ∙ sym (ap (λ l. number_of (take k l)) (drop-drop (j * k) (at + (w + 6)) (bits_of octets)))
+increment_at octets at w k j width subset step raw a b c is = grind (arith, common_steps, drop-drop)

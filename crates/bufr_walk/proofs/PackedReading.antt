@@ -1,33 +1,21 @@
 -- A walk over compressed data reads them as the definition does, and keeps its items.
-use Rattle.std.proofs.Common.{◌≡◌, ℕ, ◌+◌, ◌*◌, ◌<◌, ◌≤◌, Bool, true, false, List, length, take, drop, Ok, Err, sym, ◌∙◌, ap, arith, suc, ◌&&◌, eqb, ◌++◌, ◌∷◌, [], get_or, refl, zero, ◌^◌, ◌||◌, Result, subst, ◌⊎◌, inl, inr, ◌-◌, Some, append_assoc}
-use Rattle.std.specs.Prelude.{nat_lt, if◌then◌else◌, ◌==◌, ◌%◌, MatchResult}
+use Rattle.std.proofs.lemmas.Grind.{common_steps}
+use Rattle.std.proofs.Common.{◌≡◌, ℕ, ◌+◌, ◌*◌, ◌<◌, ◌≤◌, Bool, true, false, List, length, take, drop, Ok, Err, sym, ◌∙◌, ap, arith, suc, ◌&&◌, eqb, ◌++◌, ◌∷◌, [], get_or, refl, zero, ◌^◌, Result, subst, ◌⊎◌, inl, inr, ◌-◌, Some, append_assoc, if◌then◌else◌, ◌%◌, MatchResult}
+use Rattle.std.proofs.lemmas.Bool.{eq-eqb, le-ltb, lt-ltb}
 use Rattle.std.proofs.lemmas.List.{length-drop, drop-drop, get_or_default, get_or_append_left, map-append, length-append, append-nil}
-use Rattle.std.proofs.lemmas.Bool.Decides.{nat_tests, Decides-eqb, Decides-int_eq}
-use Rattle.bufr_bits.specs.Bits.{number_of}
-use Rattle.bufr_tables.specs.TableB.{is_character, Row}
+use Rattle.std.proofs.lemmas.Bool.Decides.{Decides-eqb, Decides-int_eq}
+use Rattle.bufr_bits.specs.Prelude.{number_of}
+use Rattle.bufr_tables.specs.Prelude.{is_character, Row, Tree}
 use Rattle.bufr_walk.specs.declared.compressed.ItemBits.{ItemBits}
 use Rattle.bufr_walk.specs.declared.compressed.PackedFault.{PackedFault}
-use Rattle.bufr_walk.specs.FieldSpec.{FieldSpec}
-use Rattle.bufr_walk.specs.Content.{data_end, found, FieldFault, increment, unequal_factor, Content}
-use Rattle.bufr_walk.specs.PackedField.{increments, increment_bits_of, contents_of, with_suffix, item_by, packed_field}
-use Rattle.bufr_walk.specs.PackedBits.{IsItemAnswer, IsWrong, IsSeen, IsUnseen, IsLooked, IsUnlooked}
+use Rattle.bufr_walk.specs.Prelude.{FieldSpec, data_end, found, FieldFault, increment, unequal_factor, Content, increments, increment_bits_of, contents_of, with_suffix, item_by, packed_field, IsItemAnswer, IsWrong, IsSeen, IsUnseen, IsLooked, IsUnlooked, HasSpecAt, IsPut, no_field, item_at_location, indexed_items, IsReadAndKept, IsStoredReading, PackedCursor, item_with_contents, item_at, items_at, contents_found, fits_at, packed_view, IsPackedIn, IsPackedTaken, wrong_of, PackedTakes, remaining_bits, IsPackedWrong, refuses_packed, new_packed_in, packed_fault, IndexedItem, max_values, items_at_once, Item, packed, ReadsItems, ReadsPass, next_after, turns_after, after, Data, together, IsPackedReading, turns_together, spot, walk_fault_of, bits_before, IsRead, IsFault, IsRefused, Stop, walk_stop, too_many, field_stop, field_stop_of, stop_at, ComesToTogether, would_be_many, IsPackedShort, data_in, data_of, read_by, IsReadingOf, WalkStop, Course, Next, take_next, at_end, astray, refused, next_item, TakenField, Takes, ticked, oks, answers_of, StopsWalk, Walked}
 use Rattle.std.specs.Ordering.{int_eq}
 use Rattle.std.proofs.Math.Bool.{beq}
-use Rattle.std.specs.Cmp.{booleans_Decides}
 use Rattle.std.specs.List.{All, list_all}
-use Rattle.bufr_walk.specs.declared.item_index.IndexedItem.{IndexedItem}
 use Rattle.bufr_walk.specs.declared.item_index.ItemLocation.{ItemLocation}
-use Rattle.bufr_walk.specs.StoredItems.{HasSpecAt, IsPut, no_field, item_at_location, indexed_items, IsReadAndKept, IsStoredReading}
 use Rattle.std.proofs.lemmas.List.Folds.{list_all-append}
-use Rattle.bufr_walk.specs.PackedIn.{PackedCursor, item_with_contents, item_at, items_at, contents_found, was_found, has_base, fits_at, packed_view, IsPackedIn, IsPackedTaken, wrong_of, PackedTakes, remaining_bits, IsPackedWrong, refuses_packed, new_packed_in, packed_fault}
-use Rattle.bufr_walk.specs.Reading.{max_values, items_at_once, Item, packed, ReadsItems, ReadsPass, next_after, turns_after, after, Data, together, IsPackedReading, turns_together}
 use Rattle.std.proofs.Math.Nat.{mul-le-mul_left}
-use Rattle.bufr_walk.specs.declared.walker.WalkStop.{WalkStop}
-use Rattle.bufr_walk.specs.Course.{Course, Next, take_next, at_end, astray, refused, next_item}
-use Rattle.bufr_walk.specs.Refusal.{spot, walk_fault_of, bits_before, IsRead, IsFault, IsRefused, Stop, walk_stop, too_many, field_stop, field_stop_of, stop_at, ComesToTogether, would_be_many, IsPackedShort, data_in, data_of, read_by, IsReadingOf}
-use Rattle.bufr_walk.specs.Walk.{TakenField, Takes, ticked, oks, answers_of, StopsWalk, Walked}
-use Rattle.bufr_frame.specs.Sections.{Sections}
-use Rattle.bufr_tables.specs.Tree.{Tree}
+use Rattle.bufr_frame.specs.Prelude.{Sections}
 use Rattle.bufr_walk.proofs.PlainLemmas.{used_most}
 use Rattle.bufr_walk.specs.declared.compressed.PackedFault.TheVariants as wrong
 use Rattle.bufr_walk.specs.declared.spec.TurnRefusal.TheVariants as refusal
@@ -36,12 +24,6 @@ use Rattle.bufr_walk.specs.declared.walker.WalkStop.TheVariants as stops
 use Rattle.bufr_walk.specs.declared.fault.WalkFault.TheVariants as fault
 use Rattle.bufr_walk.specs.declared.reading.StoredItems.TheVariants as kept
 
-not_short : (a b : ℕ) → b ≤ a → nat_lt a b ≡ false
-not_short a b h = grind (arith, nat_tests)
-
-is_short : (a b : ℕ) → a < b → nat_lt a b ≡ true
-is_short a b h = grind (arith, nat_tests)
-
 module _ (bits : List Bool) (at n : ℕ) (a : FieldSpec) where
   -- the k that is read there
   k_here : (k : ℕ) → k ≡ number_of (take 6 (drop (at + a.width) bits)) → number_of (take 6 (drop a.width (drop at bits))) ≡ k
@@ -49,7 +31,7 @@ module _ (bits : List Bool) (at n : ℕ) (a : FieldSpec) where
 
   with_open_group : (k : ℕ) → at + (a.width + 6) ≤ length bits → k ≡ number_of (take 6 (drop (at + a.width) bits)) → packed_field n a (drop at bits) ≡ item_by a n k (drop at bits)
   with_open_group k within is =
-      ap (λ b. if b then Err data_end else item_by a n (number_of (take 6 (drop a.width (drop at bits)))) (drop at bits)) (not_short (length (drop at bits)) (a.width + 6) (omega (arith, length-drop at bits)))
+      ap (λ b. if b then Err data_end else item_by a n (number_of (take 6 (drop a.width (drop at bits)))) (drop at bits)) (le-ltb (length (drop at bits)) (a.width + 6) (omega (arith, length-drop at bits)))
       ∙ ap (λ x. item_by a n x (drop at bits)) (k_here k is)
 
   -- an item that is there whole
@@ -63,7 +45,7 @@ module _ (bits : List Bool) (at n : ℕ) (a : FieldSpec) where
       let long : n * s ≤ length back = omega (arith, ap length same, length-drop (at + (a.width + 6)) bits) in
       let ends : at + (a.width + 6) + n * s ≡ at + size = omega arith in
       with_open_group k (omega arith) is
-      ∙ ap (λ b. if b then Err data_end else with_suffix (contents_of a k (take a.width here) (increments n s back)) (drop (n * s) back)) (not_short (length back) (n * s) long)
+      ∙ ap (λ b. if b then Err data_end else with_suffix (contents_of a k (take a.width here) (increments n s back)) (drop (n * s) back)) (le-ltb (length back) (n * s) long)
       ∙ ap (λ bs. with_suffix (contents_of a k (take a.width here) (increments n s bs)) (drop (n * s) bs)) same
       ∙ ap (λ bs. with_suffix (contents_of a k (take a.width here) (increments n s (drop (at + (a.width + 6)) bits))) bs) (drop-drop (n * s) (at + (a.width + 6)) bits ∙ ap (λ j. drop j bits) ends)
 
@@ -71,7 +53,7 @@ module _ (bits : List Bool) (at n : ℕ) (a : FieldSpec) where
   pub ends_first : (f : ℕ) → f ≡ a.fxy → at ≤ length bits → length bits < at + (a.width + 6) → IsUnseen bits at n a (wrong.DataEnd f)
   ends_first f g within short = record {
     why = data_end;
-    field = ap (λ b. if b then Err data_end else item_by a n (number_of (take 6 (drop a.width (drop at bits)))) (drop at bits)) (is_short (length (drop at bits)) (a.width + 6) (omega (arith, length-drop at bits)));
+    field = ap (λ b. if b then Err data_end else item_by a n (number_of (take 6 (drop a.width (drop at bits)))) (drop at bits)) (lt-ltb (length (drop at bits)) (a.width + 6) (omega (arith, length-drop at bits)));
     fault = ap wrong.DataEnd g;
   }
 
@@ -84,7 +66,7 @@ module _ (bits : List Bool) (at n : ℕ) (a : FieldSpec) where
       let long : length back < n * s = omega (arith, ap length same, length-drop (at + (a.width + 6)) bits) in
       record {
         why = data_end;
-        field = with_open_group k within is ∙ ap (λ b. if b then Err data_end else with_suffix (contents_of a k (take a.width here) (increments n s back)) (drop (n * s) back)) (is_short (length back) (n * s) long);
+        field = with_open_group k within is ∙ ap (λ b. if b then Err data_end else with_suffix (contents_of a k (take a.width here) (increments n s back)) (drop (n * s) back)) (lt-ltb (length back) (n * s) long);
         fault = ap wrong.DataEnd g;
       }
 
@@ -119,33 +101,7 @@ both false b h = let e : true ≡ false = sym h in absurd cc
 -- two fields with the same parts
 pub same_field : (a b : FieldSpec) (r k p : Bool) → (r ≡ true → a.role ≡ b.role) → (k ≡ true → a.kind ≡ b.kind)
     → (int_eq a.reference b.reference && (eqb a.width b.width && (eqb a.fxy b.fxy && (int_eq a.scale b.scale && (r && (k && (beq a.may_be_missing b.may_be_missing && (beq a.listed b.listed && p)))))))) ≡ true → a ≡ b
-same_field a b r k p by_role spec_by_kind h =
-    let h1 = both (int_eq a.reference b.reference) _ h in
-    let h2 = both (eqb a.width b.width) _ h1.1 in
-    let h3 = both (eqb a.fxy b.fxy) _ h2.1 in
-    let h4 = both (int_eq a.scale b.scale) _ h3.1 in
-    let h5 = both r _ h4.1 in
-    let h6 = both k _ h5.1 in
-    let h7 = both (beq a.may_be_missing b.may_be_missing) _ h6.1 in
-    let h8 = both (beq a.listed b.listed) p h7.1 in
-    let reference : a.reference ≡ b.reference = (Decides-int_eq a.reference b.reference).0 h1.0 in
-    let width : a.width ≡ b.width = (Decides-eqb a.width b.width).0 h2.0 in
-    let fxy : a.fxy ≡ b.fxy = (Decides-eqb a.fxy b.fxy).0 h3.0 in
-    let scale : a.scale ≡ b.scale = (Decides-int_eq a.scale b.scale).0 h4.0 in
-    let may : a.may_be_missing ≡ b.may_be_missing = (booleans_Decides a.may_be_missing b.may_be_missing).0 h7.0 in
-    let listed : a.listed ≡ b.listed = (booleans_Decides a.listed b.listed).0 h8.0 in
-    let role : a.role ≡ b.role = by_role h5.0 in
-    let kind : a.kind ≡ b.kind = spec_by_kind h6.0 in
-    λ j. record {
-      fxy = fxy j;
-      role = role j;
-      kind = kind j;
-      width = width j;
-      scale = scale j;
-      reference = reference j;
-      may_be_missing = may j;
-      listed = listed j;
-    }
+same_field a b r k p by_role spec_by_kind h = grind (arith, common_steps, both, eqb, beq, Decides-int_eq, Decides-eqb)
 
 -- a field that was found at a place
 pub fits_there : (specs : List FieldSpec) (place : ℕ) (there spec : FieldSpec) → place < length specs → there ≡ get_or specs place there → there ≡ spec → HasSpecAt specs place spec
@@ -185,22 +141,12 @@ items_at-append : (bits : List Bool) (n : ℕ) (kept : List IndexedItem) (e : In
 items_at-append bits n [] e = refl
 items_at-append bits n (x ∷ kept) e = ap (λ xs. item_at bits n x ∷ xs) (items_at-append bits n kept e)
 
-equal_test : (a b : ℕ) → a ≡ b → (a == b) ≡ true
-equal_test a b h = grind (arith, nat_tests)
-
 both_kept : (a b : Bool) → a ≡ true → b ≡ true → (a && b) ≡ true
 both_kept a b e f = ap (λ x. x && b) e ∙ f
 
 -- the entry of an item that was read
 pub fits_here : (bits : List Bool) (n : ℕ) (e : IndexedItem) (seen : ItemBits) → IsSeen bits e.at n e.spec seen → e.base ≡ seen.base → e.step ≡ seen.step → fits_at bits n e ≡ true
-fits_here bits n e seen h b k =
-    let step = e.step == number_of (take 6 (drop (e.at + e.spec.width) bits)) in
-    both_kept (was_found (packed_field n e.spec (drop e.at bits))) (step && has_base bits e) (ap was_found h.field)
-    (both_kept step (has_base bits e) (equal_test e.step (number_of (take 6 (drop (e.at + e.spec.width) bits))) (k ∙ h.step)) (based (is_character e.spec.kind) refl))
-  where
-    based : (c : Bool) → is_character e.spec.kind ≡ c → (c || (e.base == number_of (take e.spec.width (drop e.at bits)))) ≡ true
-    based true q = refl
-    based false q = equal_test e.base (number_of (take e.spec.width (drop e.at bits))) (b ∙ h.base q)
+fits_here bits n e seen h b k = grind (arith, common_steps, both_kept, eq-eqb)
 
 -- one entry more
 pub keeps : (bits : List Bool) (at n : ℕ) (kept kept' : List IndexedItem) (e : IndexedItem) (seen : ItemBits) → IsPackedIn bits at n kept → e.at ≡ at → e.base ≡ seen.base → e.step ≡ seen.step → IsLooked (packed_view bits at n kept) e.spec seen → kept' ≡ kept ++ e ∷ [] → IsPackedIn bits seen.end n kept'
@@ -240,9 +186,7 @@ unlooked s a e few h = subst (IsUnlooked s a) (sym h.fault) (by h.why h.field)
 
 -- the reader of a contract, and what it keeps
 too_many_kept : (s : PackedCursor) (bits : List Bool) (at n : ℕ) (kept : List IndexedItem) (len from : ℕ) → s ≡ packed_view bits at n kept → len ≡ length kept → from ≡ n → max_values < (len + 1) * from → max_values < (length s.items + 1) * s.subsets
-too_many_kept s bits at n kept len from e f g h =
-    subst (λ x. max_values < (length x.items + 1) * x.subsets) (sym e)
-    (subst (λ z. max_values < z) (ap (λ l. (l + 1) * from) (f ∙ sym (length-items_at bits n kept)) ∙ ap (λ m. (length (items_at bits n kept) + 1) * m) g) h)
+too_many_kept s bits at n kept len from e f g h = grind (arith, common_steps, length-items_at)
 
 pub unlooked_many : (s : PackedCursor) (a : FieldSpec) (bits : List Bool) (at n : ℕ) (kept : List IndexedItem) (len from fxy : ℕ) → fxy ≡ a.fxy → s ≡ packed_view bits at n kept → len ≡ length kept → from ≡ n → max_values < (len + 1) * from → IsUnlooked s a (wrong.TooManyValues fxy)
 unlooked_many s a bits at n kept len from fxy d e f g h = (d, too_many_kept s bits at n kept len from e f g h)
@@ -267,18 +211,6 @@ pub no_room : (s : PackedCursor) (a : FieldSpec) (bits : List Bool) (at n : ℕ)
 no_room s a bits at n kept kept' e view same is full =
     subst (λ w. PackedTakes s a (Err w) (packed_view bits at n kept')) (sym is)
     (ap (packed_view bits at n) same ∙ view, subst (λ x. length x.items % items_at_once ≡ 0) view (subst (λ l. l % items_at_once ≡ 0) (sym (length-items_at bits n kept)) full))
-
--- at least as many values as items
-times_some : (m n : ℕ) → 1 ≤ n → m ≤ m * n
-times_some zero n h = omega arith
-times_some (suc m) n h = let rest : m ≤ m * n = times_some m n h in omega (arith, rest, h)
-
--- the items are few
-pub few_kept : (s : PackedCursor) (bits : List Bool) (at n : ℕ) (kept : List IndexedItem) → packed_view bits at n kept ≡ s → 1 ≤ n → (length s.items + 1) * s.subsets ≤ max_values → length kept < 2 ^ 32
-few_kept s bits at n kept view some few =
-    let values : (length (items_at bits n kept) + 1) * n ≤ max_values = subst (λ x. (length x.items + 1) * x.subsets ≤ max_values) (sym view) few in
-    let items : length (items_at bits n kept) + 1 ≤ (length (items_at bits n kept) + 1) * n = times_some (length (items_at bits n kept) + 1) n some in
-    omega (arith, values, items, length-items_at bits n kept)
 
 -- ---- A walk over compressed data reads them as the definition does.
 
@@ -322,12 +254,6 @@ passes n course s (i ∷ turns) s' e h =
       bits = more.bits ∙ step.bits;
       subsets = more.subsets;
     }
-
-not_many : (a b : ℕ) → b ≤ a → nat_lt a b ≡ false
-not_many a b h = grind (arith, nat_tests)
-
-is_many : (a b : ℕ) → a < b → nat_lt a b ≡ true
-is_many a b h = grind (arith, nat_tests)
 
 -- with a subset at least
 reading_of : (n : ℕ) (course : Course) (items : List (Item (List Content))) (bits suffix : List Bool) → 1 ≤ n → ReadsPass (packed n) course items bits suffix → length items * n ≤ max_values → IsPackedReading n course items bits suffix
@@ -425,7 +351,7 @@ module _ (n : ℕ) (course : Course) (bits : List Bool) (s : PackedCursor) (firs
   field_so turns mid p spec at c' why e within few here room field ticks = by why field
     where
       many : would_be_many n (length p.read) ≡ false
-      many = not_many max_values ((length p.read + 1) * n) (subst (λ xs. (length xs + 1) * n ≤ max_values) (all_items turns mid p) (subst (λ m. (length mid.items + 1) * m ≤ max_values) p.subsets room))
+      many = le-ltb max_values ((length p.read + 1) * n) (subst (λ xs. (length xs + 1) * n ≤ max_values) (all_items turns mid p) (subst (λ m. (length mid.items + 1) * m ≤ max_values) p.subsets room))
 
       ends : (why : FieldFault) → packed_field mid.subsets spec (remaining_bits mid) ≡ Err why → stop_at (packed n) (would_be_many n (length p.read)) (take_next spec) (remaining_bits mid) ≡ Some (field_stop spec.fxy why)
       ends why f = ap (λ b. stop_at (packed n) b (take_next spec) (remaining_bits mid)) many ∙ ap (field_stop_of spec.fxy) (ap (λ m. packed_field m spec (remaining_bits mid)) (sym p.subsets) ∙ f)
@@ -460,7 +386,7 @@ module _ (n : ℕ) (course : Course) (bits : List Bool) (s : PackedCursor) (firs
           subst (λ x. IsFault course (packed_data n bits) (packed_fault (stops.Field x) at) c') (sym h.fault) (field_so w.0 w.1 p spec at c' h.why q (inside same) (room same) (place same) h.few h.field ticks)
 
       many_so : (spec : FieldSpec) → max_values < (length w.1.items + 1) * w.1.subsets → would_be_many n (length p.read) ≡ true
-      many_so spec h = is_many max_values ((length p.read + 1) * n) (subst (λ xs. max_values < (length xs + 1) * n) (all_items w.0 w.1 p) (subst (λ m. max_values < (length w.1.items + 1) * m) p.subsets h))
+      many_so spec h = lt-ltb max_values ((length p.read + 1) * n) (subst (λ xs. max_values < (length xs + 1) * n) (all_items w.0 w.1 p) (subst (λ m. max_values < (length w.1.items + 1) * m) p.subsets h))
 
       by : (why : WalkStop PackedFault) (next : Next) → (course (answers_of w.0)).next ≡ next → StopsWalk PackedTakes next w.1 why s' → IsFault course (packed_data n bits) (packed_fault why at) c'
       by (stops.Field (wrong.TooManyValues fxy)) (take_next spec) q h =
@@ -502,21 +428,7 @@ stopped_within course bits n s s' c c' why first w h =
 
 -- the bound of steps
 pub few_stopped : (k steps steps' at here all : ℕ) (s : PackedCursor) (bits : List Bool) (n : ℕ) (why : WalkStop PackedFault) → s ≡ new_packed_in bits n → steps ≡ 0 → steps' ≤ steps + k * (at - s.at + 1) → here ≡ at → at ≤ all → steps' ≤ k * (bits_before (packed_fault why here) all + 1)
-few_stopped k steps steps' at here all s bits n why first e h u within =
-    let z : s.at ≡ 0 = ap (λ x. x.at) first in
-    let d : at - s.at + 1 ≤ bits_before (packed_fault why here) all + 1 = let b = far why in omega arith in
-    let m : k * (at - s.at + 1) ≤ k * (bits_before (packed_fault why here) all + 1) = mul-le-mul_left k d in
-    omega (arith, m, h, e)
-  where
-    far : (why : WalkStop PackedFault) → at ≤ bits_before (packed_fault why here) all
-    far (stops.Width fxy) = omega arith
-    far (stops.Defining fxy) = omega arith
-    far stops.Memory = within
-    far (stops.Field (wrong.DataEnd fxy)) = omega arith
-    far (stops.Field (wrong.Increment fxy)) = omega arith
-    far (stops.Field (wrong.UnequalFactor fxy)) = omega arith
-    far (stops.Field (wrong.TooManyValues fxy)) = omega arith
-    far (stops.Field wrong.Memory) = within
+few_stopped k steps steps' at here all s bits n why first e h u within = grind (arith, common_steps, mul-le-mul_left)
 
 -- ---- The parts of a reading of compressed data.
 
@@ -526,8 +438,7 @@ packed_held table template subsets octets used steps entries h few short = recor
 
 -- the compressed data of a message
 pub packed_data_same : (m : Sections) (subsets : ℕ) (octets : List ℕ) → m.compressed ≡ true → subsets ≡ m.subsets → octets ≡ m.payload → data_in true subsets octets ≡ data_of m
-packed_data_same m subsets octets packed e f =
-    ap (λ n. data_in true n octets) e ∙ ap (λ o. data_in true m.subsets o) f ∙ ap (λ b. data_in b m.subsets m.payload) (sym packed)
+packed_data_same m subsets octets packed e f = grind (arith, common_steps)
 
 pub packed_is : (table : List Row) (template : Tree) (m : Sections) (subsets : ℕ) (octets : List ℕ) (used held steps : ℕ) (entries : List IndexedItem) → data_in true subsets octets ≡ data_of m → IsReadAndKept (next_item table template) (data_in true subsets octets) entries used steps
     → IsReadingOf table template (data_of m) (read_by table template (data_in true subsets octets) used held) steps

@@ -1,28 +1,17 @@
 -- Compressed data shown from what a reading keeps.
-use Rattle.std.proofs.Common.{◌≡◌, ℕ, ◌+◌, ◌-◌, ◌*◌, ◌<◌, ◌≤◌, Bool, true, false, List, ◌++◌, length, take, drop, replicate, sym, ◌∙◌, ap, arith, zero, suc, get_or, set, Result, Ok, Err, [], ◌∷◌, inl, inr, refl, subst, add-one, append_assoc}
-use Rattle.std.specs.Prelude.{if◌then◌else◌, ◌/◌}
+use Rattle.std.proofs.lemmas.Grind.{common_steps}
+use Rattle.std.proofs.Common.{◌≡◌, ℕ, ◌+◌, ◌-◌, ◌*◌, ◌<◌, ◌≤◌, Bool, true, false, List, ◌++◌, length, take, drop, replicate, sym, ◌∙◌, ap, arith, zero, suc, get_or, set, Result, Ok, Err, [], ◌∷◌, inl, inr, refl, subst, add-one, append_assoc, if◌then◌else◌, ◌/◌}
 use Rattle.std.proofs.lemmas.List.{drop-drop, append-nil, take_more_set, replicate-append-replicate}
-use Rattle.bufr_bits.specs.Bits.{bits_of, are_all_ones}
-use Rattle.bufr_tables.specs.TableB.{is_character, Row}
-use Rattle.bufr_walk.specs.declared.item_index.IndexedItem.{IndexedItem}
-use Rattle.bufr_walk.specs.Content.{octets_in, text, missing, shown_text, shown_missing, shown, Content}
-use Rattle.bufr_walk.specs.StoredItems.{content_kept, call_kept, IsStoredReading, KeepsValues, held_of}
-use Rattle.bufr_walk.specs.PackedField.{padded_text}
-use Rattle.bufr_walk.specs.PackedIn.{fits_at, items_at}
+use Rattle.bufr_bits.specs.Prelude.{bits_of, are_all_ones}
+use Rattle.bufr_tables.specs.Prelude.{is_character, Row}
+use Rattle.bufr_walk.specs.Prelude.{IndexedItem, octets_in, text, missing, shown_text, shown_missing, shown, Content, padded_text, FieldSpec, content_kept, call_kept, IsStoredReading, KeepsValues, held_of, fits_at, items_at, ShowFault, Sofar, Call, Timed, timed, compressed_item_calls, Shows, subset_call, compressed_subset_calls, calls_of, turns_shown, Item, packed, ReadsPass, Values, apart, together, IsReading, IsPackedReading, items_kept, Read, course_of, Course}
 use Rattle.bufr_walk.proofs.PackedLemmas.{kept_parts, text_content, text_within}
-use Rattle.bufr_walk.specs.FieldSpec.{FieldSpec}
 use Rattle.bufr_walk.proofs.PlainLemmas.{bits_length, octets_prefix}
 use Rattle.std.specs.List.{list_all}
 use Rattle.std.proofs.Math.Seq.{drop-cons}
 use Rattle.bufr_bits.proofs.DecimalLemmas.{and_first, and_second}
-use Rattle.bufr_walk.specs.declared.fault.ShowFault.{ShowFault}
-use Rattle.bufr_walk.specs.ShowSteps.{Sofar}
 use Rattle.bufr_walk.proofs.ShownLemmas.{sofar_self, sofar_then, sofar_call}
-use Rattle.bufr_walk.specs.Calls.{Call, Timed, timed, compressed_item_calls, Shows, subset_call, compressed_subset_calls, calls_of, turns_shown}
-use Rattle.bufr_walk.specs.Reading.{Item, packed, ReadsPass, Values, apart, together, IsReading, IsPackedReading, items_kept}
 use Rattle.bufr_walk.specs.declared.reading.StoredItems.{StoredItems}
-use Rattle.bufr_walk.specs.Course.{Course}
-use Rattle.bufr_walk.specs.Refusal.{Read, course_of}
 use Rattle.bufr_walk.proofs.OneReading.{one_reading, HasOutcome, ended, outcome_of, one_outcome}
 use Rattle.bufr_walk.specs.declared.fault.ShowFault.TheVariants as fault
 use Rattle.bufr_walk.specs.declared.reading.StoredItems.TheVariants as kept
@@ -34,9 +23,7 @@ pub missing_text : (spec : FieldSpec) (count k : ℕ) (bits : List Bool) → are
 missing_text spec count k bits e = sym (ap (λ b. shown spec (if b then missing else text (octets_in k (take (8 * k) bits) ++ replicate (count - k) 32))) e)
 
 pub whole_text : (spec : FieldSpec) (count k : ℕ) (bits : List Bool) (octets : List ℕ) → are_all_ones (take (8 * k) bits) ≡ false → octets ≡ octets_in k bits ++ replicate (count - k) 32 → shown_text octets ≡ shown spec (padded_text count k (take (8 * k) bits))
-whole_text spec count k bits octets e is =
-    ap shown_text (is ∙ ap (λ os. os ++ replicate (count - k) 32) (sym (octets_prefix k bits)))
-    ∙ sym (ap (λ b. shown spec (if b then missing else text (octets_in k (take (8 * k) bits) ++ replicate (count - k) 32))) e)
+whole_text spec count k bits octets e is = grind (arith, common_steps, octets_prefix)
 
 -- the text at its place
 pub span_text : (bits : List Bool) (n : ℕ) (e : IndexedItem) (j place : ℕ) → fits_at bits n e ≡ true → 1 ≤ e.step → j < n → is_character e.spec.kind ≡ true → place ≡ e.at + (e.spec.width + 6) + j * (8 * e.step)
@@ -169,11 +156,7 @@ one_packed (suc n) course xs ys bits l m h g = let one = one_outcome (packed (su
 
 -- the entries that are kept are at their locations
 pub entries_fit : (r : Read) (entries : List IndexedItem) → IsStoredReading r (kept.Together entries) → list_all (fits_at r.source.bits r.source.subsets) entries ≡ true
-entries_fit r entries h = by h.values h.keeps
-  where
-    by : (values : Values) → KeepsValues (kept.Together entries) r.source values → list_all (fits_at r.source.bits r.source.subsets) entries ≡ true
-    by (apart all) w = absurd w
-    by (together items) w = w.1
+entries_fit r entries h = grind (arith, common_steps)
 
 pub packed_shown : {V E : Type 0} (sees : V → Call → Result (Unit {0}) E → V → Type 0) (r : Read) (entries : List IndexedItem) (items : List IndexedItem) (v v' : V) (result : Result (Unit {0}) (ShowFault E)) (steps : ℕ) → IsStoredReading r (kept.Together entries) → items ≡ entries → steps ≡ 0
     → Shows sees v (compressed_subset_calls r.table r.source.subsets 0 (items_at r.source.bits r.source.subsets items)) 0 result v' 0
@@ -193,10 +176,4 @@ length-items_at bits n [] = refl
 length-items_at bits n (e ∷ entries) = ap suc (length-items_at bits n entries)
 
 pub all_kept : (r : Read) (k : StoredItems) → IsStoredReading r k → (values : Values) → IsReading (course_of r) r.source values r.bits → held_of k ≡ items_kept values
-all_kept r k h values reading = by k h.values h.keeps ∙ ap items_kept (one_reading (course_of r) r.source h.values values r.bits r.bits h.reading reading).0
-  where
-    by : (k : StoredItems) (held : Values) → KeepsValues k r.source held → held_of k ≡ items_kept held
-    by kept.Apart (apart all) w = refl
-    by kept.Apart (together items) w = absurd w
-    by (kept.Together entries) (apart all) w = absurd w
-    by (kept.Together entries) (together items) w = length-items_at r.source.bits r.source.subsets entries ∙ ap length w.0
+all_kept r k h values reading = grind (arith, common_steps, one_reading, length-items_at)

@@ -1,27 +1,16 @@
 -- Fields and texts read from bits, and the readings that a walk over them makes.
-use Rattle.std.proofs.Common.{◌≡◌, ℕ, suc, ◌+◌, ◌-◌, ◌*◌, ◌^◌, ◌<◌, ◌≤◌, ◌&&◌, Bool, true, false, List, [], ◌∷◌, length, take, drop, Ok, Err, refl, sym, ◌∙◌, ap, subst, arith, ℤ, pos, neg_ℤ, zero, ◌/◌, ◌%◌, ◌++◌, set, add-one, Result}
-use Rattle.std.specs.Prelude.{◌==◌, nat_lt, if◌then◌else◌, slice_index, slice_range, Option, Some, None, option_map, SomeIff, IfSome}
+use Rattle.std.proofs.lemmas.Grind.{common_steps}
+use Rattle.std.proofs.Common.{◌≡◌, ℕ, suc, ◌+◌, ◌-◌, ◌*◌, ◌^◌, ◌<◌, ◌≤◌, Bool, true, false, List, [], ◌∷◌, length, take, drop, Ok, Err, refl, sym, ◌∙◌, ap, subst, arith, ℤ, pos, neg_ℤ, zero, ◌/◌, ◌%◌, ◌++◌, set, add-one, Result, ◌==◌, nat_lt, if◌then◌else◌, slice_index, slice_range, Option, Some, None, option_map, SomeIff, IfSome}
+use Rattle.std.proofs.lemmas.Bool.{le-ltb, lt-ltb}
 use Rattle.std.proofs.lemmas.List.{length-drop, drop-drop, drop-take, take-take, take_more_set, length-set, length-take-le}
 use Rattle.std.proofs.Math.Nat.{pow-le-pow_right}
-use Rattle.std.proofs.lemmas.Bool.Decides.{nat_tests}
-use Rattle.bufr_bits.specs.Bits.{bits_of, bits_at, number_of, are_all_ones}
+use Rattle.bufr_bits.specs.Prelude.{bits_of, bits_at, number_of, are_all_ones}
 use Rattle.bufr_bits.proofs.BitLemmas.{length-bits_of, length-bits_at, are_all_ones-number, drop-bits_of, take-bits_of, number_of_middle, number-bits_of_octet}
 use Rattle.bufr_tables.specs.declared.table_b.Kind.{Kind}
-use Rattle.bufr_walk.specs.declared.spec.Taken.{Taken}
-use Rattle.bufr_walk.specs.declared.spec.Role.{Role}
-use Rattle.bufr_walk.specs.FieldSpec.{is_reference, FieldSpec, IsSpec, HasRole, HasWidth}
-use Rattle.bufr_walk.specs.Content.{missing, answer_of, answer_by_role, content_in, content_by, said_by, count_in, signed_by, plain_field, found, data_end, octets_in, Content}
-use Rattle.bufr_walk.specs.PlainIn.{Cursor, rest_of, past, IsTaken, PassComes, PassReads, PassStops, plain_fault, PlainTakes}
+use Rattle.bufr_walk.specs.Prelude.{Taken, Role, is_reference, FieldSpec, IsSpec, HasRole, HasWidth, answer_of, answer_by_role, content_in, content_by, signed_by, plain_field, found, data_end, octets_in, Content, Cursor, rest_of, past, IsTaken, PassComes, PassReads, PassStops, plain_fault, PlainTakes, WalkStop, Course, Next, take_next, at_end, astray, refused, next_item, TakenField, Takes, ticked, oks, answers_of, StopsWalk, Walked, spot, walk_stop, field_stop, field_stop_of, data_in, data_of, read_by, Read, course_of, IsRead, IsReadingOf, Item, plain, ReadsItems, next_after, turns_after, after, apart, ReadsSubsets, max_values, IsStoredReading, IsReadAndPaid}
 use Rattle.bufr_walk.specs.declared.plain.DataEnd.{DataEnd}
-use Rattle.bufr_walk.specs.declared.walker.WalkStop.{WalkStop}
-use Rattle.bufr_walk.specs.Course.{Course, Next, take_next, at_end, astray, refused, next_item}
-use Rattle.bufr_walk.specs.Refusal.{spot, walk_stop, field_stop, field_stop_of, data_in, data_of, read_by, Read, course_of, IsRead, IsReadingOf}
-use Rattle.bufr_walk.specs.Reading.{Item, plain, ReadsItems, next_after, turns_after, after, Values, apart, together, IsReading, ReadsSubsets, max_values}
-use Rattle.bufr_walk.specs.Walk.{TakenField, Takes, ticked, oks, answers_of, StopsWalk, Walked}
-use Rattle.bufr_frame.specs.Sections.{Sections}
-use Rattle.bufr_tables.specs.TableB.{Row}
-use Rattle.bufr_tables.specs.Tree.{Tree}
-use Rattle.bufr_walk.specs.StoredItems.{IsStoredReading, KeepsValues, IsReadAndPaid}
+use Rattle.bufr_frame.specs.Prelude.{Sections}
+use Rattle.bufr_tables.specs.Prelude.{Row, Tree}
 use Rattle.bufr_tables.specs.declared.table_b.Kind.TheVariants as kind
 use Rattle.bufr_walk.specs.declared.spec.Role.TheVariants as role
 use Rattle.bufr_walk.specs.declared.spec.Taken.TheVariants as taken
@@ -36,12 +25,7 @@ numeric_width kind.Coded w e h = h.1
 numeric_width kind.Numeric w e h = h.1
 
 pub some_width : (a : FieldSpec) → IsSpec a → 1 ≤ a.width
-some_width a h = by a.kind a.width h.width
-  where
-    by : (k : Kind) (w : ℕ) → HasWidth k w → 1 ≤ w
-    by kind.Character w g = omega (arith, g.0)
-    by kind.Coded w g = g.0
-    by kind.Numeric w g = g.0
+some_width a h = grind (arith, common_steps)
 
 pub factor_width : (a : FieldSpec) → IsSpec a → a.role ≡ role.Factor → a.width ≤ 63
 factor_width a h e = let r : HasRole role.Factor a.kind a.may_be_missing = subst (λ x. HasRole x a.kind a.may_be_missing) e h.role in numeric_width a.kind a.width r.0 h.width
@@ -63,16 +47,7 @@ answer_inserted a bits e = ap (λ r. answer_by_role r (content_by r a bits)) (sy
 
 -- a factor is a number
 pub answer_factor : (a : FieldSpec) (bits : List Bool) (n : ℕ) → IsSpec a → a.role ≡ role.Factor → n ≡ number_of bits → taken.Count n ≡ answer_of a (content_in a bits)
-answer_factor a bits n h e is =
-    let r : HasRole role.Factor a.kind a.may_be_missing = subst (λ x. HasRole x a.kind a.may_be_missing) e h.role in
-    ap taken.Count is ∙ sym (ap (λ x. answer_by_role x (content_by x a bits)) e ∙ ap taken.Count (counts a.kind a.may_be_missing (are_all_ones bits) r.0 r.1))
-  where
-    counts : (k : Kind) (m b : Bool) → k ≡ kind.Numeric → m ≡ false → count_in (if b && m then missing else said_by k a.width bits) ≡ number_of bits
-    counts kind.Character m b p q = absurd cc
-    counts kind.Coded m b p q = absurd cc
-    counts kind.Numeric true b p q = absurd cc
-    counts kind.Numeric false true p q = refl
-    counts kind.Numeric false false p q = refl
+answer_factor a bits n h e is = grind (arith, common_steps)
 
 pub answer_reference : (a : FieldSpec) (bits : List Bool) (z : ℤ) → a.role ≡ role.Reference → z ≡ signed_by bits → taken.Reference z ≡ answer_of a (content_in a bits)
 answer_reference a bits z e is = ap taken.Reference is ∙ sym (ap (λ x. answer_by_role x (content_by x a bits)) e)
@@ -98,35 +73,24 @@ pub taken_here : (s : Cursor) (octets : List ℕ) (spec : FieldSpec) (t : Taken)
 taken_here s octets spec t e h within is = record {
   content = content_in spec (take spec.width (rest_of s));
   some = some_width spec h;
-  field = there (nat_lt (length (rest_of s)) spec.width) (not_short (length (rest_of s)) spec.width (omega (arith, length-drop s.at s.bits, ap length e, length-bits_of octets)));
+  field = there (nat_lt (length (rest_of s)) spec.width) (le-ltb (length (rest_of s)) spec.width (omega (arith, length-drop s.at s.bits, ap length e, length-bits_of octets)));
   gives = is ∙ ap (λ bs. answer_of spec (content_in spec (take spec.width (drop s.at bs)))) (sym e);
   next = refl;
 }
   where
-    not_short : (a b : ℕ) → b ≤ a → nat_lt a b ≡ false
-    not_short a b h = grind (arith, nat_tests)
-
     there : (b : Bool) → b ≡ false → (if b then Err data_end else Ok (found (content_in spec (take spec.width (rest_of s))) (drop spec.width (rest_of s)))) ≡ Ok (found (content_in spec (take spec.width (rest_of s))) (rest_of (past s spec)))
     there true q = absurd cc
     there false q = ap (λ bs. Ok (found (content_in spec (take spec.width (rest_of s))) bs)) (drop-drop spec.width s.at s.bits)
 
 pub ends_here : (s : Cursor) (octets : List ℕ) (spec : FieldSpec) → s.bits ≡ bits_of octets → 8 * length octets < s.at + spec.width → s.at ≤ 8 * length octets → plain_field spec (rest_of s) ≡ Err data_end
-ends_here s octets spec e short within = gone (nat_lt (length (rest_of s)) spec.width) (is_short (length (rest_of s)) spec.width (omega (arith, length-drop s.at s.bits, ap length e, length-bits_of octets)))
-  where
-    is_short : (a b : ℕ) → a < b → nat_lt a b ≡ true
-    is_short a b h = grind (arith, nat_tests)
-
-    gone : (b : Bool) → b ≡ true → (if b then Err data_end else Ok (found (content_in spec (take spec.width (rest_of s))) (drop spec.width (rest_of s)))) ≡ Err data_end
-    gone true q = refl
-    gone false q = absurd cc
+ends_here s octets spec e short within = grind (arith, common_steps, nat_lt, lt-ltb, length-drop, length-bits_of)
 
 pub bits_length : (octets : List ℕ) → length (bits_of octets) ≡ 8 * length octets
 bits_length octets = length-bits_of octets
 
 -- bits are all ones where their number is the greatest of their width
 pub ones_by_number : (octets : List ℕ) (at width raw : ℕ) → at + width ≤ 8 * length octets → raw ≡ number_of (bits_at octets at width) → (raw == 2 ^ width - 1) ≡ are_all_ones (bits_at octets at width)
-ones_by_number octets at width raw within is =
-    ap (λ (m : ℕ). m == 2 ^ width - 1) is ∙ ap (λ (m : ℕ). number_of (bits_at octets at width) == 2 ^ m - 1) (sym (length-bits_at octets at width within)) ∙ are_all_ones-number (bits_at octets at width)
+ones_by_number octets at width raw within is = grind (arith, common_steps, length-bits_at, are_all_ones-number)
 
 -- ---- Octets read from bits, and texts.
 
@@ -143,11 +107,7 @@ octets_more : (n : ℕ) (bits : List Bool) → octets_in (n + 1) bits ≡ octets
 octets_more n bits = ap (λ k. octets_in k bits) (add-one n) ∙ octets_next n bits
 
 pub octet_put : (bits : List Bool) (at i octet : ℕ) (kept : List ℕ) → i < length kept → take i kept ≡ octets_in i (drop at bits) → octet ≡ number_of (take 8 (drop (at + 8 * i) bits)) → take (i + 1) (set kept i octet) ≡ octets_in (i + 1) (drop at bits)
-octet_put bits at i octet kept h so is =
-    take_more_set kept i octet h
-    ∙ ap (λ os. os ++ octet ∷ []) so
-    ∙ ap (λ o. octets_in i (drop at bits) ++ o ∷ []) (is ∙ ap (λ bs. number_of (take 8 bs)) (sym (drop-drop (8 * i) at bits)))
-    ∙ sym (octets_more i (drop at bits))
+octet_put bits at i octet kept h so is = grind (arith, common_steps, take_more_set, drop-drop, octets_more)
 
 -- an octet of a word of 32 bits
 pub octet_of_word : (bits : List Bool) (at i j word octet : ℕ) → at + 8 * (i + 4) ≤ length bits → j ≤ 3 → word ≡ number_of (take 32 (drop (at + 8 * i) bits)) → octet ≡ word / 2 ^ (24 - 8 * j) % 2 ^ 8 → octet ≡ number_of (take 8 (drop (at + 8 * (i + j)) bits))
@@ -319,16 +279,11 @@ plain_held table template subsets octets used steps short h = record { values = 
 
 -- the data of a message that are not compressed
 pub same_data : (m : Sections) (subsets : ℕ) (octets : List ℕ) → m.compressed ≡ false → subsets ≡ m.subsets → octets ≡ m.payload → data_in false subsets octets ≡ data_of m
-same_data m subsets octets plain e f =
-    ap (λ n. data_in false n octets) e ∙ ap (λ o. data_in false m.subsets o) f ∙ ap (λ b. data_in b m.subsets m.payload) (sym plain)
+same_data m subsets octets plain e f = grind (arith, common_steps)
 
 pub plain_is : (table : List Row) (template : Tree) (m : Sections) (subsets : ℕ) (octets : List ℕ) (used steps : ℕ) → data_in false subsets octets ≡ data_of m → IsReadAndPaid (next_item table template) (data_in false subsets octets) used steps → IsReadingOf table template (data_of m) (read_by table template (data_in false subsets octets) used 0) steps
 plain_is table template m subsets octets used steps e h = (refl, refl, e, apart h.0, subst (λ d. IsRead (next_item table template) d (apart h.0) used steps) e h.1)
 
 -- data that are not compressed were read before, and can be shown
 pub readable_of : (r : Read) → IsStoredReading r kept.Apart → (all : List (List (Item Content))) × (left : List Bool) × ReadsSubsets (course_of r) all r.source.bits left × (length all ≡ r.source.subsets)
-readable_of r h = by h.values h.reading h.keeps
-  where
-    by : (values : Values) → IsReading (course_of r) r.source values r.bits → KeepsValues kept.Apart r.source values → (all : List (List (Item Content))) × (left : List Bool) × ReadsSubsets (course_of r) all r.source.bits left × (length all ≡ r.source.subsets)
-    by (apart all) k w = (all, drop r.bits r.source.bits, k.2.0, k.2.1)
-    by (together items) k w = absurd w
+readable_of r h = grind (arith, common_steps)

@@ -1,11 +1,8 @@
 -- Worked examples of readings and texts, computed from the definitions.
 use Rattle.std.proofs.Common.{◌≡◌, ℕ, zero, suc, true, List, [], ◌∷◌, pos, negsuc, refl}
-use Rattle.bufr_bits.specs.Bits.{bits_of}
-use Rattle.bufr_tables.specs.Tree.{Tree, bare, element, operator, delayed}
-use Rattle.bufr_walk.specs.FieldSpec.{FieldSpec}
-use Rattle.bufr_walk.specs.Course.{next_item}
-use Rattle.bufr_walk.specs.Content.{Content, number, shown_number, shown_text, shown_missing, shown_reference, data_end, increment, unequal_factor}
-use Rattle.bufr_walk.specs.Reading.{Item, ReadsSubsets}
+use Rattle.bufr_bits.specs.Prelude.{bits_of}
+use Rattle.bufr_tables.specs.Prelude.{Tree, bare, element, operator, delayed}
+use Rattle.bufr_walk.specs.Prelude.{FieldSpec, Content, number, shown_number, shown_text, shown_missing, shown_reference, data_end, increment, unequal_factor, next_item, Item, ReadsSubsets}
 use Rattle.bufr_walk.proofs.ExampleTables.{fxy, table, done, walk_fault, field_fault, one, together, gives}
 use Rattle.bufr_tables.specs.declared.table_b.Kind.TheVariants as kind
 use Rattle.bufr_walk.specs.declared.spec.TurnRefusal.TheVariants as refusal
@@ -24,13 +21,11 @@ delayed_blocks : Tree
 unfolding fxy
 delayed_blocks = delayed (fxy 0 31 1) (element (fxy 0 1 1) bare) bare
 
-delayed_twice : one delayed_blocks (2 ∷ 20 ∷ 44 ∷ []) ≡ gives ((7937, shown_number (pos 2) (pos 0)) ∷ (257, shown_number (pos 10) (pos 0)) ∷ (257, shown_number (pos 11) (pos 0)) ∷ []) (done 2 7)
+delayed_twice :
+    (one delayed_blocks (2 ∷ 20 ∷ 44 ∷ []) ≡ gives ((7937, shown_number (pos 2) (pos 0)) ∷ (257, shown_number (pos 10) (pos 0)) ∷ (257, shown_number (pos 11) (pos 0)) ∷ []) (done 2 7))
+    × (one delayed_blocks (0 ∷ []) ≡ gives ((7937, shown_number (pos 0) (pos 0)) ∷ []) (done 0 3))
 unfolding one gives delayed_blocks
-delayed_twice = refl
-
-delayed_none : one delayed_blocks (0 ∷ []) ≡ gives ((7937, shown_number (pos 0) (pos 0)) ∷ []) (done 0 3)
-unfolding one gives delayed_blocks
-delayed_none = refl
+delayed_twice = (refl, refl)
 
 -- the data end at bit 22 of 24
 -- rule: field-past-end
@@ -57,23 +52,19 @@ unfolding one gives fxy
 redefined_reference = refl
 
 -- rule: 2-07-y
-increased_precision : one (operator (fxy 2 7 1) (element (fxy 0 12 101) (element (fxy 0 20 3) bare))) (70 ∷ 89 ∷ 144 ∷ 40 ∷ [])
-    ≡ gives ((3173, shown_number (pos 288153) (pos 3)) ∷ (5123, shown_number (pos 5) (pos 0)) ∷ []) (done 3 4)
+increased_precision :
+    (one (operator (fxy 2 7 1) (element (fxy 0 12 101) (element (fxy 0 20 3) bare))) (70 ∷ 89 ∷ 144 ∷ 40 ∷ [])
+    ≡ gives ((3173, shown_number (pos 288153) (pos 3)) ∷ (5123, shown_number (pos 5) (pos 0)) ∷ []) (done 3 4))
+    × (one (operator (fxy 2 1 121) (element (fxy 0 1 1) bare)) (0 ∷ []) ≡ gives [] (walk_fault (refusal.Width 257) 8 2))
 unfolding one gives fxy
-increased_precision = refl
-
-width_refused : one (operator (fxy 2 1 121) (element (fxy 0 1 1) bare)) (0 ∷ []) ≡ gives [] (walk_fault (refusal.Width 257) 8 2)
-unfolding one gives fxy
-width_refused = refl
+increased_precision = (refl, refl)
 
 -- rule: 2-01-y
-width_of_one : one (operator (fxy 2 1 122) (element (fxy 0 1 1) bare)) (0 ∷ []) ≡ gives ((257, shown_number (pos 0) (pos 0)) ∷ []) (done 7 3)
+width_of_one :
+    (one (operator (fxy 2 1 122) (element (fxy 0 1 1) bare)) (0 ∷ []) ≡ gives ((257, shown_number (pos 0) (pos 0)) ∷ []) (done 7 3))
+    × (one (operator (fxy 2 1 122) (element (fxy 0 1 1) bare)) (128 ∷ []) ≡ gives ((257, shown_missing) ∷ []) (done 7 3))
 unfolding one gives fxy
-width_of_one = refl
-
-width_of_one_missing : one (operator (fxy 2 1 122) (element (fxy 0 1 1) bare)) (128 ∷ []) ≡ gives ((257, shown_missing) ∷ []) (done 7 3)
-unfolding one gives fxy
-width_of_one_missing = refl
+width_of_one = (refl, refl)
 
 -- rule: 2-06-y
 local_descriptor : one (operator (fxy 2 6 12) (element (fxy 0 63 255) bare)) (15 ∷ 80 ∷ []) ≡ gives ((16383, shown_number (pos 245) (pos 0)) ∷ []) (done 4 3)
@@ -113,15 +104,13 @@ spaces : ℕ → List ℕ
 spaces zero = []
 spaces (suc n) = 32 ∷ spaces n
 
-compressed_name : together 2 (element (fxy 0 1 15) bare) (zeros 20 (17 ∷ 5 ∷ 9 ∷ 12 ∷ 131 ∷ 255 ∷ 255 ∷ 255 ∷ 252 ∷ []))
-    ≡ gives ((271, shown_text (65 ∷ 66 ∷ 67 ∷ spaces 17) ∷ shown_missing ∷ []) ∷ []) (done 2 2)
+compressed_name :
+    (together 2 (element (fxy 0 1 15) bare) (zeros 20 (17 ∷ 5 ∷ 9 ∷ 12 ∷ 131 ∷ 255 ∷ 255 ∷ 255 ∷ 252 ∷ []))
+    ≡ gives ((271, shown_text (65 ∷ 66 ∷ 67 ∷ spaces 17) ∷ shown_missing ∷ []) ∷ []) (done 2 2))
+    × (together 2 (element (fxy 0 1 15) bare) (zeros 20 (13 ∷ 5 ∷ 9 ∷ 15 ∷ 255 ∷ 255 ∷ 252 ∷ []))
+    ≡ gives ((271, shown_text (65 ∷ 66 ∷ 67 ∷ spaces 17) ∷ shown_missing ∷ []) ∷ []) (done 2 2))
 unfolding together gives fxy zeros spaces
-compressed_name = refl
-
-compressed_name_shorter : together 2 (element (fxy 0 1 15) bare) (zeros 20 (13 ∷ 5 ∷ 9 ∷ 15 ∷ 255 ∷ 255 ∷ 252 ∷ []))
-    ≡ gives ((271, shown_text (65 ∷ 66 ∷ 67 ∷ spaces 17) ∷ shown_missing ∷ []) ∷ []) (done 2 2)
-unfolding together gives fxy zeros spaces
-compressed_name_shorter = refl
+compressed_name = (refl, refl)
 
 -- rule: compressed-factors
 factors_differ : together 2 delayed_blocks (1 ∷ 5 ∷ []) ≡ gives [] (field_fault 7937 unequal_factor 16 2)

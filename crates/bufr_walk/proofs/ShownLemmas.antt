@@ -1,35 +1,14 @@
 -- The items and subsets that a walk with a visitor shows.
-use Rattle.std.proofs.Common.{◌≡◌, ℕ, ◌+◌, ◌-◌, ◌*◌, ◌^◌, ◌<◌, ◌≤◌, false, Bool, List, [], ◌∷◌, ◌++◌, length, drop, Some, refl, sym, ◌∙◌, ap, subst, arith, length-append, length-drop, ◌/◌, ◌&&◌, true, ◌⊎◌, inl, inr, take, Option, Result, Ok, Err, ℤ, pos, ◌+ℤ◌}
-use Rattle.std.specs.Prelude.{◌==◌, ◌||◌, min, max, nat_lt, if◌then◌else◌, None, option_map, nat_le, not, unsigned_abs}
-use Rattle.bufr_bits.specs.Bits.{bits_of, number_of, are_all_ones, bits_at}
-use Rattle.bufr_walk.specs.declared.fault.WalkFault.{WalkFault}
-use Rattle.bufr_walk.specs.Content.{Content, data_end, increment, unequal_factor, answer_of, number, text, missing, content_in, content_by, value_in, said_by, octets_in, signed_by, shown_number, shown_text, shown_missing, shown_reference, shown, FieldFault, FieldRead, found, plain_field}
-use Rattle.bufr_walk.specs.Course.{Course, Next, take_next, at_end, astray, refused}
-use Rattle.bufr_walk.specs.Refusal.{walk_fault_of, bits_before, data_in, IsFault, IsRefused, Stop, walk_stop, too_many, field_stop, stop_at, ComesTo}
-use Rattle.bufr_walk.specs.StoredItems.{IsReadAndPaid, items_in, content_kept}
-use Rattle.bufr_walk.specs.PlainIn.{PassComes, PassReads, PassStops, SubsetsRead, Cursor, rest_of, past, IsTaken}
-use Rattle.bufr_walk.specs.Reading.{Item, plain, ReadsPass, ReadsSubsets, turns_after, turns_in, after}
-use Rattle.bufr_walk.specs.Walk.{ticked, TakenField, Takes, oks, answers_of, StopsWalk, Walked}
+use Rattle.std.proofs.lemmas.Grind.{common_steps}
+use Rattle.std.proofs.Common.{◌≡◌, ℕ, ◌+◌, ◌-◌, ◌*◌, ◌^◌, ◌<◌, ◌≤◌, false, Bool, List, [], ◌∷◌, ◌++◌, length, drop, Some, refl, sym, ◌∙◌, ap, subst, arith, length-append, length-drop, ◌/◌, ◌&&◌, true, ◌⊎◌, inl, inr, take, Result, Ok, Err, ℤ, pos, ◌+ℤ◌, ◌==◌, ◌||◌, nat_lt, if◌then◌else◌, nat_le, not, unsigned_abs}
+use Rattle.std.proofs.lemmas.Bool.{eqb-true, ltb-true, ne_eqb}
+use Rattle.bufr_bits.specs.Prelude.{bits_of, number_of, are_all_ones, bits_at}
+use Rattle.bufr_walk.specs.Prelude.{WalkFault, Content, data_end, increment, unequal_factor, answer_of, number, text, missing, content_in, content_by, value_in, said_by, octets_in, signed_by, shown_number, shown_text, shown_missing, shown_reference, shown, FieldFault, FieldRead, found, plain_field, FieldSpec, IsSpec, HasRole, is_reference, IsFor, IsForRole, is_plain_number, is_plain, IsPlainNumber, ones, Course, Next, take_next, at_end, astray, refused, ticked, TakenField, Takes, oks, answers_of, StopsWalk, Walked, walk_fault_of, bits_before, data_in, IsFault, IsRefused, Stop, walk_stop, too_many, field_stop, stop_at, ComesTo, Item, plain, ReadsPass, ReadsSubsets, turns_after, turns_in, after, items_in, content_kept, is_missing, stays_within, number_from, fits_at, PassComes, PassReads, PassStops, SubsetsRead, Cursor, rest_of, past, IsTaken, Stage, stage, IsShown, IsUnshown, ShowingTakes, IsEnd, MayEnd, Sofar, ItemsShown, ItemsEnded, ItemsGo, SubsetShown, SubsetEnded, SubsetGoes, SubsetsShown, ShowFault, TurnRefusal, Role, Taken, WalkStop, Call, item_call, view_of, Timed, timed, item_calls, Shows, EndsAt, IsReferenceValue, subset_call, subset_calls, IndexedItem}
 use Rattle.bufr_tables.specs.declared.table_b.Kind.{Kind}
-use Rattle.bufr_tables.specs.Entry.{row_of_entry}
-use Rattle.bufr_tables.specs.declared.table_b.Entry.{Entry}
-use Rattle.bufr_tables.specs.TableB.{Row, entry_of, is_character}
-use Rattle.bufr_walk.specs.declared.fault.ShowFault.{ShowFault}
+use Rattle.bufr_tables.specs.Prelude.{Row, is_character}
 use Rattle.bufr_walk.specs.declared.plain.ShowStop.{ShowStop}
-use Rattle.bufr_walk.specs.declared.spec.TurnRefusal.{TurnRefusal}
-use Rattle.bufr_walk.specs.declared.spec.Role.{Role}
-use Rattle.bufr_walk.specs.declared.spec.Taken.{Taken}
-use Rattle.bufr_walk.specs.declared.walker.WalkStop.{WalkStop}
-use Rattle.bufr_walk.specs.FieldSpec.{FieldSpec, IsSpec, HasRole, is_reference, IsFor, IsForRole, is_plain_number, is_plain, IsPlainNumber}
-use Rattle.bufr_walk.specs.declared.visitor.Value.{Value}
-use Rattle.bufr_walk.specs.Calls.{seen_value, Call, item_call, view, view_of, Timed, timed, item_calls, Shows, EndsAt, IsReferenceValue, subset_call, subset_calls}
-use Rattle.bufr_walk.specs.ShowSteps.{Stage, stage, IsShown, IsUnshown, ShowingTakes, IsEnd, MayEnd, Sofar, ItemsShown, ItemsEnded, ItemsGo, SubsetShown, SubsetEnded, SubsetGoes, SubsetsShown}
 use Rattle.std.proofs.lemmas.Bool.Decides.{nat_tests}
 use Rattle.bufr_bits.proofs.DecimalLemmas.{and_first, and_second}
-use Rattle.bufr_walk.specs.declared.item_index.IndexedItem.{IndexedItem}
-use Rattle.bufr_walk.specs.PackedBits.{is_missing, stays_within, number_from}
-use Rattle.bufr_walk.specs.PackedField.{ones}
-use Rattle.bufr_walk.specs.PackedIn.{fits_at}
 use Rattle.bufr_walk.proofs.PlainLemmas.{answer_element, is_reference_role}
 use Rattle.bufr_walk.proofs.PackedLemmas.{base_content, kept_base, kept_ones, kept_parts, number_holds, varied_parts, number_content}
 use Rattle.bufr_walk.specs.declared.fault.WalkFault.TheVariants as fault
@@ -44,10 +23,7 @@ use Rattle.bufr_walk.specs.declared.spec.Taken.TheVariants as taken
 -- ---- Subsets that are read one after another.
 
 pub ticked_more : (a b : ℕ) → ticked (ticked 0 a) b ≡ ticked 0 (a + b)
-ticked_more a b = by a b (2 ^ 64 - 1)
-  where
-    by : (a b most : ℕ) → max (max 0 (min (0 + a) most)) (min (max 0 (min (0 + a) most) + b) most) ≡ max 0 (min (0 + (a + b)) most)
-    by a b most = omega arith
+ticked_more a b = grind (arith, common_steps)
 
 pub reads_more : (course : Course) (xs : List (List (Item Content))) (x : List (Item Content)) (bits mid suffix : List Bool) → ReadsSubsets course xs bits mid → ReadsPass plain course x mid suffix → ReadsSubsets course (xs ++ x ∷ []) bits suffix
 reads_more course [] x bits mid suffix h r = (suffix, subst (λ z. ReadsPass plain course x z suffix) (sym h) r, refl)
@@ -60,18 +36,6 @@ turns_more course (y ∷ xs) x = omega (arith, turns_more course xs x)
 items_more : (xs : List (List (Item Content))) (x : List (Item Content)) → items_in (xs ++ x ∷ []) ≡ items_in xs + length x
 items_more [] x = omega arith
 items_more (y ∷ xs) x = omega (arith, items_more xs x)
-
-pub none_read : (n : ℕ) (course : Course) (bits : List Bool) (s : Cursor) (steps : ℕ) → s ≡ record { bits = bits; at = 0 } → steps ≡ 0 → SubsetsRead n course bits 0 s steps
-none_read n course bits s steps first e = record {
-  subsets = [];
-  whole = sym (ap rest_of first);
-  count_is = refl;
-  ticks = e;
-  same = ap (λ x. x.bits) first;
-  few = omega (arith, e);
-  pays = omega arith;
-  within = omega (arith, ap (λ x. x.at) first);
-}
 
 pub one_more : (n : ℕ) (course : Course) (bits : List Bool) (i : ℕ) (s s' : Cursor) (c c' : ℕ) → SubsetsRead n course bits i s c → PassReads course s c s' c' → c' ≤ c + n * (s'.at - s.at) → s'.at ≤ length s'.bits → s.at ≤ s'.at → SubsetsRead n course bits (i + 1) s' c'
 one_more n course bits i s s' c c' h p few within forth =
@@ -92,13 +56,6 @@ one_more n course bits i s s' c c' h p few within forth =
       where
         split : (n a d b : ℕ) → b ≡ a + d → n * b ≡ n * a + n * d
         split n a d b e = ap (λ x. n * x) e ∙ grind arith
-
-pub all_read : (n : ℕ) (course : Course) (octets : List ℕ) (total : ℕ) (s : Cursor) (steps used : ℕ) → SubsetsRead n course (bits_of octets) total s steps → used ≡ s.at → IsReadAndPaid course (data_in false total octets) used steps
-all_read n course octets total s steps used h e =
-    (h.subsets, ((refl, omega (arith, e, h.within), (subst (λ z. ReadsSubsets course h.subsets (bits_of octets) z) (ap (drop s.at) h.same ∙ ap (λ k. drop k (bits_of octets)) (sym e)) h.whole, h.count_is)), h.ticks), omega (arith, e, h.pays))
-
-pub few_read : (n : ℕ) (course : Course) (bits : List Bool) (total : ℕ) (s : Cursor) (steps used : ℕ) → SubsetsRead n course bits total s steps → used ≡ s.at → steps ≤ n * used
-few_read n course bits total s steps used h e = subst (λ k. steps ≤ n * k) (sym e) h.few
 
 -- the state of a pass after some subsets
 comes : (n : ℕ) (course : Course) (bits : List Bool) (i total : ℕ) (s s' : Cursor) (c c' before : ℕ) (next : Next) (h : SubsetsRead n course bits i s c) (p : PassComes course s c next s' c') → i < total → before + length (rest_of s') ≡ length bits → ComesTo total course bits (i + 1) before (turns_in course h.subsets + turns_after plain course p.items) next (rest_of s')
@@ -192,11 +149,7 @@ same_found a b e = cc
 
 -- the content of a field that is there
 pub content_is : (spec : FieldSpec) (bits suffix : List Bool) (c : Content) → plain_field spec bits ≡ Ok (found c suffix) → content_in spec (take spec.width bits) ≡ c
-content_is spec bits suffix c h = by (nat_lt (length bits) spec.width) h
-  where
-    by : (b : Bool) → (if b then Err data_end else Ok (found (content_in spec (take spec.width bits)) (drop spec.width bits))) ≡ Ok (found c suffix) → content_in spec (take spec.width bits) ≡ c
-    by true e = absurd cc
-    by false e = ap (λ (z : FieldRead Content). z.content) (same_found _ _ e)
+content_is spec bits suffix c h = grind (arith, common_steps, nat_lt, same_found)
 
 -- a number, and a reference, by their kind and role
 pub value_by : (r : Role) (spec : FieldSpec) (bits : List Bool) → is_reference r ≡ false → content_by r spec bits ≡ value_in spec bits
@@ -217,9 +170,7 @@ said_number kind.Coded width bits e = refl
 said_number kind.Numeric width bits e = refl
 
 pub number_shown : (spec : FieldSpec) (bits : List Bool) (raw : ℕ) → is_character spec.kind ≡ false → is_reference spec.role ≡ false → (are_all_ones bits && spec.may_be_missing) ≡ false → raw ≡ number_of bits → shown_number (pos raw +ℤ spec.reference) spec.scale ≡ shown spec (content_in spec bits)
-number_shown spec bits raw k e m is =
-    ap (λ n. shown_number (pos n +ℤ spec.reference) spec.scale) is
-    ∙ sym (ap (shown spec) (value_by spec.role spec bits e ∙ ap (λ b. if b then missing else said_by spec.kind spec.width bits) m ∙ said_number spec.kind spec.width bits k))
+number_shown spec bits raw k e m is = grind (arith, common_steps, pos, value_by, said_number)
 
 said_text : (k : Kind) (width : ℕ) (bits : List Bool) → is_character k ≡ true → said_by k width bits ≡ text (octets_in (width / 8) bits)
 said_text kind.Character width bits e = refl
@@ -237,14 +188,7 @@ and_false true m e = absurd cc
 and_false false m e = refl
 
 pub text_shown : (spec : FieldSpec) (bits : List Bool) (octets : List ℕ) → IsSpec spec → is_character spec.kind ≡ true → are_all_ones bits ≡ false → octets ≡ octets_in (spec.width / 8) bits → shown_text octets ≡ shown spec (content_in spec bits)
-text_shown spec bits octets h k e is =
-    ap shown_text is
-    ∙ sym (ap (shown spec) (value_by spec.role spec bits (text_role spec.role spec.kind spec.may_be_missing h.role k) ∙ ap (λ b. if b then missing else said_by spec.kind spec.width bits) (and_false (are_all_ones bits) spec.may_be_missing e) ∙ said_text spec.kind spec.width bits k))
-
--- the view of a field
-pub view_seen : (fxy : ℕ) (e : Option Entry) (v : Value) (table : List Row) (spec : FieldSpec) (content : Content) → fxy ≡ spec.fxy → option_map row_of_entry e ≡ (if spec.listed then entry_of table spec.fxy else None) → seen_value v ≡ shown spec content → view fxy (option_map row_of_entry e) (seen_value v) ≡ view_of table spec content
-view_seen fxy e v table spec content f g h =
-    ap (λ d. view d (option_map row_of_entry e) (seen_value v)) f ∙ ap (λ r. view spec.fxy r (seen_value v)) g ∙ ap (view spec.fxy (if spec.listed then entry_of table spec.fxy else None)) h
+text_shown spec bits octets h k e is = grind (arith, common_steps, value_by, text_role, and_false, said_text)
 
 -- a reference that was found is shown as one
 pub reference_kept : (spec : FieldSpec) (bits : List Bool) → spec.role ≡ role.Reference → IsReferenceValue (shown spec (content_in spec bits))
@@ -255,11 +199,7 @@ item_of spec content = record { spec = spec; content = content }
 
 -- what comes next is one item
 same_item : (course : Course) (spec : FieldSpec) (a : Item Content) (c : Content) (bits mid mid' : List Bool) → (course []).next ≡ take_next spec → (course []).next ≡ take_next a.spec → plain_field spec bits ≡ Ok (found c mid) → plain_field a.spec bits ≡ Ok (found a.content mid') → (item_of spec c ≡ a) × (mid' ≡ mid)
-same_item course spec a c bits mid mid' e e' f f' =
-    let next : take_next spec ≡ take_next a.spec = sym e ∙ e' in
-    let same : spec ≡ a.spec = cc in
-    let g : found c mid ≡ found a.content mid' = same_found _ _ (sym f ∙ ap (λ z. plain_field z bits) same ∙ f') in
-    ((λ j. record { spec = same j; content = (g j).content }), ap (λ (z : FieldRead Content). z.suffix) (sym g))
+same_item course spec a c bits mid mid' e e' f f' = grind (arith, common_steps, same_found)
 
 course_is : (course : Course) (i : TakenField) (a : Item Content) (c : Content) → i.taken ≡ answer_of i.spec c → item_of i.spec c ≡ a → (λ more. course (i.taken ∷ more)) ≡ after plain course a
 course_is course i a c e is = ap (λ t more. course (t ∷ more)) e ∙ ap (after plain course) is
@@ -559,11 +499,8 @@ base_number octets n e j h none below k r not = by e.spec.may_be_missing refl (e
     whole : (b : Bool) → (e.base == 2 ^ e.spec.width - 1) ≡ b → (if b && e.spec.may_be_missing then missing else number e.base) ≡ content_kept (bits_of octets) n e j
     whole b is = base_content_is octets n e j h none below k r b is
 
-    same_number : (a b : ℕ) → (a == b) ≡ true → a ≡ b
-    same_number a b h = grind (arith, nat_tests)
-
     by : (m : Bool) → e.spec.may_be_missing ≡ m → (b : Bool) → (e.base == 2 ^ e.spec.width - 1) ≡ b → number e.base ≡ content_kept (bits_of octets) n e j
-    by true q true is = absurd (not q (same_number e.base (2 ^ e.spec.width - 1) is))
+    by true q true is = absurd (not q (eqb-true e.base (2 ^ e.spec.width - 1) is))
     by true q false is = whole false is
     by false q true is = sym (ap (λ x. if true && x then missing else number e.base) q) ∙ whole true is
     by false q false is = whole false is
@@ -623,15 +560,12 @@ module _ (a : FieldSpec) (k b i : ℕ) (base incr : List Bool) (low : b ≡ numb
       let same : b + i ≡ number_of base + number_of incr = omega (arith, low, more) in
       let less : number_of base + number_of incr < ones a.width = omega (arith, far, same) in
       let none : (b == 2 ^ a.width - 1) ≡ false = differ b (2 ^ a.width - 1) (omega (arith, far)) in
-      let other : (number_of incr == ones k) ≡ false = unequal (number_of incr) (ones k) (λ e. last (more ∙ e)) in
+      let other : (number_of incr == ones k) ≡ false = ne_eqb (number_of incr) (ones k) (λ e. last (more ∙ e)) in
       let short : (number_of base + number_of incr == ones a.width) ≡ false = differ (number_of base + number_of incr) (ones a.width) less in
       ap number same ∙ rw (sym full ∙ none, other, short) (by a.may_be_missing (number (number_of base + number_of incr)))
     where
       differ : (x y : ℕ) → x < y → (x == y) ≡ false
       differ x y h = grind (arith, nat_tests)
-
-      unequal : (x y : ℕ) → (x ≡ y → ⊥) → (x == y) ≡ false
-      unequal x y h = grind (arith, nat_tests)
 
       by : (m : Bool) (x : Content) → x ≡ sum_by false m false false x
       by true x = refl
@@ -670,7 +604,7 @@ plain_is a h =
       role = e.0;
       listed = and_first a.listed (nat_le a.width 62 && nat_lt (unsigned_abs a.reference) (2 ^ 62)) e.1;
       width = at_most a.width (and_first (nat_le a.width 62) (nat_lt (unsigned_abs a.reference) (2 ^ 62)) parts);
-      reference = below (unsigned_abs a.reference) (2 ^ 62) (and_second (nat_le a.width 62) (nat_lt (unsigned_abs a.reference) (2 ^ 62)) parts);
+      reference = ltb-true (unsigned_abs a.reference) (2 ^ 62) (and_second (nat_le a.width 62) (nat_lt (unsigned_abs a.reference) (2 ^ 62)) parts);
     }
   where
     no : (b : Bool) → not b ≡ true → b ≡ false
@@ -679,9 +613,6 @@ plain_is a h =
 
     at_most : (w : ℕ) → nat_le w 62 ≡ true → w ≤ 62
     at_most w h = grind (arith, nat_tests)
-
-    below : (m n : ℕ) → nat_lt m n ≡ true → m < n
-    below m n h = grind (arith, nat_tests)
 
     by : (r : Role) → is_plain_number r a.width a.reference a.listed ≡ true → (r ≡ role.Element) × ((a.listed && (nat_le a.width 62 && nat_lt (unsigned_abs a.reference) (2 ^ 62))) ≡ true)
     by role.Element h = (refl, h)

@@ -1,30 +1,17 @@
 -- Data have a reading or a refusal.
-use Rattle.std.proofs.Common.{◌≡◌, ℕ, zero, suc, ◌*◌, ◌≤◌, ◌&&◌, Bool, true, false, List, [], ◌∷◌, Option, Some, None, Result, Ok, Err, refl, sym, ◌∙◌, ap, subst, arith, ◌+◌, ◌<◌, ◌-◌, length, drop, take, ◌⊎◌, inl, inr, map}
-use Rattle.std.specs.Prelude.{◌==◌, nat_le, nat_lt, if◌then◌else◌}
+use Rattle.std.proofs.lemmas.Grind.{common_steps}
+use Rattle.std.proofs.Common.{◌≡◌, ℕ, zero, suc, ◌*◌, ◌≤◌, Bool, true, false, List, [], ◌∷◌, Option, Some, None, Result, Ok, Err, refl, sym, ◌∙◌, ap, subst, arith, ◌+◌, ◌<◌, ◌-◌, length, drop, take, ◌⊎◌, inl, inr, map, ◌==◌, nat_le, nat_lt, if◌then◌else◌}
+use Rattle.std.proofs.lemmas.Bool.{leb-true, ltb-false}
 use Rattle.std.proofs.lemmas.Bool.Decides.{nat_tests}
 use Rattle.bufr_bits.proofs.DecimalLemmas.{and_first}
 use Rattle.bufr_tables.specs.declared.table_b.Kind.{Kind}
-use Rattle.bufr_tables.specs.Fxy.{y_of}
-use Rattle.bufr_tables.specs.Expansion.{IsLegal}
-use Rattle.bufr_tables.specs.Tree.{is_legal_operator, Tree, bare, element, operator, fixed, delayed, is_inserted_text}
-use Rattle.bufr_tables.specs.TableB.{Row, entry_of, allows_width, AreRows, row_of}
-use Rattle.bufr_walk.specs.declared.spec.Role.{Role}
-use Rattle.bufr_walk.specs.declared.spec.TurnRefusal.{TurnRefusal}
-use Rattle.bufr_walk.specs.declared.spec.Taken.{Taken}
-use Rattle.bufr_walk.specs.FieldSpec.{FieldSpec, IsFor, IsForRole}
-use Rattle.bufr_walk.specs.Course.{Course, Next, take_next, astray, refused, at_end, NextTurn, asked, operated, ahead, counts_in, counts_of, next_item, finish, open_end, group, pass_end, element_turn, operator_turn, Rest, passes, unroll}
-use Rattle.bufr_walk.specs.Rules.{if_valid_width, numeric_spec, coded_spec, text_spec, text_width, spec_by_kind, defined_field, new_reference_spec, unsigned_field, unsigned_of, begin, local_width_spec, listed_by, element_spec, factor_field, factor_by, factor_spec, inserted_spec, OperatorModel, is_defining, after_operator, after_field}
+use Rattle.bufr_tables.specs.Prelude.{y_of, IsLegal, is_legal_operator, Tree, bare, element, operator, fixed, delayed, is_inserted_text, Row, entry_of, allows_width, AreRows, row_of, Record}
+use Rattle.bufr_walk.specs.Prelude.{Role, TurnRefusal, Taken, FieldSpec, IsFor, IsForRole, Content, content_in, answer_by_role, FieldFault, data_end, increment, FieldRead, found, plain_field, increments, increment_bits_of, contents_of, varied, varied_by, numbers_of, and_contents, if_equal, with_suffix, item_by, packed_field, answer_first, Course, Next, take_next, astray, refused, at_end, NextTurn, asked, operated, ahead, counts_in, counts_of, next_item, finish, open_end, group, pass_end, element_turn, operator_turn, Rest, passes, unroll, if_valid_width, numeric_spec, coded_spec, text_spec, text_width, spec_by_kind, defined_field, new_reference_spec, unsigned_field, unsigned_of, begin, local_width_spec, listed_by, element_spec, factor_field, factor_by, factor_spec, inserted_spec, OperatorModel, is_defining, after_operator, after_field, Item, DataCoding, plain, packed, next_after, after, ReadsItems, ReadsPass, ReadsSubsets, turns_after, turns_in, max_values, Data, Values, apart, together, IsReading, walk_stop, too_many, field_stop, field_stop_of, walk_fault_of, IsRefused, Stop, stop_at, would_be_many, WalkFault}
 use Rattle.bufr_walk.proofs.SpecLemmas.{inserted_width}
 use Rattle.std.proofs.lemmas.List.{length-drop, drop-drop}
-use Rattle.bufr_bits.specs.Bits.{number_of, are_all_ones}
-use Rattle.bufr_walk.specs.Content.{Content, content_in, answer_by_role, FieldFault, data_end, increment, unequal_factor, FieldRead, found, plain_field}
-use Rattle.bufr_walk.specs.PackedField.{increments, increment_bits_of, contents_of, varied, varied_by, numbers_of, all_increased, increased, and_contents, if_equal, all_same, with_suffix, item_by, packed_field, answer_first}
-use Rattle.bufr_walk.specs.Reading.{Item, DataCoding, plain, packed, next_after, after, ReadsItems, ReadsPass, ReadsSubsets, turns_after, turns_in, max_values, Data, Values, apart, together, IsReading}
-use Rattle.bufr_walk.specs.Refusal.{walk_stop, too_many, field_stop, field_stop_of, walk_fault_of, IsRefused, Stop, stop_at, would_be_many}
+use Rattle.bufr_bits.specs.Prelude.{number_of}
 use Rattle.bufr_walk.proofs.OneReading.{Outcome, ended, stopped, stopped_by, outcome_of, HasOutcome}
-use Rattle.bufr_tables.specs.Records.{Record}
 use Rattle.bufr_tables.proofs.TableBLemmas.{row-limits}
-use Rattle.bufr_walk.specs.declared.fault.WalkFault.{WalkFault}
 use Rattle.bufr_tables.specs.declared.table_b.Kind.TheVariants as kind
 use Rattle.bufr_walk.specs.declared.spec.Role.TheVariants as role
 use Rattle.bufr_walk.specs.declared.spec.TurnRefusal.TheVariants as refusal
@@ -102,18 +89,11 @@ uncounted role.Reference taken.Plain counts e f = absurd f
 uncounted role.Reference (taken.Count n) counts e f = absurd f
 uncounted role.Reference (taken.Reference r) counts e f = refl
 
-le_from : (a b : ℕ) → nat_le a b ≡ true → a ≤ b
-le_from a b h = grind (arith, nat_tests)
-
 same_ok : (a b : FieldSpec) → ◌≡◌ {A = Result FieldSpec TurnRefusal} (Ok a) (Ok b) → a ≡ b
 same_ok a b e = cc
 
 fitted : (a b : FieldSpec) → if_valid_width a ≡ Ok b → (a ≡ b) × (1 ≤ b.width)
-fitted a b e = by (nat_le 1 a.width && nat_le a.width 63) refl e
-  where
-    by : (t : Bool) → (nat_le 1 a.width && nat_le a.width 63) ≡ t → (if t then Ok a else Err (refusal.Width a.fxy)) ≡ Ok b → (a ≡ b) × (1 ≤ b.width)
-    by true p q = let is : a ≡ b = same_ok a b q in (is, subst (λ z. 1 ≤ z.width) is (le_from 1 a.width (and_first (nat_le 1 a.width) (nat_le a.width 63) p)))
-    by false p q = absurd cc
+fitted a b e = grind (arith, common_steps, nat_le, same_ok, leb-true, and_first)
 
 fitted_uncounted : (a b : FieldSpec) → is_counting a.role ≡ false → if_valid_width a ≡ Ok b → IsUncounted b
 fitted_uncounted a b h e = let f = fitted a b e in (f.1, subst (λ z. is_counting z.role ≡ false) f.0 h)
@@ -129,7 +109,7 @@ letters y w h = by (y == 0) refl
     by false e = omega (arith, positive y e)
 
 character_width : (w : ℕ) → allows_width kind.Character w ≡ true → 8 ≤ w
-character_width w h = le_from 8 w (and_first (nat_le 8 w) _ (and_first _ _ h))
+character_width w h = leb-true 8 w (and_first (nat_le 8 w) _ (and_first _ _ h))
 
 kind_steps : (s : OperatorModel) (kd : Kind) (row : Row) (spec : FieldSpec) → kd ≡ row.kind → allows_width row.kind row.width ≡ true → spec_by_kind kd s row ≡ Ok spec → IsUncounted spec
 kind_steps s kind.Numeric row spec q good e = fitted_uncounted (numeric_spec s row) spec refl e
@@ -316,9 +296,6 @@ answer_for role.Inserted c = tt
 answer_for role.Factor c = tt
 answer_for role.Reference c = tt
 
-not_less : (a b : ℕ) → nat_lt a b ≡ false → b ≤ a
-not_less a b e = grind (arith, nat_tests)
-
 same_found : {C : Type 0} (a b : FieldRead C) → ◌≡◌ {A = Result (FieldRead C) FieldFault} (Ok a) (Ok b) → a ≡ b
 same_found a b e = cc
 
@@ -333,7 +310,7 @@ plain_forth spec bits c mid some e = by (nat_lt (length bits) spec.width) refl e
   where
     by : (b : Bool) → nat_lt (length bits) spec.width ≡ b → (if b then Err data_end else Ok (found (content_in spec (take spec.width bits)) (drop spec.width bits))) ≡ Ok (found c mid) → Forth plain spec bits c mid
     by true p q = absurd cc
-    by false p q = record { gives = answer_for spec.role c; size = spec.width; some = some; within = not_less (length bits) spec.width p; left_is = suffix_is (content_in spec (take spec.width bits)) c (drop spec.width bits) mid q }
+    by false p q = record { gives = answer_for spec.role c; size = spec.width; some = some; within = ltb-false (length bits) spec.width p; left_is = suffix_is (content_in spec (take spec.width bits)) c (drop spec.width bits) mid q }
 
 -- some subsets have some contents
 none_more : (r : Result Content FieldFault) (more : Result (List Content) FieldFault) → and_contents r more ≡ Ok [] → ⊥
@@ -350,8 +327,7 @@ no_texts true x xs e = cc
 no_texts false x xs e = cc
 
 no_numbers : (spec : FieldSpec) (k : ℕ) (base i : List Bool) (is : List (List Bool)) → numbers_of spec k base (i ∷ is) ≡ Ok [] → ⊥
-no_numbers spec k base i is e =
-    none_if (are_all_ones base && spec.may_be_missing) _ _ (all_increased spec.may_be_missing spec.width (number_of base) k (i ∷ is)) e (λ q. none_more (increased spec.may_be_missing spec.width (number_of base) k (number_of i)) (all_increased spec.may_be_missing spec.width (number_of base) k is) q)
+no_numbers spec k base i is e = grind (arith, common_steps, none_if, none_more)
 
 no_varied : (kd : Kind) (spec : FieldSpec) (k : ℕ) (base i : List Bool) (is : List (List Bool)) → varied_by kd spec k base (i ∷ is) ≡ Ok [] → ⊥
 no_varied kind.Character spec k base i is e = no_texts _ _ _ e
@@ -360,11 +336,7 @@ no_varied kind.Numeric spec k base i is e = no_numbers spec k base i is e
 
 equal_is : (r : Result (List Content) FieldFault) (cs : List Content) → if_equal r ≡ Ok cs → r ≡ Ok cs
 equal_is (Err why) cs e = absurd cc
-equal_is (Ok xs) cs e = by (all_same xs) e
-  where
-    by : (b : Bool) → ◌≡◌ {A = Result (List Content) FieldFault} (if b then Ok xs else Err unequal_factor) (Ok cs) → ◌≡◌ {A = Result (List Content) FieldFault} (Ok xs) (Ok cs)
-    by true q = q
-    by false q = absurd cc
+equal_is (Ok xs) cs e = grind (arith, common_steps)
 
 no_role : (r : Role) (spec : FieldSpec) (k : ℕ) (base i : List Bool) (is : List (List Bool)) → varied r spec k base (i ∷ is) ≡ Ok [] → ⊥
 no_role role.Element spec k base i is e = no_varied spec.kind spec k base i is e
@@ -404,11 +376,11 @@ module _ (n : ℕ) (spec : FieldSpec) (bits : List Bool) (cs : List Content) (mi
       → Forth (packed (suc n)) spec bits cs mid
   at_item k h true p q = absurd cc
   at_item k h false p q =
-      at_contents k (increment_bits_of spec.role spec.kind k) h (not_less (length (drop (spec.width + 6) bits)) (suc n * increment_bits_of spec.role spec.kind k) p) (contents_of spec k (take spec.width bits) (increments (suc n) (increment_bits_of spec.role spec.kind k) (drop (spec.width + 6) bits))) refl q
+      at_contents k (increment_bits_of spec.role spec.kind k) h (ltb-false (length (drop (spec.width + 6) bits)) (suc n * increment_bits_of spec.role spec.kind k) p) (contents_of spec k (take spec.width bits) (increments (suc n) (increment_bits_of spec.role spec.kind k) (drop (spec.width + 6) bits))) refl q
 
   at_prefix : (k : ℕ) (b : Bool) → nat_lt (length bits) (spec.width + 6) ≡ b → (if b then Err data_end else item_by spec (suc n) k bits) ≡ Ok (found cs mid) → Forth (packed (suc n)) spec bits cs mid
   at_prefix k true p q = absurd cc
-  at_prefix k false p q = at_item k (not_less (length bits) (spec.width + 6) p) (nat_lt (length (drop (spec.width + 6) bits)) (suc n * increment_bits_of spec.role spec.kind k)) refl q
+  at_prefix k false p q = at_item k (ltb-false (length bits) (spec.width + 6) p) (nat_lt (length (drop (spec.width + 6) bits)) (suc n * increment_bits_of spec.role spec.kind k)) refl q
 
 pub packed_forth : (n : ℕ) (spec : FieldSpec) (bits : List Bool) (cs : List Content) (mid : List Bool) → 1 ≤ spec.width → packed_field (suc n) spec bits ≡ Ok (found cs mid) → Forth (packed (suc n)) spec bits cs mid
 packed_forth n spec bits cs mid some e = at_prefix n spec bits cs mid some (number_of (take 6 (drop spec.width bits))) (nat_lt (length bits) (spec.width + 6)) refl e
@@ -419,10 +391,7 @@ no_end (Some s) e = cc
 
 is_stop : (s : Option Stop) (stop : Stop) → stopped_by s ≡ Some (stopped stop) → s ≡ Some stop
 is_stop None stop e = absurd cc
-is_stop (Some s) stop e = ap Some (same s stop e)
-  where
-    same : (a b : Stop) → ◌≡◌ {A = Option Outcome} (Some (stopped a)) (Some (stopped b)) → a ≡ b
-    same a b e = cc
+is_stop (Some s) stop e = grind (arith, common_steps, Outcome, stopped)
 
 end_of : {C : Type 0} (form : DataCoding C) (b : Bool) (next : Next) (left : List Bool) → outcome_of form b next left ≡ Some ended → next ≡ at_end
 end_of form b (take_next spec) left e = absurd (no_end (stop_at form b (take_next spec) left) e)
@@ -546,11 +515,8 @@ few_items : (n items : ℕ) → ((j : ℕ) → j < items → would_be_many n (0 
 few_items n zero h = omega arith
 few_items n (suc k) h = at_most (h k (omega arith))
   where
-    not_less : (a b : ℕ) → nat_lt a b ≡ false → b ≤ a
-    not_less a b e = grind (arith, nat_tests)
-
     at_most : would_be_many n (0 + k) ≡ false → suc k * n ≤ max_values
-    at_most e = subst (λ z. z * n ≤ max_values) (counted k) (not_less max_values ((0 + k + 1) * n) e)
+    at_most e = subst (λ z. z * n ≤ max_values) (counted k) (ltb-false max_values ((0 + k + 1) * n) e)
       where
         counted : (a : ℕ) → 0 + a + 1 ≡ suc a
         counted a = omega arith

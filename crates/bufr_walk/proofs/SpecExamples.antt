@@ -1,11 +1,8 @@
 -- Worked examples of fields under operators (2 01 to 2 03, 2 06, 2 07), computed.
 use Rattle.std.proofs.Common.{◌≡◌, [], ◌∷◌, pos, negsuc, refl, true, false, List}
-use Rattle.bufr_tables.specs.Tree.{bare, element, operator, delayed, fixed, Tree}
-use Rattle.bufr_walk.specs.Content.{shown_number, shown_reference, shown_text, shown_missing}
+use Rattle.bufr_tables.specs.Prelude.{bare, element, operator, delayed, fixed, Tree}
+use Rattle.bufr_walk.specs.Prelude.{shown_number, shown_reference, shown_text, shown_missing, FieldSpec, Taken, take_next, next_item}
 use Rattle.bufr_walk.proofs.ExampleTables.{fxy, done, walk_fault, one, gives, table}
-use Rattle.bufr_walk.specs.declared.spec.Taken.{Taken}
-use Rattle.bufr_walk.specs.FieldSpec.{FieldSpec}
-use Rattle.bufr_walk.specs.Course.{take_next, next_item}
 use Rattle.bufr_walk.specs.declared.spec.TurnRefusal.TheVariants as refusal
 use Rattle.bufr_tables.specs.declared.table_b.Kind.TheVariants as kind
 use Rattle.bufr_walk.specs.declared.spec.Role.TheVariants as role
@@ -53,26 +50,17 @@ figures_unchanged = refl
 -- refused as zero is. Fails where the bound is another, where only a width by 2 01 is bounded, or
 -- where a missing octet is examined first.
 -- rule: widths
-width_of_63 : one (operator (fxy 2 1 184) (element (fxy 0 1 1) bare)) (0 ∷ 0 ∷ 0 ∷ 0 ∷ 0 ∷ 0 ∷ 0 ∷ 20 ∷ [])
-    ≡ gives ((257, shown_number (pos 10) (pos 0)) ∷ []) (done 1 3)
+width_of_63 :
+    (one (operator (fxy 2 1 184) (element (fxy 0 1 1) bare)) (0 ∷ 0 ∷ 0 ∷ 0 ∷ 0 ∷ 0 ∷ 0 ∷ 20 ∷ [])
+    ≡ gives ((257, shown_number (pos 10) (pos 0)) ∷ []) (done 1 3))
+    × (one (operator (fxy 2 1 185) (element (fxy 0 1 1) bare)) (0 ∷ 0 ∷ 0 ∷ 0 ∷ 0 ∷ 0 ∷ 0 ∷ 20 ∷ [])
+    ≡ gives [] (walk_fault (refusal.Width 257) 64 2))
+    × (one (operator (fxy 2 7 17) (element (fxy 0 1 1) bare)) []
+    ≡ gives [] (walk_fault (refusal.Width 257) 0 2))
+    × (one (operator (fxy 2 1 1) (element (fxy 0 1 1) bare)) (20 ∷ [])
+    ≡ gives [] (walk_fault (refusal.Width 257) 8 2))
 unfolding one gives fxy
-width_of_63 = refl
-
--- rule: widths
-width_of_64 : one (operator (fxy 2 1 185) (element (fxy 0 1 1) bare)) (0 ∷ 0 ∷ 0 ∷ 0 ∷ 0 ∷ 0 ∷ 0 ∷ 20 ∷ [])
-    ≡ gives [] (walk_fault (refusal.Width 257) 64 2)
-unfolding one gives fxy
-width_of_64 = refl
-
-width_of_64_by_precision : one (operator (fxy 2 7 17) (element (fxy 0 1 1) bare)) []
-    ≡ gives [] (walk_fault (refusal.Width 257) 0 2)
-unfolding one gives fxy
-width_of_64_by_precision = refl
-
-width_below_zero : one (operator (fxy 2 1 1) (element (fxy 0 1 1) bare)) (20 ∷ [])
-    ≡ gives [] (walk_fault (refusal.Width 257) 8 2)
-unfolding one gives fxy
-width_below_zero = refl
+width_of_63 = (refl, refl, refl, refl)
 
 -- Elements of class 31 that are no factors are changed as any quantity, and all ones is a number
 -- there. Fails where the class is left unchanged, or where all ones is missing.
@@ -111,20 +99,15 @@ reference_width_alone = refl
 -- none is lost. Fails where a reference may be missing, where it is a two's complement, or where it
 -- has fewer bits.
 -- rule: new-reference
-reference_of_all_ones : one (operator (fxy 2 3 10) (element (fxy 0 12 101) (operator (fxy 2 3 255) (element (fxy 0 12 101) bare)))) (255 ∷ 220 ∷ 35 ∷ 192 ∷ [])
-    ≡ gives ((3173, shown_reference (negsuc 510)) ∷ (3173, shown_number (pos 28304) (pos 2)) ∷ []) (done 6 5)
+reference_of_all_ones :
+    (one (operator (fxy 2 3 10) (element (fxy 0 12 101) (operator (fxy 2 3 255) (element (fxy 0 12 101) bare)))) (255 ∷ 220 ∷ 35 ∷ 192 ∷ [])
+    ≡ gives ((3173, shown_reference (negsuc 510)) ∷ (3173, shown_number (pos 28304) (pos 2)) ∷ []) (done 6 5))
+    × (one (operator (fxy 2 3 1) (element (fxy 0 12 101) (operator (fxy 2 3 255) (element (fxy 0 12 101) bare)))) (184 ∷ 71 ∷ 128 ∷ [])
+    ≡ gives ((3173, shown_reference (pos 0)) ∷ (3173, shown_number (pos 28815) (pos 2)) ∷ []) (done 7 5))
+    × (one (operator (fxy 2 3 63) (element (fxy 0 1 1) bare)) (255 ∷ 255 ∷ 255 ∷ 255 ∷ 255 ∷ 255 ∷ 255 ∷ 255 ∷ [])
+    ≡ gives ((257, shown_reference (negsuc 4611686018427387902)) ∷ []) (done 1 3))
 unfolding one gives fxy
-reference_of_all_ones = refl
-
-reference_of_one_bit : one (operator (fxy 2 3 1) (element (fxy 0 12 101) (operator (fxy 2 3 255) (element (fxy 0 12 101) bare)))) (184 ∷ 71 ∷ 128 ∷ [])
-    ≡ gives ((3173, shown_reference (pos 0)) ∷ (3173, shown_number (pos 28815) (pos 2)) ∷ []) (done 7 5)
-unfolding one gives fxy
-reference_of_one_bit = refl
-
-reference_of_63_bits : one (operator (fxy 2 3 63) (element (fxy 0 1 1) bare)) (255 ∷ 255 ∷ 255 ∷ 255 ∷ 255 ∷ 255 ∷ 255 ∷ 255 ∷ [])
-    ≡ gives ((257, shown_reference (negsuc 4611686018427387902)) ∷ []) (done 1 3)
-unfolding one gives fxy
-reference_of_63_bits = refl
+reference_of_all_ones = (refl, refl, refl)
 
 -- 2 03 000 drops all references, those of quantities too: fails where one of them stays.
 -- rule: 2-03-000
@@ -151,65 +134,50 @@ latest_reference = refl
 -- 2 03 255 with nothing to end does nothing, and the end of the template ends a definition: fails
 -- where either is a fault.
 -- rule: 2-03-255-alone
-no_definitions_to_end : one (operator (fxy 2 3 255) (element (fxy 0 1 1) bare)) (20 ∷ [])
-    ≡ gives ((257, shown_number (pos 10) (pos 0)) ∷ []) (done 1 3)
+no_definitions_to_end :
+    (one (operator (fxy 2 3 255) (element (fxy 0 1 1) bare)) (20 ∷ [])
+    ≡ gives ((257, shown_number (pos 10) (pos 0)) ∷ []) (done 1 3))
+    × (one (operator (fxy 2 3 10) (element (fxy 0 12 101) bare)) (228 ∷ 0 ∷ [])
+    ≡ gives ((3173, shown_reference (negsuc 399)) ∷ []) (done 6 3))
 unfolding one gives fxy
-no_definitions_to_end = refl
-
--- rule: 2-03-255-alone
-defining_at_the_end : one (operator (fxy 2 3 10) (element (fxy 0 12 101) bare)) (228 ∷ 0 ∷ [])
-    ≡ gives ((3173, shown_reference (negsuc 399)) ∷ []) (done 6 3)
-unfolding one gives fxy
-defining_at_the_end = refl
+no_definitions_to_end = (refl, refl)
 
 -- Groups of so many passes may be in a definition, and its end may be in a group. Fails where a
 -- group is a fault there, or where a pass or a group restores what was in force before it.
 -- rule: defining-fixed-groups
-defining_passes_a_group : one (operator (fxy 2 3 10) (fixed 2 (element (fxy 0 12 101) (element (fxy 0 20 3) bare)) (operator (fxy 2 3 255) (element (fxy 0 12 101) bare)))) (228 ∷ 0 ∷ 25 ∷ 146 ∷ 2 ∷ 112 ∷ 143 ∷ [])
-    ≡ gives ((3173, shown_reference (negsuc 399)) ∷ (5123, shown_reference (pos 1)) ∷ (3173, shown_reference (negsuc 99)) ∷ (5123, shown_reference (negsuc 1)) ∷ (3173, shown_number (pos 28715) (pos 2)) ∷ []) (done 0 11)
+defining_passes_a_group :
+    (one (operator (fxy 2 3 10) (fixed 2 (element (fxy 0 12 101) (element (fxy 0 20 3) bare)) (operator (fxy 2 3 255) (element (fxy 0 12 101) bare)))) (228 ∷ 0 ∷ 25 ∷ 146 ∷ 2 ∷ 112 ∷ 143 ∷ [])
+    ≡ gives ((3173, shown_reference (negsuc 399)) ∷ (5123, shown_reference (pos 1)) ∷ (3173, shown_reference (negsuc 99)) ∷ (5123, shown_reference (negsuc 1)) ∷ (3173, shown_number (pos 28715) (pos 2)) ∷ []) (done 0 11))
+    × (one (operator (fxy 2 3 10) (fixed 2 (element (fxy 0 12 101) (operator (fxy 2 3 255) bare)) bare)) (228 ∷ 28 ∷ 35 ∷ 192 ∷ [])
+    ≡ gives ((3173, shown_reference (negsuc 399)) ∷ (3173, shown_number (pos 28415) (pos 2)) ∷ []) (done 6 9))
 unfolding one gives fxy
-defining_passes_a_group = refl
-
-definitions_end_in_a_group : one (operator (fxy 2 3 10) (fixed 2 (element (fxy 0 12 101) (operator (fxy 2 3 255) bare)) bare)) (228 ∷ 28 ∷ 35 ∷ 192 ∷ [])
-    ≡ gives ((3173, shown_reference (negsuc 399)) ∷ (3173, shown_number (pos 28415) (pos 2)) ∷ []) (done 6 9)
-unfolding one gives fxy
-definitions_end_in_a_group = refl
+defining_passes_a_group = (refl, refl)
 
 -- No change of width, scale, precision or text width is allowed while references are defined, not
 -- even after the last of them: fails where such an operator is taken.
 -- rule: defining-no-other-operator
-width_while_defining : one (operator (fxy 2 3 10) (element (fxy 0 12 101) (operator (fxy 2 1 132) bare))) (228 ∷ 0 ∷ [])
-    ≡ gives ((3173, shown_reference (negsuc 399)) ∷ []) (walk_fault (refusal.Defining 33156) 6 3)
+width_while_defining :
+    (one (operator (fxy 2 3 10) (element (fxy 0 12 101) (operator (fxy 2 1 132) bare))) (228 ∷ 0 ∷ [])
+    ≡ gives ((3173, shown_reference (negsuc 399)) ∷ []) (walk_fault (refusal.Defining 33156) 6 3))
+    × (one (operator (fxy 2 3 10) (element (fxy 0 12 101) (operator (fxy 2 2 129) bare))) (228 ∷ 0 ∷ [])
+    ≡ gives ((3173, shown_reference (negsuc 399)) ∷ []) (walk_fault (refusal.Defining 33409) 6 3))
+    × (one (operator (fxy 2 3 10) (element (fxy 0 12 101) (operator (fxy 2 7 1) bare))) (228 ∷ 0 ∷ [])
+    ≡ gives ((3173, shown_reference (negsuc 399)) ∷ []) (walk_fault (refusal.Defining 34561) 6 3))
+    × (one (operator (fxy 2 3 10) (element (fxy 0 12 101) (operator (fxy 2 8 3) bare))) (228 ∷ 0 ∷ [])
+    ≡ gives ((3173, shown_reference (negsuc 399)) ∷ []) (walk_fault (refusal.Defining 34819) 6 3))
 unfolding one gives fxy
-width_while_defining = refl
-
-scale_while_defining : one (operator (fxy 2 3 10) (element (fxy 0 12 101) (operator (fxy 2 2 129) bare))) (228 ∷ 0 ∷ [])
-    ≡ gives ((3173, shown_reference (negsuc 399)) ∷ []) (walk_fault (refusal.Defining 33409) 6 3)
-unfolding one gives fxy
-scale_while_defining = refl
-
-precision_while_defining : one (operator (fxy 2 3 10) (element (fxy 0 12 101) (operator (fxy 2 7 1) bare))) (228 ∷ 0 ∷ [])
-    ≡ gives ((3173, shown_reference (negsuc 399)) ∷ []) (walk_fault (refusal.Defining 34561) 6 3)
-unfolding one gives fxy
-precision_while_defining = refl
-
-text_width_while_defining : one (operator (fxy 2 3 10) (element (fxy 0 12 101) (operator (fxy 2 8 3) bare))) (228 ∷ 0 ∷ [])
-    ≡ gives ((3173, shown_reference (negsuc 399)) ∷ []) (walk_fault (refusal.Defining 34819) 6 3)
-unfolding one gives fxy
-text_width_while_defining = refl
+width_while_defining = (refl, refl, refl, refl)
 
 -- Nor is another definition allowed, nor its dropping: fails where 2 03 008 or 2 03 000 is taken in
 -- a definition.
 -- rule: defining-no-other-operator
-defining_again : one (operator (fxy 2 3 10) (fixed 2 (element (fxy 0 12 101) (operator (fxy 2 3 8) bare)) bare)) (228 ∷ 0 ∷ [])
-    ≡ gives ((3173, shown_reference (negsuc 399)) ∷ []) (walk_fault (refusal.Defining 33544) 6 4)
+defining_again :
+    (one (operator (fxy 2 3 10) (fixed 2 (element (fxy 0 12 101) (operator (fxy 2 3 8) bare)) bare)) (228 ∷ 0 ∷ [])
+    ≡ gives ((3173, shown_reference (negsuc 399)) ∷ []) (walk_fault (refusal.Defining 33544) 6 4))
+    × (one (operator (fxy 2 3 10) (fixed 2 (element (fxy 0 12 101) (operator (fxy 2 3 0) bare)) bare)) (228 ∷ 0 ∷ [])
+    ≡ gives ((3173, shown_reference (negsuc 399)) ∷ []) (walk_fault (refusal.Defining 33536) 6 4))
 unfolding one gives fxy
-defining_again = refl
-
-defining_dropped : one (operator (fxy 2 3 10) (fixed 2 (element (fxy 0 12 101) (operator (fxy 2 3 0) bare)) bare)) (228 ∷ 0 ∷ [])
-    ≡ gives ((3173, shown_reference (negsuc 399)) ∷ []) (walk_fault (refusal.Defining 33536) 6 4)
-unfolding one gives fxy
-defining_dropped = refl
+defining_again = (refl, refl)
 
 -- Nor is a given width, which is refused before the width itself is examined: fails where the fault
 -- is at 063255, or is its width.
@@ -240,34 +208,27 @@ defining_delayed = refl
 -- text width in force reach it, or where it is read as a bare number. Fails where the next element
 -- is read by its row alone too.
 -- rule: 2-06-y-width-of-table-b
-given_table_width : one (operator (fxy 2 3 10) (element (fxy 0 12 101) (operator (fxy 2 3 255) (operator (fxy 2 1 132) (operator (fxy 2 2 129) (operator (fxy 2 7 1) (operator (fxy 2 6 16) (element (fxy 0 12 101) (element (fxy 0 12 101) bare))))))))) (228 ∷ 28 ∷ 35 ∷ 203 ∷ 1 ∷ 223 ∷ 0 ∷ [])
-    ≡ gives ((3173, shown_reference (negsuc 399)) ∷ (3173, shown_number (pos 28815) (pos 2)) ∷ (3173, shown_number (pos 2881500) (pos 4)) ∷ []) (done 6 10)
+given_table_width :
+    (one (operator (fxy 2 3 10) (element (fxy 0 12 101) (operator (fxy 2 3 255) (operator (fxy 2 1 132) (operator (fxy 2 2 129) (operator (fxy 2 7 1) (operator (fxy 2 6 16) (element (fxy 0 12 101) (element (fxy 0 12 101) bare))))))))) (228 ∷ 28 ∷ 35 ∷ 203 ∷ 1 ∷ 223 ∷ 0 ∷ [])
+    ≡ gives ((3173, shown_reference (negsuc 399)) ∷ (3173, shown_number (pos 28815) (pos 2)) ∷ (3173, shown_number (pos 2881500) (pos 4)) ∷ []) (done 6 10))
+    × (one (operator (fxy 2 3 10) (element (fxy 0 20 3) (operator (fxy 2 3 255) (operator (fxy 2 6 9) (element (fxy 0 20 3) (element (fxy 0 20 3) bare)))))) (228 ∷ 0 ∷ 160 ∷ 80 ∷ [])
+    ≡ gives ((5123, shown_reference (negsuc 399)) ∷ (5123, shown_number (pos 5) (pos 0)) ∷ (5123, shown_number (negsuc 394) (pos 0)) ∷ []) (done 4 7))
+    × (one (operator (fxy 2 8 3) (operator (fxy 2 6 160) (element (fxy 0 1 15) (element (fxy 0 1 15) bare)))) (48 ∷ 49 ∷ 50 ∷ 51 ∷ 52 ∷ 53 ∷ 54 ∷ 55 ∷ 56 ∷ 57 ∷ 65 ∷ 66 ∷ 67 ∷ 68 ∷ 69 ∷ 70 ∷ 71 ∷ 72 ∷ 73 ∷ 74 ∷ 88 ∷ 89 ∷ 90 ∷ [])
+    ≡ gives ((271, shown_text (48 ∷ 49 ∷ 50 ∷ 51 ∷ 52 ∷ 53 ∷ 54 ∷ 55 ∷ 56 ∷ 57 ∷ 65 ∷ 66 ∷ 67 ∷ 68 ∷ 69 ∷ 70 ∷ 71 ∷ 72 ∷ 73 ∷ 74 ∷ [])) ∷ (271, shown_text (88 ∷ 89 ∷ 90 ∷ [])) ∷ []) (done 0 5))
 unfolding one gives fxy
-given_table_width = refl
-
-given_table_width_code : one (operator (fxy 2 3 10) (element (fxy 0 20 3) (operator (fxy 2 3 255) (operator (fxy 2 6 9) (element (fxy 0 20 3) (element (fxy 0 20 3) bare)))))) (228 ∷ 0 ∷ 160 ∷ 80 ∷ [])
-    ≡ gives ((5123, shown_reference (negsuc 399)) ∷ (5123, shown_number (pos 5) (pos 0)) ∷ (5123, shown_number (negsuc 394) (pos 0)) ∷ []) (done 4 7)
-unfolding one gives fxy
-given_table_width_code = refl
-
-given_text : one (operator (fxy 2 8 3) (operator (fxy 2 6 160) (element (fxy 0 1 15) (element (fxy 0 1 15) bare)))) (48 ∷ 49 ∷ 50 ∷ 51 ∷ 52 ∷ 53 ∷ 54 ∷ 55 ∷ 56 ∷ 57 ∷ 65 ∷ 66 ∷ 67 ∷ 68 ∷ 69 ∷ 70 ∷ 71 ∷ 72 ∷ 73 ∷ 74 ∷ 88 ∷ 89 ∷ 90 ∷ [])
-    ≡ gives ((271, shown_text (48 ∷ 49 ∷ 50 ∷ 51 ∷ 52 ∷ 53 ∷ 54 ∷ 55 ∷ 56 ∷ 57 ∷ 65 ∷ 66 ∷ 67 ∷ 68 ∷ 69 ∷ 70 ∷ 71 ∷ 72 ∷ 73 ∷ 74 ∷ [])) ∷ (271, shown_text (88 ∷ 89 ∷ 90 ∷ [])) ∷ []) (done 0 5)
-unfolding one gives fxy
-given_text = refl
+given_table_width = (refl, refl, refl)
 
 -- Another width than that of Table B gives a bare number, of scale and reference zero, with nothing
 -- in force. Fails where scale, reference, changes or a redefined reference are kept, or where a
 -- text is read as a text.
 -- rule: 2-06-y-other-width
-given_other_width : one (operator (fxy 2 3 10) (element (fxy 0 5 2) (operator (fxy 2 3 255) (operator (fxy 2 1 132) (operator (fxy 2 2 129) (operator (fxy 2 7 1) (operator (fxy 2 6 12) (element (fxy 0 5 2) bare)))))))) (228 ∷ 3 ∷ 212 ∷ [])
-    ≡ gives ((1282, shown_reference (negsuc 399)) ∷ (1282, shown_number (pos 245) (pos 0)) ∷ []) (done 2 9)
+given_other_width :
+    (one (operator (fxy 2 3 10) (element (fxy 0 5 2) (operator (fxy 2 3 255) (operator (fxy 2 1 132) (operator (fxy 2 2 129) (operator (fxy 2 7 1) (operator (fxy 2 6 12) (element (fxy 0 5 2) bare)))))))) (228 ∷ 3 ∷ 212 ∷ [])
+    ≡ gives ((1282, shown_reference (negsuc 399)) ∷ (1282, shown_number (pos 245) (pos 0)) ∷ []) (done 2 9))
+    × (one (operator (fxy 2 6 16) (element (fxy 0 1 15) bare)) (65 ∷ 66 ∷ [])
+    ≡ gives ((271, shown_number (pos 16706) (pos 0)) ∷ []) (done 0 3))
 unfolding one gives fxy
-given_other_width = refl
-
-given_other_width_text : one (operator (fxy 2 6 16) (element (fxy 0 1 15) bare)) (65 ∷ 66 ∷ [])
-    ≡ gives ((271, shown_number (pos 16706) (pos 0)) ∷ []) (done 0 3)
-unfolding one gives fxy
-given_other_width_text = refl
+given_other_width = (refl, refl)
 
 -- All ones of a given width is missing, in Table B or not: fails where it is a number.
 given_missing : one (operator (fxy 2 6 12) (element (fxy 0 63 255) (operator (fxy 2 6 12) (element (fxy 0 12 101) bare)))) (255 ∷ 255 ∷ 255 ∷ [])
@@ -285,25 +246,17 @@ given_class_31 = refl
 -- A number of 63 bits is read and one of 64 is not, before the data are examined. The same bound
 -- holds for a text that is read as a number. Fails where the bound is another, or where the data
 -- end first.
-given_63 : one (operator (fxy 2 6 63) (element (fxy 0 63 255) bare)) (0 ∷ 0 ∷ 0 ∷ 0 ∷ 0 ∷ 0 ∷ 0 ∷ 21 ∷ [])
-    ≡ gives ((16383, shown_number (pos 10) (pos 0)) ∷ []) (done 1 3)
+given_63 :
+    (one (operator (fxy 2 6 63) (element (fxy 0 63 255) bare)) (0 ∷ 0 ∷ 0 ∷ 0 ∷ 0 ∷ 0 ∷ 0 ∷ 21 ∷ [])
+    ≡ gives ((16383, shown_number (pos 10) (pos 0)) ∷ []) (done 1 3))
+    × (one (operator (fxy 2 6 64) (element (fxy 0 63 255) bare)) []
+    ≡ gives [] (walk_fault (refusal.Width 16383) 0 2))
+    × (one (operator (fxy 2 6 64) (element (fxy 0 63 255) bare)) (0 ∷ 0 ∷ 0 ∷ 0 ∷ 0 ∷ 0 ∷ 0 ∷ 0 ∷ [])
+    ≡ gives [] (walk_fault (refusal.Width 16383) 64 2))
+    × (one (operator (fxy 2 6 128) (element (fxy 0 1 15) bare)) (0 ∷ 0 ∷ 0 ∷ 0 ∷ 0 ∷ 0 ∷ 0 ∷ 0 ∷ 0 ∷ 0 ∷ 0 ∷ 0 ∷ 0 ∷ 0 ∷ 0 ∷ 0 ∷ [])
+    ≡ gives [] (walk_fault (refusal.Width 271) 128 2))
 unfolding one gives fxy
-given_63 = refl
-
-given_64 : one (operator (fxy 2 6 64) (element (fxy 0 63 255) bare)) []
-    ≡ gives [] (walk_fault (refusal.Width 16383) 0 2)
-unfolding one gives fxy
-given_64 = refl
-
-given_64_with_data : one (operator (fxy 2 6 64) (element (fxy 0 63 255) bare)) (0 ∷ 0 ∷ 0 ∷ 0 ∷ 0 ∷ 0 ∷ 0 ∷ 0 ∷ [])
-    ≡ gives [] (walk_fault (refusal.Width 16383) 64 2)
-unfolding one gives fxy
-given_64_with_data = refl
-
-given_128_text : one (operator (fxy 2 6 128) (element (fxy 0 1 15) bare)) (0 ∷ 0 ∷ 0 ∷ 0 ∷ 0 ∷ 0 ∷ 0 ∷ 0 ∷ 0 ∷ 0 ∷ 0 ∷ 0 ∷ 0 ∷ 0 ∷ 0 ∷ 0 ∷ [])
-    ≡ gives [] (walk_fault (refusal.Width 271) 128 2)
-unfolding one gives fxy
-given_128_text = refl
+given_63 = (refl, refl, refl, refl)
 
 -- Worked examples of the fields of a walk: role, kind, width, scale and reference, whether all ones
 -- is missing, and whether Table B has the comment.
@@ -314,81 +267,50 @@ asks tree answers spec = (next_item table tree answers).next ≡ take_next spec
 
 -- A quantity and a figure of Table B may be commented and may be missing; the changes in force show
 -- in a quantity alone: fails where a figure loses its kind, scale or reference.
-quantity_asked : asks (operator (fxy 2 1 132) (operator (fxy 2 2 129) (operator (fxy 2 7 1) (element (fxy 0 5 2) bare)))) [] (record { fxy = 1282; role = role.Element; kind = kind.Numeric; width = 23; scale = pos 4; reference = negsuc 89999; may_be_missing = true; listed = true })
+quantity_asked :
+    (asks (operator (fxy 2 1 132) (operator (fxy 2 2 129) (operator (fxy 2 7 1) (element (fxy 0 5 2) bare)))) [] (record { fxy = 1282; role = role.Element; kind = kind.Numeric; width = 23; scale = pos 4; reference = negsuc 89999; may_be_missing = true; listed = true }))
+    × (asks (operator (fxy 2 1 130) (operator (fxy 2 2 129) (operator (fxy 2 7 2) (element (fxy 0 20 4) bare)))) [] (record { fxy = 5124; role = role.Element; kind = kind.Coded; width = 6; scale = pos 1; reference = negsuc 2; may_be_missing = true; listed = true }))
+    × (asks (operator (fxy 2 3 10) (element (fxy 0 5 2) (operator (fxy 2 3 255) (operator (fxy 2 7 2) (element (fxy 0 5 2) bare))))) (taken.Reference (negsuc 399) ∷ []) (record { fxy = 1282; role = role.Element; kind = kind.Numeric; width = 22; scale = pos 4; reference = negsuc 39999; may_be_missing = true; listed = true }))
 unfolding table next_item fxy
-quantity_asked = refl
-
-figure_asked : asks (operator (fxy 2 1 130) (operator (fxy 2 2 129) (operator (fxy 2 7 2) (element (fxy 0 20 4) bare)))) [] (record { fxy = 5124; role = role.Element; kind = kind.Coded; width = 6; scale = pos 1; reference = negsuc 2; may_be_missing = true; listed = true })
-unfolding table next_item fxy
-figure_asked = refl
-
-redefined_quantity_asked : asks (operator (fxy 2 3 10) (element (fxy 0 5 2) (operator (fxy 2 3 255) (operator (fxy 2 7 2) (element (fxy 0 5 2) bare))))) (taken.Reference (negsuc 399) ∷ []) (record { fxy = 1282; role = role.Element; kind = kind.Numeric; width = 22; scale = pos 4; reference = negsuc 39999; may_be_missing = true; listed = true })
-unfolding table next_item fxy
-redefined_quantity_asked = refl
+quantity_asked = (refl, refl, refl)
 
 -- Figures and quantities of class 31 are never missing, its texts may be: fails where the class
 -- makes the difference for a text, or where it makes none for the others.
-figure_of_class_31_asked : asks (operator (fxy 2 1 132) (operator (fxy 2 2 129) (operator (fxy 2 7 1) (element (fxy 0 31 21) bare)))) [] (record { fxy = 7957; role = role.Element; kind = kind.Coded; width = 6; scale = pos 0; reference = pos 0; may_be_missing = false; listed = true })
+figure_of_class_31_asked :
+    (asks (operator (fxy 2 1 132) (operator (fxy 2 2 129) (operator (fxy 2 7 1) (element (fxy 0 31 21) bare)))) [] (record { fxy = 7957; role = role.Element; kind = kind.Coded; width = 6; scale = pos 0; reference = pos 0; may_be_missing = false; listed = true }))
+    × (asks (operator (fxy 2 1 130) (element (fxy 0 31 1) bare)) [] (record { fxy = 7937; role = role.Element; kind = kind.Numeric; width = 10; scale = pos 0; reference = pos 0; may_be_missing = false; listed = true }))
+    × (asks (element (fxy 0 31 250) bare) [] (record { fxy = 8186; role = role.Element; kind = kind.Character; width = 8; scale = pos 0; reference = pos 0; may_be_missing = true; listed = true }))
 unfolding table next_item fxy
-figure_of_class_31_asked = refl
-
-quantity_of_class_31_asked : asks (operator (fxy 2 1 130) (element (fxy 0 31 1) bare)) [] (record { fxy = 7937; role = role.Element; kind = kind.Numeric; width = 10; scale = pos 0; reference = pos 0; may_be_missing = false; listed = true })
-unfolding table next_item fxy
-quantity_of_class_31_asked = refl
-
-text_of_class_31_asked : asks (element (fxy 0 31 250) bare) [] (record { fxy = 8186; role = role.Element; kind = kind.Character; width = 8; scale = pos 0; reference = pos 0; may_be_missing = true; listed = true })
-unfolding table next_item fxy
-text_of_class_31_asked = refl
+figure_of_class_31_asked = (refl, refl, refl)
 
 -- A given width that is that of Table B leaves an element to be commented, as its row has it. Fails
 -- where the number is a bare one, or where an operator in force shows.
-given_table_width_asked : asks (operator (fxy 2 1 132) (operator (fxy 2 2 129) (operator (fxy 2 7 1) (operator (fxy 2 6 16) (element (fxy 0 12 101) bare))))) [] (record { fxy = 3173; role = role.Element; kind = kind.Numeric; width = 16; scale = pos 2; reference = pos 0; may_be_missing = true; listed = true })
+given_table_width_asked :
+    (asks (operator (fxy 2 1 132) (operator (fxy 2 2 129) (operator (fxy 2 7 1) (operator (fxy 2 6 16) (element (fxy 0 12 101) bare))))) [] (record { fxy = 3173; role = role.Element; kind = kind.Numeric; width = 16; scale = pos 2; reference = pos 0; may_be_missing = true; listed = true }))
+    × (asks (operator (fxy 2 1 132) (operator (fxy 2 6 9) (element (fxy 0 20 3) bare))) [] (record { fxy = 5123; role = role.Element; kind = kind.Coded; width = 9; scale = pos 0; reference = pos 0; may_be_missing = true; listed = true }))
+    × (asks (operator (fxy 2 8 3) (operator (fxy 2 6 160) (element (fxy 0 1 15) bare))) [] (record { fxy = 271; role = role.Element; kind = kind.Character; width = 160; scale = pos 0; reference = pos 0; may_be_missing = true; listed = true }))
 unfolding table next_item fxy
-given_table_width_asked = refl
-
-given_figure_asked : asks (operator (fxy 2 1 132) (operator (fxy 2 6 9) (element (fxy 0 20 3) bare))) [] (record { fxy = 5123; role = role.Element; kind = kind.Coded; width = 9; scale = pos 0; reference = pos 0; may_be_missing = true; listed = true })
-unfolding table next_item fxy
-given_figure_asked = refl
-
-given_text_asked : asks (operator (fxy 2 8 3) (operator (fxy 2 6 160) (element (fxy 0 1 15) bare))) [] (record { fxy = 271; role = role.Element; kind = kind.Character; width = 160; scale = pos 0; reference = pos 0; may_be_missing = true; listed = true })
-unfolding table next_item fxy
-given_text_asked = refl
+given_table_width_asked = (refl, refl, refl)
 
 -- Another width gives a bare number with no comment, never missing in class 31: fails where it
 -- takes the unit of its row.
-given_other_width_asked : asks (operator (fxy 2 6 12) (element (fxy 0 5 2) bare)) [] (record { fxy = 1282; role = role.Element; kind = kind.Numeric; width = 12; scale = pos 0; reference = pos 0; may_be_missing = true; listed = false })
+given_other_width_asked :
+    (asks (operator (fxy 2 6 12) (element (fxy 0 5 2) bare)) [] (record { fxy = 1282; role = role.Element; kind = kind.Numeric; width = 12; scale = pos 0; reference = pos 0; may_be_missing = true; listed = false }))
+    × (asks (operator (fxy 2 6 12) (element (fxy 0 63 255) bare)) [] (record { fxy = 16383; role = role.Element; kind = kind.Numeric; width = 12; scale = pos 0; reference = pos 0; may_be_missing = true; listed = false }))
+    × (asks (operator (fxy 2 6 12) (element (fxy 0 20 3) bare)) [] (record { fxy = 5123; role = role.Element; kind = kind.Numeric; width = 12; scale = pos 0; reference = pos 0; may_be_missing = true; listed = false }))
+    × (asks (operator (fxy 2 6 16) (element (fxy 0 1 15) bare)) [] (record { fxy = 271; role = role.Element; kind = kind.Numeric; width = 16; scale = pos 0; reference = pos 0; may_be_missing = true; listed = false }))
+    × (asks (operator (fxy 2 6 12) (element (fxy 0 31 21) bare)) [] (record { fxy = 7957; role = role.Element; kind = kind.Numeric; width = 12; scale = pos 0; reference = pos 0; may_be_missing = false; listed = false }))
 unfolding table next_item fxy
-given_other_width_asked = refl
-
-given_local_asked : asks (operator (fxy 2 6 12) (element (fxy 0 63 255) bare)) [] (record { fxy = 16383; role = role.Element; kind = kind.Numeric; width = 12; scale = pos 0; reference = pos 0; may_be_missing = true; listed = false })
-unfolding table next_item fxy
-given_local_asked = refl
-
-given_code_asked : asks (operator (fxy 2 6 12) (element (fxy 0 20 3) bare)) [] (record { fxy = 5123; role = role.Element; kind = kind.Numeric; width = 12; scale = pos 0; reference = pos 0; may_be_missing = true; listed = false })
-unfolding table next_item fxy
-given_code_asked = refl
-
-given_letters_asked : asks (operator (fxy 2 6 16) (element (fxy 0 1 15) bare)) [] (record { fxy = 271; role = role.Element; kind = kind.Numeric; width = 16; scale = pos 0; reference = pos 0; may_be_missing = true; listed = false })
-unfolding table next_item fxy
-given_letters_asked = refl
-
-given_class_31_asked : asks (operator (fxy 2 6 12) (element (fxy 0 31 21) bare)) [] (record { fxy = 7957; role = role.Element; kind = kind.Numeric; width = 12; scale = pos 0; reference = pos 0; may_be_missing = false; listed = false })
-unfolding table next_item fxy
-given_class_31_asked = refl
+given_other_width_asked = (refl, refl, refl, refl, refl)
 
 -- A factor is a count with its own comment, by its row alone, and is never missing. So is a factor
 -- in a group and after one. Fails where a change of width reaches it, or where it is an element.
-factor_asked : asks (operator (fxy 2 1 132) (delayed (fxy 0 31 1) (element (fxy 0 1 1) bare) bare)) [] (record { fxy = 7937; role = role.Factor; kind = kind.Numeric; width = 8; scale = pos 0; reference = pos 0; may_be_missing = false; listed = true })
+factor_asked :
+    (asks (operator (fxy 2 1 132) (delayed (fxy 0 31 1) (element (fxy 0 1 1) bare) bare)) [] (record { fxy = 7937; role = role.Factor; kind = kind.Numeric; width = 8; scale = pos 0; reference = pos 0; may_be_missing = false; listed = true }))
+    × (asks (delayed (fxy 0 31 1) (delayed (fxy 0 31 0) (element (fxy 0 1 1) bare) bare) bare) (taken.Count 1 ∷ []) (record { fxy = 7936; role = role.Factor; kind = kind.Numeric; width = 1; scale = pos 0; reference = pos 0; may_be_missing = false; listed = true }))
+    × (asks (delayed (fxy 0 31 1) (element (fxy 0 1 1) bare) (delayed (fxy 0 31 2) bare bare)) (taken.Count 1 ∷ taken.Plain ∷ []) (record { fxy = 7938; role = role.Factor; kind = kind.Numeric; width = 16; scale = pos 0; reference = pos 0; may_be_missing = false; listed = true }))
 unfolding table next_item fxy
-factor_asked = refl
-
-factor_in_a_group_asked : asks (delayed (fxy 0 31 1) (delayed (fxy 0 31 0) (element (fxy 0 1 1) bare) bare) bare) (taken.Count 1 ∷ []) (record { fxy = 7936; role = role.Factor; kind = kind.Numeric; width = 1; scale = pos 0; reference = pos 0; may_be_missing = false; listed = true })
-unfolding table next_item fxy
-factor_in_a_group_asked = refl
-
-factor_after_a_group_asked : asks (delayed (fxy 0 31 1) (element (fxy 0 1 1) bare) (delayed (fxy 0 31 2) bare bare)) (taken.Count 1 ∷ taken.Plain ∷ []) (record { fxy = 7938; role = role.Factor; kind = kind.Numeric; width = 16; scale = pos 0; reference = pos 0; may_be_missing = false; listed = true })
-unfolding table next_item fxy
-factor_after_a_group_asked = refl
+factor_asked = (refl, refl, refl)
 
 -- A reference has the width of its definition, no comment, and is never missing: fails where a
 -- change reaches it, or where it may be missing.
@@ -398,10 +320,8 @@ reference_asked = refl
 
 -- A text of Table B has its comment and the text width in force; a text of the template has
 -- neither. Fails where either is taken for the other.
-text_asked : asks (operator (fxy 2 8 3) (element (fxy 0 1 15) bare)) [] (record { fxy = 271; role = role.Element; kind = kind.Character; width = 24; scale = pos 0; reference = pos 0; may_be_missing = true; listed = true })
+text_asked :
+    (asks (operator (fxy 2 8 3) (element (fxy 0 1 15) bare)) [] (record { fxy = 271; role = role.Element; kind = kind.Character; width = 24; scale = pos 0; reference = pos 0; may_be_missing = true; listed = true }))
+    × (asks (operator (fxy 2 8 3) (operator (fxy 2 5 4) bare)) [] (record { fxy = 34052; role = role.Inserted; kind = kind.Character; width = 32; scale = pos 0; reference = pos 0; may_be_missing = true; listed = false }))
 unfolding table next_item fxy
-text_asked = refl
-
-inserted_text_asked : asks (operator (fxy 2 8 3) (operator (fxy 2 5 4) bare)) [] (record { fxy = 34052; role = role.Inserted; kind = kind.Character; width = 32; scale = pos 0; reference = pos 0; may_be_missing = true; listed = false })
-unfolding table next_item fxy
-inserted_text_asked = refl
+text_asked = (refl, refl)

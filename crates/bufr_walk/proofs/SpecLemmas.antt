@@ -1,25 +1,22 @@
 -- Each spec that is built is a specification.
-use Rattle.std.proofs.Common.{◌≡◌, ℕ, ◌*◌, ◌≤◌, ◌^◌, Bool, true, false, List, [], ◌∷◌, subst, refl, arith, ◌∙◌, ap, ℤ, pos, ◌*ℤ◌}
+use Rattle.std.proofs.lemmas.Grind.{common_steps}
+use Rattle.std.proofs.Common.{◌≡◌, ℕ, ◌*◌, ◌≤◌, ◌^◌, Bool, true, false, List, [], ◌∷◌, subst, refl, arith, ◌∙◌, ap, ℤ, pos, ◌*ℤ◌, ◌==◌, nat_le, if◌then◌else◌, nat_lt, cond, Some, ◌%◌, unsigned_abs}
+use Rattle.std.proofs.lemmas.Bool.{eqb-true}
 use Rattle.std.proofs.lemmas.Int.{unsigned_abs-mul}
 use Rattle.std.proofs.Math.Nat.{mul-le-mul_left, mul-le-mul_right, pow-le-pow_right}
-use Rattle.std.specs.Prelude.{◌==◌, nat_le, if◌then◌else◌, nat_lt, cond, Some, ◌%◌, unsigned_abs}
 use Rattle.std.proofs.lemmas.Bool.Decides.{nat_tests}
-use Rattle.bufr_tables.specs.Fxy.{x_of, y_of}
-use Rattle.bufr_tables.specs.Tree.{is_legal_operator, has_legal_operand, is_inserted_text}
+use Rattle.bufr_tables.specs.Prelude.{x_of, y_of, is_legal_operator, has_legal_operand, is_inserted_text, is_character}
 use Rattle.std.specs.Ordering.{nat_cmp, is_eq, match_ordering}
 use Rattle.std.specs.declared.cmp.Ordering.TheVariants.{Less, Equal, Greater}
 use Rattle.std.specs.BTreeMap.{insert_entry, is_at}
 use Rattle.std.specs.Map.{lookup}
 use Rattle.std.specs.Option.{unwrap_or}
 use Rattle.std.specs.Cmp.{unsigned_tied}
-use Rattle.bufr_walk.specs.Rules.{Redefined, current_reference, with_reference, known_by, text_spec}
+use Rattle.bufr_walk.specs.Prelude.{Redefined, current_reference, with_reference, known_by, text_spec, Role, FieldSpec, IsSpec, HasWidth, HasRole, HasMissing, is_reference, number_field}
 use Rattle.bufr_tables.specs.declared.table_b.Kind.{Kind}
 use Rattle.bufr_tables.specs.declared.table_b.Kind.TheVariants as kind
-use Rattle.bufr_tables.specs.TableB.{is_character}
-use Rattle.bufr_walk.specs.declared.spec.Role.{Role}
 use Rattle.bufr_walk.specs.declared.spec.NumberParts.{NumberParts}
 use Rattle.bufr_walk.specs.declared.spec.Role.TheVariants as role
-use Rattle.bufr_walk.specs.FieldSpec.{FieldSpec, IsSpec, HasWidth, HasRole, HasMissing, is_reference, number_field}
 
 number_width : (k : Kind) (w : ℕ) → is_character k ≡ false → 1 ≤ w → w ≤ 63 → HasWidth k w
 number_width kind.Character w e some most = absurd cc
@@ -40,11 +37,8 @@ text_good r fxy w listed h g = record { width = h; role = g; missing = refl; sca
 
 -- a text of the template
 pub inserted_width : (fxy : ℕ) → is_legal_operator fxy ≡ true → is_inserted_text fxy ≡ true → HasWidth kind.Character (8 * y_of fxy)
-inserted_width fxy legal x = by (x_of fxy) (y_of fxy) (equal_from (x_of fxy) 5 x) legal (omega arith)
+inserted_width fxy legal x = by (x_of fxy) (y_of fxy) (eqb-true (x_of fxy) 5 x) legal (omega arith)
   where
-    equal_from : (a b : ℕ) → (a == b) ≡ true → a ≡ b
-    equal_from a b h = grind (arith, nat_tests)
-
     le_from : (y : ℕ) → nat_le 1 y ≡ true → 1 ≤ y
     le_from y h = grind (arith, nat_tests)
 
@@ -70,14 +64,7 @@ same_is : (n : ℕ) → (n == n) ≡ true
 same_is n = grind (arith, nat_tests)
 
 with_first : (fxy : ℕ) (old reference : ℤ) (known : List Redefined) → with_reference fxy reference (record { fxy = fxy; reference = old } ∷ known) ≡ record { fxy = fxy; reference = reference } ∷ known
-with_first fxy old reference known = by (nat_lt fxy fxy) (fxy == fxy) (not_below fxy) (same_is fxy)
-  where
-    by : (below same : Bool) → below ≡ false → same ≡ true
-        → (if below then record { fxy = fxy; reference = reference } ∷ record { fxy = fxy; reference = old } ∷ known else if same then record { fxy = fxy; reference = reference } ∷ known else record { fxy = fxy; reference = old } ∷ with_reference fxy reference known)
-        ≡ record { fxy = fxy; reference = reference } ∷ known
-    by true same p q = absurd cc
-    by false true p q = refl
-    by false false p q = absurd cc
+with_first fxy old reference known = grind (arith, common_steps, nat_lt, not_below, same_is)
 
 -- of two references of an element the second counts
 pub with_again : (fxy : ℕ) (old reference : ℤ) (known : List Redefined) → with_reference fxy reference (with_reference fxy old known) ≡ with_reference fxy reference known
@@ -115,51 +102,23 @@ reference_found (e ∷ kept) fxy listed = by (is_eq (nat_cmp fxy e.0)) (e.0 == f
     by true false q more = absurd cc
     by false true q more = absurd cc
 
-equal_from : (a b : ℕ) → (a == b) ≡ true → a ≡ b
-equal_from a b h = grind (arith, nat_tests)
-
 pub power_small : (y : ℕ) → y ≤ 18 → 10 ^ y ≤ 10 ^ 18
 power_small y h = pow-le-pow_right {n = 10} (omega arith) h
 
 pub product_small : (r : ℤ) (y : ℕ) → unsigned_abs r ≤ 2 ^ 63 → y ≤ 18 → unsigned_abs (r *ℤ pos (10 ^ y)) ≤ 2 ^ 125
-product_small r y h g =
-    let e : unsigned_abs (r *ℤ pos (10 ^ y)) ≡ unsigned_abs r * 10 ^ y = unsigned_abs-mul r (pos (10 ^ y)) in
-    let p : 10 ^ y ≤ 10 ^ 18 = power_small y g in
-    let a : unsigned_abs r * 10 ^ y ≤ unsigned_abs r * 10 ^ 18 = mul-le-mul_left (unsigned_abs r) p in
-    let b : unsigned_abs r * 10 ^ 18 ≤ 2 ^ 63 * 10 ^ 18 = mul-le-mul_right (10 ^ 18) h in
-    omega (arith, e, a, b)
+product_small r y h g = grind (arith, common_steps, unsigned_abs, pos, unsigned_abs-mul, power_small, mul-le-mul_left, mul-le-mul_right)
 
 pub some_width : (a : FieldSpec) → IsSpec a → 1 ≤ a.width
-some_width a h = by a.kind a.width h.width
-  where
-    by : (k : Kind) (w : ℕ) → HasWidth k w → 1 ≤ w
-    by kind.Character w g = omega (arith, g.0)
-    by kind.Coded w g = g.0
-    by kind.Numeric w g = g.0
+some_width a h = grind (arith, common_steps)
 
 pub most_width : (a : FieldSpec) → IsSpec a → a.width ≤ 2040
-most_width a h = by a.kind a.width h.width
-  where
-    by : (k : Kind) (w : ℕ) → HasWidth k w → w ≤ 2040
-    by kind.Character w g = g.1
-    by kind.Coded w g = omega (arith, g.1)
-    by kind.Numeric w g = omega (arith, g.1)
+most_width a h = grind (arith, common_steps)
 
 pub narrow_width : (a : FieldSpec) → IsSpec a → is_character a.kind ≡ false → a.width ≤ 63
-narrow_width a h e = by a.kind a.width h.width e
-  where
-    by : (k : Kind) (w : ℕ) → HasWidth k w → is_character k ≡ false → w ≤ 63
-    by kind.Character w g q = absurd cc
-    by kind.Coded w g q = g.1
-    by kind.Numeric w g q = g.1
+narrow_width a h e = grind (arith, common_steps)
 
 pub whole_width : (a : FieldSpec) → IsSpec a → is_character a.kind ≡ true → a.width % 8 ≡ 0
-whole_width a h e = by a.kind a.width h.width e
-  where
-    by : (k : Kind) (w : ℕ) → HasWidth k w → is_character k ≡ true → w % 8 ≡ 0
-    by kind.Character w g q = g.2
-    by kind.Coded w g q = absurd cc
-    by kind.Numeric w g q = absurd cc
+whole_width a h e = grind (arith, common_steps)
 
 pub reference_width : (a : FieldSpec) → IsSpec a → is_reference a.role ≡ true → a.width ≤ 63
 reference_width a h e = by a.role a.kind a.may_be_missing a.width h.role h.width e

@@ -1,29 +1,17 @@
 -- The effect of each turn of a walk, and walks one after another.
-use Rattle.std.proofs.Common.{◌≡◌, ℕ, ◌+◌, List, [], ◌∷◌, ◌++◌, Result, refl, sym, ◌∙◌, ap, subst, zero-add, add_assoc, arith, ◌*◌, ◌&&◌, append-nil, Bool, true, false, Option, Some, None, Ok, Err, zero, suc, ◌-◌, ◌^◌, ◌<◌, length, drop, get_or, add-zero, ◌≤◌, length-append}
-use Rattle.bufr_tables.specs.TableB.{Row, entry_of}
-use Rattle.bufr_walk.specs.declared.spec.Taken.{Taken}
-use Rattle.bufr_walk.specs.FieldSpec.{FieldSpec, IsFor, IsForRole, is_reference}
-use Rattle.bufr_walk.specs.Rules.{OperatorModel, after_field, after_operator, is_defining, element_spec, factor_spec, inserted_spec, if_valid_width, spec_by_kind, new_reference_spec, defined_field, numeric_spec, coded_spec, text_spec, text_width, local_width_spec, listed_by, unsigned_of, unsigned_field, begin}
-use Rattle.bufr_walk.specs.Course.{Rest, Course, NextTurn, later, ahead, counts_of, finish, open_end, operator_turn, unroll, passes, turns_of, asked, operated, counts_in, stop, at_end, refused, next_item}
-use Rattle.bufr_walk.specs.Walk.{TakenField, Takes, oks, answers_of, StopsWalk, WalkGoes, Stops, HasWalked, StopsIn, ticked, Walked, course, TakesField, stop_by, tail_of, costs, owed, OpenGroup, frames_of, turns_after_pass, AllGroupsFit, IsAtNodes, IsAtCell, weight, Turned}
-use Rattle.bufr_walk.specs.declared.walker.WalkStop.{WalkStop}
-use Rattle.std.specs.Prelude.{◌==◌, nat_lt, nat_le, if◌then◌else◌}
+use Rattle.std.proofs.lemmas.Grind.{common_steps}
+use Rattle.std.proofs.Common.{◌≡◌, ℕ, ◌+◌, List, [], ◌∷◌, ◌++◌, Result, refl, sym, ◌∙◌, ap, subst, zero-add, add_assoc, arith, ◌*◌, append-nil, Bool, true, false, Option, Some, None, Ok, Err, zero, suc, ◌-◌, ◌^◌, ◌<◌, length, drop, get_or, add-zero, ◌≤◌, length-append, ◌==◌, nat_lt, nat_le, if◌then◌else◌}
+use Rattle.bufr_tables.specs.Prelude.{Row, entry_of, x_of, Tree, delayed, is_inserted_text, bare, element, operator, fixed, size, depth, is_legal_operator, cells_of, AreCellsOf, IsLegal}
+use Rattle.bufr_walk.specs.Prelude.{Taken, FieldSpec, IsFor, IsForRole, is_reference, OperatorModel, after_field, after_operator, is_defining, element_spec, factor_spec, inserted_spec, if_valid_width, spec_by_kind, new_reference_spec, defined_field, numeric_spec, coded_spec, text_spec, text_width, local_width_spec, listed_by, unsigned_of, unsigned_field, begin, Rest, Course, NextTurn, later, ahead, counts_of, finish, open_end, operator_turn, unroll, passes, turns_of, asked, operated, counts_in, stop, at_end, refused, next_item, TakenField, Takes, oks, answers_of, StopsWalk, WalkGoes, Stops, HasWalked, StopsIn, ticked, Walked, course, TakesField, stop_by, tail_of, costs, owed, OpenGroup, frames_of, turns_after_pass, AllGroupsFit, IsAtNodes, IsAtCell, weight, Turned, WalkStop, Role, TurnRefusal}
 use Rattle.bufr_tables.specs.declared.table_b.Kind.{Kind}
-use Rattle.bufr_tables.specs.Fxy.{x_of, y_of}
 use Rattle.std.proofs.lemmas.Bool.Decides.{nat_tests}
-use Rattle.bufr_tables.specs.Tree.{Tree, delayed, is_inserted_text, bare, element, operator, fixed, size, depth, places, is_legal_operator}
-use Rattle.bufr_walk.specs.declared.spec.Role.{Role}
-use Rattle.bufr_walk.specs.declared.spec.TurnRefusal.{TurnRefusal}
 use Rattle.std.proofs.lemmas.List.{drop-drop}
 use Rattle.bufr_tables.specs.declared.template.Cell.{Cell}
 use Rattle.bufr_walk.specs.declared.walker.Frame.{Frame}
-use Rattle.bufr_tables.specs.Cells.{cells_of, AreCellsOf}
 use Rattle.std.proofs.Math.Nat.{suc-mul, mul-le-mul_right}
-use Rattle.bufr_tables.specs.Expansion.{IsLegal}
 use Rattle.bufr_tables.specs.declared.table_b.Kind.TheVariants as kind
 use Rattle.bufr_walk.specs.declared.spec.Taken.TheVariants as taken
 use Rattle.bufr_walk.specs.declared.spec.Role.TheVariants as role
-use Rattle.bufr_walk.specs.declared.spec.TurnRefusal.TheVariants as refusal
 use Rattle.bufr_walk.specs.declared.walker.WalkStop.TheVariants as stops
 use Rattle.bufr_tables.specs.declared.template.Cell.TheVariants as cell
 
@@ -119,11 +107,7 @@ NoFactor : FieldSpec → Type 0
 NoFactor a = a.role ≡ role.Factor → ⊥
 
 pub fitted_role : (a spec : FieldSpec) → if_valid_width a ≡ Ok spec → a.role ≡ spec.role
-fitted_role a spec e = by (nat_le 1 a.width && nat_le a.width 63) e
-  where
-    by : (b : Bool) → ◌≡◌ {A = Result FieldSpec TurnRefusal} (if b then Ok a else Err (refusal.Width a.fxy)) (Ok spec) → a.role ≡ spec.role
-    by true q = let is : a ≡ spec = cc in ap (λ x. x.role) is
-    by false q = absurd cc
+fitted_role a spec e = grind (arith, common_steps, nat_le)
 
 kind_role : (k : Kind) (s : OperatorModel) (row : Row) (spec : FieldSpec) → spec_by_kind k s row ≡ Ok spec → spec.role ≡ role.Factor → ⊥
 kind_role kind.Numeric s row spec e h = let q : role.Element ≡ role.Factor = fitted_role (numeric_spec s row) spec e ∙ h in cc
@@ -153,11 +137,7 @@ element_role table s fxy spec e h = by_given (nat_lt 0 s.local_width) (entry_of 
     by_given false (Some row) q = by_defining (is_defining s) row q
 
 pub inserted_role : (s : OperatorModel) (fxy : ℕ) (spec : FieldSpec) → inserted_spec s fxy ≡ Ok spec → spec.role ≡ role.Factor → ⊥
-inserted_role s fxy spec e h = by (is_defining s) e
-  where
-    by : (b : Bool) → ◌≡◌ {A = Result FieldSpec TurnRefusal} (if b then Err (refusal.Defining fxy) else Ok (text_spec role.Inserted fxy (8 * y_of fxy) false)) (Ok spec) → ⊥
-    by true q = cc
-    by false q = let is : text_spec role.Inserted fxy (8 * y_of fxy) false ≡ spec = cc in let r : role.Inserted ≡ role.Factor = ap (λ x. x.role) is ∙ h in cc
+inserted_role s fxy spec e h = grind (arith, common_steps)
 
 -- a field that is no reference leaves the references
 pub no_reference : (r : Role) (s : OperatorModel) (fxy : ℕ) (t : Taken) → is_reference r ≡ false → IsForRole r t → record s { local_width = 0 } ≡ after_field s fxy t
@@ -280,16 +260,10 @@ module _ {S E : Type 0} (takes : S → FieldSpec → Result Taken E → S → Ty
 
 -- a text of the template, by its class
 pub five_is : (fxy x : ℕ) → x ≡ x_of fxy → x ≡ 5 → is_inserted_text fxy ≡ true
-five_is fxy x e h = by (x_of fxy) (sym e ∙ h)
-  where
-    by : (y : ℕ) → y ≡ 5 → (y == 5) ≡ true
-    by y q = grind (arith, nat_tests)
+five_is fxy x e h = grind (arith, common_steps, nat_tests)
 
 pub five_is_not : (fxy x : ℕ) → x ≡ x_of fxy → (x ≡ 5 → ⊥) → is_inserted_text fxy ≡ false
-five_is_not fxy x e h = by (x_of fxy) (λ q. h (e ∙ q))
-  where
-    by : (y : ℕ) → (y ≡ 5 → ⊥) → (y == 5) ≡ false
-    by y q = grind (arith, nat_tests)
+five_is_not fxy x e h = grind (arith, common_steps, nat_tests)
 
 -- ---- The most turns that are left, by the template.
 
@@ -693,18 +667,6 @@ module _ {S E : Type 0} (takes : S → FieldSpec → Result Taken E → S → Ty
       let half : IsAtNodes cells place stack left bare st.1 = moved place stack left st _ i.1 in
       let at : IsAtNodes cells place stack left bare [] = subst (λ x. IsAtNodes cells place stack left bare x) i.0 half in
       (at.left_is, refl, refl, tick)
-
--- as many cells as places
-pub flattened_length : (cells : List Cell) (template : Tree) → AreCellsOf cells template → length cells ≡ places template
-flattened_length cells template h =
-    ap length h.flattened ∙ cells_length template 0 (cell.Finish ∷ []) ∙ (let q : size template + 1 ≡ 1 + size template = omega arith in q)
-  where
-    cells_length : (t : Tree) (at : ℕ) (tail : List Cell) → length (cells_of t at tail) ≡ size t + length tail
-    cells_length bare at tail = omega arith
-    cells_length (element fxy more) at tail = omega (arith, cells_length more (at + 1) tail)
-    cells_length (operator fxy more) at tail = omega (arith, cells_length more (at + 1) tail)
-    cells_length (fixed n body more) at tail = omega (arith, cells_length body (at + 1) (cell.PassEnd ∷ cells_of more (at + 2 + size body) tail), cells_length more (at + 2 + size body) tail)
-    cells_length (delayed fxy body more) at tail = omega (arith, cells_length body (at + 2) (cell.PassEnd ∷ cells_of more (at + 3 + size body) tail), cells_length more (at + 3 + size body) tail)
 
 -- a walk before the whole template
 pub fits_first : (cells : List Cell) (template : Tree) (stack : List Frame) → AreCellsOf cells template → stack ≡ [] → IsAtCell cells 0 stack (unroll template)

@@ -1,15 +1,11 @@
 -- The calls of a visitor that show a reading, in order, up to its first fault.
 -- Cited by public contracts.
 use Rattle.std.specs.Prelude.{ℕ, zero, suc, ◌+◌, if◌then◌else◌, List, [], ◌∷◌, ◌++◌, Option, None, ◌≡◌, Result, Ok, Err, ◌⊎◌, option_map}
-use Rattle.bufr_tables.specs.TableB.{Row, entry_of}
-use Rattle.bufr_walk.specs.FieldSpec.{FieldSpec}
-use Rattle.bufr_walk.specs.Content.{Content, ShownValue, shown, missing, shown_number, shown_text, shown_missing, shown_reference}
-use Rattle.bufr_walk.specs.Course.{Course}
-use Rattle.bufr_walk.specs.Reading.{Item, plain, after, turns_after, turns_in, Values, apart, together, IsReading}
-use Rattle.bufr_walk.specs.Refusal.{Read, course_of}
+use Rattle.bufr_tables.specs.Prelude.{Row, entry_of, row_of_entry}
+use Rattle.bufr_walk.specs.Content.{FieldSpec, Content, ShownValue, shown, missing, shown_number, shown_text, shown_missing, shown_reference}
+use Rattle.bufr_walk.specs.Course.{Course, ticked}
+use Rattle.bufr_walk.specs.Reading.{Item, plain, after, turns_after, turns_in, Values, apart, together, IsReading, Read, course_of}
 use Rattle.bufr_walk.specs.declared.fault.ShowFault.{ShowFault}
-use Rattle.bufr_walk.specs.Walk.{ticked}
-use Rattle.bufr_tables.specs.Entry.{row_of_entry}
 use Rattle.bufr_walk.specs.declared.visitor.Value.{Value}
 use Rattle.bufr_walk.specs.declared.visitor.ItemView.{ItemView}
 use Rattle.bufr_tables.specs.declared.table_b.Entry.{Entry}
@@ -121,8 +117,7 @@ abbrev pub EndsAt : {S E : Type 0} → (S → Call → Result (Unit {0}) E → S
 EndsAt sees s call (fault.Visitor e) s' = sees s call (Err e) s'
 EndsAt sees s call fault.Memory s' = (s' ≡ s) × NeedsMemory call
 
--- the calls that were made: all at Ok, else a prefix; the steps are the turns up to the call that
--- ends it
+-- the calls that were made: all at Ok, else a prefix; the steps are the turns up to its end
 abbrev pub Shows : {S E : Type 0} → (S → Call → Result (Unit {0}) E → S → Type 0) → S → List Timed
     → (turns : ℕ) → Result (Unit {0}) (ShowFault E) → S → (steps : ℕ) → Type 0
 Shows sees s [] turns (Ok _) s' steps = (s' ≡ s) × (steps ≡ ticked 0 turns)

@@ -3,13 +3,12 @@
 -- project.)
 -- Cited by public contracts.
 use Rattle.std.specs.Prelude.{ℕ, ◌==◌, ◌&&◌, not, nat_lt, Bool, if◌then◌else◌, List, [], ◌∷◌, ℤ, Result, Ok, Err, ◌+◌, ◌-◌, ◌*◌, ◌/◌, ◌^◌, nat_le, true, false, pos, ◌+ℤ◌, ◌-ℤ◌, ◌*ℤ◌, Option, Some, None, ◌≤◌, ◌≡◌, ◌<◌}
-use Rattle.bufr_tables.specs.Fxy.{x_of, y_of}
+use Rattle.bufr_tables.specs.Prelude.{x_of, y_of, Row, entry_of}
 use Rattle.bufr_walk.specs.declared.spec.TurnRefusal.{TurnRefusal}
 use Rattle.bufr_walk.specs.declared.spec.Taken.{Taken}
 use Rattle.bufr_tables.specs.declared.table_b.Kind.{Kind}
-use Rattle.bufr_tables.specs.TableB.{Row, entry_of}
 use Rattle.bufr_walk.specs.declared.spec.Role.{Role}
-use Rattle.bufr_walk.specs.FieldSpec.{FieldSpec}
+use Rattle.bufr_walk.specs.Content.{FieldSpec}
 use Rattle.bufr_walk.specs.declared.operators.OperatorOperands.{OperatorOperands}
 use Rattle.bufr_walk.specs.declared.operators.TableField.{TableField}
 use Rattle.bufr_walk.specs.declared.spec.TurnRefusal.TheVariants as refusal
@@ -25,8 +24,7 @@ pub record Redefined : Type 0 where
   pub fxy : ℕ
   pub reference : ℤ
 
--- the operand Y of each operator in force, 0 where none is, and the references that the data
--- defined
+-- the operand Y of each operator in force, 0 where none is, and the references that are defined
 pub record OperatorModel : Type 0 where
   -- 2 01 Y: the width of a quantity is changed by Y - 128 bits
   pub width_change : ℕ
@@ -81,8 +79,7 @@ with_operator x y s =
     else if x == 8 then record s { character_octets = y }
     else s
 
--- the operators in force after an operator; while references are being defined only their end is
--- allowed
+-- the operators in force after one; while references are being defined only their end is allowed
 -- rule: defining-no-other-operator, fault-32-before-31
 abbrev pub after_operator : OperatorModel → ℕ → Result OperatorModel TurnRefusal
 after_operator s fxy =
@@ -137,8 +134,7 @@ operator_width width extra y = if y == 0 then width + extra else (width + extra 
 abbrev pub is_never_missing : ℕ → Bool
 is_never_missing fxy = x_of fxy == 31
 
--- a quantity: width, scale and reference of Table B, or the latest redefined reference, with the
--- changes in force
+-- a quantity, by its row or the latest redefined reference, with the changes in force
 -- rule: 2-07-y, 2-01-2-02-2-07-add-up, 2-07-y-of-a-new-reference, new-reference-of-quantities
 abbrev pub numeric_spec : OperatorModel → Row → FieldSpec
 numeric_spec s row = record {

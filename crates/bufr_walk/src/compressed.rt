@@ -1,23 +1,19 @@
 //! Compressed data, where each item occurs once for all subsets: fields, reading, and showing.
 ghost use Rattle.std.specs.Prelude.{◌≡◌, ◌≤◌, ◌<◌, ◌+◌, ◌*◌, ◌^◌, false, true, length, IfSome, ◌-◌, ◌/◌, ◌++◌, drop, MatchResult, IfOk, IfErr, ◌==◌, ◌&&◌, take, get_or, replicate};
-ghost use Rattle.bufr_bits.specs.Bits.{bits_at, number_of, bits_of};
-ghost use Rattle.bufr_bits.specs.BitSlice.{octets_of};
-ghost use Rattle.bufr_tables.specs.TableB.{is_character};
-ghost use Rattle.bufr_walk.specs.PackedBits.{stays_within, all_equal, numbers_hold, holds_by, AnswersAt, IsSeen, IsUnseen, sum_content};
-ghost use Rattle.bufr_walk.specs.FieldSpec.{IsFor, is_reference};
-ghost use Rattle.bufr_walk.specs.PackedField.{ones, increment_bits_of};
-ghost use Rattle.bufr_tables.specs.Tree.{places};
+ghost use Rattle.bufr_bits.specs.Prelude.{bits_at, number_of, bits_of, octets_of};
+ghost use Rattle.bufr_tables.specs.Prelude.{is_character, places};
+ghost use Rattle.bufr_walk.specs.PackedIn.{stays_within, all_equal, numbers_hold, holds_by, AnswersAt, IsSeen, IsUnseen, sum_content, IsReadAndKept, HasIncrement, call_kept, content_kept, packed_fault, items_at, fits_at};
+ghost use Rattle.bufr_walk.specs.Content.{IsFor, is_reference, ones, increment_bits_of, missing, number, shown};
 ghost use Rattle.bufr_walk.specs.declared.walker.WalkStop.TheVariants as stops;
 ghost use Rattle.bufr_walk.specs.Course.{next_item};
-ghost use Rattle.bufr_walk.specs.Refusal.{bits_before, data_in, IsFault};
-ghost use Rattle.bufr_walk.specs.StoredItems.{IsReadAndKept, HasIncrement, call_kept, content_kept};
-ghost use Rattle.bufr_walk.specs.PackedIn.{packed_fault, items_at, fits_at};
+ghost use Rattle.bufr_walk.specs.Reading.{bits_before, data_in, IsFault};
 ghost use Rattle.std.specs.List.{list_all};
 ghost use Rattle.bufr_walk.specs.Calls.{compressed_item_calls, compressed_subset_calls, seen_value, Shows};
-ghost use Rattle.bufr_walk.specs.Content.{missing, number, shown};
 ghost use Rattle.bufr_walk.specs.declared.item_index.IndexedItem.{IndexedItem};
 
-use crate::fault::{ShowFault, Spot, WalkFault};
+use crate::fault::{
+    DATA_END, INCREMENT, ShowFault, Spot, TOO_MANY_VALUES, UNEQUAL_FACTOR, WalkFault,
+};
 use crate::item_index::{IndexedItem, ItemIndex, PackedRead};
 use crate::lists::SpecCache;
 use crate::plain::{answer_at, copy_octets, number_at, ones_at, raw_at, show_value, value_at};
@@ -25,6 +21,7 @@ use crate::spec::{Role, Spec, Taken};
 use crate::visitor::{ItemView, Value, Visitor, plain_number};
 use crate::walker::{Fields, Steps, WalkStop, walk_by};
 use bufr_bits::BitSlice;
+use bufr_frame::RunFault;
 use bufr_tables::{Fxy, Kind, TableB, Template};
 use std::alloc::Global;
 use std::marker::Model;
@@ -53,7 +50,7 @@ pub enum PackedFault {
 
 impl PackedFault {
     ghost use Rattle.std.specs.Prelude.{◌≡◌};
-    ghost use Rattle.bufr_walk.specs.Refusal.{number_of_packed};
+    ghost use Rattle.bufr_walk.specs.Reading.{number_of_packed};
 
     /// The number of the [`WalkFault`](crate::WalkFault) that it becomes: 30, 33 to 35, and 73
     /// where memory ran out.
@@ -61,11 +58,11 @@ impl PackedFault {
         ensures { result ≡ number_of_packed self }
     {
         match self {
-            PackedFault::DataEnd(_) => 30,
-            PackedFault::UnequalFactor(_) => 33,
-            PackedFault::Increment(_) => 34,
-            PackedFault::TooManyValues(_) => 35,
-            PackedFault::Memory => 73,
+            PackedFault::DataEnd(_) => DATA_END,
+            PackedFault::UnequalFactor(_) => UNEQUAL_FACTOR,
+            PackedFault::Increment(_) => INCREMENT,
+            PackedFault::TooManyValues(_) => TOO_MANY_VALUES,
+            PackedFault::Memory => RunFault::Memory.number(),
         }
     }
 }
@@ -118,8 +115,7 @@ fn numbers_hold(bits: &BitSlice<'_>, at: u64, subsets: u16, spec: &Spec, k: u32)
     true
 }
 
-/// Whether each increment of `k` bits, the first of which begins with bit `at`, is the number
-/// `first`.
+/// Whether each increment of `k` bits, from bit `at` on, is the number `first`.
 fn are_equal(bits: &BitSlice<'_>, at: u64, subsets: u16, k: u32, first: u64) -> bool
     requires increment { k ≤ 63 }
     requires within { at + subsets * k ≤ 8 * length (octets_of bits.now) }
@@ -168,8 +164,7 @@ fn increment_bits_of(spec: &Spec, k: u32) -> u32
     }
 }
 
-/// What an item whose `k` is known returns to the walk; of a factor it is the count that all
-/// subsets have.
+/// What an item whose `k` is known returns to the walk.
 // rule: compressed-equal, compressed-references, compressed-factors, fault-34-before-33
 fn item_answer_at(
     bits: &BitSlice<'_>,
@@ -214,8 +209,7 @@ fn item_answer_at(
     }
 }
 
-/// An item in the bits: what it returns to the walk, its `k`, the number of its base (0 for a
-/// text), and the bit after it.
+/// An item in the bits: its answer, its `k`, its base (0 for a text), and the bit after it.
 #[derive(Clone, Copy)]
 struct ItemBits {
     answer: Taken,
@@ -289,8 +283,7 @@ pub struct PackedIn<'a> {
 }
 
 impl<'a> Model for PackedIn<'a> {
-    ghost use Rattle.bufr_bits.specs.Bits.{bits_of};
-    ghost use Rattle.bufr_bits.specs.BitSlice.{octets_of};
+    ghost use Rattle.bufr_bits.specs.Prelude.{bits_of, octets_of};
     ghost use Rattle.bufr_walk.specs.PackedIn.{PackedCursor, IsPackedIn, packed_view};
 
     ghost Value = { PackedCursor };
@@ -303,11 +296,9 @@ impl<'a> Model for PackedIn<'a> {
 impl<'a> PackedIn<'a> {
     ghost use Rattle.std.specs.Prelude.{◌≡◌, ◌≤◌, ◌+◌, ◌*◌, length, MatchResult, IfOk, [], true};
     ghost use Rattle.std.specs.List.{list_all};
-    ghost use Rattle.bufr_bits.specs.Bits.{bits_of};
-    ghost use Rattle.bufr_bits.specs.BitSlice.{octets_of};
-    ghost use Rattle.bufr_walk.specs.FieldSpec.{IsFor};
-    ghost use Rattle.bufr_walk.specs.PackedBits.{IsLooked, IsUnlooked};
-    ghost use Rattle.bufr_walk.specs.PackedIn.{items_at, fits_at, new_packed_in};
+    ghost use Rattle.bufr_bits.specs.Prelude.{bits_of, octets_of};
+    ghost use Rattle.bufr_walk.specs.Content.{IsFor};
+    ghost use Rattle.bufr_walk.specs.PackedIn.{IsLooked, IsUnlooked, items_at, fits_at, new_packed_in};
     ghost use Rattle.bufr_walk.specs.Reading.{max_values};
 
     /// A reader of compressed data from bit 0 on, for at least one subset.
@@ -549,8 +540,7 @@ fn value_of<'a: 't, 't>(
     }
 }
 
-/// Shows the kept item of an index for one subset, counted from 0, where it is not plain. It finds
-/// the item itself, so that a plain one is never copied.
+/// Shows the kept item of an index that is not plain. It finds it itself: none is copied twice.
 #[inline(never)]
 fn show_other<V: Visitor>(
     pack: &PackedData<'_>,

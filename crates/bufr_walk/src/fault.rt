@@ -20,7 +20,7 @@ pub struct Spot {
 
 impl Spot {
     ghost use Rattle.std.specs.Prelude.{◌≡◌};
-    ghost use Rattle.bufr_walk.specs.Refusal.{spot};
+    ghost use Rattle.bufr_walk.specs.Reading.{spot};
 
     /// An item of this subset, after `bit` bits.
     pub(crate) fn new(subset: u16, fxy: Fxy, bit: u64) -> Spot
@@ -40,6 +40,15 @@ impl fmt::Display for Spot {
 
 /// The number of a width that no field has. A document can have this fault too.
 pub const WIDTH: u8 = 31;
+
+/// The number of data that end inside an item.
+pub(crate) const DATA_END: u8 = 30;
+
+/// The number of a factor that is not the same in all subsets of compressed data.
+pub(crate) const UNEQUAL_FACTOR: u8 = 33;
+
+/// The number of an increment of compressed data that is not valid.
+pub(crate) const INCREMENT: u8 = 34;
 
 /// The number of what may not come while 2 03 Y defines references. A document can have this fault
 /// too.
@@ -76,18 +85,18 @@ pub enum WalkFault {
 
 impl WalkFault {
     ghost use Rattle.std.specs.Prelude.{◌≡◌};
-    ghost use Rattle.bufr_walk.specs.Refusal.{number_of_walk_fault};
+    ghost use Rattle.bufr_walk.specs.Reading.{number_of_walk_fault};
 
     /// The number of this fault: 30 to 35, and 73 where memory ran out.
     pub fn number(self) -> u8
         ensures { result ≡ number_of_walk_fault self }
     {
         match self {
-            WalkFault::DataEnd(_) => 30,
+            WalkFault::DataEnd(_) => DATA_END,
             WalkFault::Width(_) => WIDTH,
             WalkFault::Defining(_) => DEFINING,
-            WalkFault::UnequalFactor(_) => 33,
-            WalkFault::Increment(_) => 34,
+            WalkFault::UnequalFactor(_) => UNEQUAL_FACTOR,
+            WalkFault::Increment(_) => INCREMENT,
             WalkFault::TooManyValues(_) => TOO_MANY_VALUES,
             WalkFault::Memory => RunFault::Memory.number(),
         }

@@ -1,7 +1,7 @@
 //! The index of the items of compressed data, and the specifications that they were read by.
 ghost use Rattle.bufr_walk.specs.declared.compressed.PackedFault.TheVariants as wrong;
 ghost use Rattle.std.specs.Prelude.{◌≡◌, ◌≤◌, ◌<◌, ◌+◌, ◌%◌, ◌^◌, ◌++◌, ◌∷◌, [], length, true, vec_len, vec_capacity, IfErr, OnOk, OnErr};
-ghost use Rattle.bufr_walk.specs.StoredItems.{HasSpecAt, IsPut, room_for, room_left};
+ghost use Rattle.bufr_walk.specs.PackedIn.{HasSpecAt, IsPut, room_for, room_left};
 ghost use Rattle.bufr_walk.specs.Reading.{items_at_once};
 
 use crate::compressed::PackedFault;
@@ -9,8 +9,7 @@ use crate::spec::Spec;
 use std::alloc::Global;
 use std::marker::Model;
 
-/// An item of compressed data that is kept: its specification, the bit where it begins, the number
-/// of its base (0 for a text), and its k.
+/// A kept item: its specification, the bit where it begins, its base (0 for a text), and its k.
 #[derive(Clone, Copy)]
 pub(crate) struct IndexedItem {
     pub(crate) spec: Spec,
@@ -29,8 +28,7 @@ pub(crate) struct PackedRead {
 /// How many items room is made for at once.
 const ITEMS_AT_ONCE: usize = 64;
 
-/// Location of an item: the bit where it begins, the number of its base, the index of its
-/// specification, and its k.
+/// An item: the bit where it begins, its base, the index of its specification, and its k.
 // The widest field is first, so that an entry has no gaps between its fields.
 #[derive(Clone, Copy)]
 pub(crate) struct ItemLocation {
@@ -83,8 +81,7 @@ fn make_room(places: &mut Vec<ItemLocation>, specs: &mut Vec<Spec>) -> Result<()
     }
 }
 
-/// The index of a field among others: the guess, if the field is there, else the index after all
-/// others, for which there is room.
+/// The index of a field among others: the guess, if it is there, else that after all others.
 #[inline(always)]
 fn place_of(specs: &mut Vec<Spec>, guess: u32, spec: &Spec) -> u32
     requires few { vec_len specs.old < 2 ^ 32 }
@@ -130,7 +127,7 @@ impl Model for ItemIndex {
 
     ghost Value = { List IndexedItem };
 
-    ghost use Rattle.bufr_walk.specs.StoredItems.{indexed_items, IsKeptBy};
+    ghost use Rattle.bufr_walk.specs.PackedIn.{indexed_items, IsKeptBy};
 
     ghost view = { λ k. indexed_items k.specs.items k.places.items };
 

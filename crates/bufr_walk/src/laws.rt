@@ -1,13 +1,7 @@
 //! Laws on the data of a message: they have one reading or one refusal, and never both.
 ghost use Rattle.std.specs.Prelude.{◌≡◌, ◌⊎◌, ℕ, List};
-ghost use Rattle.bufr_tables.specs.Expansion.{IsLegal};
-ghost use Rattle.bufr_tables.specs.Records.{Record};
-ghost use Rattle.bufr_tables.specs.TableB.{Row, AreRows};
-ghost use Rattle.bufr_tables.specs.Tree.{Tree};
-ghost use Rattle.bufr_walk.specs.Course.{Course, next_item};
-ghost use Rattle.bufr_walk.specs.Refusal.{IsRefused};
-ghost use Rattle.bufr_walk.specs.Reading.{Data, Values, IsReading};
-ghost use Rattle.bufr_walk.specs.declared.fault.WalkFault.{WalkFault};
+ghost use Rattle.bufr_tables.specs.Prelude.{IsLegal, Record, Row, AreRows, Tree};
+ghost use Rattle.bufr_walk.specs.Prelude.{Course, next_item, IsRefused, Data, Values, IsReading, WalkFault};
 
 /// Law: two readings of the same data by the same course have the same items, with the same values,
 /// and take the same bits. (WMO-No. 306, Volume I.2, FM 94: sections 3 and 4)

@@ -1,9 +1,8 @@
 //! The last lists of descriptors, each with its template and the specs that its cells were read by.
 ghost use Rattle.std.specs.Prelude.{◌≡◌, ◌<◌, ◌^◌, Ok, IfSome, ◌≢◌, ◌≤◌, [], length, true, false, IfErr, OnOk, get_or, List};
-ghost use Rattle.bufr_tables.specs.TableB.{Row};
+ghost use Rattle.bufr_tables.specs.Prelude.{Row, Sequence};
 ghost use Rattle.bufr_walk.specs.TemplateCache.{MayStay, IsSlotBy, IsOther, AreSlots};
 ghost use Rattle.std.specs.List.{All};
-ghost use Rattle.bufr_tables.specs.TableD.{Sequence};
 
 use crate::spec::{Role, Spec};
 use bufr_tables::{Fxy, SelectedTemplate, TableB, TableD, Template, TemplateFault};
@@ -20,8 +19,7 @@ pub(crate) const NO_KEY: u64 = 0x4000_0000_0000_0000;
 /// The key of an entry that has no spec.
 const EMPTY: u64 = u64::MAX;
 
-/// A cached spec: its key of operators and descriptor, and the index of its field in what the last
-/// reading kept.
+/// A cached spec: its key, and the index of its field in what the last reading kept.
 #[derive(Clone, Copy)]
 struct CachedSpec {
     key: u64,
@@ -47,7 +45,7 @@ pub struct SpecCache<'a> {
 
 impl<'a> Model for SpecCache<'a> {
     ghost use Rattle.std.specs.Prelude.{List};
-    ghost use Rattle.bufr_tables.specs.TableB.{Row};
+    ghost use Rattle.bufr_tables.specs.Prelude.{Row};
 
     ghost Value = { List Row };
 
@@ -287,7 +285,7 @@ impl<'a> Model for TemplateCache<'a> {
 impl<'a> TemplateCache<'a> {
     ghost use Rattle.std.specs.Prelude.{◌≡◌, ◌≢◌, ◌≤◌, [], length, true, Ok, Err, IfErr, IfOk, OnOk};
     ghost use Rattle.std.specs.List.{All};
-    ghost use Rattle.bufr_tables.specs.Expansion.{tree_of, tables_of};
+    ghost use Rattle.bufr_tables.specs.Prelude.{tree_of, tables_of};
     ghost use Rattle.bufr_walk.specs.TemplateCache.{MayStay};
 
     /// Templates by these tables; the list of no descriptors is the last. Takes no memory.

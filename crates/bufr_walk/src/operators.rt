@@ -2,9 +2,7 @@
 ghost use Rattle.std.specs.Prelude.{◌≡◌, ◌≤◌, ◌<◌, ◌*◌, ◌+◌, ◌^◌, ◌+ℤ◌, ◌*ℤ◌, if◌then◌else◌, ◌==◌, pos, unsigned_abs, List, Result, Ok, Err, Some, OnOk, IfOk, IfErr, IsSome, true, false};
 ghost use Rattle.std.specs.Ordering.{nat_cmp};
 ghost use Rattle.std.specs.BTreeMap.{get};
-ghost use Rattle.bufr_tables.specs.Entry.{row_of_entry};
-ghost use Rattle.bufr_tables.specs.Tree.{is_legal_operator, is_inserted_text};
-ghost use Rattle.bufr_tables.specs.TableB.{IsRow};
+ghost use Rattle.bufr_tables.specs.Prelude.{row_of_entry, is_legal_operator, is_inserted_text, IsRow};
 ghost use Rattle.bufr_walk.specs.Rules.{if_valid_width, numeric_spec, coded_spec, spec_by_kind, new_reference_spec, unsigned_of, local_width_spec, element_spec, factor_by, factor_spec, inserted_spec, scale_change_of, operator_width, extra_bits, text_width, OperatorModel, Redefined, begin, after_operator, after_field, current_reference, with_reference, AreOperands, known_by, operator_model, IsOperatorKey};
 ghost use Rattle.bufr_walk.specs.declared.operators.OperatorOperands.{OperatorOperands};
 
@@ -115,8 +113,7 @@ impl Model for OperatorState {
         × IsOperatorKey (operator_model a.operands (known_by a.new_references.entries)) a.key };
 }
 
-/// The operands in one number, while no reference is being defined and none was redefined; else a
-/// number that is no key.
+/// The operands in one number, while no reference is defined; else a number that is no key.
 fn key_by(operands: OperatorOperands, new_references: &BTreeMap<u16, i64>) -> u64
     ensures { IsOperatorKey (operator_model operands (known_by new_references.now.entries)) result }
 {
@@ -411,10 +408,10 @@ fn factor_by(fxy: Fxy, entry: &Entry<'_>) -> Result<Spec, TurnRefusal>
 
 impl OperatorState {
     ghost use Rattle.std.specs.Prelude.{◌≡◌, Ok, Err, OnOk, IfErr, true, false, [], ◌∷◌, IfOk};
-    ghost use Rattle.bufr_tables.specs.Tree.{is_legal_operator, is_inserted_text};
+    ghost use Rattle.bufr_tables.specs.Prelude.{is_legal_operator, is_inserted_text};
     ghost use Rattle.bufr_walk.specs.Rules.{element_spec, factor_spec, inserted_spec, begin, after_operator, after_field, IsFieldKey, spec_of};
-    ghost use Rattle.bufr_walk.specs.FieldSpec.{is_reference};
-    ghost use Rattle.bufr_walk.specs.Walk.{TakesField};
+    ghost use Rattle.bufr_walk.specs.Content.{is_reference};
+    ghost use Rattle.bufr_walk.specs.Course.{TakesField};
 
     /// No operator is in force.
     pub(crate) fn new(alloc: Global) -> OperatorState
@@ -609,8 +606,7 @@ impl OperatorState {
         self.take(fxy, &spec, fields)
     }
 
-    /// Takes a field, and changes the operators in force by it: a given width ends, and a reference
-    /// is kept.
+    /// Takes a field: a given width ends, and a reference is kept.
     #[inline(never)]
     pub(crate) fn take<S: Fields>(
         &mut self,

@@ -1,17 +1,13 @@
 //! Data that are not compressed: fields, reading, and showing.
 ghost use Rattle.std.specs.Prelude.{◌≡◌, ◌≤◌, ◌<◌, ◌+◌, ◌-◌, ◌*◌, ◌^◌, length, take, drop, if◌then◌else◌, ◌==◌, pos, neg_ℤ, false, List, IfOk, IfErr, ◌/◌, Bool, Result, Some, Ok, Err};
-ghost use Rattle.bufr_bits.specs.Bits.{number_of, bits_at, bits_of, are_all_ones};
-ghost use Rattle.bufr_bits.specs.BitSlice.{octets_of};
-ghost use Rattle.bufr_walk.specs.FieldSpec.{IsFor, IsPlainNumber};
-ghost use Rattle.bufr_walk.specs.Content.{answer_of, content_in, signed_by, octets_in, Content, shown};
-ghost use Rattle.bufr_tables.specs.Tree.{places};
+ghost use Rattle.bufr_bits.specs.Prelude.{number_of, bits_at, bits_of, are_all_ones, octets_of};
+ghost use Rattle.bufr_walk.specs.Content.{IsFor, IsPlainNumber, answer_of, content_in, signed_by, octets_in, Content, shown};
+ghost use Rattle.bufr_tables.specs.Prelude.{places};
 ghost use Rattle.bufr_walk.specs.Course.{next_item};
-ghost use Rattle.bufr_walk.specs.Refusal.{bits_before, data_in, IsFault};
-ghost use Rattle.bufr_walk.specs.StoredItems.{IsReadAndPaid};
-ghost use Rattle.bufr_walk.specs.PlainIn.{plain_fault, rest_of};
+ghost use Rattle.bufr_walk.specs.Reading.{bits_before, data_in, IsFault, Item, plain, ReadsPass, ReadsSubsets, turns_in};
+ghost use Rattle.bufr_walk.specs.PackedIn.{IsReadAndPaid};
+ghost use Rattle.bufr_walk.specs.PlainIn.{plain_fault, rest_of, IsEnd, MayEnd, ItemsGo};
 ghost use Rattle.bufr_walk.specs.Calls.{item_call, view_of, subset_calls, seen_value, HasRow, Shows};
-ghost use Rattle.bufr_walk.specs.Reading.{Item, plain, ReadsPass, ReadsSubsets, turns_in};
-ghost use Rattle.bufr_walk.specs.ShowSteps.{IsEnd, MayEnd, ItemsGo};
 
 use crate::fault::{ShowFault, Spot, WalkFault};
 use crate::lists::SpecCache;
@@ -167,8 +163,7 @@ pub(crate) fn plain_value_at<'t>(bits: &BitSlice<'_>, at: u64, spec: &Spec) -> V
     plain_number(spec, raw.number)
 }
 
-/// The value of a field that begins with bit `at`. The octets of a text are copied where they
-/// cannot be borrowed.
+/// The value of a field that begins with bit `at`. A text is copied where it cannot be borrowed.
 #[tactic(auto, using(crate::proofs::ShownLemmas::reference_shown, crate::proofs::ShownLemmas::missing_shown, crate::proofs::ShownLemmas::number_shown))]
 // rule: value, missing, missing-inserted-text
 pub(crate) fn value_at<'a: 't, 't>(
@@ -222,8 +217,7 @@ pub struct PlainIn<'a> {
 
 impl<'a> Model for PlainIn<'a> {
     ghost use Rattle.std.specs.Prelude.{◌≤◌, length};
-    ghost use Rattle.bufr_bits.specs.Bits.{bits_of};
-    ghost use Rattle.bufr_bits.specs.BitSlice.{octets_of};
+    ghost use Rattle.bufr_bits.specs.Prelude.{bits_of, octets_of};
     ghost use Rattle.bufr_walk.specs.PlainIn.{Cursor};
 
     ghost Value = { Cursor };
@@ -235,11 +229,9 @@ impl<'a> Model for PlainIn<'a> {
 
 impl<'a> PlainIn<'a> {
     ghost use Rattle.std.specs.Prelude.{◌≡◌, ◌≤◌, ◌<◌, ◌+◌, ◌*◌, ◌/◌, ◌^◌, true, false, length, take, MatchResult, Ok, Err, IfOk, IfSome};
-    ghost use Rattle.bufr_bits.specs.Bits.{bits_of, are_all_ones};
-    ghost use Rattle.bufr_bits.specs.BitSlice.{octets_of};
-    ghost use Rattle.bufr_tables.specs.TableB.{is_character};
-    ghost use Rattle.bufr_walk.specs.FieldSpec.{IsFor, IsPlainNumber};
-    ghost use Rattle.bufr_walk.specs.Content.{content_in, octets_in, shown};
+    ghost use Rattle.bufr_bits.specs.Prelude.{bits_of, are_all_ones, octets_of};
+    ghost use Rattle.bufr_tables.specs.Prelude.{is_character};
+    ghost use Rattle.bufr_walk.specs.Content.{IsFor, IsPlainNumber, content_in, octets_in, shown};
     ghost use Rattle.bufr_walk.specs.PlainIn.{PlainTakes, past, rest_of};
     ghost use Rattle.bufr_walk.specs.Calls.{seen_value};
 
@@ -250,11 +242,7 @@ impl<'a> PlainIn<'a> {
         PlainIn { bits, at: 0 }
     }
 
-    /// What the next field returns to the walk; the field is not passed.
-    ///
-    /// # Errors
-    ///
-    /// [`DataEnd`] where the data end inside the field.
+    /// What the next field returns to the walk, or that the data end in it. It is not passed.
     #[tactic(auto, using(crate::proofs::PlainLemmas::taken_here, crate::proofs::PlainLemmas::ends_here, crate::proofs::PlainLemmas::bits_length))]
     #[inline(always)]
     // rule: field-past-end
@@ -444,7 +432,7 @@ impl<'i, 't, 'v, 'b, V: Visitor> Fields for ShowFields<'i, 't, 'v, 'b, V> {
 
     ghost use Rattle.std.specs.Prelude.{ℕ};
     ghost use Rattle.std.proofs.Common.{arith, ap};
-    ghost use Rattle.bufr_walk.specs.ShowSteps.{ShowingTakes, refusal_keeps, stage};
+    ghost use Rattle.bufr_walk.specs.PlainIn.{ShowingTakes, refusal_keeps, stage};
 
     ghost used = { λ s. s.input.now.at };
 

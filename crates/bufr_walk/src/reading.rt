@@ -1,8 +1,8 @@
 //! The reading of a message's data.
 ghost use Rattle.std.specs.Prelude.{◌≡◌, ◌≤◌, ◌+◌, ◌*◌, length, IfOk, IfErr};
-ghost use Rattle.bufr_tables.specs.Tree.{places};
+ghost use Rattle.bufr_tables.specs.Prelude.{places};
 ghost use Rattle.bufr_walk.specs.Course.{next_item};
-ghost use Rattle.bufr_walk.specs.Refusal.{bits_before, data_of, IsFault, IsReadingOf};
+ghost use Rattle.bufr_walk.specs.Reading.{bits_before, data_of, IsFault, IsReadingOf};
 
 use crate::compressed::{PackedData, read_packed, show_packed};
 use crate::fault::{ShowFault, WalkFault};
@@ -17,8 +17,7 @@ use bufr_tables::{TableB, Template};
 use std::alloc::Global;
 use std::marker::Model;
 
-/// What a reading keeps: nothing of data that are not compressed, else the location of each item
-/// and the fields among them.
+/// What a reading keeps: of compressed data the location of each item, and the fields among them.
 #[derive(Drop)]
 enum StoredItems {
     Apart,
@@ -40,15 +39,15 @@ pub struct Reading<'a> {
 
 impl<'a> Model for Reading<'a> {
     ghost use Rattle.std.specs.Coded.{codes};
-    ghost use Rattle.bufr_bits.specs.BitSlice.{octets_of};
-    ghost use Rattle.bufr_tables.specs.Cells.{tree_code};
-    ghost use Rattle.bufr_walk.specs.Refusal.{data_in, read_by, Read};
+    ghost use Rattle.bufr_bits.specs.Prelude.{octets_of};
+    ghost use Rattle.bufr_tables.specs.Prelude.{tree_code};
+    ghost use Rattle.bufr_walk.specs.Reading.{data_in, read_by, Read};
 
     ghost Value = { Read };
 
     ghost coded = { Prim.hlevel (codes, tree_code) };
 
-    ghost use Rattle.bufr_walk.specs.StoredItems.{held_of, IsStoredReading};
+    ghost use Rattle.bufr_walk.specs.PackedIn.{held_of, IsStoredReading};
 
     ghost view = { λ r. read_by r.table.now r.template.now
         (data_in r.compressed r.subsets (octets_of r.bits)) r.used (held_of r.kept) };
@@ -148,10 +147,9 @@ pub fn read_by<'a, 't: 'a>(
 
 impl<'a> Reading<'a> {
     ghost use Rattle.std.specs.Prelude.{◌≡◌, ◌≤◌, ◌*◌, false};
-    ghost use Rattle.bufr_tables.specs.Tree.{places};
+    ghost use Rattle.bufr_tables.specs.Prelude.{places};
     ghost use Rattle.bufr_walk.specs.Calls.{calls_of, items_called, ShowsReading};
-    ghost use Rattle.bufr_walk.specs.Refusal.{course_of};
-    ghost use Rattle.bufr_walk.specs.Reading.{Values, IsReading, items_kept, max_values};
+    ghost use Rattle.bufr_walk.specs.Reading.{course_of, Values, IsReading, items_kept, max_values};
 
     /// The number of subsets.
     pub fn subsets(&self) -> u16

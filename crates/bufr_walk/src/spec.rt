@@ -1,7 +1,7 @@
 //! The specification of one field of the data.
 ghost use Rattle.std.specs.Prelude.{◌≡◌, ◌≤◌, ◌^◌, false, true, unsigned_abs};
-ghost use Rattle.bufr_tables.specs.TableB.{is_character};
-ghost use Rattle.bufr_walk.specs.FieldSpec.{HasRole, HasWidth, number_field, is_plain_number};
+ghost use Rattle.bufr_tables.specs.Prelude.{is_character};
+ghost use Rattle.bufr_walk.specs.Content.{HasRole, HasWidth, number_field, is_plain_number};
 ghost use Rattle.bufr_walk.specs.Rules.{if_valid_width, text_spec};
 ghost use Rattle.bufr_tables.specs.declared.table_b.Kind.TheVariants as kinds;
 
@@ -69,7 +69,7 @@ pub(crate) struct NumberParts {
 }
 
 impl Model for Spec {
-    ghost use Rattle.bufr_walk.specs.FieldSpec.{FieldSpec, IsSpecWith, is_plain};
+    ghost use Rattle.bufr_walk.specs.Content.{FieldSpec, IsSpecWith, is_plain};
 
     ghost Value = { FieldSpec };
 
@@ -134,9 +134,9 @@ fn is_plain_number(role: Role, width: u32, reference: i128, listed: bool) -> boo
 
 impl Spec {
     ghost use Rattle.std.specs.Prelude.{◌≡◌, ◌≤◌, ◌%◌, ◌^◌, true, false, unsigned_abs};
-    ghost use Rattle.bufr_tables.specs.TableB.{is_character};
+    ghost use Rattle.bufr_tables.specs.Prelude.{is_character};
     ghost use Rattle.bufr_tables.specs.declared.table_b.Kind.TheVariants as kinds;
-    ghost use Rattle.bufr_walk.specs.FieldSpec.{HasRole, HasWidth, IsSpec, is_reference, number_field, IsPlainNumber};
+    ghost use Rattle.bufr_walk.specs.Content.{HasRole, HasWidth, IsSpec, is_reference, number_field, IsPlainNumber};
     ghost use Rattle.bufr_walk.specs.Rules.{if_valid_width, text_spec};
 
     /// A number, where its width is 1 to 63.
@@ -265,8 +265,7 @@ impl Spec {
         self.listed
     }
 
-    /// Whether the field is the number of an element that is read by an entry of Table B, and stays
-    /// below 2^63.
+    /// Whether the field is the number of a listed element, and stays below 2^63.
     #[inline(always)]
     pub(crate) fn is_plain(&self) -> bool
         ensures { result ≡ true → IsPlainNumber self.now }

@@ -1,11 +1,10 @@
 //! The walk over the cells of a template, with the fields that it takes, its stops and its steps.
 ghost use Rattle.std.specs.Prelude.{◌≡◌, ℕ, ◌+◌, ◌-◌, ◌^◌, ◌<◌, Result, Ok, Err, IfOk, ◌≤◌, length, slice_index_or, ◌*◌, ◌++◌, ◌∷◌, [], List, OnOk, OnErr};
-ghost use Rattle.bufr_walk.specs.Walk.{ticked, IsAtCell, Turned, Walked, TakesField};
-ghost use Rattle.bufr_walk.specs.FieldSpec.{FieldSpec, IsFor};
+ghost use Rattle.bufr_walk.specs.Course.{ticked, IsAtCell, Turned, Walked, TakesField, next_item, Rest};
+ghost use Rattle.bufr_walk.specs.Content.{FieldSpec, IsFor};
 ghost use Rattle.bufr_walk.specs.declared.spec.Taken.{Taken};
 ghost use Rattle.arrayvec.specs.ArrayVec.{array_vec_len};
-ghost use Rattle.bufr_tables.specs.Tree.{places};
-ghost use Rattle.bufr_walk.specs.Course.{next_item, Rest};
+ghost use Rattle.bufr_tables.specs.Prelude.{places};
 ghost use Rattle.bufr_walk.specs.Rules.{after_field, descriptor_of, spec_of};
 ghost use Rattle.bufr_walk.specs.declared.walker.Frame.{Frame};
 
@@ -32,7 +31,7 @@ pub enum WalkStop<E> {
 
 impl<E> From<TurnRefusal> for WalkStop<E> {
     ghost use Rattle.std.specs.Prelude.{◌≡◌};
-    ghost use Rattle.bufr_walk.specs.Walk.{stop_by};
+    ghost use Rattle.bufr_walk.specs.Course.{stop_by};
 
     ghost from_gives = { λ w e. e ≡ stop_by w };
 
@@ -219,8 +218,7 @@ fn take_new<S: Fields>(
     in_force.take(fxy, &spec, fields)
 }
 
-/// Takes the field of a cell, by the spec that is cached for it, if there is one. The guess for the
-/// field is its last index among those that are kept.
+/// Takes the field of a cell, by the spec that is cached for it, if there is one.
 #[tactic(auto, using(crate::proofs::CacheLemmas::spec_got, crate::proofs::CacheLemmas::spec_got_plain))]
 #[inline(always)]
 fn take_field<S: Fields>(
@@ -258,8 +256,7 @@ struct CellPlace<'c> {
     index: u32,
 }
 
-/// What a walk keeps from cell to cell: the open groups, the outermost first, and the operators in
-/// force.
+/// What a walk keeps from cell to cell: the open groups, outermost first, and the operators.
 #[derive(Drop)]
 struct WalkState {
     open_groups: ArrayVec<Frame, 32>,

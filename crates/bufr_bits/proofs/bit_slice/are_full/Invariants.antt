@@ -1,5 +1,5 @@
 use Rattle.std.proofs.Common.{◌≡◌, length}
-use Rattle.bufr_bits.specs.Bits.{bits_of, are_all_ones}
+use Rattle.bufr_bits.specs.Prelude.{bits_of, are_all_ones}
 use Rattle.bufr_bits.proofs.bit_slice.are_full.Given as goal
 
 abbrev pub invariant-loop-window : goal.invariant-loop-window

@@ -1,5 +1,5 @@
 use Rattle.std.proofs.Common.{◌≡◌, ◌≤◌, ◌<◌, ◌+◌, ◌*◌, ◌^◌, ◌++◌, take, vec_len, vec_capacity}
-use Rattle.bufr_bits.specs.Bits.{bits_of, bits_in}
+use Rattle.bufr_bits.specs.Prelude.{bits_of, bits_in}
 use Rattle.bufr_bits.proofs.bit_writer.append_shifted.Given as goal
 
 abbrev pub invariant-loop-octet : goal.invariant-loop-octet

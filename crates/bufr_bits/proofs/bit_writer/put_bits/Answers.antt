@@ -1,5 +1,5 @@
 use Rattle.std.proofs.Common.{◌-◌, arith}
-use Rattle.bufr_bits.proofs.BitLemmas.{both_fit, both_bits, both_low, full_fits, full_bits, rest_low}
+use Rattle.bufr_bits.proofs.BitLemmas.{both_fit, both_bits, both_low, full_fits, full_bits}
 use Rattle.bufr_bits.proofs.bit_writer.put_bits.Goals as goal
 
 pub overflow_add-result : goal.overflow_add-result
@@ -31,10 +31,3 @@ returns-clause-bits c =
     let few = c.requires.few in
     let narrow = c.requires.width in
     full_bits c.args.out.now.items c.put.new.out.items _ c.args.last c.args.count c.args.value c.args.width (64 - c.args.count) (c.args.width - (64 - c.args.count)) (omega arith) (omega arith) (omega arith) c.requires.low c.requires.value c.to_be_bytes.ensures c.put.ensures.items
-
-pub returns-clause-low : goal.returns-clause-low
-returns-clause-low c =
-    let many = c.if-width-free.false in
-    let few = c.requires.few in
-    let narrow = c.requires.width in
-    rest_low c.args.value (c.args.width - (64 - c.args.count)) (omega arith)

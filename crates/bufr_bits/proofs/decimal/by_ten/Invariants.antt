@@ -1,5 +1,5 @@
 use Rattle.std.proofs.Common.{◌≡◌, ◌-◌, ◌^◌}
-use Rattle.bufr_bits.specs.Decimal.{whole_quotient}
+use Rattle.bufr_bits.specs.Prelude.{whole_quotient}
 use Rattle.bufr_bits.proofs.decimal.by_ten.Given as goal
 
 abbrev pub invariant-loop-turn : goal.invariant-loop-turn

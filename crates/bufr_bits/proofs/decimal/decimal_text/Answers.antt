@@ -1,6 +1,5 @@
-use Rattle.std.proofs.Common.{sym, ap, ◌∙◌, append-nil, to_z-of_z}
-use Rattle.std.specs.Prelude.{unsigned_abs}
-use Rattle.bufr_bits.specs.Decimal.{positive_scale, negative_scale}
+use Rattle.std.proofs.Common.{sym, ap, ◌∙◌, append-nil, to_z-of_z, unsigned_abs}
+use Rattle.bufr_bits.specs.Prelude.{positive_scale, negative_scale}
 use Rattle.bufr_bits.proofs.DecimalLemmas.{text_pointed, text_plain, some_zeros, no_zeros}
 use Rattle.bufr_bits.proofs.decimal.decimal_text.Goals as goal
 

@@ -1,6 +1,6 @@
 use Rattle.std.proofs.Common.{◌≡◌, ℕ, take}
 use Rattle.std.specs.Str.Parse.{digits_value_after}
-use Rattle.bufr_bits.specs.Device.{capped}
+use Rattle.bufr_bits.specs.Prelude.{capped}
 use Rattle.bufr_bits.proofs.decimal.extend_with_digits.Given as goal
 
 abbrev pub invariant-loop-digit : goal.invariant-loop-digit

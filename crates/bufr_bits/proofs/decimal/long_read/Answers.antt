@@ -1,6 +1,6 @@
 use Rattle.std.proofs.Common.{ap, ◌∙◌, Err, to_z-of_z}
 use Rattle.std.proofs.lemmas.Result.{err_from_is_err_and}
-use Rattle.bufr_bits.specs.Decimal.{positive_scale, negative_scale}
+use Rattle.bufr_bits.specs.Prelude.{positive_scale, negative_scale}
 use Rattle.bufr_bits.proofs.DecimalLemmas.{read_syntax, read_fault, read_found}
 use Rattle.bufr_bits.proofs.decimal.long_read.Goals as goal
 

@@ -1,6 +1,6 @@
 use Rattle.std.proofs.Common.{◌≡◌, true, take}
 use Rattle.std.specs.Str.Parse.{digits_value_after}
-use Rattle.bufr_bits.specs.Decimal.{all_digits}
+use Rattle.bufr_bits.specs.Prelude.{all_digits}
 use Rattle.bufr_bits.proofs.decimal.read_digits.Given as goal
 
 abbrev pub invariant-loop-octet : goal.invariant-loop-octet

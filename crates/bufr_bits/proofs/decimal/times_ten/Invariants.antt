@@ -1,5 +1,5 @@
 use Rattle.std.proofs.Common.{◌≡◌, ℕ, ◌*◌, ◌^◌}
-use Rattle.bufr_bits.specs.Device.{capped}
+use Rattle.bufr_bits.specs.Prelude.{capped}
 use Rattle.bufr_bits.proofs.decimal.times_ten.Given as goal
 
 abbrev pub invariant-turns : goal.invariant-turns

@@ -1,5 +1,5 @@
 use Rattle.std.proofs.Common.{◌≡◌, ◌++◌}
-use Rattle.bufr_frame.specs.Octets.{words_left}
+use Rattle.bufr_frame.specs.Prelude.{words_left}
 use Rattle.bufr_cli.proofs.dump.descriptors_of.Given as goal
 
 -- the words so far were put one after another, and the others are left

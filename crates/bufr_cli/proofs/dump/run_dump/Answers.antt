@@ -1,7 +1,6 @@
 use Rattle.std.proofs.Common.{subst, sym}
-use Rattle.bufr_walk.specs.TemplateCache.{Lists}
-use Rattle.bufr_cli.specs.Pieces.{IsDumpPiece}
-use Rattle.bufr_cli.specs.Running.{event_pieces, GivesPieces}
+use Rattle.bufr_walk.specs.Prelude.{Lists}
+use Rattle.bufr_cli.specs.Prelude.{IsDumpPiece, event_pieces, GivesPieces}
 use Rattle.bufr_cli.proofs.RunLemmas.{all-known}
 use Rattle.bufr_cli.proofs.dump.run_dump.Goals as goal
 

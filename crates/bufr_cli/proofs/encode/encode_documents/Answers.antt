@@ -1,8 +1,8 @@
 use Rattle.std.proofs.Common.{◌∙◌, Err, Ok, ap, refl, ◌^◌}
 use Rattle.std.proofs.lemmas.Result.{err_from_is_err_and}
-use Rattle.bufr_text.specs.Reader.{failures_by, new_reader}
+use Rattle.bufr_text.specs.Prelude.{new_reader}
 use Rattle.bufr_text.proofs.CallLemmas.{counts-then}
-use Rattle.bufr_cli.proofs.EncodeLemmas.{done-at-refused, done-last, falls, none-else, ran-by-equal, ran-few, ran-fresh, reads-made, stop-failures, stop-reads, stops, turn-on, verdict-keeps}
+use Rattle.bufr_cli.proofs.EncodeLemmas.{done-at-refused, done-last, falls, none-else, ran-by-equal, ran-few, ran-fresh, reads-made, stop-reads, stops, turn-on, verdict-keeps}
 use Rattle.bufr_cli.proofs.encode.encode_documents.Goals as goal
 
 pub loop-reader-init : goal.loop-reader-init
@@ -25,14 +25,6 @@ returns-in_err-verdict-clause-run g c =
     let ran = c.loop-reader.invariant.ran in
     stops _ _ _ _ _ _ _ _ _ _ _ _ _ _ _ _ _ ran (c.next_document-next.ensures.next ran.sound) c.next_document-next.ensures.counts _ _ c.encode_next.result _ c.from_residual.result
     reports c.in_err-verdict.was (p.1 ∙ ap Err p.2)
-
-pub returns-in_err-verdict-clause-reader : goal.returns-in_err-verdict-clause-reader
-returns-in_err-verdict-clause-reader g c =
-    let reports = rw (c.loop-reader.invariant.form, c.loop-reader.invariant.table_b, c.loop-reader.invariant.table_d) at c.encode_next.ensures.reports in
-    let p = err_from_is_err_and c.from_residual.result c.from_residual.ensures.1 in
-    let before = c.loop-reader.invariant in
-    stop-failures _ _ _ _ _ c.next_document-next.result c.encode_next.result _ c.from_residual.result _ _ reports c.in_err-verdict.was (p.1 ∙ ap Err p.2)
-    (c.next_document-next.ensures.failed before.ran.sound ∙ ap (λ n. failures_by n c.next_document-next.result) before.reader)
 
 pub returns-in_err-verdict-clause-reads : goal.returns-in_err-verdict-clause-reads
 returns-in_err-verdict-clause-reads g c =

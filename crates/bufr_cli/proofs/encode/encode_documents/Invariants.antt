@@ -1,5 +1,5 @@
 use Rattle.std.proofs.Common.{◌≡◌, ◌+◌, ◌-◌, ◌^◌}
-use Rattle.bufr_text.specs.Writing.{Stays}
+use Rattle.bufr_text.specs.Prelude.{Stays}
 use Rattle.bufr_cli.proofs.EncodeLemmas.{EncodedSoFar}
 use Rattle.bufr_cli.proofs.encode.encode_documents.Given as goal
 

@@ -1,12 +1,9 @@
-use Rattle.std.proofs.Common.{◌≡◌, ◌∙◌, Option, Ok, Err, ap, refl, rules}
+use Rattle.std.proofs.Common.{◌≡◌, ◌∙◌, Ok, Err, ap, rules}
 use Rattle.std.proofs.lemmas.Result.{err_from_is_err_and}
 use Rattle.bufr_frame.specs.declared.fault.RunFault.{RunFault}
-use Rattle.bufr_text.specs.Documents.{Complete}
-use Rattle.bufr_text.specs.Reader.{parse_results}
+use Rattle.bufr_text.specs.Prelude.{Complete, parse_results}
 use Rattle.bufr_text.specs.declared.fault.ReadFault.TheVariants.{Run}
-use Rattle.bufr_cli.specs.Pieces.{result_piece}
-use Rattle.bufr_cli.specs.declared.outcome.Verdict.{Verdict}
-use Rattle.bufr_cli.proofs.EncodeLemmas.{blames-none, line-cut, line-written, next-stopped, run-ended}
+use Rattle.bufr_cli.proofs.EncodeLemmas.{line-cut, line-written, next-stopped}
 use Rattle.bufr_cli.proofs.encode.encode_next.Goals as goal
 
 pub returns-in_err-verdict-in-Ok-Some-clause-reports : goal.returns-in_err-verdict-in-Ok-Some-clause-reports
@@ -16,16 +13,6 @@ returns-in_err-verdict-in-Ok-Some-clause-reports g c =
 
 pub returns-in_ok-verdict-in-Ok-Some-clause-reports : goal.returns-in_ok-verdict-in-Ok-Some-clause-reports
 returns-in_ok-verdict-in-Ok-Some-clause-reports g c = (Complete c.in-Ok-Some.document, ap parse_results (c.in-Ok-Some.is ∙ ap Ok c.in-Ok-Some.field-0-is), c.in_ok-verdict-in-Ok-Some.ensures.reports)
-
-pub returns-in-Err-Run-clause-reports : goal.returns-in-Err-Run-clause-reports
-returns-in-Err-Run-clause-reports g c =
-    let is : c.args.next ≡ Err (Run c.in-Err-Run.fault) = search rules in
-    run-ended _ _ (result_piece c.args.run.now.form c.args.run.now.templates.table_b c.args.run.now.templates.table_d) c.args.next c.in-Err-Run.fault is c.requires
-
-pub returns-in-Err-Run-clause-counts : goal.returns-in-Err-Run-clause-counts
-returns-in-Err-Run-clause-counts g c =
-    let is : c.args.next ≡ Err (Run c.in-Err-Run.fault) = search rules in
-    blames-none (Option Verdict) _ _ _ _ c.in-Err-Run.fault (λ write. c.requires (is ∙ ap (λ (f : RunFault). Err (Run f)) write)) (refl, refl) (refl, refl)
 
 pub returns-in_err-write_read_fault-in-Err : goal.returns-in_err-write_read_fault-in-Err
 returns-in_err-write_read_fault-in-Err g c =

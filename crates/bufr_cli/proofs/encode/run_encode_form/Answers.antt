@@ -1,10 +1,9 @@
-use Rattle.std.proofs.Common.{◌≡◌, ◌∙◌, Err, Ok, ap}
+use Rattle.std.proofs.Common.{◌∙◌, Err, Ok, ap}
 use Rattle.std.proofs.lemmas.Result.{err_from_is_err_and}
 use Rattle.std.proofs.KnownBytes.{Keeps-refl}
-use Rattle.bufr_frame.specs.declared.fault.RunFault.TheVariants.{Write}
-use Rattle.bufr_cli.specs.Running.{document_pieces}
+use Rattle.bufr_cli.specs.Prelude.{document_pieces}
 use Rattle.bufr_cli.proofs.RunLemmas.{all-known}
-use Rattle.bufr_cli.proofs.EncodeLemmas.{encode-flushed, reads-after, stays-unflushed, stop-encode-flush, stop-keeps-reads}
+use Rattle.bufr_cli.proofs.EncodeLemmas.{encode-flushed, stays-unflushed, stop-encode-flush}
 use Rattle.bufr_cli.proofs.encode.run_encode_form.Goals as goal
 
 pub returns-in_err-tally-clause-run : goal.returns-in_err-tally-clause-run
@@ -13,34 +12,17 @@ returns-in_err-tally-clause-run g c =
     stays-unflushed _ _ _ _ _ _ _ _ _ (c.encode_documents.ensures.output_flushes, c.encode_documents.ensures.errors_flushes) c.encode_documents.result _ c.from_residual.result
     c.in_err-tally.was (p.1 ∙ ap Err p.2) (rw c.new.ensures at c.encode_documents.ensures.run)
 
-pub returns-in_err-tally-clause-reads : goal.returns-in_err-tally-clause-reads
-returns-in_err-tally-clause-reads g c =
-    let p = err_from_is_err_and c.from_residual.result c.from_residual.ensures.1 in
-    stop-keeps-reads _ _ c.encode_documents.result _ c.from_residual.result c.encode_documents.ensures.reads c.in_err-tally.was (p.1 ∙ ap Err p.2)
-
 pub returns-in_err-flush-clause-run : goal.returns-in_err-flush-clause-run
 returns-in_err-flush-clause-run g c =
     let p = err_from_is_err_and c.from_residual-in_err-flush.result c.from_residual-in_err-flush.ensures.1 in
     stop-encode-flush _ _ _ _ _ _ _ _ _ _ c.encode_documents.result _ c.in_ok-tally.was c.flush.ensures.keeps (Keeps-refl _) (rw c.new.ensures at c.encode_documents.ensures.run) _ _ c.from_residual-in_err-flush.result
     (rw c.in_err-flush.was at c.flush.ensures.err) (p.1 ∙ ap Err p.2)
 
-pub returns-in_err-flush-clause-reads : goal.returns-in_err-flush-clause-reads
-returns-in_err-flush-clause-reads g c =
-    let p = err_from_is_err_and c.from_residual-in_err-flush.result c.from_residual-in_err-flush.ensures.1 in
-    let f : c.from_residual-in_err-flush.result ≡ Err Write = p.1 ∙ ap Err (p.2 ∙ (rw c.in_err-flush.was at c.flush.ensures.err)) in
-    reads-after _ _ c.encode_documents.result c.from_residual-in_err-flush.result c.encode_documents.ensures.reads (λ long. cc)
-
 pub returns-in_err-flush-2-clause-run : goal.returns-in_err-flush-2-clause-run
 returns-in_err-flush-2-clause-run g c =
     let p = err_from_is_err_and c.from_residual-in_err-flush-2.result c.from_residual-in_err-flush-2.ensures.1 in
     stop-encode-flush _ _ _ _ _ _ _ _ _ _ c.encode_documents.result _ c.in_ok-tally.was c.flush.ensures.keeps c.flush-2.ensures.keeps (rw c.new.ensures at c.encode_documents.ensures.run) _ _ c.from_residual-in_err-flush-2.result
     (rw c.in_err-flush-2.was at c.flush-2.ensures.err) (p.1 ∙ ap Err p.2)
-
-pub returns-in_err-flush-2-clause-reads : goal.returns-in_err-flush-2-clause-reads
-returns-in_err-flush-2-clause-reads g c =
-    let p = err_from_is_err_and c.from_residual-in_err-flush-2.result c.from_residual-in_err-flush-2.ensures.1 in
-    let f : c.from_residual-in_err-flush-2.result ≡ Err Write = p.1 ∙ ap Err (p.2 ∙ (rw c.in_err-flush-2.was at c.flush-2.ensures.err)) in
-    reads-after _ _ c.encode_documents.result c.from_residual-in_err-flush-2.result c.encode_documents.ensures.reads (λ long. cc)
 
 pub returns-clause-whole : goal.returns-clause-whole
 returns-clause-whole g c =
@@ -50,6 +32,3 @@ returns-clause-whole g c =
 pub returns-clause-run : goal.returns-clause-run
 returns-clause-run g c =
     encode-flushed _ _ _ _ _ _ _ _ _ _ c.encode_documents.result _ c.in_ok-tally.was c.flush.ensures.keeps c.flush-2.ensures.keeps (rw c.new.ensures at c.encode_documents.ensures.run)
-
-pub returns-clause-reads : goal.returns-clause-reads
-returns-clause-reads g c = reads-after _ _ c.encode_documents.result _ c.encode_documents.ensures.reads (λ long. cc)

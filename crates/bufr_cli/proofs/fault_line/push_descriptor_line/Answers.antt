@@ -1,5 +1,5 @@
 use Rattle.std.proofs.Common.{◌∷◌, [], codes}
-use Rattle.bufr_tables.specs.Fxy.{fxy_text}
+use Rattle.bufr_tables.specs.Prelude.{fxy_text}
 use Rattle.bufr_cli.proofs.FaultLineLemmas.{line_pushed}
 use Rattle.bufr_cli.proofs.fault_line.push_descriptor_line.Goals as goal
 

@@ -1,17 +1,10 @@
-use Rattle.std.proofs.Common.{◌∙◌, ◌∷◌, [], ap, codes}
-use Rattle.std.specs.Prelude.{decimal}
-use Rattle.bufr_tables.specs.FaultNumber.{number_of_template_fault}
-use Rattle.bufr_text.specs.Encoding.{number_of_document_fault}
-use Rattle.bufr_text.proofs.PushLemmas.{◌⨾◌, nothing_pushed}
-use Rattle.bufr_text.proofs.HeadLemmas.{joined_then}
-use Rattle.bufr_cli.specs.FaultLine.{template_fault_text}
+use Rattle.std.proofs.Common.{◌∙◌, ◌∷◌, [], ap, codes, decimal}
+use Rattle.bufr_tables.specs.Prelude.{number_of_template_fault}
+use Rattle.bufr_text.specs.Prelude.{number_of_document_fault}
+use Rattle.bufr_text.proofs.PushLemmas.{◌⨾◌, nothing_pushed, joined_then}
+use Rattle.bufr_cli.specs.Prelude.{template_fault_text}
 use Rattle.bufr_cli.proofs.FaultLineLemmas.{line_pushed}
 use Rattle.bufr_cli.proofs.fault_line.push_document_fault.Goals as goal
-
-pub returns-in-MissingForbidden : goal.returns-in-MissingForbidden
-returns-in-MissingForbidden g c =
-    let number = c.number-number.ensures ∙ ap number_of_document_fault c.in-MissingForbidden.is in
-    rw c.in-MissingForbidden.is (rw number at c.push_line-in-MissingForbidden.ensures)
 
 pub returns-in-Template : goal.returns-in-Template
 returns-in-Template g c =

@@ -1,11 +1,8 @@
 use Rattle.std.proofs.Common.{codes}
 use Rattle.bufr_text.proofs.PushLemmas.{◌⨾◌}
-use Rattle.bufr_cli.specs.FaultLine.{section_fault_text, template_fault_text, walk_fault_text}
+use Rattle.bufr_cli.specs.Prelude.{section_fault_text, template_fault_text, walk_fault_text}
 use Rattle.bufr_cli.proofs.FaultLineLemmas.{line_pushed}
 use Rattle.bufr_cli.proofs.fault_line.push_fault.Goals as goal
-
-pub returns-in-Stray : goal.returns-in-Stray
-returns-in-Stray g c = rw c.in-Stray.is (c.push_named.ensures ⨾ c.push_stray.ensures)
 
 pub returns-in-Section : goal.returns-in-Section
 returns-in-Section g c =

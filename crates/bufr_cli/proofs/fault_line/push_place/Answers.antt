@@ -1,5 +1,4 @@
-use Rattle.std.proofs.Common.{append_assoc}
-use Rattle.std.specs.Prelude.{decimal}
+use Rattle.std.proofs.Common.{append_assoc, decimal}
 use Rattle.bufr_text.proofs.PushLemmas.{◌⨾◌, retold}
 use Rattle.bufr_cli.proofs.fault_line.push_place.Goals as goal
 

@@ -1,9 +1,6 @@
 use Rattle.bufr_text.proofs.PushLemmas.{◌⨾◌, nothing_pushed}
 use Rattle.bufr_cli.proofs.fault_line.push_section_fault.Goals as goal
 
-pub returns-in-Edition : goal.returns-in-Edition
-returns-in-Edition g c = rw c.in-Edition.is (rw (← c.from.ensures) (c.push_named.ensures ⨾ nothing_pushed))
-
 pub returns-in-SectionShort : goal.returns-in-SectionShort
 returns-in-SectionShort g c =
     rw c.in-SectionShort.is

@@ -1,10 +1,8 @@
-use Rattle.std.proofs.Common.{◌∷◌, [], codes}
-use Rattle.std.specs.Prelude.{decimal}
-use Rattle.bufr_tables.specs.Fxy.{fxy_text}
-use Rattle.bufr_text.specs.Encoding.{number_of_walk_refusal}
-use Rattle.bufr_text.proofs.PushLemmas.{◌⨾◌, nothing_pushed, retold}
-use Rattle.bufr_text.proofs.HeadLemmas.{joined_then}
-use Rattle.bufr_cli.specs.FaultLine.{walk_text}
+use Rattle.std.proofs.Common.{◌∷◌, [], codes, decimal}
+use Rattle.bufr_tables.specs.Prelude.{fxy_text}
+use Rattle.bufr_text.specs.Prelude.{number_of_walk_refusal}
+use Rattle.bufr_text.proofs.PushLemmas.{◌⨾◌, nothing_pushed, retold, joined_then}
+use Rattle.bufr_cli.specs.Prelude.{walk_text}
 use Rattle.bufr_cli.proofs.FaultLineLemmas.{line_pushed, walk_line}
 use Rattle.bufr_cli.proofs.fault_line.push_walk.Goals as goal
 

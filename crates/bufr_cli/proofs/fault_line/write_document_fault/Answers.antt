@@ -1,5 +1,5 @@
 use Rattle.std.proofs.Common.{rules}
-use Rattle.bufr_text.specs.Encoding.{reported_refusal}
+use Rattle.bufr_text.specs.Prelude.{reported_refusal}
 use Rattle.bufr_text.proofs.PushLemmas.{all_written}
 use Rattle.bufr_cli.proofs.FaultLineLemmas.{where_refused}
 use Rattle.bufr_cli.proofs.fault_line.write_document_fault.Goals as goal

@@ -1,9 +1,8 @@
-use Rattle.std.proofs.Common.{◌≡◌, ◌∙◌, Some, sym, ap, subst, codes}
-use Rattle.std.specs.Prelude.{IfNone, IfSome, option_map}
+use Rattle.std.proofs.Common.{◌≡◌, ◌∙◌, Some, sym, ap, subst, codes, IfNone, IfSome, option_map}
 use Rattle.clap.specs.Words.{first_of, found_of, rows_of}
 use Rattle.clap.proofs.WalkLemmas.{first_value-rows}
 use Rattle.bufr_text.specs.declared.encode.Form.{Form}
-use Rattle.bufr_cli.specs.Line.{word_of}
+use Rattle.bufr_cli.specs.Prelude.{word_of}
 use Rattle.bufr_cli.proofs.job.form_of.Goals as goal
 
 pub returns-in-None-clause-named : goal.returns-in-None-clause-named

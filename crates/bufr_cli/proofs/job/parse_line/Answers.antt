@@ -1,6 +1,6 @@
 use Rattle.std.proofs.Common.{rules, ◌≡◌, inr, map, true, Some, refl, subst}
 use Rattle.clap.specs.Words.{App, HasKind, fault_of, found_of, is_simple_and_free, rows_of, subcommand_of}
-use Rattle.bufr_cli.specs.Line.{HasNoJob, bufr_app}
+use Rattle.bufr_cli.specs.Prelude.{HasNoJob, bufr_app}
 use Rattle.bufr_cli.proofs.LineLemmas.{reported-why, why-no-job}
 use Rattle.bufr_cli.proofs.job.parse_line.Goals as goal
 

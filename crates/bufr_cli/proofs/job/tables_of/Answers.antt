@@ -1,8 +1,7 @@
-use Rattle.std.proofs.Common.{◌∙◌, sym, ap, codes}
-use Rattle.std.specs.Prelude.{option_map}
+use Rattle.std.proofs.Common.{◌∙◌, sym, ap, codes, option_map}
 use Rattle.clap.specs.Words.{found_of, rows_of}
 use Rattle.clap.proofs.WalkLemmas.{first_value-rows}
-use Rattle.bufr_cli.specs.Line.{LacksTables}
+use Rattle.bufr_cli.specs.Prelude.{LacksTables}
 use Rattle.bufr_cli.proofs.LineLemmas.{if-none, no-some}
 use Rattle.bufr_cli.proofs.job.tables_of.Goals as goal
 

@@ -1,5 +1,4 @@
-use Rattle.std.proofs.Common.{◌<◌, ℕ, arith}
-use Rattle.std.specs.Prelude.{slice_index}
+use Rattle.std.proofs.Common.{◌<◌, ℕ, arith, slice_index}
 use Rattle.bufr_cli.proofs.DumpLemmas.{some-pieces}
 use Rattle.bufr_cli.proofs.RoundTripLemmas.{octets-all, whole-round}
 use Rattle.bufr_cli.proofs.laws.dump_encode_dump.Goals as goal

@@ -1,6 +1,5 @@
 use Rattle.std.proofs.Common.{refl}
-use Rattle.bufr_cli.specs.Pieces.{ls_piece}
-use Rattle.bufr_cli.specs.Running.{event_pieces}
+use Rattle.bufr_cli.specs.Prelude.{ls_piece, event_pieces}
 use Rattle.bufr_cli.proofs.RunLemmas.{all-known}
 use Rattle.bufr_cli.proofs.ls.run_ls.Goals as goal
 

@@ -1,8 +1,7 @@
-use Rattle.std.proofs.Common.{◌∷◌, [], codes}
-use Rattle.std.specs.Prelude.{decimal}
-use Rattle.bufr_frame.specs.Numbers.{number_of_run_fault}
-use Rattle.bufr_text.proofs.HeadLemmas.{joined_then}
-use Rattle.bufr_cli.specs.Ending.{run_fault_text}
+use Rattle.std.proofs.Common.{◌∷◌, [], codes, decimal}
+use Rattle.bufr_frame.specs.Prelude.{number_of_run_fault}
+use Rattle.bufr_text.proofs.PushLemmas.{joined_then}
+use Rattle.bufr_cli.specs.Prelude.{run_fault_text}
 use Rattle.bufr_cli.proofs.outcome.push_run_fault.Goals as goal
 
 pub returns : goal.returns

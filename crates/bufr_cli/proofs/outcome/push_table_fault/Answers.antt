@@ -1,9 +1,6 @@
-use Rattle.std.proofs.Common.{◌∙◌, ◌∷◌, [], ap, codes}
-use Rattle.std.specs.Prelude.{decimal}
-use Rattle.bufr_tables.specs.Fxy.{fxy_text}
-use Rattle.bufr_tables.specs.FaultNumber.{number_of_table_fault}
-use Rattle.bufr_text.proofs.PushLemmas.{◌⨾◌, nothing_pushed}
-use Rattle.bufr_text.proofs.HeadLemmas.{joined_then}
+use Rattle.std.proofs.Common.{◌∙◌, ◌∷◌, [], ap, codes, decimal}
+use Rattle.bufr_tables.specs.Prelude.{fxy_text, number_of_table_fault}
+use Rattle.bufr_text.proofs.PushLemmas.{◌⨾◌, nothing_pushed, joined_then}
 use Rattle.bufr_cli.proofs.outcome.push_table_fault.Goals as goal
 
 pub returns-in-Row : goal.returns-in-Row

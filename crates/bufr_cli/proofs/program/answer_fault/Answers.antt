@@ -1,6 +1,5 @@
 use Rattle.std.proofs.Common.{ℕ, List, sym, subst}
-use Rattle.bufr_cli.specs.Calling.{AnswersFault, WritesHelp}
-use Rattle.bufr_cli.specs.Running.{writers_of}
+use Rattle.bufr_cli.specs.Prelude.{AnswersFault, WritesHelp, writers_of}
 use Rattle.bufr_cli.specs.declared.job.LineFault.{LineFault}
 use Rattle.bufr_cli.proofs.RunLemmas.{help-in-part}
 use Rattle.bufr_cli.proofs.program.answer_fault.Goals as goal

@@ -1,6 +1,5 @@
 use Rattle.std.proofs.Common.{refl}
-use Rattle.bufr_cli.specs.Calling.{Answers, Does}
-use Rattle.bufr_cli.specs.Running.{writers_of}
+use Rattle.bufr_cli.specs.Prelude.{Answers, Does, writers_of}
 use Rattle.bufr_cli.proofs.program.run.Goals as goal
 
 pub returns-in-Ok : goal.returns-in-Ok

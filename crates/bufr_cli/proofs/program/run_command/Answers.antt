@@ -1,19 +1,8 @@
 use Rattle.std.proofs.Common.{sym, subst}
-use Rattle.bufr_cli.specs.Running.{input_of, writers_of, GivesPieces, event_pieces, document_pieces}
-use Rattle.bufr_cli.specs.Pieces.{IsDumpPiece, ls_piece}
-use Rattle.bufr_cli.specs.Program.{IsOfCommand}
+use Rattle.bufr_cli.specs.Prelude.{input_of, writers_of, GivesPieces, IsDumpPiece, IsOfCommand}
 use Rattle.bufr_cli.specs.declared.program.Command.{Command}
-use Rattle.bufr_cli.proofs.RunLemmas.{RunsEach, each-is, each-gives}
+use Rattle.bufr_cli.proofs.RunLemmas.{RunsEach, each-gives}
 use Rattle.bufr_cli.proofs.program.run_command.Goals as goal
-
-pub returns-in-Ls-clause-run : goal.returns-in-Ls-clause-run
-returns-in-Ls-clause-run g c =
-    let from = input_of g.R.Source c.args.r.now in
-    let to = input_of g.R.Source c.run_ls.new.r in
-    let before = writers_of g.W.Sink c.args.w.now g.E.Sink c.args.e.now in
-    let after = writers_of g.W.Sink c.run_ls.new.w g.E.Sink c.run_ls.new.e in
-    let P : Command → Type 0 = λ command. RunsEach (IsOfCommand command) from to before after c.run_ls.result in
-    subst P (sym c.in-Ls.is) (each-is (event_pieces ls_piece) from to before after c.run_ls.result c.run_ls.ensures.run)
 
 pub returns-in-Dump-clause-run : goal.returns-in-Dump-clause-run
 returns-in-Dump-clause-run g c =
@@ -23,12 +12,3 @@ returns-in-Dump-clause-run g c =
     let after = writers_of g.W.Sink c.run_dump.new.w g.E.Sink c.run_dump.new.e in
     let P : Command → Type 0 = λ command. RunsEach (IsOfCommand command) from to before after c.run_dump.result in
     subst P (sym c.in-Dump.is) (each-gives (GivesPieces (IsDumpPiece c.in-Dump.table_b.now c.in-Dump.table_d.now)) from to before after c.run_dump.result c.run_dump.ensures.run)
-
-pub returns-in-Encode-clause-run : goal.returns-in-Encode-clause-run
-returns-in-Encode-clause-run g c =
-    let from = input_of g.R.Source c.args.r.now in
-    let to = input_of g.R.Source c.run_encode_form.new.r in
-    let before = writers_of g.W.Sink c.args.w.now g.E.Sink c.args.e.now in
-    let after = writers_of g.W.Sink c.run_encode_form.new.w g.E.Sink c.run_encode_form.new.e in
-    let P : Command → Type 0 = λ command. RunsEach (IsOfCommand command) from to before after c.run_encode_form.result in
-    subst P (sym c.in-Encode.is) (each-is (document_pieces c.in-Encode.form c.in-Encode.table_b.now c.in-Encode.table_d.now) from to before after c.run_encode_form.result c.run_encode_form.ensures.run)

@@ -1,7 +1,5 @@
 use Rattle.std.proofs.Common.{◌∙◌, List, ℕ, Option, refl, sym, ap, subst}
-use Rattle.bufr_cli.specs.Running.{writers_of}
-use Rattle.bufr_cli.specs.Ending.{EndsRun}
-use Rattle.bufr_cli.specs.Program.{IsNotOpened, Runs, input_octets, known, IsOfCommand}
+use Rattle.bufr_cli.specs.Prelude.{writers_of, EndsRun, IsNotOpened, Runs, input_octets, known, IsOfCommand}
 use Rattle.bufr_cli.proofs.program.run_input.Goals as goal
 
 pub returns-in-None : goal.returns-in-None

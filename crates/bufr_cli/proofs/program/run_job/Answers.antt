@@ -1,6 +1,5 @@
 use Rattle.std.proofs.Common.{◌≡◌, refl, sym, subst}
-use Rattle.bufr_cli.specs.Running.{Writers}
-use Rattle.bufr_cli.specs.Program.{ByTables, CommandOutcome, Known, NoTables, RunsJob}
+use Rattle.bufr_cli.specs.Prelude.{Writers, ByTables, CommandOutcome, Known, NoTables, RunsJob}
 use Rattle.bufr_cli.specs.declared.job.Job.{Job}
 use Rattle.bufr_cli.specs.declared.job.Subcommand.{Subcommand}
 use Rattle.bufr_cli.specs.declared.outcome.Outcome.{Outcome}

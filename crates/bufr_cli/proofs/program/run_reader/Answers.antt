@@ -1,5 +1,5 @@
 use Rattle.std.proofs.Common.{refl, rules}
-use Rattle.bufr_cli.specs.Program.{IsOfCommand}
+use Rattle.bufr_cli.specs.Prelude.{IsOfCommand}
 use Rattle.bufr_cli.proofs.RunLemmas.{ends-run}
 use Rattle.bufr_cli.proofs.program.run_reader.Goals as goal
 

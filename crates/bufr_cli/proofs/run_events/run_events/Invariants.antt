@@ -1,8 +1,7 @@
 use Rattle.std.proofs.Common.{◌≡◌, ◌-◌, ◌^◌}
-use Rattle.bufr_frame.specs.Scan.{StreamEvent}
-use Rattle.bufr_text.specs.Writing.{Stays}
-use Rattle.bufr_cli.specs.Pieces.{Piece}
-use Rattle.bufr_cli.specs.Running.{GivesPieces}
+use Rattle.bufr_frame.specs.Prelude.{StreamEvent}
+use Rattle.bufr_text.specs.Prelude.{Stays}
+use Rattle.bufr_cli.specs.Prelude.{Piece, GivesPieces}
 use Rattle.bufr_cli.proofs.RunLemmas.{Ran}
 use Rattle.bufr_cli.proofs.run_events.run_events.Given as goal
 

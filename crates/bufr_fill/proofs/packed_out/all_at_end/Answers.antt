@@ -1,8 +1,5 @@
 use Rattle.std.proofs.Common.{◌∙◌, sym, Err, arith, ap, refl}
-use Rattle.bufr_fill.specs.Encoding.{cells_at}
-use Rattle.bufr_fill.specs.Draft.{subsets_of}
-use Rattle.bufr_fill.specs.Faults.{at_line, item_too_many}
-use Rattle.bufr_fill.specs.Kept.{entry_with}
+use Rattle.bufr_fill.specs.Prelude.{cells_at, subsets_of, at_line, item_too_many, entry_with}
 use Rattle.bufr_fill.proofs.EntryLemmas.{line-is, count_cells}
 use Rattle.bufr_fill.proofs.RowLemmas.{end_item, end_more, end_done}
 use Rattle.bufr_fill.proofs.packed_out.all_at_end.Goals as goal

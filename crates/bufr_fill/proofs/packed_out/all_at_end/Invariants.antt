@@ -1,7 +1,5 @@
 use Rattle.std.proofs.Common.{◌≡◌, drop}
-use Rattle.bufr_fill.specs.Encoding.{cells_at}
-use Rattle.bufr_fill.specs.Draft.{subsets_of}
-use Rattle.bufr_fill.specs.PackedOut.{all_at_end}
+use Rattle.bufr_fill.specs.Prelude.{cells_at, subsets_of, all_at_end}
 use Rattle.bufr_fill.proofs.packed_out.all_at_end.Given as goal
 
 abbrev pub invariant-loop-subset : goal.invariant-loop-subset

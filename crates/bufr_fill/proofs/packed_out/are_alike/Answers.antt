@@ -1,5 +1,5 @@
 use Rattle.std.proofs.Common.{◌/◌, ◌∙◌, sym}
-use Rattle.bufr_fill.specs.DraftContent.{content_drawn}
+use Rattle.bufr_fill.specs.Prelude.{content_drawn}
 use Rattle.bufr_fill.proofs.LeastLemmas.{not_alike}
 use Rattle.bufr_fill.proofs.packed_out.are_alike.Goals as goal
 

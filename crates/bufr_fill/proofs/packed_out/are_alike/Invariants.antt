@@ -1,7 +1,5 @@
 use Rattle.std.proofs.Common.{◌≡◌, ◌/◌, drop}
-use Rattle.bufr_fill.specs.Packing.{are_same}
-use Rattle.bufr_fill.specs.DraftContent.{content_drawn}
-use Rattle.bufr_fill.specs.PackedOut.{contents_drawn}
+use Rattle.bufr_fill.specs.Prelude.{are_same, content_drawn, contents_drawn}
 use Rattle.bufr_fill.proofs.packed_out.are_alike.Given as goal
 
 abbrev pub invariant-loop-other : goal.invariant-loop-other

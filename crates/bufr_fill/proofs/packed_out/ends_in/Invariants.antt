@@ -1,5 +1,5 @@
 use Rattle.std.proofs.Common.{◌≡◌, ◌++◌, drop}
-use Rattle.bufr_fill.specs.PackedOut.{ends_of}
+use Rattle.bufr_fill.specs.Prelude.{ends_of}
 use Rattle.bufr_fill.proofs.packed_out.ends_in.Given as goal
 
 abbrev pub invariant-loop-place : goal.invariant-loop-place

@@ -1,7 +1,5 @@
-use Rattle.std.proofs.Common.{◌≡◌, ◌∙◌, ap, arith}
-use Rattle.std.specs.Prelude.{unwrap_or}
-use Rattle.bufr_fill.specs.PackedOut.{contents_drawn, spread, least_from}
-use Rattle.bufr_fill.specs.Packing.{lowest}
+use Rattle.std.proofs.Common.{◌≡◌, ◌∙◌, ap, arith, unwrap_or}
+use Rattle.bufr_fill.specs.Prelude.{contents_drawn, spread, least_from, lowest}
 use Rattle.bufr_fill.proofs.LeastLemmas.{k_narrow, k_short, spread_over}
 use Rattle.bufr_fill.proofs.packed_out.increment_width.Goals as goal
 

@@ -1,5 +1,5 @@
 use Rattle.std.proofs.Common.{◌≡◌}
-use Rattle.bufr_fill.specs.PackedOut.{least_from}
+use Rattle.bufr_fill.specs.Prelude.{least_from}
 use Rattle.bufr_fill.proofs.packed_out.least_bits.Given as goal
 
 abbrev pub invariant-loop-k : goal.invariant-loop-k

@@ -1,5 +1,5 @@
 use Rattle.std.proofs.Common.{◌≡◌, ◌≤◌, drop, max}
-use Rattle.bufr_fill.specs.PackedOut.{most_need}
+use Rattle.bufr_fill.specs.Prelude.{most_need}
 use Rattle.bufr_fill.proofs.packed_out.octets_needed.Given as goal
 
 abbrev pub invariant-loop-d : goal.invariant-loop-d

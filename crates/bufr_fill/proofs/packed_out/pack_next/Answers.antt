@@ -1,8 +1,7 @@
 use Rattle.std.proofs.Common.{◌≤◌, ◌<◌, ◌+◌, ◌*◌, Err, sym, subst, arith, ap, ◌∙◌, refl, length}
 use Rattle.std.proofs.lemmas.Result.{err_from_is_err_and}
-use Rattle.bufr_walk.specs.Reading.{max_values}
-use Rattle.bufr_fill.specs.Draft.{subsets_of}
-use Rattle.bufr_fill.specs.Faults.{at_line, too_many_values, draft_fault}
+use Rattle.bufr_walk.specs.Prelude.{max_values}
+use Rattle.bufr_fill.specs.Prelude.{subsets_of, at_line, too_many_values, draft_fault}
 use Rattle.bufr_fill.proofs.EntryLemmas.{count_cells}
 use Rattle.bufr_fill.proofs.RowLemmas.{many_fault, put_fault}
 use Rattle.bufr_fill.proofs.packed_out.pack_next.Goals as goal

@@ -1,9 +1,7 @@
-use Rattle.std.proofs.Common.{◌*◌, ◌/◌, ◌++◌, ◌<◌, ◌^◌, ap, ◌∙◌, sym, arith, subst, length}
-use Rattle.std.specs.Prelude.{unwrap_or}
+use Rattle.std.proofs.Common.{◌/◌, ◌++◌, ◌<◌, ◌^◌, ap, ◌∙◌, sym, arith, subst, length, unwrap_or}
 use Rattle.std.specs.List.{flat_map}
-use Rattle.bufr_bits.specs.Bits.{bits_in}
-use Rattle.bufr_fill.specs.PackedOut.{contents_drawn, IsIncrementWidth}
-use Rattle.bufr_fill.specs.Packing.{increment_bits, packed_bits, lowest}
+use Rattle.bufr_bits.specs.Prelude.{bits_in}
+use Rattle.bufr_fill.specs.Prelude.{contents_drawn, IsIncrementWidth, increment_bits, packed_bits, lowest}
 use Rattle.bufr_fill.proofs.LeastLemmas.{base_under, numbers_packed, parts_put, parts_length}
 use Rattle.bufr_fill.proofs.RowLemmas.{few_bits}
 use Rattle.bufr_fill.proofs.packed_out.pack_numbers.Goals as goal
@@ -39,11 +37,6 @@ put_increments-requires-clause-narrow c = (subst (λ b. IsIncrementWidth c.args.
 
 pub put_increments-requires-clause-short : goal.put_increments-requires-clause-short
 put_increments-requires-clause-short c = (subst (λ b. IsIncrementWidth c.args.spec.now b c.args.drawn.now c.increment_width-k.result) (sym (c.base-base.ensures 0 c.args.drawn.now c.requires.range)) (c.increment_width-k.ensures 0 c.args.drawn.now c.requires.drawn c.requires.range)).short
-
-pub put_increments-requires-clause-room : goal.put_increments-requires-clause-room
-put_increments-requires-clause-room c =
-    let same = ap (λ n. length c.args.drawn.now * n) c.from-2.ensures in
-    omega (arith, same, c.from.ensures, c.in_ok-reserve.ensures.room, c.put.ensures.room, c.put-2.ensures.room)
 
 pub returns : goal.returns
 returns c =

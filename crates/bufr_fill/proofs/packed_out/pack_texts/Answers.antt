@@ -1,32 +1,13 @@
 use Rattle.std.proofs.Common.{◌*◌, ◌/◌, ◌++◌, ◌∙◌, false, ap, arith, length, replicate}
 use Rattle.std.specs.List.{flat_map}
-use Rattle.bufr_bits.specs.Bits.{bits_in}
-use Rattle.bufr_fill.specs.PackedOut.{contents_drawn}
-use Rattle.bufr_fill.specs.Packing.{octet_bits, packed_bits}
+use Rattle.bufr_bits.specs.Prelude.{bits_in}
+use Rattle.bufr_fill.specs.Prelude.{contents_drawn, octet_bits, packed_bits}
 use Rattle.bufr_fill.proofs.LeastLemmas.{parts_put, parts_length, most_room, texts_packed}
 use Rattle.bufr_fill.proofs.RowLemmas.{few_bits, most_some}
 use Rattle.bufr_fill.proofs.packed_out.pack_texts.Goals as goal
 
-pub overflow_mul-drawn : goal.overflow_mul-drawn
-overflow_mul-drawn c =
-    let few = few_bits (length c.args.drawn.now) (8 * c.args.k) 504 (omega (arith, c.requires.short)) in
-    omega (arith, few, c.requires.room)
-
-pub overflow_add-from-2 : goal.overflow_add-from-2
-overflow_add-from-2 c =
-    let few = few_bits (length c.args.drawn.now) (8 * c.args.k) 504 (omega (arith, c.requires.short)) in
-    omega (arith, few, c.from.ensures, c.width-width.ensures.most, c.requires.room)
-
-pub reserve-requires : goal.reserve-requires
-reserve-requires c =
-    let few = few_bits (length c.args.drawn.now) (8 * c.args.k) 504 (omega (arith, c.requires.short)) in
-    omega (arith, few, c.from.ensures, c.width-width.ensures.most, c.requires.room)
-
 pub put_prefixes-requires-clause-few : goal.put_prefixes-requires-clause-few
 put_prefixes-requires-clause-few c = omega (arith, c.requires.k, most_room c.args.spec.now c.args.drawn.now (omega (arith, c.width-width.ensures.some, c.width-width.ensures.whole c.requires.text)) c.requires.drawn)
-
-pub put_prefixes-requires-clause-room : goal.put_prefixes-requires-clause-room
-put_prefixes-requires-clause-room c = omega (arith, c.from.ensures, c.width-width.ensures.value, c.in_ok-reserve.ensures.room, c.put_zeros.ensures.room, c.put.ensures.room)
 
 pub returns : goal.returns
 returns c =

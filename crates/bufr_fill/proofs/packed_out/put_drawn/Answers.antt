@@ -1,13 +1,7 @@
 use Rattle.std.proofs.Common.{◌≡◌, ◌+◌, ◌*◌, ◌/◌, ◌≤◌, ◌∙◌, [], Err, length, get_or, refl, sym, subst, arith, ap}
-use Rattle.bufr_walk.specs.Content.{bits_for}
-use Rattle.bufr_walk.specs.Reading.{max_values}
+use Rattle.bufr_walk.specs.Prelude.{bits_for, max_values}
 use Rattle.bufr_fill.specs.declared.field_value.FieldContent.TheVariants as drawn
-use Rattle.bufr_fill.specs.Encoding.{item_row}
-use Rattle.bufr_fill.specs.Draft.{subsets_of}
-use Rattle.bufr_fill.specs.Faults.{at_line, unequal_factors, uneven_increment}
-use Rattle.bufr_fill.specs.DraftContent.{content_drawn}
-use Rattle.bufr_fill.specs.PackedOut.{contents_drawn, IsPutWithin}
-use Rattle.bufr_fill.specs.Packing.{packed_bits, packed_by, packed_unlike}
+use Rattle.bufr_fill.specs.Prelude.{item_row, packed_bits, packed_by, packed_unlike, subsets_of, at_line, unequal_factors, uneven_increment, content_drawn, contents_drawn, IsPutWithin}
 use Rattle.bufr_fill.proofs.LeastLemmas.{parts_length, texts_apart}
 use Rattle.bufr_fill.proofs.RowLemmas.{most_some, apart_by, packed_alike, packed_apart, put_packed, put_unequal, put_uneven, put_within}
 use Rattle.bufr_fill.proofs.EntryLemmas.{count_cells}

@@ -1,11 +1,8 @@
 use Rattle.std.proofs.Common.{◌++◌, ◌∙◌, ap, arith, length}
 use Rattle.bufr_fill.specs.declared.field_value.FieldContent.TheVariants as drawn
-use Rattle.bufr_fill.specs.Packing.{increment_bits}
-use Rattle.bufr_fill.proofs.RowLemmas.{flat_more, room_here, room_next}
+use Rattle.bufr_fill.specs.Prelude.{increment_bits}
+use Rattle.bufr_fill.proofs.RowLemmas.{flat_more, room_next}
 use Rattle.bufr_fill.proofs.packed_out.put_increments.Goals as goal
-
-pub put-requires-clause-room : goal.put-requires-clause-room
-put-requires-clause-room c = room_here (length c.args.drawn.now) c.loop-d.d-index c.args.k c.loop-d.out.room c.loop-d-test.true c.loop-d.invariant.room
 
 pub loop-d-preserved : goal.loop-d-preserved
 loop-d-preserved c = record {

@@ -1,7 +1,6 @@
 use Rattle.std.proofs.Common.{◌≡◌, ◌≤◌, ◌+◌, ◌*◌, ◌/◌, ◌++◌, length, drop}
 use Rattle.std.specs.List.{flat_map}
-use Rattle.bufr_fill.specs.PackedOut.{contents_drawn}
-use Rattle.bufr_fill.specs.Packing.{octet_bits}
+use Rattle.bufr_fill.specs.Prelude.{contents_drawn, octet_bits}
 use Rattle.bufr_fill.proofs.packed_out.put_prefixes.Given as goal
 
 abbrev pub invariant-loop-d : goal.invariant-loop-d

@@ -1,7 +1,5 @@
 use Rattle.std.proofs.Common.{◌/◌}
-use Rattle.bufr_fill.specs.Encoding.{cells_at}
-use Rattle.bufr_fill.specs.Draft.{subsets_of}
-use Rattle.bufr_fill.specs.PackedOut.{IsGathering, IsRangeOf}
+use Rattle.bufr_fill.specs.Prelude.{cells_at, subsets_of, IsGathering, IsRangeOf}
 use Rattle.bufr_fill.proofs.packed_out.read_row.Given as goal
 
 abbrev pub invariant-loop-subset : goal.invariant-loop-subset

@@ -1,6 +1,5 @@
 use Rattle.std.proofs.Common.{◌≡◌, drop}
-use Rattle.bufr_fill.specs.DraftContent.{spaced}
-use Rattle.bufr_fill.specs.Packing.{same_octets}
+use Rattle.bufr_fill.specs.Prelude.{spaced, same_octets}
 use Rattle.bufr_fill.proofs.packed_out.same_text.Given as goal
 
 abbrev pub invariant-loop-place : goal.invariant-loop-place

@@ -1,7 +1,6 @@
 use Rattle.std.proofs.Common.{◌/◌, sym, arith, ◌∙◌}
 use Rattle.bufr_fill.specs.declared.field_value.FieldContent.TheVariants as drawn
-use Rattle.bufr_fill.specs.Encoding.{cells_at}
-use Rattle.bufr_fill.specs.Draft.{subsets_of}
+use Rattle.bufr_fill.specs.Prelude.{cells_at, subsets_of}
 use Rattle.bufr_fill.proofs.EntryLemmas.{count_cells}
 use Rattle.bufr_fill.proofs.RowLemmas.{drawn_at, unlike_here, unlike_more}
 use Rattle.bufr_fill.proofs.packed_out.unlike_line.Goals as goal

@@ -1,7 +1,5 @@
 use Rattle.std.proofs.Common.{◌≡◌, ◌/◌, drop}
-use Rattle.bufr_fill.specs.Encoding.{cells_at, unlike_line}
-use Rattle.bufr_fill.specs.Draft.{subsets_of}
-use Rattle.bufr_fill.specs.PackedOut.{contents_drawn, unlike_from}
+use Rattle.bufr_fill.specs.Prelude.{cells_at, unlike_line, subsets_of, contents_drawn, unlike_from}
 use Rattle.bufr_fill.proofs.packed_out.unlike_line.Given as goal
 
 abbrev pub invariant-loop-subset : goal.invariant-loop-subset

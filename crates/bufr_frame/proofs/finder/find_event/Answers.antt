@@ -1,6 +1,5 @@
 use Rattle.std.proofs.Common.{◌≡◌, ℕ, ◌-◌, sym, subst, length, drop, lit≤}
-use Rattle.bufr_frame.specs.Finder.{IsIncomplete}
-use Rattle.bufr_frame.specs.Scan.{length_here}
+use Rattle.bufr_frame.specs.Prelude.{IsIncomplete, length_here}
 use Rattle.bufr_frame.proofs.ScanLemmas.{none-so, none-stated, end-so}
 use Rattle.bufr_frame.proofs.finder.find_event.Goals as goal
 

@@ -1,5 +1,5 @@
 use Rattle.std.proofs.Common.{◌∙◌, ℕ, ◌<◌, List, length, max, arith, ap, subst}
-use Rattle.bufr_frame.specs.Scan.{length_here}
+use Rattle.bufr_frame.specs.Prelude.{length_here}
 use Rattle.bufr_frame.proofs.ScanLemmas.{found-at-end, found-whole, open-so}
 use Rattle.bufr_frame.proofs.finder.find_event_at.Goals as goal
 

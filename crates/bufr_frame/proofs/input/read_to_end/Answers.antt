@@ -1,6 +1,6 @@
 use Rattle.std.proofs.Common.{◌∙◌, Err, ap, refl, arith, take}
 use Rattle.std.proofs.lemmas.Result.{err_from_is_err_and}
-use Rattle.bufr_bits.specs.Device.{counted}
+use Rattle.bufr_bits.specs.Prelude.{counted}
 use Rattle.bufr_frame.proofs.FinderLemmas.{read-none, read-more, reads-input, adds-none, adds-one, read-fault, read-end}
 use Rattle.bufr_frame.proofs.input.read_to_end.Goals as goal
 

@@ -1,5 +1,5 @@
 use Rattle.std.proofs.Common.{◌≡◌, ◌-◌}
-use Rattle.bufr_frame.specs.Input.{AddsReads, max_reads}
+use Rattle.bufr_frame.specs.Prelude.{AddsReads, max_reads}
 use Rattle.bufr_frame.proofs.FinderLemmas.{ReadSoFar}
 use Rattle.bufr_frame.proofs.input.read_to_end.Given as goal
 

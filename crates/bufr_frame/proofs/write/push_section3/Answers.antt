@@ -1,6 +1,5 @@
-use Rattle.std.proofs.Common.{◌≡◌, ◌∙◌, ap, ◌++◌}
-use Rattle.std.specs.Prelude.{◌/◌, [], ◌∷◌}
-use Rattle.bufr_frame.specs.Octets.{two_octets, octets_of_words}
+use Rattle.std.proofs.Common.{◌≡◌, ◌∙◌, ap, ◌++◌, ◌/◌, [], ◌∷◌}
+use Rattle.bufr_frame.specs.Prelude.{two_octets, octets_of_words}
 use Rattle.bufr_frame.proofs.LayoutLemmas.{third}
 use Rattle.bufr_frame.proofs.write.push_section3.Goals as goal
 

@@ -1,5 +1,5 @@
 use Rattle.std.proofs.Common.{◌≡◌, ◌++◌, drop}
-use Rattle.bufr_frame.specs.Octets.{octets_of_words}
+use Rattle.bufr_frame.specs.Prelude.{octets_of_words}
 use Rattle.bufr_frame.proofs.write.push_words.Given as goal
 
 -- with the words that are left these are all the octets

@@ -1,8 +1,5 @@
-use Rattle.std.proofs.Common.{◌≡◌, ◌∙◌, ◌++◌, ap, codes}
-use Rattle.bufr_frame.specs.Sections.{sections_of}
-use Rattle.bufr_frame.specs.Layout.{MessageParts, parts_of, message_size, section0_octets, section1_octets, section2_octets, section3_octets, section4_octets, data_flags, with_even_length, with_pad_octet}
-use Rattle.bufr_frame.specs.Octets.{octets_of_words}
-use Rattle.std.specs.Prelude.{is_some, option_map}
+use Rattle.std.proofs.Common.{◌≡◌, ◌∙◌, ◌++◌, ap, codes, is_some, option_map}
+use Rattle.bufr_frame.specs.Prelude.{sections_of, MessageParts, parts_of, message_size, section0_octets, section1_octets, section2_octets, section3_octets, section4_octets, data_flags, with_even_length, with_pad_octet, octets_of_words}
 use Rattle.bufr_frame.proofs.LayoutLemmas.{read-back, six-parts, is_some-map}
 use Rattle.bufr_frame.proofs.write.write_message.Goals as goal
 

@@ -1,6 +1,6 @@
 use Rattle.std.proofs.Common.{◌≡◌, drop}
 use Rattle.csv.specs.Records.{fields_of}
-use Rattle.bufr_tables.specs.Records.{field_texts, has_fields}
+use Rattle.bufr_tables.specs.Prelude.{field_texts, has_fields}
 use Rattle.bufr_tables.proofs.rows.has_fields.Given as goal
 
 abbrev pub invariant-loop-place : goal.invariant-loop-place

@@ -1,5 +1,5 @@
 use Rattle.std.proofs.Common.{◌≡◌, ◌-◌, ◌^◌, min, take}
-use Rattle.bufr_tables.specs.Records.{number_after_digits}
+use Rattle.bufr_tables.specs.Prelude.{number_after_digits}
 use Rattle.bufr_tables.proofs.rows.magnitude.Given as goal
 
 abbrev pub invariant-loop-octet : goal.invariant-loop-octet

@@ -1,6 +1,6 @@
 use Rattle.std.proofs.Common.{◌≡◌, rules}
 use Rattle.bufr_tables.proofs.TableBLemmas.{named, row-stored, row_pushed}
-use Rattle.bufr_tables.specs.Fxy.{fxy_text}
+use Rattle.bufr_tables.specs.Prelude.{fxy_text}
 use Rattle.bufr_tables.proofs.table_b.store.Goals as goal
 
 pub returns-clause-ok : goal.returns-clause-ok

@@ -1,4 +1,4 @@
-use Rattle.bufr_tables.specs.Cycle.{IsAboveFirst}
+use Rattle.bufr_tables.specs.Prelude.{IsAboveFirst}
 use Rattle.bufr_tables.proofs.table_d.highest.Given as goal
 
 abbrev pub invariant-loop-member : goal.invariant-loop-member

@@ -1,6 +1,6 @@
 use Rattle.std.proofs.Common.{◌<◌}
 use borrow.Author.Tests.{ltb-true}
-use Rattle.bufr_tables.specs.Cycle.{rank_of}
+use Rattle.bufr_tables.specs.Prelude.{rank_of}
 use Rattle.bufr_tables.proofs.CycleLemmas.{falls-none}
 use Rattle.bufr_tables.proofs.table_d.is_above.Goals as goal
 

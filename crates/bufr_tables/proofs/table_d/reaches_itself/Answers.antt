@@ -1,6 +1,5 @@
-use Rattle.std.proofs.Common.{◌≡◌, Bool, ◌<◌, false, length, replicate, get_or, sym, ◌∙◌, arith}
+use Rattle.std.proofs.Common.{◌≡◌, Bool, ◌<◌, false, length, replicate, get_or, sym, ◌∙◌, arith, slice_index}
 use Rattle.std.proofs.lemmas.List.{take_at, get_or_read, length-replicate}
-use Rattle.std.specs.Prelude.{slice_index}
 use Rattle.bufr_tables.proofs.CycleLemmas.{none-set, searched-chain, searched-end, searched-more, searched-start}
 use Rattle.bufr_tables.proofs.table_d.reaches_itself.Goals as goal
 

@@ -1,8 +1,7 @@
-use Rattle.std.proofs.Common.{◌≡◌, ◌∙◌, ◌<◌, length, sym, arith}
+use Rattle.std.proofs.Common.{◌≡◌, ◌∙◌, ◌<◌, length, sym, arith, slice_index}
 use Rattle.std.proofs.lemmas.Bool.{false≢true}
 use Rattle.std.proofs.lemmas.List.{get_or_read}
-use Rattle.std.specs.Prelude.{slice_index}
-use Rattle.bufr_tables.specs.TableD.{members_or_none}
+use Rattle.bufr_tables.specs.Prelude.{members_or_none}
 use Rattle.bufr_tables.proofs.CycleLemmas.{visited-pass, visited-push}
 use Rattle.bufr_tables.proofs.table_d.visit.Goals as goal
 use Rattle.bufr_tables.proofs.table_d.visit.Goals.{then-is_sequence+then-not-seen-word+in_ok-push, else-is_sequence, else-is_sequence-via-then-is_sequence+else-not-seen-word, else-is_sequence-via-else-is_sequence}

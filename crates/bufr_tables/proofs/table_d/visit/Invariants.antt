@@ -1,4 +1,4 @@
-use Rattle.bufr_tables.specs.Cycle.{IsVisited}
+use Rattle.bufr_tables.specs.Prelude.{IsVisited}
 use Rattle.bufr_tables.proofs.table_d.visit.Given as goal
 
 abbrev pub invariant-loop-member : goal.invariant-loop-member

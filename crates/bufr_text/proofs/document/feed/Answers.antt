@@ -1,4 +1,4 @@
-use Rattle.bufr_text.proofs.ReadingLemmas.{feed-at}
+use Rattle.bufr_text.proofs.ReaderLemmas.{feed-at}
 use Rattle.bufr_text.proofs.document.feed.Goals as goal
 
 pub returns : goal.returns

@@ -1,4 +1,4 @@
-use Rattle.bufr_text.proofs.TakingLemmas.{item-turn}
+use Rattle.bufr_text.proofs.ReaderLemmas.{item-turn}
 use Rattle.bufr_text.proofs.document.take_line.Goals as goal
 
 pub returns-clause-turns : goal.returns-clause-turns

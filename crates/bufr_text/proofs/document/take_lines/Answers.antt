@@ -1,9 +1,7 @@
-use Rattle.std.proofs.Common.{◌≡◌, ◌+◌, false, refl, ap, take, drop}
-use Rattle.bufr_text.proofs.TakingLemmas.{taking-goes, taking-gives, taking-refuses}
-use Rattle.bufr_text.specs.Reader.{has_no_feed}
-use Rattle.bufr_text.specs.Taking.{WantsAt}
-use Rattle.bufr_text.proofs.ReadingLemmas.{line-after, refused-holds}
+use Rattle.std.proofs.Common.{◌≡◌, ◌+◌, refl, ap, arith}
+use Rattle.bufr_text.proofs.ReaderLemmas.{taking-goes, taking-gives, taking-refuses, refused-holds}
 use Rattle.bufr_text.proofs.document.take_lines.Goals as goal
+use Rattle.std.proofs.lemmas.Grind.{common_steps}
 
 pub loop-length-preserved : goal.loop-length-preserved
 loop-length-preserved c =
@@ -35,20 +33,5 @@ returns-in-Refuses c = record {
   adds = tt;
 }
 
-pub returns-in_err-turn-clause-wants : goal.returns-in_err-turn-clause-wants
-returns-in_err-turn-clause-wants c =
-    refused-holds c.from_residual.result (has_no_feed c.args.held.now ≡ false) (line-after c.args.held.now c.loop-length.from c.in-Some.length (rw c.suffix.ensures at c.in-Some.ensures))
-
 pub returns-in_err-turn-clause-adds : goal.returns-in_err-turn-clause-adds
-returns-in_err-turn-clause-adds c =
-    let feed = rw c.suffix.ensures at c.in-Some.ensures in
-    refused-holds c.from_residual.result (WantsAt c.args.progress.now c.args.held.now) (record {
-      progress = c.loop-length.progress;
-      place = c.loop-length.from;
-      taking = c.loop-length.invariant;
-      line = take c.in-Some.length (drop c.loop-length.from c.args.held.now);
-      rest = drop (c.in-Some.length + 1) (drop c.loop-length.from c.args.held.now);
-      holds = feed.2;
-      single = feed.1;
-      adds_to = rw (c.ahead-line.ensures, c.suffix-in-Some.ensures) at c.in_err-turn.ensures.wants;
-    })
+returns-in_err-turn-clause-adds c = grind (arith, common_steps, refused-holds)

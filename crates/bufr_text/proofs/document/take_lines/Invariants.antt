@@ -1,5 +1,5 @@
 use Rattle.std.proofs.Common.{length, ◌-◌}
-use Rattle.bufr_text.specs.Taking.{IsTaking}
+use Rattle.bufr_text.specs.Prelude.{IsTaking}
 use Rattle.bufr_text.proofs.document.take_lines.Given as goal
 
 abbrev pub invariant-loop-length : goal.invariant-loop-length

@@ -1,8 +1,8 @@
 use Rattle.std.proofs.Common.{[], ◌∷◌, append_assoc, option_map, sym}
-use Rattle.bufr_tables.specs.Entry.{row_of_entry}
-use Rattle.bufr_walk.specs.Calls.{seen_value}
+use Rattle.bufr_tables.specs.Prelude.{row_of_entry}
+use Rattle.bufr_walk.specs.Prelude.{seen_value}
 use Rattle.bufr_text.proofs.PushLemmas.{◌⨾◌, retold}
-use Rattle.bufr_text.specs.Dump.{comment_text, dump_value_of, form_text, comment_of, value_of}
+use Rattle.bufr_text.specs.Prelude.{comment_text, dump_value_of, form_text, comment_of, value_of}
 use Rattle.bufr_text.proofs.dump.push_any_item.Goals as goal
 
 pub returns : goal.returns

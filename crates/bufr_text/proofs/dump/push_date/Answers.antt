@@ -1,9 +1,6 @@
-use Rattle.std.proofs.Common.{◌∙◌, ap, sym}
-use Rattle.std.specs.Prelude.{is_some}
-use Rattle.bufr_text.specs.Dump.{bit}
-use Rattle.bufr_text.specs.Line.{header_text, keys}
-use Rattle.bufr_text.proofs.HeadLemmas.{flag-is, is_some-map}
-use Rattle.bufr_text.proofs.PushLemmas.{◌⨾◌, nothing_pushed}
+use Rattle.std.proofs.Common.{◌∙◌, ap, sym, is_some}
+use Rattle.bufr_text.specs.Prelude.{bit, header_text, keys}
+use Rattle.bufr_text.proofs.PushLemmas.{flag-is, is_some-map, ◌⨾◌, nothing_pushed}
 use Rattle.bufr_text.proofs.dump.push_date.Goals as goal
 
 pub returns : goal.returns

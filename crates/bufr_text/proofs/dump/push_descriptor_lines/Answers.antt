@@ -1,10 +1,9 @@
 use Rattle.std.proofs.Common.{◌∙◌, ◌≡◌, ◌-◌, ◌++◌, ◌∷◌, [], length, map, sym, arith, take, length-drop, ap}
-use Rattle.bufr_frame.specs.Octets.{words_left}
-use Rattle.bufr_text.specs.Dump.{descriptors_line, text_of_lines}
-use Rattle.bufr_text.specs.Grammar.{runs_of}
-use Rattle.bufr_text.proofs.HeadLemmas.{lines-next, lines-none, some-left, none-left}
-use Rattle.bufr_text.proofs.PushLemmas.{so_far_on, so_far_end}
+use Rattle.bufr_frame.specs.Prelude.{words_left}
+use Rattle.bufr_text.specs.Prelude.{descriptors_line, text_of_lines, runs_of}
+use Rattle.bufr_text.proofs.PushLemmas.{lines-next, lines-none, some-left, none-left, so_far_on, so_far_end}
 use Rattle.bufr_text.proofs.dump.push_descriptor_lines.Goals as goal
+use Rattle.std.proofs.lemmas.Grind.{common_steps}
 
 pub loop-words-smaller : goal.loop-words-smaller
 loop-words-smaller g c =
@@ -20,6 +19,4 @@ loop-words-preserved g c =
     so_far_on c.loop-words.invariant next c.push_descriptor_line.ensures.pushes
 
 pub returns : goal.returns
-returns g c =
-    let none = none-left c.is_empty.result (words_left c.loop-words.words) c.is_empty.ensures c.loop-words-test.false in
-    so_far_end c.loop-words.invariant (lines-none descriptors_line 8 (words_left c.loop-words.words) none)
+returns g c = grind (arith, common_steps, none-left, so_far_end, lines-none)

@@ -1,7 +1,6 @@
 use Rattle.std.proofs.Common.{map, length}
-use Rattle.bufr_frame.specs.Octets.{words_left}
-use Rattle.bufr_text.specs.Dump.{descriptors_line, text_of_lines}
-use Rattle.bufr_text.specs.Grammar.{runs_of}
+use Rattle.bufr_frame.specs.Prelude.{words_left}
+use Rattle.bufr_text.specs.Prelude.{descriptors_line, text_of_lines, runs_of}
 use Rattle.bufr_text.proofs.PushLemmas.{PushedSoFar}
 use Rattle.bufr_text.proofs.dump.push_descriptor_lines.Given as goal
 

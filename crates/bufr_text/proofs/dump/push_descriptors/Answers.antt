@@ -1,11 +1,7 @@
-use Rattle.std.proofs.Common.{◌-◌, drop, arith, refl}
-use Rattle.bufr_frame.specs.Octets.{words_left}
-use Rattle.bufr_text.proofs.HeadLemmas.{descriptors-next, descriptors-none, descriptors-full, left-next}
-use Rattle.bufr_text.proofs.PushLemmas.{◌⨾◌, so_far_start, so_far_on, so_far_end}
+use Rattle.std.proofs.Common.{◌-◌, drop, arith}
+use Rattle.bufr_frame.specs.Prelude.{words_left}
+use Rattle.bufr_text.proofs.PushLemmas.{descriptors-next, descriptors-none, descriptors-full, left-next, ◌⨾◌, so_far_on, so_far_end}
 use Rattle.bufr_text.proofs.dump.push_descriptors.Goals as goal
-
-pub words-init : goal.words-init
-words-init g c = record { so_far = so_far_start; left = refl }
 
 pub words-preserved : goal.words-preserved
 words-preserved g c =

@@ -1,6 +1,6 @@
 use Rattle.std.proofs.Common.{◌≡◌, ◌-◌, drop, take}
-use Rattle.bufr_frame.specs.Octets.{words_left}
-use Rattle.bufr_text.specs.Grammar.{descriptors_text}
+use Rattle.bufr_frame.specs.Prelude.{words_left}
+use Rattle.bufr_text.specs.Prelude.{descriptors_text}
 use Rattle.bufr_text.proofs.PushLemmas.{PushedSoFar}
 use Rattle.bufr_text.proofs.dump.push_descriptors.Given as goal
 

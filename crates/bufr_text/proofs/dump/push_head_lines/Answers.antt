@@ -1,5 +1,4 @@
-use Rattle.bufr_text.proofs.HeadLemmas.{head-is}
-use Rattle.bufr_text.proofs.PushLemmas.{◌⨾◌, retold}
+use Rattle.bufr_text.proofs.PushLemmas.{head-is, ◌⨾◌, retold}
 use Rattle.bufr_text.proofs.dump.push_head_lines.Goals as goal
 
 pub returns : goal.returns

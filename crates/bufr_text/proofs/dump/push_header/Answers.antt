@@ -1,5 +1,4 @@
-use Rattle.bufr_text.proofs.HeadLemmas.{header-is}
-use Rattle.bufr_text.proofs.PushLemmas.{◌⨾◌, retold}
+use Rattle.bufr_text.proofs.PushLemmas.{header-is, ◌⨾◌, retold}
 use Rattle.bufr_text.proofs.dump.push_header.Goals as goal
 
 pub returns : goal.returns

@@ -1,6 +1,5 @@
 use Rattle.std.proofs.Common.{◌++◌, length, map}
-use Rattle.bufr_text.specs.Dump.{text_of_lines}
-use Rattle.bufr_text.specs.Grammar.{hex_text, runs_of}
+use Rattle.bufr_text.specs.Prelude.{text_of_lines, hex_text, runs_of}
 use Rattle.bufr_text.proofs.PushLemmas.{PushedSoFar}
 use Rattle.bufr_text.proofs.dump.push_octet_lines.Given as goal
 

@@ -1,4 +1,4 @@
-use Rattle.bufr_text.specs.Line.{header_text, keys}
+use Rattle.bufr_text.specs.Prelude.{header_text, keys}
 use Rattle.bufr_text.proofs.PushLemmas.{◌⨾◌, nothing_pushed}
 use Rattle.bufr_text.proofs.dump.push_origin.Goals as goal
 

@@ -1,6 +1,5 @@
 use Rattle.std.proofs.Common.{sym}
-use Rattle.bufr_text.proofs.HeadLemmas.{no-section2}
-use Rattle.bufr_text.proofs.PushLemmas.{nothing_pushed, retold}
+use Rattle.bufr_text.proofs.PushLemmas.{no-section2, nothing_pushed, retold}
 use Rattle.bufr_text.proofs.dump.push_section2.Goals as goal
 
 pub returns-in_default : goal.returns-in_default

@@ -1,7 +1,7 @@
 use Rattle.std.proofs.Common.{Ok, Err, refl, sym, ap, ◌∙◌}
 use Rattle.std.proofs.lemmas.Result.{err_from_is_err_and}
 use Rattle.bufr_walk.specs.declared.fault.ShowFault.TheVariants as show
-use Rattle.bufr_walk.specs.Calls.{calls_of, turns_shown}
+use Rattle.bufr_walk.specs.Prelude.{calls_of, turns_shown}
 use Rattle.bufr_text.proofs.PushLemmas.{calls-pushed, calls-steps, ends-whole, ends-failed, ends-first, steps-of}
 use Rattle.bufr_text.proofs.dump.push_subsets.Goals as goal
 

@@ -1,6 +1,6 @@
 use Rattle.std.proofs.Common.{rules}
 use Rattle.std.proofs.lemmas.Result.{err_from_is_err_and}
-use Rattle.bufr_text.specs.Pen.{subsets_text}
+use Rattle.bufr_text.specs.Prelude.{subsets_text}
 use Rattle.bufr_text.proofs.PushLemmas.{all-written-of, leaves, none-made}
 use Rattle.bufr_text.proofs.dump.write_dump_by.Goals as goal
 

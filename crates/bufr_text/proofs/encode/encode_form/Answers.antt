@@ -1,4 +1,4 @@
-use Rattle.bufr_text.specs.Encoding.{encoding_in}
+use Rattle.bufr_text.specs.Prelude.{encoding_in}
 use Rattle.bufr_text.proofs.FormLemmas.{formed_of, form_so}
 use Rattle.bufr_text.proofs.encode.encode_form.Goals as goal
 

@@ -1,24 +1,15 @@
-use Rattle.std.proofs.Common.{◌≡◌}
-use Rattle.std.proofs.lemmas.Result.{err_from_is_err_and}
-use Rattle.bufr_tables.specs.Tree.{places}
-use Rattle.bufr_text.specs.Encoding.{reported_refusal}
+use Rattle.std.proofs.Common.{◌≡◌, arith}
+use Rattle.bufr_tables.specs.Prelude.{places}
+use Rattle.bufr_text.specs.Prelude.{reported_refusal}
 use Rattle.bufr_text.proofs.RoundTripLemmas.{if_ok_so, if_err_so, whole, not_whole, no_data, no_template}
 use Rattle.bufr_text.proofs.encode.encode_selected.Goals as goal
+use Rattle.std.proofs.lemmas.Grind.{common_steps}
 
 pub returns-in_err-template-clause-fault : goal.returns-in_err-template-clause-fault
-returns-in_err-template-clause-fault c =
-    let p = err_from_is_err_and c.from_residual.result c.from_residual.ensures.1 in
-    let by = c.args.templates.now in
-    let refuses = rw (c.line.ensures, c.requires.list) at c.in_err-template.ensures.fault in
-    rw (p.1, p.2) (no_template c.args.formed.form by.table_b by.table_d c.args.formed.document.now (reported_refusal c.in_err-template.field-0.0) refuses)
+returns-in_err-template-clause-fault c = grind (arith, common_steps, no_template)
 
 pub returns-in_err-payload-clause-fault : goal.returns-in_err-payload-clause-fault
-returns-in_err-payload-clause-fault c =
-    let p = err_from_is_err_and c.from_residual-in_err-payload.result c.from_residual-in_err-payload.ensures.1 in
-    let by = c.args.templates.now in
-    let tree = rw c.requires.list at c.in_ok-template.ensures.tree in
-    let written = rw c.requires.cached at c.in_err-payload.ensures.written.refuses in
-    rw (p.1, p.2) (no_data c.args.formed.form by.table_b by.table_d c.args.formed.document.now c.in_ok-template.template.now (reported_refusal c.in_err-payload.field-0.0) tree written)
+returns-in_err-payload-clause-fault c = grind (arith, common_steps, no_data)
 
 pub returns-clause-octets : goal.returns-clause-octets
 returns-clause-octets c =
@@ -26,7 +17,7 @@ returns-clause-octets c =
     let tree = rw c.requires.list at c.in_ok-template.ensures.tree in
     let same : c.deref.result.now ≡ c.in_ok-payload.payload.items = c.deref.ensures.value in
     let written = rw c.requires.cached at c.in_ok-payload.ensures.written in
-    if_ok_so c.write_whole.result c.write_whole.ensures.octets (λ octets m. whole c.args.formed.form by.table_b by.table_d c.args.formed.document.now (places c.in_ok-template.template.now) c.in_ok-template.template.now c.deref.result.now octets.items c.write_data.new.steps tree (rw (same) written) c.write_whole.ensures.payload m)
+    if_ok_so c.write_whole.result c.write_whole.ensures.octets (λ octets m. whole c.args.form by.table_b by.table_d c.args.document.now (places c.in_ok-template.template.now) c.in_ok-template.template.now c.deref.result.now octets.items c.write_data.new.steps tree (rw (same) written) c.write_whole.ensures.payload m)
 
 pub returns-clause-fault : goal.returns-clause-fault
 returns-clause-fault c =
@@ -34,4 +25,4 @@ returns-clause-fault c =
     let tree = rw c.requires.list at c.in_ok-template.ensures.tree in
     let same : c.deref.result.now ≡ c.in_ok-payload.payload.items = c.deref.ensures.value in
     let written = rw c.requires.cached at c.in_ok-payload.ensures.written in
-    if_err_so c.write_whole.result c.write_whole.ensures.fault (λ why m. not_whole c.args.formed.form by.table_b by.table_d c.args.formed.document.now (places c.in_ok-template.template.now) c.in_ok-template.template.now c.deref.result.now c.write_data.new.steps (reported_refusal why) tree (rw (same) written) c.write_whole.ensures.payload m)
+    if_err_so c.write_whole.result c.write_whole.ensures.fault (λ why m. not_whole c.args.form by.table_b by.table_d c.args.document.now (places c.in_ok-template.template.now) c.in_ok-template.template.now c.deref.result.now c.write_data.new.steps (reported_refusal why) tree (rw (same) written) c.write_whole.ensures.payload m)

@@ -1,16 +1,13 @@
 use Rattle.std.proofs.Common.{length, arith, ap, sym, subst, Ok, Err}
-use Rattle.bufr_tables.specs.Tree.{places}
-use Rattle.bufr_walk.specs.Course.{next_item}
-use Rattle.bufr_fill.specs.Draft.{subsets_of}
-use Rattle.bufr_fill.specs.PackedOut.{PackedOutModel, StartsPackedOut}
-use Rattle.bufr_text.proofs.EncodePacked.{none_packed, packed_written, packed_over, packed_stopped, some_before, some_ends}
-use Rattle.bufr_text.proofs.TurnsLemmas.{template_adds}
+use Rattle.bufr_tables.specs.Prelude.{places}
+use Rattle.bufr_walk.specs.Prelude.{next_item}
+use Rattle.bufr_fill.specs.Prelude.{subsets_of, PackedOutModel, StartsPackedOut}
+use Rattle.bufr_text.proofs.EncodeLemmas.{none_packed, packed_written, packed_over, packed_stopped, some_before, some_ends, template_adds}
 use Rattle.bufr_text.proofs.encode.write_packed.Goals as goal
+use Rattle.std.proofs.lemmas.Grind.{common_steps}
 
 pub returns-in-None-clause-written : goal.returns-in-None-clause-written
-returns-in-None-clause-written c =
-    let ss = subsets_of c.args.entries.now in
-    none_packed (places c.args.template.now) (next_item c.args.cache.now c.args.template.now) ss c.args.steps.now c.new-in-None.result.items (subst (StartsPackedOut ss) c.in-None.is c.in_ok-out.ensures) c.new-in-None.ensures.items c.requires.none
+returns-in-None-clause-written c = grind (arith, common_steps, none_packed)
 
 pub returns-in-Ok-end-clause-written : goal.returns-in-Ok-end-clause-written
 returns-in-Ok-end-clause-written c =

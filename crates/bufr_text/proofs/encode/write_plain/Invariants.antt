@@ -1,8 +1,8 @@
 use Rattle.std.proofs.Common.{◌≡◌}
-use Rattle.bufr_tables.specs.Tree.{places}
-use Rattle.bufr_walk.specs.Course.{next_item}
-use Rattle.bufr_fill.specs.Draft.{subsets_of}
-use Rattle.bufr_text.proofs.EncodePlain.{PlainSoFar}
+use Rattle.bufr_tables.specs.Prelude.{places}
+use Rattle.bufr_walk.specs.Prelude.{next_item}
+use Rattle.bufr_fill.specs.Prelude.{subsets_of}
+use Rattle.bufr_text.proofs.EncodeLemmas.{PlainSoFar}
 use Rattle.bufr_text.proofs.encode.write_plain.Given as goal
 
 abbrev pub invariant-subsets : goal.invariant-subsets

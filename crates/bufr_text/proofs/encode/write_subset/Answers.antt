@@ -1,12 +1,12 @@
-use Rattle.bufr_tables.specs.Tree.{places}
-use Rattle.bufr_walk.specs.Course.{next_item}
-use Rattle.bufr_text.proofs.EncodePlain.{subset_written, subset_over, subset_stopped}
-use Rattle.bufr_text.proofs.TurnsLemmas.{template_adds}
+use Rattle.bufr_tables.specs.Prelude.{places}
+use Rattle.bufr_walk.specs.Prelude.{next_item}
+use Rattle.bufr_text.proofs.EncodeLemmas.{subset_written, subset_over, subset_stopped, template_adds}
 use Rattle.bufr_text.proofs.encode.write_subset.Goals as goal
+use Rattle.std.proofs.lemmas.Grind.{common_steps}
+use Rattle.std.proofs.Common.{arith}
 
 pub returns-in-Ok-end_subset-clause-written : goal.returns-in-Ok-end_subset-clause-written
-returns-in-Ok-end_subset-clause-written c =
-    subset_written (places c.args.template.now) (next_item c.args.cache.now c.args.template.now) c.args.out.now c.args.steps.now c.walk_by.new.fields c.walk_by.new.steps c.end_subset.new.self c.in-Ok.ensures.walked c.in-Ok-end_subset.ensures.0 c.in-Ok-end_subset.ensures.1 c.in-Ok.ensures.accepted
+returns-in-Ok-end_subset-clause-written c = grind (arith, common_steps, subset_written)
 
 pub returns-in-Err-end_subset-clause-written : goal.returns-in-Err-end_subset-clause-written
 returns-in-Err-end_subset-clause-written c =

@@ -1,5 +1,5 @@
 use Rattle.std.proofs.Common.{refl}
-use Rattle.bufr_text.specs.Line.{keys}
+use Rattle.bufr_text.specs.Prelude.{keys}
 use Rattle.bufr_text.proofs.header.keys.Goals as goal
 
 pub returns-clause-leads : goal.returns-clause-leads

@@ -1,6 +1,5 @@
-use Rattle.std.proofs.Common.{◌≡◌, ◌∙◌, sym, ap, false}
-use Rattle.std.specs.Prelude.{slice_index}
-use Rattle.bufr_text.specs.Grammar.{is_number_octet}
+use Rattle.std.proofs.Common.{◌≡◌, ◌∙◌, sym, ap, false, slice_index}
+use Rattle.bufr_text.specs.Prelude.{is_number_octet}
 use Rattle.bufr_text.proofs.ItemLemmas.{value-decimal}
 use Rattle.bufr_text.proofs.line.decimal.Goals as goal
 

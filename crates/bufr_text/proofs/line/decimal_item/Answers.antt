@@ -1,6 +1,6 @@
 use Rattle.std.proofs.Common.{sym, ◌∙◌}
-use Rattle.bufr_bits.specs.Decimal.{short_text}
-use Rattle.bufr_fill.specs.Draft.{number_token}
+use Rattle.bufr_bits.specs.Prelude.{short_text}
+use Rattle.bufr_fill.specs.Prelude.{number_token}
 use Rattle.bufr_text.proofs.ItemLemmas.{decimal-line}
 use Rattle.bufr_text.proofs.line.decimal_item.Goals as goal
 

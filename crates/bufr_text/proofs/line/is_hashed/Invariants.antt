@@ -1,5 +1,5 @@
 use Rattle.std.proofs.Common.{◌≡◌, drop}
-use Rattle.bufr_text.specs.Grammar.{is_hashed}
+use Rattle.bufr_text.specs.Prelude.{is_hashed}
 use Rattle.bufr_text.proofs.line.is_hashed.Given as goal
 
 abbrev pub invariant-loop-octet : goal.invariant-loop-octet

@@ -1,5 +1,5 @@
 use Rattle.std.proofs.Common.{sym, ◌∙◌}
-use Rattle.bufr_text.specs.Line.{Local1, Section2}
+use Rattle.bufr_text.specs.Prelude.{Local1, Section2}
 use Rattle.bufr_text.proofs.ItemLemmas.{local1-worded, section2-worded}
 use Rattle.bufr_text.proofs.line.worded.Goals as goal
 

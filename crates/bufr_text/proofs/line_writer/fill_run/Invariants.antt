@@ -1,5 +1,5 @@
 use Rattle.std.proofs.Common.{◌≡◌, ◌≤◌, ◌-◌, ◌++◌, drop, length, take}
-use Rattle.bufr_text.specs.Grammar.{quoted}
+use Rattle.bufr_text.specs.Prelude.{quoted}
 use Rattle.bufr_text.proofs.line_writer.fill_run.Given as goal
 
 -- the octets so far were copied, and need no escape

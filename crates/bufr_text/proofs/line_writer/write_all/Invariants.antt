@@ -1,5 +1,5 @@
 use Rattle.std.proofs.Common.{◌≡◌, length}
-use Rattle.bufr_text.specs.Writing.{MovesPrefix}
+use Rattle.bufr_text.specs.Prelude.{MovesPrefix}
 use Rattle.bufr_text.proofs.line_writer.write_all.Given as goal
 
 -- a prefix was written, the rest is left, and no call failed

@@ -1,7 +1,5 @@
 use Rattle.std.proofs.Common.{◌∙◌, ap, length, refl}
-use Rattle.bufr_text.proofs.NumberLemmas.{flag_digit}
-use Rattle.bufr_text.proofs.PushLemmas.{◌⨾◌, retold}
-use Rattle.bufr_text.proofs.HeadLemmas.{is_some-map}
+use Rattle.bufr_text.proofs.PushLemmas.{flag_digit, ◌⨾◌, retold, is_some-map}
 use Rattle.bufr_text.proofs.ls.push_counts.Goals as goal
 
 pub returns : goal.returns

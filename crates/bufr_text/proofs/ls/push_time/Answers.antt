@@ -1,6 +1,5 @@
 use Rattle.std.proofs.Common.{arith, refl}
-use Rattle.bufr_text.proofs.NumberLemmas.{padded_two, padded_four}
-use Rattle.bufr_text.proofs.PushLemmas.{retold}
+use Rattle.bufr_text.proofs.PushLemmas.{padded_two, padded_four, retold}
 use Rattle.bufr_text.proofs.ls.push_time.Goals as goal
 
 pub returns : goal.returns

@@ -1,6 +1,5 @@
 use Rattle.std.proofs.Common.{rules}
-use Rattle.bufr_text.proofs.PushLemmas.{all_written}
-use Rattle.bufr_text.proofs.HeadLemmas.{line-pushed}
+use Rattle.bufr_text.proofs.PushLemmas.{all_written, line-pushed}
 use Rattle.bufr_text.proofs.ls.write_ls.Goals as goal
 
 pub returns-clause-writes : goal.returns-clause-writes

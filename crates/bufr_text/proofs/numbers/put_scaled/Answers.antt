@@ -1,6 +1,5 @@
 use Rattle.std.proofs.Common.{◌∙◌, ap, arith, sym, to_z, to_z-of_z, w16}
-use Rattle.bufr_text.proofs.NumberLemmas.{unsigned_whole, unsigned_places}
-use Rattle.bufr_text.proofs.PushLemmas.{puts_from, puts_retold}
+use Rattle.bufr_text.proofs.PushLemmas.{unsigned_whole, unsigned_places, puts_from, puts_retold}
 use Rattle.bufr_text.proofs.numbers.put_scaled.Goals as goal
 
 pub returns-then-value-lt10000 : goal.returns-then-value-lt10000

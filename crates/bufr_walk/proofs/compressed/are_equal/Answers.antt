@@ -1,6 +1,5 @@
 use Rattle.std.proofs.Common.{arith, ◌==◌, ◌-◌, ◌+◌, sym}
-use Rattle.bufr_bits.specs.Bits.{bits_of, number_of}
-use Rattle.bufr_bits.specs.BitSlice.{octets_of}
+use Rattle.bufr_bits.specs.Prelude.{bits_of, number_of, octets_of}
 use Rattle.bufr_walk.proofs.PackedLemmas.{passes_next, fails_next, is_first, is_other}
 use Rattle.bufr_walk.proofs.compressed.are_equal.Goals as goal
 

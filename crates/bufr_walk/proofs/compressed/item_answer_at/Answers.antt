@@ -1,17 +1,11 @@
 use Rattle.std.proofs.Common.{◌≡◌, ◌+◌, take, drop, sym, ap, ◌∙◌, arith}
-use Rattle.bufr_bits.specs.Bits.{bits_of, number_of}
-use Rattle.bufr_bits.specs.BitSlice.{octets_of}
-use Rattle.bufr_walk.specs.PackedBits.{all_equal, is_plain_role}
-use Rattle.bufr_walk.proofs.PlainLemmas.{is_reference_role}
-use Rattle.bufr_walk.proofs.PackedLemmas.{answer_base, answer_varied, wrong_varied, wrong_reference, answer_factor_varied, wrong_unequal}
+use Rattle.bufr_bits.specs.Prelude.{bits_of, number_of, octets_of}
+use Rattle.bufr_walk.specs.Prelude.{all_equal, is_plain_role}
+use Rattle.bufr_walk.proofs.PackedLemmas.{answer_base, answer_varied, wrong_varied, answer_factor_varied, wrong_unequal}
 use Rattle.bufr_walk.proofs.compressed.item_answer_at.Goals as goal
 
 pub returns-then-k-eq0-clause-answer : goal.returns-then-k-eq0-clause-answer
 returns-then-k-eq0-clause-answer c = answer_base c.args.spec.now c.args.k c.args.subsets _ _ _ c.if-k-eq0.true c.requires.subsets c.answer_at.ensures.value
-
-pub returns-then-reference-clause-answer : goal.returns-then-reference-clause-answer
-returns-then-reference-clause-answer c =
-    wrong_reference c.args.spec.now c.args.k c.args.subsets _ _ _ c.fxy.ensures (omega (arith, c.if-k-eq0.false)) (is_reference_role c.args.spec.now.role (sym c.is_reference-reference.ensures ∙ c.if-reference.true))
 
 pub returns-then-not-can_be-clause-answer : goal.returns-then-not-can_be-clause-answer
 returns-then-not-can_be-clause-answer c =

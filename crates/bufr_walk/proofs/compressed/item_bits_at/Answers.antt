@@ -1,6 +1,5 @@
 use Rattle.std.proofs.Common.{arith, ◌≡◌, ◌+◌, ◌*◌, take, drop, refl, ap, ◌∙◌}
-use Rattle.bufr_bits.specs.Bits.{bits_of, number_of}
-use Rattle.bufr_bits.specs.BitSlice.{octets_of}
+use Rattle.bufr_bits.specs.Prelude.{bits_of, number_of, octets_of}
 use Rattle.bufr_walk.proofs.PlainLemmas.{bits_length}
 use Rattle.bufr_walk.proofs.PackedReading.{ends_first, ends_after, seen_here, unseen_here, size_same}
 use Rattle.bufr_walk.proofs.compressed.item_bits_at.Goals as goal

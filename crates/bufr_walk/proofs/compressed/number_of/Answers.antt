@@ -1,11 +1,8 @@
 use Rattle.std.proofs.Common.{◌≡◌, ℕ, ◌+◌, ◌*◌, ◌^◌, ◌<◌, ◌≤◌, List, false, true, length, take, drop, arith, sym, ◌∙◌, ap, subst}
-use Rattle.bufr_bits.specs.Bits.{bits_of}
-use Rattle.bufr_bits.specs.BitSlice.{octets_of}
-use Rattle.bufr_tables.specs.TableB.{is_character}
-use Rattle.bufr_walk.specs.declared.item_index.IndexedItem.{IndexedItem}
-use Rattle.bufr_walk.specs.PackedIn.{fits_at}
+use Rattle.bufr_bits.specs.Prelude.{bits_of, octets_of, number_of}
+use Rattle.bufr_tables.specs.Prelude.{is_character}
+use Rattle.bufr_walk.specs.Prelude.{IndexedItem, fits_at}
 use Rattle.std.proofs.Math.Nat.{pow-le-pow_right}
-use Rattle.bufr_bits.specs.Bits.{number_of}
 use Rattle.bufr_walk.proofs.PackedLemmas.{number_within, kept_number, step_small, increment_at, all_ones}
 use Rattle.bufr_walk.proofs.PlainLemmas.{bits_length}
 use Rattle.bufr_walk.proofs.ShownLemmas.{base_missing, base_number, kept_last, kept_whole, kept_never, kept_some}
@@ -103,8 +100,3 @@ returns-clause-value c =
     (increment_at octets item.at item.spec.width c.from-k.result c.args.subset _ _ _ c.number_at-increment.result (c.from.ensures ∙ c.width-width.ensures.value) c.from-2.ensures c.from-3.ensures c.number_at-increment.ensures.value) in
     let all = all_ones _ _ c.width-width.ensures.value (c.width-width.ensures.narrow c.requires.number) in
     kept_some octets c.args.pack.now.subsets item c.args.subset c.number_at-increment.result c.requires.fits some c.requires.subset c.requires.number more (λ e. c.if-increment-k.false (e ∙ sym (all_ones _ _ c.from-k.ensures (step_small (bits_of octets) c.args.pack.now.subsets item c.requires.fits)))) (omega (arith, c.if-sum-width.false, all))
-
-pub returns-clause-below : goal.returns-clause-below
-returns-clause-below c =
-    let all = all_ones _ _ c.width-width.ensures.value (c.width-width.ensures.narrow c.requires.number) in
-    omega (arith, c.if-sum-width.false, all)

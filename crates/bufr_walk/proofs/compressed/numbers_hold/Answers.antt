@@ -1,9 +1,6 @@
-use Rattle.std.proofs.Common.{Bool, true, false, ◌&&◌, drop, ◌≡◌, ◌∙◌, ◌-◌, ◌+◌, ◌≤◌, refl, sym, ap, arith}
-use Rattle.std.specs.Prelude.{◌||◌}
-use Rattle.bufr_bits.specs.Bits.{bits_of, bits_at, number_of, are_all_ones}
-use Rattle.bufr_bits.specs.BitSlice.{octets_of}
-use Rattle.bufr_walk.specs.PackedField.{ones}
-use Rattle.bufr_walk.specs.PackedBits.{stays_within, all_within, is_missing}
+use Rattle.std.proofs.Common.{Bool, true, false, ◌&&◌, drop, ◌≡◌, ◌∙◌, ◌-◌, ◌+◌, ◌≤◌, refl, sym, ap, arith, ◌||◌}
+use Rattle.bufr_bits.specs.Prelude.{bits_of, bits_at, number_of, are_all_ones, octets_of}
+use Rattle.bufr_walk.specs.Prelude.{ones, stays_within, all_within, is_missing}
 use Rattle.bufr_walk.proofs.PackedLemmas.{passes_next, fails_next, stays_here, numbers_fit, all_ones}
 use Rattle.bufr_walk.proofs.compressed.numbers_hold.Goals as goal
 use Rattle.bufr_walk.proofs.compressed.numbers_hold.Goals.{then-base, else-base}

@@ -1,10 +1,8 @@
 use Rattle.std.proofs.Common.{◌≡◌, ◌≤◌, true, length, arith, refl, ap, subst}
 use Rattle.std.specs.List.{list_all}
-use Rattle.bufr_bits.specs.Bits.{bits_of}
-use Rattle.bufr_bits.specs.BitSlice.{octets_of}
-use Rattle.bufr_tables.specs.Tree.{places}
-use Rattle.bufr_walk.specs.Course.{next_item}
-use Rattle.bufr_walk.specs.PackedIn.{PackedCursor, items_at, fits_at}
+use Rattle.bufr_bits.specs.Prelude.{bits_of, octets_of}
+use Rattle.bufr_tables.specs.Prelude.{places}
+use Rattle.bufr_walk.specs.Prelude.{next_item, PackedCursor, items_at, fits_at}
 use Rattle.bufr_walk.proofs.PackedReading.{whole_read, walk_stops, stopped_within, few_stopped, few_values}
 use Rattle.bufr_walk.proofs.compressed.read_packed.Goals as goal
 

@@ -1,5 +1,4 @@
-use Rattle.bufr_bits.specs.Bits.{bits_of}
-use Rattle.bufr_bits.specs.BitSlice.{octets_of}
+use Rattle.bufr_bits.specs.Prelude.{bits_of, octets_of}
 use Rattle.bufr_walk.proofs.PackedShowing.{fit_here}
 use Rattle.bufr_walk.proofs.PlainLemmas.{small_power}
 use Rattle.bufr_walk.proofs.compressed.show_item.Goals as goal

@@ -1,6 +1,5 @@
 use Rattle.std.proofs.Common.{◌<◌, length, arith}
-use Rattle.bufr_bits.specs.Bits.{bits_of}
-use Rattle.bufr_bits.specs.BitSlice.{octets_of}
+use Rattle.bufr_bits.specs.Prelude.{bits_of, octets_of}
 use Rattle.bufr_walk.proofs.PackedShowing.{fit_after, item_there, items_end, items_go}
 use Rattle.bufr_walk.proofs.compressed.show_items.Goals as goal
 

@@ -1,9 +1,7 @@
 use Rattle.std.proofs.Common.{◌≡◌, true, drop}
 use Rattle.std.specs.List.{list_all}
-use Rattle.bufr_bits.specs.Bits.{bits_of}
-use Rattle.bufr_bits.specs.BitSlice.{octets_of}
-use Rattle.bufr_walk.specs.PackedIn.{fits_at}
-use Rattle.bufr_walk.specs.ShowSteps.{Sofar}
+use Rattle.bufr_bits.specs.Prelude.{bits_of, octets_of}
+use Rattle.bufr_walk.specs.Prelude.{fits_at, Sofar}
 use Rattle.bufr_walk.proofs.PackedShowing.{calls_from}
 use Rattle.bufr_walk.proofs.compressed.show_items.Given as goal
 

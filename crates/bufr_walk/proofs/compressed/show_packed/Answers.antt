@@ -1,9 +1,8 @@
 use Rattle.std.proofs.Common.{inl, inr, refl}
 use Rattle.std.proofs.lemmas.Result.{err_from_is_err_and}
-use Rattle.bufr_bits.specs.Bits.{bits_of}
-use Rattle.bufr_bits.specs.BitSlice.{octets_of}
+use Rattle.bufr_bits.specs.Prelude.{bits_of, octets_of}
 use Rattle.bufr_walk.specs.declared.fault.ShowFault.TheVariants as fault
-use Rattle.bufr_walk.specs.PackedIn.{items_at}
+use Rattle.bufr_walk.specs.Prelude.{items_at}
 use Rattle.bufr_walk.proofs.PackedShowing.{subsets_go, subsets_end}
 use Rattle.bufr_walk.proofs.compressed.show_packed.Goals as goal
 

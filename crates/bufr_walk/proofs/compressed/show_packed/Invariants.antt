@@ -1,7 +1,5 @@
-use Rattle.bufr_bits.specs.Bits.{bits_of}
-use Rattle.bufr_bits.specs.BitSlice.{octets_of}
-use Rattle.bufr_walk.specs.PackedIn.{items_at}
-use Rattle.bufr_walk.specs.ShowSteps.{Sofar}
+use Rattle.bufr_bits.specs.Prelude.{bits_of, octets_of}
+use Rattle.bufr_walk.specs.Prelude.{items_at, Sofar}
 use Rattle.bufr_walk.proofs.PackedShowing.{all_calls, subsets_from}
 use Rattle.bufr_walk.proofs.compressed.show_packed.Given as goal
 

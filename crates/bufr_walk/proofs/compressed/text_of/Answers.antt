@@ -1,12 +1,7 @@
-use Rattle.std.proofs.Common.{◌≡◌, ℕ, ◌+◌, ◌-◌, ◌*◌, ◌<◌, ◌≤◌, List, true, length, take, drop, replicate, ◌++◌, arith, sym, ◌∙◌, ap}
-use Rattle.std.specs.Prelude.{◌/◌}
-use Rattle.bufr_bits.specs.Bits.{bits_of}
-use Rattle.bufr_bits.specs.BitSlice.{octets_of}
-use Rattle.bufr_tables.specs.TableB.{is_character}
-use Rattle.bufr_walk.specs.declared.item_index.IndexedItem.{IndexedItem}
-use Rattle.bufr_walk.specs.Content.{shown}
-use Rattle.bufr_walk.specs.PackedField.{padded_text}
-use Rattle.bufr_walk.specs.PackedIn.{fits_at}
+use Rattle.std.proofs.Common.{◌≡◌, ℕ, ◌+◌, ◌-◌, ◌*◌, ◌<◌, ◌≤◌, List, true, length, take, drop, replicate, ◌++◌, arith, sym, ◌∙◌, ap, ◌/◌}
+use Rattle.bufr_bits.specs.Prelude.{bits_of, octets_of}
+use Rattle.bufr_tables.specs.Prelude.{is_character}
+use Rattle.bufr_walk.specs.Prelude.{IndexedItem, shown, padded_text, fits_at}
 use Rattle.bufr_walk.proofs.PackedShowing.{span_within, span_text, missing_text, whole_text}
 use Rattle.bufr_walk.proofs.compressed.text_of.Goals as goal
 

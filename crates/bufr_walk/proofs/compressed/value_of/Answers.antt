@@ -1,7 +1,6 @@
 use Rattle.std.proofs.Common.{◌∙◌, sym, ap}
-use Rattle.bufr_bits.specs.Bits.{bits_of}
-use Rattle.bufr_bits.specs.BitSlice.{octets_of}
-use Rattle.bufr_walk.specs.Content.{shown}
+use Rattle.bufr_bits.specs.Prelude.{bits_of, octets_of}
+use Rattle.bufr_walk.specs.Prelude.{shown}
 use Rattle.bufr_walk.proofs.PackedLemmas.{base_content}
 use Rattle.bufr_walk.proofs.PackedShowing.{base_within}
 use Rattle.bufr_walk.proofs.compressed.value_of.Goals as goal

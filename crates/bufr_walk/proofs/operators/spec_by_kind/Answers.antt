@@ -1,7 +1,7 @@
 use Rattle.std.proofs.Common.{ap, sym, ◌∙◌}
 use Rattle.std.proofs.Math.Facts.{to_z-of_z}
-use Rattle.bufr_tables.specs.Entry.{row_of_entry}
-use Rattle.bufr_walk.specs.Rules.{spec_by_kind, operator_model}
+use Rattle.bufr_tables.specs.Prelude.{row_of_entry}
+use Rattle.bufr_walk.specs.Prelude.{spec_by_kind, operator_model}
 use Rattle.bufr_walk.proofs.operators.spec_by_kind.Goals as goal
 
 pub returns-in-Coded : goal.returns-in-Coded

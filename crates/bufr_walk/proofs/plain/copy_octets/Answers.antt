@@ -1,6 +1,5 @@
 use Rattle.std.proofs.Common.{arith}
-use Rattle.bufr_bits.specs.Bits.{bits_of}
-use Rattle.bufr_bits.specs.BitSlice.{octets_of}
+use Rattle.bufr_bits.specs.Prelude.{bits_of, octets_of}
 use Rattle.bufr_walk.proofs.PlainLemmas.{octet_put}
 use Rattle.bufr_walk.proofs.plain.copy_octets.Goals as goal
 

@@ -1,7 +1,6 @@
 use Rattle.std.proofs.Common.{◌≡◌, ◌≤◌, ◌-◌, take, drop}
-use Rattle.bufr_bits.specs.Bits.{bits_of}
-use Rattle.bufr_bits.specs.BitSlice.{octets_of}
-use Rattle.bufr_walk.specs.Content.{octets_in}
+use Rattle.bufr_bits.specs.Prelude.{bits_of, octets_of}
+use Rattle.bufr_walk.specs.Prelude.{octets_in}
 use Rattle.bufr_walk.proofs.plain.copy_octets.Given as goal
 
 abbrev pub invariant-octets : goal.invariant-octets

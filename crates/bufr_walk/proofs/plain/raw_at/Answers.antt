@@ -1,7 +1,6 @@
-use Rattle.std.proofs.Common.{◌≡◌, ◌-◌, ◌*◌, ◌%◌, ◌^◌, ◌∙◌, arith, ap}
-use Rattle.std.specs.Prelude.{nat_eq}
+use Rattle.std.proofs.Common.{◌≡◌, ◌-◌, ◌*◌, ◌%◌, ◌^◌, ◌∙◌, arith, ap, nat_eq}
 use Rattle.std.proofs.lemmas.Nat.{shl_whole}
-use Rattle.bufr_bits.specs.BitSlice.{octets_of}
+use Rattle.bufr_bits.specs.Prelude.{octets_of}
 use Rattle.bufr_walk.proofs.PlainLemmas.{ones_by_number}
 use Rattle.bufr_walk.proofs.plain.raw_at.Goals as goal
 

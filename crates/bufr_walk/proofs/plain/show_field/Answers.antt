@@ -1,7 +1,6 @@
 use Rattle.std.proofs.Common.{◌+◌, ◌≤◌, length, sym, subst, arith}
-use Rattle.bufr_bits.specs.Bits.{bits_of}
-use Rattle.bufr_bits.specs.BitSlice.{octets_of}
-use Rattle.bufr_walk.specs.PlainIn.{Cursor}
+use Rattle.bufr_bits.specs.Prelude.{bits_of, octets_of}
+use Rattle.bufr_walk.specs.Prelude.{Cursor}
 use Rattle.bufr_walk.proofs.PlainLemmas.{bits_length}
 use Rattle.bufr_walk.proofs.plain.show_field.Goals as goal
 

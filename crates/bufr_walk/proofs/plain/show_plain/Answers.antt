@@ -1,18 +1,8 @@
 use Rattle.std.proofs.Common.{◌+◌, ◌∙◌, Ok, Err, arith, refl}
 use Rattle.std.proofs.lemmas.Result.{err_from_is_err_and}
-use Rattle.bufr_bits.specs.Bits.{bits_of}
-use Rattle.bufr_bits.specs.BitSlice.{octets_of}
-use Rattle.bufr_walk.specs.Course.{next_item}
-use Rattle.bufr_walk.specs.PlainIn.{rest_of}
-use Rattle.bufr_walk.proofs.ShownLemmas.{none_shown, all_subsets, next_there, one_shown, ended_so, subset_goes, subset_refused}
+use Rattle.bufr_walk.specs.Prelude.{next_item, rest_of}
+use Rattle.bufr_walk.proofs.ShownLemmas.{next_there, one_shown, ended_so, subset_goes, subset_refused}
 use Rattle.bufr_walk.proofs.plain.show_plain.Goals as goal
-
-pub subsets-init : goal.subsets-init
-subsets-init g c = (
-  refl,
-  λ all left h e.
-      none_shown g.V.Visitor.sees c.args.cache.now (next_item c.args.cache.now c.args.data.now.template.now) all left (bits_of (octets_of c.args.data.now.bits)) c.args.visitor.now c.new-input.result c.args.steps.now c.new-input.ensures c.requires.steps h,
-)
 
 pub show_items-requires : goal.show_items-requires
 show_items-requires g c =
@@ -40,7 +30,3 @@ returns-in-Err-clause-shown g c = λ all left h e.
     let course = next_item c.args.cache.now c.args.data.now.template.now in
     ended_so g.V.Visitor.sees c.args.cache.now course all c.subsets.done (c.subsets.done + 1) left c.args.visitor.now c.subsets.visitor c.subset.new.self c.subsets.input c.subsets.input c.subsets.steps c.subsets.steps _ refl (omega (arith, c.subsets-test.true, e)) (c.subsets.invariant.1 all left h e)
     (subset_refused g.V.Visitor.sees c.args.cache.now course (c.subsets.done + 1) c.subsets.input c.subsets.input c.subsets.visitor c.subset.new.self c.subsets.steps c.subsets.steps c.in-Err.fault c.in-Err.ensures refl)
-
-pub returns-clause-shown : goal.returns-clause-shown
-returns-clause-shown g c = λ all left h e.
-    all_subsets g.V.Visitor.sees c.args.cache.now (next_item c.args.cache.now c.args.data.now.template.now) all c.subsets.done left c.args.visitor.now c.subsets.visitor c.subsets.input c.subsets.steps (omega (arith, c.subsets-test.false, e)) (c.subsets.invariant.1 all left h e)

@@ -1,10 +1,6 @@
 use Rattle.std.proofs.Common.{◌≡◌, List, Bool, length}
-use Rattle.bufr_bits.specs.Bits.{bits_of}
-use Rattle.bufr_bits.specs.BitSlice.{octets_of}
-use Rattle.bufr_walk.specs.Content.{Content}
-use Rattle.bufr_walk.specs.Course.{next_item}
-use Rattle.bufr_walk.specs.Reading.{Item, ReadsSubsets}
-use Rattle.bufr_walk.specs.ShowSteps.{SubsetsShown}
+use Rattle.bufr_bits.specs.Prelude.{bits_of, octets_of}
+use Rattle.bufr_walk.specs.Prelude.{Content, next_item, Item, ReadsSubsets, SubsetsShown}
 use Rattle.bufr_walk.proofs.plain.show_plain.Given as goal
 
 abbrev pub invariant-subsets : goal.invariant-subsets

@@ -1,8 +1,6 @@
-use Rattle.std.proofs.Common.{take, drop, sym, ◌∙◌, ap, Some}
-use Rattle.std.specs.Prelude.{◌/◌}
-use Rattle.bufr_bits.specs.Bits.{bits_of, bits_at, are_all_ones}
-use Rattle.bufr_bits.specs.BitSlice.{octets_of}
-use Rattle.bufr_walk.specs.Content.{octets_in}
+use Rattle.std.proofs.Common.{take, drop, sym, ◌∙◌, ap, Some, ◌/◌}
+use Rattle.bufr_bits.specs.Prelude.{bits_of, bits_at, are_all_ones, octets_of}
+use Rattle.bufr_walk.specs.Prelude.{octets_in}
 use Rattle.bufr_walk.proofs.PlainLemmas.{borrowed_some, text_prefix}
 use Rattle.bufr_walk.proofs.ShownLemmas.{text_shown}
 use Rattle.bufr_walk.proofs.plain.value_at.Goals as goal

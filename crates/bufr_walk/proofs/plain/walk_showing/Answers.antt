@@ -1,6 +1,5 @@
 use Rattle.std.proofs.Common.{ap}
-use Rattle.bufr_walk.specs.Course.{next_item}
-use Rattle.bufr_walk.specs.ShowSteps.{stage}
+use Rattle.bufr_walk.specs.Prelude.{next_item, stage}
 use Rattle.bufr_walk.proofs.ShownLemmas.{same_names, all_shown, all_ended, may_end}
 use Rattle.bufr_walk.proofs.plain.walk_showing.Goals as goal
 

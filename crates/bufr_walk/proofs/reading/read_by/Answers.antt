@@ -1,5 +1,5 @@
 use Rattle.std.proofs.Common.{◌<◌, ◌^◌, ◌∙◌, length, subst, sym}
-use Rattle.bufr_bits.specs.BitSlice.{octets_of}
+use Rattle.bufr_bits.specs.Prelude.{octets_of}
 use Rattle.bufr_walk.proofs.PackedReading.{packed_held, packed_is, packed_data_same}
 use Rattle.bufr_walk.proofs.PlainLemmas.{plain_held, plain_is, same_data}
 use Rattle.bufr_walk.proofs.reading.read_by.Goals as goal

@@ -1,15 +1,9 @@
-use Rattle.std.proofs.Common.{arith, refl, ◌∙◌}
+use Rattle.std.proofs.Common.{refl, ◌∙◌}
 use Rattle.std.proofs.lemmas.Result.{err_from_is_err_and}
-use Rattle.bufr_walk.specs.Course.{unroll}
-use Rattle.bufr_walk.proofs.WalkLemmas.{came_then, fits_first, led_on, led_out, led_off, flattened_length, came_begun}
+use Rattle.bufr_walk.specs.Prelude.{unroll}
+use Rattle.bufr_walk.proofs.WalkLemmas.{came_then, fits_first, led_on, led_out, led_off, came_begun}
 use Rattle.bufr_walk.proofs.BoundLemmas.{steps_ok, steps_err}
 use Rattle.bufr_walk.proofs.walker.walk_by.Goals as goal
-
-pub turn-requires-clause-within : goal.turn-requires-clause-within
-turn-requires-clause-within g c = let n = flattened_length c.cells-cells.result.now c.args.template.now c.cells-cells.ensures.flattened in omega (arith, n, c.cells-cells.ensures.flattened.within)
-
-pub turn-requires-clause-fits : goal.turn-requires-clause-fits
-turn-requires-clause-fits g c = (c.turns.invariant.1.0, c.turns.invariant.1.1)
 
 pub turns-init : goal.turns-init
 turns-init g c = (refl, (unroll c.args.template.now, fits_first c.cells-cells.result.now c.args.template.now c.new.result.items c.cells-cells.ensures.flattened c.new.ensures, came_begun g.S.Fields.takes c.args.cache.now c.cells-cells.result.now c.args.template.now _ _ _ c.new-2.ensures))

@@ -1,7 +1,5 @@
 use Rattle.std.proofs.Common.{◌≡◌}
-use Rattle.bufr_walk.specs.Rules.{begin}
-use Rattle.bufr_walk.specs.Course.{Rest, unroll}
-use Rattle.bufr_walk.specs.Walk.{IsAtCell, weight, HasWalked}
+use Rattle.bufr_walk.specs.Prelude.{begin, Rest, unroll, IsAtCell, weight, HasWalked}
 use Rattle.bufr_walk.proofs.walker.walk_by.Given as goal
 
 abbrev pub invariant-turns : goal.invariant-turns

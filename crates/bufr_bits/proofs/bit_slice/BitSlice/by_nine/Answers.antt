@@ -1,5 +1,5 @@
 use Rattle.std.proofs.Common.{◌≡◌, ◌+◌, ◌-◌, ◌*◌, ◌%◌, ◌^◌, refl, arith}
-use Rattle.bufr_bits.specs.Bits.{number_of, bits_at}
+use Rattle.bufr_bits.specs.Prelude.{number_of, bits_at}
 use Rattle.bufr_bits.proofs.BitLemmas.{fits_in_63, field_beyond}
 use Rattle.bufr_bits.proofs.bit_slice.BitSlice.by_nine.Goals as goal
 

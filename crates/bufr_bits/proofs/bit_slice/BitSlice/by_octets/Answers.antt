@@ -1,5 +1,5 @@
 use Rattle.std.proofs.Common.{arith, ℕ, ap, ◌∙◌, ◌≡◌, ◌+◌, ◌*◌, ◌%◌, ◌^◌}
-use Rattle.bufr_bits.specs.Bits.{number_of, bits_at}
+use Rattle.bufr_bits.specs.Prelude.{number_of, bits_at}
 use Rattle.bufr_bits.proofs.BitLemmas.{next_part, fits_in_63}
 use Rattle.bufr_bits.proofs.bit_slice.BitSlice.by_octets.Goals as goal
 

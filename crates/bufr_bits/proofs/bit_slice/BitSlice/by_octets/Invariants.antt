@@ -1,5 +1,5 @@
 use Rattle.std.proofs.Common.{◌-◌, ◌≡◌, ◌≤◌, ◌+◌, ◌*◌, length}
-use Rattle.bufr_bits.specs.Bits.{number_of, bits_at}
+use Rattle.bufr_bits.specs.Prelude.{number_of, bits_at}
 use Rattle.bufr_bits.proofs.bit_slice.BitSlice.by_octets.Given as goal
 
 abbrev pub invariant-loop-done : goal.invariant-loop-done

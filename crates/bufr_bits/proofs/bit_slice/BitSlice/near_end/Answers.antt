@@ -1,4 +1,4 @@
-use Rattle.std.proofs.Common.{◌+◌, ◌-◌, ◌*◌, ◌≤◌, ◌≡◌, arith, length}
+use Rattle.std.proofs.Common.{◌+◌, ◌-◌, ◌*◌, ◌≤◌, ◌≡◌, arith}
 use Rattle.bufr_bits.proofs.BitLemmas.{field_in, window_from}
 use Rattle.bufr_bits.proofs.bit_slice.BitSlice.near_end.Goals as goal
 

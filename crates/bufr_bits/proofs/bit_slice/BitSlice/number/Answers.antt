@@ -5,9 +5,6 @@ use Rattle.bufr_bits.proofs.bit_slice.BitSlice.number.Goals as goal
 pub returns-then-from-width-gt64-clause-below : goal.returns-then-from-width-gt64-clause-below
 returns-then-from-width-gt64-clause-below c = below_width c.args.self.now.octets.now c.args.at c.args.width c.by_nine.result c.requires.within c.by_nine.ensures
 
-pub by_nine-requires-clause-window : goal.by_nine-requires-clause-window
-by_nine-requires-clause-window c = window_from c.args.self.now.octets.now (c.args.at / 8) c.in-Some.window c.in-Some.ensures
-
 pub returns-else-from-width-gt64-clause-value : goal.returns-else-from-width-gt64-clause-value
 returns-else-from-width-gt64-clause-value c =
     field_within c.args.self.now.octets.now c.args.at c.args.width c.in-Some.window (window_from c.args.self.now.octets.now (c.args.at / 8) c.in-Some.window c.in-Some.ensures) c.if-from-width-gt64.false c.requires.few

@@ -1,5 +1,5 @@
 use Rattle.std.proofs.Common.{◌≡◌, ◌+◌, ◌*◌, arith, length, ap, sym, ◌∙◌}
-use Rattle.bufr_bits.specs.Writing.{BitWriterModel}
+use Rattle.bufr_bits.specs.Prelude.{BitWriterModel}
 use Rattle.bufr_bits.proofs.BitLemmas.{length-written}
 use Rattle.bufr_bits.proofs.bit_writer.BitWriter.grow.Goals as goal
 

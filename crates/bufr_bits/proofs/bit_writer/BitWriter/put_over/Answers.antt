@@ -1,6 +1,5 @@
 use Rattle.std.proofs.Common.{ℕ, ◌+◌, length, length-append, ap, ◌∙◌}
-use Rattle.bufr_bits.specs.Bits.{bits_in}
-use Rattle.bufr_bits.specs.Writing.{BitWriterModel}
+use Rattle.bufr_bits.specs.Prelude.{bits_in, BitWriterModel}
 use Rattle.bufr_bits.proofs.BitLemmas.{length-bits_in}
 use Rattle.bufr_bits.proofs.bit_writer.BitWriter.put_over.Goals as goal
 

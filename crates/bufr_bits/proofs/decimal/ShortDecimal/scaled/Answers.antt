@@ -1,7 +1,7 @@
 use Rattle.std.proofs.Common.{◌≡◌, pos, Ok, Err, ◌∙◌, sym, ap, arith, to_z, to_z-of_z}
 use Rattle.std.specs.Int.{w16, w128}
 use Rattle.std.proofs.lemmas.Result.{err_from_is_err_and}
-use Rattle.bufr_bits.specs.Decimal.{positive_scale, negative_scale}
+use Rattle.bufr_bits.specs.Prelude.{positive_scale, negative_scale}
 use Rattle.bufr_bits.proofs.ShortLemmas.{value_own, value_up, value_down}
 use Rattle.bufr_bits.proofs.decimal.ShortDecimal.scaled.Goals as goal
 

@@ -1,8 +1,6 @@
 use Rattle.std.proofs.Common.{List, [], ◌∷◌, ◌++◌, ap, ◌∙◌, rules}
 use Rattle.std.proofs.lemmas.Result.{err_from_is_err_and}
-use Rattle.bufr_fill.specs.Draft.{DraftEntry, Holds}
-use Rattle.bufr_fill.specs.Given.{draft_in}
-use Rattle.bufr_fill.specs.Kept.{entries_stored}
+use Rattle.bufr_fill.specs.Prelude.{DraftEntry, Holds, draft_in, entries_stored}
 use Rattle.bufr_fill.proofs.EntryLemmas.{entries-push, entries-same}
 use Rattle.bufr_fill.proofs.draft.Entries.push_item.Goals as goal
 

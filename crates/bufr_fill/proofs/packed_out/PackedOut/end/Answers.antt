@@ -1,5 +1,5 @@
 use Rattle.std.proofs.Common.{subst}
-use Rattle.bufr_fill.specs.PackedOut.{EndsAllSubsets}
+use Rattle.bufr_fill.specs.Prelude.{EndsAllSubsets}
 use Rattle.bufr_fill.proofs.packed_out.PackedOut.end.Goals as goal
 
 pub returns : goal.returns

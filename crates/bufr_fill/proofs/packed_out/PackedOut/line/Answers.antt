@@ -1,6 +1,5 @@
 use Rattle.std.proofs.Common.{ap, ◌∙◌}
-use Rattle.bufr_fill.specs.Draft.{subsets_of}
-use Rattle.bufr_fill.specs.PackedOut.{first_line_at}
+use Rattle.bufr_fill.specs.Prelude.{subsets_of, first_line_at}
 use Rattle.bufr_fill.proofs.packed_out.PackedOut.line.Goals as goal
 
 pub returns : goal.returns

@@ -1,8 +1,7 @@
-use Rattle.std.proofs.Common.{◌≡◌, ◌≤◌, ◌==◌, ◌*◌, ℕ, zero, suc, Bool, false, List, length, rules, sym, ap, ◌∙◌, arith}
+use Rattle.std.proofs.Common.{◌≡◌, ◌≤◌, ◌==◌, ◌*◌, ℕ, zero, suc, Bool, false, List, rules, sym, ap, ◌∙◌, arith}
 use Rattle.std.proofs.lemmas.Bool.{false≢true}
-use Rattle.bufr_walk.specs.Reading.{max_values}
-use Rattle.bufr_fill.specs.Draft.{Subset, subsets_of}
-use Rattle.bufr_fill.specs.PackedOut.{PackedOutModel}
+use Rattle.bufr_walk.specs.Prelude.{max_values}
+use Rattle.bufr_fill.specs.Prelude.{Subset, subsets_of, PackedOutModel}
 use Rattle.bufr_fill.proofs.EntryLemmas.{none_end, empty_is}
 use Rattle.bufr_fill.proofs.packed_out.PackedOut.new.Goals as goal
 
@@ -19,15 +18,6 @@ at_start subsets bits = record { subsets = subsets; place = 0; bits = bits }
 pub returns-then-is_empty : goal.returns-then-is_empty
 returns-then-is_empty c =
     none_end c.args.entries.now (sym c.in_ok-ends.ensures ∙ empty_is c.in_ok-ends.ends.items _ (search rules) (sym c.is_empty.ensures ∙ c.if-is_empty.true))
-
-pub invariant_of-result : goal.invariant_of-result
-invariant_of-result c = record {
-  few = c.requires.few;
-  ends_are = c.in_ok-ends.ensures;
-  some = omega (arith, some_there _ c.if-is_empty.ensures, c.in_ok-ends.ends.ok.0);
-  room = omega (arith, ap length c.new-2.ensures);
-  values = none_within (length c.in_ok-ends.ends.items);
-}
 
 pub returns : goal.returns
 returns c = ap (at_start (subsets_of c.args.entries.now)) c.new-2.ensures

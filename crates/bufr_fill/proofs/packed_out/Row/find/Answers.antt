@@ -1,6 +1,5 @@
-use Rattle.std.proofs.Common.{sym, ap, ◌∙◌, arith}
-use Rattle.std.specs.Prelude.{slice_get}
-use Rattle.bufr_fill.specs.Kept.{entry_with}
+use Rattle.std.proofs.Common.{sym, ap, ◌∙◌, arith, slice_get}
+use Rattle.bufr_fill.specs.Prelude.{entry_with}
 use Rattle.bufr_fill.proofs.EntryLemmas.{end_within, none_there, found_entry}
 use Rattle.bufr_fill.proofs.packed_out.Row.find.Goals as goal
 

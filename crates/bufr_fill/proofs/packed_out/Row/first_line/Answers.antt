@@ -1,6 +1,5 @@
 use Rattle.std.proofs.Common.{arith}
-use Rattle.bufr_fill.specs.Encoding.{cells_at}
-use Rattle.bufr_fill.specs.Draft.{subsets_of}
+use Rattle.bufr_fill.specs.Prelude.{cells_at, subsets_of}
 use Rattle.bufr_fill.proofs.EntryLemmas.{count_cells}
 use Rattle.bufr_fill.proofs.RowLemmas.{first_is}
 use Rattle.bufr_fill.proofs.packed_out.Row.first_line.Goals as goal

@@ -1,5 +1,5 @@
 use Rattle.std.proofs.Common.{sym}
-use Rattle.bufr_fill.specs.Kept.{entry_with}
+use Rattle.bufr_fill.specs.Prelude.{entry_with}
 use Rattle.bufr_fill.proofs.EntryLemmas.{line-is}
 use Rattle.bufr_fill.proofs.packed_out.Row.line_of.Goals as goal
 

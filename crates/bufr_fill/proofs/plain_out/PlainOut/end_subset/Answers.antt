@@ -1,7 +1,5 @@
 use Rattle.std.proofs.Common.{◌≡◌, ◌∙◌, Err, sym, ap, refl}
-use Rattle.bufr_fill.specs.Faults.{at_line, item_too_many}
-use Rattle.bufr_fill.specs.Kept.{entry_with}
-use Rattle.bufr_fill.specs.PlainOut.{PlainOutModel, line_at, after_end}
+use Rattle.bufr_fill.specs.Prelude.{at_line, item_too_many, entry_with, PlainOutModel, line_at, after_end}
 use Rattle.bufr_fill.proofs.EntryLemmas.{end_next, item_next, none_next}
 use Rattle.bufr_fill.proofs.plain_out.PlainOut.end_subset.Goals as goal
 use Rattle.bufr_fill.proofs.plain_out.PlainOut.end_subset.Goals.{in-Some+else-is_end, in_default}

@@ -1,6 +1,5 @@
 use Rattle.std.proofs.Common.{sym, ap, ◌∙◌, drop, ◌+◌}
-use Rattle.bufr_fill.specs.Kept.{entry_with}
-use Rattle.bufr_fill.specs.PlainOut.{line_at}
+use Rattle.bufr_fill.specs.Prelude.{entry_with, line_at}
 use Rattle.bufr_fill.proofs.EntryLemmas.{line-with, left_there, left_none}
 use Rattle.bufr_fill.proofs.plain_out.PlainOut.line.Goals as goal
 

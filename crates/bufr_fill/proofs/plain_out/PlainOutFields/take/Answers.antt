@@ -1,8 +1,7 @@
 use Rattle.std.proofs.Common.{ap, ◌+◌, ◌∙◌, drop, sym, arith, refl, Err}
 use Rattle.std.proofs.lemmas.Option.{slice_get_within}
 use Rattle.std.proofs.lemmas.Result.{err_from_is_err_and}
-use Rattle.bufr_fill.specs.Kept.{entry_with}
-use Rattle.bufr_fill.specs.Faults.{draft_fault}
+use Rattle.bufr_fill.specs.Prelude.{entry_with, draft_fault}
 use Rattle.bufr_fill.proofs.EntryLemmas.{filled_here, left_there, left_none, item_fault}
 use Rattle.bufr_fill.proofs.plain_out.PlainOutFields.take.Goals as goal
 

@@ -1,7 +1,6 @@
 use Rattle.std.proofs.Common.{◌∙◌, [], ◌++◌, ap, sym, subst, refl, inl, inr, arith}
 use Rattle.std.proofs.lemmas.Result.{err_from_is_err_and}
-use Rattle.bufr_frame.specs.Finder.{passed_events, event_by, RaisesLongest}
-use Rattle.bufr_frame.specs.declared.finder.Candidate.{Candidate}
+use Rattle.bufr_frame.specs.Prelude.{passed_events, event_by, RaisesLongest, Candidate}
 use Rattle.bufr_frame.proofs.FinderLemmas.{adds-none, adds-then, none-unless, some-none, turn-on, raised-on, stop-raises, waits-open, none-waited, waits-still, waits-read, step-none, pass-step}
 use Rattle.bufr_frame.proofs.ScanLemmas.{found-sees}
 use Rattle.bufr_frame.proofs.finder.Finder.advance.Goals as goal

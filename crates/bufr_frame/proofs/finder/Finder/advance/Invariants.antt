@@ -1,7 +1,5 @@
 use Rattle.std.proofs.Common.{◌⊎◌, ◌≡◌, ◌-◌, ◌≤◌, ℕ, List, [], None}
-use Rattle.bufr_frame.specs.Finder.{ReadsAndPasses, CountsReads, CallReadsAreNeeded, Raised}
-use Rattle.bufr_frame.specs.Scan.{NoEventCertain}
-use Rattle.bufr_frame.specs.Input.{max_reads}
+use Rattle.bufr_frame.specs.Prelude.{ReadsAndPasses, CountsReads, CallReadsAreNeeded, Raised, NoEventCertain, max_reads}
 use Rattle.bufr_frame.proofs.finder.Finder.advance.Given as goal
 
 -- octets were read, no event was passed, and only a `BUFR` at the start may have raised the

@@ -1,6 +1,6 @@
 use Rattle.std.proofs.Common.{◌≡◌, ◌+◌, ℕ, List, ◌++◌, take, drop, ap, sym, subst, ◌∙◌}
 use Rattle.std.proofs.Math.Seq.{take-add}
-use Rattle.bufr_frame.specs.Finder.{FinderModel, gone_to}
+use Rattle.bufr_frame.specs.Prelude.{FinderModel, gone_to}
 use Rattle.bufr_frame.proofs.ScanLemmas.{drop-twice}
 use Rattle.bufr_frame.proofs.finder.Finder.advance_to.Goals as goal
 

@@ -1,6 +1,5 @@
 use Rattle.std.proofs.Common.{ℕ, ap, subst, sym}
-use Rattle.bufr_frame.specs.Finder.{FinderModel, event_by}
-use Rattle.bufr_frame.specs.Scan.{Advances}
+use Rattle.bufr_frame.specs.Prelude.{FinderModel, event_by, Advances}
 use Rattle.bufr_frame.proofs.FinderLemmas.{found-step}
 use Rattle.bufr_frame.proofs.finder.Finder.take_event.Goals as goal
 

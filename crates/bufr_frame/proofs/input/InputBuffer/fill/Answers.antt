@@ -1,9 +1,8 @@
-use Rattle.std.proofs.Common.{◌≡◌, ◌∙◌, ◌+◌, ◌-◌, ◌<◌, ℕ, [], ◌++◌, length, true, Err, ap, sym, refl, subst, arith, append-nil}
-use Rattle.std.specs.Prelude.{slice_range, nat_eq}
+use Rattle.std.proofs.Common.{◌≡◌, ◌∙◌, ◌+◌, ◌-◌, ◌<◌, ℕ, [], ◌++◌, length, true, Err, ap, sym, refl, subst, arith, append-nil, slice_range, nat_eq}
 use Rattle.std.proofs.KnownBytes.{Consumes-nil}
 use Rattle.std.proofs.lemmas.Result.{err_from_is_err_and}
 use Rattle.std.proofs.lemmas.Bool.{true≢false, eqb-true}
-use Rattle.bufr_frame.specs.Input.{max_reads}
+use Rattle.bufr_frame.specs.Prelude.{max_reads}
 use Rattle.bufr_frame.proofs.FinderLemmas.{part-append, empty-of}
 use Rattle.bufr_frame.proofs.input.InputBuffer.fill.Goals as goal
 

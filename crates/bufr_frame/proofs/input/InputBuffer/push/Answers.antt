@@ -1,7 +1,6 @@
-use Rattle.std.proofs.Common.{◌≡◌, ◌∙◌, ◌+◌, ◌-◌, ◌<◌, List, ℕ, [], ◌∷◌, ◌++◌, ap, subst, arith}
-use Rattle.std.specs.Prelude.{slice_range, slice_set, vec_len, vec_capacity}
+use Rattle.std.proofs.Common.{◌≡◌, ◌∙◌, ◌+◌, ◌-◌, ◌<◌, List, ℕ, [], ◌∷◌, ◌++◌, ap, subst, arith, slice_range, slice_set, vec_len, vec_capacity}
 use Rattle.std.proofs.lemmas.List.{take_more_set}
-use Rattle.bufr_frame.specs.Input.{InputModel}
+use Rattle.bufr_frame.specs.Prelude.{InputModel}
 use Rattle.bufr_frame.proofs.FinderLemmas.{part-append}
 use Rattle.bufr_frame.proofs.input.InputBuffer.push.Goals as goal
 

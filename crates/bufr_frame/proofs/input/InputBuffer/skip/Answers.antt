@@ -1,6 +1,5 @@
-use Rattle.std.proofs.Common.{◌≡◌, ◌∙◌, ◌+◌, ◌-◌, List, ℕ, length, drop, ap, sym, subst, arith}
-use Rattle.std.specs.Prelude.{slice_range, vec_len, vec_capacity}
-use Rattle.bufr_frame.specs.Input.{InputModel}
+use Rattle.std.proofs.Common.{◌≡◌, ◌∙◌, ◌+◌, ◌-◌, List, ℕ, length, drop, ap, sym, subst, arith, slice_range, vec_len, vec_capacity}
+use Rattle.bufr_frame.specs.Prelude.{InputModel}
 use Rattle.bufr_frame.proofs.FinderLemmas.{part-drop, part-length}
 use Rattle.bufr_frame.proofs.input.InputBuffer.skip.Goals as goal
 

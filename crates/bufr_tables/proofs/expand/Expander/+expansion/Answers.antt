@@ -1,9 +1,7 @@
 use Rattle.std.proofs.Common.{◌≢◌, ℕ, List, refl, sym, subst, arith}
 use Rattle.std.proofs.lemmas.List.{take_rest}
 use Rattle.std.proofs.lemmas.Result.{err_from_is_err_and}
-use Rattle.bufr_tables.specs.Expansion.{inner_of}
-use Rattle.bufr_tables.specs.Growing.{builder_model}
-use Rattle.bufr_tables.specs.Growth.{tables_in, places_so_far}
+use Rattle.bufr_tables.specs.Prelude.{inner_of, tables_in, places_so_far, builder_model}
 use Rattle.bufr_tables.proofs.ExpansionLemmas.{Came, came_part, came_fault, came_end, gives_same, part-element, part-group, part-operator, part-sequence, group-depth, group-places, group-list-fault, group-list-empty, group-closed, group-fixed-fault, sequence-depth, sequence-fault, sequence-ok}
 use Rattle.bufr_tables.proofs.expand.Expander.+expansion.Goals as goal
 

@@ -1,7 +1,5 @@
 use Rattle.std.proofs.Common.{◌+◌, ◌*◌, length}
-use Rattle.bufr_tables.specs.Expansion.{inner_of}
-use Rattle.bufr_tables.specs.Growing.{builder_model}
-use Rattle.bufr_tables.specs.Growth.{tables_in}
+use Rattle.bufr_tables.specs.Prelude.{inner_of, tables_in, builder_model}
 use Rattle.bufr_tables.proofs.ExpansionLemmas.{Came}
 use Rattle.bufr_tables.proofs.expand.Expander.+expansion.Given as goal
 

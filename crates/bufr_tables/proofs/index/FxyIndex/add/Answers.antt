@@ -1,8 +1,7 @@
-use Rattle.std.proofs.Common.{true, vec_len, ◌≡◌, ◌<◌, length, arith, None}
+use Rattle.std.proofs.Common.{true, vec_len, ◌≡◌, ◌<◌, length, arith, None, vec_capacity}
 use Rattle.std.proofs.lemmas.List.{length-set}
-use Rattle.std.specs.Prelude.{vec_capacity}
 use Rattle.std.specs.Result.{is_ok}
-use Rattle.bufr_tables.specs.Directory.{place_of}
+use Rattle.bufr_tables.specs.Prelude.{place_of}
 use Rattle.bufr_tables.proofs.TableBLemmas.{below-added, count-added, distinct-added, marks-added}
 use Rattle.bufr_tables.proofs.index.FxyIndex.add.Goals as goal
 

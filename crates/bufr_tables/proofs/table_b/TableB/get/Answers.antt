@@ -1,7 +1,6 @@
 use Rattle.std.proofs.Common.{◌≡◌, ◌<◌, None, Some, arith, sym}
-use Rattle.bufr_tables.specs.Directory.{place_of}
+use Rattle.bufr_tables.specs.Prelude.{place_of, rows_kept}
 use Rattle.bufr_tables.proofs.TableBLemmas.{element-key, entry-absent, entry-not_element, entry-row, fxys_of, found-limits}
-use Rattle.bufr_tables.specs.TableBRows.{rows_kept}
 use Rattle.bufr_tables.proofs.table_b.TableB.get.Goals as goal
 
 pub returns-then-f-ne0-clause-value : goal.returns-then-f-ne0-clause-value

@@ -1,8 +1,7 @@
 use Rattle.std.proofs.Common.{◌<◌, ap, refl}
 use Rattle.std.proofs.lemmas.List.{map-append}
 use Rattle.bufr_tables.proofs.TableBLemmas.{element-key, kept-grown, all-push, place-lacking, rows_kept-push, limits-grown, rows-push}
-use Rattle.bufr_tables.specs.TableBRows.{row_parsed, rows_kept}
-use Rattle.bufr_tables.specs.TableB.{Row}
+use Rattle.bufr_tables.specs.Prelude.{row_parsed, rows_kept, Row}
 use Rattle.bufr_tables.proofs.table_b.TableB.push.Goals as goal
 
 pub add-requires-clause-absent : goal.add-requires-clause-absent

@@ -1,6 +1,5 @@
 use Rattle.std.proofs.Common.{◌≡◌, ◌+◌}
-use Rattle.bufr_tables.specs.Records.{IsBetween, octets_left, records_left, records_of, table_from}
-use Rattle.bufr_tables.specs.TableB.{table_b_of, with_record_b}
+use Rattle.bufr_tables.specs.Prelude.{IsBetween, octets_left, records_left, records_of, table_from, table_b_of, with_record_b}
 use Rattle.bufr_tables.proofs.table_b.TableB.read.Given as goal
 
 abbrev pub invariant-loop-table : goal.invariant-loop-table

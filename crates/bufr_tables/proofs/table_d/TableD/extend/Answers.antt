@@ -1,5 +1,5 @@
 use Rattle.std.proofs.Common.{◌≡◌, ◌+◌, ◌-◌, ◌∷◌, ◌<◌, [], ◌∙◌, arith, length, length-append, sym}
-use Rattle.bufr_tables.specs.Runs.{IsMemberRange}
+use Rattle.bufr_tables.specs.Prelude.{IsMemberRange}
 use Rattle.bufr_tables.proofs.TableDLemmas.{IsSequence, all-at, all-set, keys-set, last-end, last-set, longer, runs-more, sequences_kept-extended, some-runs}
 use Rattle.bufr_tables.proofs.table_d.TableD.extend.Goals as goal
 

@@ -1,7 +1,5 @@
 use Rattle.std.proofs.Common.{◌≡◌, ◌≤◌, ◌<◌, None, Some, map, arith, sym}
-use Rattle.bufr_tables.specs.Directory.{place_of}
-use Rattle.bufr_tables.specs.Fxy.{key_of}
-use Rattle.bufr_tables.specs.Runs.{run_key}
+use Rattle.bufr_tables.specs.Prelude.{place_of, key_of, run_key}
 use Rattle.bufr_tables.proofs.TableDLemmas.{members-absent, members-found, members-other}
 use Rattle.bufr_tables.proofs.table_d.TableD.members.Goals as goal
 

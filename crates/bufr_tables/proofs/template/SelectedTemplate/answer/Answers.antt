@@ -1,5 +1,5 @@
 use Rattle.std.proofs.Common.{sym}
-use Rattle.bufr_tables.specs.Expansion.{tables_of}
+use Rattle.bufr_tables.specs.Prelude.{tables_of}
 use Rattle.bufr_tables.proofs.SoundLemmas.{answer_fine, of_fine}
 use Rattle.bufr_tables.proofs.template.SelectedTemplate.answer.Goals as goal
 

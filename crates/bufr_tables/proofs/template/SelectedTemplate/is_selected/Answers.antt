@@ -1,7 +1,7 @@
 use Rattle.std.proofs.Common.{◌≡◌, true, ap, sym, ◌∙◌}
 use Rattle.std.proofs.lemmas.Slice.Eq.{slice_eq-Decides}
 use Rattle.std.proofs.lemmas.Bool.Decides.{Decides-eqb}
-use Rattle.bufr_tables.specs.Templates.{ListByTables}
+use Rattle.bufr_tables.specs.Prelude.{ListByTables}
 use Rattle.bufr_tables.specs.contracts.fxy.FxyPartialEq.TheImpl as same
 use Rattle.bufr_tables.proofs.template.SelectedTemplate.is_selected.Goals as goal
 

@@ -1,7 +1,5 @@
 use Rattle.std.proofs.lemmas.Result.{err_from_is_err_and}
-use Rattle.bufr_tables.specs.Cells.{trees_of_cells}
-use Rattle.bufr_tables.specs.Expansion.{tables_of}
-use Rattle.bufr_tables.specs.Growing.{builder_model}
+use Rattle.bufr_tables.specs.Prelude.{trees_of_cells, tables_of, builder_model}
 use Rattle.bufr_tables.proofs.SoundLemmas.{tree_says, tree_fine, whole-fault, whole-empty, whole-ok, whole-built, IsBuilt}
 use Rattle.bufr_tables.proofs.template.Template.build.Goals as goal
 

@@ -1,5 +1,5 @@
 use Rattle.std.proofs.Common.{length, ap, arith}
-use Rattle.bufr_tables.specs.Tree.{places as places_of}
+use Rattle.bufr_tables.specs.Prelude.{places as places_of}
 use Rattle.bufr_tables.proofs.ExpansionLemmas.{length-kept}
 use Rattle.bufr_tables.proofs.template.Template.cells.Goals as goal
 

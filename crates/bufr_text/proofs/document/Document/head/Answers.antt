@@ -1,8 +1,7 @@
-use Rattle.std.proofs.Common.{◌≡◌, ◌∙◌, ap, sym, subst}
-use Rattle.std.specs.Prelude.{slice_index}
-use Rattle.bufr_frame.specs.Layout.{IsFitting, is_writable}
+use Rattle.std.proofs.Common.{◌≡◌, ◌∙◌, ap, sym, subst, slice_index}
+use Rattle.bufr_frame.specs.Prelude.{IsFitting, is_writable}
 use Rattle.bufr_frame.proofs.AgainLemmas.{fitting-writable}
-use Rattle.bufr_text.specs.Documents.{Document, head_from_values}
+use Rattle.bufr_text.specs.Prelude.{Document, head_from_values}
 use Rattle.bufr_text.proofs.HeaderLemmas.{headed-fits}
 use Rattle.bufr_text.proofs.document.Document.head.Goals as goal
 

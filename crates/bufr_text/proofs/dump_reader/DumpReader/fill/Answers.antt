@@ -1,13 +1,8 @@
-use Rattle.std.proofs.Common.{◌∙◌, ◌<◌, ℕ, [], length, refl, sym, ap, subst, arith}
-use Rattle.std.specs.Prelude.{Err}
+use Rattle.std.proofs.Common.{◌∙◌, ◌<◌, ℕ, [], length, refl, sym, ap, subst, arith, Err}
 use Rattle.std.proofs.KnownBytes.{Consumes-nil}
-use Rattle.bufr_text.specs.Documents.{ParserState}
-use Rattle.bufr_text.specs.Reader.{ReaderModel}
-use Rattle.bufr_text.specs.Filling.{FillsBuffer, stopped}
-use Rattle.bufr_text.specs.declared.fault.ReadFault.{ReadFault}
+use Rattle.bufr_text.specs.Prelude.{ParserState, ReaderModel, FillsBuffer, stopped, ReadFault}
 use Rattle.bufr_text.specs.declared.fault.ReadFault.TheVariants as fault
-use Rattle.bufr_text.proofs.ReadingLemmas.{Reads}
-use Rattle.bufr_text.proofs.ReaderLemmas.{place-sound, reads-place, long-reports}
+use Rattle.bufr_text.proofs.ReaderLemmas.{Reads, place-sound, reads-place, long-reports}
 use Rattle.bufr_text.proofs.dump_reader.DumpReader.fill.Goals as goal
 
 pub returns-then-held-gt-MAX_LINE-clause-read : goal.returns-then-held-gt-MAX_LINE-clause-read

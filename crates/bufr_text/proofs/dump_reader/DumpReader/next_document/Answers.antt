@@ -1,11 +1,8 @@
-use Rattle.std.proofs.Common.{inl, ◌∙◌, ◌++◌, [], refl, ap, sym, subst, arith}
-use Rattle.std.specs.Prelude.{Err, Result, Option}
+use Rattle.std.proofs.Common.{inl, ◌∙◌, ◌++◌, [], refl, ap, sym, subst, arith, Err, Result, Option}
 use Rattle.std.proofs.lemmas.Result.{err_from_is_err_and}
 use Rattle.bufr_frame.proofs.FinderLemmas.{adds-none, adds-same, adds-then, none-unless}
-use Rattle.bufr_text.specs.Documents.{Document}
-use Rattle.bufr_text.specs.Reader.{ReturnsNextDocument}
-use Rattle.bufr_text.specs.declared.fault.ReadFault.{ReadFault}
-use Rattle.bufr_text.proofs.CallLemmas.{call-none, waits-same, call-takes, went-document, went-fault, end-next, fill-call, fill-waits, fill-fault, end-proper}
+use Rattle.bufr_text.specs.Prelude.{Document, ReturnsNextDocument, ReadFault}
+use Rattle.bufr_text.proofs.CallLemmas.{call-none, waits-same, call-takes, went-document, went-fault, end-next, fill-call, fill-waits, fill-fault}
 use Rattle.bufr_text.proofs.dump_reader.DumpReader.next_document.Goals as goal
 
 pub loop-document-init : goal.loop-document-init
@@ -68,9 +65,3 @@ returns-in_err-fill-clause-next g c =
     let p = err_from_is_err_and c.from_residual-in_err-fill.result c.from_residual-in_err-fill.ensures.1 in
     let N : Result (Option Document) ReadFault → Type 0 = λ r. ReturnsNextDocument (g.R.Source.left c.args.r.now) (g.R.Source.left c.fill.new.r) c.args.self.now c.fill.new.self r in
     λ _. subst N (sym (p.1 ∙ ap Err p.2)) (fill-fault _ _ _ c.args.self.now s c.fill.new.self before.octets c.fill.ensures.read.0 call waits open' went.2 _ (rw c.in_err-fill.was at c.fill.ensures.read.1))
-
-pub returns-in-Some-2-clause-proper : goal.returns-in-Some-2-clause-proper
-returns-in-Some-2-clause-proper g c = rw (c.in_ok-document.was, c.in-Some-2.is) at c.take_held.ensures.proper
-
-pub returns-then-ended-clause-proper : goal.returns-then-ended-clause-proper
-returns-then-ended-clause-proper g c = end-proper _ _ c.finish.result c.finish.ensures.end

@@ -1,7 +1,6 @@
-use Rattle.std.proofs.Common.{◌≡◌, ◌⊎◌, ◌-◌, [], List, ℕ}
-use Rattle.std.specs.Prelude.{None}
-use Rattle.bufr_frame.specs.Input.{max_reads}
-use Rattle.bufr_text.specs.Reader.{ReadsLines, ReadsOnlyIfNoLine, CountsTextReads}
+use Rattle.std.proofs.Common.{◌≡◌, ◌⊎◌, ◌-◌, [], List, ℕ, None}
+use Rattle.bufr_frame.specs.Prelude.{max_reads}
+use Rattle.bufr_text.specs.Prelude.{ReadsLines, ReadsOnlyIfNoLine, CountsTextReads}
 use Rattle.bufr_text.proofs.dump_reader.DumpReader.next_document.Given as goal
 
 -- what was done so far in this call: octets were read and report nothing yet, each time that no

@@ -1,14 +1,11 @@
-use Rattle.std.proofs.Common.{◌∙◌, ℕ, [], ◌∷◌, drop, refl, sym, ap, subst}
-use Rattle.std.specs.Prelude.{Some, Err}
-use Rattle.bufr_frame.specs.Input.{InputModel}
+use Rattle.std.proofs.Common.{◌∙◌, ℕ, [], ◌∷◌, drop, refl, sym, ap, subst, arith, Some, Err}
+use Rattle.bufr_frame.specs.Prelude.{InputModel}
 use Rattle.bufr_text.specs.Documents as documents
-use Rattle.bufr_text.specs.Spelling.{IsProper}
-use Rattle.bufr_text.specs.Reader.{ReaderModel, has_no_feed, TakesEndLine}
-use Rattle.bufr_text.specs.Filling.{place_now, IsReader, ParsesHeldLines, WantsHere, TakesHeldLines}
-use Rattle.bufr_text.specs.Taking.{place_with, TakesLines}
+use Rattle.bufr_text.specs.Prelude.{ReaderModel, has_no_feed, TakesEndLine, place_now, IsReader, ParsesHeldLines, TakesHeldLines, place_with, TakesLines}
 use Rattle.bufr_text.specs.declared.document.TakeResult.TheVariants as taken
 use Rattle.bufr_text.proofs.ReaderLemmas.{state, place-sound, wants-here, takes-reports, reader-skips, progress-more, progress-between, refuses-went}
 use Rattle.bufr_text.proofs.dump_reader.DumpReader.take_held.Goals as goal
+use Rattle.std.proofs.lemmas.Grind.{common_steps}
 
 pub invariant_of-self-in-More : goal.invariant_of-self-in-More
 invariant_of-self-in-More c =
@@ -85,14 +82,4 @@ returns-in-Refuses-clause-went c =
     subst H (sym c.skip.ensures) (subst W c.self.view_is (refuses-went old n.at c.in-Refuses.line n held v.input.ended v.input.reads c.in-Refuses.refusal f c.at-fault.ensures (λ g. takes-reports v.progress n v.fault g v.input.held c.in-Ok.len v.input.ended v.input.reads step documents.Stopped takes sound refl)))
 
 pub returns-in_default-clause-went : goal.returns-in_default-clause-went
-returns-in_default-clause-went c =
-    let v = c.self.inside in
-    let sound = ap (λ s. s.fault) c.self.view_is ∙ c.requires.sound in
-    let is = c.held-held.ensures in
-    let held = ap (λ s. s.held) c.self.view_is in
-    (refl, ap has_no_feed (sym (is ∙ held)) ∙ c.in_default.ensures.wants, held, subst WantsHere c.self.view_is (wants-here v.progress v.fault v.input.held v.input.ended v.input.reads (rw is at c.in_default.ensures.adds) sound))
-
-pub returns-in-Gives-clause-proper : goal.returns-in-Gives-clause-proper
-returns-in-Gives-clause-proper c =
-    let takes = rw c.in-Gives.is at c.in-Ok.ensures.takes in
-    subst (λ (d : documents.Document). IsProper d) (sym (c.whole.ensures ∙ c.take_parts-parts.ensures.parts)) takes.holds.0
+returns-in_default-clause-went c = grind (arith, common_steps, wants-here)

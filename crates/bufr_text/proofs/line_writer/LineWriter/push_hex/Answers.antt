@@ -1,9 +1,5 @@
-use Rattle.bufr_text.proofs.PushLemmas.{so_far_start, so_far_on, so_far_end}
-use Rattle.bufr_text.proofs.NumberLemmas.{hex_next, hex_none}
+use Rattle.bufr_text.proofs.PushLemmas.{so_far_on, so_far_end, hex_next, hex_none}
 use Rattle.bufr_text.proofs.line_writer.LineWriter.push_hex.Goals as goal
-
-pub loop-octet-init : goal.loop-octet-init
-loop-octet-init g c = so_far_start
 
 pub loop-octet-preserved : goal.loop-octet-preserved
 loop-octet-preserved g c = so_far_on c.loop-octet.invariant (hex_next c.args.octets.now _ c.loop-octet-test.true) c.push_hex_pair.ensures

@@ -1,5 +1,5 @@
 use Rattle.std.proofs.Common.{drop}
-use Rattle.bufr_text.specs.Grammar.{hex_text}
+use Rattle.bufr_text.specs.Prelude.{hex_text}
 use Rattle.bufr_text.proofs.PushLemmas.{PushedSoFar}
 use Rattle.bufr_text.proofs.line_writer.LineWriter.push_hex.Given as goal
 

@@ -1,6 +1,5 @@
 use Rattle.std.proofs.Common.{refl}
-use Rattle.bufr_text.proofs.PushLemmas.{◌⨾◌, retold}
-use Rattle.bufr_text.proofs.NumberLemmas.{pointed_few, pointed_many}
+use Rattle.bufr_text.proofs.PushLemmas.{◌⨾◌, retold, pointed_few, pointed_many}
 use Rattle.bufr_text.proofs.line_writer.LineWriter.push_point.Goals as goal
 
 pub returns-then-digits-places : goal.returns-then-digits-places

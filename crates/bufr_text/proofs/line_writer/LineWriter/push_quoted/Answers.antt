@@ -1,12 +1,9 @@
 use Rattle.std.proofs.Common.{◌∙◌, ◌++◌, ap, arith, sym, take}
 use Rattle.std.proofs.lemmas.Bool.Decides.{nat_tests}
-use Rattle.bufr_text.specs.Grammar.{quoted}
-use Rattle.bufr_text.proofs.NumberLemmas.{quoted_end, quoted_step}
-use Rattle.bufr_text.proofs.PushLemmas.{so_far_start, so_far_on, so_far_last}
+use Rattle.bufr_text.specs.Prelude.{quoted}
+use Rattle.bufr_text.proofs.PushLemmas.{quoted_end, quoted_step, so_far_on, so_far_last}
 use Rattle.bufr_text.proofs.line_writer.LineWriter.push_quoted.Goals as goal
-
-pub loop-rest-init : goal.loop-rest-init
-loop-rest-init g c = so_far_start
+use Rattle.std.proofs.lemmas.Grind.{common_steps}
 
 pub loop-rest-preserved-in-Some : goal.loop-rest-preserved-in-Some
 loop-rest-preserved-in-Some g c =
@@ -14,8 +11,7 @@ loop-rest-preserved-in-Some g c =
     so_far_on run (quoted_step _ _ _ c.in-Some.ensures.cases.0) c.push_escaped.ensures
 
 pub loop-rest-preserved : goal.loop-rest-preserved
-loop-rest-preserved g c =
-    so_far_on c.loop-rest.invariant (c.push_run.ensures.text ∙ ap (λ l. take c.push_run.result c.loop-rest.rest.now ++ quoted l) (sym c.suffix-rest.ensures)) c.push_run.ensures.pushes
+loop-rest-preserved g c = grind (arith, common_steps, so_far_on)
 
 pub returns : goal.returns
 returns g c = so_far_last c.loop-rest.invariant (quoted_end _ (grind (arith, nat_tests, c.loop-rest-test.ensures))) c.push.ensures

@@ -1,5 +1,5 @@
 use Rattle.std.proofs.Common.{length}
-use Rattle.bufr_text.specs.Grammar.{quoted}
+use Rattle.bufr_text.specs.Prelude.{quoted}
 use Rattle.bufr_text.proofs.PushLemmas.{PushedSoFar}
 use Rattle.bufr_text.proofs.line_writer.LineWriter.push_quoted.Given as goal
 

@@ -1,6 +1,5 @@
 use Rattle.std.proofs.Common.{◌∙◌, ap, to_z-of_z, unsigned_abs}
-use Rattle.bufr_text.proofs.PushLemmas.{◌⨾◌, retold}
-use Rattle.bufr_text.proofs.NumberLemmas.{signed_text}
+use Rattle.bufr_text.proofs.PushLemmas.{◌⨾◌, retold, signed_text}
 use Rattle.bufr_text.proofs.line_writer.LineWriter.push_scaled.Goals as goal
 
 pub returns : goal.returns

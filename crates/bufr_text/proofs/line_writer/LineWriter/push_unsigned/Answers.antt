@@ -1,17 +1,12 @@
-use Rattle.std.proofs.Common.{◌≡◌, ◌∙◌, ◌==◌, ap, arith, false, to_z-of_z, true, unsigned_abs}
-use Rattle.std.specs.Prelude.{if◌then◌else◌}
+use Rattle.std.proofs.Common.{◌≡◌, ◌∙◌, ◌==◌, ap, arith, false, to_z-of_z, true, unsigned_abs, if◌then◌else◌}
 use Rattle.std.proofs.lemmas.Bool.Decides.{nat_tests}
-use Rattle.bufr_text.proofs.PushLemmas.{◌⨾◌, retold}
-use Rattle.bufr_text.proofs.NumberLemmas.{unsigned_pointed, unsigned_plain}
+use Rattle.bufr_text.proofs.PushLemmas.{◌⨾◌, retold, unsigned_pointed, unsigned_plain}
 use Rattle.bufr_text.proofs.line_writer.LineWriter.push_unsigned.Goals.{else-size-eq0, then-size-eq0}
 use Rattle.bufr_text.proofs.line_writer.LineWriter.push_unsigned.Goals as goal
+use Rattle.std.proofs.lemmas.Grind.{common_steps}
 
 pub returns-then-scale-gt0 : goal.returns-then-scale-gt0
-returns-then-scale-gt0 g c =
-    let scale = to_z-of_z c.ranges.scale in
-    let places = c.from-places.ensures ∙ c.unsigned_abs.ensures.value ∙ ap unsigned_abs scale in
-    retold (rw (c.as_bytes-digits.ensures.value, c.format.ensures.text) at c.push_point.ensures)
-    (unsigned_pointed c.args.size c.args.scale c.from-places.result (rw scale at c.if-scale-gt0.true) places)
+returns-then-scale-gt0 g c = grind (arith, common_steps, unsigned_pointed)
 
 pub returns : goal.returns
 returns g c =

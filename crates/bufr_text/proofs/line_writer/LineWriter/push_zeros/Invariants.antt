@@ -1,5 +1,5 @@
 use Rattle.std.proofs.Common.{replicate}
-use Rattle.bufr_text.specs.Writing.{Pushes}
+use Rattle.bufr_text.specs.Prelude.{Pushes}
 use Rattle.bufr_text.proofs.line_writer.LineWriter.push_zeros.Given as goal
 
 -- so many digits were pushed

@@ -1,6 +1,5 @@
 use Rattle.std.proofs.Common.{arith, sym}
-use Rattle.bufr_bits.specs.Bits.{bits_of}
-use Rattle.bufr_bits.specs.BitSlice.{octets_of}
+use Rattle.bufr_bits.specs.Prelude.{bits_of, octets_of}
 use Rattle.bufr_walk.proofs.PlainLemmas.{bits_length}
 use Rattle.bufr_walk.proofs.PackedReading.{unlooked_many, looked}
 use Rattle.bufr_walk.proofs.compressed.PackedIn.look.Goals as goal

@@ -1,15 +1,9 @@
 use Rattle.std.proofs.Common.{◌≡◌, ◌++◌, ◌∷◌, [], sym, subst, refl}
 use Rattle.std.proofs.lemmas.Result.{err_from_is_err_and}
-use Rattle.bufr_bits.specs.Bits.{bits_of}
-use Rattle.bufr_bits.specs.BitSlice.{octets_of}
-use Rattle.bufr_walk.specs.declared.item_index.IndexedItem.{IndexedItem}
-use Rattle.bufr_walk.specs.PackedIn.{IsPackedTaken, packed_view}
-use Rattle.bufr_walk.specs.PackedBits.{IsLooked}
-use Rattle.bufr_walk.proofs.PackedReading.{few_kept, keeps, takes_one, no_room}
+use Rattle.bufr_bits.specs.Prelude.{bits_of, octets_of}
+use Rattle.bufr_walk.specs.Prelude.{IndexedItem, IsPackedTaken, packed_view, IsLooked}
+use Rattle.bufr_walk.proofs.PackedReading.{keeps, takes_one, no_room}
 use Rattle.bufr_walk.proofs.compressed.PackedInFields.take.Goals as goal
-
-pub keep-requires : goal.keep-requires
-keep-requires c = few_kept c.args.self.now (bits_of (octets_of c.self.inside.bits)) c.self.inside.at c.self.inside.subsets c.self.inside.kept c.self.view_is c.self.invariant.some c.in_ok-seen.ensures.seen.few
 
 pub returns-in_err-place-clause-step : goal.returns-in_err-place-clause-step
 returns-in_err-place-clause-step c =

@@ -1,6 +1,6 @@
 use Rattle.std.proofs.Common.{subst}
 use Rattle.std.specs.List.{All}
-use Rattle.bufr_walk.specs.TemplateCache.{Lists, MayStay}
+use Rattle.bufr_walk.specs.Prelude.{Lists, MayStay}
 use Rattle.bufr_walk.proofs.CacheLemmas.{all_stay}
 use Rattle.bufr_walk.proofs.lists.TemplateCache.others.Goals as goal
 

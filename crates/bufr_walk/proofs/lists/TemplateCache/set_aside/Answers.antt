@@ -1,5 +1,5 @@
 use Rattle.std.proofs.Common.{arith, sym, subst}
-use Rattle.bufr_walk.specs.TemplateCache.{Lists, MayStay, IsSlotBy, IsOther}
+use Rattle.bufr_walk.specs.Prelude.{Lists, MayStay, IsSlotBy, IsOther}
 use Rattle.bufr_walk.specs.declared.lists.Slot.{Slot}
 use Rattle.bufr_walk.proofs.CacheLemmas.{one_more, one_longer}
 use Rattle.bufr_walk.proofs.lists.TemplateCache.set_aside.Goals as goal

@@ -1,11 +1,7 @@
-use Rattle.std.proofs.Common.{◌≡◌, ℕ, ◌≤◌, ◌∙◌, List, Result, Some, ap, arith, false, nat_lt, refl, sym, w64}
-use Rattle.std.specs.Prelude.{if◌then◌else◌}
+use Rattle.std.proofs.Common.{◌≡◌, ℕ, ◌≤◌, ◌∙◌, List, Result, Some, ap, arith, false, nat_lt, refl, sym, w64, if◌then◌else◌}
 use Rattle.std.proofs.Math.Facts.{to_z-of_z}
-use Rattle.bufr_tables.specs.Entry.{row_of_entry}
-use Rattle.bufr_tables.specs.TableB.{Row, entry_of}
-use Rattle.bufr_walk.specs.declared.spec.TurnRefusal.{TurnRefusal}
-use Rattle.bufr_walk.specs.FieldSpec.{FieldSpec}
-use Rattle.bufr_walk.specs.Rules.{OperatorModel, element_spec, listed_by, local_width_spec, new_reference_spec, spec_by_kind, known_by, operator_model}
+use Rattle.bufr_tables.specs.Prelude.{row_of_entry, Row, entry_of}
+use Rattle.bufr_walk.specs.Prelude.{TurnRefusal, FieldSpec, OperatorModel, element_spec, listed_by, local_width_spec, new_reference_spec, spec_by_kind, known_by, operator_model}
 use Rattle.bufr_walk.proofs.operators.OperatorState.element.Goals as goal
 
 none : (n : ℕ) → n ≤ 0 → nat_lt 0 n ≡ false

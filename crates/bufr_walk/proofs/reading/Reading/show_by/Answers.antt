@@ -1,6 +1,6 @@
 use Rattle.std.proofs.Common.{subst}
-use Rattle.bufr_tables.specs.Expansion.{IsSound}
-use Rattle.bufr_walk.specs.StoredItems.{IsStoredReading}
+use Rattle.bufr_tables.specs.Prelude.{IsSound}
+use Rattle.bufr_walk.specs.Prelude.{IsStoredReading}
 use Rattle.bufr_walk.proofs.BoundLemmas.{few_items, steps_within}
 use Rattle.bufr_walk.proofs.reading.Reading.show_by.Goals as goal
 

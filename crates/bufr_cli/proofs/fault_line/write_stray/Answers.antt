@@ -1,0 +1,8 @@
+use Rattle.std.proofs.Common.{rules}
+use Rattle.bufr_text.proofs.PushLemmas.{◌⨾◌, all_written}
+use Rattle.bufr_cli.proofs.fault_line.write_stray.Goals as goal
+
+pub returns-clause-writes : goal.returns-clause-writes
+returns-clause-writes g c =
+    let before = c.new-line.ensures in
+    all_written tt (c.push_named.ensures ⨾ c.push_stray.ensures) c.hand_on.ensures.pushes before.status before.held c.hand_on.ensures.none before.taken (search rules) c.status-outcome.ensures

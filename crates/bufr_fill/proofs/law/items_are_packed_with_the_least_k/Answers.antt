@@ -1,5 +1,0 @@
-use Rattle.bufr_fill.proofs.PackedLaws.{least_k_packed}
-use Rattle.bufr_fill.proofs.law.items_are_packed_with_the_least_k.Goals as goal
-
-pub returns : goal.returns
-returns c = least_k_packed

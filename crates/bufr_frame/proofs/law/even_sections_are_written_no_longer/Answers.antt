@@ -1,5 +1,0 @@
-use Rattle.bufr_frame.proofs.AgainLemmas.{least-when-even}
-use Rattle.bufr_frame.proofs.law.even_sections_are_written_no_longer.Goals as goal
-
-pub returns : goal.returns
-returns c = least-when-even

@@ -1,5 +1,0 @@
-use Rattle.bufr_frame.proofs.FinderLemmas.{events-are-open}
-use Rattle.bufr_frame.proofs.law.events_at_a_fault_are_the_open_scan.Goals as goal
-
-pub returns : goal.returns
-returns c = events-are-open

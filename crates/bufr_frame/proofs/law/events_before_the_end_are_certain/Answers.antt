@@ -1,5 +1,0 @@
-use Rattle.bufr_frame.proofs.FinderLemmas.{events-are-certain}
-use Rattle.bufr_frame.proofs.law.events_before_the_end_are_certain.Goals as goal
-
-pub returns : goal.returns
-returns c = events-are-certain

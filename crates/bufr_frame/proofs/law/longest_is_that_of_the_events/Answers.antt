@@ -1,5 +1,0 @@
-use Rattle.bufr_frame.proofs.FinderLemmas.{longest-events}
-use Rattle.bufr_frame.proofs.law.longest_is_that_of_the_events.Goals as goal
-
-pub returns : goal.returns
-returns c = longest-events

@@ -1,5 +1,0 @@
-use Rattle.bufr_frame.proofs.ScanLemmas.{open-prefix}
-use Rattle.bufr_frame.proofs.law.open_scan_is_prefix.Goals as goal
-
-pub returns : goal.returns
-returns c = open-prefix

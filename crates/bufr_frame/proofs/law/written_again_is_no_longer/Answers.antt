@@ -1,5 +1,0 @@
-use Rattle.bufr_frame.proofs.AgainLemmas.{no-longer}
-use Rattle.bufr_frame.proofs.law.written_again_is_no_longer.Goals as goal
-
-pub returns : goal.returns
-returns c = no-longer
