@@ -11,7 +11,8 @@ use Rattle.bufr_frame.proofs.ScanLemmas.{IsSmall, framed_octets, frames-within, 
 use Rattle.bufr_walk.specs.Prelude.{Values, apart, together}
 use Rattle.bufr_text.specs.Prelude.{Between, lines_of, parse_lines, Document, ParseResult, Complete, Refused, documents_of, dump_lines, dump_text_of, IsOctet, DumpItem, IsAccepted, HasSameReading, dump_items_in, IsReadAs, RefusedAt, encoding_in, IsProper, AreProper}
 use Rattle.bufr_text.proofs.FormLemmas.{canonical_encoded}
-use Rattle.bufr_text.proofs.RoundTripLemmas.{dumpable, accepted_again, encoded_again, same_text, rows-read, good-rows}
+use Rattle.bufr_text.proofs.DumpableLemmas.{dumpable, rows-read, good-rows}
+use Rattle.bufr_text.proofs.RoundTripLemmas.{accepted_again, encoded_again, same_text}
 use Rattle.bufr_text.proofs.LawLemmas.{text-spells, spelled-proper}
 use Rattle.bufr_cli.specs.Prelude.{IsDataPiece, IsTemplatePiece, IsMessagePiece, IsDumpPiece, dump_text, Piece, OnOutput, OnErrors, output_of, errors_of, is_accepted, is_refused, encoded, result_piece, up_to_refused, accepted_in, accepted_messages, dump_pieces, dumped, longer_by, rebuilding, rebuilt, text_pieces, IsBuiltAgain, IsWholeRound, IsCanonicalMessage, RoundTrips, Written, IsDumpedInOneSpelling, before_refused, built, form_pieces, normal_by, normal_text, normal_texts, holding, Dumps, Encodes, GivesPieces, Tallies}
 use Rattle.bufr_text.specs.declared.encode.Form.TheVariants.{AsWritten}

@@ -16,7 +16,8 @@ use Rattle.bufr_fill.proofs.GoodReads.{template_good, plain_specs, packed_specs}
 use Rattle.bufr_fill.proofs.PackedLaws.{packed_count}
 use Rattle.bufr_fill.proofs.FormLaws.{packed_rewritten}
 use Rattle.bufr_text.specs.Prelude.{subset_entries, document_of, lines_before, items_apart, compressed_dump_subsets, DumpItem, compressed_dump_items, IsAccepted, dump_items_in, HaveNoMinusZero, ArePacked, AreWritten, IsCanonical, IsEncodedAgain, each_subset, HasReadingIn, IsForForm, IsFormed, IsFaultIn, EncodesForm, data_bits, octets_of_bits, parts_of_document, encoding_of, by_item, too_long, RefusedAt, refused_at, report_of_items, parts_as, compressed_as, message_of, encoding_in, IsDocumentRefusal, reported_refusal, compressed_by, form_of_flag, compressed_in, Document, DocumentFault, Form}
-use Rattle.bufr_text.proofs.RoundTripLemmas.{all_apart, all_together, encoded_to, parts_back, parts_with, size_least, fills_as, bit_back, section2_back, padded, payload_bits, size_is, enough, suffix, encoded_again, as_written, no_data, octets_small, framed, octets_are, sections_given, rows-read, good-rows}
+use Rattle.bufr_text.proofs.DumpableLemmas.{octets_are, sections_given, rows-read, good-rows}
+use Rattle.bufr_text.proofs.RoundTripLemmas.{all_apart, all_together, encoded_to, parts_back, parts_with, size_least, fills_as, bit_back, section2_back, padded, payload_bits, size_is, enough, suffix, encoded_again, as_written, no_data, octets_small, framed}
 use Rattle.std.specs.Global.{Global}
 use Rattle.bufr_bits.proofs.BitLemmas.{length-bits_of}
 use Rattle.bufr_tables.proofs.SoundLemmas.{tree_fine}

@@ -4,6 +4,7 @@ pub mod FormLemmas
 pub mod LineLemmas
 pub mod ItemLemmas
 mod DumpExamples
+pub mod DumpableLemmas
 pub mod RoundTripLemmas
 mod EncodingExamples
 mod Examples

@@ -14,7 +14,8 @@ use Rattle.bufr_fill.specs.Prelude.{Subset, subsets_of, Draft, FaultAt, AllHaveO
 use Rattle.bufr_fill.proofs.BackLaws.{plain_template_back, packed_template_back}
 use Rattle.bufr_fill.proofs.FieldLemmas.{octets_in-are}
 use Rattle.bufr_text.specs.Prelude.{Form, Document, optional_in, head_from_values, Complete, documents_of, IsHeaded, observed_in, compressed_in, section2_in, too_long, refused_at, ◌>>=◌, report_of_template, report_of_items, data_bits, octets_of_bits, parts_as, compressed_as, message_of, encoding_in, RefusedAt, parts_of_document, encoding_of, IsOctet, DumpItem, bit, header_lines, local1_line, section2_line, descriptors_line, head_lines, item_text, subset_line, subset_lines, text_of_lines, dump_text_of, subset_entries, lines_before, document_of, dump_item_of, items_apart, compressed_dump_subsets, IsProper, header_as, normal_head, normal_line, draft_answer, line_and, normal_items, normal_subsets, normal, AreValuesOf, IsReadAs, dump_items_in, each_subset, runs_of, keys}
-use Rattle.bufr_text.proofs.RoundTripLemmas.{octets_are, dumpable, padded, payload_bits, size_is, octets_small, framed, same_form, all_apart, all_together, bit_back, parts_back, parts_with, rows-read}
+use Rattle.bufr_text.proofs.DumpableLemmas.{octets_are, dumpable, rows-read}
+use Rattle.bufr_text.proofs.RoundTripLemmas.{padded, payload_bits, size_is, octets_small, framed, same_form, all_apart, all_together, bit_back, parts_back, parts_with}
 use Rattle.bufr_text.proofs.FormLemmas.{plain_reading, packed_reading, items_each}
 use Rattle.bufr_text.proofs.HeaderLemmas.{headed-fits, subsets-few, header-widest}
 use Rattle.bufr_frame.specs.declared.section1.Head.{Head}

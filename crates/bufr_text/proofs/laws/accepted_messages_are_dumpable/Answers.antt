@@ -1,6 +1,6 @@
 use Rattle.bufr_tables.proofs.SoundLemmas.{tree_fine}
 use Rattle.bufr_tables.specs.Prelude.{tables_of}
-use Rattle.bufr_text.proofs.RoundTripLemmas.{dumpable, rows-read}
+use Rattle.bufr_text.proofs.DumpableLemmas.{dumpable, rows-read}
 use Rattle.bufr_text.proofs.laws.accepted_messages_are_dumpable.Goals as goal
 
 pub returns : goal.returns

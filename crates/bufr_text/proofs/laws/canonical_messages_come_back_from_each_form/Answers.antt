@@ -1,7 +1,7 @@
 use Rattle.bufr_tables.proofs.SoundLemmas.{tree_fine}
 use Rattle.bufr_tables.specs.Prelude.{tables_of}
 use Rattle.bufr_text.proofs.FormLemmas.{canonical_back}
-use Rattle.bufr_text.proofs.RoundTripLemmas.{rows-read, good-rows}
+use Rattle.bufr_text.proofs.DumpableLemmas.{rows-read, good-rows}
 use Rattle.bufr_text.proofs.laws.canonical_messages_come_back_from_each_form.Goals as goal
 
 pub returns : goal.returns

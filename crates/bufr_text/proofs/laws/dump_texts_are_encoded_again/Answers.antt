@@ -1,7 +1,8 @@
 use Rattle.bufr_tables.proofs.SoundLemmas.{tree_fine}
 use Rattle.bufr_tables.specs.Prelude.{tables_of}
 use Rattle.bufr_text.specs.Prelude.{dump_items_in}
-use Rattle.bufr_text.proofs.RoundTripLemmas.{dumpable, encoded_again, rows-read, good-rows}
+use Rattle.bufr_text.proofs.DumpableLemmas.{dumpable, rows-read, good-rows}
+use Rattle.bufr_text.proofs.RoundTripLemmas.{encoded_again}
 use Rattle.bufr_text.proofs.LawLemmas.{one-document}
 use Rattle.bufr_text.proofs.laws.dump_texts_are_encoded_again.Goals as goal
 

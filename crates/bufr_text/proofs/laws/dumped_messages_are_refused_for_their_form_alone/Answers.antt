@@ -1,7 +1,7 @@
 use Rattle.bufr_tables.proofs.SoundLemmas.{tree_fine}
 use Rattle.bufr_tables.specs.Prelude.{tables_of}
 use Rattle.bufr_text.proofs.FormLemmas.{formed, answered}
-use Rattle.bufr_text.proofs.RoundTripLemmas.{rows-read, good-rows}
+use Rattle.bufr_text.proofs.DumpableLemmas.{rows-read, good-rows}
 use Rattle.bufr_text.proofs.laws.dumped_messages_are_refused_for_their_form_alone.Goals as goal
 
 pub returns : goal.returns

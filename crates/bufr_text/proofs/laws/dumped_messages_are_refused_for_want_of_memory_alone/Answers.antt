@@ -1,6 +1,7 @@
 use Rattle.bufr_tables.proofs.SoundLemmas.{tree_fine}
 use Rattle.bufr_tables.specs.Prelude.{tables_of}
-use Rattle.bufr_text.proofs.RoundTripLemmas.{encoded_again, rows-read, good-rows}
+use Rattle.bufr_text.proofs.DumpableLemmas.{rows-read, good-rows}
+use Rattle.bufr_text.proofs.RoundTripLemmas.{encoded_again}
 use Rattle.bufr_text.proofs.PushLemmas.{memory_alone}
 use Rattle.bufr_text.proofs.laws.dumped_messages_are_refused_for_want_of_memory_alone.Goals as goal
 
