@@ -1,13 +1,11 @@
 -- Bits as numbers and as octets: in parts, all ones, in windows, and as a writer pushes them.
 use Rattle.std.proofs.lemmas.Grind.{common_steps}
-use Rattle.std.proofs.Common.{◌≡◌, ℕ, zero, suc, min, ◌+◌, ◌-◌, ◌*◌, ◌/◌, ◌%◌, ◌^◌, ◌<◌, ◌≤◌, ◌==◌, Bool, true, false, if◌then◌else◌, List, [], ◌∷◌, ◌++◌, length, take, drop, get_or, refl, sym, ap, ◌∙◌, subst, arith, length-drop, take-append-drop, length-take-le, take-add, drop-drop, pow-add, pow_mono, ◌&&◌, eqb, Option, None, Some, SomeIff, nat_eq, replicate, append_assoc, mod-eq_of_lt, append-nil, length-append}
+use Rattle.std.proofs.Common.{◌≡◌, ℕ, zero, suc, min, ◌+◌, ◌-◌, ◌*◌, ◌/◌, ◌%◌, ◌^◌, ◌<◌, ◌≤◌, ◌==◌, Bool, true, false, if◌then◌else◌, List, [], ◌∷◌, ◌++◌, length, take, drop, get_or, refl, sym, ap, ◌∙◌, subst, arith, length-drop, take-append-drop, length-take-le, take-add, drop-drop, pow-add, pow_mono, ◌&&◌, eqb, replicate, append_assoc, mod-eq_of_lt, append-nil, length-append}
 use Rattle.std.proofs.lemmas.Nat.{shr_high, mod_low, shl_whole, mod-pow-add, shr_split, shr_le, mod_below, shr-shr, pow_pos, shr_below, be_bytes_8}
-use Rattle.std.proofs.lemmas.Bool.Decides.{nat_tests}
 use Rattle.std.proofs.lemmas.List.{drop-append-le, take-append-le, take_all, drop_more, drop_all, take_at, drop_at, take_more, length-replicate, take_rest}
 use Rattle.std.proofs.Math.Nat.{pow-suc, mul-le-mul_right}
 use Rattle.bufr_bits.specs.Prelude.{bits_of_octet, bits_of, number_after_bits, number_of, bits_at, are_all_ones, bits_in, padding, IsWindow}
 use Rattle.std.specs.List.{list_all}
-use Rattle.std.specs.Option.{option_eq}
 use Rattle.std.specs.Int.{bytes_high_first, byte_at, from_be_bytes, w64}
 
 -- a bit as a number
@@ -184,44 +182,24 @@ are_all_ones-bits_of (x ∷ xs) h =
     let rest : list_all (λ octet. octet == 255) xs ≡ are_all_ones (bits_of xs) = are_all_ones-bits_of xs (λ k. h (suc k)) in
     ap (λ (b : Bool). b && list_all (λ octet. octet == 255) xs) here ∙ ap (λ (b : Bool). are_all_ones (bits_of_octet x) && b) rest ∙ sym (list_all-append (λ (b : Bool). b) (bits_of_octet x) (bits_of xs))
 
--- whole octets of a list of bits
-pub bits_at-octets : (xs : List ℕ) (first count : ℕ) → bits_at xs (8 * first) (8 * count) ≡ bits_of (take count (drop first xs))
-bits_at-octets xs first count = ap (take (8 * count)) (drop-bits_of first xs) ∙ take-bits_of count (drop first xs)
-
-pub full_octets : (xs : List ℕ) (first count : ℕ) (b : Bool) → b ≡ are_all_ones (bits_of (take (first + count - first) (drop first xs))) → b ≡ are_all_ones (bits_at xs (8 * first) (8 * count))
-full_octets xs first count b e = grind (arith, common_steps, bits_at-octets)
-
 -- all of some bits, in parts
 pub are_all_ones-more : (xs : List ℕ) (at leading rest : ℕ) → are_all_ones (bits_at xs at (leading + rest)) ≡ (are_all_ones (bits_at xs at leading) && are_all_ones (bits_at xs (at + leading) rest))
 are_all_ones-more xs at leading rest = grind (arith, common_steps, drop-drop, take-add, list_all-append)
 
--- whether a read number is the greatest of its width
-pub read_greatest : (r : Option ℕ) (xs : List ℕ) (at width most : ℕ) → SomeIff r (at + width ≤ 8 * length xs) (number_of (bits_at xs at width)) → at + width ≤ 8 * length xs → most ≡ 2 ^ width - 1 → option_eq nat_eq r (Some most) ≡ are_all_ones (bits_at xs at width)
-read_greatest None xs at width most h fits e = absurd (h fits)
-read_greatest (Some value) xs at width most h fits e = grind (arith, common_steps, eqb, length-bits_at, are_all_ones-number)
+-- whether a number that was read is the greatest of its width
+pub ones_in_number : (xs : List ℕ) (at width n most : ℕ) → at + width ≤ 8 * length xs → n ≡ number_of (bits_at xs at width) → most ≡ 2 ^ width - 1 → eqb n most ≡ are_all_ones (bits_at xs at width)
+ones_in_number xs at width n most h e m = grind (arith, common_steps, eqb, length-bits_at, are_all_ones-number)
 
--- some bits, whole octets and some bits more
-pub are_all_ones_by_octets : (xs : List ℕ) (at first leading whole back width : ℕ) → at + leading ≡ 8 * first → width ≡ leading + (8 * whole + back) → are_all_ones (bits_at xs at width) ≡ (are_all_ones (bits_at xs at leading) && (are_all_ones (bits_at xs (8 * first) (8 * whole)) && are_all_ones (bits_at xs (at + leading + 8 * whole) back)))
-are_all_ones_by_octets xs at first leading whole back width e w = grind (arith, common_steps, are_all_ones-more)
-
--- the same of three answers: the first that is false decides
-pub ones_by_three : (xs : List ℕ) (at first leading whole back last width : ℕ) (a b c : Bool) → at + leading ≡ 8 * first → width ≡ leading + (8 * whole + back) → last ≡ at + leading + 8 * whole → a ≡ are_all_ones (bits_at xs at leading) → b ≡ are_all_ones (bits_at xs (8 * first) (8 * whole)) → c ≡ are_all_ones (bits_at xs last back) → (a && (b && c)) ≡ are_all_ones (bits_at xs at width)
-ones_by_three xs at first leading whole back last width a b c e w l ha hb hc = grind (arith, common_steps, are_all_ones_by_octets)
-
-pub ones_not_first : (xs : List ℕ) (at leading width : ℕ) (a : Bool) → leading ≤ width → a ≡ are_all_ones (bits_at xs at leading) → a ≡ false → false ≡ are_all_ones (bits_at xs at width)
-ones_not_first xs at leading width a h ha no_ones =
-    let w : width ≡ leading + (width - leading) = omega arith in
-    let parts = ap (λ (m : ℕ). are_all_ones (bits_at xs at m)) w ∙ are_all_ones-more xs at leading (width - leading) in
-    sym (parts ∙ ap (λ (b : Bool). b && are_all_ones (bits_at xs (at + leading) (width - leading))) (sym ha ∙ no_ones))
+-- the first bits decide, or the others
+pub ones_by_first : (xs : List ℕ) (at first width n : ℕ) → first ≡ min width 56 → at + width ≤ 8 * length xs → n ≡ number_of (bits_at xs at first) → are_all_ones (bits_at xs at width) ≡ (eqb n (1 * 2 ^ first % 18446744073709551616 - 1) && are_all_ones (bits_at xs (at + first) (width - first)))
+ones_by_first xs at first width n few inside e =
+    let parts : width ≡ first + (width - first) = omega arith in
+    let most : 1 * 2 ^ first % 18446744073709551616 - 1 ≡ 2 ^ first - 1 = omega (arith, shl_whole 1 1 first 64 (omega arith) (omega arith)) in
+    ap (λ (k : ℕ). are_all_ones (bits_at xs at k)) parts ∙ are_all_ones-more xs at first (width - first) ∙ ap (λ (b : Bool). b && are_all_ones (bits_at xs (at + first) (width - first))) (sym (ones_in_number xs at first n _ (omega arith) e most))
 
 pub and_false : (a : Bool) → (a && false) ≡ false
 and_false true = refl
 and_false false = refl
-
-pub ones_not_middle : (xs : List ℕ) (at first leading whole back width : ℕ) (b : Bool) → at + leading ≡ 8 * first → width ≡ leading + (8 * whole + back) → b ≡ are_all_ones (bits_at xs (8 * first) (8 * whole)) → b ≡ false → false ≡ are_all_ones (bits_at xs at width)
-ones_not_middle xs at first leading whole back width b e w hb no_ones =
-    let middle : are_all_ones (bits_at xs (8 * first) (8 * whole)) ≡ false = sym hb ∙ no_ones in
-    sym (are_all_ones_by_octets xs at first leading whole back width e w ∙ ap (λ (m : Bool). are_all_ones (bits_at xs at leading) && (m && are_all_ones (bits_at xs (at + leading + 8 * whole) back))) middle ∙ and_false (are_all_ones (bits_at xs at leading)))
 
 -- ---- A number as bits, in parts and by octets.
 
@@ -457,17 +435,24 @@ full_bits xs ys bytes last count value width shift kept all parts few hl hv b e 
     written xs ys bytes last count value width _ _ 8 kept (bits_of xs ++ bits_in last count) refl hv (omega arith) head tail b e
 
 -- ---- octets after bits, one after another
-pub after_step : (start xs ys octets : List ℕ) (last count after kept next more i : ℕ) → i < length octets → get_or octets i 0 < 256 → bits_of xs ++ bits_in after kept ≡ bits_of start ++ bits_in last count ++ bits_of (take i octets) → bits_of ys ++ bits_in next more ≡ bits_of xs ++ bits_in after kept ++ bits_in (get_or octets i 0) 8 → bits_of ys ++ bits_in next more ≡ bits_of start ++ bits_in last count ++ bits_of (take (i + 1) octets)
-after_step start xs ys octets last count after kept next more i inside small so_far e =
+pub octet_after : (octets : List ℕ) (before bits more : List Bool) (i : ℕ) → i < length octets → get_or octets i 0 < 256 → bits ≡ before ++ bits_of (take i octets) → more ≡ bits ++ bits_in (get_or octets i 0) 8 → more ≡ before ++ bits_of (take (i + 1) octets)
+octet_after octets before bits more i inside small so_far e =
     let octet = get_or octets i 0 in
     let same : octet ≡ octet % 256 = omega arith in
-    let bits : bits_in octet 8 ≡ bits_of (octet ∷ []) = sym (ap (λ (m : ℕ). bits_of (m ∷ [])) same ∙ bits_of-one octet) in
+    let one : bits_in octet 8 ≡ bits_of (octet ∷ []) = sym (ap (λ (m : ℕ). bits_of (m ∷ [])) same ∙ bits_of-one octet) in
     let whole : bits_of (take (i + 1) octets) ≡ bits_of (take i octets) ++ bits_of (octet ∷ []) = ap bits_of (take_more octets i 0 inside) ∙ bits_of-append (take i octets) (octet ∷ []) in
-    e ∙ ap (λ (bs : List Bool). bits_of xs ++ bits_in after kept ++ bs) bits ∙ ap (λ (bs : List Bool). bs ++ bits_of (octet ∷ [])) so_far ∙ append_assoc (bits_of start ++ bits_in last count) (bits_of (take i octets)) (bits_of (octet ∷ [])) ∙ ap (λ (bs : List Bool). bits_of start ++ bits_in last count ++ bs) (sym whole)
+    e ∙ ap (λ (bs : List Bool). bits ++ bs) one ∙ ap (λ (bs : List Bool). bs ++ bits_of (octet ∷ [])) so_far ∙ append_assoc before (bits_of (take i octets)) (bits_of (octet ∷ [])) ∙ ap (λ (bs : List Bool). before ++ bs) (sym whole)
 
-pub nothing_after : (xs : List ℕ) (last count : ℕ) → bits_of xs ++ bits_in last count ≡ bits_of xs ++ bits_in last count ++ bits_of []
+pub no_octet_after : (before : List Bool) → before ≡ before ++ bits_of []
 unfolding bits_of
-nothing_after xs last count = sym (append-nil (bits_of xs ++ bits_in last count))
+no_octet_after before = sym (append-nil before)
+
+-- how many bits there are after more of them
+pub length-put : (before after : List Bool) (value width : ℕ) → after ≡ before ++ bits_in value width → length after ≡ length before + width
+length-put before after value width e = ap length e ∙ length-append before (bits_in value width) ∙ ap (λ (m : ℕ). length before + m) (length-bits_in value width)
+
+pub length-put_octets : (before after : List Bool) (octets : List ℕ) → after ≡ before ++ bits_of octets → length after ≡ length before + 8 * length octets
+length-put_octets before after octets e = ap length e ∙ length-append before (bits_of octets) ∙ ap (λ (m : ℕ). length before + m) (length-bits_of octets)
 
 -- ---- Bits read by the number that eight octets write.
 
@@ -526,39 +511,3 @@ field_in xs at first from width n h place fits few = grind (arith, common_steps,
 -- a field that lies in the window of its first octet
 pub field_within : (xs : List ℕ) (at width n : ℕ) → IsWindow n (at / 8) xs → at % 8 + width ≤ 64 → width ≤ 63 → n / 2 ^ (64 - at % 8 - width) % (1 * 2 ^ width % 18446744073709551616) ≡ number_of (bits_at xs at width)
 field_within xs at width n h fits few = field_in xs at (at / 8) (at % 8) width n h (omega arith) fits few
-
--- a field that reaches into the ninth octet
-pub field_beyond : (xs : List ℕ) (at width n over part : ℕ) → IsWindow n (at / 8) xs → at + width ≤ 8 * length xs → width ≤ 63 → 64 < at % 8 + width → over ≡ at % 8 + width - 64 → get_or xs (at / 8 + 8) 0 < 256 → part ≡ get_or xs (at / 8 + 8) 0 / 2 ^ (8 - over) % 2 ^ over → n % (1 * 2 ^ (64 - at % 8) % 18446744073709551616) * 2 ^ over % 18446744073709551616 + part ≡ number_of (bits_at xs at width)
-field_beyond xs at width n over part h inside few beyond o small e =
-    let from = at % 8 in
-    let high = 64 - from in
-    let mask : 1 * 2 ^ high % 18446744073709551616 ≡ 2 ^ high = shl_whole 1 1 high 64 (omega arith) (omega arith) ∙ omega arith in
-    let low : n % 2 ^ high < 2 ^ high = mod_below n (2 ^ high) (pow_pos high) in
-    let shifted : n % 2 ^ high * 2 ^ over % 18446744073709551616 ≡ n % 2 ^ high * 2 ^ over = shl_whole (n % 2 ^ high) high over 64 low (omega arith) in
-    let place : 8 * (at / 8) + from ≡ at = omega arith in
-    let none : 64 - from - high ≡ 0 = omega arith in
-    let whole : n / 1 ≡ n = omega arith in
-    let first : number_of (bits_at xs at high) ≡ n % 2 ^ high = ap (λ (p : ℕ). number_of (bits_at xs p high)) (sym place) ∙ number_of_window xs (at / 8) from high n h (omega arith) ∙ ap (λ (k : ℕ). n / 2 ^ k % 2 ^ high) none ∙ ap (λ (m : ℕ). m % 2 ^ high) whole in
-    let ninth : 8 * (at / 8 + 8) + 0 ≡ at + high = omega arith in
-    let second : part ≡ number_of (bits_at xs (at + high) over) = e ∙ sym (number_of_part xs (at / 8 + 8) 0 over (omega arith) small (omega arith)) ∙ ap (λ (p : ℕ). number_of (bits_at xs p over)) ninth in
-    let all : width ≡ high + over = omega arith in
-    ap (λ (m : ℕ). n % m * 2 ^ over % 18446744073709551616 + part) mask ∙ ap (λ (m : ℕ). m + part) shifted ∙ ap (λ (m : ℕ). m * 2 ^ over + part) (sym first) ∙ ap (λ (m : ℕ). number_of (bits_at xs at high) * 2 ^ over + m) second ∙ sym (number_of_more xs at high over (omega arith)) ∙ ap (λ (k : ℕ). number_of (bits_at xs at k)) (sym all)
-
--- octets are all ones where their window is the greatest number and the others are
-pub window_ones : (xs : List ℕ) (w : ℕ) → IsWindow w 0 xs → are_all_ones (bits_of xs) ≡ ((w == 2 ^ 64 - 1) && are_all_ones (bits_of (drop 8 xs)))
-window_ones xs w h =
-    let word = bits_in w 64 in
-    let parts : bits_of xs ≡ word ++ bits_of (drop 8 xs) = ap bits_of (sym (take-append-drop 8 xs)) ∙ bits_of-append (take 8 xs) (drop 8 xs) ∙ ap (λ (bs : List Bool). bs ++ bits_of (drop 8 xs)) h.bits in
-    let value : number_of word ≡ w = number_of-bits_in w 64 ∙ mod-eq_of_lt h.small in
-    let ones : are_all_ones word ≡ (w == 2 ^ 64 - 1) = sym (are_all_ones-number word) ∙ ap (λ (m : ℕ). m == 2 ^ length word - 1) value ∙ ap (λ (k : ℕ). w == 2 ^ k - 1) (length-bits_in w 64) in
-    ap are_all_ones parts ∙ list_all-append (λ (b : Bool). b) word (bits_of (drop 8 xs)) ∙ ap (λ (b : Bool). b && are_all_ones (bits_of (drop 8 xs))) ones
-
-pub window_not_ones : (xs : List ℕ) (w : ℕ) (all : Bool) → IsWindow w 0 xs → (w ≡ 2 ^ 64 - 1 → ⊥) → all ≡ are_all_ones (bits_of xs) → false ≡ all
-window_not_ones xs w all h other e =
-    let no_ones : (w == 2 ^ 64 - 1) ≡ false = grind (arith, nat_tests) in
-    sym (e ∙ window_ones xs w h ∙ ap (λ (b : Bool). b && are_all_ones (bits_of (drop 8 xs))) no_ones)
-
-pub window_all_ones : (xs ys : List ℕ) (w : ℕ) → IsWindow w 0 xs → w ≡ 2 ^ 64 - 1 → ys ≡ take (length xs - 8) (drop 8 xs) → are_all_ones (bits_of xs) ≡ are_all_ones (bits_of ys)
-window_all_ones xs ys w h ones e =
-    let yes : (w == 2 ^ 64 - 1) ≡ true = grind (arith, nat_tests) in
-    window_ones xs w h ∙ ap (λ (b : Bool). b && are_all_ones (bits_of (drop 8 xs))) yes ∙ ap (λ (zs : List ℕ). are_all_ones (bits_of zs)) (sym (e ∙ take_rest xs 8))

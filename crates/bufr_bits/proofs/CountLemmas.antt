@@ -1,5 +1,5 @@
 -- Counts that go up more than once.
-use Rattle.std.proofs.Common.{◌≡◌, ℕ, zero, suc, ◌+◌, ◌-◌, ◌^◌, ◌<◌, List, [], ◌∷◌, length, Ok, arith, refl, min, max, Result}
+use Rattle.std.proofs.Common.{◌≡◌, ℕ, zero, suc, ◌+◌, ◌-◌, ◌^◌, ◌<◌, List, Ok, arith, refl, min, max, Result}
 use Rattle.bufr_bits.specs.Prelude.{counted, empty_writes_after}
 
 twice : (count a b most : ℕ) → max (max count (min (count + a) most)) (min (max count (min (count + a) most) + b) most) ≡ max count (min (count + (a + b)) most)

@@ -1,5 +1,4 @@
--- What a slice of bits shows of itself.
--- Cited by public contracts.
+-- What a slice of bits shows of itself. Cited by public contracts.
 use Rattle.std.specs.Prelude.{ℕ, List}
 use Rattle.bufr_bits.specs.declared.bit_slice.BitSlice.{BitSlice}
 

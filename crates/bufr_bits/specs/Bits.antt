@@ -1,6 +1,5 @@
 -- Octets as bits, bits as numbers, and the windows of eight octets that a slice is read by.
--- (WMO-No. 306, Volume I.2, FM 94: binary numbers are written most significant bit first)
--- Cited by public contracts.
+-- (WMO-No. 306, Volume I.2, FM 94: most significant bit first) Cited by public contracts.
 use Rattle.std.specs.Prelude.{ℕ, zero, suc, ◌+◌, ◌-◌, ◌*◌, ◌^◌, ◌/◌, ◌%◌, ◌==◌, Bool, false, if◌then◌else◌, List, [], ◌∷◌, ◌++◌, take, drop, replicate, ◌≡◌, ◌<◌, ◌≤◌, length, min}
 use Rattle.std.specs.List.{list_all}
 

@@ -1,6 +1,5 @@
--- Decimal texts: how a number is written at a scale, and the number that a text writes.
--- (A choice of this project: the number v at scale s is written as v / 10^s.)
--- Cited by public contracts.
+-- Decimal texts, and the numbers that they write: v at scale s is written as v / 10^s.
+-- (A choice of this project) Cited by public contracts.
 use Rattle.std.specs.Prelude.{ℕ, zero, suc, ◌+◌, ◌-◌, List, [], ◌∷◌, ◌++◌, length, take, drop, replicate, ℤ, pos, negsuc, unsigned_abs, ◌≡◌, ◌*◌, ◌/◌, ◌%◌, ◌^◌, ◌==◌, nat_lt, nat_le, Bool, true, false, ◌&&◌, if◌then◌else◌, Result, Ok, Err, neg_ℤ, is_some, ◌||◌}
 use Rattle.std.specs.Fmt.{decimal}
 use Rattle.std.specs.List.{list_all, position, before_first, after_first}
@@ -18,8 +17,7 @@ pointed places digits =
     let whole = length padded - places in
     take whole padded ++ 46 ∷ drop whole padded
 
--- a number without its sign as text: at a scale above 0 a point before the last digits, at one
--- below 0 zeros after them
+-- a number without its sign: a point before the last digits, or below scale 0 zeros after them
 -- rule: decimal-zeros-after
 unfoldable pub unsigned_text : (n : ℕ) (scale : ℤ) → List ℕ
 unsigned_text n (pos zero) = decimal n
@@ -37,8 +35,7 @@ sign_of (negsuc n) = 45 ∷ []
 unfoldable pub decimal_text_of : (v scale : ℤ) → List ℕ
 decimal_text_of v scale = sign_of v ++ unsigned_text (unsigned_abs v) scale
 
--- Decimal text with a scale as a number: the text of x at scale s is read as x * 10^s. (a choice of
--- this project)
+-- ---- The text of x at scale s is read as x * 10^s. (a choice of this project)
 
 -- the text after an optional minus sign
 abbrev pub unsigned_part : List ℕ → List ℕ

@@ -26,8 +26,7 @@ abbrev pub failures_after : {A E : Type 0} → ℕ → Result A E → ℕ
 failures_after count (Ok x) = count
 failures_after count (Err e) = counted count 1
 
--- the count of empty writes after a write of these octets: one more where there were octets and
--- none was taken
+-- the count of empty writes after a write of these octets: those of which it took none
 abbrev pub empty_writes_after : {E : Type 0} → ℕ → List ℕ → Result ℕ E → ℕ
 empty_writes_after count octets (Err e) = count
 empty_writes_after count octets (Ok (suc taken)) = count
@@ -45,8 +44,7 @@ abbrev pub all_flushed_after_flush : {A E : Type 0} → Bool → Result A E → 
 all_flushed_after_flush before (Ok x) = true
 all_flushed_after_flush before (Err e) = before
 
--- Numbers that stop at the greatest u128, as the code keeps them while it reads digits. (a choice
--- of this project)
+-- ---- Numbers that stop at the greatest u128, while digits are read. (a choice of this project)
 
 -- a number, or the greatest u128 where it is over that
 abbrev pub capped : ℕ → ℕ

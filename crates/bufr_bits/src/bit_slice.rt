@@ -1,7 +1,7 @@
 //! Octets read as bits, most significant first.
-ghost use Rattle.std.specs.Prelude.{◌≡◌, ◌≤◌, ◌<◌, ◌+◌, ◌-◌, ◌/◌, ◌%◌, ◌^◌, ◌==◌, ℕ, MatchOption, length, slice_index, slice_range};
+ghost use Rattle.std.specs.Prelude.{◌≡◌, ◌≤◌, ◌<◌, ◌+◌, ◌-◌, ◌/◌, ◌%◌, ◌^◌, ◌==◌, ℕ, MatchOption, length, slice_index, slice_range, ◌*◌, option_map, SomeIff, IfSome};
 ghost use Rattle.std.specs.List.{list_all};
-ghost use Rattle.bufr_bits.specs.Bits.{bits_of, are_all_ones, IsWindow};
+ghost use Rattle.bufr_bits.specs.Bits.{bits_of, are_all_ones, IsWindow, number_of, bits_at};
 
 /// Octets that are read as bits, at most 2^60 octets. Bits are counted from 0, most significant
 /// first.
@@ -19,8 +19,6 @@ pub struct BitSlice<'a> {
 }
 
 impl<'a> BitSlice<'a> {
-    ghost use Rattle.std.specs.Prelude.{◌≡◌, ◌≤◌, ◌+◌, ◌*◌, ◌/◌, ◌%◌, ◌^◌, ◌<◌, ℕ, length, option_map, slice_index, slice_range, SomeIff, IfSome, MatchOption};
-    ghost use Rattle.bufr_bits.specs.Bits.{number_of, bits_at, are_all_ones, IsWindow};
     ghost use Rattle.bufr_bits.specs.BitSlice.{octets_of};
 
     /// The bits of `octets`, of which there are at most 2^60.
@@ -66,35 +64,15 @@ impl<'a> BitSlice<'a> {
         ensures value { result ≡ number_of (bits_at (octets_of self.now) at width) }
         ensures below { result < 2 ^ width }
     {
+        let from = (at % 8) as u32;
         match first_window(&self.octets[(at / 8) as usize..]) {
-            Some(window) => {
-                let from = (at % 8) as u32;
-                if from + width > 64 {
-                    return self.by_nine(window, at, width);
-                }
-                (window >> (64 - from - width)) % (1 << width)
-            }
+            Some(window) if from + width <= 64 => (window >> (64 - from - width)) % (1 << width),
+            Some(_) => self.by_octets(at, width),
             None => self.near_end(at, width),
         }
     }
 
-    /// The number of some bits by the eight octets that begin with bit `at`, and the ninth, into
-    /// which they reach.
-    #[inline(never)]
-    fn by_nine(&self, window: u64, at: u64, width: u32) -> u64
-        requires few { width ≤ 63 }
-        requires within { at + width ≤ 8 * length (octets_of self.now) }
-        requires window { IsWindow window (at / 8) (octets_of self.now) }
-        requires beyond { 64 < at % 8 + width }
-        ensures { result ≡ number_of (bits_at (octets_of self.now) at width) }
-    {
-        let from = (at % 8) as u32;
-        let over = from + width - 64;
-        let ninth = self.octets[(at / 8) as usize + 8];
-        ((window % (1 << (64 - from))) << over) + part_of(ninth, 0, over)
-    }
-
-    /// The number of some bits in the last eight octets; of fewer octets, octet by octet.
+    /// The number of bits in the last eight octets; of fewer octets, octet by octet.
     #[inline(never)]
     fn near_end(&self, at: u64, width: u32) -> u64
         requires some { 0 < width }
@@ -113,7 +91,7 @@ impl<'a> BitSlice<'a> {
         }
     }
 
-    /// The number of some bits, octet by octet.
+    /// The number of bits which no one window has, octet by octet.
     #[inline(never)]
     fn by_octets(&self, at: u64, width: u32) -> u64
         requires few { width ≤ 63 }
@@ -170,30 +148,17 @@ impl<'a> BitSlice<'a> {
         if at > len || u64::from(width) > len - at {
             return None;
         }
-        if width < 64 {
-            return Some(self.few_are_ones(at, width));
+        let mut from = at;
+        let mut left = width;
+        while left > 0 {
+            let some = left.min(56);
+            if self.number(from, some) != (1 << some) - 1 {
+                return Some(false);
+            }
+            from += u64::from(some);
+            left -= some;
         }
-        // Those up to the next octet, the whole octets, and those after them.
-        let leading = (8 - at % 8) % 8;
-        let rest = u64::from(width) - leading;
-        let whole = rest / 8;
-        if !self.few_are_ones(at, leading as u32) {
-            return Some(false);
-        }
-        let first = ((at + leading) / 8) as usize;
-        if !are_full(&self.octets[first..first + whole as usize]) {
-            return Some(false);
-        }
-        Some(self.few_are_ones(at + leading + 8 * whole, (rest % 8) as u32))
-    }
-
-    /// Whether so few bits that they are one number, which do not go past the end, are all ones.
-    fn few_are_ones(&self, at: u64, width: u32) -> bool
-        requires few { width < 64 }
-        requires within { at + width ≤ 8 * length (octets_of self.now) }
-        ensures { result ≡ are_all_ones (bits_at (octets_of self.now) at width) }
-    {
-        self.get(at, width) == Some((1 << width) - 1)
+        Some(true)
     }
 }
 
@@ -215,28 +180,6 @@ fn first_window(octets: &[u8]) -> Option<u64>
         Some(window) => Some(u64::from_be_bytes(*window)),
         None => None,
     }
-}
-
-/// Whether all bits of octets are ones, eight octets at a time.
-fn are_full(octets: &[u8]) -> bool
-    ensures { result ≡ are_all_ones (bits_of octets.now) }
-{
-    let mut rest = octets;
-    while let Some(window) = first_window(rest) {
-        if window != u64::MAX {
-            return false;
-        }
-        rest = &rest[8..];
-    }
-    are_each_full(rest)
-}
-
-/// Whether all octets are 255.
-fn are_each_full(octets: &[u8]) -> bool
-    ensures full { result ≡ list_all (λ octet. octet == 255) octets.now }
-    ensures octets { (k : ℕ) → slice_index octets.now k < 2 ^ 8 }
-{
-    octets.iter().all(|octet| *octet == 255)
 }
 
 /// `width` bits of an octet from bit `from` on, as a number.

@@ -1,6 +1,6 @@
 //! Bits that are written one after another, most significant first.
 ghost use Rattle.std.specs.Prelude.{◌≡◌, ◌≤◌, ◌<◌, ◌+◌, ◌*◌, ◌/◌, ◌%◌, ◌^◌, ◌++◌, [], Bool, List, ℕ, length, slice_index, vec_len, vec_capacity, OnOk, OnErr};
-ghost use Rattle.bufr_bits.specs.Bits.{bits_of, bits_in, bits_at, number_of, padding};
+ghost use Rattle.bufr_bits.specs.Bits.{bits_of, bits_in, bits_at, number_of, padding, BitWriterModel, IsWriting, room_after};
 
 use std::alloc::{AllocError, Global};
 use std::marker::Model;
@@ -26,9 +26,6 @@ pub struct BitWriter {
 }
 
 impl Model for BitWriter {
-    ghost use Rattle.std.specs.Prelude.{◌≤◌, ◌<◌, ◌+◌, ◌*◌, ◌/◌, ◌^◌, ◌++◌, List, Bool, vec_len, vec_capacity};
-    ghost use Rattle.bufr_bits.specs.Bits.{bits_of, bits_in, BitWriterModel, IsWriting, room_after};
-
     ghost Value = { BitWriterModel };
 
     ghost view = { λ w. record {
@@ -74,15 +71,6 @@ impl BitWriter {
         if bits <= u64::from(self.free) {
             return Ok(());
         }
-        self.grow(bits)
-    }
-
-    /// [`BitWriter::reserve`] where the last number has too few free bits.
-    fn grow(&mut self, bits: u64) -> Result<(), AllocError>
-        requires { length self.old.bits + bits ≤ 2 ^ 63 }
-        ensures bits { self.new.bits ≡ self.old.bits }
-        ensures room { OnOk result (bits ≤ self.new.room) }
-    {
         self.octets.reserve((bits / 8) as usize + 16)?;
         self.free = 63 - self.count;
         Ok(())
@@ -119,10 +107,20 @@ impl BitWriter {
         ensures len { length self.new.bits ≡ length self.old.bits + width }
         ensures room { self.old.room ≤ self.new.room + width }
     {
-        let (last, count) = put_bits(&mut self.octets, self.last, self.count, value, width);
-        self.free = free_after(&self.octets, count);
-        self.last = last;
-        self.count = count;
+        let free = 64 - self.count;
+        if width < free {
+            self.last = (self.last << width) + value;
+            self.count += width;
+            self.free = free_after(&self.octets, self.count);
+            return;
+        }
+        // 64 bits go out as eight octets.
+        let rest = width - free;
+        let full = (self.last << free) + (value >> rest);
+        put(&mut self.octets, &full.to_be_bytes());
+        self.free = free_after(&self.octets, rest);
+        self.last = value % (1 << rest);
+        self.count = rest;
     }
 
     /// Appends the bits of octets. [`BitWriter::reserve`] must have made room for them.
@@ -139,10 +137,9 @@ impl BitWriter {
             self.last = 0;
             self.count = 0;
         } else {
-            let (last, count) = append_shifted(&mut self.octets, self.last, self.count, octets);
-            self.free = free_after(&self.octets, count);
-            self.last = last;
-            self.count = count;
+            for octet in octets {
+                self.put(u64::from(*octet), 8);
+            }
         }
     }
 
@@ -220,55 +217,6 @@ fn free_after(octets: &Vec<u8>, count: u32) -> u32
 {
     let room = 8 * (octets.capacity() - octets.len()).min(8) as u32;
     room.min(63) - count
-}
-
-/// Appends bits to those kept in a number, and returns those that are kept then. Where there are
-/// 64 of them, they go out as eight octets.
-fn put_bits(out: &mut Vec<u8>, last: u64, count: u32, value: u64, width: u32) -> (u64, u32)
-    requires few { count < 64 }
-    requires low { last < 2 ^ count }
-    requires width { width ≤ 63 }
-    requires value { value < 2 ^ width }
-    requires room { 8 * vec_len out.old + count + width ≤ 8 * vec_capacity out.old }
-    ensures bits { bits_of out.new.items ++ bits_in result.0 result.1
-        ≡ bits_of out.old.items ++ bits_in last count ++ bits_in value width }
-    ensures few { result.1 < 64 }
-    ensures low { result.0 < 2 ^ result.1 }
-    ensures len { 8 * vec_len out.new + result.1 ≡ 8 * vec_len out.old + count + width }
-    ensures capacity { vec_capacity out.old ≤ vec_capacity out.new }
-{
-    let free = 64 - count;
-    if width < free {
-        return ((last << width) + value, count + width);
-    }
-    let rest = width - free;
-    let full = (last << free) + (value >> rest);
-    put(out, &full.to_be_bytes());
-    (value % (1 << rest), rest)
-}
-
-/// Appends octets to the bits kept in a number, and returns those that are kept then.
-fn append_shifted(out: &mut Vec<u8>, last: u64, count: u32, octets: &[u8]) -> (u64, u32)
-    requires few { count < 64 }
-    requires low { last < 2 ^ count }
-    requires room { 8 * vec_len out.old + count + 8 * length octets.now
-        ≤ 8 * vec_capacity out.old }
-    ensures bits { bits_of out.new.items ++ bits_in result.0 result.1
-        ≡ bits_of out.old.items ++ bits_in last count ++ bits_of octets.now }
-    ensures few { result.1 < 64 }
-    ensures low { result.0 < 2 ^ result.1 }
-    ensures len { 8 * vec_len out.new + result.1
-        ≡ 8 * vec_len out.old + count + 8 * length octets.now }
-    ensures capacity { vec_capacity out.old ≤ vec_capacity out.new }
-{
-    let mut number = last;
-    let mut held = count;
-    for octet in octets {
-        let (last, count) = put_bits(out, number, held, u64::from(*octet), 8);
-        number = last;
-        held = count;
-    }
-    (number, held)
 }
 
 /// Appends the octets of bits kept in a number, with zero bits up to the next octet.

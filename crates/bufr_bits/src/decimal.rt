@@ -3,7 +3,7 @@ ghost use Rattle.std.specs.Prelude.{◌≡◌, ◌≤◌, ◌<◌, ◌+◌, ◌*
 ghost use Rattle.std.specs.List.{list_all, position};
 ghost use Rattle.std.specs.Str.Parse.{digits_value, digits_value_after, starts_with_minus};
 ghost use Rattle.bufr_bits.specs.Device.{capped, capped_ok};
-ghost use Rattle.bufr_bits.specs.Decimal.{decimal_text_of, pointed, sign_of, decimal_value_of, unsigned_part, is_unsigned, all_digits, is_digits, IsParts, positive_scale, negative_scale, whole_quotient, signed, IsPlainDecimal};
+ghost use Rattle.bufr_bits.specs.Decimal.{decimal_text_of, pointed, sign_of, decimal_value_of, unsigned_part, is_unsigned, all_digits, is_digits, IsParts, positive_scale, negative_scale, whole_quotient, signed, IsPlainDecimal, short_text, is_decimal_octet};
 
 use crate::bit_writer::put;
 use itoa::Buffer;
@@ -133,16 +133,6 @@ fn push_with_point(out: &mut Vec<u8>, digits: &[u8], places: usize)
 pub fn decimal_read(text: &[u8], scale: i16) -> Result<i128, NumberFault>
     ensures { result ≡ decimal_value_of text.now scale }
 {
-    match ShortDecimal::prefix(text) {
-        Some((number, len)) if len == text.len() => number.scaled(scale),
-        _ => long_read(text, scale),
-    }
-}
-
-/// Reads a text as [`decimal_read`] does, however long it is.
-fn long_read(text: &[u8], scale: i16) -> Result<i128, NumberFault>
-    ensures { result ≡ decimal_value_of text.now scale }
-{
     let (negative, body) = without_sign(text);
     let Some((whole, fraction)) = parts_of(body) else {
         return Err(NumberFault::Syntax);
@@ -199,8 +189,7 @@ fn all_digits(text: &[u8]) -> bool
     text.iter().all(|c| c.is_ascii_digit())
 }
 
-/// The number that digits with a point among them write, times ten to `up` and by ten to `down`,
-/// one of which is 0. The digits that ten divides away must be zeros.
+/// The number of digits with a point, times ten to `up` and by ten to `down`, one of which is 0.
 fn scaled(whole: &[u8], fraction: &[u8], up: usize, down: usize) -> Result<u128, NumberFault>
     requires whole { all_digits whole.now ≡ true }
     requires fraction { all_digits fraction.now ≡ true }
@@ -285,10 +274,6 @@ pub struct ShortDecimal {
 }
 
 impl ShortDecimal {
-    ghost use Rattle.std.specs.Prelude.{◌≡◌, ◌≤◌, ◌<◌, true, length, take, IfSome};
-    ghost use Rattle.std.specs.List.{list_all};
-    ghost use Rattle.bufr_bits.specs.Decimal.{decimal_value_of, short_text, is_decimal_octet};
-
     /// The number that comes first in a text, and how many octets write it. At most 19 octets
     /// after the sign are looked at, so more octets of a number may follow. `None` where no number
     /// comes first, where its spelling is none of [`decimal_text`](crate::decimal_text), and where
@@ -341,9 +326,7 @@ impl ShortDecimal {
     }
 }
 
-/// The number that the first octets of a text write without its point, how many digits follow the
-/// point, and how many octets these are. `None` where no such number comes first, or where one with
-/// zeros before its first digit does.
+/// The number that comes first without its point, the digits after the point, and its octets.
 #[inline(always)]
 fn unsigned_prefix(body: &[u8]) -> Option<(u64, u8, usize)>
     ensures some { IfSome result (λ found. 0 < found.2) }

@@ -1,7 +1,7 @@
 //! Readers and writers that count their failures, and the readers and writers of `std` as such.
 ghost use Rattle.std.specs.Prelude.{◌≡◌, ◌≤◌, ℕ, Bool, List, Option, length, IfOk};
 ghost use Rattle.std.specs.Io.KnownBytes.{ReadConsumes, WriteAppends, Keeps};
-ghost use Rattle.bufr_bits.specs.Device.{counted, failures_after, empty_writes_after, all_flushed_after_write, all_flushed_after_flush};
+ghost use Rattle.bufr_bits.specs.Device.{counted, failures_after, empty_writes_after, all_flushed_after_write, all_flushed_after_flush, fresh_device};
 
 use std::io::{Read, Write};
 use thiserror::Error;
@@ -108,9 +108,6 @@ pub struct Device<T> {
 }
 
 impl<T> Device<T> {
-    ghost use Rattle.std.specs.Prelude.{◌≡◌};
-    ghost use Rattle.bufr_bits.specs.Device.{fresh_device};
-
     /// The device over `inner`, which has made no call.
     pub fn new(inner: T) -> Device<T>
         ensures { result ≡ fresh_device inner }

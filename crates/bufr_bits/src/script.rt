@@ -1,5 +1,7 @@
 //! A reader and a writer in memory for tests, which go in small steps and fail at a given place.
-ghost use Rattle.std.specs.Prelude.{◌≤◌, ◌<◌, vec_len, vec_capacity};
+ghost use Rattle.std.specs.Prelude.{◌≤◌, ◌<◌, vec_len, vec_capacity, ◌≡◌, Some, length, IfOk, [], true, ◌-◌};
+ghost use Rattle.std.specs.Io.KnownBytes.{ReadConsumes, WriteAppends, Keeps};
+ghost use Rattle.bufr_bits.specs.Device.{counted, failures_after, empty_writes_after, all_flushed_after_write, all_flushed_after_flush};
 
 use crate::{Failed, Sink, Source};
 use std::alloc::{AllocError, Global};
@@ -17,18 +19,15 @@ pub struct ScriptIn<'a> {
 }
 
 impl<'a> ScriptIn<'a> {
-    ghost use Rattle.std.specs.Prelude.{◌≡◌, ◌<◌};
-    ghost use Rattle.bufr_bits.specs.Script.{unread_of, step_of, fails_after, failures_of, reads_of};
-
     /// A reader of `octets` that gives at most `step` octets per read, which is at least 1. With
     /// `fails_at` it gives none past that many octets, and each read from there on fails.
     pub fn new(octets: &'a [u8], step: usize, fails_at: Option<usize>) -> ScriptIn<'a>
         requires { 0 < step }
-        ensures octets { unread_of result ≡ octets.now }
-        ensures step { step_of result ≡ step }
-        ensures fails_at { fails_after result ≡ fails_at }
-        ensures failures { failures_of result ≡ 0 }
-        ensures reads { reads_of result ≡ 0 }
+        ensures octets { result.rest.now ≡ octets.now }
+        ensures step { result.step ≡ step }
+        ensures fails_at { result.before_failure ≡ fails_at }
+        ensures failures { result.failures ≡ 0 }
+        ensures reads { result.reads ≡ 0 }
     {
         ScriptIn {
             rest: octets,
@@ -41,10 +40,7 @@ impl<'a> ScriptIn<'a> {
 }
 
 impl<'a> Source for ScriptIn<'a> {
-    ghost use Rattle.std.specs.Prelude.{◌≡◌, ◌≤◌, Some, length, IfOk};
-    ghost use Rattle.std.specs.Io.KnownBytes.{ReadConsumes};
-    ghost use Rattle.bufr_bits.specs.Device.{counted, failures_after};
-    ghost use Rattle.bufr_bits.specs.Script.{unread_of, step_of, fails_after, failures_of, reads_of, read_answer, octets_moved, failure_after};
+    ghost use Rattle.bufr_bits.specs.Script.{read_answer, octets_moved, failure_after};
 
     ghost left = { λ s. Some s.rest.now };
 
@@ -54,16 +50,16 @@ impl<'a> Source for ScriptIn<'a> {
 
     fn read(&mut self, buf: &mut [u8]) -> Result<usize, Failed>
         ensures bound { IfOk result (λ n. n ≤ length buf.new) }
-        ensures octets { ReadConsumes (Some (unread_of self.old))
-            (Some (unread_of self.new)) result buf.new }
-        ensures failed { failures_of self.new ≡ failures_after (failures_of self.old) result }
-        ensures made { reads_of self.new ≡ counted (reads_of self.old) 1 }
+        ensures octets { ReadConsumes (Some self.old.rest.now) (Some self.new.rest.now) result
+            buf.new }
+        ensures failed { self.new.failures ≡ failures_after self.old.failures result }
+        ensures made { self.new.reads ≡ counted self.old.reads 1 }
         // The script is kept to: the answer, the place of failure and the step.
-        ensures answer { result ≡ read_answer (step_of self.old) (length buf.old)
-            (length (unread_of self.old)) (fails_after self.old) }
-        ensures failing { fails_after self.new
-            ≡ failure_after (fails_after self.old) (octets_moved result) }
-        ensures step { step_of self.new ≡ step_of self.old }
+        ensures answer { result ≡ read_answer self.old.step (length buf.old)
+            (length self.old.rest.now) self.old.before_failure }
+        ensures failing { self.new.before_failure
+            ≡ failure_after self.old.before_failure (octets_moved result) }
+        ensures step { self.new.step ≡ self.old.step }
     {
         self.reads = self.reads.saturating_add(1);
         let mut given = self.step.min(buf.len()).min(self.rest.len());
@@ -110,8 +106,7 @@ pub struct ScriptOut {
 }
 
 impl ScriptOut {
-    ghost use Rattle.std.specs.Prelude.{◌≡◌, ◌<◌, [], IfOk, true};
-    ghost use Rattle.bufr_bits.specs.Script.{taken_of, left_of, out_step_of, end_of, out_failures_of, out_empty_writes_of, out_flushes_of, out_all_flushed};
+    ghost use Rattle.bufr_bits.specs.Script.{left_of};
 
     /// A writer that takes `room` octets in all and at most `step`, which is at least 1, per write.
     /// It reserves the room here, so that no write can want memory. While room is left a write of
@@ -122,14 +117,14 @@ impl ScriptOut {
     /// [`AllocError`] where the room could not be reserved.
     pub fn new(alloc: Global, room: usize, step: usize, end: End) -> Result<ScriptOut, AllocError>
         requires { 0 < step }
-        ensures taken { IfOk result (λ s. taken_of s ≡ []) }
+        ensures taken { IfOk result (λ s. s.taken.items ≡ []) }
         ensures left { IfOk result (λ s. left_of s ≡ room) }
-        ensures step { IfOk result (λ s. out_step_of s ≡ step) }
-        ensures end { IfOk result (λ s. end_of s ≡ end) }
-        ensures failures { IfOk result (λ s. out_failures_of s ≡ 0) }
-        ensures empty_writes { IfOk result (λ s. out_empty_writes_of s ≡ 0) }
-        ensures flushes { IfOk result (λ s. out_flushes_of s ≡ 0) }
-        ensures all_flushed { IfOk result (λ s. out_all_flushed s ≡ true) }
+        ensures step { IfOk result (λ s. s.step ≡ step) }
+        ensures end { IfOk result (λ s. s.end ≡ end) }
+        ensures failures { IfOk result (λ s. s.failures ≡ 0) }
+        ensures empty_writes { IfOk result (λ s. s.empty_writes ≡ 0) }
+        ensures flushes { IfOk result (λ s. s.flushes ≡ 0) }
+        ensures all_flushed { IfOk result (λ s. s.all_flushed ≡ true) }
     {
         let taken = Vec::with_capacity(alloc, room)?;
         Ok(ScriptOut {
@@ -146,17 +141,14 @@ impl ScriptOut {
 
     /// The octets that it took.
     pub fn taken(&self) -> &[u8]
-        ensures { result.now ≡ taken_of self.now }
+        ensures { result.now ≡ self.now.taken.items }
     {
         self.taken.as_slice()
     }
 }
 
 impl Sink for ScriptOut {
-    ghost use Rattle.std.specs.Prelude.{◌≡◌, ◌≤◌, ◌-◌, Some, length, IfOk};
-    ghost use Rattle.std.specs.Io.KnownBytes.{WriteAppends, Keeps};
-    ghost use Rattle.bufr_bits.specs.Device.{counted, failures_after, empty_writes_after, all_flushed_after_write, all_flushed_after_flush};
-    ghost use Rattle.bufr_bits.specs.Script.{taken_of, left_of, out_step_of, end_of, out_failures_of, out_empty_writes_of, out_flushes_of, out_all_flushed, write_answer, flush_answer, octets_moved};
+    ghost use Rattle.bufr_bits.specs.Script.{left_of, write_answer, flush_answer, octets_moved};
 
     ghost taken = { λ s. Some s.taken.items };
 
@@ -170,21 +162,20 @@ impl Sink for ScriptOut {
 
     fn write(&mut self, buf: &[u8]) -> Result<usize, Failed>
         ensures bound { IfOk result (λ n. n ≤ length buf.now) }
-        ensures octets { WriteAppends (Some (taken_of self.old))
-            (Some (taken_of self.new)) result buf.now }
-        ensures failed { out_failures_of self.new
-            ≡ failures_after (out_failures_of self.old) result }
-        ensures empty { out_empty_writes_of self.new
-            ≡ empty_writes_after (out_empty_writes_of self.old) buf.now result }
-        ensures flushed { out_flushes_of self.new ≡ out_flushes_of self.old }
-        ensures handed { out_all_flushed self.new
-            ≡ all_flushed_after_write (out_all_flushed self.old) result }
+        ensures octets { WriteAppends (Some self.old.taken.items) (Some self.new.taken.items)
+            result buf.now }
+        ensures failed { self.new.failures ≡ failures_after self.old.failures result }
+        ensures empty { self.new.empty_writes
+            ≡ empty_writes_after self.old.empty_writes buf.now result }
+        ensures flushed { self.new.flushes ≡ self.old.flushes }
+        ensures handed { self.new.all_flushed
+            ≡ all_flushed_after_write self.old.all_flushed result }
         // The script is kept to: the answer, the room left, the step and the end.
-        ensures answer { result ≡ write_answer (end_of self.old) (out_step_of self.old)
+        ensures answer { result ≡ write_answer self.old.end self.old.step
             (left_of self.old) (length buf.now) }
         ensures left { left_of self.new ≡ left_of self.old - octets_moved result }
-        ensures step { out_step_of self.new ≡ out_step_of self.old }
-        ensures end { end_of self.new ≡ end_of self.old }
+        ensures step { self.new.step ≡ self.old.step }
+        ensures end { self.new.end ≡ self.old.end }
     {
         let left = self.room - self.taken.len();
         if left == 0 && self.end != End::Zero {
@@ -203,17 +194,16 @@ impl Sink for ScriptOut {
     }
 
     fn flush(&mut self) -> Result<(), Failed>
-        ensures octets { Keeps (Some (taken_of self.old)) (Some (taken_of self.new)) }
-        ensures failed { out_failures_of self.new
-            ≡ failures_after (out_failures_of self.old) result }
-        ensures empty { out_empty_writes_of self.new ≡ out_empty_writes_of self.old }
-        ensures flushed { out_flushes_of self.new ≡ counted (out_flushes_of self.old) 1 }
-        ensures handed { out_all_flushed self.new
-            ≡ all_flushed_after_flush (out_all_flushed self.old) result }
-        ensures answer { result ≡ flush_answer (end_of self.old) }
+        ensures octets { Keeps (Some self.old.taken.items) (Some self.new.taken.items) }
+        ensures failed { self.new.failures ≡ failures_after self.old.failures result }
+        ensures empty { self.new.empty_writes ≡ self.old.empty_writes }
+        ensures flushed { self.new.flushes ≡ counted self.old.flushes 1 }
+        ensures handed { self.new.all_flushed ≡ all_flushed_after_flush self.old.all_flushed
+            result }
+        ensures answer { result ≡ flush_answer self.old.end }
         ensures left { left_of self.new ≡ left_of self.old }
-        ensures step { out_step_of self.new ≡ out_step_of self.old }
-        ensures end { end_of self.new ≡ end_of self.old }
+        ensures step { self.new.step ≡ self.old.step }
+        ensures end { self.new.end ≡ self.old.end }
     {
         self.flushes = self.flushes.saturating_add(1);
         if self.end == End::Flush {

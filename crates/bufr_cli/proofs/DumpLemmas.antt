@@ -1,5 +1,5 @@
 -- What `dump` writes for a message, from what its calls answer.
-use Rattle.std.proofs.Common.{◌≡◌, ◌∙◌, ◌⊎◌, ℕ, List, [], ◌∷◌, Option, Result, Ok, Err, refl, sym, ap, inl, inr, append-nil}
+use Rattle.std.proofs.Common.{◌≡◌, ◌∙◌, ◌⊎◌, ℕ, List, [], ◌∷◌, Option, Result, Ok, Err, refl, sym, subst, ap, inl, inr, append-nil}
 use Rattle.std.specs.Io.KnownBytes.{Appends}
 use Rattle.std.proofs.KnownBytes.{Appends-nil}
 use Rattle.bufr_frame.specs.Prelude.{StreamEvent, FrameAt, StrayAt, Sections, sections_of}
@@ -20,6 +20,10 @@ use Rattle.bufr_cli.specs.declared.outcome.Verdict.TheVariants.{Accepted, Refuse
 -- of a text nothing was written
 grows-none : (w : Option (List ℕ)) (text : List ℕ) → GrowsByPrefix w w text
 grows-none w text = record { prefix = []; back = text; parts = refl; gains = Appends-nil w }
+
+-- a call that was given up before anything was written
+pub nothing-written : (w e : Option (List ℕ)) (piece : Piece) (r : Result Verdict RunFault) (f : RunFault) → r ≡ Err f → LeavesPieces w w e e (piece ∷ []) r
+nothing-written w e piece r f is = rw is (grows-none w _, grows-none e _)
 
 -- a text was written on the output, or a prefix of it
 output-reported : (w w' e : Option (List ℕ)) (text : List ℕ) (piece : Piece) → piece ≡ OnOutput text → Appends w w' text → LeavesPieces w w' e e (piece ∷ []) (Ok Accepted)
@@ -107,6 +111,11 @@ pub refused-line : (table : List Row) (offset : ℕ) (s : Sections) (template : 
 refused-line table offset s template why steps some so piece is =
     let refused = fault-refuses (next_item table template) (data_of s) why steps some so in
     refused-piece table offset s template why refused.0 refused.1 piece is
+
+-- what is written for a message by the template that its descriptors make
+pub data-of : (table : List Row) (d : List Sequence) (offset : ℕ) (s : Sections) (template : Tree) → tree_of (tables_of table d) s.descriptors ≡ Ok template → (piece : Piece) → IsMessagePiece table d offset (Ok s) piece
+    → IsDataPiece table offset s template piece
+data-of table d offset s template is piece has = subst (λ made. IsTemplatePiece table offset s made piece) is has
 
 -- the data of a message have a piece, by a template that a list makes
 data-piece : (records : List Record) (table : List Row) (d : List Sequence) (offset : ℕ) (s : Sections) → AreRows records table → (made : Result Tree TemplateFault) → tree_of (tables_of table d) s.descriptors ≡ made

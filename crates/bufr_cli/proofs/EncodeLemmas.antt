@@ -7,10 +7,10 @@ use Rattle.std.proofs.lemmas.Bool.{false≢true}
 use Rattle.std.proofs.lemmas.List.{length-map}
 use Rattle.bufr_bits.specs.Prelude.{counted}
 use Rattle.bufr_tables.specs.Prelude.{Row, Sequence}
-use Rattle.bufr_frame.specs.Prelude.{max_reads}
+use Rattle.bufr_frame.specs.Prelude.{max_reads, AddsReads}
 use Rattle.bufr_frame.specs.declared.fault.RunFault.{RunFault}
 use Rattle.bufr_frame.specs.declared.fault.RunFault.TheVariants.{Read, Write, InputTooLong, Memory}
-use Rattle.bufr_text.specs.Prelude.{Document, ParseResult, TextLineFault, Complete, Refused, NotAllowed, LineEffect, WalkGoes, Gives, Faults, ParserState, Between, Heading, BeforeSubsets, Filling, Stopped, reported_at, reported_at_end, parse_lines, line_within_limit, place_after, prepend_to_line, lines_of, documents_of, open_documents_of, parse, parse_open, ReaderModel, new_reader, position_of, parse_results, ReadsLines, ReturnsNextDocument, ReadsDocument, LeavesReader, CountsTextReads, HasNoWholeLine, failures_by, Writes}
+use Rattle.bufr_text.specs.Prelude.{Document, ParseResult, TextLineFault, Complete, Refused, NotAllowed, LineEffect, WalkGoes, Gives, Faults, ParserState, Between, Heading, BeforeSubsets, Filling, Stopped, reported_at, reported_at_end, parse_lines, line_within_limit, place_after, prepend_to_line, lines_of, documents_of, open_documents_of, parse, parse_open, ReaderModel, new_reader, position_of, parse_results, ReadsLines, ReturnsNextDocument, ReadsDocument, LeavesReader, HasNoWholeLine, failures_by, Writes}
 use Rattle.bufr_text.specs.Documents as documents
 use Rattle.bufr_text.specs.declared.fault.ReadFault.{ReadFault}
 use Rattle.bufr_text.specs.declared.encode.Form.{Form}
@@ -148,7 +148,7 @@ pub record EncodedSoFar (form : Form) (b : List Row) (d : List Sequence) (left m
   pub octets : List ℕ
   pub results : List ParseResult
   pub call : ReadsLines left mid new_reader s results octets
-  pub counts : CountsTextReads reads reads' new_reader s
+  pub counts : AddsReads reads reads' new_reader.reads s.reads
   pub written : WritesPieces w w' e e' (map (result_piece form b d) results)
   pub tallies : Tallies tally (map (result_piece form b d) results)
   pub open' : Open (map (result_piece form b d) results)
@@ -284,7 +284,7 @@ ran-few form b d left mid reads reads' w w' e e' s tally ran =
     )
 
 module _ (form : Form) (b : List Row) (d : List Sequence) (left mid left' : Option (List ℕ)) (reads reads1 reads2 : ℕ) (w w1 e e1 : Option (List ℕ)) (s s' : ReaderModel) (tally : Tally) (next : Result (Option Document) ReadFault)
-    (ran : EncodedSoFar form b d left mid reads reads1 w w1 e e1 s tally) (so : ReturnsNextDocument mid left' s s' next) (counts : CountsTextReads reads1 reads2 s s') where
+    (ran : EncodedSoFar form b d left mid reads reads1 w w1 e e1 s tally) (so : ReturnsNextDocument mid left' s s' next) (counts : AddsReads reads1 reads2 s.reads s'.reads) where
   -- one more document
   pub turn : (w2 e2 : Option (List ℕ)) (tally' : Tally) → LeavesNext w1 w2 e1 e2 (result_piece form b d) next (Ok (Some verdict.Accepted)) → tally' ≡ tally_after tally verdict.Accepted
       → EncodedSoFar form b d left left' reads reads2 w w2 e e2 s' tally'
@@ -472,7 +472,7 @@ module _ (form : Form) (b : List Row) (d : List Sequence) (left mid left' : Opti
       by Memory (inr (x, is, reports')) = (ran.octets ++ so.octets, stops-piece w2 e2 Memory x is reports')
 
 -- the reads of a run
-pub reads-made : {X : Type 0} (reads reads' : ℕ) (s : ReaderModel) (r : Result X RunFault) → CountsTextReads reads reads' new_reader s → (r ≡ Err InputTooLong → s.reads ≡ max_reads) → ReadsAtMost reads reads' r
+pub reads-made : {X : Type 0} (reads reads' : ℕ) (s : ReaderModel) (r : Result X RunFault) → AddsReads reads reads' new_reader.reads s.reads → (r ≡ Err InputTooLong → s.reads ≡ max_reads) → ReadsAtMost reads reads' r
 reads-made reads reads' s r counts long =
     let e : s.reads - 0 ≡ s.reads = omega arith in
     (s.reads, counts.most, counts.made ∙ ap (counted reads) e, long)

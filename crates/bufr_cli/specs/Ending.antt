@@ -10,7 +10,7 @@ use Rattle.bufr_frame.specs.declared.fault.RunFault.TheVariants.{Read, Write, In
 use Rattle.bufr_text.specs.Prelude.{GrowsByPrefix, joined}
 use Rattle.bufr_cli.specs.Running.{BlamesWriter, IsSame, Input, Writer, Writers, ReadsAtMost, RunPieces, RunsPieces, WritesAndCounts}
 use Rattle.bufr_cli.specs.declared.outcome.Tally.{Tally}
-use Rattle.bufr_tables.specs.Prelude.{fxy_text, number_of_table_fault}
+use Rattle.bufr_tables.specs.Prelude.{fxy_text}
 use Rattle.bufr_tables.specs.declared.fault.TableFault.{TableFault}
 use Rattle.bufr_tables.specs.declared.fault.TableFault.TheVariants as table
 use Rattle.bufr_cli.specs.declared.outcome.Outcome.{Outcome}
@@ -28,10 +28,8 @@ IsFlushed before after =
 -- fault the output is flushed
 abbrev pub FlushesRest : {X : Type 0} → (before after : Writer) → Result X RunFault → Type 0
 FlushesRest before after (Ok x) = after ≡ before
-FlushesRest before after (Err Read) = IsFlushed before after
 FlushesRest before after (Err Write) = after ≡ before
-FlushesRest before after (Err InputTooLong) = IsFlushed before after
-FlushesRest before after (Err Memory) = IsFlushed before after
+FlushesRest before after (Err fault) = IsFlushed before after
 
 -- all that the writers took was handed on
 abbrev pub AreFlushed : (after : Writers) → Type 0
@@ -92,18 +90,12 @@ numbered table number text = joined (table ∷ decimal number ∷ codes " " ∷ 
 -- the line of a table that cannot be read; want of memory is reported as in a run
 -- rule: status-of-table, fault-73
 abbrev pub table_line : (table : List ℕ) → TableFault → List ℕ
-table_line name table.Header =
-    numbered name (number_of_table_fault table.Header) (codes "header" ∷ [])
-table_line name (table.Row n) =
-    numbered name (number_of_table_fault (table.Row n)) (codes "row " ∷ decimal n ∷ [])
-table_line name (table.Duplicate fxy) =
-    numbered name (number_of_table_fault (table.Duplicate fxy))
-    (codes "duplicate " ∷ fxy_text fxy ∷ [])
-table_line name (table.Cycle fxy) =
-    numbered name (number_of_table_fault (table.Cycle fxy)) (codes "cycle " ∷ fxy_text fxy ∷ [])
-table_line name table.TableSize =
-    numbered name (number_of_table_fault table.TableSize) (codes "table size" ∷ [])
-table_line name table.Csv = numbered name (number_of_table_fault table.Csv) (codes "csv" ∷ [])
+table_line name table.Header = numbered name 40 (codes "header" ∷ [])
+table_line name (table.Row n) = numbered name 41 (codes "row " ∷ decimal n ∷ [])
+table_line name (table.Duplicate fxy) = numbered name 42 (codes "duplicate " ∷ fxy_text fxy ∷ [])
+table_line name (table.Cycle fxy) = numbered name 43 (codes "cycle " ∷ fxy_text fxy ∷ [])
+table_line name table.TableSize = numbered name 44 (codes "table size" ∷ [])
+table_line name table.Csv = numbered name 45 (codes "csv" ∷ [])
 table_line name table.Memory = run_line Memory
 
 -- the line before status 2, or the usage text; nothing where the run went through
@@ -126,8 +118,4 @@ ran_status (suc more) = 1
 -- rule: status-of-usage
 abbrev pub status_of : Outcome → ℕ
 status_of (Ran tally) = ran_status tally.refused
-status_of (Usage text) = 2
-status_of (CannotOpen name) = 2
-status_of (TableB fault) = 2
-status_of (TableD fault) = 2
-status_of (Run fault) = 2
+status_of outcome = 2

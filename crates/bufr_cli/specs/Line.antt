@@ -15,11 +15,6 @@ use Rattle.bufr_cli.specs.declared.job.Subcommand.{Subcommand}
 use Rattle.bufr_cli.specs.declared.job.Subcommand.TheVariants.{Ls, Dump, Encode}
 use Rattle.bufr_cli.specs.declared.job.TableNames.{TableNames}
 
--- `ls [FILE]`
--- rule: one-file
-abbrev pub ls_app : App
-ls_app = with_rule (new_app (codes "ls")) (new_rule (codes "FILE"))
-
 -- `-B FILE` or `-D FILE`, which must be there
 abbrev pub table_rule : (id : Text) → (letter : ℕ) → Rule
 table_rule id letter =
@@ -35,10 +30,6 @@ tables_app name =
 abbrev pub form_rule : Rule
 form_rule = record (new_rule (codes "form")) { long = Some (codes "form"); value_names = 1 }
 
--- `encode -B FILE -D FILE [--form WORD] [FILE]`
-abbrev pub encode_app : App
-encode_app = with_rule (tables_app (codes "encode")) form_rule
-
 -- `bufr`, which has a version and wants a subcommand
 abbrev pub top_app : App
 top_app =
@@ -47,12 +38,13 @@ top_app =
           { has_version = true; subcommand_required = true };
     }
 
--- `bufr COMMAND`
--- rule: version
+-- `bufr COMMAND`: `ls [FILE]`, `dump`, or `encode`, which has `[--form WORD]` too
+-- rule: version, one-file
 abbrev pub bufr_app : App
 bufr_app =
-    with_subcommand (with_subcommand (with_subcommand top_app ls_app.top)
-    (tables_app (codes "dump")).top) encode_app.top
+    with_subcommand (with_subcommand (with_subcommand top_app
+    (with_rule (new_app (codes "ls")) (new_rule (codes "FILE"))).top)
+    (tables_app (codes "dump")).top) (with_rule (tables_app (codes "encode")) form_rule).top
 
 -- the name of a subcommand
 abbrev pub name_of : Subcommand → Text

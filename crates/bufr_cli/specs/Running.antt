@@ -96,14 +96,9 @@ HasFailed before after =
 -- a write fault comes from one of the two writers; without one both stay
 abbrev pub Blames : {X : Type 0} → Result X RunFault
     → (output_stays output_fails errors_stays errors_fails : Type 0) → Type 0
-Blames (Ok x) output_stays output_fails errors_stays errors_fails = output_stays × errors_stays
-Blames (Err Read) output_stays output_fails errors_stays errors_fails = output_stays × errors_stays
-Blames (Err InputTooLong) output_stays output_fails errors_stays errors_fails =
-    output_stays × errors_stays
-Blames (Err Memory) output_stays output_fails errors_stays errors_fails =
-    output_stays × errors_stays
 Blames (Err Write) output_stays output_fails errors_stays errors_fails =
     (output_fails × errors_stays) ⊎ (output_stays × errors_fails)
+Blames result output_stays output_fails errors_stays errors_fails = output_stays × errors_stays
 
 -- a write fault comes from a call of the output or of the errors that this writer counts
 -- rule: fault-71
@@ -218,16 +213,14 @@ abbrev pub LeavesRun : (pieces : RunPieces)
     → (unflushed early : Type 0) → List ℕ → Result Tally RunFault → Type 0
 LeavesRun pieces left left' output output' errors errors' unflushed early bs (Ok tally) =
     RunDone pieces left left' output output' errors errors' bs tally
-LeavesRun pieces left left' output output' errors errors' unflushed early bs (Err Read) =
-    RunStopped pieces left left' output output' errors errors' bs
-LeavesRun pieces left left' output output' errors errors' unflushed early bs (Err InputTooLong) =
-    RunStopped pieces left left' output output' errors errors' bs
 LeavesRun pieces left left' output output' errors errors' unflushed early bs (Err Memory) =
     (cut : RunCut pieces left left' output output' errors errors' unflushed bs)
     × (pieces.stops ≡ false → cut.written.next ≡ None → early)
     × (pieces.stops ≡ true → count_by is_refused cut.written.given ≡ 0)
 LeavesRun pieces left left' output output' errors errors' unflushed early bs (Err Write) =
     RunCut pieces left left' output output' errors errors' unflushed bs
+LeavesRun pieces left left' output output' errors errors' unflushed early bs (Err fault) =
+    RunStopped pieces left left' output output' errors errors' bs
 
 -- no writer was flushed
 abbrev pub AreUnflushed : (before after : Writers) → Type 0
@@ -282,10 +275,8 @@ Encodes form b d before after tally s =
 abbrev pub ReadsAll : (left left' : Option (List ℕ))
     → Result (Vec ℕ Global) RunFault → List ℕ → Type 0
 ReadsAll left left' (Ok octets) bs = Consumes left left' bs × IsAtEnd left' × (octets.items ≡ bs)
-ReadsAll left left' (Err Read) bs = Consumes left left' bs
 ReadsAll left left' (Err Write) bs = ⊥
-ReadsAll left left' (Err InputTooLong) bs = Consumes left left' bs
-ReadsAll left left' (Err Memory) bs = Consumes left left' bs
+ReadsAll left left' (Err fault) bs = Consumes left left' bs
 
 -- ---- What writing one event or one document does to the writers and to the counts of a run.
 
@@ -326,11 +317,10 @@ ReportsPieces before after pieces result =
 
 -- a piece is stopped by a writer, or by want of memory where its text takes memory
 abbrev pub StopsPiece : (takes_memory : Bool) → Result Verdict RunFault → Type 0
-StopsPiece takes_memory (Ok verdict) = Unit {0}
 StopsPiece takes_memory (Err Read) = ⊥
-StopsPiece takes_memory (Err Write) = Unit {0}
 StopsPiece takes_memory (Err InputTooLong) = ⊥
 StopsPiece takes_memory (Err Memory) = takes_memory ≡ true
+StopsPiece takes_memory result = Unit {0}
 
 -- the reads of a run; where its texts take no memory, it is wanted only before all of the reads
 -- were made
@@ -348,10 +338,6 @@ LeavesNext output output' errors errors' piece next (Ok None) =
 LeavesNext output output' errors errors' piece next (Ok (Some verdict)) =
     (x : ParseResult) × (parse_results next ≡ x ∷ [])
     × LeavesPieces output output' errors errors' (piece x ∷ []) (Ok verdict)
-LeavesNext output output' errors errors' piece next (Err Read) =
-    (next ≡ Err (Run Read)) × (output' ≡ output) × (errors' ≡ errors)
-LeavesNext output output' errors errors' piece next (Err InputTooLong) =
-    (next ≡ Err (Run InputTooLong)) × (output' ≡ output) × (errors' ≡ errors)
 LeavesNext output output' errors errors' piece next (Err Write) =
     (x : ParseResult) × (parse_results next ≡ x ∷ [])
     × LeavesPieces output output' errors errors' (piece x ∷ []) (Err Write)
@@ -359,6 +345,8 @@ LeavesNext output output' errors errors' piece next (Err Memory) =
     ((next ≡ Err (Run Memory)) × (output' ≡ output) × (errors' ≡ errors))
     ⊎ ((x : ParseResult) × (parse_results next ≡ x ∷ [])
     × LeavesPieces output output' errors errors' (piece x ∷ []) (Err Memory))
+LeavesNext output output' errors errors' piece next (Err fault) =
+    (next ≡ Err (Run fault)) × (output' ≡ output) × (errors' ≡ errors)
 
 -- the same of two writers
 abbrev pub ReportsNext : (before after : Writers) → (ParseResult → Piece)

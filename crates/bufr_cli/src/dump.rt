@@ -1,8 +1,7 @@
 //! `bufr dump`: writes the messages of a stream as text.
 ghost use Rattle.std.specs.Prelude.{◌≡◌, ◌≢◌, ◌≤◌, ℕ, List, [], ◌∷◌, true, Ok, IfOk, OnOk, IfSome, length, map};
-ghost use Rattle.bufr_frame.specs.Prelude.{events_of, IsEvent, read_failures_after, StreamEvent, scan, sections_of};
-ghost use Rattle.bufr_cli.specs.Pieces.{IsDataPiece, IsDumpPiece, IsMessagePiece, Piece};
-ghost use Rattle.bufr_cli.specs.Running.{BlamesWriter, input_of, writers_of, RunsPieces, event_pieces, GivesPieces, ReadsAtMost, WritesAndCounts, StopsPiece, ReportsPieces};
+ghost use Rattle.bufr_frame.specs.Prelude.{read_failures_after, StreamEvent, scan, sections_of};
+ghost use Rattle.bufr_cli.specs.Prelude.{IsDumpPiece, IsMessagePiece, Piece, BlamesWriter, input_of, writers_of, RunsPieces, event_pieces, GivesPieces, ReadsAtMost, WritesAndCounts, StopsPiece, ReportsPieces};
 
 use crate::fault_line::{StreamFault, write_fault, write_stray};
 use crate::outcome::{Tally, Verdict};
@@ -27,68 +26,21 @@ fn descriptors_of(alloc: Global, message: &Message<'_>) -> Result<Vec<Fxy>, Allo
     Ok(descriptors)
 }
 
-/// What a run keeps from message to message: the last templates with the specs of their cells, and
-/// the memory of its dumps. Messages repeat their descriptors, and few of these can make a template
-/// of many places.
+/// What a run keeps from message to message: messages repeat their descriptors.
 #[derive(Drop)]
 struct DumpRun<'a> {
     templates: TemplateCache<'a>,
     memory: DumpMemory<'a>,
 }
 
-/// A message of a stream at its offset, Table B, and the template of its descriptors.
-#[derive(Clone, Copy)]
+/// A message and the template of its descriptors, at one lifetime.
 struct Expanded<'a, 'o> {
-    offset: u64,
     message: &'a Message<'o>,
     template: &'a Template,
-    table: &'a TableB,
 }
 
-/// Writes the text of a message by its template and the specs that are cached. Where its data are
-/// refused, it writes the line of their fault.
+/// Writes the text of a message by the template that was selected, or the line of its fault.
 // rule: refused-messages-write-nothing
-fn dump_data<W: Sink, E: Sink>(
-    expanded: &Expanded<'_, '_>,
-    memory: &mut DumpMemory<'_>,
-    w: &mut W,
-    e: &mut E,
-) -> Result<Verdict, RunFault>
-    requires { memory.old.specs ≡ expanded.now.table.now }
-    ensures same { memory.new.specs ≡ memory.old.specs }
-    ensures reports { (piece : Piece)
-        → IsDataPiece expanded.now.table.now expanded.now.offset expanded.now.message.now
-        expanded.now.template.now piece
-        → ReportsPieces (writers_of W.Sink w.old E.Sink e.old)
-        (writers_of W.Sink w.new E.Sink e.new) (piece ∷ []) result }
-    ensures stops { StopsPiece true result }
-    ensures counts { BlamesWriter (writers_of W.Sink w.old E.Sink e.old)
-        (writers_of W.Sink w.new E.Sink e.new) result }
-    ensures output_flushes { W.flushes w.new ≡ W.flushes w.old }
-    ensures errors_flushes { E.flushes e.new ≡ E.flushes e.old }
-{
-    let Expanded {
-        offset,
-        message,
-        template,
-        ..
-    } = *expanded;
-    let mut steps = Steps::new();
-    match read_by(message, template, &mut memory.specs, &mut steps) {
-        Ok(reading) => {
-            write_dump_by(memory, message, &reading, &mut steps, w)?;
-            Ok(Verdict::Accepted)
-        }
-        Err(WalkFault::Memory) => Err(RunFault::Memory),
-        Err(fault) => {
-            write_fault(offset, StreamFault::Data(&fault), e)?;
-            Ok(Verdict::Refused)
-        }
-    }
-}
-
-/// Writes the text of a message by the template that was selected for it. Where its descriptors or
-/// its data are refused, it writes the line of their fault.
 fn dump_selected<W: Sink, E: Sink>(
     offset: u64,
     message: &Message<'_>,
@@ -111,16 +63,22 @@ fn dump_selected<W: Sink, E: Sink>(
     ensures output_flushes { W.flushes w.new ≡ W.flushes w.old }
     ensures errors_flushes { E.flushes e.new ≡ E.flushes e.old }
 {
-    let table = run.templates.table_b();
     match run.templates.answer() {
         Ok(template) => {
-            let expanded = Expanded {
-                offset,
-                message,
-                template,
-                table,
-            };
-            dump_data(&expanded, &mut run.memory, w, e)
+            // A reading borrows both for one lifetime.
+            let Expanded { message, template } = Expanded { message, template };
+            let mut steps = Steps::new();
+            match read_by(message, template, &mut run.memory.specs, &mut steps) {
+                Ok(reading) => {
+                    write_dump_by(&mut run.memory, message, &reading, &mut steps, w)?;
+                    Ok(Verdict::Accepted)
+                }
+                Err(WalkFault::Memory) => Err(RunFault::Memory),
+                Err(fault) => {
+                    write_fault(offset, StreamFault::Data(&fault), e)?;
+                    Ok(Verdict::Refused)
+                }
+            }
         }
         Err(fault) => {
             write_fault(offset, StreamFault::Template(fault), e)?;
@@ -129,42 +87,9 @@ fn dump_selected<W: Sink, E: Sink>(
     }
 }
 
-/// Writes the text of a message, or the line of the fault that its descriptors or its data are
-/// refused for.
-// rule: list-before-data
-fn dump_message<W: Sink, E: Sink>(
-    offset: u64,
-    message: &Message<'_>,
-    run: &mut DumpRun<'_>,
-    w: &mut W,
-    e: &mut E,
-) -> Result<Verdict, RunFault>
-    ensures reports { (piece : Piece)
-        → IsMessagePiece run.old.templates.table_b run.old.templates.table_d offset
-        (Ok message.now) piece
-        → ReportsPieces (writers_of W.Sink w.old E.Sink e.old)
-        (writers_of W.Sink w.new E.Sink e.new) (piece ∷ []) result }
-    ensures stops { StopsPiece true result }
-    ensures table_b { run.new.templates.table_b ≡ run.old.templates.table_b }
-    ensures table_d { run.new.templates.table_d ≡ run.old.templates.table_d }
-    ensures counts { BlamesWriter (writers_of W.Sink w.old E.Sink e.old)
-        (writers_of W.Sink w.new E.Sink e.new) result }
-    ensures output_flushes { W.flushes w.new ≡ W.flushes w.old }
-    ensures errors_flushes { E.flushes e.new ≡ E.flushes e.old }
-{
-    let descriptors = descriptors_of(run.memory.alloc, message)?;
-    run.templates.select(&descriptors)?;
-    let mut specs = run.templates.take_specs();
-    mem::swap(&mut run.memory.specs, &mut specs);
-    let outcome = dump_selected(offset, message, run, w, e);
-    mem::swap(&mut run.memory.specs, &mut specs);
-    run.templates.put_specs(specs);
-    outcome
-}
-
-/// Writes the text of the message in these octets, or its fault line. An event that is none does
-/// not pay for the room of a message.
+/// Writes the text of the message in these octets, or its fault line.
 #[inline(never)]
+// rule: list-before-data
 fn dump_frame<W: Sink, E: Sink>(
     offset: u64,
     octets: &[u8],
@@ -187,7 +112,16 @@ fn dump_frame<W: Sink, E: Sink>(
     ensures errors_flushes { E.flushes e.new ≡ E.flushes e.old }
 {
     match Message::parse(octets) {
-        Ok(message) => dump_message(offset, &message, run, w, e),
+        Ok(message) => {
+            let descriptors = descriptors_of(run.memory.alloc, &message)?;
+            run.templates.select(&descriptors)?;
+            let mut specs = run.templates.take_specs();
+            mem::swap(&mut run.memory.specs, &mut specs);
+            let outcome = dump_selected(offset, &message, run, w, e);
+            mem::swap(&mut run.memory.specs, &mut specs);
+            run.templates.put_specs(specs);
+            outcome
+        }
         Err(fault) => {
             write_fault(offset, StreamFault::Section(fault), e)?;
             Ok(Verdict::Refused)
@@ -196,9 +130,6 @@ fn dump_frame<W: Sink, E: Sink>(
 }
 
 impl<'a> EventWriter for DumpRun<'a> {
-    ghost use Rattle.std.specs.Prelude.{true};
-    ghost use Rattle.bufr_cli.specs.Pieces.{IsDumpPiece};
-
     ghost is_piece = { λ d. IsDumpPiece d.templates.table_b d.templates.table_d };
 
     ghost takes_memory = { λ _. true };

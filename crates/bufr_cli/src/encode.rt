@@ -1,10 +1,9 @@
 //! `bufr encode`: writes the messages that a text spells.
-ghost use Rattle.std.specs.Prelude.{◌≡◌, ◌≢◌, ℕ, List, [], ◌∷◌, Ok, Err, true, IfErr, IfOk, OnOk, IfSome};
+ghost use Rattle.std.specs.Prelude.{◌≡◌, ◌≢◌, ℕ, List, [], ◌∷◌, Ok, Err, true, IfOk, OnOk, IfSome};
 ghost use Rattle.bufr_frame.specs.Prelude.{read_failures_after};
-ghost use Rattle.bufr_text.specs.Prelude.{Complete, encoding_in, IsDocumentRefusal, reported_refusal};
+ghost use Rattle.bufr_text.specs.Prelude.{Complete};
 ghost use Rattle.bufr_text.specs.declared.encode.Form.TheVariants.{AsWritten};
-ghost use Rattle.bufr_cli.specs.Pieces.{result_piece};
-ghost use Rattle.bufr_cli.specs.Running.{RunsUnflushed, RunsPieces, document_pieces, ReadsAtMost, Encodes, ReportsNext, StopsPiece, ReportsPieces, BlamesWriter, input_of, writers_of};
+ghost use Rattle.bufr_cli.specs.Prelude.{result_piece, RunsUnflushed, RunsPieces, document_pieces, ReadsAtMost, Encodes, ReportsNext, StopsPiece, ReportsPieces, BlamesWriter, input_of, writers_of};
 
 use crate::fault_line::{write_document_fault, write_read_fault};
 use crate::outcome::{Tally, Verdict};
@@ -65,8 +64,7 @@ fn encode_one<W: Sink, E: Sink>(
     }
 }
 
-/// Writes what the next document gives of a text: its message, or a fault line. At the end of
-/// the text there is nothing. The document's memory goes back to its reader.
+/// Writes the message of the next document, or a fault line, or at the end of the text nothing.
 // rule: document-read-first
 fn encode_next<W: Sink, E: Sink>(
     run: &mut EncodeRun<'_>,

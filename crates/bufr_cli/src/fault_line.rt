@@ -1,11 +1,9 @@
-//! The lines that report the faults of a stream and of the messages in it, and of a text and its
-//! documents.
+//! The lines that report the faults of a stream, its messages, and a text and its documents.
 ghost use Rattle.std.specs.Prelude.{◌≡◌, ◌≢◌, ℕ, [], ◌∷◌, Err, IfErr, IfSome, codes, decimal};
 ghost use Rattle.bufr_frame.specs.Prelude.{number_of_cause};
 ghost use Rattle.bufr_tables.specs.Prelude.{fxy_text};
 ghost use Rattle.bufr_text.specs.Prelude.{TextLineFault, Refused, parse_results, number_of_document_fault, reported_refusal, walk_report, Pushes, Writes, joined};
-ghost use Rattle.bufr_cli.specs.FaultLine.{HasLine, cause_text, fault_line, number_of_stream_fault, place_texts, section_fault_text, spot_text, stream_fault_text, template_fault_text, walk_fault_text, document_line, item_fault_line, line_of_read_fault, line_of_refusal, refusal_line, refused_line};
-ghost use Rattle.bufr_cli.specs.Running.{OnlyWrites, writer_of};
+ghost use Rattle.bufr_cli.specs.Prelude.{HasLine, cause_text, fault_line, number_of_stream_fault, place_texts, section_fault_text, spot_text, stream_fault_text, template_fault_text, walk_fault_text, document_line, item_fault_line, line_of_read_fault, line_of_refusal, refusal_line, refused_line, OnlyWrites, writer_of};
 
 use bufr_bits::Sink;
 use bufr_fill::Expected;
@@ -170,12 +168,7 @@ fn push_fault<E: Sink>(line: &mut LineWriter<'_, '_, E>, offset: u64, fault: Str
     }
 }
 
-/// Writes the line of a `BUFR` at `offset`, in octets from 0, that begins no message. It takes no
-/// memory.
-///
-/// # Errors
-///
-/// [`RunFault::Write`] where the writer fails or takes nothing; a prefix of the line was taken.
+/// Writes the line of a `BUFR` at `offset`, in octets from 0, that begins no message.
 pub(crate) fn write_stray<E: Sink>(offset: u64, cause: Cause, e: &mut E) -> Result<(), RunFault>
     ensures writes { Writes (E.taken e.old) (E.taken e.new)
         (fault_line offset (number_of_cause cause) (cause_text cause ∷ [])) result }
@@ -191,12 +184,7 @@ pub(crate) fn write_stray<E: Sink>(offset: u64, cause: Cause, e: &mut E) -> Resu
     outcome
 }
 
-/// Writes the line of a fault at `offset`, in octets from 0. Want of memory has no line. It takes
-/// no memory.
-///
-/// # Errors
-///
-/// [`RunFault::Write`] where the writer fails or takes nothing; a prefix of the line was taken.
+/// Writes the line of a fault at `offset`, in octets from 0.
 pub(crate) fn write_fault<E: Sink>(
     offset: u64,
     fault: StreamFault<'_>,
@@ -297,12 +285,7 @@ fn push_document_fault<E: Sink>(line: &mut LineWriter<'_, '_, E>, fault: Documen
     }
 }
 
-/// Writes the line of a document that cannot be encoded. Want of memory has no line. It takes no
-/// memory.
-///
-/// # Errors
-///
-/// [`RunFault::Write`] where the writer fails or takes nothing; a prefix of the line was taken.
+/// Writes the line of a document that cannot be encoded.
 // rule: fault-lines-of-encoding
 pub fn write_document_fault<E: Sink>(fault: DocumentFault, e: &mut E) -> Result<(), RunFault>
     requires some { fault ≢ DocumentFault.Memory }
@@ -334,12 +317,7 @@ fn push_read_fault<E: Sink>(line: &mut LineWriter<'_, '_, E>, fault: ReadFault)
     }
 }
 
-/// Writes the line of a text line that is refused. A fault of the reading itself has no line. It
-/// takes no memory.
-///
-/// # Errors
-///
-/// [`RunFault::Write`] where the writer fails or takes nothing; a prefix of the line was taken.
+/// Writes the line of a text line that is refused.
 // rule: fault-lines-of-reading
 pub fn write_read_fault<E: Sink>(fault: ReadFault, e: &mut E) -> Result<(), RunFault>
     requires { (run : RunFault) → fault ≢ ReadFault.Run run }

@@ -2,9 +2,10 @@
 ghost use Rattle.std.specs.Prelude.{◌≡◌, IfErr, IfNone, IfOk, IfSome, codes, map, false, Some};
 ghost use Rattle.clap.specs.declared.builder.command.Command.TheViews.{out-Command};
 ghost use Rattle.clap.specs.Values.{kind_of};
-ghost use Rattle.clap.specs.Words.{app_of, fault_of, first_of, found_of, new_app, new_rule, rows_of, rule_of, subcommand_of};
+ghost use Rattle.clap.specs.Words.{app_of, fault_of, first_of, found_of, new_app, new_rule, rows_of, rule_of, subcommand_of, with_rule, with_subcommand};
+ghost use Rattle.bufr_cli.specs.declared.job.LineFault.TheVariants.{Memory};
 ghost use Rattle.bufr_text.specs.declared.encode.Form.{Form};
-ghost use Rattle.bufr_cli.specs.Line.{bufr_app, encode_app, form_rule, ls_app, name_of, no_job_text, table_rule, tables_app, top_app, word_of, AreNamed, HasTables, IsJobOf, IsWhyNoJob, LacksForm, LacksTables, SaysWhy, ReportsKind};
+ghost use Rattle.bufr_cli.specs.Prelude.{bufr_app, form_rule, name_of, no_job_text, table_rule, tables_app, top_app, word_of, AreNamed, HasTables, IsJobOf, IsWhyNoJob, LacksForm, LacksTables, SaysWhy, ReportsKind};
 
 use bufr_text::Form;
 use clap::error::ErrorKind;
@@ -159,9 +160,6 @@ Examples:
     bufr encode -B b.csv -D d.csv --form compressed > compressed.bufr";
 
 impl From<AllocError> for LineFault {
-    ghost use Rattle.std.specs.Prelude.{◌≡◌};
-    ghost use Rattle.bufr_cli.specs.declared.job.LineFault.TheVariants.{Memory};
-
     ghost from_gives = { λ _ e. e ≡ Memory };
 
     fn from(_fault: AllocError) -> LineFault {
@@ -190,17 +188,6 @@ fn file_argument<'a>(alloc: Global, help: &'a str) -> Arg<'a>
     ensures global { result.global ≡ false }
 {
     Arg::new(alloc, "FILE").help(help)
-}
-
-/// `bufr ls [FILE]`.
-// rule: one-file
-fn ls_command<'a>(alloc: Global) -> Result<clap::Command<'a>, AllocError>
-    ensures app { IfOk result (λ c. app_of c ≡ ls_app) }
-    ensures local { IfOk result (λ c. (out-Command c).has_globals ≡ false) }
-{
-    let about = "Lists each BUFR message on a line";
-    let file = file_argument(alloc, "The file to list; standard input without it");
-    named_command(alloc, "ls", about, LS_NOTES).arg(file)
 }
 
 /// The option of a table, of one letter, which must be there.
@@ -233,50 +220,44 @@ fn command_with_tables<'a>(
     command.arg(file_argument(alloc, file))
 }
 
-/// The option of the form.
-fn form_option<'a>(alloc: Global) -> Arg<'a>
-    ensures rule { rule_of result ≡ form_rule }
-    ensures global { result.global ≡ false }
-{
-    Arg::new(alloc, "form").long("form").value_name("WORD").help(
-        "plain or compressed; without it the form that each document says",
-    )
-}
-
 /// `bufr encode -B FILE -D FILE [--form WORD] [FILE]`.
 fn encode_command<'a>(alloc: Global) -> Result<clap::Command<'a>, AllocError>
-    ensures app { IfOk result (λ c. app_of c ≡ encode_app) }
+    ensures app { IfOk result (λ c. app_of c ≡ with_rule (tables_app (codes "encode")) form_rule) }
     ensures local { IfOk result (λ c. (out-Command c).has_globals ≡ false) }
 {
     let about = "Writes the BUFR message of each document";
     let file = "The text to encode; standard input without it";
     let command = command_with_tables(alloc, "encode", about, ENCODE_NOTES, file)?;
-    command.arg(form_option(alloc))
+    let form = Arg::new(alloc, "form").long("form").value_name("WORD").help(
+        "plain or compressed; without it the form that each document says",
+    );
+    command.arg(form)
 }
 
-/// `bufr` without its subcommands.
+/// `bufr` without its subcommands but `ls`.
 fn top_command<'a>(alloc: Global) -> Result<clap::Command<'a>, AllocError>
-    ensures { IfOk result (λ c. app_of c ≡ top_app) }
+    ensures { IfOk result (λ c. app_of c ≡ with_subcommand top_app
+        (with_rule (new_app (codes "ls")) (new_rule (codes "FILE"))).top) }
 {
     let about = "Lists, dumps and encodes messages of FM 94 BUFR";
     let command = named_command(alloc, "bufr", about, PROGRAM_NOTES).bin_name("bufr")?;
-    Ok(command.version(VERSION).subcommand_required(true))
+    let command = command.version(VERSION).subcommand_required(true);
+    let file = file_argument(alloc, "The file to list; standard input without it");
+    let ls = named_command(alloc, "ls", "Lists each BUFR message on a line", LS_NOTES).arg(file)?;
+    command.subcommand(ls)
 }
 
 /// The command line of `bufr`.
-// rule: version
+// rule: version, one-file
 fn command_line<'a>(alloc: Global) -> Result<clap::Command<'a>, AllocError>
     ensures { IfOk result (λ c. app_of c ≡ bufr_app) }
 {
     let command = top_command(alloc)?;
-    let ls = ls_command(alloc)?;
-    let command = command.subcommand(ls)?;
     let about = "Writes each BUFR message as text";
     let file = "The file to dump; standard input without it";
     let dump = command_with_tables(alloc, "dump", about, DUMP_NOTES, file)?;
     let command = command.subcommand(dump)?;
-    let encode = encode_command(alloc)?;
-    command.subcommand(encode)
+    command.subcommand(encode_command(alloc)?)
 }
 
 /// The fault that an error of clap means, with its text.

@@ -2,9 +2,7 @@
 //! back. [`dump_encode_dump`] runs them in memory.
 ghost use Rattle.std.specs.List.{AllByRecursion, concat};
 ghost use Rattle.std.specs.Prelude.{◌≡◌, List, ℕ, [], Option, Some, IfOk};
-ghost use Rattle.bufr_cli.specs.RoundTrip.{IsDumpedInOneSpelling, RoundTrips, IsWholeRound, IsCanonicalMessage, Written, accepted_messages, rebuilt, RunsInMemory, IsWholeRoundOf, dump_pieces, text_pieces};
-ghost use Rattle.bufr_cli.specs.Running.{holding, GivesPieces, Dumps, Encodes};
-ghost use Rattle.bufr_cli.specs.Pieces.{IsDumpPiece, Piece};
+ghost use Rattle.bufr_cli.specs.Prelude.{IsDumpedInOneSpelling, RoundTrips, IsWholeRound, IsCanonicalMessage, Written, accepted_messages, rebuilt, RunsInMemory, IsWholeRoundOf, dump_pieces, text_pieces, holding, GivesPieces, Dumps, Encodes, IsDumpPiece, Piece};
 ghost use Rattle.bufr_frame.specs.Prelude.{StreamEvent};
 ghost use Rattle.bufr_tables.specs.Prelude.{Record, Row, AreRows, Sequence};
 ghost use Rattle.bufr_text.specs.Prelude.{IsOctet};
@@ -20,16 +18,13 @@ use bufr_frame::RunFault;
 use bufr_tables::{TableB, TableD};
 use std::alloc::Global;
 
-/// By each Table B that records write and any Table D, each event has a piece.
-pub fn each_event_has_a_piece()
-    ensures { (records : List Record) (table_b : List Row) (table_d : List Sequence)
+/// By each Table B that records write and any Table D, each event has a piece. By whatever tables,
+/// two pieces of an event are the same: the same text, on the same writer.
+pub fn each_event_has_one_piece()
+    ensures some { (records : List Record) (table_b : List Row) (table_d : List Sequence)
         → AreRows records table_b
         → (piece : StreamEvent → Piece) × GivesPieces (IsDumpPiece table_b table_d) piece }
-{}
-
-/// By whatever tables, two pieces of an event are the same: the same text, on the same writer.
-pub fn an_event_has_one_piece()
-    ensures { (table_b : List Row) (table_d : List Sequence) (here : StreamEvent) (p q : Piece)
+    ensures one { (table_b : List Row) (table_d : List Sequence) (here : StreamEvent) (p q : Piece)
         → IsDumpPiece table_b table_d here p → IsDumpPiece table_b table_d here q → p ≡ q }
 {}
 
@@ -37,26 +32,20 @@ pub fn an_event_has_one_piece()
 /// text that `dump` writes. The messages that it builds have, one by one, the same readings as
 /// those that were dumped. They are no longer, but for up to two octets for each message of
 /// edition 3 with an odd section 3 or 4. Dumped again they are the same text, octet for octet.
+///
+/// Accepted messages that are as an encoder writes them are built of the dump text octet for octet.
+/// Such a message has reserved bits and octets of zero, nothing after the descriptors, and no minus
+/// zero. Each compressed item is packed as its values are packed. Its data take the least octets,
+/// with zero bits at their end.
 // rule: encode-may-grow
 pub fn dumped_streams_are_built_again()
     ensures { (records : List Record) (table_b : List Row) (table_d : List Sequence)
         (piece : StreamEvent → Piece) (s : List ℕ)
         → AreRows records table_b → GivesPieces (IsDumpPiece table_b table_d) piece
         → AllByRecursion IsOctet s
-        → RoundTrips table_b table_d piece s }
-{}
-
-/// Accepted messages that are as an encoder writes them are built of the dump text octet for octet.
-/// Such a message has reserved bits and octets of zero, nothing after the descriptors, and no minus
-/// zero. Each compressed item is packed as its values are packed. Its data take the least octets,
-/// with zero bits at their end.
-pub fn canonical_streams_are_built_as_they_are()
-    ensures { (records : List Record) (table_b : List Row) (table_d : List Sequence)
-        (piece : StreamEvent → Piece) (s : List ℕ)
-        → AreRows records table_b → GivesPieces (IsDumpPiece table_b table_d) piece
-        → AllByRecursion IsOctet s
-        → AllByRecursion (IsCanonicalMessage table_b table_d) (accepted_messages piece s)
-        → rebuilt table_b table_d piece s ≡ concat (accepted_messages piece s) }
+        → RoundTrips table_b table_d piece s
+        × (AllByRecursion (IsCanonicalMessage table_b table_d) (accepted_messages piece s)
+        → rebuilt table_b table_d piece s ≡ concat (accepted_messages piece s)) }
 {}
 
 /// Runs of the program that went through, each over what the one before wrote, by the same tables.

@@ -1,21 +1,5 @@
 //! `bufr` as a library: the command line, the runs, and the last line, over any inputs and writers.
-//!
-//! [`run_ls`], [`run_dump`] and [`run_encode`] know of no file and no command line: each reads a
-//! [`Source`](bufr_bits::Source), writes two [`Sink`](bufr_bits::Sink)s and returns its [`Tally`].
-//! [`parse_line`] reads a command line, [`read_all`] a whole input, and [`finish`] writes the last
-//! line. [`run`] puts them together over [`Inputs`]; the program `bufr` calls it once, with its
-//! writers [`Buffered`].
-//!
-//! ```
-//! let mut r = Device::new(b"BUFR".as_slice());
-//! let mut w = Device::new(Vec::new(rt.alloc()));
-//! let mut e = Device::new(Vec::new(rt.alloc()));
-//! let tally = run_ls(rt.alloc(), &mut r, &mut w, &mut e)?; // `offset 0: 1 cut` is on `e`
-//! assert_eq!(rt; tally.refused, 1);
-//! ```
-//!
-//! [`dump_encode_dump`] makes three runs in memory. The functions of [`laws`] say what runs over
-//! one another's output come to.
+//! [`run`] puts them together over [`Inputs`]; `bufr` calls it with [`Buffered`] writers.
 #![tactic(auto)]
 
 mod dump;

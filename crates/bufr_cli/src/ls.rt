@@ -1,8 +1,7 @@
 //! `bufr ls`: lists the messages of a stream.
-ghost use Rattle.std.specs.Prelude.{◌≡◌, ◌≢◌, ◌≤◌, ℕ, List, [], ◌∷◌, true, false, IfOk, OnOk, IfSome, length, map};
-ghost use Rattle.bufr_frame.specs.Prelude.{events_of, IsEvent, read_failures_after, MakesReads, sections_of};
-ghost use Rattle.bufr_cli.specs.Pieces.{ls_or_fault, ls_piece, ls_pieces};
-ghost use Rattle.bufr_cli.specs.Running.{BlamesWriter, input_of, writers_of, RunsPieces, event_pieces, WritesAndCounts, StopsPiece, ReportsPieces};
+ghost use Rattle.std.specs.Prelude.{◌≡◌, ◌≢◌, ◌≤◌, ℕ, List, [], ◌∷◌, true, false, IfOk, OnOk, IfSome, length};
+ghost use Rattle.bufr_frame.specs.Prelude.{read_failures_after, MakesReads, sections_of};
+ghost use Rattle.bufr_cli.specs.Prelude.{ls_or_fault, ls_piece, ls_pieces, BlamesWriter, input_of, writers_of, RunsPieces, event_pieces, WritesAndCounts, StopsPiece, ReportsPieces};
 
 use crate::fault_line::{StreamFault, write_fault, write_stray};
 use crate::outcome::{Tally, Verdict};
@@ -12,8 +11,7 @@ use bufr_frame::{Event, Message, RunFault};
 use bufr_text::write_ls;
 use std::alloc::Global;
 
-/// Writes the line of the message in these octets. An event that is none does not pay for the room
-/// of a message.
+/// Writes the line of the message in these octets, or its fault line.
 #[inline(never)]
 fn list_frame<W: Sink, E: Sink>(
     offset: u64,
@@ -48,9 +46,6 @@ fn list_frame<W: Sink, E: Sink>(
 struct LsRun;
 
 impl EventWriter for LsRun {
-    ghost use Rattle.std.specs.Prelude.{◌≡◌, false};
-    ghost use Rattle.bufr_cli.specs.Pieces.{ls_piece};
-
     ghost is_piece = { λ _ here piece. piece ≡ ls_piece here };
 
     ghost takes_memory = { λ _. false };

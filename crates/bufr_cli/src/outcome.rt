@@ -1,17 +1,15 @@
 //! The end of a run: its counts, its last line and its exit status.
-ghost use Rattle.std.specs.Prelude.{◌≡◌, ◌<◌, ◌-◌, ◌^◌, ◌∷◌, [], codes, decimal};
+ghost use Rattle.std.specs.Prelude.{◌≡◌, ◌<◌, ◌-◌, ◌^◌, ◌∷◌, [], codes, decimal, ◌+◌};
 ghost use Rattle.std.specs.Io.KnownBytes.{Appends};
 ghost use Rattle.bufr_text.specs.Prelude.{Pushes, GrowsByPrefix, joined};
-ghost use Rattle.bufr_cli.specs.Ending.{last_line, run_fault_text, run_line, status_of, table_line};
-ghost use Rattle.bufr_cli.specs.Running.{IsSame, writer_of};
+ghost use Rattle.bufr_cli.specs.Prelude.{last_line, run_line, status_of, table_line, IsSame, writer_of, tally_after};
 
 use bufr_bits::Sink;
 use bufr_frame::RunFault;
 use bufr_tables::TableFault;
 use bufr_text::LineWriter;
 
-/// The octets in which a line is put together: that of a FILE whose name has up to 300 octets. What
-/// is longer goes out in several writes.
+/// The octets in which a line is put together; what is longer goes out in several writes.
 const LINE: usize = 320;
 
 /// How a call of the program came out.
@@ -29,18 +27,6 @@ pub enum Outcome<'a> {
     TableD(TableFault),
     /// The run was ended by this fault.
     Run(RunFault),
-}
-
-/// The text of a fault that ends a run.
-fn text_of_run_fault(fault: RunFault) -> &'static [u8]
-    ensures { result.now ≡ run_fault_text fault }
-{
-    match fault {
-        RunFault::Read => b"read failed",
-        RunFault::Write => b"write failed",
-        RunFault::InputTooLong => b"input too long",
-        RunFault::Memory => b"out of memory",
-    }
 }
 
 /// The exit status of an outcome.
@@ -71,8 +57,13 @@ fn push_numbered<E: Sink>(line: &mut LineWriter<'_, '_, E>, name: &[u8], number:
 fn push_run_fault<E: Sink>(line: &mut LineWriter<'_, '_, E>, fault: RunFault)
     ensures { Pushes line.old (run_line fault) line.new }
 {
-    push_numbered(line, b"bufr: ", fault.number(), text_of_run_fault(fault));
-    line.push(b"\n");
+    let number = fault.number();
+    match fault {
+        RunFault::Read => push_numbered(line, b"bufr: ", number, b"read failed\n"),
+        RunFault::Write => push_numbered(line, b"bufr: ", number, b"write failed\n"),
+        RunFault::InputTooLong => push_numbered(line, b"bufr: ", number, b"input too long\n"),
+        RunFault::Memory => push_numbered(line, b"bufr: ", number, b"out of memory\n"),
+    }
 }
 
 /// Pushes the line of a table that cannot be read.
@@ -163,9 +154,6 @@ pub struct Tally {
 }
 
 impl Tally {
-    ghost use Rattle.std.specs.Prelude.{◌≡◌, ◌<◌, ◌+◌, ◌^◌};
-    ghost use Rattle.bufr_cli.specs.Running.{tally_after};
-
     /// Counts one more.
     pub(crate) fn count(&mut self, verdict: Verdict)
         requires few { self.old.accepted + self.old.refused < 2 ^ 63 }

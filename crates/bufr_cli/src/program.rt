@@ -1,11 +1,10 @@
 //! The program below `main`: what it does with a command line, its inputs and its writers.
 ghost use Rattle.std.specs.Prelude.{◌≡◌, ℕ, true, List, Option, None, Ok, IfOk, IfErr, IfSome, OnOk, map};
+ghost use Rattle.std.specs.Io.Buffered.{writer_contents};
 ghost use Rattle.bufr_frame.specs.Prelude.{read_failures_after, MakesReads};
-ghost use Rattle.bufr_tables.specs.Prelude.{ReadsTableD, Record, records_of, AreRows, table_b_of};
+ghost use Rattle.bufr_tables.specs.Prelude.{Record, AreRows};
 ghost use Rattle.bufr_text.specs.Prelude.{Writes};
-ghost use Rattle.bufr_cli.specs.Running.{RunPieces, RunsPieces, BlamesWriter, CountsCalls, input_of, writer_of, writers_of, ReadsAll};
-ghost use Rattle.bufr_cli.specs.Ending.{AreFlushed, BlamesInput, EndsRun, FlushesRest};
-ghost use Rattle.bufr_cli.specs.Program.{AreTables, AreUnread, FileOutcome, IsClosed, RunsJob, RunOutcome, TableBOutcome, TableDOutcome, known, IsOfCommand, ran_outcome, AnswersFault, RunsProgram};
+ghost use Rattle.bufr_cli.specs.Prelude.{RunPieces, RunsPieces, BlamesWriter, CountsCalls, input_of, writer_of, writers_of, ReadsAll, AreFlushed, BlamesInput, EndsRun, FlushesRest, AreTables, AreUnread, FileOutcome, IsClosed, RunsJob, RunOutcome, known, IsOfCommand, ran_outcome, AnswersFault, RunsProgram};
 
 use crate::dump::run_dump;
 use crate::encode::run_encode_form;
@@ -128,8 +127,7 @@ fn write_and_flush<W: Sink>(text: &[u8], w: &mut W) -> Result<(), RunFault>
     flush(w)
 }
 
-/// What a command works with: memory, the inputs, and the name of its input, standard input where
-/// there is none.
+/// What a command works with: memory, the inputs, and the name of its input.
 #[derive(Drop)]
 struct Call<'a, 'i, I: Inputs> {
     alloc: Global,
@@ -207,47 +205,6 @@ fn read_file<'a, I: Inputs>(
     }
 }
 
-/// Table B of the file of this name.
-fn read_table_b<'a, I: Inputs>(
-    alloc: Global,
-    name: &'a str,
-    inputs: &I,
-) -> Result<TableB, Outcome<'a>>
-    ensures table { IfOk result (λ table. IfSome (I.file_octets inputs.now name.entry.now)
-        (λ text. table_b_of (records_of text) ≡ Ok table)) }
-    ensures rows { IfOk result (λ table. (records : List Record) × AreRows records table) }
-    ensures unread { IfErr result (TableBOutcome (I.file_octets inputs.now) name.entry) }
-{
-    let text = match read_file(alloc, name, inputs) {
-        Ok(text) => text,
-        Err(outcome) => return Err(outcome),
-    };
-    match TableB::read(alloc, text.as_slice()) {
-        Ok(table) => Ok(table),
-        Err(fault) => Err(Outcome::TableB(fault)),
-    }
-}
-
-/// Table D of the file of this name.
-fn read_table_d<'a, I: Inputs>(
-    alloc: Global,
-    name: &'a str,
-    inputs: &I,
-) -> Result<TableD, Outcome<'a>>
-    ensures table { IfOk result (λ table. IfSome (I.file_octets inputs.now name.entry.now)
-        (λ text. ReadsTableD (records_of text) (Ok table))) }
-    ensures unread { IfErr result (TableDOutcome (I.file_octets inputs.now) name.entry) }
-{
-    let text = match read_file(alloc, name, inputs) {
-        Ok(text) => text,
-        Err(outcome) => return Err(outcome),
-    };
-    match TableD::read(alloc, text.as_slice()) {
-        Ok(table) => Ok(table),
-        Err(fault) => Err(Outcome::TableD(fault)),
-    }
-}
-
 /// Tables B and D of a command.
 #[derive(Drop)]
 struct Tables {
@@ -267,13 +224,21 @@ fn read_tables<'a, I: Inputs>(
         (λ tables. (records : List Record) × AreRows records tables.table_b) }
     ensures unread { IfErr result (AreUnread (I.file_octets inputs.now) names.entry) }
 {
-    let table_b = match read_table_b(alloc, names.table_b, inputs) {
-        Ok(table) => table,
+    let text = match read_file(alloc, names.table_b, inputs) {
+        Ok(text) => text,
         Err(outcome) => return Err(outcome),
     };
-    let table_d = match read_table_d(alloc, names.table_d, inputs) {
+    let table_b = match TableB::read(alloc, text.as_slice()) {
         Ok(table) => table,
+        Err(fault) => return Err(Outcome::TableB(fault)),
+    };
+    let text = match read_file(alloc, names.table_d, inputs) {
+        Ok(text) => text,
         Err(outcome) => return Err(outcome),
+    };
+    let table_d = match TableD::read(alloc, text.as_slice()) {
+        Ok(table) => table,
+        Err(fault) => return Err(Outcome::TableD(fault)),
     };
     Ok(Tables { table_b, table_d })
 }
@@ -366,8 +331,7 @@ fn run_command<R: Source, W: Sink, E: Sink>(
     }
 }
 
-/// Hands on what a run has written that a fault ended, and answers as the run did. After a fault of
-/// a write nothing is tried again; a run that went through has handed on all.
+/// Hands on what a run has written, where a fault ended it that is none of a write.
 fn flush_rest<W: Sink>(ran: Result<Tally, RunFault>, w: &mut W) -> Result<Tally, RunFault>
     ensures same { result ≡ ran }
     ensures rest { FlushesRest (writer_of W.Sink w.old) (writer_of W.Sink w.new) ran }
@@ -406,8 +370,6 @@ impl<W: Write + Drop> Drop for Buffered<W> {
 }
 
 impl<W: Write + Drop> Write for Buffered<W> {
-    ghost use Rattle.std.specs.Io.Buffered.{writer_contents};
-
     ghost contents = { λ b. writer_contents W.contents b.writer };
 
     #[inline]

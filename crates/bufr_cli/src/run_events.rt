@@ -3,8 +3,7 @@ ghost use Rattle.std.specs.Prelude.{◌≡◌, ◌≢◌, ℕ, Bool, List, true,
 ghost use Rattle.std.specs.Io.KnownBytes.{Keeps};
 ghost use Rattle.bufr_bits.specs.Prelude.{counted};
 ghost use Rattle.bufr_frame.specs.Prelude.{events_of, IsEvent, read_failures_after, StreamEvent};
-ghost use Rattle.bufr_cli.specs.Pieces.{Piece};
-ghost use Rattle.bufr_cli.specs.Running.{BlamesWriter, CountsCalls, input_of, writer_of, writers_of, RunsPieces, event_pieces, GivesPieces, RunReads, StopsPiece, ReportsPieces};
+ghost use Rattle.bufr_cli.specs.Prelude.{Piece, BlamesWriter, CountsCalls, input_of, writer_of, writers_of, RunsPieces, event_pieces, GivesPieces, RunReads, StopsPiece, ReportsPieces};
 
 use crate::outcome::{Tally, Verdict};
 use bufr_bits::{Sink, Source};
@@ -19,13 +18,7 @@ pub trait EventWriter {
     /// Whether writing takes memory.
     ghost takes_memory: { Self → Bool };
 
-    /// Writes the piece of an event, and answers on which writer. What it keeps for the next event
-    /// does not change which pieces are to be written.
-    ///
-    /// # Errors
-    ///
-    /// [`RunFault::Write`] where a writer fails or takes nothing, and [`RunFault::Memory`]; a
-    /// prefix of the piece was written.
+    /// Writes the piece of an event, and answers on which writer.
     fn write_event<W: Sink, E: Sink>(
         &mut self,
         event: Event<'_>,
@@ -61,13 +54,7 @@ pub(crate) fn flush<W: Sink>(w: &mut W) -> Result<(), RunFault>
     }
 }
 
-/// Tells the events of `r` one after another, each as soon as it is certain; at the end `w`, then
-/// `e` is flushed.
-///
-/// # Errors
-///
-/// The faults of [`Finder::next`], of [`EventWriter::write_event`], and [`RunFault::Write`] where a
-/// flush failed.
+/// Writes the events of `r`, each as soon as it is certain; at the end `w`, then `e` is flushed.
 // rule: output-in-order, fault-line-not-written, input-not-read, reader-gone
 pub fn run_events<T: EventWriter, R: Source, W: Sink, E: Sink>(
     alloc: Global,

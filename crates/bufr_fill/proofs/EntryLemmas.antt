@@ -6,12 +6,21 @@ use Rattle.std.proofs.Math.Seq.{drop-cons, drop-append_seam}
 use Rattle.std.proofs.lemmas.List.{append_assoc, map-append, take_all, drop_all}
 use Rattle.std.proofs.lemmas.Option.{none-some, slice_get-get_or, slice_get_within, get_or_from_slice_get}
 use Rattle.std.proofs.lemmas.Bool.Decides.{nat_tests}
-use Rattle.bufr_fill.specs.Prelude.{Draft, DraftEntry, Holds, Ends, Subset, subset, prepend_to_subset, subsets_of, DraftFaultKind, FaultAt, at_line, item_too_many, RowCell, cells_at, at_line_if_fault, begin_of, entry_or_end, cell_entry, ends_of, entry_line, entry_here, is_end, entry_by, entry_with, entry_stored, entries_stored, IsPlaced, IsEntryInside, AreInside, line_at, PlainOutModel, plain_out_model, IsFilled, IsFaultOf, IfDraftFault, after_end, FieldContent, content_of, content_drawn}
-use Rattle.bufr_fill.specs.declared.draft.EntryKind.{EntryKind}
+use Rattle.bufr_fill.specs.Prelude.{EntryKind, Taken, Draft, DraftEntry, Holds, Ends, Subset, subset, prepend_to_subset, subsets_of, DraftFaultKind, FaultAt, at_line, item_too_many, RowCell, cells_at, at_line_if_fault, entry_or_end, cell_entry, ends_of, entry_here, is_end, entry_by, entry_with, entry_stored, entries_stored, IsPlaced, IsEntryInside, AreInside, line_at, PlainOutModel, plain_out_model, IsFilled, IsFaultOf, IfDraftFault, after_end, FieldContent, content_of, content_drawn}
 use Rattle.bufr_fill.specs.declared.draft.StoredEntry.{StoredEntry}
-use Rattle.bufr_walk.specs.declared.spec.Taken.{Taken}
 use Rattle.bufr_walk.specs.Prelude.{FieldSpec, Content, answer_of, bits_for}
 use Rattle.bufr_fill.specs.declared.draft.EntryKind.TheVariants as kind
+
+-- the index where a subset's entries begin, by the indices of the ends
+abbrev pub begin_of : (from : ℕ) → List ℕ → (subset : ℕ) → ℕ
+begin_of from ends zero = from
+begin_of from [] (suc subset) = from
+begin_of from (e ∷ ends) (suc subset) = begin_of (suc e) ends subset
+
+-- the line of an entry
+abbrev pub entry_line : DraftEntry → ℕ
+entry_line (Holds d) = d.line
+entry_line (Ends line) = line
 
 -- the first subset among entries
 pub record Cut (from : ℕ) (xs : List DraftEntry) (e : ℕ) (rest : List ℕ) : Type 0 where
@@ -74,9 +83,6 @@ slice_get-drop (suc n) [] k = refl
 slice_get-drop (suc n) (x ∷ xs) k = let e : suc n + k ≡ suc (n + k) = omega arith in slice_get-drop n xs k ∙ ap (slice_get (x ∷ xs)) (sym e)
 
 -- the index where a subset begins
-pub begin_none : (ends : List ℕ) → begin_of 0 ends 0 ≡ 0
-begin_none ends = refl
-
 begin_after : (from : ℕ) (ends : List ℕ) (s : ℕ) (d : ℕ) → s < length ends → begin_of from ends (suc s) ≡ suc (get_or ends s d)
 begin_after from [] s d h = absurd (omega (arith, h))
 begin_after from (e ∷ ends) zero d h = refl

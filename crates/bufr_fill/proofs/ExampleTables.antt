@@ -1,11 +1,10 @@
 -- The table of the worked examples, the drafts of some texts, and their bits.
 use Rattle.std.proofs.Common.{ℕ, zero, suc, ◌+◌, ◌*◌, Bool, List, [], ◌∷◌, Result, Ok, ℤ, pos, negsuc, take}
 use Rattle.bufr_bits.specs.Prelude.{bits_of}
-use Rattle.bufr_tables.specs.declared.table_b.Kind.{Kind}
 use Rattle.bufr_tables.specs.declared.table_b.Kind.TheVariants as kind
 use Rattle.bufr_tables.specs.Prelude.{Row, Tree, bare, element, operator, delayed}
 use Rattle.bufr_walk.specs.Prelude.{next_item}
-use Rattle.bufr_fill.specs.Prelude.{Draft, draft, number_token, Subset, FaultAt, plain_data, packed_data}
+use Rattle.bufr_fill.specs.Prelude.{Kind, Draft, draft, number_token, Subset, FaultAt, plain_data, packed_data}
 
 -- the descriptor of F, X and Y
 unfoldable pub fxy : (f x y : ℕ) → ℕ

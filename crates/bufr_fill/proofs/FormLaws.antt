@@ -4,12 +4,10 @@ use Rattle.std.proofs.Common.{◌≡◌, ℕ, ◌+◌, ◌*◌, ◌≤◌, Bool,
 use Rattle.std.specs.List.{AllByRecursion, AllZip}
 use Rattle.std.proofs.lemmas.Bool.{le-ltb}
 use Rattle.bufr_walk.specs.Prelude.{FieldSpec, IsSpec, Content, found, bits_for, answer_by_role, answer_of, FieldFault, plain_field, missing, data_end, increment, unequal_factor, packed_field, answer_first, max_values, Item, packed, plain, after, ReadsPass, ReadsSubsets, IsPackedReading, content_at, Course, take_next, at_end}
-use Rattle.bufr_fill.specs.Prelude.{packing, same, are_same, packed_bits, packed_unlike, written_item, fill, fill_one, fill_none, filled, with_bits_before, plain_filler, RowCell, ItemRow, at_line_if_fault, content_here, contents_here, packed_to, pack_across, packed_filler, first_line, ◌>>=◌, plain_data, item_row, cells_at, rows, longest, packing_fault, are_many, packed_data, Fits, AllFit, subsets_from, IsWrittenApart, IsDumped, AreDrafts, AreDumped, AreDumpedFrom, items_of_subset, IsUnlike, IsTogetherOrNot, Draft, Subset, at_line, too_many_values, FaultAt, content_of}
+use Rattle.bufr_fill.specs.Prelude.{Taken, Role, packing, same, are_same, packed_bits, packed_unlike, written_item, fill, fill_one, fill_none, filled, with_bits_before, plain_filler, RowCell, ItemRow, at_line_if_fault, content_here, contents_here, packed_to, pack_across, packed_filler, first_line, ◌>>=◌, plain_data, item_row, cells_at, rows, longest, packing_fault, are_many, packed_data, Fits, AllFit, subsets_from, IsWrittenApart, IsDumped, AreDrafts, AreDumped, AreDumpedFrom, items_of_subset, IsUnlike, IsTogetherOrNot, Draft, Subset, at_line, too_many_values, FaultAt, content_of}
 use Rattle.bufr_fill.proofs.PlainLaws.{IsCellOf, AreCellsOf, IsDumpedAcross, IsRewritten, draft_again, same_draft, AllSpecs, plain_again, EachSpecs, width_least, plain_read}
 use Rattle.bufr_fill.proofs.PackedLaws.{packed_again, packed_count, fitting_again}
 use Rattle.bufr_bits.proofs.DecimalLemmas.{and_first, and_second}
-use Rattle.bufr_walk.specs.declared.spec.Role.{Role}
-use Rattle.bufr_walk.specs.declared.spec.Taken.{Taken}
 use Rattle.bufr_fill.proofs.LeastLemmas.{content_same}
 use Rattle.bufr_walk.specs.declared.spec.Role.TheVariants as role
 
@@ -509,7 +507,7 @@ together course (items ∷ subsets) (s ∷ ss) bits suffix few specs dumped r = 
     data_are = ap (λ k. fill (packed_filler s.end_line many) course (rows k 0 (s ∷ ss))) at.1
 
     by : Either (suc (length subsets)) course (items ∷ subsets) (rows (longest_left (items ∷ subsets)) 0 (s ∷ ss)) s.end_line many → IsTogetherOrNot course (items ∷ subsets) (s ∷ ss)
-    by (inr x) = inr (record { why = x.why; is = data_are ∙ x.is; unlike = x.unlike })
+    by (inr x) = inr (x.why, data_are ∙ x.is, x.unlike)
     by (inl x) = inl (record {
       items = x.items;
       same = parts_subsets 0 x.items (items ∷ subsets) x.parts;

@@ -3,12 +3,9 @@ use Rattle.std.proofs.Common.{◌≡◌, ℕ, ◌-◌, ◌^◌, ◌≤◌, Bool,
 use Rattle.bufr_fill.proofs.PackedBack.{AreOctets-append, AreOctets-spaces}
 use Rattle.bufr_fill.proofs.FieldLemmas.{same_ok}
 use Rattle.std.proofs.lemmas.Bool.{ltb-false, ltb-true}
-use Rattle.bufr_tables.specs.declared.table_b.Kind.{Kind}
 use Rattle.bufr_tables.specs.Prelude.{Row, is_character, Tree, IsLegal}
-use Rattle.bufr_walk.specs.declared.spec.Role.{Role}
-use Rattle.bufr_walk.specs.declared.spec.Taken.{Taken}
 use Rattle.bufr_walk.specs.Prelude.{FieldSpec, IsSpec, HasWidth, HasRole, is_reference, Content, number, text, missing, reference, answer_by_role, answer_of, found, plain_field, packed_field, answer_first, Course, take_next, next_item, Item, DataCoding, plain, packed, ReadsItems, ReadsSubsets, item_answer, after}
-use Rattle.bufr_fill.specs.Prelude.{FitsRole, AreOctets, FitsNumber, FitsText, FitsReference, FitsKind, Fits, HasOctets, DraftValue, number_token, text_form, missing_form, reference_token, Draft, wrong_number, out_of_range, text_long, missing_forbidden, is_marked, raw_within, raw_of, reference_of, text_within, missing_of, content_by_form, is_of, wrong_for, content_of, raw_limit}
+use Rattle.bufr_fill.specs.Prelude.{Taken, Role, Kind, FitsRole, AreOctets, FitsNumber, FitsText, FitsReference, FitsKind, Fits, HasOctets, DraftValue, number_token, text_form, missing_form, reference_token, Draft, wrong_number, out_of_range, text_long, missing_forbidden, is_marked, raw_within, raw_of, reference_of, text_within, missing_of, content_by_form, is_of, wrong_for, content_of, raw_limit}
 use Rattle.bufr_fill.proofs.SpecLemmas.{AreGoodRows, IsWithin, AreWithin, next_good}
 use Rattle.bufr_fill.proofs.PlainLaws.{AllSpecs, EachSpecs, plain_read}
 use Rattle.bufr_fill.proofs.PackedLaws.{packed_again}

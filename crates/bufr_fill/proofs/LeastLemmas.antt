@@ -1,14 +1,13 @@
 -- The least base and the least k of numbers and of texts.
 use Rattle.std.proofs.lemmas.Grind.{common_steps}
-use Rattle.std.proofs.Common.{◌≡◌, ℕ, zero, suc, ◌+◌, ◌<◌, ◌≤◌, ◌≢◌, ◌&&◌, min, Bool, true, false, List, [], ◌∷◌, map, Option, Some, None, refl, sym, ◌∙◌, ap, arith, ℤ, pos, negsuc, nat_abs, ◌-◌, ◌^◌, max, ◌++◌, length, Ok, pow_mono, append_assoc, subst, ◌/◌, not, take, replicate, Err, ◌==◌, if◌then◌else◌, nat_lt, unwrap_or, nat_le}
+use Rattle.std.proofs.Common.{◌≡◌, ℕ, zero, suc, ◌+◌, ◌<◌, ◌≤◌, ◌≢◌, ◌&&◌, min, Bool, true, false, List, [], ◌∷◌, Option, Some, None, refl, sym, ◌∙◌, ap, arith, ℤ, pos, negsuc, nat_abs, ◌-◌, ◌^◌, max, ◌++◌, length, Ok, pow_mono, append_assoc, subst, ◌/◌, not, take, replicate, Err, ◌==◌, if◌then◌else◌, nat_lt, unwrap_or, nat_le}
 use Rattle.std.proofs.lemmas.Bool.{false≢true, eqb-true, le-leb, le-ltb, leb-false, leb-true, lt-leb, lt-ltb, ltb-false, ltb-true, eq-eqb}
 use Rattle.bufr_bits.proofs.DecimalLemmas.{and_first, and_second}
 use Rattle.bufr_walk.specs.Prelude.{Content, number, text, missing, reference, sign_bit, increment, FieldSpec, is_reference}
-use Rattle.bufr_fill.specs.Prelude.{raw_limit, spaced, HasRoom, content_drawn, same_octets, same_sign, same, are_same, smaller, lowest, first_from, has_bits, least_k, increment_bits, packed_bits, numbers_over, packed_by, gives_again, has_octets, octet_bits, packed_texts, FitsNumber, FieldContent, AllDrawn, contents_drawn, spread, least_from, AreShort, trimmed, need, most_need, over_of, number_or, least_number}
+use Rattle.bufr_fill.specs.Prelude.{Kind, raw_limit, spaced, content_drawn, same_octets, same_sign, same, are_same, smaller, lowest, first_from, has_bits, least_k, increment_bits, packed_bits, numbers_over, packed_by, gives_again, has_octets, octet_bits, packed_texts, FitsNumber, FieldContent, AllDrawn, contents_drawn, spread, least_from, AreShort, trimmed, need, most_need, over_of, number_or, least_number}
 use Rattle.std.specs.List.{list_all, flat_map, AllByRecursion}
 use Rattle.std.proofs.lemmas.List.{length-append}
 use Rattle.bufr_bits.specs.Prelude.{bits_in}
-use Rattle.bufr_tables.specs.declared.table_b.Kind.{Kind}
 use Rattle.bufr_tables.specs.Prelude.{is_character}
 use Rattle.bufr_tables.specs.declared.table_b.Kind.TheVariants as kind
 use Rattle.bufr_fill.specs.declared.field_value.FieldContent.TheVariants as drawn
@@ -84,9 +83,9 @@ content_self (reference (pos a)) = eq-eqb a a refl
 content_self (reference (negsuc a)) = eq-eqb (suc a) (suc a) refl
 
 -- contents that are all one content are the same
-pub are_same_copies : {X : Type 0} (c : Content) (is : List X) → are_same c (map (λ i. c) is) ≡ true
-are_same_copies c [] = refl
-are_same_copies c (i ∷ is) = ap (λ b. b && are_same c (map (λ i. c) is)) (content_self c) ∙ are_same_copies c is
+pub are_same_copies : (c : Content) (n : ℕ) → are_same c (replicate n c) ≡ true
+are_same_copies c zero = refl
+are_same_copies c (suc n) = ap (λ b. b && are_same c (replicate n c)) (content_self c) ∙ are_same_copies c n
 
 -- no number is below this one
 abbrev pub IsOver : ℕ → Content → Type 0
@@ -375,7 +374,7 @@ take_all (o ∷ os) zero h = absurd (omega (arith, h))
 take_all (o ∷ os) (suc n) h = ap (λ xs. o ∷ xs) (take_all os n (omega (arith, h)))
 
 -- the field has the octets that determine a text
-need_room : (count : ℕ) (os : List ℕ) → HasRoom count os → need os ≤ count
+need_room : (count : ℕ) (os : List ℕ) → (length os ≤ count) × (list_all (λ octet. octet == 255) (spaced count os) ≡ false) → need os ≤ count
 need_room count os h = by (full (take (trimmed os) os)) refl
   where
     none : trimmed os ≡ count → full (take (trimmed os) os) ≡ true → ⊥

@@ -1,6 +1,5 @@
 -- The bits of a packed item read as its contents.
-use Rattle.std.proofs.lemmas.Grind.{common_steps}
-use Rattle.std.proofs.Common.{◌≡◌, ℕ, zero, suc, ◌+◌, ◌-◌, ◌*◌, ◌^◌, ◌<◌, ◌≤◌, ◌≢◌, ◌&&◌, eqb, Bool, true, false, not, List, [], ◌∷◌, ◌++◌, length, take, drop, map, replicate, Result, Ok, Err, refl, sym, ◌∙◌, ap, arith, append_assoc, subst, pow_mono, ◌==◌, nat_lt, if◌then◌else◌}
+use Rattle.std.proofs.Common.{◌≡◌, ℕ, zero, suc, ◌+◌, ◌-◌, ◌*◌, ◌^◌, ◌<◌, ◌≤◌, ◌≢◌, ◌&&◌, ◌||◌, eqb, Bool, true, false, not, List, [], ◌∷◌, ◌++◌, length, take, drop, map, replicate, refl, sym, ◌∙◌, ap, arith, append_assoc, subst, pow_mono, ◌==◌, nat_lt, if◌then◌else◌}
 use Rattle.std.proofs.lemmas.Bool.{le-ltb, lt-ltb, ltb-false, ltb-true, ne_eqb, eq-eqb}
 use Rattle.std.specs.List.{list_all, flat_map, AllByRecursion}
 use Rattle.std.proofs.lemmas.List.{take_at, drop_at, length-append, length-replicate, length-take-le, length-drop}
@@ -8,7 +7,7 @@ use Rattle.std.proofs.lemmas.Bool.Decides.{nat_tests}
 use Rattle.bufr_bits.specs.Prelude.{bits_of, bits_in, number_of, are_all_ones}
 use Rattle.bufr_bits.proofs.BitLemmas.{length-bits_of, length-bits_in, number_of-below, list_all-append}
 use Rattle.bufr_bits.proofs.DecimalLemmas.{and_first, and_second}
-use Rattle.bufr_walk.specs.Prelude.{Content, number, text, missing, reference, octets_in, FieldFault, increment, ones, and_contents, increased, increments, all_increased, padded_text}
+use Rattle.bufr_walk.specs.Prelude.{Content, number, text, missing, reference, octets_in, ones, stays_within, increased_to, increments, padded_text}
 use Rattle.bufr_fill.specs.Prelude.{raw_limit, same_octets, has_bits, has_octets, increment_bits, octet_bits, AreOctets, FitsNumber, FitsText}
 use Rattle.bufr_fill.proofs.FieldLemmas.{number_again, ones_test, ones_set, octets_again, full_test, length-octets_in, octets_in-are, octet_bits_again, top_below}
 use Rattle.bufr_fill.proofs.LeastLemmas.{AreNumbers, IsOver, AreOver, octets_same, octets_self}
@@ -37,48 +36,46 @@ not_both : (m : Bool) (a b : ℕ) → (m ≡ true → a ≢ b) → (m && (a == b
 not_both true a b h = ne_eqb a b (h refl)
 not_both false a b h = refl
 
-by_tests : (a b c : Bool) (x y : Content) → a ≡ false → b ≡ false → c ≡ false → x ≡ y → ◌≡◌ {A = Result Content FieldFault} (if a then Ok missing else if b then Err increment else if c then Ok missing else Ok x) (Ok y)
-by_tests a b c x y p q r e = grind (arith, common_steps)
+-- an increment that is valid, and what it gives
+abbrev Gives : Bool → (w base k i : ℕ) → Content → Type 0
+Gives m w base k i c = (stays_within m w base k i ≡ true) × (increased_to m w base k i ≡ c)
 
 top_ones : (m : Bool) (k v : ℕ) → v < raw_limit m k → m ≡ true → v < ones k
 top_ones true k v h e = h
 top_ones false k v h e = absurd cc
 
 module _ (m : Bool) (w base k : ℕ) where
-  number_increased : (n : ℕ) → base ≤ n → n < raw_limit m w → n - base < raw_limit m k → increased m w base k (number_of (bits_in (n - base) k)) ≡ Ok (number n)
+  number_increased : (n : ℕ) → base ≤ n → n < raw_limit m w → n - base < raw_limit m k → Gives m w base k (number_of (bits_in (n - base) k)) (number n)
   number_increased n increment_over fits short =
       let i : number_of (bits_in (n - base) k) ≡ n - base = number_again (n - base) k (top_below m k (n - base) short) in
       let e : base + (n - base) ≡ n = omega arith in
-      ap (increased m w base k) i
-      ∙ by_tests (m && (n - base == ones k)) (nat_lt (ones w) (base + (n - base))) (m && (base + (n - base) == ones w)) (number (base + (n - base))) (number n)
-      (not_both m (n - base) (ones k) (λ t. let s = top_ones m k (n - base) short t in λ q. omega (arith, s, q)))
-      (le-ltb (ones w) (base + (n - base)) (let p = top_below m w n fits in omega (arith, p, e)))
-      (not_both m (base + (n - base)) (ones w) (λ t. let s = top_ones m w n fits t in λ q. omega (arith, s, q, e)))
-      (ap number e)
+      let last = not_both m (n - base) (ones k) (λ t. let s = top_ones m k (n - base) short t in λ q. omega (arith, s, q)) in
+      let past = le-ltb (ones w) n (let p = top_below m w n fits in omega (arith, p)) in
+      let whole = not_both m n (ones w) (λ t. let s = top_ones m w n fits t in λ q. omega (arith, s, q)) in
+      (rw (i, last, e, past) refl, rw (i, last, e, whole) refl)
 
   ones_number : number_of (replicate k true) ≡ ones k
   ones_number =
       let t : eqb (number_of (replicate k true)) (2 ^ k - 1) ≡ true = ones_test (replicate k true) k (length-replicate k true) ∙ ones_set k in
       grind (arith, nat_tests)
 
-  missing_increased : m ≡ true → increased m w base k (number_of (replicate k true)) ≡ Ok missing
-  missing_increased e =
-      ap (increased m w base k) ones_number
-      ∙ ap (λ b. if b && (ones k == ones k) then Ok missing else if nat_lt (ones w) (base + ones k) then Err increment else if m && (base + ones k == ones w) then Ok missing else Ok (number (base + ones k))) e
-      ∙ ap (λ b. if b then Ok missing else if nat_lt (ones w) (base + ones k) then Err increment else if m && (base + ones k == ones w) then Ok missing else Ok (number (base + ones k))) (eq-eqb (ones k) (ones k) refl)
+  missing_increased : m ≡ true → Gives m w base k (number_of (replicate k true)) missing
+  missing_increased e = let same = eq-eqb (ones k) (ones k) refl in (rw (ones_number, e, same) refl, rw (ones_number, e, same) refl)
 
-  one_increased : (c : Content) → FitsNumber m w c → IsOver base c → has_bits m base k c ≡ true → increased m w base k (number_of (increment_bits base k c)) ≡ Ok c
+  one_increased : (c : Content) → FitsNumber m w c → IsOver base c → has_bits m base k c ≡ true → Gives m w base k (number_of (increment_bits base k c)) c
   one_increased (number n) h o p = number_increased n o h (ltb-true (n - base) (raw_limit m k) p)
   one_increased (text os) h o p = absurd h
   one_increased missing h o p = missing_increased h
   one_increased (reference v) h o p = absurd h
 
   -- numbers over a base are read again from their increments
-  pub numbers_back : (cs : List Content) → AreNumbers m w cs → AreOver base cs → list_all (has_bits m base k) cs ≡ true → all_increased m w base k (map (increment_bits base k) cs) ≡ Ok cs
-  numbers_back [] h o p = refl
+  pub numbers_back : (cs : List Content) → AreNumbers m w cs → AreOver base cs → list_all (has_bits m base k) cs ≡ true
+      → (list_all (λ i. stays_within m w base k (number_of i)) (map (increment_bits base k) cs) ≡ true) × (map (λ i. increased_to m w base k (number_of i)) (map (increment_bits base k) cs) ≡ cs)
+  numbers_back [] h o p = (refl, refl)
   numbers_back (c ∷ cs) h o p =
-      ap (λ r. and_contents r (all_increased m w base k (map (increment_bits base k) cs))) (one_increased c h.0 o.0 (and_first (has_bits m base k c) (list_all (has_bits m base k) cs) p))
-      ∙ ap (and_contents (Ok c)) (numbers_back cs h.1 o.1 (and_second (has_bits m base k c) (list_all (has_bits m base k) cs) p))
+      let one = one_increased c h.0 o.0 (and_first (has_bits m base k c) (list_all (has_bits m base k) cs) p) in
+      let more = numbers_back cs h.1 o.1 (and_second (has_bits m base k c) (list_all (has_bits m base k) cs) p) in
+      (rw (one.0) more.0, rw (one.1, more.1) refl)
 
   pub increment_length : (c : Content) → length (increment_bits base k c) ≡ k
   increment_length (number n) = length-bits_in (n - base) k
@@ -94,7 +91,7 @@ module _ (m : Bool) (w base k : ℕ) where
 abbrev pub AreTexts : ℕ → List Content → Type 0
 AreTexts count cs = AllByRecursion (λ (c : Content). FitsText count c) cs
 
-not_true : (b : Bool) → not b ≡ true → b ≡ false
+pub not_true : (b : Bool) → not b ≡ true → b ≡ false
 not_true true h = cc
 not_true false h = refl
 
@@ -178,50 +175,34 @@ power_pos w = let p : 2 ^ 0 ≤ 2 ^ w = pow_mono (zero_least w) in omega arith
     zero_least : (w : ℕ) → 0 ≤ w
     zero_least w = omega arith
 
-read_by_tests : (m a b c : Bool) (w base k i : ℕ) (x : Content) → i < 2 ^ k → (m && (i == ones k)) ≡ a → nat_lt (ones w) (base + i) ≡ b → (m && (base + i == ones w)) ≡ c
-    → (if a then Ok missing else if b then Err increment else if c then Ok missing else Ok (number (base + i))) ≡ Ok x → IsIncreased m w base k x
-read_by_tests m true b c w base k i x small p q r e =
-    let is : missing ≡ x = cc in subst (λ y. IsIncreased m w base k y) is (record { fits = and_first m (i == ones k) p; increment_over = tt; short = tt })
-read_by_tests m false true c w base k i x small p q r e = absurd cc
-read_by_tests m false false true w base k i x small p q r e =
-    let is : missing ≡ x = cc in subst (λ y. IsIncreased m w base k y) is (record { fits = and_first m (base + i == ones w) r; increment_over = tt; short = tt })
-read_by_tests m false false false w base k i x small p q r e =
-    let is : number (base + i) ≡ x = cc in
+read_by_tests : (m a b c : Bool) (w base k i : ℕ) → i < 2 ^ k → (m && (i == ones k)) ≡ a → nat_lt (ones w) (base + i) ≡ b → (m && (base + i == ones w)) ≡ c → (a || not b) ≡ true
+    → IsIncreased m w base k (if a then missing else if c then missing else number (base + i))
+read_by_tests m true b c w base k i small p q r h = record { fits = and_first m (i == ones k) p; increment_over = tt; short = tt }
+read_by_tests m false true c w base k i small p q r h = absurd cc
+read_by_tests m false false true w base k i small p q r h = record { fits = and_first m (base + i == ones w) r; increment_over = tt; short = tt }
+read_by_tests m false false false w base k i small p q r h =
     let most : base + i ≤ ones w = ltb-false (ones w) (base + i) q in
     let pos : 0 < 2 ^ w = power_pos w in
     let back : (base + i) - base ≡ i = omega arith in
-    subst (λ y. IsIncreased m w base k y) is (record {
+    record {
       fits = top_from m w (base + i) (omega arith) (both_not m (base + i) (ones w) r);
       increment_over = omega arith;
       short = subst (λ j. j < raw_limit m k) (sym back) (top_from m k i small (both_not m i (ones k) p));
-    })
-
-one_read : (m : Bool) (w base k i : ℕ) (x : Content) → i < 2 ^ k → increased m w base k i ≡ Ok x → IsIncreased m w base k x
-one_read m w base k i x small e = read_by_tests m (m && (i == ones k)) (nat_lt (ones w) (base + i)) (m && (base + i == ones w)) w base k i x small refl refl refl e
+    }
 
 -- the same of all numbers
-pub record AreIncreased (m : Bool) (w base k total : ℕ) (cs : List Content) : Type 0 where
+pub record AreIncreased (m : Bool) (w base k : ℕ) (cs : List Content) : Type 0 where
   pub fits : AreNumbers m w cs
   pub increment_over : AreOver base cs
   pub short : AreShort m base k cs
-  pub count : length cs ≡ total
 
-more_read : (m : Bool) (w base k n : ℕ) (r : Result Content FieldFault) (rs : Result (List Content) FieldFault) (cs : List Content) → ((x : Content) → r ≡ Ok x → IsIncreased m w base k x) → ((xs : List Content) → rs ≡ Ok xs → AreIncreased m w base k n xs) → and_contents r rs ≡ Ok cs → AreIncreased m w base k (suc n) cs
-more_read m w base k n (Err why) rs cs h g e = absurd cc
-more_read m w base k n (Ok x) (Err why) cs h g e = absurd cc
-more_read m w base k n (Ok x) (Ok xs) cs h g e =
-    let is : x ∷ xs ≡ cs = cc in
-    let a = h x refl in
-    let b = g xs refl in
-    subst (λ ys. AreIncreased m w base k (suc n) ys) is (record { fits = (a.fits, b.fits); increment_over = (a.increment_over, b.increment_over); short = (a.short, b.short); count = ap suc b.count })
-
-pub numbers_read : (m : Bool) (w base k : ℕ) (is : List (List Bool)) (cs : List Content) → AllLong k is → all_increased m w base k is ≡ Ok cs → AreIncreased m w base k (length is) cs
-numbers_read m w base k [] cs long e =
-    let is : [] ≡ cs = cc in subst (λ ys. AreIncreased m w base k 0 ys) is (record { fits = tt; increment_over = tt; short = tt; count = refl })
-numbers_read m w base k (i ∷ is) cs long e =
-    more_read m w base k (length is) (increased m w base k (number_of i)) (all_increased m w base k is) cs
-    (λ x q. one_read m w base k (number_of i) x (subst (λ n. number_of i < 2 ^ n) long.0 (number_of-below i)) q)
-    (λ xs q. numbers_read m w base k is xs long.1 q) e
+pub numbers_read : (m : Bool) (w base k : ℕ) (is : List (List Bool)) → AllLong k is → list_all (λ i. stays_within m w base k (number_of i)) is ≡ true → AreIncreased m w base k (map (λ i. increased_to m w base k (number_of i)) is)
+numbers_read m w base k [] long h = record { fits = tt; increment_over = tt; short = tt }
+numbers_read m w base k (i ∷ is) long h =
+    let v = number_of i in
+    let a = read_by_tests m (m && (v == ones k)) (nat_lt (ones w) (base + v)) (m && (base + v == ones w)) w base k v (subst (λ n. v < 2 ^ n) long.0 (number_of-below i)) refl refl refl (and_first (stays_within m w base k v) (list_all (λ i. stays_within m w base k (number_of i)) is) h) in
+    let b = numbers_read m w base k is long.1 (and_second (stays_within m w base k v) (list_all (λ i. stays_within m w base k (number_of i)) is) h) in
+    record { fits = (a.fits, b.fits); increment_over = (a.increment_over, b.increment_over); short = (a.short, b.short) }
 
 -- over a greater base increments are no longer
 has_over : (m : Bool) (base low k : ℕ) (c : Content) → base ≤ low → IsShort m base k c → has_bits m low k c ≡ true

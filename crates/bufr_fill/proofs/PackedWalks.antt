@@ -2,9 +2,8 @@
 use Rattle.std.proofs.lemmas.Grind.{common_steps}
 use Rattle.std.proofs.Common.{◌≡◌, ℕ, zero, suc, ◌+◌, ◌-◌, ◌<◌, Bool, true, false, List, [], ◌∷◌, ◌++◌, length, Option, Some, None, Result, Ok, Err, refl, sym, ◌∙◌, ap, arith, ◌≤◌, max, slice_get, if◌then◌else◌}
 use Rattle.std.proofs.lemmas.List.{append-nil}
-use Rattle.bufr_walk.specs.declared.spec.Taken.{Taken}
 use Rattle.bufr_walk.specs.Prelude.{FieldSpec, Content, Course, Next, take_next, at_end, astray, refused, TakenField, Takes, course_after, oks, answers_of}
-use Rattle.bufr_fill.specs.Prelude.{Draft, Subset, FaultAt, at_line, too_many_values, item_too_many, walk_refused, WrittenItem, written_item, fill, with_bits_before, Filler, fill_one, fill_none, item_row, cells_at, rows, longest, are_many, content_here, contents_here, packed_to, pack_across, packed_filler, ◌>>=◌, ItemRow, first_there, there_or, line_in, none_across, packed_data, packing, PackedOutModel, IsPacked, PackedFills, rows_left, new_packed_out, and_end, all_at_end, first_line_at, IsFaultHere}
+use Rattle.bufr_fill.specs.Prelude.{Taken, Draft, Subset, FaultAt, at_line, too_many_values, item_too_many, walk_refused, WrittenItem, written_item, fill, with_bits_before, Filler, fill_one, fill_none, item_row, cells_at, rows, longest, are_many, content_here, contents_here, packed_to, pack_across, packed_filler, ◌>>=◌, ItemRow, first_there, line_in, none_across, packed_data, packing, PackedOutModel, IsPacked, PackedFills, rows_left, new_packed_out, and_end, all_at_end, first_line_at, IsFaultHere}
 use Rattle.bufr_fill.proofs.WalkLemmas.{HasFilled, walk_fills, after_answers, unfilled}
 use Rattle.bufr_fill.proofs.EntryLemmas.{length-cells}
 use Rattle.bufr_walk.specs.declared.spec.TurnRefusal.TheVariants as refusal
@@ -85,8 +84,8 @@ ends_before place [] f e = absurd cc e
 ends_before place (s ∷ ss) f e = by (slice_get s.items place) refl e (λ e. ends_before place ss f e)
   where
     by : (o : Option Draft) → slice_get s.items place ≡ o → and_end o (all_at_end (cells_at place ss)) ≡ Err f → (all_at_end (cells_at place ss) ≡ Err f → (place < longest ss) × (f ≡ at_line (first_there (cells_at place ss)) item_too_many)) → (place < longest (s ∷ ss)) × (f ≡ at_line (first_there (cells_at place (s ∷ ss))) item_too_many)
-    by None is e g = let r = g e in (omega (arith, r.0), r.1 ∙ ap (λ o. at_line (there_or o (first_there (cells_at place ss))) item_too_many) (sym is))
-    by (Some d) is e g = let same : at_line d.line item_too_many ≡ f = cc in (omega (arith, some_there s.items place d is), sym same ∙ ap (λ o. at_line (there_or o (first_there (cells_at place ss))) item_too_many) (sym is))
+    by None is e g = let r = g e in (omega (arith, r.0), r.1 ∙ ap (λ o. at_line (line_in o (first_there (cells_at place ss))) item_too_many) (sym is))
+    by (Some d) is e g = let same : at_line d.line item_too_many ≡ f = cc in (omega (arith, some_there s.items place d is), sym same ∙ ap (λ o. at_line (line_in o (first_there (cells_at place ss))) item_too_many) (sym is))
 
 -- ---- the walk
 

@@ -2,7 +2,7 @@
 use Rattle.std.proofs.lemmas.Grind.{common_steps}
 use Rattle.std.proofs.lemmas.Bool.{eqb-true, le-ltb, lt-ltb, eq-eqb}
 use Rattle.bufr_walk.specs.Prelude.{FieldSpec, IsSpec, HasWidth, HasRole, HasMissing, is_reference, Content, found, number, text, missing, reference, content_by, content_in, bits_for, data_end, FieldRead, plain_field, signed_by, said_by, sign_bit, max_values, Item, DataCoding, ReadsItems, ReadsPass, after, plain, Course, Next, take_next, at_end}
-use Rattle.bufr_fill.specs.Prelude.{Draft, DraftValue, number_token, text_form, missing_form, reference_token, wrong_number, out_of_range, text_long, missing_forbidden, draft_value_of, content_of, content_by_form, raw_within, raw_of, reference_of, text_within, missing_of, is_marked, wrong_for, IsMinusZero, is_of, decimal_again, normal_form, raw_limit, plainly, plain_filler, RowCell, ItemRow, written_item, Filler, fill, fill_one, fill_none, filled, with_bits_before, AreDrafts, FitsText, FitsKind, FitsRole, Fits, IsDumped}
+use Rattle.bufr_fill.specs.Prelude.{Role, Kind, Draft, DraftValue, number_token, text_form, missing_form, reference_token, wrong_number, out_of_range, text_long, missing_forbidden, draft_value_of, content_of, content_by_form, raw_within, raw_of, reference_of, text_within, missing_of, is_marked, wrong_for, IsMinusZero, is_of, decimal_again, normal_form, raw_limit, plainly, plain_filler, RowCell, ItemRow, written_item, Filler, fill, fill_one, fill_none, filled, with_bits_before, AreDrafts, FitsText, FitsKind, FitsRole, Fits, IsDumped}
 use Rattle.std.proofs.Common.{Bool, ◌++◌, Ok, refl, sym, ◌∙◌, ap, subst, arith, append_assoc, suc, ◌-◌, ◌/◌, ◌^◌, ◌<◌, ◌&&◌, ltb, true, false, not, replicate, Err, ℤ, pos, negsuc, ◌+ℤ◌, ◌-ℤ◌, nat_abs, pow_mono, take, drop, Result, zero, neg_ℤ, ◌≡◌, ℕ, ◌+◌, ◌*◌, ◌≤◌, List, [], ◌∷◌, length, Option, Some, None, ◌==◌, nat_lt, if◌then◌else◌, unsigned_abs}
 use Rattle.std.proofs.lemmas.List.{length-append, append-nil, take_at, drop_at, length-take-le, length-drop}
 use Rattle.std.specs.List.{list_all, AllByRecursion, AllZip}
@@ -11,9 +11,7 @@ use Rattle.std.proofs.lemmas.Bool.Decides.{nat_tests}
 use lib.Signed.{mag}
 use Rattle.bufr_bits.specs.Prelude.{decimal_text_of, decimal_value_of, bits_in, number_of, are_all_ones}
 use Rattle.bufr_bits.proofs.DecimalLemmas.{reads_back, and_first, and_second}
-use Rattle.bufr_tables.specs.declared.table_b.Kind.{Kind}
 use Rattle.bufr_tables.specs.Prelude.{is_character}
-use Rattle.bufr_walk.specs.declared.spec.Role.{Role}
 use Rattle.bufr_bits.proofs.BitLemmas.{length-bits_in, bits_in-zero}
 use Rattle.bufr_fill.proofs.FieldLemmas.{kind_back, kind_length, kind_fits, signed_back, signed_below, bits_again, octet_bits_again, same_ok}
 use Rattle.bufr_bits.specs.declared.decimal.NumberFault.{NumberFault}

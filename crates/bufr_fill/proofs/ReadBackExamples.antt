@@ -2,12 +2,10 @@
 use Rattle.std.proofs.Common.{◌≡◌, ℕ, ℤ, pos, true, [], ◌∷◌, Err, refl, arith, codes}
 use Rattle.std.specs.Fmt.{digits}
 use Rattle.bufr_bits.specs.Prelude.{decimal_text_of, unsigned_text, decimal_value_of}
-use Rattle.bufr_tables.specs.declared.table_b.Kind.{Kind}
 use Rattle.bufr_tables.specs.declared.table_b.Kind.TheVariants as kind
-use Rattle.bufr_walk.specs.declared.spec.Role.{Role}
 use Rattle.bufr_walk.specs.declared.spec.Role.TheVariants as role
 use Rattle.bufr_walk.specs.Prelude.{FieldSpec, Content, number, text, missing, reference, Item}
-use Rattle.bufr_fill.specs.Prelude.{AllAlike, HasOctets, AllHaveOctets, IsSaid, AreSaid, AreSaidFrom, draft, number_token, text_form, missing_form, reference_token, subset, out_of_range, text_long, content_of, normal_form}
+use Rattle.bufr_fill.specs.Prelude.{Role, Kind, AllAlike, HasOctets, AllHaveOctets, IsSaid, AreSaid, AreSaidFrom, draft, number_token, text_form, missing_form, reference_token, subset, out_of_range, text_long, content_of, normal_form}
 
 -- fields: a number in 7 bits, one of two places in 16, a text of four octets, and a reference in 10
 -- bits

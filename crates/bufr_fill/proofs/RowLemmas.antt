@@ -7,12 +7,27 @@ use Rattle.std.proofs.Math.Nat.{mul-le-mul_right}
 use Rattle.std.proofs.Math.Seq.{drop-cons}
 use Rattle.std.proofs.lemmas.List.{append-nil, take-replicate, length-append}
 use Rattle.bufr_bits.specs.Prelude.{bits_of}
-use Rattle.bufr_fill.specs.Prelude.{FieldContent, content_drawn, IsDrawn, spaced, raw_limit, AllDrawn, contents_drawn, need_of, most_need, FitsIncrement, AreShort, least_from, entry_or_end, cell_entry, entry_here, entry_line, with_contents_before, IsGathering, unlike_from, and_end, all_at_end, IsPutWithin, trimmed, octet_in, same, are_same, first_from, packing, packed_bits, packed_by, packed_unlike, same_octets, RowCell, content_here, contents_here, first_unlike, unlike_line, cell_line, line_in, first_line, ◌>>=◌, item_row, cells_at, packed_to, pack_across, written_item, Draft, DraftEntry, Holds, Ends, Subset, FaultAt, at_line, item_too_many, unequal_factors, uneven_increment, too_many_values, IfDraftFault, is_end}
+use Rattle.bufr_fill.specs.Prelude.{Taken, Role, FieldContent, content_drawn, IsDrawn, spaced, raw_limit, AllDrawn, contents_drawn, need_of, most_need, FitsIncrement, AreShort, least_from, entry_or_end, cell_entry, entry_here, and_end, all_at_end, IsPutWithin, trimmed, octet_in, same, are_same, first_from, packing, packed_bits, packed_by, packed_unlike, same_octets, RowCell, content_here, contents_here, first_unlike, unlike_line, cell_line, line_in, first_line, ◌>>=◌, item_row, cells_at, packed_to, pack_across, written_item, Draft, DraftEntry, Holds, Ends, Subset, FaultAt, at_line, item_too_many, unequal_factors, uneven_increment, too_many_values, IfDraftFault, is_end}
 use Rattle.bufr_walk.specs.Prelude.{FieldSpec, Content, reference, answer_of, bits_for, increment, unequal_factor, answer_first, max_values}
+use Rattle.bufr_fill.proofs.EntryLemmas.{entry_line}
 use Rattle.bufr_fill.proofs.LeastLemmas.{content_same, content_self}
-use Rattle.bufr_walk.specs.declared.spec.Role.{Role}
-use Rattle.bufr_walk.specs.declared.spec.Taken.{Taken}
 use Rattle.bufr_walk.specs.declared.spec.Role.TheVariants as role
+
+-- contents before others, or the fault of these
+abbrev pub with_contents_before : List Content → Result (List Content) FaultAt → Result (List Content) FaultAt
+with_contents_before cs (Ok more) = Ok (cs ++ more)
+with_contents_before cs (Err f) = Err f
+
+-- the first `number` cells were converted
+pub record IsGathering (count : ℕ) (spec : FieldSpec) (cells : List RowCell) (number : ℕ) (drawn : List FieldContent) : Type 0 where
+  pub so : contents_here spec cells ≡ with_contents_before (contents_drawn count drawn) (contents_here spec (drop number cells))
+  pub all : AllDrawn spec drawn
+  pub many : length drawn ≡ number
+
+-- the line of the first cell that is left and whose content is not the first of all
+abbrev pub unlike_from : (all left : List Content) → List RowCell → ℕ
+unlike_from [] left cells = 0
+unlike_from (c ∷ cs) left cells = first_unlike c left cells
 
 -- references that are equal, and those that are not
 pub same_references : (a b : ℤ) → a ≡ b → true ≡ same (reference a) (reference b)
@@ -157,7 +172,7 @@ entry_same : (spec : FieldSpec) (o : Option Draft) (line : ℕ) → entry_here s
 entry_same spec None line = refl
 entry_same spec (Some d) line = refl
 
-line_same : (o : Option Draft) (line : ℕ) → entry_line (entry_or_end o line) ≡ line_in o line
+pub line_same : (o : Option Draft) (line : ℕ) → entry_line (entry_or_end o line) ≡ line_in o line
 line_same None line = refl
 line_same (Some d) line = refl
 
@@ -227,9 +242,9 @@ pub end_done : (cells : List RowCell) (j : ℕ) → length cells ≤ j → all_a
 end_done cells j h inv = inv ∙ ap all_at_end (drop_all cells j h)
 
 -- the first subset's line
-pub first_is : (cells : List RowCell) (e : DraftEntry) (n : ℕ) → 0 < length cells → ((c : RowCell) → slice_get cells 0 ≡ Some c → e ≡ cell_entry c) → n ≡ entry_line e → n ≡ first_line cells
-first_is [] e n h here is = absurd (omega (arith, h))
-first_is (c ∷ cells) e n h here is = is ∙ ap entry_line (here c refl) ∙ line_same c.draft c.end_line
+pub first_is : (cells : List RowCell) (n : ℕ) → 0 < length cells → ((c : RowCell) → slice_get cells 0 ≡ Some c → n ≡ cell_line c) → n ≡ first_line cells
+first_is [] n h here = absurd (omega (arith, h))
+first_is (c ∷ cells) n h here = here c refl
 
 -- the line of the first that differs
 unlike_left : (c : Content) (cs : List Content) (d : Content) (ds : List Content) (k : RowCell) (ks : List RowCell) (b : Bool) → same c d ≡ b → unlike_from (c ∷ cs) (d ∷ ds) (k ∷ ks) ≡ (if b then unlike_from (c ∷ cs) ds ks else cell_line k)
@@ -256,10 +271,10 @@ module _ (count : ℕ) (ds : List FieldContent) (cells : List RowCell) (j : ℕ)
       → unlike_line (contents_drawn count ds) cells ≡ unlike_from (contents_drawn count ds) (contents_drawn count (drop (j + 1) ds)) (drop (j + 1) cells)
   unlike_more e = unlike_next true e (cell_at cells j (omega (arith, within, many)))
 
-  pub unlike_here : same (content_drawn count (get_or ds 0 z)) (content_drawn count (get_or ds j z)) ≡ false → (e : DraftEntry) (n : ℕ) → ((c : RowCell) → slice_get cells j ≡ Some c → e ≡ cell_entry c) → n ≡ entry_line e → n ≡ unlike_line (contents_drawn count ds) cells
-  unlike_here s e n here is =
+  pub unlike_here : same (content_drawn count (get_or ds 0 z)) (content_drawn count (get_or ds j z)) ≡ false → (n : ℕ) → ((c : RowCell) → slice_get cells j ≡ Some c → n ≡ cell_line c) → n ≡ unlike_line (contents_drawn count ds) cells
+  unlike_here s n here =
       let k = cell_at cells j (omega (arith, within, many)) in
-      is ∙ ap entry_line (here k.cell k.is) ∙ line_same k.cell.draft k.cell.end_line ∙ sym (unlike_next false s k)
+      here k.cell k.is ∙ sym (unlike_next false s k)
 
 -- ---- One item of all subsets, as the code writes it.
 

@@ -1,7 +1,6 @@
 -- A walk over the items of one subset writes as the definition does.
-use Rattle.bufr_walk.specs.declared.spec.Taken.{Taken}
 use Rattle.bufr_walk.specs.Prelude.{FieldSpec, bits_for, Course, take_next, Next, at_end, astray, refused, TakenField, Takes, course_after, answers_of, oks}
-use Rattle.bufr_fill.specs.Prelude.{WrittenItem, Filler, fill, fill_one, fill_none, filled, with_bits_before, written_item, plainly, plain_filler, DraftEntry, Holds, Ends, FaultAt, at_line, item_too_many, walk_refused, PlainOutModel, PlainFills, IsFaultOf, IsFaultNext, after_end, line_at, items_left, end_left}
+use Rattle.bufr_fill.specs.Prelude.{Taken, WrittenItem, Filler, fill, fill_one, fill_none, filled, with_bits_before, written_item, plainly, plain_filler, DraftEntry, Holds, Ends, FaultAt, at_line, item_too_many, walk_refused, PlainOutModel, PlainFills, IsFaultOf, IsFaultNext, after_end, line_at, items_left, end_left}
 use Rattle.std.proofs.Common.{Result, refl, sym, ◌∙◌, ap, append_assoc, ℕ, ◌≤◌, length, arith, ◌≡◌, Bool, List, [], ◌∷◌, ◌++◌, Ok, Err}
 use Rattle.std.proofs.lemmas.List.{append-nil}
 use Rattle.bufr_walk.specs.declared.spec.TurnRefusal.TheVariants as refusal

@@ -4,9 +4,10 @@ use Rattle.bufr_fill.proofs.EntryLemmas.{length-cells}
 use Rattle.std.proofs.lemmas.Bool.{le-ltb}
 use Rattle.std.proofs.Math.Nat.{mul-le-mul_right}
 use Rattle.bufr_walk.specs.Prelude.{Content, bits_for, FieldFault, found, plain_field, FieldSpec, IsSpec, packed_field, max_values, Item, plain, packed, ReadsSubsets, ReadsItems, after, IsPackedReading, DataCoding, ReadsPass, content_at, Course, next_item}
-use Rattle.bufr_fill.specs.Prelude.{Draft, Subset, at_line, too_many_values, cells_at, rows, longest, plain_data, packed_filler, are_many, ◌>>=◌, ItemRow, at_line_if_fault, content_here, contents_here, packed_to, pack_across, packed_data, first_line, plain_filler, plainly, written_item, Filler, fill, fill_none, packing, IsDumped, AreDrafts, items_of_subset, AreDumpedFrom, AreDumped, IsWrittenAgain, IsPackedAgain, IsWrittenApart, IsTogetherOrNot, IsSaid, AreSaid, AreSaidFrom, subsets_from, AreAlike, AllAlike, AllHaveOctets, content_of}
+use Rattle.bufr_fill.specs.Prelude.{IsAlike, Draft, Subset, at_line, too_many_values, cells_at, rows, longest, plain_data, packed_filler, are_many, ◌>>=◌, ItemRow, at_line_if_fault, content_here, contents_here, packed_to, pack_across, packed_data, first_line, plain_filler, plainly, written_item, Filler, fill, fill_none, packing, IsDumped, AreDrafts, items_of_subset, AreDumpedFrom, AreDumped, IsWrittenAgain, IsPackedAgain, IsWrittenApart, IsTogetherOrNot, IsSaid, AreSaid, AreSaidFrom, subsets_from, AllAlike, AllHaveOctets, content_of}
 use Rattle.bufr_fill.proofs.PlainLaws.{IsCellOf, AreCellsOf, IsDumpedAcross, HaveContents, AllSpecs, EachSpecs, rewritten, plain_rewritten, join, draft_again, same_draft}
 use Rattle.std.proofs.lemmas.List.{length-append}
+use Rattle.std.specs.List.{AllZip}
 use Rattle.bufr_tables.specs.Prelude.{Row, AreRows, Tree, IsLegal, Record}
 use Rattle.bufr_fill.proofs.SpecLemmas.{AreGoodRows, table_good}
 use Rattle.bufr_fill.proofs.GoodReads.{template_good, plain_specs, packed_specs}
@@ -312,7 +313,7 @@ module _ (records : List Record) (table : List Row) (template : Tree) (rows : Ar
 
 -- ---- Drafts with the same contents are written to the same bits.
 
-items_alike : (items : List (Item Content)) (ds es : List Draft) → AreAlike ds es → AreDrafts IsSaid items ds → AreDrafts IsSaid items es
+items_alike : (items : List (Item Content)) (ds es : List Draft) → AllZip IsAlike ds es → AreDrafts IsSaid items ds → AreDrafts IsSaid items es
 items_alike [] [] [] a h = tt
 items_alike [] [] (e ∷ es) a h = absurd a
 items_alike [] (d ∷ ds) es a h = absurd h

@@ -2,9 +2,9 @@
 -- (A choice of this project)
 -- Cited by public contracts.
 use Rattle.std.specs.Prelude.{ℕ, List, [], ◌∷◌, Bool, true, false, Option, Some, None}
-use Rattle.bufr_walk.specs.declared.spec.TurnRefusal.{TurnRefusal}
+pub use Rattle.bufr_walk.specs.declared.spec.TurnRefusal.{TurnRefusal}
 use Rattle.bufr_fill.specs.declared.fault.Expected.{Expected}
-use Rattle.bufr_fill.specs.declared.fault.DraftFault.{DraftFault}
+pub use Rattle.bufr_fill.specs.declared.fault.DraftFault.{DraftFault}
 use Rattle.bufr_fill.specs.declared.fault.Expected.TheVariants as expected
 use Rattle.bufr_fill.specs.declared.fault.DraftFault.TheVariants as fault
 

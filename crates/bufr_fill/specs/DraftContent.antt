@@ -7,11 +7,10 @@ use Rattle.bufr_bits.specs.Prelude.{decimal_text_of, decimal_value_of}
 use Rattle.bufr_bits.specs.declared.decimal.NumberFault.{NumberFault}
 use Rattle.bufr_bits.specs.declared.decimal.NumberFault.TheVariants.{Syntax, Inexact, Large}
 use Rattle.bufr_tables.specs.Prelude.{is_character}
+pub use Rattle.bufr_walk.specs.declared.spec.Role.{Role}
 use Rattle.bufr_walk.specs.Prelude.{FieldSpec, is_reference, Content, number, text, missing, reference, ones}
-use Rattle.bufr_fill.specs.Draft.{DraftValue, number_token, text_form, missing_form, reference_token, Draft, DraftFaultKind, wrong_descriptor, wrong_number, out_of_range, text_long, missing_forbidden, FaultAt, draft_fault}
-use Rattle.bufr_fill.specs.declared.fault.DraftFault.{DraftFault}
-use Rattle.bufr_fill.specs.declared.field_value.FieldContent.{FieldContent}
-use Rattle.bufr_walk.specs.declared.spec.Role.{Role}
+use Rattle.bufr_fill.specs.Draft.{DraftFault, DraftValue, number_token, text_form, missing_form, reference_token, Draft, DraftFaultKind, wrong_descriptor, wrong_number, out_of_range, text_long, missing_forbidden, FaultAt, draft_fault}
+pub use Rattle.bufr_fill.specs.declared.field_value.FieldContent.{FieldContent}
 use Rattle.bufr_fill.specs.declared.field_value.FieldContent.TheVariants as drawn
 use Rattle.bufr_walk.specs.declared.spec.Role.TheVariants as role
 
@@ -119,27 +118,18 @@ content_drawn count (drawn.Text octets) = text (spaced count octets.now)
 content_drawn count drawn.Missing = missing
 content_drawn count (drawn.Reference value) = reference value
 
--- a text that the field has room for, and that does not read as missing
-abbrev pub HasRoom : (count : ℕ) → List ℕ → Type 0
-HasRoom count octets =
-    (length octets ≤ count) × (list_all (λ octet. octet == 255) (spaced count octets) ≡ false)
-
--- the contents that a field can have
+-- the contents that a field can have; it has room for a text, which does not read as missing
 abbrev pub IsDrawn : FieldSpec → FieldContent → Type 0
 IsDrawn spec (drawn.Number raw) =
     (is_character spec.kind ≡ false) × (is_reference spec.role ≡ false)
     × (raw < raw_limit spec.may_be_missing spec.width)
 IsDrawn spec (drawn.Text octets) =
     (is_character spec.kind ≡ true) × (is_reference spec.role ≡ false)
-    × HasRoom (spec.width / 8) octets.now
+    × ((length octets.now ≤ spec.width / 8)
+    × (list_all (λ octet. octet == 255) (spaced (spec.width / 8) octets.now) ≡ false))
 IsDrawn spec drawn.Missing = (is_reference spec.role ≡ false) × (spec.may_be_missing ≡ true)
 IsDrawn spec (drawn.Reference value) =
     (is_reference spec.role ≡ true) × (unsigned_abs value < 2 ^ (spec.width - 1))
-
--- a content that is this text, for a field of `count` octets
-abbrev pub IsTextOf : (count : ℕ) → List ℕ → FieldContent → Type 0
-IsTextOf count octets (drawn.Text t) = (t.now ≡ octets) × HasRoom count octets
-IsTextOf count octets _ = ⊥
 
 -- minus zero: the sign bit alone; none is written (a choice of this project)
 abbrev pub IsMinusZero : Role → List Bool → Type 0

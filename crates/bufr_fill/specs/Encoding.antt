@@ -3,17 +3,15 @@
 -- section 4; the order of the faults and the least k are choices of this project)
 -- Cited by public contracts.
 use Rattle.std.specs.Prelude.{Bool, List, [], ◌∷◌, ◌++◌, Result, Ok, Err, ℕ, zero, suc, ◌+◌, ◌-◌, ◌*◌, ◌==◌, ◌&&◌, nat_lt, nat_le, min, not, true, false, if◌then◌else◌, take, replicate, length, Option, Some, None, unwrap_or, nat_abs, ◌≡◌, ◌≤◌, drop, max, slice_get}
-use Rattle.bufr_walk.specs.declared.spec.TurnRefusal.{TurnRefusal}
-use Rattle.bufr_walk.specs.declared.spec.Taken.{Taken}
+pub use Rattle.bufr_walk.specs.declared.spec.Taken.{Taken}
 use Rattle.bufr_walk.specs.Prelude.{FieldSpec, Content, number, text, missing, reference, bits_for, sign_bit, FieldFault, increment, unequal_factor, found, answer_of, packed_field, answer_first, Course, Next, take_next, at_end, astray, refused, max_values}
 use Rattle.std.specs.List.{list_all, flat_map}
 use Rattle.bufr_bits.specs.Prelude.{bits_of, bits_in, number_of}
-use Rattle.bufr_tables.specs.declared.table_b.Kind.{Kind}
-use Rattle.bufr_walk.specs.declared.spec.Role.{Role}
+pub use Rattle.bufr_tables.specs.declared.table_b.Kind.{Kind}
 use Rattle.bufr_tables.specs.declared.table_b.Kind.TheVariants as kind
 use Rattle.bufr_walk.specs.declared.spec.Role.TheVariants as role
-use Rattle.bufr_fill.specs.Draft.{Draft, Subset, DraftFaultKind, FaultAt, at_line, unequal_factors, uneven_increment, item_too_many, walk_refused, too_many_values, no_count}
-use Rattle.bufr_fill.specs.DraftContent.{content_of, wrong_for, raw_limit}
+use Rattle.bufr_fill.specs.Draft.{TurnRefusal, Draft, Subset, DraftFaultKind, FaultAt, at_line, unequal_factors, uneven_increment, item_too_many, walk_refused, too_many_values, no_count}
+use Rattle.bufr_fill.specs.DraftContent.{Role, content_of, wrong_for, raw_limit}
 
 -- an item that was written: its content and its bits
 pub record WrittenItem (C : Type 0) : Type 0 where
@@ -144,14 +142,11 @@ octet_bits k _ = replicate (8 * k) true
 abbrev pub packed_bits : (base : List Bool) (k : ℕ) (more : List Bool) → List Bool
 packed_bits base k more = base ++ (bits_in k 6 ++ more)
 
--- numbers that differ, over the least of them
-abbrev pub packed_numbers : (width base k : ℕ) → List Content → List Bool
-packed_numbers width base k cs =
-    packed_bits (bits_in base width) k (flat_map (increment_bits base k) cs)
-
 -- numbers that differ, over a base, with the least k
 abbrev pub numbers_over : (m : Bool) (width base : ℕ) → List Content → List Bool
-numbers_over m width base cs = packed_numbers width base (least_k (has_bits m base) cs) cs
+numbers_over m width base cs =
+    let k = least_k (has_bits m base) cs in
+    packed_bits (bits_in base width) k (flat_map (increment_bits base k) cs)
 
 -- texts that differ: the base is zero bits
 -- rule: packs-texts, fault-59
@@ -239,7 +234,7 @@ pub record ItemRow : Type 0 where
   pub place : ℕ
   pub cells : List RowCell
 
--- the line of an item, or else the line that ends the subset
+-- the line of an item, or else another
 abbrev pub line_in : Option Draft → ℕ → ℕ
 line_in None end_line = end_line
 line_in (Some d) end_line = d.line
@@ -273,15 +268,10 @@ abbrev pub first_line : List RowCell → ℕ
 first_line [] = 0
 first_line (c ∷ cs) = cell_line c
 
--- the line of an item, or else this one
-abbrev pub there_or : Option Draft → ℕ → ℕ
-there_or None other = other
-there_or (Some d) other = d.line
-
 -- the line of the first item of a row, 0 where there is none
 abbrev pub first_there : List RowCell → ℕ
 first_there [] = 0
-first_there (c ∷ cs) = there_or c.draft (first_there cs)
+first_there (c ∷ cs) = line_in c.draft (first_there cs)
 
 -- a content, or its fault with the line
 abbrev pub at_line_if_fault : ℕ → Result Content DraftFaultKind → Result Content FaultAt

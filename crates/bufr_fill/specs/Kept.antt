@@ -7,22 +7,17 @@ use Rattle.bufr_bits.specs.Prelude.{short_text}
 use Rattle.bufr_fill.specs.Draft.{DraftValue, draft, number_token, text_form, missing_form, reference_token, DraftEntry, Holds, Ends, Draft}
 use Rattle.bufr_walk.specs.Prelude.{FieldSpec}
 use Rattle.bufr_fill.specs.DraftContent.{is_of}
-use Rattle.bufr_fill.specs.declared.draft.EntryKind.{EntryKind}
+pub use Rattle.bufr_fill.specs.declared.draft.EntryKind.{EntryKind}
 use Rattle.bufr_fill.specs.declared.draft.EntryKind.TheVariants as kind
 use Rattle.bufr_fill.specs.declared.draft.StoredEntry.{StoredEntry}
 use Rattle.bufr_fill.specs.declared.draft.DraftValue as given
 use Rattle.bufr_fill.specs.declared.draft.DraftValue.TheVariants as form
 use Rattle.bufr_fill.specs.declared.draft.DraftItem.{DraftItem}
 
--- the text of a short decimal
-abbrev pub decimal_of : (digits places : ℕ) → (negative : Bool) → List ℕ
-decimal_of digits places negative = short_text
-    (record { digits = digits; places = places; negative = negative })
-
 -- the value of a kind with digits or octets; the end of a subset has none
 abbrev pub value_by : EntryKind → (digits : ℕ) → List ℕ → DraftValue
 value_by (kind.Decimal places negative) digits octets = number_token
-    (decimal_of digits places negative)
+    (short_text (record { digits = digits; places = places; negative = negative }))
 value_by kind.Number digits octets = number_token octets
 value_by kind.Text digits octets = text_form octets
 value_by kind.Missing digits octets = missing_form
@@ -31,13 +26,8 @@ value_by kind.End digits octets = missing_form
 
 -- the entry of a line with a descriptor, and digits or octets
 abbrev pub entry_by : EntryKind → (line fxy digits : ℕ) → List ℕ → DraftEntry
-entry_by (kind.Decimal places negative) line fxy digits octets = Holds
-    (draft line fxy (number_token (decimal_of digits places negative)))
-entry_by kind.Number line fxy digits octets = Holds (draft line fxy (number_token octets))
-entry_by kind.Text line fxy digits octets = Holds (draft line fxy (text_form octets))
-entry_by kind.Missing line fxy digits octets = Holds (draft line fxy missing_form)
-entry_by kind.Reference line fxy digits octets = Holds (draft line fxy (reference_token octets))
 entry_by kind.End line fxy digits octets = Ends line
+entry_by k line fxy digits octets = Holds (draft line fxy (value_by k digits octets))
 
 -- the entry of a stored one with these octets
 abbrev pub entry_with : StoredEntry → List ℕ → DraftEntry
@@ -64,11 +54,7 @@ is_entry_of spec (Ends line) = false
 -- the octets of an entry, if it has any, are in order and inside the block
 abbrev pub IsPlaced : EntryKind → (size start end : ℕ) → Type 0
 IsPlaced (kind.Decimal places negative) size start end = Unit {0}
-IsPlaced kind.Number size start end = (start ≤ end) × (end ≤ size)
-IsPlaced kind.Text size start end = (start ≤ end) × (end ≤ size)
-IsPlaced kind.Missing size start end = (start ≤ end) × (end ≤ size)
-IsPlaced kind.Reference size start end = (start ≤ end) × (end ≤ size)
-IsPlaced kind.End size start end = (start ≤ end) × (end ≤ size)
+IsPlaced _ size start end = (start ≤ end) × (end ≤ size)
 
 -- the octets of a stored entry are inside a block of this size
 abbrev pub IsEntryInside : ℕ → StoredEntry → Type 0

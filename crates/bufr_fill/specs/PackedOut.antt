@@ -1,16 +1,15 @@
 -- The writer of compressed data: the rows of all subsets, and the k that it finds.
 -- (A choice of this project)
 -- Cited by public contracts.
-use Rattle.std.specs.Prelude.{ℕ, ◌≡◌, ◌≤◌, ◌<◌, ◌+◌, ◌-◌, ◌*◌, ◌^◌, Bool, List, [], ◌∷◌, ◌++◌, length, Option, Some, None, Result, Ok, Err, zero, suc, ◌==◌, ◌&&◌, nat_lt, max, min, if◌then◌else◌, take, drop, slice_get}
-use Rattle.bufr_walk.specs.declared.spec.Taken.{Taken}
+use Rattle.std.specs.Prelude.{ℕ, ◌≡◌, ◌≤◌, ◌<◌, ◌+◌, ◌-◌, ◌*◌, ◌^◌, Bool, List, [], ◌∷◌, ◌++◌, length, Option, Some, None, Result, Ok, Err, zero, suc, ◌==◌, ◌&&◌, nat_lt, max, min, if◌then◌else◌, take}
 use Rattle.bufr_fill.specs.declared.fault.DraftFault.{DraftFault}
+use Rattle.bufr_walk.specs.declared.spec.Taken.{Taken}
 use Rattle.bufr_walk.specs.Prelude.{FieldSpec, Content, FieldFault, answer_first, Next, take_next, at_end, astray, refused, max_values}
-use Rattle.bufr_fill.specs.Draft.{Draft, DraftEntry, Holds, Ends, Subset, subsets_of, FaultAt, at_line, item_too_many, walk_refused, draft_fault}
-use Rattle.bufr_fill.specs.Encoding.{written_item, RowCell, ItemRow, rows, longest, item_row, cells_at, first_line, pack_across, content_here, contents_here, first_unlike, first_from}
+use Rattle.bufr_fill.specs.Draft.{Draft, DraftEntry, Holds, Ends, Subset, FaultAt, at_line, item_too_many, walk_refused, draft_fault, DraftFault}
+use Rattle.bufr_fill.specs.Encoding.{written_item, RowCell, ItemRow, rows, longest, item_row, cells_at, first_line, pack_across, content_here, contents_here, first_from, Taken}
 use Rattle.bufr_fill.specs.PlainOut.{IfDraftFault}
 use Rattle.std.specs.List.{list_all, AllByRecursion}
-use Rattle.bufr_fill.specs.declared.field_value.FieldContent.{FieldContent}
-use Rattle.bufr_fill.specs.DraftContent.{raw_limit, content_drawn, IsDrawn}
+use Rattle.bufr_fill.specs.DraftContent.{FieldContent, raw_limit, content_drawn, IsDrawn}
 use Rattle.bufr_fill.specs.declared.packed_out.NumberRange.{NumberRange}
 use Rattle.bufr_fill.specs.declared.field_value.FieldContent.TheVariants as drawn
 
@@ -103,6 +102,11 @@ IsFaultHere astray s f = ⊥
 
 -- ---- How the code finds the least k of an item, and what it writes.
 
+-- the number of a content, or another where it is none
+abbrev pub number_or : (other : ℕ) → FieldContent → ℕ
+number_or other (drawn.Number n) = n
+number_or other _ = other
+
 -- an increment over a base
 abbrev pub over_of : (base : ℕ) → FieldContent → ℕ
 over_of base (drawn.Number n) = n - base
@@ -112,11 +116,6 @@ over_of base _ = 0
 abbrev pub spread : (base : ℕ) → List FieldContent → ℕ
 spread base [] = 0
 spread base (d ∷ ds) = max (over_of base d) (spread base ds)
-
--- the number of a content, or another where it is none
-abbrev pub number_or : (other : ℕ) → FieldContent → ℕ
-number_or other (drawn.Number n) = n
-number_or other _ = other
 
 -- the least number, or the greatest of 64 bits
 abbrev pub least_number : List FieldContent → ℕ
@@ -185,12 +184,6 @@ PutAcross old new spec a most (Err e) =
 
 -- ---- The rows of all subsets, as the code reads them.
 
--- the index where a subset's entries begin, by the indices of the ends
-abbrev pub begin_of : (from : ℕ) → List ℕ → (subset : ℕ) → ℕ
-begin_of from ends zero = from
-begin_of from [] (suc subset) = from
-begin_of from (e ∷ ends) (suc subset) = begin_of (suc e) ends subset
-
 -- a subset's entry in a row: its item, or its end
 abbrev pub entry_or_end : Option Draft → (end_line : ℕ) → DraftEntry
 entry_or_end (Some d) end_line = Holds d
@@ -205,23 +198,6 @@ abbrev pub entry_here : FieldSpec → DraftEntry → Result Content FaultAt
 entry_here spec (Holds d) = content_here spec (Some d) d.line
 entry_here spec (Ends line) = content_here spec None line
 
--- the line of an entry
-abbrev pub entry_line : DraftEntry → ℕ
-entry_line (Holds d) = d.line
-entry_line (Ends line) = line
-
--- an entry is that of a subset in a row
-abbrev pub IsAt : (place subset : ℕ) → List DraftEntry → DraftEntry → Type 0
-IsAt place subset entries e =
-    (c : RowCell) → slice_get (cells_at place (subsets_of entries)) subset ≡ Some c → e
-    ≡ cell_entry c
-
--- the line of that entry
-pub record LineAt (place subset : ℕ) (entries : List DraftEntry) (line : ℕ) : Type 0 where
-  pub e : DraftEntry
-  pub there : IsAt place subset entries e
-  pub so : line ≡ entry_line e
-
 -- each content is one that the field can have
 abbrev pub AllDrawn : FieldSpec → List FieldContent → Type 0
 AllDrawn spec ds = AllByRecursion (λ (d : FieldContent). IsDrawn spec d) ds
@@ -231,31 +207,10 @@ abbrev pub contents_drawn : (count : ℕ) → List FieldContent → List Content
 contents_drawn count [] = []
 contents_drawn count (d ∷ ds) = content_drawn count d ∷ contents_drawn count ds
 
--- contents before others, or the fault of these
-abbrev pub with_contents_before : List Content → Result (List Content) FaultAt
-    → Result (List Content) FaultAt
-with_contents_before cs (Ok more) = Ok (cs ++ more)
-with_contents_before cs (Err f) = Err f
-
--- the first `number` cells were converted
-pub record IsGathering (count : ℕ) (spec : FieldSpec) (cells : List RowCell) (number : ℕ)
-    (drawn : List FieldContent) : Type 0 where
-  pub so : contents_here spec cells
-      ≡ with_contents_before (contents_drawn count drawn) (contents_here spec (drop number cells))
-  pub all : AllDrawn spec drawn
-  pub many : length drawn ≡ number
-
 -- the least number among contents, or the greatest of 64 bits, and the greatest, or 0
 pub record IsRangeOf (range : NumberRange) (drawn : List FieldContent) : Type 0 where
   pub least : range.least ≡ least_number drawn
   pub greatest : range.greatest ≡ spread 0 drawn
-
--- the least k whose bits write the increments of numbers over a base
-pub record IsIncrementWidth (spec : FieldSpec) (base : ℕ) (drawn : List FieldContent)
-    (k : ℕ) : Type 0 where
-  pub value : k ≡ least_from spec.may_be_missing (spread base drawn) 1
-  pub narrow : k ≤ 63
-  pub short : AreShort base k drawn
 
 -- all cells were converted, and the range of their numbers returned, or the first fault
 abbrev pub ReturnsRow : (count : ℕ) → FieldSpec → List RowCell → List FieldContent
@@ -265,8 +220,3 @@ ReturnsRow count spec cells drawn (Ok range) =
     × (length drawn ≡ length cells) × IsRangeOf range drawn
 ReturnsRow count spec cells drawn (Err e) =
     IfDraftFault (draft_fault e) (λ f. contents_here spec cells ≡ Err f)
-
--- the line of the first cell that is left and whose content is not the first of all
-abbrev pub unlike_from : (all left : List Content) → List RowCell → ℕ
-unlike_from [] left cells = 0
-unlike_from (c ∷ cs) left cells = first_unlike c left cells

@@ -3,9 +3,8 @@
 -- Cited by public contracts.
 use Rattle.std.specs.Prelude.{ℕ, ◌≡◌, ◌≤◌, ◌<◌, ◌*◌, ◌^◌, Bool, List, [], ◌∷◌, ◌++◌, length, Option, Some, None, Result, Ok, Err}
 use Rattle.bufr_walk.specs.declared.spec.Taken.{Taken}
-use Rattle.bufr_fill.specs.declared.fault.DraftFault.{DraftFault}
 use Rattle.bufr_walk.specs.Prelude.{FieldSpec, Content, answer_of, bits_for, Next, take_next, at_end, astray, refused}
-use Rattle.bufr_fill.specs.Draft.{Draft, DraftEntry, Holds, Ends, DraftFaultKind, FaultAt, at_line, item_too_many, walk_refused, draft_fault}
+use Rattle.bufr_fill.specs.Draft.{DraftFault, Draft, DraftEntry, Holds, Ends, DraftFaultKind, FaultAt, at_line, item_too_many, walk_refused, draft_fault}
 use Rattle.bufr_fill.specs.DraftContent.{content_of, wrong_for}
 
 -- the writer: the entries that are left, and the bits that were written

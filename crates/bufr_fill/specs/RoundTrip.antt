@@ -3,15 +3,13 @@
 -- Cited by public contracts.
 use Rattle.std.specs.Prelude.{ℕ, ◌≡◌, ◌<◌, ◌-◌, ◌/◌, ◌^◌, ◌==◌, Bool, true, false, List, [], ◌∷◌, length, nat_abs, suc, ◌+◌, ◌≤◌, ◌++◌, Ok, ◌⊎◌, zero, Err}
 use Rattle.std.specs.List.{list_all, AllByRecursion, AllZip}
-use Rattle.bufr_tables.specs.declared.table_b.Kind.{Kind}
-use Rattle.bufr_walk.specs.declared.spec.Role.{Role}
+use Rattle.bufr_walk.specs.declared.spec.Role.TheVariants as role
 use Rattle.bufr_walk.specs.Prelude.{FieldSpec, Content, number, text, missing, reference, Course, next_item, TakenField, course_after, content_at, Item, IsPackedReading, ReadsSubsets, IsPlainReading}
-use Rattle.bufr_fill.specs.DraftContent.{raw_limit, draft_value_of, content_of}
+use Rattle.bufr_fill.specs.DraftContent.{Role, raw_limit, draft_value_of, content_of}
 use Rattle.bufr_fill.specs.Draft.{Draft, Subset, DraftValue, number_token, text_form, missing_form, reference_token, DraftFaultKind, unequal_factors, uneven_increment, FaultAt}
-use Rattle.bufr_fill.specs.Encoding.{plain_data, packed_data, Filler, fill, with_bits_before}
+use Rattle.bufr_fill.specs.Encoding.{Kind, plain_data, packed_data, Filler, fill, with_bits_before}
 use Rattle.bufr_tables.specs.Prelude.{IsLegal, Record, Row, AreRows, Tree}
 use Rattle.bufr_tables.specs.declared.table_b.Kind.TheVariants as kind
-use Rattle.bufr_walk.specs.declared.spec.Role.TheVariants as role
 
 -- each number is an octet
 abbrev pub AreOctets : List ℕ → Type 0
@@ -123,16 +121,11 @@ pub record IsWrittenTogether (course : Course) (subsets : List (List (Item Conte
   pub is : packed_data course drafts ≡ Ok out
   pub again : (more : List Bool) → IsPackedReading (length subsets) course items (out ++ more) more
 
--- these items cannot be written together
-pub record IsUnwritten (course : Course) (drafts : List Subset) : Type 0 where
-  pub why : FaultAt
-  pub is : packed_data course drafts ≡ Err why
-  pub unlike : IsUnlike why.fault
-
 -- the items are written together, or cannot be
 abbrev pub IsTogetherOrNot : Course → List (List (Item Content)) → List Subset → Type 0
 IsTogetherOrNot course subsets drafts =
-    IsWrittenTogether course subsets drafts ⊎ IsUnwritten course drafts
+    IsWrittenTogether course subsets drafts
+    ⊎ ((why : FaultAt) × (packed_data course drafts ≡ Err why) × IsUnlike why.fault)
 
 -- ---- The reading of data that were written from drafts. (a choice of this project)
 
@@ -185,13 +178,9 @@ pub record IsPackedReadBack (course : Course) (drafts : List Subset)
 abbrev pub IsAlike : Draft → Draft → Type 0
 IsAlike a b = (spec : FieldSpec) → content_of spec a ≡ content_of spec b
 
--- two lists of drafts, alike one by one
-abbrev pub AreAlike : List Draft → List Draft → Type 0
-AreAlike ds es = AllZip IsAlike ds es
-
--- alike subset by subset, whatever lines end them
+-- alike one by one in each subset, whatever lines end them
 abbrev pub AllAlike : List Subset → List Subset → Type 0
-AllAlike ss ts = AllZip (λ (s t : Subset). AreAlike s.items t.items) ss ts
+AllAlike ss ts = AllZip (λ (s t : Subset). AllZip IsAlike s.items t.items) ss ts
 
 -- ---- Definitions that the laws on writing share.
 

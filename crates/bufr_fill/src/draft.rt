@@ -1,7 +1,7 @@
 //! The items of a dump text, and the entries of a document, which are kept in one block.
-ghost use Rattle.std.specs.Prelude.{◌≡◌, ◌≤◌, ℕ, List, length, option_map, slice_get};
-ghost use Rattle.bufr_fill.specs.Draft.{draft, DraftEntry, Holds};
-ghost use Rattle.bufr_fill.specs.Kept.{form_in, entry_by, entry_stored, entry_with, IsEntryInside, IsPlaced};
+ghost use Rattle.std.specs.Prelude.{◌≡◌, ◌≤◌, ℕ, List, length, option_map, slice_get, ◌<◌, [], ◌∷◌, ◌++◌, Some, OnOk, OnErr};
+ghost use Rattle.bufr_fill.specs.Prelude.{draft, DraftEntry, Holds, form_in, entry_by, entry_stored, entry_with, IsEntryInside, IsPlaced, is_end, number_token, Ends, draft_in};
+ghost use Rattle.bufr_bits.specs.Prelude.{short_text};
 
 use bufr_bits::ShortDecimal;
 use bufr_tables::Fxy;
@@ -59,9 +59,6 @@ pub(crate) struct StoredEntry {
 }
 
 impl StoredEntry {
-    ghost use Rattle.std.specs.Prelude.{◌≡◌, ℕ, List};
-    ghost use Rattle.bufr_fill.specs.Kept.{entry_with, is_end};
-
     /// Whether it is the end of a subset.
     pub(crate) fn is_end(&self) -> bool
         ensures { (octets : List ℕ) → result ≡ is_end (entry_with self.now octets) }
@@ -93,12 +90,10 @@ fn octets_of<'a>(block: &'a [u8], entry: &StoredEntry) -> &'a [u8]
     ensures { entry_with entry.now result.now ≡ entry_stored block.now entry.now }
 {
     match entry.kind {
-        EntryKind::Number => &block[entry.start..entry.end],
-        EntryKind::Text => &block[entry.start..entry.end],
-        EntryKind::Reference => &block[entry.start..entry.end],
-        EntryKind::Decimal { .. } => &[],
-        EntryKind::Missing => &[],
-        EntryKind::End => &[],
+        EntryKind::Number | EntryKind::Text | EntryKind::Reference => {
+            &block[entry.start..entry.end]
+        }
+        EntryKind::Decimal { .. } | EntryKind::Missing | EntryKind::End => &[],
     }
 }
 
@@ -135,11 +130,6 @@ impl Model for Entries {
 }
 
 impl Entries {
-    ghost use Rattle.std.specs.Prelude.{◌≡◌, ◌<◌, [], ◌∷◌, ◌++◌, length, option_map, slice_get, Some, OnOk, OnErr};
-    ghost use Rattle.bufr_fill.specs.Draft.{draft, number_token, Holds, Ends};
-    ghost use Rattle.bufr_bits.specs.Prelude.{short_text};
-    ghost use Rattle.bufr_fill.specs.Kept.{entry_with, is_end, draft_in};
-
     /// No entries. It takes no memory.
     pub fn new(alloc: Global) -> Entries
         ensures { result ≡ [] }

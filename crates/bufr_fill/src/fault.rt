@@ -1,5 +1,8 @@
 //! Faults in the items of a dump text. (Their numbers and their order are a choice of this
 //! project.)
+ghost use Rattle.std.specs.Prelude.{◌≡◌};
+ghost use Rattle.bufr_fill.specs.Draft.{number_of_draft_fault};
+ghost use Rattle.bufr_fill.specs.declared.fault.DraftFault.TheVariants.{Memory};
 
 use bufr_tables::Fxy;
 use bufr_walk::{TOO_MANY_VALUES, WalkFault};
@@ -64,9 +67,6 @@ pub enum DraftFault {
 }
 
 impl DraftFault {
-    ghost use Rattle.std.specs.Prelude.{◌≡◌};
-    ghost use Rattle.bufr_fill.specs.Draft.{number_of_draft_fault};
-
     /// The number of this fault: 51 to 55, 58, 59, 35 for too many values, and 73 where memory ran
     /// out.
     pub fn number(self) -> u8
@@ -87,9 +87,6 @@ impl DraftFault {
 }
 
 impl From<AllocError> for DraftFault {
-    ghost use Rattle.std.specs.Prelude.{◌≡◌};
-    ghost use Rattle.bufr_fill.specs.declared.fault.DraftFault.TheVariants.{Memory};
-
     ghost from_gives = { λ _ e. e ≡ Memory };
 
     fn from(_: AllocError) -> DraftFault {

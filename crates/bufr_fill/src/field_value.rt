@@ -4,11 +4,7 @@ ghost use Rattle.std.specs.List.{list_all};
 ghost use Rattle.bufr_bits.specs.Prelude.{decimal_value_of, bits_of, bits_in};
 ghost use Rattle.bufr_tables.specs.Prelude.{is_character};
 ghost use Rattle.bufr_walk.specs.Prelude.{is_reference, IsFor, number, reference, sign_bit, bits_for, answer_of};
-ghost use Rattle.bufr_fill.specs.DraftContent.{raw_within, raw_of, reference_of, text_within, is_marked, wrong_for, content_by_form, returned, content_drawn, IsDrawn, IsTextOf, spaced, raw_limit};
-ghost use Rattle.bufr_fill.specs.Kept.{entry_with, is_end, is_entry_of, value_by};
-ghost use Rattle.bufr_fill.specs.PackedOut.{entry_here};
-ghost use Rattle.bufr_fill.specs.Draft.{draft_fault, at_line};
-ghost use Rattle.bufr_fill.specs.Encoding.{at_line_if_fault};
+ghost use Rattle.bufr_fill.specs.Prelude.{raw_within, raw_of, reference_of, text_within, is_marked, wrong_for, content_by_form, returned, content_drawn, IsDrawn, spaced, raw_limit, entry_with, is_end, is_entry_of, value_by, entry_here, draft_fault, at_line, at_line_if_fault};
 
 use crate::draft::{EntryKind, StoredEntry};
 use crate::fault::{DraftFault, Expected};
@@ -41,63 +37,28 @@ pub(crate) fn raw_limit(may_be_missing: bool, width: u32) -> u64
     }
 }
 
-/// The number in the bits of a value, where it fits them and does not read as missing.
+/// The number in the bits of a value that was read at the field's scale, where it fits them and
+/// does not read as missing.
 #[inline(always)]
-// rule: fault-53
-fn raw_in(value: i128, spec: &Spec, line: u64) -> Result<u64, DraftFault>
-    requires { is_character spec.now.kind ≡ false }
-    ensures is { returned number result ≡ Some (at_line_if_fault line
-        (raw_within spec.now.may_be_missing spec.now.width (value -ℤ spec.now.reference))) }
-    ensures below { IfOk result (λ raw. raw < raw_limit spec.now.may_be_missing spec.now.width) }
-{
-    let limit = raw_limit(spec.may_be_missing(), spec.width());
-    let Some(raw) = value.checked_sub(spec.reference()) else {
-        return Err(DraftFault::OutOfRange(line));
-    };
-    let Ok(raw) = u64::try_from(raw) else {
-        return Err(DraftFault::OutOfRange(line));
-    };
-    if raw < limit {
-        Ok(raw)
-    } else {
-        Err(DraftFault::OutOfRange(line))
-    }
-}
-
-/// The number in the bits of a value that was read at the field's scale.
-#[inline(always)]
-// rule: fault-52
+// rule: fault-52, fault-53
 fn raw_of_read(read: Result<i128, NumberFault>, spec: &Spec, line: u64) -> Result<u64, DraftFault>
     requires { is_character spec.now.kind ≡ false }
     ensures is { returned number result ≡ Some (at_line_if_fault line (raw_of spec.now read)) }
     ensures below { IfOk result (λ raw. raw < raw_limit spec.now.may_be_missing spec.now.width) }
 {
-    match read {
-        Ok(value) => raw_in(value, spec, line),
-        Err(NumberFault::Syntax) => Err(DraftFault::Number(line)),
-        Err(NumberFault::Inexact) => Err(DraftFault::Number(line)),
-        Err(NumberFault::Large) => Err(DraftFault::OutOfRange(line)),
-    }
-}
-
-/// The reference of a token, where its magnitude fits the bits after the sign.
-fn reference_of_token(token: &[u8], spec: &Spec, line: u64) -> Result<i64, DraftFault>
-    requires some { 1 ≤ spec.now.width }
-    requires narrow { spec.now.width ≤ 63 }
-    ensures is { returned reference result ≡ Some (at_line_if_fault line
-        (reference_of spec.now (decimal_value_of token.now (pos 0)))) }
-    ensures fits { IfOk result (λ value. unsigned_abs value < 2 ^ (spec.now.width - 1)) }
-{
-    let value = match decimal_read(token, 0) {
+    let value = match read {
         Ok(value) => value,
-        Err(NumberFault::Syntax) => return Err(DraftFault::Number(line)),
-        Err(NumberFault::Inexact) => return Err(DraftFault::Number(line)),
+        Err(NumberFault::Syntax | NumberFault::Inexact) => return Err(DraftFault::Number(line)),
         Err(NumberFault::Large) => return Err(DraftFault::OutOfRange(line)),
     };
-    if value.unsigned_abs() >= 1u128 << (spec.width() - 1) {
+    let limit = raw_limit(spec.may_be_missing(), spec.width());
+    let Some(raw) = value.checked_sub(spec.reference()) else {
         return Err(DraftFault::OutOfRange(line));
+    };
+    match u64::try_from(raw) {
+        Ok(raw) if raw < limit => Ok(raw),
+        _ => Err(DraftFault::OutOfRange(line)),
     }
-    Ok(value as i64)
 }
 
 /// Whether all octets are 255.
@@ -107,27 +68,10 @@ pub(crate) fn is_all_255(octets: &[u8]) -> bool
     octets.iter().all(|octet| *octet == 255)
 }
 
-/// A text of at most `count` octets that does not read as missing.
-#[tactic(auto, using(crate::proofs::FieldLemmas::all_of_spaced))]
-// rule: fault-53, fault-54
-fn text_for<'a>(octets: &'a [u8], count: usize, line: u64) -> Result<FieldContent<'a>, DraftFault>
-    ensures is { returned (content_drawn count) result
-        ≡ Some (at_line_if_fault line (text_within count octets.now)) }
-    ensures text { IfOk result (λ d. IsTextOf count octets.now d) }
-{
-    if octets.len() > count {
-        return Err(DraftFault::TextLong(line));
-    }
-    let full = is_all_255(octets);
-    if full && octets.len() == count {
-        return Err(DraftFault::OutOfRange(line));
-    }
-    Ok(FieldContent::Text(octets))
-}
-
 /// Converts the value of an item to the content of its field.
 #[inline(always)]
-// rule: fault-52, fault-55, fault-order-of-an-item
+#[tactic(auto, using(crate::proofs::FieldLemmas::all_of_spaced))]
+// rule: fault-52, fault-53, fault-54, fault-55, fault-order-of-an-item
 fn draw_form<'a>(
     entry: &StoredEntry,
     octets: &'a [u8],
@@ -141,11 +85,12 @@ fn draw_form<'a>(
         (value_by entry.now.kind entry.now.start octets.now) spec.now)) }
     ensures drawn { IfOk result (λ d. IsDrawn spec.now d) }
 {
+    let line = entry.line;
     let count = (spec.width() / 8) as usize;
     match entry.kind {
         EntryKind::Decimal { places, negative } => {
             if spec.is_text() {
-                return Err(DraftFault::Number(entry.line));
+                return Err(DraftFault::Number(line));
             }
             let digits = entry.start as u64;
             let number = ShortDecimal {
@@ -154,32 +99,34 @@ fn draw_form<'a>(
                 negative,
             };
             let read = number.scaled(spec.scale());
-            Ok(FieldContent::Number(raw_of_read(read, spec, entry.line)?))
+            Ok(FieldContent::Number(raw_of_read(read, spec, line)?))
         }
+        EntryKind::Number if spec.is_text() => Err(DraftFault::Number(line)),
         EntryKind::Number => {
-            if spec.is_text() {
-                return Err(DraftFault::Number(entry.line));
-            }
             let read = decimal_read(octets, spec.scale());
-            Ok(FieldContent::Number(raw_of_read(read, spec, entry.line)?))
+            Ok(FieldContent::Number(raw_of_read(read, spec, line)?))
         }
+        EntryKind::Text if !spec.is_text() => Err(DraftFault::Number(line)),
+        EntryKind::Text if octets.len() > count => Err(DraftFault::TextLong(line)),
         EntryKind::Text => {
-            if spec.is_text() {
-                text_for(octets, count, entry.line)
-            } else {
-                Err(DraftFault::Number(entry.line))
+            if is_all_255(octets) && octets.len() == count {
+                return Err(DraftFault::OutOfRange(line));
             }
+            Ok(FieldContent::Text(octets))
         }
-        EntryKind::Missing => {
-            if spec.may_be_missing() {
-                Ok(FieldContent::Missing)
-            } else {
-                Err(DraftFault::MissingForbidden(entry.line))
-            }
-        }
+        EntryKind::Missing if spec.may_be_missing() => Ok(FieldContent::Missing),
+        EntryKind::Missing => Err(DraftFault::MissingForbidden(line)),
         EntryKind::Reference => {
-            let value = reference_of_token(octets, spec, entry.line)?;
-            Ok(FieldContent::Reference(value))
+            let value = match decimal_read(octets, 0) {
+                Ok(value) => value,
+                Err(NumberFault::Large) => return Err(DraftFault::OutOfRange(line)),
+                Err(_) => return Err(DraftFault::Number(line)),
+            };
+            // The magnitude has to fit the bits after the sign.
+            if value.unsigned_abs() >= 1u128 << (spec.width() - 1) {
+                return Err(DraftFault::OutOfRange(line));
+            }
+            Ok(FieldContent::Reference(value as i64))
         }
         EntryKind::End => unreachable!(),
     }
@@ -241,39 +188,6 @@ pub(crate) fn with_spaces(octets: &[u8]) -> [u8; 255]
     all
 }
 
-/// Writes a text, followed by spaces up to `count` octets.
-#[tactic(auto, using(crate::proofs::FieldLemmas::spaced_prefix))]
-fn put_text(out: &mut BitWriter, octets: &[u8], count: usize)
-    requires within { length octets.now ≤ count }
-    requires most { count ≤ 255 }
-    requires room { 8 * count ≤ out.old.room }
-    ensures bits { out.new.bits
-        ≡ out.old.bits ++ bits_of (octets.now ++ replicate (count - length octets.now) 32) }
-    ensures len { length out.new.bits ≡ length out.old.bits + 8 * count }
-    ensures room { out.old.room ≤ out.new.room + 8 * count }
-{
-    out.put_octets(&with_spaces(octets)[..count]);
-}
-
-/// The bits of a sign and a magnitude, as a number.
-#[tactic(auto, using(crate::proofs::FieldLemmas::negative_bits, crate::proofs::FieldLemmas::positive_bits))]
-// rule: writes-plus-zero
-fn signed_bits(value: i64, width: u32) -> u64
-    requires some { 1 ≤ width }
-    requires narrow { width ≤ 63 }
-    requires fits { unsigned_abs value < 2 ^ (width - 1) }
-    ensures bits { bits_in result width
-        ≡ sign_bit value ∷ bits_in (unsigned_abs value) (width - 1) }
-    ensures below { result < 2 ^ width }
-{
-    let size = value.unsigned_abs();
-    if value < 0 {
-        (1u64 << (width - 1)) + size
-    } else {
-        size
-    }
-}
-
 /// Writes `count` octets of ones.
 #[tactic(auto, using(crate::proofs::FieldLemmas::full_bits))]
 pub(crate) fn put_full(out: &mut BitWriter, count: usize)
@@ -287,25 +201,10 @@ pub(crate) fn put_full(out: &mut BitWriter, count: usize)
     out.put_octets(&ones[..count]);
 }
 
-/// Writes a missing value.
-#[tactic(auto, using(crate::proofs::FieldLemmas::eighths_ones, crate::proofs::FieldLemmas::ones_bits))]
-fn put_missing(out: &mut BitWriter, spec: &Spec)
-    requires room { spec.now.width ≤ out.old.room }
-    ensures bits { out.new.bits ≡ out.old.bits ++ replicate spec.now.width true }
-    ensures len { length out.new.bits ≡ length out.old.bits + spec.now.width }
-    ensures room { out.old.room ≤ out.new.room + spec.now.width }
-{
-    let width = spec.width();
-    if spec.is_text() {
-        put_full(out, (width / 8) as usize);
-    } else {
-        out.put((1u64 << width) - 1, width);
-    }
-}
-
 /// Writes the content of a field, in the field's bits.
 #[inline(always)]
-#[tactic(auto, using(crate::proofs::FieldLemmas::drawn_narrow))]
+#[tactic(auto, using(crate::proofs::FieldLemmas::drawn_narrow, crate::proofs::FieldLemmas::spaced_prefix, crate::proofs::FieldLemmas::eighths_ones, crate::proofs::FieldLemmas::ones_bits, crate::proofs::FieldLemmas::negative_bits, crate::proofs::FieldLemmas::positive_bits))]
+// rule: writes-plus-zero
 pub(crate) fn put_content(out: &mut BitWriter, drawn: FieldContent<'_>, spec: &Spec)
     requires drawn { IsDrawn spec.now drawn }
     requires room { spec.now.width ≤ out.old.room }
@@ -317,9 +216,15 @@ pub(crate) fn put_content(out: &mut BitWriter, drawn: FieldContent<'_>, spec: &S
     let width = spec.width();
     match drawn {
         FieldContent::Number(raw) => out.put(raw, width),
-        FieldContent::Text(octets) => put_text(out, octets, (width / 8) as usize),
-        FieldContent::Missing => put_missing(out, spec),
-        FieldContent::Reference(value) => out.put(signed_bits(value, width), width),
+        FieldContent::Text(octets) => {
+            out.put_octets(&with_spaces(octets)[..(width / 8) as usize]);
+        }
+        FieldContent::Missing if spec.is_text() => put_full(out, (width / 8) as usize),
+        FieldContent::Missing => out.put((1u64 << width) - 1, width),
+        FieldContent::Reference(value) if value < 0 => {
+            out.put((1u64 << (width - 1)) + value.unsigned_abs(), width);
+        }
+        FieldContent::Reference(value) => out.put(value.unsigned_abs(), width),
     }
 }
 

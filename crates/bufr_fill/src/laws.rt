@@ -5,162 +5,115 @@ ghost use Rattle.std.specs.Prelude.{◌≡◌, ◌≤◌, ℕ, List, [], Bool, l
 ghost use Rattle.bufr_walk.specs.Prelude.{FieldSpec, IsSpec, Content, found, packed_field, Course, at_end, TakenField, Takes, oks, answers_of, max_values, Item, ReadsSubsets, IsPackedReading};
 ghost use Rattle.bufr_fill.specs.Prelude.{AllAlike, OfTemplates, WritesDrafts, AllFit, AllHaveOctets, AreSaid, AreSaidFrom, IsReadBack, IsPackedReadBack, IsWrittenApart, IsTogetherOrNot, AreDumped, AreDumpedFrom, IsWrittenAgain, IsPackedAgain, plain_filler, fill, cells_at, packed_filler, packed_data, plain_data, HasLeastK, packing, DraftEntry, Subset, FaultAt, PackedOutModel, new_packed_out, PackedFills, all_at_end, rows_left, IsFaultHere, PlainOutModel, PlainFills, IsFaultNext, items_left, end_left};
 
-/// Law: what was read of data that are not compressed is written again, from the items of its dump.
-/// The bits have the same reading, and are no more. (WMO-No. 306, Volume I.2, FM 94: section 4)
-pub fn plain_data_round_trip()
-    ensures { OfTemplates (λ course. (subsets : List (List (Item Content))) (drafts : List Subset)
-        (bits suffix : List Bool) → AreDumped subsets drafts
+/// Law: what was read is written again, from the items of its dump, compressed or not. The bits
+/// have the same reading, and are no more. (WMO-No. 306, Volume I.2, FM 94: section 4)
+pub fn data_round_trip()
+    ensures plain { OfTemplates (λ course. (subsets : List (List (Item Content)))
+        (drafts : List Subset) (bits suffix : List Bool) → AreDumped subsets drafts
         → ReadsSubsets course subsets bits suffix
         → IsWrittenAgain course subsets drafts bits suffix) }
-{}
-
-/// Law: the same of compressed data. What was read is written again to bits that have the same
-/// reading, and are no more.
-pub fn packed_data_round_trip()
-    ensures { OfTemplates (λ course. (n : ℕ) (items : List (Item (List Content)))
+    ensures packed { OfTemplates (λ course. (n : ℕ) (items : List (Item (List Content)))
         (drafts : List Subset) (bits suffix : List Bool) → length drafts ≡ n
         → AreDumpedFrom 0 items drafts → IsPackedReading n course items bits suffix
         → IsPackedAgain n course items drafts bits suffix) }
 {}
 
 /// Law: an item of compressed data is packed with the least `k` of all that its contents can be
-/// read from. So its `k` is never above the one that was read, and the item has no more bits.
-/// (WMO-No. 306, Volume I.2, FM 94: section 4, compression; that the `k` is the least is a choice
-/// of this project)
+/// read from. So its `k` is never above the one that was read, and the item has no more bits. The
+/// same holds of contents from any source that fit their field. (WMO-No. 306, Volume I.2, FM 94:
+/// section 4, compression; that the `k` is the least is a choice of this project)
 pub fn items_are_packed_with_the_least_k()
-    ensures { (n : ℕ) (spec : FieldSpec) (contents : List Content) (bits suffix : List Bool)
+    ensures read { (n : ℕ) (spec : FieldSpec) (contents : List Content) (bits suffix : List Bool)
         → 1 ≤ n → IsSpec spec
         → packed_field n spec bits ≡ Ok (found contents suffix) → HasLeastK n spec contents }
-{}
-
-/// Law: contents that fit their field, from any source, are packed with the least `k` of all that
-/// they can be read from.
-pub fn fitting_items_are_packed_with_the_least_k()
-    ensures { (n : ℕ) (spec : FieldSpec) (contents : List Content) (out : List Bool) → 1 ≤ n
-        → IsSpec spec → AllFit spec contents → length contents ≡ n
+    ensures fitting { (n : ℕ) (spec : FieldSpec) (contents : List Content) (out : List Bool)
+        → 1 ≤ n → IsSpec spec → AllFit spec contents → length contents ≡ n
         → packing spec contents ≡ Ok out → HasLeastK n spec contents }
 {}
 
-/// Law: the data that are written of any drafts, without compression, read as the contents of the
+/// Law: the data that are written of any drafts, in either form, read as the contents of the
 /// drafts, whatever bits follow. (WMO-No. 306, Volume I.2, FM 94: section 4)
-pub fn written_plain_data_are_read()
-    ensures { OfTemplates (λ course. (drafts : List Subset) (bits : List Bool) → AllHaveOctets
+pub fn written_data_are_read()
+    ensures plain { OfTemplates (λ course. (drafts : List Subset) (bits : List Bool) → AllHaveOctets
         drafts → plain_data course drafts ≡ Ok bits → IsReadBack course drafts bits) }
+    ensures packed { OfTemplates (λ course. (drafts : List Subset) (bits : List Bool)
+        → AllHaveOctets drafts → packed_data course drafts ≡ Ok bits
+        → IsPackedReadBack course drafts bits) }
 {}
 
-/// Law: the same of compressed data.
-pub fn written_packed_data_are_read()
-    ensures { OfTemplates (λ course. (drafts : List Subset) (bits : List Bool) → AllHaveOctets
-        drafts → packed_data course drafts ≡ Ok bits → IsPackedReadBack course drafts bits) }
-{}
-
-/// Law: the drafts of the items of a reading, without compression, are written to bits that the
-/// items determine. Other drafts with the same contents are written to the same bits.
-pub fn plain_data_are_fixed_by_what_is_said()
-    ensures { OfTemplates (λ course. (subsets : List (List (Item Content)))
+/// Law: the drafts of the items of a reading are written, in the form that was read, to bits that
+/// the items determine. Other drafts with the same contents are written to the same bits.
+pub fn data_are_fixed_by_what_is_said()
+    ensures plain { OfTemplates (λ course. (subsets : List (List (Item Content)))
         (drafts others : List Subset) (bits suffix : List Bool)
         → ReadsSubsets course subsets bits suffix
         → AreSaid subsets drafts → AreSaid subsets others
         → plain_data course drafts ≡ plain_data course others) }
-{}
-
-/// Law: the same of compressed data.
-pub fn packed_data_are_fixed_by_what_is_said()
-    ensures { OfTemplates (λ course. (n : ℕ) (items : List (Item (List Content)))
+    ensures packed { OfTemplates (λ course. (n : ℕ) (items : List (Item (List Content)))
         (drafts others : List Subset) (bits suffix : List Bool)
         → IsPackedReading n course items bits suffix
         → length drafts ≡ n → AreSaidFrom 0 items drafts → length others ≡ n
         → AreSaidFrom 0 items others → packed_data course drafts ≡ packed_data course others) }
 {}
 
-/// Law: drafts with the same contents at every field are written to the same bits, without
-/// compression, where the first can be written.
-pub fn alike_drafts_have_the_same_plain_data()
-    ensures { OfTemplates (λ course. (drafts others : List Subset) (bits : List Bool)
+/// Law: drafts with the same contents at every field are written to the same bits, in either form,
+/// where the first can be written.
+pub fn alike_drafts_have_the_same_data()
+    ensures plain { OfTemplates (λ course. (drafts others : List Subset) (bits : List Bool)
         → AllHaveOctets drafts → AllAlike drafts others
         → plain_data course drafts ≡ Ok bits → plain_data course others ≡ Ok bits) }
-{}
-
-/// Law: the same of compressed data.
-pub fn alike_drafts_have_the_same_packed_data()
-    ensures { OfTemplates (λ course. (drafts others : List Subset) (bits : List Bool)
+    ensures packed { OfTemplates (λ course. (drafts others : List Subset) (bits : List Bool)
         → AllHaveOctets drafts → AllAlike drafts others
         → packed_data course drafts ≡ Ok bits → packed_data course others ≡ Ok bits) }
 {}
 
 /// Law: what was read of compressed data is written subset after subset, from the items of its
-/// dump. Each subset's items are read from the bits, so such data are never refused in the plain
-/// form. (WMO-No. 306, Volume I.2, FM 94: section 4)
-pub fn compressed_data_are_written_apart()
-    ensures { OfTemplates (λ course. (n : ℕ) (items : List (Item (List Content)))
+/// dump, and never refused. What was read of other data is written together. Otherwise their
+/// factors differ, or no increments can write their contents; there is no other fault. The items
+/// of each subset are read from the bits. (WMO-No. 306, Volume I.2, FM 94: section 4, compression)
+pub fn data_are_written_in_the_other_form()
+    ensures apart { OfTemplates (λ course. (n : ℕ) (items : List (Item (List Content)))
         (drafts : List Subset) (bits suffix : List Bool) → length drafts ≡ n
         → AreDumpedFrom 0 items drafts → IsPackedReading n course items bits suffix
         → IsWrittenApart n course items drafts) }
-{}
-
-/// Law: what was read of data that are not compressed is written together, from the items of its
-/// dump. The items of each subset are read from the bits. Otherwise their factors differ, or no
-/// increments can write their contents; there is no other fault. (WMO-No. 306, Volume I.2, FM 94:
-/// section 4, compression)
-pub fn plain_data_are_written_together()
-    ensures { OfTemplates (λ course. (subsets : List (List (Item Content))) (drafts : List Subset)
-        (bits suffix : List Bool) → length bits ≤ max_values
+    ensures together { OfTemplates (λ course. (subsets : List (List (Item Content)))
+        (drafts : List Subset) (bits suffix : List Bool) → length bits ≤ max_values
         → AreDumped subsets drafts → ReadsSubsets course subsets bits suffix
         → IsTogetherOrNot course subsets drafts) }
 {}
 
-/// Law: a walk over the items of one subset writes what the definition makes of them, up to those
-/// that are left.
-#[tactic(auto, using(crate::proofs::WalkLemmas::walk_of_items))]
-pub fn plain_walk_writes_as_defined()
-    ensures { (end : ℕ) (course : Course) (s : PlainOutModel) (items : List TakenField)
+/// Law: a walk over the items of one subset, or of all subsets, writes what the definition makes of
+/// them, up to those that are left. Where the walk over all subsets ends and no item is left over,
+/// the bits that were written are the data of all subsets.
+#[tactic(auto, using(crate::proofs::WalkLemmas::walk_of_items, crate::proofs::PackedWalks::walk_of_rows, crate::proofs::PackedWalks::written_as_defined))]
+pub fn walks_write_as_defined()
+    ensures plain { (end : ℕ) (course : Course) (s : PlainOutModel) (items : List TakenField)
         (s' : PlainOutModel)
         → Takes (oks PlainFills) course s items s'
         → WritesDrafts (plain_filler end) course items s.bits s'.bits (items_left s.left)
         (items_left s'.left) }
-{}
-
-/// Law: where a walk over the items of one subset stops, its fault is that of the definition. It is
-/// that of an item, that of a width or a step on the next entry's line, or an item that is left
-/// over.
-#[tactic(auto, using(crate::proofs::WalkLemmas::fault_as_defined))]
-pub fn plain_fault_is_as_defined()
-    ensures { (course : Course) (left : List DraftEntry) (f : FaultAt)
-        → IsFaultNext (course []).next
-        left f → fill (plain_filler (end_left left)) course (items_left left) ≡ Err f }
-{}
-
-/// Law: a walk over the items of all subsets writes what the definition makes of them, up to those
-/// that are left.
-#[tactic(auto, using(crate::proofs::PackedWalks::walk_of_rows))]
-pub fn packed_walk_writes_as_defined()
-    ensures { (end : ℕ) (many : Bool) (course : Course) (s : PackedOutModel)
-        (items : List TakenField)
-        (s' : PackedOutModel) → Takes (oks PackedFills) course s items s'
+    ensures packed { (end : ℕ) (many : Bool) (course : Course) (s : PackedOutModel)
+        (items : List TakenField) (s' : PackedOutModel)
+        → Takes (oks PackedFills) course s items s'
         → WritesDrafts (packed_filler end many) course items s.bits s'.bits
         (rows_left s) (rows_left s') }
-{}
-
-/// Law: where such a walk stops, its fault is that of the data of all subsets. It is that of an
-/// item, or that of a width or a step on the line of the first subset's next entry. Or it is the
-/// first item that is left over.
-#[tactic(auto, using(crate::proofs::PackedWalks::fault_as_defined))]
-pub fn packed_fault_is_as_defined()
-    ensures { (course : Course) (subsets : List Subset) (items : List TakenField)
-        (s : PackedOutModel)
-        (f : FaultAt) → 1 ≤ length subsets
-        → Takes (oks PackedFills) course (new_packed_out subsets) items s
-        → IsFaultHere (course (answers_of items)).next s f → packed_data course subsets ≡ Err f }
-{}
-
-/// Law: where such a walk ends and no item is left over, the bits that were written are the data of
-/// all subsets.
-#[tactic(auto, using(crate::proofs::PackedWalks::written_as_defined))]
-pub fn packed_data_are_written_as_defined()
-    ensures { (course : Course) (subsets : List Subset) (items : List TakenField)
-        (s : PackedOutModel)
-        → 1 ≤ length subsets
+    ensures whole { (course : Course) (subsets : List Subset) (items : List TakenField)
+        (s : PackedOutModel) → 1 ≤ length subsets
         → Takes (oks PackedFills) course (new_packed_out subsets) items s
         → (course (answers_of items)).next ≡ at_end
         → all_at_end (cells_at s.place s.subsets) ≡ Ok tt → packed_data course subsets ≡ Ok s.bits }
+{}
+
+/// Law: where a walk over the items of one subset, or of all subsets, stops, its fault is that of
+/// the definition. It is that of an item, that of a width or a step on the line of the next entry,
+/// of the first subset where there are several, or the first item that is left over.
+#[tactic(auto, using(crate::proofs::WalkLemmas::fault_as_defined, crate::proofs::PackedWalks::fault_as_defined))]
+pub fn faults_are_as_defined()
+    ensures plain { (course : Course) (left : List DraftEntry) (f : FaultAt)
+        → IsFaultNext (course []).next
+        left f → fill (plain_filler (end_left left)) course (items_left left) ≡ Err f }
+    ensures packed { (course : Course) (subsets : List Subset) (items : List TakenField)
+        (s : PackedOutModel) (f : FaultAt) → 1 ≤ length subsets
+        → Takes (oks PackedFills) course (new_packed_out subsets) items s
+        → IsFaultHere (course (answers_of items)).next s f → packed_data course subsets ≡ Err f }
 {}

@@ -1,15 +1,11 @@
 //! The writer of compressed data, from the items of a dump text.
-ghost use Rattle.std.specs.Prelude.{◌≡◌, ◌≤◌, ◌<◌, ◌+◌, ◌*◌, ◌/◌, ◌^◌, IfOk, Ok, length, ℕ, slice_get, get_or, Some, List, ◌-◌, ◌++◌, ◌∷◌, [], true, false, map, take, replicate, nat_lt, OnOk, OnErr, unwrap_or};
+ghost use Rattle.std.specs.Prelude.{◌≡◌, ◌≤◌, ◌<◌, ◌+◌, ◌*◌, ◌/◌, ◌^◌, IfOk, Ok, length, ℕ, slice_get, get_or, Some, List, ◌-◌, ◌++◌, ◌∷◌, [], true, false, map, take, replicate, nat_lt, OnOk, OnErr, unwrap_or, vec_len};
 ghost use Rattle.bufr_walk.specs.Prelude.{IsFor, is_reference, bits_for, max_values};
-ghost use Rattle.bufr_fill.specs.Encoding.{item_row, cells_at, contents_here, RowCell, unlike_line, same, same_octets, are_same, lowest, first_from, least_k, has_bits, has_octets, increment_bits, octet_bits, packed_bits, numbers_over, packed_numbers, packed_texts, packed_by, packed_unlike, packing};
-ghost use Rattle.bufr_fill.specs.Draft.{subsets_of};
-ghost use Rattle.bufr_fill.specs.PackedOut.{AllDrawn, contents_drawn, IsRangeOf, begin_of, cell_entry, LineAt, ReturnsRow, IsIncrementWidth, PutAcross, number_or, spread, trimmed, need, need_of, most_need, octet_in, PacksItem, FitsIncrement, AreShort, least_from, ends_of, first_line_at, EndsAllSubsets};
-ghost use Rattle.bufr_fill.specs.Kept.{entry_with};
+ghost use Rattle.bufr_fill.specs.Prelude.{item_row, cells_at, contents_here, RowCell, unlike_line, same, same_octets, are_same, lowest, first_from, least_k, has_bits, has_octets, increment_bits, octet_bits, packed_bits, numbers_over, packed_texts, packed_by, packed_unlike, packing, subsets_of, AllDrawn, contents_drawn, IsRangeOf, cell_entry, cell_line, ReturnsRow, PutAcross, number_or, spread, trimmed, need, need_of, most_need, octet_in, PacksItem, FitsIncrement, AreShort, least_from, ends_of, first_line_at, EndsAllSubsets, entry_with, content_drawn, spaced, IsDrawn, raw_limit, FieldContent, StartsPackedOut, PackedFills};
 ghost use Rattle.std.specs.List.{list_all, flat_map};
-ghost use Rattle.bufr_bits.specs.Prelude.{bits_in, bits_of};
+ghost use Rattle.bufr_bits.specs.Prelude.{bits_in, bits_of, padding};
 ghost use Rattle.bufr_tables.specs.Prelude.{is_character};
-ghost use Rattle.bufr_fill.specs.DraftContent.{content_drawn, spaced, IsDrawn, raw_limit};
-ghost use Rattle.bufr_fill.specs.declared.field_value.FieldContent.{FieldContent};
+ghost use Rattle.std.proofs.Common.{ap};
 
 use crate::draft::{Entries, StoredEntry};
 use crate::fault::{DraftFault, Expected};
@@ -69,7 +65,7 @@ fn ends_in(alloc: Global, entries: &Entries) -> Result<Vec<usize>, AllocError>
 
 /// Writes the contents of an item for all subsets, with the least base and the least `k`.
 #[tactic(auto, using(crate::proofs::RowLemmas::drawn_at))]
-// rule: packs-factors-and-references, fault-59
+// rule: packs-factors-and-references, fault-59, packs-equal, packs-all-missing
 fn put_drawn(
     row: Row<'_, '_>,
     spec: &Spec,
@@ -90,7 +86,9 @@ fn put_drawn(
     ensures shape { IfOk result (λ t. IsFor spec.now t) }
 {
     if are_alike(drawn[0], drawn, range, spec) {
-        pack_alike(out, drawn[0], spec)?;
+        out.reserve(u64::from(spec.width()) + 6)?;
+        put_content(out, drawn[0], spec);
+        out.put(0, 6);
         return Ok(taken_of(drawn[0], spec));
     }
     match spec.role() {
@@ -111,36 +109,7 @@ fn put_drawn(
     }
 }
 
-/// Writes the next item of all subsets.
-// rule: fault-order-of-subsets
-fn pack_next<'a>(
-    row: Row<'a, '_>,
-    spec: &Spec,
-    drawn: &mut Vec<FieldContent<'a>>,
-    out: &mut BitWriter,
-) -> Result<Taken, DraftFault>
-    requires values { row.place * length row.ends.now ≤ max_values }
-    requires room { length out.old.bits + (2046 + 504 * length row.ends.now) ≤ 2 ^ 63 }
-    ensures put { PutAcross out.old.bits out.new.bits spec.now
-        (item_row row.entry.place (subsets_of row.entry.entries.now))
-        (2046 + 504 * length row.entry.ends.now) result }
-    ensures shape { IfOk result (λ t. IsFor spec.now t) }
-    ensures values { IfOk result
-        (λ t. (row.entry.place + 1) * length row.entry.ends.now ≤ max_values) }
-{
-    if (row.place as u64 + 1) * row.ends.len() as u64 > MAX_VALUES {
-        return Err(DraftFault::TooManyValues(row.first_line(), spec.fxy()));
-    }
-    let range = read_row(row, spec, drawn)?;
-    put_drawn(row, spec, drawn, range, out)
-}
-
 impl<'s> PackedOut<'s> {
-    ghost use Rattle.std.specs.Prelude.{◌≡◌, ◌≤◌, ◌<◌, ◌+◌, ◌/◌, ◌^◌, ◌++◌, length, vec_len, IfOk};
-    ghost use Rattle.bufr_bits.specs.Prelude.{bits_of, padding};
-    ghost use Rattle.bufr_fill.specs.Draft.{subsets_of};
-    ghost use Rattle.bufr_fill.specs.PackedOut.{StartsPackedOut, first_line_at, EndsAllSubsets};
-
     /// The items of all subsets and the lines that end them, at most 2^45 together; `None` where
     /// there is no subset, since no bit is written then.
     ///
@@ -164,23 +133,16 @@ impl<'s> PackedOut<'s> {
         }))
     }
 
-    /// The next entries of all subsets.
-    fn row(&self) -> Row<'_, '_>
-        ensures { (result.place ≡ self.now.place)
-            × (subsets_of result.entries.now ≡ self.now.subsets) }
-    {
-        Row {
-            entries: self.entries,
-            ends: &self.ends,
-            place: self.place,
-        }
-    }
-
     /// The line of the next item of the first subset, or the line that ends that subset.
     pub fn line(&self) -> u64
         ensures { result ≡ first_line_at self.now.place self.now.subsets }
     {
-        self.row().first_line()
+        let row = Row {
+            entries: self.entries,
+            ends: &self.ends,
+            place: self.place,
+        };
+        row.first_line()
     }
 
     /// Checks that all subsets are at their ends.
@@ -191,7 +153,12 @@ impl<'s> PackedOut<'s> {
     pub fn end(&self) -> Result<(), DraftFault>
         ensures { EndsAllSubsets self.now.place self.now.subsets result }
     {
-        all_at_end(self.row())
+        let row = Row {
+            entries: self.entries,
+            ends: &self.ends,
+            place: self.place,
+        };
+        all_at_end(row)
     }
 
     /// Returns the octets of the bits of whole items, with zero bits to the next octet. It takes no
@@ -200,23 +167,12 @@ impl<'s> PackedOut<'s> {
         ensures bits { bits_of result.items ≡ self.entry.bits ++ padding (length self.entry.bits) }
         ensures len { vec_len result ≡ (length self.entry.bits + 7) / 8 }
     {
-        let PackedOut {
-            entries: _,
-            ends: _,
-            place: _,
-            drawn: _,
-            out,
-        } = self;
-        out.into_octets()
+        self.out.into_octets()
     }
 }
 
 impl<'s> Fields for PackedOut<'s> {
     type Fault = DraftFault;
-
-    ghost use Rattle.std.specs.Prelude.{length};
-    ghost use Rattle.std.proofs.Common.{ap};
-    ghost use Rattle.bufr_fill.specs.PackedOut.{PackedFills};
 
     ghost used = { λ s. length s.bits };
 
@@ -226,19 +182,20 @@ impl<'s> Fields for PackedOut<'s> {
 
     ghost refuses = { λ s spec e next h. ap (λ c. length c.bits) h.1 };
 
+    // rule: fault-order-of-subsets
     fn take(&mut self, spec: &Spec) -> Result<Taken, DraftFault> {
         let row = Row {
             entries: self.entries,
             ends: &self.ends,
             place: self.place,
         };
-        match pack_next(row, spec, &mut self.drawn, &mut self.out) {
-            Ok(taken) => {
-                self.place += 1;
-                Ok(taken)
-            }
-            Err(why) => Err(why),
+        if (row.place as u64 + 1) * row.ends.len() as u64 > MAX_VALUES {
+            return Err(DraftFault::TooManyValues(row.first_line(), spec.fxy()));
         }
+        let range = read_row(row, spec, &mut self.drawn)?;
+        let taken = put_drawn(row, spec, &self.drawn, range, &mut self.out)?;
+        self.place += 1;
+        Ok(taken)
     }
 
     fn bits(&self) -> u64 {
@@ -258,24 +215,7 @@ pub(crate) struct Row<'a, 'b> {
     ghost near: { place ≤ 2 ^ 45 },
 }
 
-/// The index where a subset's entries begin, by the indices of the entries that end subsets.
-#[tactic(auto, using(crate::proofs::EntryLemmas::begin_more, crate::proofs::EntryLemmas::begin_none))]
-fn begin_of(ends: &[usize], subset: usize) -> usize
-    requires subset { subset < length ends.now }
-    requires few { (i : ℕ) → i < length ends.now → get_or ends.now i 0 < 2 ^ 45 }
-    ensures value { result ≡ begin_of 0 ends.now subset }
-    ensures few { result ≤ 2 ^ 45 }
-{
-    if subset == 0 { 0 } else { ends[subset - 1] + 1 }
-}
-
 impl<'a, 'b> Row<'a, 'b> {
-    ghost use Rattle.std.specs.Prelude.{◌≡◌, ◌<◌, length, slice_get, Some};
-    ghost use Rattle.bufr_fill.specs.Encoding.{cells_at, RowCell};
-    ghost use Rattle.bufr_fill.specs.Draft.{subsets_of};
-    ghost use Rattle.bufr_fill.specs.Kept.{entry_with};
-    ghost use Rattle.bufr_fill.specs.PackedOut.{cell_entry, first_line_at, LineAt};
-
     /// Finds a subset's entry: its item, or its end where that comes first.
     #[inline(always)]
     fn find(self, subset: usize) -> (StoredEntry, &'a [u8])
@@ -284,7 +224,11 @@ impl<'a, 'b> Row<'a, 'b> {
             → slice_get (cells_at self.entry.place (subsets_of self.entry.entries.now)) subset
             ≡ Some c → entry_with result.0 result.1.now ≡ cell_entry c }
     {
-        let start = begin_of(self.ends, subset);
+        let start = if subset == 0 {
+            0
+        } else {
+            self.ends[subset - 1] + 1
+        };
         match self.entries.get(self.ends[subset].min(start + self.place)) {
             Some(found) => found,
             None => unreachable!(),
@@ -294,7 +238,9 @@ impl<'a, 'b> Row<'a, 'b> {
     /// The line of a subset's entry.
     fn line_of(self, subset: usize) -> u64
         requires { subset < length self.ends.now }
-        ensures { LineAt self.entry.place subset self.entry.entries.now result }
+        ensures { (c : RowCell)
+            → slice_get (cells_at self.entry.place (subsets_of self.entry.entries.now)) subset
+            ≡ Some c → result ≡ cell_line c }
     {
         let (entry, _octets) = self.find(subset);
         entry.line
@@ -448,11 +394,6 @@ pub(crate) struct NumberRange {
 }
 
 impl NumberRange {
-    ghost use Rattle.std.specs.Prelude.{ℕ, List, ◌≡◌, [], ◌∷◌, ◌++◌, unwrap_or};
-    ghost use Rattle.bufr_fill.specs.declared.field_value.FieldContent.{FieldContent};
-    ghost use Rattle.bufr_fill.specs.PackedOut.{IsRangeOf, contents_drawn};
-    ghost use Rattle.bufr_fill.specs.Encoding.{lowest};
-
     /// The range of no contents.
     pub(crate) fn new() -> NumberRange
         ensures { IsRangeOf result [] }
@@ -534,20 +475,6 @@ fn put_increments(out: &mut BitWriter, drawn: &[FieldContent<'_>], base: u64, k:
     }
 }
 
-/// The least `k` whose bits write the increments of numbers of this range.
-fn increment_width(range: NumberRange, spec: &Spec) -> u32
-    requires number { is_character spec.now.kind ≡ false }
-    requires element { is_reference spec.now.role ≡ false }
-    ensures { (count : ℕ) (contents : List FieldContent) → AllDrawn spec.now contents
-        → IsRangeOf range contents → IsIncrementWidth spec.now
-        (unwrap_or (lowest (contents_drawn count contents)) 0) contents result }
-{
-    // For the proof alone: a number has at most 63 bits.
-    let _width = spec.width();
-    let most = range.greatest.saturating_sub(range.base());
-    least_bits(most, spec.may_be_missing())
-}
-
 /// Writes numbers that differ: the least of them, `k`, and the increments over it.
 // rule: packs-numbers
 fn pack_numbers(
@@ -566,7 +493,7 @@ fn pack_numbers(
 {
     let width = spec.width();
     let base = range.base();
-    let k = increment_width(range, spec);
+    let k = least_bits(range.greatest.saturating_sub(base), spec.may_be_missing());
     out.reserve(u64::from(width) + 6 + drawn.len() as u64 * u64::from(k))?;
     out.put(base, width);
     out.put(u64::from(k), 6);
@@ -588,45 +515,27 @@ fn trimmed_len(octets: &[u8]) -> usize
     0
 }
 
-/// How many octets determine a text, and one more where all are 255, so that none reads as missing.
+/// How many octets determine all texts, and one more where all are 255, so that none reads as
+/// missing.
+#[tactic(auto, using(crate::proofs::RowLemmas::eighth_most, crate::proofs::RowLemmas::need_more, crate::proofs::RowLemmas::need_done, crate::proofs::RowLemmas::drawn_at))]
 // rule: packs-texts-not-missing
-fn text_need(octets: &[u8]) -> usize
-    requires { length octets.now ≤ 255 }
-    ensures { result ≡ need octets.now }
-{
-    let len = trimmed_len(octets);
-    if is_all_255(&octets[..len]) {
-        len + 1
-    } else {
-        len
-    }
-}
-
-/// How many octets determine a content, where that is a text.
-#[tactic(auto, using(crate::proofs::RowLemmas::eighth_most))]
-fn drawn_need(drawn: FieldContent<'_>, spec: &Spec) -> usize
-    requires { IsDrawn spec.now drawn }
-    ensures value { result ≡ need_of drawn.entry }
-{
-    // For the proof alone: a text has at most 255 octets.
-    let _width = spec.width();
-    match drawn {
-        FieldContent::Text(octets) => text_need(octets),
-        FieldContent::Number(_) => 1,
-        FieldContent::Missing => 1,
-        FieldContent::Reference(_) => 1,
-    }
-}
-
-/// How many octets determine all texts.
-#[tactic(auto, using(crate::proofs::RowLemmas::need_more, crate::proofs::RowLemmas::need_done, crate::proofs::RowLemmas::drawn_at))]
 fn octets_needed(drawn: &[FieldContent<'_>], spec: &Spec) -> usize
     requires { AllDrawn spec.now drawn.now }
     ensures { result ≡ most_need drawn.now }
 {
+    // For the proof alone: a text has at most 255 octets.
+    let _width = spec.width();
     let mut most: usize = 1;
     for d in drawn {
-        most = drawn_need(*d, spec).max(most);
+        if let FieldContent::Text(octets) = *d {
+            let len = trimmed_len(octets);
+            let needed = if is_all_255(&octets[..len]) {
+                len + 1
+            } else {
+                len
+            };
+            most = needed.max(most);
+        }
     }
     most
 }
@@ -646,9 +555,7 @@ fn put_prefix(out: &mut BitWriter, drawn: FieldContent<'_>, k: usize, spec: &Spe
     let _width = spec.width();
     match drawn {
         FieldContent::Text(octets) => out.put_octets(&with_spaces(octets)[..k]),
-        FieldContent::Number(_) => put_full(out, k),
-        FieldContent::Missing => put_full(out, k),
-        FieldContent::Reference(_) => put_full(out, k),
+        _ => put_full(out, k),
     }
 }
 
@@ -666,20 +573,8 @@ fn put_prefixes(out: &mut BitWriter, drawn: &[FieldContent<'_>], k: usize, spec:
     }
 }
 
-/// Writes zeros as wide as a text.
-#[tactic(auto, using(crate::proofs::RowLemmas::zero_bits))]
-fn put_zeros(out: &mut BitWriter, spec: &Spec)
-    requires text { is_character spec.now.kind ≡ true }
-    requires room { spec.now.width ≤ out.old.room }
-    ensures bits { out.new.bits ≡ out.old.bits ++ replicate spec.now.width false }
-    ensures len { length out.new.bits ≡ length out.old.bits + spec.now.width }
-    ensures room { out.old.room ≤ out.new.room + spec.now.width }
-{
-    let zeros = [0u8; 255];
-    out.put_octets(&zeros[..(spec.width() / 8) as usize]);
-}
-
 /// Writes texts that differ: a base of zero bits, `k`, and the first `k` octets of each.
+#[tactic(auto, using(crate::proofs::RowLemmas::zero_bits))]
 // rule: packs-texts
 fn pack_texts(
     out: &mut BitWriter,
@@ -698,26 +593,9 @@ fn pack_texts(
 {
     let width = spec.width();
     out.reserve(u64::from(width) + 6 + drawn.len() as u64 * (8 * k as u64))?;
-    put_zeros(out, spec);
+    let zeros = [0u8; 255];
+    out.put_octets(&zeros[..(width / 8) as usize]);
     out.put(k as u64, 6);
     put_prefixes(out, drawn, k, spec);
-    Ok(())
-}
-
-/// Writes contents that are all the same: the first of them, and no increments.
-// rule: packs-equal, packs-all-missing
-fn pack_alike(out: &mut BitWriter, first: FieldContent<'_>, spec: &Spec) -> Result<(), AllocError>
-    requires first { IsDrawn spec.now first }
-    requires room { length out.old.bits + 2046 ≤ 2 ^ 63 }
-    ensures bits { OnOk result (out.new.bits ≡ out.old.bits
-        ++ (bits_for spec.now.width (content_drawn (spec.now.width / 8) first.entry)
-        ++ (bits_in 0 6 ++ []))) }
-    ensures some { OnOk result (length out.old.bits < length out.new.bits) }
-    ensures most { OnOk result (length out.new.bits ≤ length out.old.bits + 2046) }
-    ensures err { OnErr result (out.new.bits ≡ out.old.bits) }
-{
-    out.reserve(u64::from(spec.width()) + 6)?;
-    put_content(out, first, spec);
-    out.put(0, 6);
     Ok(())
 }

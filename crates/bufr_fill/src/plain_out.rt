@@ -1,4 +1,10 @@
 //! The writer of data that are not compressed, from the items of a dump text.
+ghost use Rattle.std.specs.Prelude.{◌≡◌, ◌≤◌, ◌+◌, ◌/◌, ◌^◌, ◌++◌, [], length, vec_len};
+ghost use Rattle.bufr_bits.specs.Prelude.{bits_of, padding};
+ghost use Rattle.bufr_fill.specs.PlainOut.{plain_out_model, line_at, EndsSubset};
+ghost use Rattle.std.proofs.Common.{ap};
+ghost use Rattle.bufr_fill.specs.Prelude.{PlainFills};
+
 use crate::draft::Entries;
 use crate::fault::{DraftFault, Expected};
 use crate::field_value::{FieldContent, field_content, push_content, taken_of, wrong_item};
@@ -36,10 +42,6 @@ impl<'s> Model for PlainOut<'s> {
 }
 
 impl<'s> PlainOut<'s> {
-    ghost use Rattle.std.specs.Prelude.{◌≡◌, ◌≤◌, ◌+◌, ◌/◌, ◌^◌, ◌++◌, [], length, vec_len};
-    ghost use Rattle.bufr_bits.specs.Prelude.{bits_of, padding};
-    ghost use Rattle.bufr_fill.specs.PlainOut.{plain_out_model, line_at, EndsSubset};
-
     /// The items of all subsets and the lines that end them, at most 2^45 together. It takes no
     /// memory.
     pub fn new(alloc: Global, entries: &'s Entries) -> PlainOut<'s>
@@ -89,21 +91,12 @@ impl<'s> PlainOut<'s> {
         ensures bits { bits_of result.items ≡ self.entry.bits ++ padding (length self.entry.bits) }
         ensures len { vec_len result ≡ (length self.entry.bits + 7) / 8 }
     {
-        let PlainOut {
-            entries: _,
-            place: _,
-            out,
-        } = self;
-        out.into_octets()
+        self.out.into_octets()
     }
 }
 
 impl<'s> Fields for PlainOut<'s> {
     type Fault = DraftFault;
-
-    ghost use Rattle.std.specs.Prelude.{length};
-    ghost use Rattle.std.proofs.Common.{ap};
-    ghost use Rattle.bufr_fill.specs.PlainOut.{PlainFills};
 
     ghost used = { λ s. length s.bits };
 

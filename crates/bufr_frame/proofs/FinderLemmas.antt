@@ -4,12 +4,12 @@ use Rattle.std.specs.Io.KnownBytes.{Consumes, IsAtEnd}
 use Rattle.std.proofs.KnownBytes.{Consumes-nil, Consumes-trans}
 use Rattle.bufr_bits.specs.Prelude.{counted}
 use Rattle.bufr_bits.proofs.CountLemmas.{counted-counted, counted-none}
-use Rattle.bufr_frame.specs.Prelude.{AddsReads, max_reads, ReadsOnce, ReadsInput, InputEnds, FillFails, FillEnds, Candidate, StreamEvent, FrameAt, scan, scan_from, open_scan, stream_event, candidate_len, is_decided, Advances, NoEventCertain, first_event, StrayAt, has_word_at, classify, length_here, longest_of, offset_of, IsNextEvent, IsIncomplete, event_by, gone_to, ReadsMore, FinderModel, ReadsAndPasses, Follows, CountsReads, new_finder, IsStatedLength, Raised, input_left, RaisesLongest, HasNoMoreEvents, held, EachReadIsNeeded, CallReadsAreNeeded, ReturnsNextEvent, LeavesFinder, events_returned}
+use Rattle.bufr_frame.specs.Prelude.{AddsReads, max_reads, ReadsOnce, ReadsInput, InputEnds, FillFails, FillEnds, Candidate, StreamEvent, FrameAt, scan, scan_from, open_scan, stream_event, candidate_len, is_decided, Advances, NoEventCertain, first_event, StrayAt, has_word_at, classify, length_here, longest_of, offset_of, IsNextEvent, IsIncomplete, event_by, gone_to, ReadsMore, FinderModel, ReadsAndPasses, Follows, CountsReads, new_finder, IsStatedLength, input_left, RaisesLongest, HasNoMoreEvents, held, EachReadIsNeeded, CallReadsAreNeeded, ReturnsNextEvent, LeavesFinder, events_returned}
 use Rattle.bufr_frame.specs.declared.fault.RunFault.{RunFault}
 use Rattle.bufr_frame.specs.declared.fault.RunFault.TheVariants.{Read, Write, InputTooLong, Memory}
-use Rattle.std.proofs.lemmas.List.{drop-take, take_at, drop-append-le}
+use Rattle.std.proofs.lemmas.List.{drop-take, take_all, take_at, drop-append-le}
 use Rattle.std.proofs.Math.Seq.{take-add}
-use Rattle.bufr_frame.proofs.ScanLemmas.{drop-twice, take_while-all, open-sees, raised-open, raised-read, scan_from-nil, scan_from-here, scan_from-nothing, verdict-nothing, taken-bounds, cut-so, length-eight, stated-prefix}
+use Rattle.bufr_frame.proofs.ScanLemmas.{Raised, drop-twice, take_while-all, open-sees, raised-open, raised-read, scan_from-nil, scan_from-here, scan_from-nothing, verdict-nothing, taken-bounds, cut-so, length-eight, stated-prefix}
 use Rattle.std.specs.List.{list_all, concat}
 use Rattle.std.proofs.lemmas.Bool.{true≢false, cases_Bool, false≢true, cases_lt, and_parts}
 use Rattle.std.proofs.lemmas.Grind.{common_steps}
@@ -27,6 +27,10 @@ pub record ReadSoFar (left mid : Option (List ℕ)) (old now : List ℕ) : Type 
 
 pub read-none : (left : Option (List ℕ)) (old : List ℕ) → ReadSoFar left left old old
 read-none left old = record { octets = []; read = Consumes-nil left; held = sym (append-nil old) }
+
+-- octets are kept where room is made after them
+pub kept-first : (xs ys zs : List ℕ) (held n : ℕ) → held ≡ length xs → ys ≡ take n xs ++ zs → length xs ≤ n → take held ys ≡ xs
+kept-first xs ys zs held n len is most = ap (take held) (is ∙ ap (λ l. l ++ zs) (take_all n xs most)) ∙ take_at xs zs held (sym len)
 
 pub read-more : (left mid left' : Option (List ℕ)) (old now now' bs : List ℕ) (result : Result ℕ RunFault)
     → ReadSoFar left mid old now → ReadsOnce mid left' now now' result bs → ReadSoFar left left' old now'
@@ -423,7 +427,7 @@ done-again left left' reads reads' old new result next done = (only result next.
     none : (events : List StreamEvent) → Advances new.ended old.at (old.rest ++ next.steps.0) events new.at new.rest → events ++ scan_from 0 new.at (new.rest ++ []) ≡ []
     none events advances = sym (advances.whole [] (λ _. refl)) ∙ ap (scan_from 0 old.at) (append-nil (old.rest ++ next.steps.0) ∙ ap (λ l. old.rest ++ l) kept.1 ∙ append-nil old.rest) ∙ done.1 old.at
 
-    only : (r : Result Event RunFault) → Advances new.ended old.at (old.rest ++ next.steps.0) (events_returned r) new.at new.rest → LeavesFinder old new r → r ≡ Ok event.Done
+    only : (r : Result Event RunFault) → Advances new.ended old.at (old.rest ++ next.steps.0) (events_returned [] r) new.at new.rest → LeavesFinder old new r → r ≡ Ok event.Done
     only (Ok (event.Frame offset octets)) advances ends = absurd (let e = none (FrameAt offset octets.now ∷ []) advances in cc)
     only (Ok (event.Stray offset cause)) advances ends = absurd (let e = none (StrayAt offset cause ∷ []) advances in cc)
     only (Ok event.Done) advances ends = refl

@@ -1,16 +1,15 @@
 -- How a scan goes on, and what octets after it cannot change.
-use Rattle.std.proofs.Common.{◌≡◌, ℕ, zero, suc, ◌+◌, ◌-◌, ◌<◌, ◌≤◌, Bool, true, false, List, [], ◌∷◌, ◌++◌, length, take, drop, codes, refl, sym, ◌∙◌, ap, subst, arith, add-zero, length-take, length-drop, Option, Some, None, ◌⊎◌, inl, inr, ◌*◌, append_assoc, length-append, get_or, append-nil, below_more, MatchOption, nat_lt, not, ◌≢◌, if◌then◌else◌, take_while, min, max, slice_index}
+use Rattle.std.proofs.Common.{◌≡◌, ℕ, zero, suc, ◌+◌, ◌-◌, ◌<◌, ◌≤◌, Bool, true, false, List, [], ◌∷◌, ◌++◌, length, take, drop, codes, refl, sym, ◌∙◌, ap, subst, arith, add-zero, length-take, length-drop, Option, Some, None, ◌⊎◌, inl, inr, append_assoc, length-append, get_or, append-nil, below_more, MatchOption, nat_lt, not, ◌≢◌, if◌then◌else◌, take_while, min, max, slice_index}
 use Rattle.std.proofs.Math.Seq.{drop-nil, drop-length}
 use Rattle.std.proofs.lemmas.Bool.{false_from_ne_true, true≢false, cases_Bool, cases_lt, and_parts}
 use Rattle.std.proofs.lemmas.Slice.Eq.{bytes_eq-Decides}
 use Rattle.std.proofs.lemmas.Grind.{common_steps}
 use Rattle.memchr.specs.Find.{OccursAt, FindsNeedle, Nowhere}
 use Rattle.memchr.proofs.lemmas.MatchLemmas.{OccursAt-from_part, OccursAt-part}
-use Rattle.bufr_frame.specs.Prelude.{Candidate, scan_from, classify, has_word_at, stated_length, stream_event, candidate_len, StreamEvent, scan, open_scan, is_decided, Advances, NoEventCertain, length_here, longest_of, first_event, FrameAt, StrayAt, StartsWithBufr, IsNextEvent, IsIncomplete, HasNoFurtherEvent, Raised, event_by, FinderModel, Follows, RaisesLongest, max_octets}
+use Rattle.bufr_frame.specs.Prelude.{Candidate, scan_from, classify, has_word_at, stated_length, stream_event, candidate_len, StreamEvent, scan, open_scan, is_decided, Advances, NoEventCertain, length_here, longest_of, first_event, FrameAt, StrayAt, StartsWithBufr, IsNextEvent, IsIncomplete, HasNoFurtherEvent, event_by, FinderModel, Follows, RaisesLongest, max_octets}
 use Rattle.bufr_frame.specs.declared.finder.Candidate.TheVariants.{Nothing, Stray, Frame}
 use Rattle.bufr_frame.specs.declared.fault.Cause.TheVariants.{Cut, ShortLength, NoEnd}
 use Rattle.std.specs.List.{list_all, prefix_len, AllByRecursion}
-use Rattle.std.specs.Str.{bytes_eq}
 use Rattle.std.proofs.lemmas.Bool.Decides.{nat_tests}
 use Rattle.std.proofs.lemmas.List.{get_or-drop, get_or_append_left, take-append-le, drop-append-le}
 use Rattle.std.proofs.lemmas.List.Folds.{list_all-append}
@@ -435,6 +434,10 @@ open-prefix s t =
 
 max-none : (n : ℕ) → max n 0 ≡ n
 max-none n = omega arith
+
+-- how the greatest length grew since it was `old`: by the length that a first `BUFR` states, or not
+abbrev pub Raised : (old now : ℕ) → List ℕ → Type 0
+Raised old now rest = (now ≡ old) ⊎ (StartsWithBufr rest × (8 ≤ length rest) × (now ≡ max old (stated_length rest)))
 
 -- the length at a place, where the greatest length grows by it
 pub raise : (a b place size : ℕ) (rest : List ℕ) → Raised a b rest → (StartsWithBufr rest → place ≡ 0) → size ≡ length_here (drop place rest) → max b size ≡ max a size

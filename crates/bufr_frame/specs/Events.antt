@@ -1,5 +1,4 @@
--- The meaning of an event of the code.
--- Cited by public contracts.
+-- The meaning of an event of the code. Cited by public contracts.
 use Rattle.std.specs.Prelude.{List, [], ◌∷◌, ◌≤◌, length}
 use Rattle.bufr_frame.specs.Scan.{StreamEvent, FrameAt, StrayAt}
 use Rattle.bufr_frame.specs.declared.finder.Event.{Event}

@@ -1,5 +1,4 @@
--- The model of a finder, what its search finds, and what a call of it does.
--- Cited by public contracts.
+-- The model of a finder, its search, and what a call of it does. Cited by public contracts.
 use Rattle.std.specs.Prelude.{◌≡◌, ◌≢◌, ℕ, ◌+◌, ◌*◌, ◌<◌, ◌≤◌, max, Bool, true, false, List, [], ◌∷◌, ◌++◌, Option, Some, None, length, drop, ◌-◌, Result, Ok, Err, MatchResult, take, ◌⊎◌, ◌^◌, codes, IfSome}
 use Rattle.std.specs.List.{concat}
 use Rattle.std.specs.Io.KnownBytes.{Consumes, IsAtEnd}
@@ -88,8 +87,7 @@ abbrev pub IsUndecided : FinderModel → RunFault → Type 0
 IsUndecided s fault = (s.fault ≡ Some fault) × (s.ended ≡ false)
     × ((at : ℕ) → NoEventCertain at s.rest)
 
--- how a fault leaves a finder: it is never one of a write; an input is too long only after 2^32
--- reads, and memory is needed only before
+-- how a fault leaves a finder: too long is only after 2^32 reads, and memory is needed only before
 abbrev pub StopsFinder : FinderModel → RunFault → Type 0
 StopsFinder new Read = IsUndecided new Read
 StopsFinder new Write = ⊥
@@ -100,16 +98,14 @@ StopsFinder new Memory = IsUndecided new Memory × (new.reads < max_reads)
 abbrev pub ReadsOnlyIfUndecided : FinderModel → FinderModel → Type 0
 ReadsOnlyIfUndecided old new = old.reads ≢ new.reads → NoEventCertain old.at old.rest
 
--- Reads one after another, with what each gave, where `left` is what was left before the first. No
--- read was made while an event was certain in `left` and the octets read so far. No read gave more
--- than `most` octets.
+-- Reads one after another: none was made while an event was certain in what was left and the octets
+-- read so far, and none gave more than `most` octets.
 abbrev pub EachReadIsNeeded : (most at : ℕ) (left : List ℕ) (given : List (List ℕ)) → Type 0
 EachReadIsNeeded most at left [] = Unit {0}
 EachReadIsNeeded most at left (octets ∷ more) =
     NoEventCertain at left × (length octets ≤ most) × EachReadIsNeeded most at (left ++ octets) more
 
--- The octets of a call are what its reads gave. Each read was needed, and gave no more than may be
--- held.
+-- The octets of a call are what its reads gave, each needed, and no more than may be held.
 pub record CallReadsAreNeeded (old new : FinderModel) (bs : List ℕ) : Type 0 where
   pub given : List (List ℕ)
   pub octets : bs ≡ concat given
@@ -138,21 +134,16 @@ event_by s offset len Nothing = []
 event_by s offset len (Stray cause) = StrayAt offset cause ∷ []
 event_by s offset len Frame = FrameAt offset (drop (length s.before - len) s.before) ∷ []
 
--- the event that was passed last, from its offset and length
-abbrev pub passed_events : FinderModel → PassedEvent → List StreamEvent
-passed_events s p = event_by s p.offset p.len p.here
+-- after a fault the first event that is left counts
+abbrev pub first_left : FinderModel → List StreamEvent
+first_left s = first_event (scan_from 0 s.at s.rest)
 
--- the events of a call that passes one
-abbrev pub events_by : FinderModel → Result (Option PassedEvent) RunFault → List StreamEvent
-events_by s (Ok (Some passed)) = passed_events s passed
-events_by s (Ok None) = []
-events_by s (Err fault) = []
-
--- the events whose stated length counts: after a fault the first that is left
-abbrev pub seen_by : FinderModel → Result (Option PassedEvent) RunFault → List StreamEvent
-seen_by s (Ok (Some passed)) = passed_events s passed
-seen_by s (Ok None) = []
-seen_by s (Err fault) = first_event (scan_from 0 s.at s.rest)
+-- the events of a call that passes one, or these after a fault
+abbrev pub events_by : FinderModel → List StreamEvent → Result (Option PassedEvent) RunFault
+    → List StreamEvent
+events_by s failed (Ok (Some passed)) = event_by s passed.offset passed.len passed.here
+events_by s failed (Ok None) = []
+events_by s failed (Err fault) = failed
 
 -- An event was passed: it ends where the rest begins, and it is held.
 pub record PassesEvent (old new : FinderModel) (passed : PassedEvent) : Type 0 where
@@ -163,15 +154,6 @@ pub record PassesEvent (old new : FinderModel) (passed : PassedEvent) : Type 0 w
   pub some : passed.here ≢ Nothing
   pub frame : passed.here ≡ Frame → 12 ≤ passed.len
   pub stray : passed.here ≢ Frame → passed.len ≡ 4
-
--- how a call that passes an event leaves a finder
-abbrev pub AdvancesFinder : FinderModel → FinderModel → Result (Option PassedEvent) RunFault
-    → Type 0
-AdvancesFinder old new (Ok (Some passed)) = PassesEvent old new passed
-AdvancesFinder old new (Ok None) = (new.fault ≡ None) × HasNoMoreEvents new
-AdvancesFinder old new (Err fault) =
-    (old.ended ≡ false) × (old.fault ≡ None → StopsFinder new fault)
-    × (old.fault ≡ None → GrowsOnlyIfFull old new fault)
 
 -- the input of a finder as far as it is left
 abbrev pub input_left : FinderModel → InputModel
@@ -219,8 +201,7 @@ pub record IsNextEvent (ended : Bool) (rest : List ℕ) (place : ℕ) (here : Ca
       (at + place + candidate_len (drop place rest) here)
       (drop (place + candidate_len (drop place rest) here) rest)
 
--- No event is certain, and none begins before `place`. `BUFR` begins there, or too few octets to
--- decide are left.
+-- No event is certain or begins before `place`; there is a `BUFR`, or too few octets to decide.
 pub record IsIncomplete (rest : List ℕ) (place stated_length : ℕ) : Type 0 where
   pub within : place ≤ length rest
   pub first : StartsWithBufr rest → place ≡ 0
@@ -240,23 +221,16 @@ IsStatedLength m stated_length = (stated_length ≡ length_here m) × (stated_le
 
 -- what octets show; more may come after them unless the end was reached
 abbrev pub IsSearchResult : Bool → List ℕ → SearchResult → Type 0
-IsSearchResult ended rest (Found found) =
-    IsNextEvent ended rest found.place found.here × IsStatedLength (drop found.place rest)
-    found.stated_length
-IsSearchResult ended rest (NeedsMore wanted) =
-    (ended ≡ false) × IsIncomplete rest wanted.place wanted.stated_length
-    × IsStatedLength (drop wanted.place rest) wanted.stated_length
+IsSearchResult ended rest (Found place here stated_length) =
+    IsNextEvent ended rest place here × IsStatedLength (drop place rest) stated_length
+IsSearchResult ended rest (NeedsMore place stated_length) =
+    (ended ≡ false) × IsIncomplete rest place stated_length
+    × IsStatedLength (drop place rest) stated_length
 IsSearchResult ended rest End = (ended ≡ true) × HasNoFurtherEvent rest
-
--- how the greatest length grew since it was `old`: by the length that a first `BUFR` states, or not
-abbrev pub Raised : (old now : ℕ) → List ℕ → Type 0
-Raised old now rest =
-    (now ≡ old) ⊎ (StartsWithBufr rest × (8 ≤ length rest) × (now ≡ max old (stated_length rest)))
 
 -- ---- How a finder keeps its octets: those that were passed, and after them those that are left.
 
--- its offsets and counts are small; it holds no more than the greatest stated length needs; no
--- fault comes after the end; and it searches for `BUFR`
+-- its counts are small, it holds no more than it needs, and no fault comes after the end
 abbrev pub IsFinder : Inside → Type 0
 IsFinder f =
     (f.passed ≤ length f.input.held)
@@ -267,16 +241,10 @@ IsFinder f =
 
 -- ---- What a call of Finder::next returns.
 
--- the events of an answer
-abbrev pub events_returned : Result Event RunFault → List StreamEvent
-events_returned (Ok event) = events_of event
-events_returned (Err fault) = []
-
--- the events whose stated length counts: those returned, and after a fault the first that is left,
--- which is not certain
-abbrev pub seen_at : FinderModel → Result Event RunFault → List StreamEvent
-seen_at new (Ok event) = events_of event
-seen_at new (Err fault) = first_event (scan_from 0 new.at new.rest)
+-- the events of an answer, or these after a fault
+abbrev pub events_returned : List StreamEvent → Result Event RunFault → List StreamEvent
+events_returned failed (Ok event) = events_of event
+events_returned failed (Err fault) = failed
 
 -- how a call leaves the finder; a frame is held whole, before what is left
 abbrev pub LeavesFinder : FinderModel → FinderModel → Result Event RunFault → Type 0
@@ -290,12 +258,19 @@ LeavesFinder old new (Err fault) =
     (old.ended ≡ false) × (old.fault ≡ None → StopsFinder new fault)
     × (old.fault ≡ None → GrowsOnlyIfFull old new fault)
 
--- A call reads some octets, and the scan of what was left and of these begins with the event
--- returned. No read is made while anything that is left is certain.
+-- how a call that passes an event leaves a finder
+abbrev pub AdvancesFinder : FinderModel → FinderModel → Result (Option PassedEvent) RunFault
+    → Type 0
+AdvancesFinder old new (Ok (Some passed)) = PassesEvent old new passed
+AdvancesFinder old new (Ok None) = LeavesFinder old new (Ok Done)
+AdvancesFinder old new (Err fault) = LeavesFinder old new (Err fault)
+
+-- A call reads octets only while nothing is certain, and returns the first event of these.
 pub record ReturnsNextEvent (left left' : Option (List ℕ)) (reads reads' : ℕ)
     (old new : FinderModel)
     (result : Result Event RunFault) : Type 0 where
-  pub steps : ReadsOn left left' old new (events_returned result) (seen_at new result)
+  pub steps : ReadsOn left left' old new (events_returned [] result)
+      (events_returned (first_left new) result)
   pub ends : LeavesFinder old new result
   pub counts : CountsReads reads reads' old new
   pub waits : ReadsOnlyIfUndecided old new

@@ -1,5 +1,4 @@
--- What reading an input gives, piece by piece or to its end, and how many reads it takes.
--- (A choice of this project)
+-- What reading an input gives, and how many reads it takes. (a choice of this project)
 -- Cited by public contracts.
 use Rattle.std.specs.Prelude.{◌≡◌, ℕ, ◌-◌, ◌<◌, ◌≤◌, ◌^◌, Result, Ok, Err, ◌+◌, Bool, true, false, List, [], ◌++◌, length, Option, MatchResult}
 use Rattle.bufr_bits.specs.Prelude.{counted}
@@ -27,8 +26,7 @@ pub record AddsReads (reads reads' before after : ℕ) : Type 0 where
   pub order : before ≤ after
   pub most : after ≤ max_reads
 
--- at most 2^32 reads were made; an input is too long only after all of them, and memory is needed
--- only before
+-- at most 2^32 reads were made: all where the input is too long, fewer where memory is needed
 abbrev pub MakesReads : {X : Type 0} → (reads reads' : ℕ) → Result X RunFault → Type 0
 MakesReads reads reads' result =
     (n : ℕ) × (n ≤ max_reads) × (reads' ≡ counted reads n)
@@ -51,8 +49,7 @@ pub record InputModel : Type 0 where
 abbrev pub new_input : InputModel
 new_input = record { held = []; ended = false; reads = 0; room = 0; free = 0 }
 
--- why no octets come: the read failed; or none was made, after 2^32 of them, or where memory was
--- refused
+-- why no octets come: the read failed, or none was made after 2^32, or memory was refused
 abbrev pub FillFails : (refused : Type 0) → InputModel → InputModel → RunFault → Type 0
 FillFails refused old new Read = new.reads ≡ old.reads + 1
 FillFails refused old new Write = ⊥
@@ -66,8 +63,7 @@ FillEnds refused old new bs (Ok u) = (new.reads ≡ old.reads + 1) × (new.ended
 FillEnds refused old new bs (Err fault) =
     (bs ≡ []) × (new.ended ≡ false) × FillFails refused old new fault
 
--- One read: octets come after those that are held, or the end was reached, or there is a fault.
--- Memory is refused only where `refused` holds.
+-- One read: octets come after those held, or the end, or a fault; memory only where `refused`.
 pub record FillsInput (left left' : Option (List ℕ)) (old new : InputModel) (refused : Type 0)
     (result : Result (Unit {0}) RunFault) (bs : List ℕ) : Type 0 where
   pub read : Consumes left left' bs
@@ -84,8 +80,7 @@ pub record ReadsOnce (left left' : Option (List ℕ)) (old new : List ℕ) (resu
   pub outcome : MatchResult result (λ n. (n ≡ length bs) × (n ≡ 0 → IsAtEnd left'))
       (λ fault. (fault ≡ Read) × (bs ≡ []))
 
--- how the reading of an input ends: at its end, or by a fault, never of a write; it is too long
--- only after 2^32 reads, and memory is needed only before them
+-- how reading ends: at the end or by a fault; too long is after 2^32 reads, memory before them
 abbrev pub InputEnds : {X : Type 0} → (left : Option (List ℕ)) → (reads : ℕ)
     → Result X RunFault → Type 0
 InputEnds left reads (Ok x) = IsAtEnd left
@@ -94,8 +89,7 @@ InputEnds left reads (Err Write) = ⊥
 InputEnds left reads (Err InputTooLong) = reads ≡ max_reads
 InputEnds left reads (Err Memory) = reads < max_reads
 
--- Reads to the end: the octets follow those that were held, and the end was reached unless there is
--- a fault.
+-- Reads to the end: the octets follow those held, and the end was reached unless there is a fault.
 pub record ReadsInput {X : Type 0} (left left' : Option (List ℕ)) (old new : List ℕ) (reads : ℕ)
     (result : Result X RunFault) (bs : List ℕ) : Type 0 where
   pub read : Consumes left left' bs

@@ -1,7 +1,5 @@
--- The layout of a message of edition 3 or 4. (WMO-No. 306, Volume I.2, FM 94: sections 0 to 5)
--- Cited by public contracts.
--- Lengths are the least that hold the parts, with sections 3 and 4 made even in edition 3. Reserved
--- octets and bits are zero, a choice of this project.
+-- The layout of a message of edition 3 or 4. (WMO-No. 306, Volume I.2, FM 94: sections 0 to 5; that
+-- lengths are the least, reserved bits zero, is this project's choice) Cited by public contracts.
 use Rattle.std.specs.Prelude.{◌≡◌, ℕ, ◌≤◌, ◌+◌, ◌*◌, ◌==◌, nat_le, ◌&&◌, ◌||◌, Bool, true, false, List, [], ◌∷◌, ◌++◌, Option, Some, None, length, codes, is_some, if◌then◌else◌}
 use Rattle.bufr_frame.specs.Octets.{three_octets, two_octets, octets_of_words}
 use Rattle.bufr_frame.specs.Section1.{Field, is_edition, Centre, Subcentre, Year, LocalSubcategory, Second, slots_of, slots_3, first_least, most_in, slot_octets, head_value}
@@ -52,14 +50,13 @@ abbrev pub with_even_length : (edition prefix : ℕ) → List ℕ → List ℕ
 with_even_length edition prefix octets = with_pad_octet (is_padded edition (prefix + length octets))
     octets
 
--- the octets of a message: 8 of section 0, those of section 1 with local use, and those of section
--- 2; 7 or more of section 3, 4 or more of section 4, and 4 of section 5
+-- how many octets a message has, section by section
 abbrev pub size_from : (edition local1 : ℕ) → Option (List ℕ) → (descriptors payload : ℕ) → ℕ
 size_from edition local1 section2 descriptors payload =
     8 + (first_least edition + local1) + section2_size section2
     + even_size edition (7 + 2 * descriptors) + even_size edition (4 + payload) + 4
 
--- the octets of a message of these parts
+-- how many octets a message of these parts has
 abbrev pub message_size : (edition : ℕ) → MessageParts → ℕ
 message_size edition p =
     size_from edition (length p.local1) p.section2 (length p.descriptors) (length p.payload)
@@ -69,8 +66,7 @@ message_size edition p =
 abbrev pub max_octets : ℕ
 max_octets = 16777215
 
--- how many octets more a message may have when it is written again: in edition 3 one for section 3
--- and one for section 4
+-- how many octets more a message may have when it is written again: in edition 3 for two paddings
 -- rule: becomes-canonical, encode-may-grow
 abbrev pub max_extra_octets : (edition : ℕ) → ℕ
 max_extra_octets edition = if edition == 3 then 2 else 0
@@ -84,15 +80,13 @@ section0_octets size edition = codes "BUFR" ++ three_octets size ++ edition ∷ 
 abbrev pub fits_3 : Head → Field → Bool
 fits_3 h field = nat_le (head_value h false field) (most_in slots_3 field)
 
--- a head that can be written: in edition 3 centre, sub-centre and year have one octet, and local
--- sub-category and second none
+-- a head that can be written: in edition 3 three values have one octet, and two have none
 abbrev pub is_writable : Head → Bool
 is_writable h =
     (h.edition == 4) || ((h.edition == 3) && (fits_3 h Centre
     && (fits_3 h Subcentre && (fits_3 h Year && (fits_3 h LocalSubcategory && fits_3 h Second)))))
 
--- The edition of a head is one that is read, and each of its values fits the octets that section 1
--- has for it.
+-- The edition of a head is one that is read, and each of its values fits its octets.
 pub record IsFitting (h : Head) : Type 0 where
   pub edition : is_edition h.edition ≡ true
   pub fits : (field : Field) → head_value h false field ≤ most_in (slots_of h.edition) field
@@ -123,8 +117,7 @@ section2_octets (Some octets) = section4_octets octets
 abbrev pub data_flags : (observed compressed : Bool) → ℕ
 data_flags observed compressed = (if observed then 128 else 0) + (if compressed then 64 else 0)
 
--- section 3: the length, a reserved octet, the number of subsets, the flags, then the octets of the
--- descriptors with the padding
+-- section 3: length, a reserved octet, number of subsets, flags, descriptors with the padding
 -- rule: section-3, reserved-zero, writes-no-pad-octet
 abbrev pub section3_octets : List ℕ → (subsets flags : ℕ) → List ℕ
 section3_octets content subsets flags =
@@ -140,8 +133,7 @@ message_octets h p =
     (octets_of_words p.descriptors)) p.subsets (data_flags p.observed p.compressed)
     ++ (section4_octets (with_even_length h.edition 4 p.payload) ++ codes "7777"))))
 
--- the sections of a message of these parts; in edition 3 the octet that makes section 4 even may
--- follow the payload
+-- the sections of a message of these parts; in edition 3 a padding may follow the payload
 abbrev pub sections_from : Head → MessageParts → Sections
 sections_from h p = record {
   head = h;

@@ -1,5 +1,4 @@
--- The numbers of the faults. (a choice of this project)
--- Cited by public contracts.
+-- The numbers of the faults. (a choice of this project) Cited by public contracts.
 use Rattle.std.specs.Prelude.{ℕ}
 use Rattle.bufr_frame.specs.declared.fault.Cause.{Cause}
 use Rattle.bufr_frame.specs.declared.fault.Cause.TheVariants as cause

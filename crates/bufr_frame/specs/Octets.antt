@@ -1,5 +1,4 @@
--- Numbers in octets, and words of two octets.
--- (WMO-No. 306, Volume I.2, FM 94: the most significant octet comes first)
+-- Numbers in octets. (WMO-No. 306, Volume I.2, FM 94: the most significant octet comes first)
 -- Cited by public contracts.
 use Rattle.std.specs.Prelude.{ℕ, ◌+◌, ◌*◌, ◌/◌, ◌%◌, List, [], ◌∷◌, slice_index}
 use Rattle.bufr_frame.specs.declared.message.Words.{Words}

@@ -1,6 +1,5 @@
 -- The events of a stream: its messages and stray words, their lengths, and how a scan goes on.
--- (The word and the length in octets 5 to 7: WMO-No. 306, Volume I.2, FM 94, section 0. The
--- treatment of a stray word is a choice of this project.)
+-- (WMO-No. 306, Volume I.2, FM 94, section 0; stray words are a choice of this project)
 -- Cited by public contracts.
 use Rattle.std.specs.Prelude.{ℕ, zero, suc, ◌+◌, ◌-◌, Bool, true, false, not, nat_lt, List, [], ◌∷◌, ◌++◌, length, take, drop, codes, if◌then◌else◌, take_while, max, ◌≡◌}
 use Rattle.std.specs.Str.{bytes_eq}
@@ -50,8 +49,7 @@ candidate_len m Nothing = 1
 candidate_len m (Stray cause) = 4
 candidate_len m Frame = stated_length m
 
--- the events of the octets that are left, after some are skipped; the first of them is at offset
--- `at`
+-- the events of the octets that are left, the first at offset `at`, after some are skipped
 -- rule: first-bufr
 unfoldable pub scan_from : (skip at : ℕ) → List ℕ → List StreamEvent
 scan_from skip at [] = []
@@ -99,8 +97,7 @@ first_event (event ∷ more) = event ∷ []
 
 -- ---- How a scan goes on after its first events. (a choice of this project)
 
--- The scan of `rest` begins with `events` and goes on at `rest'`, whatever comes after. After the
--- end nothing comes.
+-- The scan of `rest` is `events` and then that of `rest'`, whatever comes after these octets.
 pub record Advances (ended : Bool) (at : ℕ) (rest : List ℕ) (events : List StreamEvent) (at' : ℕ)
     (rest' : List ℕ) : Type 0 where
   pub whole : (t : List ℕ) → (ended ≡ true → t ≡ [])

@@ -1,8 +1,5 @@
--- Section 1 by edition: its fields, their order, and their octets. (WMO-No. 306, Volume I.2, FM 94:
--- section 1)
--- Cited by public contracts.
--- All else follows from these two tables: where a value is read, what is written, and which values
--- fit.
+-- Section 1 by edition: what is read, written and fits follows from the tables of its slots.
+-- (WMO-No. 306, Volume I.2, FM 94: section 1) Cited by public contracts.
 use Rattle.std.specs.Prelude.{ℕ, ◌+◌, ◌==◌, ◌||◌, Bool, List, [], ◌∷◌, ◌++◌, slice_index, if◌then◌else◌}
 use Rattle.bufr_frame.specs.Octets.{u16_at, two_octets}
 use Rattle.bufr_frame.specs.declared.section1.Head.{Head}

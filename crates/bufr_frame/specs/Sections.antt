@@ -1,8 +1,6 @@
 -- The sections of a message, or the first fault, and messages as `write_message` writes them.
--- (WMO-No. 306, Volume I.2, FM 94: sections 0 to 5)
--- Octets count from 0 here: section 1 begins at 8. Three choices of this project: reserved octets
--- and bits are ignored, bits after the data stay in the payload, and odd sections are read in
--- edition 3.
+-- (WMO-No. 306, Volume I.2, FM 94: sections 0 to 5) Octets count from 0. By choice of this project
+-- reserved bits are ignored, bits after the data stay, and odd sections are read in edition 3.
 -- Cited by public contracts.
 use Rattle.std.specs.Prelude.{ℕ, ◌+◌, ◌-◌, ◌%◌, ◌==◌, ◌&&◌, ◌||◌, Bool, not, nat_lt, nat_le, List, Option, Some, None, Result, Ok, Err, length, slice_index, slice_range, if◌then◌else◌, ◌≡◌, ◌<◌, true, All, take, drop, codes}
 use Rattle.bufr_frame.specs.Octets.{u24_at, u16_at, words}
@@ -35,8 +33,7 @@ abbrev pub ◌>>=◌ : {A B : Type 0} → Result A SectionFault → (A → Resul
 (Ok x) >>= f = f x
 (Err e) >>= f = Err e
 
--- where section k ends, which begins at p and has at least `least` octets; the last four octets are
--- section 5
+-- where section k ends, from p on, of at least `least` octets; the last four octets are section 5
 -- rule: odd-sections-read, length-past-end, length-under-least, section-past-end
 unfoldable pub section_end : List ℕ → (k least p : ℕ) → Result ℕ SectionFault
 section_end m k least p =
@@ -49,8 +46,7 @@ section_end m k least p =
 abbrev pub edition_of : List ℕ → ℕ
 edition_of m = slice_index m 7
 
--- whether a section 3 or 4 of `size` octets is written with a zero octet more: in edition 3, where
--- `size` is odd
+-- whether a section 3 or 4 of `size` octets is written with a zero octet more (edition 3 alone)
 abbrev pub is_padded : (edition size : ℕ) → Bool
 is_padded edition size = (edition == 3) && (size % 2 == 1)
 
@@ -82,8 +78,7 @@ parts m p1 p2 p3 p4 = record {
   size = length m;
 }
 
--- a message of edition 3 that is too long for the padding of an odd section 3 or 4: then three
--- octets might not state its length
+-- a message of edition 3 that is too long for the padding of an odd section 3 or 4
 -- rule: edition-3-length
 abbrev pub is_long_edition_3 : List ℕ → (p2 p3 p4 : ℕ) → Bool
 is_long_edition_3 m p2 p3 p4 =
@@ -98,8 +93,7 @@ parts_if_end_matches m p1 p2 p3 p4 =
     else if is_long_edition_3 m p2 p3 p4 then Err Edition3Long
     else Ok (parts m p1 p2 p3 p4)
 
--- the sections of a message, or the first fault: the edition comes first, then the sections in
--- their order, then the end
+-- the sections, or the first fault: of the edition, then of the sections in order, then of the end
 -- rule: edition-first, sections-in-order
 unfoldable pub sections_of : List ℕ → Result Sections SectionFault
 sections_of m = if not (is_edition (edition_of m)) then Err (Edition (edition_of m)) else do
@@ -109,8 +103,7 @@ sections_of m = if not (is_edition (edition_of m)) then Err (Edition (edition_of
   p4 ← section_end m 4 4 p3
   parts_if_end_matches m p1 p2 p3 p4
 
--- ---- Messages that are written as `write_message` writes them. (WMO-No. 306, Volume I.2, FM 94:
--- sections 0 to 5)
+-- ---- Messages that are as `write_message` writes them.
 
 -- the index where section 2 begins, or section 3 where there is no section 2
 abbrev pub section2_begins : List ℕ → ℕ
@@ -125,9 +118,8 @@ section3_begins m =
 abbrev pub section4_begins : List ℕ → ℕ
 section4_begins m = section3_begins m + u24_at m (section3_begins m)
 
--- A message as a finder returns it, with all reserved octets and bits zero and no octet left over
--- in section 3. In edition 3 sections 3 and 4 are even, and the octet left over in section 3 is
--- zero.
+-- A message as a finder returns it: reserved bits are zero, no octet is left over in section 3, and
+-- in edition 3 sections 3 and 4 are even and the octet left over is zero.
 -- rule: canonical
 pub record IsPlain (m : List ℕ) : Type 0 where
   pub octets : All (λ octet. octet < 256) m

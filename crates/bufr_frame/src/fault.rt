@@ -1,6 +1,7 @@
-//! Faults of a stream, of a message, of a run, and of writing a message.
-//!
-//! Each has a number, and shows as the text of its fault line.
+//! Faults of a stream, a message, a run and a write, each with a number and the text of its line.
+
+ghost use Rattle.std.specs.Prelude.{◌≡◌};
+ghost use Rattle.bufr_frame.specs.Numbers.{number_of_cause, number_of_section_fault, number_of_run_fault, number_of_write_fault};
 
 use std::alloc::AllocError;
 use thiserror::Error;
@@ -69,9 +70,6 @@ pub enum WriteFault {
 }
 
 impl Cause {
-    ghost use Rattle.std.specs.Prelude.{◌≡◌};
-    ghost use Rattle.bufr_frame.specs.Numbers.{number_of_cause};
-
     /// The number of this fault, 1 to 3.
     pub fn number(self) -> u8
         ensures { result ≡ number_of_cause self }
@@ -85,9 +83,6 @@ impl Cause {
 }
 
 impl SectionFault {
-    ghost use Rattle.std.specs.Prelude.{◌≡◌};
-    ghost use Rattle.bufr_frame.specs.Numbers.{number_of_section_fault};
-
     /// The number of this fault, 10 to 14.
     pub fn number(self) -> u8
         ensures { result ≡ number_of_section_fault self }
@@ -103,9 +98,6 @@ impl SectionFault {
 }
 
 impl RunFault {
-    ghost use Rattle.std.specs.Prelude.{◌≡◌};
-    ghost use Rattle.bufr_frame.specs.Numbers.{number_of_run_fault};
-
     /// The number of this fault, 70 to 73.
     pub fn number(self) -> u8
         ensures { result ≡ number_of_run_fault self }
@@ -120,9 +112,6 @@ impl RunFault {
 }
 
 impl WriteFault {
-    ghost use Rattle.std.specs.Prelude.{◌≡◌};
-    ghost use Rattle.bufr_frame.specs.Numbers.{number_of_write_fault};
-
     /// The number of this fault, 60 or 73.
     pub fn number(self) -> u8
         ensures { result ≡ number_of_write_fault self }
@@ -135,7 +124,6 @@ impl WriteFault {
 }
 
 impl From<AllocError> for RunFault {
-    ghost use Rattle.std.specs.Prelude.{◌≡◌};
     ghost use Rattle.bufr_frame.specs.declared.fault.RunFault.TheVariants.{Memory};
 
     ghost from_gives = { λ _ e. e ≡ Memory };
@@ -146,7 +134,6 @@ impl From<AllocError> for RunFault {
 }
 
 impl From<AllocError> for WriteFault {
-    ghost use Rattle.std.specs.Prelude.{◌≡◌};
     ghost use Rattle.bufr_frame.specs.declared.fault.WriteFault.TheVariants.{Memory};
 
     ghost from_gives = { λ _ e. e ≡ Memory };

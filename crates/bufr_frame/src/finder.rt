@@ -1,8 +1,13 @@
 //! The finder: the messages of a stream, one after another, and its search for `BUFR`.
-ghost use Rattle.std.specs.Prelude.{◌≡◌, ◌≢◌, ◌≤◌, ◌<◌, ◌+◌, ◌-◌, ◌^◌, ℕ, List, [], ◌∷◌, ◌++◌, length, take, drop, min, codes, IfOk, IfSome, MatchOption, vec_len, Some, None};
+ghost use Rattle.std.specs.Prelude.{◌≡◌, ◌≢◌, ◌≤◌, ◌<◌, ◌+◌, ◌-◌, ◌^◌, ℕ, List, [], ◌∷◌, ◌++◌, length, take, drop, min, codes, IfOk, IfSome, MatchOption, vec_len, Some, None, Option, true, false, max, IfNone, Err};
 ghost use Rattle.memchr.specs.Find.{FindsNeedle, IsFirst, OccursAt};
-ghost use Rattle.bufr_frame.specs.Scan.{classify, stated_length, has_word_at, length_here};
-ghost use Rattle.bufr_frame.specs.Finder.{IsSearchResult};
+ghost use Rattle.bufr_frame.specs.Scan.{classify, stated_length, has_word_at, length_here, candidate_len, scan_from, Advances};
+ghost use Rattle.bufr_frame.specs.Finder.{IsSearchResult, IsNextEvent, AdvancesFinder, PassesEvent, ReadsMore, KeepsRun, events_by, first_left, event_by, gone_to, FinderModel, held, Follows, ReadsOn, CountsReads, HasNoMoreEvents, ReadsOnlyIfUndecided, new_finder, ReturnsNextEvent, RepeatsFault, events_returned, IsFinder};
+ghost use Rattle.bufr_bits.specs.Prelude.{counted};
+ghost use Rattle.bufr_frame.specs.Events.{events_of, IsEvent};
+ghost use Rattle.bufr_frame.specs.Input.{read_failures_after, max_reads};
+ghost use Rattle.std.specs.Borrow.{sem};
+ghost use Rattle.std.specs.Io.BufRead.{Rests};
 
 use crate::fault::{Cause, RunFault};
 use crate::input::InputBuffer;
@@ -71,9 +76,6 @@ pub struct Finder {
 }
 
 impl Model for Finder {
-    ghost use Rattle.std.specs.Prelude.{take, drop};
-    ghost use Rattle.bufr_frame.specs.Finder.{FinderModel};
-
     ghost Value = { FinderModel };
 
     ghost view = { λ f. record {
@@ -87,21 +89,11 @@ impl Model for Finder {
       room = f.input.room;
     } };
 
-    ghost use Rattle.bufr_frame.specs.Finder.{IsFinder};
-
     ghost invariant = { IsFinder };
 }
 
 impl Finder {
-    ghost use Rattle.std.specs.Prelude.{◌≡◌, ◌≢◌, ◌≤◌, ◌<◌, ◌+◌, ◌-◌, ◌^◌, ℕ, List, [], ◌++◌, Option, Some, None, true, false, max, length, take, drop, IfSome, IfNone, Err};
-    ghost use Rattle.std.specs.Borrow.{sem};
-    ghost use Rattle.std.specs.Io.BufRead.{Rests};
-    ghost use Rattle.bufr_bits.specs.Prelude.{counted};
     ghost use Rattle.bufr_frame.specs.contracts.finder.Finder.{the_row};
-    ghost use Rattle.bufr_frame.specs.Scan.{candidate_len, scan_from, Advances, length_here};
-    ghost use Rattle.bufr_frame.specs.Events.{events_of, IsEvent};
-    ghost use Rattle.bufr_frame.specs.Finder.{IsSearchResult, IsNextEvent, AdvancesFinder, PassesEvent, ReadsMore, KeepsRun, events_by, seen_by, passed_events, gone_to, FinderModel, held, Follows, ReadsOn, CountsReads, HasNoMoreEvents, ReadsOnlyIfUndecided, new_finder, ReturnsNextEvent, RepeatsFault, events_returned};
-    ghost use Rattle.bufr_frame.specs.Input.{read_failures_after, max_reads};
 
     /// A finder that has read nothing.
     pub fn new(alloc: Global) -> Finder
@@ -151,8 +143,7 @@ impl Finder {
         find_event(&self.word, self.rest(), self.input.ended())
     }
 
-    /// Passes the first `n` octets that are left, and raises the greatest length to
-    /// `stated_length`.
+    /// Passes the first `n` octets that are left, where this length is stated.
     fn advance_to(&mut self, n: usize, stated_length: usize)
         requires within { n ≤ length self.old.rest }
         requires most { stated_length < 2 ^ 24 }
@@ -181,34 +172,29 @@ impl Finder {
 
     /// Passes an event.
     // rule: frame
-    fn take_event(&mut self, found: NextEvent) -> PassedEvent
+    fn take_event(&mut self, place: usize, here: Candidate, stated_length: usize) -> PassedEvent
         requires sound { self.old.fault ≡ None }
-        requires found { IsNextEvent self.old.ended self.old.rest found.place found.here }
-        requires stated_length { found.stated_length < 2 ^ 24 }
+        requires found { IsNextEvent self.old.ended self.old.rest place here }
+        requires stated_length { stated_length < 2 ^ 24 }
         ensures advances { Advances self.new.ended self.old.at self.old.rest
-            (passed_events self.new result) self.new.at self.new.rest }
+            (event_by self.new result.offset result.len result.here) self.new.at self.new.rest }
         ensures follows { Follows self.old.at self.old.rest self.new.at self.new.rest }
         ensures same { KeepsRun self.old self.new }
         ensures passed { PassesEvent self.old self.new result }
-        ensures longest { self.new.longest ≡ max self.old.longest found.stated_length }
-        ensures offset { result.offset ≡ self.old.at + found.place }
-        ensures here { result.here ≡ found.here }
+        ensures longest { self.new.longest ≡ max self.old.longest stated_length }
+        ensures offset { result.offset ≡ self.old.at + place }
+        ensures here { result.here ≡ here }
         ensures near { self.new.at < 2 ^ 63 }
         ensures bound { held self.new ≤ max 4096 self.new.longest }
     {
-        self.advance_to(found.place, found.stated_length);
+        self.advance_to(place, stated_length);
         let offset = self.offset;
-        let len = self.event_len(found.here);
+        let len = self.event_len(here);
         self.advance_to(len, 0);
-        PassedEvent {
-            offset,
-            here: found.here,
-            len,
-        }
+        PassedEvent { offset, here, len }
     }
 
-    /// Reads once, after the octets that are left. Those that were passed are dropped. A fault is
-    /// kept, and each further call returns it.
+    /// Reads once after the octets that are left, drops those that were passed, and keeps a fault.
     fn read_more<R: Source>(&mut self, r: &mut R) -> Result<(), RunFault>
         requires room { length self.old.rest < max 4096 self.old.longest }
         requires going { self.old.ended ≡ false }
@@ -236,7 +222,7 @@ impl Finder {
     /// Passes the next event, where there is one.
     fn advance<R: Source>(&mut self, r: &mut R) -> Result<Option<PassedEvent>, RunFault>
         ensures steps { ReadsOn (R.left r.old) (R.left r.new) self.old self.new
-            (events_by self.new result) (seen_by self.new result) }
+            (events_by self.new [] result) (events_by self.new (first_left self.new) result) }
         ensures counts { CountsReads (R.reads r.old) (R.reads r.new) self.old self.new }
         ensures waits { ReadsOnlyIfUndecided self.old self.new }
         ensures outcome { AdvancesFinder self.old self.new result }
@@ -254,21 +240,15 @@ impl Finder {
         loop {
             match self.find_event() {
                 SearchResult::End => return Ok(None),
-                SearchResult::Found(found) => return Ok(Some(self.take_event(found))),
-                SearchResult::NeedsMore(wanted) => {
-                    self.advance_to(wanted.place, wanted.stated_length);
+                SearchResult::Found(place, here, stated_length) => {
+                    return Ok(Some(self.take_event(place, here, stated_length)));
+                }
+                SearchResult::NeedsMore(place, stated_length) => {
+                    self.advance_to(place, stated_length);
                     self.read_more(r)?;
                 }
             }
         }
-    }
-
-    /// The last `n` octets that were passed.
-    fn last(&self, n: usize) -> &[u8]
-        requires { n ≤ length self.now.before }
-        ensures { result.now ≡ drop (length self.now.before - n) self.now.before }
-    {
-        &self.input.held()[self.passed - n..self.passed]
     }
 
     /// The event that was passed.
@@ -276,13 +256,17 @@ impl Finder {
         requires within { passed.len ≤ length self.now.before }
         requires some { passed.here ≢ Candidate.Nothing }
         requires frame { passed.here ≡ Candidate.Frame → 12 ≤ passed.len }
-        ensures events_of { events_of result ≡ passed_events self.now passed }
+        ensures events_of { events_of result
+            ≡ event_by self.now passed.offset passed.len passed.here }
         ensures event { IsEvent result }
     {
         match passed.here {
             Candidate::Nothing => unreachable!(),
             Candidate::Stray(cause) => Event::Stray(passed.offset, cause),
-            Candidate::Frame => Event::Frame(passed.offset, self.last(passed.len)),
+            Candidate::Frame => {
+                let before = &self.input.held()[..self.passed];
+                Event::Frame(passed.offset, &before[before.len() - passed.len..])
+            }
         }
     }
 
@@ -328,33 +312,14 @@ pub(crate) enum Candidate {
     Frame,
 }
 
-/// The next event of some octets, which is certain.
-#[derive(Clone, Copy)]
-pub(crate) struct NextEvent {
-    /// The index of its `BUFR`, from 0.
-    pub(crate) place: usize,
-    /// What begins there: a message, or a stray word.
-    pub(crate) here: Candidate,
-    /// The length that is stated there, 0 where its octets are missing.
-    pub(crate) stated_length: usize,
-}
-
-/// An index before which no event begins; more octets are needed to classify what begins there.
-#[derive(Clone, Copy)]
-pub(crate) struct Incomplete {
-    /// The index, from 0.
-    pub(crate) place: usize,
-    /// The length that is stated there, 0 where none is.
-    pub(crate) stated_length: usize,
-}
-
-/// What the octets that are held show.
+/// What the octets that are held show. Each has an index, from 0, and the length that is stated
+/// there, 0 where its octets are missing.
 #[derive(Clone, Copy)]
 pub(crate) enum SearchResult {
-    /// An event.
-    Found(NextEvent),
-    /// More octets are needed.
-    NeedsMore(Incomplete),
+    /// The next event: where its `BUFR` is, and whether a message or a stray word begins there.
+    Found(usize, Candidate, usize),
+    /// No event begins before the index, and more octets are needed to classify what does there.
+    NeedsMore(usize, usize),
     /// No event any more.
     End,
 }
@@ -446,53 +411,26 @@ fn find_word(word: &memmem::Finder<'_>, rest: &[u8]) -> Option<usize>
     Some(near + place)
 }
 
-/// What `rest` shows. More octets may come after it unless the end was reached. `word` searches for
-/// `BUFR`.
-// rule: first-bufr
+/// What `rest` shows; more may come after it unless it ended. `word` searches for `BUFR`.
+// rule: first-bufr, output-waits
 pub(crate) fn find_event(word: &memmem::Finder<'_>, rest: &[u8], ended: bool) -> SearchResult
     requires { word.now ≡ codes "BUFR" }
     ensures { IsSearchResult ended rest.now result }
 {
-    match find_word(word, rest) {
-        None => {
-            if ended {
-                SearchResult::End
-            } else {
-                // The last three octets may begin a word.
-                SearchResult::NeedsMore(Incomplete {
-                    place: rest.len() - rest.len().min(3),
-                    stated_length: 0,
-                })
-            }
+    let Some(place) = find_word(word, rest) else {
+        if ended {
+            return SearchResult::End;
         }
-        Some(place) => find_event_at(rest, place, ended),
-    }
-}
-
-/// The same, where `place` is the first index of `BUFR`.
-// rule: output-waits
-fn find_event_at(rest: &[u8], place: usize, ended: bool) -> SearchResult
-    requires { FindsNeedle rest.now (codes "BUFR") 0 (Some place) }
-    ensures { IsSearchResult ended rest.now result }
-{
+        // The last three octets may begin a word.
+        return SearchResult::NeedsMore(rest.len() - rest.len().min(3), 0);
+    };
     let m = suffix(rest, place);
     let stated_length = len_here(m);
     if ended {
-        return SearchResult::Found(NextEvent {
-            place,
-            here: classify(m),
-            stated_length,
-        });
+        return SearchResult::Found(place, classify(m), stated_length);
     }
     if m.len() < stated_length.max(SECTION_0) {
-        return SearchResult::NeedsMore(Incomplete {
-            place,
-            stated_length,
-        });
+        return SearchResult::NeedsMore(place, stated_length);
     }
-    SearchResult::Found(NextEvent {
-        place,
-        here: classify(m),
-        stated_length,
-    })
+    SearchResult::Found(place, classify(m), stated_length)
 }

@@ -1,8 +1,8 @@
 //! An input, read piece by piece or to its end.
-ghost use Rattle.std.specs.Prelude.{◌≡◌, ◌≤◌, ◌<◌, ◌+◌, ◌-◌, ◌*◌, ◌^◌, ℕ, List, ◌++◌, take, length, drop, slice_range, Ok, IfOk, IfErr, OnErr, vec_len, vec_capacity};
+ghost use Rattle.std.specs.Prelude.{◌≡◌, ◌≤◌, ◌<◌, ◌+◌, ◌-◌, ◌*◌, ◌^◌, ℕ, List, ◌++◌, take, length, drop, slice_range, Ok, IfOk, IfErr, OnErr, vec_len, vec_capacity, [], ◌∷◌, true, false};
 ghost use Rattle.std.specs.Io.KnownBytes.{Consumes, Keeps, IsAtEnd};
 ghost use Rattle.bufr_bits.specs.Prelude.{counted, failures_after};
-ghost use Rattle.bufr_frame.specs.Input.{read_failures_after, max_reads, ReadsOnce, ReadsInput};
+ghost use Rattle.bufr_frame.specs.Input.{read_failures_after, max_reads, ReadsOnce, ReadsInput, AddsReads, InputModel, FillsInput, new_input};
 
 use crate::fault::RunFault;
 use bufr_bits::{Failed, Source};
@@ -40,9 +40,6 @@ pub struct InputBuffer {
 }
 
 impl Model for InputBuffer {
-    ghost use Rattle.std.specs.Prelude.{◌≡◌, ◌≤◌, ◌-◌, slice_range, vec_len, vec_capacity};
-    ghost use Rattle.bufr_frame.specs.Input.{max_reads, InputModel};
-
     ghost Value = { InputModel };
 
     ghost view = { λ f. record {
@@ -58,9 +55,6 @@ impl Model for InputBuffer {
 }
 
 impl InputBuffer {
-    ghost use Rattle.std.specs.Prelude.{◌≡◌, ◌≤◌, ◌<◌, ◌+◌, ◌-◌, ◌*◌, ◌^◌, ℕ, List, [], ◌∷◌, ◌++◌, length, drop, true, false, IfOk};
-    ghost use Rattle.bufr_frame.specs.Input.{read_failures_after, AddsReads, max_reads, InputModel, FillsInput, new_input};
-
     /// A buffer of an input that was not read. It takes no memory.
     pub fn new(alloc: Global) -> InputBuffer
         ensures { result ≡ new_input }
@@ -143,8 +137,7 @@ impl InputBuffer {
     }
 }
 
-/// Makes a place free after the octets from `start` to `filled`. Returns by how many places they
-/// slide to the start.
+/// Makes a place free after the octets from `start` to `filled`, and returns how far they slide.
 fn make_room(
     octets: &mut Vec<u8>,
     start: usize,
@@ -193,8 +186,7 @@ fn read_range<R: Source>(r: &mut R, buf: &mut [u8], from: usize, to: usize) -> R
     r.read(&mut buf[from..to])
 }
 
-/// Reads once after the first `filled` octets of a buffer, up to index `to` (from 0, not written).
-/// Returns how many octets came; none come only at the end of the input.
+/// Reads once after the first `filled` octets of a buffer, up to index `to`, and returns how many.
 fn read_after<R: Source>(
     r: &mut R,
     buffer: &mut Vec<u8>,
@@ -215,18 +207,6 @@ fn read_after<R: Source>(
         Ok(n) => Ok(n),
         Err(_) => Err(RunFault::Read),
     }
-}
-
-/// Makes room of `CHUNK` octets after those that are held, and returns how many are held.
-fn make_room_after(octets: &mut Vec<u8>) -> Result<usize, RunFault>
-    ensures held { IfOk result (λ held. take held octets.new.items ≡ octets.old.items) }
-    ensures room { IfOk result (λ held. vec_len octets.new ≡ held + CHUNK) }
-    ensures err { IfErr result
-        (λ fault. (fault ≡ RunFault.Memory) × (octets.new.items ≡ octets.old.items)) }
-{
-    let held = octets.len();
-    octets.resize(held + CHUNK, 0)?;
-    Ok(held)
 }
 
 /// Reads once after the first `held` octets, into the room that is there, and keeps no room.
@@ -271,7 +251,8 @@ pub fn read_to_end<R: Source>(
     ensures within { (reads.old ≤ reads.new) × (reads.new ≤ max_reads) }
 {
     while *reads < MAX_READS {
-        let held = make_room_after(octets)?;
+        let held = octets.len();
+        octets.resize(held + CHUNK, 0)?;
         *reads += 1;
         if read_once(r, octets, held)? == 0 {
             return Ok(());

@@ -1,10 +1,11 @@
-//! A message divided into its sections. Numbers have their most significant octet first.
-//! (WMO-No. 306, Volume I.2, FM 94)
-ghost use Rattle.std.specs.Prelude.{◌≡◌, ◌≤◌, ◌+◌, length, IsTrue, Some, None, slice_range, if◌then◌else◌, ◌<◌, ◌*◌, ◌/◌, ◌%◌, ◌^◌, ◌-◌, ℕ, Ok, IfOk};
+//! A message divided into its sections. (WMO-No. 306, Volume I.2, FM 94)
+ghost use Rattle.std.specs.Prelude.{◌≡◌, ◌≤◌, ◌+◌, length, IsTrue, Some, None, slice_range, if◌then◌else◌, ◌<◌, ◌*◌, ◌/◌, ◌%◌, ◌^◌, ◌-◌, ℕ, Ok, IfOk, slice_get, ◌↔◌, []};
 ghost use Rattle.std.specs.Option.{option_map};
 ghost use Rattle.bufr_frame.specs.Section1.{first_least, head_in, is_edition, slots_3, slots_4, Flags, slot_value};
-ghost use Rattle.bufr_frame.specs.Sections.{edition_of, head_of, has_section2, slots_in, section_end, sections_of, parts, is_long_edition_3};
-ghost use Rattle.bufr_frame.specs.Octets.{u16_at, u24_at, three_octets};
+ghost use Rattle.bufr_frame.specs.Sections.{edition_of, head_of, has_section2, slots_in, section_end, sections_of, parts, is_long_edition_3, Sections};
+ghost use Rattle.bufr_frame.specs.Octets.{u16_at, u24_at, three_octets, words_left, words};
+ghost use Rattle.bufr_bits.specs.Prelude.{octets_of};
+ghost use Rattle.std.specs.Iterator.{YieldsFirst, item_count};
 
 use crate::fault::SectionFault;
 use crate::section1::{
@@ -40,11 +41,6 @@ pub struct Message<'a> {
 }
 
 impl<'a> Model for Message<'a> {
-    ghost use Rattle.std.specs.Prelude.{◌<◌, ◌^◌, length};
-    ghost use Rattle.std.specs.Option.{option_map};
-    ghost use Rattle.bufr_frame.specs.Octets.{words};
-    ghost use Rattle.bufr_frame.specs.Sections.{Sections};
-
     ghost Value = { Sections };
 
     ghost view = { λ m. record {
@@ -62,38 +58,35 @@ impl<'a> Model for Message<'a> {
     ghost invariant = { λ m. length m.payload.now < 2 ^ 24 };
 }
 
-/// The edition and section 1 of edition 3, without its length, flags and local use.
-// rule: section-1-of-edition-3, edition-3-lacks, year-of-the-century, listing-of-edition-3
-fn head_3(m: &[u8]) -> Head
-    requires { 25 ≤ length m.now }
-    ensures { result ≡ head_in (edition_of m.now) slots_3 m.now 11 }
+/// The values of octet 8 of section 0 and of section 1 after its length.
+// rule: odd-values-kept, section-1-of-edition-3, edition-3-lacks, year-of-the-century
+// rule: listing-of-edition-3, section-1-of-edition-4
+#[inline(always)]
+fn head_at(m: &[u8]) -> Head
+    requires long { 8 ≤ length m.now }
+    requires first { 8 + first_least (edition_of m.now) ≤ length m.now }
+    ensures { result ≡ head_of m.now }
 {
-    Head {
-        edition: m[7],
-        master: m[11],
-        subcentre: u16::from(m[12]),
-        centre: u16::from(m[13]),
-        update: m[14],
-        category: m[16],
-        subcategory: m[17],
-        local_subcategory: 0,
-        master_version: m[18],
-        local_version: m[19],
-        year: u16::from(m[20]),
-        month: m[21],
-        day: m[22],
-        hour: m[23],
-        minute: m[24],
-        second: 0,
+    if m[7] == 3 {
+        return Head {
+            edition: m[7],
+            master: m[11],
+            subcentre: u16::from(m[12]),
+            centre: u16::from(m[13]),
+            update: m[14],
+            category: m[16],
+            subcategory: m[17],
+            local_subcategory: 0,
+            master_version: m[18],
+            local_version: m[19],
+            year: u16::from(m[20]),
+            month: m[21],
+            day: m[22],
+            hour: m[23],
+            minute: m[24],
+            second: 0,
+        };
     }
-}
-
-/// The edition and section 1 of edition 4, without its length, flags and local use.
-// rule: section-1-of-edition-4
-fn head_4(m: &[u8]) -> Head
-    requires { 30 ≤ length m.now }
-    ensures { result ≡ head_in (edition_of m.now) slots_4 m.now 11 }
-{
     Head {
         edition: m[7],
         master: m[11],
@@ -114,17 +107,6 @@ fn head_4(m: &[u8]) -> Head
     }
 }
 
-/// The values of octet 8 of section 0 and of section 1 after its length.
-// rule: odd-values-kept
-#[inline(always)]
-fn head_at(m: &[u8]) -> Head
-    requires long { 8 ≤ length m.now }
-    requires first { 8 + first_least (edition_of m.now) ≤ length m.now }
-    ensures { result ≡ head_of m.now }
-{
-    if m[7] == 3 { head_3(m) } else { head_4(m) }
-}
-
 /// The octets of section 2 from its octet 5 on, where there is a section 2.
 // rule: section-2
 fn section2_of(m: &[u8], first: usize, second: usize) -> Option<&[u8]>
@@ -142,12 +124,6 @@ fn section2_of(m: &[u8], first: usize, second: usize) -> Option<&[u8]>
 }
 
 impl<'a> Message<'a> {
-    ghost use Rattle.std.specs.Prelude.{◌≡◌, ◌≤◌, ◌<◌, ◌^◌, length, slice_get};
-    ghost use Rattle.std.specs.Option.{option_map};
-    ghost use Rattle.bufr_bits.specs.Prelude.{octets_of};
-    ghost use Rattle.bufr_frame.specs.Sections.{sections_of, parts};
-    ghost use Rattle.bufr_frame.specs.Octets.{words_left};
-
     /// Divides a message of at least 12 octets into its sections. It reads octet 8, and the octets
     /// from 9 to the last four; it takes the rest unchecked. It takes no memory.
     ///
@@ -326,9 +302,6 @@ pub struct Words<'a> {
 }
 
 impl<'a> Words<'a> {
-    ghost use Rattle.std.specs.Prelude.{◌≡◌, ◌↔◌, [], length, IsTrue};
-    ghost use Rattle.bufr_frame.specs.Octets.{words, words_left};
-
     /// The words of `octets`.
     pub(crate) fn new(octets: &'a [u8]) -> Words<'a>
         ensures { words_left result ≡ words octets.now }
@@ -352,9 +325,6 @@ impl<'a> Words<'a> {
 }
 
 impl<'a> Iterator for Words<'a> {
-    ghost use Rattle.std.specs.Iterator.{YieldsFirst, item_count};
-    ghost use Rattle.bufr_frame.specs.Octets.{words_left};
-
     type Item = u16;
 
     ghost next_gives = { YieldsFirst words_left };
@@ -427,8 +397,7 @@ fn second_end(m: &[u8], first: usize) -> Result<usize, SectionFault>
     }
 }
 
-/// The most octets of a message of edition 3 with an odd section 3 or 4. With two zero octets more,
-/// three octets can still state its length.
+/// The most octets of a message of edition 3 that two zero octets more may pad.
 const MOST_ODD: usize = 16_777_213;
 
 /// Whether a message with these ends of sections is too long for its sections 3 and 4 to be padded.

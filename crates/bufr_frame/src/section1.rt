@@ -1,5 +1,4 @@
-//! The values of section 1, and the least octets of each section by edition.
-//! (WMO-No. 306, Volume I.2, FM 94: sections 0 to 5)
+//! The values of section 1, and the least octets of each section. (WMO-No. 306, Volume I.2, FM 94)
 ghost use Rattle.std.specs.Prelude.{◌≡◌, ◌<◌, ◌-◌, ◌^◌, IsTrue};
 ghost use Rattle.bufr_frame.specs.Layout.{even_size};
 ghost use Rattle.bufr_frame.specs.Section1.{first_least, is_edition};
@@ -77,7 +76,7 @@ pub(crate) fn is_padded(edition: u8, len: usize) -> bool
     edition == 3 && len % 2 == 1
 }
 
-/// The octets of a section 3 or 4 with the zero octet of its padding.
+/// How many octets a section 3 or 4 has when it is written, its padding included.
 // rule: least-lengths
 pub(crate) fn even_len(edition: u8, len: usize) -> usize
     requires { len < 2 ^ 64 - 1 }

@@ -133,7 +133,7 @@ fn push_section1(
     octets.extend_from_slice(local1)
 }
 
-/// Appends the zero octet that pads a section, where one does.
+/// Appends a zero octet to a section that is padded.
 // rule: writes-even-sections
 fn push_padding(octets: &mut Vec<u8>, pads: bool) -> Result<(), AllocError>
     ensures { OnOk result (octets.new.items ≡ with_pad_octet pads octets.old.items) }
@@ -211,18 +211,6 @@ fn flags_of(observed: bool, compressed: bool) -> u8
     first + second
 }
 
-/// Appends section 0.
-// rule: section-0
-fn push_section0(octets: &mut Vec<u8>, size: usize, edition: u8) -> Result<(), AllocError>
-    requires { size < 2 ^ 24 }
-    ensures { OnOk result (octets.new.items ≡ octets.old.items ++ section0_octets size edition) }
-{
-    octets.extend_from_slice(b"BUFR")?;
-    push_three(octets, size)?;
-    octets.push(edition)?;
-    Ok(())
-}
-
 /// Writes a message of edition 3 or 4 from its parts: `BUFR` first, its length in octets 5 to 7,
 /// `7777` last. Sections have the least lengths that hold the parts; reserved octets and bits are
 /// zero. `local1` is in section 1 from its octet 23 on (18 in edition 3). `section2` and `payload`
@@ -245,7 +233,7 @@ fn push_section0(octets: &mut Vec<u8>, size: usize, edition: u8) -> Result<(), A
 ///
 /// [`WriteFault::TooLong`] exactly where the message would have more than 16,777,215 octets.
 /// [`WriteFault::Memory`] where memory ran out.
-// rule: section-4, section-5
+// rule: section-0, section-4, section-5
 pub fn write_message(
     alloc: Global,
     head: &Head,
@@ -274,7 +262,9 @@ pub fn write_message(
         return Err(WriteFault::TooLong);
     };
     let mut octets = Vec::with_capacity(alloc, size)?;
-    push_section0(&mut octets, size, head.edition)?;
+    octets.extend_from_slice(b"BUFR")?;
+    push_three(&mut octets, size)?;
+    octets.extend_from_slice(&[head.edition])?;
     push_section1(&mut octets, head, local1, section2.is_some())?;
     push_section2(&mut octets, section2)?;
     push_section3(

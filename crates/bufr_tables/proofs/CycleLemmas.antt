@@ -5,7 +5,24 @@ use Rattle.std.proofs.lemmas.List.{append_assoc, get_or_append_left, get_or-set_
 use Rattle.std.proofs.lemmas.List.Elements.{Contains-append_cases, Contains-append_left, Contains-append_right, Contains-push, Contains-push_cases, Contains-get_or}
 use Rattle.std.specs.List.{find}
 use borrow.Author.Count.{below_more}
-use Rattle.bufr_tables.specs.Prelude.{Chain, HasNoCycle, IsFirstCycle, Leads, ReachesItself, one, more, Sequence, fxys_of, members_or_none, members_of, AreSeen, IsAbove, IsPassed, IsSearched, IsSet, IsVisited, NeverRises, NeverRisesFirst, rank_of, unset}
+use Rattle.bufr_tables.specs.Prelude.{Chain, HasNoCycle, IsFirstCycle, Leads, ReachesItself, one, more, Sequence, fxys_of, members_or_none, members_of, IsAbove, IsSet, IsVisited, Falls, rank_of, unset}
+
+-- each member of a sequence that is a sequence was seen
+abbrev pub AreSeen : List Sequence → List Bool → ℕ → Type 0
+AreSeen table seen fxy = (to : ℕ) → Leads table fxy to → IsSet seen to
+
+-- a chain leads to all in the queue, which has what was seen, and the first, so many, were searched
+pub record IsSearched (table : List Sequence) (start : ℕ) (seen : List Bool) (queue : List ℕ) (next : ℕ) : Type 0 where
+  pub flags : length seen ≡ 65536
+  pub inside : next ≤ length queue
+  pub chains : (to : ℕ) → Contains queue to → Chain table start to
+  pub queued : (to : ℕ) → IsSet seen to → Contains queue to
+  pub first : AreSeen table seen start
+  pub visited : (k : ℕ) → k < next → AreSeen table seen (slice_index queue k)
+
+-- none of the first sequences of the file, so many, reaches itself
+abbrev pub IsPassed : List Sequence → ℕ → Type 0
+IsPassed table count = (k : ℕ) → k < count → k < length table → ReachesItself table (slice_index (fxys_of table) k) → ⊥
 
 -- chains one after another
 pub chain-append : {table : List Sequence} {a b c : ℕ} → Chain table a b → Chain table b c → Chain table a c
@@ -61,17 +78,29 @@ leads-listed table from k inside sequence = by (members_of table from) refl
         let same : members_or_none table from ≡ members = rw e refl in
         record { members = members; has = e; member = rw same (Contains-get_or members k 0 (rw same at inside)); sequence = sequence }
 
--- ranks that never rise along a chain
-pub chain-falls : (table : List Sequence) (ranks : List ℕ) → NeverRises table ranks → {a b : ℕ} → Chain table a b → rank_of ranks b ≤ rank_of ranks a
-chain-falls table ranks never (one l) = never _ _ l
-chain-falls table ranks never (more l rest) =
-    let first = never _ _ l in
-    let last = chain-falls table ranks never rest in
-    omega arith
+-- ranks do not rise along a chain
+pub chain-falls : (table : List Sequence) (ranks : List ℕ) → Falls table ranks → {a b : ℕ} → Chain table a b → rank_of ranks b ≤ rank_of ranks a
+chain-falls table ranks falls (one l) = omega (arith, falls _ _ l)
+chain-falls table ranks falls (more l rest) = omega (arith, falls _ _ l, chain-falls table ranks falls rest)
 
--- a sequence above its members does not reach itself
-pub falls-none : (table : List Sequence) (ranks : List ℕ) (fxy rank : ℕ) → NeverRises table ranks → IsAbove table ranks fxy rank → rank < rank_of ranks fxy → ReachesItself table fxy → ⊥
-falls-none table ranks fxy rank never above below chain = grind (arith, chain-falls)
+-- a sequence with a rank above those of its members does not reach itself
+pub falls-none : (table : List Sequence) (ranks : List ℕ) (fxy : ℕ) → Falls table ranks → IsAbove table ranks fxy (rank_of ranks fxy) → ReachesItself table fxy → ⊥
+falls-none table ranks fxy falls above (one l) = absurd (omega (arith, above _ l))
+falls-none table ranks fxy falls above (more l rest) = absurd (omega (arith, above _ l, chain-falls table ranks falls rest))
+
+-- the ranks of the first members of a sequence, so many, and of the first sequences of the file
+abbrev pub IsAboveFirst : List Sequence → List ℕ → List ℕ → ℕ → ℕ → Type 0
+IsAboveFirst table ranks members limit count = (k : ℕ) → k < count → k < length members → IsSome (members_of table (slice_index members k)) → rank_of ranks (slice_index members k) < limit
+
+pub above-all : (table : List Sequence) (ranks : List ℕ) (fxy rank count : ℕ) (members : List ℕ) → members ≡ members_or_none table fxy → IsAboveFirst table ranks members rank count → length members ≤ count → IsAbove table ranks fxy rank
+above-all table ranks fxy rank count members same above all to l =
+    let listed = listed-leads table fxy to l in
+    let inside : listed.place < length members = rw same listed.inside in
+    let at : slice_index members listed.place ≡ to = rw same listed.at in
+    rw at at (above listed.place (omega (arith, inside, all)) inside (rw at listed.sequence))
+
+abbrev pub FallsFirst : List Sequence → List ℕ → ℕ → Type 0
+FallsFirst table ranks count = (k : ℕ) → k < count → k < length table → IsAbove table ranks (slice_index (fxys_of table) k) (rank_of ranks (slice_index (fxys_of table) k) + 1)
 
 -- a visit of one sequence
 module _ (table : List Sequence) (fxy : ℕ) (old : List Bool) (queue : List ℕ) where
@@ -212,10 +241,10 @@ place-in (s ∷ table) fxy some = by (s.fxy == fxy) refl some (place-in table fx
     by false e some on = later (on some)
 
 -- all sequences of the file
-pub rises-all : (table : List Sequence) (ranks : List ℕ) (count : ℕ) → NeverRisesFirst table ranks count → length table ≤ count → NeverRises table ranks
-rises-all table ranks count never all fxy to l =
+pub falls-all : (table : List Sequence) (ranks : List ℕ) (count : ℕ) → FallsFirst table ranks count → length table ≤ count → Falls table ranks
+falls-all table ranks count falls all fxy to l =
     let (k, inside, at) = place-in table fxy (chain-sequence table (one l)) in
-    let above = rw at at (never k (omega arith) inside) in
+    let above = rw at at (falls k (omega arith) inside) in
     above to l
 
 -- the first sequences of the file
@@ -249,8 +278,8 @@ module _ (table : List Sequence) (place : ℕ) (was : IsPassed table place) wher
       was k (omega arith) inside (rw at chain)
 
 -- one sequence more
-pub rises-more : (table : List Sequence) (ranks : List ℕ) (place fxy rank : ℕ) → NeverRisesFirst table ranks place → fxy ≡ slice_index (fxys_of table) place
-    → IsAbove table ranks fxy rank → rank ≤ rank_of ranks fxy → NeverRisesFirst table ranks (place + 1)
-rises-more table ranks place fxy rank never at above most =
-    below_more (λ k. k < length table → IsAbove table ranks (slice_index (fxys_of table) k) (rank_of ranks (slice_index (fxys_of table) k))) place never
+pub falls-more : (table : List Sequence) (ranks : List ℕ) (place fxy limit : ℕ) → FallsFirst table ranks place → fxy ≡ slice_index (fxys_of table) place
+    → IsAbove table ranks fxy limit → limit ≤ rank_of ranks fxy + 1 → FallsFirst table ranks (place + 1)
+falls-more table ranks place fxy limit falls at above most =
+    below_more (λ k. k < length table → IsAbove table ranks (slice_index (fxys_of table) k) (rank_of ranks (slice_index (fxys_of table) k) + 1)) place falls
     (λ inside. rw (← at) (λ to l. let h = above to l in omega arith))

@@ -1,8 +1,9 @@
 -- Steps of the expansion: trees, cells that are read back, and one part at a time.
 use Rattle.std.proofs.lemmas.Grind.{common_steps}
 use Rattle.std.proofs.Common.{◌≡◌, max, Bool, true, false, ◌||◌, refl, ◌∙◌, ap, arith, ℕ, zero, suc, ◌+◌, ◌-◌, ◌<◌, List, [], ◌∷◌, drop, Option, Some, None, Result, Ok, Err, sym, sub-one, ◌++◌, length, subst, append_assoc, ◌≤◌, set, ◌≢◌, take}
-use Rattle.bufr_tables.specs.Prelude.{Tree, bare, element, operator, fixed, delayed, join, depth, consumes, is_inserted_text, gives_width, size, places, TemplateFault, Tables, Expansion, part, ◌>>=◌, part_of, level, inner_of, ExpandedPart, unless, opened, with_places, body_of, sequence_part, element_part, group_part, operator_part, part_by, Cell, first_tree, cells_of, factor_first, prepend_cell, read_cells, trees_of_cells, AreCellsOf, IsTemplate, own_places, group_of, first_cell, factor_cells, BuilderModel, growth, places_so_far, push_tree, with_open_group, with_closed_group, PushesTree, PushesPart, IsFaultOrMemory, PushesTreeUnlessMemory, GivesPart, GivesGrowth, OpensGroup, f_of, x_of, y_of}
+use Rattle.bufr_tables.specs.Prelude.{Tree, bare, element, operator, fixed, delayed, join, depth, consumes, is_inserted_text, gives_width, size, places, TemplateFault, Tables, Expansion, part, ◌>>=◌, part_of, level, inner_of, ExpandedPart, unless, opened, with_places, body_of, sequence_part, element_part, group_part, operator_part, delayed_part, part_by, Cell, first_tree, cells_of, factor_first, prepend_cell, read_cells, trees_of_cells, AreCellsOf, IsTemplate, own_places, group_of, first_cell, factor_cells, BuilderModel, growth, places_so_far, push_tree, with_open_group, with_closed_group, PushesTree, PushesPart, IsFaultOrMemory, PushesTreeUnlessMemory, GivesPart, GivesGrowth, OpensGroup, f_of, x_of, y_of}
 use Rattle.std.proofs.lemmas.List.{append-nil, length-append}
+use Rattle.std.proofs.lemmas.Bool.Decides.{nat_tests}
 use Rattle.std.proofs.Math.Seq.{set-append_seam}
 use Rattle.bufr_tables.specs.declared.expand.Passes.{Passes}
 use Rattle.bufr_tables.specs.declared.template.Cell.TheVariants as cell
@@ -206,6 +207,9 @@ ended-begun g p body place e full =
 pub gives_same : (g : BuilderModel) (a b : Result ExpandedPart TemplateFault) (answer : Result ℕ TemplateFault) (new : BuilderModel) → a ≡ b → GivesPart g a answer new → GivesPart g b answer new
 gives_same g a b answer new e = subst (λ z. GivesPart g z answer new) e
 
+pub puts_same : (old : BuilderModel) (a b : Result ExpandedPart TemplateFault) (taken : ℕ) (new : BuilderModel) → a ≡ b → PushesPart old a taken new → PushesPart old b taken new
+puts_same old a b taken new e = subst (λ z. PushesPart old z taken new) e
+
 pub part-element : (tables : Tables) (inner : Option Expansion) (given : Bool) (places d : ℕ) (after : List ℕ) (f : ℕ) → f ≡ f_of d → f ≡ 0 → element_part tables given places d ≡ part_of tables inner given places d after
 unfolding part_of
 part-element tables inner given places d after f e h = ap (λ z. part_by z tables inner given places d after) (sym h ∙ e)
@@ -325,6 +329,10 @@ pub group-closed : (tables : Tables) (room : ℕ) (p : Passes) (d place : ℕ) (
 group-closed tables room p d place after old begun_one new last count x list (Ok done) r h begins el ec ex puts full is_ended =
     group-list-ok tables room p d place after old begun_one new last count x list r h begins el ec ex puts full (same_ok (with_closed_group new place p) last is_ended)
 group-closed tables room p d place after old begun_one new last count x list (Err why) r h begins el ec ex puts full refuses = λ other. absurd (let e = refuses other in cc)
+
+-- a replication of no passes takes a factor
+pub group-delayed : (tables : Tables) (inner : Option Expansion) (places d x y : ℕ) (after : List ℕ) → x ≡ x_of d → 0 < x → y ≡ y_of d → y ≤ 0 → delayed_part tables inner places d after ≡ group_part tables inner places d after
+group-delayed tables inner places d x y after ex some ey none = let zero_passes : y_of d ≡ 0 = omega arith in let more : 0 < x_of d = omega arith in grind (arith, common_steps, nat_tests)
 
 pub group-fixed-fault : (tables : Tables) (inner : Option Expansion) (places d y : ℕ) (after : List ℕ) (why : TemplateFault) → 0 < x_of d → 0 < y_of d
     → (body_of inner places 2 d after >>= λ body. Ok (group_of (passes.Fixed y) body)) ≡ Err why → group_part tables inner places d after ≡ Err why

@@ -1,5 +1,4 @@
--- A template as cells, read back as its tree.
--- (The form is a choice of this project.)
+-- A template as cells, read back as its tree. (a choice of this project)
 -- Cited by public contracts.
 use Rattle.std.specs.Prelude.{◌≡◌, ℕ, zero, suc, List, [], ◌∷◌, refl, ◌+◌, ◌≤◌}
 use Rattle.std.proofs.Common.{◌∙◌, ap}
@@ -9,11 +8,9 @@ use Rattle.bufr_tables.specs.declared.template.Cell.{Cell}
 use Rattle.bufr_tables.specs.Expansion.{IsLegal, IsSound}
 use Rattle.bufr_tables.specs.declared.template.Cell.TheVariants as cell
 
--- A tree written as a list of numbers, from which it is read back. Nothing but the checker asks for
--- it, before a contract may speak of a tree as one value.
+-- ---- A tree as a list of numbers: the checker asks for it before a contract speaks of a tree.
 
--- a tree before what is written already: each node as its kind and its number, a body before
--- the rest
+-- a tree before what is written: each node as its kind and its number, a body before the rest
 abbrev pub tree_code_onto : Tree → List (ℕ × ℕ) → List (ℕ × ℕ)
 tree_code_onto bare more = (0, 0) ∷ more
 tree_code_onto (element fxy rest) more = (1, fxy) ∷ tree_code_onto rest more

@@ -1,5 +1,4 @@
--- The row of Table B that an entry is, and when two rows are the same.
--- Cited by public contracts.
+-- The row that an entry is, and when two rows are the same. Cited by public contracts.
 use Rattle.std.specs.Prelude.{◌==◌, ◌&&◌, Bool}
 use Rattle.std.specs.Cmp.{IsEquivalence, and_equiv, int_eq_equiv, nat_eq_equiv, on_equiv}
 use Rattle.std.specs.Cmp.Lexicographic.{nat_list_eq_equiv}

@@ -1,7 +1,6 @@
 -- The tree that a list of descriptors means, or the first fault, and what holds of it.
--- (WMO-No. 306, Volume I.2, FM 94: section 3, replications, Tables C and D. The faults, their order
--- and the limits are a choice of this project.)
--- Cited by public contracts.
+-- (WMO-No. 306, Volume I.2, FM 94: section 3, replications, Tables C and D; the faults and limits
+-- are a choice of this project) Cited by public contracts.
 use Rattle.std.specs.Prelude.{ℕ, zero, suc, ◌+◌, ◌==◌, nat_lt, nat_le, not, ◌||◌, Bool, true, false, List, [], ◌∷◌, length, take, Option, Some, None, Result, Ok, Err, ok_or, is_some, ◌≡◌, ◌≤◌, ◌⊎◌, ◌++◌, ◌<◌, ◌≢◌, IfOk, IfErr}
 use Rattle.bufr_tables.specs.declared.fault.TemplateFault.{TemplateFault}
 use Rattle.bufr_tables.specs.Fxy.{f_of, x_of, y_of}
@@ -16,10 +15,6 @@ use Rattle.bufr_tables.specs.declared.fault.TemplateFault.TheVariants.{Memory}
 pub record Tables : Type 0 where
   pub known : ℕ → Bool
   pub members : ℕ → Option (List ℕ)
-
--- the most places that a template may take
-abbrev pub max_places : ℕ
-max_places = 65535
 
 -- the most groups and sequences that may be open together
 abbrev pub max_open : ℕ
@@ -40,7 +35,7 @@ unless false why = Err why
 -- a fault, where so many places more are too many
 -- rule: fault-27
 abbrev pub with_places : (places more d : ℕ) → Result (Unit {0}) TemplateFault
-with_places places more d = unless (nat_le (places + more) max_places) (fault.TemplateSize d)
+with_places places more d = unless (nat_le (places + more) 65535) (fault.TemplateSize d)
 
 -- what a list of descriptors means after so many places
 abbrev pub Expansion : Type 0
@@ -82,8 +77,7 @@ operator_part places d after = do
   _ ← with_places places 1 d
   Ok (part (operator d bare) 0)
 
--- the body of a group: the next X descriptors, after the group's own places; some node of it takes
--- bits
+-- the body of a group: the next X descriptors after its own places; some node of it takes bits
 -- rule: replication-before-expansion, replication-nested, replication-in-one-list, fault-23
 abbrev pub body_of : Option Expansion → (places own d : ℕ) → List ℕ → Result Tree TemplateFault
 body_of inner places own d after = do
@@ -183,8 +177,7 @@ tree_of tables list = do
 abbrev pub tables_of : List Row → List Sequence → Tables
 tables_of b d = record { known = λ fxy. is_some (entry_of b fxy); members = members_of d }
 
--- ---- That each node of a template is what its place asks for (WMO-No. 306, Volume I.2, FM 94:
--- section 3, descriptors, and Table C).
+-- ---- Each node is what its place asks for (WMO-No. 306, Volume I.2, FM 94: section 3, Table C).
 
 -- whether the first node is an element
 abbrev pub is_element_first : Tree → Bool
@@ -194,8 +187,8 @@ is_element_first (operator fxy rest) = false
 is_element_first (fixed count body rest) = false
 is_element_first (delayed factor body rest) = false
 
--- elements have F = 0 and factors are replication factors; operators have F = 2 and are those that
--- a template may hold, with their operands; one that gives a width comes before an element
+-- F is 0 of elements and 2 of operators, which a template may hold; factors are those of
+-- replications; an operator that gives a width comes before an element
 abbrev pub IsLegal : Tree → Type 0
 IsLegal bare = Unit {0}
 IsLegal (element fxy rest) = (f_of fxy ≡ 0) × IsLegal rest
@@ -205,8 +198,7 @@ IsLegal (operator fxy rest) =
 IsLegal (fixed count body rest) = IsLegal body × IsLegal rest
 IsLegal (delayed factor body rest) = (is_factor factor ≡ true) × (IsLegal body × IsLegal rest)
 
--- What a list of descriptors says once its sequences are replaced by their members, and what a tree
--- says (WMO-No. 306, Volume I.2, FM 94: section 3, Table D)
+-- ---- What a list says, its sequences replaced (WMO-No. 306, Volume I.2, FM 94: Table D).
 
 -- the elements, operators and factors of a tree, in order
 abbrev pub leaves : Tree → List ℕ
@@ -216,8 +208,7 @@ leaves (operator fxy rest) = fxy ∷ leaves rest
 leaves (fixed count body rest) = leaves body ++ leaves rest
 leaves (delayed factor body rest) = factor ∷ (leaves body ++ leaves rest)
 
--- a list says its elements and operators, in order; a sequence says what its members say, and a
--- replication nothing of its own
+-- a list says its elements and operators; a sequence what its members say; a replication nothing
 pub data ListsLeaves (members : ℕ → Option (List ℕ)) : List ℕ → List ℕ → Type 0 where
   says_nothing : ListsLeaves members [] []
   says_itself : (d : ℕ) (after said : List ℕ) → (f_of d ≡ 0) ⊎ (f_of d ≡ 2)
@@ -246,8 +237,7 @@ IsSound tree = EveryGroupConsumes tree × (consumes tree ≡ true)
 
 -- That a table knows what a template asks of it (WMO-No. 306, Volume I.2, FM 94: Tables B and C).
 
--- every factor is known, and every element but one whose width the operator before it gives;
--- whether one comes before the first node is said
+-- every factor is known, and every element but one whose width the operator before it gives
 abbrev pub IsKnownAfter : (known : ℕ → Bool) → (width_given : Bool) → Tree → Type 0
 IsKnownAfter known width_given bare = Unit {0}
 IsKnownAfter known width_given (element fxy rest) =
@@ -269,8 +259,7 @@ pub record ListByTables : Type 0 where
   pub table_d : List Sequence
   pub list : List ℕ
 
--- an answer is what a list of descriptors means, no template is too long, and no fault is
--- want of memory
+-- an answer is what a list means; no template is too long, and no fault is want of memory
 pub record IsAnswer (tables : Tables) (list : List ℕ)
     (answer : Result Tree TemplateFault) : Type 0 where
   pub is_defined : tree_of tables list ≡ answer

@@ -1,5 +1,4 @@
--- The numbers of the faults. (a choice of this project)
--- Cited by public contracts.
+-- The numbers of the faults. (a choice of this project) Cited by public contracts.
 use Rattle.std.specs.Prelude.{ℕ}
 use Rattle.bufr_tables.specs.declared.fault.TableFault.{TableFault}
 use Rattle.bufr_tables.specs.declared.fault.TableFault.TheVariants as table

@@ -1,6 +1,5 @@
--- A descriptor as its 16 bits: F (2 bits), X (6 bits) and Y (8 bits). Its text is six digits, one
--- for F, two for X and three for Y. (WMO-No. 306, Volume I.2, FM 94: section 3, descriptors)
--- Cited by public contracts.
+-- A descriptor as 16 bits, F (2), X (6) and Y (8), and as six digits, one, two and three of these.
+-- (WMO-No. 306, Volume I.2, FM 94: section 3, descriptors) Cited by public contracts.
 use Rattle.std.specs.Prelude.{ℕ, ◌+◌, ◌-◌, ◌*◌, ◌/◌, ◌%◌, ◌==◌, ◌&&◌, Bool, nat_le, if◌then◌else◌, List, [], ◌∷◌, length, slice_index, Option, Some, None, ◌≡◌, suc, ◌<◌, ◌≤◌, nat_eq, vec_capacity, option_map}
 use Rattle.std.specs.Char.{is_ascii_digit}
 use Rattle.std.specs.List.{list_all, AllByRecursion, IsDistinct}
@@ -26,21 +25,12 @@ key_of word = word % 16384
 abbrev pub is_factor : ℕ → Bool
 is_factor word = f_of word == 0 && (x_of word == 31 && nat_le (y_of word) 2)
 
--- the digit of a number below ten, in ASCII
-abbrev pub digit_of : ℕ → ℕ
-digit_of n = 48 + n
-
--- the six digits
+-- the six digits, in ASCII
 -- rule: descriptor-fxy
 abbrev pub fxy_text : ℕ → List ℕ
 fxy_text word =
-    digit_of (f_of word)
-    ∷ digit_of (x_of word / 10)
-    ∷ digit_of (x_of word % 10)
-    ∷ digit_of (y_of word / 100)
-    ∷ digit_of (y_of word / 10 % 10)
-    ∷ digit_of (y_of word % 10)
-    ∷ []
+    (48 + f_of word) ∷ (48 + x_of word / 10) ∷ (48 + x_of word % 10)
+    ∷ (48 + y_of word / 100) ∷ (48 + y_of word / 10 % 10) ∷ (48 + y_of word % 10) ∷ []
 
 -- the number of the digit at a place of a text
 abbrev pub number_at : List ℕ → ℕ → ℕ

@@ -1,5 +1,4 @@
--- What cells in the making mean.
--- Cited by private steps only.
+-- What cells in the making mean. Cited by private steps only.
 use Rattle.bufr_tables.specs.declared.expand.TemplateBuilder.{TemplateBuilder}
 use Rattle.bufr_tables.specs.Growth.{BuilderModel, growth}
 

@@ -1,5 +1,4 @@
--- Cells in the making: those so far, what is known of them, and what an expander puts after them.
--- Cited by private steps only.
+-- Cells in the making, and what an expander puts after them. Cited by private steps only.
 use Rattle.std.specs.Prelude.{ℕ, ◌+◌, ◌-◌, ◌≡◌, ◌≢◌, max, Bool, false, ◌||◌, List, [], ◌∷◌, ◌++◌, length, slice_set, Result, Ok, Err, Option}
 use Rattle.bufr_tables.specs.declared.template.Cell.{Cell}
 use Rattle.bufr_tables.specs.declared.template.Cell.TheVariants as cell
@@ -32,8 +31,7 @@ abbrev pub factor_cells : Passes → List Cell
 factor_cells (passes.Fixed count) = []
 factor_cells (passes.Delayed factor) = cell.Factor factor ∷ []
 
--- the cells so far, how many groups are open after them, and the most that were open together.
--- Whether a node of the innermost open list takes bits
+-- the cells, the groups open after them, the most together, and whether the innermost takes bits
 pub record BuilderModel : Type 0 where
   pub cells : List Cell
   pub groups : ℕ
@@ -43,8 +41,7 @@ pub record BuilderModel : Type 0 where
 abbrev pub growth : List Cell → (groups deep : ℕ) → Bool → BuilderModel
 growth cells groups deep full = record { cells = cells; groups = groups; deep = deep; full = full }
 
--- the places up to here, with those of the ends that are still to come: each open group's, and the
--- template's
+-- the places up to here, with those of the ends to come: each open group's, and the template's
 abbrev pub places_so_far : BuilderModel → ℕ
 places_so_far g = length g.cells + g.groups + 1
 
@@ -105,8 +102,7 @@ abbrev pub GivesGrowth : Result BuilderModel TemplateFault
 GivesGrowth defined (Ok done) new = defined ≡ Ok new
 GivesGrowth defined (Err why) new = IsFaultOrMemory defined why
 
--- a group has been begun after what had grown, its places were left, and its first cell is at
--- a place
+-- a group has been begun after what had grown, its places were left, and it begins at a place
 pub record OpensGroup (old : BuilderModel) (passes : Passes) (d place : ℕ)
     (new : BuilderModel) : Type 0 where
   pub is_left : with_places (places_so_far old) (own_places passes) d ≡ Ok tt

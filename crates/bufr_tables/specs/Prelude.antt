@@ -5,7 +5,7 @@ unfoldable pub use Rattle.bufr_tables.specs.TableB.{begins_with, is_words, kind_
 pub use Rattle.bufr_tables.specs.Records.{records_of, Record, GivesNext, IsBetween, count_of, record_given, records_after, text_left, field_of, IsOpened, records_left, field_texts, has_fields, has_header, ReturnsUnlessMemory, and_then, number_after_digits, negated, only_if, octets_left, fits_i64}
 unfoldable pub use Rattle.bufr_tables.specs.Records.{if_i64, i64_of, integer_of, natural_of, table_from, table_of}
 pub use Rattle.bufr_tables.specs.Entry.{row_of_entry}
-pub use Rattle.bufr_tables.specs.TableD.{IsFirstCycle, Leads, one, more, ReadsTableD, Sequence, table_d_of, Chain, HasNoCycle, ReachesItself, fxys_of, members_or_none, members_of, AreSeen, IsAbove, IsPassed, IsSearched, IsSet, IsVisited, NeverRises, NeverRisesFirst, rank_of, unset, IsMemberRange, LastEnds, run_key, sequence_kept, sequences_kept, extended, is_last, AreSequences, Member, begins_again, columns_d, members_in, with_member, IsAboveFirst}
+pub use Rattle.bufr_tables.specs.TableD.{IsFirstCycle, Leads, one, more, ReadsTableD, Sequence, table_d_of, Chain, HasNoCycle, ReachesItself, fxys_of, members_or_none, members_of, IsAbove, IsSet, IsVisited, Falls, rank_of, unset, IsMemberRange, LastEnds, run_key, sequence_kept, sequences_kept, extended, is_last, AreSequences, Member, begins_again, columns_d, members_in, with_member}
 unfoldable pub use Rattle.bufr_tables.specs.TableD.{with_record_d, added, member_of}
 pub use Rattle.bufr_tables.specs.Cells.{first_tree, cells_of, factor_first, prepend_cell, read_cells, trees_of_cells, AreCellsOf, IsTemplate, tree_code}
 pub use Rattle.bufr_tables.specs.Growing.{builder_model}

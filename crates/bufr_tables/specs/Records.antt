@@ -1,7 +1,5 @@
--- The records of a table's text, their numbers, and the rows and faults that they give.
--- (A choice of this project: the records are those of the crate `csv`, with commas and double
--- quotes, any number of fields and no trimming. The header is record 1. A number is an optional
--- `-` and one or more digits.)
+-- The records of a table's text, as the crate `csv` gives them, and the faults that they have.
+-- They have any number of fields, not trimmed; the header is record 1. (a choice of this project)
 -- Cited by public contracts.
 use Rattle.std.specs.Prelude.{ℕ, ◌+◌, ◌-◌, ◌*◌, ◌^◌, ◌==◌, ◌&&◌, Bool, nat_lt, if◌then◌else◌, ℤ, pos, negsuc, neg_ℤ, List, [], ◌∷◌, length, drop, slice_index, Option, Some, None, option_and_then, option_map, unwrap_or, ◌≡◌, ⊤, Result, Ok, Err, true, false, ◌<◌, map, IsSome}
 use Rattle.std.specs.Char.{is_ascii_digit}
@@ -18,8 +16,7 @@ use Rattle.csv.specs.declared.reader.Reader.{Reader}
 use Rattle.bufr_tables.specs.declared.rows.RecordReader.{RecordReader}
 use Rattle.csv.specs.declared.reader.Trim.TheVariants as trim
 
--- Whole numbers as the tables write them: an optional `-` and one or more digits. (A choice of this
--- project)
+-- ---- Whole numbers: an optional `-` and one or more digits. (a choice of this project)
 
 -- the number that digits write, after a number that was written before them
 abbrev pub number_after_digits : ℕ → List ℕ → ℕ

@@ -1,7 +1,6 @@
 -- Table B: its rows, their limits and faults, and the kind of an element by its unit.
--- (WMO-No. 306, Volume I.2, FM 94: Table B. The form of the text, its limits, its faults and the
--- kinds are a choice of this project. ASCII case makes no difference in a unit.)
--- Cited by public contracts.
+-- (WMO-No. 306, Volume I.2, FM 94: Table B; the text, its limits, its faults and the kinds are a
+-- choice of this project) Cited by public contracts.
 use Rattle.std.specs.Prelude.{ℕ, Bool, if◌then◌else◌, ◌||◌, List, length, take, codes, ◌≡◌, ◌%◌, ◌==◌, ◌&&◌, true, false, not, nat_le, ℤ, pos, negsuc, [], ◌∷◌, ◌++◌, map, nat_eq, Option, Some, None, is_some, Result, Ok, Err, ◌+◌, ◌-◌, ◌≤◌, slice_range, ◌<◌}
 use Rattle.std.specs.Str.{str_eq_ignore_ascii_case}
 use Rattle.bufr_tables.specs.declared.table_b.Kind.{Kind}
@@ -16,8 +15,7 @@ use Rattle.bufr_tables.specs.declared.table_b.Stored.{Stored}
 use Rattle.bufr_tables.specs.declared.table_b.ParsedRow.{ParsedRow}
 use Rattle.bufr_tables.specs.declared.table_b.TableB.TheInside.{Inside}
 
--- What an element's unit says of its values. (A choice of this project: Table B of WMO-No. 306,
--- Volume I.2, FM 94 gives the unit as a text.) ASCII case makes no difference.
+-- ---- What a unit says of the values; ASCII case makes no difference. (a choice of this project)
 
 -- a text is these words
 unfoldable pub is_words : List ℕ → List ℕ → Bool
@@ -101,26 +99,21 @@ unfoldable pub width_of : Kind → List ℕ → Option ℕ
 width_of kind text =
     i64_of text >>= λ z. natural_part z >>= λ width. only_if (allows_width kind width) width
 
--- the factors of delayed replications are unsigned numbers: of 1 bit where Y is 0, of 8 where it is
--- 1, and of 16 where it is 2
-abbrev pub width_at : ℕ → ℕ
-width_at y = if y == 0 then 1 else if y == 1 then 8 else 16
-
+-- factors of delayed replications have 1 bit where Y is 0, 8 where it is 1, and 16 where it is 2
 abbrev pub factor_width : ℕ → Option ℕ
-factor_width fxy = if is_factor fxy then Some (width_at (y_of fxy)) else None
+factor_width fxy =
+    if is_factor fxy then Some (if y_of fxy == 0 then 1 else if y_of fxy == 1 then 8 else 16)
+    else None
 
 abbrev pub is_character : Kind → Bool
 is_character Character = true
 is_character Coded = false
 is_character Numeric = false
 
-abbrev pub is_zero : ℤ → Bool
-is_zero z = unsigned_abs z == 0
-
 abbrev pub is_valid_factor : Option ℕ → Row → Bool
 is_valid_factor None row = true
 is_valid_factor (Some width) row =
-    (row.width == width) && is_zero row.scale && is_zero row.reference
+    (row.width == width) && (unsigned_abs row.scale == 0) && (unsigned_abs row.reference == 0)
     && not (is_character row.kind)
 
 -- the row that a record writes, where it writes one
@@ -145,9 +138,7 @@ row_of r = do
       }
   only_if (is_valid_factor (factor_width fxy) row) row
 
--- the limits of each row of a table: a plain name and unit, and the kind that the unit says; a
--- scale and a width that such an element may have; for a factor of delayed replications its own
--- width
+-- the limits of each row; a factor of delayed replications has its own width
 pub record IsRow (row : Row) : Type 0 where
   pub name : is_name row.name ≡ true
   pub unit : is_name row.unit ≡ true
@@ -175,8 +166,7 @@ with_record_b n rows r = if length r == 6 then with_row n rows (row_of r) else E
 abbrev pub table_b_of : List Record → Result (List Row) TableFault
 table_b_of records = table_of columns_b with_record_b [] records
 
--- the rows of a table are those that the records under the header write, in order, and no
--- descriptor is there twice
+-- the rows are those that the records under the header write, in order, no descriptor twice
 pub record AreRows (records : List Record) (table : List Row) : Type 0 where
   pub first : Record
   pub rest : List Record
@@ -187,8 +177,7 @@ pub record AreRows (records : List Record) (table : List Row) : Type 0 where
 
 -- ---- How Table B is kept: the texts of its rows one after another in one block of octets.
 
--- the row of an element that is kept: `FXXYYY   # ` is before its name, and ` [` and `]` about its
--- unit
+-- the row that is kept: `FXXYYY   # ` is before its name, and ` [` and `]` about its unit
 abbrev pub row_kept : List ℕ → Stored → Row
 row_kept octets s =
     record {
@@ -208,9 +197,6 @@ pub record IsRowKept (octets : List ℕ) (s : Stored) : Type 0 where
   pub inside : s.end ≤ length octets
   pub line_start : slice_range octets s.start (s.start + 7) ≡ row_line_start (row_kept octets s)
   pub comment : slice_range octets (s.start + 7) s.end ≡ row_comment (row_kept octets s)
-
--- ---- How Table B is kept: the texts of its rows one after another in one block of octets, and for
--- each element the places in it.
 
 -- the row that was read of a record
 abbrev pub row_parsed : ParsedRow → Row
@@ -237,8 +223,7 @@ pub record IsStored (octets : List ℕ) (row : ParsedRow) (s : Stored) : Type 0 
   pub same : row_kept octets s ≡ row_parsed row
   pub kept : IsRowKept octets s
 
--- every element is kept inside the block and within the limits, and the directory has their
--- descriptors
+-- every element is kept in the block and within the limits; the directory has the descriptors
 pub record IsTableB (a : Inside) : Type 0 where
   pub kept : AllByRecursion (IsRowKept a.octets.items) a.stored.items
   pub elements : AllByRecursion (λ s. s.fxy < 16384) a.stored.items

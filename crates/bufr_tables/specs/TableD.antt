@@ -1,7 +1,6 @@
 -- Table D: its sequences, its faults, and chains of members.
--- (WMO-No. 306, Volume I.2, FM 94: Table D. The form of the text, its limits and its faults are a
--- choice of this project.)
--- Cited by public contracts.
+-- (WMO-No. 306, Volume I.2, FM 94: Table D; the text, its limits and faults are a choice of this
+-- project) Cited by public contracts.
 use Rattle.std.specs.Prelude.{◌≡◌, ℕ, ◌-◌, ◌==◌, ◌&&◌, Bool, true, false, not, nat_le, if◌then◌else◌, List, [], ◌∷◌, ◌++◌, length, map, codes, Option, Some, None, is_some, option_map, unwrap_or, Result, Ok, Err, IsSome, Contains, All, ⊤, ◌≤◌, ◌<◌, slice_range, ◌+◌, ◌⊎◌, slice_index, slice_index_or}
 use Rattle.std.specs.List.{find, AllByRecursion}
 use Rattle.bufr_tables.specs.declared.fault.TableFault.{TableFault}
@@ -73,8 +72,7 @@ added table row =
 abbrev pub begins_again : List Sequence → Member → Bool
 begins_again table row = not (is_last table row.sequence) && is_some (members_of table row.sequence)
 
--- the sequences so far with the row of record n, or what is at fault with this record; n - 2 rows
--- are before it
+-- the sequences with the row of record n, before which are n - 2 rows, or what is at fault with it
 -- rule: fault-44
 abbrev pub with_member : ℕ → List Sequence → Option Member → Result (List Sequence) TableFault
 with_member n table None = Err (RowFault n)
@@ -106,9 +104,8 @@ pub record AreSequences (records : List Record) (table : List Sequence) : Type 0
   pub written : map member_of rest ≡ map Some rows
   pub members : (fxy : ℕ) → members_or_none table fxy ≡ members_in rows fxy
 
--- Chains of members in Table D, and the sequence that a fault of a cycle names. (A choice of this
--- project: a sequence that holds itself, by whatever chain, cannot be expanded. WMO-No. 306,
--- Volume I.2, FM 94: Table D)
+-- ---- Chains of members: a sequence that holds itself by one cannot be expanded.
+-- (WMO-No. 306, Volume I.2, FM 94: Table D; the fault is a choice of this project)
 
 -- a sequence of the table has this member, which is a sequence of the table too
 pub record Leads (table : List Sequence) (from to : ℕ) : Type 0 where
@@ -140,8 +137,7 @@ pub record IsFirstCycle (table : List Sequence) (fxy : ℕ) : Type 0 where
   pub reaches : ReachesItself table fxy
   pub first : All (λ s. ¬ ReachesItself table s.fxy) before
 
--- what a read of Table D answers: the table, where it has no cycle, or the first fault; a cycle
--- comes after all others
+-- what a read answers: the table without a cycle, or the first fault; a cycle comes after others
 -- rule: fault-43-last
 abbrev pub ReadsTableD : List Record → Result (List Sequence) TableFault → Type 0
 ReadsTableD records (Ok table) = (table_d_of records ≡ Ok table) × HasNoCycle table
@@ -188,34 +184,19 @@ pub record IsTableD (a : Inside) : Type 0 where
 abbrev pub table_d_rows : Inside → List Sequence
 table_d_rows a = sequences_kept a.members.items a.runs.items
 
-abbrev pub member_with : ℕ → ℕ → Member
-member_with sequence member = record { sequence = sequence; fxy = member }
-
 -- ---- What the search for a cycle knows as it goes on. Flags are by descriptor: one for each word.
 
 -- the rank of a sequence, which is at its X and Y
 abbrev pub rank_of : List ℕ → ℕ → ℕ
 rank_of ranks fxy = slice_index ranks (key_of fxy)
 
--- no member of a sequence that is a sequence has a rank above this
+-- this is above the rank of each member of a sequence that is a sequence
 abbrev pub IsAbove : List Sequence → List ℕ → ℕ → ℕ → Type 0
-IsAbove table ranks fxy rank = (to : ℕ) → Leads table fxy to → rank_of ranks to ≤ rank
+IsAbove table ranks fxy limit = (to : ℕ) → Leads table fxy to → rank_of ranks to < limit
 
 -- no sequence has a rank below that of a member
-abbrev pub NeverRises : List Sequence → List ℕ → Type 0
-NeverRises table ranks = (fxy : ℕ) → IsAbove table ranks fxy (rank_of ranks fxy)
-
--- the same of the first members of a sequence, so many, and of the first sequences of the file
-abbrev pub IsAboveFirst : List Sequence → List ℕ → ℕ → ℕ → ℕ → Type 0
-IsAboveFirst table ranks fxy rank count = (k : ℕ) → k < count → k
-    < length (members_or_none table fxy)
-    → IsSome (members_of table (slice_index (members_or_none table fxy) k))
-    → rank_of ranks (slice_index (members_or_none table fxy) k) ≤ rank
-
-abbrev pub NeverRisesFirst : List Sequence → List ℕ → ℕ → Type 0
-NeverRisesFirst table ranks count = (k : ℕ) → k < count → k < length table
-    → IsAbove table ranks (slice_index (fxys_of table) k)
-    (rank_of ranks (slice_index (fxys_of table) k))
+abbrev pub Falls : List Sequence → List ℕ → Type 0
+Falls table ranks = (fxy : ℕ) → IsAbove table ranks fxy (rank_of ranks fxy + 1)
 
 -- the flag of a descriptor is set
 abbrev pub IsSet : List Bool → ℕ → Type 0
@@ -226,8 +207,7 @@ abbrev pub unset : List Bool → ℕ
 unset [] = 0
 unset (flag ∷ flags) = (if flag then 0 else 1) + unset flags
 
--- the first members of a sequence, so many, were seen, where they are sequences; those that were
--- not seen before come after the queue
+-- the first members that are sequences, so many, were seen; the new ones come after the queue
 pub record IsVisited (table : List Sequence) (fxy count : ℕ) (old : List Bool) (queue : List ℕ)
     (new : List Bool) (longer : List ℕ) : Type 0 where
   pub more : List ℕ
@@ -240,23 +220,3 @@ pub record IsVisited (table : List Sequence) (fxy count : ℕ) (old : List Bool)
   pub seen : (k : ℕ) → k < count → k < length (members_or_none table fxy)
       → IsSome (members_of table (slice_index (members_or_none table fxy) k))
       → IsSet new (slice_index (members_or_none table fxy) k)
-
--- each member of a sequence that is a sequence was seen
-abbrev pub AreSeen : List Sequence → List Bool → ℕ → Type 0
-AreSeen table seen fxy = (to : ℕ) → Leads table fxy to → IsSet seen to
-
--- a chain from the start leads to what is in the queue, which has all that was seen; the members of
--- the start and of the first of the queue, so many, were seen
-pub record IsSearched (table : List Sequence) (start : ℕ) (seen : List Bool) (queue : List ℕ)
-    (next : ℕ) : Type 0 where
-  pub flags : length seen ≡ 65536
-  pub inside : next ≤ length queue
-  pub chains : (to : ℕ) → Contains queue to → Chain table start to
-  pub queued : (to : ℕ) → IsSet seen to → Contains queue to
-  pub first : AreSeen table seen start
-  pub visited : (k : ℕ) → k < next → AreSeen table seen (slice_index queue k)
-
--- none of the first sequences of the file, so many, reaches itself
-abbrev pub IsPassed : List Sequence → ℕ → Type 0
-IsPassed table count =
-    (k : ℕ) → k < count → k < length table → ¬ ReachesItself table (slice_index (fxys_of table) k)

@@ -1,6 +1,5 @@
 -- A template as a tree: its places, its size, its depth, and the operators that it may hold.
--- (WMO-No. 306, Volume I.2, FM 94: section 3, replications, and Table C. The form as a tree and its
--- places are a choice of this project.)
+-- (WMO-No. 306, Volume I.2, FM 94: section 3, Table C; the tree is a choice of this project)
 -- Cited by public contracts.
 use Rattle.std.specs.Prelude.{ℕ, ◌+◌, ◌==◌, Bool, true, false, ◌||◌, max, nat_le, ◌&&◌, if◌then◌else◌}
 use Rattle.bufr_tables.specs.Fxy.{x_of, f_of, y_of}
@@ -45,8 +44,7 @@ depth (delayed factor body rest) = max (1 + depth body) (depth rest)
 abbrev pub is_inserted_text : ℕ → Bool
 is_inserted_text fxy = x_of fxy == 5
 
--- whether some node takes bits of the data: an element, an inserted text, a delayed group (its
--- factor) or a fixed group whose body does
+-- whether some node takes bits: an element, an inserted text, a factor, or one in a fixed group
 -- rule: groups-take-bits
 abbrev pub consumes : Tree → Bool
 consumes bare = false
@@ -55,9 +53,8 @@ consumes (operator fxy rest) = is_inserted_text fxy || consumes rest
 consumes (fixed count body rest) = consumes body || consumes rest
 consumes (delayed factor body rest) = true
 
--- ---- Which operators a template may hold, and with which operands
--- (WMO-No. 306, Volume I.2, FM 94: Table C; the choice of these seven, and the bounds on their
--- operands, are this project's)
+-- ---- Which operators a template may hold, and with which operands (WMO-No. 306, Volume I.2,
+-- FM 94: Table C; these seven and the bounds are a choice of this project)
 
 -- whether operator 2 X may have the operand Y: a change of width, scale or text width any; new
 -- references a width up to 63, 255 that ends them or 0 that drops them; an inserted text and a

@@ -1,12 +1,8 @@
 //! The expansion of descriptors, depth first, from left to right, and the cells that it builds.
-//!
-//! Each descriptor that is looked at takes a place, opens a group or a sequence, or is a fault. A
-//! sequence has a member at least, and at most 32 groups and sequences are open together. So few
-//! descriptors are looked at for each place, and 65,535 places are the most. A hostile list is
-//! refused soon, whatever the tables hold. The recursion ends by `room` alone.
+//! Few descriptors are looked at for each place, so a hostile list is refused soon.
 ghost use Rattle.std.specs.Prelude.{◌≡◌, ◌+◌, ◌<◌, ◌≤◌, ◌++◌, ◌∷◌, [], length, take, drop, Ok, Err, MatchResult, OnOk, OnErr, IfErr, IfOk};
 ghost use Rattle.bufr_tables.specs.Fxy.{x_of};
-ghost use Rattle.bufr_tables.specs.Expansion.{begins_with_element as element_begins, first_of as first_of_list, part_of, element_part, operator_part, group_part, fixed_part, delayed_part, sequence_part, with_places};
+ghost use Rattle.bufr_tables.specs.Expansion.{begins_with_element as element_begins, first_of as first_of_list, part_of, group_part, with_places};
 ghost use Rattle.bufr_tables.specs.Growth.{places_so_far, PushesTreeUnlessMemory, GivesPart, factor_cells, first_cell, own_places, tables_in, inner_in, list_in, group_in};
 
 use crate::fault::TemplateFault;
@@ -25,7 +21,6 @@ pub(crate) struct Expander<'a> {
 }
 
 impl Expander<'_> {
-    ghost use Rattle.std.specs.Prelude.{◌≡◌, ◌≤◌, length, IfOk};
     ghost use Rattle.bufr_tables.specs.Growing.{builder_model};
 
     /// Whether Table B knows an element.
@@ -58,7 +53,7 @@ impl Expander<'_> {
 
     /// Expands one descriptor, and returns how many of those after it it takes.
     #[cycle(expansion)]
-    // rule: descriptor-kinds
+    // rule: descriptor-kinds, 2-06-y-unknown-element, 2-06-y-before-an-element
     fn part(
         &self,
         fxy: Fxy,
@@ -73,37 +68,44 @@ impl Expander<'_> {
         ensures within { IfOk result (λ taken. taken ≤ length after.now) }
     {
         match fxy.f() {
-            0 => self.element(fxy, width_given, growing),
+            0 => {
+                if !width_given && !self.knows(fxy) {
+                    return Err(TemplateFault::UnknownElement(fxy));
+                }
+                growing.push_element(fxy)?;
+                Ok(0)
+            }
             1 => self.group(fxy, after, growing),
-            2 => Expander::operator(fxy, after, growing),
-            _ => self.sequence(fxy, growing),
+            2 => {
+                if !fxy.is_legal_operator() {
+                    return Err(TemplateFault::Operator(fxy));
+                }
+                if fxy.gives_width() && !begins_with_element(after) {
+                    return Err(TemplateFault::LocalShape(fxy));
+                }
+                growing.push_operator(fxy)?;
+                Ok(0)
+            }
+            _ => {
+                let Some(members) = self.table_d.members(fxy) else {
+                    return Err(TemplateFault::UnknownSequence(fxy));
+                };
+                if self.room == 0 {
+                    return Err(TemplateFault::Depth(fxy));
+                }
+                let inner = Expander {
+                    room: self.room - 1,
+                    ..*self
+                };
+                inner.list(members, growing)?;
+                Ok(0)
+            }
         }
     }
 
-    /// An element: known to Table B, or of a width that the operator before it gives.
-    // rule: 2-06-y-unknown-element
-    fn element(
-        &self,
-        fxy: Fxy,
-        width_given: bool,
-        growing: &mut TemplateBuilder,
-    ) -> Result<usize, TemplateFault>
-        ensures gives { GivesPart (builder_model growing.old)
-            (element_part (tables_in self.now) width_given
-            (places_so_far (builder_model growing.old)) fxy)
-            result (builder_model growing.new) }
-        ensures none { IfOk result (λ taken. taken ≡ 0) }
-    {
-        if !width_given && !self.knows(fxy) {
-            return Err(TemplateFault::UnknownElement(fxy));
-        }
-        growing.push_element(fxy)?;
-        Ok(0)
-    }
-
-    /// A replication: a group of Y passes, or a delayed one.
+    /// A replication: a group of Y passes, or of as many as its factor says, which comes first.
     #[cycle(expansion)]
-    // rule: fixed-replication
+    // rule: fixed-replication, delayed-replication
     fn group(
         &self,
         fxy: Fxy,
@@ -119,29 +121,11 @@ impl Expander<'_> {
         if fxy.x() == 0 {
             return Err(TemplateFault::GroupShape(fxy));
         }
-        if fxy.y() == 0 {
-            return self.delayed(fxy, after, growing);
+        if fxy.y() > 0 {
+            let passes = Passes::Fixed(fxy.y());
+            self.group_of(fxy, &passes, after, growing)?;
+            return Ok(usize::from(fxy.x()));
         }
-        let passes = Passes::Fixed(fxy.y());
-        self.group_of(fxy, &passes, after, growing)?;
-        Ok(usize::from(fxy.x()))
-    }
-
-    /// A group of as many passes as its factor says, which comes before the X descriptors.
-    #[cycle(expansion)]
-    // rule: delayed-replication
-    fn delayed(
-        &self,
-        fxy: Fxy,
-        after: &[Fxy],
-        growing: &mut TemplateBuilder,
-    ) -> Result<usize, TemplateFault>
-        ensures gives { GivesPart (builder_model growing.old)
-            (delayed_part (tables_in self.now) (inner_in self.now)
-            (places_so_far (builder_model growing.old)) fxy after.now)
-            result (builder_model growing.new) }
-        ensures within { IfOk result (λ taken. taken ≤ length after.now) }
-    {
         let Some((factor, after_factor)) = after.split_first() else {
             return Err(TemplateFault::NoFactor(fxy));
         };
@@ -190,51 +174,6 @@ impl Expander<'_> {
             return Err(TemplateFault::EmptyGroup(fxy));
         }
         growing.close(place, passes)
-    }
-
-    /// An operator; one that gives a width comes before an element.
-    // rule: 2-06-y-before-an-element
-    fn operator(
-        fxy: Fxy,
-        after: &[Fxy],
-        growing: &mut TemplateBuilder,
-    ) -> Result<usize, TemplateFault>
-        ensures gives { GivesPart (builder_model growing.old)
-            (operator_part (places_so_far (builder_model growing.old)) fxy after.now)
-            result (builder_model growing.new) }
-        ensures none { IfOk result (λ taken. taken ≡ 0) }
-    {
-        if !fxy.is_legal_operator() {
-            return Err(TemplateFault::Operator(fxy));
-        }
-        if fxy.gives_width() && !begins_with_element(after) {
-            return Err(TemplateFault::LocalShape(fxy));
-        }
-        growing.push_operator(fxy)?;
-        Ok(0)
-    }
-
-    /// A sequence: its members are in its place.
-    #[cycle(expansion)]
-    fn sequence(&self, fxy: Fxy, growing: &mut TemplateBuilder) -> Result<usize, TemplateFault>
-        ensures gives { GivesPart (builder_model growing.old)
-            (sequence_part (tables_in self.now) (inner_in self.now)
-            (places_so_far (builder_model growing.old)) fxy)
-            result (builder_model growing.new) }
-        ensures none { IfOk result (λ taken. taken ≡ 0) }
-    {
-        let Some(members) = self.table_d.members(fxy) else {
-            return Err(TemplateFault::UnknownSequence(fxy));
-        };
-        if self.room == 0 {
-            return Err(TemplateFault::Depth(fxy));
-        }
-        let inner = Expander {
-            room: self.room - 1,
-            ..*self
-        };
-        inner.list(members, growing)?;
-        Ok(0)
     }
 }
 
@@ -286,8 +225,7 @@ impl Passes {
 /// The most places that a template may take.
 const MAX_PLACES: u32 = 65_535;
 
-/// The least room for cells that is made at the beginning: most templates fit in it, also those
-/// whose list is one sequence.
+/// The least room for cells that is made at the beginning: most templates fit in it.
 const MIN_ROOM: usize = 128;
 
 /// The cells of a template, as far as its list has been expanded.
@@ -395,8 +333,7 @@ impl TemplateBuilder {
         Ok(())
     }
 
-    /// Begins a group after the cells, and returns the place of its first cell. What is after the
-    /// group is not known yet.
+    /// Begins a group after the cells, and returns the place of its first cell.
     pub(crate) fn open(&mut self, fxy: Fxy, passes: &Passes) -> Result<usize, TemplateFault>
         ensures { GivesPlace (builder_model self.old) passes.now fxy result
             (builder_model self.new) }
@@ -412,8 +349,7 @@ impl TemplateBuilder {
         Ok(place)
     }
 
-    /// Ends the innermost group, whose first cell is at a place, and writes there what is
-    /// after the group.
+    /// Ends the innermost group, and writes into its first cell what is after the group.
     pub(crate) fn close(&mut self, place: usize, passes: &Passes) -> Result<(), TemplateFault>
         requires inside { place < length self.old.cells.items }
         requires around { 0 < self.old.open_groups }

@@ -1,6 +1,7 @@
 //! Why a table cannot be read, and why a list of descriptors makes no template.
 ghost use Rattle.std.specs.Prelude.{◌≡◌};
 ghost use Rattle.bufr_tables.specs.declared.fault.TableFault.TheVariants.{Memory};
+ghost use Rattle.bufr_tables.specs.FaultNumber.{number_of_table_fault, number_of_template_fault};
 
 use crate::fxy::Fxy;
 use std::alloc::{AllocError, AllocFailed};
@@ -38,9 +39,6 @@ pub enum TableFault {
 }
 
 impl TableFault {
-    ghost use Rattle.std.specs.Prelude.{◌≡◌};
-    ghost use Rattle.bufr_tables.specs.FaultNumber.{number_of_table_fault};
-
     /// Its number: 40 to 45, or 73.
     pub fn number(self) -> u8
         ensures { result ≡ number_of_table_fault self }
@@ -95,9 +93,6 @@ pub enum TemplateFault {
 }
 
 impl TemplateFault {
-    ghost use Rattle.std.specs.Prelude.{◌≡◌};
-    ghost use Rattle.bufr_tables.specs.FaultNumber.{number_of_template_fault};
-
     /// Its number: 20 to 28, or 73.
     pub fn number(self) -> u8
         ensures { result ≡ number_of_template_fault self }

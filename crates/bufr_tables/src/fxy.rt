@@ -1,5 +1,5 @@
 //! A descriptor, as section 3 of a message, a template and the tables have it.
-ghost use Rattle.std.specs.Prelude.{◌≡◌, ◌<◌, ◌≤◌, IsTrue, Some, length};
+ghost use Rattle.std.specs.Prelude.{◌≡◌, ◌<◌, ◌≤◌, IsTrue, Some, length, ℕ};
 ghost use Rattle.std.specs.Char.{is_ascii_digit};
 ghost use Rattle.std.specs.List.{list_all};
 ghost use Rattle.bufr_tables.specs.Fxy.{f_of, x_of, y_of, fxy_text, fxy_of, is_factor, key_of, number_at};
@@ -24,8 +24,6 @@ pub struct Fxy {
 }
 
 impl Model for Fxy {
-    ghost use Rattle.std.specs.Prelude.{ℕ};
-
     ghost Value = { ℕ };
 
     ghost view = { λ d. d.word };

@@ -1,6 +1,6 @@
 //! Finds a descriptor by its X and Y in one step.
-ghost use Rattle.std.specs.Prelude.{◌≡◌, ◌<◌, [], ◌∷◌, ◌++◌, length, None, IfOk, IfSome};
-ghost use Rattle.bufr_tables.specs.Fxy.{place_of};
+ghost use Rattle.std.specs.Prelude.{◌≡◌, ◌<◌, [], ◌∷◌, ◌++◌, length, None, IfOk, IfSome, List, ℕ};
+ghost use Rattle.bufr_tables.specs.Fxy.{place_of, IsDirectory};
 
 use std::alloc::{AllocError, Global};
 use std::marker::Model;
@@ -8,8 +8,7 @@ use std::marker::Model;
 /// How many values X and Y have together.
 pub(crate) const KEYS: usize = 16384;
 
-/// A list of keys, each the 14 bits of X and Y, with the place of each key in the list. A clause
-/// sees the list.
+/// A list of keys, each the 14 bits of X and Y, and their places. A clause sees the list.
 #[derive(Drop)]
 pub(crate) struct FxyIndex {
     /// There is room for all keys.
@@ -19,13 +18,9 @@ pub(crate) struct FxyIndex {
 }
 
 impl Model for FxyIndex {
-    ghost use Rattle.std.specs.Prelude.{List, ℕ};
-
     ghost Value = { List ℕ };
 
     ghost view = { λ a. a.keys.items };
-
-    ghost use Rattle.bufr_tables.specs.Fxy.{IsDirectory};
 
     ghost invariant = { IsDirectory };
 }

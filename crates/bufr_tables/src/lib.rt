@@ -3,11 +3,6 @@
 //! A descriptor ([`Fxy`]) is looked up in [`TableB`], the elements, or in [`TableD`], the
 //! sequences. A list of descriptors is expanded to a [`Template`], the tree that says what a
 //! message's data hold.
-//!
-//! `bufr_cli` reads the two tables once. `TemplateCache` of `bufr_walk` asks [`SelectedTemplate`]
-//! for the template of each message and document. `bufr_walk` goes through its cells, and asks
-//! Table B for each element. The tests `elements`, `sequences`, `cells_of_templates` and
-//! `lists_of_descriptors` show it.
 #![tactic(auto)]
 
 mod expand;

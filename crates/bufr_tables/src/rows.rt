@@ -13,8 +13,10 @@ use std::alloc::Global;
 #[derive(Drop)]
 pub(crate) struct RecordReader<'a> {
     reader: Reader<&'a [u8]>,
-    row: ByteRecord,
-    number: u64,
+    /// The record that was given last.
+    pub(crate) row: ByteRecord,
+    /// How many records were given.
+    pub(crate) number: u64,
 }
 
 impl<'a> RecordReader<'a> {
@@ -47,7 +49,7 @@ impl<'a> RecordReader<'a> {
             → (e ≡ Header) × (has_header (field_texts header.now) (records_of text.now) ≡ false)) }
     {
         let mut records = RecordReader::new(alloc, text);
-        if !records.advance()? || !has_fields(records.record(), header) {
+        if !records.advance()? || !has_fields(&records.row, header) {
             return Err(TableFault::Header);
         }
         Ok(records)
@@ -71,20 +73,6 @@ impl<'a> RecordReader<'a> {
                 _ => unreachable!(),
             },
         }
-    }
-
-    /// How many records were given.
-    pub(crate) fn number(&self) -> u64
-        ensures { result ≡ self.now.number }
-    {
-        self.number
-    }
-
-    /// The record that was given last.
-    pub(crate) fn record(&self) -> &ByteRecord
-        ensures { fields_of result.now ≡ record_given self.now }
-    {
-        &self.row
     }
 }
 
@@ -112,15 +100,16 @@ fn has_fields(fields: &ByteRecord, names: &[&[u8]]) -> bool
 }
 
 /// The number that an optional `-` and one or more digits write, where an `i64` holds it.
-#[tactic(auto, unfolding(crate::specs::Records::i64_of, crate::specs::Records::integer_of))]
+#[tactic(auto, unfolding(crate::specs::Records::i64_of, crate::specs::Records::integer_of, crate::specs::Records::if_i64))]
 pub(crate) fn integer(text: &[u8]) -> Option<i64>
     ensures { result ≡ i64_of text.now }
 {
     if is_negative(text) {
-        negative(magnitude(without_first(text))?)
-    } else {
-        positive(magnitude(text)?)
+        let size = magnitude(&text[1..])?;
+        return 0i64.checked_sub_unsigned(size);
     }
+    let size = magnitude(text)?;
+    0i64.checked_add_unsigned(size)
 }
 
 /// Whether a text begins with `-`. (Were `strip_prefix` called here too, it would no longer be
@@ -129,30 +118,6 @@ fn is_negative(text: &[u8]) -> bool
     ensures { result ≡ (slice_index text.now 0 == 45) }
 {
     !text.is_empty() && text[0] == b'-'
-}
-
-/// The octets after the first.
-fn without_first(text: &[u8]) -> &[u8]
-    requires { 0 < length text.now }
-    ensures { result.now ≡ drop 1 text.now }
-{
-    &text[1..]
-}
-
-/// The number of this size, where an `i64` holds it.
-#[tactic(auto, unfolding(crate::specs::Records::if_i64))]
-fn positive(size: u64) -> Option<i64>
-    ensures { result ≡ if_i64 (pos size) }
-{
-    0i64.checked_add_unsigned(size)
-}
-
-/// The number below zero of this size, where an `i64` holds it.
-#[tactic(auto, unfolding(crate::specs::Records::if_i64))]
-fn negative(size: u64) -> Option<i64>
-    ensures { result ≡ if_i64 (negated size) }
-{
-    0i64.checked_sub_unsigned(size)
 }
 
 /// The number that one or more digits write, or the greatest `u64` where it is over that.

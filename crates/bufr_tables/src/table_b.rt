@@ -184,19 +184,6 @@ impl<'a> fmt::Debug for Entry<'a> {
     }
 }
 
-/// The descriptor of an element.
-#[tactic(auto, unfolding(crate::specs::TableB::element_of))]
-fn read_element(text: &[u8]) -> Option<Fxy>
-    ensures value { result ≡ element_of text.now }
-    ensures element { IfSome result (λ fxy. fxy < 16384) }
-{
-    let fxy = Fxy::read(text)?;
-    if fxy.f() != 0 {
-        return None;
-    }
-    Some(fxy)
-}
-
 /// A name or a unit.
 #[tactic(auto, unfolding(crate::specs::TableB::plain_of))]
 fn read_plain(text: &[u8]) -> Option<&[u8]>
@@ -213,18 +200,6 @@ fn is_printable_text(text: &[u8]) -> bool
     ensures { result ≡ list_all is_printed text.now }
 {
     text.iter().all(|octet| *octet >= 32 && *octet != 127)
-}
-
-/// A scale.
-#[tactic(auto, unfolding(crate::specs::TableB::scale_of))]
-fn read_scale(text: &[u8]) -> Option<i16>
-    ensures { result ≡ scale_of text.now }
-{
-    let scale = integer(text)?;
-    if scale < -127 || scale > 127 {
-        return None;
-    }
-    Some(scale as i16)
 }
 
 /// The width of an element of this kind, in bits.
@@ -284,16 +259,22 @@ fn is_valid_factor(row: &ParsedRow) -> bool
 }
 
 /// The row that a record writes, where it writes one.
-#[tactic(auto, unfolding(crate::specs::TableB::row_of))]
+#[tactic(auto, unfolding(crate::specs::TableB::row_of, crate::specs::TableB::element_of, crate::specs::TableB::scale_of))]
 // rule: fault-41-of-table-b
 fn parse_row(fields: &ByteRecord) -> Option<ParsedRow<'_>>
     ensures value { option_map row_parsed result ≡ row_of (fields_of fields.now) }
     ensures element { IfSome result (λ row. row.fxy < 16384) }
 {
-    let fxy = read_element(field(fields, 0))?;
+    let fxy = Fxy::read(field(fields, 0))?;
+    if fxy.f() != 0 {
+        return None;
+    }
     let name = read_plain(field(fields, 1))?;
     let unit = read_plain(field(fields, 2))?;
-    let scale = read_scale(field(fields, 3))?;
+    let scale = integer(field(fields, 3))?;
+    if scale < -127 || scale > 127 {
+        return None;
+    }
     let reference = integer(field(fields, 4))?;
     let kind = Kind::of(unit);
     let width = read_width(kind, field(fields, 5))?;
@@ -302,7 +283,7 @@ fn parse_row(fields: &ByteRecord) -> Option<ParsedRow<'_>>
         name,
         unit,
         kind,
-        scale,
+        scale: scale as i16,
         reference,
         width,
     };
@@ -345,12 +326,7 @@ impl Model for TableB {
 }
 
 impl TableB {
-    ghost use Rattle.std.specs.Prelude.{◌≡◌, ◌≢◌, ◌<◌, [], ◌∷◌, ◌++◌, None, OnOk, IfErr, IfOk, IfSome, option_map, Ok, Err};
-    ghost use Rattle.csv.specs.Records.{fields_of};
-    ghost use Rattle.bufr_tables.specs.declared.fault.TableFault.TheVariants.{Memory};
     ghost use Rattle.bufr_tables.specs.Entry.{row_of_entry};
-    ghost use Rattle.bufr_tables.specs.TableB.{row_parsed, AreRows, IsRow, entry_of, table_b_of, with_record_b};
-    ghost use Rattle.bufr_tables.specs.Records.{records_of, ReturnsUnlessMemory};
 
     /// Reads Table B from the octets of a CSV file.
     ///
@@ -377,7 +353,7 @@ impl TableB {
             directory: FxyIndex::new(alloc)?,
         };
         while records.advance()? {
-            table.add(records.number(), records.record())?;
+            table.add(records.number, &records.row)?;
         }
         Ok(table)
     }

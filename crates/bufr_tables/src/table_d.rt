@@ -1,18 +1,8 @@
 //! Table D, the sequences, read from CSV, and refused where a sequence reaches itself.
-//!
-//! A sequence whose rank is above those of its members does not reach itself, where no rank is
-//! below that of a member. The others are searched from, in the order of the file: the first of
-//! them is the answer, unless the ranks are wrong. So the time grows with the rows, and there is no
-//! recursion.
-//!
-//! Sequences that reach one another have one rank, and no sequence has a lower rank than a member.
-//! The ranks are found depth first in one pass over the rows (R. E. Tarjan, "Depth-first search and
-//! linear graph algorithms", 1972), with a path in place of recursion. Nothing rests on their being
-//! right but speed: what is needed of them is checked.
-ghost use Rattle.std.specs.Prelude.{◌≡◌, ◌≢◌, ◌≤◌, ◌<◌, [], ◌∷◌, ◌++◌, None, length, slice_index, OnOk, IfErr, IfOk, IfSome, is_some, option_map, Ok, Err, vec_len, IsTrue, MatchOption, ◌↔◌};
+ghost use Rattle.std.specs.Prelude.{◌≡◌, ◌≢◌, ◌≤◌, ◌<◌, [], ◌∷◌, ◌++◌, None, length, slice_index, OnOk, IfErr, IfOk, IfSome, is_some, option_map, Ok, Err, vec_len, IsTrue, MatchOption, ◌↔◌, List};
 ghost use Rattle.csv.specs.Records.{fields_of};
 ghost use Rattle.bufr_tables.specs.declared.fault.TableFault.TheVariants.{Memory};
-ghost use Rattle.bufr_tables.specs.TableD.{ReadsTableD, HasNoCycle, IsFirstCycle, ReachesItself, AreSequences, extended, fxys_of, is_last, members_or_none, member_of, members_of, sequence_of, table_d_of, with_record_d, member_with, IsAbove, IsVisited, NeverRises, rank_of};
+ghost use Rattle.bufr_tables.specs.TableD.{ReadsTableD, HasNoCycle, IsFirstCycle, ReachesItself, AreSequences, extended, fxys_of, is_last, members_or_none, member_of, members_of, table_d_of, with_record_d, IsAbove, IsVisited, Falls, rank_of, Sequence, IsTableD, table_d_rows};
 ghost use Rattle.bufr_tables.specs.Records.{records_of, ReturnsUnlessMemory};
 
 use crate::fault::TableFault;
@@ -29,28 +19,18 @@ const HEADER: [&[u8]; 2] = [b"fxy", b"member"];
 /// How many rows the table may have.
 const ROWS: u64 = 65536;
 
-/// The descriptor of a sequence.
-#[tactic(auto, unfolding(crate::specs::TableD::sequence_of))]
-fn read_sequence(text: &[u8]) -> Option<Fxy>
-    ensures value { result ≡ sequence_of text.now }
-    ensures sequence { IfSome result (λ fxy. (49152 ≤ fxy) × (fxy < 65536)) }
-{
-    let fxy = Fxy::read(text)?;
-    if fxy.f() != 3 {
-        return None;
-    }
-    Some(fxy)
-}
-
 /// The sequence and the member that a record writes, where it writes a row.
-#[tactic(auto, unfolding(crate::specs::TableD::member_of))]
+#[tactic(auto, unfolding(crate::specs::TableD::member_of, crate::specs::TableD::sequence_of))]
 // rule: fault-41-of-table-d
 fn row(fields: &ByteRecord) -> Option<(Fxy, Fxy)>
-    ensures value { option_map (λ p. member_with p.0 p.1) result
+    ensures value { option_map (λ p. record { sequence = p.0; fxy = p.1 }) result
         ≡ member_of (fields_of fields.now) }
     ensures sequence { IfSome result (λ p. (49152 ≤ p.0) × (p.0 < 65536)) }
 {
-    let sequence = read_sequence(field(fields, 0))?;
+    let sequence = Fxy::read(field(fields, 0))?;
+    if sequence.f() != 3 {
+        return None;
+    }
     let member = Fxy::read(field(fields, 1))?;
     Some((sequence, member))
 }
@@ -83,12 +63,7 @@ pub struct TableD {
 }
 
 impl Model for TableD {
-    ghost use Rattle.std.specs.Prelude.{List};
-    ghost use Rattle.bufr_tables.specs.TableD.{Sequence};
-
     ghost Value = { List Sequence };
-
-    ghost use Rattle.bufr_tables.specs.TableD.{IsTableD, table_d_rows};
 
     ghost view = { table_d_rows };
 
@@ -131,7 +106,7 @@ impl TableD {
             directory: FxyIndex::new(alloc)?,
         };
         while records.advance()? {
-            table.add(records.number(), records.record())?;
+            table.add(records.number, &records.row)?;
         }
         Ok(table)
     }
@@ -168,13 +143,6 @@ impl TableD {
         ensures { result ≡ length self.now }
     {
         self.runs.len()
-    }
-
-    /// How many turns it takes at most to look at every row and every sequence.
-    pub(crate) fn turns(&self) -> usize {
-        self.members
-            .len()
-            .saturating_add(self.runs.len().saturating_mul(2))
     }
 
     /// The descriptor of the sequence at a place of the file, counted from 0.
@@ -262,16 +230,16 @@ impl TableD {
 /// How many descriptors there are.
 const WORDS: usize = 65536;
 
-/// The first sequence of the table that reaches itself, if one does.
+/// The first sequence that reaches itself, if one does; ranks leave only that one to search.
 // rule: fault-43
 pub(crate) fn first_cycle(alloc: Global, table: &TableD) -> Result<Option<Fxy>, AllocError>
     ensures { IfOk result (λ o. MatchOption o (HasNoCycle table.now) (IsFirstCycle table.now)) }
 {
     let ranks = ranks_of(alloc, table)?;
-    let falls = never_rises(table, &ranks);
+    let falls = falls(table, &ranks);
     for place in 0..table.count() {
         let sequence = table.sequence_at(place);
-        if falls && is_above(table, sequence, &ranks) {
+        if falls && is_above(table, &ranks, sequence, ranks[sequence.key()]) {
             continue;
         }
         if reaches_itself(alloc, table, sequence)? {
@@ -282,40 +250,31 @@ pub(crate) fn first_cycle(alloc: Global, table: &TableD) -> Result<Option<Fxy>, 
 }
 
 /// Whether no sequence has a rank below that of a member.
-fn never_rises(table: &TableD, ranks: &[u32]) -> bool
+fn falls(table: &TableD, ranks: &[u32]) -> bool
     requires { length ranks.now ≡ 16384 }
-    ensures { IsTrue result → NeverRises table.now ranks.now }
+    ensures { IsTrue result → Falls table.now ranks.now }
 {
     for place in 0..table.count() {
         let sequence = table.sequence_at(place);
-        if highest(table, sequence, ranks) > ranks[sequence.key()] {
+        let limit = ranks[sequence.key()].saturating_add(1);
+        if !is_above(table, ranks, sequence, limit) {
             return false;
         }
     }
     true
 }
 
-/// Whether the rank of a sequence is above those of its members.
-fn is_above(table: &TableD, sequence: Fxy, ranks: &[u32]) -> bool
+/// Whether a limit is above the ranks of all members of a sequence.
+fn is_above(table: &TableD, ranks: &[u32], sequence: Fxy, limit: u32) -> bool
     requires { length ranks.now ≡ 16384 }
-    ensures { IsTrue result → NeverRises table.now ranks.now → ¬ ReachesItself table.now sequence }
+    ensures { IsTrue result → IsAbove table.now ranks.now sequence limit }
 {
-    highest(table, sequence, ranks) < ranks[sequence.key()]
-}
-
-/// The highest rank of the members of a sequence that are sequences, or 0.
-fn highest(table: &TableD, sequence: Fxy, ranks: &[u32]) -> u32
-    requires { length ranks.now ≡ 16384 }
-    ensures { IsAbove table.now ranks.now sequence result }
-{
-    let mut most = 0;
     for member in table.members_or_none(sequence) {
-        if table.is_sequence(*member) {
-            let rank = ranks[member.key()];
-            most = most.max(rank);
+        if table.is_sequence(*member) && ranks[member.key()] >= limit {
+            return false;
         }
     }
-    most
+    true
 }
 
 /// Whether a sequence reaches itself.
@@ -334,8 +293,7 @@ fn reaches_itself(alloc: Global, table: &TableD, sequence: Fxy) -> Result<bool, 
     Ok(seen[usize::from(sequence.word())])
 }
 
-/// Puts the members of a sequence that are sequences after the queue, but for those that were
-/// seen.
+/// Puts the members of a sequence that are sequences and were not seen after the queue.
 fn visit(
     table: &TableD,
     sequence: Fxy,
@@ -358,135 +316,65 @@ fn visit(
     Ok(())
 }
 
-/// A rank for each sequence of the table, at its X and Y.
+/// A rank for each sequence of the table, at its X and Y: that of a member is the same where it
+/// leads back, and else lower. Until it has its rank, a sequence has a mark above all ranks.
 fn ranks_of(alloc: Global, table: &TableD) -> Result<Vec<u32>, AllocError>
     ensures { IfOk result (λ v. length v.items ≡ 16384) }
 {
-    let mut ranking = Ranking::new(alloc)?;
+    let mut ranks = vec![in alloc; 0u32; KEYS]?;
+    // What is left to search, depth first: each sequence first and again after its members, and
+    // each row. These are fewer than 131,072.
+    let mut left = Vec::new(alloc);
     for place in 0..table.count() {
-        ranking.begin(table.sequence_at(place))?;
-        // A turn looks at a member, or is the last of a sequence.
-        for _turn in 0..table.turns() {
-            if !ranking.turn(table)? {
-                break;
-            }
-        }
+        left.push((table.sequence_at(place), false))?;
     }
-    Ok(ranking.ranks)
-}
-
-/// The state of the pass. Each list but the last two has a place for each X and Y.
-#[derive(Drop)]
-struct Ranking {
-    /// The number of a sequence in the order in which they were begun, from 1; 0 where it was not
-    /// begun.
-    numbers: Vec<u32>,
-    /// The least number that was seen from a sequence, of those that have no rank.
-    least: Vec<u32>,
-    /// How many members of a sequence were looked at.
-    looked: Vec<usize>,
-    /// The rank of a sequence, from 1; 0 where it has none.
-    ranks: Vec<u32>,
-    /// The sequences whose members are being looked at, each a member of the one before it.
-    path: Vec<Fxy>,
-    /// The sequences that were begun and have no rank.
-    open: Vec<Fxy>,
-    /// How many sequences were begun.
-    begun: u32,
-    /// How many ranks were given.
-    ranked: u32,
-    ghost numbers_size: { vec_len numbers ≡ 16384 },
-    ghost least_size: { vec_len least ≡ 16384 },
-    ghost looked_size: { vec_len looked ≡ 16384 },
-    ghost ranks_size: { vec_len ranks ≡ 16384 },
-}
-
-impl Ranking {
-    fn new(alloc: Global) -> Result<Ranking, AllocError> {
-        Ok(Ranking {
-            numbers: vec![in alloc; 0u32; KEYS]?,
-            least: vec![in alloc; 0u32; KEYS]?,
-            looked: vec![in alloc; 0usize; KEYS]?,
-            ranks: vec![in alloc; 0u32; KEYS]?,
-            path: Vec::new(alloc),
-            open: Vec::new(alloc),
-            begun: 0,
-            ranked: 0,
-        })
-    }
-
-    /// Begins with a sequence, unless it was begun.
-    fn begin(&mut self, sequence: Fxy) -> Result<(), AllocError> {
-        let key = sequence.key();
-        if self.numbers[key] == 0 {
-            self.path.push(sequence)?;
-            self.open.push(sequence)?;
-            self.begun = self.begun.saturating_add(1);
-            self.numbers[key] = self.begun;
-            self.least[key] = self.begun;
-        }
-        Ok(())
-    }
-
-    /// Takes one turn with the last sequence of the path; false where there is none.
-    fn turn(&mut self, table: &TableD) -> Result<bool, AllocError> {
-        let Some(sequence) = self.path.last().copied() else {
-            return Ok(false);
+    // Those after their members: their marks are the greatest that their members lead to.
+    let mut marked = Vec::new(alloc);
+    let mut rank = 0u32;
+    let mut mark = u32::MAX;
+    for _ in 0..2 * WORDS {
+        let Some((sequence, again)) = left.pop() else {
+            break;
         };
-        let key = sequence.key();
-        let looked = self.looked[key];
-        match table.members_or_none(sequence).get(looked) {
-            Some(member) => {
-                self.looked[key] = looked.saturating_add(1);
-                self.look(table, key, *member)?;
+        let members = table.members_or_none(sequence);
+        let own = ranks[sequence.key()];
+        if !again && own > 0 {
+            continue;
+        }
+        if !again {
+            ranks[sequence.key()] = mark;
+            mark = mark.saturating_sub(1);
+            left.push((sequence, true))?;
+            for member in members {
+                if table.is_sequence(*member) {
+                    left.push((*member, false))?;
+                }
             }
-            None => self.end(sequence),
+            continue;
         }
-        Ok(true)
-    }
-
-    /// Looks at a member of the sequence with this key.
-    fn look(&mut self, table: &TableD, key: usize, member: Fxy) -> Result<(), AllocError>
-        requires { key < 16384 }
-    {
-        let at = member.key();
-        if !table.is_sequence(member) || self.ranks[at] != 0 {
-            return Ok(());
-        }
-        let number = self.numbers[at];
-        if number == 0 {
-            return self.begin(member);
-        }
-        self.see(key, number);
-        Ok(())
-    }
-
-    /// Notes a number that was seen from the sequence with this key.
-    fn see(&mut self, key: usize, number: u32)
-        requires { key < 16384 }
-    {
-        let least = self.least[key];
-        self.least[key] = least.min(number);
-    }
-
-    /// Ends the last sequence of the path: it sees what its members see, or it gets a rank with all
-    /// that were begun after it.
-    fn end(&mut self, sequence: Fxy) {
-        let _ = self.path.pop();
-        let key = sequence.key();
-        let least = self.least[key];
-        if least != self.numbers[key] {
-            if let Some(before) = self.path.last().copied() {
-                self.see(before.key(), least);
+        let mut most = own;
+        for member in members {
+            if table.is_sequence(*member) {
+                most = most.max(ranks[member.key()]);
             }
-            return;
         }
-        self.ranked = self.ranked.saturating_add(1);
-        while let Some(open) = self.open.pop() {
-            self.ranks[open.key()] = self.ranked;
-            if open == sequence {
+        ranks[sequence.key()] = most;
+        marked.push(sequence)?;
+        if most > own {
+            continue;
+        }
+        // It and those that were marked since lead to one another.
+        rank = rank.saturating_add(1);
+        for _ in 0..marked.len() {
+            let Some(last) = marked.pop() else {
+                break;
+            };
+            if ranks[last.key()] > own {
+                marked.push(last)?;
                 break;
             }
+            ranks[last.key()] = rank;
         }
     }
+    Ok(ranks)
 }

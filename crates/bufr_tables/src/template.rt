@@ -1,12 +1,10 @@
-//! Templates: descriptor lists expanded to a tree (WMO-No. 306, Volume I.2, FM 94: section 3,
-//! Tables C and D), which is flattened to cells. The last one by two tables is kept: messages of an
-//! archive repeat their descriptors.
+//! Templates: lists of descriptors expanded to a tree, which is flattened to cells.
 ghost use Rattle.std.specs.Prelude.{◌≡◌, ◌≢◌, ◌≤◌, length, Ok, Err, IfOk, IfErr, is_some, [], true, false, OnOk};
 ghost use Rattle.bufr_tables.specs.TableB.{entry_of};
 ghost use Rattle.bufr_tables.specs.TableD.{members_of};
-ghost use Rattle.bufr_tables.specs.Tree.{places as places_of, depth as depth_of};
-ghost use Rattle.bufr_tables.specs.Expansion.{leaves, ListsLeaves, IsKnown, IsLegal, IsSound, tree_of, Tables, tables_of, IsAnswer};
-ghost use Rattle.bufr_tables.specs.Cells.{AreCellsOf};
+ghost use Rattle.bufr_tables.specs.Tree.{places as places_of, depth as depth_of, Tree};
+ghost use Rattle.bufr_tables.specs.Expansion.{leaves, ListsLeaves, IsKnown, IsLegal, IsSound, tree_of, Tables, tables_of, IsAnswer, ListByTables};
+ghost use Rattle.bufr_tables.specs.Cells.{AreCellsOf, tree_code, trees_of_cells, IsTemplate};
 
 use crate::expand::{Expander, TemplateBuilder, first_of, push_cell};
 use crate::fault::TemplateFault;
@@ -55,14 +53,9 @@ pub struct Template {
 }
 
 impl Model for Template {
-    ghost use Rattle.bufr_tables.specs.Tree.{Tree};
-    ghost use Rattle.bufr_tables.specs.Cells.{tree_code};
-
     ghost Value = { Tree };
 
     ghost coded = { tree_code };
-
-    ghost use Rattle.bufr_tables.specs.Cells.{trees_of_cells, IsTemplate};
 
     ghost view = { λ a. trees_of_cells a.cells.items };
 
@@ -180,27 +173,6 @@ impl Template {
     }
 }
 
-/// A list of descriptors, and what it is expanded to.
-#[derive(Drop)]
-struct CachedList {
-    descriptors: Vec<Fxy>,
-    answer: Result<Template, TemplateFault>,
-}
-
-impl CachedList {
-    /// The list of no descriptors, whose fault is the same by all tables.
-    fn nothing(alloc: Global) -> CachedList
-        ensures list { result.descriptors.items ≡ [] }
-        ensures answer { (tables : Tables)
-            → IsAnswer tables result.descriptors.items result.answer }
-    {
-        CachedList {
-            descriptors: Vec::new(alloc),
-            answer: Err(TemplateFault::EmptyGroup(Fxy::from_word(0))),
-        }
-    }
-}
-
 /// Templates by two tables: a list that is asked for again, with no other one between, is not
 /// expanded again. A clause sees the tables, and the list that is kept.
 ///
@@ -220,30 +192,25 @@ pub struct SelectedTemplate<'a> {
     alloc: Global,
     table_b: &'a TableB,
     table_d: &'a TableD,
-    kept: CachedList,
+    descriptors: Vec<Fxy>,
+    /// What these are expanded to. The fault of no descriptors is the same by all tables.
+    answer: Result<Template, TemplateFault>,
 }
 
 impl<'a> Model for SelectedTemplate<'a> {
-    ghost use Rattle.bufr_tables.specs.Expansion.{ListByTables};
-
     ghost Value = { ListByTables };
-
-    ghost use Rattle.bufr_tables.specs.Expansion.{IsAnswer, tables_of};
 
     ghost view = { λ a. record {
       table_b = a.table_b.now;
       table_d = a.table_d.now;
-      list = a.kept.descriptors.items;
+      list = a.descriptors.items;
     } };
 
     ghost invariant = { λ a. IsAnswer (tables_of a.table_b.now a.table_d.now)
-        a.kept.descriptors.items a.kept.answer };
+        a.descriptors.items a.answer };
 }
 
 impl<'a> SelectedTemplate<'a> {
-    ghost use Rattle.std.specs.Prelude.{◌≡◌, ◌≢◌, ◌≤◌, [], length, true, false, IfErr, IfOk, OnOk, is_some};
-    ghost use Rattle.bufr_tables.specs.Expansion.{tables_of};
-
     /// Templates by these tables; the list of no descriptors is kept. Takes no memory.
     pub fn new(alloc: Global, table_b: &'a TableB, table_d: &'a TableD) -> SelectedTemplate<'a>
         ensures { result ≡ record { table_b = table_b.now; table_d = table_d.now; list = [] } }
@@ -252,7 +219,8 @@ impl<'a> SelectedTemplate<'a> {
             alloc,
             table_b,
             table_d,
-            kept: CachedList::nothing(alloc),
+            descriptors: Vec::new(alloc),
+            answer: Err(TemplateFault::EmptyGroup(Fxy::from_word(0))),
         }
     }
 
@@ -267,7 +235,7 @@ impl<'a> SelectedTemplate<'a> {
     pub fn len(&self) -> usize
         ensures { result ≡ length self.now.list }
     {
-        self.kept.descriptors.len()
+        self.descriptors.len()
     }
 
     /// Whether this list of descriptors is the one that is kept. Takes no memory.
@@ -281,7 +249,7 @@ impl<'a> SelectedTemplate<'a> {
         ensures same { result ≡ true → self.now.list ≡ descriptors.now }
         ensures other { result ≡ false → self.now.list ≢ descriptors.now }
     {
-        self.kept.descriptors.as_slice() == descriptors
+        self.descriptors.as_slice() == descriptors
     }
 
     /// Keeps this list of descriptors, and what it is expanded to, if it is not the one that is
@@ -299,16 +267,15 @@ impl<'a> SelectedTemplate<'a> {
             return Ok(());
         }
         // The old template is let go before the new one takes its room.
-        self.kept = CachedList::nothing(self.alloc);
+        self.descriptors = Vec::new(self.alloc);
+        self.answer = Err(TemplateFault::EmptyGroup(Fxy::from_word(0)));
         let answer = Template::build(self.alloc, descriptors, self.table_b, self.table_d);
         if let Err(TemplateFault::Memory) = answer {
             return Err(AllocError);
         }
         let descriptors = Vec::from_slice(self.alloc, descriptors)?;
-        self.kept = CachedList {
-            descriptors,
-            answer,
-        };
+        self.descriptors = descriptors;
+        self.answer = answer;
         Ok(())
     }
 
@@ -330,6 +297,6 @@ impl<'a> SelectedTemplate<'a> {
         ensures within { IfOk result.now (λ template. places_of template ≤ 65535) }
         ensures shallow { IfOk result.now (λ template. depth_of template ≤ 32) }
     {
-        &self.kept.answer
+        &self.answer
     }
 }

@@ -214,22 +214,11 @@ fn encodes_in_a_form(rt: HostRuntime) {
 
 #[test]
 fn laws() {
-    laws::accepted_messages_are_dumpable();
     laws::dumped_messages_are_encoded_again();
-    laws::same_readings_have_the_same_dump_text();
     laws::encoded_messages_are_accepted();
-    laws::dump_texts_are_encoded_again();
-    laws::dumped_messages_are_refused_for_want_of_memory_alone();
-    laws::canonical_messages_are_encoded_to_themselves();
     laws::dumped_messages_are_encoded_in_each_form();
-    laws::dumped_messages_are_refused_for_their_form_alone();
-    laws::messages_in_each_form_are_accepted();
-    laws::forms_change_the_flag_of_a_dump_text_alone();
-    laws::canonical_messages_come_back_from_each_form();
+    laws::canonical_messages_are_encoded_to_themselves();
     laws::encoded_documents_are_read();
-    laws::normal_is_the_dump();
-    laws::normal_is_encoded_the_same();
-    laws::normal_of_normal();
 }
 
 /// A document from `observed` to its subsets: as many as there may be, of two texts each.

@@ -104,21 +104,14 @@ fn write_compressed(
 
 #[test]
 fn laws() {
-    laws::plain_data_round_trip();
-    laws::written_plain_data_are_read();
-    laws::plain_data_are_fixed_by_what_is_said();
-    laws::alike_drafts_have_the_same_plain_data();
-    laws::plain_walk_writes_as_defined();
-    laws::plain_fault_is_as_defined();
-    laws::packed_data_round_trip();
-    laws::written_packed_data_are_read();
-    laws::packed_data_are_fixed_by_what_is_said();
-    laws::alike_drafts_have_the_same_packed_data();
-    laws::fitting_items_are_packed_with_the_least_k();
+    laws::data_round_trip();
     laws::items_are_packed_with_the_least_k();
-    laws::packed_walk_writes_as_defined();
-    laws::packed_data_are_written_as_defined();
-    laws::packed_fault_is_as_defined();
+    laws::written_data_are_read();
+    laws::data_are_fixed_by_what_is_said();
+    laws::alike_drafts_have_the_same_data();
+    laws::data_are_written_in_the_other_form();
+    laws::walks_write_as_defined();
+    laws::faults_are_as_defined();
 }
 
 /// Asserts what is written of an item, and how many bits it takes.

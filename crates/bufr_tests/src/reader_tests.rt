@@ -321,17 +321,10 @@ fn read_faults_have_texts(rt: HostRuntime) {
 #[test]
 fn laws() {
     laws::dump_text_spells_its_document();
-    laws::dump_text_is_one_document();
-    laws::documents_are_proper();
-    laws::lines_are_those_of_the_documents();
-    laws::open_documents_are_prefix();
+    laws::texts_are_their_documents();
     laws::calls_compose();
     laws::documents_reported_are_the_first();
-    laws::documents_reported_are_the_first_open();
-    laws::documents_reported_are_the_documents();
-    laws::documents_reported_are_the_open_documents();
     laws::none_comes_again();
-    laws::octets_after_the_lines_are_held();
 }
 
 /// What a reader of octets in memory reads next.

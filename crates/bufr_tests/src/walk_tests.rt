@@ -204,8 +204,8 @@ impl Case {
     }
 }
 
-/// A name, subsets, flags, descriptors, data in hexadecimal digits, and what reading gives: bits,
-/// steps, items held and items; or a fault's number, subset, descriptor, bit and the steps.
+/// A name, subsets, flags, descriptors, data in hexadecimal digits, and what reading gives. That is
+/// bits, steps and items, or a fault's number, subset, descriptor, bit and the steps.
 #[rattlefmt::skip]
 const READINGS: &[(&str, u16, u8, &str, &str, &str)] = &[
     ("one_block_number", 1, PLAIN, "001001", "14", "bits 7 steps 2; 1: 001001 10e0 #"),

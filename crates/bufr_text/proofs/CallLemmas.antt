@@ -3,10 +3,10 @@ use Rattle.std.proofs.Common.{inl, inr, ◌⊎◌, ◌≡◌, ℕ, ◌<◌, Bool
 use Rattle.std.proofs.KnownBytes.{Consumes-trans}
 use Rattle.std.proofs.lemmas.Bool.{true≢false}
 use Rattle.std.proofs.lemmas.List.{nil_from_length}
-use Rattle.bufr_text.specs.Prelude.{ParserState, ParseResult, parse_lines, parse_open_lines, lines_of, split_of, Document, Complete, Refused, NotAllowed, documents_of, open_documents_of, text_of_lines, has_no_feed, ReaderPosition, ContinuesParse, TakesWholeLines, TakesEndLine, ReaderModel, position_of, position_after, IsMissingFeed, ReadsLines, EndsAtEndLine, parse, parse_open, new_reader, HasNoMoreLines, KeepsUnread, ReadsOnlyIfNoLine, ReturnsNextDocument, HasNoWholeLine, CountsTextReads, ParsesHeldLines, ReadsMoreText, TakesHeldLines, HandlesEnd, FillsBuffer, text_input, stopped, IsProper, ReadFault}
+use Rattle.bufr_text.specs.Prelude.{ParserState, ParseResult, parse_lines, parse_open_lines, lines_of, split_of, Document, Complete, Refused, NotAllowed, documents_of, open_documents_of, text_of_lines, has_no_feed, ReaderPosition, ContinuesParse, TakesWholeLines, TakesEndLine, ReaderModel, position_of, position_after, IsMissingFeed, ReadsLines, EndsAtEndLine, parse, parse_open, new_reader, HasNoMoreLines, KeepsUnread, ReadsOnlyIfNoLine, ReturnsNextDocument, HasNoWholeLine, ParsesHeldLines, ReadsMoreText, TakesHeldLines, HandlesEnd, FillsBuffer, text_input, stopped, IsProper, ReadFault}
 use Rattle.bufr_text.proofs.ReaderLemmas.{goes-further, line-held, one-line, nothing-yet, some-held, call-keeps, keeps-same, passes-none}
 use Rattle.std.specs.Io.KnownBytes.{Consumes}
-use Rattle.bufr_frame.specs.Prelude.{max_reads, FillEnds, FillFails}
+use Rattle.bufr_frame.specs.Prelude.{max_reads, FillEnds, FillFails, AddsReads}
 use Rattle.bufr_frame.specs.declared.fault.RunFault.{RunFault}
 use Rattle.bufr_frame.specs.declared.fault.RunFault.TheVariants.{Read, Write, InputTooLong, Memory}
 use Rattle.bufr_frame.proofs.FinderLemmas.{adds-none, adds-then}
@@ -180,10 +180,10 @@ module _ (left left' : Option (List ℕ)) (s s' : ReaderModel) (bs : List ℕ) (
 -- ---- What a call of a reader of dump texts reports.
 
 -- the reads of a call
-pub counts-none : (a : ℕ) (s : ReaderModel) → s.reads ≤ max_reads → CountsTextReads a a s s
+pub counts-none : (a : ℕ) (s : ReaderModel) → s.reads ≤ max_reads → AddsReads a a s.reads s.reads
 counts-none a s = adds-none a s.reads
 
-pub counts-then : (a b c : ℕ) (old s s' : ReaderModel) → CountsTextReads a b old s → CountsTextReads b c s s' → CountsTextReads a c old s'
+pub counts-then : (a b c : ℕ) (old s s' : ReaderModel) → AddsReads a b old.reads s.reads → AddsReads b c s.reads s'.reads → AddsReads a c old.reads s'.reads
 counts-then a b c old s s' = adds-then a b c old.reads s.reads s'.reads
 
 pub waits-same : (left : Option (List ℕ)) (old s s' : ReaderModel) (bs bs' : List ℕ) → ((s.reads ≡ old.reads) ⊎ ReadsOnlyIfNoLine left old s.reads bs) → s'.reads ≡ s.reads → bs ≡ bs' → (s'.reads ≡ old.reads) ⊎ ReadsOnlyIfNoLine left old s'.reads bs'

@@ -283,7 +283,7 @@ module _ (table : List Row) (template : Tree) (s : Sections) (used at : ℕ) (ro
       entries = subset_entries at (map (items_apart table) subsets)
 
       by : IsTogetherOrNot (next_item table template) subsets (subsets_of entries) → IsFilled true table template s (apart subsets) entries ⊎ IsUnfilled table template entries
-      by (inr x) = inr (record { why = x.why; is = x.is; unlike = x.unlike })
+      by (inr x) = inr (record { why = x.0; is = x.1; unlike = x.2 })
       by (inl x) = inl (record {
         found = together x.items;
         out = x.out;

@@ -8,11 +8,43 @@ use Rattle.std.proofs.lemmas.Grind.{common_steps}
 use Rattle.std.proofs.lemmas.List.{drop_all}
 use Rattle.bufr_bits.proofs.DecimalLemmas.{and_first, and_second}
 use Rattle.bufr_tables.specs.Prelude.{fxy_of, is_fxy, f_in, x_in, y_in}
-use Rattle.bufr_text.specs.Prelude.{prefix_while, suffix_while, without_space, without_prefix, fxy_read, is_number_octet, is_hashed, is_passed_after, hex_read, onto_read, descriptors_read, either_value, pair_value, QuotedToken, Closed, ListsLeaves, Nothing, is_unescaped, upper_value, says_pair, escape_of, quoting_of, octet_onto, quoted_on, quoted_read, IsTokenTo, Describes, IsDescribing, Unhexes, IsUnhexing, octets_onto, Unquotes, IsUnquoting, value_read, text_value, number_value, missing_value, Passed, Item, Local1, Section2, made, with_one_to, item_line, worded, line_of, is_no_space, Descriptors, Wrong}
+use Rattle.bufr_text.specs.Prelude.{prefix_while, suffix_while, without_space, without_prefix, fxy_read, is_number_octet, is_hashed, is_passed_after, hex_read, onto_read, descriptors_read, either_value, pair_value, QuotedToken, Closed, ListsLeaves, Nothing, is_unescaped, upper_value, says_pair, escape_of, quoting_of, octet_onto, quoted_on, quoted_read, Describes, Unhexes, Unquotes, value_read, text_value, number_value, missing_value, Passed, Item, Local1, Section2, made, with_one_to, item_line, worded, line_of, is_no_space, Descriptors, Wrong}
 use Rattle.bufr_fill.specs.Prelude.{number_token, reference_token, DraftValue}
 use Rattle.memchr.specs.Find.{IsFirstByte, is_byte}
 use Rattle.std.specs.Char.{is_ascii_digit}
 use Rattle.std.proofs.Math.Seq.{drop-nil}
+
+-- the descriptors that were read are a prefix of `out`
+pub record IsDescribing (text out : List ℕ) (count : ℕ) : Type 0 where
+  pub within : 7 * count ≤ length text
+  pub some : 0 < length text
+  pub short : length text ≤ 56
+  pub room : length out ≡ 8
+  pub read : descriptors_read text ≡ option_map (λ more. take count out ++ more) (descriptors_read (drop (7 * count) text))
+
+-- the octets that were read are a prefix of `out`
+pub record IsUnhexing (text out : List ℕ) (count : ℕ) : Type 0 where
+  pub within : 2 * count ≤ length text
+  pub room : length text ≤ 2 * length out
+  pub read : hex_read text ≡ option_map (λ more. take count out ++ more) (hex_read (drop (2 * count) text))
+
+-- octets that were read, before what is read on
+abbrev pub octets_onto : List ℕ → Option (List ℕ × List ℕ) → Option (List ℕ × List ℕ)
+octets_onto octets None = None
+octets_onto octets (Some read) = Some (octets ++ read.0, read.1)
+
+-- what was read is a prefix of `out`
+pub record IsUnquoting (text out : List ℕ) (count at : ℕ) : Type 0 where
+  pub few : count ≤ at
+  pub within : at ≤ length text
+  pub room : length text ≤ length out
+  pub read : quoted_read 0 text ≡ octets_onto (take count out) (quoted_read 0 (drop at text))
+
+-- the octets of a token that were passed come first
+pub record IsTokenTo (text : List ℕ) (at : ℕ) : Type 0 where
+  pub within : at ≤ length text
+  pub ahead : prefix_while is_number_octet text ≡ take at text ++ prefix_while is_number_octet (drop at text)
+  pub suffix_while : suffix_while is_number_octet text ≡ suffix_while is_number_octet (drop at text)
 
 pub fxy-six : (text : List ℕ) → 6 ≤ length text → fxy_read text ≡ option_map (λ fxy. (fxy, drop 6 text)) (fxy_of (take 6 text))
 unfolding fxy_read
@@ -200,13 +232,9 @@ word-to (c ∷ line) (suc n) h none e =
     let rest = word-to line n (omega arith) (λ k low below. none (suc k) (omega arith) (omega arith)) e in
     (rw here (ap (λ (t : List ℕ). c ∷ t) rest.0), rw here rest.1)
 
-abbrev pub WordAt : List ℕ → Option ℕ → Type 0
-WordAt line None = (take (length line) line ≡ prefix_while is_no_space line) × (drop (length line) line ≡ suffix_while is_no_space line)
-WordAt line (Some n) = (take n line ≡ prefix_while is_no_space line) × (drop n line ≡ suffix_while is_no_space line)
-
-pub word-at : (line : List ℕ) (r : Option ℕ) → IsFirstByte (is_byte 32) line r → WordAt line r
-word-at line None h = word-whole line h
-word-at line (Some n) h = word-to line n h.0.high h.0.before h.1
+pub word-at : (line : List ℕ) (r : Option ℕ) (n : ℕ) → IsFirstByte (is_byte 32) line r → n ≡ unwrap_or r (length line) → (take n line ≡ prefix_while is_no_space line) × (drop n line ≡ suffix_while is_no_space line)
+word-at line None n h is = rw is (word-whole line h)
+word-at line (Some m) n h is = rw is (word-to line m h.0.high h.0.before h.1)
 
 -- a line by its first octet
 pub line-none : (line : List ℕ) → length line ≡ 0 → line_of line ≡ Passed

@@ -4,7 +4,7 @@ use Rattle.std.specs.Io.KnownBytes.{Appends}
 use Rattle.std.proofs.KnownBytes.{Appends-trans}
 use Rattle.std.proofs.lemmas.List.{take-append-drop, length-take-le, take_all, length-replicate, at_drop_more, at_drop_all, take_more, length-set, take_more_set}
 use Rattle.bufr_frame.specs.declared.fault.RunFault.{RunFault}
-use Rattle.bufr_text.specs.Prelude.{MovesPrefix, Writes, GrowsByPrefix, CountsWrites, LineModel, Moves, MovesOn, StaysFailed, PushesFrom, Pushes, Puts, joined, flag, zero_padded, item_text, subset_line, subset_lines, text_of_lines, head_lines, dump_text_of, items_apart, dump_items_of, bit, header_of, header_lines, local1_line, section2_line, descriptors_line, CountsFaults, MakesSteps, StepsWithin, WritesPrefix, call_line, Ends, IsFirstFault, PushesCall, PushesPrefix, subsets_text, descriptors_text, runs_after, runs_of, escaped, hex_pair, hex_text, is_unescaped, quoted, header_text, lead_of, keys, key_in, IsNumberTo, category_texts, counts_texts, ls_line, origin_texts, tables_texts, time_texts, DocumentFault, RefusedAt, IsDocumentRefusal, reported_refusal}
+use Rattle.bufr_text.specs.Prelude.{MovesPrefix, Writes, GrowsByPrefix, CountsWrites, LineModel, Moves, MovesOn, StaysFailed, PushesFrom, Pushes, Puts, joined, flag, zero_padded, item_text, subset_line, subset_lines, text_of_lines, head_lines, dump_text_of, items_apart, dump_items_of, bit, header_of, header_lines, local1_line, section2_line, descriptors_line, CountsFaults, MakesSteps, StepsWithin, WritesPrefix, call_line, Ends, IsFirstFault, PushesCall, PushesPrefix, subsets_text, descriptors_text, runs_after, runs_of, escaped, hex_pair, hex_text, is_unescaped, quoted, header_text, lead_of, keys, key_in, counts_texts, ls_line, source_texts, time_texts, DocumentFault, RefusedAt, IsDocumentRefusal, reported_refusal}
 use Rattle.std.proofs.Math.Seq.{take-append_seam}
 use borrow.Rule.Slice.PartMut.{put_mid, post_of}
 use Rattle.std.proofs.lemmas.Grind.{flat_map-append, common_steps}
@@ -24,6 +24,7 @@ use Rattle.std.proofs.lemmas.Fmt.{decimal_digit, decimal_step, decimal_nonempty}
 use Rattle.std.proofs.lemmas.Bool.Decides.{nat_tests}
 use Rattle.std.specs.Char.{is_ascii_digit}
 use Rattle.std.specs.Str.Parse.{digits_value}
+use Rattle.std.specs.List.{list_all}
 use Rattle.std.proofs.lemmas.List.Folds.{list_all_more}
 use Rattle.bufr_bits.proofs.DecimalLemmas.{value-append}
 use Rattle.bufr_walk.specs.declared.fault.ShowFault.TheVariants as show
@@ -31,6 +32,11 @@ use Rattle.bufr_walk.specs.Reading as outcome
 use Rattle.bufr_text.specs.Dump as dumped
 use Rattle.bufr_text.specs.declared.fault.DocumentFault.TheVariants as fault
 use Rattle.bufr_bits.proofs.CountLemmas.{empty_writes_after-some}
+
+-- the digits that were passed write a number
+pub record IsNumberTo (text : List ℕ) (at n : ℕ) : Type 0 where
+  pub digits : list_all is_ascii_digit (take at text) ≡ true
+  pub value : n ≡ min (digits_value 10 (take at text)) 65536
 
 -- ---- Texts that are written one after another.
 
@@ -426,20 +432,9 @@ header-lines key (value ∷ more) =
     ∙ ap (λ l. name ++ (32 ∷ (decimal value ++ l))) (header-lines (key + 1) more)
     ∙ key-on name (decimal value) (header_text (key + 1) more))
 
-header-append : (key : ℕ) (xs ys : List ℕ) → header_text key xs ++ header_text (key + length xs) ys ≡ header_text key (xs ++ ys)
-unfolding header_text
-header-append key [] ys = let none : key + 0 ≡ key = omega arith in ap (λ k. header_text k ys) none
-header-append key (x ∷ xs) ys =
-    let lead : List ℕ = lead_of (key_in keys key) in
-    let next : key + suc (length xs) ≡ key + 1 + length xs = omega arith in
-    append_assoc lead (decimal x ++ header_text (key + 1) xs) (header_text (key + suc (length xs)) ys)
-    ∙ ap (λ l. lead ++ l) (append_assoc (decimal x) (header_text (key + 1) xs) (header_text (key + suc (length xs)) ys)
-    ∙ ap (λ l. decimal x ++ l) (ap (λ k. header_text (key + 1) xs ++ header_text k ys) next ∙ header-append (key + 1) xs ys))
-
 -- the line `message`, and the lines of the keys
-pub header-is : (s : Sections) → codes "message" ++ (header_text 0 (take 10 (header_of s)) ++ header_text 10 (drop 10 (header_of s)) ++ codes "\n") ≡ text_of_lines (codes "message" ∷ header_lines 0 (header_of s))
-header-is s =
-    ap (λ l. codes "message" ++ l) (ap (λ l. l ++ codes "\n") (header-append 0 (take 10 (header_of s)) (drop 10 (header_of s))) ∙ sym (header-lines 0 (header_of s)))
+pub header-is : (s : Sections) → codes "message" ++ (header_text 0 (header_of s) ++ codes "\n") ≡ text_of_lines (codes "message" ∷ header_lines 0 (header_of s))
+header-is s = ap (λ l. codes "message" ++ l) (sym (header-lines 0 (header_of s)))
 
 -- a flag as a number
 pub flag-is : (on : Bool) → from_bool on ≡ bit on
@@ -447,9 +442,9 @@ flag-is true = refl
 flag-is false = refl
 
 -- no section 2, no lines
-pub no-section2 : {X : Type 0} (f : X → List ℕ) (o : Option X) (section2 : Option (List ℕ)) → option_map f o ≡ section2 → o ≡ None → text_of_lines (map section2_line (runs_of 32 (unwrap_or section2 []))) ≡ []
-unfolding runs_after
-no-section2 f o section2 h1 h2 = grind (arith, nat_tests, common_steps)
+pub section2-or : {X : Type 0} (f : X → List ℕ) (o : Option X) (none r : X) (section2 : Option (List ℕ)) → option_map f o ≡ section2 → r ≡ unwrap_or o none → f none ≡ [] → f r ≡ unwrap_or section2 []
+section2-or f (Some x) none r section2 h is empty = rw (is, ← h) refl
+section2-or f None none r section2 h is empty = rw (is, ← h) empty
 
 -- one more descriptor of a line of at most eight
 pub descriptors-next : (left left' : List ℕ) (done w : ℕ) → done < 8 → left ≡ w ∷ left' → descriptors_text (take (8 - done) left) ≡ (32 ∷ fxy_text w) ++ descriptors_text (take (8 - (done + 1)) left')
@@ -535,15 +530,11 @@ pub joined_then : {a b c : LineModel} (xs ys : List (List ℕ)) → Pushes a (jo
 joined_then xs ys first second = retold (first ⨾ second) (joined-append xs ys)
 
 -- the stretches of the line, one after another
-pub line-pushed : {a one two three four b : LineModel} (offset : ℕ) (s : Sections) → Pushes a (joined (origin_texts offset s.size s.head)) one → Pushes one (joined (category_texts s.head)) two
-    → Pushes two (joined (tables_texts s.head)) three → Pushes three (joined (time_texts s.head)) four
-    → Pushes four (joined (counts_texts s.subsets s.observed s.compressed (is_some s.section2) (length s.descriptors))) b → Pushes a (ls_line offset s) b
-line-pushed offset s origin category tables time counts =
+pub line-pushed : {a one two b : LineModel} (offset : ℕ) (s : Sections) → Pushes a (joined (source_texts offset s.size s.head)) one → Pushes one (joined (time_texts s.head)) two
+    → Pushes two (joined (counts_texts s.subsets s.observed s.compressed (is_some s.section2) (length s.descriptors))) b → Pushes a (ls_line offset s) b
+line-pushed offset s source time counts =
     let C = counts_texts s.subsets s.observed s.compressed (is_some s.section2) (length s.descriptors) in
-    let later = time_texts s.head ++ C in
-    let more = tables_texts s.head ++ later in
-    joined_then (origin_texts offset s.size s.head) (category_texts s.head ++ more) origin
-    (joined_then (category_texts s.head) more category (joined_then (tables_texts s.head) later tables (joined_then (time_texts s.head) C time counts)))
+    joined_then (source_texts offset s.size s.head) (time_texts s.head ++ C) source (joined_then (time_texts s.head) C time counts)
 
 -- ---- Numbers, digit by digit and at a scale, and octets as texts.
 

@@ -82,15 +82,13 @@ with_entry d entry = record d { entries = d.entries ++ entry ∷ [] }
 
 -- in the range of its key, which goes by the edition
 abbrev pub in_range : (edition key value : ℕ) → Bool
-in_range edition key value =
-    nat_le (slice_index leasts key) value
+in_range edition key value = nat_le (slice_index leasts key) value
     && nat_le value (slice_index (mosts (slots_of edition)) key)
 
 -- a header line
 -- rule: reading-header-order, fault-61, fault-order-of-a-line
 abbrev pub heading : Document → Line → LineEffect
-heading d (Header key value) =
-    if not (key == length d.header) then Faults NotAllowed
+heading d (Header key value) = if not (key == length d.header) then Faults NotAllowed
     else if not (in_range (edition_in d) key value) then Faults HeaderRange
     else WalkGoes (if key == 19 then BeforeSubsets 0 (with_value d value)
     else Heading (with_value d value))
@@ -113,10 +111,8 @@ closing read d = if read == subsets_in d then Gives d else Faults SubsetCount
 abbrev pub before_subsets : (part : ℕ) → Document → Line → LineEffect
 before_subsets part d (Local1 octets) =
     if part == 0 then WalkGoes (BeforeSubsets 0 (with_local1 d octets)) else Faults NotAllowed
-before_subsets part d (Section2 octets) =
-    if nat_le part 1 && (optional_in d == 1)
-    then WalkGoes (BeforeSubsets 1 (with_section2 d octets))
-    else Faults NotAllowed
+before_subsets part d (Section2 octets) = if nat_le part 1 && (optional_in d == 1)
+    then WalkGoes (BeforeSubsets 1 (with_section2 d octets)) else Faults NotAllowed
 before_subsets part d (Descriptors words) = WalkGoes (BeforeSubsets 2 (with_descriptors d words))
 before_subsets part d (Begins subset) = beginning 0 d subset
 before_subsets part d Closes = closing 0 d
@@ -185,8 +181,7 @@ reported_at_end at place = Refused at NotAllowed ∷ []
 unfoldable pub parse_lines : (at : ℕ) → ParserState → List (List ℕ) → List ParseResult
 parse_lines at place [] = reported_at_end at place
 parse_lines at place (line ∷ more) =
-    let here =
-    turn at place (line_within_limit line) in reported_at at here ++ parse_lines (at + 1)
+    let here = turn at place (line_within_limit line) in reported_at at here ++ parse_lines (at + 1)
     (place_after here) more
 
 -- one more octet before the first line
@@ -210,8 +205,7 @@ unfoldable pub parse_open_lines : (at : ℕ) → ParserState → List (List ℕ)
 parse_open_lines at place [] rest =
     if nat_lt 4096 (length rest) then reported_at at (turn at place Wrong) else []
 parse_open_lines at place (line ∷ more) rest =
-    let here =
-    turn at place (line_within_limit line) in reported_at at here
+    let here = turn at place (line_within_limit line) in reported_at at here
     ++ parse_open_lines (at + 1) (place_after here) more rest
 
 -- the lines of a text that end by a line feed, and what is after the last of them

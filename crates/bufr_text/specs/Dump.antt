@@ -1,4 +1,4 @@
--- The dump text of a message, line by line, the items that a reading gives it, and its bounds.
+-- The dump text of a message, line by line, its items and their bounds, and the line that lists it.
 -- (A choice of this project)
 -- Cited by public contracts.
 use Rattle.std.specs.Prelude.{ℕ, ◌+◌, Bool, if◌then◌else◌, List, [], ◌∷◌, ◌++◌, length, map, flat_map, codes, decimal, Option, Some, None, is_some, unwrap_or, ℤ, pos, zero, suc, option_map, ◌≡◌, ◌^◌, ◌<◌, ◌≤◌, true, negsuc, unsigned_abs}
@@ -9,10 +9,11 @@ use Rattle.bufr_fill.specs.Prelude.{DraftValue, draft, number_token, text_form, 
 use Rattle.bufr_text.specs.Documents.{Document}
 use Rattle.bufr_text.specs.Grammar.{runs_of, hex_text, descriptors_text, quoted}
 use Rattle.bufr_text.specs.Line.{keys, key_in}
-pub use Rattle.bufr_text.specs.Writing.{joined}
+pub use Rattle.bufr_text.specs.Writing.{joined, zero_padded, flag}
 use Rattle.bufr_walk.specs.Prelude.{View, view_of, content_at, Content, ShownValue, shown_number, shown_text, shown_missing, shown_reference, Read, Values, apart, together}
 use Rattle.std.specs.List.{list_all, AllByRecursion}
 use Rattle.bufr_walk.specs.Reading as reading
+use Rattle.bufr_frame.specs.declared.section1.Head.{Head}
 
 -- what was read for an item
 pub data DumpValue : Type 0 where
@@ -42,8 +43,7 @@ header_of s = let h = s.head in
     h.edition ∷ h.master ∷ h.centre ∷ h.subcentre ∷ h.update ∷ h.category ∷ h.subcategory
     ∷ h.local_subcategory ∷ h.master_version
     ∷ h.local_version ∷ h.year ∷ h.month ∷ h.day ∷ h.hour ∷ h.minute ∷ h.second
-    ∷ bit s.observed ∷ bit s.compressed
-    ∷ bit (is_some s.section2) ∷ s.subsets ∷ []
+    ∷ bit s.observed ∷ bit s.compressed ∷ bit (is_some s.section2) ∷ s.subsets ∷ []
 
 -- a key and its value
 abbrev pub header_line : (key value : ℕ) → List ℕ
@@ -104,8 +104,7 @@ subset_lines subset (items ∷ more) =
 
 -- the lines before the subsets
 abbrev pub head_lines : Sections → List (List ℕ)
-head_lines s =
-    codes "message" ∷ (header_lines 0 (header_of s)
+head_lines s = codes "message" ∷ (header_lines 0 (header_of s)
     ++ (map local1_line (runs_of 32 s.local1)
     ++ (map section2_line (runs_of 32 (unwrap_or s.section2 []))
     ++ map descriptors_line (runs_of 8 s.descriptors))))
@@ -132,14 +131,12 @@ item_entries at (item ∷ more) =
 -- the entries of subsets whose first begins at a line
 unfoldable pub subset_entries : (at : ℕ) → List (List DumpItem) → List DraftEntry
 subset_entries at [] = []
-subset_entries at (items ∷ more) =
-    item_entries (at + 1) items
+subset_entries at (items ∷ more) = item_entries (at + 1) items
     ++ (Ends (at + 1 + length items) ∷ subset_entries (at + 1 + length items) more)
 
 -- how many lines a message has before its subsets
 abbrev pub lines_before : Sections → ℕ
-lines_before s =
-    21 + length (runs_of 32 s.local1) + length (runs_of 32 (unwrap_or s.section2 []))
+lines_before s = 21 + length (runs_of 32 s.local1) + length (runs_of 32 (unwrap_or s.section2 []))
     + length (runs_of 8 s.descriptors)
 
 -- the document of a message whose dump text begins at a line
@@ -238,3 +235,36 @@ pub record IsDumpable (s : Sections) (subsets : List (List DumpItem)) : Type 0 w
   pub few : s.subsets < 65536
   pub counted : length subsets ≡ s.subsets
   pub items : AllByRecursion (λ items. AllByRecursion IsItem items) subsets
+
+-- ---- The line that lists a message.
+
+-- where the message is, where it comes from, what kind of data it has, and by which tables
+abbrev pub source_texts : (offset size : ℕ) → Head → List (List ℕ)
+source_texts offset size h =
+    codes "offset=" ∷ decimal offset ∷ codes " length=" ∷ decimal size ∷ codes " edition="
+    ∷ decimal h.edition ∷ codes " centre=" ∷ decimal h.centre ∷ codes "/" ∷ decimal h.subcentre
+    ∷ codes " update=" ∷ decimal h.update ∷ codes " category=" ∷ decimal h.category ∷ codes "/"
+    ∷ decimal h.subcategory ∷ codes "/" ∷ decimal h.local_subcategory ∷ codes " tables="
+    ∷ decimal h.master ∷ codes "/" ∷ decimal h.master_version ∷ codes "/"
+    ∷ decimal h.local_version ∷ []
+
+-- the time that section 1 says
+abbrev pub time_texts : Head → List (List ℕ)
+time_texts h =
+    codes " time=" ∷ zero_padded 4 h.year ∷ codes "-" ∷ zero_padded 2 h.month ∷ codes "-" ∷ zero_padded 2 h.day ∷
+    codes "T" ∷ zero_padded 2 h.hour ∷ codes ":" ∷ zero_padded 2 h.minute ∷ codes ":" ∷ zero_padded 2 h.second ∷ []
+
+-- how many subsets and descriptors it has, and its flags
+abbrev pub counts_texts : (subsets : ℕ) (observed compressed optional : Bool)
+    (descriptors : ℕ) → List (List ℕ)
+counts_texts subsets observed compressed optional descriptors =
+    codes " subsets=" ∷ decimal subsets ∷ codes " observed=" ∷ flag observed
+    ∷ codes " compressed=" ∷
+    flag compressed ∷ codes " optional=" ∷ flag optional ∷ codes " descriptors=" ∷
+    decimal descriptors ∷ codes "\n" ∷ []
+
+-- the line of a message at an offset, with its line feed
+-- rule: listing-line, listing-offset-and-length
+abbrev pub ls_line : ℕ → Sections → List ℕ
+ls_line offset s = joined (source_texts offset s.size s.head ++ (time_texts s.head
+    ++ counts_texts s.subsets s.observed s.compressed (is_some s.section2) (length s.descriptors)))

@@ -69,12 +69,10 @@ IsFirstFault (Err first) fault = fault ≡ first
 
 -- at Ok a text was pushed and handed on, at a fault a prefix was pushed
 abbrev pub Ends : LineModel → List ℕ → Result Unit RunFault → LineModel → Type 0
-Ends before text (Ok x) after =
-    Pushes before text after × (after.held ≡ []) × (after.status ≡ Ok x)
+Ends before text (Ok x) after = Pushes before text after × (after.held ≡ []) × (after.status ≡ Ok x)
 Ends before text (Err fault) after =
     PushesPrefix before text after × IsFirstFault after.status fault
 
 -- the lines of a reading's subsets, and the last line
 abbrev pub subsets_text : outcome.Read → Values → List ℕ
-subsets_text r values =
-    text_of_lines (subset_lines 1 (dump_items_of r values)) ++ codes "end\n"
+subsets_text r values = text_of_lines (subset_lines 1 (dump_items_of r values)) ++ codes "end\n"

@@ -8,7 +8,7 @@ use Rattle.bufr_tables.specs.declared.fault.TemplateFault.{TemplateFault}
 use Rattle.bufr_tables.specs.Prelude.{tree_of, tables_of, Row, Sequence, Tree, places}
 use Rattle.bufr_frame.specs.declared.section1.Head.{Head}
 use Rattle.bufr_frame.specs.Prelude.{MessageParts, parts_of, message_octets, message_size, max_octets}
-use Rattle.bufr_walk.specs.Prelude.{octets_in, FieldSpec, Course, next_item, Next, take_next, at_end, astray, refused, ticked}
+use Rattle.bufr_walk.specs.Prelude.{octets_in, FieldSpec, Course, next_item, Next, take_next, ticked}
 use Rattle.bufr_fill.specs.Prelude.{plain_data, packed_data, packed_filler, rows, longest, are_many, plain_filler, WrittenItem, Filler, fill, Subset, subsets_of, DraftEntry, Holds, Ends, DraftFaultKind, FaultAt, wrong_number, out_of_range, text_long, missing_forbidden, unequal_factors, uneven_increment, walk_refused, too_many_values, other_than, at_line, draft_fault, PlainOutModel, items_left, end_left}
 use Rattle.bufr_text.specs.declared.encode.Form.TheVariants.{AsWritten}
 use Rattle.bufr_text.specs.Documents.{Document, subsets_in, head_from_values, observed_in, compressed_in, section2_in}
@@ -84,8 +84,7 @@ octets_of_bits bits = octets_in ((length bits + 7) / 8) (bits ++ padding (length
 -- what is written besides the head
 -- rule: writes-local-use
 abbrev pub parts_as : (compressed : Bool) → Document → (payload : List ℕ) → MessageParts
-parts_as compressed d payload =
-    parts_of d.local1 (section2_in d) d.descriptors (subsets_in d)
+parts_as compressed d payload = parts_of d.local1 (section2_in d) d.descriptors (subsets_in d)
     (observed_in d) compressed payload
 
 abbrev pub parts_of_document : Document → (payload : List ℕ) → MessageParts
@@ -118,7 +117,6 @@ abbrev pub encoding_of : List Row → List Sequence → Document → Result (Lis
 encoding_of = encoding_in AsWritten
 
 -- The faults that an encoding answers, as the definitions name them. (a choice of this project)
-
 abbrev pub walk_report : WalkRefusal → DraftFaultKind
 walk_report (walk.Width fxy) = walk_refused (refusal.Width fxy)
 walk_report (walk.Defining fxy) = walk_refused (refusal.Defining fxy)
@@ -194,14 +192,12 @@ count_after (Err why) more = 0
 
 abbrev pub count_plain : Course → List Subset → ℕ
 count_plain course [] = 0
-count_plain course (s ∷ subsets) =
-    count_filled (plain_filler s.end_line) course s.items
+count_plain course (s ∷ subsets) = count_filled (plain_filler s.end_line) course s.items
     + count_after (fill (plain_filler s.end_line) course s.items) (count_plain course subsets)
 
 abbrev pub count_packed : Course → List Subset → ℕ
 count_packed course [] = 0
-count_packed course (s ∷ subsets) =
-    count_filled (packed_filler s.end_line
+count_packed course (s ∷ subsets) = count_filled (packed_filler s.end_line
     (are_many (longest (s ∷ subsets)) (length (s ∷ subsets)))) course
     (rows (longest (s ∷ subsets)) 0 (s ∷ subsets))
 
@@ -210,23 +206,20 @@ abbrev pub count_data : (compressed : Bool) → Course → List Subset → ℕ
 count_data true course subsets = count_packed course subsets
 count_data false course subsets = count_plain course subsets
 
--- the places of a document's template, none where it has none
-abbrev pub document_places : Result Tree TemplateFault → ℕ
-document_places (Ok template) = places template
-document_places (Err why) = 0
+-- what a template counts, none where there is none
+abbrev pub of_template : (Tree → ℕ) → Result Tree TemplateFault → ℕ
+of_template counts (Ok template) = counts template
+of_template counts (Err why) = 0
 
+-- the places of a document's template
 abbrev pub places_by : List Row → List Sequence → Document → ℕ
-places_by table sequences d = document_places (tree_of (tables_of table sequences) d.descriptors)
-
-abbrev pub bits_before_refusal : Form → List Row → Document → Result Tree TemplateFault → ℕ
-bits_before_refusal form table d (Ok template) =
-    count_data (compressed_as form d) (next_item table template) (subsets_of d.entries)
-bits_before_refusal form table d (Err why) = 0
+places_by table sequences d = of_template places (tree_of (tables_of table sequences) d.descriptors)
 
 -- how many bits of its data go before its first refusal, all where there is none
 abbrev pub bits_by : Form → List Row → List Sequence → Document → ℕ
 bits_by form table sequences d =
-    bits_before_refusal form table d (tree_of (tables_of table sequences) d.descriptors)
+    of_template (λ template. count_data (compressed_as form d) (next_item table template)
+    (subsets_of d.entries)) (tree_of (tables_of table sequences) d.descriptors)
 
 -- ---- the turns up to the first refusal, this one's included: those of the template, as the items
 -- unroll it (WMO-No. 306, Volume I.2, FM 94: section 3, replications; that they are counted is a
@@ -242,29 +235,24 @@ module _ {D C E : Type 0} (filler : Filler D C E) where
   -- a draft too many is reported at the end of the template, which is a turn too
   abbrev pub turned_at : Next → (here : ℕ) → D → (Taken → ℕ) → ℕ
   turned_at (take_next spec) here d more = turned_one (filler.fills spec d) spec here more
-  turned_at at_end here d more = here
-  turned_at (refused why) here d more = here
-  turned_at astray here d more = here
+  turned_at _ here d more = here
 
   -- how many turns drafts take, from the beginning of the template on
   abbrev pub turns_filled : Course → List D → ℕ
   turns_filled course [] = (course []).turns
-  turns_filled course (d ∷ ds) =
-      turned_at (course []).next (course []).turns d
+  turns_filled course (d ∷ ds) = turned_at (course []).next (course []).turns d
       (λ t. turns_filled (λ results. course (t ∷ results)) ds)
 
 -- one pass for each subset, up to one that is refused
 abbrev pub turns_plain : Course → List Subset → ℕ
 turns_plain course [] = 0
-turns_plain course (s ∷ subsets) =
-    turns_filled (plain_filler s.end_line) course s.items
+turns_plain course (s ∷ subsets) = turns_filled (plain_filler s.end_line) course s.items
     + count_after (fill (plain_filler s.end_line) course s.items) (turns_plain course subsets)
 
 -- one pass for all subsets; without a subset there is none
 abbrev pub turns_packed : Course → List Subset → ℕ
 turns_packed course [] = 0
-turns_packed course (s ∷ subsets) =
-    turns_filled (packed_filler s.end_line
+turns_packed course (s ∷ subsets) = turns_filled (packed_filler s.end_line
     (are_many (longest (s ∷ subsets)) (length (s ∷ subsets)))) course
     (rows (longest (s ∷ subsets)) 0 (s ∷ subsets))
 
@@ -272,16 +260,12 @@ abbrev pub turns_data : (compressed : Bool) → Course → List Subset → ℕ
 turns_data true course subsets = turns_packed course subsets
 turns_data false course subsets = turns_plain course subsets
 
-abbrev pub turns_for : Form → List Row → Document → Result Tree TemplateFault → ℕ
-turns_for form table d (Ok template) =
-    turns_data (compressed_as form d) (next_item table template) (subsets_of d.entries)
-turns_for form table d (Err why) = 0
-
 -- the turns that the encoding of a document makes, up to its first refusal; with no template there
 -- is none
 abbrev pub turns_by : Form → List Row → List Sequence → Document → ℕ
 turns_by form table sequences d =
-    turns_for form table d (tree_of (tables_of table sequences) d.descriptors)
+    of_template (λ template. turns_data (compressed_as form d) (next_item table template)
+    (subsets_of d.entries)) (tree_of (tables_of table sequences) d.descriptors)
 
 -- the steps after so many turns, where the writing was refused; at want of memory they are perhaps
 -- not all made
@@ -348,8 +332,7 @@ abbrev pub turns_next : Course → List DraftEntry → ℕ
 turns_next course left = turns_filled (plain_filler (end_left left)) course (items_left left)
 
 pub record IsSubset (places : ℕ) (course : Course) (s : PlainOutModel) (steps : ℕ)
-    (s' : PlainOutModel)
-    (steps' : ℕ) : Type 0 where
+    (s' : PlainOutModel) (steps' : ℕ) : Type 0 where
   pub bits : List Bool
   pub is : fill_next course s.left ≡ Ok bits
   pub written : s'.bits ≡ s.bits ++ bits
@@ -358,15 +341,13 @@ pub record IsSubset (places : ℕ) (course : Course) (s : PlainOutModel) (steps 
   pub few : steps' ≤ steps + places * length bits
 
 pub record IsNoSubset (places : ℕ) (course : Course) (s : PlainOutModel) (steps : ℕ)
-    (why : DocumentFault)
-    (steps' : ℕ) : Type 0 where
+    (why : DocumentFault) (steps' : ℕ) : Type 0 where
   pub refuses : IsDocumentRefusal (reported_refusal why) (report_of_items (fill_next course s.left))
   pub made : CountsSteps (reported_refusal why) steps (turns_next course s.left) steps'
   pub few : steps' ≤ steps + places * (count_next course s.left + 1)
 
 -- the next subset was written and its end passed, or it is refused
 abbrev pub WritesSubset : (places : ℕ) → Course → PlainOutModel → (steps : ℕ)
-    → Result (Unit {0}) DocumentFault
-    → PlainOutModel → (steps' : ℕ) → Type 0
+    → Result (Unit {0}) DocumentFault → PlainOutModel → (steps' : ℕ) → Type 0
 WritesSubset places course s steps (Ok _) s' steps' = IsSubset places course s steps s' steps'
 WritesSubset places course s steps (Err why) s' steps' = IsNoSubset places course s steps why steps'

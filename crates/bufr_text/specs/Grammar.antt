@@ -5,6 +5,8 @@ use Rattle.std.specs.List.{list_all}
 use Rattle.std.specs.Char.{is_ascii_digit}
 use Rattle.std.specs.Str.Parse.{digits_value}
 use Rattle.bufr_tables.specs.Prelude.{fxy_of, fxy_text}
+pub use Rattle.bufr_text.specs.declared.line.QuotedToken.{QuotedToken}
+pub use Rattle.bufr_text.specs.declared.line.QuotedToken.TheVariants.{Closed, ListsLeaves, Nothing}
 
 -- the longest prefix of elements that pass a test, and the rest
 unfoldable pub prefix_while : (ℕ → Bool) → List ℕ → List ℕ
@@ -40,8 +42,7 @@ hex_digit n = if nat_lt n 10 then 48 + n else 55 + n
 
 -- the number of a digit of upper case, or of either case
 abbrev pub upper_value : ℕ → Option ℕ
-upper_value c =
-    if is_ascii_digit c then Some (c - 48) else if nat_le 65 c && nat_le c 70
+upper_value c = if is_ascii_digit c then Some (c - 48) else if nat_le 65 c && nat_le c 70
     then Some (c - 55) else None
 
 -- rule: reading-hexadecimal
@@ -91,8 +92,7 @@ descriptors_text (fxy ∷ more) = 32 ∷ fxy_text fxy ++ descriptors_text more
 -- rule: reading-descriptor
 unfoldable pub descriptors_read : List ℕ → Option (List ℕ)
 descriptors_read [] = Some []
-descriptors_read (s ∷ a ∷ b ∷ c ∷ d ∷ e ∷ g ∷ more) =
-    if s == 32
+descriptors_read (s ∷ a ∷ b ∷ c ∷ d ∷ e ∷ g ∷ more) = if s == 32
     then onto_read (fxy_of (a ∷ b ∷ c ∷ d ∷ e ∷ g ∷ [])) (descriptors_read more) else None
 descriptors_read text = None
 
@@ -100,8 +100,7 @@ descriptors_read text = None
 -- anywhere
 -- rule: reading-header-number
 abbrev pub number_read : List ℕ → Option ℕ
-number_read text =
-    if nat_lt 0 (length text) && list_all is_ascii_digit text
+number_read text = if nat_lt 0 (length text) && list_all is_ascii_digit text
     then Some (min (digits_value 10 text) 65536) else None
 
 -- an octet that a text has unescaped
@@ -111,22 +110,13 @@ is_unescaped c = nat_le 32 c && nat_le c 126 && not (c == 34) && not (c == 92)
 -- an octet in a text: a quote and a backslash after a backslash, what cannot be printed as `\xHH`
 -- rule: text-escapes
 abbrev pub escaped : ℕ → List ℕ
-escaped octet =
-    if is_unescaped octet then octet ∷ []
-    else if (octet == 34) || (octet == 92) then 92 ∷ octet ∷ []
-    else 92 ∷ 120 ∷ hex_pair octet
+escaped octet = if is_unescaped octet then octet ∷ []
+    else if (octet == 34) || (octet == 92) then 92 ∷ octet ∷ [] else 92 ∷ 120 ∷ hex_pair octet
 
 -- octets as a text, with the quote that closes it
 unfoldable pub quoted : List ℕ → List ℕ
 quoted [] = 34 ∷ []
 quoted (octet ∷ more) = escaped octet ++ quoted more
-
--- how a text that goes on begins: its end, an octet and how many octets write it, or
--- nothing that a text can hold
-pub data QuotedToken : Type 0 where
-  Closed : QuotedToken
-  ListsLeaves : (octet written : ℕ) → QuotedToken
-  Nothing : QuotedToken
 
 abbrev pub says_pair : Option ℕ → QuotedToken
 says_pair (Some octet) = ListsLeaves octet 4
@@ -134,21 +124,16 @@ says_pair None = Nothing
 
 -- what begins with a backslash; past the end of the text is 0, which no case allows
 abbrev pub escape_of : List ℕ → QuotedToken
-escape_of text =
-    if (slice_index text 1 == 34) || (slice_index text 1 == 92)
-    then ListsLeaves (slice_index text 1) 2
-    else if slice_index text 1 == 120 then says_pair
-    (pair_value (upper_value (slice_index text 2)) (upper_value (slice_index text 3)))
-    else Nothing
+escape_of text = if (slice_index text 1 == 34) || (slice_index text 1 == 92)
+    then ListsLeaves (slice_index text 1) 2 else if slice_index text 1 == 120 then says_pair
+    (pair_value (upper_value (slice_index text 2)) (upper_value (slice_index text 3))) else Nothing
 
 -- how a text begins
 -- rule: reading-quoted
 abbrev pub quoting_of : List ℕ → QuotedToken
-quoting_of text =
-    if slice_index text 0 == 34 then Closed
+quoting_of text = if slice_index text 0 == 34 then Closed
     else if slice_index text 0 == 92 then escape_of text
-    else if is_unescaped (slice_index text 0) then ListsLeaves (slice_index text 0) 1
-    else Nothing
+    else if is_unescaped (slice_index text 0) then ListsLeaves (slice_index text 0) 1 else Nothing
 
 -- a text that was read, and what is after its closing quote
 abbrev pub octet_onto : ℕ → Option (List ℕ × List ℕ) → Option (List ℕ × List ℕ)

@@ -1,9 +1,7 @@
 -- ---- texts and their words
 -- words and values that lines are made of, and how each is read back
 pub mod Grammar
--- the line that lists a message
-pub mod LsLine
--- the dump text of a message, line by line, the items that a reading gives it, and its bounds
+-- the dump text of a message, line by line, its items, and the line that lists it
 pub mod Dump
 -- what a reader of dump texts does, call by call, and its faults
 pub mod Reader

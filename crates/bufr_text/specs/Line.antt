@@ -1,17 +1,12 @@
 -- What a line says, apart from where it is, and the keys of the header.
 -- (A choice of this project)
 -- Cited by public contracts.
-use Rattle.std.specs.Prelude.{ℕ, zero, suc, ◌+◌, ◌==◌, nat_le, nat_lt, Bool, not, ◌&&◌, if◌then◌else◌, List, [], ◌∷◌, Option, Some, None, option_map, codes, length, map, ◌-◌, ◌++◌, decimal, take, drop, ◌≡◌, ◌*◌, ◌<◌, ◌≤◌, true, min}
+use Rattle.std.specs.Prelude.{ℕ, zero, suc, ◌+◌, ◌==◌, nat_le, nat_lt, Bool, not, ◌&&◌, if◌then◌else◌, List, [], ◌∷◌, Option, Some, None, option_map, codes, length, map, ◌-◌, ◌++◌, decimal, take, drop, ◌≡◌, ◌*◌, ◌≤◌}
 use Rattle.std.specs.Char.{is_ascii_digit}
 use Rattle.std.specs.Str.{bytes_eq}
 use Rattle.bufr_frame.specs.Prelude.{Field, Master, Centre, Subcentre, Update, Category, Subcategory, LocalSubcategory, MasterVersion, LocalVersion, Year, Month, Day, Hour, Minute, Second, Slot, most_in}
 use Rattle.bufr_fill.specs.Prelude.{DraftValue, number_token, text_form, missing_form, reference_token}
 use Rattle.bufr_text.specs.Grammar.{prefix_while, suffix_while, without_prefix, without_space, hex_read, fxy_read, descriptors_read, number_read, quoted_read, is_number_octet, is_passed_after}
-use Rattle.std.specs.List.{list_all}
-use Rattle.std.specs.Str.Parse.{digits_value}
-use Rattle.bufr_text.specs.declared.line.QuotedToken.{QuotedToken}
-use Rattle.bufr_text.specs.Grammar as grammar
-use Rattle.bufr_text.specs.declared.line.QuotedToken.TheVariants as quoting
 
 -- what a line says; `Header` has the place of its key, `Wrong` is no line of a document
 pub data Line : Type 0 where
@@ -56,8 +51,7 @@ key name bound = record { name = name; bound = bound }
 -- the keys of the header, in their order
 -- rule: text-header
 unfoldable pub keys : List Key
-keys =
-    key (codes "edition") Editions ∷ key (codes "master") (Holds Master)
+keys = key (codes "edition") Editions ∷ key (codes "master") (Holds Master)
     ∷ key (codes "centre") (Holds Centre) ∷ key (codes "subcentre") (Holds Subcentre)
     ∷ key (codes "update") (Holds Update) ∷ key (codes "category") (Holds Category)
     ∷ key (codes "subcategory") (Holds Subcategory)
@@ -109,21 +103,17 @@ text_value text = option_map (λ read. (text_form (read.0), read.1)) (quoted_rea
 
 abbrev pub number_value : (List ℕ → DraftValue) → List ℕ → Option (DraftValue × List ℕ)
 number_value form [] = None
-number_value form (c ∷ more) =
-    if is_number_octet c
-    then Some (
-      form (prefix_while is_number_octet (c ∷ more)),
-      suffix_while is_number_octet
-          (c ∷ more),
-    ) else None
+number_value form (c ∷ more) = if is_number_octet c then Some (
+  form (prefix_while is_number_octet (c ∷ more)),
+  suffix_while is_number_octet (c ∷ more),
+) else None
 
 abbrev pub missing_value : List ℕ → Option (DraftValue × List ℕ)
 missing_value text = option_map (λ rest. (missing_form, rest)) (without_prefix (codes "MISSING") text)
 
 unfoldable pub value_read : List ℕ → Option (DraftValue × List ℕ)
 value_read [] = None
-value_read (c ∷ more) =
-    if c == 34 then text_value more
+value_read (c ∷ more) = if c == 34 then text_value more
     else if is_number_octet c then number_value number_token (c ∷ more)
     else missing_value (c ∷ more)
 
@@ -160,8 +150,7 @@ is_no_space c = not (c == 32)
 -- rule: reading-empty-lines, reading-carriage-return, reading-blanks
 unfoldable pub line_of : List ℕ → Line
 line_of [] = Passed
-line_of (c ∷ more) =
-    if c == 35 then Passed
+line_of (c ∷ more) = if c == 35 then Passed
     else if is_ascii_digit c then item_line value_read (c ∷ more)
     else worded (prefix_while is_no_space (c ∷ more)) (suffix_while is_no_space (c ∷ more))
 
@@ -186,20 +175,8 @@ header_text key (value ∷ more) =
 -- the descriptors are a prefix of `out`, or the text is none of a line
 abbrev pub Describes : (text out : List ℕ) → Option ℕ → Type 0
 Describes text out None = made (with_one_to 8 Descriptors) (descriptors_read text) ≡ Wrong
-Describes text out (Some count) =
-    (count ≤ length out)
+Describes text out (Some count) = (count ≤ length out)
     × (made (with_one_to 8 Descriptors) (descriptors_read text) ≡ Descriptors (take count out))
-
--- the descriptors that were read are a prefix of `out`
-pub record IsDescribing (text out : List ℕ) (count : ℕ) : Type 0 where
-  pub within : 7 * count ≤ length text
-  pub some : 0 < length text
-  pub short : length text ≤ 56
-  pub room : length out ≡ 8
-  pub read : descriptors_read text
-      ≡ option_map (λ more. take count out ++ more) (descriptors_read (drop (7 * count) text))
-
--- ---- What undoing hexadecimal digits answers.
 
 -- the octets are a prefix of `out`, half as many as digits, or the text writes none
 abbrev pub Unhexes : (text out : List ℕ) → Option ℕ → Type 0
@@ -207,48 +184,9 @@ Unhexes text out None = hex_read text ≡ None
 Unhexes text out (Some count) =
     (2 * count ≡ length text) × (count ≤ length out) × (hex_read text ≡ Some (take count out))
 
--- the octets that were read are a prefix of `out`
-pub record IsUnhexing (text out : List ℕ) (count : ℕ) : Type 0 where
-  pub within : 2 * count ≤ length text
-  pub room : length text ≤ 2 * length out
-  pub read : hex_read text
-      ≡ option_map (λ more. take count out ++ more) (hex_read (drop (2 * count) text))
-
--- ---- What unquoting a text answers.
-
-abbrev pub quoting_said : QuotedToken → grammar.QuotedToken
-quoting_said quoting.Closed = grammar.Closed
-quoting_said (quoting.ListsLeaves octet written) = grammar.ListsLeaves octet written
-quoting_said quoting.Nothing = grammar.Nothing
-
--- octets that were read, before what is read on
-abbrev pub octets_onto : List ℕ → Option (List ℕ × List ℕ) → Option (List ℕ × List ℕ)
-octets_onto octets None = None
-octets_onto octets (Some read) = Some (octets ++ read.0, read.1)
-
 -- the octets of the text come first, and what is after the closing quote begins at a place; or
 -- there is none
 abbrev pub Unquotes : (text out : List ℕ) → Option (ℕ × ℕ) → Type 0
 Unquotes text out None = quoted_read 0 text ≡ None
-Unquotes text out (Some (count, at)) =
-    (count ≤ length out) × (at ≤ length text)
+Unquotes text out (Some (count, at)) = (count ≤ length out) × (at ≤ length text)
     × (quoted_read 0 text ≡ Some (take count out, drop at text))
-
--- what was read is a prefix of `out`
-pub record IsUnquoting (text out : List ℕ) (count at : ℕ) : Type 0 where
-  pub few : count ≤ at
-  pub within : at ≤ length text
-  pub room : length text ≤ length out
-  pub read : quoted_read 0 text ≡ octets_onto (take count out) (quoted_read 0 (drop at text))
-
--- the octets of a token that were passed come first
-pub record IsTokenTo (text : List ℕ) (at : ℕ) : Type 0 where
-  pub within : at ≤ length text
-  pub ahead : prefix_while is_number_octet text ≡ take at text ++ prefix_while is_number_octet
-      (drop at text)
-  pub suffix_while : suffix_while is_number_octet text ≡ suffix_while is_number_octet (drop at text)
-
--- the digits that were passed write a number
-pub record IsNumberTo (text : List ℕ) (at n : ℕ) : Type 0 where
-  pub digits : list_all is_ascii_digit (take at text) ≡ true
-  pub value : n ≡ min (digits_value 10 (take at text)) 65536

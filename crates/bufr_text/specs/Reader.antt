@@ -2,7 +2,7 @@
 -- (A choice of this project)
 -- Cited by public contracts.
 use Rattle.std.specs.Prelude.{ℕ, ◌≡◌, ◌+◌, ◌==◌, Bool, true, false, not, List, [], ◌∷◌, ◌++◌, length, ◌⊎◌, ◌-◌, ◌*◌, ◌<◌, ◌≤◌, if◌then◌else◌, take, Option, Some, None, Result, Ok, Err}
-use Rattle.bufr_frame.specs.Prelude.{number_of_run_fault, AddsReads, max_reads, read_failures_after}
+use Rattle.bufr_frame.specs.Prelude.{number_of_run_fault, max_reads, read_failures_after}
 use Rattle.bufr_text.specs.declared.fault.ReadFault.{ReadFault}
 use Rattle.bufr_text.specs.declared.fault.ReadFault.TheVariants.{Line, SubsetCount, HeaderRange, Run}
 use Rattle.std.specs.List.{list_all, AllByRecursion}
@@ -14,7 +14,6 @@ use Rattle.bufr_frame.specs.declared.fault.RunFault.TheVariants.{Read, Write, In
 use Rattle.bufr_text.specs.Documents as documents
 
 -- ---- The faults of a dump text, and their numbers. (a choice of this project)
-
 abbrev pub number_of_read_fault : ReadFault → ℕ
 number_of_read_fault (Line line) = 50
 number_of_read_fault (SubsetCount line) = 57
@@ -120,8 +119,7 @@ KeepsUnread old new bs = (taken : List ℕ) × (unfed old ++ bs ≡ taken ++ unf
 -- Octets were read, and what was held spells with them what was reported and then what is held now.
 -- What was taken are whole lines.
 pub record ReadsLines (left left' : Option (List ℕ)) (old new : ReaderModel)
-    (results : List ParseResult)
-    (bs : List ℕ) : Type 0 where
+    (results : List ParseResult) (bs : List ℕ) : Type 0 where
   pub read : Consumes left left' bs
   pub order : old.reads ≤ new.reads
   pub few : length bs ≤ 4096 * (new.reads - old.reads)
@@ -136,8 +134,7 @@ pub record ReadsLines (left left' : Option (List ℕ)) (old new : ReaderModel)
 -- Where a document was reported, the last line taken is its `end` line: what is held is exactly
 -- what was read after it.
 abbrev pub EndsAtEndLine : (old new : ReaderModel) → List ℕ → Type 0
-EndsAtEndLine old new bs =
-    (feed : List ℕ) × IsMissingFeed old.ended new.ended feed
+EndsAtEndLine old new bs = (feed : List ℕ) × IsMissingFeed old.ended new.ended feed
     × TakesEndLine old.at ((old.held ++ bs) ++ feed) new.at new.held
 
 -- The last read was made where all whole lines were taken and reported nothing. What was left of a
@@ -172,15 +169,13 @@ HasNoMoreLines s = (s.ended ≡ true) × (s.held ≡ []) × (parse (position_of 
 abbrev pub LeavesReader : ReaderModel → Result (Option Document) ReadFault → Type 0
 LeavesReader new (Ok None) = (new.fault ≡ None) × HasNoMoreLines new
 LeavesReader new (Ok (Some document)) = new.fault ≡ None
-LeavesReader new (Err (Line line)) = new.fault ≡ Some (Line line)
-LeavesReader new (Err (SubsetCount line)) = new.fault ≡ Some (SubsetCount line)
-LeavesReader new (Err (HeaderRange line)) = new.fault ≡ Some (HeaderRange line)
 LeavesReader new (Err (Run Read)) = (new.fault ≡ Some (Run Read)) × HasNoWholeLine new
 LeavesReader new (Err (Run Write)) = ⊥
 LeavesReader new (Err (Run InputTooLong)) =
     (new.fault ≡ Some (Run InputTooLong)) × HasNoWholeLine new × (new.reads ≡ max_reads)
 LeavesReader new (Err (Run Memory)) =
     (new.fault ≡ Some (Run Memory)) × ((has_no_feed new.held ≡ false) ⊎ (new.reads ≡ 0))
+LeavesReader new (Err fault) = new.fault ≡ Some fault
 
 -- After what was taken is a whole line that adds to the document.
 pub record AddsNext (s : ReaderModel) : Type 0 where
@@ -203,22 +198,14 @@ pub record NeedsMemoryForLine (left left' : Option (List ℕ)) (old : ReaderMode
 -- first read it is wanted only for a line that adds to the document
 abbrev pub ReadsDocument : (left left' : Option (List ℕ)) → (old new : ReaderModel)
     → Result (Option Document) ReadFault → List ℕ → Type 0
-ReadsDocument left left' old new (Ok None) bs = ReadsLines left left' old new
-    (parse_results (Ok None)) bs
 ReadsDocument left left' old new (Ok (Some document)) bs =
     ReadsLines left left' old new (parse_results (Ok (Some document))) bs × EndsAtEndLine old new bs
-ReadsDocument left left' old new (Err (Line line)) bs =
-    ReadsLines left left' old new (parse_results (Err (Line line))) bs
-ReadsDocument left left' old new (Err (SubsetCount line)) bs =
-    ReadsLines left left' old new (parse_results (Err (SubsetCount line))) bs
-ReadsDocument left left' old new (Err (HeaderRange line)) bs =
-    ReadsLines left left' old new (parse_results (Err (HeaderRange line))) bs
 ReadsDocument left left' old new (Err (Run Write)) bs = ⊥
 ReadsDocument left left' old new (Err (Run Memory)) bs =
     Consumes left left' bs × (length bs ≤ 4096 * (new.reads - old.reads))
     × (old.ended ≡ true → 0 < length old.held)
     × ((new.reads ≡ 0) ⊎ NeedsMemoryForLine left left' old bs)
-ReadsDocument left left' old new result bs = ReadsLines left left' old new [] bs
+ReadsDocument left left' old new result bs = ReadsLines left left' old new (parse_results result) bs
 
 -- A call reports the next document, or why there is none.
 pub record ReturnsNextDocument (left left' : Option (List ℕ)) (old new : ReaderModel)
@@ -228,10 +215,6 @@ pub record ReturnsNextDocument (left left' : Option (List ℕ)) (old new : Reade
   pub keeps : KeepsUnread old new octets
   pub waits : (new.reads ≡ old.reads) ⊎ ReadsOnlyIfNoLine left old new.reads octets
   pub ends : LeavesReader new result
-
--- the reads of a call are counted, by the reader of octets and by the reader of documents
-abbrev pub CountsTextReads : (reads reads' : ℕ) → ReaderModel → ReaderModel → Type 0
-CountsTextReads reads reads' old new = AddsReads reads reads' old.reads new.reads
 
 -- the reader's count of failures after a call: a refused line leaves it
 abbrev pub failures_by : {X : Type 0} → ℕ → Result X ReadFault → ℕ

@@ -44,8 +44,7 @@ pub record SaySame (form : Form) (a b : Sections) : Type 0 where
 
 -- whether section 3 or 4 of a message of edition 3 has an odd number of octets
 abbrev pub has_odd_section : List ℕ → Bool
-has_odd_section m =
-    edition_of m == 3
+has_odd_section m = edition_of m == 3
     && (u24_at m (section3_begins m) % 2 == 1 || u24_at m (section4_begins m) % 2 == 1)
 
 -- how many octets more a message may have when it is written again: in edition 3 up to two make
@@ -109,9 +108,8 @@ pub record HasReadingIn (form : Form) (table : List Row) (s : Sections) (templat
 -- increments distinguish
 abbrev pub IsForForm : Form → DocumentRefusal → Type 0
 IsForForm form.AsWritten why = ⊥
-IsForForm form.Plain (by_template why) = ⊥
-IsForForm form.Plain (by_item fault) = ⊥
 IsForForm form.Plain too_long = Unit {0}
+IsForForm form.Plain why = ⊥
 IsForForm form.Compressed (by_template why) = ⊥
 IsForForm form.Compressed (by_item fault) = IsUnlike fault
 IsForForm form.Compressed too_long = Unit {0}
@@ -140,8 +138,7 @@ EncodesForm form table s template values (Err why) = IsFaultIn form why
 -- no redefined reference of the items that begin the bits is written as minus zero
 abbrev pub HaveNoMinusZero : List (Item Content) → List Bool → Type 0
 HaveNoMinusZero [] bits = Unit {0}
-HaveNoMinusZero (i ∷ items) bits =
-    (IsMinusZero i.spec.role (take i.spec.width bits) → ⊥)
+HaveNoMinusZero (i ∷ items) bits = (IsMinusZero i.spec.role (take i.spec.width bits) → ⊥)
     × HaveNoMinusZero items (drop i.spec.width bits)
 
 -- each item of compressed data is packed as its contents are packed

@@ -6,10 +6,10 @@ use Rattle.std.specs.List.{AllByRecursion, concat}
 use Rattle.bufr_fill.specs.Prelude.{AllHaveOctets, DraftEntry, Holds, Ends, subsets_of, DraftValue, draft, Draft, Subset, DraftFaultKind, content_of, normal_form}
 use Rattle.bufr_text.specs.Documents.{Document, optional_in, subsets_in, IsHeaded, ParseResult, Complete, Refused, most_entries, line_within_limit}
 use Rattle.bufr_text.specs.Dump.{IsOctet, IsDescriptorWord, Comment, header_lines, local1_line, section2_line, descriptors_line, form_text, comment_text, subset_line, text_of_lines, comment_of}
-use Rattle.bufr_text.specs.Line.{Line, Passed, Opens, Header, Local1, Section2, Descriptors, Begins, Item, Closes, Wrong}
+use Rattle.bufr_text.specs.Line.{Line, Passed, Opens, Header, Local1, Section2, Descriptors, Begins, Item, Closes}
 use Rattle.bufr_tables.specs.Prelude.{Row, entry_of, Tree}
 use Rattle.bufr_walk.specs.declared.spec.Taken.{Taken}
-use Rattle.bufr_walk.specs.Prelude.{FieldSpec, Content, answer_of, Course, Next, take_next, at_end, astray, refused, next_item}
+use Rattle.bufr_walk.specs.Prelude.{FieldSpec, Content, answer_of, Course, Next, take_next, next_item}
 use Rattle.bufr_text.specs.declared.encode.Form.{Form}
 use Rattle.bufr_text.specs.declared.encode.Form.TheVariants.{AsWritten, Plain, Compressed}
 use Rattle.bufr_text.specs.Grammar.{runs_of}
@@ -62,15 +62,7 @@ numbered_line at says = record { at = at; says = says }
 -- comments and empty lines are passed over
 abbrev pub onto_heard : ℕ → Line → List NumberedLine → List NumberedLine
 onto_heard at Passed more = more
-onto_heard at Opens more = numbered_line at Opens ∷ more
-onto_heard at (Header key value) more = numbered_line at (Header key value) ∷ more
-onto_heard at (Local1 octets) more = numbered_line at (Local1 octets) ∷ more
-onto_heard at (Section2 octets) more = numbered_line at (Section2 octets) ∷ more
-onto_heard at (Descriptors words) more = numbered_line at (Descriptors words) ∷ more
-onto_heard at (Begins subset) more = numbered_line at (Begins subset) ∷ more
-onto_heard at (Item fxy form) more = numbered_line at (Item fxy form) ∷ more
-onto_heard at Closes more = numbered_line at Closes ∷ more
-onto_heard at Wrong more = numbered_line at Wrong ∷ more
+onto_heard at line more = numbered_line at line ∷ more
 
 unfoldable pub numbered_lines : (at : ℕ) → List (List ℕ) → List NumberedLine
 numbered_lines at [] = []
@@ -98,8 +90,7 @@ abbrev pub subsets_heard : (subset : ℕ) → List SubsetHeard → List Numbered
 subsets_heard subset [] = []
 subsets_heard subset (part ∷ more) =
     numbered_line part.at (Begins subset) ∷ map (λ i. numbered_line i.at (Item i.fxy i.form))
-    part.items
-    ++ subsets_heard (subset + 1) more
+    part.items ++ subsets_heard (subset + 1) more
 
 -- what they are as entries: a subset ends at the line that begins the next one, or at `end`
 abbrev pub first_at : List SubsetHeard → (end : ℕ) → ℕ
@@ -141,8 +132,7 @@ AreReported lines [] = lines ≡ []
 AreReported lines (Refused line fault ∷ results) = results ≡ []
 AreReported lines (Complete d ∷ results) =
     (own : List NumberedLine) × (more : List NumberedLine) × (lines ≡ own ++ more)
-    × IsDocument d own
-    × AreReported more results
+    × IsDocument d own × AreReported more results
 
 -- ---- The text of a document in the one spelling that a dump has. (a choice of this project)
 
@@ -156,10 +146,8 @@ header_as Compressed header = take 17 header ++ 1 ∷ drop 18 header
 -- the lines before the subsets: `message`, the header, 32 octets a line in upper case, eight
 -- descriptors a line
 abbrev pub normal_head : Form → Document → List (List ℕ)
-normal_head form d =
-    codes "message" ∷ (header_lines 0 (header_as form d.header)
-    ++ (map local1_line (runs_of 32 d.local1)
-    ++ (map section2_line (runs_of 32 d.section2)
+normal_head form d = codes "message" ∷ (header_lines 0 (header_as form d.header)
+    ++ (map local1_line (runs_of 32 d.local1) ++ (map section2_line (runs_of 32 d.section2)
     ++ map descriptors_line (runs_of 8 d.descriptors))))
 
 -- the comment of a field: name and unit of the row of Table B by which it is read
@@ -182,15 +170,12 @@ draft_answer spec (Err why) = taken.Plain
 abbrev pub line_and : List Row → Next → Draft → (Taken → List (List ℕ)) → List (List ℕ)
 line_and table (take_next spec) d rest =
     normal_line table spec d ∷ rest (draft_answer spec (content_of spec d))
-line_and table at_end d rest = []
-line_and table astray d rest = []
-line_and table (refused why) d rest = []
+line_and table _ d rest = []
 
 -- the lines of a subset's items, each at the field that comes next in the template
 abbrev pub normal_items : List Row → Course → List Draft → List (List ℕ)
 normal_items table course [] = []
-normal_items table course (d ∷ ds) =
-    line_and table (course []).next d
+normal_items table course (d ∷ ds) = line_and table (course []).next d
     (λ t. normal_items table (λ answer_of. course (t ∷ answer_of)) ds)
 
 -- the lines of the subsets from a number on

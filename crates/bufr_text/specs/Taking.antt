@@ -12,7 +12,7 @@ use Rattle.bufr_text.specs.declared.document.LineGroup.{LineGroup}
 use Rattle.bufr_text.specs.declared.document.ParserState.{ParserState}
 use Rattle.bufr_text.specs.declared.document.LineRefusal.{LineRefusal}
 use Rattle.bufr_text.specs.declared.document.LineEffect.{LineEffect}
-use Rattle.bufr_text.specs.Reader.{has_no_feed, ReaderPosition, ContinuesParse, TakesWholeLines, TakesEndLine, parse, ReaderModel, position_of, AddsNext}
+use Rattle.bufr_text.specs.Reader.{has_no_feed, ReaderPosition, ContinuesParse, TakesWholeLines, TakesEndLine, parse, parse_results, ReaderModel, position_of, AddsNext}
 use Rattle.bufr_text.specs.declared.document.Progress.{Progress}
 use Rattle.bufr_text.specs.declared.document.TakeResult.{TakeResult}
 use Rattle.std.specs.Io.KnownBytes.{Consumes}
@@ -134,8 +134,7 @@ HoldsAfter at (documents.Faults fault) = Unit {0}
 -- the first line feed, or there is none
 abbrev pub FeedAt : List ℕ → Option ℕ → Type 0
 FeedAt held None = has_no_feed held ≡ true
-FeedAt held (Some place) =
-    (place < length held) × (has_no_feed (take place held) ≡ true)
+FeedAt held (Some place) = (place < length held) × (has_no_feed (take place held) ≡ true)
     × (held ≡ take place held ++ 10 ∷ drop (place + 1) held)
 
 -- what was reported
@@ -151,13 +150,12 @@ place_following taken.Gives progress = documents.Between
 place_following (taken.Refuses line refusal) progress = documents.Stopped
 
 abbrev pub position_with : Progress → List ℕ → Bool → ReaderPosition
-position_with progress held ended =
-    record {
-      at = progress.at;
-      place = place_with progress.place progress.parts;
-      held = held;
-      ended = ended;
-    }
+position_with progress held ended = record {
+  at = progress.at;
+  place = place_with progress.place progress.parts;
+  held = held;
+  ended = ended;
+}
 
 abbrev pub position_after_take : TakeResult → Progress → List ℕ → Bool → ReaderPosition
 position_after_take step progress held ended =
@@ -227,8 +225,7 @@ pub record IsProgress (progress : Progress) (held reads : ℕ) : Type 0 where
 -- how a reader keeps its input: it holds few octets, its last line is ended at the end, and its
 -- buffer is made at the first read
 abbrev pub IsReader : Option ReadFault → Progress → InputModel → Type 0
-IsReader fault progress input =
-    (length input.held ≤ 8192) × (input.reads ≤ max_reads)
+IsReader fault progress input = (length input.held ≤ 8192) × (input.reads ≤ max_reads)
     × (input.ended ≡ true → ends_by_feed input.held ≡ true)
     × (fault ≡ None → IsProgress progress (length input.held) input.reads)
     × (0 < input.reads → 8192 ≤ input.room)
@@ -253,19 +250,12 @@ TakesHeldLines old new (Ok None) = ParsesHeldLines old new [] × (new.fault ≡ 
 TakesHeldLines old new (Ok (Some document)) =
     ParsesHeldLines old new (Complete document ∷ []) × (new.fault ≡ None)
     × TakesEndLine old.at old.held new.at new.held
-TakesHeldLines old new (Err (Line line)) =
-    ParsesHeldLines old new (Refused line documents.NotAllowed ∷ [])
-    × (new.fault ≡ Some (Line line))
-TakesHeldLines old new (Err (SubsetCount line)) =
-    ParsesHeldLines old new (Refused line documents.SubsetCount ∷ [])
-    × (new.fault ≡ Some (SubsetCount line))
-TakesHeldLines old new (Err (HeaderRange line)) =
-    ParsesHeldLines old new (Refused line documents.HeaderRange ∷ [])
-    × (new.fault ≡ Some (HeaderRange line))
 TakesHeldLines old new (Err (Run Memory)) =
     (new.fault ≡ Some (Run Memory)) × (has_no_feed old.held ≡ false)
     × (new.held ≡ old.held) × WantsHere old
-TakesHeldLines old new result = ⊥
+TakesHeldLines old new (Err (Run fault)) = ⊥
+TakesHeldLines old new (Err fault) =
+    ParsesHeldLines old new (parse_results (Err fault)) × (new.fault ≡ Some fault)
 
 -- the input of a reader that holds these octets
 abbrev pub text_input : ReaderModel → List ℕ → InputModel
@@ -294,18 +284,15 @@ read_fault_at line refusal.HeaderRange = HeaderRange line
 
 -- a reader that a fault stopped
 abbrev pub stopped : ReaderModel → ReadFault → ReaderModel
-stopped s (Line line) = record s { fault = Some (Line line); place = Stopped }
-stopped s (SubsetCount line) = record s { fault = Some (SubsetCount line); place = Stopped }
-stopped s (HeaderRange line) = record s { fault = Some (HeaderRange line); place = Stopped }
 stopped s (Run fault) = record s { fault = Some (Run fault) }
+stopped s fault = record s { fault = Some fault; place = Stopped }
 
 -- what the end comes to, where no line is held
 abbrev pub HandlesEnd : ReaderModel → ReaderModel → Result (Option Document) ReadFault → Type 0
 HandlesEnd old new (Ok None) = (new ≡ old) × (new.held ≡ []) × (parse (position_of new) [] ≡ [])
 HandlesEnd old new (Err (Line line)) =
     ParsesHeldLines old new (Refused line documents.NotAllowed ∷ [])
-    × (new.fault ≡ Some (Line line))
-    × (new.ended ≡ old.ended) × (new.reads ≡ old.reads)
+    × (new.fault ≡ Some (Line line)) × (new.ended ≡ old.ended) × (new.reads ≡ old.reads)
 HandlesEnd old new result = ⊥
 
 -- a read, or why none is made

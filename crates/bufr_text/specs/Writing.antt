@@ -26,8 +26,7 @@ Stays failures failures' empty empty' = (failures' ≡ failures) × (empty' ≡ 
 
 -- one call of the writer failed, or one write took nothing
 abbrev pub Fails : (failures failures' empty empty' : ℕ) → Type 0
-Fails failures failures' empty empty' =
-    ((failures' ≡ counted failures 1) × (empty' ≡ empty))
+Fails failures failures' empty empty' = ((failures' ≡ counted failures 1) × (empty' ≡ empty))
     ⊎ ((failures' ≡ failures) × (empty' ≡ counted empty 1))
 
 -- a write fault comes only from a call that the writer counts; nothing else changes its counts

@@ -1,16 +1,10 @@
 //! A message as its text gives it, and how its lines build it.
-ghost use Rattle.std.specs.Prelude.{◌≡◌, ℕ, ◌+◌, ◌<◌, ◌≤◌, List, [], ◌∷◌, ◌++◌, length, take, map, OnOk, IsTrue, slice_index, option_map, true, IfOk, OnErr, ◌^◌, drop, false};
+ghost use Rattle.std.specs.Prelude.{◌≡◌, ◌+◌, ◌<◌, ◌≤◌, length, OnOk, IsTrue, slice_index, option_map, true, IfOk, OnErr, ◌^◌, false};
 ghost use Rattle.bufr_bits.specs.Prelude.{short_text};
-ghost use Rattle.bufr_fill.specs.Prelude.{draft, number_token, Holds, Ends, subsets_of, form_in};
+ghost use Rattle.bufr_fill.specs.Prelude.{draft, number_token, Holds, subsets_of};
 ghost use Rattle.bufr_frame.specs.Prelude.{is_writable, slots_4};
-ghost use Rattle.bufr_text.specs.Documents.{subsets_in, with_value, with_local1, with_section2, with_descriptors, with_entry, heading, before_subsets, filling, beginning, closing, opening, turn, adds, line_within_limit, head_from_values, observed_in, compressed_in, section2_in, most_entries};
-ghost use Rattle.bufr_text.specs.Spelling.{IsWhole};
-ghost use Rattle.bufr_text.specs.Line.{mosts};
-ghost use Rattle.bufr_text.specs.Taking.{meaning, part_number, place_with, turned, IsParserState, TakesLines, FeedAt, WantsAt};
-ghost use Rattle.bufr_text.specs.Reader.{has_no_feed};
+ghost use Rattle.bufr_text.specs.Prelude.{subsets_in, with_entry, heading, before_subsets, filling, beginning, closing, opening, turn, adds, line_within_limit, head_from_values, observed_in, compressed_in, section2_in, most_entries, IsWhole, mosts, meaning, part_number, place_with, turned, IsParserState, TakesLines, FeedAt, WantsAt, has_no_feed, Header, blank};
 ghost use Rattle.bufr_text.specs.declared.document.ParserState.TheVariants.{Between};
-ghost use Rattle.bufr_text.specs.Line as line;
-ghost use Rattle.bufr_text.specs.Documents as documents;
 
 use crate::header::{MOST_WORDS, in_range};
 use crate::line::{MAX_LINE, ahead, decimal_item, read_line, suffix};
@@ -53,7 +47,7 @@ impl Model for DocumentParts {
 impl DocumentParts {
     /// A document of which its first line was read.
     pub(crate) fn blank(alloc: Global, line: u64) -> DocumentParts
-        ensures { result ≡ documents.blank line }
+        ensures { result ≡ blank line }
     {
         DocumentParts {
             line,
@@ -68,7 +62,7 @@ impl DocumentParts {
 
     /// Begins a document of which its first line was read, in the memory of the one before.
     pub(crate) fn begin(&mut self, line: u64)
-        ensures { self.new ≡ documents.blank line }
+        ensures { self.new ≡ blank line }
     {
         self.line = line;
         self.known = 0;
@@ -98,71 +92,13 @@ impl DocumentParts {
         }
     }
 
-    /// One more value of the header.
-    pub(crate) fn push_value(&mut self, value: u16)
-        requires { length self.old.header < 20 }
-        ensures { self.new ≡ with_value self.old value }
-    {
-        self.header[self.known] = value;
-        self.known += 1;
-    }
-
-    /// More octets of local use.
-    pub(crate) fn extend_local1(&mut self, octets: &[u8]) -> Result<(), AllocError>
-        ensures { OnOk result (self.new ≡ with_local1 self.old octets.now) }
-    {
-        self.local1.extend_from_slice(octets)?;
-        Ok(())
-    }
-
-    /// More octets of section 2.
-    pub(crate) fn extend_section2(&mut self, octets: &[u8]) -> Result<(), AllocError>
-        ensures { OnOk result (self.new ≡ with_section2 self.old octets.now) }
-    {
-        self.section2.extend_from_slice(octets)?;
-        Ok(())
-    }
-
-    /// More descriptors.
-    pub(crate) fn extend_descriptors(&mut self, words: &[u16]) -> Result<(), AllocError>
-        ensures { OnOk result (self.new ≡ with_descriptors self.old words.now) }
-    {
-        self.descriptors.extend_from_slice(words)?;
-        Ok(())
-    }
-
-    /// One more item.
-    pub(crate) fn push_item(
-        &mut self,
-        line: u64,
-        fxy: Fxy,
-        form: DraftValue<'_>,
-    ) -> Result<(), AllocError>
-        ensures { OnOk result
-            (self.new ≡ with_entry self.old (Holds (draft line fxy (form_in form.entry)))) }
-    {
-        self.entries.push_item(DraftItem { line, fxy, form })
-    }
-
     /// One more item, whose value is a short decimal.
     #[inline(always)]
-    pub(crate) fn push_decimal(
-        &mut self,
-        line: u64,
-        fxy: Fxy,
-        number: ShortDecimal,
-    ) -> Result<(), AllocError>
+    fn push_decimal(&mut self, line: u64, fxy: Fxy, number: ShortDecimal) -> Result<(), AllocError>
         ensures { OnOk result (self.new
             ≡ with_entry self.old (Holds (draft line fxy (number_token (short_text number))))) }
     {
         self.entries.push_decimal(line, fxy, number)
-    }
-
-    /// The end of a subset.
-    pub(crate) fn push_end(&mut self, line: u64) -> Result<(), AllocError>
-        ensures { OnOk result (self.new ≡ with_entry self.old (Ends line)) }
-    {
-        self.entries.push_end(line)
     }
 }
 
@@ -334,9 +270,6 @@ pub(crate) enum LineGroup {
 }
 
 impl LineGroup {
-    ghost use Rattle.std.specs.Prelude.{◌≡◌};
-    ghost use Rattle.bufr_text.specs.Taking.{part_number};
-
     /// Its place in the order, from 0.
     fn number(self) -> u8
         ensures { result ≡ part_number self }
@@ -380,7 +313,7 @@ pub(crate) enum LineEffect {
 // rule: reading-header-order, fault-61, fault-order-of-a-line
 fn heading(parts: &mut DocumentParts, key: usize, value: u32) -> LineEffect
     requires { length parts.old.header < 20 }
-    ensures turns { turned result parts.new ≡ heading parts.old (line.Header key value) }
+    ensures turns { turned result parts.new ≡ heading parts.old (Header key value) }
 {
     if key != parts.known() {
         return LineEffect::Refuses(LineRefusal::NotAllowed);
@@ -389,7 +322,8 @@ fn heading(parts: &mut DocumentParts, key: usize, value: u32) -> LineEffect
     if !in_range(parts.value(0), key, value) {
         return LineEffect::Refuses(LineRefusal::HeaderRange);
     }
-    parts.push_value(value as u16);
+    parts.header[parts.known] = value as u16;
+    parts.known += 1;
     if key == 19 {
         LineEffect::WalkGoes(ParserState::BeforeSubsets(LineGroup::Local1))
     } else {
@@ -429,23 +363,22 @@ fn before_subsets(
     part: LineGroup,
     said: ParsedLine<'_>,
 ) -> Result<LineEffect, AllocError>
-    ensures turns { IfOk result
-        (λ t. turned t parts.new
+    ensures turns { IfOk result (λ t. turned t parts.new
         ≡ before_subsets (part_number part) parts.old (meaning said.entry)) }
     ensures wants { OnErr result
         (adds (place_with (ParserState.BeforeSubsets part) parts.old) (meaning said.entry) ≡ true) }
 {
     let turn = match said {
         ParsedLine::Local1(octets) if part.number() == 0 => {
-            parts.extend_local1(octets)?;
+            parts.local1.extend_from_slice(octets)?;
             LineEffect::WalkGoes(ParserState::BeforeSubsets(LineGroup::Local1))
         }
         ParsedLine::Section2(octets) if part.number() <= 1 && parts.value(18) == 1 => {
-            parts.extend_section2(octets)?;
+            parts.section2.extend_from_slice(octets)?;
             LineEffect::WalkGoes(ParserState::BeforeSubsets(LineGroup::Section2))
         }
         ParsedLine::Descriptors(words) => {
-            parts.extend_descriptors(words)?;
+            parts.descriptors.extend_from_slice(words)?;
             LineEffect::WalkGoes(ParserState::BeforeSubsets(LineGroup::Descriptors))
         }
         ParsedLine::Begins(subset) => beginning(parts, 0, subset),
@@ -471,15 +404,16 @@ fn filling(
 {
     let turn = match said {
         ParsedLine::Item { fxy, form } => {
-            parts.push_item(at, Fxy::from_word(fxy), form)?;
+            let (line, fxy) = (at, Fxy::from_word(fxy));
+            parts.entries.push_item(DraftItem { line, fxy, form })?;
             LineEffect::WalkGoes(ParserState::Filling(subset))
         }
         ParsedLine::Begins(next) => {
-            parts.push_end(at)?;
+            parts.entries.push_end(at)?;
             beginning(parts, subset, next)
         }
         ParsedLine::Closes => {
-            parts.push_end(at)?;
+            parts.entries.push_end(at)?;
             closing(parts, subset)
         }
         _ => LineEffect::Refuses(LineRefusal::NotAllowed),
@@ -567,7 +501,7 @@ fn take_line(
 ) -> Result<LineEffect, AllocError>
     requires holds { IsParserState progress.old.at
         (place_with progress.old.place progress.old.parts) }
-    ensures turns { IfOk result (λ t. turned t progress.new.parts ≡ documents.turn progress.old.at
+    ensures turns { IfOk result (λ t. turned t progress.new.parts ≡ turn progress.old.at
         (place_with progress.old.place progress.old.parts) (line_within_limit line.now)) }
     ensures at { progress.new.at ≡ progress.old.at }
     ensures wants { OnErr result
@@ -585,8 +519,7 @@ fn take_line(
     step(progress.place, &mut progress.parts, progress.at, said)
 }
 
-/// Takes lines that are held, up to the first that makes a document whole or is refused. Answers
-/// how many octets they took. What a line writes by digits or in quotes is put into `octets`.
+/// Takes held lines, up to the first that ends a document or is refused: how many octets they took.
 // rule: reading-line-numbers
 pub(crate) fn take_lines(
     progress: &mut Progress,

@@ -1,14 +1,10 @@
 //! The text that dumps a message: the lines before its subsets, and a line for each item.
-ghost use Rattle.std.specs.Prelude.{◌≡◌, ◌++◌, [], ◌∷◌, codes, drop, map, take, unwrap_or, option_map, ◌≤◌, ◌*◌};
+ghost use Rattle.std.specs.Prelude.{◌≡◌, ◌++◌, [], ◌∷◌, drop, map, take, unwrap_or, ◌≤◌, ◌*◌};
 ghost use Rattle.bufr_frame.specs.Prelude.{words_left};
-ghost use Rattle.bufr_text.specs.Dump.{descriptors_line, head_lines, header_lines, header_of, section2_line, text_of_lines, comment_text, dump_value_of, form_text, item_text, comment_of, dump_item_of, value_of, dump_text_of, dump_items_of};
-ghost use Rattle.bufr_text.specs.Grammar.{descriptors_text, hex_text, runs_of};
-ghost use Rattle.bufr_text.specs.Line.{header_text};
-ghost use Rattle.bufr_text.specs.Writing.{Pushes};
+ghost use Rattle.bufr_text.specs.Prelude.{descriptors_line, head_lines, header_of, section2_line, text_of_lines, dump_value_of, form_text, item_text, dump_item_of, value_of, dump_text_of, dump_items_of, descriptors_text, hex_text, runs_of, header_text, Pushes, CountsFaults, MakesSteps, ReadsMessage, WritesPrefix, Ends, subsets_text, PushesCall};
 ghost use Rattle.bufr_bits.specs.Prelude.{decimal_text_of};
-ghost use Rattle.bufr_tables.specs.Prelude.{row_of_entry, fxy_text, places};
+ghost use Rattle.bufr_tables.specs.Prelude.{fxy_text, places};
 ghost use Rattle.bufr_walk.specs.Prelude.{seen, seen_value, calls_of, turns_shown, course_of, IsReading, Values};
-ghost use Rattle.bufr_text.specs.DumpWritten.{CountsFaults, MakesSteps, ReadsMessage, WritesPrefix, Ends, subsets_text};
 
 use crate::header::KEYS;
 use crate::line_writer::{LineWriter, PAGE};
@@ -24,9 +20,9 @@ const OCTETS: usize = 32;
 /// How many descriptors a line holds at most.
 const DESCRIPTORS: usize = 8;
 
-/// Pushes the first ten keys and their values.
-fn push_origin<W: Sink>(lines: &mut LineWriter<'_, '_, W>, message: &Message<'_>)
-    ensures { Pushes lines.old (header_text 0 (take 10 (header_of message.now))) lines.new }
+/// Pushes the keys and their values.
+fn push_header<W: Sink>(lines: &mut LineWriter<'_, '_, W>, message: &Message<'_>)
+    ensures { Pushes lines.old (header_text 0 (header_of message.now)) lines.new }
 {
     let head = message.head();
     lines.push_named(KEYS[0].0, u64::from(head.edition));
@@ -39,13 +35,6 @@ fn push_origin<W: Sink>(lines: &mut LineWriter<'_, '_, W>, message: &Message<'_>
     lines.push_named(KEYS[7].0, u64::from(head.local_subcategory));
     lines.push_named(KEYS[8].0, u64::from(head.master_version));
     lines.push_named(KEYS[9].0, u64::from(head.local_version));
-}
-
-/// Pushes the other ten keys and their values.
-fn push_date<W: Sink>(lines: &mut LineWriter<'_, '_, W>, message: &Message<'_>)
-    ensures { Pushes lines.old (header_text 10 (drop 10 (header_of message.now))) lines.new }
-{
-    let head = message.head();
     lines.push_named(KEYS[10].0, u64::from(head.year));
     lines.push_named(KEYS[11].0, u64::from(head.month));
     lines.push_named(KEYS[12].0, u64::from(head.day));
@@ -58,29 +47,8 @@ fn push_date<W: Sink>(lines: &mut LineWriter<'_, '_, W>, message: &Message<'_>)
     lines.push_named(KEYS[19].0, u64::from(message.subsets()));
 }
 
-/// Pushes the line `message` and a line of each key and its value.
-// rule: text-header, text-header-of-edition-3
-fn push_header<W: Sink>(lines: &mut LineWriter<'_, '_, W>, message: &Message<'_>)
-    ensures { Pushes lines.old
-        (text_of_lines (codes "message" ∷ header_lines 0 (header_of message.now))) lines.new }
-{
-    lines.push(b"message");
-    push_origin(lines, message);
-    push_date(lines, message);
-    lines.push(b"\n");
-}
-
-/// Pushes a line of a word and octets.
-fn push_octet_line<W: Sink>(lines: &mut LineWriter<'_, '_, W>, word: &[u8], octets: &[u8])
-    ensures { Pushes lines.old ((word.now ++ hex_text octets.now) ++ 10 ∷ []) lines.new }
-{
-    lines.push(word);
-    lines.push_hex(octets);
-    lines.push(b"\n");
-    lines.end_line(PAGE);
-}
-
 /// Pushes lines of a word and octets, 32 on each line but the last.
+#[inline(always)]
 // rule: text-local1
 fn push_octet_lines<W: Sink>(lines: &mut LineWriter<'_, '_, W>, word: &[u8], octets: &[u8])
     ensures { Pushes lines.old
@@ -89,27 +57,17 @@ fn push_octet_lines<W: Sink>(lines: &mut LineWriter<'_, '_, W>, word: &[u8], oct
     let mut rest = octets;
     while !rest.is_empty() {
         let (run, left) = rest.split_at(rest.len().min(OCTETS));
-        push_octet_line(lines, word, run);
+        lines.push(word);
+        lines.push_hex(run);
+        lines.push(b"\n");
+        lines.end_line(PAGE);
         rest = left;
-    }
-}
-
-/// Pushes the lines of section 2, where there is one.
-// rule: text-section2
-fn push_section2<W: Sink>(lines: &mut LineWriter<'_, '_, W>, message: &Message<'_>)
-    ensures { Pushes lines.old
-        (text_of_lines (map section2_line (runs_of 32 (unwrap_or message.now.section2 []))))
-        lines.new }
-{
-    if let Some(octets) = message.section2() {
-        push_octet_lines(lines, b"section2 ", octets);
     }
 }
 
 /// Pushes the descriptors of a line, at most eight of those that are left, a space before each.
 fn push_descriptors<W: Sink>(lines: &mut LineWriter<'_, '_, W>, words: &mut Words<'_>)
-    ensures pushes { Pushes lines.old (descriptors_text (take 8 (words_left words.old)))
-        lines.new }
+    ensures pushes { Pushes lines.old (descriptors_text (take 8 (words_left words.old))) lines.new }
     ensures words { words_left words.new ≡ drop 8 (words_left words.old) }
 {
     'words: for _done in 0..DESCRIPTORS {
@@ -121,18 +79,6 @@ fn push_descriptors<W: Sink>(lines: &mut LineWriter<'_, '_, W>, words: &mut Word
     }
 }
 
-/// Pushes a line of descriptors, at most eight of those that are left.
-fn push_descriptor_line<W: Sink>(lines: &mut LineWriter<'_, '_, W>, words: &mut Words<'_>)
-    ensures pushes { Pushes lines.old
-        (descriptors_line (take 8 (words_left words.old)) ++ 10 ∷ []) lines.new }
-    ensures words { words_left words.new ≡ drop 8 (words_left words.old) }
-{
-    lines.push(b"descriptors");
-    push_descriptors(lines, words);
-    lines.push(b"\n");
-    lines.end_line(PAGE);
-}
-
 /// Pushes the lines of the descriptors, eight on each line but the last.
 // rule: text-descriptors
 fn push_descriptor_lines<W: Sink>(lines: &mut LineWriter<'_, '_, W>, message: &Message<'_>)
@@ -141,17 +87,23 @@ fn push_descriptor_lines<W: Sink>(lines: &mut LineWriter<'_, '_, W>, message: &M
 {
     let mut words = message.descriptors();
     while !words.is_empty() {
-        push_descriptor_line(lines, &mut words);
+        lines.push(b"descriptors");
+        push_descriptors(lines, &mut words);
+        lines.push(b"\n");
+        lines.end_line(PAGE);
     }
 }
 
-/// Pushes the lines before the subsets.
+/// Pushes the lines before the subsets: `message`, a line of each key and its value, and the parts.
+// rule: text-header, text-header-of-edition-3, text-section2
 pub(crate) fn push_head_lines<W: Sink>(lines: &mut LineWriter<'_, '_, W>, message: &Message<'_>)
     ensures { Pushes lines.old (text_of_lines (head_lines message.now)) lines.new }
 {
+    lines.push(b"message");
     push_header(lines, message);
+    lines.push(b"\n");
     push_octet_lines(lines, b"local1 ", message.local1());
-    push_section2(lines, message);
+    push_octet_lines(lines, b"section2 ", message.section2().unwrap_or(b""));
     push_descriptor_lines(lines, message);
 }
 
@@ -221,22 +173,9 @@ fn push_any_form<W: Sink>(
     }
 }
 
-/// Pushes the comment of the entry of Table B by which an item was read, and a line feed.
-#[inline(always)]
-// rule: text-comment
-fn push_comment<W: Sink>(lines: &mut LineWriter<'_, '_, W>, entry: Option<Entry<'_>>)
-    ensures { Pushes lines.old
-        (comment_text (option_map comment_of (option_map row_of_entry entry.entry)) ++ 10 ∷ [])
-        lines.new }
-{
-    match entry {
-        Some(entry) => lines.push(entry.comment()),
-        None => lines.push(b"\n"),
-    }
-}
-
 /// Pushes the line of any item: its descriptor, its value and its comment.
 #[inline(never)]
+// rule: text-comment
 fn push_any_item<W: Sink>(
     lines: &mut LineWriter<'_, '_, W>,
     fxy: Fxy,
@@ -248,7 +187,10 @@ fn push_any_item<W: Sink>(
         lines.new }
 {
     push_any_form(lines, fxy, entry, value);
-    push_comment(lines, entry);
+    match entry {
+        Some(entry) => lines.push(entry.comment()),
+        None => lines.push(b"\n"),
+    }
 }
 
 /// Pushes the line of an item. Most are numbers of 64 bits, or missing, and were read by an entry.
@@ -267,8 +209,7 @@ pub(crate) fn push_item<W: Sink>(lines: &mut LineWriter<'_, '_, W>, item: &ItemV
     push_any_item(lines, fxy, entry, value);
 }
 
-/// Room for a line. The longest has 2,061 octets: a text of 255, four for each, and a name and a
-/// unit of 512 each.
+/// Room for a line. The longest has 2,061 octets: a text of 4 * 255, a name and a unit of 512.
 const LINE: usize = 2_560;
 
 /// What dumps by one table keep from message to message: the specs that are cached, and a block of
@@ -289,8 +230,6 @@ pub struct DumpMemory<'t> {
 }
 
 impl<'t> DumpMemory<'t> {
-    ghost use Rattle.std.specs.Prelude.{◌≡◌};
-
     /// What dumps by `table` keep, empty at first. It takes no memory.
     pub fn new(alloc: Global, table: &'t TableB) -> DumpMemory<'t>
         ensures { result.specs ≡ table.now }
@@ -312,8 +251,6 @@ fn take_block(block: &mut Vec<u8>) -> Result<(), AllocError> {
 }
 
 impl<'b, 'w, W: Sink> Visitor for LineWriter<'b, 'w, W> {
-    ghost use Rattle.bufr_text.specs.DumpWritten.{PushesCall};
-
     type Fault = RunFault;
 
     ghost sees = { λ s call r t. PushesCall s call r t };
@@ -399,8 +336,7 @@ pub fn write_dump<W: Sink>(
     // At `Ok` the steps are all turns of the reading, at a fault those before a call or all.
     ensures steps { (values : Values)
         → IsReading (course_of reading.now) reading.now.source values reading.now.bits →
-        MakesSteps (calls_of reading.now values) (turns_shown reading.now values)
-        result steps.new }
+        MakesSteps (calls_of reading.now values) (turns_shown reading.now values) result steps.new }
     ensures counts { CountsFaults (W.failures w.old) (W.failures w.new) (W.empty_writes w.old)
         (W.empty_writes w.new) result }
     ensures flushes { W.flushes w.new ≡ W.flushes w.old }
@@ -435,8 +371,7 @@ pub fn write_dump_by<W: Sink>(
     // At `Ok` the steps are all turns of the reading, at a fault those before a call or all.
     ensures steps { (values : Values)
         → IsReading (course_of reading.now) reading.now.source values reading.now.bits →
-        MakesSteps (calls_of reading.now values) (turns_shown reading.now values)
-        result steps.new }
+        MakesSteps (calls_of reading.now values) (turns_shown reading.now values) result steps.new }
     ensures counts { CountsFaults (W.failures w.old) (W.failures w.new) (W.empty_writes w.old)
         (W.empty_writes w.new) result }
     ensures flushes { W.flushes w.new ≡ W.flushes w.old }

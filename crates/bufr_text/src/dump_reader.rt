@@ -1,4 +1,8 @@
 //! The documents of an input.
+ghost use Rattle.std.specs.Prelude.{◌≡◌, ◌≤◌, ◌<◌, ◌-◌, ℕ, List, None, Some, Err, true, false, length, IfSome, IfOk};
+ghost use Rattle.bufr_text.specs.Prelude.{read_fault_at, IsProper, has_no_feed, ReaderModel, new_reader, unfed, ReturnsNextDocument, failures_by, TakesHeldLines, HandlesEnd, FillsBuffer, ReadsMoreText, stopped};
+ghost use Rattle.bufr_frame.specs.Prelude.{read_failures_after, AddsReads};
+
 use crate::document::{
     Document, DocumentParts, LineRefusal, ParserState, Progress, TakeResult, take_lines, take_parts,
 };
@@ -25,8 +29,7 @@ use std::marker::Model;
 #[derive(Drop)]
 pub struct DumpReader {
     alloc: Global,
-    /// The octets that were read and not yet taken as lines. The last line ends by a line feed,
-    /// where the end was reached.
+    /// The octets that were read and not yet taken; at the end the last line has a line feed.
     input: InputBuffer,
     /// Where the octets of a line are put that it writes by digits or in quotes.
     scratch: [u8; MAX_LINE],
@@ -55,9 +58,6 @@ impl Model for DumpReader {
 }
 
 impl LineRefusal {
-    ghost use Rattle.std.specs.Prelude.{◌≡◌};
-    ghost use Rattle.bufr_text.specs.Taking.{read_fault_at};
-
     /// The fault of this line.
     fn at(self, line: u64) -> ReadFault
         ensures { result ≡ read_fault_at line self }
@@ -71,13 +71,6 @@ impl LineRefusal {
 }
 
 impl DumpReader {
-    ghost use Rattle.std.specs.Prelude.{◌≡◌, ◌≤◌, ◌<◌, ◌-◌, ℕ, List, None, Some, Err, true, false, length, IfSome, IfOk};
-    ghost use Rattle.bufr_bits.specs.Prelude.{counted};
-    ghost use Rattle.bufr_frame.specs.Prelude.{read_failures_after, max_reads};
-    ghost use Rattle.bufr_text.specs.Spelling.{IsProper};
-    ghost use Rattle.bufr_text.specs.Reader.{has_no_feed, ReaderModel, new_reader, unfed, ReturnsNextDocument, CountsTextReads, failures_by};
-    ghost use Rattle.bufr_text.specs.Taking.{TakesHeldLines, HandlesEnd, FillsBuffer, ReadsMoreText, stopped};
-
     /// A reader that has read nothing. It takes no memory.
     pub fn new(alloc: Global) -> DumpReader
         ensures { result ≡ new_reader }
@@ -190,7 +183,7 @@ impl DumpReader {
         ensures read { (bs : List ℕ)
             × ReadsMoreText (R.left r.old) (R.left r.new) self.old self.new result bs }
         ensures failed { R.failures r.new ≡ read_failures_after (R.failures r.old) result }
-        ensures counts { CountsTextReads (R.reads r.old) (R.reads r.new) self.old self.new }
+        ensures counts { AddsReads (R.reads r.old) (R.reads r.new) self.old.reads self.new.reads }
     {
         self.input.fill(r, MAX_LINE, 2 * MAX_LINE)?;
         if self.input.ended() && !self.input.held().is_empty() {
@@ -207,7 +200,7 @@ impl DumpReader {
         ensures read { (bs : List ℕ)
             × FillsBuffer (R.left r.old) (R.left r.new) self.old self.new result bs }
         ensures failed { R.failures r.new ≡ failures_by (R.failures r.old) result }
-        ensures counts { CountsTextReads (R.reads r.old) (R.reads r.new) self.old self.new }
+        ensures counts { AddsReads (R.reads r.old) (R.reads r.new) self.old.reads self.new.reads }
         ensures bound { length self.new.held ≤ 8192 }
     {
         if self.input.held().len() > MAX_LINE {
@@ -240,7 +233,7 @@ impl DumpReader {
         ensures proper { IfOk result (λ found. IfSome found (λ document. IsProper document)) }
         ensures failed { self.old.fault ≡ None
             → R.failures r.new ≡ failures_by (R.failures r.old) result }
-        ensures counts { CountsTextReads (R.reads r.old) (R.reads r.new) self.old self.new }
+        ensures counts { AddsReads (R.reads r.old) (R.reads r.new) self.old.reads self.new.reads }
         ensures held { length self.new.held ≤ 8192 }
         ensures again { IfSome self.old.fault (λ fault. result ≡ Err fault) }
         ensures same { IfSome self.old.fault (λ _. r.new ≡ r.old) }

@@ -1,14 +1,10 @@
 //! The message of a document, in a form.
-ghost use Rattle.std.specs.Prelude.{ℕ, ◌≡◌, ◌≢◌, ◌≤◌, ◌*◌, ◌+◌, ◌^◌, List, [], Bool, length, IfOk, IfErr, OnOk, OnErr, Ok, option_map, false, true};
-ghost use Rattle.bufr_tables.specs.Prelude.{tree_of, tables_of, Tree, places, Record, AreRows};
+ghost use Rattle.std.specs.Prelude.{ℕ, ◌≡◌, ◌≢◌, ◌≤◌, ◌*◌, ◌+◌, ◌^◌, List, Bool, length, IfOk, IfErr, OnOk, OnErr, Ok, option_map, false, true};
+ghost use Rattle.bufr_tables.specs.Prelude.{Tree, places, Record, AreRows};
 ghost use Rattle.bufr_frame.specs.Prelude.{Sections};
 ghost use Rattle.bufr_walk.specs.Prelude.{Values, next_item, ticked};
-ghost use Rattle.bufr_text.specs.Dump.{document_of};
-ghost use Rattle.bufr_text.specs.RoundTrip.{IsAccepted, dump_items_in, EncodesForm};
+ghost use Rattle.bufr_text.specs.Prelude.{document_of, IsAccepted, dump_items_in, EncodesForm, encoding_in, encoding_of, octets_of_bits, message_of, compressed_as, parts_as, IsDocumentRefusal, report_of_draft, reported_refusal, AreOctetsOf, WritesData, WritesSubset, reported_stop, CountsSteps, places_by, bits_by, turns_by, compressed_by, head_from_values, AsWritten};
 ghost use Rattle.bufr_fill.specs.Prelude.{subsets_of};
-ghost use Rattle.bufr_text.specs.Encoding.{encoding_in, encoding_of, report_of_template, octets_of_bits, message_of, compressed_as, parts_as, IsDocumentRefusal, report_of_draft, reported_refusal, AreOctetsOf, WritesData, WritesSubset, reported_stop, CountsSteps, places_by, bits_by, turns_by, compressed_by};
-ghost use Rattle.bufr_text.specs.Documents.{head_from_values, most_entries};
-ghost use Rattle.bufr_text.specs.declared.encode.Form.TheVariants.{AsWritten};
 
 use crate::document::Document;
 use crate::fault::{DocumentFault, WalkRefusal, of_draft};
@@ -42,27 +38,6 @@ fn descriptors_of(alloc: Global, words: &[u16]) -> Result<Vec<Fxy>, AllocError>
     Ok(descriptors)
 }
 
-/// The template that is selected, for the document of this line.
-// rule: fault-56
-fn template_of<'t>(
-    line: u64,
-    templates: &'t TemplateCache<'_>,
-) -> Result<&'t Template, DocumentFault>
-    ensures tree { IfOk result (λ template.
-        tree_of (tables_of templates.now.table_b templates.now.table_d) templates.now.list
-        ≡ Ok template.now) }
-    ensures fault { IfErr result (λ why. IsDocumentRefusal (reported_refusal why)
-        (report_of_template line (tree_of (tables_of templates.now.table_b templates.now.table_d)
-        templates.now.list))) }
-    ensures memory { IfErr result
-        (λ why. (line : ℕ) → why ≢ DocumentFault.Template line TemplateFault.Memory) }
-{
-    match templates.answer() {
-        Ok(template) => Ok(template),
-        Err(why) => Err(DocumentFault::Template(line, *why)),
-    }
-}
-
 /// Writes one subset, and goes past its end.
 fn write_subset(
     template: &Template,
@@ -72,8 +47,7 @@ fn write_subset(
 ) -> Result<(), DocumentFault>
     requires { 1 ≤ length (subsets_of out.old.left) }
     ensures same { cache.new ≡ cache.old }
-    ensures written { WritesSubset (places template.now)
-        (next_item cache.old template.now) out.old
+    ensures written { WritesSubset (places template.now) (next_item cache.old template.now) out.old
         steps.old result out.new steps.new }
 {
     match walk_by(template, cache, out, steps) {
@@ -97,8 +71,7 @@ fn write_plain(
     requires few { length entries.now ≤ 2 ^ 45 }
     requires many { length (subsets_of entries.now) ≡ subsets }
     ensures same { cache.new ≡ cache.old }
-    ensures written { WritesData (places template.now) false
-        (next_item cache.old template.now)
+    ensures written { WritesData (places template.now) false (next_item cache.old template.now)
         (subsets_of entries.now) result steps.new }
 {
     let mut out = PlainOut::new(cache.allocator(), entries);
@@ -118,8 +91,7 @@ fn write_packed(
     requires none { steps.old ≡ 0 }
     requires few { length entries.now ≤ 2 ^ 45 }
     ensures same { cache.new ≡ cache.old }
-    ensures written { WritesData (places template.now) true
-        (next_item cache.old template.now)
+    ensures written { WritesData (places template.now) true (next_item cache.old template.now)
         (subsets_of entries.now) result steps.new }
 {
     let alloc = cache.allocator();
@@ -193,6 +165,7 @@ fn write_whole(
 }
 
 /// The octets of a document's message in a form, by the template that was selected for it.
+// rule: fault-56
 fn encode_selected(
     document: &Document,
     form: Form,
@@ -222,7 +195,10 @@ fn encode_selected(
         ≤ places_by templates.now.table_b templates.now.table_d document.now
         * (bits_by form templates.now.table_b templates.now.table_d document.now + 1)) }
 {
-    let template = template_of(document.line(), templates)?;
+    let template = match templates.answer() {
+        Ok(template) => template,
+        Err(why) => return Err(DocumentFault::Template(document.line(), *why)),
+    };
     let payload = write_data(template, document, form, cache, steps)?;
     write_whole(cache.allocator(), document, form, &payload)
 }
@@ -319,8 +295,7 @@ pub fn encode_form(
     ensures octets { IfOk result
         (λ octets. encoding_in form table_b.now table_d.now document.now ≡ Ok octets.items) }
     // Want of memory is the only freedom.
-    ensures fault { IfErr result (λ why.
-        IsDocumentRefusal (reported_refusal why)
+    ensures fault { IfErr result (λ why. IsDocumentRefusal (reported_refusal why)
         (encoding_in form table_b.now table_d.now document.now)) }
     // It has one name, `Memory`.
     ensures memory { IfErr result
@@ -367,8 +342,7 @@ pub fn encode_document(
     ensures octets { IfOk result
         (λ octets. encoding_of table_b.now table_d.now document.now ≡ Ok octets.items) }
     // Want of memory is the only freedom.
-    ensures fault { IfErr result
-        (λ why. IsDocumentRefusal (reported_refusal why)
+    ensures fault { IfErr result (λ why. IsDocumentRefusal (reported_refusal why)
         (encoding_of table_b.now table_d.now document.now)) }
     // It has one name, `Memory`.
     ensures memory { IfErr result

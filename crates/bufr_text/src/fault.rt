@@ -2,7 +2,8 @@
 //! their order are a choice of this project.)
 ghost use Rattle.std.specs.Prelude.{◌≡◌, option_map};
 ghost use Rattle.bufr_fill.specs.Prelude.{draft_fault};
-ghost use Rattle.bufr_text.specs.Encoding.{number_of_document_fault, number_of_walk_refusal, report_of_draft, reported_refusal};
+ghost use Rattle.bufr_text.specs.Prelude.{number_of_document_fault, number_of_walk_refusal, report_of_draft, reported_refusal, number_of_read_fault};
+ghost use Rattle.bufr_text.specs.declared.fault.DocumentFault.TheVariants.{Memory};
 
 use bufr_fill::{DraftFault, Expected};
 use bufr_frame::{RunFault, WriteFault};
@@ -31,9 +32,6 @@ pub enum ReadFault {
 }
 
 impl ReadFault {
-    ghost use Rattle.std.specs.Prelude.{◌≡◌};
-    ghost use Rattle.bufr_text.specs.Reader.{number_of_read_fault};
-
     /// Its number: 50, 57, 61, or that of the run's fault.
     pub fn number(self) -> u8
         ensures { result ≡ number_of_read_fault self }
@@ -158,9 +156,6 @@ impl DocumentFault {
 }
 
 impl From<AllocError> for DocumentFault {
-    ghost use Rattle.std.specs.Prelude.{◌≡◌};
-    ghost use Rattle.bufr_text.specs.declared.fault.DocumentFault.TheVariants.{Memory};
-
     ghost from_gives = { λ _ e. e ≡ Memory };
 
     fn from(_fault: AllocError) -> DocumentFault {

@@ -1,15 +1,12 @@
 //! The twenty keys of the header of a dump text, and the descriptors of a line.
-ghost use Rattle.std.specs.Prelude.{◌≡◌, ◌<◌, ◌++◌, [], ◌∷◌, length, map, position, slice_index, true, IfSome, ℕ, ◌+◌, ◌*◌, ◌≤◌, List, take, drop, option_map};
+ghost use Rattle.std.specs.Prelude.{◌≡◌, ◌<◌, ◌++◌, [], ◌∷◌, length, map, position, slice_index, true, IfSome, ◌+◌, ◌*◌, ◌≤◌, option_map};
 ghost use Rattle.bufr_frame.specs.Prelude.{slots_3, slots_4, slots_of};
-ghost use Rattle.bufr_text.specs.Documents.{in_range};
-ghost use Rattle.bufr_text.specs.Line.{is_named, lead_of, key_in, keys, leasts, mosts, place_from, Describes};
-ghost use Rattle.bufr_text.specs.Grammar.{fxy_read, descriptors_read};
+ghost use Rattle.bufr_text.specs.Prelude.{in_range, is_named, lead_of, key_in, keys, leasts, mosts, place_from, Describes, fxy_read};
 
 use crate::line::{ahead, is, octet_at, suffix};
 use bufr_tables::Fxy;
 
-/// A key: what is before its value (a line feed, its name and a space), and its least value. Then
-/// its greatest value in edition 3 and in edition 4.
+/// What is before a key's value, its least value, and its greatest in editions 3 and 4.
 pub(crate) struct Key(pub(crate) &'static [u8], u16, u16, u16);
 
 /// The table of the keys, in their order.
@@ -133,8 +130,7 @@ pub(crate) fn fxy_prefix<'a>(text: &'a [u8]) -> Option<(u16, &'a [u8])>
     Some((fxy.word(), suffix(text, 6)))
 }
 
-/// Puts descriptors, each after one space, to the start of `out`; answers how many they are, 1 to
-/// 8.
+/// Puts 1 to 8 descriptors, each after one space, to the start of `out`: how many they are.
 #[tactic(auto, using(crate::proofs::ItemLemmas::describing_steps))]
 // rule: reading-descriptor
 pub(crate) fn describe(text: &[u8], out: &mut [u16]) -> Option<usize>

@@ -2,44 +2,32 @@
 //! encoded and read.
 ghost use Rattle.std.specs.Prelude.{◌≡◌, ℕ, ◌+◌, true, false, List, [], ◌∷◌, ◌++◌, length, Option, None, Result, Ok};
 ghost use Rattle.bufr_frame.specs.Prelude.{Sections};
-ghost use Rattle.bufr_text.specs.Prelude.{Between, ParseResult, Complete, documents_of, open_documents_of, lines_of, parse_lines, Document, DumpItem, document_of, dump_lines, dump_text_of, IsDumpable, TakesWholeLines, parse, parse_open, ReaderModel, new_reader, unfed, position_of, IsMissingFeed, ReadsLines, ReturnsNextDocument, HasNoMoreLines, HasNoWholeLine, AreReported, numbered_lines, AreProper, normal, IsProper, ReadFault, DocumentFault, IsCanonical, HasSameReading, IsAccepted, IsEncodedAgain, dump_items_in, HasReadingIn, IsFaultIn, IsFormed, IsReadAs, encoding_in, encoding_of, IsDocumentRefusal, reported_refusal, compressed_by, form_of_flag, Form};
+ghost use Rattle.bufr_text.specs.Prelude.{Between, ParseResult, Complete, documents_of, open_documents_of, lines_of, parse_lines, Document, DumpItem, document_of, dump_lines, dump_text_of, IsDumpable, TakesWholeLines, parse, parse_open, ReaderModel, new_reader, unfed, position_of, IsMissingFeed, ReadsLines, ReturnsNextDocument, HasNoMoreLines, HasNoWholeLine, AreReported, numbered_lines, AreProper, normal, IsProper, ReadFault, DocumentFault, IsCanonical, HasSameReading, IsAccepted, IsEncodedAgain, dump_items_in, HasReadingIn, IsFaultIn, IsFormed, IsReadAs, encoding_in, encoding_of, IsDocumentRefusal, reported_refusal, compressed_by, form_of_flag, Form, AsWritten};
 ghost use Rattle.bufr_tables.specs.Prelude.{Record, AreRows, Row, Sequence, Tree};
 ghost use Rattle.bufr_walk.specs.Prelude.{Values};
 ghost use Rattle.bufr_text.specs.declared.fault.DocumentFault.TheVariants.{Memory};
-ghost use Rattle.bufr_text.specs.declared.encode.Form.TheVariants.{AsWritten};
 
-/// The dump text of a message spells its document, and the reading goes on after it.
+/// The dump text of a message spells its document, and the reading goes on after it. Alone it
+/// spells one document, and nothing else.
 pub fn dump_text_spells_its_document()
-    ensures { (s : Sections) (subsets : List (List DumpItem)) (at : ℕ) (t : List ℕ)
-        → IsDumpable s subsets
-        → parse_lines at Between (lines_of (dump_text_of s subsets ++ t))
-        ≡ Complete (document_of at s subsets)
-        ∷ parse_lines (at + length (dump_lines s subsets)) Between (lines_of t) }
-{}
-
-/// The dump text of a message spells one document, and nothing else.
-pub fn dump_text_is_one_document()
     ensures { (s : Sections) (subsets : List (List DumpItem)) → IsDumpable s subsets
-        → documents_of (dump_text_of s subsets) ≡ Complete (document_of 1 s subsets) ∷ [] }
+        → ((at : ℕ) (t : List ℕ) → parse_lines at Between (lines_of (dump_text_of s subsets ++ t))
+        ≡ Complete (document_of at s subsets)
+        ∷ parse_lines (at + length (dump_lines s subsets)) Between (lines_of t))
+        × (documents_of (dump_text_of s subsets) ≡ Complete (document_of 1 s subsets) ∷ []) }
 {}
 
-/// Each document of a text is proper. Its header is whole, and it has as many subsets as that says
-/// and nothing after them. It has octets of section 2 only where there is one.
+/// Each document of a text is proper: its header is whole, it has as many subsets as that says and
+/// nothing after them, and octets of section 2 only where there is one. The lines that are no
+/// comment and not empty are those of the documents, one after another, up to the end or to the
+/// first line that is refused. The documents that are reported while the end is not known stay the
+/// first ones, whatever comes after.
 #[tactic(auto, using(crate::proofs::LawLemmas::proper_steps))]
-pub fn documents_are_proper()
-    ensures { (text : List ℕ) → AreProper (documents_of text) }
-{}
-
-/// The lines of a text that are no comment and not empty are the lines of its documents. The
-/// documents come one after another, up to the end or to the first line that is refused.
-pub fn lines_are_those_of_the_documents()
-    ensures { (text : List ℕ) → AreReported (numbered_lines 1 (lines_of text)) (documents_of text) }
-{}
-
-/// The documents that are reported while the end is not known stay the first ones, whatever comes
-/// after.
-pub fn open_documents_are_prefix()
-    ensures { (s t : List ℕ)
+pub fn texts_are_their_documents()
+    ensures proper { (text : List ℕ) → AreProper (documents_of text) }
+    ensures lines { (text : List ℕ)
+        → AreReported (numbered_lines 1 (lines_of text)) (documents_of text) }
+    ensures prefix { (s t : List ℕ)
         → (more : List ParseResult) × (documents_of (s ++ t) ≡ open_documents_of s ++ more) }
 {}
 
@@ -53,51 +41,25 @@ pub fn calls_compose()
 {}
 
 /// What calls reported from the beginning are the first documents of the octets read, whatever
-/// comes after; after the end nothing does.
+/// comes after; after the end nothing does. While the end is not known they are the first open
+/// documents. Up to the end they are all documents. Up to a failed read, or up to the last read
+/// that is made, they are all open documents.
+///
+/// The octets read are the lines that were taken, and after those exactly what is held. As many
+/// lines were taken as line numbers were passed. Where the end was reached, a last line that lacks
+/// its line feed was given one. That feed is none of the octets that are said to be held.
 pub fn documents_reported_are_the_first()
     ensures { (left left' : Option (List ℕ)) (s : ReaderModel) (results : List ParseResult)
-        (bs t : List ℕ)
-        → ReadsLines left left' new_reader s results bs → (s.ended ≡ true → t ≡ [])
-        → documents_of (bs ++ t) ≡ results ++ parse (position_of s) t }
-{}
-
-/// What calls reported from the beginning while the end is not known are the first open documents
-/// of the octets read, whatever comes after.
-pub fn documents_reported_are_the_first_open()
-    ensures { (left left' : Option (List ℕ)) (s : ReaderModel) (results : List ParseResult)
-        (bs t : List ℕ)
-        → ReadsLines left left' new_reader s results bs → s.ended ≡ false
-        → open_documents_of (bs ++ t) ≡ results ++ parse_open (position_of s) t }
-{}
-
-/// What calls reported up to the end are the documents of the octets read.
-pub fn documents_reported_are_the_documents()
-    ensures { (left left' : Option (List ℕ)) (s : ReaderModel) (results : List ParseResult)
-        (bs : List ℕ)
-        → ReadsLines left left' new_reader s results bs → HasNoMoreLines s
-        → documents_of bs ≡ results }
-{}
-
-/// What calls reported up to a failed read, or up to the last read that is made, are the open
-/// documents of the octets read.
-pub fn documents_reported_are_the_open_documents()
-    ensures { (left left' : Option (List ℕ)) (s : ReaderModel) (results : List ParseResult)
-        (bs : List ℕ)
-        → ReadsLines left left' new_reader s results bs → HasNoWholeLine s → open_documents_of bs
-        ≡ results }
-{}
-
-/// The octets that calls read are the lines that they took, and after those exactly what is held.
-/// As many lines were taken as line numbers were passed. Where the end was reached, a last line
-/// that lacks its line feed was given one. That feed is none of the octets that are said to be
-/// held.
-pub fn octets_after_the_lines_are_held()
-    ensures { (left left' : Option (List ℕ)) (s : ReaderModel) (results : List ParseResult)
-        (bs : List ℕ)
-        → ReadsLines left left' new_reader s results bs → (feed : List ℕ)
-        × IsMissingFeed false s.ended feed
+        (bs : List ℕ) → ReadsLines left left' new_reader s results bs
+        → ((t : List ℕ) → (s.ended ≡ true → t ≡ [])
+        → documents_of (bs ++ t) ≡ results ++ parse (position_of s) t)
+        × ((t : List ℕ) → s.ended ≡ false
+        → open_documents_of (bs ++ t) ≡ results ++ parse_open (position_of s) t)
+        × (HasNoMoreLines s → documents_of bs ≡ results)
+        × (HasNoWholeLine s → open_documents_of bs ≡ results)
+        × ((feed : List ℕ) × IsMissingFeed false s.ended feed
         × TakesWholeLines 1 (bs ++ feed) s.at s.held
-        × ((taken : List ℕ) × (bs ≡ taken ++ unfed s)) }
+        × ((taken : List ℕ) × (bs ≡ taken ++ unfed s))) }
 {}
 
 /// After the end was reported it is reported again, and nothing is read.
@@ -108,126 +70,45 @@ pub fn none_comes_again()
         → (result ≡ Ok None) × (new.reads ≡ old.reads) }
 {}
 
-/// A message that is accepted can be dumped: its dump text spells its document.
-pub fn accepted_messages_are_dumpable()
-    ensures { (records : List Record) (table : List Row) (sequences : List Sequence) (m : List ℕ)
-        (s : Sections) (template : Tree) (values : Values) (used : ℕ)
-        → AreRows records table → IsAccepted table sequences m s template values used
-        → IsDumpable s (dump_items_in table template s values) }
-{}
-
-/// The document of an accepted message's dump text is encoded, wherever it is. The message has the
-/// same head, local octets, section 2, descriptors, number of subsets, flags and values. It is no
-/// longer, but that in edition 3 up to two octets make sections 3 and 4 even.
+/// A message that is accepted can be dumped: its dump text spells its document, and no other. That
+/// is encoded, wherever it is, to a message with the same head, local octets, section 2,
+/// descriptors, number of subsets, flags and values. It is no longer, but that in edition 3 up to
+/// two octets make sections 3 and 4 even. The document is refused for want of memory alone, which
+/// is [`DocumentFault::Memory`](crate::DocumentFault::Memory).
 // rule: becomes-canonical
 pub fn dumped_messages_are_encoded_again()
     ensures { (records : List Record) (table : List Row) (sequences : List Sequence) (m : List ℕ)
-        (s : Sections) (template : Tree) (values : Values) (used at : ℕ)
+        (s : Sections) (template : Tree) (values : Values) (used : ℕ)
         → AreRows records table → IsAccepted table sequences m s template values used
-        → IsEncodedAgain table sequences m s template values
-        (document_of at s (dump_items_in table template s values)) }
+        → let items = dump_items_in table template s values in IsDumpable s items
+        × (documents_of (dump_text_of s items) ≡ Complete (document_of 1 s items) ∷ [])
+        × ((at : ℕ) → IsEncodedAgain table sequences m s template values (document_of at s items))
+        × ((at : ℕ) (why : DocumentFault) → IsDocumentRefusal (reported_refusal why)
+        (encoding_of table sequences (document_of at s items)) → why ≡ Memory) }
 {}
 
-/// A message with the same reading has the same dump text.
-pub fn same_readings_have_the_same_dump_text()
-    ensures { (table : List Row) (m : List ℕ) (s : Sections) (template : Tree)
+/// A message that was encoded again is accepted, with the same reading and the same dump text. It
+/// is one message of the stream that it begins, and its sections, template and reading are those
+/// of the message that was dumped. One that was encoded in another form is accepted too, with the
+/// same items of each subset. Its dump text is the same but for the flag of compression, which is
+/// that of the form.
+pub fn encoded_messages_are_accepted()
+    ensures same_text { (table : List Row) (m : List ℕ) (s : Sections) (template : Tree)
         (values : Values) (octets : List ℕ)
         → (again : HasSameReading table m s template values octets)
         → dump_text_of again.sections (dump_items_in table template again.sections values)
         ≡ dump_text_of s (dump_items_in table template s values) }
-{}
-
-/// A message that was encoded again is accepted, with the same reading: it is one message of the
-/// stream that it begins, and its sections, template and reading are those of the message that was
-/// dumped.
-pub fn encoded_messages_are_accepted()
-    ensures { (table : List Row) (sequences : List Sequence) (m : List ℕ) (s : Sections)
+    ensures accepted { (table : List Row) (sequences : List Sequence) (m : List ℕ) (s : Sections)
         (template : Tree) (values : Values) (used : ℕ) (octets : List ℕ)
         → IsAccepted table sequences m s template values used
         → (again : HasSameReading table m s template values octets)
         → IsAccepted table sequences octets again.sections template values again.used }
-{}
-
-/// The dump text of an accepted message is one document. It is encoded to a message with the same
-/// reading. The message is no longer, but that in edition 3 up to two octets make sections 3 and 4
-/// even.
-pub fn dump_texts_are_encoded_again()
-    ensures { (records : List Record) (table : List Row) (sequences : List Sequence) (m : List ℕ)
-        (s : Sections) (template : Tree) (values : Values) (used : ℕ)
-        → AreRows records table → IsAccepted table sequences m s template values used
-        → (documents_of (dump_text_of s (dump_items_in table template s values))
-        ≡ Complete (document_of 1 s (dump_items_in table template s values)) ∷ [])
-        × IsEncodedAgain table sequences m s template values
-        (document_of 1 s (dump_items_in table template s values)) }
-{}
-
-/// The document of an accepted message's dump text is refused for want of memory alone: a fault
-/// that may be reported of its encoding is [`DocumentFault::Memory`](crate::DocumentFault::Memory).
-pub fn dumped_messages_are_refused_for_want_of_memory_alone()
-    ensures { (records : List Record) (table : List Row) (sequences : List Sequence) (m : List ℕ)
-        (s : Sections) (template : Tree) (values : Values) (used at : ℕ) (why : DocumentFault)
-        → AreRows records table → IsAccepted table sequences m s template values used
-        → IsDocumentRefusal (reported_refusal why)
-        (encoding_of table sequences (document_of at s (dump_items_in table template s values)))
-        → why ≡ Memory }
-{}
-
-/// A canonical message is encoded from its dump text to the same octets.
-// rule: canonical
-pub fn canonical_messages_are_encoded_to_themselves()
-    ensures { (records : List Record) (table : List Row) (sequences : List Sequence) (m : List ℕ)
-        (s : Sections) (template : Tree) (values : Values) (used at : ℕ)
-        → AreRows records table → IsAccepted table sequences m s template values used
-        → IsCanonical m s values used
-        → encoding_of table sequences (document_of at s (dump_items_in table template s values))
-        ≡ Ok m }
-{}
-
-/// The document of an accepted message's dump text is encoded in each form. The message has the
-/// same reading, but for the flag of compression. It has the same head, local octets, section 2,
-/// descriptors, number of subsets, and items of each subset. In the form that it says nothing
-/// refuses it. In plain form its length may. In compressed form its length, factors that differ
-/// between subsets, and contents that no increments distinguish may.
-pub fn dumped_messages_are_encoded_in_each_form()
-    ensures { (records : List Record) (table : List Row) (sequences : List Sequence) (m : List ℕ)
-        (s : Sections) (template : Tree) (values : Values) (used at : ℕ) (form : Form)
-        → AreRows records table → IsAccepted table sequences m s template values used
-        → IsFormed form table s template values
-        (encoding_in form table sequences
-        (document_of at s (dump_items_in table template s values))) }
-{}
-
-/// Such an encoding may be refused in any form by
-/// [`DocumentFault::Memory`](crate::DocumentFault::Memory).
-/// In plain and compressed form [`DocumentFault::TooLong`](crate::DocumentFault::TooLong) may come
-/// too.
-/// In compressed form these may come too:
-/// [`DocumentFault::UnequalFactor`](crate::DocumentFault::UnequalFactor) and
-/// [`DocumentFault::Increment`](crate::DocumentFault::Increment).
-pub fn dumped_messages_are_refused_for_their_form_alone()
-    ensures { (records : List Record) (table : List Row) (sequences : List Sequence) (m : List ℕ)
-        (s : Sections) (template : Tree) (values : Values) (used at : ℕ) (form : Form)
-        (why : DocumentFault)
-        → AreRows records table → IsAccepted table sequences m s template values used
-        → IsDocumentRefusal (reported_refusal why)
-        (encoding_in form table sequences
-        (document_of at s (dump_items_in table template s values)))
-        → IsFaultIn form why }
-{}
-
-/// A message that was encoded in another form is accepted, with the same items of each subset.
-pub fn messages_in_each_form_are_accepted()
-    ensures { (form : Form) (table : List Row) (sequences : List Sequence) (m : List ℕ)
+    ensures formed { (form : Form) (table : List Row) (sequences : List Sequence) (m : List ℕ)
         (s : Sections) (template : Tree) (values : Values) (used : ℕ) (octets : List ℕ)
         → IsAccepted table sequences m s template values used
         → (again : HasReadingIn form table s template values octets)
         → IsAccepted table sequences octets again.sections template again.found again.used }
-{}
-
-/// Its dump text is that of the first message but for the flag of compression, which is that of the
-/// form.
-pub fn forms_change_the_flag_of_a_dump_text_alone()
-    ensures { (form : Form) (table : List Row) (s : Sections) (template : Tree)
+    ensures formed_text { (form : Form) (table : List Row) (s : Sections) (template : Tree)
         (values : Values) (octets : List ℕ)
         → (again : HasReadingIn form table s template values octets)
         → dump_text_of again.sections (dump_items_in table template again.sections again.found)
@@ -235,60 +116,61 @@ pub fn forms_change_the_flag_of_a_dump_text_alone()
         (dump_items_in table template s values) }
 {}
 
-/// A canonical message that was encoded in another form comes back octet for octet: the document of
-/// that message's dump text, encoded in the form that the first one has, gives the first one.
-pub fn canonical_messages_come_back_from_each_form()
-    ensures { (form : Form) (records : List Record) (table : List Row) (sequences : List Sequence)
-        (m : List ℕ) (s : Sections) (template : Tree) (values : Values)
-        (used at : ℕ) (octets : List ℕ)
+/// The document of an accepted message's dump text is encoded in each form. The message has the
+/// same reading, but for the flag of compression. It has the same head, local octets, section 2,
+/// descriptors, number of subsets, and items of each subset. In the form that it says nothing
+/// refuses it. In plain form its length may. In compressed form its length, factors that differ
+/// between subsets, and contents that no increments distinguish may.
+///
+/// So beside [`DocumentFault::Memory`](crate::DocumentFault::Memory) only these faults may come:
+/// [`DocumentFault::TooLong`](crate::DocumentFault::TooLong) in plain and compressed form, and in
+/// compressed form [`DocumentFault::UnequalFactor`](crate::DocumentFault::UnequalFactor) and
+/// [`DocumentFault::Increment`](crate::DocumentFault::Increment).
+pub fn dumped_messages_are_encoded_in_each_form()
+    ensures { (records : List Record) (table : List Row) (sequences : List Sequence) (m : List ℕ)
+        (s : Sections) (template : Tree) (values : Values) (used at : ℕ) (form : Form)
+        → AreRows records table → IsAccepted table sequences m s template values used
+        → let result = encoding_in form table sequences
+        (document_of at s (dump_items_in table template s values)) in
+        IsFormed form table s template values result × ((why : DocumentFault)
+        → IsDocumentRefusal (reported_refusal why) result → IsFaultIn form why) }
+{}
+
+/// A canonical message is encoded from its dump text to the same octets. One that was encoded in
+/// another form comes back octet for octet: the document of that message's dump text, encoded in
+/// the form that the first one has, gives the first one.
+// rule: canonical
+pub fn canonical_messages_are_encoded_to_themselves()
+    ensures { (records : List Record) (table : List Row) (sequences : List Sequence) (m : List ℕ)
+        (s : Sections) (template : Tree) (values : Values) (used at : ℕ)
         → AreRows records table → IsAccepted table sequences m s template values used
         → IsCanonical m s values used
+        → (encoding_of table sequences (document_of at s (dump_items_in table template s values))
+        ≡ Ok m) × ((form : Form) (octets : List ℕ)
         → (again : HasReadingIn form table s template values octets)
         → encoding_in (form_of_flag s.compressed) table sequences
         (document_of at again.sections (dump_items_in table template again.sections again.found))
-        ≡ Ok m }
+        ≡ Ok m) }
 {}
 
 /// The message that a document is encoded to, in a form, is accepted, and it says what the document
 /// says: the same head, local octets, section 2, descriptors, number of subsets and flags, but that
 /// of compression, which is the form's; and each item's value is what the document's line says at
 /// its field. In a stream it is one message.
+///
+/// The dump text of that message is the document's own text in the one spelling that a dump has,
+/// and so is its own text in that spelling. It is one document, and as it is written that document
+/// is encoded to the same octets.
 pub fn encoded_documents_are_read()
     ensures { (form : Form) (records : List Record) (table : List Row) (sequences : List Sequence)
-        (d : Document) (octets : List ℕ)
-        → AreRows records table → IsProper d → encoding_in form table sequences d ≡ Ok octets
-        → IsReadAs form table sequences d octets }
-{}
-
-/// The dump text of that message is the document's own text in the one spelling that a dump has.
-pub fn normal_is_the_dump()
-    ensures { (form : Form) (records : List Record) (table : List Row) (sequences : List Sequence)
-        (d : Document) (octets : List ℕ)
-        → AreRows records table → IsProper d → (read : IsReadAs form table sequences d octets)
-        → dump_text_of read.sections (dump_items_in table read.template read.sections read.values)
-        ≡ normal form table read.template d }
-{}
-
-/// The text in that spelling is one document, and as it is written that document is encoded to the
-/// same octets.
-pub fn normal_is_encoded_the_same()
-    ensures { (form : Form) (records : List Record) (table : List Row) (sequences : List Sequence)
-        (d : Document) (octets : List ℕ)
-        → AreRows records table → IsProper d → encoding_in form table sequences d ≡ Ok octets
-        → (read : IsReadAs form table sequences d octets)
-        → (documents_of (normal form table read.template d) ≡ Complete
-        (document_of 1 read.sections (dump_items_in table read.template read.sections read.values))
-        ∷ [])
-        × (encoding_of table sequences (document_of 1 read.sections
-        (dump_items_in table read.template read.sections read.values)) ≡ Ok octets) }
-{}
-
-/// The text in that spelling is its own text in that spelling.
-pub fn normal_of_normal()
-    ensures { (form : Form) (records : List Record) (table : List Row) (sequences : List Sequence)
-        (d : Document) (octets : List ℕ)
-        → AreRows records table → IsProper d → (read : IsReadAs form table sequences d octets)
-        → normal AsWritten table read.template
-        (document_of 1 read.sections (dump_items_in table read.template read.sections read.values))
-        ≡ normal form table read.template d }
+        (d : Document) (octets : List ℕ) → AreRows records table → IsProper d
+        → (encoding_in form table sequences d ≡ Ok octets → IsReadAs form table sequences d octets)
+        × ((read : IsReadAs form table sequences d octets)
+        → let items = dump_items_in table read.template read.sections read.values in
+        (dump_text_of read.sections items ≡ normal form table read.template d)
+        × (normal AsWritten table read.template (document_of 1 read.sections items)
+        ≡ normal form table read.template d) × (documents_of (normal form table read.template d)
+        ≡ Complete (document_of 1 read.sections items) ∷ [])
+        × (encoding_in form table sequences d ≡ Ok octets
+        → encoding_of table sequences (document_of 1 read.sections items) ≡ Ok octets)) }
 {}

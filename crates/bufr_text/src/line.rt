@@ -1,13 +1,9 @@
 //! What a line says: its first word, numbers, items, texts in quotes and octets.
-ghost use Rattle.std.specs.Prelude.{◌≡◌, ℕ, ◌<◌, ◌≤◌, ◌==◌, IfSome, List, length, take, drop, option_map, codes, if◌then◌else◌, min, ◌+◌, ◌-◌, slice_index, IsTrue, Some, ◌*◌};
+ghost use Rattle.std.specs.Prelude.{◌≡◌, ℕ, ◌<◌, ◌≤◌, ◌==◌, IfSome, List, length, take, drop, option_map, if◌then◌else◌, min, ◌+◌, ◌-◌, slice_index, Some, ◌*◌};
 ghost use Rattle.std.specs.Str.{bytes_eq};
-ghost use Rattle.bufr_text.specs.Documents.{line_within_limit};
-ghost use Rattle.bufr_text.specs.Grammar.{prefix_while, suffix_while, without_space, hex_read, number_read, descriptors_read, without_prefix, fxy_read, is_number_octet, is_hashed, is_passed_after, is_unescaped, upper_value, pair_value, escape_of, quoting_of, either_value};
-ghost use Rattle.bufr_text.specs.Line.{Line, made, with_one_to, place_from, keys, is_no_space, worded, line_of, value_read, item_line, number_value, Item, quoting_said, Unquotes, Unhexes};
-ghost use Rattle.bufr_text.specs.Taking.{meaning};
+ghost use Rattle.bufr_text.specs.Prelude.{line_within_limit, prefix_while, suffix_while, without_space, hex_read, number_read, without_prefix, is_number_octet, is_hashed, is_passed_after, is_unescaped, upper_value, quoting_of, either_value, Line, made, with_one_to, worded, line_of, value_read, item_line, number_value, Item, Unquotes, Unhexes, meaning, Wrong};
 ghost use Rattle.bufr_bits.specs.Prelude.{short_text};
 ghost use Rattle.bufr_fill.specs.Prelude.{number_token, reference_token, form_in};
-ghost use Rattle.bufr_text.specs.Line as spec;
 
 use crate::document::ParsedLine;
 use crate::header::{MOST_WORDS, describe, fxy_prefix, place, word_at};
@@ -19,20 +15,7 @@ use memchr::memchr;
 /// The most octets of a line, without its line feed.
 pub(crate) const MAX_LINE: usize = 4096;
 
-/// How many octets are before the first space.
-fn word_len(line: &[u8]) -> usize
-    ensures within { result ≤ length line.now }
-    ensures word { take result line.now ≡ prefix_while is_no_space line.now }
-    ensures rest { drop result line.now ≡ suffix_while is_no_space line.now }
-{
-    match memchr(b' ', line) {
-        Some(place) => place,
-        None => line.len(),
-    }
-}
-
-/// The octets, 1 to 32 of them, that the digits after one space write; they are put into
-/// `scratch`.
+/// The octets, 1 to 32 of them, that the digits after one space write, put into `scratch`.
 // rule: reading-long-lists
 fn octets_after<'a>(rest: &[u8], scratch: &'a mut [u8]) -> Option<&'a [u8]>
     requires { length rest.now ≤ length scratch.old }
@@ -49,7 +32,7 @@ fn octets_after<'a>(rest: &[u8], scratch: &'a mut [u8]) -> Option<&'a [u8]>
 /// What a word alone says.
 fn alone<'a>(rest: &[u8], line_within_limit: ParsedLine<'a>) -> Option<ParsedLine<'a>>
     ensures { made meaning result
-        ≡ (if length rest.now == 0 then meaning line_within_limit.entry else spec.Wrong) }
+        ≡ (if length rest.now == 0 then meaning line_within_limit.entry else Wrong) }
 {
     if rest.is_empty() {
         Some(line_within_limit)
@@ -100,16 +83,7 @@ fn worded<'a>(
     Some(ParsedLine::Header { key, value })
 }
 
-/// The number of a header line, where this key comes first.
-#[inline(always)]
-fn value_after_space(line: &[u8], key: usize) -> Option<u32>
-    ensures { IfSome result (λ value. line_of line.now ≡ spec.Header key value) }
-{
-    number(without_prefix(line, word_at(key)?)?)
-}
-
-/// What a line says that is not too long, most likely the value of the key `next`; none where it is
-/// no line of a document. Octets and descriptors that it writes are put into `octets` and `words`.
+/// What a line says that is not too long, most likely the value of the key `next`.
 #[tactic(auto, using(crate::proofs::ItemLemmas::read_steps))]
 fn line_said<'a>(
     line: &'a [u8],
@@ -130,15 +104,17 @@ fn line_said<'a>(
     if first == b'#' {
         return Some(ParsedLine::Passed);
     }
-    if let Some(value) = value_after_space(line, next) {
+    if let Some(word) = word_at(next)
+        && let Some(rest) = without_prefix(line, word)
+        && let Some(value) = number(rest)
+    {
         return Some(ParsedLine::Header { key: next, value });
     }
-    let len = word_len(line);
+    let len = memchr(b' ', line).unwrap_or(line.len());
     worded(ahead(line, len), suffix(line, len), octets, words)
 }
 
-/// What a line says, most likely the value of the key `next`, if there is one. Octets and
-/// descriptors that it writes are put into `octets` and `words`.
+/// What a line says; octets and descriptors that it writes are put into `octets` and `words`.
 // rule: reading-empty-lines, reading-carriage-return, reading-blanks
 pub(crate) fn read_line<'a>(
     line: &'a [u8],
@@ -349,44 +325,38 @@ pub(crate) fn is_unescaped(octet: u8) -> bool
     UNESCAPED[octet as usize] == b'1'
 }
 
-/// What begins with a backslash.
-fn escape(text: &[u8]) -> QuotedToken
-    ensures { quoting_said result ≡ escape_of text.now }
-{
-    let octet = octet_at(text, 1);
-    if octet == b'"' || octet == b'\\' {
-        return QuotedToken::ListsLeaves { octet, written: 2 };
-    }
-    if octet != b'x' {
-        return QuotedToken::Nothing;
-    }
-    let Some(high) = upper_value(octet_at(text, 2)) else {
-        return QuotedToken::Nothing;
-    };
-    let Some(low) = upper_value(octet_at(text, 3)) else {
-        return QuotedToken::Nothing;
-    };
-    QuotedToken::ListsLeaves {
-        octet: 16 * high + low,
-        written: 4,
-    }
-}
-
 /// How a text begins.
 // rule: reading-quoted
 fn first_part(text: &[u8]) -> QuotedToken
-    ensures { quoting_said result ≡ quoting_of text.now }
+    ensures { result ≡ quoting_of text.now }
 {
     match octet_at(text, 0) {
         b'"' => QuotedToken::Closed,
-        b'\\' => escape(text),
+        b'\\' => {
+            let octet = octet_at(text, 1);
+            if octet == b'"' || octet == b'\\' {
+                return QuotedToken::ListsLeaves { octet, written: 2 };
+            }
+            if octet != b'x' {
+                return QuotedToken::Nothing;
+            }
+            let Some(high) = upper_value(octet_at(text, 2)) else {
+                return QuotedToken::Nothing;
+            };
+            let Some(low) = upper_value(octet_at(text, 3)) else {
+                return QuotedToken::Nothing;
+            };
+            QuotedToken::ListsLeaves {
+                octet: 16 * high + low,
+                written: 4,
+            }
+        }
         octet if is_unescaped(octet) => QuotedToken::ListsLeaves { octet, written: 1 },
         _ => QuotedToken::Nothing,
     }
 }
 
-/// Puts the octets of a text to the start of `out`; answers how many they are, and where the text
-/// goes on after its closing quote.
+/// Puts the octets of a text to the start of `out`: how many, and where its closing quote ends.
 pub(crate) fn decode_quoted(text: &[u8], out: &mut [u8]) -> Option<(usize, usize)>
     requires { length text.now ≤ length out.old }
     ensures { Unquotes text.now out.new result }

@@ -1,10 +1,8 @@
-//! A writer of lines: octets put into a block of memory, one text after another, and handed on to a
-//! sink.
-ghost use Rattle.std.specs.Prelude.{◌≡◌, ◌≤◌, ◌++◌, [], Ok, codes, length, take, decimal, replicate, ◌<◌, Some, drop, false};
+//! A writer of lines: octets put into a block of memory, and handed on to a sink.
+ghost use Rattle.std.specs.Prelude.{◌≡◌, ◌≤◌, ◌++◌, [], Ok, length, take, decimal, replicate, ◌<◌, Some, drop};
 ghost use Rattle.bufr_bits.specs.Prelude.{decimal_text_of};
 ghost use Rattle.bufr_tables.specs.Prelude.{row_of_entry, row_comment, row_line_start};
-ghost use Rattle.bufr_text.specs.Writing.{Pushes, Writes, CountsWrites, zero_padded, Puts};
-ghost use Rattle.bufr_text.specs.Grammar.{escaped, hex_digit, hex_pair, hex_text, is_unescaped, quoted};
+ghost use Rattle.bufr_text.specs.Prelude.{Pushes, Writes, CountsWrites, zero_padded, Puts, escaped, hex_digit, hex_text, is_unescaped, quoted};
 
 use crate::line::{is_unescaped, suffix};
 use crate::numbers::{fill_named, fill_number_line, put};
@@ -14,8 +12,7 @@ use bufr_tables::Entry;
 use itoa::Buffer;
 use std::marker::Model;
 
-/// At the end of a line, so many octets or more are handed on. The program's output holds as many,
-/// so it passes these on without a copy.
+/// At the end of a line, so many octets or more are handed on: as many as the output holds.
 pub(crate) const PAGE: usize = 65_536;
 
 /// A writer of lines over a block of memory and a sink. Where a text does not fit, what is held is
@@ -131,8 +128,7 @@ fn hex_digit(n: u8) -> u8
     if n < 10 { b'0' + n } else { b'A' - 10 + n }
 }
 
-/// Copies the octets at the start that are unescaped, as far as there is room, and returns how many
-/// they are.
+/// Copies the octets at the start that are unescaped, as far as there is room: how many they are.
 #[tactic(auto, using(crate::proofs::PushLemmas::run_steps))]
 #[inline(always)]
 fn fill_run(octets: &[u8], free: &mut [u8]) -> usize
@@ -245,19 +241,13 @@ impl<'b, 'w, W: Sink> LineWriter<'b, 'w, W> {
     {
         match fill_named(name, value, &mut self.octets[self.len..]) {
             Some(len) => self.len += len,
-            None => self.push_named_through(name, value),
-        }
-    }
-
-    /// Writes what is held, a name and a number after it. Where a write fails, they are let go.
-    #[inline(always)]
-    fn push_named_through(&mut self, name: &[u8], value: u64)
-        ensures { Pushes self.old (name.now ++ decimal value) self.new }
-    {
-        let len = self.len;
-        self.len = 0;
-        if self.status.is_ok() {
-            self.status = write_named_after(self.octets, len, name, value, self.w);
+            None => {
+                let len = self.len;
+                self.len = 0;
+                if self.status.is_ok() {
+                    self.status = write_named_after(self.octets, len, name, value, self.w);
+                }
+            }
         }
     }
 
@@ -306,49 +296,32 @@ impl<'b, 'w, W: Sink> LineWriter<'b, 'w, W> {
         self.push(text);
     }
 
-    /// Pushes two hexadecimal digits for an octet.
-    // rule: text-hexadecimal
-    fn push_hex_pair(&mut self, octet: u8)
-        ensures { Pushes self.old (hex_pair octet) self.new }
-    {
-        self.push(&[hex_digit(octet / 16), hex_digit(octet % 16)]);
-    }
-
     /// Pushes two hexadecimal digits for each octet.
+    // rule: text-hexadecimal
     pub(crate) fn push_hex(&mut self, octets: &[u8])
         ensures { Pushes self.old (hex_text octets.now) self.new }
     {
         for octet in octets {
-            self.push_hex_pair(*octet);
+            self.push(&[hex_digit(*octet / 16), hex_digit(*octet % 16)]);
         }
     }
 
-    /// Pushes the escape of an octet.
+    /// Pushes an octet of a text, as it is or by its escape.
     #[inline(never)]
     // rule: text-escapes
-    fn push_escape(&mut self, octet: u8)
-        requires { is_unescaped octet ≡ false }
-        ensures { Pushes self.old (escaped octet) self.new }
-    {
-        if octet == b'"' || octet == b'\\' {
-            return self.push(&[b'\\', octet]);
-        }
-        self.push(&[b'\\', b'x', hex_digit(octet / 16), hex_digit(octet % 16)]);
-    }
-
-    /// Pushes an octet of a text.
-    #[inline(always)]
     fn push_escaped(&mut self, octet: u8)
         ensures { Pushes self.old (escaped octet) self.new }
     {
         if is_unescaped(octet) {
             return self.push(&[octet]);
         }
-        self.push_escape(octet);
+        if octet == b'"' || octet == b'\\' {
+            return self.push(&[b'\\', octet]);
+        }
+        self.push(&[b'\\', b'x', hex_digit(octet / 16), hex_digit(octet % 16)]);
     }
 
-    /// Pushes the octets at the start of a text that are unescaped, as far as there is room, and
-    /// returns how many they are.
+    /// Pushes the first unescaped octets of a text, as far as there is room: how many they are.
     #[tactic(auto, using(crate::proofs::PushLemmas::held_steps))]
     #[inline(always)]
     fn push_run(&mut self, octets: &[u8]) -> usize

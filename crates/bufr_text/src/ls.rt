@@ -1,20 +1,20 @@
 //! The line that lists a message.
-ghost use Rattle.std.specs.Prelude.{◌≡◌, ◌∷◌, is_some, length};
-ghost use Rattle.bufr_text.specs.Prelude.{Pushes, Writes, CountsWrites, joined, category_texts, counts_texts, ls_line, origin_texts, tables_texts, time_texts};
+ghost use Rattle.std.specs.Prelude.{◌≡◌};
+ghost use Rattle.bufr_text.specs.Prelude.{Pushes, Writes, CountsWrites, joined, ls_line, source_texts, time_texts};
 
 use crate::line_writer::LineWriter;
 use crate::numbers::pair;
 use bufr_bits::Sink;
-use bufr_frame::{Head, Message, RunFault};
+use bufr_frame::{Message, RunFault};
 
 /// The octets in which the line is put together. The longest line has 251.
 const LINE: usize = 256;
 
-/// Pushes where a message begins and where it comes from.
+/// Pushes where a message begins, where it comes from, what kind of data it has, and its tables.
 #[inline(always)]
-fn push_origin<W: Sink>(line: &mut LineWriter<'_, '_, W>, offset: u64, message: &Message<'_>)
+fn push_source<W: Sink>(line: &mut LineWriter<'_, '_, W>, offset: u64, message: &Message<'_>)
     ensures { Pushes line.old
-        (joined (origin_texts offset message.now.size message.now.head)) line.new }
+        (joined (source_texts offset message.now.size message.now.head)) line.new }
 {
     let head = message.head();
     line.push_named(b"offset=", offset);
@@ -22,48 +22,13 @@ fn push_origin<W: Sink>(line: &mut LineWriter<'_, '_, W>, offset: u64, message: 
     line.push_named(b" edition=", u64::from(head.edition));
     line.push_named(b" centre=", u64::from(head.centre));
     line.push_named(b"/", u64::from(head.subcentre));
-}
-
-/// Pushes what kind of data a message has.
-#[inline(always)]
-fn push_category<W: Sink>(line: &mut LineWriter<'_, '_, W>, message: &Message<'_>)
-    ensures { Pushes line.old (joined (category_texts message.now.head)) line.new }
-{
-    let head = message.head();
     line.push_named(b" update=", u64::from(head.update));
     line.push_named(b" category=", u64::from(head.category));
     line.push_named(b"/", u64::from(head.subcategory));
     line.push_named(b"/", u64::from(head.local_subcategory));
-}
-
-/// Pushes by which tables the data are written.
-#[inline(always)]
-fn push_tables<W: Sink>(line: &mut LineWriter<'_, '_, W>, message: &Message<'_>)
-    ensures { Pushes line.old (joined (tables_texts message.now.head)) line.new }
-{
-    let head = message.head();
     line.push_named(b" tables=", u64::from(head.master));
     line.push_named(b"/", u64::from(head.master_version));
     line.push_named(b"/", u64::from(head.local_version));
-}
-
-/// Pushes the time that section 1 says, each value in as many digits as it has or more.
-#[inline(always)]
-fn push_long_time<W: Sink>(line: &mut LineWriter<'_, '_, W>, head: &Head)
-    ensures { Pushes line.old (joined (time_texts head.now)) line.new }
-{
-    line.push(b" time=");
-    line.push_padded(u64::from(head.year), 4);
-    line.push(b"-");
-    line.push_padded(u64::from(head.month), 2);
-    line.push(b"-");
-    line.push_padded(u64::from(head.day), 2);
-    line.push(b"T");
-    line.push_padded(u64::from(head.hour), 2);
-    line.push(b":");
-    line.push_padded(u64::from(head.minute), 2);
-    line.push(b":");
-    line.push_padded(u64::from(head.second), 2);
 }
 
 /// Pushes the time that section 1 says. Where no value has more digits than usual, it is one text.
@@ -80,7 +45,19 @@ fn push_time<W: Sink>(line: &mut LineWriter<'_, '_, W>, message: &Message<'_>)
         || head.minute > 99
         || head.second > 99
     {
-        return push_long_time(line, &head);
+        line.push(b" time=");
+        line.push_padded(u64::from(head.year), 4);
+        line.push(b"-");
+        line.push_padded(u64::from(head.month), 2);
+        line.push(b"-");
+        line.push_padded(u64::from(head.day), 2);
+        line.push(b"T");
+        line.push_padded(u64::from(head.hour), 2);
+        line.push(b":");
+        line.push_padded(u64::from(head.minute), 2);
+        line.push(b":");
+        line.push_padded(u64::from(head.second), 2);
+        return;
     }
     let (y1, y2) = pair(u64::from(head.year / 100));
     let (y3, y4) = pair(u64::from(head.year % 100));
@@ -95,24 +72,6 @@ fn push_time<W: Sink>(line: &mut LineWriter<'_, '_, W>, message: &Message<'_>)
     ]);
 }
 
-/// Pushes how many subsets and descriptors a message has, and its flags.
-#[inline(always)]
-// rule: listing-flags
-fn push_counts<W: Sink>(line: &mut LineWriter<'_, '_, W>, message: &Message<'_>)
-    ensures { Pushes line.old (joined (counts_texts message.now.subsets message.now.observed
-        message.now.compressed (is_some message.now.section2) (length message.now.descriptors)))
-        line.new }
-{
-    line.push_named(b" subsets=", u64::from(message.subsets()));
-    let mut flags = *b" observed=0 compressed=0 optional=0";
-    flags[10] += u8::from(message.observed());
-    flags[23] += u8::from(message.compressed());
-    flags[34] += u8::from(message.section2().is_some());
-    line.push_array(flags);
-    line.push_named(b" descriptors=", message.descriptors().len() as u64);
-    line.push(b"\n");
-}
-
 /// Writes the line of a message that begins at `offset`, in octets from 0. It takes no memory.
 ///
 /// ```
@@ -122,7 +81,7 @@ fn push_counts<W: Sink>(line: &mut LineWriter<'_, '_, W>, message: &Message<'_>)
 /// # Errors
 ///
 /// [`RunFault::Write`] where the writer fails or takes nothing; a prefix of the line was taken.
-// rule: listing-line, listing-offset-and-length
+// rule: listing-line, listing-offset-and-length, listing-flags
 pub fn write_ls<W: Sink>(offset: u64, message: &Message<'_>, w: &mut W) -> Result<(), RunFault>
     ensures writes { Writes (W.taken w.old) (W.taken w.new) (ls_line offset message.now) result }
     ensures counts { CountsWrites (W.failures w.old) (W.failures w.new) (W.empty_writes w.old)
@@ -131,11 +90,16 @@ pub fn write_ls<W: Sink>(offset: u64, message: &Message<'_>, w: &mut W) -> Resul
 {
     let mut block = [0; LINE];
     let mut line = LineWriter::new(&mut block, w);
-    push_origin(&mut line, offset, message);
-    push_category(&mut line, message);
-    push_tables(&mut line, message);
+    push_source(&mut line, offset, message);
     push_time(&mut line, message);
-    push_counts(&mut line, message);
+    line.push_named(b" subsets=", u64::from(message.subsets()));
+    let mut flags = *b" observed=0 compressed=0 optional=0";
+    flags[10] += u8::from(message.observed());
+    flags[23] += u8::from(message.compressed());
+    flags[34] += u8::from(message.section2().is_some());
+    line.push_array(flags);
+    line.push_named(b" descriptors=", message.descriptors().len() as u64);
+    line.push(b"\n");
     line.hand_on();
     let outcome = line.status();
     let _ = line.into_sink();

@@ -1,7 +1,7 @@
 //! Numbers: put into free octets where there is room, and pushed at any scale.
 #![tactic(auto, using(crate::proofs::PushLemmas::number_steps))]
 
-ghost use Rattle.std.specs.Prelude.{◌≡◌, ◌≤◌, ◌<◌, ◌+◌, ◌/◌, ◌%◌, ◌++◌, [], ◌∷◌, decimal, length, take, ◌==◌, if◌then◌else◌, replicate};
+ghost use Rattle.std.specs.Prelude.{◌≡◌, ◌≤◌, ◌<◌, ◌+◌, ◌/◌, ◌%◌, ◌++◌, [], ◌∷◌, decimal, take, ◌==◌};
 ghost use Rattle.bufr_bits.specs.Prelude.{decimal_text_of, pointed, sign_of, unsigned_text};
 ghost use Rattle.bufr_tables.specs.Prelude.{row_of_entry, row_comment, row_line_start};
 ghost use Rattle.bufr_text.specs.Prelude.{Puts, Pushes};
@@ -41,8 +41,7 @@ pub(crate) fn pair(value: u64) -> (u8, u8)
     (PAIRS[from], PAIRS[from + 1])
 }
 
-/// Puts octets after those before `at`, and returns the place after them; `None` where there is no
-/// room.
+/// Puts octets after those before `at`: the place after them, `None` where there is no room.
 #[inline(always)]
 pub(crate) fn put<const N: usize>(octets: [u8; N], free: &mut [u8], at: usize) -> Option<usize>
     ensures { Puts free.old at octets.entry free.new result }
@@ -54,8 +53,7 @@ pub(crate) fn put<const N: usize>(octets: [u8; N], free: &mut [u8], at: usize) -
     Some(at + N)
 }
 
-/// Puts the first `len` octets of a text, by a block of a fixed size. `None` where the text or the
-/// room is shorter than the block.
+/// Puts the first `len` octets of a text by a block; `None` where text or room is shorter than it.
 #[inline(always)]
 fn put_block<const N: usize>(text: &[u8], len: usize, free: &mut [u8], at: usize) -> Option<usize>
     ensures { Puts free.old at (take len text.now) free.new result }
@@ -104,20 +102,6 @@ fn put_four(value: u64, free: &mut [u8], at: usize) -> Option<usize>
     put_pair(value % 100, free, at)
 }
 
-/// Fills a prefix with the digits of any number.
-#[inline(never)]
-fn fill_any(value: u64, free: &mut [u8]) -> Option<usize>
-    ensures { Puts free.old 0 (decimal value) free.new result }
-{
-    let mut buffer = Buffer::new();
-    let digits = buffer.format(value).as_bytes();
-    if digits.len() > free.len() {
-        return None;
-    }
-    free[..digits.len()].copy_from_slice(digits);
-    Some(digits.len())
-}
-
 /// Fills a prefix with the digits of a number that has five or more.
 #[inline(never)]
 fn fill_long(value: u64, free: &mut [u8]) -> Option<usize>
@@ -125,7 +109,13 @@ fn fill_long(value: u64, free: &mut [u8]) -> Option<usize>
     ensures { Puts free.old 0 (decimal value) free.new result }
 {
     if value >= 100_000_000 || free.len() < DIGITS {
-        return fill_any(value, free);
+        let mut buffer = Buffer::new();
+        let digits = buffer.format(value).as_bytes();
+        if digits.len() > free.len() {
+            return None;
+        }
+        free[..digits.len()].copy_from_slice(digits);
+        return Some(digits.len());
     }
     let at = put_four(value / 10_000, free, 0)?;
     let at = put_pair(value / 100 % 100, free, at)?;
@@ -184,18 +174,6 @@ fn put_hundredths(value: u64, free: &mut [u8], at: usize) -> Option<usize>
     put([b'.', tens, ones], free, at)
 }
 
-/// Puts a number with a point before the last five of its digits, as high accuracy has them.
-#[inline(always)]
-fn put_five_places(value: u64, free: &mut [u8], at: usize) -> Option<usize>
-    ensures { Puts free.old at (pointed 5 (decimal value)) free.new result }
-{
-    let at = put_decimal(value / 100_000, free, at)?;
-    let first = b'0' + (value / 10_000 % 10) as u8;
-    let (second, third) = pair(value / 100 % 100);
-    let (fourth, fifth) = pair(value % 100);
-    put([b'.', first, second, third, fourth, fifth], free, at)
-}
-
 /// Fills a prefix with a number at a scale; `None` for a scale that few elements have, too.
 #[inline(never)]
 fn fill_scaled(value: u64, scale: i16, free: &mut [u8]) -> Option<usize>
@@ -214,7 +192,11 @@ fn fill_scaled(value: u64, scale: i16, free: &mut [u8]) -> Option<usize>
         return put_hundredths(value, free, 0);
     }
     if scale == 5 {
-        return put_five_places(value, free, 0);
+        let at = put_decimal(value / 100_000, free, 0)?;
+        let first = b'0' + (value / 10_000 % 10) as u8;
+        let (second, third) = pair(value / 100 % 100);
+        let (fourth, fifth) = pair(value % 100);
+        return put([b'.', first, second, third, fourth, fifth], free, at);
     }
     if scale == -1 && value > 0 {
         let at = put_decimal(value, free, 0)?;
@@ -255,8 +237,7 @@ fn put_sign(number: i64, free: &mut [u8], at: usize) -> Option<usize>
     put([], free, at)
 }
 
-/// Fills a prefix with the line of a number that an entry reads. `None` where the row is long or
-/// among the last of its table, too.
+/// Fills a prefix with the line of a number that an entry reads; `None` for a long or last row too.
 #[inline(always)]
 pub(crate) fn fill_number_line(
     entry: Entry<'_>,
@@ -280,25 +261,8 @@ pub(crate) fn fill_number_line(
 }
 
 impl<'b, 'w, W: Sink> LineWriter<'b, 'w, W> {
-    /// Pushes digits with a point before the last `places` of them.
-    // rule: decimal-point
-    fn push_point(&mut self, digits: &[u8], places: usize)
-        ensures { Pushes self.old (pointed places digits.now) self.new }
-    {
-        if digits.len() <= places {
-            self.push(b"0.");
-            self.push_zeros(places - digits.len());
-            self.push(digits);
-            return;
-        }
-        let (whole, fraction) = digits.split_at(digits.len() - places);
-        self.push(whole);
-        self.push(b".");
-        self.push(fraction);
-    }
-
     /// Pushes a number that is not below zero at a scale. Of 0 no zeros come after the digit.
-    // rule: decimal-zeros-after
+    // rule: decimal-point, decimal-zeros-after
     fn push_unsigned(&mut self, size: u128, scale: i16)
         ensures { Pushes self.old (unsigned_text size scale) self.new }
     {
@@ -306,7 +270,15 @@ impl<'b, 'w, W: Sink> LineWriter<'b, 'w, W> {
         let digits = buffer.format(size).as_bytes();
         let places = usize::from(scale.unsigned_abs());
         if scale > 0 {
-            return self.push_point(digits, places);
+            if digits.len() <= places {
+                self.push(b"0.");
+                self.push_zeros(places - digits.len());
+                return self.push(digits);
+            }
+            let (whole, fraction) = digits.split_at(digits.len() - places);
+            self.push(whole);
+            self.push(b".");
+            return self.push(fraction);
         }
         self.push(digits);
         self.push_zeros(if size == 0 { 0 } else { places });

@@ -2,10 +2,9 @@
 -- shows, and its end.
 use Rattle.std.proofs.Common.{ℕ, zero, suc, ◌+◌, ◌-◌, ◌*◌, Bool, List, [], ◌∷◌, ◌++◌, length, map, Result, Ok, Err, ℤ, pos, negsuc, drop}
 use Rattle.bufr_bits.specs.Prelude.{bits_of}
-use Rattle.bufr_tables.specs.declared.table_b.Kind.{Kind}
 use Rattle.bufr_tables.specs.declared.table_b.Kind.TheVariants as kind
 use Rattle.bufr_tables.specs.Prelude.{Row, Tree}
-use Rattle.bufr_walk.specs.Prelude.{TurnRefusal, Taken, FieldSpec, ShownValue, shown, FieldFault, FieldRead, Course, Next, take_next, at_end, astray, refused, next_item, DataCoding, plain, packed}
+use Rattle.bufr_walk.specs.Prelude.{Kind, TurnRefusal, Taken, FieldSpec, ShownValue, shown, FieldFault, FieldRead, Course, Next, take_next, at_end, astray, refused, next_item, DataCoding, plain, packed}
 
 -- the descriptor of F, X and Y
 unfoldable pub fxy : (f x y : ℕ) → ℕ

@@ -1,22 +1,22 @@
 -- A walk over compressed data reads them as the definition does, and keeps its items.
 use Rattle.std.proofs.lemmas.Grind.{common_steps}
-use Rattle.std.proofs.Common.{◌≡◌, ℕ, ◌+◌, ◌*◌, ◌<◌, ◌≤◌, Bool, true, false, List, length, take, drop, Ok, Err, sym, ◌∙◌, ap, arith, suc, ◌&&◌, eqb, ◌++◌, ◌∷◌, [], get_or, refl, zero, ◌^◌, Result, subst, ◌⊎◌, inl, inr, ◌-◌, Some, append_assoc, if◌then◌else◌, ◌%◌, MatchResult}
-use Rattle.std.proofs.lemmas.Bool.{eq-eqb, le-ltb, lt-ltb}
-use Rattle.std.proofs.lemmas.List.{length-drop, drop-drop, get_or_default, get_or_append_left, map-append, length-append, append-nil}
+use Rattle.std.proofs.Common.{◌≡◌, ℕ, ◌+◌, ◌*◌, ◌<◌, ◌≤◌, Bool, true, false, List, length, take, drop, Ok, Err, sym, ◌∙◌, ap, arith, suc, ◌&&◌, eqb, ◌++◌, ◌∷◌, [], get_or, refl, zero, ◌^◌, Result, subst, ◌⊎◌, inl, inr, ◌-◌, Some, append_assoc, ◌%◌, nat_lt, ◌||◌, ◌==◌}
+use Rattle.std.proofs.lemmas.Bool.{le-ltb, lt-ltb}
+use Rattle.std.proofs.lemmas.List.{length-drop, drop-drop, get_or_default, get_or_append_left, map-append, append-nil}
 use Rattle.std.proofs.lemmas.Bool.Decides.{Decides-eqb, Decides-int_eq}
 use Rattle.bufr_bits.specs.Prelude.{number_of}
 use Rattle.bufr_tables.specs.Prelude.{is_character, Row, Tree}
 use Rattle.bufr_walk.specs.declared.compressed.ItemBits.{ItemBits}
 use Rattle.bufr_walk.specs.declared.compressed.PackedFault.{PackedFault}
-use Rattle.bufr_walk.specs.Prelude.{FieldSpec, data_end, found, FieldFault, increment, unequal_factor, Content, increments, increment_bits_of, contents_of, with_suffix, item_by, packed_field, IsItemAnswer, IsWrong, IsSeen, IsUnseen, IsLooked, IsUnlooked, HasSpecAt, IsPut, no_field, item_at_location, indexed_items, IsReadAndKept, IsStoredReading, PackedCursor, item_with_contents, item_at, items_at, contents_found, fits_at, packed_view, IsPackedIn, IsPackedTaken, wrong_of, PackedTakes, remaining_bits, IsPackedWrong, refuses_packed, new_packed_in, packed_fault, IndexedItem, max_values, items_at_once, Item, packed, ReadsItems, ReadsPass, next_after, turns_after, after, Data, together, IsPackedReading, turns_together, spot, walk_fault_of, bits_before, IsRead, IsFault, IsRefused, Stop, walk_stop, too_many, field_stop, field_stop_of, stop_at, ComesToTogether, would_be_many, IsPackedShort, data_in, data_of, read_by, IsReadingOf, WalkStop, Course, Next, take_next, at_end, astray, refused, next_item, TakenField, Takes, ticked, oks, answers_of, StopsWalk, Walked}
+use Rattle.bufr_walk.specs.Prelude.{FieldSpec, data_end, FieldFault, increment, unequal_factor, Content, FieldRead, increment_bits_of, contents_of, holds_in, answer_first, equal_in, packed_field, IsSeen, IsUnseen, HasSpecAt, IsPut, no_field, item_at_location, indexed_items, IsReadAndKept, IsStoredReading, PackedCursor, item_with_contents, item_at, items_at, contents_found, fits_at, packed_view, IsPackedTaken, wrong_of, PackedTakes, remaining_bits, IsPackedWrong, refuses_packed, new_packed_in, packed_fault, IndexedItem, max_values, items_at_once, Item, packed, ReadsItems, ReadsPass, next_after, turns_after, after, Data, together, IsPackedReading, turns_together, spot, walk_fault_of, bits_before, IsRead, IsFault, IsRefused, Stop, walk_stop, too_many, field_stop, field_stop_of, stop_at, ComesToTogether, would_be_many, IsPackedShort, data_in, data_of, read_by, IsReadingOf, WalkStop, Course, Next, take_next, at_end, astray, refused, next_item, TakenField, Takes, ticked, oks, answers_of, StopsWalk, Walked}
 use Rattle.std.specs.Ordering.{int_eq}
 use Rattle.std.proofs.Math.Bool.{beq}
 use Rattle.std.specs.List.{All, list_all}
 use Rattle.bufr_walk.specs.declared.item_index.ItemLocation.{ItemLocation}
-use Rattle.std.proofs.lemmas.List.Folds.{list_all-append}
 use Rattle.std.proofs.Math.Nat.{mul-le-mul_left}
 use Rattle.bufr_frame.specs.Prelude.{Sections}
 use Rattle.bufr_walk.proofs.PlainLemmas.{used_most}
+use Rattle.bufr_walk.proofs.PackedLemmas.{item_tested}
 use Rattle.bufr_walk.specs.declared.compressed.PackedFault.TheVariants as wrong
 use Rattle.bufr_walk.specs.declared.spec.TurnRefusal.TheVariants as refusal
 use Rattle.bufr_walk.specs.declared.spec.Role.TheVariants as role
@@ -29,64 +29,59 @@ module _ (bits : List Bool) (at n : ℕ) (a : FieldSpec) where
   k_here : (k : ℕ) → k ≡ number_of (take 6 (drop (at + a.width) bits)) → number_of (take 6 (drop a.width (drop at bits))) ≡ k
   k_here k is = ap (λ bs. number_of (take 6 bs)) (drop-drop a.width at bits) ∙ sym is
 
-  with_open_group : (k : ℕ) → at + (a.width + 6) ≤ length bits → k ≡ number_of (take 6 (drop (at + a.width) bits)) → packed_field n a (drop at bits) ≡ item_by a n k (drop at bits)
-  with_open_group k within is =
-      ap (λ b. if b then Err data_end else item_by a n (number_of (take 6 (drop a.width (drop at bits)))) (drop at bits)) (le-ltb (length (drop at bits)) (a.width + 6) (omega (arith, length-drop at bits)))
-      ∙ ap (λ x. item_by a n x (drop at bits)) (k_here k is)
+  -- an item by its tests, with a k that is known
+  abbrev tested : (k : ℕ) (suffix : List Bool) → Result (FieldRead (List Content)) FieldFault
+  tested k suffix =
+      item_tested (nat_lt (length (drop at bits)) (a.width + 6) || nat_lt (length suffix) (n * increment_bits_of a.role a.kind k)) (k == 0 || holds_in a.role a k n (take a.width (drop at bits)) suffix) (k == 0 || equal_in a.role k n suffix) (contents_of a k n (take a.width (drop at bits)) suffix) (drop (n * increment_bits_of a.role a.kind k) suffix)
 
-  -- an item that is there whole
-  pub field_is : (k size : ℕ) → at + size ≤ length bits → k ≡ number_of (take 6 (drop (at + a.width) bits)) → size ≡ a.width + 6 + n * increment_bits_of a.role a.kind k
-      → packed_field n a (drop at bits) ≡ with_suffix (contents_of a k (take a.width (drop at bits)) (increments n (increment_bits_of a.role a.kind k) (drop (at + (a.width + 6)) bits))) (drop (at + size) bits)
-  field_is k size within is size_is =
-      let s = increment_bits_of a.role a.kind k in
-      let here = drop at bits in
-      let back = drop (a.width + 6) here in
-      let same : back ≡ drop (at + (a.width + 6)) bits = drop-drop (a.width + 6) at bits in
-      let long : n * s ≤ length back = omega (arith, ap length same, length-drop (at + (a.width + 6)) bits) in
-      let ends : at + (a.width + 6) + n * s ≡ at + size = omega arith in
-      with_open_group k (omega arith) is
-      ∙ ap (λ b. if b then Err data_end else with_suffix (contents_of a k (take a.width here) (increments n s back)) (drop (n * s) back)) (le-ltb (length back) (n * s) long)
-      ∙ ap (λ bs. with_suffix (contents_of a k (take a.width here) (increments n s bs)) (drop (n * s) bs)) same
-      ∙ ap (λ bs. with_suffix (contents_of a k (take a.width here) (increments n s (drop (at + (a.width + 6)) bits))) bs) (drop-drop (n * s) (at + (a.width + 6)) bits ∙ ap (λ j. drop j bits) ends)
+  field_is : (k : ℕ) → k ≡ number_of (take 6 (drop (at + a.width) bits)) → packed_field n a (drop at bits) ≡ tested k (drop (at + (a.width + 6)) bits)
+  field_is k is = ap (λ x. tested x (drop (a.width + 6) (drop at bits))) (k_here k is) ∙ ap (tested k) (drop-drop (a.width + 6) at bits)
 
   -- an item that the data end in
   pub ends_first : (f : ℕ) → f ≡ a.fxy → at ≤ length bits → length bits < at + (a.width + 6) → IsUnseen bits at n a (wrong.DataEnd f)
   ends_first f g within short = record {
     why = data_end;
-    field = ap (λ b. if b then Err data_end else item_by a n (number_of (take 6 (drop a.width (drop at bits)))) (drop at bits)) (lt-ltb (length (drop at bits)) (a.width + 6) (omega (arith, length-drop at bits)));
+    field = rw (lt-ltb (length (drop at bits)) (a.width + 6) (omega (arith, length-drop at bits))) refl;
     fault = ap wrong.DataEnd g;
   }
 
   pub ends_after : (k size f : ℕ) → f ≡ a.fxy → at + (a.width + 6) ≤ length bits → length bits < at + size → k ≡ number_of (take 6 (drop (at + a.width) bits)) → size ≡ a.width + 6 + n * increment_bits_of a.role a.kind k → IsUnseen bits at n a (wrong.DataEnd f)
   ends_after k size f g within short is size_is =
+      let suffix = drop (at + (a.width + 6)) bits in
       let s = increment_bits_of a.role a.kind k in
-      let here = drop at bits in
-      let back = drop (a.width + 6) here in
-      let same : back ≡ drop (at + (a.width + 6)) bits = drop-drop (a.width + 6) at bits in
-      let long : length back < n * s = omega (arith, ap length same, length-drop (at + (a.width + 6)) bits) in
       record {
         why = data_end;
-        field = with_open_group k within is ∙ ap (λ b. if b then Err data_end else with_suffix (contents_of a k (take a.width here) (increments n s back)) (drop (n * s) back)) (lt-ltb (length back) (n * s) long);
+        field = field_is k is ∙ rw (le-ltb (length (drop at bits)) (a.width + 6) (omega (arith, length-drop at bits)), lt-ltb (length suffix) (n * s) (omega (arith, length-drop (at + (a.width + 6)) bits))) refl;
         fault = ap wrong.DataEnd g;
       }
 
-  pub seen_here : (seen : ItemBits) (size : ℕ) → 1 ≤ a.width → seen.end ≡ at + size → at + size ≤ length bits → seen.step ≡ number_of (take 6 (drop (at + a.width) bits)) → size ≡ a.width + 6 + n * increment_bits_of a.role a.kind seen.step → IsItemAnswer a seen.step n (take a.width (drop at bits)) (drop (at + (a.width + 6)) bits) seen.answer → (is_character a.kind ≡ false → seen.base ≡ number_of (take a.width (drop at bits))) → IsSeen bits at n a seen
-  seen_here seen size some end_is within is size_is answers based = record {
-    contents = answers.contents;
-    field = field_is seen.step size within is size_is ∙ ap (λ r. with_suffix r (drop (at + size) bits)) answers.are ∙ ap (λ j. Ok (found answers.contents (drop j bits))) (sym end_is);
-    gives = answers.gives;
+  -- an item that is there whole
+  whole : (k size : ℕ) → at + size ≤ length bits → k ≡ number_of (take 6 (drop (at + a.width) bits)) → size ≡ a.width + 6 + n * increment_bits_of a.role a.kind k
+      → packed_field n a (drop at bits) ≡ item_tested false (k == 0 || holds_in a.role a k n (take a.width (drop at bits)) (drop (at + (a.width + 6)) bits)) (k == 0 || equal_in a.role k n (drop (at + (a.width + 6)) bits)) (contents_of a k n (take a.width (drop at bits)) (drop (at + (a.width + 6)) bits)) (drop (at + size) bits)
+  whole k size within is size_is =
+      let suffix = drop (at + (a.width + 6)) bits in
+      let s = increment_bits_of a.role a.kind k in
+      let there = le-ltb (length (drop at bits)) (a.width + 6) (omega (arith, length-drop at bits)) in
+      let enough = le-ltb (length suffix) (n * s) (omega (arith, length-drop (at + (a.width + 6)) bits)) in
+      let ends : at + (a.width + 6) + n * s ≡ at + size = omega arith in
+      field_is k is ∙ rw (there, enough, drop-drop (n * s) (at + (a.width + 6)) bits ∙ ap (λ j. drop j bits) ends) refl
+
+  pub seen_here : (seen : ItemBits) (size : ℕ) → 1 ≤ a.width → seen.end ≡ at + size → at + size ≤ length bits → seen.step ≡ number_of (take 6 (drop (at + a.width) bits)) → size ≡ a.width + 6 + n * increment_bits_of a.role a.kind seen.step → (seen.step == 0 || holds_in a.role a seen.step n (take a.width (drop at bits)) (drop (at + (a.width + 6)) bits)) ≡ true → (seen.step == 0 || equal_in a.role seen.step n (drop (at + (a.width + 6)) bits)) ≡ true → seen.answer ≡ answer_first a (contents_of a seen.step n (take a.width (drop at bits)) (drop (at + (a.width + 6)) bits)) → (is_character a.kind ≡ false → seen.base ≡ number_of (take a.width (drop at bits))) → IsSeen bits at n a seen
+  seen_here seen size some end_is within is size_is holds equal gives based = record {
+    contents = contents_of a seen.step n (take a.width (drop at bits)) (drop (at + (a.width + 6)) bits);
+    field = whole seen.step size within is size_is ∙ rw (holds, equal, end_is) refl;
+    gives = gives;
     step = is;
     base = based;
     within = omega arith;
     least = omega arith;
   }
 
-  pub unseen_here : (k size : ℕ) (e : PackedFault) → at + size ≤ length bits → k ≡ number_of (take 6 (drop (at + a.width) bits)) → size ≡ a.width + 6 + n * increment_bits_of a.role a.kind k → IsWrong a k n (take a.width (drop at bits)) (drop (at + (a.width + 6)) bits) e → IsUnseen bits at n a e
-  unseen_here k size e within is size_is w = record {
-    why = w.why;
-    field = field_is k size within is size_is ∙ ap (λ r. with_suffix r (drop (at + size) bits)) w.is;
-    fault = w.fault;
-  }
+  pub invalid_here : (k size f : ℕ) → f ≡ a.fxy → at + size ≤ length bits → k ≡ number_of (take 6 (drop (at + a.width) bits)) → size ≡ a.width + 6 + n * increment_bits_of a.role a.kind k → (k == 0 || holds_in a.role a k n (take a.width (drop at bits)) (drop (at + (a.width + 6)) bits)) ≡ false → IsUnseen bits at n a (wrong.Increment f)
+  invalid_here k size f g within is size_is h = record { why = increment; field = whole k size within is size_is ∙ rw h refl; fault = ap wrong.Increment g }
+
+  pub unequal_here : (k size f : ℕ) → f ≡ a.fxy → at + size ≤ length bits → k ≡ number_of (take 6 (drop (at + a.width) bits)) → size ≡ a.width + 6 + n * increment_bits_of a.role a.kind k → (k == 0 || holds_in a.role a k n (take a.width (drop at bits)) (drop (at + (a.width + 6)) bits)) ≡ true → (k == 0 || equal_in a.role k n (drop (at + (a.width + 6)) bits)) ≡ false → IsUnseen bits at n a (wrong.UnequalFactor f)
+  unequal_here k size f g within is size_is h e = record { why = unequal_factor; field = whole k size within is size_is ∙ rw (h, e) refl; fault = ap wrong.UnequalFactor g }
 
 -- the bits of an item, part by part
 pub size_same : (x w y n z s : ℕ) → x ≡ w → y ≡ n → z ≡ s → x + 6 + y * z ≡ w + 6 + n * s
@@ -141,66 +136,37 @@ items_at-append : (bits : List Bool) (n : ℕ) (kept : List IndexedItem) (e : In
 items_at-append bits n [] e = refl
 items_at-append bits n (x ∷ kept) e = ap (λ xs. item_at bits n x ∷ xs) (items_at-append bits n kept e)
 
-both_kept : (a b : Bool) → a ≡ true → b ≡ true → (a && b) ≡ true
-both_kept a b e f = ap (λ x. x && b) e ∙ f
-
--- the entry of an item that was read
-pub fits_here : (bits : List Bool) (n : ℕ) (e : IndexedItem) (seen : ItemBits) → IsSeen bits e.at n e.spec seen → e.base ≡ seen.base → e.step ≡ seen.step → fits_at bits n e ≡ true
-fits_here bits n e seen h b k = grind (arith, common_steps, both_kept, eq-eqb)
-
--- one entry more
-pub keeps : (bits : List Bool) (at n : ℕ) (kept kept' : List IndexedItem) (e : IndexedItem) (seen : ItemBits) → IsPackedIn bits at n kept → e.at ≡ at → e.base ≡ seen.base → e.step ≡ seen.step → IsLooked (packed_view bits at n kept) e.spec seen → kept' ≡ kept ++ e ∷ [] → IsPackedIn bits seen.end n kept'
-keeps bits at n kept kept' e seen h here b k look is =
-    let fits = fits_here bits n e seen (subst (λ x. IsSeen bits x n e.spec seen) (sym here) look.seen) b k in
-    let count : length kept' ≡ length kept + 1 = ap length is ∙ length-append kept (e ∷ []) in
-    let many = look.few in
-    record {
-      within = look.seen.within;
-      some = h.some;
-      few = subst (λ j. j * n ≤ max_values) (ap (λ j. j + 1) (length-items_at bits n kept) ∙ sym count) look.few;
-      held = omega (arith, count, h.held, look.seen.least);
-      fit = ap (list_all (fits_at bits n)) is ∙ list_all-append (fits_at bits n) kept (e ∷ []) ∙ both_kept (list_all (fits_at bits n) kept) (fits_at bits n e && true) h.fit (both_kept (fits_at bits n e) true fits refl);
-    }
-
-pub takes_one : (bits : List Bool) (at n : ℕ) (kept kept' : List IndexedItem) (e : IndexedItem) (seen : ItemBits) → e.at ≡ at → IsLooked (packed_view bits at n kept) e.spec seen → kept' ≡ kept ++ e ∷ []
+pub takes_one : (bits : List Bool) (at n : ℕ) (kept kept' : List IndexedItem) (e : IndexedItem) (seen : ItemBits) → e.at ≡ at → (length (items_at bits n kept) + 1) * n ≤ max_values → IsSeen bits at n e.spec seen → kept' ≡ kept ++ e ∷ []
     → IsPackedTaken (packed_view bits at n kept) e.spec seen.answer (packed_view bits seen.end n kept')
-takes_one bits at n kept kept' e seen here look is = record {
-  contents = look.seen.contents;
-  few = look.few;
-  field = look.seen.field;
-  gives = look.seen.gives;
+takes_one bits at n kept kept' e seen here few look is = record {
+  contents = look.contents;
+  few = few;
+  field = look.field;
+  gives = look.gives;
   bits = refl;
   subsets = refl;
-  items = ap (items_at bits n) is ∙ items_at-append bits n kept e ∙ ap (λ x. items_at bits n kept ++ item_with_contents e.spec x ∷ []) (ap (λ j. contents_found (packed_field n e.spec (drop j bits))) here ∙ ap contents_found look.seen.field);
-  forth = look.seen.least;
+  items = ap (items_at bits n) is ∙ items_at-append bits n kept e ∙ ap (λ x. items_at bits n kept ++ item_with_contents e.spec x ∷ []) (ap (λ j. contents_found (packed_field n e.spec (drop j bits))) here ∙ ap contents_found look.field);
+  forth = look.least;
 }
-
--- a fault of the item
-pub unlooked : (s : PackedCursor) (a : FieldSpec) (e : PackedFault) → (length s.items + 1) * s.subsets ≤ max_values → IsUnseen s.bits s.at s.subsets a e → IsUnlooked s a e
-unlooked s a e few h = subst (IsUnlooked s a) (sym h.fault) (by h.why h.field)
-  where
-    by : (why : FieldFault) → packed_field s.subsets a (drop s.at s.bits) ≡ Err why → IsUnlooked s a (wrong_of a.fxy why)
-    by data_end f = record { why = data_end; few = few; field = f; fault = refl }
-    by increment f = record { why = increment; few = few; field = f; fault = refl }
-    by unequal_factor f = record { why = unequal_factor; few = few; field = f; fault = refl }
 
 -- the reader of a contract, and what it keeps
 too_many_kept : (s : PackedCursor) (bits : List Bool) (at n : ℕ) (kept : List IndexedItem) (len from : ℕ) → s ≡ packed_view bits at n kept → len ≡ length kept → from ≡ n → max_values < (len + 1) * from → max_values < (length s.items + 1) * s.subsets
 too_many_kept s bits at n kept len from e f g h = grind (arith, common_steps, length-items_at)
 
-pub unlooked_many : (s : PackedCursor) (a : FieldSpec) (bits : List Bool) (at n : ℕ) (kept : List IndexedItem) (len from fxy : ℕ) → fxy ≡ a.fxy → s ≡ packed_view bits at n kept → len ≡ length kept → from ≡ n → max_values < (len + 1) * from → IsUnlooked s a (wrong.TooManyValues fxy)
-unlooked_many s a bits at n kept len from fxy d e f g h = (d, too_many_kept s bits at n kept len from e f g h)
+pub too_many_here : (s : PackedCursor) (a : FieldSpec) (bits : List Bool) (at n : ℕ) (kept : List IndexedItem) (len from fxy : ℕ) → fxy ≡ a.fxy → s ≡ packed_view bits at n kept → len ≡ length kept → from ≡ n → max_values < (len + 1) * from → PackedTakes s a (Err (wrong.TooManyValues fxy)) s
+too_many_here s a bits at n kept len from fxy d e f g h = (d, too_many_kept s bits at n kept len from e f g h, refl)
 
-pub looked : (s : PackedCursor) (a : FieldSpec) (bits : List Bool) (at n : ℕ) (kept : List IndexedItem) (len from : ℕ) (r : Result ItemBits PackedFault) → s ≡ packed_view bits at n kept → len ≡ length kept → from ≡ n → (len + 1) * from ≤ max_values
-    → MatchResult r (λ x. IsSeen bits at n a x) (λ e. IsUnseen bits at n a e) → MatchResult r (λ x. IsLooked s a x) (λ e. IsUnlooked s a e)
-looked s a bits at n kept len from r e f g few h = by r h
+pub few_here : (bits : List Bool) (n : ℕ) (kept : List IndexedItem) (len from : ℕ) → len ≡ length kept → from ≡ n → (len + 1) * from ≤ max_values → (length (items_at bits n kept) + 1) * n ≤ max_values
+few_here bits n kept len from f g few = subst (λ z. z ≤ max_values) (ap (λ l. (l + 1) * from) (f ∙ sym (length-items_at bits n kept)) ∙ ap (λ m. (length (items_at bits n kept) + 1) * m) g) few
+
+-- a fault of the item
+pub fault_here : (s : PackedCursor) (a : FieldSpec) (bits : List Bool) (at n : ℕ) (kept : List IndexedItem) (e : PackedFault) → s ≡ packed_view bits at n kept → (length (items_at bits n kept) + 1) * n ≤ max_values → IsUnseen bits at n a e → PackedTakes s a (Err e) s
+fault_here s a bits at n kept e view few h = subst (λ x. PackedTakes x a (Err e) x) (sym view) (subst (λ w. PackedTakes (packed_view bits at n kept) a (Err w) (packed_view bits at n kept)) (sym h.fault) (by h.why h.field))
   where
-    room : (length (items_at bits n kept) + 1) * n ≤ max_values
-    room = subst (λ z. z ≤ max_values) (ap (λ l. (l + 1) * from) (f ∙ sym (length-items_at bits n kept)) ∙ ap (λ m. (length (items_at bits n kept) + 1) * m) g) few
-
-    by : (r : Result ItemBits PackedFault) → MatchResult r (λ x. IsSeen bits at n a x) (λ e. IsUnseen bits at n a e) → MatchResult r (λ x. IsLooked s a x) (λ e. IsUnlooked s a e)
-    by (Ok x) h = subst (λ y. IsLooked y a x) (sym e) (record { few = room; seen = h })
-    by (Err w) h = subst (λ y. IsUnlooked y a w) (sym e) (unlooked (packed_view bits at n kept) a w room h)
+    by : (why : FieldFault) → packed_field n a (drop at bits) ≡ Err why → PackedTakes (packed_view bits at n kept) a (Err (wrong_of a.fxy why)) (packed_view bits at n kept)
+    by data_end f = (record { why = data_end; few = few; field = f; fault = refl }, refl)
+    by increment f = (record { why = increment; few = few; field = f; fault = refl }, refl)
+    by unequal_factor f = (record { why = unequal_factor; few = few; field = f; fault = refl }, refl)
 
 -- how many values were read
 pub few_values : (s : PackedCursor) (bits : List Bool) (at n : ℕ) (kept : List IndexedItem) → packed_view bits at n kept ≡ s → length kept * n ≤ max_values → length s.items * s.subsets ≤ max_values

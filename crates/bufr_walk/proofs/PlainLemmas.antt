@@ -6,8 +6,7 @@ use Rattle.std.proofs.lemmas.List.{length-drop, drop-drop, drop-take, take-take,
 use Rattle.std.proofs.Math.Nat.{pow-le-pow_right}
 use Rattle.bufr_bits.specs.Prelude.{bits_of, bits_at, number_of, are_all_ones}
 use Rattle.bufr_bits.proofs.BitLemmas.{length-bits_of, length-bits_at, are_all_ones-number, drop-bits_of, take-bits_of, number_of_middle, number-bits_of_octet}
-use Rattle.bufr_tables.specs.declared.table_b.Kind.{Kind}
-use Rattle.bufr_walk.specs.Prelude.{Taken, Role, is_reference, FieldSpec, IsSpec, HasRole, HasWidth, answer_of, answer_by_role, content_in, content_by, signed_by, plain_field, found, data_end, octets_in, Content, Cursor, rest_of, past, IsTaken, PassComes, PassReads, PassStops, plain_fault, PlainTakes, WalkStop, Course, Next, take_next, at_end, astray, refused, next_item, TakenField, Takes, ticked, oks, answers_of, StopsWalk, Walked, spot, walk_stop, field_stop, field_stop_of, data_in, data_of, read_by, Read, course_of, IsRead, IsReadingOf, Item, plain, ReadsItems, next_after, turns_after, after, apart, ReadsSubsets, max_values, IsStoredReading, IsReadAndPaid}
+use Rattle.bufr_walk.specs.Prelude.{turns_in, items_in, Stop, stop_at, walk_fault_of, plain, WalkFault, Kind, Taken, Role, is_reference, FieldSpec, IsSpec, HasRole, HasWidth, answer_of, answer_by_role, content_in, content_by, signed_by, plain_field, found, data_end, octets_in, Content, Cursor, rest_of, past, IsTaken, plain_fault, PlainTakes, WalkStop, Course, Next, take_next, at_end, astray, refused, next_item, TakenField, Takes, ticked, oks, answers_of, StopsWalk, Walked, spot, walk_stop, field_stop, field_stop_of, data_in, data_of, read_by, Read, course_of, IsRead, IsReadingOf, Item, ReadsItems, next_after, turns_after, after, apart, ReadsSubsets, max_values, IsStoredReading, IsReadAndPaid}
 use Rattle.bufr_walk.specs.declared.plain.DataEnd.{DataEnd}
 use Rattle.bufr_frame.specs.Prelude.{Sections}
 use Rattle.bufr_tables.specs.Prelude.{Row, Tree}
@@ -18,6 +17,34 @@ use Rattle.bufr_walk.specs.declared.spec.TurnRefusal.TheVariants as refusal
 use Rattle.bufr_walk.specs.declared.walker.WalkStop.TheVariants as stops
 use Rattle.bufr_walk.specs.declared.fault.WalkFault.TheVariants as fault
 use Rattle.bufr_walk.specs.declared.reading.StoredItems.TheVariants as kept
+
+-- items were read up to what comes next, and their turns were counted
+pub record PassComes (course : Course) (s : Cursor) (steps : ℕ) (next : Next) (s' : Cursor) (steps' : ℕ) : Type 0 where
+  pub items : List (Item Content)
+  pub reads : ReadsItems plain course items (rest_of s) (rest_of s')
+  pub next_is : next ≡ next_after plain course items
+  pub ticks : steps' ≡ ticked steps (turns_after plain course items)
+  pub same : s'.bits ≡ s.bits
+  pub pays : s.at + length items ≤ s'.at
+
+-- `count` subsets were read, in at most n turns a bit
+pub record SubsetsRead (n : ℕ) (course : Course) (bits : List Bool) (count : ℕ) (s : Cursor) (steps : ℕ) : Type 0 where
+  pub subsets : List (List (Item Content))
+  pub whole : ReadsSubsets course subsets bits (rest_of s)
+  pub count_is : length subsets ≡ count
+  pub ticks : steps ≡ ticked 0 (turns_in course subsets)
+  pub same : s.bits ≡ bits
+  pub few : steps ≤ n * s.at
+  pub pays : items_in subsets ≤ s.at
+  pub within : s.at ≤ length bits
+
+-- what comes next cannot be read, or, where it is a reference, cannot be kept
+abbrev pub PassStops : Course → Cursor → (steps subset : ℕ) → WalkFault → Cursor → (steps' : ℕ) → Type 0
+PassStops course s steps subset fault.Memory s' steps' =
+    (spec : FieldSpec) × PassComes course s steps (take_next spec) s' steps' × (spec.role ≡ role.Reference)
+PassStops course s steps subset why s' steps' =
+    (next : Next) × (stop : Stop) × PassComes course s steps next s' steps'
+    × (stop_at plain false next (rest_of s') ≡ Some stop) × (why ≡ walk_fault_of stop subset s'.at)
 
 numeric_width : (k : Kind) (w : ℕ) → k ≡ kind.Numeric → HasWidth k w → w ≤ 63
 numeric_width kind.Character w e h = absurd cc
@@ -217,7 +244,7 @@ reads_paid course s [] s' h = omega (arith, ap (λ x. x.at) h)
 reads_paid course s (i ∷ items) s' h = omega (arith, h.2.some, ap (λ x. x.at) h.2.next, reads_paid (λ answers. course (i.taken ∷ answers)) h.0 items s' h.3)
 
 -- an accepted walk reads a subset
-pub pass_reads : (course : Course) (s s' : Cursor) (c c' : ℕ) → Walked PlainTakes course s c (Ok tt) s' c' → PassReads course s c s' c'
+pub pass_reads : (course : Course) (s s' : Cursor) (c c' : ℕ) → Walked PlainTakes course s c (Ok tt) s' c' → PassComes course s c at_end s' c'
 pass_reads course s s' c c' w =
     let r = reads course s w.0 s' w.1 in
     record { items = r.0; reads = r.1; next_is = sym (r.2 ∙ w.2); ticks = w.3 ∙ ap (ticked c) (sym r.3); same = same_bits course s w.0 s' w.1; pays = reads_paid course s w.0 s' w.1 }

@@ -3,13 +3,12 @@ use Rattle.std.proofs.lemmas.Grind.{common_steps}
 use Rattle.std.proofs.Common.{◌≡◌, ℕ, ◌+◌, ◌-◌, ◌*◌, ◌^◌, ◌<◌, ◌≤◌, false, Bool, List, [], ◌∷◌, ◌++◌, length, drop, Some, refl, sym, ◌∙◌, ap, subst, arith, length-append, length-drop, ◌/◌, ◌&&◌, true, ◌⊎◌, inl, inr, take, Result, Ok, Err, ℤ, pos, ◌+ℤ◌, ◌==◌, ◌||◌, nat_lt, if◌then◌else◌, nat_le, not, unsigned_abs}
 use Rattle.std.proofs.lemmas.Bool.{eqb-true, ltb-true, ne_eqb}
 use Rattle.bufr_bits.specs.Prelude.{bits_of, number_of, are_all_ones, bits_at}
-use Rattle.bufr_walk.specs.Prelude.{WalkFault, Content, data_end, increment, unequal_factor, answer_of, number, text, missing, content_in, content_by, value_in, said_by, octets_in, signed_by, shown_number, shown_text, shown_missing, shown_reference, shown, FieldFault, FieldRead, found, plain_field, FieldSpec, IsSpec, HasRole, is_reference, IsFor, IsForRole, is_plain_number, is_plain, IsPlainNumber, ones, Course, Next, take_next, at_end, astray, refused, ticked, TakenField, Takes, oks, answers_of, StopsWalk, Walked, walk_fault_of, bits_before, data_in, IsFault, IsRefused, Stop, walk_stop, too_many, field_stop, stop_at, ComesTo, Item, plain, ReadsPass, ReadsSubsets, turns_after, turns_in, after, items_in, content_kept, is_missing, stays_within, number_from, fits_at, PassComes, PassReads, PassStops, SubsetsRead, Cursor, rest_of, past, IsTaken, Stage, stage, IsShown, IsUnshown, ShowingTakes, IsEnd, MayEnd, Sofar, ItemsShown, ItemsEnded, ItemsGo, SubsetShown, SubsetEnded, SubsetGoes, SubsetsShown, ShowFault, TurnRefusal, Role, Taken, WalkStop, Call, item_call, view_of, Timed, timed, item_calls, Shows, EndsAt, IsReferenceValue, subset_call, subset_calls, IndexedItem}
-use Rattle.bufr_tables.specs.declared.table_b.Kind.{Kind}
+use Rattle.bufr_walk.specs.Prelude.{number_from, Kind, WalkFault, Content, data_end, increment, unequal_factor, answer_of, number, text, missing, content_in, content_by, value_in, said_by, octets_in, signed_by, shown_number, shown_text, shown_missing, shown_reference, shown, FieldFault, FieldRead, found, plain_field, FieldSpec, IsSpec, HasRole, is_reference, IsFor, IsForRole, is_plain_number, is_plain, IsPlainNumber, ones, Course, Next, take_next, at_end, astray, refused, ticked, TakenField, Takes, oks, answers_of, StopsWalk, Walked, walk_fault_of, bits_before, data_in, IsFault, IsRefused, Stop, walk_stop, too_many, field_stop, stop_at, ComesTo, Item, plain, ReadsPass, ReadsSubsets, turns_after, turns_in, after, items_in, content_kept, is_missing, stays_within, fits_at, Cursor, rest_of, past, IsTaken, Stage, stage, IsShown, IsUnshown, ShowingTakes, IsEnd, MayEnd, Sofar, ItemsShown, ItemsEnded, ItemsGo, ShowFault, TurnRefusal, Role, Taken, WalkStop, Call, item_call, view_of, Timed, timed, item_calls, Shows, EndsAt, IsReferenceValue, subset_call, subset_calls, IndexedItem}
 use Rattle.bufr_tables.specs.Prelude.{Row, is_character}
 use Rattle.bufr_walk.specs.declared.plain.ShowStop.{ShowStop}
 use Rattle.std.proofs.lemmas.Bool.Decides.{nat_tests}
 use Rattle.bufr_bits.proofs.DecimalLemmas.{and_first, and_second}
-use Rattle.bufr_walk.proofs.PlainLemmas.{answer_element, is_reference_role}
+use Rattle.bufr_walk.proofs.PlainLemmas.{PassStops, answer_element, is_reference_role, PassComes, SubsetsRead}
 use Rattle.bufr_walk.proofs.PackedLemmas.{base_content, kept_base, kept_ones, kept_parts, number_holds, varied_parts, number_content}
 use Rattle.bufr_walk.specs.declared.fault.WalkFault.TheVariants as fault
 use Rattle.bufr_walk.specs.declared.spec.TurnRefusal.TheVariants as refusal
@@ -37,7 +36,7 @@ items_more : (xs : List (List (Item Content))) (x : List (Item Content)) → ite
 items_more [] x = omega arith
 items_more (y ∷ xs) x = omega (arith, items_more xs x)
 
-pub one_more : (n : ℕ) (course : Course) (bits : List Bool) (i : ℕ) (s s' : Cursor) (c c' : ℕ) → SubsetsRead n course bits i s c → PassReads course s c s' c' → c' ≤ c + n * (s'.at - s.at) → s'.at ≤ length s'.bits → s.at ≤ s'.at → SubsetsRead n course bits (i + 1) s' c'
+pub one_more : (n : ℕ) (course : Course) (bits : List Bool) (i : ℕ) (s s' : Cursor) (c c' : ℕ) → SubsetsRead n course bits i s c → PassComes course s c at_end s' c' → c' ≤ c + n * (s'.at - s.at) → s'.at ≤ length s'.bits → s.at ≤ s'.at → SubsetsRead n course bits (i + 1) s' c'
 one_more n course bits i s s' c c' h p few within forth =
     let same : s'.bits ≡ bits = p.same ∙ h.same in
     record {
@@ -412,6 +411,30 @@ module _ {V E : Type 0} (sees : V → Call → Result (Unit {0}) E → V → Typ
 
 -- ---- Subsets that are shown one after another.
 
+-- some subsets of the data were shown
+pub record SubsetsShown {S E : Type 0} (sees : S → Call → Result (Unit {0}) E → S → Type 0) (table : List Row) (course : Course) (all : List (List (Item Content))) (done : ℕ) (left : List Bool) (s : S) (c : Cursor) (s' : S) (steps : ℕ) : Type 0 where
+  pub before : ℕ
+  pub more : List (List (Item Content))
+  pub whole : ReadsSubsets course more (rest_of c) left
+  pub count : done + length more ≡ length all
+  pub ticks : steps ≡ ticked 0 before
+  pub total : before + turns_in course more ≡ turns_in course all
+  pub shown : Sofar sees s (subset_calls table course 0 1 all) s' (subset_calls table course before (done + 1) more)
+
+-- the items of a subset were shown, after its own call
+pub record SubsetShown {S E : Type 0} (sees : S → Call → Result (Unit {0}) E → S → Type 0) (table : List Row) (course : Course) (number : ℕ) (c : Cursor) (s : S) (steps : ℕ) (c' : Cursor) (s' : S) (steps' : ℕ) : Type 0 where
+  pub shown : (before : ℕ) (items : List (Item Content)) (subsets : List (List (Item Content))) (left : List Bool) → ReadsPass plain course items (rest_of c) left → steps ≡ ticked 0 before → Sofar sees s (subset_calls table course before number (items ∷ subsets)) s' (subset_calls table course (before + turns_after plain course items) (number + 1) subsets)
+  pub left_is : (items : List (Item Content)) (left : List Bool) → ReadsPass plain course items (rest_of c) left → (rest_of c' ≡ left) × (steps' ≡ ticked steps (turns_after plain course items))
+
+-- a subset was shown up to a call that ended the showing
+pub record SubsetEnded {S E : Type 0} (sees : S → Call → Result (Unit {0}) E → S → Type 0) (table : List Row) (course : Course) (number : ℕ) (c : Cursor) (s : S) (steps : ℕ) (why : ShowFault E) (s' : S) (steps' : ℕ) : Type 0 where
+  pub ended : (before : ℕ) (items : List (Item Content)) (subsets : List (List (Item Content))) (left : List Bool) (turns : ℕ) → ReadsPass plain course items (rest_of c) left → steps ≡ ticked 0 before → Shows sees s (subset_calls table course before number (items ∷ subsets)) turns (Err why) s' steps'
+
+-- a subset was shown, or a call ended the showing
+abbrev pub SubsetGoes : {S E : Type 0} → (S → Call → Result (Unit {0}) E → S → Type 0) → List Row → Course → ℕ → Cursor → S → ℕ → Result (Unit {0}) (ShowFault E) → Cursor → S → ℕ → Type 0
+SubsetGoes sees table course index c s steps (Ok _) c' s' steps' = SubsetShown sees table course index c s steps c' s' steps'
+SubsetGoes sees table course index c s steps (Err why) c' s' steps' = SubsetEnded sees table course index c s steps why s' steps'
+
 module _ {V E : Type 0} (sees : V → Call → Result (Unit {0}) E → V → Type 0) (table : List Row) (course : Course) where
   -- a subset's call, and its items
   pub subset_goes : (index : ℕ) (c c' : Cursor) (s s1 s' : V) (steps steps' : ℕ) (r : Result (Unit {0}) (ShowFault E)) → sees s (subset_call index) (Ok tt) s1 → ItemsGo sees table course c s1 steps r c' s' steps' → SubsetGoes sees table course index c s steps r c' s' steps'
@@ -576,7 +599,7 @@ module _ (octets : List ℕ) (n : ℕ) (e : IndexedItem) (j i : ℕ) (h : fits_a
   kept_valid : (is_missing e.spec (bits_at octets e.at e.spec.width) || stays_within e.spec.may_be_missing e.spec.width (number_of (bits_at octets e.at e.spec.width)) e.step (number_of (take e.step (drop (j * e.step) (drop (e.at + (e.spec.width + 6)) (bits_of octets)))))) ≡ true
   kept_valid =
       let p = kept_parts (bits_of octets) n e h in
-      number_holds e.spec.kind e.spec e.step n j _ _ c below (varied_parts e.spec e.step n _ _ _ some p.are).holds
+      number_holds e.spec.kind e.spec e.step n j _ _ c below (varied_parts e.spec e.step n _ _ _ some p.holds p.are).holds
 
   pub kept_last : e.spec.may_be_missing ≡ true → i ≡ ones e.step → missing ≡ content_kept (bits_of octets) n e j
   kept_last m last = sum_last e.spec e.step e.base i (bits_at octets e.at e.spec.width) (take e.step (drop (j * e.step) (drop (e.at + (e.spec.width + 6)) (bits_of octets)))) (kept_base (bits_of octets) n e h c) more (kept_ones octets n e h c) kept_valid m last ∙ number_content (bits_of octets) n e j h some below c

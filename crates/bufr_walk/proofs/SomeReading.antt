@@ -1,13 +1,13 @@
 -- Data have a reading or a refusal.
 use Rattle.std.proofs.lemmas.Grind.{common_steps}
-use Rattle.std.proofs.Common.{◌≡◌, ℕ, zero, suc, ◌*◌, ◌≤◌, Bool, true, false, List, [], ◌∷◌, Option, Some, None, Result, Ok, Err, refl, sym, ◌∙◌, ap, subst, arith, ◌+◌, ◌<◌, ◌-◌, length, drop, take, ◌⊎◌, inl, inr, map, ◌==◌, nat_le, nat_lt, if◌then◌else◌}
+use Rattle.std.proofs.Common.{◌≡◌, ℕ, zero, suc, ◌*◌, ◌≤◌, Bool, true, false, List, [], ◌∷◌, Option, Some, None, Result, Ok, Err, refl, sym, ◌∙◌, ap, subst, arith, ◌+◌, ◌<◌, ◌-◌, length, drop, take, ◌⊎◌, inl, inr, map, ◌==◌, nat_le, nat_lt, if◌then◌else◌, replicate, ◌||◌}
 use Rattle.std.proofs.lemmas.Bool.{leb-true, ltb-false}
 use Rattle.std.proofs.lemmas.Bool.Decides.{nat_tests}
 use Rattle.bufr_bits.proofs.DecimalLemmas.{and_first}
-use Rattle.bufr_tables.specs.declared.table_b.Kind.{Kind}
 use Rattle.bufr_tables.specs.Prelude.{y_of, IsLegal, is_legal_operator, Tree, bare, element, operator, fixed, delayed, is_inserted_text, Row, entry_of, allows_width, AreRows, row_of, Record}
-use Rattle.bufr_walk.specs.Prelude.{Role, TurnRefusal, Taken, FieldSpec, IsFor, IsForRole, Content, content_in, answer_by_role, FieldFault, data_end, increment, FieldRead, found, plain_field, increments, increment_bits_of, contents_of, varied, varied_by, numbers_of, and_contents, if_equal, with_suffix, item_by, packed_field, answer_first, Course, Next, take_next, astray, refused, at_end, NextTurn, asked, operated, ahead, counts_in, counts_of, next_item, finish, open_end, group, pass_end, element_turn, operator_turn, Rest, passes, unroll, if_valid_width, numeric_spec, coded_spec, text_spec, text_width, spec_by_kind, defined_field, new_reference_spec, unsigned_field, unsigned_of, begin, local_width_spec, listed_by, element_spec, factor_field, factor_by, factor_spec, inserted_spec, OperatorModel, is_defining, after_operator, after_field, Item, DataCoding, plain, packed, next_after, after, ReadsItems, ReadsPass, ReadsSubsets, turns_after, turns_in, max_values, Data, Values, apart, together, IsReading, walk_stop, too_many, field_stop, field_stop_of, walk_fault_of, IsRefused, Stop, stop_at, would_be_many, WalkFault}
+use Rattle.bufr_walk.specs.Prelude.{Role, TurnRefusal, Taken, FieldSpec, IsFor, IsForRole, Content, content_in, answer_by_role, FieldFault, data_end, FieldRead, found, plain_field, increments, increment_bits_of, kind_step, content_from, holds_in, equal_in, contents_of, packed_field, answer_first, Course, Next, take_next, astray, refused, at_end, NextTurn, asked, operated, ahead, counts_in, counts_of, next_item, finish, open_end, group, pass_end, element_turn, operator_turn, Rest, passes, unroll, if_valid_width, numeric_spec, coded_spec, text_spec, text_width, spec_by_kind, defined_field, new_reference_spec, unsigned_field, unsigned_of, begin, local_width_spec, listed_by, element_spec, factor_field, factor_by, factor_spec, inserted_spec, OperatorModel, is_defining, after_operator, after_field, Item, DataCoding, plain, packed, next_after, after, ReadsItems, ReadsPass, ReadsSubsets, turns_after, turns_in, max_values, Data, Values, apart, together, IsReading, walk_stop, too_many, field_stop, field_stop_of, walk_fault_of, IsRefused, Stop, stop_at, would_be_many, WalkFault, Kind}
 use Rattle.bufr_walk.proofs.SpecLemmas.{inserted_width}
+use Rattle.bufr_walk.proofs.PackedLemmas.{item_ok, neither}
 use Rattle.std.proofs.lemmas.List.{length-drop, drop-drop}
 use Rattle.bufr_bits.specs.Prelude.{number_of}
 use Rattle.bufr_walk.proofs.OneReading.{Outcome, ended, stopped, stopped_by, outcome_of, HasOutcome}
@@ -302,9 +302,6 @@ same_found a b e = cc
 suffix_is : {C : Type 0} (a b : C) (l m : List Bool) → ◌≡◌ {A = Result (FieldRead C) FieldFault} (Ok (found a l)) (Ok (found b m)) → m ≡ l
 suffix_is {C} a b l m e = sym (ap (λ (z : FieldRead C). z.suffix) (same_found (found a l) (found b m) e))
 
-contents_are : {C : Type 0} (a b : C) (l m : List Bool) → ◌≡◌ {A = Result (FieldRead C) FieldFault} (Ok (found a l)) (Ok (found b m)) → a ≡ b
-contents_are {C} a b l m e = ap (λ (z : FieldRead C). z.content) (same_found (found a l) (found b m) e)
-
 pub plain_forth : (spec : FieldSpec) (bits : List Bool) (c : Content) (mid : List Bool) → 1 ≤ spec.width → plain_field spec bits ≡ Ok (found c mid) → Forth plain spec bits c mid
 plain_forth spec bits c mid some e = by (nat_lt (length bits) spec.width) refl e
   where
@@ -313,77 +310,38 @@ plain_forth spec bits c mid some e = by (nat_lt (length bits) spec.width) refl e
     by false p q = record { gives = answer_for spec.role c; size = spec.width; some = some; within = ltb-false (length bits) spec.width p; left_is = suffix_is (content_in spec (take spec.width bits)) c (drop spec.width bits) mid q }
 
 -- some subsets have some contents
-none_more : (r : Result Content FieldFault) (more : Result (List Content) FieldFault) → and_contents r more ≡ Ok [] → ⊥
-none_more (Err why) more e = cc
-none_more (Ok c) (Err why) e = cc
-none_more (Ok c) (Ok cs) e = cc
-
-none_if : (b : Bool) (x : Content) (xs : List Content) (r : Result (List Content) FieldFault) → (if b then Ok (x ∷ xs) else r) ≡ Ok [] → (r ≡ Ok [] → ⊥) → ⊥
-none_if true x xs r e h = cc
-none_if false x xs r e h = h e
-
-no_texts : (b : Bool) (x : Content) (xs : List Content) → (if b then Err increment else Ok (x ∷ xs)) ≡ Ok [] → ⊥
-no_texts true x xs e = cc
-no_texts false x xs e = cc
-
-no_numbers : (spec : FieldSpec) (k : ℕ) (base i : List Bool) (is : List (List Bool)) → numbers_of spec k base (i ∷ is) ≡ Ok [] → ⊥
-no_numbers spec k base i is e = grind (arith, common_steps, none_if, none_more)
-
-no_varied : (kd : Kind) (spec : FieldSpec) (k : ℕ) (base i : List Bool) (is : List (List Bool)) → varied_by kd spec k base (i ∷ is) ≡ Ok [] → ⊥
-no_varied kind.Character spec k base i is e = no_texts _ _ _ e
-no_varied kind.Coded spec k base i is e = no_numbers spec k base i is e
-no_varied kind.Numeric spec k base i is e = no_numbers spec k base i is e
-
-equal_is : (r : Result (List Content) FieldFault) (cs : List Content) → if_equal r ≡ Ok cs → r ≡ Ok cs
-equal_is (Err why) cs e = absurd cc
-equal_is (Ok xs) cs e = grind (arith, common_steps)
-
-no_role : (r : Role) (spec : FieldSpec) (k : ℕ) (base i : List Bool) (is : List (List Bool)) → varied r spec k base (i ∷ is) ≡ Ok [] → ⊥
-no_role role.Element spec k base i is e = no_varied spec.kind spec k base i is e
-no_role role.Inserted spec k base i is e = no_varied spec.kind spec k base i is e
-no_role role.Factor spec k base i is e = no_varied spec.kind spec k base i is (equal_is (varied_by spec.kind spec k base (i ∷ is)) [] e)
-no_role role.Reference spec k base i is e = cc
-
-no_contents : (spec : FieldSpec) (k : ℕ) (base i : List Bool) (is : List (List Bool)) → contents_of spec k base (i ∷ is) ≡ Ok [] → ⊥
-no_contents spec k base i is e = none_if (k == 0) _ _ (varied spec.role spec k base (i ∷ is)) e (λ q. no_role spec.role spec k base i is q)
+some_contents : (spec : FieldSpec) (k n : ℕ) (base suffix : List Bool) → contents_of spec k (suc n) base suffix ≡ [] → ⊥
+some_contents spec k n base suffix e = by (k == 0) e
+  where
+    by : (b : Bool) → (if b then replicate (suc n) (content_in spec base) else map (content_from spec.kind spec k base) (increments (suc n) (kind_step spec.kind k) suffix)) ≡ [] → ⊥
+    by true q = cc
+    by false q = cc
 
 first_for : (spec : FieldSpec) (cs : List Content) → (cs ≡ [] → ⊥) → IsFor spec (answer_first spec cs)
 first_for spec [] h = absurd (h refl)
 first_for spec (c ∷ cs) h = answer_for spec.role c
 
-module _ (n : ℕ) (spec : FieldSpec) (bits : List Bool) (cs : List Content) (mid : List Bool) (some : 1 ≤ spec.width) where
-  at_contents : (k step : ℕ) → spec.width + 6 ≤ length bits → suc n * step ≤ length (drop (spec.width + 6) bits) → (r : Result (List Content) FieldFault)
-      → contents_of spec k (take spec.width bits) (increments (suc n) step (drop (spec.width + 6) bits)) ≡ r → with_suffix r (drop (suc n * step) (drop (spec.width + 6) bits)) ≡ Ok (found cs mid) → Forth (packed (suc n)) spec bits cs mid
-  at_contents k step h g (Err why) q z = absurd cc
-  at_contents k step h g (Ok xs) q z =
-      let is : xs ≡ cs = contents_are xs cs (drop (suc n * step) (drop (spec.width + 6) bits)) mid z in
-      record {
-        gives = first_for spec cs (λ none. no_contents spec k (take spec.width bits) (take step (drop (spec.width + 6) bits)) (increments n step (drop step (drop (spec.width + 6) bits))) (q ∙ ap Ok (is ∙ none)));
-        size = spec.width + 6 + suc n * step;
-        some = positive spec.width (suc n * step);
-        within = within (spec.width + 6) (suc n * step) (length bits) (length (drop (spec.width + 6) bits)) h g (length-drop (spec.width + 6) bits);
-        left_is = suffix_is xs cs (drop (suc n * step) (drop (spec.width + 6) bits)) mid z ∙ drop-drop (suc n * step) (spec.width + 6) bits;
-      }
-    where
-      positive : (w x : ℕ) → 1 ≤ w + 6 + x
-      positive w x = omega arith
-
-      within : (w x all left : ℕ) → w ≤ all → x ≤ left → left ≡ all - w → w + x ≤ all
-      within w x all left h g e = omega arith
-
-  at_item : (k : ℕ) → spec.width + 6 ≤ length bits → (b : Bool) → nat_lt (length (drop (spec.width + 6) bits)) (suc n * increment_bits_of spec.role spec.kind k) ≡ b
-      → (if b then Err data_end else with_suffix (contents_of spec k (take spec.width bits) (increments (suc n) (increment_bits_of spec.role spec.kind k) (drop (spec.width + 6) bits))) (drop (suc n * increment_bits_of spec.role spec.kind k) (drop (spec.width + 6) bits))) ≡ Ok (found cs mid)
-      → Forth (packed (suc n)) spec bits cs mid
-  at_item k h true p q = absurd cc
-  at_item k h false p q =
-      at_contents k (increment_bits_of spec.role spec.kind k) h (ltb-false (length (drop (spec.width + 6) bits)) (suc n * increment_bits_of spec.role spec.kind k) p) (contents_of spec k (take spec.width bits) (increments (suc n) (increment_bits_of spec.role spec.kind k) (drop (spec.width + 6) bits))) refl q
-
-  at_prefix : (k : ℕ) (b : Bool) → nat_lt (length bits) (spec.width + 6) ≡ b → (if b then Err data_end else item_by spec (suc n) k bits) ≡ Ok (found cs mid) → Forth (packed (suc n)) spec bits cs mid
-  at_prefix k true p q = absurd cc
-  at_prefix k false p q = at_item k (ltb-false (length bits) (spec.width + 6) p) (nat_lt (length (drop (spec.width + 6) bits)) (suc n * increment_bits_of spec.role spec.kind k)) refl q
-
 pub packed_forth : (n : ℕ) (spec : FieldSpec) (bits : List Bool) (cs : List Content) (mid : List Bool) → 1 ≤ spec.width → packed_field (suc n) spec bits ≡ Ok (found cs mid) → Forth (packed (suc n)) spec bits cs mid
-packed_forth n spec bits cs mid some e = at_prefix n spec bits cs mid some (number_of (take 6 (drop spec.width bits))) (nat_lt (length bits) (spec.width + 6)) refl e
+packed_forth n spec bits cs mid some e =
+    let k = number_of (take 6 (drop spec.width bits)) in
+    let base = take spec.width bits in
+    let suffix = drop (spec.width + 6) bits in
+    let used = suc n * increment_bits_of spec.role spec.kind k in
+    let t = item_ok (nat_lt (length bits) (spec.width + 6) || nat_lt (length suffix) used) (k == 0 || holds_in spec.role spec k (suc n) base suffix) (k == 0 || equal_in spec.role k (suc n) suffix) (contents_of spec k (suc n) base suffix) (drop used suffix) cs mid e in
+    let ends = neither (nat_lt (length bits) (spec.width + 6)) (nat_lt (length suffix) used) t.0 in
+    record {
+      gives = first_for spec cs (λ none. some_contents spec k n base suffix (t.3 ∙ none));
+      size = spec.width + 6 + used;
+      some = positive spec.width used;
+      within = within (spec.width + 6) used (length bits) (length suffix) (ltb-false (length bits) (spec.width + 6) ends.0) (ltb-false (length suffix) used ends.1) (length-drop (spec.width + 6) bits);
+      left_is = sym t.4 ∙ drop-drop used (spec.width + 6) bits;
+    }
+  where
+    positive : (w x : ℕ) → 1 ≤ w + 6 + x
+    positive w x = omega arith
+
+    within : (w x all left : ℕ) → w ≤ all → x ≤ left → left ≡ all - w → w + x ≤ all
+    within w x all left h g e = omega arith
 
 no_end : (s : Option Stop) → stopped_by s ≡ Some ended → ⊥
 no_end None e = cc

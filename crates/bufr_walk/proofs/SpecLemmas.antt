@@ -12,8 +12,7 @@ use Rattle.std.specs.BTreeMap.{insert_entry, is_at}
 use Rattle.std.specs.Map.{lookup}
 use Rattle.std.specs.Option.{unwrap_or}
 use Rattle.std.specs.Cmp.{unsigned_tied}
-use Rattle.bufr_walk.specs.Prelude.{Redefined, current_reference, with_reference, known_by, text_spec, Role, FieldSpec, IsSpec, HasWidth, HasRole, HasMissing, is_reference, number_field}
-use Rattle.bufr_tables.specs.declared.table_b.Kind.{Kind}
+use Rattle.bufr_walk.specs.Prelude.{Kind, Redefined, current_reference, with_reference, known_by, text_spec, Role, FieldSpec, IsSpec, HasWidth, HasRole, HasMissing, is_reference, number_field}
 use Rattle.bufr_tables.specs.declared.table_b.Kind.TheVariants as kind
 use Rattle.bufr_walk.specs.declared.spec.NumberParts.{NumberParts}
 use Rattle.bufr_walk.specs.declared.spec.Role.TheVariants as role

@@ -2,8 +2,7 @@
 use Rattle.std.proofs.lemmas.Grind.{common_steps}
 use Rattle.std.proofs.Common.{◌≡◌, ℕ, ◌+◌, List, [], ◌∷◌, ◌++◌, Result, refl, sym, ◌∙◌, ap, subst, zero-add, add_assoc, arith, ◌*◌, append-nil, Bool, true, false, Option, Some, None, Ok, Err, zero, suc, ◌-◌, ◌^◌, ◌<◌, length, drop, get_or, add-zero, ◌≤◌, length-append, ◌==◌, nat_lt, nat_le, if◌then◌else◌}
 use Rattle.bufr_tables.specs.Prelude.{Row, entry_of, x_of, Tree, delayed, is_inserted_text, bare, element, operator, fixed, size, depth, is_legal_operator, cells_of, AreCellsOf, IsLegal}
-use Rattle.bufr_walk.specs.Prelude.{Taken, FieldSpec, IsFor, IsForRole, is_reference, OperatorModel, after_field, after_operator, is_defining, element_spec, factor_spec, inserted_spec, if_valid_width, spec_by_kind, new_reference_spec, defined_field, numeric_spec, coded_spec, text_spec, text_width, local_width_spec, listed_by, unsigned_of, unsigned_field, begin, Rest, Course, NextTurn, later, ahead, counts_of, finish, open_end, operator_turn, unroll, passes, turns_of, asked, operated, counts_in, stop, at_end, refused, next_item, TakenField, Takes, oks, answers_of, StopsWalk, WalkGoes, Stops, HasWalked, StopsIn, ticked, Walked, course, TakesField, stop_by, tail_of, costs, owed, OpenGroup, frames_of, turns_after_pass, AllGroupsFit, IsAtNodes, IsAtCell, weight, Turned, WalkStop, Role, TurnRefusal}
-use Rattle.bufr_tables.specs.declared.table_b.Kind.{Kind}
+use Rattle.bufr_walk.specs.Prelude.{Kind, Taken, FieldSpec, IsFor, IsForRole, is_reference, OperatorModel, after_field, after_operator, is_defining, element_spec, factor_spec, inserted_spec, if_valid_width, spec_by_kind, new_reference_spec, defined_field, numeric_spec, coded_spec, text_spec, text_width, local_width_spec, listed_by, unsigned_of, unsigned_field, begin, Rest, Course, NextTurn, later, ahead, counts_of, finish, open_end, operator_turn, unroll, passes, turns_of, asked, operated, counts_in, stop, at_end, refused, next_item, TakenField, Takes, oks, answers_of, StopsWalk, WalkGoes, Stops, HasWalked, StopsIn, ticked, Walked, course, TakesField, stop_by, tail_of, costs, owed, OpenGroup, frames_of, turns_after_pass, AllGroupsFit, IsAtNodes, IsAtCell, weight, Turned, WalkStop, Role, TurnRefusal}
 use Rattle.std.proofs.lemmas.Bool.Decides.{nat_tests}
 use Rattle.std.proofs.lemmas.List.{drop-drop}
 use Rattle.bufr_tables.specs.declared.template.Cell.{Cell}

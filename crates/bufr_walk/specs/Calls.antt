@@ -5,10 +5,9 @@ use Rattle.bufr_tables.specs.Prelude.{Row, entry_of, row_of_entry}
 use Rattle.bufr_walk.specs.Content.{FieldSpec, Content, ShownValue, shown, missing, shown_number, shown_text, shown_missing, shown_reference}
 use Rattle.bufr_walk.specs.Course.{Course, ticked}
 use Rattle.bufr_walk.specs.Reading.{Item, plain, after, turns_after, turns_in, Values, apart, together, IsReading, Read, course_of}
-use Rattle.bufr_walk.specs.declared.fault.ShowFault.{ShowFault}
+pub use Rattle.bufr_walk.specs.declared.fault.ShowFault.{ShowFault}
 use Rattle.bufr_walk.specs.declared.visitor.Value.{Value}
 use Rattle.bufr_walk.specs.declared.visitor.ItemView.{ItemView}
-use Rattle.bufr_tables.specs.declared.table_b.Entry.{Entry}
 use Rattle.bufr_walk.specs.declared.fault.ShowFault.TheVariants as fault
 use Rattle.bufr_walk.specs.declared.visitor.Value.TheVariants as value
 
@@ -147,10 +146,3 @@ seen_value (value.Reference r) = shown_reference r
 -- the model of the view of an item
 abbrev pub seen : ItemView → View
 seen v = view v.fxy (option_map row_of_entry v.entry) (seen_value v.value)
-
--- ---- The row of Table B of a field.
-
--- the row of Table B of a field's element, where the field is read by it
-abbrev pub HasRow : List Row → FieldSpec → Option Entry → Type 0
-HasRow table spec found =
-    option_map row_of_entry found ≡ (if spec.listed then entry_of table spec.fxy else None)

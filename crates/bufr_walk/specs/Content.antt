@@ -2,10 +2,13 @@
 -- (WMO-No. 306, Volume I.2, FM 94: section 4, Tables B and C; what compression leaves open is a
 -- choice of this project)
 -- Cited by public contracts.
-use Rattle.std.specs.Prelude.{ℕ, ◌≡◌, ◌≤◌, ◌^◌, ◌%◌, Bool, ℤ, unsigned_abs, ◌<◌, ◌&&◌, nat_le, nat_lt, not, true, false, zero, suc, ◌-◌, ◌/◌, if◌then◌else◌, List, [], ◌∷◌, take, drop, replicate, pos, negsuc, neg_ℤ, nat_abs, ◌+ℤ◌, length, Result, Ok, Err, ◌+◌, ◌*◌, ◌==◌, ◌++◌, map}
+use Rattle.std.specs.Prelude.{ℕ, ◌≡◌, ◌≤◌, ◌^◌, ◌%◌, Bool, ℤ, unsigned_abs, ◌<◌, ◌&&◌, ◌||◌, nat_le, nat_lt, not, true, false, zero, suc, ◌-◌, ◌/◌, if◌then◌else◌, List, [], ◌∷◌, take, drop, replicate, pos, negsuc, neg_ℤ, nat_abs, ◌+ℤ◌, length, Result, Ok, Err, ◌+◌, ◌*◌, ◌==◌, ◌++◌, map}
 use Rattle.bufr_tables.specs.declared.table_b.Kind.{Kind}
 use Rattle.bufr_walk.specs.declared.spec.Role.{Role}
 use Rattle.bufr_walk.specs.declared.spec.Taken.{Taken}
+pub use Rattle.bufr_tables.specs.declared.table_b.Kind.{Kind}
+pub use Rattle.bufr_walk.specs.declared.spec.Role.{Role}
+pub use Rattle.bufr_walk.specs.declared.spec.Taken.{Taken}
 use Rattle.bufr_tables.specs.Prelude.{is_character}
 use Rattle.bufr_walk.specs.declared.spec.NumberParts.{NumberParts}
 use Rattle.bufr_tables.specs.declared.table_b.Kind.TheVariants as kind
@@ -231,39 +234,91 @@ plain_field spec bits =
     if nat_lt (length bits) spec.width then Err data_end
     else Ok (found (content_in spec (take spec.width bits)) (drop spec.width bits))
 
+-- ---- One item of compressed data: a base, six bits k, and an increment for each subset.
+
 -- the number that k ones write
 abbrev pub ones : ℕ → ℕ
 ones k = 2 ^ k - 1
-
--- one more content, unless one before it was at fault
-abbrev pub and_contents : Result Content FieldFault → Result (List Content) FieldFault
-    → Result (List Content) FieldFault
-and_contents (Err why) more = Err why
-and_contents (Ok c) (Err why) = Err why
-and_contents (Ok c) (Ok cs) = Ok (c ∷ cs)
-
--- the number of one subset: the base plus its increment of k bits
--- rule: compressed-missing-increment, compressed-past-width, compressed-sum-of-ones
--- rule: compressed-class-31
-abbrev pub increased : (may_be_missing : Bool) (width base k increment : ℕ)
-    → Result Content FieldFault
-increased m width base k i =
-    if m && (i == ones k) then Ok missing
-    else if nat_lt (ones width) (base + i) then Err increment
-    else if m && (base + i == ones width) then Ok missing
-    else Ok (number (base + i))
 
 -- the first n increments of k bits
 abbrev pub increments : (count k : ℕ) → List Bool → List (List Bool)
 increments zero k bits = []
 increments (suc n) k bits = take k bits ∷ increments n k (drop k bits)
 
--- the numbers of the subsets, or the first fault
-abbrev pub all_increased : (may_be_missing : Bool) (width base k : ℕ) → List (List Bool)
-    → Result (List Content) FieldFault
-all_increased m width base k [] = Ok []
-all_increased m width base k (i ∷ is) =
-    and_contents (increased m width base k (number_of i)) (all_increased m width base k is)
+-- how many bits each subset has after the base and k, by kind
+abbrev pub kind_step : Kind → ℕ → ℕ
+kind_step kind.Character k = 8 * k
+kind_step kind.Coded k = k
+kind_step kind.Numeric k = k
+
+-- the same by role
+abbrev pub increment_bits_of : Role → Kind → ℕ → ℕ
+increment_bits_of role.Element kind k = kind_step kind k
+increment_bits_of role.Inserted kind k = kind_step kind k
+increment_bits_of role.Factor kind k = kind_step kind k
+increment_bits_of role.Reference kind k = 0
+
+-- whether a base is missing: all ones, where that is allowed
+-- rule: compressed-all-missing
+abbrev pub is_missing : FieldSpec → (base : List Bool) → Bool
+is_missing spec base = are_all_ones base && spec.may_be_missing
+
+-- whether an increment of k bits is missing, or its sum with the base fits the width
+-- rule: compressed-past-width, compressed-class-31
+abbrev pub stays_within : (may_be_missing : Bool) (width base k increment : ℕ) → Bool
+stays_within m width base k i = (m && (i == ones k)) || not (nat_lt (ones width) (base + i))
+
+-- the same of all increments
+abbrev pub all_within : (may_be_missing : Bool) (width base k subsets : ℕ) → List Bool → Bool
+all_within m width base k n bits =
+    list_all (λ i. stays_within m width base k (number_of i)) (increments n k bits)
+
+-- whether the increments of numbers are valid; any are, where the base is missing
+-- rule: compressed-all-missing
+abbrev pub numbers_hold : FieldSpec → (k subsets : ℕ) → (base suffix : List Bool) → Bool
+numbers_hold spec k n base suffix =
+    is_missing spec base || all_within spec.may_be_missing spec.width (number_of base) k n suffix
+
+-- whether the increments of an item are valid, by kind
+-- rule: compressed-text-past-width, compressed-text-base
+abbrev pub holds_by : Kind → FieldSpec → (k subsets : ℕ) → (base suffix : List Bool) → Bool
+holds_by kind.Character spec k n base suffix = not (nat_lt (spec.width / 8) k)
+holds_by kind.Coded spec k n base suffix = numbers_hold spec k n base suffix
+holds_by kind.Numeric spec k n base suffix = numbers_hold spec k n base suffix
+
+-- the same by role: a redefined reference has no increments
+-- rule: compressed-references
+abbrev pub holds_in : Role → FieldSpec → (k subsets : ℕ) → (base suffix : List Bool) → Bool
+holds_in role.Element spec k n base suffix = holds_by spec.kind spec k n base suffix
+holds_in role.Inserted spec k n base suffix = holds_by spec.kind spec k n base suffix
+holds_in role.Factor spec k n base suffix = holds_by spec.kind spec k n base suffix
+holds_in role.Reference spec k n base suffix = false
+
+-- whether all increments of k bits are the same number
+abbrev pub all_equal : (k subsets first : ℕ) → List Bool → Bool
+all_equal k n first bits = list_all (λ i. number_of i == first) (increments n k bits)
+
+-- whether the counts of a factor are the same in all subsets
+-- rule: compressed-factors
+abbrev pub equal_in : Role → (k subsets : ℕ) → (suffix : List Bool) → Bool
+equal_in role.Element k n suffix = true
+equal_in role.Inserted k n suffix = true
+equal_in role.Factor k n suffix = all_equal k n (number_of (take k suffix)) suffix
+equal_in role.Reference k n suffix = true
+
+-- the number that a base and an increment give, where their sum stays within the width
+-- rule: compressed-missing-increment, compressed-sum-of-ones
+abbrev pub increased_to : (may_be_missing : Bool) (width base k increment : ℕ) → Content
+increased_to m width base k i =
+    if m && (i == ones k) then missing else if m && (base + i == ones width) then missing
+    else number (base + i)
+
+-- the content of a number with an increment
+-- rule: compressed-all-missing
+abbrev pub number_from : FieldSpec → (k : ℕ) → (base bits : List Bool) → Content
+number_from spec k base i =
+    if is_missing spec base then missing
+    else increased_to spec.may_be_missing spec.width (number_of base) k (number_of i)
 
 -- the text of one subset: k octets, followed by spaces up to its width
 -- rule: compressed-text, compressed-text-missing
@@ -271,91 +326,32 @@ abbrev pub padded_text : (octets k : ℕ) → List Bool → Content
 padded_text octets k bits =
     if are_all_ones bits then missing else text (octets_in k bits ++ replicate (octets - k) 32)
 
--- how many bits each subset has after the base and k
-abbrev pub increment_bits_of : Role → Kind → ℕ → ℕ
-increment_bits_of role.Reference kind k = 0
-increment_bits_of _ kind.Character k = 8 * k
-increment_bits_of _ kind.Coded k = k
-increment_bits_of _ kind.Numeric k = k
-
--- the numbers of the subsets: all are missing where the base is
--- rule: compressed-all-missing
-abbrev pub numbers_of : FieldSpec → (k : ℕ) → List Bool → List (List Bool)
-    → Result (List Content) FieldFault
-numbers_of spec k base is =
-    if are_all_ones base && spec.may_be_missing then Ok (map (λ i. missing) is)
-    else all_increased spec.may_be_missing spec.width (number_of base) k is
-
--- the texts of the subsets, where k is above 0
--- rule: compressed-text-past-width
-abbrev pub texts_of : FieldSpec → (k : ℕ) → List (List Bool) → Result (List Content) FieldFault
-texts_of spec k is =
-    if nat_lt (spec.width / 8) k then Err increment
-    else Ok (map (padded_text (spec.width / 8) k) is)
-
--- the contents of the subsets, where k is above 0, by kind
--- rule: compressed-text-base
-abbrev pub varied_by : Kind → FieldSpec → (k : ℕ) → List Bool → List (List Bool)
-    → Result (List Content) FieldFault
-varied_by kind.Character spec k base is = texts_of spec k is
-varied_by kind.Coded spec k base is = numbers_of spec k base is
-varied_by kind.Numeric spec k base is = numbers_of spec k base is
-
--- whether two contents of a factor are the same count
-abbrev pub same_count : Content → Content → Bool
-same_count (number a) (number b) = a == b
-same_count _ _ = false
-
--- whether the contents of a factor are all the same count
-abbrev pub all_same : List Content → Bool
-all_same [] = true
-all_same (c ∷ cs) = list_all (same_count c) cs
-
--- the contents of a factor, which are the same in all subsets
--- rule: compressed-factors, fault-34-before-33
-abbrev pub if_equal : Result (List Content) FieldFault → Result (List Content) FieldFault
-if_equal (Err why) = Err why
-if_equal (Ok cs) = if all_same cs then Ok cs else Err unequal_factor
-
--- the contents of an item with k above 0
--- rule: compressed-references
-abbrev pub varied : Role → FieldSpec → (k : ℕ) → List Bool → List (List Bool)
-    → Result (List Content) FieldFault
-varied role.Reference spec k base is = Err increment
-varied role.Factor spec k base is = if_equal (varied_by spec.kind spec k base is)
-varied _ spec k base is = varied_by spec.kind spec k base is
+-- the content of an item with an increment, by kind
+abbrev pub content_from : Kind → FieldSpec → (k : ℕ) → (base bits : List Bool) → Content
+content_from kind.Character spec k base i = padded_text (spec.width / 8) k i
+content_from kind.Coded spec k base i = number_from spec k base i
+content_from kind.Numeric spec k base i = number_from spec k base i
 
 -- the contents of an item, for each subset: without increments all have the base
 -- rule: compressed-equal
-abbrev pub contents_of : FieldSpec → (k : ℕ) → List Bool → List (List Bool)
-    → Result (List Content) FieldFault
-contents_of spec k base is =
-    if k == 0 then Ok (map (λ i. content_in spec base) is) else varied spec.role spec k base is
+abbrev pub contents_of : FieldSpec → (k subsets : ℕ) → (base suffix : List Bool) → List Content
+contents_of spec k n base suffix =
+    if k == 0 then replicate n (content_in spec base)
+    else map (content_from spec.kind spec k base) (increments n (kind_step spec.kind k) suffix)
 
--- contents, and the bits after the item
-abbrev pub with_suffix : Result (List Content) FieldFault → List Bool
-    → Result (FieldRead (List Content)) FieldFault
-with_suffix (Err why) bits = Err why
-with_suffix (Ok cs) bits = Ok (found cs bits)
-
--- an item whose k is known
--- rule: compressed-item, compressed-increments-there, fault-30-before-34
-abbrev pub item_by : FieldSpec → (subsets k : ℕ) → List Bool → Result (FieldRead (List Content))
-    FieldFault
-item_by spec n k bits =
-    let step = increment_bits_of spec.role spec.kind k in
-    let suffix = drop (spec.width + 6) bits in
-    if nat_lt (length suffix) (n * step) then Err data_end
-    else with_suffix (contents_of spec k (take spec.width bits) (increments n step suffix))
-    (drop (n * step) suffix)
-
--- the item that begins the bits, for n subsets
--- rule: compressed-item
+-- The item that begins the bits, for n subsets, or the first of its faults in this order.
+-- rule: compressed-item, compressed-increments-there, fault-30-before-34, fault-34-before-33
 abbrev pub packed_field : (subsets : ℕ) → FieldSpec → List Bool
     → Result (FieldRead (List Content)) FieldFault
 packed_field n spec bits =
-    if nat_lt (length bits) (spec.width + 6) then Err data_end
-    else item_by spec n (number_of (take 6 (drop spec.width bits))) bits
+    let k = number_of (take 6 (drop spec.width bits)) in
+    let base = take spec.width bits in
+    let suffix = drop (spec.width + 6) bits in
+    let used = n * increment_bits_of spec.role spec.kind k in
+    if nat_lt (length bits) (spec.width + 6) || nat_lt (length suffix) used then Err data_end
+    else if not (k == 0 || holds_in spec.role spec k n base suffix) then Err increment
+    else if not (k == 0 || equal_in spec.role k n suffix) then Err unequal_factor
+    else Ok (found (contents_of spec k n base suffix) (drop used suffix))
 
 -- what an item returns to the walk: factors are the same in all subsets, and so are references
 abbrev pub answer_first : FieldSpec → List Content → Taken

@@ -2,12 +2,10 @@
 -- Cited by public contracts.
 use Rattle.std.specs.Prelude.{ℕ, zero, suc, List, [], ◌∷◌, ◌+◌, Result, Ok, Err, if◌then◌else◌, ◌-◌, ◌^◌, min, max, ◌≡◌, ◌++◌, ◌*◌, ◌<◌, ◌≤◌, Option, Some, None, length, drop, slice_index}
 use Rattle.bufr_tables.specs.Prelude.{Tree, bare, element, operator, fixed, delayed, is_inserted_text, depth, Row, IsLegal, cells_of}
-use Rattle.bufr_walk.specs.declared.spec.TurnRefusal.{TurnRefusal}
-use Rattle.bufr_walk.specs.declared.spec.Taken.{Taken}
-use Rattle.bufr_walk.specs.Content.{FieldSpec, IsFor}
-use Rattle.bufr_walk.specs.Rules.{OperatorModel, begin, after_operator, after_field, element_spec, factor_spec, inserted_spec}
+use Rattle.bufr_walk.specs.Content.{Taken, FieldSpec, IsFor}
+use Rattle.bufr_walk.specs.Rules.{TurnRefusal, OperatorModel, begin, after_operator, after_field, element_spec, factor_spec, inserted_spec}
 use Rattle.bufr_walk.specs.declared.spec.Taken.TheVariants as taken
-use Rattle.bufr_walk.specs.declared.walker.WalkStop.{WalkStop}
+pub use Rattle.bufr_walk.specs.declared.walker.WalkStop.{WalkStop}
 use Rattle.bufr_tables.specs.declared.template.Cell.{Cell}
 use Rattle.bufr_walk.specs.declared.walker.Frame.{Frame}
 use Rattle.bufr_walk.specs.declared.spec.TurnRefusal.TheVariants as refusal

@@ -1,27 +1,21 @@
 -- The reader of compressed data, an item as the code reads it, and what a reading keeps.
 -- Cited by public contracts.
-use Rattle.std.specs.Prelude.{ℕ, ◌≡◌, ◌≤◌, ◌<◌, ◌+◌, ◌*◌, ◌%◌, ◌==◌, ◌&&◌, ◌||◌, Bool, true, false, List, [], ◌∷◌, ◌++◌, length, take, drop, Result, Ok, Err, ◌/◌, nat_lt, not, if◌then◌else◌, Option, Some, None, ◌-◌, map, get_or, pos}
+use Rattle.std.specs.Prelude.{ℕ, ◌≡◌, ◌≤◌, ◌<◌, ◌+◌, ◌*◌, ◌%◌, ◌==◌, ◌&&◌, ◌||◌, Bool, true, false, List, [], ◌∷◌, ◌++◌, length, take, drop, Result, Ok, Err, ◌/◌, Option, Some, None, ◌-◌, map, get_or}
 use Rattle.std.specs.List.{list_all, All}
-use Rattle.bufr_bits.specs.Prelude.{number_of, are_all_ones}
+use Rattle.bufr_bits.specs.Prelude.{number_of}
 use Rattle.bufr_tables.specs.Prelude.{is_character, Row}
-use Rattle.bufr_walk.specs.declared.spec.Taken.{Taken}
-use Rattle.bufr_walk.specs.declared.item_index.IndexedItem.{IndexedItem}
+pub use Rattle.bufr_walk.specs.declared.item_index.IndexedItem.{IndexedItem}
 use Rattle.bufr_walk.specs.declared.compressed.PackedFault.{PackedFault}
 use Rattle.bufr_walk.specs.declared.compressed.PackedFault.TheVariants as wrong
-use Rattle.bufr_walk.specs.declared.walker.WalkStop.{WalkStop}
 use Rattle.bufr_walk.specs.declared.walker.WalkStop.TheVariants as stops
-use Rattle.bufr_walk.specs.declared.fault.WalkFault.{WalkFault}
 use Rattle.bufr_walk.specs.declared.fault.WalkFault.TheVariants as fault
-use Rattle.bufr_walk.specs.Reading.{spot, Read, course_of, IsRead, Item, max_values, items_at_once, Data, Values, apart, together, IsReading}
-use Rattle.bufr_walk.specs.Content.{FieldSpec, Content, FieldFault, data_end, increment, unequal_factor, FieldRead, found, number, missing, packed_field, answer_first, ones, increments, increment_bits_of, padded_text, contents_of}
-use Rattle.bufr_tables.specs.declared.table_b.Kind.{Kind}
-use Rattle.bufr_tables.specs.declared.table_b.Kind.TheVariants as kind
-use Rattle.bufr_walk.specs.declared.spec.Role.{Role}
-use Rattle.bufr_walk.specs.declared.spec.Role.TheVariants as role
+use Rattle.bufr_walk.specs.Reading.{spot, Read, course_of, IsRead, Item, max_values, items_at_once, Data, Values, apart, together, IsReading, WalkFault}
+use Rattle.bufr_walk.specs.Content.{FieldSpec, Content, FieldFault, data_end, increment, unequal_factor, FieldRead, found, number, missing, packed_field, answer_first, Taken}
 use Rattle.bufr_walk.specs.declared.compressed.ItemBits.{ItemBits}
 use Rattle.bufr_walk.specs.declared.reading.StoredItems.{StoredItems}
 use Rattle.bufr_walk.specs.Calls.{Call, item_call, view_of, content_at}
-use Rattle.bufr_walk.specs.Course.{Course}
+use Rattle.bufr_walk.specs.Rules.{unsigned_field}
+use Rattle.bufr_walk.specs.Course.{WalkStop, Course}
 use Rattle.bufr_walk.specs.declared.item_index.ItemLocation.{ItemLocation}
 use Rattle.bufr_walk.specs.declared.reading.StoredItems.TheVariants as stored
 
@@ -144,89 +138,6 @@ packed_fault (stops.Field (wrong.TooManyValues fxy)) bit = fault.TooManyValues (
 packed_fault (stops.Field wrong.Memory) bit = fault.Memory
 packed_fault stops.Memory bit = fault.Memory
 
--- whether a base is missing: all ones, where that is allowed
-abbrev pub is_missing : FieldSpec → (base : List Bool) → Bool
-is_missing spec base = are_all_ones base && spec.may_be_missing
-
--- whether an increment of k bits is missing, or its sum with the base fits the width
-abbrev pub stays_within : (may_be_missing : Bool) (width base k increment : ℕ) → Bool
-stays_within m width base k i = (m && (i == ones k)) || not (nat_lt (ones width) (base + i))
-
--- the same of all increments
-abbrev pub all_within : (may_be_missing : Bool) (width base k subsets : ℕ) → List Bool → Bool
-all_within m width base k n bits =
-    list_all (λ i. stays_within m width base k (number_of i)) (increments n k bits)
-
--- whether all increments of k bits are the same number
-abbrev pub all_equal : (k subsets first : ℕ) → List Bool → Bool
-all_equal k n first bits = list_all (λ i. number_of i == first) (increments n k bits)
-
--- the number that a base and an increment give, where their sum stays within the width
-abbrev pub increased_to : (may_be_missing : Bool) (width base k increment : ℕ) → Content
-increased_to m width base k i =
-    if m && (i == ones k) then missing else if m && (base + i == ones width) then missing
-    else number (base + i)
-
--- whether the increments of numbers are valid
-abbrev pub numbers_hold : FieldSpec → (k subsets : ℕ) → (base suffix : List Bool) → Bool
-numbers_hold spec k n base suffix =
-    is_missing spec base || all_within spec.may_be_missing spec.width (number_of base) k n suffix
-
--- whether the increments of an item are valid
-abbrev pub holds_by : Kind → FieldSpec → (k subsets : ℕ) → (base suffix : List Bool) → Bool
-holds_by kind.Character spec k n base suffix = not (nat_lt (spec.width / 8) k)
-holds_by kind.Coded spec k n base suffix = numbers_hold spec k n base suffix
-holds_by kind.Numeric spec k n base suffix = numbers_hold spec k n base suffix
-
--- the content of a number with an increment
-abbrev pub number_from : FieldSpec → (k : ℕ) → (base bits : List Bool) → Content
-number_from spec k base i =
-    if is_missing spec base then missing
-    else increased_to spec.may_be_missing spec.width (number_of base) k (number_of i)
-
--- the content of an item with an increment, by kind
-abbrev pub content_from : Kind → FieldSpec → (k : ℕ) → (base bits : List Bool) → Content
-content_from kind.Character spec k base i = padded_text (spec.width / 8) k i
-content_from kind.Coded spec k base i = number_from spec k base i
-content_from kind.Numeric spec k base i = number_from spec k base i
-
--- the bits of an increment, by kind
-abbrev pub kind_step : Kind → ℕ → ℕ
-kind_step kind.Character k = 8 * k
-kind_step kind.Coded k = k
-kind_step kind.Numeric k = k
-
--- an item with this base, k and the bits `suffix` has contents, and returns `t`
-pub record IsItemAnswer (spec : FieldSpec) (k n : ℕ) (base suffix : List Bool)
-    (t : Taken) : Type 0 where
-  pub contents : List Content
-  pub are : contents_of spec k base
-      (increments n (increment_bits_of spec.role spec.kind k) suffix) ≡ Ok contents
-  pub gives : t ≡ answer_first spec contents
-
--- such an item is at fault
-pub record IsWrong (spec : FieldSpec) (k n : ℕ) (base suffix : List Bool)
-    (e : PackedFault) : Type 0 where
-  pub why : FieldFault
-  pub is : contents_of spec k base (increments n (increment_bits_of spec.role spec.kind k) suffix)
-      ≡ Err why
-  pub fault : e ≡ wrong_of spec.fxy why
-
--- what an item of known k at a bit returns to the walk, or its fault
-abbrev pub AnswersAt : (bits : List Bool) (at subsets : ℕ) → FieldSpec → (k : ℕ)
-    → Result Taken PackedFault → Type 0
-AnswersAt bits at n spec k (Ok t) =
-    IsItemAnswer spec k n (take spec.width (drop at bits)) (drop (at + (spec.width + 6)) bits) t
-AnswersAt bits at n spec k (Err e) =
-    IsWrong spec k n (take spec.width (drop at bits)) (drop (at + (spec.width + 6)) bits) e
-
--- whether a role returns nothing to the walk
-abbrev pub is_plain_role : Role → Bool
-is_plain_role role.Element = true
-is_plain_role role.Inserted = true
-is_plain_role role.Factor = false
-is_plain_role role.Reference = false
-
 -- an item at a bit: its contents, its answer, its k, the number of its base, and the bit after it
 pub record IsSeen (bits : List Bool) (at n : ℕ) (spec : FieldSpec) (s : ItemBits) : Type 0 where
   pub contents : List Content
@@ -249,18 +160,6 @@ abbrev pub sum_content : Option ℕ → Content
 sum_content (Some raw) = number raw
 sum_content None = missing
 
--- the next item is there, and not one too many
-pub record IsLooked (s : PackedCursor) (spec : FieldSpec) (found_there : ItemBits) : Type 0 where
-  pub few : (length s.items + 1) * s.subsets ≤ max_values
-  pub seen : IsSeen s.bits s.at s.subsets spec found_there
-
--- the next item is at fault, or there would be too many values
-abbrev pub IsUnlooked : PackedCursor → FieldSpec → PackedFault → Type 0
-IsUnlooked s spec (wrong.TooManyValues fxy) =
-    (fxy ≡ spec.fxy) × (max_values < (length s.items + 1) * s.subsets)
-IsUnlooked s spec wrong.Memory = ⊥
-IsUnlooked s spec e = IsPackedWrong s spec e
-
 -- one entry for each item of compressed data, which is at the entry's location
 abbrev pub AreKept : Data → List IndexedItem → List (Item (List Content)) → Type 0
 AreKept d entries items =
@@ -276,12 +175,6 @@ IsReadAndKept course d entries used steps =
 -- the content of a kept item for one subset, counted from 0
 abbrev pub content_kept : (bits : List Bool) (subsets : ℕ) → IndexedItem → (subset : ℕ) → Content
 content_kept bits n e j = content_at j (contents_found (packed_field n e.spec (drop e.at bits)))
-
--- a kept item has increments, and the subset, counted from 0, has one of them
-pub record HasIncrement (bits : List Bool) (n : ℕ) (e : IndexedItem) (j : ℕ) : Type 0 where
-  pub fits : fits_at bits n e ≡ true
-  pub below : j < n
-  pub some : 1 ≤ e.step
 
 -- the call that shows a kept item
 abbrev pub call_kept : List Row → (bits : List Bool) (subsets : ℕ) → IndexedItem → (subset : ℕ)
@@ -337,16 +230,7 @@ room_left entries = room_for entries - entries
 
 -- a default for an index after the last field; no item has it
 abbrev pub no_field : FieldSpec
-no_field = record {
-  fxy = 0;
-  role = role.Element;
-  kind = kind.Numeric;
-  width = 0;
-  scale = pos 0;
-  reference = pos 0;
-  may_be_missing = false;
-  listed = false;
-}
+no_field = unsigned_field 0 0
 
 -- the item of a location
 abbrev pub item_at_location : List FieldSpec → ItemLocation → IndexedItem

@@ -1,24 +1,18 @@
 -- The reader of data that are not compressed, one pass over them, and fields shown at once.
 -- Cited by public contracts.
-use Rattle.std.specs.Prelude.{ℕ, ◌≡◌, ◌≤◌, ◌+◌, Bool, List, drop, Result, Ok, Err, ◌*◌, false, length, Some, ◌∷◌, ◌++◌}
-use Rattle.bufr_walk.specs.declared.spec.Taken.{Taken}
+use Rattle.std.specs.Prelude.{ℕ, ◌≡◌, ◌≤◌, ◌+◌, Bool, List, drop, Result, Ok, Err, ◌++◌}
 use Rattle.bufr_walk.specs.declared.plain.DataEnd.{DataEnd}
-use Rattle.bufr_walk.specs.declared.walker.WalkStop.{WalkStop}
-use Rattle.bufr_walk.specs.declared.fault.WalkFault.{WalkFault}
-use Rattle.bufr_walk.specs.Content.{FieldSpec, Content, answer_of, plain_field, found, data_end}
-use Rattle.bufr_walk.specs.Reading.{spot, walk_fault_of, Stop, stop_at, Item, plain, ReadsItems, next_after, turns_after, turns_in, ReadsSubsets, ReadsPass}
-use Rattle.bufr_walk.specs.Course.{Course, Next, take_next, at_end, ticked}
-use Rattle.bufr_walk.specs.PackedIn.{items_in}
+use Rattle.bufr_walk.specs.Content.{Taken, FieldSpec, Content, answer_of, plain_field, found, data_end}
+use Rattle.bufr_walk.specs.Reading.{WalkFault, spot, Item, plain, turns_after, ReadsPass}
+use Rattle.bufr_walk.specs.Course.{WalkStop, Course, ticked}
 use Rattle.bufr_walk.specs.declared.walker.WalkStop.TheVariants as stops
 use Rattle.bufr_walk.specs.declared.fault.WalkFault.TheVariants as fault
-use Rattle.bufr_walk.specs.declared.spec.Role.TheVariants as role
 use Rattle.std.proofs.Common.{ap}
 use Rattle.bufr_tables.specs.Prelude.{Row}
-use Rattle.bufr_walk.specs.declared.fault.ShowFault.{ShowFault}
 use Rattle.bufr_walk.specs.declared.fault.ShowFault.TheVariants as show_fault
 use Rattle.bufr_walk.specs.declared.plain.ShowStop.{ShowStop}
 use Rattle.bufr_walk.specs.declared.plain.ShowStop.TheVariants as show_stop
-use Rattle.bufr_walk.specs.Calls.{Call, item_call, view_of, Timed, item_calls, subset_calls, Shows}
+use Rattle.bufr_walk.specs.Calls.{ShowFault, Call, item_call, view_of, Timed, item_calls, Shows}
 
 -- the bits, and how many of them were read
 pub record Cursor : Type 0 where
@@ -53,44 +47,6 @@ plain_fault (stops.Width fxy) subset bit = fault.Width (spot subset fxy bit)
 plain_fault (stops.Defining fxy) subset bit = fault.Defining (spot subset fxy bit)
 plain_fault (stops.Field e) subset bit = fault.DataEnd (spot subset e.fxy bit)
 plain_fault stops.Memory subset bit = fault.Memory
-
--- ---- One pass over data that are not compressed.
-
--- items were read up to what comes next, and their turns were counted
-pub record PassComes (course : Course) (s : Cursor) (steps : ℕ) (next : Next) (s' : Cursor)
-    (steps' : ℕ) : Type 0 where
-  pub items : List (Item Content)
-  pub reads : ReadsItems plain course items (rest_of s) (rest_of s')
-  pub next_is : next ≡ next_after plain course items
-  pub ticks : steps' ≡ ticked steps (turns_after plain course items)
-  pub same : s'.bits ≡ s.bits
-  pub pays : s.at + length items ≤ s'.at
-
--- the whole of a subset was read
-abbrev pub PassReads : Course → Cursor → (steps : ℕ) → Cursor → (steps' : ℕ) → Type 0
-PassReads course s steps s' steps' = PassComes course s steps at_end s' steps'
-
--- what comes next cannot be read, or, where it is a reference, cannot be kept
-abbrev pub PassStops : Course → Cursor → (steps subset : ℕ) → WalkFault → Cursor
-    → (steps' : ℕ) → Type 0
-PassStops course s steps subset fault.Memory s' steps' =
-    (spec : FieldSpec) × PassComes course s steps (take_next spec) s' steps'
-    × (spec.role ≡ role.Reference)
-PassStops course s steps subset why s' steps' =
-    (next : Next) × (stop : Stop) × PassComes course s steps next s' steps'
-    × (stop_at plain false next (rest_of s') ≡ Some stop) × (why ≡ walk_fault_of stop subset s'.at)
-
--- `count` subsets were read, in at most n turns a bit
-pub record SubsetsRead (n : ℕ) (course : Course) (bits : List Bool) (count : ℕ) (s : Cursor)
-    (steps : ℕ) : Type 0 where
-  pub subsets : List (List (Item Content))
-  pub whole : ReadsSubsets course subsets bits (rest_of s)
-  pub count_is : length subsets ≡ count
-  pub ticks : steps ≡ ticked 0 (turns_in course subsets)
-  pub same : s.bits ≡ bits
-  pub few : steps ≤ n * s.at
-  pub pays : items_in subsets ≤ s.at
-  pub within : s.at ≤ length bits
 
 -- the state of a showing: the reader, the visitor, the table, and the names of the first two
 pub record Stage (V : Type 0) : Type 0 where
@@ -180,46 +136,3 @@ ItemsGo sees table course c s steps (Ok _) c' s' steps' =
     ItemsShown sees table course c s steps c' s' steps'
 ItemsGo sees table course c s steps (Err why) c' s' steps' =
     ItemsEnded sees table course c s steps why s' steps'
-
--- the items of a subset were shown, after its own call
-pub record SubsetShown {S E : Type 0} (sees : S → Call → Result (Unit {0}) E → S → Type 0)
-    (table : List Row) (course : Course) (number : ℕ) (c : Cursor) (s : S) (steps : ℕ) (c' : Cursor)
-    (s' : S) (steps' : ℕ) : Type 0 where
-  pub shown : (before : ℕ) (items : List (Item Content)) (subsets : List (List (Item Content)))
-      (left : List Bool) → ReadsPass plain course items (rest_of c) left → steps ≡ ticked 0 before
-      → Sofar sees s (subset_calls table course before number (items ∷ subsets)) s'
-      (subset_calls table course (before + turns_after plain course items) (number + 1) subsets)
-  pub left_is : (items : List (Item Content)) (left : List Bool)
-      → ReadsPass plain course items (rest_of c) left
-      → (rest_of c' ≡ left) × (steps' ≡ ticked steps (turns_after plain course items))
-
--- a subset was shown up to a call that ended the showing
-pub record SubsetEnded {S E : Type 0} (sees : S → Call → Result (Unit {0}) E → S → Type 0)
-    (table : List Row) (course : Course) (number : ℕ) (c : Cursor) (s : S) (steps : ℕ)
-    (why : ShowFault E) (s' : S) (steps' : ℕ) : Type 0 where
-  pub ended : (before : ℕ) (items : List (Item Content)) (subsets : List (List (Item Content)))
-      (left : List Bool) (turns : ℕ) → ReadsPass plain course items (rest_of c) left
-      → steps ≡ ticked 0 before
-      → Shows sees s (subset_calls table course before number (items ∷ subsets)) turns
-      (Err why) s' steps'
-
--- a subset was shown, or a call ended the showing
-abbrev pub SubsetGoes : {S E : Type 0} → (S → Call → Result (Unit {0}) E → S → Type 0) → List Row
-    → Course → ℕ → Cursor → S → ℕ → Result (Unit {0}) (ShowFault E) → Cursor → S → ℕ → Type 0
-SubsetGoes sees table course number c s steps (Ok _) c' s' steps' =
-    SubsetShown sees table course number c s steps c' s' steps'
-SubsetGoes sees table course number c s steps (Err why) c' s' steps' =
-    SubsetEnded sees table course number c s steps why s' steps'
-
--- some subsets of the data were shown
-pub record SubsetsShown {S E : Type 0} (sees : S → Call → Result (Unit {0}) E → S → Type 0)
-    (table : List Row) (course : Course) (all : List (List (Item Content))) (done : ℕ)
-    (left : List Bool) (s : S) (c : Cursor) (s' : S) (steps : ℕ) : Type 0 where
-  pub before : ℕ
-  pub more : List (List (Item Content))
-  pub whole : ReadsSubsets course more (rest_of c) left
-  pub count : done + length more ≡ length all
-  pub ticks : steps ≡ ticked 0 before
-  pub total : before + turns_in course more ≡ turns_in course all
-  pub shown : Sofar sees s (subset_calls table course 0 1 all) s'
-      (subset_calls table course before (done + 1) more)

@@ -3,20 +3,17 @@
 -- is a choice of this project)
 -- Cited by public contracts.
 use Rattle.std.specs.Prelude.{ℕ, zero, suc, ◌≡◌, ◌+◌, ◌*◌, ◌≤◌, Bool, true, false, List, [], ◌∷◌, length, drop, Result, Ok, ◌⊎◌, ◌%◌, nat_lt, Option, Some, None, Err}
-use Rattle.bufr_walk.specs.declared.spec.Taken.{Taken}
-use Rattle.bufr_walk.specs.Content.{FieldSpec, Content, answer_of, FieldFault, FieldRead, found, plain_field, data_end, increment, unequal_factor, packed_field, answer_first}
+use Rattle.bufr_walk.specs.Content.{Taken, FieldSpec, Content, answer_of, FieldFault, FieldRead, found, plain_field, data_end, increment, unequal_factor, packed_field, answer_first}
 use Rattle.bufr_walk.specs.Course.{Course, Next, take_next, at_end, refused, next_item, ticked}
 use Rattle.bufr_walk.specs.declared.spec.TurnRefusal.{TurnRefusal}
 use Rattle.bufr_walk.specs.declared.fault.Spot.{Spot}
-use Rattle.bufr_walk.specs.declared.fault.WalkFault.{WalkFault}
-use Rattle.bufr_walk.specs.declared.compressed.PackedFault.{PackedFault}
+pub use Rattle.bufr_walk.specs.declared.fault.WalkFault.{WalkFault}
 use Rattle.bufr_bits.specs.Prelude.{bits_of}
 use Rattle.bufr_frame.specs.Prelude.{Sections}
 use Rattle.bufr_tables.specs.Prelude.{Row, Tree}
 use Rattle.bufr_walk.specs.declared.spec.Role.TheVariants as role
 use Rattle.bufr_walk.specs.declared.spec.TurnRefusal.TheVariants as refusal
 use Rattle.bufr_walk.specs.declared.fault.WalkFault.TheVariants as fault
-use Rattle.bufr_walk.specs.declared.compressed.PackedFault.TheVariants as wrong
 
 -- an item: its specification, and its content for one subset or for all
 pub record Item (C : Type 0) : Type 0 where
@@ -152,7 +149,8 @@ abbrev pub field_stop_of : {C : Type 0} → ℕ → Result (FieldRead C) FieldFa
 field_stop_of fxy (Ok f) = None
 field_stop_of fxy (Err why) = Some (field_stop fxy why)
 
--- the stop at what comes next, if there is one
+-- The stop at what comes next, if there is one. The faults at an item come in this order: the walk
+-- refuses it (32, 31), too many values (35), the field's own fault (30, 34, 33).
 -- rule: compressed-fault-order
 abbrev pub stop_at : {C : Type 0} → DataCoding C → (many : Bool) → Next → List Bool → Option Stop
 stop_at form many (refused why) bits = Some (walk_stop why)
@@ -254,14 +252,6 @@ number_of_walk_fault (fault.UnequalFactor s) = 33
 number_of_walk_fault (fault.Increment s) = 34
 number_of_walk_fault (fault.TooManyValues s) = 35
 number_of_walk_fault fault.Memory = 73
-
--- the number of a fault of compressed data
-abbrev pub number_of_packed : PackedFault → ℕ
-number_of_packed (wrong.DataEnd fxy) = 30
-number_of_packed (wrong.Increment fxy) = 34
-number_of_packed (wrong.UnequalFactor fxy) = 33
-number_of_packed (wrong.TooManyValues fxy) = 35
-number_of_packed wrong.Memory = 73
 
 -- ---- What the reading of a message returns.
 

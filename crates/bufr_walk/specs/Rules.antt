@@ -4,13 +4,10 @@
 -- Cited by public contracts.
 use Rattle.std.specs.Prelude.{ℕ, ◌==◌, ◌&&◌, not, nat_lt, Bool, if◌then◌else◌, List, [], ◌∷◌, ℤ, Result, Ok, Err, ◌+◌, ◌-◌, ◌*◌, ◌/◌, ◌^◌, nat_le, true, false, pos, ◌+ℤ◌, ◌-ℤ◌, ◌*ℤ◌, Option, Some, None, ◌≤◌, ◌≡◌, ◌<◌}
 use Rattle.bufr_tables.specs.Prelude.{x_of, y_of, Row, entry_of}
-use Rattle.bufr_walk.specs.declared.spec.TurnRefusal.{TurnRefusal}
-use Rattle.bufr_walk.specs.declared.spec.Taken.{Taken}
-use Rattle.bufr_tables.specs.declared.table_b.Kind.{Kind}
-use Rattle.bufr_walk.specs.declared.spec.Role.{Role}
-use Rattle.bufr_walk.specs.Content.{FieldSpec}
+pub use Rattle.bufr_walk.specs.declared.spec.TurnRefusal.{TurnRefusal}
+use Rattle.bufr_walk.specs.Content.{Taken, Role, Kind, FieldSpec}
 use Rattle.bufr_walk.specs.declared.operators.OperatorOperands.{OperatorOperands}
-use Rattle.bufr_walk.specs.declared.operators.TableField.{TableField}
+pub use Rattle.bufr_walk.specs.declared.operators.TableField.{TableField}
 use Rattle.bufr_walk.specs.declared.spec.TurnRefusal.TheVariants as refusal
 use Rattle.bufr_walk.specs.declared.spec.Taken.TheVariants as taken
 use Rattle.bufr_tables.specs.declared.table_b.Kind.TheVariants as kind
@@ -134,21 +131,6 @@ operator_width width extra y = if y == 0 then width + extra else (width + extra 
 abbrev pub is_never_missing : ℕ → Bool
 is_never_missing fxy = x_of fxy == 31
 
--- a quantity, by its row or the latest redefined reference, with the changes in force
--- rule: 2-07-y, 2-01-2-02-2-07-add-up, 2-07-y-of-a-new-reference, new-reference-of-quantities
-abbrev pub numeric_spec : OperatorModel → Row → FieldSpec
-numeric_spec s row = record {
-  fxy = row.fxy;
-  role = role.Element;
-  kind = kind.Numeric;
-  width = operator_width row.width (extra_bits s.precision_increase) s.width_change;
-  scale = (row.scale +ℤ scale_change_of s.scale_change) +ℤ pos s.precision_increase;
-  reference = current_reference s.new_references row.fxy row.reference *ℤ pos
-      (10 ^ s.precision_increase);
-  may_be_missing = not (is_never_missing row.fxy);
-  listed = true;
-}
-
 -- a figure of a code table: only a redefined reference changes it
 -- rule: new-reference-of-figures, figures-unchanged
 abbrev pub coded_spec : OperatorModel → Row → FieldSpec
@@ -161,6 +143,17 @@ coded_spec s row = record {
   reference = current_reference s.new_references row.fxy row.reference;
   may_be_missing = not (is_never_missing row.fxy);
   listed = true;
+}
+
+-- a quantity, by its row or the latest redefined reference, with the changes in force
+-- rule: 2-07-y, 2-01-2-02-2-07-add-up, 2-07-y-of-a-new-reference, new-reference-of-quantities
+abbrev pub numeric_spec : OperatorModel → Row → FieldSpec
+numeric_spec s row = record (coded_spec s row) {
+  kind = kind.Numeric;
+  width = operator_width row.width (extra_bits s.precision_increase) s.width_change;
+  scale = (row.scale +ℤ scale_change_of s.scale_change) +ℤ pos s.precision_increase;
+  reference = current_reference s.new_references row.fxy row.reference *ℤ pos
+      (10 ^ s.precision_increase);
 }
 
 -- text of `width` bits
@@ -189,26 +182,6 @@ spec_by_kind kind.Coded s row = if_valid_width (coded_spec s row)
 spec_by_kind kind.Character s row = Ok
     (text_spec role.Element row.fxy (text_width s row.width) true)
 
--- a reference that is being defined
-abbrev pub defined_field : OperatorModel → ℕ → FieldSpec
-defined_field s fxy =
-    record {
-      fxy = fxy;
-      role = role.Reference;
-      kind = kind.Numeric;
-      width = s.new_reference_width;
-      scale = pos 0;
-      reference = pos 0;
-      may_be_missing = false;
-      listed = false;
-    }
-
--- an element whose reference is being defined; no text has one
--- rule: defining-no-text
-abbrev pub new_reference_spec : Kind → OperatorModel → ℕ → Result FieldSpec TurnRefusal
-new_reference_spec kind.Character s fxy = Err (refusal.Defining fxy)
-new_reference_spec _ s fxy = if_valid_width (defined_field s fxy)
-
 -- an unsigned number of a given width
 -- rule: 2-06-y-of-class-31
 abbrev pub unsigned_field : (fxy width : ℕ) → FieldSpec
@@ -223,6 +196,17 @@ unsigned_field fxy width =
       may_be_missing = not (is_never_missing fxy);
       listed = false;
     }
+
+-- a reference that is being defined
+abbrev pub defined_field : OperatorModel → ℕ → FieldSpec
+defined_field s fxy = record (unsigned_field fxy s.new_reference_width)
+    { role = role.Reference; may_be_missing = false }
+
+-- an element whose reference is being defined; no text has one
+-- rule: defining-no-text
+abbrev pub new_reference_spec : Kind → OperatorModel → ℕ → Result FieldSpec TurnRefusal
+new_reference_spec kind.Character s fxy = Err (refusal.Defining fxy)
+new_reference_spec _ s fxy = if_valid_width (defined_field s fxy)
 
 -- such a number, or the refusal of its width
 -- rule: 2-06-y-other-width
@@ -252,17 +236,8 @@ element_spec table s fxy =
 
 -- the factor of a delayed replication, by its row alone
 abbrev pub factor_field : Row → ℕ → FieldSpec
-factor_field row fxy =
-    record {
-      fxy = fxy;
-      role = role.Factor;
-      kind = kind.Numeric;
-      width = row.width;
-      scale = row.scale;
-      reference = row.reference;
-      may_be_missing = false;
-      listed = true;
-    }
+factor_field row fxy = record (coded_spec begin row)
+    { fxy = fxy; role = role.Factor; kind = kind.Numeric; may_be_missing = false }
 
 -- such a factor, or the refusal of its width
 abbrev pub factor_by : Option Row → ℕ → Result FieldSpec TurnRefusal

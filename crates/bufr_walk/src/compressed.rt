@@ -1,19 +1,13 @@
 //! Compressed data, where each item occurs once for all subsets: fields, reading, and showing.
-ghost use Rattle.std.specs.Prelude.{◌≡◌, ◌≤◌, ◌<◌, ◌+◌, ◌*◌, ◌^◌, false, true, length, IfSome, ◌-◌, ◌/◌, ◌++◌, drop, MatchResult, IfOk, IfErr, ◌==◌, ◌&&◌, take, get_or, replicate};
+ghost use Rattle.std.specs.Prelude.{◌≡◌, ◌≤◌, ◌<◌, ◌+◌, ◌*◌, ◌^◌, false, true, length, IfSome, ◌-◌, ◌/◌, ◌++◌, drop, MatchResult, IfOk, IfErr, ◌==◌, ◌&&◌, take, get_or, replicate, []};
 ghost use Rattle.bufr_bits.specs.Prelude.{bits_at, number_of, bits_of, octets_of};
 ghost use Rattle.bufr_tables.specs.Prelude.{is_character, places};
-ghost use Rattle.bufr_walk.specs.PackedIn.{stays_within, all_equal, numbers_hold, holds_by, AnswersAt, IsSeen, IsUnseen, sum_content, IsReadAndKept, HasIncrement, call_kept, content_kept, packed_fault, items_at, fits_at};
-ghost use Rattle.bufr_walk.specs.Content.{IsFor, is_reference, ones, increment_bits_of, missing, number, shown};
+ghost use Rattle.bufr_walk.specs.Prelude.{stays_within, all_equal, numbers_hold, IsSeen, IsUnseen, sum_content, IsReadAndKept, call_kept, content_kept, packed_fault, items_at, fits_at, IsFor, is_reference, ones, increment_bits_of, missing, number, shown, next_item, bits_before, data_in, IsFault, compressed_item_calls, compressed_subset_calls, seen_value, Shows, IndexedItem, number_of_walk_fault, new_packed_in, max_values, PackedTakes, refuses_packed};
 ghost use Rattle.bufr_walk.specs.declared.walker.WalkStop.TheVariants as stops;
-ghost use Rattle.bufr_walk.specs.Course.{next_item};
-ghost use Rattle.bufr_walk.specs.Reading.{bits_before, data_in, IsFault};
 ghost use Rattle.std.specs.List.{list_all};
-ghost use Rattle.bufr_walk.specs.Calls.{compressed_item_calls, compressed_subset_calls, seen_value, Shows};
-ghost use Rattle.bufr_walk.specs.declared.item_index.IndexedItem.{IndexedItem};
+ghost use Rattle.std.proofs.Common.{arith, ap};
 
-use crate::fault::{
-    DATA_END, INCREMENT, ShowFault, Spot, TOO_MANY_VALUES, UNEQUAL_FACTOR, WalkFault,
-};
+use crate::fault::{ShowFault, Spot, WalkFault};
 use crate::item_index::{IndexedItem, ItemIndex, PackedRead};
 use crate::lists::SpecCache;
 use crate::plain::{answer_at, copy_octets, number_at, ones_at, raw_at, show_value, value_at};
@@ -21,7 +15,6 @@ use crate::spec::{Role, Spec, Taken};
 use crate::visitor::{ItemView, Value, Visitor, plain_number};
 use crate::walker::{Fields, Steps, WalkStop, walk_by};
 use bufr_bits::BitSlice;
-use bufr_frame::RunFault;
 use bufr_tables::{Fxy, Kind, TableB, Template};
 use std::alloc::Global;
 use std::marker::Model;
@@ -49,21 +42,12 @@ pub enum PackedFault {
 }
 
 impl PackedFault {
-    ghost use Rattle.std.specs.Prelude.{◌≡◌};
-    ghost use Rattle.bufr_walk.specs.Reading.{number_of_packed};
-
     /// The number of the [`WalkFault`](crate::WalkFault) that it becomes: 30, 33 to 35, and 73
     /// where memory ran out.
     pub fn number(self) -> u8
-        ensures { result ≡ number_of_packed self }
+        ensures { result ≡ number_of_walk_fault (packed_fault (stops.Field self) 0) }
     {
-        match self {
-            PackedFault::DataEnd(_) => DATA_END,
-            PackedFault::UnequalFactor(_) => UNEQUAL_FACTOR,
-            PackedFault::Increment(_) => INCREMENT,
-            PackedFault::TooManyValues(_) => TOO_MANY_VALUES,
-            PackedFault::Memory => RunFault::Memory.number(),
-        }
+        fault_at(WalkStop::Field(self), 0).number()
     }
 }
 
@@ -76,11 +60,8 @@ fn stays_within(spec: &Spec, base: u64, k: u32, increment: u64) -> bool
     requires increment { increment < 2 ^ k }
     ensures { result ≡ stays_within spec.now.may_be_missing spec.now.width base k increment }
 {
-    let width = spec.width();
-    if spec.may_be_missing() && increment == (1 << k) - 1 {
-        return true;
-    }
-    base + increment <= (1 << width) - 1
+    let missing = spec.may_be_missing() && increment == (1 << k) - 1;
+    missing || base + increment <= (1 << spec.width()) - 1
 }
 
 /// Whether the increments of numbers are valid; a base of all ones makes all of them valid.
@@ -132,23 +113,6 @@ fn are_equal(bits: &BitSlice<'_>, at: u64, subsets: u16, k: u32, first: u64) -> 
     true
 }
 
-/// Whether the increments of an item, or the count of octets of a text, are valid.
-// rule: compressed-text-past-width, compressed-text-base
-fn holds(bits: &BitSlice<'_>, at: u64, subsets: u16, spec: &Spec, k: u32) -> bool
-    requires increment { k ≤ 63 }
-    requires within { is_character spec.now.kind ≡ false
-        → at + (spec.now.width + 6) + subsets * k ≤ 8 * length (octets_of bits.now) }
-    ensures { result ≡ holds_by spec.now.kind spec.now k subsets
-        (bits_at (octets_of bits.now) at spec.now.width)
-        (drop (at + (spec.now.width + 6)) (bits_of (octets_of bits.now))) }
-{
-    match spec.kind() {
-        Kind::Character => k <= spec.width() / 8,
-        Kind::Coded => numbers_hold(bits, at, subsets, spec, k),
-        Kind::Numeric => numbers_hold(bits, at, subsets, spec, k),
-    }
-}
-
 /// The bits that each subset has after the base and `k`.
 fn increment_bits_of(spec: &Spec, k: u32) -> u32
     requires { k ≤ 63 }
@@ -164,51 +128,6 @@ fn increment_bits_of(spec: &Spec, k: u32) -> u32
     }
 }
 
-/// What an item whose `k` is known returns to the walk.
-// rule: compressed-equal, compressed-references, compressed-factors, fault-34-before-33
-fn item_answer_at(
-    bits: &BitSlice<'_>,
-    at: u64,
-    subsets: u16,
-    spec: &Spec,
-    k: u32,
-) -> Result<Taken, PackedFault>
-    requires increment { k ≤ 63 }
-    requires subsets { 1 ≤ subsets }
-    requires within { at + (spec.now.width + 6) + subsets
-        * increment_bits_of spec.now.role spec.now.kind k
-        ≤ 8 * length (octets_of bits.now) }
-    ensures answer { AnswersAt (bits_of (octets_of bits.now)) at subsets spec.now k result }
-    ensures shape { IfOk result (λ t. IsFor spec.now t) }
-{
-    if k == 0 {
-        return Ok(answer_at(bits, at, spec));
-    }
-    let reference = spec.is_reference();
-    if reference {
-        return Err(PackedFault::Increment(spec.fxy()));
-    }
-    let can_be = holds(bits, at, subsets, spec, k);
-    if !can_be {
-        return Err(PackedFault::Increment(spec.fxy()));
-    }
-    match spec.role() {
-        Role::Factor => {
-            let width = spec.width();
-            let suffix = at + (u64::from(width) + 6);
-            let first = number_at(bits, suffix, k);
-            let equal = are_equal(bits, suffix, subsets, k, first);
-            if !equal {
-                return Err(PackedFault::UnequalFactor(spec.fxy()));
-            }
-            Ok(Taken::Count(number_at(bits, at, width) + first))
-        }
-        Role::Element => Ok(Taken::Plain),
-        Role::Inserted => Ok(Taken::Plain),
-        Role::Reference => unreachable!(),
-    }
-}
-
 /// An item in the bits: its answer, its `k`, its base (0 for a text), and the bit after it.
 #[derive(Clone, Copy)]
 struct ItemBits {
@@ -218,20 +137,10 @@ struct ItemBits {
     end: u64,
 }
 
-/// The number of the base that begins with bit `at`, 0 for a text.
-fn number_there(bits: &BitSlice<'_>, at: u64, spec: &Spec) -> u64
-    requires within { at + spec.now.width ≤ 8 * length (octets_of bits.now) }
-    ensures { is_character spec.now.kind ≡ false
-        → result ≡ number_of (bits_at (octets_of bits.now) at spec.now.width) }
-{
-    if spec.is_text() {
-        return 0;
-    }
-    number_at(bits, at, spec.width())
-}
-
 /// The item that begins with bit `at`.
-// rule: compressed-item, compressed-increments-there, fault-30-before-34
+// rule: compressed-item, compressed-increments-there, fault-30-before-34, fault-34-before-33
+// rule: compressed-equal, compressed-references, compressed-factors
+// rule: compressed-text-past-width, compressed-text-base
 fn item_bits_at(
     bits: &BitSlice<'_>,
     at: u64,
@@ -254,15 +163,44 @@ fn item_bits_at(
     if left < size {
         return Err(PackedFault::DataEnd(spec.fxy()));
     }
-    match item_answer_at(bits, at, subsets, spec, k) {
-        Ok(answer) => Ok(ItemBits {
-            answer,
-            step: k as u8,
-            base: number_there(bits, at, spec),
-            end: at + size,
-        }),
-        Err(wrong) => Err(wrong),
-    }
+    let answer = if k == 0 {
+        answer_at(bits, at, spec)
+    } else {
+        let reference = spec.is_reference();
+        if reference {
+            return Err(PackedFault::Increment(spec.fxy()));
+        }
+        let valid = match spec.kind() {
+            Kind::Character => k <= spec.width() / 8,
+            Kind::Coded | Kind::Numeric => numbers_hold(bits, at, subsets, spec, k),
+        };
+        if !valid {
+            return Err(PackedFault::Increment(spec.fxy()));
+        }
+        match spec.role() {
+            Role::Factor => {
+                let suffix = at + (width + 6);
+                let first = number_at(bits, suffix, k);
+                let equal = are_equal(bits, suffix, subsets, k, first);
+                if !equal {
+                    return Err(PackedFault::UnequalFactor(spec.fxy()));
+                }
+                Taken::Count(number_at(bits, at, spec.width()) + first)
+            }
+            Role::Element | Role::Inserted => Taken::Plain,
+            Role::Reference => unreachable!(),
+        }
+    };
+    Ok(ItemBits {
+        answer,
+        step: k as u8,
+        base: if spec.is_text() {
+            0
+        } else {
+            number_at(bits, at, spec.width())
+        },
+        end: at + size,
+    })
 }
 
 /// The most values of a message with compressed data, read or written: its items times its subsets.
@@ -294,13 +232,6 @@ impl<'a> Model for PackedIn<'a> {
 }
 
 impl<'a> PackedIn<'a> {
-    ghost use Rattle.std.specs.Prelude.{◌≡◌, ◌≤◌, ◌+◌, ◌*◌, length, MatchResult, IfOk, [], true};
-    ghost use Rattle.std.specs.List.{list_all};
-    ghost use Rattle.bufr_bits.specs.Prelude.{bits_of, octets_of};
-    ghost use Rattle.bufr_walk.specs.Content.{IsFor};
-    ghost use Rattle.bufr_walk.specs.PackedIn.{IsLooked, IsUnlooked, items_at, fits_at, new_packed_in};
-    ghost use Rattle.bufr_walk.specs.Reading.{max_values};
-
     /// A reader of compressed data from bit 0 on, for at least one subset.
     pub fn new(alloc: Global, bits: BitSlice<'a>, subsets: u16) -> PackedIn<'a>
         requires { 1 ≤ subsets }
@@ -314,27 +245,10 @@ impl<'a> PackedIn<'a> {
             next: 0,
         }
     }
-
-    /// The next item, which is not passed.
-    // rule: too-many-values, compressed-fault-order
-    fn look(&self, spec: &Spec) -> Result<ItemBits, PackedFault>
-        ensures seen { MatchResult result (λ s. IsLooked self.now spec.now s)
-            (λ e. IsUnlooked self.now spec.now e) }
-        ensures shape { IfOk result (λ s. IsFor spec.now s.answer) }
-    {
-        let items = self.kept.len() as u64 + 1;
-        if items * u64::from(self.subsets) > MAX_VALUES {
-            return Err(PackedFault::TooManyValues(spec.fxy()));
-        }
-        item_bits_at(&self.bits, self.at, self.subsets, spec)
-    }
 }
 
 impl<'a> Fields for PackedIn<'a> {
     type Fault = PackedFault;
-
-    ghost use Rattle.std.proofs.Common.{arith, ap};
-    ghost use Rattle.bufr_walk.specs.PackedIn.{PackedTakes, refuses_packed};
 
     ghost used = { λ s. s.at };
 
@@ -344,8 +258,13 @@ impl<'a> Fields for PackedIn<'a> {
 
     ghost refuses = { λ s spec e next h. ap (λ c. c.at) (refuses_packed s spec e next h) };
 
+    // rule: too-many-values, compressed-fault-order
     fn take(&mut self, spec: &Spec) -> Result<Taken, PackedFault> {
-        let seen = self.look(spec)?;
+        let items = self.kept.len() as u64 + 1;
+        if items * u64::from(self.subsets) > MAX_VALUES {
+            return Err(PackedFault::TooManyValues(spec.fxy()));
+        }
+        let seen = item_bits_at(&self.bits, self.at, self.subsets, spec)?;
         let item = IndexedItem {
             spec: *spec,
             at: self.at,
@@ -373,27 +292,44 @@ impl<'a> Fields for PackedIn<'a> {
     }
 }
 
-/// The fault of an item, after `bit` bits.
-fn field_fault(wrong: PackedFault, bit: u64) -> WalkFault
-    ensures { result ≡ packed_fault (stops.Field wrong) bit }
-{
-    match wrong {
-        PackedFault::DataEnd(fxy) => WalkFault::DataEnd(Spot::new(0, fxy, bit)),
-        PackedFault::Increment(fxy) => WalkFault::Increment(Spot::new(0, fxy, bit)),
-        PackedFault::UnequalFactor(fxy) => WalkFault::UnequalFactor(Spot::new(0, fxy, bit)),
-        PackedFault::TooManyValues(fxy) => WalkFault::TooManyValues(Spot::new(0, fxy, bit)),
-        PackedFault::Memory => WalkFault::Memory,
-    }
-}
-
 /// The fault of the stop of a walk, after `bit` bits.
 fn fault_at(why: WalkStop<PackedFault>, bit: u64) -> WalkFault
     ensures { result ≡ packed_fault why bit }
 {
     match why {
-        WalkStop::Width(fxy) => WalkFault::Width(Spot::new(0, fxy, bit)),
-        WalkStop::Defining(fxy) => WalkFault::Defining(Spot::new(0, fxy, bit)),
-        WalkStop::Field(wrong) => field_fault(wrong, bit),
+        WalkStop::Width(fxy) => WalkFault::Width(Spot {
+            subset: 0,
+            fxy,
+            bit,
+        }),
+        WalkStop::Defining(fxy) => WalkFault::Defining(Spot {
+            subset: 0,
+            fxy,
+            bit,
+        }),
+        WalkStop::Field(wrong) => match wrong {
+            PackedFault::DataEnd(fxy) => WalkFault::DataEnd(Spot {
+                subset: 0,
+                fxy,
+                bit,
+            }),
+            PackedFault::Increment(fxy) => WalkFault::Increment(Spot {
+                subset: 0,
+                fxy,
+                bit,
+            }),
+            PackedFault::UnequalFactor(fxy) => WalkFault::UnequalFactor(Spot {
+                subset: 0,
+                fxy,
+                bit,
+            }),
+            PackedFault::TooManyValues(fxy) => WalkFault::TooManyValues(Spot {
+                subset: 0,
+                fxy,
+                bit,
+            }),
+            PackedFault::Memory => WalkFault::Memory,
+        },
         WalkStop::Memory => WalkFault::Memory,
     }
 }
@@ -489,34 +425,8 @@ fn pad(text: &mut [u8; 255], from: usize, count: usize)
     }
 }
 
-/// The text of a kept item with increments for one subset, counted from 0.
-// rule: compressed-text, compressed-text-missing
-fn text_of<'t>(
-    pack: &PackedData<'_>,
-    item: &IndexedItem,
-    subset: u16,
-    text: &'t mut [u8; 255],
-) -> Value<'t>
-    requires increment { HasIncrement (bits_of (octets_of pack.now.bits)) pack.now.subsets
-        item.now subset }
-    requires text { is_character item.now.spec.kind ≡ true }
-    ensures { seen_value result ≡ shown item.now.spec
-        (content_kept (bits_of (octets_of pack.now.bits)) pack.now.subsets item.now subset) }
-{
-    let width = item.spec.width();
-    let k = u32::from(item.step);
-    let place = item.at + (u64::from(width) + 6) + u64::from(subset) * u64::from(8 * k);
-    let missing = ones_at(&pack.bits, place, 8 * k);
-    if missing {
-        return Value::Missing;
-    }
-    let count = (width / 8) as usize;
-    copy_octets(&pack.bits, place, k as usize, text);
-    pad(text, k as usize, count);
-    Value::Text(&text[..count])
-}
-
 /// The value of a kept item for one subset, counted from 0.
+// rule: compressed-text, compressed-text-missing
 fn value_of<'a: 't, 't>(
     pack: &PackedData<'a>,
     item: &IndexedItem,
@@ -531,13 +441,23 @@ fn value_of<'a: 't, 't>(
     if item.step == 0 {
         return value_at(&pack.bits, item.at, &item.spec, text);
     }
-    if item.spec.is_text() {
-        return text_of(pack, item, subset, text);
+    if !item.spec.is_text() {
+        return match number_of(pack, item, subset) {
+            Some(raw) => Value::Number(i128::from(raw) + item.spec.reference(), item.spec.scale()),
+            None => Value::Missing,
+        };
     }
-    match number_of(pack, item, subset) {
-        Some(raw) => Value::Number(i128::from(raw) + item.spec.reference(), item.spec.scale()),
-        None => Value::Missing,
+    let width = item.spec.width();
+    let k = u32::from(item.step);
+    let place = item.at + (u64::from(width) + 6) + u64::from(subset) * u64::from(8 * k);
+    let missing = ones_at(&pack.bits, place, 8 * k);
+    if missing {
+        return Value::Missing;
     }
+    let count = (width / 8) as usize;
+    copy_octets(&pack.bits, place, k as usize, text);
+    pad(text, k as usize, count);
+    Value::Text(&text[..count])
 }
 
 /// Shows the kept item of an index that is not plain. It finds it itself: none is copied twice.

@@ -1,5 +1,6 @@
 //! Faults in the data of a message. (Their numbers and their order are a choice of this project.)
 ghost use Rattle.std.specs.Prelude.{◌≡◌};
+ghost use Rattle.bufr_walk.specs.Prelude.{number_of_walk_fault};
 
 use bufr_frame::RunFault;
 use bufr_tables::Fxy;
@@ -18,18 +19,6 @@ pub struct Spot {
     pub bit: u64,
 }
 
-impl Spot {
-    ghost use Rattle.std.specs.Prelude.{◌≡◌};
-    ghost use Rattle.bufr_walk.specs.Reading.{spot};
-
-    /// An item of this subset, after `bit` bits.
-    pub(crate) fn new(subset: u16, fxy: Fxy, bit: u64) -> Spot
-        ensures { result ≡ spot subset fxy bit }
-    {
-        Spot { subset, fxy, bit }
-    }
-}
-
 /// Says where the item is, as the fault lines do.
 impl fmt::Display for Spot {
     fn fmt<W: fmt::Write>(&self, f: &mut fmt::Formatter<W>) -> fmt::Result {
@@ -40,15 +29,6 @@ impl fmt::Display for Spot {
 
 /// The number of a width that no field has. A document can have this fault too.
 pub const WIDTH: u8 = 31;
-
-/// The number of data that end inside an item.
-pub(crate) const DATA_END: u8 = 30;
-
-/// The number of a factor that is not the same in all subsets of compressed data.
-pub(crate) const UNEQUAL_FACTOR: u8 = 33;
-
-/// The number of an increment of compressed data that is not valid.
-pub(crate) const INCREMENT: u8 = 34;
 
 /// The number of what may not come while 2 03 Y defines references. A document can have this fault
 /// too.
@@ -84,19 +64,16 @@ pub enum WalkFault {
 }
 
 impl WalkFault {
-    ghost use Rattle.std.specs.Prelude.{◌≡◌};
-    ghost use Rattle.bufr_walk.specs.Reading.{number_of_walk_fault};
-
     /// The number of this fault: 30 to 35, and 73 where memory ran out.
     pub fn number(self) -> u8
         ensures { result ≡ number_of_walk_fault self }
     {
         match self {
-            WalkFault::DataEnd(_) => DATA_END,
+            WalkFault::DataEnd(_) => 30,
             WalkFault::Width(_) => WIDTH,
             WalkFault::Defining(_) => DEFINING,
-            WalkFault::UnequalFactor(_) => UNEQUAL_FACTOR,
-            WalkFault::Increment(_) => INCREMENT,
+            WalkFault::UnequalFactor(_) => 33,
+            WalkFault::Increment(_) => 34,
             WalkFault::TooManyValues(_) => TOO_MANY_VALUES,
             WalkFault::Memory => RunFault::Memory.number(),
         }

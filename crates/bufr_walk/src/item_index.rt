@@ -1,8 +1,7 @@
 //! The index of the items of compressed data, and the specifications that they were read by.
 ghost use Rattle.bufr_walk.specs.declared.compressed.PackedFault.TheVariants as wrong;
-ghost use Rattle.std.specs.Prelude.{◌≡◌, ◌≤◌, ◌<◌, ◌+◌, ◌%◌, ◌^◌, ◌++◌, ◌∷◌, [], length, true, vec_len, vec_capacity, IfErr, OnOk, OnErr};
-ghost use Rattle.bufr_walk.specs.PackedIn.{HasSpecAt, IsPut, room_for, room_left};
-ghost use Rattle.bufr_walk.specs.Reading.{items_at_once};
+ghost use Rattle.std.specs.Prelude.{◌≡◌, ◌≤◌, ◌<◌, ◌+◌, ◌%◌, ◌^◌, ◌++◌, ◌∷◌, [], length, true, vec_len, vec_capacity, IfErr, OnOk, OnErr, get_or};
+ghost use Rattle.bufr_walk.specs.Prelude.{HasSpecAt, IsPut, room_for, room_left, items_at_once};
 
 use crate::compressed::PackedFault;
 use crate::spec::Spec;
@@ -100,19 +99,6 @@ fn place_of(specs: &mut Vec<Spec>, guess: u32, spec: &Spec) -> u32
     place
 }
 
-/// Keeps a location for which there is room.
-#[inline(always)]
-fn keep_place(places: &mut Vec<ItemLocation>, place: ItemLocation)
-    requires { room_for (vec_len places.old + 1) ≤ vec_capacity places.old }
-    ensures items { places.new.items ≡ places.old.items ++ place ∷ [] }
-    ensures room { room_for (vec_len places.old + 1) ≤ vec_capacity places.new }
-{
-    match places.push(place) {
-        Ok(()) => {}
-        Err(_) => unreachable!(),
-    }
-}
-
 /// The items that are kept: the location of each, and their fields in the order in which they came.
 /// A field that the guess missed is kept once more.
 #[derive(Drop)]
@@ -136,10 +122,6 @@ impl Model for ItemIndex {
 }
 
 impl ItemIndex {
-    ghost use Rattle.std.specs.Prelude.{◌≡◌, ◌<◌, ◌^◌, ◌%◌, ◌++◌, ◌∷◌, [], length, get_or, OnOk, OnErr, IfErr};
-    ghost use Rattle.bufr_walk.specs.Reading.{items_at_once};
-    ghost use Rattle.bufr_walk.specs.declared.compressed.PackedFault.TheVariants as wrong;
-
     /// No item.
     pub(crate) fn new(alloc: Global) -> ItemIndex
         ensures { result ≡ [] }
@@ -186,15 +168,15 @@ impl ItemIndex {
     {
         make_room(&mut self.places, &mut self.specs)?;
         let spec = place_of(&mut self.specs, guess, &item.spec);
-        keep_place(
-            &mut self.places,
-            ItemLocation {
-                at: item.at,
-                base: item.base,
-                spec,
-                step: item.step,
-            },
-        );
-        Ok(spec)
+        let place = ItemLocation {
+            at: item.at,
+            base: item.base,
+            spec,
+            step: item.step,
+        };
+        match self.places.push(place) {
+            Ok(()) => Ok(spec),
+            Err(_) => unreachable!(),
+        }
     }
 }

@@ -1,33 +1,23 @@
-//! Laws on the data of a message: they have one reading or one refusal, and never both.
+//! The law on the data of a message: they have one reading or one refusal, and never both.
 ghost use Rattle.std.specs.Prelude.{◌≡◌, ◌⊎◌, ℕ, List};
 ghost use Rattle.bufr_tables.specs.Prelude.{IsLegal, Record, Row, AreRows, Tree};
 ghost use Rattle.bufr_walk.specs.Prelude.{Course, next_item, IsRefused, Data, Values, IsReading, WalkFault};
 
-/// Law: two readings of the same data by the same course have the same items, with the same values,
-/// and take the same bits. (WMO-No. 306, Volume I.2, FM 94: sections 3 and 4)
-pub fn readings_are_one()
-    ensures { (course : Course) (d : Data) (v w : Values) (used used' : ℕ)
-        → IsReading course d v used → IsReading course d w used' → (v ≡ w) × (used ≡ used') }
-{}
-
-/// Law: two refusals of the same data by the same course are the same fault at the same location,
-/// after as many turns.
-pub fn refusals_are_one()
-    ensures { (course : Course) (d : Data) (why why' : WalkFault) (turns turns' : ℕ) → IsRefused
-        course d why turns → IsRefused course d why' turns' → (why ≡ why') × (turns ≡ turns') }
-{}
-
-/// Law: data that have a reading have no refusal.
-pub fn readings_are_not_refused()
-    ensures { (course : Course) (d : Data) (v : Values) (used : ℕ) (why : WalkFault) (turns : ℕ)
-        → IsReading course d v used → IsRefused course d why turns → ⊥ }
-{}
-
-/// Law: data have a reading or a refusal, by each template of legal nodes and each Table B. This
-/// holds for any bits, compressed or not, and any number of subsets.
+/// Law: data have a reading or a refusal, by each template of legal nodes and each Table B, and
+/// never both. This holds for any bits, compressed or not, and any number of subsets. Two readings
+/// of the same data by the same course have the same items, with the same values, and take the same
+/// bits. Two refusals are the same fault at the same location, after as many turns. (WMO-No. 306,
+/// Volume I.2, FM 94: sections 3 and 4)
 pub fn data_are_read_or_refused()
-    ensures { (records : List Record) (table : List Row) (template : Tree) (d : Data)
+    ensures either { (records : List Record) (table : List Row) (template : Tree) (d : Data)
         → AreRows records table → IsLegal template
         → ((v : Values) × (used : ℕ) × IsReading (next_item table template) d v used)
         ⊎ ((why : WalkFault) × (turns : ℕ) × IsRefused (next_item table template) d why turns) }
+    ensures never_both { (course : Course) (d : Data) (v : Values) (used : ℕ) (why : WalkFault)
+        (turns : ℕ) → IsReading course d v used → IsRefused course d why turns → ⊥ }
+    ensures one_reading { (course : Course) (d : Data) (v w : Values) (used used' : ℕ)
+        → IsReading course d v used → IsReading course d w used' → (v ≡ w) × (used ≡ used') }
+    ensures one_refusal { (course : Course) (d : Data) (why why' : WalkFault) (turns turns' : ℕ)
+        → IsRefused course d why turns → IsRefused course d why' turns'
+        → (why ≡ why') × (turns ≡ turns') }
 {}

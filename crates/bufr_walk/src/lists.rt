@@ -1,8 +1,9 @@
 //! The last lists of descriptors, each with its template and the specs that its cells were read by.
-ghost use Rattle.std.specs.Prelude.{◌≡◌, ◌<◌, ◌^◌, Ok, IfSome, ◌≢◌, ◌≤◌, [], length, true, false, IfErr, OnOk, get_or, List};
-ghost use Rattle.bufr_tables.specs.Prelude.{Row, Sequence};
+ghost use Rattle.std.specs.Prelude.{◌≡◌, ◌<◌, ◌^◌, Ok, IfSome, ◌≢◌, ◌≤◌, [], length, true, false, IfErr, OnOk, get_or, List, Err, IfOk};
+ghost use Rattle.bufr_tables.specs.Prelude.{Row, Sequence, tree_of, tables_of};
 ghost use Rattle.bufr_walk.specs.TemplateCache.{MayStay, IsSlotBy, IsOther, AreSlots};
 ghost use Rattle.std.specs.List.{All};
+ghost use Rattle.bufr_walk.specs.Prelude.{IsSpecBy, MayStay, IsSlotBy};
 
 use crate::spec::{Role, Spec};
 use bufr_tables::{Fxy, SelectedTemplate, TableB, TableD, Template, TemplateFault};
@@ -57,9 +58,6 @@ impl<'a> Model for SpecCache<'a> {
 }
 
 impl<'a> SpecCache<'a> {
-    ghost use Rattle.std.specs.Prelude.{◌≡◌, ◌<◌, ◌^◌, IfSome};
-    ghost use Rattle.bufr_walk.specs.TemplateCache.{IsSpecBy};
-
     /// No spec, and no room for one. Takes no memory.
     pub fn new(alloc: Global, table: &'a TableB) -> SpecCache<'a>
         ensures { result ≡ table.now }
@@ -140,11 +138,7 @@ impl<'a> SpecCache<'a> {
     /// The last index of the field of a cell among those that are kept.
     #[inline(always)]
     pub(crate) fn kept(&self, place: u32) -> Option<u32> {
-        let place = place as usize;
-        if place < self.entries.len() {
-            return Some(self.entries[place].kept);
-        }
-        None
+        self.entries.get(place as usize).map(|entry| entry.kept)
     }
 
     /// Notes the index of the field of a cell among those that are kept.
@@ -173,9 +167,6 @@ struct Slot<'a> {
 }
 
 impl<'a> Slot<'a> {
-    ghost use Rattle.std.specs.Prelude.{◌≡◌, [], true, OnOk};
-    ghost use Rattle.bufr_walk.specs.TemplateCache.{MayStay, IsSlotBy};
-
     /// The list of no descriptors.
     fn new(alloc: Global, table_b: &'a TableB, table_d: &'a TableD) -> Slot<'a>
         ensures slot { IsSlotBy table_b.now table_d.now result }
@@ -243,8 +234,8 @@ fn drop_first(slots: &mut Vec<Slot<'_>>)
 }
 
 /// Templates by two tables. For a list of descriptors that is selected again, neither the template
-/// nor the specs of its cells are made again. A clause sees the tables, the list that was selected
-/// last, and the others that are kept.
+/// nor the specs of its cells are made again. A clause sees the tables and the list that was
+/// selected last.
 ///
 /// ```
 /// let mut templates = TemplateCache::new(alloc, &table_b, &table_d);
@@ -266,35 +257,26 @@ pub struct TemplateCache<'a> {
 }
 
 impl<'a> Model for TemplateCache<'a> {
-    ghost use Rattle.bufr_walk.specs.TemplateCache.{Lists};
+    ghost use Rattle.bufr_walk.specs.TemplateCache.{Lists, AreSlots};
 
     ghost Value = { Lists };
-
-    ghost use Rattle.bufr_walk.specs.TemplateCache.{AreSlots, lists_of};
 
     ghost view = { λ t. record {
       table_b = t.table_b.now;
       table_d = t.table_d.now;
       list = t.last.templates.list;
-      others = lists_of t.others.items;
     } };
 
     ghost invariant = { λ t. AreSlots t.table_b.now t.table_d.now t.last t.others.items };
 }
 
 impl<'a> TemplateCache<'a> {
-    ghost use Rattle.std.specs.Prelude.{◌≡◌, ◌≢◌, ◌≤◌, [], length, true, Ok, Err, IfErr, IfOk, OnOk};
-    ghost use Rattle.std.specs.List.{All};
-    ghost use Rattle.bufr_tables.specs.Prelude.{tree_of, tables_of};
-    ghost use Rattle.bufr_walk.specs.TemplateCache.{MayStay};
-
     /// Templates by these tables; the list of no descriptors is the last. Takes no memory.
     pub fn new(alloc: Global, table_b: &'a TableB, table_d: &'a TableD) -> TemplateCache<'a>
         ensures { result ≡ record {
           table_b = table_b.now;
           table_d = table_d.now;
           list = [];
-          others = [];
         } }
     {
         TemplateCache {
@@ -384,14 +366,5 @@ impl<'a> TemplateCache<'a> {
         ensures { result.now ≡ self.now.table_b }
     {
         self.table_b
-    }
-
-    /// The lists that are kept beside the last one are few, and each may stay.
-    pub fn others(&self) -> usize
-        ensures value { result ≡ length self.now.others }
-        ensures few { length self.now.others ≤ 15 }
-        ensures stay { All (MayStay self.now.table_b self.now.table_d) self.now.others }
-    {
-        self.others.len()
     }
 }

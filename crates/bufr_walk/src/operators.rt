@@ -1,9 +1,10 @@
 //! The operators in force, and the specification of a field under them.
-ghost use Rattle.std.specs.Prelude.{◌≡◌, ◌≤◌, ◌<◌, ◌*◌, ◌+◌, ◌^◌, ◌+ℤ◌, ◌*ℤ◌, if◌then◌else◌, ◌==◌, pos, unsigned_abs, List, Result, Ok, Err, Some, OnOk, IfOk, IfErr, IsSome, true, false};
+ghost use Rattle.std.specs.Prelude.{◌≡◌, ◌≤◌, ◌<◌, ◌*◌, ◌+◌, ◌^◌, ◌+ℤ◌, ◌*ℤ◌, if◌then◌else◌, ◌==◌, pos, unsigned_abs, List, Result, Ok, Err, Some, OnOk, IfOk, IfErr, IsSome, true, false, [], ◌∷◌};
 ghost use Rattle.std.specs.Ordering.{nat_cmp};
 ghost use Rattle.std.specs.BTreeMap.{get};
 ghost use Rattle.bufr_tables.specs.Prelude.{row_of_entry, is_legal_operator, is_inserted_text, IsRow};
-ghost use Rattle.bufr_walk.specs.Rules.{if_valid_width, numeric_spec, coded_spec, spec_by_kind, new_reference_spec, unsigned_of, local_width_spec, element_spec, factor_by, factor_spec, inserted_spec, scale_change_of, operator_width, extra_bits, text_width, OperatorModel, Redefined, begin, after_operator, after_field, current_reference, with_reference, AreOperands, known_by, operator_model, IsOperatorKey};
+ghost use Rattle.bufr_walk.specs.Prelude.{if_valid_width, factor_by, spec_by_kind, new_reference_spec, unsigned_field, local_width_spec, scale_change_of, operator_width, extra_bits, OperatorModel, Redefined, current_reference, with_reference, AreOperands, known_by, operator_model, IsOperatorKey, HasRole, descriptor_of, key_word, element_spec, factor_spec, inserted_spec, begin, after_operator, after_field, IsFieldKey, spec_of, is_reference, TakesField};
+ghost use Rattle.bufr_tables.specs.declared.table_b.Kind.TheVariants as kinds;
 ghost use Rattle.bufr_walk.specs.declared.operators.OperatorOperands.{OperatorOperands};
 
 use crate::lists::NO_KEY;
@@ -14,44 +15,26 @@ use std::alloc::{AllocError, Global};
 use std::collections::BTreeMap;
 use std::marker::Model;
 
-/// The operand Y of each operator in force, 0 where none is.
+/// The operand Y of each operator in force, 0 where none is, as in `OperatorModel` of `specs/`.
 #[derive(Clone, Copy)]
 pub(crate) struct OperatorOperands {
-    /// 2 01 Y: the width of a quantity is changed by Y - 128 bits.
     width_change: u8,
-    /// 2 02 Y: the scale of a quantity is changed by Y - 128.
     scale_change: u8,
-    /// 2 03 Y: references of Y bits are being defined.
     new_reference_width: u8,
-    /// 2 07 Y: a quantity has Y decimal digits more.
     precision_increase: u8,
-    /// 2 08 Y: a text has Y octets.
     character_octets: u8,
-    /// 2 06 Y: the next element has Y bits.
     local_width: u8,
 }
 
 /// No operator is in force.
-fn no_operators() -> OperatorOperands
-    ensures value { result ≡ record {
-      width_change = 0;
-      scale_change = 0;
-      new_reference_width = 0;
-      precision_increase = 0;
-      character_octets = 0;
-      local_width = 0;
-    } }
-    ensures operands { AreOperands result }
-{
-    OperatorOperands {
-        width_change: 0,
-        scale_change: 0,
-        new_reference_width: 0,
-        precision_increase: 0,
-        character_octets: 0,
-        local_width: 0,
-    }
-}
+const NO_OPERATORS: OperatorOperands = OperatorOperands {
+    width_change: 0,
+    scale_change: 0,
+    new_reference_width: 0,
+    precision_increase: 0,
+    character_octets: 0,
+    local_width: 0,
+};
 
 /// A field that is read by an entry of Table B: an element, or the factor of a replication.
 #[derive(Clone, Copy)]
@@ -61,9 +44,6 @@ pub(crate) enum TableField {
 }
 
 impl TableField {
-    ghost use Rattle.std.specs.Prelude.{◌≡◌, ◌<◌};
-    ghost use Rattle.bufr_walk.specs.Rules.{descriptor_of, key_word};
-
     /// Its descriptor.
     #[inline(always)]
     pub(crate) fn fxy(&self) -> Fxy
@@ -72,18 +52,6 @@ impl TableField {
         match *self {
             TableField::Element(fxy) => fxy,
             TableField::Factor(fxy) => fxy,
-        }
-    }
-
-    /// The word of its descriptor; for a factor a greater number.
-    #[inline(always)]
-    fn key_word(&self) -> u64
-        ensures value { result ≡ key_word self.now }
-        ensures word { descriptor_of self.now < 65536 }
-    {
-        match *self {
-            TableField::Element(fxy) => u64::from(fxy.word()),
-            TableField::Factor(fxy) => u64::from(fxy.word()) + 0x1_0000,
         }
     }
 }
@@ -99,15 +67,11 @@ pub(crate) struct OperatorState {
 }
 
 impl Model for OperatorState {
-    ghost use Rattle.bufr_walk.specs.Rules.{OperatorModel};
+    ghost use Rattle.bufr_walk.specs.Rules.{OperatorModel, AreOperands, known_by, operator_model, IsOperatorKey};
 
     ghost Value = { OperatorModel };
 
-    ghost use Rattle.bufr_walk.specs.Rules.{AreOperands, known_by, operator_model};
-
     ghost view = { λ a. operator_model a.operands (known_by a.new_references.entries) };
-
-    ghost use Rattle.bufr_walk.specs.Rules.{IsOperatorKey};
 
     ghost invariant = { λ a. AreOperands a.operands
         × IsOperatorKey (operator_model a.operands (known_by a.new_references.entries)) a.key };
@@ -127,7 +91,7 @@ fn key_by(operands: OperatorOperands, new_references: &BTreeMap<u16, i64>) -> u6
         + 0x1_0000_0000 * u64::from(operands.local_width)
 }
 
-/// Makes room for the reference of an element, which is 0 then.
+/// Makes room for the reference of an element, by a reference of 0.
 #[tactic(auto, using(crate::proofs::SpecLemmas::known_more))]
 fn make_room(new_references: &mut BTreeMap<u16, i64>, fxy: Fxy) -> Result<(), AllocError>
     ensures known { OnOk result (known_by new_references.new.entries
@@ -136,20 +100,6 @@ fn make_room(new_references: &mut BTreeMap<u16, i64>, fxy: Fxy) -> Result<(), Al
 {
     new_references.insert(fxy.word(), 0)?;
     Ok(())
-}
-
-/// Keeps a reference of an element, for which there is room, in place of the one before.
-#[tactic(auto, using(crate::proofs::SpecLemmas::known_more))]
-// rule: last-reference-counts
-fn redefine(new_references: &mut BTreeMap<u16, i64>, fxy: Fxy, reference: i64)
-    requires { IsSome (get nat_cmp new_references.old fxy) }
-    ensures { known_by new_references.new.entries
-        ≡ with_reference fxy reference (known_by new_references.old.entries) }
-{
-    match new_references.insert(fxy.word(), reference) {
-        Ok(_) => {}
-        Err(_) => unreachable!(),
-    }
 }
 
 /// The reference that the data defined for an element, or that of Table B.
@@ -163,8 +113,8 @@ fn reference_of(new_references: &BTreeMap<u16, i64>, entry: &Entry<'_>) -> i64
     if new_references.is_empty() {
         return entry.reference();
     }
-    let local_width = new_references.get(&entry.fxy().word()).copied();
-    local_width.unwrap_or(entry.reference())
+    let redefined = new_references.get(&entry.fxy().word()).copied();
+    redefined.unwrap_or(entry.reference())
 }
 
 /// The width of a quantity with the changes in force (2 01 Y, 2 07 Y), in bits.
@@ -224,84 +174,10 @@ fn scaled(reference: i64, precision_increase: u8) -> i128
     reference * i128::from(power_of_ten(precision_increase))
 }
 
-/// A number in a quantity's unit.
-#[inline(always)]
-// rule: class-31-never-missing, 2-01-2-02-2-07-add-up
-fn numeric_spec(
-    operands: OperatorOperands,
-    reference: i64,
-    entry: &Entry<'_>,
-) -> Result<Spec, TurnRefusal>
-    requires row { IsRow (row_of_entry entry.now) }
-    requires operands { AreOperands operands }
-    ensures { (known : List Redefined)
-        → reference ≡ current_reference known (row_of_entry entry.now).fxy
-        (row_of_entry entry.now).reference
-        → result ≡ if_valid_width (numeric_spec (operator_model operands known)
-        (row_of_entry entry.now)) }
-{
-    Spec::number(
-        entry.fxy(),
-        Role::Element,
-        NumberParts {
-            kind: Kind::Numeric,
-            width: operator_width(
-                entry.width(),
-                operands.precision_increase,
-                operands.width_change,
-            ),
-            scale: operator_scale(
-                entry.scale(),
-                operands.scale_change,
-                operands.precision_increase,
-            ),
-            reference: scaled(reference, operands.precision_increase),
-            may_be_missing: entry.fxy().x() != 31,
-            listed: true,
-        },
-    )
-}
-
-/// A figure of a code table.
-#[inline(always)]
-// rule: class-31-never-missing, new-reference-of-figures, figures-unchanged
-fn coded_spec(reference: i64, entry: &Entry<'_>) -> Result<Spec, TurnRefusal>
-    requires row { IsRow (row_of_entry entry.now) }
-    ensures { (operands : OperatorOperands) (known : List Redefined)
-        → reference ≡ current_reference known (row_of_entry entry.now).fxy
-        (row_of_entry entry.now).reference
-        → result ≡ if_valid_width (coded_spec (operator_model operands known)
-        (row_of_entry entry.now)) }
-{
-    Spec::number(
-        entry.fxy(),
-        Role::Element,
-        NumberParts {
-            kind: Kind::Coded,
-            width: entry.width(),
-            scale: entry.scale(),
-            reference: i128::from(reference),
-            may_be_missing: entry.fxy().x() != 31,
-            listed: true,
-        },
-    )
-}
-
-/// The width of a text element, in bits (2 08 Y).
-#[inline(always)]
-// rule: 2-08-y, cancel-2-07-and-2-08
-fn text_width(width: u32, character_octets: u8) -> u32
-    ensures { result ≡ (if character_octets == 0 then width else 8 * character_octets) }
-{
-    if character_octets == 0 {
-        width
-    } else {
-        8 * u32::from(character_octets)
-    }
-}
-
 /// An element by its row and its reference.
 #[inline(always)]
+// rule: class-31-never-missing, 2-01-2-02-2-07-add-up, new-reference-of-figures, figures-unchanged
+// rule: 2-08-y, cancel-2-07-and-2-08
 fn spec_by_kind(
     operands: OperatorOperands,
     reference: i64,
@@ -315,60 +191,56 @@ fn spec_by_kind(
         → result ≡ spec_by_kind (row_of_entry entry.now).kind (operator_model operands known)
         (row_of_entry entry.now) }
 {
+    let fxy = entry.fxy();
     match entry.kind() {
-        Kind::Numeric => numeric_spec(operands, reference, entry),
-        Kind::Coded => coded_spec(reference, entry),
-        Kind::Character => Ok(Spec::text(
-            Role::Element,
-            entry.fxy(),
-            text_width(entry.width(), operands.character_octets),
-            true,
-        )),
-    }
-}
-
-/// An element whose reference is being defined (2 03 Y).
-#[inline(always)]
-// rule: defining-no-text
-fn new_reference_spec(new_reference_width: u8, fxy: Fxy, kind: Kind) -> Result<Spec, TurnRefusal>
-    ensures { (s : OperatorModel) → s.new_reference_width ≡ new_reference_width → result
-        ≡ new_reference_spec kind s fxy }
-{
-    match kind {
-        Kind::Character => Err(TurnRefusal::Defining(fxy)),
-        Kind::Coded | Kind::Numeric => Spec::number(
-            fxy,
-            Role::Reference,
-            NumberParts {
+        Kind::Numeric => {
+            let precision = operands.precision_increase;
+            let number = NumberParts {
                 kind: Kind::Numeric,
-                width: u32::from(new_reference_width),
-                scale: 0,
-                reference: 0,
-                may_be_missing: false,
-                listed: false,
-            },
-        ),
+                width: operator_width(entry.width(), precision, operands.width_change),
+                scale: operator_scale(entry.scale(), operands.scale_change, precision),
+                reference: scaled(reference, precision),
+                may_be_missing: fxy.x() != 31,
+                listed: true,
+            };
+            Spec::number(fxy, Role::Element, number)
+        }
+        Kind::Coded => {
+            let number = NumberParts {
+                kind: Kind::Coded,
+                width: entry.width(),
+                scale: entry.scale(),
+                reference: i128::from(reference),
+                may_be_missing: fxy.x() != 31,
+                listed: true,
+            };
+            Spec::number(fxy, Role::Element, number)
+        }
+        Kind::Character if operands.character_octets > 0 => {
+            let width = 8 * u32::from(operands.character_octets);
+            Ok(Spec::text(Role::Element, fxy, width, true))
+        }
+        Kind::Character => Ok(Spec::text(Role::Element, fxy, entry.width(), true)),
     }
 }
 
 /// An unsigned number of a given width.
 #[inline(always)]
 // rule: 2-06-y-other-width, 2-06-y-of-class-31
-fn unsigned_of(fxy: Fxy, width: u8) -> Result<Spec, TurnRefusal>
-    ensures { result ≡ unsigned_of fxy width }
+fn unlisted(fxy: Fxy, role: Role, width: u8, may_be_missing: bool) -> Result<Spec, TurnRefusal>
+    requires { HasRole role kinds.Numeric may_be_missing }
+    ensures { result ≡ if_valid_width
+        (record (unsigned_field fxy width) { role = role; may_be_missing = may_be_missing }) }
 {
-    Spec::number(
-        fxy,
-        Role::Element,
-        NumberParts {
-            kind: Kind::Numeric,
-            width: u32::from(width),
-            scale: 0,
-            reference: 0,
-            may_be_missing: fxy.x() != 31,
-            listed: false,
-        },
-    )
+    let number = NumberParts {
+        kind: Kind::Numeric,
+        width: u32::from(width),
+        scale: 0,
+        reference: 0,
+        may_be_missing,
+        listed: false,
+    };
+    Spec::number(fxy, role, number)
 }
 
 /// An element whose width is given (2 06 Y).
@@ -380,9 +252,9 @@ fn local_width_spec(local_width: u8, fxy: Fxy, entry: &Entry<'_>) -> Result<Spec
         → result ≡ local_width_spec (Some (row_of_entry entry.now)) s fxy }
 {
     if entry.width() == u32::from(local_width) {
-        spec_by_kind(no_operators(), entry.reference(), entry)
+        spec_by_kind(NO_OPERATORS, entry.reference(), entry)
     } else {
-        unsigned_of(fxy, local_width)
+        unlisted(fxy, Role::Element, local_width, fxy.x() != 31)
     }
 }
 
@@ -392,33 +264,24 @@ fn factor_by(fxy: Fxy, entry: &Entry<'_>) -> Result<Spec, TurnRefusal>
     requires row { IsRow (row_of_entry entry.now) }
     ensures { result ≡ factor_by (Some (row_of_entry entry.now)) fxy }
 {
-    Spec::number(
-        fxy,
-        Role::Factor,
-        NumberParts {
-            kind: Kind::Numeric,
-            width: entry.width(),
-            scale: entry.scale(),
-            reference: i128::from(entry.reference()),
-            may_be_missing: false,
-            listed: true,
-        },
-    )
+    let number = NumberParts {
+        kind: Kind::Numeric,
+        width: entry.width(),
+        scale: entry.scale(),
+        reference: i128::from(entry.reference()),
+        may_be_missing: false,
+        listed: true,
+    };
+    Spec::number(fxy, Role::Factor, number)
 }
 
 impl OperatorState {
-    ghost use Rattle.std.specs.Prelude.{◌≡◌, Ok, Err, OnOk, IfErr, true, false, [], ◌∷◌, IfOk};
-    ghost use Rattle.bufr_tables.specs.Prelude.{is_legal_operator, is_inserted_text};
-    ghost use Rattle.bufr_walk.specs.Rules.{element_spec, factor_spec, inserted_spec, begin, after_operator, after_field, IsFieldKey, spec_of};
-    ghost use Rattle.bufr_walk.specs.Content.{is_reference};
-    ghost use Rattle.bufr_walk.specs.Course.{TakesField};
-
     /// No operator is in force.
     pub(crate) fn new(alloc: Global) -> OperatorState
         ensures { result ≡ begin }
     {
         OperatorState {
-            operands: no_operators(),
+            operands: NO_OPERATORS,
             new_references: BTreeMap::new(alloc),
             key: 0,
         }
@@ -430,34 +293,17 @@ impl OperatorState {
     pub(crate) fn key(&self, field: &TableField) -> u64
         ensures { IsFieldKey self.now field.now result }
     {
-        self.key + 0x100_0000_0000 * field.key_word()
-    }
-
-    /// The specification of a field.
-    #[inline(always)]
-    pub(crate) fn spec(&self, table: &TableB, field: &TableField) -> Result<Spec, TurnRefusal>
-        ensures { result ≡ spec_of table.now self.now field.now }
-    {
         match *field {
-            TableField::Element(fxy) => self.element(table, fxy),
-            TableField::Factor(fxy) => self.factor(table, fxy),
+            TableField::Element(fxy) => self.key + 0x100_0000_0000 * u64::from(fxy.word()),
+            TableField::Factor(fxy) => {
+                self.key + 0x100_0000_0000 * (u64::from(fxy.word()) + 0x1_0000)
+            }
         }
     }
 
-    /// Ends a given width, which holds for one element.
+    /// The specification of an element.
     #[inline(always)]
-    fn end_given(&mut self)
-        ensures { self.new ≡ record self.old { local_width = 0 } }
-    {
-        if self.operands.local_width != 0 {
-            self.operands.local_width = 0;
-            self.key = key_by(self.operands, &self.new_references);
-        }
-    }
-
-    /// The specification of an element. (WMO-No. 306, Volume I.2, FM 94: Tables B and C)
-    #[inline(always)]
-    // rule: fault-32-before-31
+    // rule: fault-32-before-31, defining-no-text
     fn element(&self, table: &TableB, fxy: Fxy) -> Result<Spec, TurnRefusal>
         ensures { result ≡ element_spec table.now self.now fxy }
     {
@@ -467,7 +313,12 @@ impl OperatorState {
                 if operands.local_width > 0 {
                     local_width_spec(operands.local_width, fxy, &entry)
                 } else if operands.new_reference_width > 0 {
-                    new_reference_spec(operands.new_reference_width, fxy, entry.kind())
+                    match entry.kind() {
+                        Kind::Character => Err(TurnRefusal::Defining(fxy)),
+                        Kind::Coded | Kind::Numeric => {
+                            unlisted(fxy, Role::Reference, operands.new_reference_width, false)
+                        }
+                    }
                 } else {
                     let reference = reference_of(&self.new_references, &entry);
                     spec_by_kind(operands, reference, &entry)
@@ -475,11 +326,22 @@ impl OperatorState {
             }
             None => {
                 if operands.local_width > 0 {
-                    unsigned_of(fxy, operands.local_width)
+                    unlisted(fxy, Role::Element, operands.local_width, fxy.x() != 31)
                 } else {
                     Err(TurnRefusal::Width(fxy))
                 }
             }
+        }
+    }
+
+    /// The specification of a field. (WMO-No. 306, Volume I.2, FM 94: Tables B and C)
+    #[inline(always)]
+    pub(crate) fn spec(&self, table: &TableB, field: &TableField) -> Result<Spec, TurnRefusal>
+        ensures { result ≡ spec_of table.now self.now field.now }
+    {
+        match *field {
+            TableField::Element(fxy) => self.element(table, fxy),
+            TableField::Factor(fxy) => self.factor(table, fxy),
         }
     }
 
@@ -533,34 +395,6 @@ impl OperatorState {
         Ok(())
     }
 
-    /// Takes a reference, and keeps it. Its room is made before.
-    #[tactic(auto, using(crate::proofs::SpecLemmas::with_again))]
-    fn take_reference<S: Fields>(
-        &mut self,
-        fxy: Fxy,
-        spec: &Spec,
-        fields: &mut S,
-    ) -> Result<Taken, WalkStop<S::Fault>>
-        requires { is_reference spec.now.role ≡ true }
-        ensures took { TakesField S.takes (Ok spec.now) fields.old result fields.new }
-        ensures kept { IfOk result (λ t. self.new ≡ after_field self.old fxy t) }
-    {
-        self.key = NO_KEY;
-        match make_room(&mut self.new_references, fxy) {
-            Ok(()) => {}
-            Err(_) => return Err(WalkStop::Memory),
-        }
-        match fields.take(spec) {
-            Ok(Taken::Reference(reference)) => {
-                redefine(&mut self.new_references, fxy, reference);
-                self.operands.local_width = 0;
-                Ok(Taken::Reference(reference))
-            }
-            Ok(_) => unreachable!(),
-            Err(fault) => Err(WalkStop::Field(fault)),
-        }
-    }
-
     /// Takes a field that is no reference.
     #[inline(always)]
     #[tactic(auto, using(crate::proofs::WalkLemmas::no_reference))]
@@ -577,7 +411,10 @@ impl OperatorState {
     {
         match fields.take(spec) {
             Ok(answer) => {
-                self.end_given();
+                if self.operands.local_width != 0 {
+                    self.operands.local_width = 0;
+                    self.key = key_by(self.operands, &self.new_references);
+                }
                 Ok(answer)
             }
             Err(fault) => Err(WalkStop::Field(fault)),
@@ -606,8 +443,10 @@ impl OperatorState {
         self.take(fxy, &spec, fields)
     }
 
-    /// Takes a field: a given width ends, and a reference is kept.
+    /// Takes a field: a given width ends, and a reference is kept. Its room is made before.
+    #[tactic(auto, using(crate::proofs::SpecLemmas::with_again, crate::proofs::SpecLemmas::known_more))]
     #[inline(never)]
+    // rule: last-reference-counts
     pub(crate) fn take<S: Fields>(
         &mut self,
         fxy: Fxy,
@@ -617,9 +456,25 @@ impl OperatorState {
         ensures took { TakesField S.takes (Ok spec.now) fields.old result fields.new }
         ensures kept { IfOk result (λ t. self.new ≡ after_field self.old fxy t) }
     {
-        if spec.is_reference() {
-            return self.take_reference(fxy, spec, fields);
+        if !spec.is_reference() {
+            return self.take_other(fxy, spec, fields);
         }
-        self.take_other(fxy, spec, fields)
+        self.key = NO_KEY;
+        match make_room(&mut self.new_references, fxy) {
+            Ok(()) => {}
+            Err(_) => return Err(WalkStop::Memory),
+        }
+        match fields.take(spec) {
+            Ok(Taken::Reference(reference)) => {
+                match self.new_references.insert(fxy.word(), reference) {
+                    Ok(_) => {}
+                    Err(_) => unreachable!(),
+                }
+                self.operands.local_width = 0;
+                Ok(Taken::Reference(reference))
+            }
+            Ok(_) => unreachable!(),
+            Err(fault) => Err(WalkStop::Field(fault)),
+        }
     }
 }

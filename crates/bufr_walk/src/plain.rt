@@ -1,13 +1,10 @@
 //! Data that are not compressed: fields, reading, and showing.
-ghost use Rattle.std.specs.Prelude.{◌≡◌, ◌≤◌, ◌<◌, ◌+◌, ◌-◌, ◌*◌, ◌^◌, length, take, drop, if◌then◌else◌, ◌==◌, pos, neg_ℤ, false, List, IfOk, IfErr, ◌/◌, Bool, Result, Some, Ok, Err};
+ghost use Rattle.std.specs.Prelude.{◌≡◌, ◌≤◌, ◌<◌, ◌+◌, ◌-◌, ◌*◌, ◌^◌, length, take, drop, if◌then◌else◌, ◌==◌, pos, neg_ℤ, false, List, IfOk, IfErr, ◌/◌, Bool, Result, Some, Ok, Err, true, MatchResult, IfSome, ℕ};
 ghost use Rattle.bufr_bits.specs.Prelude.{number_of, bits_at, bits_of, are_all_ones, octets_of};
-ghost use Rattle.bufr_walk.specs.Content.{IsFor, IsPlainNumber, answer_of, content_in, signed_by, octets_in, Content, shown};
-ghost use Rattle.bufr_tables.specs.Prelude.{places};
-ghost use Rattle.bufr_walk.specs.Course.{next_item};
-ghost use Rattle.bufr_walk.specs.Reading.{bits_before, data_in, IsFault, Item, plain, ReadsPass, ReadsSubsets, turns_in};
-ghost use Rattle.bufr_walk.specs.PackedIn.{IsReadAndPaid};
-ghost use Rattle.bufr_walk.specs.PlainIn.{plain_fault, rest_of, IsEnd, MayEnd, ItemsGo};
-ghost use Rattle.bufr_walk.specs.Calls.{item_call, view_of, subset_calls, seen_value, HasRow, Shows};
+ghost use Rattle.bufr_walk.specs.Prelude.{IsFor, IsPlainNumber, answer_of, content_in, signed_by, octets_in, Content, shown, next_item, bits_before, data_in, IsFault, Item, plain, ReadsPass, ReadsSubsets, turns_in, IsReadAndPaid, plain_fault, rest_of, IsEnd, MayEnd, ItemsGo, item_call, view_of, subset_calls, seen_value, Shows, PlainTakes, past};
+ghost use Rattle.bufr_tables.specs.Prelude.{places, is_character};
+ghost use Rattle.std.proofs.Common.{arith, ap};
+ghost use Rattle.bufr_walk.specs.PlainIn.{ShowingTakes, refusal_keeps, stage};
 
 use crate::fault::{ShowFault, Spot, WalkFault};
 use crate::lists::SpecCache;
@@ -96,8 +93,7 @@ pub(crate) fn answer_at(bits: &BitSlice<'_>, at: u64, spec: &Spec) -> Taken
     }
     let width = spec.width();
     match spec.role() {
-        Role::Element => Taken::Plain,
-        Role::Inserted => Taken::Plain,
+        Role::Element | Role::Inserted => Taken::Plain,
         Role::Factor => Taken::Count(number_at(bits, at, width)),
         Role::Reference => Taken::Reference(signed_at(bits, at, width)),
     }
@@ -114,23 +110,6 @@ pub(crate) fn ones_at(bits: &BitSlice<'_>, at: u64, width: u32) -> bool
     }
 }
 
-/// Copies four octets that begin at any bit, after those that were copied before.
-#[inline(always)]
-fn copy_four(bits: &BitSlice<'_>, at: u64, place: usize, text: &mut [u8; 255])
-    requires few { place + 4 ≤ 255 }
-    requires within { at + 8 * (place + 4) ≤ 8 * length (octets_of bits.now) }
-    requires copied { take place text.old
-        ≡ octets_in place (drop at (bits_of (octets_of bits.now))) }
-    ensures { take (place + 4) text.new
-        ≡ octets_in (place + 4) (drop at (bits_of (octets_of bits.now))) }
-{
-    let word = bits.number(at + 8 * place as u64, 32);
-    text[place] = (word >> 24) as u8;
-    text[place + 1] = ((word >> 16) % 256) as u8;
-    text[place + 2] = ((word >> 8) % 256) as u8;
-    text[place + 3] = (word % 256) as u8;
-}
-
 /// Copies `count` octets that begin at any bit.
 pub(crate) fn copy_octets(bits: &BitSlice<'_>, at: u64, count: usize, text: &mut [u8; 255])
     requires few { count ≤ 255 }
@@ -139,28 +118,16 @@ pub(crate) fn copy_octets(bits: &BitSlice<'_>, at: u64, count: usize, text: &mut
 {
     let mut copied = 0;
     'fours: while copied + 4 <= count {
-        copy_four(bits, at, copied, text);
+        let word = bits.number(at + 8 * copied as u64, 32);
+        text[copied] = (word >> 24) as u8;
+        text[copied + 1] = ((word >> 16) % 256) as u8;
+        text[copied + 2] = ((word >> 8) % 256) as u8;
+        text[copied + 3] = (word % 256) as u8;
         copied += 4;
     }
     'octets: for place in copied..count {
         text[place] = bits.number(at + 8 * place as u64, 8) as u8;
     }
-}
-
-/// The value of a plain field, which begins with bit `at`.
-#[tactic(auto, using(crate::proofs::ShownLemmas::plain_shown, crate::proofs::ShownLemmas::plain_missing))]
-#[inline(always)]
-pub(crate) fn plain_value_at<'t>(bits: &BitSlice<'_>, at: u64, spec: &Spec) -> Value<'t>
-    requires within { at + spec.now.width ≤ 8 * length (octets_of bits.now) }
-    requires plain { IsPlainNumber spec.now }
-    ensures { seen_value result
-        ≡ shown spec.now (content_in spec.now (bits_at (octets_of bits.now) at spec.now.width)) }
-{
-    let raw = raw_at(bits, at, spec.width());
-    if raw.all_ones && spec.may_be_missing() {
-        return Value::Missing;
-    }
-    plain_number(spec, raw.number)
 }
 
 /// The value of a field that begins with bit `at`. A text is copied where it cannot be borrowed.
@@ -228,13 +195,6 @@ impl<'a> Model for PlainIn<'a> {
 }
 
 impl<'a> PlainIn<'a> {
-    ghost use Rattle.std.specs.Prelude.{◌≡◌, ◌≤◌, ◌<◌, ◌+◌, ◌*◌, ◌/◌, ◌^◌, true, false, length, take, MatchResult, Ok, Err, IfOk, IfSome};
-    ghost use Rattle.bufr_bits.specs.Prelude.{bits_of, are_all_ones, octets_of};
-    ghost use Rattle.bufr_tables.specs.Prelude.{is_character};
-    ghost use Rattle.bufr_walk.specs.Content.{IsFor, IsPlainNumber, content_in, octets_in, shown};
-    ghost use Rattle.bufr_walk.specs.PlainIn.{PlainTakes, past, rest_of};
-    ghost use Rattle.bufr_walk.specs.Calls.{seen_value};
-
     /// A reader of data that are not compressed, from bit 0 on.
     pub fn new(bits: BitSlice<'a>) -> PlainIn<'a>
         ensures { result ≡ record { bits = bits_of (octets_of bits.entry); at = 0 } }
@@ -274,9 +234,6 @@ impl<'a> PlainIn<'a> {
 impl<'a> Fields for PlainIn<'a> {
     type Fault = DataEnd;
 
-    ghost use Rattle.std.proofs.Common.{arith, ap};
-    ghost use Rattle.bufr_walk.specs.PlainIn.{PlainTakes};
-
     ghost used = { λ s. s.at };
 
     ghost takes = { PlainTakes };
@@ -302,9 +259,13 @@ fn plain_fault(why: WalkStop<DataEnd>, subset: u16, bit: u64) -> WalkFault
     ensures { result ≡ plain_fault why subset bit }
 {
     match why {
-        WalkStop::Width(fxy) => WalkFault::Width(Spot::new(subset, fxy, bit)),
-        WalkStop::Defining(fxy) => WalkFault::Defining(Spot::new(subset, fxy, bit)),
-        WalkStop::Field(end) => WalkFault::DataEnd(Spot::new(subset, end.fxy, bit)),
+        WalkStop::Width(fxy) => WalkFault::Width(Spot { subset, fxy, bit }),
+        WalkStop::Defining(fxy) => WalkFault::Defining(Spot { subset, fxy, bit }),
+        WalkStop::Field(end) => WalkFault::DataEnd(Spot {
+            subset,
+            fxy: end.fxy,
+            bit,
+        }),
         WalkStop::Memory => WalkFault::Memory,
     }
 }
@@ -340,19 +301,8 @@ pub(crate) fn read_plain(
     Ok(fields.at)
 }
 
-/// The row of Table B of the field's element, where the field is read by it.
-// rule: text-no-comment
-fn entry_for<'t>(table: &'t TableB, spec: &Spec) -> Option<Entry<'t>>
-    ensures { HasRow table.now spec.now result }
-{
-    if spec.listed() {
-        table.get(spec.fxy())
-    } else {
-        None
-    }
-}
-
 /// Shows a field that has this value.
+// rule: text-no-comment
 pub(crate) fn show_value<V: Visitor>(
     table: &TableB,
     spec: &Spec,
@@ -363,7 +313,7 @@ pub(crate) fn show_value<V: Visitor>(
         → V.sees visitor.old (item_call (view_of table.now spec.now content)) result visitor.new }
 {
     let fxy = spec.fxy();
-    let entry = entry_for(table, spec);
+    let entry = if spec.listed() { table.get(fxy) } else { None };
     visitor.item(&ItemView { fxy, entry, value })
 }
 
@@ -385,6 +335,7 @@ fn show_other<V: Visitor>(
 }
 
 /// Shows the next field. Out of line, so that the loop over fields stays small.
+#[tactic(auto, using(crate::proofs::ShownLemmas::plain_shown, crate::proofs::ShownLemmas::plain_missing))]
 #[inline(never)]
 fn show_field<V: Visitor>(
     input: &PlainIn<'_>,
@@ -401,7 +352,12 @@ fn show_field<V: Visitor>(
     if spec.is_plain()
         && let Some(entry) = table.get(fxy)
     {
-        let value = plain_value_at(&input.bits, input.at, spec);
+        let raw = raw_at(&input.bits, input.at, spec.width());
+        let value = if raw.all_ones && spec.may_be_missing() {
+            Value::Missing
+        } else {
+            plain_number(spec, raw.number)
+        };
         return visitor.item(&ItemView {
             fxy,
             entry: Some(entry),
@@ -419,6 +375,7 @@ pub(crate) enum ShowStop<E> {
 }
 
 /// Fields that are read from bits, each shown to a visitor before it is passed.
+#[derive(Drop)]
 pub(crate) struct ShowFields<'i, 't, 'v, 'b, V: Visitor> {
     input: &'i mut PlainIn<'b>,
     table: &'t TableB,
@@ -429,10 +386,6 @@ pub(crate) struct ShowFields<'i, 't, 'v, 'b, V: Visitor> {
 
 impl<'i, 't, 'v, 'b, V: Visitor> Fields for ShowFields<'i, 't, 'v, 'b, V> {
     type Fault = ShowStop<V::Fault>;
-
-    ghost use Rattle.std.specs.Prelude.{ℕ};
-    ghost use Rattle.std.proofs.Common.{arith, ap};
-    ghost use Rattle.bufr_walk.specs.PlainIn.{ShowingTakes, refusal_keeps, stage};
 
     ghost used = { λ s. s.input.now.at };
 
@@ -524,14 +477,7 @@ fn show_items<V: Visitor>(
         visitor,
         text: [0; 255],
     };
-    let outcome = walk_showing(template, cache, &mut fields, steps);
-    let ShowFields {
-        input: _,
-        table: _,
-        visitor: _,
-        text: _,
-    } = fields;
-    outcome
+    walk_showing(template, cache, &mut fields, steps)
 }
 
 /// Data that are not compressed, their subsets and their template.

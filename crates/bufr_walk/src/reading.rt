@@ -1,8 +1,7 @@
 //! The reading of a message's data.
-ghost use Rattle.std.specs.Prelude.{◌≡◌, ◌≤◌, ◌+◌, ◌*◌, length, IfOk, IfErr};
+ghost use Rattle.std.specs.Prelude.{◌≡◌, ◌≤◌, ◌+◌, ◌*◌, length, IfOk, IfErr, false};
 ghost use Rattle.bufr_tables.specs.Prelude.{places};
-ghost use Rattle.bufr_walk.specs.Course.{next_item};
-ghost use Rattle.bufr_walk.specs.Reading.{bits_before, data_of, IsFault, IsReadingOf};
+ghost use Rattle.bufr_walk.specs.Prelude.{next_item, bits_before, data_of, IsFault, IsReadingOf, calls_of, items_called, ShowsReading, course_of, Values, IsReading, items_kept, max_values};
 
 use crate::compressed::{PackedData, read_packed, show_packed};
 use crate::fault::{ShowFault, WalkFault};
@@ -146,11 +145,6 @@ pub fn read_by<'a, 't: 'a>(
 }
 
 impl<'a> Reading<'a> {
-    ghost use Rattle.std.specs.Prelude.{◌≡◌, ◌≤◌, ◌*◌, false};
-    ghost use Rattle.bufr_tables.specs.Prelude.{places};
-    ghost use Rattle.bufr_walk.specs.Calls.{calls_of, items_called, ShowsReading};
-    ghost use Rattle.bufr_walk.specs.Reading.{course_of, Values, IsReading, items_kept, max_values};
-
     /// The number of subsets.
     pub fn subsets(&self) -> u16
         ensures { result ≡ self.now.source.subsets }

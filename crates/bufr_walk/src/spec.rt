@@ -1,8 +1,7 @@
 //! The specification of one field of the data.
-ghost use Rattle.std.specs.Prelude.{◌≡◌, ◌≤◌, ◌^◌, false, true, unsigned_abs};
+ghost use Rattle.std.specs.Prelude.{◌≡◌, ◌≤◌, ◌^◌, false, true, unsigned_abs, ◌%◌};
 ghost use Rattle.bufr_tables.specs.Prelude.{is_character};
-ghost use Rattle.bufr_walk.specs.Content.{HasRole, HasWidth, number_field, is_plain_number};
-ghost use Rattle.bufr_walk.specs.Rules.{if_valid_width, text_spec};
+ghost use Rattle.bufr_walk.specs.Prelude.{HasRole, HasWidth, number_field, is_plain_number, if_valid_width, text_spec, IsSpec, is_reference, IsPlainNumber};
 ghost use Rattle.bufr_tables.specs.declared.table_b.Kind.TheVariants as kinds;
 
 use bufr_tables::{Fxy, Kind};
@@ -121,24 +120,7 @@ impl Model for Spec {
     } };
 }
 
-/// Whether a number is plain.
-#[inline(always)]
-fn is_plain_number(role: Role, width: u32, reference: i128, listed: bool) -> bool
-    ensures { result ≡ is_plain_number role width reference listed }
-{
-    match role {
-        Role::Element => listed && width <= 62 && reference.unsigned_abs() < 1 << 62,
-        Role::Inserted | Role::Factor | Role::Reference => false,
-    }
-}
-
 impl Spec {
-    ghost use Rattle.std.specs.Prelude.{◌≡◌, ◌≤◌, ◌%◌, ◌^◌, true, false, unsigned_abs};
-    ghost use Rattle.bufr_tables.specs.Prelude.{is_character};
-    ghost use Rattle.bufr_tables.specs.declared.table_b.Kind.TheVariants as kinds;
-    ghost use Rattle.bufr_walk.specs.Content.{HasRole, HasWidth, IsSpec, is_reference, number_field, IsPlainNumber};
-    ghost use Rattle.bufr_walk.specs.Rules.{if_valid_width, text_spec};
-
     /// A number, where its width is 1 to 63.
     #[tactic(auto, using(crate::proofs::SpecLemmas::number_good))]
     #[inline(always)]
@@ -150,21 +132,26 @@ impl Spec {
         requires reference { unsigned_abs number.reference ≤ 2 ^ 125 }
         ensures { result ≡ if_valid_width (number_field fxy role number) }
     {
-        if 1 <= number.width && number.width <= 63 {
-            Ok(Spec {
-                fxy,
-                role,
-                kind: number.kind,
-                width: number.width,
-                scale: number.scale,
-                reference: number.reference,
-                may_be_missing: number.may_be_missing,
-                listed: number.listed,
-                plain: is_plain_number(role, number.width, number.reference, number.listed),
-            })
-        } else {
-            Err(TurnRefusal::Width(fxy))
+        if number.width < 1 || number.width > 63 {
+            return Err(TurnRefusal::Width(fxy));
         }
+        let plain = match role {
+            Role::Element => {
+                number.listed && number.width <= 62 && number.reference.unsigned_abs() < 1 << 62
+            }
+            Role::Inserted | Role::Factor | Role::Reference => false,
+        };
+        Ok(Spec {
+            fxy,
+            role,
+            kind: number.kind,
+            width: number.width,
+            scale: number.scale,
+            reference: number.reference,
+            may_be_missing: number.may_be_missing,
+            listed: number.listed,
+            plain,
+        })
     }
 
     /// Text of `width` bits.

@@ -1,7 +1,6 @@
 //! The visitor of a reading, and the items that it is shown.
 ghost use Rattle.std.specs.Prelude.{ℕ, Result, ◌≡◌, ◌<◌, ◌^◌, ◌+ℤ◌, pos};
-ghost use Rattle.bufr_walk.specs.Calls.{Call, subset_call, item_call, seen, seen_value};
-ghost use Rattle.bufr_walk.specs.Content.{shown_number, IsPlainNumber};
+ghost use Rattle.bufr_walk.specs.Prelude.{Call, subset_call, item_call, seen, seen_value, shown_number, IsPlainNumber};
 
 use crate::spec::Spec;
 use bufr_tables::{Entry, Fxy};

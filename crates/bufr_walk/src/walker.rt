@@ -1,11 +1,8 @@
 //! The walk over the cells of a template, with the fields that it takes, its stops and its steps.
 ghost use Rattle.std.specs.Prelude.{◌≡◌, ℕ, ◌+◌, ◌-◌, ◌^◌, ◌<◌, Result, Ok, Err, IfOk, ◌≤◌, length, slice_index_or, ◌*◌, ◌++◌, ◌∷◌, [], List, OnOk, OnErr};
-ghost use Rattle.bufr_walk.specs.Course.{ticked, IsAtCell, Turned, Walked, TakesField, next_item, Rest};
-ghost use Rattle.bufr_walk.specs.Content.{FieldSpec, IsFor};
-ghost use Rattle.bufr_walk.specs.declared.spec.Taken.{Taken};
+ghost use Rattle.bufr_walk.specs.Prelude.{ticked, IsAtCell, Turned, Walked, TakesField, next_item, Rest, FieldSpec, IsFor, Taken, after_field, descriptor_of, spec_of, stop_by};
 ghost use Rattle.arrayvec.specs.ArrayVec.{array_vec_len};
 ghost use Rattle.bufr_tables.specs.Prelude.{places};
-ghost use Rattle.bufr_walk.specs.Rules.{after_field, descriptor_of, spec_of};
 ghost use Rattle.bufr_walk.specs.declared.walker.Frame.{Frame};
 
 use crate::lists::SpecCache;
@@ -30,9 +27,6 @@ pub enum WalkStop<E> {
 }
 
 impl<E> From<TurnRefusal> for WalkStop<E> {
-    ghost use Rattle.std.specs.Prelude.{◌≡◌};
-    ghost use Rattle.bufr_walk.specs.Course.{stop_by};
-
     ghost from_gives = { λ w e. e ≡ stop_by w };
 
     fn from(why: TurnRefusal) -> WalkStop<E> {
@@ -76,13 +70,6 @@ impl Steps {
         ensures { self.new ≡ ticked self.old 1 }
     {
         self.count = self.count.saturating_add(1);
-    }
-
-    /// Counts `turns` more steps, up to the greatest `u64`.
-    pub(crate) fn add(&mut self, turns: u64)
-        ensures { self.new ≡ ticked self.old turns }
-    {
-        self.count = self.count.saturating_add(turns);
     }
 }
 
@@ -383,18 +370,15 @@ pub fn walk_by<S: Fields>(
         open_groups: ArrayVec::new(),
         in_force: OperatorState::new(cache.allocator()),
     };
-    let mut place: u32 = 0;
+    let mut index: u32 = 0;
     'turns: while let Some(next) = turn(
-        CellPlace {
-            cells,
-            index: place,
-        },
+        CellPlace { cells, index },
         &mut walk,
         cache,
         fields,
         steps,
     )? {
-        place = next;
+        index = next;
     }
     Ok(())
 }

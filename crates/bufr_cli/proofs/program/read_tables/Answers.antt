@@ -1,5 +1,16 @@
+use Rattle.std.proofs.Common.{◌≡◌, IfSome, Err, Ok, inl, inr, refl, rules}
+use Rattle.bufr_tables.specs.Prelude.{ReadsTableD, records_of, table_b_of}
 use Rattle.bufr_cli.specs.Prelude.{NoTableD}
 use Rattle.bufr_cli.proofs.program.read_tables.Goals as goal
 
-pub returns-in-Err-read_table_d-clause-unread : goal.returns-in-Err-read_table_d-clause-unread
-returns-in-Err-read_table_d-clause-unread g c = NoTableD c.in-Ok.table c.in-Ok.ensures.table c.in-Err-read_table_d.ensures.unread
+pub returns-in-Err-read_file-clause-unread : goal.returns-in-Err-read_file-clause-unread
+returns-in-Err-read_file-clause-unread g c =
+    let b : IfSome (g.I.Inputs.file_octets c.args.inputs.now c.args.names.table_b.now) (λ text. table_b_of (records_of text) ≡ Ok c.in-Ok-read.table) = search rules in
+    NoTableD c.in-Ok-read.table b (inl c.in-Err-read_file.ensures.unread)
+
+pub returns-in-Err-read-2-clause-unread : goal.returns-in-Err-read-2-clause-unread
+returns-in-Err-read-2-clause-unread g c =
+    let named = g.I.Inputs.file_octets c.args.inputs.now in
+    let b : IfSome (named c.args.names.table_b.now) (λ text. table_b_of (records_of text) ≡ Ok c.in-Ok-read.table) = search rules in
+    let d : IfSome (named c.args.names.table_d.now) (λ text. ReadsTableD (records_of text) (Err c.in-Err-read-2.fault)) = search rules in
+    NoTableD c.in-Ok-read.table b (inr (c.in-Err-read-2.fault, refl, d))

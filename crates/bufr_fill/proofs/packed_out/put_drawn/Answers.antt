@@ -1,8 +1,10 @@
-use Rattle.std.proofs.Common.{◌≡◌, ◌+◌, ◌*◌, ◌/◌, ◌≤◌, ◌∙◌, [], Err, length, get_or, refl, sym, subst, arith, ap}
+use Rattle.std.proofs.Common.{◌≡◌, ◌+◌, ◌*◌, ◌/◌, ◌≤◌, ◌∙◌, ◌++◌, [], Err, length, get_or, refl, sym, subst, arith, ap}
+use Rattle.std.proofs.lemmas.List.{append-nil}
+use Rattle.bufr_bits.specs.Prelude.{bits_in}
 use Rattle.bufr_walk.specs.Prelude.{bits_for, max_values}
 use Rattle.bufr_fill.specs.declared.field_value.FieldContent.TheVariants as drawn
 use Rattle.bufr_fill.specs.Prelude.{item_row, packed_bits, packed_by, packed_unlike, subsets_of, at_line, unequal_factors, uneven_increment, content_drawn, contents_drawn, IsPutWithin}
-use Rattle.bufr_fill.proofs.LeastLemmas.{parts_length, texts_apart}
+use Rattle.bufr_fill.proofs.LeastLemmas.{parts_put, parts_length, texts_apart}
 use Rattle.bufr_fill.proofs.RowLemmas.{most_some, apart_by, packed_alike, packed_apart, put_packed, put_unequal, put_uneven, put_within}
 use Rattle.bufr_fill.proofs.EntryLemmas.{count_cells}
 use Rattle.bufr_fill.proofs.packed_out.put_drawn.Goals as goal
@@ -13,12 +15,15 @@ returns-then-are_alike-clause-put c =
     let row = c.args.row in
     let spec = c.args.spec.now in
     let values = subst (λ n. (row.place + 1) * n ≤ max_values) (sym (count_cells row.place row.entries.now row.ends.now c.args.row.ends_are)) c.requires.values in
-    let put = c.in_ok-pack_alike.ensures in
-    put_within spec row.place (subsets_of row.entries.now) c.args.drawn.now (drawn.Number 0) c.taken_of.result c.args.out.now.bits c.pack_alike.new.out.bits
-    (packed_bits (bits_for spec.width (content_drawn (spec.width / 8) (get_or c.args.drawn.now 0 (drawn.Number 0)))) 0 []) (2046 + 504 * length row.ends.now) values c.requires.given
+    let first = content_drawn (spec.width / 8) (get_or c.args.drawn.now 0 (drawn.Number 0)) in
+    let put = parts_put c.args.out.now.bits c.put_content.new.out.bits c.put.new.self.bits c.put.new.self.bits (bits_for spec.width first) (bits_in 0 6) []
+    (c.put_content.ensures.bits ∙ ap (λ bits. bits ++ bits_for spec.width first) c.in_ok-reserve.ensures.bits) c.put.ensures.bits (sym (append-nil c.put.new.self.bits)) in
+    let len : length c.put.new.self.bits ≡ length c.args.out.now.bits + spec.width + 6 = omega (arith, ap length c.in_ok-reserve.ensures.bits, c.put_content.ensures.len, c.put.ensures.len) in
+    put_within spec row.place (subsets_of row.entries.now) c.args.drawn.now (drawn.Number 0) c.taken_of.result c.args.out.now.bits c.put.new.self.bits
+    (packed_bits (bits_for spec.width first) 0 []) (2046 + 504 * length row.ends.now) values c.requires.given
     (omega (arith, c.requires.many, c.args.row.some)) c.taken_of.ensures.gives
     (packed_alike spec (spec.width / 8) c.args.drawn.now (drawn.Number 0) (omega (arith, c.requires.many, c.args.row.some)) (sym c.are_alike.ensures ∙ c.if-are_alike.true))
-    put.bits (parts_length c.args.out.now.bits c.pack_alike.new.out.bits _ _ put.bits (omega (arith, put.most))) put.some
+    put (parts_length c.args.out.now.bits c.put.new.self.bits _ _ put (omega (arith, len, c.width.ensures.most))) (omega (arith, len))
 
 pub returns-in-Factor-clause-put : goal.returns-in-Factor-clause-put
 returns-in-Factor-clause-put c =

@@ -1,7 +1,7 @@
 use Rattle.std.proofs.Common.{◌+◌, ◌/◌, Err, sym, ap, ◌∙◌, subst, arith}
 use Rattle.std.proofs.lemmas.Result.{err_from_is_err_and}
-use Rattle.bufr_fill.specs.Prelude.{cells_at, subsets_of, draft_fault, entry_with, IsGathering, IsRangeOf}
-use Rattle.bufr_fill.proofs.RowLemmas.{gather_fault, gather_more, gathered}
+use Rattle.bufr_fill.specs.Prelude.{cells_at, subsets_of, draft_fault, entry_with, IsRangeOf}
+use Rattle.bufr_fill.proofs.RowLemmas.{IsGathering, gather_fault, gather_more, gathered}
 use Rattle.bufr_fill.proofs.EntryLemmas.{count_cells}
 use Rattle.bufr_fill.proofs.packed_out.read_row.Goals as goal
 

@@ -1,5 +1,6 @@
 use Rattle.std.proofs.Common.{◌/◌}
-use Rattle.bufr_fill.specs.Prelude.{cells_at, subsets_of, IsGathering, IsRangeOf}
+use Rattle.bufr_fill.specs.Prelude.{cells_at, subsets_of, IsRangeOf}
+use Rattle.bufr_fill.proofs.RowLemmas.{IsGathering}
 use Rattle.bufr_fill.proofs.packed_out.read_row.Given as goal
 
 abbrev pub invariant-loop-subset : goal.invariant-loop-subset

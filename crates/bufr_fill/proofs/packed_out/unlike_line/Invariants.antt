@@ -1,5 +1,6 @@
 use Rattle.std.proofs.Common.{◌≡◌, ◌/◌, drop}
-use Rattle.bufr_fill.specs.Prelude.{cells_at, unlike_line, subsets_of, contents_drawn, unlike_from}
+use Rattle.bufr_fill.specs.Prelude.{cells_at, unlike_line, subsets_of, contents_drawn}
+use Rattle.bufr_fill.proofs.RowLemmas.{unlike_from}
 use Rattle.bufr_fill.proofs.packed_out.unlike_line.Given as goal
 
 abbrev pub invariant-loop-subset : goal.invariant-loop-subset

@@ -1,6 +1,7 @@
 use Rattle.std.proofs.Common.{sym, arith, ◌∙◌}
 use Rattle.std.proofs.lemmas.Bool.{false≢true}
-use Rattle.bufr_tables.proofs.CycleLemmas.{passed-all, passed-first, passed-more}
+use Rattle.std.proofs.lemmas.List.{get_or_read}
+use Rattle.bufr_tables.proofs.CycleLemmas.{falls-none, passed-all, passed-first, passed-more}
 use Rattle.bufr_tables.proofs.table_d.first_cycle.Goals as goal
 
 pub loop-place-preserved : goal.loop-place-preserved
@@ -10,9 +11,10 @@ loop-place-preserved c =
 
 pub loop-place-preserved-then-is_above : goal.loop-place-preserved-then-is_above
 loop-place-preserved-then-is_above c =
-    let never = rw c.deref.ensures.value at (c.never_rises-falls.ensures c.if-falls.true) in
-    let none = rw c.deref-then-falls.ensures.value at (c.is_above.ensures c.if-is_above.true) in
-    passed-more c.args.table.now c.loop-place.place c.loop-place.invariant c.sequence_at-sequence.result c.sequence_at-sequence.ensures (none never)
+    let falls = rw c.deref.ensures.value at (c.falls-falls.ensures c.if-falls.true) in
+    let rank = get_or_read c.in_ok-ranks.ranks.items c.key.result _ (omega (arith, c.in_ok-ranks.ensures, c.key.ensures.most)) c.index.ensures 0 in
+    let above = rw (c.deref-then-falls.ensures.value, rank, c.key.ensures.value) at (c.is_above.ensures c.if-is_above.true) in
+    passed-more c.args.table.now c.loop-place.place c.loop-place.invariant c.sequence_at-sequence.result c.sequence_at-sequence.ensures (falls-none c.args.table.now _ _ falls above)
 
 pub returns-then-branch : goal.returns-then-branch
 returns-then-branch c =

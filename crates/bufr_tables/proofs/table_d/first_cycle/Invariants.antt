@@ -1,4 +1,4 @@
-use Rattle.bufr_tables.specs.Prelude.{IsPassed}
+use Rattle.bufr_tables.proofs.CycleLemmas.{IsPassed}
 use Rattle.bufr_tables.proofs.table_d.first_cycle.Given as goal
 
 abbrev pub invariant-loop-place : goal.invariant-loop-place

@@ -1,10 +1,6 @@
-use Rattle.std.proofs.Common.{◌<◌}
-use borrow.Author.Tests.{ltb-true}
-use Rattle.bufr_tables.specs.Prelude.{rank_of}
-use Rattle.bufr_tables.proofs.CycleLemmas.{falls-none}
+use Rattle.std.proofs.Common.{arith}
+use Rattle.bufr_tables.proofs.CycleLemmas.{above-all}
 use Rattle.bufr_tables.proofs.table_d.is_above.Goals as goal
 
 pub returns : goal.returns
-returns c above never =
-    let below : c.highest.result < rank_of c.args.ranks.now c.args.sequence = rw c.key.ensures.value at (ltb-true _ _ above) in
-    falls-none c.args.table.now c.args.ranks.now c.args.sequence c.highest.result never c.highest.ensures below
+returns c = λ _. above-all c.args.table.now c.args.ranks.now c.args.sequence c.args.limit c.loop-member.member-index c.members_or_none-member-items.result.now c.members_or_none-member-items.ensures c.loop-member.invariant (omega arith)

@@ -1,5 +1,6 @@
 use Rattle.std.proofs.Common.{◌+◌, ◌-◌, length}
-use Rattle.bufr_tables.specs.Prelude.{IsSearched, unset}
+use Rattle.bufr_tables.specs.Prelude.{unset}
+use Rattle.bufr_tables.proofs.CycleLemmas.{IsSearched}
 use Rattle.bufr_tables.proofs.table_d.reaches_itself.Given as goal
 
 abbrev pub invariant-loop-next : goal.invariant-loop-next

@@ -1,5 +1,5 @@
 use Rattle.std.proofs.Common.{length, ◌-◌, ◌*◌}
-use Rattle.bufr_text.specs.Prelude.{IsDescribing}
+use Rattle.bufr_text.proofs.ItemLemmas.{IsDescribing}
 use Rattle.bufr_text.proofs.header.describe.Given as goal
 
 abbrev pub invariant-loop-count : goal.invariant-loop-count

@@ -1,5 +1,5 @@
-use Rattle.bufr_text.proofs.LawLemmas.{text-spells}
+use Rattle.bufr_text.proofs.LawLemmas.{one-document, text-spells}
 use Rattle.bufr_text.proofs.laws.dump_text_spells_its_document.Goals as goal
 
 pub returns : goal.returns
-returns c = text-spells
+returns c = λ s subsets given. (λ at t. text-spells s subsets at t given, one-document s subsets given)

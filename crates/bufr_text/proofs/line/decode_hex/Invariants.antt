@@ -1,5 +1,5 @@
 use Rattle.std.proofs.Common.{length, ◌-◌, ◌*◌}
-use Rattle.bufr_text.specs.Prelude.{IsUnhexing}
+use Rattle.bufr_text.proofs.ItemLemmas.{IsUnhexing}
 use Rattle.bufr_text.proofs.line.decode_hex.Given as goal
 
 abbrev pub invariant-loop-count : goal.invariant-loop-count

@@ -1,5 +1,5 @@
 use Rattle.std.proofs.Common.{◌-◌, length}
-use Rattle.bufr_text.specs.Prelude.{IsUnquoting}
+use Rattle.bufr_text.proofs.ItemLemmas.{IsUnquoting}
 use Rattle.bufr_text.proofs.line.decode_quoted.Given as goal
 
 abbrev pub invariant-loop-at : goal.invariant-loop-at

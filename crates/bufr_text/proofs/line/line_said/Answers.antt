@@ -1,9 +1,14 @@
-use Rattle.std.proofs.Common.{sym, ◌∙◌, rules}
-use Rattle.bufr_text.proofs.ItemLemmas.{line-word}
+use Rattle.std.proofs.Common.{sym, ◌∙◌, rules, Some}
+use Rattle.bufr_text.proofs.ItemLemmas.{line-word, word-at}
+use Rattle.bufr_text.proofs.LineLemmas.{value_there}
 use Rattle.bufr_text.proofs.line.line_said.Goals as goal
 
 pub returns : goal.returns
 returns c =
-    c.worded.ensures
-    ∙ rw (c.ahead.ensures, c.suffix.ensures, c.word_len-len.ensures.word, c.word_len-len.ensures.rest)
+    sym (value_there c.args.next c.in-Some.word.now c.args.line.now c.in-Some-without_prefix.rest.now (Some c.in-Some-number.value) c.in-Some.ensures.few c.in-Some.ensures.word c.in-Some-without_prefix.ensures.value c.in-Some-number.ensures)
+
+pub returns-2 : goal.returns-2
+returns-2 c =
+    let word = word-at c.args.line.now c.memchr.result _ c.memchr.ensures c.unwrap_or-len.ensures in
+    c.worded.ensures ∙ rw (c.ahead.ensures, c.suffix.ensures, word.0, word.1)
     (sym (line-word c.args.line.now (search rules) (search rules) (search rules)))

@@ -1,4 +1,4 @@
-use Rattle.bufr_text.specs.Prelude.{IsNumberTo}
+use Rattle.bufr_text.proofs.PushLemmas.{IsNumberTo}
 use Rattle.bufr_text.proofs.line.number.Given as goal
 
 abbrev pub invariant-loop-octet : goal.invariant-loop-octet

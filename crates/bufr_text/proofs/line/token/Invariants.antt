@@ -1,5 +1,5 @@
 use Rattle.std.proofs.Common.{length, ◌-◌}
-use Rattle.bufr_text.specs.Prelude.{IsTokenTo}
+use Rattle.bufr_text.proofs.ItemLemmas.{IsTokenTo}
 use Rattle.bufr_text.proofs.line.token.Given as goal
 
 abbrev pub invariant-loop-at : goal.invariant-loop-at

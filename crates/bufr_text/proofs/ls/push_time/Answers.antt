@@ -1,5 +1,5 @@
 use Rattle.std.proofs.Common.{arith, refl}
-use Rattle.bufr_text.proofs.PushLemmas.{padded_two, padded_four, retold}
+use Rattle.bufr_text.proofs.PushLemmas.{◌⨾◌, nothing_pushed, padded_two, padded_four, retold}
 use Rattle.bufr_text.proofs.ls.push_time.Goals as goal
 
 pub returns : goal.returns
@@ -33,11 +33,16 @@ returns g c =
       c.pair-n1.ensures.ones,
       c.pair-s1.ensures.tens,
       c.pair-s1.ensures.ones,
-      c.from.ensures,
       c.from-2.ensures,
       c.from-3.ensures,
       c.from-4.ensures,
       c.from-5.ensures,
       c.from-6.ensures,
       c.from-7.ensures,
+      c.from-8.ensures,
     ) refl))
+
+pub returns-then-head-gt9999 : goal.returns-then-head-gt9999
+returns-then-head-gt9999 g c =
+    rw (← c.head-head.ensures, ← c.from.ensures, ← c.from-then-head-gt9999.ensures, ← c.from-then-head-gt9999-2.ensures, ← c.from-then-head-gt9999-3.ensures, ← c.from-then-head-gt9999-4.ensures, ← c.from-then-head-gt9999-5.ensures)
+    (c.push.ensures ⨾ (c.push_padded.ensures ⨾ (c.push-then-head-gt9999.ensures ⨾ (c.push_padded-then-head-gt9999.ensures ⨾ (c.push-then-head-gt9999-2.ensures ⨾ (c.push_padded-then-head-gt9999-2.ensures ⨾ (c.push-then-head-gt9999-3.ensures ⨾ (c.push_padded-then-head-gt9999-3.ensures ⨾ (c.push-then-head-gt9999-4.ensures ⨾ (c.push_padded-then-head-gt9999-4.ensures ⨾ (c.push-then-head-gt9999-5.ensures ⨾ (c.push_padded-then-head-gt9999-5.ensures ⨾ nothing_pushed))))))))))))

@@ -1,6 +1,7 @@
 use Rattle.std.proofs.Common.{◌≡◌, List, Bool, length}
 use Rattle.bufr_bits.specs.Prelude.{bits_of, octets_of}
-use Rattle.bufr_walk.specs.Prelude.{Content, next_item, Item, ReadsSubsets, SubsetsShown}
+use Rattle.bufr_walk.specs.Prelude.{Content, next_item, Item, ReadsSubsets}
+use Rattle.bufr_walk.proofs.ShownLemmas.{SubsetsShown}
 use Rattle.bufr_walk.proofs.plain.show_plain.Given as goal
 
 abbrev pub invariant-subsets : goal.invariant-subsets

@@ -1,6 +1,6 @@
-use Rattle.std.proofs.Common.{ℕ, ◌+◌, ◌++◌, arith, length, length-append, ap, ◌∙◌}
+use Rattle.std.proofs.Common.{◌++◌, arith, ap, ◌∙◌}
 use Rattle.bufr_bits.specs.Prelude.{bits_in, BitWriterModel}
-use Rattle.bufr_bits.proofs.BitLemmas.{length-bits_in, both_fit, both_low, both_bits}
+use Rattle.bufr_bits.proofs.BitLemmas.{length-put, both_fit, both_low, both_bits}
 use Rattle.bufr_bits.proofs.bit_writer.BitWriter.put.Goals as goal
 
 pub overflow_add-self : goal.overflow_add-self
@@ -30,4 +30,4 @@ returns-else-width-self-clause-bits c =
     both_bits c.self.inside.octets.items c.self.inside.last c.self.inside.count c.args.value c.args.width (omega arith) c.self.invariant.low c.requires.value ∙ ap (λ (w : BitWriterModel). w.bits ++ bits_in c.args.value c.args.width) c.self.view_is
 
 pub returns-else-width-self-clause-len : goal.returns-else-width-self-clause-len
-returns-else-width-self-clause-len c = ap length (returns-else-width-self-clause-bits c) ∙ length-append c.args.self.now.bits (bits_in c.args.value c.args.width) ∙ ap (λ (m : ℕ). length c.args.self.now.bits + m) (length-bits_in c.args.value c.args.width)
+returns-else-width-self-clause-len c = length-put c.args.self.now.bits _ c.args.value c.args.width (returns-else-width-self-clause-bits c)

@@ -1,6 +1,9 @@
-use Rattle.std.proofs.Common.{◌≡◌, ℕ, ◌≤◌, ◌+◌, ◌*◌, Bool, List, ◌++◌, length, ap, arith, length-append}
-use Rattle.bufr_fill.specs.Prelude.{Subset, PackedOutModel}
-use Rattle.bufr_fill.proofs.EntryLemmas.{ends_few}
+use Rattle.std.proofs.Common.{◌≡◌, ℕ, ◌≤◌, ◌<◌, ◌+◌, ◌*◌, ◌∙◌, Bool, List, Err, ◌++◌, length, ap, sym, subst, refl, arith, length-append}
+use Rattle.std.proofs.lemmas.Result.{err_from_is_err_and}
+use Rattle.bufr_walk.specs.Prelude.{max_values}
+use Rattle.bufr_fill.specs.Prelude.{Subset, PackedOutModel, subsets_of, cells_at, at_line, too_many_values, draft_fault, IfDraftFault, IsFaultAcross}
+use Rattle.bufr_fill.proofs.EntryLemmas.{ends_few, count_cells}
+use Rattle.bufr_fill.proofs.RowLemmas.{many_fault, put_fault}
 use Rattle.bufr_fill.proofs.packed_out.PackedOutFields.take.Goals as goal
 
 abbrev with_bits : List Subset → ℕ → List Bool → PackedOutModel
@@ -10,6 +13,31 @@ with_bits subsets place bits = record { subsets = subsets; place = place; bits =
 room_for : (old new item : List Bool) (place count : ℕ) → new ≡ old ++ item → length old ≤ 2550 * (place * count) → length item ≤ 2046 + 504 * count → 1 ≤ count → length new ≤ 2550 * ((place + 1) * count)
 room_for old new item place count e room few some = omega (arith, ap length e, length-append old item)
 
-pub pack_next-requires-clause-room : goal.pack_next-requires-clause-room
-pack_next-requires-clause-room c =
+pub put_drawn-requires-clause-room : goal.put_drawn-requires-clause-room
+put_drawn-requires-clause-room c =
     omega (arith, c.self.invariant.room, c.self.invariant.values, c.self.invariant.few, ends_few 0 c.self.inside.entries.now, ap length c.self.invariant.ends_are, ap length c.deref.ensures.value)
+
+pub put_drawn-requires-clause-many : goal.put_drawn-requires-clause-many
+put_drawn-requires-clause-many c =
+    let d = c.self.inside in
+    omega (arith, ap length c.deref-2.ensures.value, ap length c.deref.ensures.value, c.in_ok-range.ensures.2, count_cells d.place d.entries.now d.ends.items c.self.invariant.ends_are)
+
+pub returns-then-row-gt-MAX_VALUES-clause-step : goal.returns-then-row-gt-MAX_VALUES-clause-step
+returns-then-row-gt-MAX_VALUES-clause-step c =
+    let d = c.self.inside in
+    let many : length c.deref.result.now ≡ length (cells_at d.place (subsets_of d.entries.now)) = ap length c.deref.ensures.value ∙ sym (count_cells d.place d.entries.now d.ends.items c.self.invariant.ends_are) in (
+      subst (λ (s : PackedOutModel). IsFaultAcross c.args.spec.now s (at_line c.first_line.result (too_many_values c.fxy.result))) c.self.view_is
+          (many_fault c.args.spec.now d.place (subsets_of d.entries.now) (subst (λ n. max_values < (d.place + 1) * n) many c.if-row-gt-MAX_VALUES.true)
+          ∙ ap (λ n. Err (at_line n (too_many_values c.args.spec.now.fxy))) (sym c.first_line.ensures)
+          ∙ ap (λ f. Err (at_line c.first_line.result (too_many_values f))) (sym c.fxy.ensures)),
+      refl,
+    )
+
+pub returns-in_err-range-clause-step : goal.returns-in_err-range-clause-step
+returns-in_err-range-clause-step c =
+    let d = c.self.inside in
+    let passed = err_from_is_err_and c.from_residual.result c.from_residual.ensures.1 in
+    let many : length c.deref.result.now ≡ length (cells_at d.place (subsets_of d.entries.now)) = ap length c.deref.ensures.value ∙ sym (count_cells d.place d.entries.now d.ends.items c.self.invariant.ends_are) in
+    let few = subst (λ n. (d.place + 1) * n ≤ max_values) many c.if-row-gt-MAX_VALUES.false in
+    let why = draft_fault c.in_err-range.field-0.0 in
+    rw (passed.1 ∙ ap Err passed.2) (subst (λ (s : PackedOutModel). IfDraftFault why (IsFaultAcross c.args.spec.now s)) c.self.view_is (put_fault c.args.spec.now d.place (subsets_of d.entries.now) few why c.in_err-range.ensures), c.self.view_is)

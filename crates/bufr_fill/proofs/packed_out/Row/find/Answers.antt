@@ -1,11 +1,21 @@
-use Rattle.std.proofs.Common.{sym, ap, ◌∙◌, arith, slice_get}
+use Rattle.std.proofs.Common.{sym, ap, ◌∙◌, ◌≡◌, ◌≤◌, ◌-◌, ◌^◌, rules, arith, slice_get}
 use Rattle.bufr_fill.specs.Prelude.{entry_with}
-use Rattle.bufr_fill.proofs.EntryLemmas.{end_within, none_there, found_entry}
+use Rattle.bufr_fill.proofs.EntryLemmas.{begin_of, begin_more, end_within, none_there, found_entry}
 use Rattle.bufr_fill.proofs.packed_out.Row.find.Goals as goal
+use Rattle.bufr_fill.proofs.packed_out.Row.find.Goals.{then-subset-eq0, else-subset-eq0}
 
-pub begin_of-start-requires-clause-few : goal.begin_of-start-requires-clause-few
-begin_of-start-requires-clause-few c i h =
-    omega (arith, end_within c.args.self.entries.now c.args.self.ends.now i c.args.self.ends_are h, c.args.self.few)
+pub overflow_add-start : goal.overflow_add-start
+overflow_add-start c =
+    omega (arith, end_within c.args.self.entries.now c.args.self.ends.now (c.args.subset - 1) c.args.self.ends_are (omega (arith, c.requires)), c.args.self.few)
+
+pub overflow_add-start-2 : goal.overflow_add-start-2
+overflow_add-start-2 c =
+    let few : c.if-subset-eq0.start ≤ 2 ^ 45 =
+    elim c.if-subset-eq0.branch [
+      | then-subset-eq0 w ↦ omega (arith, w.start-is)
+      | else-subset-eq0 w ↦ omega (arith, w.start-is, end_within c.args.self.entries.now c.args.self.ends.now (c.args.subset - 1) c.args.self.ends_are (omega (arith, c.requires)), c.args.self.few)
+    ] in
+    omega (arith, few, c.args.self.near)
 
 pub unreachable-requires : goal.unreachable-requires
 unreachable-requires c =
@@ -13,5 +23,11 @@ unreachable-requires c =
 
 pub returns : goal.returns
 returns c =
-    found_entry c.args.self.place c.args.subset c.args.self.entries.now c.args.self.ends.now 0 c.begin_of-start.result (entry_with c.in-Some.found.0 c.in-Some.found.1.now) c.args.self.ends_are c.requires c.begin_of-start.ensures.value
+    let ends = c.args.self.ends.now in
+    let begin : c.if-subset-eq0.start ≡ begin_of 0 ends c.args.subset =
+    elim c.if-subset-eq0.branch [
+      | then-subset-eq0 w ↦ w.start-is ∙ ap (begin_of 0 ends) (sym w.if-subset-eq0.true)
+      | else-subset-eq0 w ↦ search (rules, begin_more)
+    ] in
+    found_entry c.args.self.place c.args.subset c.args.self.entries.now c.args.self.ends.now 0 c.if-subset-eq0.start (entry_with c.in-Some.found.0 c.in-Some.found.1.now) c.args.self.ends_are c.requires begin
     (ap (slice_get c.args.self.entries.now) (sym c.min.ensures) ∙ sym c.in-Some.ensures)

@@ -1,11 +1,12 @@
 use Rattle.std.proofs.Common.{◌⊎◌, ◌≡◌, ◌-◌, ◌≤◌, ℕ, List, [], None}
-use Rattle.bufr_frame.specs.Prelude.{ReadsAndPasses, CountsReads, CallReadsAreNeeded, Raised, NoEventCertain, max_reads}
+use Rattle.bufr_frame.specs.Prelude.{ReadsAndPasses, CountsReads, CallReadsAreNeeded, NoEventCertain, max_reads}
+use Rattle.bufr_frame.proofs.ScanLemmas.{Raised}
 use Rattle.bufr_frame.proofs.finder.Finder.advance.Given as goal
 
 -- octets were read, no event was passed, and only a `BUFR` at the start may have raised the
 -- greatest length
-abbrev pub invariant-loop-found : goal.invariant-loop-found
-invariant-loop-found g l = record {
+abbrev pub invariant-loop-place : goal.invariant-loop-place
+invariant-loop-place g l = record {
   steps : (bs : List ℕ) × ReadsAndPasses (g.R.Source.left l.fn.r) (g.R.Source.left l.r) l.fn.self l.self bs [];
   each : CallReadsAreNeeded l.fn.self l.self steps.0;
   counts : CountsReads (g.R.Source.reads l.fn.r) (g.R.Source.reads l.r) l.fn.self l.self;
@@ -16,5 +17,5 @@ invariant-loop-found g l = record {
   raised : Raised l.fn.self.longest l.self.longest l.self.rest;
 }
 
-abbrev pub decreases-loop-found : goal.decreases-loop-found
-decreases-loop-found g l = max_reads - l.self.reads
+abbrev pub decreases-loop-place : goal.decreases-loop-place
+decreases-loop-place g l = max_reads - l.self.reads

@@ -12,12 +12,6 @@ decreases-part l = 5 * l.self.now.room + 3
 abbrev pub decreases-group : goal.decreases-group
 decreases-group l = 5 * l.self.now.room + 2
 
-abbrev pub decreases-sequence : goal.decreases-sequence
-decreases-sequence l = 5 * l.self.now.room + 2
-
-abbrev pub decreases-delayed : goal.decreases-delayed
-decreases-delayed l = 5 * l.self.now.room + 1
-
 abbrev pub decreases-group_of : goal.decreases-group_of
 decreases-group_of l = 5 * l.self.now.room
 

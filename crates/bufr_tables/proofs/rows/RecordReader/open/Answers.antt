@@ -11,7 +11,7 @@ returns-then-not-branch-clause-err c =
       refl,
       rw (← start.records) (elim c.then-not-branch.branch [
         | then-not-branch-via-then-not-branch w ↦ opens-empty _ _ _ _ step w.if-not-branch.true
-        | then-not-branch-via-else-not-branch+then-not-has_fields w ↦ opens-other _ _ _ _ step w.if-not-branch.false (rw w.record.ensures at (sym w.has_fields.ensures ∙ w.if-not-has_fields.true))
+        | then-not-branch-via-else-not-branch+then-not-has_fields w ↦ opens-other _ _ _ _ step w.if-not-branch.false (sym w.has_fields.ensures ∙ w.if-not-has_fields.true)
       ]),
     )
 
@@ -19,4 +19,4 @@ pub returns-clause-ok : goal.returns-clause-ok
 returns-clause-ok c =
     let start = c.new-records.ensures in
     let step = c.in_ok-advance.ensures.next in
-    rw (← start.records) (opens _ _ _ _ step start.number c.if-not-branch.false (rw c.record.ensures at (sym c.has_fields.ensures ∙ c.if-not-has_fields.false)))
+    rw (← start.records) (opens _ _ _ _ step start.number c.if-not-branch.false (sym c.has_fields.ensures ∙ c.if-not-has_fields.false))

@@ -22,7 +22,7 @@ pub loop-table-preserved : goal.loop-table-preserved
 loop-table-preserved c =
     let step = c.in_ok-advance.ensures.next in
     let found = c.if-branch.true in
-    let row = rw (c.number.ensures, c.«record».ensures) at c.in_ok-add.ensures.ok in
+    let row = c.in_ok-add.ensures.ok in
     record {
       between = step.between found;
       same = table-more _ _ _ _ _ step _ c.loop-table.table c.loop-table.invariant.same c.add.new.self found row;
@@ -33,7 +33,7 @@ returns-in_err-add c =
     let p = err_from_is_err_and c.from_residual-in_err-add.result c.from_residual-in_err-add.ensures.1 in
     let step = c.in_ok-advance.ensures.next in
     gives-fault TableD _ _ c.in_err-add.field-0.0 (p.1 ∙ ap Err p.2)
-    (λ other. table-fault _ _ _ _ _ step _ c.loop-table.table c.loop-table.invariant.same _ c.if-branch.true (rw (c.number.ensures, c.«record».ensures) at (c.in_err-add.ensures.err other)))
+    (λ other. table-fault _ _ _ _ _ step _ c.loop-table.table c.loop-table.invariant.same _ c.if-branch.true (c.in_err-add.ensures.err other))
 
 pub returns : goal.returns
 returns c = table-end _ _ _ _ _ c.in_ok-advance.ensures.next _ c.loop-table.table c.loop-table.invariant.same c.if-branch.false

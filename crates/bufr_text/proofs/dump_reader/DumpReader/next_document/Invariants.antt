@@ -1,6 +1,6 @@
 use Rattle.std.proofs.Common.{◌≡◌, ◌⊎◌, ◌-◌, [], List, ℕ, None}
-use Rattle.bufr_frame.specs.Prelude.{max_reads}
-use Rattle.bufr_text.specs.Prelude.{ReadsLines, ReadsOnlyIfNoLine, CountsTextReads}
+use Rattle.bufr_frame.specs.Prelude.{max_reads, AddsReads}
+use Rattle.bufr_text.specs.Prelude.{ReadsLines, ReadsOnlyIfNoLine}
 use Rattle.bufr_text.proofs.dump_reader.DumpReader.next_document.Given as goal
 
 -- what was done so far in this call: octets were read and report nothing yet, each time that no
@@ -10,7 +10,7 @@ invariant-loop-document g l = record {
   octets : List ℕ;
   call : ReadsLines (g.R.Source.left l.fn.r) (g.R.Source.left l.r) l.fn.self l.self [] octets;
   waits : (l.self.reads ≡ l.fn.self.reads) ⊎ ReadsOnlyIfNoLine (g.R.Source.left l.fn.r) l.fn.self l.self.reads octets;
-  counts : CountsTextReads (g.R.Source.reads l.fn.r) (g.R.Source.reads l.r) l.fn.self l.self;
+  counts : AddsReads (g.R.Source.reads l.fn.r) (g.R.Source.reads l.r) l.fn.self.reads l.self.reads;
   failed : g.R.Source.failures l.r ≡ g.R.Source.failures l.fn.r;
   sound : l.self.fault ≡ None;
 }

@@ -1,27 +1,33 @@
-use Rattle.std.proofs.Common.{◌≡◌, ◌++◌, ◌∷◌, [], sym, subst, refl}
+use Rattle.std.proofs.Common.{sym, subst, refl, arith}
 use Rattle.std.proofs.lemmas.Result.{err_from_is_err_and}
 use Rattle.bufr_bits.specs.Prelude.{bits_of, octets_of}
-use Rattle.bufr_walk.specs.Prelude.{IndexedItem, IsPackedTaken, packed_view, IsLooked}
-use Rattle.bufr_walk.proofs.PackedReading.{keeps, takes_one, no_room}
+use Rattle.bufr_walk.specs.Prelude.{IndexedItem, IsPackedTaken, packed_view}
+use Rattle.bufr_walk.proofs.PlainLemmas.{bits_length}
+use Rattle.bufr_walk.proofs.PackedReading.{takes_one, no_room, too_many_here, few_here, fault_here}
 use Rattle.bufr_walk.proofs.compressed.PackedInFields.take.Goals as goal
+
+pub returns-then-items-from-gt-MAX_VALUES-clause-step : goal.returns-then-items-from-gt-MAX_VALUES-clause-step
+returns-then-items-from-gt-MAX_VALUES-clause-step c =
+    too_many_here c.args.self.now c.args.spec.now (bits_of (octets_of c.self.inside.bits)) c.self.inside.at c.self.inside.subsets c.self.inside.kept c.len.result c.from.result _ c.fxy.ensures (sym c.self.view_is) (omega arith) c.from.ensures c.if-items-from-gt-MAX_VALUES.true
+
+pub item_bits_at-requires-clause-within : goal.item_bits_at-requires-clause-within
+item_bits_at-requires-clause-within c = omega (arith, bits_length (octets_of c.self.inside.bits), c.self.invariant.within)
+
+pub returns-in_err-seen-clause-step : goal.returns-in_err-seen-clause-step
+returns-in_err-seen-clause-step c =
+    let p = err_from_is_err_and c.from_residual.result c.from_residual.ensures.1 in
+    let few = few_here (bits_of (octets_of c.self.inside.bits)) c.self.inside.subsets c.self.inside.kept c.len.result c.from.result (omega arith) c.from.ensures c.if-items-from-gt-MAX_VALUES.false in
+    rw (p.1, p.2) (fault_here c.args.self.now c.args.spec.now (bits_of (octets_of c.self.inside.bits)) c.self.inside.at c.self.inside.subsets c.self.inside.kept _ (sym c.self.view_is) few c.in_err-seen.ensures.seen)
 
 pub returns-in_err-place-clause-step : goal.returns-in_err-place-clause-step
 returns-in_err-place-clause-step c =
     let p = err_from_is_err_and c.from_residual-in_err-place.result c.from_residual-in_err-place.ensures.1 in
     rw (p.1, p.2) (no_room c.args.self.now c.args.spec.now (bits_of (octets_of c.self.inside.bits)) c.self.inside.at c.self.inside.subsets c.self.inside.kept c.keep.new.self _ c.self.view_is c.in_err-place.ensures.same c.in_err-place.ensures.fault c.in_err-place.ensures.full)
 
-pub invariant_of-self-2 : goal.invariant_of-self-2
-invariant_of-self-2 c =
-    let entry : IndexedItem = record { spec = c.args.spec.now; at = c.self.inside.at; base = c.in_ok-seen.seen.base; step = c.in_ok-seen.seen.step } in
-    let more : c.keep.new.self ≡ c.self.inside.kept ++ entry ∷ [] = c.in_ok-place.ensures.kept in
-    keeps (bits_of (octets_of c.self.inside.bits)) c.self.inside.at c.self.inside.subsets c.self.inside.kept c.keep.new.self entry c.in_ok-seen.seen c.self.invariant refl refl refl
-    (subst (λ s. IsLooked s c.args.spec.now c.in_ok-seen.seen) (sym c.self.view_is) c.in_ok-seen.ensures.seen) more
-
 pub returns-clause-step : goal.returns-clause-step
 returns-clause-step c =
     let bits = bits_of (octets_of c.self.inside.bits) in
     let entry : IndexedItem = record { spec = c.args.spec.now; at = c.self.inside.at; base = c.in_ok-seen.seen.base; step = c.in_ok-seen.seen.step } in
-    let more : c.keep.new.self ≡ c.self.inside.kept ++ entry ∷ [] = c.in_ok-place.ensures.kept in
+    let few = few_here bits c.self.inside.subsets c.self.inside.kept c.len.result c.from.result (omega arith) c.from.ensures c.if-items-from-gt-MAX_VALUES.false in
     subst (λ s. IsPackedTaken s c.args.spec.now c.in_ok-seen.seen.answer (packed_view bits c.in_ok-seen.seen.end c.self.inside.subsets c.keep.new.self)) c.self.view_is
-    (takes_one bits c.self.inside.at c.self.inside.subsets c.self.inside.kept c.keep.new.self entry c.in_ok-seen.seen refl
-    (subst (λ s. IsLooked s c.args.spec.now c.in_ok-seen.seen) (sym c.self.view_is) c.in_ok-seen.ensures.seen) more)
+    (takes_one bits c.self.inside.at c.self.inside.subsets c.self.inside.kept c.keep.new.self entry c.in_ok-seen.seen refl few c.in_ok-seen.ensures.seen c.in_ok-place.ensures.kept)
