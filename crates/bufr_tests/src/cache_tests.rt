@@ -59,4 +59,5 @@ fn encodes_many_lists_of_descriptors(rt: HostRuntime) {
     for index in 0..LISTS.saturating_mul(2) {
         assert_kept(&rt, &mut templates, list_of(&rt, index % LISTS).as_str());
     }
+    assert_same(&rt, &templates.others(), &15, &"lists");
 }

@@ -8,7 +8,7 @@ use Rattle.std.proofs.lemmas.Grind.{common_steps}
 use Rattle.std.proofs.lemmas.List.{drop_all}
 use Rattle.bufr_bits.proofs.DecimalLemmas.{and_first, and_second}
 use Rattle.bufr_tables.specs.Prelude.{fxy_of, is_fxy, f_in, x_in, y_in}
-use Rattle.bufr_text.specs.Prelude.{prefix_while, suffix_while, without_space, without_prefix, fxy_read, is_number_octet, is_hashed, is_passed_after, hex_read, onto_read, descriptors_read, either_value, pair_value, QuotedToken, Closed, ListsLeaves, Nothing, is_unescaped, upper_value, says_pair, escape_of, quoting_of, octet_onto, quoted_on, quoted_read, Describes, Unhexes, Unquotes, value_read, text_value, number_value, missing_value, Passed, Item, Local1, Section2, made, with_one_to, item_line, worded, line_of, is_no_space, Descriptors, Wrong}
+use Rattle.bufr_text.specs.Prelude.{prefix_while, suffix_while, without_space, without_prefix, fxy_read, is_number_octet, is_hashed, is_passed_after, hex_read, onto_read, descriptors_read, either_value, pair_value, QuotedToken, Closed, Octet, Nothing, is_unescaped, upper_value, says_pair, escape_of, quoting_of, octet_onto, quoted_on, quoted_read, Describes, Unhexes, Unquotes, value_read, text_value, number_value, missing_value, Passed, Item, Local1, Section2, made, with_one_to, item_line, worded, line_of, is_no_space, Descriptors, Wrong}
 use Rattle.bufr_fill.specs.Prelude.{number_token, reference_token, DraftValue}
 use Rattle.memchr.specs.Find.{IsFirstByte, is_byte}
 use Rattle.std.specs.Char.{is_ascii_digit}
@@ -438,7 +438,7 @@ quoted-skip zero (c ∷ text) = refl
 quoted-skip (suc k) (c ∷ text) = quoted-skip k text
 
 written-in : QuotedToken → ℕ
-written-in (ListsLeaves octet written) = written
+written-in (Octet octet written) = written
 written-in other = 1
 
 within : (xs : List ℕ) (i : ℕ) → 0 < slice_index xs i → i < length xs
@@ -454,7 +454,7 @@ unfolding IsIn written-in
 pair-in text high c h1 = grind (arith, nat_tests, common_steps)
 
 escape-by : (text : List ℕ) (a b : Bool) → ((slice_index text 1 == 34) || (slice_index text 1 == 92)) ≡ a → (slice_index text 1 == 120) ≡ b
-    → IsIn text (if a then ListsLeaves (slice_index text 1) 2 else if b then says_pair (pair_value (upper_value (slice_index text 2)) (upper_value (slice_index text 3))) else Nothing)
+    → IsIn text (if a then Octet (slice_index text 1) 2 else if b then says_pair (pair_value (upper_value (slice_index text 2)) (upper_value (slice_index text 3))) else Nothing)
 unfolding IsIn written-in
 escape-by text true b e f =
     let there : 0 < slice_index text 1 = grind (arith, nat_tests, e) in
@@ -463,7 +463,7 @@ escape-by text false true e f = pair-in text (upper_value (slice_index text 2)) 
 escape-by text false false e f = (omega arith, λ some. omega arith)
 
 quoting-by : (text : List ℕ) (a b c : Bool)
-    → IsIn text (if a then Closed else if b then escape_of text else if c then ListsLeaves (slice_index text 0) 1 else Nothing)
+    → IsIn text (if a then Closed else if b then escape_of text else if c then Octet (slice_index text 0) 1 else Nothing)
 unfolding IsIn written-in
 quoting-by text true b c = (omega arith, λ some. omega arith)
 quoting-by text false true c = escape-by text ((slice_index text 1 == 34) || (slice_index text 1 == 92)) (slice_index text 1 == 120) refl refl
@@ -473,14 +473,14 @@ quoting-by text false false false = (omega arith, λ some. omega arith)
 quoting-in : (text : List ℕ) → IsIn text (quoting_of text)
 quoting-in text = quoting-by text (slice_index text 0 == 34) (slice_index text 0 == 92) (is_unescaped (slice_index text 0))
 
-pub says-in : (text : List ℕ) (octet written : ℕ) → ListsLeaves octet written ≡ quoting_of text → 0 < length text → (1 ≤ written) × (written ≤ length text)
+pub says-in : (text : List ℕ) (octet written : ℕ) → Octet octet written ≡ quoting_of text → 0 < length text → (1 ≤ written) × (written ≤ length text)
 unfolding IsIn written-in
 says-in text octet written e some =
-    let q : IsIn text (ListsLeaves octet written) = subst (IsIn text) (sym e) (quoting-in text) in
+    let q : IsIn text (Octet octet written) = subst (IsIn text) (sym e) (quoting-in text) in
     (q.0, q.1 some)
 
 -- what is read after an octet
-pub says-on : (text : List ℕ) (octet written : ℕ) → ListsLeaves octet written ≡ quoting_of text → 0 < length text → quoted_read 0 text ≡ octet_onto octet (quoted_read 0 (drop written text))
+pub says-on : (text : List ℕ) (octet written : ℕ) → Octet octet written ≡ quoting_of text → 0 < length text → quoted_read 0 text ≡ octet_onto octet (quoted_read 0 (drop written text))
 unfolding quoted_read
 says-on text octet written h1 h2 = grind (arith, nat_tests, common_steps, says-in, quoted-skip)
 
@@ -501,12 +501,12 @@ onto-one-more xs octet (Some read) = ap (λ (t : List ℕ). Some (t, read.1)) (s
 left-some : (text : List ℕ) (at : ℕ) → at < length text → 0 < length (drop at text)
 left-some text at h = omega (arith, length-drop at text)
 
-pub unquoting-within : (text : List ℕ) (at octet written : ℕ) → at < length text → ListsLeaves octet written ≡ quoting_of (drop at text) → (1 ≤ written) × (at + written ≤ length text)
+pub unquoting-within : (text : List ℕ) (at octet written : ℕ) → at < length text → Octet octet written ≡ quoting_of (drop at text) → (1 ≤ written) × (at + written ≤ length text)
 unquoting-within text at octet written h e =
     let is = says-in (drop at text) octet written e (left-some text at h) in
     (is.0, omega (arith, is.1, length-drop at text))
 
-pub unquoting-says : (text out : List ℕ) (count at octet written : ℕ) → IsUnquoting text out count at → at < length text → ListsLeaves octet written ≡ quoting_of (drop at text)
+pub unquoting-says : (text out : List ℕ) (count at octet written : ℕ) → IsUnquoting text out count at → at < length text → Octet octet written ≡ quoting_of (drop at text)
     → IsUnquoting text (slice_set out count octet) (count + 1) (at + written)
 unquoting-says text out count at octet written is h e =
     let w = unquoting-within text at octet written h e in

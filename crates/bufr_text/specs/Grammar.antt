@@ -6,7 +6,7 @@ use Rattle.std.specs.Char.{is_ascii_digit}
 use Rattle.std.specs.Str.Parse.{digits_value}
 use Rattle.bufr_tables.specs.Prelude.{fxy_of, fxy_text}
 pub use Rattle.bufr_text.specs.declared.line.QuotedToken.{QuotedToken}
-pub use Rattle.bufr_text.specs.declared.line.QuotedToken.TheVariants.{Closed, ListsLeaves, Nothing}
+pub use Rattle.bufr_text.specs.declared.line.QuotedToken.TheVariants.{Closed, Octet, Nothing}
 
 -- the longest prefix of elements that pass a test, and the rest
 unfoldable pub prefix_while : (ℕ → Bool) → List ℕ → List ℕ
@@ -119,13 +119,13 @@ quoted [] = 34 ∷ []
 quoted (octet ∷ more) = escaped octet ++ quoted more
 
 abbrev pub says_pair : Option ℕ → QuotedToken
-says_pair (Some octet) = ListsLeaves octet 4
+says_pair (Some octet) = Octet octet 4
 says_pair None = Nothing
 
 -- what begins with a backslash; past the end of the text is 0, which no case allows
 abbrev pub escape_of : List ℕ → QuotedToken
 escape_of text = if (slice_index text 1 == 34) || (slice_index text 1 == 92)
-    then ListsLeaves (slice_index text 1) 2 else if slice_index text 1 == 120 then says_pair
+    then Octet (slice_index text 1) 2 else if slice_index text 1 == 120 then says_pair
     (pair_value (upper_value (slice_index text 2)) (upper_value (slice_index text 3))) else Nothing
 
 -- how a text begins
@@ -133,7 +133,7 @@ escape_of text = if (slice_index text 1 == 34) || (slice_index text 1 == 92)
 abbrev pub quoting_of : List ℕ → QuotedToken
 quoting_of text = if slice_index text 0 == 34 then Closed
     else if slice_index text 0 == 92 then escape_of text
-    else if is_unescaped (slice_index text 0) then ListsLeaves (slice_index text 0) 1 else Nothing
+    else if is_unescaped (slice_index text 0) then Octet (slice_index text 0) 1 else Nothing
 
 -- a text that was read, and what is after its closing quote
 abbrev pub octet_onto : ℕ → Option (List ℕ × List ℕ) → Option (List ℕ × List ℕ)
@@ -143,7 +143,7 @@ octet_onto octet (Some read) = Some (octet ∷ read.0, read.1)
 abbrev pub quoted_on : QuotedToken → (closed : List ℕ) → (more : ℕ → Option (List ℕ × List ℕ))
     → Option (List ℕ × List ℕ)
 quoted_on Closed closed more = Some ([], closed)
-quoted_on (ListsLeaves octet written) closed more = octet_onto octet (more (written - 1))
+quoted_on (Octet octet written) closed more = octet_onto octet (more (written - 1))
 quoted_on Nothing closed more = None
 
 -- the octets of a text and what is after its closing quote; octets that were looked at already are

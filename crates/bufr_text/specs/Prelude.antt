@@ -1,5 +1,5 @@
 -- Passes on the names that proofs and other crates cite. Declares nothing.
-pub use Rattle.bufr_text.specs.Grammar.{runs_of, escaped, hex_pair, is_unescaped, without_space, is_number_octet, is_passed_after, onto_read, either_value, pair_value, QuotedToken, Closed, ListsLeaves, Nothing, upper_value, says_pair, escape_of, quoting_of, octet_onto, quoted_on, number_read, hex_digit}
+pub use Rattle.bufr_text.specs.Grammar.{runs_of, escaped, hex_pair, is_unescaped, without_space, is_number_octet, is_passed_after, onto_read, either_value, pair_value, QuotedToken, Closed, Octet, Nothing, upper_value, says_pair, escape_of, quoting_of, octet_onto, quoted_on, number_read, hex_digit}
 unfoldable pub use Rattle.bufr_text.specs.Grammar.{runs_after, descriptors_text, hex_text, quoted, prefix_while, suffix_while, without_prefix, hex_read, fxy_read, descriptors_read, quoted_read, is_hashed}
 pub use Rattle.bufr_text.specs.Dump.{counts_texts, ls_line, source_texts, time_texts, local1_line, section2_line, descriptors_line, subset_line, item_text, dump_value_of, IsOctet, IsDescriptorWord, IsItem, header_of, bit, head_lines, dump_lines, dump_text_of, document_of, lines_before, IsDumpable, items_apart, compressed_dump_subsets, DumpItem, compressed_dump_items, text_of_lines, dump_items_of, dump_item_of, IsText, IsNumber, value_of, comment_of, IsScale, IsValue, IsName, IsComment, header_line, comment_text, Comment, DumpValue, IsMissing, IsReference, form_text}
 unfoldable pub use Rattle.bufr_text.specs.Dump.{header_lines, subset_lines, item_entries, subset_entries}

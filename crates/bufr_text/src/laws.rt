@@ -17,11 +17,11 @@ pub fn dump_text_spells_its_document()
         × (documents_of (dump_text_of s subsets) ≡ Complete (document_of 1 s subsets) ∷ []) }
 {}
 
-/// Each document of a text is proper: its header is whole, it has as many subsets as that says and
-/// nothing after them, and octets of section 2 only where there is one. The lines that are no
-/// comment and not empty are those of the documents, one after another, up to the end or to the
-/// first line that is refused. The documents that are reported while the end is not known stay the
-/// first ones, whatever comes after.
+/// Each document of a text is proper. Its header is whole, and it has as many subsets as that says
+/// and nothing after them. It has octets of section 2 only where there is one. The lines that are
+/// no comment and not empty are those of the documents. These come one after another, up to the end
+/// or to the first line that is refused. The documents that are reported while the end is not known
+/// stay the first ones, whatever comes after.
 #[tactic(auto, using(crate::proofs::LawLemmas::proper_steps))]
 pub fn texts_are_their_documents()
     ensures proper { (text : List ℕ) → AreProper (documents_of text) }
@@ -137,8 +137,8 @@ pub fn dumped_messages_are_encoded_in_each_form()
 {}
 
 /// A canonical message is encoded from its dump text to the same octets. One that was encoded in
-/// another form comes back octet for octet: the document of that message's dump text, encoded in
-/// the form that the first one has, gives the first one.
+/// another form comes back octet for octet. For that, the dump text of the second message is
+/// encoded in the form of the first.
 // rule: canonical
 pub fn canonical_messages_are_encoded_to_themselves()
     ensures { (records : List Record) (table : List Row) (sequences : List Sequence) (m : List ℕ)
@@ -153,14 +153,14 @@ pub fn canonical_messages_are_encoded_to_themselves()
         ≡ Ok m) }
 {}
 
-/// The message that a document is encoded to, in a form, is accepted, and it says what the document
-/// says: the same head, local octets, section 2, descriptors, number of subsets and flags, but that
-/// of compression, which is the form's; and each item's value is what the document's line says at
-/// its field. In a stream it is one message.
+/// The message that a document is encoded to, in a form, is accepted, and says what the document
+/// says. It has the same head, local octets, section 2, descriptors, number of subsets and flags.
+/// The flag of compression alone is the form's. Each item's value is what the document's line says
+/// at its field. In a stream it is one message.
 ///
-/// The dump text of that message is the document's own text in the one spelling that a dump has,
-/// and so is its own text in that spelling. It is one document, and as it is written that document
-/// is encoded to the same octets.
+/// The dump text of that message is the document's own text in the one spelling that a dump has. A
+/// text in that spelling stays as it is. It is one document, and as it is written that document is
+/// encoded to the same octets.
 pub fn encoded_documents_are_read()
     ensures { (form : Form) (records : List Record) (table : List Row) (sequences : List Sequence)
         (d : Document) (octets : List ℕ) → AreRows records table → IsProper d

@@ -296,7 +296,7 @@ pub(crate) enum QuotedToken {
     /// The quote that ends it.
     Closed,
     /// An octet, and how many octets write it.
-    ListsLeaves { octet: u8, written: usize },
+    Octet { octet: u8, written: usize },
     /// Nothing that a text can hold.
     Nothing,
 }
@@ -335,7 +335,7 @@ fn first_part(text: &[u8]) -> QuotedToken
         b'\\' => {
             let octet = octet_at(text, 1);
             if octet == b'"' || octet == b'\\' {
-                return QuotedToken::ListsLeaves { octet, written: 2 };
+                return QuotedToken::Octet { octet, written: 2 };
             }
             if octet != b'x' {
                 return QuotedToken::Nothing;
@@ -346,12 +346,12 @@ fn first_part(text: &[u8]) -> QuotedToken
             let Some(low) = upper_value(octet_at(text, 3)) else {
                 return QuotedToken::Nothing;
             };
-            QuotedToken::ListsLeaves {
+            QuotedToken::Octet {
                 octet: 16 * high + low,
                 written: 4,
             }
         }
-        octet if is_unescaped(octet) => QuotedToken::ListsLeaves { octet, written: 1 },
+        octet if is_unescaped(octet) => QuotedToken::Octet { octet, written: 1 },
         _ => QuotedToken::Nothing,
     }
 }
@@ -366,7 +366,7 @@ pub(crate) fn decode_quoted(text: &[u8], out: &mut [u8]) -> Option<(usize, usize
     while at < text.len() {
         match first_part(suffix(text, at)) {
             QuotedToken::Closed => return Some((count, at + 1)),
-            QuotedToken::ListsLeaves { octet, written } => {
+            QuotedToken::Octet { octet, written } => {
                 out[count] = octet;
                 count += 1;
                 at += written;

@@ -1,12 +1,12 @@
 -- What is cached: specs by their keys, and lists of descriptors in slots.
 use Rattle.std.proofs.lemmas.Grind.{common_steps}
 use Rattle.std.proofs.Common.{◌≡◌, ℕ, ◌+◌, ◌*◌, ◌<◌, arith, sym, ◌^◌, Bool, true, false, List, Option, Some, None, Ok, ap, subst, ◌≤◌, [], ◌∷◌, ◌++◌, length, length-append, ◌==◌, nat_lt, if◌then◌else◌}
-use Rattle.bufr_walk.specs.Prelude.{OperatorModel, IsKey, is_defining, element_spec, factor_spec, spec_by_kind, new_reference_spec, numeric_spec, coded_spec, text_spec, text_width, local_width_spec, listed_by, unsigned_of, unsigned_field, begin, IsFieldKey, descriptor_of, key_word, spec_of, FieldSpec, is_reference, IsSpecBy, IsOther, TableField, Kind}
+use Rattle.bufr_walk.specs.Prelude.{MayStay, list_of, lists_of, OperatorModel, IsKey, is_defining, element_spec, factor_spec, spec_by_kind, new_reference_spec, numeric_spec, coded_spec, text_spec, text_width, local_width_spec, listed_by, unsigned_of, unsigned_field, begin, IsFieldKey, descriptor_of, key_word, spec_of, FieldSpec, is_reference, IsSpecBy, IsOther, TableField, Kind}
 use Rattle.std.proofs.lemmas.Bool.Decides.{nat_tests}
 use Rattle.bufr_tables.specs.Prelude.{Row, entry_of, Sequence}
 use Rattle.bufr_walk.proofs.WalkLemmas.{fitted_role}
 use Rattle.std.specs.List.{All}
-use Rattle.std.proofs.lemmas.List.Elements.{All-append, All-cons, All-nil}
+use Rattle.std.proofs.lemmas.List.Elements.{All-append, All-cons, All-head, All-tail, All-nil}
 use Rattle.bufr_walk.specs.declared.lists.Slot.{Slot}
 use Rattle.bufr_tables.specs.declared.table_b.Kind.TheVariants as kind
 use Rattle.bufr_walk.specs.declared.spec.Role.TheVariants as role
@@ -91,6 +91,11 @@ spec_got_plain table s (field.Element fxy) key spec h g = element_plain table s 
 spec_got_plain table s (field.Factor fxy) key spec h g = factor_plain table s fxy spec (spec_got table s (field.Factor fxy) key spec h g)
 
 -- ---- The slots of lists of descriptors that are kept.
+
+-- the lists of slots beside the last one may stay
+pub all_stay : (b : List Row) (d : List Sequence) (slots : List Slot) → All (IsOther b d) slots → All (MayStay b d) (lists_of slots)
+all_stay b d [] h = All-nil (MayStay b d)
+all_stay b d (s ∷ slots) h = All-cons (MayStay b d) (list_of s) (lists_of slots) (All-head (IsOther b d) s slots h).stays (all_stay b d slots (All-tail (IsOther b d) s slots h))
 
 -- one slot more
 pub one_more : (b : List Row) (d : List Sequence) (slots : List Slot) (s : Slot) → All (IsOther b d) slots → IsOther b d s → All (IsOther b d) (slots ++ s ∷ [])

@@ -7,4 +7,4 @@ pub use Rattle.bufr_walk.specs.Reading.{packed, turns_together, IsPackedReading,
 pub use Rattle.bufr_walk.specs.Calls.{ShowsReading, content_at, Call, Timed, item_calls, subset_calls, compressed_item_calls, compressed_subset_calls, calls_of, items_called, turns_shown, Shows, seen_value, item_call, view, view_of, timed, EndsAt, IsReferenceValue, subset_call, View, seen, ShowFault}
 pub use Rattle.bufr_walk.specs.PlainIn.{Cursor, rest_of, past, IsTaken, Stage, stage, IsShown, IsUnshown, ShowingTakes, IsEnd, MayEnd, Sofar, ItemsShown, ItemsEnded, ItemsGo, plain_fault, PlainTakes}
 pub use Rattle.bufr_walk.specs.PackedIn.{content_kept, contents_found, was_found, has_base, fits_at, IsStoredReading, PaysBits, items_in, IsSeen, IsUnseen, HasSpecAt, IsPut, no_field, item_at_location, indexed_items, IsReadAndKept, PackedCursor, item_with_contents, item_at, items_at, packed_view, IsPackedIn, IsPackedTaken, wrong_of, PackedTakes, remaining_bits, IsPackedWrong, refuses_packed, new_packed_in, packed_fault, IsReadAndPaid, KeepsValues, call_kept, held_of, sum_content, room_for, room_left, IndexedItem}
-pub use Rattle.bufr_walk.specs.TemplateCache.{IsSpecBy, MayStay, IsOther, Lists, IsSlotBy}
+pub use Rattle.bufr_walk.specs.TemplateCache.{IsSpecBy, MayStay, IsOther, Lists, IsSlotBy, list_of, lists_of}

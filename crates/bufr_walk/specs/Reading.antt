@@ -149,7 +149,7 @@ abbrev pub field_stop_of : {C : Type 0} → ℕ → Result (FieldRead C) FieldFa
 field_stop_of fxy (Ok f) = None
 field_stop_of fxy (Err why) = Some (field_stop fxy why)
 
--- The stop at what comes next, if there is one. The faults at an item come in this order: the walk
+-- The stop at what comes next, if there is one. Faults at an item come in this order: the walk
 -- refuses it (32, 31), too many values (35), the field's own fault (30, 34, 33).
 -- rule: compressed-fault-order
 abbrev pub stop_at : {C : Type 0} → DataCoding C → (many : Bool) → Next → List Bool → Option Stop

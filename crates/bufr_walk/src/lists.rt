@@ -234,8 +234,8 @@ fn drop_first(slots: &mut Vec<Slot<'_>>)
 }
 
 /// Templates by two tables. For a list of descriptors that is selected again, neither the template
-/// nor the specs of its cells are made again. A clause sees the tables and the list that was
-/// selected last.
+/// nor the specs of its cells are made again. A clause sees the tables, the list that was selected
+/// last, and the others that are kept.
 ///
 /// ```
 /// let mut templates = TemplateCache::new(alloc, &table_b, &table_d);
@@ -257,7 +257,7 @@ pub struct TemplateCache<'a> {
 }
 
 impl<'a> Model for TemplateCache<'a> {
-    ghost use Rattle.bufr_walk.specs.TemplateCache.{Lists, AreSlots};
+    ghost use Rattle.bufr_walk.specs.TemplateCache.{Lists, AreSlots, lists_of};
 
     ghost Value = { Lists };
 
@@ -265,6 +265,7 @@ impl<'a> Model for TemplateCache<'a> {
       table_b = t.table_b.now;
       table_d = t.table_d.now;
       list = t.last.templates.list;
+      others = lists_of t.others.items;
     } };
 
     ghost invariant = { λ t. AreSlots t.table_b.now t.table_d.now t.last t.others.items };
@@ -277,6 +278,7 @@ impl<'a> TemplateCache<'a> {
           table_b = table_b.now;
           table_d = table_d.now;
           list = [];
+          others = [];
         } }
     {
         TemplateCache {
@@ -366,5 +368,14 @@ impl<'a> TemplateCache<'a> {
         ensures { result.now ≡ self.now.table_b }
     {
         self.table_b
+    }
+
+    /// The lists that are kept beside the last one are few, and each may stay.
+    pub fn others(&self) -> usize
+        ensures value { result ≡ length self.now.others }
+        ensures few { length self.now.others ≤ 15 }
+        ensures stay { All (MayStay self.now.table_b self.now.table_d) self.now.others }
+    {
+        self.others.len()
     }
 }
