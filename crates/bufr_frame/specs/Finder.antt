@@ -87,7 +87,8 @@ abbrev pub IsUndecided : FinderModel → RunFault → Type 0
 IsUndecided s fault = (s.fault ≡ Some fault) × (s.ended ≡ false)
     × ((at : ℕ) → NoEventCertain at s.rest)
 
--- how a fault leaves a finder: too long is only after 2^32 reads, and memory is needed only before
+-- how a fault leaves a finder: it is never one of a write; an input is too long only after 2^32
+-- reads, and memory is needed only before
 abbrev pub StopsFinder : FinderModel → RunFault → Type 0
 StopsFinder new Read = IsUndecided new Read
 StopsFinder new Write = ⊥
@@ -98,8 +99,8 @@ StopsFinder new Memory = IsUndecided new Memory × (new.reads < max_reads)
 abbrev pub ReadsOnlyIfUndecided : FinderModel → FinderModel → Type 0
 ReadsOnlyIfUndecided old new = old.reads ≢ new.reads → NoEventCertain old.at old.rest
 
--- Reads one after another: none was made while an event was certain in what was left and the octets
--- read so far, and none gave more than `most` octets.
+-- Reads one after another, of which none gave more than `most` octets. None was made while an event
+-- was certain in what was left and the octets read so far.
 abbrev pub EachReadIsNeeded : (most at : ℕ) (left : List ℕ) (given : List (List ℕ)) → Type 0
 EachReadIsNeeded most at left [] = Unit {0}
 EachReadIsNeeded most at left (octets ∷ more) =

@@ -80,7 +80,8 @@ section0_octets size edition = codes "BUFR" ++ three_octets size ++ edition ∷ 
 abbrev pub fits_3 : Head → Field → Bool
 fits_3 h field = nat_le (head_value h false field) (most_in slots_3 field)
 
--- a head that can be written: in edition 3 three values have one octet, and two have none
+-- a head that can be written: in edition 3 centre, sub-centre and year have one octet, and local
+-- sub-category and second none
 abbrev pub is_writable : Head → Bool
 is_writable h =
     (h.edition == 4) || ((h.edition == 3) && (fits_3 h Centre

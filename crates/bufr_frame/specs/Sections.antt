@@ -118,8 +118,8 @@ section3_begins m =
 abbrev pub section4_begins : List ℕ → ℕ
 section4_begins m = section3_begins m + u24_at m (section3_begins m)
 
--- A message as a finder returns it: reserved bits are zero, no octet is left over in section 3, and
--- in edition 3 sections 3 and 4 are even and the octet left over is zero.
+-- A message as a finder returns it. Its reserved bits are zero, and section 3 has no octet left
+-- over. In edition 3 sections 3 and 4 are even, and the octet left over is zero.
 -- rule: canonical
 pub record IsPlain (m : List ℕ) : Type 0 where
   pub octets : All (λ octet. octet < 256) m

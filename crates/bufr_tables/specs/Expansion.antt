@@ -187,8 +187,8 @@ is_element_first (operator fxy rest) = false
 is_element_first (fixed count body rest) = false
 is_element_first (delayed factor body rest) = false
 
--- F is 0 of elements and 2 of operators, which a template may hold; factors are those of
--- replications; an operator that gives a width comes before an element
+-- Elements have F = 0, and factors are replication factors. Operators have F = 2 and are those that
+-- a template may hold. One that gives a width comes before an element.
 abbrev pub IsLegal : Tree → Type 0
 IsLegal bare = Unit {0}
 IsLegal (element fxy rest) = (f_of fxy ≡ 0) × IsLegal rest

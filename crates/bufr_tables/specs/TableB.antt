@@ -138,7 +138,8 @@ row_of r = do
       }
   only_if (is_valid_factor (factor_width fxy) row) row
 
--- the limits of each row; a factor of delayed replications has its own width
+-- the limits of each row: a plain name and unit, and a scale and width of the kind that the unit
+-- says; a factor of delayed replications has its own width
 pub record IsRow (row : Row) : Type 0 where
   pub name : is_name row.name ≡ true
   pub unit : is_name row.unit ≡ true

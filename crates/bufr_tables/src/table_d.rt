@@ -316,7 +316,7 @@ fn visit(
     Ok(())
 }
 
-/// A rank for each sequence of the table, at its X and Y: that of a member is the same where it
+/// A rank for each sequence of the table, at its X and Y. That of a member is the same where it
 /// leads back, and else lower. Until it has its rank, a sequence has a mark above all ranks.
 fn ranks_of(alloc: Global, table: &TableD) -> Result<Vec<u32>, AllocError>
     ensures { IfOk result (λ v. length v.items ≡ 16384) }
