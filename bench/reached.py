@@ -16,7 +16,19 @@ HEAD = re.compile(r"^ {0,2}(?:abbrev |unfoldable |rec )*(?:pub )?(?:record |data
 USE = re.compile(r"^use Rattle\.(bufr_\w+)\.specs\.([\w.]+?)(?:\.\{([^}]*)\}| as ([\w-]+))$")
 PASSED = re.compile(r"^(?:unfoldable )?pub use Rattle\.(bufr_\w+)\.specs\.([\w.]+)\.\{([^}]*)\}$")
 GHOST = re.compile(r"ghost use Rattle\.(bufr_\w+)\.specs\.([\w.]+?)(?:\.\{([^}]*)\}| as ([\w-]+));")
-TOKEN = re.compile(r"[^\s()\[\]{};,.:]+")
+TOKEN = re.compile(r"[^\s()\[\]{};,:]+")
+
+
+class Scope(dict):
+    """Names and what they are of; an alias is a name only before a point and what it has."""
+
+    def __init__(self):
+        super().__init__()
+        self.aliases = set()
+
+    def add(self, other):
+        self.update(other)
+        self.aliases |= other.aliases
 
 
 class Item:
@@ -29,8 +41,9 @@ class Item:
         """The items that its text names, in the order of the text, comments left out."""
         text = "\n".join(one for one in self.lines if not re.match(r"\s*(?:--|//)", one))
         for token in TOKEN.findall(text):
-            if token in self.scope and token != self.name:
-                yield self.scope[token]
+            first, _, rest = token.partition(".")
+            if first in self.scope and first != self.name and (first not in self.scope.aliases or rest[:1].isupper()):
+                yield self.scope[first]
 
 
 def read(path):
@@ -38,10 +51,16 @@ def read(path):
 
 
 def comment_before(lines, at):
-    """Where the comment above a line begins."""
-    while at and re.match(r"\s*(?:--|//)", lines[at - 1]):
+    """Where the comment above a line begins, and the precedence of an operator."""
+    while at and re.match(r"\s*(?:--(?! ----)|//|infix)", lines[at - 1]):
         at -= 1
     return at
+
+
+def own_lines(lines):
+    """The lines of a definition, without blank ones, and without a heading of what comes after it."""
+    text = re.sub(r"(?m)^(?:-- ----.*\n(?:--.*\n)*|(?:--.*\n)+(?=\n|\Z))", "", "\n".join(lines) + "\n")
+    return [one for one in text.split("\n") if one.strip()]
 
 
 class House:
@@ -55,7 +74,7 @@ class House:
         if path in self.files:
             return self.files[path]
         items = self.files[path] = {}
-        lines, scope, heads = read(path), {}, []
+        lines, scope, heads = read(path), Scope(), []
         in_module = False
         for at, line in enumerate(lines):
             if line[:1].strip():
@@ -67,14 +86,14 @@ class House:
             if name in items:
                 items[name].lines += lines[begin:after]
                 continue
-            items[name] = Item(path, at + 1, name, [one for one in lines[begin:after] if one.strip()], scope)
-        scope.update(self.imported([USE.match(line) for line in lines]))
+            items[name] = Item(path, at + 1, name, own_lines(lines[begin:after]), scope)
+        scope.add(self.imported([USE.match(line) for line in lines]))
         scope.update(items)
         return items
 
     def imported(self, uses):
         """What lines `use` bring into scope."""
-        scope = {}
+        scope = Scope()
         for use in uses:
             if not use:
                 continue
@@ -82,10 +101,10 @@ class House:
             for name in re.split(r",\s*", names) if names else [module.rpartition(".")[2]]:
                 found = self.find(crate, module, name)
                 if found:
-                    scope[name] = found
+                    scope[alias or name] = found
             if alias:
-                scope[alias] = scope.get(module.rpartition(".")[2])
-        return {name: item for name, item in scope.items() if item}
+                scope.aliases.add(alias)
+        return scope
 
     def find(self, crate, module, name):
         """The definition or type of a module of specs, if it has one of this name."""
@@ -113,12 +132,12 @@ class House:
         while begin and re.match(r"(?://|#\[)", lines[begin - 1]):
             begin -= 1
         end = next(n for n in range(at, len(lines)) if re.search(r"^\}|;$", lines[n])) + 1
-        scope = {}
+        scope = Scope()
         item = self.files[key] = Item(path, at + 1, parts[-1], lines[begin:end], scope)
         model = next((n for n, one in enumerate(lines) if re.match(rf"impl.* Model for {parts[-1]}\b", one)), None)
         if model is not None:
             item.lines = item.lines + lines[model : lines.index("}", model) + 1]
-        scope.update(self.imported(GHOST.match(one.strip()) for one in item.lines))
+        scope.add(self.imported(GHOST.match(one.strip()) for one in item.lines))
         return item
 
 

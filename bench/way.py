@@ -4,24 +4,25 @@
     bench/way.py [--all] [CALL]        CALL is a function of bufr_cli, `run_dump` by default
 
 A line is NAME FILE:LINE, further in for each call. A function is printed where it is called first. The last line counts
-them. It reads the sources alone: an arm for `Err` or `None`, and what comes after `else` of a `let`, is left out. A call of
-a trait goes to each type of it that a function on the way names. Calls of std and of the kit are left out. Without --all
-so are the functions of BESIDE, which other octets pass.
+them. It reads the sources alone: an arm for `Err` or `None`, what comes after `else` of a `let`, and a block where the data
+are `compressed`, is left out. A call of a trait goes to each type of it that a function on the way names, and to `Device`,
+which the program hands in. Calls of std and of the kit are left out. Without --all so are the functions of BESIDE, which
+other octets pass.
 """
 import pathlib
 import re
 import sys
 
 TOP = pathlib.Path(__file__).resolve().parent.parent
-# What an octet does not pass that holds a number, in the middle of data that are not compressed, under no operator.
+# What an octet does not pass that holds a short whole number, in the middle of data that are not compressed, under no operator.
 BESIDE = {
     "what is made before it is read": "new",
-    "other sections": "section_end_at section_1 second_end is_long head_at section2_of subsets compressed descriptors_of push_head_lines",
+    "other sections": "section_end_at section_1 second_end is_padded head_at section2_of subsets compressed descriptors_of push_head_lines",
     "other templates": "select take_specs put_specs take_new take_new_other",
     "other events of a stream": "classify write_stray write_fault push_stray",
     "other cells of a template": "apply take_inserted take_reference open_group end_pass key_by",
-    "other forms of data": "read_packed show_packed",
-    "other values": "signed_at show_other push_quoted push_any_item push_any_form push_any_number fill_any fill_long",
+    "other forms of data": "show_packed",
+    "other values": "signed_at show_other push_quoted push_any_item push_any_form fill_any fill_long fill_scaled put_tenths put_hundredths",
     "the lines round the items": "subset into_sink take_block",
     "the end of the stream": "flush last",
 }
@@ -66,6 +67,8 @@ def without_refusals(body):
             rest = re.search(rf"\n {{0,{len(found[1])}}}\S", body[found.end() :])
             end = found.end() + (rest.start() if rest else len(body))
         body = body[: found.start()] + body[end:]
+    while found := re.search(r"\bif \w+\.compressed\(\) \{", body):
+        body = body[: found.start()] + body[braces(body, found.end() - 1) + 1 :]
     while True:
         found = re.search(r"\belse \{(?=[^{}]*return)", body)
         if not found or not re.search(r"let [^;{}]*$", body[: found.start()]):
@@ -101,7 +104,10 @@ class House:
             if not found:
                 continue
             margin = found[1]
-            end = next((n for n in range(at, len(lines)) if re.fullmatch(margin + r"\}", lines[n]) or lines[n].endswith("{}") or re.fullmatch(margin + r"\S.*;", lines[n])), at)
+            end = next((n for n in range(at, len(lines)) if re.fullmatch(margin + r"\}", lines[n]) or re.fullmatch(margin + r"(fn .*)?\{\}", lines[n]) or re.fullmatch(margin + r"\S.*;", lines[n])), at)
+            stated = next((n for n in range(at, end + 1) if lines[n].endswith(("{", ";", "{}"))), end)
+            if lines[stated].endswith(";"):  # a trait says it, and its types have it
+                end = stated
             whole = "\n".join(lines[at : end + 1])
             start = re.search(rf"(?m)^{margin}\{{$", whole)
             opened = start.start() if start else whole.find("{\n")
@@ -133,7 +139,7 @@ class Way:
     """The functions that were met, and the types that they name."""
 
     def __init__(self, house, beside):
-        self.house, self.beside, self.met, self.named, self.lines, self.later = house, beside, [], set(), [], []
+        self.house, self.beside, self.met, self.named, self.lines, self.later = house, beside, [], {"Device"}, [], []
 
     def returned(self, functions):
         for it in functions:
@@ -149,8 +155,10 @@ class Way:
         """The functions that a body calls, in order."""
         bounds, known = self.bounds(function), {"self": function.owner}
         head = function.head
-        for name, kind in re.findall(r"(\w+): ([^,\n]+(?:<[^\n]*>)?)", head[head.find("(") :]):
-            generic = re.search(r"\b([A-Z])\b", kind)
+        opened = re.search(r"fn \w+(?:<[^()]*>)?\(", head)
+        given = head[opened.end() : braces(head, opened.end() - 1)]
+        for name, kind in re.findall(r"(\w+): ((?:<[^<>]*(?:<[^<>]*>)?[^<>]*>|[^,<>])+)", given):
+            generic = re.fullmatch(r"(?:&(?:'\w+ )?(?:mut )?)?([A-Z])", kind.strip())
             known[name] = bounds.get(generic[1]) if generic else self.house.type_in(kind, function.owner)
         body, out, kinds = function.body, [], {}
 

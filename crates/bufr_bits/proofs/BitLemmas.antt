@@ -415,7 +415,7 @@ rest_above x v k =
     let whole : x * 2 ^ k + v ≡ (x + v / 2 ^ k) * 2 ^ k + v % 2 ^ k = omega arith in
     ap (λ (n : ℕ). n % 2 ^ k) whole ∙ mod_low (x + v / 2 ^ k) k (v % 2 ^ k) (mod_below v (2 ^ k) (pow_pos k))
 
-power_fits : (k : ℕ) → k < 64 → 1 * 2 ^ k % 18446744073709551616 ≡ 2 ^ k
+pub power_fits : (k : ℕ) → k < 64 → 1 * 2 ^ k % 18446744073709551616 ≡ 2 ^ k
 power_fits k few = shl_whole 1 1 k 64 (omega arith) (omega arith) ∙ omega arith
 
 -- ---- bits written as octets and bits after them

@@ -11,7 +11,7 @@ use Rattle.std.proofs.lemmas.Bool.{cases_lt}
 use Rattle.std.proofs.lemmas.Bool.Decides.{nat_tests}
 use Rattle.std.proofs.Math.Nat.{pow-suc, one-le-pow, mul-le-mul_right, pow-le-pow_right}
 use Rattle.std.proofs.lemmas.List.{take_more, take_all, drop_all, take_at, drop_at, length-replicate}
-use Rattle.bufr_bits.specs.Prelude.{capped, capped_ok, all_digits, whole_quotient, scaled, signed, and_then, IsParts, is_unsigned, unsigned_part, decimal_value_of, positive_scale, negative_scale, decimal_text_of, unsigned_text, pointed, is_digits, whole_part, fraction_part, sign_of}
+use Rattle.bufr_bits.specs.Prelude.{capped, capped_ok, all_digits, whole_quotient, scaled, signed, ◌>>=◌, IsParts, is_unsigned, unsigned_part, decimal_value_of, positive_scale, negative_scale, decimal_text_of, unsigned_text, pointed, is_digits, whole_part, fraction_part, sign_of}
 use Rattle.bufr_bits.specs.declared.decimal.NumberFault.TheVariants.{Inexact, Syntax}
 use Rattle.bufr_bits.specs.declared.decimal.NumberFault.{NumberFault}
 use Rattle.bufr_bits.proofs.BitLemmas.{list_all-append}
@@ -257,7 +257,7 @@ pub read_syntax : (text body : List ℕ) (scale : ℤ) → body ≡ unsigned_par
 unfolding decimal_value_of
 read_syntax text body scale b h = grind (arith, common_steps)
 
-value_by_parts : (text body whole fraction : List ℕ) (scale : ℤ) → body ≡ unsigned_part text → IsParts body whole fraction → decimal_value_of text scale ≡ and_then (scaled (whole ++ fraction) (length fraction) scale) (signed (starts_with_minus text))
+value_by_parts : (text body whole fraction : List ℕ) (scale : ℤ) → body ≡ unsigned_part text → IsParts body whole fraction → decimal_value_of text scale ≡ ((scaled (whole ++ fraction) (length fraction) scale) >>= (signed (starts_with_minus text)))
 unfolding decimal_value_of
 value_by_parts text body whole fraction scale b h = grind (arith, common_steps)
 
@@ -265,20 +265,20 @@ value_by_parts text body whole fraction scale b h = grind (arith, common_steps)
 abbrev quotient_of : (whole fraction : List ℕ) (up down : ℕ) → Result ℕ NumberFault
 quotient_of whole fraction up down = whole_quotient (digits_value 10 (whole ++ fraction) * 10 ^ up) (10 ^ (length fraction + down))
 
-value_by_powers : (text body whole fraction : List ℕ) (scale : ℤ) (up down : ℕ) → body ≡ unsigned_part text → IsParts body whole fraction → up ≡ positive_scale scale → down ≡ negative_scale scale → decimal_value_of text scale ≡ and_then (quotient_of whole fraction up down) (signed (starts_with_minus text))
+value_by_powers : (text body whole fraction : List ℕ) (scale : ℤ) (up down : ℕ) → body ≡ unsigned_part text → IsParts body whole fraction → up ≡ positive_scale scale → down ≡ negative_scale scale → decimal_value_of text scale ≡ ((quotient_of whole fraction up down) >>= (signed (starts_with_minus text)))
 value_by_powers text body whole fraction scale up down b h hu hd = grind (arith, common_steps, value_by_parts)
 
 pub read_fault : (text body whole fraction : List ℕ) (scale : ℤ) (up down : ℕ) (fault : NumberFault) (r : Result ℤ NumberFault) → body ≡ unsigned_part text → IsParts body whole fraction → up ≡ positive_scale scale → down ≡ negative_scale scale → Err fault ≡ capped_ok (whole_quotient (digits_value 10 (whole ++ fraction) * 10 ^ up) (10 ^ (length fraction + down))) → r ≡ Err fault → r ≡ decimal_value_of text scale
 read_fault text body whole fraction scale up down fault r b h hu hd e result =
     let quotient = capped_err (quotient_of whole fraction up down) fault e in
     let value = value_by_powers text body whole fraction scale up down b h hu hd in
-    result ∙ sym (value ∙ ap (λ (q : Result ℕ NumberFault). and_then q (signed (starts_with_minus text))) quotient)
+    result ∙ sym (value ∙ ap (λ (q : Result ℕ NumberFault). (q >>= (signed (starts_with_minus text)))) quotient)
 
 pub read_found : (text body whole fraction : List ℕ) (scale : ℤ) (up down n : ℕ) (negative : Bool) (r : Result ℤ NumberFault) → body ≡ unsigned_part text → IsParts body whole fraction → up ≡ positive_scale scale → down ≡ negative_scale scale → negative ≡ starts_with_minus text → Ok n ≡ capped_ok (whole_quotient (digits_value 10 (whole ++ fraction) * 10 ^ up) (10 ^ (length fraction + down))) → ((m : ℕ) → n ≡ capped m → r ≡ signed negative m) → r ≡ decimal_value_of text scale
 read_found text body whole fraction scale up down n negative r b h hu hd hn e result =
     let found = capped_found (quotient_of whole fraction up down) n e in
     let value = value_by_powers text body whole fraction scale up down b h hu hd in
-    let whole_value = value ∙ ap (λ (q : Result ℕ NumberFault). and_then q (signed (starts_with_minus text))) found.1 in
+    let whole_value = value ∙ ap (λ (q : Result ℕ NumberFault). (q >>= (signed (starts_with_minus text)))) found.1 in
     result found.0 found.2 ∙ ap (λ (s : Bool). signed s found.0) hn ∙ sym whole_value
 
 -- ---- Decimal text that is read again with the same scale.
@@ -427,7 +427,7 @@ no_sign text h = digit_no_minus (get_or text 0 0) h
 
 -- what reading digits at a scale answers
 abbrev pub number_at : (negative : Bool) (n places : ℕ) (scale : ℤ) → Result ℤ NumberFault
-number_at negative n places scale = and_then (whole_quotient (n * 10 ^ positive_scale scale) (10 ^ (places + negative_scale scale))) (signed negative)
+number_at negative n places scale = ((whole_quotient (n * 10 ^ positive_scale scale) (10 ^ (places + negative_scale scale))) >>= (signed negative))
 
 -- a text is read as its digits, alone or after a sign
 pub read_after_minus : (text : List ℕ) (n places : ℕ) (scale : ℤ) → IsDecimalOf text n places → decimal_value_of (45 ∷ text) scale ≡ number_at true n places scale
@@ -440,12 +440,12 @@ read_alone text n places scale h = rw (no_sign text h.first, h.form, h.value, h.
 
 -- at its own scale it is its digits
 pub number_at_own : (negative : Bool) (n places : ℕ) → number_at negative n places (pos places) ≡ signed negative n
-number_at_own negative n places = ap (λ (r : Result ℕ NumberFault). and_then r (signed negative)) (exact_quotient n places (places + 0) (omega arith))
+number_at_own negative n places = ap (λ (r : Result ℕ NumberFault). (r >>= (signed negative))) (exact_quotient n places (places + 0) (omega arith))
 
 number_at_zeros : (negative : Bool) (n less : ℕ) → number_at negative (n * 10 ^ suc less) 0 (negsuc less) ≡ signed negative n
 number_at_zeros negative n less =
     let whole : n * 10 ^ suc less * 1 ≡ n * 10 ^ suc less = omega arith in
-    ap (λ (m : ℕ). and_then (whole_quotient m (10 ^ (0 + (less + 1)))) (signed negative)) whole ∙ ap (λ (r : Result ℕ NumberFault). and_then r (signed negative)) (exact_quotient n (suc less) (0 + (less + 1)) (omega arith))
+    ap (λ (m : ℕ). ((whole_quotient m (10 ^ (0 + (less + 1)))) >>= (signed negative))) whole ∙ ap (λ (r : Result ℕ NumberFault). (r >>= (signed negative))) (exact_quotient n (suc less) (0 + (less + 1)) (omega arith))
 
 fits_signed : (n : ℕ) → n < 2 ^ 127 → signed false n ≡ Ok (pos n)
 fits_signed n h = let small : nat_lt n (2 ^ 127) ≡ true = lt-ltb n (2 ^ 127) h in rw small refl

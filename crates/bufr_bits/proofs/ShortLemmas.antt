@@ -9,7 +9,7 @@ use Rattle.std.proofs.lemmas.Nat.{div-add-mod', mod_below}
 use Rattle.std.proofs.lemmas.Bool.Decides.{nat_tests}
 use Rattle.std.proofs.lemmas.List.{take_more, take_all, drop_more, length-replicate}
 use Rattle.std.proofs.Math.Nat.{pow-suc, mul-le-mul_right, pow-le-pow_right}
-use Rattle.bufr_bits.specs.Prelude.{all_digits, whole_quotient, decimal_text_of, unsigned_text, pointed, decimal_value_of, positive_scale, negative_scale, signed, and_then, unsigned_part, signed_number, is_decimal_octet, IsPlainDecimal}
+use Rattle.bufr_bits.specs.Prelude.{all_digits, whole_quotient, decimal_text_of, unsigned_text, pointed, decimal_value_of, positive_scale, negative_scale, signed, ◌>>=◌, unsigned_part, signed_number, is_decimal_octet, IsPlainDecimal}
 use Rattle.bufr_bits.specs.declared.decimal.NumberFault.TheVariants.{Inexact}
 use Rattle.bufr_bits.proofs.BitLemmas.{list_all-append}
 use Rattle.bufr_bits.proofs.DecimalLemmas.{value_after-is, value_after-append, value-below, quotient_is, ten_pos, ten_split, product_zero, sum_zero, and_first, and_second, own, unsigned_is_decimal, read_alone, read_after_minus, number_at, number_at_own}
@@ -247,11 +247,11 @@ module _ (negative : Bool) (n places : ℕ) (scale : ℤ) (small : n < 2 ^ 128) 
 
   pub value_up : (up down : ℕ) (r : Result ℤ NumberFault) → up ≡ positive_scale scale → down ≡ negative_scale scale → places + down ≤ up → r ≡ signed negative (n * 10 ^ (up - (places + down))) → r ≡ value_at negative n places scale
   value_up up down r u d le e =
-      e ∙ ap (λ (q : Result ℕ NumberFault). and_then q (signed negative)) (scaled_by_times n up (places + down) le) ∙ rw (u, d) (sym value_is)
+      e ∙ ap (λ (q : Result ℕ NumberFault). (q >>= (signed negative))) (scaled_by_times n up (places + down) le) ∙ rw (u, d) (sym value_is)
 
-  pub value_down : (up down : ℕ) (q : Result ℕ NumberFault) → up ≡ positive_scale scale → down ≡ negative_scale scale → up < places + down → q ≡ whole_quotient n (10 ^ (places + down - up)) → and_then q (signed negative) ≡ value_at negative n places scale
+  pub value_down : (up down : ℕ) (q : Result ℕ NumberFault) → up ≡ positive_scale scale → down ≡ negative_scale scale → up < places + down → q ≡ whole_quotient n (10 ^ (places + down - up)) → (q >>= (signed negative)) ≡ value_at negative n places scale
   value_down up down q u d lt e =
-      ap (λ (r : Result ℕ NumberFault). and_then r (signed negative)) (e ∙ scaled_by_quotient n up (places + down) lt) ∙ rw (u, d) (sym value_is)
+      ap (λ (r : Result ℕ NumberFault). (r >>= (signed negative))) (e ∙ scaled_by_quotient n up (places + down) lt) ∙ rw (u, d) (sym value_is)
 
 -- the first digits of a window of a text, of which none or one is a zero at its start
 pub take_window : (text : List ℕ) (most count : ℕ) → count ≤ most → take count (take most text) ≡ take count text

@@ -89,10 +89,11 @@ abbrev pub signed : (negative : Bool) → ℕ → Result ℤ NumberFault
 signed false n = if nat_lt n (2 ^ 127) then Ok (pos n) else Err Large
 signed true n = if nat_le n (2 ^ 127) then Ok (neg_ℤ (pos n)) else Err Large
 
--- go on with a number that was found
-abbrev pub and_then : Result ℕ NumberFault → (ℕ → Result ℤ NumberFault) → Result ℤ NumberFault
-and_then (Ok n) next = next n
-and_then (Err fault) next = Err fault
+-- one step after another, up to the first fault
+infixl 10 ◌>>=◌
+abbrev pub ◌>>=◌ : {E A B : Type 0} → Result A E → (A → Result B E) → Result B E
+(Ok x) >>= next = next x
+(Err fault) >>= next = Err fault
 
 -- the number that a text writes, times ten to the scale, or the first fault
 -- rule: inexact-before-too-large
@@ -100,8 +101,9 @@ unfoldable pub decimal_value_of : (text : List ℕ) (scale : ℤ) → Result ℤ
 decimal_value_of text scale =
     let body = unsigned_part text in
     let digits = whole_part body ++ fraction_part body in
-    if is_unsigned body then and_then (scaled digits (length (fraction_part body)) scale)
-    (signed (starts_with_minus text)) else Err Syntax
+    if is_unsigned body
+    then scaled digits (length (fraction_part body)) scale >>= signed (starts_with_minus text)
+    else Err Syntax
 
 -- the parts of an unsigned decimal text
 pub record IsParts (text whole fraction : List ℕ) : Type 0 where

@@ -1,7 +1,6 @@
 //! Octets read as bits, most significant first.
 ghost use Rattle.std.specs.Prelude.{◌≡◌, ◌≤◌, ◌<◌, ◌+◌, ◌-◌, ◌/◌, ◌%◌, ◌^◌, ◌==◌, ℕ, MatchOption, length, slice_index, slice_range, ◌*◌, option_map, SomeIff, IfSome};
-ghost use Rattle.std.specs.List.{list_all};
-ghost use Rattle.bufr_bits.specs.Bits.{bits_of, are_all_ones, IsWindow, number_of, bits_at};
+ghost use Rattle.bufr_bits.specs.Bits.{are_all_ones, IsWindow, number_of, bits_at};
 
 /// Octets that are read as bits, at most 2^60 octets. Bits are counted from 0, most significant
 /// first.
@@ -67,37 +66,26 @@ impl<'a> BitSlice<'a> {
         let from = (at % 8) as u32;
         match first_window(&self.octets[(at / 8) as usize..]) {
             Some(window) if from + width <= 64 => (window >> (64 - from - width)) % (1 << width),
-            Some(_) => self.by_octets(at, width),
-            None => self.near_end(at, width),
+            _ => self.by_octets(at, width),
         }
     }
 
-    /// The number of bits in the last eight octets; of fewer octets, octet by octet.
+    /// The number of bits which no eight octets from their first on have: of bits in the last eight
+    /// octets by these, of others octet by octet.
     #[inline(never)]
-    fn near_end(&self, at: u64, width: u32) -> u64
-        requires some { 0 < width }
+    fn by_octets(&self, at: u64, width: u32) -> u64
+        requires some { 1 ≤ width }
         requires few { width ≤ 63 }
         requires within { at + width ≤ 8 * length (octets_of self.now) }
-        requires near { length (octets_of self.now) < at / 8 + 8 }
         ensures { result ≡ number_of (bits_at (octets_of self.now) at width) }
     {
         let first = self.octets.len().saturating_sub(8);
-        match first_window(&self.octets[first..]) {
-            Some(window) => {
+        if at >= 8 * first as u64 {
+            if let Some(window) = first_window(&self.octets[first..]) {
                 let from = (at - 8 * first as u64) as u32;
-                (window >> (64 - from - width)) % (1 << width)
+                return (window >> (64 - from - width)) % (1 << width);
             }
-            None => self.by_octets(at, width),
         }
-    }
-
-    /// The number of bits which no one window has, octet by octet.
-    #[inline(never)]
-    fn by_octets(&self, at: u64, width: u32) -> u64
-        requires few { width ≤ 63 }
-        requires within { at + width ≤ 8 * length (octets_of self.now) }
-        ensures { result ≡ number_of (bits_at (octets_of self.now) at width) }
-    {
         let mut value = 0u64;
         let mut done = 0u32;
         while done < width {
@@ -105,7 +93,7 @@ impl<'a> BitSlice<'a> {
             let from = (place % 8) as u32;
             let taken = (8 - from).min(width - done);
             let octet = self.octets[(place / 8) as usize];
-            value = (value << taken) + part_of(octet, from, taken);
+            value = (value << taken) + u64::from(octet >> (8 - from - taken)) % (1 << taken);
             done += taken;
         }
         value
@@ -162,7 +150,6 @@ impl<'a> BitSlice<'a> {
     }
 }
 
-/// So many octets from a place on.
 fn part(octets: &[u8], first: usize, count: usize) -> &[u8]
     requires { first + count ≤ length octets.now }
     ensures value { result.now ≡ slice_range octets.now first (first + count) }
@@ -180,14 +167,4 @@ fn first_window(octets: &[u8]) -> Option<u64>
         Some(window) => Some(u64::from_be_bytes(*window)),
         None => None,
     }
-}
-
-/// `width` bits of an octet from bit `from` on, as a number.
-fn part_of(octet: u8, from: u32, width: u32) -> u64
-    requires some { 0 < width }
-    requires within { from + width ≤ 8 }
-    ensures value { result ≡ octet / 2 ^ (8 - from - width) % 2 ^ width }
-    ensures octet { octet < 2 ^ 8 }
-{
-    u64::from(octet >> (8 - from - width)) % (1 << width)
 }

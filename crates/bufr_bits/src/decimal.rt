@@ -61,7 +61,6 @@ pub fn decimal_text(v: i128, scale: i16, out: &mut Vec<u8>) -> Result<(), AllocE
     Ok(())
 }
 
-/// Appends digits `0` for which there is room.
 fn put_zero_digits(out: &mut Vec<u8>, count: usize)
     requires { vec_len out.old + count ≤ vec_capacity out.old }
     ensures items { out.new.items ≡ out.old.items ++ replicate count 48 }
@@ -84,7 +83,6 @@ fn powers_of(scale: i16) -> (usize, usize)
     if scale < 0 { (0, size) } else { (size, 0) }
 }
 
-/// Appends the sign of a number, for which there is room.
 // rule: decimal-sign
 fn push_sign(out: &mut Vec<u8>, v: i128)
     requires { vec_len out.old + 1 ≤ vec_capacity out.old }
@@ -142,7 +140,6 @@ pub fn decimal_read(text: &[u8], scale: i16) -> Result<i128, NumberFault>
     apply_sign(negative, number)
 }
 
-/// Whether a text begins with a minus sign, and the text after it.
 fn without_sign(text: &[u8]) -> (bool, &[u8])
     ensures sign { result.0 ≡ starts_with_minus text.now }
     ensures body { result.1.now ≡ unsigned_part text.now }
@@ -168,21 +165,18 @@ fn parts_of(body: &[u8]) -> Option<(&[u8], &[u8])>
     }
 }
 
-/// The place of the first point.
 fn point_of(body: &[u8]) -> Option<usize>
     ensures { result ≡ position (λ c. c == 46) body.now }
 {
     body.iter().position(|c| *c == b'.')
 }
 
-/// Whether a text is one or more digits.
 fn is_digits(text: &[u8]) -> bool
     ensures { result ≡ is_digits text.now }
 {
     !text.is_empty() && all_digits(text)
 }
 
-/// Whether a text is digits alone.
 fn all_digits(text: &[u8]) -> bool
     ensures { result ≡ all_digits text.now }
 {
@@ -209,7 +203,6 @@ fn scaled(whole: &[u8], fraction: &[u8], up: usize, down: usize) -> Result<u128,
     Ok(times_ten(number, up - moved.len()))
 }
 
-/// Whether all digits are zeros.
 fn are_zeros(digits: &[u8]) -> bool
     ensures { result ≡ list_all (λ d. d == 48) digits.now }
 {
@@ -389,7 +382,6 @@ fn by_ten(number: u64, times: usize) -> Result<u64, NumberFault>
     Ok(value)
 }
 
-/// A number with its sign.
 fn short_signed(negative: bool, number: u64) -> i128
     ensures { Ok result ≡ signed negative number }
 {

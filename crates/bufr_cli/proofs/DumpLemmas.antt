@@ -2,19 +2,19 @@
 use Rattle.std.proofs.Common.{◌≡◌, ◌∙◌, ◌⊎◌, ℕ, List, [], ◌∷◌, Option, Result, Ok, Err, refl, sym, subst, ap, inl, inr, append-nil}
 use Rattle.std.specs.Io.KnownBytes.{Appends}
 use Rattle.std.proofs.KnownBytes.{Appends-nil}
-use Rattle.bufr_frame.specs.Prelude.{StreamEvent, FrameAt, StrayAt, Sections, sections_of}
+use Rattle.bufr_frame.specs.Prelude.{StreamEvent, FrameAt, StrayAt, Sections, sections_of, cause_report, section_report}
 use Rattle.bufr_frame.specs.declared.fault.RunFault.{RunFault}
 use Rattle.bufr_frame.specs.declared.fault.SectionFault.{SectionFault}
-use Rattle.bufr_tables.specs.Prelude.{tree_of, tables_of, Record, Row, AreRows, Sequence, Tree}
+use Rattle.bufr_tables.specs.Prelude.{tree_of, tables_of, Record, Row, AreRows, Sequence, Tree, template_report}
 use Rattle.bufr_tables.specs.declared.fault.TemplateFault.{TemplateFault}
 use Rattle.bufr_tables.proofs.SoundLemmas.{tree_fine}
-use Rattle.bufr_walk.specs.Prelude.{Course, next_item, number_of_walk_fault, Read, course_of, data_of, read_by, IsFault, IsRefused, IsReadingOf, Data, Values, apart, together, IsReading}
+use Rattle.bufr_walk.specs.Prelude.{Course, next_item, data_report, Read, course_of, data_of, read_by, IsFault, IsRefused, IsReadingOf, Data, Values, IsReading}
 use Rattle.bufr_walk.specs.declared.fault.WalkFault.{WalkFault}
 use Rattle.bufr_walk.specs.declared.fault.WalkFault.TheVariants as walk
 use Rattle.bufr_walk.proofs.OneReading.{one_reading, one_refusal, not_read_and_refused}
 use Rattle.bufr_walk.proofs.SomeReading.{read_or_refused}
-use Rattle.bufr_text.specs.Prelude.{dump_text_of, dump_items_of, compressed_dump_subsets, WritesPrefix, GrowsByPrefix, Writes}
-use Rattle.bufr_cli.specs.Prelude.{IsDataPiece, IsTemplatePiece, IsMessagePiece, IsDumpPiece, dump_text, template_piece, Piece, OnOutput, OnErrors, stray_piece, section_piece, fault_line, walk_fault_text, GivesPieces, LeavesPieces, Verdict}
+use Rattle.bufr_text.specs.Prelude.{dump_text_of, WritesPrefix, GrowsByPrefix, Writes, dump_items}
+use Rattle.bufr_cli.specs.Prelude.{IsDataPiece, IsTemplatePiece, IsMessagePiece, IsDumpPiece, Piece, OnOutput, OnErrors, fault_line, GivesPieces, LeavesPieces, Verdict}
 use Rattle.bufr_cli.specs.declared.outcome.Verdict.TheVariants.{Accepted, Refused}
 
 -- of a text nothing was written
@@ -22,15 +22,15 @@ grows-none : (w : Option (List ℕ)) (text : List ℕ) → GrowsByPrefix w w tex
 grows-none w text = record { prefix = []; back = text; parts = refl; gains = Appends-nil w }
 
 -- a call that was given up before anything was written
-pub nothing-written : (w e : Option (List ℕ)) (piece : Piece) (r : Result Verdict RunFault) (f : RunFault) → r ≡ Err f → LeavesPieces w w e e (piece ∷ []) r
-nothing-written w e piece r f is = rw is (grows-none w _, grows-none e _)
+pub nothing-written : (w e : Option (List ℕ)) (pieces : List Piece) (r : Result Verdict RunFault) (f : RunFault) → r ≡ Err f → LeavesPieces w w e e pieces r
+nothing-written w e pieces r f is = rw is (grows-none w _, grows-none e _)
 
 -- a text was written on the output, or a prefix of it
 output-reported : (w w' e : Option (List ℕ)) (text : List ℕ) (piece : Piece) → piece ≡ OnOutput text → Appends w w' text → LeavesPieces w w' e e (piece ∷ []) (Ok Accepted)
 output-reported w w' e text piece is writes =
     rw is (record { output = rw (append-nil text) writes; errors = Appends-nil e }, refl, refl)
 
-output-stopped : (w w' e : Option (List ℕ)) (text : List ℕ) (piece : Piece) (f : RunFault) → piece ≡ OnOutput text → GrowsByPrefix w w' text → LeavesPieces w w' e e (piece ∷ []) (Err f)
+pub output-stopped : (w w' e : Option (List ℕ)) (text : List ℕ) (piece : Piece) (f : RunFault) → piece ≡ OnOutput text → GrowsByPrefix w w' text → LeavesPieces w w' e e (piece ∷ []) (Err f)
 output-stopped w w' e text piece f is writes =
     rw is (rw (append-nil text) writes, grows-none e [])
 
@@ -44,28 +44,26 @@ errors-stopped w e e' text piece f is writes =
     rw is (grows-none w [], rw (append-nil text) writes)
 
 -- the items of a reading are those that its table and its data say
-items-same : (r : Read) (table : List Row) (template : Tree) (d : Data) (used : ℕ) (values : Values) → r.table ≡ table → r.source ≡ d → dump_items_of (read_by table template d used 0) values ≡ dump_items_of r values
-items-same r table template d used (apart subsets) is_table is_source = ap (λ t. dump_items_of (read_by t template d used 0) (apart subsets)) (sym is_table)
-items-same r table template d used (together items) is_table is_source =
-    ap (λ t. compressed_dump_subsets t d.subsets 0 items) (sym is_table) ∙ ap (λ x. compressed_dump_subsets r.table x.subsets 0 items) (sym is_source)
+items-same : (r : Read) (table : List Row) (d : Data) (values : Values) → r.table ≡ table → r.source ≡ d → dump_items table d.subsets values ≡ dump_items r.table r.source.subsets values
+items-same r table d values is_table is_source = ap (λ t. dump_items t d.subsets values) (sym is_table) ∙ ap (λ x. dump_items r.table x.subsets values) (sym is_source)
 
 -- a message whose data were read has their text and nothing else
 read-piece : (table : List Row) (offset : ℕ) (s : Sections) (template : Tree) (r : Read) (values : Values) → r.table ≡ table → r.source ≡ data_of s → IsReading (next_item table template) (data_of s) values r.bits
-    → (piece : Piece) → IsDataPiece table offset s template piece → piece ≡ OnOutput (dump_text_of s (dump_items_of r values))
+    → (piece : Piece) → IsDataPiece table offset s template piece → piece ≡ OnOutput (dump_text_of s (dump_items r.table r.source.subsets values))
 read-piece table offset s template r values is_table is_source read (OnOutput text) (others, used, reads, is) =
     let same = one_reading (next_item table template) (data_of s) others values used r.bits reads read in
-    ap OnOutput (is ∙ ap (λ v. dump_text table template s v used) same.0 ∙ ap (dump_text_of s) (items-same r table template (data_of s) used values is_table is_source))
+    ap OnOutput (is ∙ ap (λ v. dump_text_of s (dump_items table s.subsets v)) same.0 ∙ ap (dump_text_of s) (items-same r table (data_of s) values is_table is_source))
 read-piece table offset s template r values is_table is_source read (OnErrors text) (why, turns, refused, is) =
     absurd (not_read_and_refused (next_item table template) (data_of s) values r.bits why turns read refused)
 
 -- a message whose data were refused has the line of the fault and nothing else
 refused-piece : (table : List Row) (offset : ℕ) (s : Sections) (template : Tree) (why : WalkFault) (turns : ℕ) → IsRefused (next_item table template) (data_of s) why turns
-    → (piece : Piece) → IsDataPiece table offset s template piece → piece ≡ OnErrors (fault_line offset (number_of_walk_fault why) (walk_fault_text why))
+    → (piece : Piece) → IsDataPiece table offset s template piece → piece ≡ OnErrors (fault_line offset (data_report why))
 refused-piece table offset s template why turns refused (OnOutput text) (values, used, reads, is) =
     absurd (not_read_and_refused (next_item table template) (data_of s) values used why turns reads refused)
 refused-piece table offset s template why turns refused (OnErrors text) (other, turns', refuses, is) =
     let same = one_refusal (next_item table template) (data_of s) other why turns' turns refuses refused in
-    ap OnErrors (is ∙ ap (λ f. fault_line offset (number_of_walk_fault f) (walk_fault_text f)) same.0)
+    ap OnErrors (is ∙ ap (λ f. fault_line offset (data_report f)) same.0)
 
 -- a fault that is no want of memory is a refusal
 fault-refuses : (course : Course) (d : Data) (why : WalkFault) (steps : ℕ) → (why ≡ walk.Memory → ⊥) → IsFault course d why steps → (turns : ℕ) × IsRefused course d why turns
@@ -85,18 +83,18 @@ reading-of table template s r steps (is_table, is_template, is_source, values, (
 
 -- the text of a reading was written, or a prefix of it
 pub reading-reported : (table : List Row) (offset : ℕ) (s : Sections) (template : Tree) (r : Read) (steps : ℕ) (w w' e : Option (List ℕ)) → IsReadingOf table template (data_of s) r steps
-    → ((values : Values) → IsReading (course_of r) r.source values r.bits → Appends w w' (dump_text_of s (dump_items_of r values)))
+    → ((values : Values) → IsReading (course_of r) r.source values r.bits → Appends w w' (dump_text_of s (dump_items r.table r.source.subsets values)))
     → (piece : Piece) → IsDataPiece table offset s template piece → LeavesPieces w w' e e (piece ∷ []) (Ok Accepted)
 reading-reported table offset s template r steps w w' e so writes piece is =
     let found = reading-of table template s r steps so in
-    output-reported w w' e (dump_text_of s (dump_items_of r found.0)) piece (read-piece table offset s template r found.0 so.0 so.2 found.1 piece is) (writes found.0 found.2)
+    output-reported w w' e (dump_text_of s (dump_items r.table r.source.subsets found.0)) piece (read-piece table offset s template r found.0 so.0 so.2 found.1 piece is) (writes found.0 found.2)
 
 pub reading-stopped : {X : Type 0} (table : List Row) (offset : ℕ) (s : Sections) (template : Tree) (r : Read) (steps : ℕ) (w w' e : Option (List ℕ)) (first : Result X RunFault) (f : RunFault) (result : Result Verdict RunFault) → IsReadingOf table template (data_of s) r steps
-    → ((values : Values) → IsReading (course_of r) r.source values r.bits → WritesPrefix w w' (dump_text_of s (dump_items_of r values)) first) → first ≡ Err f → result ≡ Err f
+    → ((values : Values) → IsReading (course_of r) r.source values r.bits → WritesPrefix w w' (dump_text_of s (dump_items r.table r.source.subsets values)) first) → first ≡ Err f → result ≡ Err f
     → (piece : Piece) → IsDataPiece table offset s template piece → LeavesPieces w w' e e (piece ∷ []) result
 reading-stopped {X = X} table offset s template r steps w w' e first f result so writes fails same piece is =
     let found = reading-of table template s r steps so in
-    let text = dump_text_of s (dump_items_of r found.0) in
+    let text = dump_text_of s (dump_items r.table r.source.subsets found.0) in
     rw same (output-stopped w w' e text piece f (read-piece table offset s template r found.0 so.0 so.2 found.1 piece is) (rw fails at (writes found.0 found.2)))
 
 -- a prefix of a fault line was written
@@ -107,7 +105,7 @@ line-stopped {X = X} w e e' text first f result piece is writes fails same =
 
 -- the line of data that were refused
 pub refused-line : (table : List Row) (offset : ℕ) (s : Sections) (template : Tree) (why : WalkFault) (steps : ℕ) → (why ≡ walk.Memory → ⊥) → IsFault (next_item table template) (data_of s) why steps
-    → (piece : Piece) → IsDataPiece table offset s template piece → piece ≡ OnErrors (fault_line offset (number_of_walk_fault why) (walk_fault_text why))
+    → (piece : Piece) → IsDataPiece table offset s template piece → piece ≡ OnErrors (fault_line offset (data_report why))
 refused-line table offset s template why steps some so piece is =
     let refused = fault-refuses (next_item table template) (data_of s) why steps some so in
     refused-piece table offset s template why refused.0 refused.1 piece is
@@ -120,23 +118,23 @@ data-of table d offset s template is piece has = subst (λ made. IsTemplatePiece
 -- the data of a message have a piece, by a template that a list makes
 data-piece : (records : List Record) (table : List Row) (d : List Sequence) (offset : ℕ) (s : Sections) → AreRows records table → (made : Result Tree TemplateFault) → tree_of (tables_of table d) s.descriptors ≡ made
     → (piece : Piece) × IsTemplatePiece table offset s made piece
-data-piece records table d offset s rows (Err fault) is = (template_piece offset fault, refl)
+data-piece records table d offset s rows (Err fault) is = (OnErrors (fault_line offset (template_report fault)), refl)
 data-piece records table d offset s rows (Ok template) is =
     by (read_or_refused records table template (data_of s) rows (tree_fine (tables_of table d) s.descriptors template is).legal)
   where
     by : ((v : Values) × (used : ℕ) × IsReading (next_item table template) (data_of s) v used) ⊎ ((why : WalkFault) × (turns : ℕ) × IsRefused (next_item table template) (data_of s) why turns)
         → (piece : Piece) × IsDataPiece table offset s template piece
-    by (inl (values, used, reads)) = (OnOutput (dump_text table template s values used), (values, used, reads, refl))
-    by (inr (why, turns, refused)) = (OnErrors (fault_line offset (number_of_walk_fault why) (walk_fault_text why)), (why, turns, refused, refl))
+    by (inl (values, used, reads)) = (OnOutput (dump_text_of s (dump_items table s.subsets values)), (values, used, reads, refl))
+    by (inr (why, turns, refused)) = (OnErrors (fault_line offset (data_report why)), (why, turns, refused, refl))
 
 message-piece : (records : List Record) (table : List Row) (d : List Sequence) (offset : ℕ) → AreRows records table → (parsed : Result Sections SectionFault) → (piece : Piece) × IsMessagePiece table d offset parsed piece
 message-piece records table d offset rows (Ok s) = data-piece records table d offset s rows (tree_of (tables_of table d) s.descriptors) refl
-message-piece records table d offset rows (Err fault) = (section_piece offset fault, refl)
+message-piece records table d offset rows (Err fault) = (OnErrors (fault_line offset (section_report fault)), refl)
 
 -- each event has a piece
 event-piece : (records : List Record) (table : List Row) (d : List Sequence) → AreRows records table → (here : StreamEvent) → (piece : Piece) × IsDumpPiece table d here piece
 event-piece records table d rows (FrameAt offset octets) = message-piece records table d offset rows (sections_of octets)
-event-piece records table d rows (StrayAt offset cause) = (stray_piece offset cause, refl)
+event-piece records table d rows (StrayAt offset cause) = (OnErrors (fault_line offset (cause_report cause)), refl)
 
 pub some-pieces : (records : List Record) (table : List Row) (d : List Sequence) → AreRows records table → (piece : StreamEvent → Piece) × GivesPieces (IsDumpPiece table d) piece
 some-pieces records table d rows = (λ here. (event-piece records table d rows here).0, λ here. (event-piece records table d rows here).1)

@@ -1,6 +1,6 @@
 -- What a run of `encode` writes, document by document.
 use Rattle.std.proofs.lemmas.Grind.{common_steps}
-use Rattle.std.proofs.Common.{◌≡◌, ◌∙◌, ℕ, ◌+◌, ◌-◌, ◌==◌, ◌≤◌, ◌<◌, ◌^◌, Bool, false, if◌then◌else◌, length-append, List, [], ◌∷◌, ◌++◌, length, None, arith, append_assoc, append-nil, Option, Result, Ok, Err, refl, sym, ap, subst, inl, inr, true, Some, map, count_by, IfSome}
+use Rattle.std.proofs.Common.{◌≡◌, ◌≢◌, ◌∙◌, ℕ, ◌+◌, ◌-◌, ◌==◌, ◌≤◌, ◌<◌, ◌^◌, Bool, false, if◌then◌else◌, length-append, List, [], ◌∷◌, ◌++◌, length, None, arith, append_assoc, append-nil, Option, Result, Ok, Err, refl, sym, ap, subst, inl, inr, true, Some, map, count_by, IfSome}
 use Rattle.std.specs.Io.KnownBytes.{Appends, Consumes, IsAtEnd, Keeps}
 use Rattle.std.proofs.KnownBytes.{Consumes-trans}
 use Rattle.std.proofs.lemmas.Bool.{false≢true}
@@ -19,7 +19,24 @@ use Rattle.bufr_cli.specs.Prelude.{refused_line, result_piece, encode_pieces, up
 use Rattle.bufr_cli.specs.declared.outcome.Verdict.TheVariants as verdict
 use Rattle.bufr_text.proofs.CallLemmas.{call-none, call-then, counts-none, counts-then, reported-first, reported-first-openly, reported-at-end, reported-at-fault}
 use Rattle.bufr_cli.proofs.RunLemmas.{Tallies-then, count-append, map-append, Written-nil, Written-then, all-read, nothing-after-end, written-kept, done-cut, whole-part}
+use Rattle.bufr_text.specs.declared.fault.DocumentFault.{DocumentFault}
+use Rattle.bufr_text.specs.declared.fault.DocumentFault.TheVariants as document
+use Rattle.bufr_text.specs.Prelude.{RefusedAt, reported_refusal}
 use Rattle.bufr_cli.proofs.DumpLemmas.{errors-reported, line-stopped}
+
+-- a fault of a document is reported, unless it is want of memory
+pub is-reported : (why : DocumentFault) → why ≢ document.Memory → (refused : RefusedAt) × (reported_refusal why ≡ Some refused)
+is-reported (document.WrongDescriptor line e) some = (_, refl)
+is-reported (document.Number line) some = (_, refl)
+is-reported (document.OutOfRange line) some = (_, refl)
+is-reported (document.TextLong line) some = (_, refl)
+is-reported (document.MissingForbidden line) some = (_, refl)
+is-reported (document.Template line why) some = (_, refl)
+is-reported (document.UnequalFactor line) some = (_, refl)
+is-reported (document.Increment line) some = (_, refl)
+is-reported (document.TooLong line) some = (_, refl)
+is-reported (document.Walk line why) some = (_, refl)
+is-reported document.Memory some = absurd (some refl)
 
 -- the encoding of a document was stopped
 pub next-stopped : (w w' e e' : Option (List ℕ)) (piece : ParseResult → Piece) (next : Result (Option Document) ReadFault) (document : Document) (write_event : Result Verdict RunFault) (f : RunFault) (r : Result (Option Verdict) RunFault)

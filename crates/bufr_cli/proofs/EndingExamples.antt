@@ -1,12 +1,12 @@
 -- Last lines and exit statuses, and ends of runs that are refused, computed.
-use Rattle.std.proofs.Common.{◌≡◌, ◌∷◌, ℕ, List, [], map, refl, ap, codes, ◌∙◌, Option, Some, Result, Ok, Err, sym, subst, arith, inl, inr}
+use Rattle.std.proofs.Common.{if◌then◌else◌, ◌==◌, ◌≡◌, ◌∷◌, ℕ, List, [], map, refl, ap, codes, ◌∙◌, Option, Some, Result, Ok, Err, sym, subst, arith, inl, inr}
 use Rattle.std.specs.Borrow.{Bor}
 use Rattle.std.specs.Fmt.{digits}
 use Rattle.bufr_frame.specs.declared.fault.RunFault.TheVariants.{Read, Write, InputTooLong, Memory}
 use Rattle.bufr_text.specs.Prelude.{joined}
-use Rattle.bufr_cli.specs.Prelude.{last_line, status_of, EndsRun, FlushesRest, WantsMemory, WasEnded, WentThrough, ran_status, Tally, BlamesWriter, RunPieces, Writer, Writers, event_pieces, holding, ls_piece, IsListing}
+use Rattle.bufr_cli.specs.Prelude.{last_line, status_of, EndsRun, FlushesRest, WantsMemory, Ended, Tally, BlamesWriter, RunPieces, Writer, Writers, event_pieces, holding, ls_piece}
 use Rattle.bufr_cli.specs.declared.outcome.Outcome.TheVariants.{Ran, Usage, CannotOpen, TableB, TableD, Run}
-use Rattle.bufr_frame.specs.Prelude.{scan_from, sections_of, section_end}
+use Rattle.bufr_frame.specs.Prelude.{head_by_edition, head_size, scan_from, sections_of, section_end}
 use Rattle.bufr_frame.specs.declared.fault.RunFault.{RunFault}
 use Rattle.bufr_tables.specs.declared.fault.TableFault.TheVariants as table
 
@@ -51,26 +51,16 @@ IsOk : Result Tally RunFault → Type 0
 IsOk (Ok tally) = Unit {0}
 IsOk (Err fault) = ⊥
 
-tally_in : Tally → Result Tally RunFault → Tally
-tally_in other (Ok tally) = tally
-tally_in other (Err fault) = other
-
-fault_in : Result Tally RunFault → RunFault
-fault_in (Ok tally) = Read
-fault_in (Err fault) = fault
-
 ok-is-no-fault : (tally : Tally) (fault : RunFault) → Ok tally ≡ Err fault → ⊥
 unfolding IsOk
 ok-is-no-fault tally fault is = subst IsOk is tt
 
 -- a listing of one stray word ends with status 1, and so never with 0
-a-stray-is-refused : (before after : Writers) (tally : Tally) → EndsRun IsListing (Some (codes "BUFR")) before after (Ok tally) → status_of (Ran tally) ≡ 1
-unfolding scan_from sections_of section_end tally_in
+a-stray-is-refused : (before after : Writers) (tally : Tally) → EndsRun (λ pieces. pieces ≡ event_pieces ls_piece) (Some (codes "BUFR")) before after (Ok tally) → status_of (Ran tally) ≡ 1
+unfolding scan_from sections_of section_end head_by_edition head_size
 a-stray-is-refused before after tally (WantsMemory is same) = absurd (ok-is-no-fault tally Memory is)
-a-stray-is-refused before after tally (WentThrough other is whole output errors flushed) =
-    let same : tally ≡ other = ap (tally_in tally) is in
-    ap (λ t. ran_status t.refused) same ∙ ap ran_status (whole (event_pieces ls_piece) refl).1.refused
-a-stray-is-refused before after tally (WasEnded fault is from to known between bs run input writers rest errors) = absurd (ok-is-no-fault tally fault is)
+a-stray-is-refused before after tally (Ended from to known between leaves rest errors) =
+    ap (λ n. if n == 0 then 0 else 1) (rw known at (leaves.whole (event_pieces ls_piece) refl)).1.refused
 
 -- writers that counted no failure and no empty write are at no fault of a write
 abbrev idle : Writers
@@ -91,11 +81,5 @@ idle-writers-do-not-fail between output errors blames =
     none (inr (same, inr empty)) = absurd (zero-is-not-one empty.1)
 
 no-write-fault : (may_be : RunPieces → Type 0) (octets : Option (List ℕ)) → EndsRun may_be octets idle idle (Err Write) → ⊥
-unfolding fault_in IsOk
 no-write-fault may_be octets (WantsMemory is same) = absurd cc
-no-write-fault may_be octets (WentThrough tally is whole output errors flushed) = ok-is-no-fault tally Write (sym is)
-no-write-fault may_be octets (WasEnded fault is from to known between bs run input writers rest errors) =
-    let same : fault ≡ Write = sym (ap fault_in is) in
-    let W : RunFault → Type 0 = λ f. BlamesWriter {X = Tally} idle between (Err f) in
-    let F : RunFault → Type 0 = λ f. FlushesRest {X = Tally} between.output idle.output (Err f) in
-    idle-writers-do-not-fail between (subst F same rest) errors (subst W same writers)
+no-write-fault may_be octets (Ended from to known between leaves rest errors) = idle-writers-do-not-fail between rest errors leaves.writers

@@ -1,18 +1,18 @@
 -- The lines computed on worked examples.
 use Rattle.std.proofs.Common.{◌≡◌, ℕ, true, false, List, [], ◌∷◌, ◌++◌, refl, codes, map, slice_set}
 use Rattle.std.specs.Fmt.{digits}
-use Rattle.bufr_frame.specs.Prelude.{scan_from, sections_of, section_end, number_of_cause, number_of_section_fault}
+use Rattle.bufr_frame.specs.Prelude.{head_by_edition, head_size, scan, scan_from, sections_of, section_end, cause_report, section_report}
 use Rattle.bufr_frame.specs.declared.fault.Cause.TheVariants.{Cut, ShortLength, NoEnd}
 use Rattle.bufr_frame.specs.declared.fault.SectionFault.TheVariants.{Edition, SectionShort, SectionPast, SectionsEnd, Edition3Long}
-use Rattle.bufr_tables.specs.Prelude.{number_of_template_fault}
+use Rattle.bufr_tables.specs.Prelude.{template_report}
 use Rattle.bufr_tables.specs.declared.fault.TemplateFault.TheVariants as template
-use Rattle.bufr_walk.specs.Prelude.{number_of_walk_fault, spot}
+use Rattle.bufr_walk.specs.Prelude.{data_report, spot}
 use Rattle.bufr_walk.specs.declared.fault.WalkFault.TheVariants as walk
 use Rattle.bufr_walk.specs.declared.spec.TurnRefusal.TheVariants as turn
 use Rattle.bufr_fill.specs.Prelude.{wrong_descriptor, wrong_number, out_of_range, text_long, missing_forbidden, unequal_factors, uneven_increment, item_too_many, walk_refused, too_many_values}
 use Rattle.bufr_text.specs.Prelude.{Refused, NotAllowed, SubsetCount, HeaderRange, by_template, too_long}
 use Rattle.bufr_text.specs.declared.encode.Form.TheVariants.{AsWritten}
-use Rattle.bufr_cli.specs.Prelude.{fault_line, cause_text, section_fault_text, template_fault_text, walk_fault_text, refused_line, refusal_line, item_fault_line, OnOutput, OnErrors, ls_pieces, encode_pieces, up_to_refused}
+use Rattle.bufr_cli.specs.Prelude.{fault_line, refused_line, refusal_line, item_fault_line, OnOutput, OnErrors, ls_piece, encode_pieces, up_to_refused}
 
 -- a message with one block number, 48 octets
 abbrev pub one_block_number : List ℕ
@@ -23,20 +23,20 @@ one_block_number = 0x42 ∷ 0x55 ∷ 0x46 ∷ 0x52 ∷ 0x00 ∷ 0x00 ∷ 0x30 �
     0x37 ∷ 0x37 ∷ 0x37 ∷ 0x37 ∷ []
 
 -- its line
-one-listed : ls_pieces one_block_number ≡ OnOutput (codes "offset=0 length=48 edition=4 centre=98/0 update=0 category=0/0/0 tables=0/14/0 time=2024-01-02T03:04:05 subsets=1 observed=1 compressed=0 optional=0 descriptors=1\n") ∷ []
-unfolding scan_from sections_of section_end digits
+one-listed : map ls_piece (scan one_block_number) ≡ OnOutput (codes "offset=0 length=48 edition=4 centre=98/0 update=0 category=0/0/0 tables=0/14/0 time=2024-01-02T03:04:05 subsets=1 observed=1 compressed=0 optional=0 descriptors=1\n") ∷ []
+unfolding scan_from sections_of section_end head_by_edition head_size digits
 one-listed = refl
 
 -- the fault lines of stray words
 -- rule: stream-fault-line, fault-1, fault-2, fault-3
-stray-lines : map (λ cause. fault_line 12 (number_of_cause cause) (cause_text cause ∷ [])) (Cut ∷ ShortLength ∷ NoEnd ∷ [])
+stray-lines : map (λ cause. fault_line 12 (cause_report cause)) (Cut ∷ ShortLength ∷ NoEnd ∷ [])
     ≡ codes "offset 12: 1 cut\n" ∷ codes "offset 12: 2 short length\n" ∷ codes "offset 12: 3 no end\n" ∷ []
 unfolding digits
 stray-lines = refl
 
 -- of sections
 -- rule: fault-10, fault-11, fault-12, fault-13, fault-14
-section-lines : map (λ fault. fault_line 0 (number_of_section_fault fault) (section_fault_text fault)) (Edition 2 ∷ SectionShort 1 ∷ SectionPast 4 ∷ SectionsEnd ∷ Edition3Long ∷ [])
+section-lines : map (λ fault. fault_line 0 (section_report fault)) (Edition 2 ∷ SectionShort 1 ∷ SectionPast 4 ∷ SectionsEnd ∷ Edition3Long ∷ [])
     ≡ codes "offset 0: 10 edition 2\n"
     ∷ codes "offset 0: 11 section 1 short\n"
     ∷ codes "offset 0: 12 section 4 past the end\n"
@@ -48,7 +48,7 @@ section-lines = refl
 
 -- of templates
 -- rule: fault-20, fault-21, fault-22, fault-23, fault-24, fault-25, fault-26, fault-27, fault-28
-template-lines : map (λ fault. fault_line 48 (number_of_template_fault fault) (template_fault_text fault)) (template.UnknownElement 16383 ∷ template.UnknownSequence 64705 ∷ template.Operator 33800 ∷ template.GroupShape 16386 ∷ template.NoFactor 16640 ∷ template.EmptyGroup 0 ∷ template.Depth 16641 ∷ template.TemplateSize 257 ∷ template.LocalShape 34312 ∷ [])
+template-lines : map (λ fault. fault_line 48 (template_report fault)) (template.UnknownElement 16383 ∷ template.UnknownSequence 64705 ∷ template.Operator 33800 ∷ template.GroupShape 16386 ∷ template.NoFactor 16640 ∷ template.EmptyGroup 0 ∷ template.Depth 16641 ∷ template.TemplateSize 257 ∷ template.LocalShape 34312 ∷ [])
     ≡ codes "offset 48: 20 unknown element 063255\n"
     ∷ codes "offset 48: 21 unknown sequence 360193\n"
     ∷ codes "offset 48: 22 operator 204008\n"
@@ -64,7 +64,7 @@ template-lines = refl
 
 -- of the data: the subset, the descriptor and the bits before the item, each in its place
 -- rule: stream-fault-place, fault-30, fault-31, fault-32, fault-33, fault-34, fault-35
-data-lines : map (λ fault. fault_line 0 (number_of_walk_fault fault) (walk_fault_text fault)) (walk.DataEnd (spot 1 257 22) ∷ walk.Width (spot 2 257 0) ∷ walk.Defining (spot 1 271 0) ∷ walk.UnequalFactor (spot 0 7937 0) ∷ walk.Increment (spot 0 257 0) ∷ walk.TooManyValues (spot 0 257 14336) ∷ [])
+data-lines : map (λ fault. fault_line 0 (data_report fault)) (walk.DataEnd (spot 1 257 22) ∷ walk.Width (spot 2 257 0) ∷ walk.Defining (spot 1 271 0) ∷ walk.UnequalFactor (spot 0 7937 0) ∷ walk.Increment (spot 0 257 0) ∷ walk.TooManyValues (spot 0 257 14336) ∷ [])
     ≡ codes "offset 0: 30 data end at subset 1 descriptor 001001 bit 22\n"
     ∷ codes "offset 0: 31 width at subset 2 descriptor 001001 bit 0\n"
     ∷ codes "offset 0: 32 defining at subset 1 descriptor 001015 bit 0\n"
@@ -110,8 +110,8 @@ item-lines = refl
 
 -- the same octets said to be of edition 3: the versions of tables and the year are taken for the
 -- month, the day, the hour and the minute
-edition-3-listed : ls_pieces (slice_set one_block_number 7 3) ≡ OnOutput (codes "offset=0 length=48 edition=3 centre=98/0 update=0 category=0/0/0 tables=0/0/0 time=0000-14-00T07:232:00 subsets=1 observed=1 compressed=0 optional=0 descriptors=1\n") ∷ []
-unfolding scan_from sections_of section_end digits
+edition-3-listed : map ls_piece (scan (slice_set one_block_number 7 3)) ≡ OnOutput (codes "offset=0 length=48 edition=3 centre=98/0 update=0 category=0/0/0 tables=0/0/0 time=0000-14-00T07:232:00 subsets=1 observed=1 compressed=0 optional=0 descriptors=1\n") ∷ []
+unfolding scan_from sections_of section_end head_by_edition head_size digits
 edition-3-listed = refl
 
 -- a message of edition 3 with one block number, 46 octets
@@ -123,14 +123,14 @@ edition_3 = 0x42 ∷ 0x55 ∷ 0x46 ∷ 0x52 ∷ 0x00 ∷ 0x00 ∷ 0x2E ∷ 0x03 
     0x37 ∷ 0x37 ∷ 0x37 ∷ 0x37 ∷ []
 
 -- rule: listing-of-edition-3
-edition-3-line : ls_pieces edition_3 ≡ OnOutput (codes "offset=0 length=46 edition=3 centre=98/0 update=0 category=0/0/0 tables=0/14/0 time=0024-01-02T03:04:00 subsets=1 observed=1 compressed=0 optional=0 descriptors=1\n") ∷ []
-unfolding scan_from sections_of section_end digits
+edition-3-line : map ls_piece (scan edition_3) ≡ OnOutput (codes "offset=0 length=46 edition=3 centre=98/0 update=0 category=0/0/0 tables=0/14/0 time=0024-01-02T03:04:00 subsets=1 observed=1 compressed=0 optional=0 descriptors=1\n") ∷ []
+unfolding scan_from sections_of section_end head_by_edition head_size digits
 edition-3-line = refl
 
 -- a stray word first, and another edition first
 -- rule: one-fault-a-message
-stray-listed : ls_pieces (codes "BUFR" ++ 0 ∷ 0 ∷ 64 ∷ 4 ∷ (slice_set one_block_number 7 2 ++ 0 ∷ 0 ∷ 0 ∷ 0 ∷ 0 ∷ 0 ∷ 0 ∷ 0 ∷ [])) ≡ OnErrors (codes "offset 0: 3 no end\n") ∷ OnErrors (codes "offset 8: 10 edition 2\n") ∷ []
-unfolding scan_from sections_of section_end digits
+stray-listed : map ls_piece (scan (codes "BUFR" ++ 0 ∷ 0 ∷ 64 ∷ 4 ∷ (slice_set one_block_number 7 2 ++ 0 ∷ 0 ∷ 0 ∷ 0 ∷ 0 ∷ 0 ∷ 0 ∷ 0 ∷ []))) ≡ OnErrors (codes "offset 0: 3 no end\n") ∷ OnErrors (codes "offset 8: 10 edition 2\n") ∷ []
+unfolding scan_from sections_of section_end head_by_edition head_size digits
 stray-listed = refl
 
 -- after the first fault nothing is written

@@ -1,11 +1,12 @@
 -- What clap leaves of the rules of a command, and which words give no job.
-use Rattle.std.proofs.Common.{◌≡◌, ◌∙◌, List, Some, ◌∷◌, inl, inr, Option, None, codes, sym, subst, ◌⊎◌, IfNone}
+use Rattle.std.proofs.Common.{◌≡◌, ◌≢◌, ◌∙◌, List, Some, ◌∷◌, inl, inr, Option, None, codes, sym, subst, ◌⊎◌, IfNone}
 use Rattle.clap.specs.Words.{HasKind, IsAmong, Kinds, Row, Text}
 use Rattle.clap.specs.Values.{kind_of}
 use Rattle.clap.specs.declared.error.Error.{Error}
 use Rattle.clap.specs.declared.error.kind.ErrorKind.{ErrorKind}
 use Rattle.clap.specs.declared.error.kind.ErrorKind.TheVariants.{DisplayHelp, DisplayVersion, OutOfMemory}
-use Rattle.bufr_cli.specs.Prelude.{HasNoJob, HasTables, IsWhyNoJob, SaysWhy, ReportsKind, name_of}
+use Rattle.bufr_cli.specs.declared.job.Job.{Job}
+use Rattle.bufr_cli.specs.Prelude.{IsJobOf, HasTables, IsWhyNoJob, SaysWhy, name_of}
 use Rattle.bufr_cli.specs.declared.job.NoJob.{NoJob}
 use Rattle.bufr_cli.specs.declared.job.NoJob.TheVariants.{UnknownCommand, MissingTable, UnknownForm}
 use Rattle.bufr_cli.specs.declared.job.Subcommand.{Subcommand}
@@ -44,6 +45,10 @@ not-ls : (name : Text) → (name ≡ codes "dump") ⊎ (name ≡ codes "encode")
 not-ls name (inl dump) ls = subst HasThreeLetters (sym dump ∙ ls) tt
 not-ls name (inr encode) ls = subst HasThreeLetters (sym encode ∙ ls) tt
 
+-- no job is that of the subcommand that was met
+abbrev pub HasNoJob : Option (Text × List Row) → Type 0
+HasNoJob subcommand = (job : Job) → ¬ IsJobOf subcommand job
+
 -- a look-up that failed leaves no job
 pub why-no-job : (name : Text) (rows : List Row) (why : NoJob) → IsWhyNoJob name rows why → HasNoJob (Some (name, rows))
 why-no-job name rows UnknownCommand lacks job is = lacks job.command is.0
@@ -68,6 +73,12 @@ IsShown _ = ⊥
 
 not-shown : (k : ErrorKind) {kind : ErrorKind} → kind ≡ k → kind ≡ OutOfMemory → IsShown k → ⊥
 not-shown k shown memory is = subst IsShown memory (subst IsShown (sym shown) is)
+
+-- the fault that an error of this kind means; its text takes memory
+abbrev pub ReportsKind : ErrorKind → LineFault → Type 0
+ReportsKind kind (Help text) = (kind ≡ DisplayHelp) ⊎ (kind ≡ DisplayVersion)
+ReportsKind kind (Usage text) = (kind ≢ OutOfMemory) × (kind ≢ DisplayHelp) × (kind ≢ DisplayVersion)
+ReportsKind kind Memory = Unit {0}
 
 -- what an error of clap says of the line
 pub reported-why : (kinds : Kinds) (e : Error) (met : Option (Text × List Row)) (fault : LineFault) → HasKind kinds e → ReportsKind (kind_of e) fault → SaysWhy kinds met fault

@@ -8,13 +8,13 @@ use Rattle.bufr_tables.proofs.SoundLemmas.{tree_fine}
 use Rattle.bufr_frame.specs.Prelude.{max_octets, StreamEvent, FrameAt, StrayAt, scan, scan_from, Sections, sections_of}
 use Rattle.bufr_frame.specs.declared.fault.SectionFault.{SectionFault}
 use Rattle.bufr_frame.proofs.ScanLemmas.{IsSmall, framed_octets, frames-within, small-frames, scan_from-nil}
-use Rattle.bufr_walk.specs.Prelude.{Values, apart, together}
-use Rattle.bufr_text.specs.Prelude.{Between, lines_of, parse_lines, Document, ParseResult, Complete, Refused, documents_of, dump_lines, dump_text_of, IsOctet, DumpItem, IsAccepted, HasSameReading, dump_items_in, IsReadAs, RefusedAt, encoding_in, IsProper, AreProper}
+use Rattle.bufr_walk.specs.Prelude.{Values, View}
+use Rattle.bufr_text.specs.Prelude.{Between, lines_of, parse_lines, Document, ParseResult, Complete, Refused, documents_of, dump_lines, dump_text_of, IsOctet, IsAccepted, HasSameReading, dump_items, IsReadAs, RefusedAt, encoding_in, IsProper, AreProper}
 use Rattle.bufr_text.proofs.FormLemmas.{canonical_encoded}
 use Rattle.bufr_text.proofs.DumpableLemmas.{dumpable, rows-read, good-rows}
 use Rattle.bufr_text.proofs.RoundTripLemmas.{accepted_again, encoded_again, same_text}
 use Rattle.bufr_text.proofs.LawLemmas.{text-spells, spelled-proper}
-use Rattle.bufr_cli.specs.Prelude.{IsDataPiece, IsTemplatePiece, IsMessagePiece, IsDumpPiece, dump_text, Piece, OnOutput, OnErrors, output_of, errors_of, is_accepted, is_refused, encoded, result_piece, up_to_refused, accepted_in, accepted_messages, dump_pieces, dumped, longer_by, rebuilding, rebuilt, text_pieces, IsBuiltAgain, IsWholeRound, IsCanonicalMessage, RoundTrips, Written, IsDumpedInOneSpelling, before_refused, built, form_pieces, normal_by, normal_text, normal_texts, holding, Dumps, Encodes, GivesPieces, Tallies}
+use Rattle.bufr_cli.specs.Prelude.{IsDataPiece, IsTemplatePiece, IsMessagePiece, IsDumpPiece, Piece, OnOutput, OnErrors, output_of, errors_of, is_accepted, is_refused, encoded, result_piece, up_to_refused, accepted_in, accepted_messages, dump_pieces, dumped, longer_by, rebuilding, rebuilt, IsBuiltAgain, IsWholeRound, IsCanonicalMessage, RoundTrips, Written, IsDumpedInOneSpelling, before_refused, built, form_pieces, normal_by, normal_text, normal_texts, holding, Dumps, Encodes, GivesPieces, Tallies}
 use Rattle.bufr_text.specs.declared.encode.Form.TheVariants.{AsWritten}
 use Rattle.bufr_cli.proofs.DumpLemmas.{one-piece}
 use Rattle.std.proofs.lemmas.List.{length-map}
@@ -86,15 +86,10 @@ record IsDumped (b : List Row) (d : List Sequence) (here : StreamEvent) (p : Pie
   used : ℕ
   is : here ≡ FrameAt offset octets
   accepted : IsAccepted b d octets sections template values used
-  text : p ≡ OnOutput (dump_text_of sections (dump_items_in b template sections values))
+  text : p ≡ OnOutput (dump_text_of sections (dump_items b sections.subsets values))
 
 abbrev IsFault : Piece → Type 0
 IsFault p = (text : List ℕ) × (p ≡ OnErrors text)
-
--- the items of a reading are the same whatever bits were used
-same-items : (b : List Row) (s : Sections) (template : Tree) (values : Values) (used : ℕ) → dump_text b template s values used ≡ dump_text_of s (dump_items_in b template s values)
-same-items b s template (apart subsets) used = refl
-same-items b s template (together items) used = refl
 
 module _ (b : List Row) (d : List Sequence) (offset : ℕ) (m : List ℕ) (small : AllByRecursion IsOctet m × (length m ≤ max_octets)) where
   data-kind : (s : Sections) (template : Tree) (p : Piece) → sections_of m ≡ Ok s → tree_of (tables_of b d) s.descriptors ≡ Ok template → IsDataPiece b offset s template p → IsFault p ⊎ IsDumped b d (FrameAt offset m) p
@@ -108,7 +103,7 @@ module _ (b : List Row) (d : List Sequence) (offset : ℕ) (m : List ℕ) (small
     used = used;
     is = refl;
     accepted = record { octets = small.0; few = small.1; sections = sections; expands = expands; read = reads };
-    text = ap OnOutput (is ∙ same-items b s template values used);
+    text = ap OnOutput is;
   })
 
   template-kind : (s : Sections) (made : Result Tree TemplateFault) (p : Piece) → sections_of m ≡ Ok s → tree_of (tables_of b d) s.descriptors ≡ made → IsTemplatePiece b offset s made p → IsFault p ⊎ IsDumped b d (FrameAt offset m) p
@@ -126,10 +121,9 @@ event-kind b d (StrayAt offset cause) p small so = inl (_, so)
 
 -- the piece of an accepted message is its dump text, wherever it is
 pub accepted-piece : (b : List Row) (d : List Sequence) (m : List ℕ) (s : Sections) (template : Tree) (values : Values) (used offset : ℕ) → IsAccepted b d m s template values used
-    → IsDumpPiece b d (FrameAt offset m) (OnOutput (dump_text_of s (dump_items_in b template s values)))
+    → IsDumpPiece b d (FrameAt offset m) (OnOutput (dump_text_of s (dump_items b s.subsets values)))
 accepted-piece b d m s template values used offset a =
-    let p = OnOutput (dump_text_of s (dump_items_in b template s values)) in
-    rw a.sections (rw a.expands (values, used, a.read, sym (same-items b s template values used)))
+    rw a.sections (rw a.expands (values, used, a.read, refl))
 
 abbrev octets_or_none : Result (List ℕ) RefusedAt → List ℕ
 octets_or_none (Ok octets) = octets
@@ -170,9 +164,9 @@ framed-more (StrayAt offset cause) es = omega arith
 module _ (b : List Row) (d : List Sequence) (piece : StreamEvent → Piece) (gives : GivesPieces (IsDumpPiece b d) piece) where
   -- the piece of a message that was built again is the text of the first one
   same-piece : (m : List ℕ) (s : Sections) (template : Tree) (values : Values) (used at : ℕ) (octets : List ℕ) → IsAccepted b d m s template values used → HasSameReading b m s template values octets
-      → piece (FrameAt at octets) ≡ OnOutput (dump_text_of s (dump_items_in b template s values))
+      → piece (FrameAt at octets) ≡ OnOutput (dump_text_of s (dump_items b s.subsets values))
   same-piece m s template values used at octets a same =
-      one-piece b d (FrameAt at octets) (piece (FrameAt at octets)) (OnOutput (dump_text_of same.sections (dump_items_in b template same.sections values))) (gives (FrameAt at octets))
+      one-piece b d (FrameAt at octets) (piece (FrameAt at octets)) (OnOutput (dump_text_of same.sections (dump_items b same.sections.subsets values))) (gives (FrameAt at octets))
       (accepted-piece b d octets same.sections template values same.used at (accepted_again b d m s template values used octets a same))
       ∙ ap OnOutput (same_text b m s template values octets same)
 
@@ -192,10 +186,10 @@ module _ (b : List Row) (d : List Sequence) (piece : StreamEvent → Piece) (giv
 
   -- an accepted message is built again
   built-message : (m : List ℕ) (s : Sections) (template : Tree) (values : Values) (used : ℕ) (records : List Record) (text : List ℕ) (accepted : List (List ℕ)) (pieces : List Piece) (most line : ℕ)
-      → AreRows records b → IsAccepted b d m s template values used → Built b d piece text accepted pieces most (line + length (dump_lines s (dump_items_in b template s values)))
-      → Built b d piece (dump_text_of s (dump_items_in b template s values) ++ text) (m ∷ accepted) (OnOutput (dump_text_of s (dump_items_in b template s values)) ∷ pieces) (length m + most) line
+      → AreRows records b → IsAccepted b d m s template values used → Built b d piece text accepted pieces most (line + length (dump_lines s (dump_items b s.subsets values)))
+      → Built b d piece (dump_text_of s (dump_items b s.subsets values) ++ text) (m ∷ accepted) (OnOutput (dump_text_of s (dump_items b s.subsets values)) ∷ pieces) (length m + most) line
   built-message m s template values used records text accepted pieces most line rows a r =
-      let items = dump_items_in b template s values in
+      let items = dump_items b s.subsets values in
       let read = rows-read records b rows in
       let legal = (tree_fine (tables_of b d) s.descriptors template a.expands).legal in
       let w = encoded_again b d m s template values used line (good-rows b read) legal a in
@@ -222,10 +216,10 @@ module _ (b : List Row) (d : List Sequence) (piece : StreamEvent → Piece) (giv
   built-more records here es line rows (inl (text, is)) rest =
       rw is (built-fault here text (flat_map output_of (map piece es)) (accepted_of piece es) (map piece es) (framed_octets es) (framed_octets (here ∷ es)) line (framed-more here es) (rest line))
   built-more records here es line rows (inr x) rest =
-      let text = dump_text_of x.sections (dump_items_in b x.template x.sections x.values) in
+      let text = dump_text_of x.sections (dump_items b x.sections.subsets x.values) in
       rw x.text (rw x.is
       (built-message x.octets x.sections x.template x.values x.used records (flat_map output_of (map piece es)) (accepted_of piece es) (map piece es) (framed_octets es) line rows x.accepted
-      (rest (line + length (dump_lines x.sections (dump_items_in b x.template x.sections x.values))))))
+      (rest (line + length (dump_lines x.sections (dump_items b x.sections.subsets x.values))))))
 
   built_from : (records : List Record) (es : List StreamEvent) (line : ℕ) → AreRows records b → AllByRecursion IsSmall es → BuiltOf es line
   built_from records [] line rows small = record {
@@ -262,7 +256,7 @@ module _ (b : List Row) (d : List Sequence) (piece : StreamEvent → Piece) (giv
         same_pieces = texts;
         same_text = ap (flat_map output_of) texts ∙ accepted-output (dump_pieces piece s);
         no_fault = ap (flat_map errors_of) texts ∙ accepted-silent (dump_pieces piece s);
-        settled = ap (λ text. flat_map output_of (text_pieces b d text)) (ap (flat_map output_of) texts ∙ accepted-output (dump_pieces piece s));
+        settled = ap (λ text. flat_map output_of (form_pieces AsWritten b d text)) (ap (flat_map output_of) texts ∙ accepted-output (dump_pieces piece s));
       }
 
   -- what is written as an encoder writes it stays as it is
@@ -278,12 +272,12 @@ module _ (b : List Row) (d : List Sequence) (piece : StreamEvent → Piece) (giv
   -- second wrote
   pub whole-round : (records : List Record) (stream : List ℕ) (text messages again : Written) → AreRows records b → AllByRecursion IsOctet stream
       → text.output ≡ dumped piece stream → Tallies text.tally (dump_pieces piece stream)
-      → messages.output ≡ flat_map output_of (text_pieces b d text.output) → messages.errors ≡ flat_map errors_of (text_pieces b d text.output) → Tallies messages.tally (text_pieces b d text.output)
+      → messages.output ≡ flat_map output_of (form_pieces AsWritten b d text.output) → messages.errors ≡ flat_map errors_of (form_pieces AsWritten b d text.output) → Tallies messages.tally (form_pieces AsWritten b d text.output)
       → again.output ≡ dumped piece messages.output → again.errors ≡ flat_map errors_of (dump_pieces piece messages.output) → Tallies again.tally (dump_pieces piece messages.output)
       → IsWholeRound b d stream text messages again
   whole-round records stream text messages again rows octets is_text first_counts is_messages is_lines second_counts is_again is_faults third_counts =
       let t = round-trips records stream rows octets in
-      let built_from : text_pieces b d text.output ≡ rebuilding b d piece stream = ap (text_pieces b d) is_text in
+      let built_from : form_pieces AsWritten b d text.output ≡ rebuilding b d piece stream = ap (form_pieces AsWritten b d) is_text in
       let are : messages.output ≡ rebuilt b d piece stream = is_messages ∙ ap (flat_map output_of) built_from in
       let pieces : dump_pieces piece messages.output ≡ filter is_accepted (dump_pieces piece stream) = ap (dump_pieces piece) are ∙ t.same_pieces in
       record {
@@ -342,8 +336,8 @@ none-built b d piece pieces silent none = record {
 module _ (form : Form) (records : List Record) (b : List Row) (d : List Sequence) (piece : StreamEvent → Piece) (rows : AreRows records b) (gives : GivesPieces (IsDumpPiece b d) piece) where
   -- one message more, of a document that is encoded to it
   module _ (document : Document) (octets : List ℕ) (proper : IsProper document) (is : encoding_in form b d document ≡ Ok octets) (read : IsReadAs form b d document octets) where
-    abbrev items : List (List DumpItem)
-    items = dump_items_in b read.template read.sections read.values
+    abbrev items : List (List View)
+    items = dump_items b read.sections.subsets read.values
 
     abbrev text : List ℕ
     text = dump_text_of read.sections items
@@ -408,6 +402,6 @@ module _ (form : Form) (records : List Record) (b : List Row) (d : List Sequence
             ∙ sym r.as_many ∙ length-filter is_accepted (form_pieces form b d text);
         none_refused = ap (count_by is_refused) pieces ∙ sym (length-filter is_refused (map OnOutput texts)) ∙ ap length (outputs-refused texts);
         no_fault = ap (flat_map errors_of) pieces ∙ outputs-silent texts;
-        settled = ap (λ t. flat_map output_of (text_pieces b d t)) same_text ∙ ap (λ ps. flat_map output_of (up_to_refused ps)) (r.again 1)
+        settled = ap (λ t. flat_map output_of (form_pieces AsWritten b d t)) same_text ∙ ap (λ ps. flat_map output_of (up_to_refused ps)) (r.again 1)
             ∙ ap (flat_map output_of) (outputs-whole r.messages) ∙ outputs-octets r.messages ∙ sym r.written;
       }

@@ -1,6 +1,6 @@
 -- What a run writes, event by event, and what comes of a job.
-use Rattle.bufr_frame.specs.Prelude.{max_reads, read_failures_after, StreamEvent, FrameAt, StrayAt, scan, scan_from, open_scan, Advances, events_of, IsEvent, FinderModel, ReadsAndPasses, CountsReads, StopsFinder, IsUndecided, new_finder, ReturnsNextEvent, LeavesFinder}
-use Rattle.std.proofs.Common.{length, length-append, ◌≡◌, ◌∙◌, ◌≤◌, ◌<◌, ◌^◌, ℕ, ◌+◌, ◌-◌, Bool, true, false, List, [], ◌∷◌, ◌++◌, refl, sym, ap, subst, arith, Option, None, Ok, Err, append-nil, Some, append_assoc, inl, inr, Result, flat_map, map, count_by, IfOk, IfSome, OnOk}
+use Rattle.bufr_frame.specs.Prelude.{max_reads, read_failures_after, StreamEvent, FrameAt, StrayAt, scan, scan_from, open_scan, Advances, events_of, IsEvent, FinderModel, ReadsAndPasses, StopsFinder, IsUndecided, new_finder, ReturnsNextEvent, LeavesFinder, AddsReads}
+use Rattle.std.proofs.Common.{length, length-append, ◌≡◌, ◌≢◌, ◌∙◌, ◌≤◌, ◌<◌, ◌^◌, ℕ, ◌+◌, ◌-◌, Bool, true, false, List, [], ◌∷◌, ◌++◌, refl, sym, ap, subst, arith, Option, None, Ok, Err, append-nil, Some, append_assoc, inl, inr, Result, flat_map, map, count_by, IfOk, IfSome, OnOk}
 use Rattle.std.specs.Io.KnownBytes.{Consumes, IsAtEnd, Keeps}
 use Rattle.std.proofs.KnownBytes.{Appends-nil, Appends-trans, Appends-kept, Consumes-nil, Consumes-whole}
 use Rattle.std.proofs.lemmas.Bool.{false≢true}
@@ -13,7 +13,7 @@ use Rattle.bufr_frame.specs.declared.finder.Event.{Event}
 use Rattle.bufr_frame.specs.declared.finder.Event.TheVariants.{Frame, Stray, Done}
 use Rattle.bufr_frame.proofs.FinderLemmas.{events-are-open, Advances-none, Follows-none, ReadsAndPasses-then, CountsReads-then, whole-scan, events-are-certain}
 use Rattle.bufr_text.specs.Prelude.{GrowsByPrefix, Stays, Fails, Writes}
-use Rattle.bufr_cli.specs.Prelude.{Piece, output_of, errors_of, is_accepted, is_refused, RunPieces, RunsPieces, WritesAndCounts, AreUnflushed, event_pieces, read_pieces, LeavesRun, Blames, WritesPieces, Tallies, RunDone, RunStopped, RunCut, ReadsFewer, GivesPieces, LeavesPieces, StopsPiece, RunReads, counted_accepted, counted_refused, tally_after, BlamesWriter, CountsCalls, Input, Writers, ReadsAll, WrittenInPart, Tally, Verdict, InPart, WritesHelp, AreFlushed, BlamesInput, EndsRun, FlushesRest, WasEnded, WentThrough, WritesLine, run_line}
+use Rattle.bufr_cli.specs.Prelude.{Piece, output_of, errors_of, is_accepted, is_refused, RunPieces, RunsPieces, WritesAndCounts, event_pieces, read_pieces, LeavesRun, Blames, WritesPieces, Tallies, RunDone, RunStopped, RunCut, ReadsFewer, ReadsAtMost, GivesPieces, LeavesPieces, StopsPiece, RunReads, counted_accepted, counted_refused, tally_after, BlamesWriter, CountsCalls, Input, Writers, ReadsAll, WrittenInPart, Tally, Verdict, InPart, WritesHelp, LeavesDevices, EndsRun, Ended, FlushesRest, WritesLine, run_line}
 
 pub grows-nil : (w : Option (List ℕ)) → GrowsByPrefix w w []
 grows-nil w = record { prefix = []; back = []; parts = refl; gains = Appends-nil w }
@@ -37,7 +37,7 @@ pub record Ran (is_piece : StreamEvent → Piece → Type 0) (left mid : Option 
   pub octets : List ℕ
   pub events : List StreamEvent
   pub step : ReadsAndPasses left mid new_finder s octets events
-  pub counts : CountsReads reads reads' new_finder s
+  pub counts : AddsReads reads reads' new_finder.reads s.reads
   pub wrote : (piece : StreamEvent → Piece) → GivesPieces is_piece piece → ReportedSoFar w w' e e' tally (map piece events)
   pub sound : s.fault ≡ None
   pub few : tally.accepted + tally.refused ≤ s.at
@@ -232,7 +232,7 @@ module _ (is_piece : StreamEvent → Piece → Type 0) (left mid left' : Option 
         flushed = λ not. absurd (not kept);
       }
 
-      by : (piece : StreamEvent → Piece) → WritesPieces w w1 e e1 (map piece ran.events) → (bs : List ℕ) → ReadsAndPasses left left' new_finder s' bs (ran.events ++ []) → (g : RunFault) → StopsFinder s' g
+      by : (piece : StreamEvent → Piece) → WritesPieces w w1 e e1 (map piece ran.events) → (bs : List ℕ) → ReadsAndPasses left left' new_finder s' bs (ran.events ++ []) → (g : RunFault) → StopsFinder s s' g
           → LeavesRun (event_pieces piece) left left' w w1 e e1 unflushed (ReadsFewer reads reads2) bs (Err g)
       by piece written bs step Read so = stopped piece written bs step Read so
       by piece written bs step InputTooLong so = stopped piece written bs step InputTooLong so.0
@@ -327,13 +327,13 @@ all-known pieces (Some s) (Some t) w w' e e' unflushed early (Ok tally) (bs, don
     rw done.read (done.written t none, done.tallies t none)
 
 -- the reads of a run, whose texts take memory or not
-pub run-reads : {X : Type 0} (takes : Bool) (reads reads' : ℕ) (s : FinderModel) (r : Result X RunFault) → CountsReads reads reads' new_finder s → (r ≡ Err InputTooLong → s.reads ≡ max_reads) → (takes ≡ false → r ≡ Err Memory → s.reads < max_reads) → RunReads takes reads reads' r
+pub run-reads : {X : Type 0} (takes : Bool) (reads reads' : ℕ) (s : FinderModel) (r : Result X RunFault) → AddsReads reads reads' new_finder.reads s.reads → (r ≡ Err InputTooLong → s.reads ≡ max_reads) → (takes ≡ false → r ≡ Err Memory → s.reads < max_reads) → RunReads takes reads reads' r
 run-reads false reads reads' s r counts long wanted = let e : s.reads - 0 ≡ s.reads = omega arith in (s.reads, counts.most, counts.made ∙ ap (counted reads) e, long, wanted refl)
 run-reads true reads reads' s r counts long wanted = let e : s.reads - 0 ≡ s.reads = omega arith in (s.reads, counts.most, counts.made ∙ ap (counted reads) e, long)
 
 -- where the finder stopped
 pub run-reads-stop : (takes : Bool) (reads mid reads' : ℕ) (mid_left left' : Option (List ℕ)) (s s' : FinderModel) (result : Result Event RunFault) (f : RunFault) (r : Result Tally RunFault)
-    → CountsReads reads mid new_finder s → ReturnsNextEvent mid_left left' mid reads' s s' result → s.fault ≡ None → result ≡ Err f → r ≡ Err f → RunReads takes reads reads' r
+    → AddsReads reads mid new_finder.reads s.reads → ReturnsNextEvent mid_left left' mid reads' s s' result → s.fault ≡ None → result ≡ Err f → r ≡ Err f → RunReads takes reads reads' r
 run-reads-stop takes reads mid reads' mid_left left' s s' result f r before next sound is same =
     run-reads takes reads reads' s' r (CountsReads-then reads mid reads' s s' before next.counts)
     (λ long.
@@ -346,7 +346,7 @@ run-reads-stop takes reads mid reads' mid_left left' s s' result f r before next
     stops.1)
 
 -- where the telling of an event was stopped
-pub run-reads-report : (takes : Bool) (reads reads' : ℕ) (s : FinderModel) (f : RunFault) (r : Result Tally RunFault) → CountsReads reads reads' new_finder s → StopsPiece takes (Err f) → r ≡ Err f → RunReads takes reads reads' r
+pub run-reads-report : (takes : Bool) (reads reads' : ℕ) (s : FinderModel) (f : RunFault) (r : Result Tally RunFault) → AddsReads reads reads' new_finder.reads s.reads → StopsPiece takes (Err f) → r ≡ Err f → RunReads takes reads reads' r
 run-reads-report takes reads reads' s Read r counts stops same = absurd stops
 run-reads-report takes reads reads' s Write r counts stops same = run-reads takes reads reads' s r counts (λ long. cc) (λ none wanted. cc)
 run-reads-report takes reads reads' s InputTooLong r counts stops same = absurd stops
@@ -396,21 +396,29 @@ pub each-gives : (gives : (StreamEvent → Piece) → Type 0) (from to : Input) 
     → ((bs : List ℕ) × ((piece : StreamEvent → Piece) → gives piece → RunsPieces (event_pieces piece) from to before after bs ran)) → RunsEach (λ pieces. (piece : StreamEvent → Piece) × gives piece × (pieces ≡ event_pieces piece)) from to before after ran
 each-gives gives from to before after ran run = (run.0, λ pieces so. subst (λ p. RunsPieces p from to before after run.0 ran) (sym so.2) (run.1 so.0 so.1))
 
+pub each-is : (pieces : RunPieces) (from to : Input) (before after : Writers) (ran : Result Tally RunFault)
+    → ((bs : List ℕ) × RunsPieces pieces from to before after bs ran) → RunsEach (λ p. p ≡ pieces) from to before after ran
+each-is pieces from to before after ran run = (run.0, λ p is. subst (λ q. RunsPieces q from to before after run.0 ran) (sym is) run.1)
+
+-- what a run leaves, by what it leaves by each of its pieces
+pub leaves-devices : (may_be : RunPieces → Type 0) (from to : Input) (before after : Writers) (ran : Result Tally RunFault)
+    → RunsEach may_be from to before after ran → (after.errors.flushes ≢ before.errors.flushes → after.output.all_flushed ≡ true) → OnOk ran ((after.output.all_flushed ≡ true) × (after.errors.all_flushed ≡ true))
+    → (to.failures ≡ read_failures_after from.failures ran) × ReadsAtMost from.reads to.reads ran → BlamesWriter before after ran → LeavesDevices may_be from to before after ran
+leaves-devices may_be from to before after ran run order flushed input writers = record {
+  octets = run.0;
+  run = run.1;
+  whole = λ pieces is. all-known pieces from.left to.left before.output.taken after.output.taken before.errors.taken after.errors.taken ((after.output.flushes ≡ before.output.flushes) × (after.errors.flushes ≡ before.errors.flushes)) (ReadsFewer from.reads to.reads) ran (run.0, run.1 pieces is);
+  order = order;
+  flushed = flushed;
+  failures = input.0;
+  reads = input.1;
+  writers = writers;
+}
+
 -- a run over the octets of its input, and then the flush of the rest
 pub ends-run : (may_be : RunPieces → Type 0) (octets : Option (List ℕ)) (from to : Input) (before between after : Writers) (ran ran' : Result Tally RunFault)
-    → RunsEach may_be from to before between ran → OnOk ran (AreFlushed between) → BlamesInput from to ran → BlamesWriter before between ran
-    → ran' ≡ ran → FlushesRest between.output after.output ran → after.errors ≡ between.errors → from.left ≡ octets → EndsRun may_be octets before after ran'
-ends-run may_be octets from to before between after ran ran' run flushed input writers same rest errors known =
-    rw same (of ran run flushed input writers rest)
-  where
-    of : (r : Result Tally RunFault) → RunsEach may_be from to before between r → OnOk r (AreFlushed between) → BlamesInput from to r → BlamesWriter before between r
-        → FlushesRest between.output after.output r → EndsRun may_be octets before after r
-    of (Ok tally) run' flushed' input' writers' rest' =
-        let both : after ≡ between = ap (λ o. record { output = o; errors = after.errors }) rest' ∙ ap (λ e. record { output = between.output; errors = e }) errors in
-        let whole : (pieces : RunPieces) → may_be pieces → IfSome octets (λ s. WritesAndCounts before between tally (pieces.whole s)) = λ pieces is.
-        rw known at (all-known pieces from.left to.left before.output.taken between.output.taken before.errors.taken between.errors.taken (AreUnflushed before between) (ReadsFewer from.reads to.reads) (Ok tally) (run'.0, run'.1 pieces is)) in
-        rw both (WentThrough tally refl whole writers'.0 writers'.1 flushed')
-    of (Err fault) run' flushed' input' writers' rest' = WasEnded fault refl from to known between run'.0 run'.1 input' writers' rest' errors
+    → LeavesDevices may_be from to before between ran → ran' ≡ ran → FlushesRest between.output after.output ran → after.errors ≡ between.errors → from.left ≡ octets → EndsRun may_be octets before after ran'
+ends-run may_be octets from to before between after ran ran' leaves same rest errors known = rw same (Ended from to known between leaves rest errors)
 
 -- a fault of reading an input whole
 pub read-fault : (left left' : Option (List ℕ)) (fault : RunFault) (bs : List ℕ) → ReadsAll left left' (Err fault) bs → fault ≡ Write → ⊥

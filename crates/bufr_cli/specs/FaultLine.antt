@@ -2,18 +2,11 @@
 -- this project)
 -- Cited by public contracts.
 use Rattle.std.specs.Prelude.{◌≢◌, ℕ, List, [], ◌∷◌, ◌++◌, codes, decimal, true, false, Option, Some, None}
-use Rattle.bufr_frame.specs.declared.fault.Cause.{Cause}
-use Rattle.bufr_frame.specs.declared.fault.Cause.TheVariants.{Cut, ShortLength, NoEnd}
-use Rattle.bufr_frame.specs.declared.fault.SectionFault.{SectionFault}
-use Rattle.bufr_frame.specs.declared.fault.SectionFault.TheVariants.{Edition, SectionShort, SectionPast, SectionsEnd, Edition3Long}
-use Rattle.bufr_frame.specs.Prelude.{number_of_section_fault}
-use Rattle.bufr_tables.specs.Prelude.{number_of_template_fault, fxy_text}
-use Rattle.bufr_tables.specs.declared.fault.TemplateFault.{TemplateFault}
+use Rattle.bufr_frame.specs.Prelude.{section_report}
+use Rattle.bufr_tables.specs.Prelude.{template_report, fxy_text}
 use Rattle.bufr_tables.specs.declared.fault.TemplateFault.TheVariants as template
-use Rattle.bufr_walk.specs.declared.fault.Spot.{Spot}
-use Rattle.bufr_walk.specs.declared.fault.WalkFault.{WalkFault}
 use Rattle.bufr_walk.specs.declared.fault.WalkFault.TheVariants as walk
-use Rattle.bufr_walk.specs.Prelude.{number_of_walk_fault}
+use Rattle.bufr_walk.specs.Prelude.{data_report}
 use Rattle.bufr_text.specs.Prelude.{joined, TextLineFault, NotAllowed, SubsetCount, HeaderRange, DocumentRefusal, RefusedAt, by_template, by_item, too_long}
 use Rattle.bufr_cli.specs.declared.fault_line.StreamFault.{StreamFault}
 use Rattle.bufr_cli.specs.declared.fault_line.StreamFault.TheVariants as stream
@@ -22,66 +15,11 @@ use Rattle.bufr_fill.specs.Prelude.{DraftFaultKind, wrong_descriptor, wrong_numb
 use Rattle.bufr_text.specs.declared.fault.ReadFault.{ReadFault}
 use Rattle.bufr_text.specs.declared.fault.ReadFault.TheVariants as read
 
--- the text of a stray word
--- rule: fault-1, fault-2, fault-3
-abbrev pub cause_text : Cause → List ℕ
-cause_text Cut = codes "cut"
-cause_text ShortLength = codes "short length"
-cause_text NoEnd = codes "no end"
-
--- the text of a section fault, in parts
--- rule: fault-10, fault-11, fault-12, fault-13, fault-14
-abbrev pub section_fault_text : SectionFault → List (List ℕ)
-section_fault_text (Edition edition) = codes "edition " ∷ decimal edition ∷ []
-section_fault_text (SectionShort section) = codes "section " ∷ decimal section ∷ codes " short" ∷ []
-section_fault_text (SectionPast section) =
-    codes "section " ∷ decimal section ∷ codes " past the end" ∷ []
-section_fault_text SectionsEnd = codes "sections do not meet the end" ∷ []
-section_fault_text Edition3Long = codes "edition 3 length" ∷ []
-
--- the text of a template fault, in parts; want of memory ends a run, and no line reports it
--- rule: fault-20, fault-21, fault-22, fault-23, fault-24, fault-25, fault-26, fault-27, fault-28
-abbrev pub template_fault_text : TemplateFault → List (List ℕ)
-template_fault_text (template.UnknownElement fxy) = codes "unknown element " ∷ fxy_text fxy ∷ []
-template_fault_text (template.UnknownSequence fxy) = codes "unknown sequence " ∷ fxy_text fxy ∷ []
-template_fault_text (template.Operator fxy) = codes "operator " ∷ fxy_text fxy ∷ []
-template_fault_text (template.GroupShape fxy) = codes "group shape " ∷ fxy_text fxy ∷ []
-template_fault_text (template.NoFactor fxy) = codes "no factor " ∷ fxy_text fxy ∷ []
-template_fault_text (template.EmptyGroup fxy) = codes "empty group " ∷ fxy_text fxy ∷ []
-template_fault_text (template.Depth fxy) = codes "depth " ∷ fxy_text fxy ∷ []
-template_fault_text (template.TemplateSize fxy) = codes "template size " ∷ fxy_text fxy ∷ []
-template_fault_text (template.LocalShape fxy) = codes "local shape " ∷ fxy_text fxy ∷ []
-template_fault_text template.Memory = []
-
--- what is at fault, and where: the subset, the descriptor, and the bits before the item
--- rule: stream-fault-place
-abbrev pub spot_text : List ℕ → Spot → List (List ℕ)
-spot_text name spot =
-    name ∷ codes " at subset " ∷ decimal spot.subset ∷ codes " descriptor " ∷ fxy_text spot.fxy
-    ∷ codes " bit " ∷ decimal spot.bit ∷ []
-
--- the text of a fault of the data, in parts; want of memory ends a run, and no line reports it
--- rule: fault-30, fault-31, fault-32, fault-33, fault-34, fault-35
-abbrev pub walk_fault_text : WalkFault → List (List ℕ)
-walk_fault_text (walk.DataEnd spot) = spot_text (codes "data end") spot
-walk_fault_text (walk.Width spot) = spot_text (codes "width") spot
-walk_fault_text (walk.Defining spot) = spot_text (codes "defining") spot
-walk_fault_text (walk.UnequalFactor spot) = spot_text (codes "unequal factor") spot
-walk_fault_text (walk.Increment spot) = spot_text (codes "increment") spot
-walk_fault_text (walk.TooManyValues spot) = spot_text (codes "too many values") spot
-walk_fault_text walk.Memory = []
-
--- the number of a fault of a stream
-abbrev pub number_of_stream_fault : StreamFault → ℕ
-number_of_stream_fault (stream.Section fault) = number_of_section_fault fault
-number_of_stream_fault (stream.Template fault) = number_of_template_fault fault.now
-number_of_stream_fault (stream.Data fault) = number_of_walk_fault fault.now
-
--- its text
-abbrev pub stream_fault_text : StreamFault → List (List ℕ)
-stream_fault_text (stream.Section fault) = section_fault_text fault
-stream_fault_text (stream.Template fault) = template_fault_text fault.now
-stream_fault_text (stream.Data fault) = walk_fault_text fault.now
+-- the number of a fault of a stream, and its text in parts
+abbrev pub stream_report : StreamFault → ℕ × List (List ℕ)
+stream_report (stream.Section fault) = section_report fault
+stream_report (stream.Template fault) = template_report fault.now
+stream_report (stream.Data fault) = data_report fault.now
 
 -- it is not want of memory, which has no line
 abbrev pub HasLine : StreamFault → Type 0
@@ -96,9 +34,9 @@ place_texts word place number =
 
 -- the line of a fault at the offset of `BUFR`: its number and its text
 -- rule: stream-fault-line
-abbrev pub fault_line : (offset number : ℕ) → List (List ℕ) → List ℕ
-fault_line offset number text =
-    joined (place_texts (codes "offset ") offset number ++ (text ++ codes "\n" ∷ []))
+abbrev pub fault_line : (offset : ℕ) → (report : ℕ × List (List ℕ)) → List ℕ
+fault_line offset report =
+    joined (place_texts (codes "offset ") offset report.0 ++ (report.1 ++ codes "\n" ∷ []))
 
 -- the line of a fault at a line of the text, from 1: its number and its text
 abbrev pub document_line : (line number : ℕ) → List (List ℕ) → List ℕ
@@ -119,8 +57,7 @@ line_of_read_fault (read.SubsetCount line) = refused_line line SubsetCount
 line_of_read_fault (read.HeaderRange line) = refused_line line HeaderRange
 line_of_read_fault (read.Run fault) = []
 
--- the walk that is refused: the number that a message's data would be refused by, and the
--- descriptor
+-- a refused walk: the number of the fault that a message's data would have, and the descriptor
 abbrev pub walk_text : (number fxy : ℕ) → List (List ℕ)
 walk_text number fxy = codes "walk " ∷ decimal number ∷ codes " descriptor " ∷ fxy_text fxy ∷ []
 
@@ -147,8 +84,8 @@ item_fault_line line no_count = []
 -- rule: fault-lines-of-encoding
 abbrev pub refusal_line : (line : ℕ) → DocumentRefusal → List ℕ
 refusal_line line (by_template why) =
-    document_line line 56 (codes "template " ∷ decimal (number_of_template_fault why) ∷ codes " "
-    ∷ template_fault_text why)
+    document_line line 56 (codes "template " ∷ decimal (template_report why).0 ∷ codes " "
+    ∷ (template_report why).1)
 refusal_line line (by_item why) = item_fault_line line why
 refusal_line line too_long = document_line line 60 (codes "too long" ∷ [])
 

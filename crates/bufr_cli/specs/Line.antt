@@ -3,7 +3,7 @@
 use Rattle.std.specs.Prelude.{◌≡◌, ◌≢◌, ◌⊎◌, ℕ, List, ◌++◌, Option, Some, None, true, codes, option_map}
 use Rattle.clap.specs.Words.{App, IsAmong, Kinds, Row, Rule, Text, first_of, new_app, new_rule, with_rule, with_subcommand}
 use Rattle.clap.specs.declared.error.kind.ErrorKind.{ErrorKind}
-use Rattle.clap.specs.declared.error.kind.ErrorKind.TheVariants.{DisplayHelp, DisplayVersion, OutOfMemory}
+use Rattle.clap.specs.declared.error.kind.ErrorKind.TheVariants.{DisplayHelp, DisplayVersion}
 use Rattle.bufr_text.specs.declared.encode.Form.{Form}
 use Rattle.bufr_text.specs.declared.encode.Form.TheVariants.{AsWritten, Plain, Compressed}
 use Rattle.bufr_cli.specs.declared.job.Job.{Job}
@@ -65,8 +65,7 @@ word_of AsWritten = None
 word_of Plain = Some (codes "plain")
 word_of Compressed = Some (codes "compressed")
 
--- the tables of a subcommand that reads them are the values of -B and -D, and its form is that of
--- --form
+-- the tables are the values of -B and -D, and the form is that of --form
 abbrev pub HasTables : List Row → Subcommand → Type 0
 HasTables rows Ls = Unit {0}
 HasTables rows (Dump tables) = AreNamed rows tables
@@ -103,23 +102,11 @@ no_job_text UnknownForm =
     codes "error: invalid value for '--form <WORD>'\n"
     ++ codes "  [possible values: plain, compressed]\n\nFor more information, try '--help'.\n"
 
--- no job is that of the subcommand that was met
-abbrev pub HasNoJob : Option (Text × List Row) → Type 0
-HasNoJob subcommand = (job : Job) → ¬ IsJobOf subcommand job
-
--- the fault that an error of this kind means; its text takes memory
-abbrev pub ReportsKind : ErrorKind → LineFault → Type 0
-ReportsKind kind (Help text) = (kind ≡ DisplayHelp) ⊎ (kind ≡ DisplayVersion)
-ReportsKind kind (Usage text) =
-    (kind ≢ OutOfMemory) × (kind ≢ DisplayHelp) × (kind ≢ DisplayVersion)
-ReportsKind kind Memory = Unit {0}
-
--- why a line whose parse may fail by these kinds, and meets this subcommand, gives no job: help or
--- the version is asked for, or the line is refused or met no job
+-- why a line gives no job: it asks for help or the version, or is refused, or its words give none
 -- rule: help, usage
 abbrev pub SaysWhy : Kinds → Option (Text × List Row) → LineFault → Type 0
 SaysWhy kinds subcommand (Help text) = IsAmong DisplayHelp kinds ⊎ IsAmong DisplayVersion kinds
 SaysWhy kinds subcommand (Usage text) =
     ((kind : ErrorKind) × IsAmong kind kinds × (kind ≢ DisplayHelp) × (kind ≢ DisplayVersion))
-    ⊎ HasNoJob subcommand
+    ⊎ ((job : Job) → ¬ IsJobOf subcommand job)
 SaysWhy kinds subcommand Memory = Unit {0}

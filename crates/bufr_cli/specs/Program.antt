@@ -5,9 +5,8 @@ use Rattle.std.specs.Borrow.{Bor}
 use Rattle.bufr_frame.specs.Prelude.{StreamEvent}
 use Rattle.bufr_frame.specs.declared.fault.RunFault.{RunFault}
 use Rattle.bufr_frame.specs.declared.fault.RunFault.TheVariants.{Write}
-use Rattle.bufr_tables.specs.Prelude.{ReadsTableD, Sequence, records_of, ReturnsUnlessMemory, Row, table_b_of}
+use Rattle.bufr_tables.specs.Prelude.{ReadsTableD, Record, Sequence, records_of, ReturnsUnlessMemory, Row, table_b_of}
 use Rattle.bufr_tables.specs.declared.fault.TableFault.{TableFault}
-use Rattle.bufr_text.specs.declared.encode.Form.{Form}
 use Rattle.bufr_cli.specs.Running.{Writers, RunPieces, GivesPieces, event_pieces, document_pieces, HasFailed, IsSame}
 use Rattle.bufr_cli.specs.Pieces.{IsDumpPiece, Piece, ls_piece}
 use Rattle.bufr_cli.specs.Ending.{EndsRun, WritesLine, last_line, run_line, status_of}
@@ -28,8 +27,7 @@ use Rattle.bufr_cli.specs.Line.{IsJobOf, SaysWhy, bufr_app}
 use Rattle.bufr_cli.specs.declared.job.LineFault.{LineFault}
 use Rattle.bufr_cli.specs.declared.job.LineFault.TheVariants.{Help, Usage, Memory}
 
--- What is known of the inputs: the octets of standard input, and those of each file of which it is
--- known that it can be opened.
+-- What is known of the inputs: the octets of standard input, and of files known to open.
 pub record Known : Type 0 where
   pub standard : Option (List ℕ)
   pub named : List ℕ → Option (List ℕ)
@@ -37,32 +35,23 @@ pub record Known : Type 0 where
 abbrev pub known : (standard : Option (List ℕ)) → (named : List ℕ → Option (List ℕ)) → Known
 known standard named = record { standard = standard; named = named }
 
--- the octets of the input, where they are known: those of the file of this name, or of standard
--- input
+-- the octets of the file of this name, or of standard input, where they are known
 -- rule: dash-is-a-name
 abbrev pub input_octets : Known → (file : Option (Bor (List ℕ))) → Option (List ℕ)
 input_octets inputs None = inputs.standard
 input_octets inputs (Some name) = inputs.named name.now
 
--- the pieces of a listing
-abbrev pub IsListing : RunPieces → Type 0
-IsListing pieces = pieces ≡ event_pieces ls_piece
-
--- those of a dump by these tables, by whichever function gives them
+-- the pieces of a dump by these tables, by whichever function gives them
 abbrev pub IsDump : List Row → List Sequence → RunPieces → Type 0
 IsDump b d pieces =
     (piece : StreamEvent → Piece) × GivesPieces (IsDumpPiece b d) piece
     × (pieces ≡ event_pieces piece)
 
--- those of an encoding by these tables
-abbrev pub IsEncoding : Form → List Row → List Sequence → RunPieces → Type 0
-IsEncoding form b d pieces = pieces ≡ document_pieces form b d
-
 -- those of a command whose tables were read
 abbrev pub IsOfCommand : Command → RunPieces → Type 0
-IsOfCommand command.Ls = IsListing
+IsOfCommand command.Ls = λ pieces. pieces ≡ event_pieces ls_piece
 IsOfCommand (command.Dump b d) = IsDump b.now d.now
-IsOfCommand (command.Encode form b d) = IsEncoding form b.now d.now
+IsOfCommand (command.Encode form b d) = λ pieces. pieces ≡ document_pieces form b.now d.now
 
 -- the file of this name is not opened, and it was not known that it can be
 abbrev pub IsClosed : (named : List ℕ → Option (List ℕ)) → (name : Bor (List ℕ)) → Outcome → Type 0
@@ -73,8 +62,7 @@ abbrev pub ran_outcome : Result Tally RunFault → Outcome
 ran_outcome (Ok tally) = Ran tally
 ran_outcome (Err fault) = Run fault
 
--- What comes of a run over an input: the input cannot be opened, and nothing was written; or the
--- run ended.
+-- What comes of a run: its input cannot be opened, and nothing was written; or the run ended.
 pub data RunOutcome (may_be : RunPieces → Type 0) (inputs : Known) (file : Option (Bor (List ℕ)))
     (before after : Writers) (outcome : Outcome) : Type 0 where
   IsNotOpened : (name : Bor (List ℕ)) → file ≡ Some name → IsClosed inputs.named name outcome
@@ -83,28 +71,15 @@ pub data RunOutcome (may_be : RunPieces → Type 0) (inputs : Known) (file : Opt
       → EndsRun may_be (input_octets inputs file) before after ran
       → RunOutcome may_be inputs file before after outcome
 
--- the octets of the file of this name are not read; a fault of that is none of a write
+-- a table's file is not opened, or not read, by a fault that is none of a write; or it is at fault
 -- rule: table-not-read
-abbrev pub FileOutcome : (named : List ℕ → Option (List ℕ))
-    → (name : Bor (List ℕ)) → Outcome → Type 0
-FileOutcome named name outcome =
-    IsClosed named name outcome
-    ⊎ ((fault : RunFault) × (outcome ≡ Run fault) × (fault ≢ Write))
-
--- Table B is not read from the file of this name, or is at fault
-abbrev pub TableBOutcome : (named : List ℕ → Option (List ℕ))
-    → (name : Bor (List ℕ)) → Outcome → Type 0
-TableBOutcome named name outcome =
-    FileOutcome named name outcome ⊎ ((fault : TableFault) × (outcome ≡ TableB fault)
-    × IfSome (named name.now) (λ text. ReturnsUnlessMemory (table_b_of (records_of text))
-    (Err fault)))
-
--- Table D is not read from the file of this name, or is at fault
-abbrev pub TableDOutcome : (named : List ℕ → Option (List ℕ))
-    → (name : Bor (List ℕ)) → Outcome → Type 0
-TableDOutcome named name outcome =
-    FileOutcome named name outcome ⊎ ((fault : TableFault) × (outcome ≡ TableD fault)
-    × IfSome (named name.now) (λ text. ReadsTableD (records_of text) (Err fault)))
+abbrev pub TableOutcome : {X : Type 0} → (reads : List Record → Result X TableFault → Type 0)
+    → (says : TableFault → Outcome) → (named : List ℕ → Option (List ℕ)) → (name : Bor (List ℕ))
+    → Outcome → Type 0
+TableOutcome reads says named name outcome =
+    (IsClosed named name outcome ⊎ ((fault : RunFault) × (outcome ≡ Run fault) × (fault ≢ Write)))
+    ⊎ ((fault : TableFault) × (outcome ≡ says fault)
+    × IfSome (named name.now) (λ text. reads (records_of text) (Err fault)))
 
 -- these are the tables of the files of these names
 pub record AreTables (named : List ℕ → Option (List ℕ)) (tables : TableNames) (b : List Row)
@@ -112,16 +87,17 @@ pub record AreTables (named : List ℕ → Option (List ℕ)) (tables : TableNam
   pub table_b : IfSome (named tables.table_b.now) (λ text. table_b_of (records_of text) ≡ Ok b)
   pub table_d : IfSome (named tables.table_d.now) (λ text. ReadsTableD (records_of text) (Ok d))
 
--- not both tables are read: Table B is not, or Table B is and Table D is not
+-- not both tables are read: Table B is not read or is at fault, or is read and Table D is not
 pub data AreUnread (named : List ℕ → Option (List ℕ)) (tables : TableNames)
     (outcome : Outcome) : Type 0 where
-  NoTableB : TableBOutcome named tables.table_b outcome → AreUnread named tables outcome
+  NoTableB : TableOutcome (λ records. ReturnsUnlessMemory (table_b_of records)) TableB named
+      tables.table_b outcome → AreUnread named tables outcome
   NoTableD : (b : List Row) → IfSome (named tables.table_b.now)
-      (λ text. table_b_of (records_of text) ≡ Ok b) → TableDOutcome named tables.table_d outcome
+      (λ text. table_b_of (records_of text) ≡ Ok b)
+      → TableOutcome ReadsTableD TableD named tables.table_d outcome
       → AreUnread named tables outcome
 
--- what comes of a run by tables: they are not both read, and nothing was written; or there is a run
--- by both
+-- what comes of a run by tables: not both are read, and nothing was written; or it is by both
 -- rule: tables-before-input
 pub data TablesOutcome (run : List Row → List Sequence → Outcome → Type 0)
     (named : List ℕ → Option (List ℕ)) (tables : TableNames)
@@ -135,23 +111,18 @@ pub data TablesOutcome (run : List Row → List Sequence → Outcome → Type 0)
 abbrev pub CommandOutcome : Known → Subcommand → (file : Option (Bor (List ℕ)))
     → (before after : Writers) → Outcome → Type 0
 CommandOutcome inputs Ls file before after outcome =
-    RunOutcome IsListing inputs file before after outcome
+    RunOutcome (λ pieces. pieces ≡ event_pieces ls_piece) inputs file before after outcome
 CommandOutcome inputs (Dump tables) file before after outcome =
     TablesOutcome (λ b d ends. ((piece : StreamEvent → Piece)
     × GivesPieces (IsDumpPiece b d) piece)
     × RunOutcome (IsDump b d) inputs file before after ends)
     inputs.named tables before after outcome
 CommandOutcome inputs (Encode tables form) file before after outcome =
-    TablesOutcome (λ b d ends. RunOutcome (IsEncoding form b d) inputs file before after ends)
+    TablesOutcome (λ b d ends. RunOutcome (λ pieces. pieces ≡ document_pieces form b d)
+    inputs file before after ends)
     inputs.named tables before after outcome
 
--- what comes of a job
-abbrev pub RunsJob : Known → Job → (before after : Writers) → Outcome → Type 0
-RunsJob inputs job before after outcome =
-    CommandOutcome inputs job.command job.file before after outcome
-
--- What comes of help that was asked for: it was written and handed on; or the output failed at it,
--- and the last line says so.
+-- Help was written and handed on; or the output failed at it, and the last line says so.
 pub data WritesHelp (text : List ℕ) (before after : Writers) (status : ℕ) : Type 0 where
   InWhole : Appends before.output.taken after.output.taken text
       → after.output.all_flushed ≡ true → IsSame before.output after.output
@@ -171,13 +142,12 @@ AnswersFault Memory before after status =
     (after.output ≡ before.output)
     × WritesLine before.errors after.errors (run_line ended.Memory) × (status ≡ 2)
 
--- What a call with these words comes to: their job was done, and then the last line and the status
--- say how it came out; or there is no job, and that was answered.
+-- A job was done, and the last line and the status say how; or there is none, and that is answered.
 -- rule: status-of-help
 pub data RunsProgram (words : List Text) (inputs : Known) (before after : Writers)
     (status : ℕ) : Type 0 where
   Does : (job : Job) → IsJobOf (subcommand_of bufr_app words) job → (outcome : Outcome)
-      → (between : Writers) → RunsJob inputs job before between outcome
+      → (between : Writers) → CommandOutcome inputs job.command job.file before between outcome
       → after.output ≡ between.output
       → WritesLine between.errors after.errors (last_line outcome) → status ≡ status_of outcome
       → RunsProgram words inputs before after status

@@ -11,7 +11,6 @@ use Rattle.bufr_text.specs.Prelude.{IsCanonical, IsAccepted, HasSameReading, ext
 use Rattle.bufr_text.specs.declared.encode.Form.TheVariants.{AsWritten}
 use Rattle.bufr_cli.specs.Pieces.{IsDumpPiece, Piece, OnOutput, OnErrors, output_of, errors_of, is_accepted, is_refused, encode_pieces}
 use Rattle.bufr_cli.specs.Running.{GivesPieces, Tallies}
-use Rattle.bufr_cli.specs.declared.laws.Round.{Round}
 use Rattle.bufr_cli.specs.declared.laws.RunInMemory.{RunInMemory}
 use Rattle.bufr_cli.specs.declared.outcome.Tally.{Tally}
 use Rattle.bufr_tables.specs.declared.fault.TemplateFault.{TemplateFault}
@@ -24,13 +23,16 @@ dump_pieces piece s = map piece (scan s)
 abbrev pub dumped : (StreamEvent → Piece) → List ℕ → List ℕ
 dumped piece s = flat_map output_of (dump_pieces piece s)
 
--- what `encode` writes for a text
-abbrev pub text_pieces : List Row → List Sequence → (text : List ℕ) → List Piece
-text_pieces b d text = encode_pieces AsWritten b d (documents_of text)
+-- what `encode` writes for a text in a form, and what of that is on its output
+abbrev pub form_pieces : Form → List Row → List Sequence → (text : List ℕ) → List Piece
+form_pieces form b d text = encode_pieces form b d (documents_of text)
+
+abbrev pub built : Form → List Row → List Sequence → (text : List ℕ) → List ℕ
+built form b d text = flat_map output_of (form_pieces form b d text)
 
 -- what `encode` writes for the dump text of a stream, and what of that is on its output
 abbrev pub rebuilding : List Row → List Sequence → (StreamEvent → Piece) → List ℕ → List Piece
-rebuilding b d piece s = text_pieces b d (dumped piece s)
+rebuilding b d piece s = form_pieces AsWritten b d (dumped piece s)
 
 abbrev pub rebuilt : List Row → List Sequence → (StreamEvent → Piece) → List ℕ → List ℕ
 rebuilt b d piece s = flat_map output_of (rebuilding b d piece s)
@@ -137,12 +139,6 @@ abbrev pub written_by : RunInMemory → Written
 written_by ran =
     record { output = taken_of ran.output; errors = taken_of ran.errors; tally = ran.tally }
 
--- the same of three runs into memory
-abbrev pub IsWholeRoundOf : List Row → List Sequence → (stream : List ℕ) → Round → Type 0
-IsWholeRoundOf b d stream round =
-    IsWholeRound b d stream (written_by round.text) (written_by round.messages)
-    (written_by round.again)
-
 -- ---- A text encoded, and that dumped: a dump's one spelling. (a choice of this project)
 
 -- the text of a document in the one spelling that a dump has, by the template that its descriptors
@@ -170,13 +166,6 @@ normal_texts form b d (Complete document ∷ more) =
     before_refused (encoding_in form b d document) (normal_text form b d document)
     (normal_texts form b d more)
 normal_texts form b d (Refused line fault ∷ more) = []
-
--- what `encode` writes for a text in a form, and what of that is on its output
-abbrev pub form_pieces : Form → List Row → List Sequence → (text : List ℕ) → List Piece
-form_pieces form b d text = encode_pieces form b d (documents_of text)
-
-abbrev pub built : Form → List Row → List Sequence → (text : List ℕ) → List ℕ
-built form b d text = flat_map output_of (form_pieces form b d text)
 
 -- What `encode` builds of a text is dumped to the text's documents before the first that is
 -- refused. Each is in the one spelling that a dump has.

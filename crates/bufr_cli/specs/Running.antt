@@ -29,8 +29,8 @@ pub record Input : Type 0 where
   pub reads : ℕ
   pub failures : ℕ
 
--- A writer. It has the octets that it took, where they are known, its calls that failed, and its
--- writes that took nothing. It has its flushes, and whether all that it took was handed on.
+-- A writer: the octets it took, where known; its failed calls, empty writes and flushes; and
+-- whether all that it took was handed on.
 pub record Writer : Type 0 where
   pub taken : Option (List ℕ)
   pub failures : ℕ
@@ -132,14 +132,14 @@ pub record Tallies (tally : Tally) (pieces : List Piece) : Type 0 where
   pub accepted : tally.accepted ≡ count_by is_accepted pieces
   pub refused : tally.refused ≡ count_by is_refused pieces
 
--- What a run writes: the pieces of a whole input, those that are certain of a beginning of it, and
--- whether its first refusal ends it.
+-- The pieces of a whole input, those certain of a beginning, and whether a refusal ends all.
 pub record RunPieces : Type 0 where
   pub whole : List ℕ → List Piece
   pub certain : List ℕ → List Piece
   pub stops : Bool
 
 -- the pieces of the events of a stream, each by this function
+-- rule: input-without-bufr
 abbrev pub event_pieces : (StreamEvent → Piece) → RunPieces
 event_pieces piece =
     record {
@@ -157,8 +157,7 @@ document_pieces form b d =
       stops = true;
     }
 
--- the pieces of the octets that were read: all, where the end was reached, and else those that are
--- certain
+-- the pieces of the octets that were read: all at the end of the input, else those that are certain
 abbrev pub read_pieces : RunPieces → (ended : Bool) → List ℕ → List Piece
 read_pieces pieces true bs = pieces.whole bs
 read_pieces pieces false bs = pieces.certain bs
@@ -178,8 +177,7 @@ pub record RunDone (pieces : RunPieces)
   pub certain : WritesPieces output output' errors errors' (read_pieces pieces ended bs)
   pub tallies : (t : List ℕ) → (ended ≡ true → t ≡ []) → Tallies tally (pieces.whole (bs ++ t))
 
--- The run stopped before the end, and the pieces of all that was certain were written. Where a
--- refusal ends the run none of them is one.
+-- The run stopped early, and all that was certain was written, without a refusal that ends a run.
 -- rule: input-not-read
 pub record RunStopped (pieces : RunPieces)
     (left left' output output' errors errors' : Option (List ℕ)) (bs : List ℕ) : Type 0 where
@@ -187,8 +185,7 @@ pub record RunStopped (pieces : RunPieces)
   pub written : WritesPieces output output' errors errors' (pieces.certain bs)
   pub accepted : pieces.stops ≡ true → count_by is_refused (pieces.certain bs) ≡ 0
 
--- A writer failed, or memory was refused: of what was read a prefix was written; where a flush was
--- tried, all of it is written.
+-- A writer failed, or memory was refused: a prefix was written, or all where a flush was tried.
 -- rule: fault-line-not-written, reader-gone
 pub record RunCut (pieces : RunPieces)
     (left left' output output' errors errors' : Option (List ℕ)) (unflushed : Type 0)
@@ -222,18 +219,14 @@ LeavesRun pieces left left' output output' errors errors' unflushed early bs (Er
 LeavesRun pieces left left' output output' errors errors' unflushed early bs (Err fault) =
     RunStopped pieces left left' output output' errors errors' bs
 
--- no writer was flushed
-abbrev pub AreUnflushed : (before after : Writers) → Type 0
-AreUnflushed before after =
-    (after.output.flushes ≡ before.output.flushes) × (after.errors.flushes ≡ before.errors.flushes)
-
 -- what a run leaves of its input and of its writers that reads these octets
 -- rule: fault-70
 abbrev pub RunsPieces : RunPieces → (from to : Input) → (before after : Writers) → List ℕ
     → Result Tally RunFault → Type 0
 RunsPieces pieces from to before after bs result =
     LeavesRun pieces from.left to.left before.output.taken after.output.taken before.errors.taken
-    after.errors.taken (AreUnflushed before after) (ReadsFewer from.reads to.reads) bs result
+    after.errors.taken ((after.output.flushes ≡ before.output.flushes)
+    × (after.errors.flushes ≡ before.errors.flushes)) (ReadsFewer from.reads to.reads) bs result
 
 -- the same before anything is flushed
 abbrev pub RunsUnflushed : RunPieces → (from to : Input) → (before after : Writers) → List ℕ
@@ -309,12 +302,6 @@ LeavesPieces output output' errors errors' pieces (Err fault) =
     GrowsByPrefix output output' (flat_map output_of pieces)
     × GrowsByPrefix errors errors' (flat_map errors_of pieces)
 
--- the same of two writers
-abbrev pub ReportsPieces : (before after : Writers) → List Piece → Result Verdict RunFault → Type 0
-ReportsPieces before after pieces result =
-    LeavesPieces before.output.taken after.output.taken before.errors.taken after.errors.taken
-    pieces result
-
 -- a piece is stopped by a writer, or by want of memory where its text takes memory
 abbrev pub StopsPiece : (takes_memory : Bool) → Result Verdict RunFault → Type 0
 StopsPiece takes_memory (Err Read) = ⊥
@@ -347,10 +334,3 @@ LeavesNext output output' errors errors' piece next (Err Memory) =
     × LeavesPieces output output' errors errors' (piece x ∷ []) (Err Memory))
 LeavesNext output output' errors errors' piece next (Err fault) =
     (next ≡ Err (Run fault)) × (output' ≡ output) × (errors' ≡ errors)
-
--- the same of two writers
-abbrev pub ReportsNext : (before after : Writers) → (ParseResult → Piece)
-    → Result (Option Document) ReadFault → Result (Option Verdict) RunFault → Type 0
-ReportsNext before after piece next result =
-    LeavesNext before.output.taken after.output.taken before.errors.taken after.errors.taken
-    piece next result

@@ -1,7 +1,7 @@
 //! `bufr dump`: writes the messages of a stream as text.
-ghost use Rattle.std.specs.Prelude.{◌≡◌, ◌≢◌, ◌≤◌, ℕ, List, [], ◌∷◌, true, Ok, IfOk, OnOk, IfSome, length, map};
-ghost use Rattle.bufr_frame.specs.Prelude.{read_failures_after, StreamEvent, scan, sections_of};
-ghost use Rattle.bufr_cli.specs.Prelude.{IsDumpPiece, IsMessagePiece, Piece, BlamesWriter, input_of, writers_of, RunsPieces, event_pieces, GivesPieces, ReadsAtMost, WritesAndCounts, StopsPiece, ReportsPieces};
+ghost use Rattle.std.specs.Prelude.{◌≡◌, ◌≤◌, [], ◌∷◌, true, Ok, IfOk, length};
+ghost use Rattle.bufr_frame.specs.Prelude.{sections_of};
+ghost use Rattle.bufr_cli.specs.Prelude.{LeavesDevices, IsDump, IsDumpPiece, IsMessagePiece, Piece, BlamesWriter, input_of, writers_of, StopsPiece, LeavesPieces};
 
 use crate::fault_line::{StreamFault, write_fault, write_stray};
 use crate::outcome::{Tally, Verdict};
@@ -14,7 +14,6 @@ use bufr_walk::{Steps, TemplateCache, WalkFault, read_by};
 use std::alloc::{AllocError, Global};
 use std::mem;
 
-/// The descriptors of a message.
 fn descriptors_of(alloc: Global, message: &Message<'_>) -> Result<Vec<Fxy>, AllocError>
     ensures { IfOk result (λ descriptors. descriptors.items ≡ message.now.descriptors) }
 {
@@ -55,8 +54,8 @@ fn dump_selected<W: Sink, E: Sink>(
     ensures reports { (piece : Piece)
         → IsMessagePiece run.old.templates.table_b run.old.templates.table_d offset
         (Ok message.now) piece
-        → ReportsPieces (writers_of W.Sink w.old E.Sink e.old)
-        (writers_of W.Sink w.new E.Sink e.new) (piece ∷ []) result }
+        → LeavesPieces (W.taken w.old) (W.taken w.new) (E.taken e.old) (E.taken e.new)
+        (piece ∷ []) result }
     ensures stops { StopsPiece true result }
     ensures counts { BlamesWriter (writers_of W.Sink w.old E.Sink e.old)
         (writers_of W.Sink w.new E.Sink e.new) result }
@@ -101,8 +100,8 @@ fn dump_frame<W: Sink, E: Sink>(
     ensures reports { (piece : Piece)
         → IsMessagePiece run.old.templates.table_b run.old.templates.table_d offset
         (sections_of octets.now) piece
-        → ReportsPieces (writers_of W.Sink w.old E.Sink e.old)
-        (writers_of W.Sink w.new E.Sink e.new) (piece ∷ []) result }
+        → LeavesPieces (W.taken w.old) (W.taken w.new) (E.taken e.old) (E.taken e.new)
+        (piece ∷ []) result }
     ensures stops { StopsPiece true result }
     ensures table_b { run.new.templates.table_b ≡ run.old.templates.table_b }
     ensures table_d { run.new.templates.table_d ≡ run.old.templates.table_d }
@@ -182,26 +181,10 @@ pub fn run_dump<R: Source, W: Sink, E: Sink>(
     table_b: &TableB,
     table_d: &TableD,
 ) -> Result<Tally, RunFault>
-    // At `Ok` the writers hold exactly the pieces of the whole input, and the tally counts them.
-    ensures whole { (piece : StreamEvent → Piece)
-        → GivesPieces (IsDumpPiece table_b.now table_d.now)
-        piece → IfOk result (λ tally. IfSome (R.left r.old) (λ s.
-        WritesAndCounts (writers_of W.Sink w.old E.Sink e.old)
-        (writers_of W.Sink w.new E.Sink e.new) tally (map piece (scan s)))) }
-    // The errors are flushed only where the output was before.
-    ensures order { E.flushes e.new ≢ E.flushes e.old → W.all_flushed w.new ≡ true }
-    ensures flushed { OnOk result ((W.all_flushed w.new ≡ true) × (E.all_flushed e.new ≡ true)) }
-    // The same over the octets that were read, and what a fault leaves.
-    ensures run { (bs : List ℕ)
-        × ((piece : StreamEvent → Piece) → GivesPieces (IsDumpPiece table_b.now table_d.now) piece
-        → RunsPieces (event_pieces piece) (input_of R.Source r.old) (input_of R.Source r.new)
-        (writers_of W.Sink w.old E.Sink e.old) (writers_of W.Sink w.new E.Sink e.new) bs result) }
-
-    // Each fault comes only where its device failed in this call.
-    ensures reader { R.failures r.new ≡ read_failures_after (R.failures r.old) result }
-    ensures reads { ReadsAtMost (R.reads r.old) (R.reads r.new) result }
-    ensures writers { BlamesWriter (writers_of W.Sink w.old E.Sink e.old)
-        (writers_of W.Sink w.new E.Sink e.new) result }
+    // Where the whole input is known, exactly its pieces were written, and the tally counts them.
+    ensures { LeavesDevices (IsDump table_b.now table_d.now)
+        (input_of R.Source r.old) (input_of R.Source r.new)
+        (writers_of W.Sink w.old E.Sink e.old) (writers_of W.Sink w.new E.Sink e.new) result }
 {
     let mut dumping = DumpRun {
         templates: TemplateCache::new(alloc, table_b, table_d),

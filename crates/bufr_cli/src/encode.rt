@@ -1,16 +1,15 @@
 //! `bufr encode`: writes the messages that a text spells.
-ghost use Rattle.std.specs.Prelude.{◌≡◌, ◌≢◌, ℕ, List, [], ◌∷◌, Ok, Err, true, IfOk, OnOk, IfSome};
+ghost use Rattle.std.specs.Prelude.{◌≡◌, ◌≢◌, ℕ, List, Ok, Err};
 ghost use Rattle.bufr_frame.specs.Prelude.{read_failures_after};
-ghost use Rattle.bufr_text.specs.Prelude.{Complete};
 ghost use Rattle.bufr_text.specs.declared.encode.Form.TheVariants.{AsWritten};
-ghost use Rattle.bufr_cli.specs.Prelude.{result_piece, RunsUnflushed, RunsPieces, document_pieces, ReadsAtMost, Encodes, ReportsNext, StopsPiece, ReportsPieces, BlamesWriter, input_of, writers_of};
+ghost use Rattle.bufr_cli.specs.Prelude.{LeavesDevices, result_piece, RunsUnflushed, document_pieces, ReadsAtMost, LeavesNext, BlamesWriter, input_of, writers_of};
 
 use crate::fault_line::{write_document_fault, write_read_fault};
 use crate::outcome::{Tally, Verdict};
 use crate::run_events::flush;
 use bufr_bits::{Sink, Source};
 use bufr_frame::RunFault;
-use bufr_tables::{TableB, TableD, TemplateFault};
+use bufr_tables::{TableB, TableD};
 use bufr_text::{Document, DocumentFault, DumpReader, Form, ReadFault, encode_by, write_all};
 use bufr_walk::{Steps, TemplateCache};
 use std::alloc::Global;
@@ -23,48 +22,8 @@ struct EncodeRun<'a> {
     templates: TemplateCache<'a>,
 }
 
-/// Writes the message of a document, whole, or the line of the fault that it is refused for.
-fn encode_one<W: Sink, E: Sink>(
-    run: &mut EncodeRun<'_>,
-    document: &Document,
-    w: &mut W,
-    e: &mut E,
-) -> Result<Verdict, RunFault>
-    ensures reports { ReportsPieces (writers_of W.Sink w.old E.Sink e.old)
-        (writers_of W.Sink w.new E.Sink e.new)
-        (result_piece run.old.form run.old.templates.table_b run.old.templates.table_d
-        (Complete document.now) ∷ []) result }
-    ensures stops { StopsPiece true result }
-    ensures form { run.new.form ≡ run.old.form }
-    ensures table_b { run.new.templates.table_b ≡ run.old.templates.table_b }
-    ensures table_d { run.new.templates.table_d ≡ run.old.templates.table_d }
-    ensures counts { BlamesWriter (writers_of W.Sink w.old E.Sink e.old)
-        (writers_of W.Sink w.new E.Sink e.new) result }
-    ensures output_flushes { W.flushes w.new ≡ W.flushes w.old }
-    ensures errors_flushes { E.flushes e.new ≡ E.flushes e.old }
-{
-    let mut steps = Steps::new();
-    match encode_by(
-        run.alloc,
-        document,
-        run.form,
-        &mut run.templates,
-        &mut steps,
-    ) {
-        Ok(octets) => {
-            write_all(octets.as_slice(), w)?;
-            Ok(Verdict::Accepted)
-        }
-        Err(DocumentFault::Memory) => Err(RunFault::Memory),
-        Err(DocumentFault::Template(_, TemplateFault::Memory)) => Err(RunFault::Memory),
-        Err(fault) => {
-            write_document_fault(fault, e)?;
-            Ok(Verdict::Refused)
-        }
-    }
-}
-
-/// Writes the message of the next document, or a fault line, or at the end of the text nothing.
+/// Writes the message of the next document, whole, or a fault line, or at the end of the text
+/// nothing.
 // rule: document-read-first
 fn encode_next<W: Sink, E: Sink>(
     run: &mut EncodeRun<'_>,
@@ -78,8 +37,7 @@ fn encode_next<W: Sink, E: Sink>(
     ensures form { run.new.form ≡ run.old.form }
     ensures table_b { run.new.templates.table_b ≡ run.old.templates.table_b }
     ensures table_d { run.new.templates.table_d ≡ run.old.templates.table_d }
-    ensures reports { ReportsNext (writers_of W.Sink w.old E.Sink e.old)
-        (writers_of W.Sink w.new E.Sink e.new)
+    ensures reports { LeavesNext (W.taken w.old) (W.taken w.new) (E.taken e.old) (E.taken e.new)
         (result_piece run.old.form run.old.templates.table_b run.old.templates.table_d) next
         result }
     ensures counts { BlamesWriter (writers_of W.Sink w.old E.Sink e.old)
@@ -90,9 +48,26 @@ fn encode_next<W: Sink, E: Sink>(
     match next {
         Ok(None) => Ok(None),
         Ok(Some(document)) => {
-            let verdict = encode_one(run, &document, w, e)?;
-            reader.reuse(document);
-            Ok(Some(verdict))
+            let mut steps = Steps::new();
+            match encode_by(
+                run.alloc,
+                &document,
+                run.form,
+                &mut run.templates,
+                &mut steps,
+            ) {
+                Ok(octets) => {
+                    write_all(octets.as_slice(), w)?;
+                    reader.reuse(document);
+                    Ok(Some(Verdict::Accepted))
+                }
+                Err(DocumentFault::Memory) => Err(RunFault::Memory),
+                Err(fault) => {
+                    write_document_fault(fault, e)?;
+                    reader.reuse(document);
+                    Ok(Some(Verdict::Refused))
+                }
+            }
         }
         Err(ReadFault::Run(fault)) => Err(fault),
         Err(fault) => {
@@ -168,23 +143,10 @@ pub fn run_encode_form<R: Source, W: Sink, E: Sink>(
     table_d: &TableD,
     form: Form,
 ) -> Result<Tally, RunFault>
-    // At `Ok` the writers hold exactly the pieces of the whole input, and the tally counts them.
-    ensures whole { IfOk result (λ tally. IfSome (R.left r.old)
-        (Encodes form table_b.now table_d.now (writers_of W.Sink w.old E.Sink e.old)
-        (writers_of W.Sink w.new E.Sink e.new) tally)) }
-    // The errors are flushed only where the output was before.
-    ensures order { E.flushes e.new ≢ E.flushes e.old → W.all_flushed w.new ≡ true }
-    ensures flushed { OnOk result ((W.all_flushed w.new ≡ true) × (E.all_flushed e.new ≡ true)) }
-    // The same over the octets that were read, and what a fault leaves.
-    ensures run { (bs : List ℕ) × RunsPieces (document_pieces form table_b.now table_d.now)
+    // Where the whole input is known, exactly its pieces were written, and the tally counts them.
+    ensures { LeavesDevices (λ pieces. pieces ≡ document_pieces form table_b.now table_d.now)
         (input_of R.Source r.old) (input_of R.Source r.new)
-        (writers_of W.Sink w.old E.Sink e.old) (writers_of W.Sink w.new E.Sink e.new) bs result }
-
-    // Each fault comes only where its device failed in this call.
-    ensures reader { R.failures r.new ≡ read_failures_after (R.failures r.old) result }
-    ensures reads { ReadsAtMost (R.reads r.old) (R.reads r.new) result }
-    ensures writers { BlamesWriter (writers_of W.Sink w.old E.Sink e.old)
-        (writers_of W.Sink w.new E.Sink e.new) result }
+        (writers_of W.Sink w.old E.Sink e.old) (writers_of W.Sink w.new E.Sink e.new) result }
 {
     let mut run = EncodeRun {
         alloc,
@@ -221,23 +183,10 @@ pub fn run_encode<R: Source, W: Sink, E: Sink>(
     table_b: &TableB,
     table_d: &TableD,
 ) -> Result<Tally, RunFault>
-    // At `Ok` the writers hold exactly the pieces of the whole input, and the tally counts them.
-    ensures whole { IfOk result (λ tally. IfSome (R.left r.old)
-        (Encodes AsWritten table_b.now table_d.now (writers_of W.Sink w.old E.Sink e.old)
-        (writers_of W.Sink w.new E.Sink e.new) tally)) }
-    // The errors are flushed only where the output was before.
-    ensures order { E.flushes e.new ≢ E.flushes e.old → W.all_flushed w.new ≡ true }
-    ensures flushed { OnOk result ((W.all_flushed w.new ≡ true) × (E.all_flushed e.new ≡ true)) }
-    // The same over the octets that were read, and what a fault leaves.
-    ensures run { (bs : List ℕ) × RunsPieces (document_pieces AsWritten table_b.now table_d.now)
+    // Where the whole input is known, exactly its pieces were written, and the tally counts them.
+    ensures { LeavesDevices (λ pieces. pieces ≡ document_pieces AsWritten table_b.now table_d.now)
         (input_of R.Source r.old) (input_of R.Source r.new)
-        (writers_of W.Sink w.old E.Sink e.old) (writers_of W.Sink w.new E.Sink e.new) bs result }
-
-    // Each fault comes only where its device failed in this call.
-    ensures reader { R.failures r.new ≡ read_failures_after (R.failures r.old) result }
-    ensures reads { ReadsAtMost (R.reads r.old) (R.reads r.new) result }
-    ensures writers { BlamesWriter (writers_of W.Sink w.old E.Sink e.old)
-        (writers_of W.Sink w.new E.Sink e.new) result }
+        (writers_of W.Sink w.old E.Sink e.old) (writers_of W.Sink w.new E.Sink e.new) result }
 {
     run_encode_form(alloc, r, w, e, table_b, table_d, Form::AsWritten)
 }

@@ -1,9 +1,10 @@
 //! The lines that report the faults of a stream, its messages, and a text and its documents.
-ghost use Rattle.std.specs.Prelude.{◌≡◌, ◌≢◌, ℕ, [], ◌∷◌, Err, IfErr, IfSome, codes, decimal};
-ghost use Rattle.bufr_frame.specs.Prelude.{number_of_cause};
-ghost use Rattle.bufr_tables.specs.Prelude.{fxy_text};
+ghost use Rattle.std.specs.Prelude.{◌≡◌, ◌≢◌, ℕ, [], ◌∷◌, ◌++◌, Err, IfErr, IfSome, codes, decimal};
+ghost use Rattle.bufr_frame.specs.Prelude.{cause_report, section_report};
+ghost use Rattle.bufr_tables.specs.Prelude.{fxy_text, template_report};
+ghost use Rattle.bufr_walk.specs.Prelude.{data_report, spot_text};
 ghost use Rattle.bufr_text.specs.Prelude.{TextLineFault, Refused, parse_results, number_of_document_fault, reported_refusal, walk_report, Pushes, Writes, joined};
-ghost use Rattle.bufr_cli.specs.Prelude.{HasLine, cause_text, fault_line, number_of_stream_fault, place_texts, section_fault_text, spot_text, stream_fault_text, template_fault_text, walk_fault_text, document_line, item_fault_line, line_of_read_fault, line_of_refusal, refusal_line, refused_line, OnlyWrites, writer_of};
+ghost use Rattle.bufr_cli.specs.Prelude.{HasLine, fault_line, stream_report, place_texts, document_line, item_fault_line, line_of_read_fault, line_of_refusal, refusal_line, refused_line, OnlyWrites, writer_of};
 
 use bufr_bits::Sink;
 use bufr_fill::Expected;
@@ -29,7 +30,6 @@ pub(crate) enum StreamFault<'f> {
     Data(&'f WalkFault),
 }
 
-/// Pushes a fault's number.
 #[inline(always)]
 fn push_number<E: Sink>(line: &mut LineWriter<'_, '_, E>, number: u8)
     ensures { Pushes line.old (joined (codes ": " ∷ decimal number ∷ codes " " ∷ [])) line.new }
@@ -48,7 +48,6 @@ fn push_place<E: Sink>(line: &mut LineWriter<'_, '_, E>, word: &[u8], place: u64
     push_number(line, number);
 }
 
-/// Pushes a text and a descriptor after it.
 fn push_descriptor<E: Sink>(line: &mut LineWriter<'_, '_, E>, text: &[u8], fxy: Fxy)
     ensures { Pushes line.old (joined (text.now ∷ fxy_text fxy ∷ [])) line.new }
 {
@@ -56,12 +55,11 @@ fn push_descriptor<E: Sink>(line: &mut LineWriter<'_, '_, E>, text: &[u8], fxy: 
     line.push(&fxy.text());
 }
 
-/// Pushes the number and the text of a stray word, and a line feed.
 #[inline(always)]
 // rule: fault-1, fault-2, fault-3
 fn push_stray<E: Sink>(line: &mut LineWriter<'_, '_, E>, cause: Cause)
-    ensures { Pushes line.old (joined (codes ": " ∷ decimal (number_of_cause cause) ∷ codes " "
-        ∷ cause_text cause ∷ codes "\n" ∷ [])) line.new }
+    ensures { Pushes line.old (joined (codes ": " ∷ decimal (cause_report cause).0 ∷ codes " "
+        ∷ ((cause_report cause).1 ++ codes "\n" ∷ []))) line.new }
 {
     match cause {
         Cause::Cut => line.push(b": 1 cut\n"),
@@ -70,11 +68,10 @@ fn push_stray<E: Sink>(line: &mut LineWriter<'_, '_, E>, cause: Cause)
     }
 }
 
-/// Pushes the text of a section fault.
 #[inline(never)]
 // rule: fault-10, fault-11, fault-12, fault-13, fault-14
 fn push_section_fault<E: Sink>(line: &mut LineWriter<'_, '_, E>, fault: SectionFault)
-    ensures { Pushes line.old (joined (section_fault_text fault)) line.new }
+    ensures { Pushes line.old (joined (section_report fault).1) line.new }
 {
     match fault {
         SectionFault::Edition(edition) => line.push_named(b"edition ", u64::from(edition)),
@@ -91,12 +88,11 @@ fn push_section_fault<E: Sink>(line: &mut LineWriter<'_, '_, E>, fault: SectionF
     }
 }
 
-/// Pushes the text of a template fault.
 #[inline(never)]
 // rule: fault-20, fault-21, fault-22, fault-23, fault-24, fault-25, fault-26, fault-27, fault-28
 fn push_template_fault<E: Sink>(line: &mut LineWriter<'_, '_, E>, fault: &TemplateFault)
     requires { fault.now ≢ TemplateFault.Memory }
-    ensures { Pushes line.old (joined (template_fault_text fault.now)) line.new }
+    ensures { Pushes line.old (joined (template_report fault.now).1) line.new }
 {
     match fault {
         TemplateFault::UnknownElement(fxy) => push_descriptor(line, b"unknown element ", *fxy),
@@ -123,12 +119,11 @@ fn push_spot<E: Sink>(line: &mut LineWriter<'_, '_, E>, name: &[u8], spot: Spot)
     line.push_named(b" bit ", spot.bit);
 }
 
-/// Pushes the text of a fault of the data.
 #[inline(never)]
 // rule: fault-30, fault-31, fault-32, fault-33, fault-34, fault-35
 fn push_walk_fault<E: Sink>(line: &mut LineWriter<'_, '_, E>, fault: &WalkFault)
     requires { fault.now ≢ WalkFault.Memory }
-    ensures { Pushes line.old (joined (walk_fault_text fault.now)) line.new }
+    ensures { Pushes line.old (joined (data_report fault.now).1) line.new }
 {
     match fault {
         WalkFault::DataEnd(spot) => push_spot(line, b"data end", *spot),
@@ -141,12 +136,10 @@ fn push_walk_fault<E: Sink>(line: &mut LineWriter<'_, '_, E>, fault: &WalkFault)
     }
 }
 
-/// Pushes the line of a fault.
 #[inline(always)]
 fn push_fault<E: Sink>(line: &mut LineWriter<'_, '_, E>, offset: u64, fault: StreamFault<'_>)
     requires { HasLine fault }
-    ensures { Pushes line.old (fault_line offset (number_of_stream_fault fault.entry)
-        (stream_fault_text fault.entry)) line.new }
+    ensures { Pushes line.old (fault_line offset (stream_report fault.entry)) line.new }
 {
     line.push_named(b"offset ", offset);
     match fault {
@@ -169,9 +162,10 @@ fn push_fault<E: Sink>(line: &mut LineWriter<'_, '_, E>, offset: u64, fault: Str
 }
 
 /// Writes the line of a `BUFR` at `offset`, in octets from 0, that begins no message.
+#[inline(always)]
 pub(crate) fn write_stray<E: Sink>(offset: u64, cause: Cause, e: &mut E) -> Result<(), RunFault>
     ensures writes { Writes (E.taken e.old) (E.taken e.new)
-        (fault_line offset (number_of_cause cause) (cause_text cause ∷ [])) result }
+        (fault_line offset (cause_report cause)) result }
     ensures counts { OnlyWrites (writer_of E.Sink e.old) (writer_of E.Sink e.new) result }
 {
     let mut block = [0; STRAY_LINE];
@@ -192,8 +186,7 @@ pub(crate) fn write_fault<E: Sink>(
 ) -> Result<(), RunFault>
     requires { HasLine fault }
     ensures writes { Writes (E.taken e.old) (E.taken e.new)
-        (fault_line offset (number_of_stream_fault fault.entry) (stream_fault_text fault.entry))
-        result }
+        (fault_line offset (stream_report fault.entry)) result }
     ensures counts { OnlyWrites (writer_of E.Sink e.old) (writer_of E.Sink e.new) result }
 {
     let mut block = [0; LINE];
@@ -214,7 +207,6 @@ fn push_line<E: Sink>(line: &mut LineWriter<'_, '_, E>, place: u64, number: u8, 
     line.push(b"\n");
 }
 
-/// Pushes a fault line whose text ends with a descriptor.
 fn push_descriptor_line<E: Sink>(
     line: &mut LineWriter<'_, '_, E>,
     place: u64,
@@ -249,7 +241,6 @@ fn push_walk<E: Sink>(
     }
 }
 
-/// Pushes the line of a document that cannot be encoded.
 fn push_document_fault<E: Sink>(line: &mut LineWriter<'_, '_, E>, fault: DocumentFault)
     requires some { fault ≢ DocumentFault.Memory }
     requires template { (line : ℕ) → fault ≢ DocumentFault.Template line TemplateFault.Memory }
@@ -303,7 +294,6 @@ pub fn write_document_fault<E: Sink>(fault: DocumentFault, e: &mut E) -> Result<
     outcome
 }
 
-/// Pushes the line of a text line that is refused.
 fn push_read_fault<E: Sink>(line: &mut LineWriter<'_, '_, E>, fault: ReadFault)
     requires { (run : RunFault) → fault ≢ ReadFault.Run run }
     ensures { Pushes line.old (line_of_read_fault fault) line.new }

@@ -1,15 +1,14 @@
 //! The command line.
 ghost use Rattle.std.specs.Prelude.{◌≡◌, IfErr, IfNone, IfOk, IfSome, codes, map, false, Some};
 ghost use Rattle.clap.specs.declared.builder.command.Command.TheViews.{out-Command};
-ghost use Rattle.clap.specs.Values.{kind_of};
 ghost use Rattle.clap.specs.Words.{app_of, fault_of, first_of, found_of, new_app, new_rule, rows_of, rule_of, subcommand_of, with_rule, with_subcommand};
 ghost use Rattle.bufr_cli.specs.declared.job.LineFault.TheVariants.{Memory};
 ghost use Rattle.bufr_text.specs.declared.encode.Form.{Form};
-ghost use Rattle.bufr_cli.specs.Prelude.{bufr_app, form_rule, name_of, no_job_text, table_rule, tables_app, top_app, word_of, AreNamed, HasTables, IsJobOf, IsWhyNoJob, LacksForm, LacksTables, SaysWhy, ReportsKind};
+ghost use Rattle.bufr_cli.specs.Prelude.{bufr_app, form_rule, name_of, no_job_text, table_rule, tables_app, top_app, word_of, AreNamed, HasTables, IsJobOf, IsWhyNoJob, LacksForm, LacksTables, SaysWhy};
 
 use bufr_text::Form;
 use clap::error::ErrorKind;
-use clap::{Arg, ArgMatches, Error};
+use clap::{Arg, ArgMatches};
 use std::alloc::{AllocError, Global};
 use std::convert::AsStr;
 
@@ -260,27 +259,6 @@ fn command_line<'a>(alloc: Global) -> Result<clap::Command<'a>, AllocError>
     command.subcommand(encode_command(alloc)?)
 }
 
-/// The fault that an error of clap means, with its text.
-// rule: help
-fn line_fault(alloc: Global, error: &Error) -> LineFault
-    ensures { ReportsKind (kind_of error.now) result }
-{
-    if error.kind() == ErrorKind::OutOfMemory {
-        return LineFault::Memory;
-    }
-    match format!(in alloc; "{error}") {
-        Err(_) => LineFault::Memory,
-        Ok(text) => {
-            if error.use_stderr() {
-                LineFault::Usage(text)
-            } else {
-                LineFault::Help(text)
-            }
-        }
-    }
-}
-
-/// The names of the tables, where they are there.
 fn tables_of<'a>(found: &ArgMatches<'a>) -> Option<TableNames<'a>>
     ensures names { IfSome result (AreNamed (rows_of (found_of found.now))) }
     ensures lacks { IfNone result (LacksTables (rows_of (found_of found.now))) }
@@ -290,7 +268,6 @@ fn tables_of<'a>(found: &ArgMatches<'a>) -> Option<TableNames<'a>>
     Some(TableNames { table_b, table_d })
 }
 
-/// The form of this name, where there is one.
 // rule: form-words
 fn form_named(word: &str) -> Option<Form>
     ensures named { IfSome result (λ form. word_of form ≡ Some word.now) }
@@ -305,7 +282,6 @@ fn form_named(word: &str) -> Option<Form>
     None
 }
 
-/// The form that is asked for, where it is known.
 fn form_of(found: &ArgMatches<'_>) -> Option<Form>
     ensures named { IfSome result
         (λ form. word_of form ≡ first_of (codes "form") (rows_of (found_of found.now))) }
@@ -329,7 +305,6 @@ enum NoJob {
 }
 
 impl NoJob {
-    /// The usage text.
     fn text(self) -> &'static str
         ensures { result.now ≡ no_job_text self }
     {
@@ -370,16 +345,6 @@ fn command_of<'a>(name: &str, found: &ArgMatches<'a>) -> Result<Subcommand<'a>, 
     Err(NoJob::UnknownCommand)
 }
 
-/// The job of the subcommand of this name.
-fn job_of<'a>(name: &str, found: &ArgMatches<'a>) -> Result<Job<'a>, NoJob>
-    ensures job { IfOk result (IsJobOf (Some (name.now, rows_of (found_of found.now)))) }
-    ensures lacks { IfErr result (IsWhyNoJob name.now (rows_of (found_of found.now))) }
-{
-    let command = command_of(name, found)?;
-    let file = found.get_str("FILE");
-    Ok(Job { command, file })
-}
-
 /// What the words of a command line ask for; the first is the program's name.
 ///
 /// ```
@@ -393,7 +358,7 @@ fn job_of<'a>(name: &str, found: &ArgMatches<'a>) -> Result<Job<'a>, NoJob>
 /// [`LineFault::Help`] where help or the version is asked for. [`LineFault::Usage`] where the words
 /// are not understood, no command is among them, a table is missing or a form unknown.
 /// [`LineFault::Memory`] where memory ran out.
-// rule: usage
+// rule: help, usage
 pub fn parse_line<'a, S: AsStr>(alloc: Global, words: &'a [S]) -> Result<Job<'a>, LineFault>
     ensures job { IfOk result
         (λ job. IsJobOf (subcommand_of bufr_app (map S.text words.entry.now)) job) }
@@ -405,11 +370,23 @@ pub fn parse_line<'a, S: AsStr>(alloc: Global, words: &'a [S]) -> Result<Job<'a>
     let command = command_line(alloc)?;
     let matches = match command.try_get_matches_from(words) {
         Ok(matches) => matches,
-        Err(error) => return Err(line_fault(alloc, &error)),
+        Err(error) => {
+            if error.kind() == ErrorKind::OutOfMemory {
+                return Err(LineFault::Memory);
+            }
+            let text = format!(in alloc; "{error}")?;
+            if error.use_stderr() {
+                return Err(LineFault::Usage(text));
+            }
+            return Err(LineFault::Help(text));
+        }
     };
     match matches.subcommand() {
-        Some((name, found)) => match job_of(name, found) {
-            Ok(job) => Ok(job),
+        Some((name, found)) => match command_of(name, found) {
+            Ok(command) => Ok(Job {
+                command,
+                file: found.get_str("FILE"),
+            }),
             Err(why) => Err(LineFault::Usage(String::from_str(alloc, why.text())?)),
         },
         None => {

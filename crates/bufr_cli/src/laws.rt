@@ -2,7 +2,7 @@
 //! back. [`dump_encode_dump`] runs them in memory.
 ghost use Rattle.std.specs.List.{AllByRecursion, concat};
 ghost use Rattle.std.specs.Prelude.{◌≡◌, List, ℕ, [], Option, Some, IfOk};
-ghost use Rattle.bufr_cli.specs.Prelude.{IsDumpedInOneSpelling, RoundTrips, IsWholeRound, IsCanonicalMessage, Written, accepted_messages, rebuilt, RunsInMemory, IsWholeRoundOf, dump_pieces, text_pieces, holding, GivesPieces, Dumps, Encodes, IsDumpPiece, Piece};
+ghost use Rattle.bufr_cli.specs.Prelude.{IsDumpedInOneSpelling, RoundTrips, IsWholeRound, IsCanonicalMessage, Written, accepted_messages, rebuilt, RunsInMemory, written_by, dump_pieces, form_pieces, holding, GivesPieces, Dumps, Encodes, IsDumpPiece, Piece};
 ghost use Rattle.bufr_frame.specs.Prelude.{StreamEvent};
 ghost use Rattle.bufr_tables.specs.Prelude.{Record, Row, AreRows, Sequence};
 ghost use Rattle.bufr_text.specs.Prelude.{IsOctet};
@@ -90,7 +90,6 @@ pub struct RunInMemory {
 /// How many octets a writer in memory takes at once.
 const STEP: usize = 65_536;
 
-/// Dumps a stream in memory.
 fn dump_octets(
     alloc: Global,
     stream: &[u8],
@@ -107,33 +106,6 @@ fn dump_octets(
     let tally = run_dump(
         alloc,
         &mut Device::new(stream),
-        &mut output,
-        &mut errors,
-        table_b,
-        table_d,
-    )?;
-    Ok(RunInMemory {
-        output,
-        errors,
-        tally,
-    })
-}
-
-/// Encodes a text in memory.
-fn encode_octets(
-    alloc: Global,
-    text: &[u8],
-    room: usize,
-    table_b: &TableB,
-    table_d: &TableD,
-) -> Result<RunInMemory, RunFault>
-    ensures { IfOk result (λ ran. RunsInMemory ran (text_pieces table_b.now table_d.now text.now)) }
-{
-    let mut output = ScriptOut::new(alloc, room, STEP, End::Fail)?;
-    let mut errors = ScriptOut::new(alloc, room, STEP, End::Fail)?;
-    let tally = run_encode(
-        alloc,
-        &mut Device::new(text),
         &mut output,
         &mut errors,
         table_b,
@@ -182,7 +154,7 @@ pub fn dump_encode_dump(
         → GivesPieces (IsDumpPiece table_b.now table_d.now) piece
         → IfOk result (λ round. RunsInMemory round.text (dump_pieces piece stream.now)) }
     ensures encode { IfOk result (λ round.
-        RunsInMemory round.messages (text_pieces table_b.now table_d.now
+        RunsInMemory round.messages (form_pieces AsWritten table_b.now table_d.now
         (taken_of round.text.output))) }
     ensures dump_again { (piece : StreamEvent → Piece)
         → GivesPieces (IsDumpPiece table_b.now table_d.now) piece
@@ -191,10 +163,26 @@ pub fn dump_encode_dump(
     // By a Table B that was read, nothing is refused, the two texts are the same, and so are the
     // messages' readings.
     ensures round { (records : List Record) → AreRows records table_b.now
-        → IfOk result (IsWholeRoundOf table_b.now table_d.now stream.now) }
+        → IfOk result (λ round. IsWholeRound table_b.now table_d.now stream.now
+        (written_by round.text) (written_by round.messages) (written_by round.again)) }
 {
     let text = dump_octets(alloc, stream, room, table_b, table_d)?;
-    let messages = encode_octets(alloc, text.output.taken(), room, table_b, table_d)?;
+    let mut output = ScriptOut::new(alloc, room, STEP, End::Fail)?;
+    let mut errors = ScriptOut::new(alloc, room, STEP, End::Fail)?;
+    let mut spelled = Device::new(text.output.taken());
+    let tally = run_encode(
+        alloc,
+        &mut spelled,
+        &mut output,
+        &mut errors,
+        table_b,
+        table_d,
+    )?;
+    let messages = RunInMemory {
+        output,
+        errors,
+        tally,
+    };
     let again = dump_octets(alloc, messages.output.taken(), room, table_b, table_d)?;
     Ok(Round {
         text,

@@ -1,7 +1,7 @@
 //! `bufr ls`: lists the messages of a stream.
-ghost use Rattle.std.specs.Prelude.{◌≡◌, ◌≢◌, ◌≤◌, ℕ, List, [], ◌∷◌, true, false, IfOk, OnOk, IfSome, length};
-ghost use Rattle.bufr_frame.specs.Prelude.{read_failures_after, MakesReads, sections_of};
-ghost use Rattle.bufr_cli.specs.Prelude.{ls_or_fault, ls_piece, ls_pieces, BlamesWriter, input_of, writers_of, RunsPieces, event_pieces, WritesAndCounts, StopsPiece, ReportsPieces};
+ghost use Rattle.std.specs.Prelude.{◌≡◌, ◌≤◌, [], ◌∷◌, false, length};
+ghost use Rattle.bufr_frame.specs.Prelude.{MakesReads, sections_of};
+ghost use Rattle.bufr_cli.specs.Prelude.{LeavesDevices, event_pieces, ls_or_fault, ls_piece, BlamesWriter, input_of, writers_of, StopsPiece, LeavesPieces};
 
 use crate::fault_line::{StreamFault, write_fault, write_stray};
 use crate::outcome::{Tally, Verdict};
@@ -20,8 +20,7 @@ fn list_frame<W: Sink, E: Sink>(
     e: &mut E,
 ) -> Result<Verdict, RunFault>
     requires { 12 ≤ length octets.now }
-    ensures reports { ReportsPieces (writers_of W.Sink w.old E.Sink e.old)
-        (writers_of W.Sink w.new E.Sink e.new)
+    ensures reports { LeavesPieces (W.taken w.old) (W.taken w.new) (E.taken e.old) (E.taken e.new)
         (ls_or_fault offset (sections_of octets.now) ∷ []) result }
     ensures stops { StopsPiece false result }
     ensures counts { BlamesWriter (writers_of W.Sink w.old E.Sink e.old)
@@ -92,23 +91,11 @@ pub fn run_ls<R: Source, W: Sink, E: Sink>(
     w: &mut W,
     e: &mut E,
 ) -> Result<Tally, RunFault>
-    // At `Ok` the writers hold exactly the lines of the whole input, and the tally counts them.
-    ensures whole { IfOk result (λ tally. IfSome (R.left r.old) (λ s.
-        WritesAndCounts (writers_of W.Sink w.old E.Sink e.old)
-        (writers_of W.Sink w.new E.Sink e.new) tally (ls_pieces s))) }
-    // The errors are flushed only where the output was before.
-    ensures order { E.flushes e.new ≢ E.flushes e.old → W.all_flushed w.new ≡ true }
-    ensures flushed { OnOk result ((W.all_flushed w.new ≡ true) × (E.all_flushed e.new ≡ true)) }
-    // The same over the octets that were read, and what a fault leaves.
-    ensures run { (bs : List ℕ) × RunsPieces (event_pieces ls_piece) (input_of R.Source r.old)
-        (input_of R.Source r.new) (writers_of W.Sink w.old E.Sink e.old)
-        (writers_of W.Sink w.new E.Sink e.new) bs result }
-
-    // Each fault comes only where its device failed in this call.
-    ensures reader { R.failures r.new ≡ read_failures_after (R.failures r.old) result }
+    // Where the whole input is known, exactly its pieces were written, and the tally counts them.
+    ensures leaves { LeavesDevices (λ pieces. pieces ≡ event_pieces ls_piece)
+        (input_of R.Source r.old) (input_of R.Source r.new)
+        (writers_of W.Sink w.old E.Sink e.old) (writers_of W.Sink w.new E.Sink e.new) result }
     ensures reads { MakesReads (R.reads r.old) (R.reads r.new) result }
-    ensures writers { BlamesWriter (writers_of W.Sink w.old E.Sink e.old)
-        (writers_of W.Sink w.new E.Sink e.new) result }
 {
     run_events(alloc, &mut LsRun, r, w, e)
 }

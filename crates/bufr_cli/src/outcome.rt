@@ -29,7 +29,6 @@ pub enum Outcome<'a> {
     Run(RunFault),
 }
 
-/// The exit status of an outcome.
 // rule: status-0-and-1
 fn status(outcome: &Outcome<'_>) -> u8
     ensures { result ≡ status_of outcome.now }
@@ -41,7 +40,6 @@ fn status(outcome: &Outcome<'_>) -> u8
     }
 }
 
-/// Pushes what a fault is of, its number, and a text.
 fn push_numbered<E: Sink>(line: &mut LineWriter<'_, '_, E>, name: &[u8], number: u8, text: &[u8])
     ensures { Pushes line.old (joined (name.now ∷ decimal number ∷ codes " " ∷ text.now ∷ []))
         line.new }
@@ -52,7 +50,6 @@ fn push_numbered<E: Sink>(line: &mut LineWriter<'_, '_, E>, name: &[u8], number:
     line.push(text);
 }
 
-/// Pushes the line of a fault that ended the run.
 // rule: fault-70, fault-71, fault-72, fault-73
 fn push_run_fault<E: Sink>(line: &mut LineWriter<'_, '_, E>, fault: RunFault)
     ensures { Pushes line.old (run_line fault) line.new }
@@ -66,7 +63,6 @@ fn push_run_fault<E: Sink>(line: &mut LineWriter<'_, '_, E>, fault: RunFault)
     }
 }
 
-/// Pushes the line of a table that cannot be read.
 // rule: status-of-table, fault-73
 fn push_table_fault<E: Sink>(line: &mut LineWriter<'_, '_, E>, table: &[u8], fault: &TableFault)
     ensures { Pushes line.old (table_line table.now fault.now) line.new }
@@ -154,7 +150,6 @@ pub struct Tally {
 }
 
 impl Tally {
-    /// Counts one more.
     pub(crate) fn count(&mut self, verdict: Verdict)
         requires few { self.old.accepted + self.old.refused < 2 ^ 63 }
         ensures value { self.new ≡ tally_after self.old verdict }

@@ -1,10 +1,13 @@
 //! The program below `main`: what it does with a command line, its inputs and its writers.
-ghost use Rattle.std.specs.Prelude.{◌≡◌, ℕ, true, List, Option, None, Ok, IfOk, IfErr, IfSome, OnOk, map};
+ghost use Rattle.std.specs.Prelude.{◌≡◌, ◌≢◌, ◌⊎◌, ℕ, true, List, Option, None, Ok, IfOk, IfErr, IfSome, OnOk, map};
 ghost use Rattle.std.specs.Io.Buffered.{writer_contents};
 ghost use Rattle.bufr_frame.specs.Prelude.{read_failures_after, MakesReads};
+ghost use Rattle.bufr_frame.specs.declared.fault.RunFault.{RunFault};
+ghost use Rattle.bufr_frame.specs.declared.fault.RunFault.TheVariants.{Write};
 ghost use Rattle.bufr_tables.specs.Prelude.{Record, AreRows};
 ghost use Rattle.bufr_text.specs.Prelude.{Writes};
-ghost use Rattle.bufr_cli.specs.Prelude.{RunPieces, RunsPieces, BlamesWriter, CountsCalls, input_of, writer_of, writers_of, ReadsAll, AreFlushed, BlamesInput, EndsRun, FlushesRest, AreTables, AreUnread, FileOutcome, IsClosed, RunsJob, RunOutcome, known, IsOfCommand, ran_outcome, AnswersFault, RunsProgram};
+ghost use Rattle.bufr_cli.specs.declared.outcome.Outcome.TheVariants.{Run};
+ghost use Rattle.bufr_cli.specs.Prelude.{LeavesDevices, CountsCalls, input_of, writer_of, writers_of, ReadsAll, EndsRun, FlushesRest, AreTables, AreUnread, IsClosed, CommandOutcome, RunOutcome, known, IsOfCommand, ran_outcome, RunsProgram};
 
 use crate::dump::run_dump;
 use crate::encode::run_encode_form;
@@ -97,26 +100,15 @@ pub fn run<'a, S: AsStr, I: Inputs, W: Sink, E: Sink>(
             let outcome = run_job(alloc, job, inputs, w, e);
             finish(&outcome, e)
         }
-        Err(fault) => answer_fault(fault, w, e),
-    }
-}
-
-/// Writes the help that was asked for, or why there is no job, and answers the exit status.
-fn answer_fault<W: Sink, E: Sink>(fault: LineFault, w: &mut W, e: &mut E) -> u8
-    ensures { AnswersFault fault (writers_of W.Sink w.old E.Sink e.old)
-        (writers_of W.Sink w.new E.Sink e.new) result }
-{
-    match fault {
-        LineFault::Help(text) => match write_and_flush(text.as_bytes(), w) {
+        Err(LineFault::Help(text)) => match write_and_flush(text.as_bytes(), w) {
             Ok(()) => 0,
             Err(fault) => finish(&Outcome::Run(fault), e),
         },
-        LineFault::Usage(text) => finish(&Outcome::Usage(text.as_str()), e),
-        LineFault::Memory => finish(&Outcome::Run(RunFault::Memory), e),
+        Err(LineFault::Usage(text)) => finish(&Outcome::Usage(text.as_str()), e),
+        Err(LineFault::Memory) => finish(&Outcome::Run(RunFault::Memory), e),
     }
 }
 
-/// Writes a text and hands it on.
 // rule: status-of-help
 fn write_and_flush<W: Sink>(text: &[u8], w: &mut W) -> Result<(), RunFault>
     ensures writes { Writes (W.taken w.old) (W.taken w.new) text.now result }
@@ -144,8 +136,9 @@ fn run_job<'a, I: Inputs, W: Sink, E: Sink>(
     w: &mut W,
     e: &mut E,
 ) -> Outcome<'a>
-    ensures { RunsJob (known (I.standard_octets inputs.now) (I.file_octets inputs.now)) job.entry
-        (writers_of W.Sink w.old E.Sink e.old) (writers_of W.Sink w.new E.Sink e.new) result }
+    ensures { CommandOutcome (known (I.standard_octets inputs.now) (I.file_octets inputs.now))
+        job.entry.command job.entry.file (writers_of W.Sink w.old E.Sink e.old)
+        (writers_of W.Sink w.new E.Sink e.new) result }
 {
     let Job { command, file } = job;
     let call = Call {
@@ -172,7 +165,6 @@ fn run_job<'a, I: Inputs, W: Sink, E: Sink>(
     }
 }
 
-/// The file of this name.
 fn open_file<'a, I: Inputs>(name: &'a str, inputs: &I) -> Result<I::File, Outcome<'a>>
     ensures file { IfOk result
         (λ file. I.File.remaining file ≡ I.file_octets inputs.now name.entry.now) }
@@ -184,7 +176,6 @@ fn open_file<'a, I: Inputs>(name: &'a str, inputs: &I) -> Result<I::File, Outcom
     }
 }
 
-/// The octets of the file of this name.
 // rule: table-not-read
 fn read_file<'a, I: Inputs>(
     alloc: Global,
@@ -193,7 +184,9 @@ fn read_file<'a, I: Inputs>(
 ) -> Result<Vec<u8>, Outcome<'a>>
     ensures octets { IfOk result
         (λ octets. IfSome (I.file_octets inputs.now name.entry.now) (λ text. octets.items ≡ text)) }
-    ensures unread { IfErr result (FileOutcome (I.file_octets inputs.now) name.entry) }
+    ensures unread { IfErr result (λ outcome.
+        IsClosed (I.file_octets inputs.now) name.entry outcome
+        ⊎ ((fault : RunFault) × (outcome ≡ Run fault) × (fault ≢ Write))) }
 {
     let file = match open_file(name, inputs) {
         Ok(file) => file,
@@ -243,7 +236,6 @@ fn read_tables<'a, I: Inputs>(
     Ok(Tables { table_b, table_d })
 }
 
-/// How a run came out.
 fn outcome_of<'a>(ran: Result<Tally, RunFault>) -> Outcome<'a>
     ensures { result ≡ ran_outcome ran }
 {
@@ -305,7 +297,6 @@ fn run_reader<R: Read + Drop, W: Sink, E: Sink>(
     flush_rest(ran, w)
 }
 
-/// Runs a command over an input.
 fn run_command<R: Source, W: Sink, E: Sink>(
     alloc: Global,
     command: Command<'_>,
@@ -313,13 +304,8 @@ fn run_command<R: Source, W: Sink, E: Sink>(
     w: &mut W,
     e: &mut E,
 ) -> Result<Tally, RunFault>
-    ensures run { (bs : List ℕ) × ((pieces : RunPieces) → IsOfCommand command.entry pieces
-        → RunsPieces pieces (input_of R.Source r.old) (input_of R.Source r.new)
-        (writers_of W.Sink w.old E.Sink e.old) (writers_of W.Sink w.new E.Sink e.new) bs result) }
-    ensures flushed { OnOk result (AreFlushed (writers_of W.Sink w.new E.Sink e.new)) }
-    // Each fault comes only where its device failed in this call.
-    ensures input { BlamesInput (input_of R.Source r.old) (input_of R.Source r.new) result }
-    ensures writers { BlamesWriter (writers_of W.Sink w.old E.Sink e.old)
+    ensures { LeavesDevices (IsOfCommand command.entry) (input_of R.Source r.old)
+        (input_of R.Source r.new) (writers_of W.Sink w.old E.Sink e.old)
         (writers_of W.Sink w.new E.Sink e.new) result }
 {
     match command {

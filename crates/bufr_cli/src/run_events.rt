@@ -3,7 +3,7 @@ ghost use Rattle.std.specs.Prelude.{◌≡◌, ◌≢◌, ℕ, Bool, List, true,
 ghost use Rattle.std.specs.Io.KnownBytes.{Keeps};
 ghost use Rattle.bufr_bits.specs.Prelude.{counted};
 ghost use Rattle.bufr_frame.specs.Prelude.{events_of, IsEvent, read_failures_after, StreamEvent};
-ghost use Rattle.bufr_cli.specs.Prelude.{Piece, BlamesWriter, CountsCalls, input_of, writer_of, writers_of, RunsPieces, event_pieces, GivesPieces, RunReads, StopsPiece, ReportsPieces};
+ghost use Rattle.bufr_cli.specs.Prelude.{Piece, BlamesWriter, CountsCalls, input_of, writer_of, writers_of, RunsPieces, event_pieces, GivesPieces, RunReads, StopsPiece, LeavesPieces};
 
 use crate::outcome::{Tally, Verdict};
 use bufr_bits::{Sink, Source};
@@ -27,8 +27,7 @@ pub trait EventWriter {
     ) -> Result<Verdict, RunFault>
         requires { IsEvent event }
         ensures reports { (piece : StreamEvent → Piece) → GivesPieces (is_piece self.old) piece
-            → ReportsPieces (writers_of W.Sink w.old E.Sink e.old)
-            (writers_of W.Sink w.new E.Sink e.new)
+            → LeavesPieces (W.taken w.old) (W.taken w.new) (E.taken e.old) (E.taken e.new)
             (map piece (events_of event.entry)) result }
         ensures stops { StopsPiece (takes_memory self.old) result }
         ensures same { (piece : StreamEvent → Piece) → GivesPieces (is_piece self.old) piece

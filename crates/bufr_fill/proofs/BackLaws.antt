@@ -6,7 +6,7 @@ use Rattle.std.proofs.lemmas.Bool.{ltb-false}
 use Rattle.std.specs.List.{AllByRecursion}
 use Rattle.bufr_tables.specs.Prelude.{IsLegal, Record, Row, AreRows, Tree}
 use Rattle.bufr_walk.specs.Prelude.{FieldSpec, IsSpec, Content, bits_for, FieldFault, found, content_at, Course, Next, take_next, at_end, astray, refused, next_item, max_values, Item, DataCoding, plain, packed, ReadsPass}
-use Rattle.bufr_fill.specs.Prelude.{Draft, Subset, DraftFaultKind, FaultAt, at_line, too_many_values, content_of, plainly, plain_filler, RowCell, ItemRow, cells_at, rows, longest, at_line_if_fault, content_here, contents_here, packed_to, are_many, pack_across, packed_filler, plain_data, packed_data, first_line, ◌>>=◌, WrittenItem, written_item, Filler, fill, fill_one, fill_none, filled, with_bits_before, packing, Fits, AllFit, HasOctets, HaveOctets, AllHaveOctets, IsSaid, AreSaidFrom, IsReadBack, IsPackedReadBack, AreDrafts, items_of_subset}
+use Rattle.bufr_fill.specs.Prelude.{Draft, Subset, DraftFaultKind, FaultAt, at_line, too_many_values, content_of, plainly, plain_filler, RowCell, ItemRow, cells_at, rows, longest, at_line_if_fault, content_here, contents_here, packed_to, are_many, pack_across, packed_filler, plain_data, packed_data, first_line, ◌>>=◌, WrittenItem, written_item, Filler, fill, fill_one, fill_none, filled, with_bits_before, packing, Fits, AllFit, HasOctets, AllHaveOctets, IsSaid, AreSaidFrom, IsReadBack, IsPackedReadBack, AreDrafts, items_of_subset}
 use Rattle.bufr_fill.proofs.SpecLemmas.{IsWithin, table_good}
 use Rattle.bufr_fill.proofs.GoodReads.{draft_fits, IsGoodCourse, template_good, answer_within}
 use Rattle.bufr_fill.proofs.PackedLaws.{fitting_again}
@@ -80,7 +80,7 @@ plain_one end_line spec d w good text e = by_content (content_of spec d) refl e
         subst (λ v. IsOneBack plain IsSaid spec d v) is (record { said = p; within = answer_within spec.role spec c good good.role fits; read = plain_again spec good c fits })
 
 module _ (course : Course) (good : IsGoodCourse course) where
-  plain_join : (s : Subset) (ss : List Subset) (out : List Bool) → HaveOctets s.items → ((rest : List Bool) → plain_data course ss ≡ Ok rest → IsReadBack course ss rest)
+  plain_join : (s : Subset) (ss : List Subset) (out : List Bool) → AllByRecursion (λ (d : Draft). HasOctets d.form) s.items → ((rest : List Bool) → plain_data course ss ≡ Ok rest → IsReadBack course ss rest)
       → (a b : Result (List Bool) FaultAt) → fill (plain_filler s.end_line) course s.items ≡ a → plain_data course ss ≡ b → (a >>= λ x. b >>= λ y. Ok (x ++ y)) ≡ Ok out → IsReadBack course (s ∷ ss) out
   plain_join s ss out text others (Err why) b p q e = cc
   plain_join s ss out text others (Ok x) (Err why) p q e = cc
@@ -181,7 +181,7 @@ packed_one n some spec a w good row e = by_many (are_many a.place (length a.cell
 
 -- ---- rows and subsets
 
-draft_octets : (ds : List Draft) (p : ℕ) → HaveOctets ds → OctetsIn (slice_get ds p)
+draft_octets : (ds : List Draft) (p : ℕ) → AllByRecursion (λ (d : Draft). HasOctets d.form) ds → OctetsIn (slice_get ds p)
 draft_octets [] zero h = tt
 draft_octets [] (suc p) h = tt
 draft_octets (d ∷ ds) zero h = h.0

@@ -3,10 +3,10 @@ use Rattle.std.proofs.lemmas.Grind.{common_steps}
 use Rattle.std.proofs.Common.{◌≡◌, ℕ, zero, suc, ◌+◌, ◌-◌, ◌≤◌, ◌<◌, Bool, List, [], ◌∷◌, ◌++◌, true, false, length, drop, get_or, min, Option, Some, None, refl, sym, ◌∙◌, ap, arith, add-one, map, length-append, ◌/◌, Result, Ok, Err, subst, slice_get, option_map, ◌==◌, slice_range}
 use Rattle.bufr_tables.proofs.TableBLemmas.{range-append}
 use Rattle.std.proofs.Math.Seq.{drop-cons, drop-append_seam}
-use Rattle.std.proofs.lemmas.List.{append_assoc, map-append, take_all, drop_all}
+use Rattle.std.proofs.lemmas.List.{append-nil, append_assoc, map-append, take_all, drop_all}
 use Rattle.std.proofs.lemmas.Option.{none-some, slice_get-get_or, slice_get_within, get_or_from_slice_get}
 use Rattle.std.proofs.lemmas.Bool.Decides.{nat_tests}
-use Rattle.bufr_fill.specs.Prelude.{EntryKind, Taken, Draft, DraftEntry, Holds, Ends, Subset, subset, prepend_to_subset, subsets_of, DraftFaultKind, FaultAt, at_line, item_too_many, RowCell, cells_at, at_line_if_fault, entry_or_end, cell_entry, ends_of, entry_here, is_end, entry_by, entry_with, entry_stored, entries_stored, IsPlaced, IsEntryInside, AreInside, line_at, PlainOutModel, plain_out_model, IsFilled, IsFaultOf, IfDraftFault, after_end, FieldContent, content_of, content_drawn}
+use Rattle.bufr_fill.specs.Prelude.{EntryKind, Taken, Draft, DraftEntry, Holds, Ends, Subset, subset, prepend_to_subset, subsets_of, DraftFaultKind, FaultAt, at_line, item_too_many, RowCell, cells_at, at_line_if_fault, entry_or_end, ends_of, entry_here, is_end, entry_by, entry_with, entry_stored, entries_stored, IsPlaced, IsEntryInside, AreInside, line_at, PlainOutModel, plain_out_model, IsFilled, IsFaultOf, IfDraftFault, after_end, FieldContent, content_of, content_drawn}
 use Rattle.bufr_fill.specs.declared.draft.StoredEntry.{StoredEntry}
 use Rattle.bufr_walk.specs.Prelude.{FieldSpec, Content, answer_of, bits_for}
 use Rattle.bufr_fill.specs.declared.draft.EntryKind.TheVariants as kind
@@ -104,7 +104,7 @@ length-subsets from (Holds d ∷ more) = length-onto d (subsets_of more) ∙ len
 pub record IsSubsetEnd (place s from : ℕ) (xs : List DraftEntry) (ends : List ℕ) (e : ℕ) (c : RowCell) : Type 0 where
   pub begins : from ≤ begin_of from ends s
   pub ends_at : from ≤ e
-  pub there : slice_get xs (min e (begin_of from ends s + place) - from) ≡ Some (cell_entry c)
+  pub there : slice_get xs (min e (begin_of from ends s + place) - from) ≡ Some (entry_or_end c.draft c.end_line)
 
 module _ (place : ℕ) (e : ℕ) (c : RowCell) where
   some_same : (a b : RowCell) → ◌≡◌ {A = Option RowCell} (Some a) (Some b) → a ≡ b
@@ -119,7 +119,7 @@ module _ (place : ℕ) (e : ℕ) (c : RowCell) where
       record {
         begins = omega arith;
         ends_at = omega (arith, same, k.place);
-        there = ap (slice_get xs) m ∙ k.there place ∙ ap (λ (z : RowCell). Some (cell_entry z)) is;
+        there = ap (slice_get xs) m ∙ k.there place ∙ ap (λ (z : RowCell). Some (entry_or_end z.draft z.end_line)) is;
       }
 
   further : (from : ℕ) (xs : List DraftEntry) (s x : ℕ) (rest : List ℕ) (k : Cut from xs x rest) → IsSubsetEnd place s (suc x) (drop (suc (length k.items)) xs) rest e c → IsSubsetEnd place (suc s) from xs (x ∷ rest) e c
@@ -139,7 +139,7 @@ module _ (place : ℕ) (e : ℕ) (c : RowCell) where
       further from xs s x rest k (subset_end_at s (suc x) (drop (suc (length k.items)) xs) rest (sym k.rest_is) q (sym (ap (λ ss. slice_get (cells_at place ss) (suc s)) k.subsets) ∙ r))
 
 -- the entry that the code reads
-pub entry_there : (place s : ℕ) (xs : List DraftEntry) (e : ℕ) (c : RowCell) → slice_get (ends_of 0 xs) s ≡ Some e → slice_get (cells_at place (subsets_of xs)) s ≡ Some c → slice_get xs (min e (begin_of 0 (ends_of 0 xs) s + place)) ≡ Some (cell_entry c)
+pub entry_there : (place s : ℕ) (xs : List DraftEntry) (e : ℕ) (c : RowCell) → slice_get (ends_of 0 xs) s ≡ Some e → slice_get (cells_at place (subsets_of xs)) s ≡ Some c → slice_get xs (min e (begin_of 0 (ends_of 0 xs) s + place)) ≡ Some (entry_or_end c.draft c.end_line)
 entry_there place s xs e c h g =
     let m : min e (begin_of 0 (ends_of 0 xs) s + place) - 0 ≡ min e (begin_of 0 (ends_of 0 xs) s + place) = omega arith in
     sym (ap (slice_get xs) m) ∙ (subset_end_at place e c s 0 xs (ends_of 0 xs) refl h g).there
@@ -182,7 +182,7 @@ end_within xs ends s e h = omega (arith, ap (λ l. get_or l s 0) e, end_small 0 
 
 -- the entry that the code finds
 pub found_entry : (place s : ℕ) (xs : List DraftEntry) (ends : List ℕ) (z : ℕ) (begin : ℕ) (e : DraftEntry) → ends ≡ ends_of 0 xs → s < length ends → begin ≡ begin_of 0 ends s → slice_get xs (min (get_or ends s z) (begin + place)) ≡ Some e
-    → (c : RowCell) → slice_get (cells_at place (subsets_of xs)) s ≡ Some c → e ≡ cell_entry c
+    → (c : RowCell) → slice_get (cells_at place (subsets_of xs)) s ≡ Some c → e ≡ entry_or_end c.draft c.end_line
 found_entry place s xs ends z begin e is h b found c cell = grind (arith, common_steps, slice_get, get_there, entry_there)
 
 pub ends_few : (from : ℕ) (xs : List DraftEntry) → length (ends_of from xs) ≤ length xs
@@ -214,6 +214,9 @@ ends_here xs ends new place b within is so grown before = grind (arith, common_s
 pub ends_after : (xs : List DraftEntry) (ends new : List ℕ) (place : ℕ) (b : Bool) → place < length xs → Some b ≡ option_map is_end (slice_get xs place) → b ≡ false → new ≡ ends
     → ends ++ ends_of place (drop place xs) ≡ ends_of 0 xs → new ++ ends_of (place + 1) (drop (place + 1) xs) ≡ ends_of 0 xs
 ends_after xs ends new place b within is so same before = grind (arith, common_steps, option_map, slice_get-get_or, next_of, false-true, some-same)
+
+pub ends_done : (xs : List DraftEntry) (ends all : List ℕ) (place : ℕ) → length xs ≤ place → ends ++ ends_of place (drop place xs) ≡ all → ends ≡ all
+ends_done xs ends all place past before = sym (append-nil ends) ∙ ap (λ ys. ends ++ ends_of place ys) (sym (drop_all place xs past)) ∙ before
 
 -- ---- The entries of a block and its stored entries.
 

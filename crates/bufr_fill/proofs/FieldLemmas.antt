@@ -206,16 +206,6 @@ signed_below [] w e h = absurd (omega (arith, e, h))
 signed_below (true ∷ bits) w e h = grind (arith, common_steps, abs_neg, number_of-below)
 signed_below (false ∷ bits) w e h = grind (arith, common_steps, number_of-below)
 
--- ---- Numbers that no field can have.
-
-top_least : (m : Bool) (w raw : ℕ) → w ≤ 63 → 2 ^ 63 ≤ raw → raw_limit m w ≤ raw
-top_least true w raw h g = let p : 2 ^ w ≤ 2 ^ 63 = pow_mono h in omega arith
-top_least false w raw h g = let p : 2 ^ w ≤ 2 ^ 63 = pow_mono h in omega arith
-
-pub beyond : (m : Bool) (w : ℕ) (z : ℤ) → w ≤ 63 → ((raw : ℕ) → z ≡ pos raw → 2 ^ 63 ≤ raw) → Err out_of_range ≡ raw_within m w z
-beyond m w (pos raw) h g = ap (λ b. if b then Ok (number raw) else Err out_of_range) (sym (le-ltb raw (raw_limit m w) (top_least m w raw h (g raw refl))))
-beyond m w (negsuc n) h g = refl
-
 by_order : (b : Bool) (a c : ℕ) → nat_lt a c ≡ b → (a < c → ⊥) → c ≤ a
 by_order true a c e h = absurd (h (grind (arith, nat_tests)))
 by_order false a c e h = grind (arith, nat_tests)

@@ -5,7 +5,7 @@ use Rattle.bufr_fill.proofs.FieldLemmas.{same_ok}
 use Rattle.std.proofs.lemmas.Bool.{ltb-false, ltb-true}
 use Rattle.bufr_tables.specs.Prelude.{Row, is_character, Tree, IsLegal}
 use Rattle.bufr_walk.specs.Prelude.{FieldSpec, IsSpec, HasWidth, HasRole, is_reference, Content, number, text, missing, reference, answer_by_role, answer_of, found, plain_field, packed_field, answer_first, Course, take_next, next_item, Item, DataCoding, plain, packed, ReadsItems, ReadsSubsets, item_answer, after}
-use Rattle.bufr_fill.specs.Prelude.{Taken, Role, Kind, FitsRole, AreOctets, FitsNumber, FitsText, FitsReference, FitsKind, Fits, HasOctets, DraftValue, number_token, text_form, missing_form, reference_token, Draft, wrong_number, out_of_range, text_long, missing_forbidden, is_marked, raw_within, raw_of, reference_of, text_within, missing_of, content_by_form, is_of, wrong_for, content_of, raw_limit}
+use Rattle.bufr_fill.specs.Prelude.{Taken, Role, Kind, FitsRole, AreOctets, FitsNumber, FitsText, FitsReference, FitsKind, Fits, HasOctets, DraftValue, number_token, text_form, missing_form, reference_token, Draft, wrong_number, out_of_range, text_long, missing_forbidden, is_marked, raw_within, raw_of, reference_of, text_within, content_by_form, is_of, wrong_for, content_of, raw_limit}
 use Rattle.bufr_fill.proofs.SpecLemmas.{AreGoodRows, IsWithin, AreWithin, next_good}
 use Rattle.bufr_fill.proofs.PlainLaws.{AllSpecs, EachSpecs, plain_read}
 use Rattle.bufr_fill.proofs.PackedLaws.{packed_again}
@@ -78,7 +78,7 @@ module _ (m : Bool) (w : ℕ) (c : Content) where
   missing_test true p e = (p, sym (same_ok missing c e))
   missing_test false p e = cc
 
-  missing_fits : (k : Kind) → missing_of m ≡ Ok c → FitsKind k m w c
+  missing_fits : (k : Kind) → (if m then Ok missing else Err missing_forbidden) ≡ Ok c → FitsKind k m w c
   missing_fits kind.Character e = subst (FitsText (w / 8)) (sym (missing_test m refl e).1) tt
   missing_fits kind.Coded e = subst (FitsNumber m w) (sym (missing_test m refl e).1) (missing_test m refl e).0
   missing_fits kind.Numeric e = subst (FitsNumber m w) (sym (missing_test m refl e).1) (missing_test m refl e).0

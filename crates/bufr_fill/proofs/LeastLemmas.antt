@@ -1,10 +1,13 @@
 -- The least base and the least k of numbers and of texts.
 use Rattle.std.proofs.lemmas.Grind.{common_steps}
-use Rattle.std.proofs.Common.{◌≡◌, ℕ, zero, suc, ◌+◌, ◌<◌, ◌≤◌, ◌≢◌, ◌&&◌, min, Bool, true, false, List, [], ◌∷◌, Option, Some, None, refl, sym, ◌∙◌, ap, arith, ℤ, pos, negsuc, nat_abs, ◌-◌, ◌^◌, max, ◌++◌, length, Ok, pow_mono, append_assoc, subst, ◌/◌, not, take, replicate, Err, ◌==◌, if◌then◌else◌, nat_lt, unwrap_or, nat_le}
+use Rattle.std.proofs.Common.{◌≡◌, ℕ, zero, suc, ◌+◌, ◌<◌, ◌≤◌, ◌≢◌, ◌&&◌, min, Bool, true, false, List, [], ◌∷◌, Option, Some, None, refl, sym, ◌∙◌, ap, arith, ◌-◌, ◌^◌, max, ◌++◌, length, Ok, pow_mono, append_assoc, subst, ◌/◌, not, take, replicate, Err, ◌==◌, if◌then◌else◌, nat_lt, unwrap_or, nat_le}
 use Rattle.std.proofs.lemmas.Bool.{false≢true, eqb-true, le-leb, le-ltb, leb-false, leb-true, lt-leb, lt-ltb, ltb-false, ltb-true, eq-eqb}
 use Rattle.bufr_bits.proofs.DecimalLemmas.{and_first, and_second}
-use Rattle.bufr_walk.specs.Prelude.{Content, number, text, missing, reference, sign_bit, increment, FieldSpec, is_reference}
-use Rattle.bufr_fill.specs.Prelude.{Kind, raw_limit, spaced, content_drawn, same_octets, same_sign, same, are_same, smaller, lowest, first_from, has_bits, least_k, increment_bits, packed_bits, numbers_over, packed_by, gives_again, has_octets, octet_bits, packed_texts, FitsNumber, FieldContent, AllDrawn, contents_drawn, spread, least_from, AreShort, trimmed, need, most_need, over_of, number_or, least_number}
+use Rattle.bufr_walk.specs.Prelude.{Content, number, text, missing, reference, increment, FieldSpec, is_reference}
+use Rattle.std.specs.Str.{bytes_eq}
+use Rattle.std.proofs.lemmas.Slice.Eq.{bytes_eq-Decides}
+use Rattle.std.proofs.lemmas.Bool.Decides.{Decides-int_eq}
+use Rattle.bufr_fill.specs.Prelude.{Kind, raw_limit, spaced, content_drawn, same, are_same, smaller, lowest, first_from, has_bits, least_k, increment_bits, packed_bits, numbers_over, packed_by, has_octets, octet_bits, packed_texts, FitsNumber, FieldContent, AllDrawn, contents_drawn, spread, least_from, AreShort, trimmed, need, most_need, over_of, number_or, least_number}
 use Rattle.std.specs.List.{list_all, flat_map, AllByRecursion}
 use Rattle.std.proofs.lemmas.List.{length-append}
 use Rattle.bufr_bits.specs.Prelude.{bits_in}
@@ -41,17 +44,8 @@ first_from_start p zero from = omega arith
 first_from_start p (suc fuel) from = from_step (p from) from (first_from p fuel (from + 1)) (omega (arith, first_from_start p fuel (from + 1)))
 
 -- contents that are the same are equal
-pub octets_same : (a b : List ℕ) → same_octets a b ≡ true → a ≡ b
-octets_same [] [] h = refl
-octets_same [] (y ∷ ys) h = cc
-octets_same (x ∷ xs) [] h = cc
-octets_same (x ∷ xs) (y ∷ ys) h = ap (λ n. n ∷ xs) (eqb-true x y (and_first (x == y) (same_octets xs ys) h)) ∙ ap (λ zs. y ∷ zs) (octets_same xs ys (and_second (x == y) (same_octets xs ys) h))
-
-signs_same : (a b : ℤ) → (same_sign (sign_bit a) (sign_bit b) && (nat_abs a == nat_abs b)) ≡ true → a ≡ b
-signs_same (pos a) (pos b) h = ap pos (eqb-true a b h)
-signs_same (pos a) (negsuc b) h = cc
-signs_same (negsuc a) (pos b) h = cc
-signs_same (negsuc a) (negsuc b) h = let e : suc a ≡ suc b = eqb-true (suc a) (suc b) h in ap negsuc (omega arith)
+pub octets_same : (a b : List ℕ) → bytes_eq a b ≡ true → a ≡ b
+octets_same a b h = (bytes_eq-Decides a b).0 h
 
 pub content_same : (c d : Content) → same c d ≡ true → c ≡ d
 content_same (number a) (number b) h = ap number (eqb-true a b h)
@@ -69,18 +63,16 @@ content_same missing (reference b) h = cc
 content_same (reference a) (number b) h = cc
 content_same (reference a) (text b) h = cc
 content_same (reference a) missing h = cc
-content_same (reference a) (reference b) h = ap reference (signs_same a b h)
+content_same (reference a) (reference b) h = ap reference ((Decides-int_eq a b).0 h)
 
-pub octets_self : (a : List ℕ) → same_octets a a ≡ true
-octets_self [] = refl
-octets_self (x ∷ xs) = ap (λ b. b && same_octets xs xs) (eq-eqb x x refl) ∙ octets_self xs
+pub octets_self : (a : List ℕ) → bytes_eq a a ≡ true
+octets_self a = (bytes_eq-Decides a a).1 refl
 
 pub content_self : (c : Content) → same c c ≡ true
 content_self (number a) = eq-eqb a a refl
 content_self (text a) = octets_self a
 content_self missing = refl
-content_self (reference (pos a)) = eq-eqb a a refl
-content_self (reference (negsuc a)) = eq-eqb (suc a) (suc a) refl
+content_self (reference a) = (Decides-int_eq a a).1 refl
 
 -- contents that are all one content are the same
 pub are_same_copies : (c : Content) (n : ℕ) → are_same c (replicate n c) ≡ true
@@ -264,7 +256,7 @@ le_same a b x y f g = grind (arith, common_steps, nat_le, le-leb, leb-true)
 
 -- k octets and spaces are the text again where only spaces follow them
 abbrev again : ℕ → List ℕ → Bool
-again k os = same_octets (take k os ++ replicate (length os - k) 32) os
+again k os = bytes_eq (take k os ++ replicate (length os - k) 32) os
 
 suc_le : (a b : ℕ) → nat_le (suc a) (suc b) ≡ nat_le a b
 suc_le a b = le_same (suc a) (suc b) a b (λ h. omega (arith, h)) (λ h. omega (arith, h))
@@ -284,7 +276,7 @@ again_none o os x y p q h = whole ∙ by x y p
     len = omega arith
 
     whole : again 0 (o ∷ os) ≡ (y && nat_le (trimmed os) 0)
-    whole = ap (λ m. same_octets (replicate m 32) (o ∷ os)) len ∙ ap (λ b. b && same_octets (replicate (length os - 0) 32) os) (same_32 o y q) ∙ ap (λ b. y && b) h
+    whole = ap (λ m. bytes_eq (replicate m 32) (o ∷ os)) len ∙ ap (λ b. b && bytes_eq (replicate (length os - 0) 32) os) (same_32 o y q) ∙ ap (λ b. y && b) h
 
     by : (x y : Bool) → (trimmed os == 0) ≡ x → (y && nat_le (trimmed os) 0) ≡ nat_le (if x && y then 0 else suc (trimmed os)) 0
     by true true e = le-leb (trimmed os) 0 (omega (arith, eqb-true (trimmed os) 0 e)) ∙ sym (le-leb 0 0 (omega arith))
@@ -311,9 +303,6 @@ again_is (suc k) (o ∷ os) = again_more ((trimmed os == 0) && (o == 32)) o k os
 abbrev full : List ℕ → Bool
 full os = list_all (λ octet. octet == 255) os
 
-abbrev need_by : ℕ → List ℕ → ℕ
-need_by n os = if full (take n os) then suc n else n
-
 not_full_none : (o : ℕ) (os : List ℕ) → trimmed (o ∷ os) ≤ 0 → false ≡ nat_le (need (o ∷ os)) 0
 not_full_none o os h = grind (arith, common_steps, lt-leb, nat_le)
 
@@ -339,7 +328,7 @@ not_full (o ∷ os) (suc k) f h = by (o == 255) refl f (λ g l. not_full os k g 
 need_least : (os : List ℕ) → trimmed os ≤ need os
 need_least os = grind (arith, common_steps)
 
-gives_is : (os : List ℕ) (k : ℕ) → full os ≡ false → gives_again k os ≡ nat_le (need os) k
+gives_is : (os : List ℕ) (k : ℕ) → full os ≡ false → has_octets k (text os) ≡ nat_le (need os) k
 gives_is os k f = grind (arith, common_steps, nat_le, not, again_is, not_full, leb-true, lt-leb, leb-false, need_least)
 
 -- spaces after a text do not count

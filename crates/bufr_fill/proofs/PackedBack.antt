@@ -8,7 +8,8 @@ use Rattle.bufr_bits.specs.Prelude.{bits_of, bits_in, number_of, are_all_ones}
 use Rattle.bufr_bits.proofs.BitLemmas.{length-bits_of, length-bits_in, number_of-below, list_all-append}
 use Rattle.bufr_bits.proofs.DecimalLemmas.{and_first, and_second}
 use Rattle.bufr_walk.specs.Prelude.{Content, number, text, missing, reference, octets_in, ones, stays_within, increased_to, increments, padded_text}
-use Rattle.bufr_fill.specs.Prelude.{raw_limit, same_octets, has_bits, has_octets, increment_bits, octet_bits, AreOctets, FitsNumber, FitsText}
+use Rattle.std.specs.Str.{bytes_eq}
+use Rattle.bufr_fill.specs.Prelude.{raw_limit, has_bits, has_octets, increment_bits, octet_bits, AreOctets, FitsNumber, FitsText}
 use Rattle.bufr_fill.proofs.FieldLemmas.{number_again, ones_test, ones_set, octets_again, full_test, length-octets_in, octets_in-are, octet_bits_again, top_below}
 use Rattle.bufr_fill.proofs.LeastLemmas.{AreNumbers, IsOver, AreOver, octets_same, octets_self}
 
@@ -119,8 +120,8 @@ module _ (count k : ℕ) (short : k ≤ count) where
       let prefix = take k os in
       let l : length prefix ≡ k = length-take-le k os (omega (arith, h.0)) in
       let are : AreOctets prefix = AreOctets-take k os h.1 in
-      let some : are_all_ones (bits_of prefix) ≡ false = full_test prefix are ∙ not_true (list_all (λ octet. octet == 255) prefix) (and_second (same_octets (prefix ++ replicate (length os - k) 32) os) (not (list_all (λ octet. octet == 255) prefix)) p) in
-      let whole : prefix ++ replicate (length os - k) 32 ≡ os = octets_same (prefix ++ replicate (length os - k) 32) os (and_first (same_octets (prefix ++ replicate (length os - k) 32) os) (not (list_all (λ octet. octet == 255) prefix)) p) in
+      let some : are_all_ones (bits_of prefix) ≡ false = full_test prefix are ∙ not_true (list_all (λ octet. octet == 255) prefix) (and_second (bytes_eq (prefix ++ replicate (length os - k) 32) os) (not (list_all (λ octet. octet == 255) prefix)) p) in
+      let whole : prefix ++ replicate (length os - k) 32 ≡ os = octets_same (prefix ++ replicate (length os - k) 32) os (and_first (bytes_eq (prefix ++ replicate (length os - k) 32) os) (not (list_all (λ octet. octet == 255) prefix)) p) in
       ap (λ b. if b then missing else text (octets_in k (bits_of prefix) ++ replicate (count - k) 32)) some
       ∙ ap (λ n. text (octets_in n (bits_of prefix) ++ replicate (count - k) 32)) (sym l)
       ∙ ap (λ x. text (x ++ replicate (count - k) 32)) (octets_again prefix are)
@@ -249,8 +250,8 @@ text_read count k i false short long e =
         list_all-append (λ octet. octet == 255) prefix (replicate (count - k) 32) ∙ and_false (list_all (λ octet. octet == 255) prefix) (list_all (λ octet. octet == 255) (replicate (count - k) 32)) some,
       );
       again =
-          ap (λ xs. same_octets (xs ++ replicate (length whole - k) 32) whole && not (list_all (λ octet. octet == 255) xs)) first
-          ∙ ap (λ n. same_octets (prefix ++ replicate (n - k) 32) whole && not (list_all (λ octet. octet == 255) prefix)) size
+          ap (λ xs. bytes_eq (xs ++ replicate (length whole - k) 32) whole && not (list_all (λ octet. octet == 255) xs)) first
+          ∙ ap (λ n. bytes_eq (prefix ++ replicate (n - k) 32) whole && not (list_all (λ octet. octet == 255) prefix)) size
           ∙ ap (λ b. b && not (list_all (λ octet. octet == 255) prefix)) (octets_self whole)
           ∙ ap not some;
     }

@@ -6,7 +6,7 @@ use Rattle.bufr_walk.specs.declared.spec.TurnRefusal.TheVariants as refusal
 use Rattle.bufr_walk.specs.declared.spec.Role.TheVariants as role
 use Rattle.bufr_walk.specs.Prelude.{FieldSpec, number, missing, found, packed_field}
 use Rattle.bufr_tables.specs.Prelude.{bare, operator}
-use Rattle.bufr_fill.specs.Prelude.{draft, text_form, missing_form, reference_token, subset, at_line, wrong_descriptor, wrong_number, out_of_range, item_too_many, unequal_factors, uneven_increment, too_many_values, walk_refused, item_row, pack_across, none_across, k_of, packing}
+use Rattle.bufr_fill.specs.Prelude.{draft, text_form, missing_form, reference_token, subset, at_line, wrong_descriptor, wrong_number, out_of_range, item_too_many, unequal_factors, uneven_increment, too_many_values, walk_refused, item_row, pack_across, packed_filler, k_of, packing}
 use Rattle.bufr_fill.proofs.ExampleTables.{temperature, block, coded_spec, name, four_letters, delayed_blocks, redefined, width_of_none, numbered, packed_to_bits, ok_bits, zeros, letters}
 
 missing_written : packed_to_bits temperature (subset (numbered 24 3173 (codes "288.15") ∷ []) 25 ∷ subset (draft 26 3173 missing_form ∷ []) 27 ∷ []) ≡ ok_bits (112 ∷ 143 ∷ 5 ∷ []) 24
@@ -143,7 +143,7 @@ last_value = refl
 -- rule: fault-62
 values_too_many :
     (pack_across as_quantity (item_row 67108864 (subset [] 25 ∷ subset [] 26 ∷ [])) ≡ Err (at_line 25 (too_many_values 3173)))
-    × (none_across 25 Bool.true as_quantity ≡ at_line 25 (too_many_values 3173))
+    × ((packed_filler 25 Bool.true).none_left as_quantity ≡ at_line 25 (too_many_values 3173))
 unfolding as_quantity
 values_too_many = (refl, refl)
 

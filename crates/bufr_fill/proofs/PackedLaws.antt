@@ -13,7 +13,7 @@ use Rattle.bufr_tables.specs.declared.table_b.Kind.{Kind}
 use Rattle.bufr_walk.specs.declared.spec.Role.{Role}
 use Rattle.bufr_walk.specs.Prelude.{FieldSpec, IsSpec, HasRole, HasWidth, Content, number, text, missing, reference, content_in, bits_for, FieldFault, increment, FieldRead, found, increments, padded_text, kind_step, increment_bits_of, is_missing, stays_within, all_within, numbers_hold, holds_by, holds_in, all_equal, equal_in, increased_to, number_from, content_from, contents_of, packed_field}
 use Rattle.bufr_walk.proofs.PackedLemmas.{item_tested, item_ok, neither}
-use Rattle.bufr_fill.specs.Prelude.{raw_limit, same, are_same, lowest, has_bits, has_octets, least_k, increment_bits, octet_bits, packed_bits, numbers_over, packed_by, packed_unlike, packing, k_of, HasLeastK, gives_again, first_from, FitsNumber, FitsText, FitsKind, FitsRole, Fits, AllFit, Role, Kind}
+use Rattle.bufr_fill.specs.Prelude.{raw_limit, same, are_same, lowest, has_bits, has_octets, least_k, increment_bits, octet_bits, packed_bits, numbers_over, packed_by, packed_unlike, packing, k_of, HasLeastK, first_from, FitsNumber, FitsText, FitsKind, FitsRole, Fits, AllFit, Role, Kind}
 use Rattle.bufr_fill.proofs.FieldLemmas.{number_again, number_back, top_below, same_ok}
 use Rattle.bufr_fill.proofs.LeastLemmas.{first_least, first_passes, first_from_start, content_same, are_same_copies, AreNumbers, AreOver, none_over, lowest_over, lowest_fits, under_lowest, octets_self, top_some}
 use Rattle.bufr_fill.proofs.PackedBack.{not_true, pieces_length, pieces_found, numbers_back, increments_long, AreTexts, octets_long, texts_back, AllLong, increments_all, numbers_read, all_over, texts_fit, texts_again}
@@ -506,7 +506,7 @@ numbers_have m w low (c ∷ cs) h = ap (λ b. b && list_all (has_bits m low w) c
 -- ---- texts
 
 -- all octets are enough
-whole_again : (count : ℕ) (os : List ℕ) → length os ≡ count → list_all (λ octet. octet == 255) os ≡ false → gives_again count os ≡ true
+whole_again : (count : ℕ) (os : List ℕ) → length os ≡ count → list_all (λ octet. octet == 255) os ≡ false → has_octets count (text os) ≡ true
 whole_again count os l none = grind (arith, common_steps, take_all, not, append-nil, octets_self)
 
 text_has : (count : ℕ) (c : Content) → FitsText count c → has_octets count c ≡ true

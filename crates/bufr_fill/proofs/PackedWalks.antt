@@ -3,7 +3,7 @@ use Rattle.std.proofs.lemmas.Grind.{common_steps}
 use Rattle.std.proofs.Common.{◌≡◌, ℕ, zero, suc, ◌+◌, ◌-◌, ◌<◌, Bool, true, false, List, [], ◌∷◌, ◌++◌, length, Option, Some, None, Result, Ok, Err, refl, sym, ◌∙◌, ap, arith, ◌≤◌, max, slice_get, if◌then◌else◌}
 use Rattle.std.proofs.lemmas.List.{append-nil}
 use Rattle.bufr_walk.specs.Prelude.{FieldSpec, Content, Course, Next, take_next, at_end, astray, refused, TakenField, Takes, course_after, oks, answers_of}
-use Rattle.bufr_fill.specs.Prelude.{Taken, Draft, Subset, FaultAt, at_line, too_many_values, item_too_many, walk_refused, WrittenItem, written_item, fill, with_bits_before, Filler, fill_one, fill_none, item_row, cells_at, rows, longest, are_many, content_here, contents_here, packed_to, pack_across, packed_filler, ◌>>=◌, ItemRow, first_there, line_in, none_across, packed_data, packing, PackedOutModel, IsPacked, PackedFills, rows_left, new_packed_out, and_end, all_at_end, first_line_at, IsFaultHere}
+use Rattle.bufr_fill.specs.Prelude.{Taken, Draft, Subset, FaultAt, at_line, too_many_values, item_too_many, walk_refused, WrittenItem, written_item, fill, with_bits_before, Filler, fill_one, fill_none, item_row, cells_at, rows, longest, are_many, content_here, contents_here, packed_to, pack_across, packed_filler, ◌>>=◌, ItemRow, first_there, line_in, packed_data, packing, PackedOutModel, IsPacked, PackedFills, rows_left, new_packed_out, and_end, all_at_end, first_line_at, IsFaultHere}
 use Rattle.bufr_fill.proofs.WalkLemmas.{HasFilled, walk_fills, after_answers, unfilled}
 use Rattle.bufr_fill.proofs.EntryLemmas.{length-cells}
 use Rattle.bufr_walk.specs.declared.spec.TurnRefusal.TheVariants as refusal
@@ -149,7 +149,7 @@ module _ (course : Course) (s : Subset) (more : List Subset) where
     where
       past : (many many' : Bool) (o : Option Draft) → many ≡ many' → o ≡ None
           → (if many then Err (at_line (line_in o s.end_line) (too_many_values spec.fxy)) else ((content_here spec o s.end_line >>= λ first. contents_here spec (cells_at place more) >>= λ rest. Ok (first ∷ rest)) >>= λ cs. packed_to cs (cells_at place (s ∷ more)) (packing spec cs))) ≡ Err f
-          → none_across s.end_line many' spec ≡ f
+          → (packed_filler s.end_line many').none_left spec ≡ f
       past true true None a b p = cc
       past false false None a b p = cc
       past true false o a b p = absurd cc a

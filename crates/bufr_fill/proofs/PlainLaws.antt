@@ -2,7 +2,7 @@
 use Rattle.std.proofs.lemmas.Grind.{common_steps}
 use Rattle.std.proofs.lemmas.Bool.{eqb-true, le-ltb, lt-ltb, eq-eqb}
 use Rattle.bufr_walk.specs.Prelude.{FieldSpec, IsSpec, HasWidth, HasRole, HasMissing, is_reference, Content, found, number, text, missing, reference, content_by, content_in, bits_for, data_end, FieldRead, plain_field, signed_by, said_by, sign_bit, max_values, Item, DataCoding, ReadsItems, ReadsPass, after, plain, Course, Next, take_next, at_end}
-use Rattle.bufr_fill.specs.Prelude.{Role, Kind, Draft, DraftValue, number_token, text_form, missing_form, reference_token, wrong_number, out_of_range, text_long, missing_forbidden, draft_value_of, content_of, content_by_form, raw_within, raw_of, reference_of, text_within, missing_of, is_marked, wrong_for, IsMinusZero, is_of, decimal_again, normal_form, raw_limit, plainly, plain_filler, RowCell, ItemRow, written_item, Filler, fill, fill_one, fill_none, filled, with_bits_before, AreDrafts, FitsText, FitsKind, FitsRole, Fits, IsDumped}
+use Rattle.bufr_fill.specs.Prelude.{DraftFaultKind, Role, Kind, Draft, DraftValue, number_token, text_form, missing_form, reference_token, wrong_number, out_of_range, text_long, missing_forbidden, draft_value_of, content_of, content_by_form, raw_within, raw_of, reference_of, text_within, is_marked, wrong_for, IsMinusZero, is_of, decimal_again, normal_form, raw_limit, plainly, plain_filler, RowCell, ItemRow, written_item, Filler, fill, fill_one, fill_none, filled, with_bits_before, AreDrafts, FitsText, FitsKind, FitsRole, Fits, IsDumped}
 use Rattle.std.proofs.Common.{Bool, ◌++◌, Ok, refl, sym, ◌∙◌, ap, subst, arith, append_assoc, suc, ◌-◌, ◌/◌, ◌^◌, ◌<◌, ◌&&◌, ltb, true, false, not, replicate, Err, ℤ, pos, negsuc, ◌+ℤ◌, ◌-ℤ◌, nat_abs, pow_mono, take, drop, Result, zero, neg_ℤ, ◌≡◌, ℕ, ◌+◌, ◌*◌, ◌≤◌, List, [], ◌∷◌, length, Option, Some, None, ◌==◌, nat_lt, if◌then◌else◌, unsigned_abs}
 use Rattle.std.proofs.lemmas.List.{length-append, append-nil, take_at, drop_at, length-take-le, length-drop}
 use Rattle.std.specs.List.{list_all, AllByRecursion, AllZip}
@@ -130,8 +130,8 @@ module _ (spec : FieldSpec) (good : IsSpec spec) where
   as_number : (raw : ℕ) → is_character spec.kind ≡ false → content_by_form (draft_value_of spec (number raw)) spec ≡ raw_of spec (decimal_value_of (decimal_text_of (pos raw +ℤ spec.reference) spec.scale) spec.scale)
   as_number raw e = ap (λ b. if b then Err wrong_number else raw_of spec (decimal_value_of (decimal_text_of (pos raw +ℤ spec.reference) spec.scale) spec.scale)) e
 
-  missing_again : (m : Bool) → m ≡ true → missing_of m ≡ Ok missing
-  missing_again m e = ap missing_of e
+  missing_again : (m : Bool) → m ≡ true → (if m then Ok missing else Err missing_forbidden) ≡ Ok missing
+  missing_again m e = ap (λ b. let r : Result Content DraftFaultKind = if b then Ok missing else Err missing_forbidden in r) e
 
   kind_again : (k : Kind) (c : Content) → HasWidth k spec.width → HasMissing k spec.may_be_missing → FitsKind k spec.may_be_missing spec.width c → k ≡ spec.kind → content_by_form (draft_value_of spec c) spec ≡ Ok c
   kind_again kind.Character (number raw) hw hm h q = absurd h

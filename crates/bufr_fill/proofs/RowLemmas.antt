@@ -1,16 +1,17 @@
 -- One item of all subsets, as the code reads and packs it.
 use Rattle.std.proofs.lemmas.Grind.{common_steps}
 use Rattle.std.proofs.Common.{◌≡◌, ℕ, zero, suc, ◌+◌, ◌-◌, ◌*◌, ◌/◌, ◌%◌, ◌<◌, ◌≤◌, ◌&&◌, max, Bool, true, false, List, [], ◌∷◌, ◌++◌, length, take, drop, get_or, replicate, refl, sym, ◌∙◌, ap, arith, add-one, append_assoc, ℤ, Option, Some, None, Result, Ok, Err, ◌⊎◌, inl, inr, nat_lt, if◌then◌else◌, slice_get, option_map, ◌==◌}
-use Rattle.std.proofs.lemmas.Bool.{eq-eqb, le-ltb, lt-ltb, ne_eqb}
+use Rattle.std.proofs.lemmas.Bool.{le-ltb, lt-ltb, ne_eqb}
 use Rattle.std.specs.List.{flat_map}
 use Rattle.std.proofs.Math.Nat.{mul-le-mul_right}
 use Rattle.std.proofs.Math.Seq.{drop-cons}
 use Rattle.std.proofs.lemmas.List.{append-nil, take-replicate, length-append}
 use Rattle.bufr_bits.specs.Prelude.{bits_of}
-use Rattle.bufr_fill.specs.Prelude.{Taken, Role, FieldContent, content_drawn, IsDrawn, spaced, raw_limit, AllDrawn, contents_drawn, need_of, most_need, FitsIncrement, AreShort, least_from, entry_or_end, cell_entry, entry_here, and_end, all_at_end, IsPutWithin, trimmed, octet_in, same, are_same, first_from, packing, packed_bits, packed_by, packed_unlike, same_octets, RowCell, content_here, contents_here, first_unlike, unlike_line, cell_line, line_in, first_line, ◌>>=◌, item_row, cells_at, packed_to, pack_across, written_item, Draft, DraftEntry, Holds, Ends, Subset, FaultAt, at_line, item_too_many, unequal_factors, uneven_increment, too_many_values, IfDraftFault, is_end}
+use Rattle.std.specs.Str.{bytes_eq}
+use Rattle.bufr_fill.specs.Prelude.{spaced, Taken, Role, FieldContent, content_drawn, IsDrawn, raw_limit, AllDrawn, contents_drawn, need_of, most_need, FitsIncrement, AreShort, least_from, entry_or_end, entry_here, and_end, all_at_end, IsPutWithin, trimmed, same, are_same, first_from, packing, packed_bits, packed_by, packed_unlike, RowCell, content_here, contents_here, first_unlike, unlike_line, cell_line, line_in, first_line, ◌>>=◌, item_row, cells_at, packed_to, pack_across, written_item, Draft, DraftEntry, Holds, Ends, Subset, FaultAt, at_line, item_too_many, unequal_factors, uneven_increment, too_many_values, IfDraftFault, is_end}
 use Rattle.bufr_walk.specs.Prelude.{FieldSpec, Content, reference, answer_of, bits_for, increment, unequal_factor, answer_first, max_values}
 use Rattle.bufr_fill.proofs.EntryLemmas.{entry_line}
-use Rattle.bufr_fill.proofs.LeastLemmas.{content_same, content_self}
+use Rattle.bufr_fill.proofs.LeastLemmas.{octets_self, content_same, content_self}
 use Rattle.bufr_walk.specs.declared.spec.Role.TheVariants as role
 
 -- contents before others, or the fault of these
@@ -192,7 +193,7 @@ is_some : {r s : Result Content FaultAt} → Some r ≡ Some s → s ≡ r
 is_some h = cc
 
 module _ (count : ℕ) (spec : FieldSpec) (cells : List RowCell) (j : ℕ) (ds : List FieldContent) (e : DraftEntry) (inv : IsGathering count spec cells j ds) (within : j < length cells)
-    (here : (c : RowCell) → slice_get cells j ≡ Some c → e ≡ cell_entry c) where
+    (here : (c : RowCell) → slice_get cells j ≡ Some c → e ≡ entry_or_end c.draft c.end_line) where
   -- the contents of the row, by the next cell
   next_is : (k : CellAt cells j) → contents_here spec cells ≡ with_contents_before (contents_drawn count ds) (entry_here spec e >>= λ first. contents_here spec (drop (j + 1) cells) >>= λ rest. Ok (first ∷ rest))
   next_is k =
@@ -216,7 +217,7 @@ pub gathered : (count : ℕ) (spec : FieldSpec) (cells : List RowCell) (j : ℕ)
 gathered count spec cells j ds inv h = inv.so ∙ ap (λ cs. with_contents_before (contents_drawn count ds) (contents_here spec cs)) (drop_all cells j h) ∙ ap Ok (append-nil (contents_drawn count ds))
 
 -- whether all subsets end
-pub end_item : (cells : List RowCell) (j : ℕ) (e : DraftEntry) → j < length cells → ((c : RowCell) → slice_get cells j ≡ Some c → e ≡ cell_entry c) → is_end e ≡ false → all_at_end cells ≡ all_at_end (drop j cells) → all_at_end cells ≡ Err (at_line (entry_line e) item_too_many)
+pub end_item : (cells : List RowCell) (j : ℕ) (e : DraftEntry) → j < length cells → ((c : RowCell) → slice_get cells j ≡ Some c → e ≡ entry_or_end c.draft c.end_line) → is_end e ≡ false → all_at_end cells ≡ all_at_end (drop j cells) → all_at_end cells ≡ Err (at_line (entry_line e) item_too_many)
 end_item cells j (Ends line) h here is inv = absurd cc
 end_item cells j (Holds d) h here is inv = by (cell_at cells j h)
   where
@@ -227,7 +228,7 @@ end_item cells j (Holds d) h here is inv = by (cell_at cells j h)
     by : CellAt cells j → all_at_end cells ≡ Err (at_line d.line item_too_many)
     by k = inv ∙ ap all_at_end k.left ∙ item k.cell.draft k.cell.end_line (sym (here k.cell k.is)) (all_at_end (drop (j + 1) cells))
 
-pub end_more : (cells : List RowCell) (j : ℕ) (e : DraftEntry) → j < length cells → ((c : RowCell) → slice_get cells j ≡ Some c → e ≡ cell_entry c) → is_end e ≡ true → all_at_end cells ≡ all_at_end (drop j cells) → all_at_end cells ≡ all_at_end (drop (j + 1) cells)
+pub end_more : (cells : List RowCell) (j : ℕ) (e : DraftEntry) → j < length cells → ((c : RowCell) → slice_get cells j ≡ Some c → e ≡ entry_or_end c.draft c.end_line) → is_end e ≡ true → all_at_end cells ≡ all_at_end (drop j cells) → all_at_end cells ≡ all_at_end (drop (j + 1) cells)
 end_more cells j (Holds d) h here is inv = absurd cc
 end_more cells j (Ends line) h here is inv = by (cell_at cells j h)
   where
@@ -355,39 +356,15 @@ put_packed spec place subsets ds z t old new few most values given some gives ap
 
 -- ---- Steps of the code that reads texts.
 
--- the octet at an index
-pub octet_inside : (os : List ℕ) (i x : ℕ) → i < length os → x ≡ get_or os i x → x ≡ octet_in os i
-octet_inside [] i x h e = absurd (omega (arith, h))
-octet_inside (o ∷ os) zero x h e = e
-octet_inside (o ∷ os) (suc i) x h e = octet_inside os i x (omega (arith, h)) e
-
-pub octet_outside : (os : List ℕ) (i : ℕ) → length os ≤ i → 32 ≡ octet_in os i
-octet_outside [] i h = refl
-octet_outside (o ∷ os) zero h = absurd (omega (arith, h))
-octet_outside (o ∷ os) (suc i) h = octet_outside os i (omega (arith, h))
-
--- a text followed by spaces, from an index on
-pub spaced_at : (count : ℕ) (os : List ℕ) (i : ℕ) → length os ≤ count → i < count → drop i (spaced count os) ≡ octet_in os i ∷ drop (i + 1) (spaced count os)
-spaced_at count os i h l = by os (count - length os) i (omega (arith, h, l))
+-- texts of the same length, each followed by as many spaces
+pub same_spaced : (count : ℕ) (a b : List ℕ) → length a ≡ length b → bytes_eq a b ≡ bytes_eq (spaced count a) (spaced count b)
+same_spaced count a b e = by a b (count - length a) e ∙ ap (λ n. bytes_eq (spaced count a) (b ++ replicate (count - n) 32)) e
   where
-    suffix : (i : ℕ) → suc (i + 1) ≡ suc i + 1
-    suffix i = omega arith
-
-    by : (os : List ℕ) (n i : ℕ) → i < length os + n → drop i (os ++ replicate n 32) ≡ octet_in os i ∷ drop (i + 1) (os ++ replicate n 32)
-    by [] zero i l = absurd (omega (arith, l))
-    by [] (suc n) zero l = refl
-    by [] (suc n) (suc i) l = by [] n i (omega (arith, l)) ∙ ap (λ k. 32 ∷ drop k (32 ∷ replicate n 32)) (suffix i)
-    by (o ∷ os) n zero l = refl
-    by (o ∷ os) n (suc i) l = by os n i (omega (arith, l)) ∙ ap (λ k. octet_in os i ∷ drop k (o ∷ os ++ replicate n 32)) (suffix i)
-
-pub text_more : (count : ℕ) (a b : List ℕ) (i x y : ℕ) → length a ≤ count → length b ≤ count → i < count → x ≡ octet_in a i → y ≡ octet_in b i → x ≡ y
-    → same_octets (spaced count a) (spaced count b) ≡ same_octets (drop i (spaced count a)) (drop i (spaced count b))
-    → same_octets (spaced count a) (spaced count b) ≡ same_octets (drop (i + 1) (spaced count a)) (drop (i + 1) (spaced count b))
-text_more count a b i x y ha hb l ea eb e inv = grind (arith, common_steps, spaced_at, eq-eqb)
-
-pub text_not : (count : ℕ) (a b : List ℕ) (i x y : ℕ) → length a ≤ count → length b ≤ count → i < count → x ≡ octet_in a i → y ≡ octet_in b i → (x ≡ y → ⊥)
-    → same_octets (spaced count a) (spaced count b) ≡ same_octets (drop i (spaced count a)) (drop i (spaced count b)) → same_octets (spaced count a) (spaced count b) ≡ false
-text_not count a b i x y ha hb l ea eb e inv = grind (arith, common_steps, spaced_at, ne_eqb)
+    by : (a b : List ℕ) (n : ℕ) → length a ≡ length b → bytes_eq a b ≡ bytes_eq (a ++ replicate n 32) (b ++ replicate n 32)
+    by [] [] n e = sym (octets_self (replicate n 32))
+    by [] (y ∷ ys) n e = absurd (omega (arith, e))
+    by (x ∷ xs) [] n e = absurd (omega (arith, e))
+    by (x ∷ xs) (y ∷ ys) n e = ap (λ b. (x == y) && b) (by xs ys n (omega (arith, e)))
 
 -- the spaces at the end of a text
 trimmed_space : (b : Bool) (os : List ℕ) (n : ℕ) → trimmed os ≡ n → trimmed (os ++ 32 ∷ []) ≡ n

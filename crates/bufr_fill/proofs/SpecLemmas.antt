@@ -4,7 +4,7 @@ use Rattle.bufr_walk.proofs.SpecLemmas.{text_good, product_small}
 use Rattle.std.proofs.lemmas.Bool.{eqb-true, leb-true, ltb-true}
 use Rattle.bufr_tables.specs.Prelude.{Row, allows_width, entry_of, kind_of, AreRows, element_of, plain_of, row_of, scale_of, width_of, is_legal_operator, has_legal_operand, Tree, bare, element, operator, fixed, delayed, is_inserted_text, x_of, y_of, IsLegal, i64_of, fits_i64, if_i64, integer_of, Record, field_of, only_if}
 use Rattle.bufr_walk.specs.declared.spec.Taken.{Taken}
-use Rattle.bufr_walk.specs.Prelude.{OperatorModel, Redefined, current_reference, is_defining, if_valid_width, scale_change_of, numeric_spec, coded_spec, text_spec, text_width, spec_by_kind, defined_field, new_reference_spec, unsigned_field, unsigned_of, begin, local_width_spec, listed_by, element_spec, factor_field, factor_by, factor_spec, with_references, with_operator, after_operator, after_field, with_reference, inserted_spec, Turns, finish, open_end, group, pass_end, factor_turn, element_turn, operator_turn, Rest, passes, unroll, turns_of, take_next, NextTurn, asked, operated, ahead, next_item, counts_of, FieldSpec, IsSpec, HasWidth}
+use Rattle.bufr_walk.specs.Prelude.{OperatorModel, Redefined, current_reference, is_defining, if_valid_width, scale_change_of, numeric_spec, coded_spec, text_spec, text_width, spec_by_kind, defined_field, new_reference_spec, unsigned_field, begin, local_width_spec, listed_by, element_spec, factor_field, factor_by, factor_spec, with_references, with_operator, after_operator, after_field, with_reference, inserted_spec, Turns, finish, open_end, group, pass_end, factor_turn, element_turn, operator_turn, Rest, passes, unroll, turns_of, take_next, NextTurn, asked, operated, ahead, next_item, counts_of, FieldSpec, IsSpec, HasWidth}
 use Rattle.std.proofs.Common.{ℕ, suc, ◌+◌, ◌*◌, ◌%◌, ◌&&◌, eqb, Bool, false, Option, Some, None, Result, Ok, Err, refl, ◌∙◌, ap, subst, arith, ℤ, pos, negsuc, ◌+ℤ◌, zero, ◌||◌, not, sym, map, ◌≡◌, ◌≤◌, ◌^◌, true, List, [], ◌∷◌, unsigned_abs, ◌==◌, nat_le, nat_lt, if◌then◌else◌}
 use Rattle.std.specs.List.{find, AllByRecursion}
 use Rattle.std.proofs.lemmas.Bool.Decides.{nat_tests}
@@ -141,7 +141,7 @@ module _ (s : OperatorModel) (set : IsSettings s) where
   defined_good kind.Coded fxy spec e = fitted (defined_field s fxy) spec e (λ w. record { width = w; role = (refl, refl); missing = tt; scale = omega arith; reference = omega arith })
   defined_good kind.Numeric fxy spec e = fitted (defined_field s fxy) spec e (λ w. record { width = w; role = (refl, refl); missing = tt; scale = omega arith; reference = omega arith })
 
-  unsigned_good : (fxy w : ℕ) (spec : FieldSpec) → unsigned_of fxy w ≡ Ok spec → IsSpec spec
+  unsigned_good : (fxy w : ℕ) (spec : FieldSpec) → if_valid_width (unsigned_field fxy w) ≡ Ok spec → IsSpec spec
   unsigned_good fxy w spec e = fitted (unsigned_field fxy w) spec e (λ h. record { width = h; role = tt; missing = tt; scale = omega arith; reference = omega arith })
 
 pub untouched_good : (s : OperatorModel) → IsSettings begin
@@ -155,7 +155,7 @@ module _ (table : List Row) (rows : AreGoodRows table) (s : OperatorModel) (set 
       by_defining true row good q = defined_good s set row.kind fxy spec q
       by_defining false row good q = kind_good s set row.kind row spec refl good q
 
-      by_width : (b : Bool) (row : Row) → IsRow row → (if b then spec_by_kind row.kind begin row else unsigned_of fxy s.local_width) ≡ Ok spec → IsSpec spec
+      by_width : (b : Bool) (row : Row) → IsRow row → (if b then spec_by_kind row.kind begin row else if_valid_width (unsigned_field fxy s.local_width)) ≡ Ok spec → IsSpec spec
       by_width true row good q = kind_good begin (untouched_good s) row.kind row spec refl good q
       by_width false row good q = unsigned_good s set fxy s.local_width spec q
 

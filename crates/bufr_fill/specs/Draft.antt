@@ -1,12 +1,28 @@
--- The items of a dump text, one after another, its subsets, and the faults in items.
--- (A choice of this project)
+-- The items of a dump text and its subsets; an item as the content of its field, and its one
+-- spelling; the faults in items; and the stored entries. (A choice of this project)
 -- Cited by public contracts.
-use Rattle.std.specs.Prelude.{ℕ, List, [], ◌∷◌, Bool, true, false, Option, Some, None}
+use Rattle.std.specs.Prelude.{ℕ, List, [], ◌∷◌, Bool, true, false, Option, Some, None, ◌-◌, ◌/◌, ◌^◌, ◌==◌, ◌&&◌, nat_lt, not, if◌then◌else◌, ◌++◌, length, replicate, ℤ, pos, negsuc, nat_abs, ◌+ℤ◌, ◌-ℤ◌, Result, Ok, Err, ◌≡◌, ◌≤◌, ◌<◌, unsigned_abs, option_map, map, slice_range}
 pub use Rattle.bufr_walk.specs.declared.spec.TurnRefusal.{TurnRefusal}
 use Rattle.bufr_fill.specs.declared.fault.Expected.{Expected}
 pub use Rattle.bufr_fill.specs.declared.fault.DraftFault.{DraftFault}
 use Rattle.bufr_fill.specs.declared.fault.Expected.TheVariants as expected
-use Rattle.bufr_fill.specs.declared.fault.DraftFault.TheVariants as fault
+use Rattle.bufr_fill.specs.declared.fault.DraftFault.TheVariants as item_fault
+use Rattle.std.specs.List.{list_all, AllByRecursion}
+use Rattle.bufr_bits.specs.Prelude.{decimal_text_of, decimal_value_of, short_text}
+use Rattle.bufr_bits.specs.declared.decimal.NumberFault.{NumberFault}
+use Rattle.bufr_bits.specs.declared.decimal.NumberFault.TheVariants.{Syntax, Inexact, Large}
+use Rattle.bufr_tables.specs.Prelude.{is_character}
+pub use Rattle.bufr_walk.specs.declared.spec.Role.{Role}
+use Rattle.bufr_walk.specs.Prelude.{FieldSpec, is_reference, Content, number, text, missing, reference, ones}
+pub use Rattle.bufr_fill.specs.declared.field_value.FieldContent.{FieldContent}
+use Rattle.bufr_fill.specs.declared.field_value.FieldContent.TheVariants as drawn
+use Rattle.bufr_walk.specs.declared.spec.Role.TheVariants as role
+pub use Rattle.bufr_fill.specs.declared.draft.EntryKind.{EntryKind}
+use Rattle.bufr_fill.specs.declared.draft.EntryKind.TheVariants as entry_kind
+use Rattle.bufr_fill.specs.declared.draft.StoredEntry.{StoredEntry}
+use Rattle.bufr_fill.specs.declared.draft.DraftValue as given
+use Rattle.bufr_fill.specs.declared.draft.DraftValue.TheVariants as item_value
+use Rattle.bufr_fill.specs.declared.draft.DraftItem.{DraftItem}
 
 -- the value of an item, as the dump text writes it
 pub data DraftValue : Type 0 where
@@ -86,24 +102,217 @@ other_than expected.EndOfSubset = item_too_many
 
 -- a fault of the dump text; where memory ran out there is none
 abbrev pub draft_fault : DraftFault → Option FaultAt
-draft_fault (fault.WrongDescriptor line e) = Some (at_line line (other_than e))
-draft_fault (fault.Number line) = Some (at_line line wrong_number)
-draft_fault (fault.OutOfRange line) = Some (at_line line out_of_range)
-draft_fault (fault.TextLong line) = Some (at_line line text_long)
-draft_fault (fault.MissingForbidden line) = Some (at_line line missing_forbidden)
-draft_fault (fault.UnequalFactor line) = Some (at_line line unequal_factors)
-draft_fault (fault.Increment line) = Some (at_line line uneven_increment)
-draft_fault (fault.TooManyValues line fxy) = Some (at_line line (too_many_values fxy))
-draft_fault fault.Memory = None
+draft_fault (item_fault.WrongDescriptor line e) = Some (at_line line (other_than e))
+draft_fault (item_fault.Number line) = Some (at_line line wrong_number)
+draft_fault (item_fault.OutOfRange line) = Some (at_line line out_of_range)
+draft_fault (item_fault.TextLong line) = Some (at_line line text_long)
+draft_fault (item_fault.MissingForbidden line) = Some (at_line line missing_forbidden)
+draft_fault (item_fault.UnequalFactor line) = Some (at_line line unequal_factors)
+draft_fault (item_fault.Increment line) = Some (at_line line uneven_increment)
+draft_fault (item_fault.TooManyValues line fxy) = Some (at_line line (too_many_values fxy))
+draft_fault item_fault.Memory = None
 
 -- the number of a fault
 abbrev pub number_of_draft_fault : DraftFault → ℕ
-number_of_draft_fault (fault.WrongDescriptor line e) = 51
-number_of_draft_fault (fault.Number line) = 52
-number_of_draft_fault (fault.OutOfRange line) = 53
-number_of_draft_fault (fault.TextLong line) = 54
-number_of_draft_fault (fault.MissingForbidden line) = 55
-number_of_draft_fault (fault.UnequalFactor line) = 58
-number_of_draft_fault (fault.Increment line) = 59
-number_of_draft_fault (fault.TooManyValues line fxy) = 35
-number_of_draft_fault fault.Memory = 73
+number_of_draft_fault (item_fault.WrongDescriptor line e) = 51
+number_of_draft_fault (item_fault.Number line) = 52
+number_of_draft_fault (item_fault.OutOfRange line) = 53
+number_of_draft_fault (item_fault.TextLong line) = 54
+number_of_draft_fault (item_fault.MissingForbidden line) = 55
+number_of_draft_fault (item_fault.UnequalFactor line) = 58
+number_of_draft_fault (item_fault.Increment line) = 59
+number_of_draft_fault (item_fault.TooManyValues line fxy) = 35
+number_of_draft_fault item_fault.Memory = 73
+
+-- whether a value has the mark of a redefined reference
+abbrev pub is_marked : DraftValue → Bool
+is_marked (reference_token digits) = true
+is_marked _ = false
+
+-- the fault of a text that is no decimal, or not whole at its scale, or past the greatest value
+-- rule: fault-52
+abbrev pub number_fault : NumberFault → DraftFaultKind
+number_fault Large = out_of_range
+number_fault _ = wrong_number
+
+-- the limit of the numbers that `width` bits write, without all ones where that is missing
+-- rule: packs-class-31
+abbrev pub raw_limit : (may_be_missing : Bool) (width : ℕ) → ℕ
+raw_limit m width = if m then ones width else 2 ^ width
+
+-- a number that fits its bits and does not read as missing
+-- rule: fault-53
+abbrev pub raw_within : Bool → ℕ → ℤ → Result Content DraftFaultKind
+raw_within m width (pos raw) =
+    if nat_lt raw (raw_limit m width) then Ok (number raw) else Err out_of_range
+raw_within m width (negsuc n) = Err out_of_range
+
+-- the number in the bits is the value minus the reference (FM 94: Regulation 94.5, Table B)
+abbrev pub raw_of : FieldSpec → Result ℤ NumberFault → Result Content DraftFaultKind
+raw_of spec (Ok value) = raw_within spec.may_be_missing spec.width (value -ℤ spec.reference)
+raw_of spec (Err why) = Err (number_fault why)
+
+-- a reference whose magnitude fits the bits after its sign
+abbrev pub reference_of : FieldSpec → Result ℤ NumberFault → Result Content DraftFaultKind
+reference_of spec (Ok value) =
+    if nat_lt (nat_abs value) (2 ^ (spec.width - 1)) then Ok (reference value) else Err out_of_range
+reference_of spec (Err why) = Err (number_fault why)
+
+-- a text followed by spaces up to its length, which does not read as missing
+-- rule: fault-53, fault-54
+abbrev pub text_within : ℕ → List ℕ → Result Content DraftFaultKind
+text_within count octets =
+    if nat_lt count (length octets) then Err text_long
+    else let whole = octets ++ replicate (count - length octets) 32 in
+    if list_all (λ octet. octet == 255) whole then Err out_of_range else Ok (text whole)
+
+-- a value as the content of its field; one of another kind is no number
+-- rule: fault-52, fault-55, fault-order-of-an-item
+abbrev pub content_by_form : DraftValue → FieldSpec → Result Content DraftFaultKind
+content_by_form (number_token digits) spec =
+    if is_character spec.kind then Err wrong_number
+    else raw_of spec (decimal_value_of digits spec.scale)
+content_by_form (text_form octets) spec =
+    if is_character spec.kind then text_within (spec.width / 8) octets else Err wrong_number
+content_by_form missing_form spec =
+    if spec.may_be_missing then Ok missing else Err missing_forbidden
+content_by_form (reference_token digits) spec = reference_of spec (decimal_value_of digits (pos 0))
+
+-- whether an item has the descriptor and the mark of a field
+-- rule: fault-51
+abbrev pub is_of : FieldSpec → Draft → Bool
+is_of spec d =
+    (d.fxy == spec.fxy)
+    && (if is_reference spec.role then is_marked d.form else not (is_marked d.form))
+
+-- the fault of another item than that of the field
+abbrev pub wrong_for : FieldSpec → DraftFaultKind
+wrong_for spec = wrong_descriptor spec.fxy (is_reference spec.role)
+
+-- an item as the content of its field; first it must be of the field, then of its kind, then fit
+-- rule: fault-order-of-an-item
+abbrev pub content_of : FieldSpec → Draft → Result Content DraftFaultKind
+content_of spec d = if is_of spec d then content_by_form d.form spec else Err (wrong_for spec)
+
+-- the value of a content, as a dump writes it
+abbrev pub draft_value_of : FieldSpec → Content → DraftValue
+draft_value_of spec (number raw) = number_token
+    (decimal_text_of (pos raw +ℤ spec.reference) spec.scale)
+draft_value_of spec (text octets) = text_form octets
+draft_value_of spec missing = missing_form
+draft_value_of spec (reference value) = reference_token (decimal_text_of value (pos 0))
+
+-- ---- The content of a field from an item, as the code has it.
+
+-- the content that a call returned, or its fault; nothing where memory ran out
+abbrev pub returned : {A : Type 0} → (A → Content) → Result A DraftFault
+    → Option (Result Content FaultAt)
+returned content (Ok a) = Some (Ok (content a))
+returned content (Err e) = option_map Err (draft_fault e)
+
+-- a text followed by spaces, up to `count` octets
+abbrev pub spaced : (count : ℕ) → List ℕ → List ℕ
+spaced count octets = octets ++ replicate (count - length octets) 32
+
+-- the content of a field, whose text has `count` octets
+abbrev pub content_drawn : (count : ℕ) → FieldContent → Content
+content_drawn count (drawn.Number raw) = number raw
+content_drawn count (drawn.Text octets) = text (spaced count octets.now)
+content_drawn count drawn.Missing = missing
+content_drawn count (drawn.Reference value) = reference value
+
+-- the contents that a field can have; it has room for a text, which does not read as missing
+abbrev pub IsDrawn : FieldSpec → FieldContent → Type 0
+IsDrawn spec (drawn.Number raw) =
+    (is_character spec.kind ≡ false) × (is_reference spec.role ≡ false)
+    × (raw < raw_limit spec.may_be_missing spec.width)
+IsDrawn spec (drawn.Text octets) =
+    (is_character spec.kind ≡ true) × (is_reference spec.role ≡ false)
+    × ((length octets.now ≤ spec.width / 8)
+    × (list_all (λ octet. octet == 255) (spaced (spec.width / 8) octets.now) ≡ false))
+IsDrawn spec drawn.Missing = (is_reference spec.role ≡ false) × (spec.may_be_missing ≡ true)
+IsDrawn spec (drawn.Reference value) =
+    (is_reference spec.role ≡ true) × (unsigned_abs value < 2 ^ (spec.width - 1))
+
+-- minus zero: the sign bit alone; none is written (a choice of this project)
+abbrev pub IsMinusZero : Role → List Bool → Type 0
+IsMinusZero role.Reference bits = bits ≡ true ∷ replicate (length bits - 1) false
+IsMinusZero _ bits = ⊥
+
+-- ---- The one spelling that a dump has of an item. (a choice of this project)
+
+-- the text that a dump writes for a decimal at a scale; a text that is no decimal stays
+abbrev pub decimal_again : List ℕ → ℤ → Result ℤ NumberFault → List ℕ
+decimal_again digits scale (Ok value) = decimal_text_of value scale
+decimal_again digits scale (Err why) = digits
+
+-- a number by its value at the field's scale, and a text with spaces up to the field's octets
+abbrev pub normal_form : FieldSpec → DraftValue → DraftValue
+normal_form spec (number_token digits) =
+    number_token (decimal_again digits spec.scale (decimal_value_of digits spec.scale))
+normal_form spec (text_form octets) =
+    text_form (octets ++ replicate (spec.width / 8 - length octets) 32)
+normal_form spec missing_form = missing_form
+normal_form spec (reference_token digits) =
+    reference_token (decimal_again digits (pos 0) (decimal_value_of digits (pos 0)))
+
+-- the value of a kind with digits or octets; the end of a subset has none
+abbrev pub value_by : EntryKind → (digits : ℕ) → List ℕ → DraftValue
+value_by (entry_kind.Decimal places negative) digits octets = number_token
+    (short_text (record { digits = digits; places = places; negative = negative }))
+value_by entry_kind.Number digits octets = number_token octets
+value_by entry_kind.Text digits octets = text_form octets
+value_by entry_kind.Missing digits octets = missing_form
+value_by entry_kind.Reference digits octets = reference_token octets
+value_by entry_kind.End digits octets = missing_form
+
+-- the entry of a line with a descriptor, and digits or octets
+abbrev pub entry_by : EntryKind → (line fxy digits : ℕ) → List ℕ → DraftEntry
+entry_by entry_kind.End line fxy digits octets = Ends line
+entry_by k line fxy digits octets = Holds (draft line fxy (value_by k digits octets))
+
+-- the entry of a stored one with these octets
+abbrev pub entry_with : StoredEntry → List ℕ → DraftEntry
+entry_with k octets = entry_by k.kind k.line k.fxy k.start octets
+
+-- the entry of a stored one, whose octets are in a block
+abbrev pub entry_stored : List ℕ → StoredEntry → DraftEntry
+entry_stored block k = entry_with k (slice_range block k.start k.end)
+
+-- the entries of all stored ones
+abbrev pub entries_stored : List ℕ → List StoredEntry → List DraftEntry
+entries_stored octets kept = map (entry_stored octets) kept
+
+-- whether an entry is the end of a subset
+abbrev pub is_end : DraftEntry → Bool
+is_end (Holds d) = false
+is_end (Ends line) = true
+
+-- whether an entry is an item of a field
+abbrev pub is_entry_of : FieldSpec → DraftEntry → Bool
+is_entry_of spec (Holds d) = is_of spec d
+is_entry_of spec (Ends line) = false
+
+-- the octets of an entry, if it has any, are in order and inside the block
+abbrev pub IsPlaced : EntryKind → (size start end : ℕ) → Type 0
+IsPlaced (entry_kind.Decimal places negative) size start end = Unit {0}
+IsPlaced _ size start end = (start ≤ end) × (end ≤ size)
+
+-- the octets of a stored entry are inside a block of this size
+abbrev pub IsEntryInside : ℕ → StoredEntry → Type 0
+IsEntryInside size k = IsPlaced k.kind size k.start k.end
+
+-- the same of all entries
+abbrev pub AreInside : ℕ → List StoredEntry → Type 0
+AreInside size kept = AllByRecursion (IsEntryInside size) kept
+
+-- the value of an item
+abbrev pub form_in : given.DraftValue → DraftValue
+form_in (item_value.Number digits) = number_token digits.now
+form_in (item_value.Text octets) = text_form octets.now
+form_in item_value.Missing = missing_form
+form_in (item_value.Reference digits) = reference_token digits.now
+
+-- an item
+abbrev pub draft_in : DraftItem → Draft
+draft_in item = draft item.line item.fxy (form_in item.form)

@@ -2,16 +2,17 @@
 -- one item are packed, with the least base and the least k. (WMO-No. 306, Volume I.2, FM 94:
 -- section 4; the order of the faults and the least k are choices of this project)
 -- Cited by public contracts.
-use Rattle.std.specs.Prelude.{Bool, List, [], ◌∷◌, ◌++◌, Result, Ok, Err, ℕ, zero, suc, ◌+◌, ◌-◌, ◌*◌, ◌==◌, ◌&&◌, nat_lt, nat_le, min, not, true, false, if◌then◌else◌, take, replicate, length, Option, Some, None, unwrap_or, nat_abs, ◌≡◌, ◌≤◌, drop, max, slice_get}
+use Rattle.std.specs.Prelude.{Bool, List, [], ◌∷◌, ◌++◌, Result, Ok, Err, ℕ, zero, suc, ◌+◌, ◌-◌, ◌*◌, ◌==◌, ◌&&◌, nat_lt, nat_le, min, not, true, false, if◌then◌else◌, take, replicate, length, Option, Some, None, unwrap_or, ◌≡◌, ◌≤◌, drop, max, slice_get}
 pub use Rattle.bufr_walk.specs.declared.spec.Taken.{Taken}
-use Rattle.bufr_walk.specs.Prelude.{FieldSpec, Content, number, text, missing, reference, bits_for, sign_bit, FieldFault, increment, unequal_factor, found, answer_of, packed_field, answer_first, Course, Next, take_next, at_end, astray, refused, max_values}
+use Rattle.bufr_walk.specs.Prelude.{FieldSpec, Content, number, text, missing, reference, bits_for, FieldFault, increment, unequal_factor, found, answer_of, packed_field, answer_first, Course, Next, take_next, at_end, astray, refused, max_values}
 use Rattle.std.specs.List.{list_all, flat_map}
-use Rattle.bufr_bits.specs.Prelude.{bits_of, bits_in, number_of}
+use Rattle.std.specs.Str.{bytes_eq}
+use Rattle.std.specs.Ordering.{int_eq}
+use Rattle.bufr_bits.specs.Prelude.{◌>>=◌, bits_of, bits_in, number_of}
 pub use Rattle.bufr_tables.specs.declared.table_b.Kind.{Kind}
 use Rattle.bufr_tables.specs.declared.table_b.Kind.TheVariants as kind
 use Rattle.bufr_walk.specs.declared.spec.Role.TheVariants as role
-use Rattle.bufr_fill.specs.Draft.{TurnRefusal, Draft, Subset, DraftFaultKind, FaultAt, at_line, unequal_factors, uneven_increment, item_too_many, walk_refused, too_many_values, no_count}
-use Rattle.bufr_fill.specs.DraftContent.{Role, content_of, wrong_for, raw_limit}
+use Rattle.bufr_fill.specs.Draft.{TurnRefusal, Draft, Subset, DraftFaultKind, FaultAt, at_line, unequal_factors, uneven_increment, item_too_many, walk_refused, too_many_values, no_count, Role, content_of, wrong_for, raw_limit}
 
 -- an item that was written: its content and its bits
 pub record WrittenItem (C : Type 0) : Type 0 where
@@ -65,24 +66,12 @@ module _ {D C E : Type 0} (filler : Filler D C E) where
   fill course (d ∷ ds) =
       fill_one (course []).next d (λ t. fill (λ answers. course (t ∷ answers)) ds)
 
--- whether two texts are the same
-abbrev pub same_octets : List ℕ → List ℕ → Bool
-same_octets [] [] = true
-same_octets [] (y ∷ ys) = false
-same_octets (x ∷ xs) [] = false
-same_octets (x ∷ xs) (y ∷ ys) = (x == y) && same_octets xs ys
-
--- whether two signs are the same
-abbrev pub same_sign : Bool → Bool → Bool
-same_sign true b = b
-same_sign false b = not b
-
 -- whether two contents are the same
 abbrev pub same : Content → Content → Bool
 same (number a) (number b) = a == b
-same (text a) (text b) = same_octets a b
+same (text a) (text b) = bytes_eq a b
 same missing missing = true
-same (reference a) (reference b) = same_sign (sign_bit a) (sign_bit b) && (nat_abs a == nat_abs b)
+same (reference a) (reference b) = int_eq a b
 same _ _ = false
 
 -- whether each is the same as the first
@@ -108,14 +97,10 @@ has_bits m base k _ = true
 
 -- whether the first k octets of a text, then spaces, are the text again, and are not all 255
 -- rule: packs-texts-not-missing
-abbrev pub gives_again : (k : ℕ) → List ℕ → Bool
-gives_again k octets =
-    same_octets (take k octets ++ replicate (length octets - k) 32) octets
-    && not (list_all (λ octet. octet == 255) (take k octets))
-
--- the same of a content that is a text
 abbrev pub has_octets : (k : ℕ) → Content → Bool
-has_octets k (text octets) = gives_again k octets
+has_octets k (text octets) =
+    bytes_eq (take k octets ++ replicate (length octets - k) 32) octets
+    && not (list_all (λ octet. octet == 255) (take k octets))
 has_octets k _ = true
 
 -- the first number from one on, of so many, that passes a test
@@ -207,12 +192,6 @@ plain_filler end_line = record {
   refused_at_end = λ why. at_line end_line (walk_refused why);
   lost = at_line end_line no_count;
 }
-
--- the result of the second of two steps, or the first fault
-infixl 10 ◌>>=◌
-abbrev pub ◌>>=◌ : {A B : Type 0} → Result A FaultAt → (A → Result B FaultAt) → Result B FaultAt
-(Ok a) >>= next = next a
-(Err why) >>= next = Err why
 
 -- data that are not compressed: subset after subset, each from the beginning of the template
 abbrev pub plain_data : Course → List Subset → Result (List Bool) FaultAt
@@ -328,18 +307,14 @@ pack_across spec a =
     then Err (at_line (first_line a.cells) (too_many_values spec.fxy))
     else (contents_here spec a.cells >>= λ cs. packed_to cs a.cells (packing spec cs))
 
--- the fault where no subset has an item left; too many values come first
-abbrev pub none_across : (end_line : ℕ) (many : Bool) → FieldSpec → FaultAt
-none_across end_line many spec =
-    if many then at_line end_line (too_many_values spec.fxy) else at_line end_line (wrong_for spec)
-
 -- how rows are written; `many` is whether one more row has too many values
 -- rule: fault-62
 abbrev pub packed_filler : (end_line : ℕ) (many : Bool) → Filler ItemRow (List Content) FaultAt
 packed_filler end_line many = record {
   fills = pack_across;
   gives = answer_first;
-  none_left = none_across end_line many;
+  none_left = λ spec. if many then at_line end_line (too_many_values spec.fxy)
+      else at_line end_line (wrong_for spec);
   left_over = λ a. at_line (first_there a.cells) item_too_many;
   refused_at = λ a why. at_line (first_line a.cells) (walk_refused why);
   refused_at_end = λ why. at_line end_line (walk_refused why);

@@ -5,8 +5,7 @@ use Rattle.std.specs.Prelude.{ℕ, ◌≡◌, ◌<◌, ◌-◌, ◌/◌, ◌^◌
 use Rattle.std.specs.List.{list_all, AllByRecursion, AllZip}
 use Rattle.bufr_walk.specs.declared.spec.Role.TheVariants as role
 use Rattle.bufr_walk.specs.Prelude.{FieldSpec, Content, number, text, missing, reference, Course, next_item, TakenField, course_after, content_at, Item, IsPackedReading, ReadsSubsets, IsPlainReading}
-use Rattle.bufr_fill.specs.DraftContent.{Role, raw_limit, draft_value_of, content_of}
-use Rattle.bufr_fill.specs.Draft.{Draft, Subset, DraftValue, number_token, text_form, missing_form, reference_token, DraftFaultKind, unequal_factors, uneven_increment, FaultAt}
+use Rattle.bufr_fill.specs.Draft.{Role, raw_limit, draft_value_of, content_of, Draft, Subset, DraftValue, number_token, text_form, missing_form, reference_token, DraftFaultKind, unequal_factors, uneven_increment, FaultAt}
 use Rattle.bufr_fill.specs.Encoding.{Kind, plain_data, packed_data, Filler, fill, with_bits_before}
 use Rattle.bufr_tables.specs.Prelude.{IsLegal, Record, Row, AreRows, Tree}
 use Rattle.bufr_tables.specs.declared.table_b.Kind.TheVariants as kind
@@ -136,13 +135,10 @@ HasOctets (text_form octets) = AreOctets octets
 HasOctets missing_form = Unit {0}
 HasOctets (reference_token digits) = Unit {0}
 
--- the same of each draft
-abbrev pub HaveOctets : List Draft → Type 0
-HaveOctets ds = AllByRecursion (λ (d : Draft). HasOctets d.form) ds
-
--- the same of each subset
+-- the same of each draft of each subset
 abbrev pub AllHaveOctets : List Subset → Type 0
-AllHaveOctets ss = AllByRecursion (λ (s : Subset). HaveOctets s.items) ss
+AllHaveOctets ss =
+    AllByRecursion (λ (s : Subset). AllByRecursion (λ (d : Draft). HasOctets d.form) s.items) ss
 
 -- an item has the content of the draft at its field
 abbrev pub IsSaid : Item Content → Draft → Type 0

@@ -1,6 +1,6 @@
 //! The items of a dump text, and the entries of a document, which are kept in one block.
 ghost use Rattle.std.specs.Prelude.{◌≡◌, ◌≤◌, ℕ, List, length, option_map, slice_get, ◌<◌, [], ◌∷◌, ◌++◌, Some, OnOk, OnErr};
-ghost use Rattle.bufr_fill.specs.Prelude.{draft, DraftEntry, Holds, form_in, entry_by, entry_stored, entry_with, IsEntryInside, IsPlaced, is_end, number_token, Ends, draft_in};
+ghost use Rattle.bufr_fill.specs.Prelude.{draft, DraftEntry, Holds, form_in, entry_by, entry_with, IsPlaced, is_end, number_token, Ends, draft_in};
 ghost use Rattle.bufr_bits.specs.Prelude.{short_text};
 
 use bufr_bits::ShortDecimal;
@@ -83,20 +83,6 @@ fn parts_of<'a>(form: DraftValue<'a>) -> (EntryKind, &'a [u8])
     }
 }
 
-/// The octets of an entry in this block.
-#[inline(always)]
-fn octets_of<'a>(block: &'a [u8], entry: &StoredEntry) -> &'a [u8]
-    requires { IsEntryInside (length block.now) entry.now }
-    ensures { entry_with entry.now result.now ≡ entry_stored block.now entry.now }
-{
-    match entry.kind {
-        EntryKind::Number | EntryKind::Text | EntryKind::Reference => {
-            &block[entry.start..entry.end]
-        }
-        EntryKind::Decimal { .. } | EntryKind::Missing | EntryKind::End => &[],
-    }
-}
-
 /// The items of all subsets and the lines that end them, one after another. A short number is kept
 /// as its digits, other numbers and texts in one block. So an entry takes 32 octets and those of
 /// its text.
@@ -120,7 +106,7 @@ pub struct Entries {
 impl Model for Entries {
     ghost use Rattle.std.specs.Prelude.{List, length};
     ghost use Rattle.bufr_fill.specs.Draft.{DraftEntry};
-    ghost use Rattle.bufr_fill.specs.Kept.{entries_stored, AreInside};
+    ghost use Rattle.bufr_fill.specs.Draft.{entries_stored, AreInside};
 
     ghost Value = { List DraftEntry };
 
@@ -234,11 +220,15 @@ impl Entries {
         ensures { option_map (λ found. entry_with found.0 found.1.now) result
             ≡ slice_get self.now place }
     {
-        if place < self.kept.len() {
-            let entry = self.kept[place];
-            Some((entry, octets_of(self.octets.as_slice(), &entry)))
-        } else {
-            None
+        if place >= self.kept.len() {
+            return None;
+        }
+        let entry = self.kept[place];
+        match entry.kind {
+            EntryKind::Number | EntryKind::Text | EntryKind::Reference => {
+                Some((entry, &self.octets[entry.start..entry.end]))
+            }
+            EntryKind::Decimal { .. } | EntryKind::Missing | EntryKind::End => Some((entry, &[])),
         }
     }
 

@@ -1,10 +1,9 @@
 //! Converts an item of a dump text to the content of its field, and writes that as its bits.
-ghost use Rattle.std.specs.Prelude.{◌≡◌, ℕ, List, ◌≤◌, ◌<◌, ◌-ℤ◌, ◌-◌, ◌/◌, ◌^◌, ◌==◌, ◌++◌, false, pos, length, replicate, unsigned_abs, Some, IfOk, ◌+◌, ◌*◌, ◌∷◌, true, OnOk, OnErr};
+ghost use Rattle.std.specs.Prelude.{◌≡◌, ℕ, List, ◌≤◌, ◌<◌, ◌-◌, ◌/◌, ◌^◌, ◌==◌, ◌++◌, false, length, replicate, unsigned_abs, Some, IfOk, ◌+◌, ◌*◌, true, OnOk, OnErr};
 ghost use Rattle.std.specs.List.{list_all};
-ghost use Rattle.bufr_bits.specs.Prelude.{decimal_value_of, bits_of, bits_in};
 ghost use Rattle.bufr_tables.specs.Prelude.{is_character};
-ghost use Rattle.bufr_walk.specs.Prelude.{is_reference, IsFor, number, reference, sign_bit, bits_for, answer_of};
-ghost use Rattle.bufr_fill.specs.Prelude.{raw_within, raw_of, reference_of, text_within, is_marked, wrong_for, content_by_form, returned, content_drawn, IsDrawn, spaced, raw_limit, entry_with, is_end, is_entry_of, value_by, entry_here, draft_fault, at_line, at_line_if_fault};
+ghost use Rattle.bufr_walk.specs.Prelude.{is_reference, IsFor, number, reference, bits_for, answer_of};
+ghost use Rattle.bufr_fill.specs.Prelude.{raw_of, is_marked, wrong_for, content_by_form, returned, content_drawn, IsDrawn, raw_limit, entry_with, is_end, is_entry_of, value_by, entry_here, draft_fault, at_line, at_line_if_fault};
 
 use crate::draft::{EntryKind, StoredEntry};
 use crate::fault::{DraftFault, Expected};
@@ -37,8 +36,7 @@ pub(crate) fn raw_limit(may_be_missing: bool, width: u32) -> u64
     }
 }
 
-/// The number in the bits of a value that was read at the field's scale, where it fits them and
-/// does not read as missing.
+/// The number in the bits of a value that was read at the field's scale, where it fits them.
 #[inline(always)]
 // rule: fault-52, fault-53
 fn raw_of_read(read: Result<i128, NumberFault>, spec: &Spec, line: u64) -> Result<u64, DraftFault>

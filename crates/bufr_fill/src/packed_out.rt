@@ -1,8 +1,8 @@
 //! The writer of compressed data, from the items of a dump text.
-ghost use Rattle.std.specs.Prelude.{◌≡◌, ◌≤◌, ◌<◌, ◌+◌, ◌*◌, ◌/◌, ◌^◌, IfOk, Ok, length, ℕ, slice_get, get_or, Some, List, ◌-◌, ◌++◌, ◌∷◌, [], true, false, map, take, replicate, nat_lt, OnOk, OnErr, unwrap_or, vec_len};
-ghost use Rattle.bufr_walk.specs.Prelude.{IsFor, is_reference, bits_for, max_values};
-ghost use Rattle.bufr_fill.specs.Prelude.{item_row, cells_at, contents_here, RowCell, unlike_line, same, same_octets, are_same, lowest, first_from, least_k, has_bits, has_octets, increment_bits, octet_bits, packed_bits, numbers_over, packed_texts, packed_by, packed_unlike, packing, subsets_of, AllDrawn, contents_drawn, IsRangeOf, cell_entry, cell_line, ReturnsRow, PutAcross, number_or, spread, trimmed, need, need_of, most_need, octet_in, PacksItem, FitsIncrement, AreShort, least_from, ends_of, first_line_at, EndsAllSubsets, entry_with, content_drawn, spaced, IsDrawn, raw_limit, FieldContent, StartsPackedOut, PackedFills};
-ghost use Rattle.std.specs.List.{list_all, flat_map};
+ghost use Rattle.std.specs.Prelude.{◌≡◌, ◌≤◌, ◌<◌, ◌+◌, ◌*◌, ◌/◌, ◌^◌, IfOk, Ok, length, ℕ, slice_get, Some, List, ◌-◌, ◌++◌, ◌∷◌, [], true, false, take, unwrap_or, vec_len};
+ghost use Rattle.bufr_walk.specs.Prelude.{IsFor, is_reference, max_values};
+ghost use Rattle.bufr_fill.specs.Prelude.{item_row, cells_at, contents_here, RowCell, unlike_line, same, are_same, lowest, increment_bits, octet_bits, packed_by, subsets_of, AllDrawn, contents_drawn, IsRangeOf, entry_or_end, cell_line, ReturnsRow, PutAcross, number_or, spread, trimmed, most_need, PacksItem, FitsIncrement, AreShort, least_from, ends_of, first_line_at, EndsAllSubsets, entry_with, content_drawn, IsDrawn, raw_limit, FieldContent, StartsPackedOut, PackedFills};
+ghost use Rattle.std.specs.List.{flat_map};
 ghost use Rattle.bufr_bits.specs.Prelude.{bits_in, bits_of, padding};
 ghost use Rattle.bufr_tables.specs.Prelude.{is_character};
 ghost use Rattle.std.proofs.Common.{ap};
@@ -37,7 +37,7 @@ pub struct PackedOut<'s> {
 impl<'s> Model for PackedOut<'s> {
     ghost use Rattle.std.specs.Prelude.{length};
     ghost use Rattle.bufr_fill.specs.Draft.{subsets_of};
-    ghost use Rattle.bufr_fill.specs.PackedOut.{PackedOutModel, IsPackedOut};
+    ghost use Rattle.bufr_fill.specs.Writers.{PackedOutModel, IsPackedOut};
 
     ghost Value = { PackedOutModel };
 
@@ -48,19 +48,6 @@ impl<'s> Model for PackedOut<'s> {
     } };
 
     ghost invariant = { λ s. IsPackedOut s.entries.now s.ends.items s.place (length s.out.bits) };
-}
-
-/// The indices of the entries that end subsets.
-fn ends_in(alloc: Global, entries: &Entries) -> Result<Vec<usize>, AllocError>
-    ensures { IfOk result (λ ends. ends.items ≡ ends_of 0 entries.now) }
-{
-    let mut ends = Vec::new(alloc);
-    for place in 0..entries.len() {
-        if entries.is_end(place) {
-            ends.push(place)?;
-        }
-    }
-    Ok(ends)
 }
 
 /// Writes the contents of an item for all subsets, with the least base and the least `k`.
@@ -120,7 +107,12 @@ impl<'s> PackedOut<'s> {
         requires few { length entries.now ≤ 2 ^ 45 }
         ensures { IfOk result (λ out. StartsPackedOut (subsets_of entries.now) out) }
     {
-        let ends = ends_in(alloc, entries)?;
+        let mut ends = Vec::new(alloc);
+        for place in 0..entries.len() {
+            if entries.is_end(place) {
+                ends.push(place)?;
+            }
+        }
         if ends.is_empty() {
             return Ok(None);
         }
@@ -222,7 +214,7 @@ impl<'a, 'b> Row<'a, 'b> {
         requires { subset < length self.ends.now }
         ensures { (c : RowCell)
             → slice_get (cells_at self.entry.place (subsets_of self.entry.entries.now)) subset
-            ≡ Some c → entry_with result.0 result.1.now ≡ cell_entry c }
+            ≡ Some c → entry_with result.0 result.1.now ≡ entry_or_end c.draft c.end_line }
     {
         let start = if subset == 0 {
             0
@@ -307,33 +299,9 @@ fn all_at_end(row: Row<'_, '_>) -> Result<(), DraftFault>
     Ok(())
 }
 
-/// The octet at an index of a text that spaces follow.
-#[tactic(auto, using(crate::proofs::RowLemmas::octet_inside, crate::proofs::RowLemmas::octet_outside))]
-fn octet_at(octets: &[u8], place: usize) -> u8
-    ensures { result ≡ octet_in octets.now place }
-{
-    match octets.get(place) {
-        Some(octet) => *octet,
-        None => b' ',
-    }
-}
-
-/// Whether two texts are the same, with spaces up to `count` octets.
-fn same_text(one: &[u8], other: &[u8], count: usize) -> bool
-    requires one { length one.now ≤ count }
-    requires other { length other.now ≤ count }
-    ensures { result ≡ same_octets (spaced count one.now) (spaced count other.now) }
-{
-    for place in 0..count {
-        if octet_at(one, place) != octet_at(other, place) {
-            return false;
-        }
-    }
-    true
-}
-
 /// Whether two contents of a field are the same.
-#[tactic(auto, using(crate::proofs::RowLemmas::same_references, crate::proofs::RowLemmas::other_references))]
+#[tactic(auto, using(crate::proofs::RowLemmas::same_references, crate::proofs::RowLemmas::other_references, crate::proofs::RowLemmas::same_spaced, crate::proofs::FieldLemmas::spaced_prefix))]
+#[inline(always)]
 fn is_same(one: FieldContent<'_>, other: FieldContent<'_>, spec: &Spec) -> bool
     requires one { IsDrawn spec.now one }
     requires other { IsDrawn spec.now other }
@@ -343,7 +311,10 @@ fn is_same(one: FieldContent<'_>, other: FieldContent<'_>, spec: &Spec) -> bool
     let count = (spec.width() / 8) as usize;
     match (one, other) {
         (FieldContent::Number(a), FieldContent::Number(b)) => a == b,
-        (FieldContent::Text(a), FieldContent::Text(b)) => same_text(a, b, count),
+        (FieldContent::Text(a), FieldContent::Text(b)) if a.len() == b.len() => a == b,
+        (FieldContent::Text(a), FieldContent::Text(b)) => {
+            with_spaces(a)[..count] == with_spaces(b)[..count]
+        }
         (FieldContent::Missing, FieldContent::Missing) => true,
         (FieldContent::Reference(a), FieldContent::Reference(b)) => a == b,
         _ => false,
@@ -515,8 +486,7 @@ fn trimmed_len(octets: &[u8]) -> usize
     0
 }
 
-/// How many octets determine all texts, and one more where all are 255, so that none reads as
-/// missing.
+/// How many octets determine all texts, so that none reads as missing.
 #[tactic(auto, using(crate::proofs::RowLemmas::eighth_most, crate::proofs::RowLemmas::need_more, crate::proofs::RowLemmas::need_done, crate::proofs::RowLemmas::drawn_at))]
 // rule: packs-texts-not-missing
 fn octets_needed(drawn: &[FieldContent<'_>], spec: &Spec) -> usize

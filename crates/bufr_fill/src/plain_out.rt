@@ -1,7 +1,7 @@
 //! The writer of data that are not compressed, from the items of a dump text.
 ghost use Rattle.std.specs.Prelude.{◌≡◌, ◌≤◌, ◌+◌, ◌/◌, ◌^◌, ◌++◌, [], length, vec_len};
 ghost use Rattle.bufr_bits.specs.Prelude.{bits_of, padding};
-ghost use Rattle.bufr_fill.specs.PlainOut.{plain_out_model, line_at, EndsSubset};
+ghost use Rattle.bufr_fill.specs.Writers.{plain_out_model, line_at, EndsSubset};
 ghost use Rattle.std.proofs.Common.{ap};
 ghost use Rattle.bufr_fill.specs.Prelude.{PlainFills};
 
@@ -32,7 +32,7 @@ pub struct PlainOut<'s> {
 
 impl<'s> Model for PlainOut<'s> {
     ghost use Rattle.std.specs.Prelude.{length, drop};
-    ghost use Rattle.bufr_fill.specs.PlainOut.{PlainOutModel, plain_out_model, IsPlainOut};
+    ghost use Rattle.bufr_fill.specs.Writers.{PlainOutModel, plain_out_model, IsPlainOut};
 
     ghost Value = { PlainOutModel };
 

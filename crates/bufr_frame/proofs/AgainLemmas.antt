@@ -7,7 +7,8 @@ use Rattle.std.proofs.lemmas.Bool.{true≢false, cases_Bool}
 use Rattle.std.proofs.lemmas.List.{take-append-drop, get_or-take, get_or-drop}
 use Rattle.bufr_frame.specs.declared.fault.SectionFault.{SectionFault}
 use Rattle.bufr_frame.specs.declared.fault.SectionFault.TheVariants.{SectionShort, SectionPast}
-use Rattle.bufr_frame.specs.Prelude.{u24_at, u16_at, words, three_octets, two_octets, octets_of_words, Flags, is_edition, slots_of, slots_3, slots_4, first_least, octets_of_slots, slot_octets, slot_value, head_in, head_value, Field, Master, Centre, Subcentre, Update, Category, Subcategory, LocalSubcategory, MasterVersion, LocalVersion, Year, Month, Day, Hour, Minute, Second, Slot, Single, Double, is_for, width, read_slot, most, most_in, Sections, sections_of, section_end, parts, edition_of, slots_in, has_section2, head_of, is_long_edition_3, parts_if_end_matches, ◌>>=◌, IsPlain, section2_begins, section3_begins, section4_begins, parts_in, message_size, message_octets, section0_octets, section1_octets, section2_octets, section2_size, section3_octets, section4_octets, head_octets, data_flags, even_size, with_even_length, max_extra_octets, max_octets, IsFitting, is_writable, fits_3, Head}
+use Rattle.bufr_frame.specs.Prelude.{u24_at, u16_at, words, three_octets, two_octets, octets_of_words, is_edition, first_least, head_size, head_of, head_by_edition, flags_of, octet_at, head_3, head_4, octets_3, octets_4, values_of, mosts_of, Sections, sections_of, section_end, parts, edition_of, has_section2, is_long_edition_3, parts_if_end_matches, IsPlain, section2_begins, section3_begins, section4_begins, parts_in, message_size, message_octets, section0_octets, section1_octets, section2_octets, section2_size, section3_octets, section4_octets, head_octets, data_flags, even_size, with_even_length, max_extra_octets, max_octets, IsFitting, is_writable, Head}
+use Rattle.bufr_bits.specs.Prelude.{◌>>=◌}
 use Rattle.bufr_frame.proofs.LayoutLemmas.{length-octets_of_words, even-3, length-words}
 use Rattle.std.proofs.lemmas.List.Elements.{All-take, All-drop}
 use Rattle.std.proofs.lemmas.List.Folds.{drop_split}
@@ -268,21 +269,21 @@ module _ (m : List ℕ) (small : All (λ octet. octet < 256) m) where
   written centre subcentre year flag = get_or m 11 0 ∷ centre ++ subcentre ++ get_or m 16 0 ∷ flag ∷ get_or m 18 0 ∷ get_or m 19 0 ∷ get_or m 20 0 ∷ get_or m 21 0 ∷ get_or m 22 0 ∷ year
       ++ get_or m 25 0 ∷ get_or m 26 0 ∷ get_or m 27 0 ∷ get_or m 28 0 ∷ get_or m 29 0 ∷ []
 
-  head-written : (edition : ℕ) (b : Bool) → slot_octets slots_4 (head_value (head_in edition slots_4 m 11) b) ≡ written (two_octets (u16_at m 12)) (two_octets (u16_at m 14)) (two_octets (u16_at m 23)) (if b then 128 else 0)
+  head-written : (b : Bool) → octets_4 (head_4 m) (if b then 128 else 0) ≡ written (two_octets (u16_at m 12)) (two_octets (u16_at m 14)) (two_octets (u16_at m 23)) (if b then 128 else 0)
   unfolding written
-  head-written edition b = refl
+  head-written b = refl
 
   octets-written : octets_from 19 11 m ≡ written (get_or m 12 0 ∷ get_or m 13 0 ∷ []) (get_or m 14 0 ∷ get_or m 15 0 ∷ []) (get_or m 23 0 ∷ get_or m 24 0 ∷ []) (get_or m 17 0)
   unfolding written octets_from
   octets-written = refl
 
-  head-back-4 : (edition : ℕ) (b : Bool) → 30 ≤ length m → nat_le 128 (get_or m 17 0) ≡ b → get_or m 17 0 % 128 ≡ 0 → slot_octets slots_4 (head_value (head_in edition slots_4 m 11) b) ≡ octets_from 19 11 m
-  head-back-4 edition b long is reserved =
+  head-back-4 : (b : Bool) → 30 ≤ length m → nat_le 128 (get_or m 17 0) ≡ b → get_or m 17 0 % 128 ≡ 0 → octets_4 (head_4 m) (if b then 128 else 0) ≡ octets_from 19 11 m
+  head-back-4 b long is reserved =
       let c = word-back 12 (omega arith) in
       let s = word-back 14 (omega arith) in
       let y = word-back 23 (omega arith) in
       let f : (if b then 128 else 0) ≡ get_or m 17 0 = flag-back b (get_or m 17 0) is (small 17 0 (omega arith)) reserved in
-      head-written edition b ∙ (let e : written (two_octets (u16_at m 12)) (two_octets (u16_at m 14)) (two_octets (u16_at m 23)) (if b then 128 else 0)
+      head-written b ∙ (let e : written (two_octets (u16_at m 12)) (two_octets (u16_at m 14)) (two_octets (u16_at m 23)) (if b then 128 else 0)
       ≡ written (get_or m 12 0 ∷ get_or m 13 0 ∷ []) (get_or m 14 0 ∷ get_or m 15 0 ∷ []) (get_or m 23 0 ∷ get_or m 24 0 ∷ []) (get_or m 17 0) =
       ap (λ l. written l (two_octets (u16_at m 14)) (two_octets (u16_at m 23)) (if b then 128 else 0)) c
       ∙ ap (λ l. written (get_or m 12 0 ∷ get_or m 13 0 ∷ []) l (two_octets (u16_at m 23)) (if b then 128 else 0)) s
@@ -294,31 +295,35 @@ module _ (m : List ℕ) (small : All (λ octet. octet < 256) m) where
   written-3 flag = get_or m 11 0 ∷ get_or m 12 0 ∷ get_or m 13 0 ∷ get_or m 14 0 ∷ flag ∷ get_or m 16 0 ∷ get_or m 17 0 ∷ get_or m 18 0 ∷ get_or m 19 0 ∷ get_or m 20 0
       ∷ get_or m 21 0 ∷ get_or m 22 0 ∷ get_or m 23 0 ∷ get_or m 24 0 ∷ []
 
-  head-written-3 : (edition : ℕ) (b : Bool) → slot_octets slots_3 (head_value (head_in edition slots_3 m 11) b) ≡ written-3 (if b then 128 else 0)
+  head-written-3 : (b : Bool) → octets_3 (head_3 m) (if b then 128 else 0) ≡ written-3 (if b then 128 else 0)
   unfolding written-3
-  head-written-3 edition b = refl
+  head-written-3 b = refl
 
   octets-written-3 : octets_from 14 11 m ≡ written-3 (get_or m 15 0)
   unfolding written-3 octets_from
   octets-written-3 = refl
 
-  head-back-3 : (edition : ℕ) (b : Bool) → 25 ≤ length m → nat_le 128 (get_or m 15 0) ≡ b → get_or m 15 0 % 128 ≡ 0 → slot_octets slots_3 (head_value (head_in edition slots_3 m 11) b) ≡ octets_from 14 11 m
-  head-back-3 edition b long is reserved =
-      head-written-3 edition b ∙ ap written-3 (flag-back b (get_or m 15 0) is (small 15 0 (omega arith)) reserved) ∙ sym octets-written-3
+  head-back-3 : (b : Bool) → 25 ≤ length m → nat_le 128 (get_or m 15 0) ≡ b → get_or m 15 0 % 128 ≡ 0 → octets_3 (head_3 m) (if b then 128 else 0) ≡ octets_from 14 11 m
+  head-back-3 b long is reserved =
+      head-written-3 b ∙ ap written-3 (flag-back b (get_or m 15 0) is (small 15 0 (omega arith)) reserved) ∙ sym octets-written-3
 
-  head-back : (b : Bool) → is_edition (edition_of m) ≡ true → 8 + first_least (edition_of m) ≤ length m → has_section2 m ≡ b → slot_value (slots_in m) m 11 Flags % 128 ≡ 0
-      → head_octets (head_of m) b ≡ octets_from (octets_of_slots (slots_in m)) 11 m
+  head-back : (b : Bool) → is_edition (edition_of m) ≡ true → 8 + first_least (edition_of m) ≤ length m → has_section2 m ≡ b → flags_of m % 128 ≡ 0
+      → head_octets (head_of m) b ≡ octets_from (head_size (edition_of m)) 11 m
+  unfolding head_by_edition head_size
   head-back b known long is reserved =
-      let P : ℕ → Type 0 = λ n. 8 + first_least n ≤ length m → nat_le 128 (slot_value (slots_of n) m 11 Flags) ≡ b → slot_value (slots_of n) m 11 Flags % 128 ≡ 0
-      → slot_octets (slots_of n) (head_value (head_in (edition_of m) (slots_of n) m 11) b) ≡ octets_from (octets_of_slots (slots_of n)) 11 m in
+      let flags = if b then 128 else 0 in
+      let F : ℕ → ℕ = λ n. octet_at m (if n == 3 then 8 else 10) in
+      let H : ℕ → Head = λ n. record (if n == 3 then head_3 m else head_4 m) { edition = edition_of m } in
+      let P : ℕ → Type 0 = λ n. 8 + first_least n ≤ length m → nat_le 128 (F n) ≡ b → F n % 128 ≡ 0
+      → (if n == 3 then octets_3 (H n) flags else octets_4 (H n) flags) ≡ octets_from (head_size n) 11 m in
       edition-cases (edition_of m) known
-      (λ e. subst P (sym e) (head-back-3 (edition_of m) b) long is reserved)
-      (λ e. subst P (sym e) (head-back-4 (edition_of m) b) long is reserved)
+      (λ e. subst P (sym e) (head-back-3 b) long is reserved)
+      (λ e. subst P (sym e) (head-back-4 b) long is reserved)
 
-  first-back : (b : Bool) (p : ℕ) → is_edition (edition_of m) ≡ true → 8 + first_least (edition_of m) ≤ p → p ≤ length m → p ≡ 8 + u24_at m 8 → has_section2 m ≡ b → slot_value (slots_in m) m 11 Flags % 128 ≡ 0
+  first-back : (b : Bool) (p : ℕ) → is_edition (edition_of m) ≡ true → 8 + first_least (edition_of m) ≤ p → p ≤ length m → p ≡ 8 + u24_at m 8 → has_section2 m ≡ b → flags_of m % 128 ≡ 0
       → section1_octets (head_of m) (slice_range m (8 + first_least (edition_of m)) p) b ≡ slice_range m 8 p
   first-back b p known fits within long is reserved =
-      let k = octets_of_slots (slots_in m) in
+      let k = head_size (edition_of m) in
       let from = 8 + first_least (edition_of m) in
       let x = slice_range m from p in
       let n : first_least (edition_of m) + length x ≡ u24_at m 8 = omega (arith, slice-long m from p within, long) in
@@ -497,53 +502,61 @@ up a b h = grind arith
 -- ---- heads that can be written
 
 pub writable-4 : (h : Head) → h.edition ≡ 4 → is_writable h ≡ true
-writable-4 h e = ap (λ n. (n == 4) || ((n == 3) && (fits_3 h Centre && (fits_3 h Subcentre && (fits_3 h Year && (fits_3 h LocalSubcategory && fits_3 h Second)))))) e
+writable-4 h e = ap (λ n. (n == 4) || ((n == 3) && (nat_le h.centre 255 && (nat_le h.subcentre 255 && (nat_le h.year 255 && (nat_le h.local_subcategory 0 && nat_le h.second 0)))))) e
 
 pub writable-3 : (h : Head) → h.edition ≡ 3 → h.centre ≤ 255 → h.subcentre ≤ 255 → h.year ≤ 255 → h.local_subcategory ≤ 0 → h.second ≤ 0 → is_writable h ≡ true
 writable-3 h e c s y l z = grind (arith, common_steps)
 
 pub fitting-writable : (h : Head) → IsFitting h → is_writable h ≡ true
 fitting-writable h fits =
-    let bound : (field : Field) → h.edition ≡ 3 → head_value h false field ≤ most_in slots_3 field = λ field is. subst (λ n. head_value h false field ≤ most_in (slots_of n) field) is (fits.fits field) in
+    let bound : (i : ℕ) → h.edition ≡ 3 → slice_index (values_of h) i ≤ slice_index (mosts_of 3) i = λ i is. subst (λ n. slice_index (values_of h) i ≤ slice_index (mosts_of n) i) is (fits.fits i) in
     edition-cases h.edition fits.edition
-    (λ is. writable-3 h is (bound Centre is) (bound Subcentre is) (bound Year is) (bound LocalSubcategory is) (bound Second is))
+    (λ is. writable-3 h is (bound 1 is) (bound 2 is) (bound 9 is) (bound 6 is) (bound 14 is))
     (λ is. writable-4 h is)
+
+-- what holds of the greatest values of both editions
+pub by-third : (P : List ℕ → Type 0) (e : ℕ) → P (mosts_of 3) → P (mosts_of 4) → P (mosts_of e)
+by-third P e of_3 of_4 = by (e == 3)
+  where
+    by : (third : Bool) → P (let wide = if third then 255 else 65535 in let late = if third then 0 else 255 in 255 ∷ wide ∷ wide ∷ 255 ∷ 255 ∷ 255 ∷ late ∷ 255 ∷ 255 ∷ wide ∷ 255 ∷ 255 ∷ 255 ∷ 255 ∷ late ∷ [])
+    by true = of_3
+    by false = of_4
 
 -- ---- the head of a message
 
-slot-most : (m : List ℕ) (p : ℕ) (slot : Slot) → ((i : ℕ) → slice_index m i < 256) → read_slot m p slot ≤ most slot
-slot-most m p (Single field) small = omega (arith, small p)
-slot-most m p (Double field) small = omega (arith, small p, small (p + 1))
+-- each number is at most that at its place
+abbrev pub AreAtMost : List ℕ → List ℕ → Type 0
+AreAtMost [] ys = Unit {0}
+AreAtMost (x ∷ xs) [] = ⊥
+AreAtMost (x ∷ xs) (y ∷ ys) = (x ≤ y) × AreAtMost xs ys
 
-pick : (b : Bool) (x y u v : ℕ) → x ≤ u → y ≤ v → (if b then x else y) ≤ (if b then u else v)
-pick true x y u v h k = h
-pick false x y u v h k = k
+pub at-most : (xs ys : List ℕ) → AreAtMost xs ys → (i : ℕ) → slice_index xs i ≤ slice_index ys i
+at-most [] ys all i = omega arith
+at-most (x ∷ xs) [] all i = absurd all
+at-most (x ∷ xs) (y ∷ ys) all zero = all.0
+at-most (x ∷ xs) (y ∷ ys) all (suc i) = at-most xs ys all.1 i
 
-value-fits : (slots : List Slot) (m : List ℕ) (p : ℕ) (field : Field) → ((i : ℕ) → slice_index m i < 256) → slot_value slots m p field ≤ most_in slots field
-value-fits [] m p field small = omega arith
-value-fits (slot ∷ more) m p field small =
-    pick (is_for field slot) (read_slot m p slot) (slot_value more m (p + width slot) field) (most slot) (most_in more field) (slot-most m p slot small) (value-fits more m (p + width slot) field small)
+module _ (m : List ℕ) (small : (i : ℕ) → slice_index m i < 256) where
+  byte : (i : ℕ) → slice_index m i ≤ 255
+  byte i = omega (arith, small i)
 
-head-fits : (edition : ℕ) (slots : List Slot) (m : List ℕ) (p : ℕ) → ((i : ℕ) → slice_index m i < 256) → (field : Field) → head_value (head_in edition slots m p) false field ≤ most_in slots field
-head-fits edition slots m p small Master = value-fits slots m p Master small
-head-fits edition slots m p small Centre = value-fits slots m p Centre small
-head-fits edition slots m p small Subcentre = value-fits slots m p Subcentre small
-head-fits edition slots m p small Update = value-fits slots m p Update small
-head-fits edition slots m p small Flags = omega arith
-head-fits edition slots m p small Category = value-fits slots m p Category small
-head-fits edition slots m p small Subcategory = value-fits slots m p Subcategory small
-head-fits edition slots m p small LocalSubcategory = value-fits slots m p LocalSubcategory small
-head-fits edition slots m p small MasterVersion = value-fits slots m p MasterVersion small
-head-fits edition slots m p small LocalVersion = value-fits slots m p LocalVersion small
-head-fits edition slots m p small Year = value-fits slots m p Year small
-head-fits edition slots m p small Month = value-fits slots m p Month small
-head-fits edition slots m p small Day = value-fits slots m p Day small
-head-fits edition slots m p small Hour = value-fits slots m p Hour small
-head-fits edition slots m p small Minute = value-fits slots m p Minute small
-head-fits edition slots m p small Second = value-fits slots m p Second small
+  two : (i : ℕ) → u16_at m i ≤ 65535
+  two i = omega (arith, small i, small (i + 1))
 
-head-of-fits : (m : List ℕ) → ((i : ℕ) → slice_index m i < 256) → is_edition (edition_of m) ≡ true → IsFitting (head_of m)
-head-of-fits m small known = record { edition = known; fits = head-fits (edition_of m) (slots_in m) m 11 small }
+  head-3-fits : AreAtMost (values_of (head_3 m)) (mosts_of 3)
+  head-3-fits = (byte 11, (byte 13, (byte 12, (byte 14, (byte 16, (byte 17, ((omega arith), (byte 18, (byte 19, (byte 20, (byte 21, (byte 22, (byte 23, (byte 24, ((omega arith), tt)))))))))))))))
+
+  head-4-fits : AreAtMost (values_of (head_4 m)) (mosts_of 4)
+  head-4-fits = (byte 11, (two 12, (two 14, (byte 16, (byte 18, (byte 19, (byte 20, (byte 21, (byte 22, (two 23, (byte 25, (byte 26, (byte 27, (byte 28, (byte 29, tt)))))))))))))))
+
+  head-of-fits : is_edition (edition_of m) ≡ true → IsFitting (head_of m)
+  unfolding head_by_edition
+  head-of-fits known =
+      edition-cases (edition_of m) known
+      (λ e. let h : head_of m ≡ head_3 m = ap (λ n. record (if n == 3 then head_3 m else head_4 m) { edition = edition_of m }) e in
+      subst IsFitting (sym h) (record { edition = known; fits = λ i. subst (λ n. slice_index (values_of (head_3 m)) i ≤ slice_index (mosts_of n) i) (sym e) (at-most (values_of (head_3 m)) (mosts_of 3) head-3-fits i) }))
+      (λ e. let h : head_of m ≡ head_4 m = ap (λ n. record (if n == 3 then head_3 m else head_4 m) { edition = edition_of m }) e in
+      subst IsFitting (sym h) (record { edition = known; fits = λ i. subst (λ n. slice_index (values_of (head_4 m)) i ≤ slice_index (mosts_of n) i) (sym e) (at-most (values_of (head_4 m)) (mosts_of 4) head-4-fits i) }))
 
 pub heads-fit : (m : List ℕ) (s : Sections) → ((i : ℕ) → slice_index m i < 256) → sections_of m ≡ Ok s → IsFitting s.head
 heads-fit m s small is = let e = sections-ended m s is in subst (λ (x : Sections). IsFitting x.head) (sym e.is) (head-of-fits m small e.edition)
@@ -554,85 +567,18 @@ flag-small : (b : Bool) → (if b then 128 else 0) < 256
 flag-small true = omega arith
 flag-small false = omega arith
 
-high : (w : ℕ) → w ≤ 65535 → w / 256 < 256
-high w h = omega (arith, h)
+head-3 : (h : Head) (b : Bool) → ((i : ℕ) → slice_index (values_of h) i ≤ slice_index (mosts_of 3) i) → AllByRecursion (λ octet. octet < 256) (octets_3 h (if b then 128 else 0))
+head-3 h b fits =
+    let f0 = fits 0 in let f1 = fits 1 in let f2 = fits 2 in let f3 = fits 3 in let f4 = fits 4 in let f5 = fits 5 in let f6 = fits 7 in let f7 = fits 8 in let f8 = fits 9 in let f9 = fits 10 in let f10 = fits 11 in let f11 = fits 12 in let f12 = fits 13 in let f13 = flag-small b in
+    grind (arith, common_steps)
 
-low : (w : ℕ) → w % 256 < 256
-low w = omega arith
-
-one : (n : ℕ) → n ≤ 255 → n < 256
-one n h = omega (arith, h)
-
-head-3 : (h : Head) (b : Bool) → ((field : Field) → head_value h false field ≤ most_in slots_3 field) → AllByRecursion (λ octet. octet < 256) (slot_octets slots_3 (head_value h b))
-head-3 h b fits = (
-  one h.master (fits Master),
-  (
-    one h.subcentre (fits Subcentre),
-    (
-      one h.centre (fits Centre),
-      (
-        one h.update (fits Update),
-        (
-          flag-small b,
-          (
-            one h.category (fits Category),
-            (
-              one h.subcategory (fits Subcategory),
-              (one h.master_version (fits MasterVersion), (one h.local_version (fits LocalVersion), (one h.year (fits Year), (one h.month (fits Month), (one h.day (fits Day), (one h.hour (fits Hour), (one h.minute (fits Minute), tt))))))),
-            ),
-          ),
-        ),
-      ),
-    ),
-  ),
-)
-
-head-4 : (h : Head) (b : Bool) → ((field : Field) → head_value h false field ≤ most_in slots_4 field) → AllByRecursion (λ octet. octet < 256) (slot_octets slots_4 (head_value h b))
-head-4 h b fits = (
-  one h.master (fits Master),
-  (
-    high h.centre (fits Centre),
-    (
-      low h.centre,
-      (
-        high h.subcentre (fits Subcentre),
-        (
-          low h.subcentre,
-          (
-            one h.update (fits Update),
-            (
-              flag-small b,
-              (
-                one h.category (fits Category),
-                (
-                  one h.subcategory (fits Subcategory),
-                  (
-                    one h.local_subcategory (fits LocalSubcategory),
-                    (
-                      one h.master_version (fits MasterVersion),
-                      (
-                        one h.local_version (fits LocalVersion),
-                        (
-                          high h.year (fits Year),
-                          (
-                            low h.year,
-                            (one h.month (fits Month), (one h.day (fits Day), (one h.hour (fits Hour), (one h.minute (fits Minute), (one h.second (fits Second), tt))))),
-                          ),
-                        ),
-                      ),
-                    ),
-                  ),
-                ),
-              ),
-            ),
-          ),
-        ),
-      ),
-    ),
-  ),
-)
+head-4 : (h : Head) (b : Bool) → ((i : ℕ) → slice_index (values_of h) i ≤ slice_index (mosts_of 4) i) → AllByRecursion (λ octet. octet < 256) (octets_4 h (if b then 128 else 0))
+head-4 h b fits =
+    let f0 = fits 0 in let f1 = fits 1 in let f2 = fits 2 in let f3 = fits 3 in let f4 = fits 4 in let f5 = fits 5 in let f6 = fits 6 in let f7 = fits 7 in let f8 = fits 8 in let f9 = fits 9 in let f10 = fits 10 in let f11 = fits 11 in let f12 = fits 12 in let f13 = fits 13 in let f14 = fits 14 in let f15 = flag-small b in
+    grind (arith, common_steps)
 
 pub head-small : (h : Head) (b : Bool) → IsFitting h → AllByRecursion (λ octet. octet < 256) (head_octets h b)
 head-small h b g =
-    let P : ℕ → Type 0 = λ n. ((field : Field) → head_value h false field ≤ most_in (slots_of n) field) → AllByRecursion (λ octet. octet < 256) (slot_octets (slots_of n) (head_value h b)) in
+    let flags = if b then 128 else 0 in
+    let P : ℕ → Type 0 = λ n. ((i : ℕ) → slice_index (values_of h) i ≤ slice_index (mosts_of n) i) → AllByRecursion (λ octet. octet < 256) (if n == 3 then octets_3 h flags else octets_4 h flags) in
     edition-cases h.edition g.edition (λ e. subst P (sym e) (head-3 h b) g.fits) (λ e. subst P (sym e) (head-4 h b) g.fits)

@@ -1,49 +1,46 @@
 -- Steps and calls of a finder, and the reads that they make.
-use Rattle.std.proofs.Common.{◌≡◌, ℕ, ◌+◌, ◌-◌, ◌<◌, ◌≤◌, List, [], ◌++◌, sym, ◌∙◌, ap, subst, arith, Option, Ok, Err, append_assoc, append-nil, ◌∷◌, length, take, drop, refl, length-take, length-drop, inl, inr, Bool, true, false, length-append, ◌⊎◌, ◌*◌, zero, suc, codes, Result, slice_range, take_while, Some, None, max}
+use Rattle.std.proofs.Common.{◌≡◌, ◌≢◌, ◌^◌, ℕ, ◌+◌, ◌-◌, ◌<◌, ◌≤◌, List, [], ◌++◌, sym, ◌∙◌, ap, subst, arith, Option, Ok, Err, append_assoc, append-nil, ◌∷◌, length, take, drop, refl, length-take, length-drop, inl, inr, Bool, true, false, length-append, ◌⊎◌, ◌*◌, zero, suc, codes, Result, slice_range, take_while, Some, None, max}
 use Rattle.std.specs.Io.KnownBytes.{Consumes, IsAtEnd}
 use Rattle.std.proofs.KnownBytes.{Consumes-nil, Consumes-trans}
 use Rattle.bufr_bits.specs.Prelude.{counted}
 use Rattle.bufr_bits.proofs.CountLemmas.{counted-counted, counted-none}
-use Rattle.bufr_frame.specs.Prelude.{AddsReads, max_reads, ReadsOnce, ReadsInput, InputEnds, FillFails, FillEnds, Candidate, StreamEvent, FrameAt, scan, scan_from, open_scan, stream_event, candidate_len, is_decided, Advances, NoEventCertain, first_event, StrayAt, has_word_at, classify, length_here, longest_of, offset_of, IsNextEvent, IsIncomplete, event_by, gone_to, ReadsMore, FinderModel, ReadsAndPasses, Follows, CountsReads, new_finder, IsStatedLength, input_left, RaisesLongest, HasNoMoreEvents, held, EachReadIsNeeded, CallReadsAreNeeded, ReturnsNextEvent, LeavesFinder, events_returned}
+use Rattle.bufr_frame.specs.Prelude.{AddsReads, max_reads, InputModel, FillsInput, ReadsOnce, FillFails, FillEnds, Candidate, StreamEvent, FrameAt, scan, scan_from, open_scan, stream_event, candidate_len, is_decided, Advances, NoEventCertain, first_event, StrayAt, has_word_at, classify, length_here, longest_of, offset_of, IsNextEvent, IsIncomplete, gone_to, stated_length, StartsWithBufr, FinderModel, ReadsAndPasses, Follows, new_finder, IsStatedLength, RaisesLongest, HasNoMoreEvents, held, EachReadIsNeeded, CallReadsAreNeeded, ReturnsNextEvent, LeavesFinder, events_returned}
 use Rattle.bufr_frame.specs.declared.fault.RunFault.{RunFault}
 use Rattle.bufr_frame.specs.declared.fault.RunFault.TheVariants.{Read, Write, InputTooLong, Memory}
-use Rattle.std.proofs.lemmas.List.{drop-take, take_all, take_at, drop-append-le}
-use Rattle.std.proofs.Math.Seq.{take-add}
-use Rattle.bufr_frame.proofs.ScanLemmas.{Raised, drop-twice, take_while-all, open-sees, raised-open, raised-read, scan_from-nil, scan_from-here, scan_from-nothing, verdict-nothing, taken-bounds, cut-so, length-eight, stated-prefix}
-use Rattle.std.specs.List.{list_all, concat}
+use Rattle.std.proofs.lemmas.List.{drop-take, take-take, take-append-le, drop-append-le}
+use Rattle.std.proofs.Math.Seq.{take-add, take-append-add}
+use Rattle.bufr_frame.proofs.ScanLemmas.{all-then, scan-on, Raised, found-sees, drop-twice, take_while-all, open-sees, raised-open, raised-read, scan_from-nil, scan_from-here, scan_from-nothing, verdict-nothing, taken-bounds, cut-so, length-eight, stated-prefix}
+use Rattle.std.specs.List.{AllByRecursion, list_all, concat}
 use Rattle.std.proofs.lemmas.Bool.{true≢false, cases_Bool, false≢true, cases_lt, and_parts}
 use Rattle.std.proofs.lemmas.Grind.{common_steps}
 use Rattle.bufr_frame.specs.declared.finder.Candidate.TheVariants.{Nothing, Stray, Frame}
 use Rattle.bufr_frame.specs.declared.fault.Cause.TheVariants.{Cut}
 use Rattle.bufr_frame.specs.declared.finder.Event.{Event}
-use Rattle.std.proofs.lemmas.List.Folds.{concat-append}
+use Rattle.bufr_frame.specs.declared.finder.SearchResult.{SearchResult}
+use Rattle.bufr_frame.specs.Finder.{IsSearchResult, ReadsOn, first_left}
+use Rattle.std.specs.Option.{IfSome}
+use Rattle.std.specs.Result.{MatchResult}
+use Rattle.std.proofs.lemmas.List.Folds.{concat-append, list_all-append}
 use Rattle.bufr_frame.specs.declared.finder.Event.TheVariants as event
+
+-- the input of a finder as far as it is left
+abbrev pub input_left : FinderModel → InputModel
+input_left s = record { held = s.rest; ended = s.ended; reads = s.reads; room = s.room; free = 0 }
+
+-- One read: octets come after those that are left, or the end was reached, or a fault stops it.
+pub record ReadsMore (left left' : Option (List ℕ)) (old new : FinderModel)
+    (result : Result (Unit {0}) RunFault) (bs : List ℕ) : Type 0 where
+  pub fills : FillsInput left left' (input_left old) (input_left new)
+      (old.room < 2 * max 4096 old.longest) result bs
+  pub at : new.at ≡ old.at
+  pub fault : MatchResult result (λ _. new.fault ≡ None) (λ fault. new.fault ≡ Some fault)
+  pub longest : new.longest ≡ old.longest
 
 -- octets were read and follow those that were held
 pub record ReadSoFar (left mid : Option (List ℕ)) (old now : List ℕ) : Type 0 where
   pub octets : List ℕ
   pub read : Consumes left mid octets
   pub held : now ≡ old ++ octets
-
-pub read-none : (left : Option (List ℕ)) (old : List ℕ) → ReadSoFar left left old old
-read-none left old = record { octets = []; read = Consumes-nil left; held = sym (append-nil old) }
-
--- octets are kept where room is made after them
-pub kept-first : (xs ys zs : List ℕ) (held n : ℕ) → held ≡ length xs → ys ≡ take n xs ++ zs → length xs ≤ n → take held ys ≡ xs
-kept-first xs ys zs held n len is most = ap (take held) (is ∙ ap (λ l. l ++ zs) (take_all n xs most)) ∙ take_at xs zs held (sym len)
-
-pub read-more : (left mid left' : Option (List ℕ)) (old now now' bs : List ℕ) (result : Result ℕ RunFault)
-    → ReadSoFar left mid old now → ReadsOnce mid left' now now' result bs → ReadSoFar left left' old now'
-read-more left mid left' old now now' bs result before once = record {
-  octets = before.octets ++ bs;
-  read = Consumes-trans left mid left' before.octets bs before.read once.read;
-  held = once.held ∙ ap (λ l. l ++ bs) before.held ∙ append_assoc old before.octets bs;
-}
-
--- what was read so far is all that was read
-pub reads-input : {X : Type 0} (left left' : Option (List ℕ)) (old now : List ℕ) (reads : ℕ) (result : Result X RunFault)
-    → ReadSoFar left left' old now → InputEnds left' reads result → (bs : List ℕ) × ReadsInput left left' old now reads result bs
-reads-input left left' old now reads result so_far ends = (so_far.octets, record { read = so_far.read; held = so_far.held; ends = ends })
 
 -- no read, no more reads, and reads after others
 pub adds-none : (reads made : ℕ) → made ≤ max_reads → AddsReads reads reads made made
@@ -60,19 +57,9 @@ adds-then a b c before made after one more = record {
   most = more.most;
 }
 
--- one more read
-pub adds-one : (a b c before made : ℕ) → AddsReads a b before made → c ≡ counted b 1 → made < max_reads → AddsReads a c before (made + 1)
-adds-one a b c before made one more few =
-    let e : 1 ≡ made + 1 - made = omega arith in
-    adds-then a b c before made (made + 1) one (record { made = more ∙ ap (counted b) e; order = omega arith; most = omega (arith, few) })
-
 -- a read failed
 pub read-fault : (mid left' : Option (List ℕ)) (now now' bs : List ℕ) (result : Result ℕ RunFault) (fault : RunFault) → result ≡ Err fault → ReadsOnce mid left' now now' result bs → fault ≡ Read
 read-fault mid left' now now' bs result fault is once = (rw is at once.outcome).0
-
--- a read reached the end
-pub read-end : (mid left' : Option (List ℕ)) (now now' bs : List ℕ) (result : Result ℕ RunFault) (n : ℕ) → result ≡ Ok n → n ≡ 0 → ReadsOnce mid left' now now' result bs → IsAtEnd left'
-read-end mid left' now now' bs result n is none once = (rw is at once.outcome).1 none
 
 -- ---- Parts of a buffer.
 
@@ -90,21 +77,25 @@ part-drop s b c n order =
 pub part-length : (s : List ℕ) (a b : ℕ) → b ≤ length s → length (slice_range s a b) ≡ b - a
 part-length s a b within = omega (arith, length-take (b - a) (drop a s), length-drop a s)
 
--- what was read follows what was held, where the buffer was lent as a slice
-pub after-read : (a b : Option (List ℕ)) (items lent room : List ℕ) (filled to size n : ℕ) → lent ≡ items → size ≡ length items → length room ≡ length lent → take filled room ≡ take filled lent
-    → filled + n ≤ to → to ≤ size → Consumes a b (take n (drop filled room)) → (n ≡ 0 → IsAtEnd b)
-    → (bs : List ℕ) × ReadsOnce a b (take filled items) (take (filled + length bs) (take size (room ++ drop (length room) items))) (Ok n) bs
-after-read a b items lent room filled to size n same sizes long prefix fits within read end =
-    let bs = take n (drop filled room) in
-    let whole : length room ≡ size = omega (arith, ap length same) in
-    let count : n ≡ length bs = omega (arith, length-take n (drop filled room), length-drop filled room) in (
-      bs,
+-- what was read follows what was held, where a part of the buffer was lent
+pub after-read : (a b : Option (List ℕ)) (items lent buf post more : List ℕ) (filled to size n : ℕ) → lent ≡ items → size ≡ length items → length buf ≡ length (take (to - filled) (drop filled lent))
+    → n ≤ length buf → filled < to → to ≤ size → Consumes a b (take n buf) → (n ≡ 0 → 0 < length buf → IsAtEnd b)
+    → (bs : List ℕ) × ReadsOnce a b (take filled items) (take (filled + length bs) (take size (take filled lent ++ (buf ++ post) ++ more))) (Ok n) bs
+after-read a b items lent buf post more filled to size n same sizes long fits order within read end =
+    let some : length buf ≡ to - filled = omega (arith, long, length-take (to - filled) (drop filled lent), length-drop filled lent, ap length same) in
+    let count : n ≡ length (take n buf) = omega (arith, length-take n buf) in
+    let start : length (take filled lent) ≡ filled = omega (arith, length-take filled lent, ap length same) in
+    let whole = take filled lent ++ (buf ++ post) ++ more in
+    let seam : take (filled + n) whole ≡ take filled lent ++ take n (buf ++ (post ++ more)) =
+    ap (take (filled + n)) (append_assoc (take filled lent) (buf ++ post) more ∙ ap (λ l. take filled lent ++ l) (append_assoc buf post more))
+    ∙ (let at = take-append-add (take filled lent) (buf ++ (post ++ more)) n in rw start at at) in (
+      take n buf,
       record {
         read = read;
-        held = ap (λ k. take (filled + k) (take size (room ++ drop (length room) items))) (sym count)
-            ∙ ap (take (filled + n)) (take_at room (drop (length room) items) size whole)
-            ∙ take-add filled n room ∙ ap (λ l. l ++ bs) (prefix ∙ ap (take filled) same);
-        outcome = (count, end);
+        held = ap (λ k. take (filled + k) (take size whole)) (sym count)
+            ∙ take-take (filled + n) size whole (omega (arith, some)) ∙ seam
+            ∙ ap (λ l. take filled lent ++ l) (take-append-le n buf (post ++ more) fits) ∙ ap (λ l. take filled l ++ take n buf) same;
+        outcome = (count, λ none. end none (omega (arith, some)));
       },
     )
 
@@ -117,9 +108,6 @@ empty-of [] none = refl
 empty-of (x ∷ l) none = absurd (omega (arith, none))
 
 -- ---- Steps of a finder, one after another.
-
-all-append : (xs ys : List StreamEvent) → list_all is_decided xs ≡ true → list_all is_decided ys ≡ true → list_all is_decided (xs ++ ys) ≡ true
-all-append xs ys p q = grind (arith, common_steps)
 
 -- one step after another
 pub Advances-then : (e e' : Bool) (at at' at'' : ℕ) (r r' r'' bs : List ℕ) (es es' : List StreamEvent)
@@ -134,7 +122,7 @@ Advances-then e e' at at' at'' r r' r'' bs es es' kept one u16_at = record {
       ∙ sym (append_assoc es es' (scan_from 0 at'' (r'' ++ t)));
   decided = λ going.
       let before : e ≡ false = elim (cases_Bool e) [ inl end ↦ absurd (true≢false (sym (kept end).0 ∙ going)) | inr open' ↦ open' ] in
-      all-append es es' (one.decided before) (u16_at.decided going);
+      list_all-append is_decided es es' ∙ rw (one.decided before, u16_at.decided going) refl;
 }
 
 pub Advances-none : (e : Bool) (at : ℕ) (r : List ℕ) → Advances e at r [] at r
@@ -197,23 +185,24 @@ module _ (left mid : Option (List ℕ)) (old s s' : FinderModel) (bs : List ℕ)
         end = λ _. next.fills.end;
       }
 
-event-is : (s : FinderModel) (m before : List ℕ) (offset : ℕ) (here : Candidate) → s.before ≡ before ++ take (candidate_len m here) m → candidate_len m here ≤ length m
-    → event_by s offset (candidate_len m here) here ≡ stream_event offset m here
-event-is s m before offset Nothing is within = refl
-event-is s m before offset (Stray cause) is within = refl
-event-is s m before offset Frame is within = grind (arith, common_steps)
+-- the octets that were put last
+event-octets : (before m : List ℕ) (len : ℕ) → len ≤ length m → drop (length (before ++ take len m) - len) (before ++ take len m) ≡ take len m
+event-octets before m len within = grind (arith, common_steps)
 
--- the event that a finder passes
-module _ (old s s' : FinderModel) (place len size : ℕ) (here : Candidate) (found : IsNextEvent old.ended old.rest place here)
-    (is : s ≡ gone_to old place size) (takes : len ≡ candidate_len s.rest here) (is' : s' ≡ gone_to s len 0) where
-  pub found-step : Advances s'.ended old.at old.rest (event_by s' s.at len here) s'.at s'.rest
-  found-step =
-      let m = drop place old.rest in
-      let k = candidate_len m here in
-      let D : List StreamEvent → Type 0 = λ e. Advances old.ended old.at old.rest e (old.at + place + k) (drop k m) in
-      rw is' (rw takes (rw is
-      (subst D (sym (event-is (gone_to (gone_to old place size) k 0) m (old.before ++ take place old.rest) (old.at + place) here refl (omega (arith, found.within, length-drop place old.rest))))
-      (rw (drop-twice k place old.rest) (found.advances old.at)))))
+-- what octets show, where they are those that are left
+pub shows : (ended ended' : Bool) (rest rest' : List ℕ) (result : SearchResult) → ended ≡ ended' → rest ≡ rest' → IsSearchResult ended rest result → IsSearchResult ended' rest' result
+shows ended ended' rest rest' result end same is = rw (sym end) (rw (sym same) is)
+
+-- the octets that an event takes, as the code has them
+pub takes-frame : (ended : Bool) (rest : List ℕ) (place size len : ℕ) (here : Candidate) → IsNextEvent ended rest place here → IsStatedLength (drop place rest) size → here ≡ Frame → len ≡ size → len ≡ candidate_len (drop place rest) here
+takes-frame ended rest place size len here found stated is same =
+    let long : 8 ≤ length (drop place rest) = omega (arith, found.frame is, found.within, ap (candidate_len (drop place rest)) is, length-drop place rest) in
+    same ∙ stated.0 ∙ length-eight (drop place rest) long ∙ sym (ap (candidate_len (drop place rest)) is)
+
+pub takes-other : (m : List ℕ) (len : ℕ) (here : Candidate) → here ≢ Nothing → here ≢ Frame → len ≡ 4 → len ≡ candidate_len m here
+takes-other m len Nothing some other same = absurd (some refl)
+takes-other m len (Stray cause) some other same = same
+takes-other m len Frame some other same = absurd (other refl)
 
 module _ (left mid : Option (List ℕ)) (old s s' : FinderModel) (bs : List ℕ) (step : ReadsAndPasses left mid old s bs []) where
   -- a turn that needs more octets passes those that are no event's
@@ -222,10 +211,8 @@ module _ (left mid : Option (List ℕ)) (old s s' : FinderModel) (bs : List ℕ)
       pass-step left mid old s s' bs [] [] step (ap (λ x. x.ended) is) (ap (λ x. x.reads) is) (rw is (rw going (open'.advances s.at)))
       (rw is (record { passed = place; within = open'.within; offset = refl; left = refl }))
 
--- the scan of octets is the events that were passed and those of what is left
 pub whole-scan : (ended : Bool) (s rest : List ℕ) (events : List StreamEvent) (at : ℕ) → Advances ended 0 s events at rest → scan s ≡ events ++ scan_from 0 at rest
-whole-scan ended s rest events at advances =
-    ap (scan_from 0 0) (sym (append-nil s)) ∙ advances.whole [] (λ _. refl) ∙ ap (λ l. events ++ scan_from 0 at l) (append-nil rest)
+whole-scan ended s rest events at = scan-on ended 0 at s rest events
 
 pub events-are-scan : (s rest : List ℕ) (events : List StreamEvent) (at : ℕ) → Advances true 0 s events at rest → scan_from 0 at rest ≡ [] → scan s ≡ events
 events-are-scan s rest events at advances none = whole-scan true s rest events at advances ∙ ap (λ l. events ++ l) none ∙ append-nil events
@@ -258,7 +245,7 @@ pub ReadsAndPasses-then : (left mid left' : Option (List ℕ)) (s s' : FinderMod
 ReadsAndPasses-then left mid left' = steps-compose left mid left' new_finder
 
 -- the reads of more calls
-pub CountsReads-then : (a b c : ℕ) (s s' : FinderModel) → CountsReads a b new_finder s → CountsReads b c s s' → CountsReads a c new_finder s'
+pub CountsReads-then : (a b c : ℕ) (s s' : FinderModel) → AddsReads a b new_finder.reads s.reads → AddsReads b c s.reads s'.reads → AddsReads a c new_finder.reads s'.reads
 CountsReads-then a b c s s' = adds-then a b c 0 s.reads s'.reads
 
 -- ---- How a finder advances, turn by turn.
@@ -273,10 +260,7 @@ some-none x a some none = let e : Some a ≡ None = sym some ∙ none in cc
 pub waits-open : (old s : FinderModel) (place size : ℕ) → ((s ≡ old) ⊎ NoEventCertain old.at old.rest) → IsIncomplete s.rest place size → NoEventCertain old.at old.rest
 waits-open old s place size (inr none) open' = none
 waits-open old s place size (inl same) open' =
-    let D : List ℕ → Type 0 = λ l. NoEventCertain (s.at + place) l in
-    let moved : scan_from 0 s.at s.rest ≡ scan_from 0 (s.at + place) (drop place s.rest) =
-    ap (scan_from 0 s.at) (sym (append-nil s.rest)) ∙ (open'.advances s.at).whole [] (λ _. refl) ∙ ap (scan_from 0 (s.at + place)) (append-nil (drop place s.rest)) in
-    rw same at (ap (take_while is_decided) moved ∙ open'.none (s.at + place))
+    rw same at (ap (take_while is_decided) (scan-on false s.at (s.at + place) s.rest (drop place s.rest) [] (open'.advances s.at)) ∙ open'.none (s.at + place))
 
 module _ (left mid : Option (List ℕ)) (old s s1 : FinderModel) (place size : ℕ) (steps : (bs : List ℕ) × ReadsAndPasses left mid old s bs []) (raised : Raised old.longest s.longest s.rest)
     (looks : (s.ended ≡ false) × IsIncomplete s.rest place size × IsStatedLength (drop place s.rest) size) (is : s1 ≡ gone_to s place size) where
@@ -319,16 +303,11 @@ abbrev Placed : ℕ → List ℕ → StreamEvent → Type 0
 Placed at s e = (at ≤ offset_of e) × (is_decided e ≡ true → offset_of e + 8 ≤ at + length s)
 
 abbrev AllPlaced : ℕ → List ℕ → List StreamEvent → Type 0
-AllPlaced at s [] = Unit {0}
-AllPlaced at s (e ∷ es) = Placed at s e × AllPlaced at s es
+AllPlaced at s = AllByRecursion (Placed at s)
 
 placed-wider : (at at' : ℕ) (s s' : List ℕ) (es : List StreamEvent) → at ≤ at' → at' + length s' ≤ at + length s → AllPlaced at' s' es → AllPlaced at s es
 placed-wider at at' s s' [] low high all = tt
 placed-wider at at' s s' (e ∷ es) low high all = ((omega (arith, all.0.0, low), λ yes. omega (arith, all.0.1 yes, high)), placed-wider at at' s s' es low high all.1)
-
-placed-append : (at : ℕ) (s : List ℕ) (xs ys : List StreamEvent) → AllPlaced at s xs → AllPlaced at s ys → AllPlaced at s (xs ++ ys)
-placed-append at s [] ys one u16_at = u16_at
-placed-append at s (x ∷ xs) ys one u16_at = (one.0, placed-append at s xs ys one.1 u16_at)
 
 placed-prefix : (at : ℕ) (s : List ℕ) (xs ys : List StreamEvent) → AllPlaced at s (xs ++ ys) → AllPlaced at s xs
 placed-prefix at s [] ys all = tt
@@ -364,7 +343,7 @@ scan-placed (suc n) at (x ∷ m) within =
             | inl short ↦ placed-cut at s (classify s) (cut-so s here (inl short))
             | inr long ↦ placed-here at s (classify s) long
           ] in
-          subst P (sym (scan_from-here at s (omega arith) (omega (arith, bounds.0)))) (placed-append at s (stream_event at s (classify s)) (scan_from 0 (at + k) (drop k s)) first more)
+          subst P (sym (scan_from-here at s (omega arith) (omega (arith, bounds.0)))) (all-then (Placed at s) (stream_event at s (classify s)) (scan_from 0 (at + k) (drop k s)) first more)
     ]
 
 -- octets after it do not change the length that is stated at a certain event
@@ -401,8 +380,7 @@ more-longest s s' bs bs' events seen left mid one known kept placed grown = grin
 pub longest-events : (left mid left' : Option (List ℕ)) (s s' : FinderModel) (bs bs' : List ℕ) (events es : List StreamEvent)
     → ReadsAndPasses left mid new_finder s bs events → s.longest ≡ longest_of 0 bs events → ReadsAndPasses mid left' s s' bs' es → RaisesLongest s s' bs' es → s'.longest ≡ longest_of 0 (bs ++ bs') (events ++ es)
 longest-events left mid left' s s' bs bs' events es one known u16_at grown =
-    let whole : scan_from 0 s.at (s.rest ++ bs') ≡ es ++ scan_from 0 s'.at s'.rest =
-    ap (scan_from 0 s.at) (sym (append-nil (s.rest ++ bs'))) ∙ u16_at.advances.whole [] (λ _. refl) ∙ ap (λ l. es ++ scan_from 0 s'.at l) (append-nil s'.rest) in
+    let whole = scan-on s'.ended s.at s'.at (s.rest ++ bs') s'.rest es u16_at.advances in
     more-longest s s' bs bs' events es left mid one known (λ end. (u16_at.kept end).1)
     (placed-prefix s.at (s.rest ++ bs') es (scan_from 0 s'.at s'.rest) (rw whole at (scan-placed (length (s.rest ++ bs')) s.at (s.rest ++ bs') (omega arith)))) grown
 
@@ -460,11 +438,7 @@ waits-still old s s' bs each reads longer = record {
 -- if what is left now decides nothing, neither does what was left at first with all that was read
 none-in-all : (left mid : Option (List ℕ)) (old s : FinderModel) (bs : List ℕ) (place size : ℕ) → ReadsAndPasses left mid old s bs [] → s.ended ≡ false → IsIncomplete s.rest place size → NoEventCertain old.at (old.rest ++ bs)
 none-in-all left mid old s bs place size step going open' =
-    let all : scan_from 0 old.at (old.rest ++ bs) ≡ scan_from 0 s.at s.rest =
-    ap (scan_from 0 old.at) (sym (append-nil (old.rest ++ bs))) ∙ step.advances.whole [] (λ _. refl) ∙ ap (scan_from 0 s.at) (append-nil s.rest) in
-    let moved : scan_from 0 s.at s.rest ≡ scan_from 0 (s.at + place) (drop place s.rest) =
-    ap (scan_from 0 s.at) (sym (append-nil s.rest)) ∙ (open'.advances s.at).whole [] (λ _. refl) ∙ ap (scan_from 0 (s.at + place)) (append-nil (drop place s.rest)) in
-    ap (take_while is_decided) (all ∙ moved) ∙ open'.none (s.at + place)
+    ap (take_while is_decided) (scan-on s.ended old.at s.at (old.rest ++ bs) s.rest [] step.advances ∙ scan-on false s.at (s.at + place) s.rest (drop place s.rest) [] (open'.advances s.at)) ∙ open'.none (s.at + place)
 
 module _ (left mid : Option (List ℕ)) (old s s1 s2 : FinderModel) (place size : ℕ) (bs : List ℕ) (each : CallReadsAreNeeded old s bs) (step : ReadsAndPasses left mid old s bs []) (going : s.ended ≡ false) (open' : IsIncomplete s.rest place size) (is : s1 ≡ gone_to s place size) (bound : held s2 ≤ max 4096 s2.longest)
     (left' : Option (List ℕ)) (result : Result (Unit {0}) RunFault) (bs' : List ℕ) (read : ReadsMore mid left' s1 s2 result bs') where
@@ -498,3 +472,100 @@ module _ (left mid : Option (List ℕ)) (old s s1 s2 : FinderModel) (place size 
       by (Err Write) ends = absurd ends.2
       by (Err InputTooLong) ends = none ends.0 ends.2.0
       by (Err Memory) ends = none ends.0 ends.2.0
+
+-- ---- One read of a finder, which drops the octets that were passed.
+
+pub not-err : (r : Result (Unit {0}) RunFault) → ((fault : RunFault) → r ≢ Err fault) → r ≡ Ok tt
+not-err (Ok u) none = refl
+not-err (Err fault) none = absurd (none fault refl)
+
+module _ (given new : InputModel) (passed at longest room : ℕ) (fault fault' : Option RunFault) (bs : List ℕ) (limit : room ≡ 2 * max 4096 longest) where
+  -- the finder before and after
+  abbrev pub before-read : FinderModel
+  before-read = record { before = take passed given.held; rest = drop passed given.held; at = at; ended = given.ended; fault = fault; reads = given.reads; longest = longest; room = given.room }
+
+  abbrev pub after-fill : FinderModel
+  after-fill = record { before = take 0 new.held; rest = drop 0 new.held; at = at; ended = new.ended; fault = fault'; reads = new.reads; longest = longest; room = new.room }
+
+  ends-so : (r : Result (Unit {0}) RunFault) → FillEnds (given.room < room) (record given { held = drop passed given.held }) new bs r → FillEnds (given.room < 2 * max 4096 longest) (input_left before-read) (input_left after-fill) bs r
+  ends-so (Ok u) e = e
+  ends-so (Err Read) e = e
+  ends-so (Err Write) e = e
+  ends-so (Err InputTooLong) e = e
+  ends-so (Err Memory) e = rw limit at e
+
+  pub reads-more : (left left' : Option (List ℕ)) (old : InputModel) (result : Result (Unit {0}) RunFault) → old ≡ record given { held = drop passed given.held }
+      → FillsInput left left' old new (old.room < room) result bs → MatchResult result (λ _. fault' ≡ None) (λ why. fault' ≡ Some why) → ReadsMore left left' before-read after-fill result bs
+  reads-more left left' old result is fills outcome =
+      let f = rw is at fills in
+      record {
+        fills = record { read = f.read; held = f.held; end = f.end; room = f.room; ends = ends-so result f.ends };
+        at = refl;
+        fault = outcome;
+        longest = refl;
+      }
+
+-- ---- What a call returns.
+
+-- the event that a finder passes
+module _ (old s' : FinderModel) (offset place len size : ℕ) (here : Candidate) (found : IsNextEvent old.ended old.rest place here)
+    (takes : len ≡ candidate_len (drop place old.rest) here) (at : offset ≡ old.at + place) (is : s' ≡ gone_to old (place + len) size) where
+  found-step : Advances s'.ended old.at old.rest (stream_event offset (drop place old.rest) here) s'.at s'.rest
+  found-step =
+      let k = candidate_len (drop place old.rest) here in
+      let far : old.at + place + k ≡ old.at + (place + k) = omega arith in
+      rw is (rw takes (rw at (rw far at (found.advances old.at))))
+
+  found-follows : Follows old.at old.rest s'.at s'.rest
+  found-follows = rw is (record { passed = place + len; within = omega (arith, found.within, takes); offset = refl; left = refl })
+
+  -- a message that was passed is held before what is left
+  pub found-octets : here ≡ Frame → drop (length s'.before - len) s'.before ≡ take (stated_length (drop place old.rest)) (drop place old.rest)
+  found-octets whole =
+      let m = drop place old.rest in
+      let size_is : len ≡ stated_length m = takes ∙ ap (candidate_len m) whole in
+      let before : s'.before ≡ old.before ++ take place old.rest ++ take len m = ap (λ x. x.before) is ∙ ap (λ l. old.before ++ l) (take-add place len old.rest) ∙ sym (append_assoc old.before (take place old.rest) (take len m)) in
+      rw before (event-octets (old.before ++ take place old.rest) m len (omega (arith, found.within, takes, length-drop place old.rest)) ∙ ap (λ n. take n m) size_is)
+
+  -- the reads of a call that passes it
+  pub found-reads : (left left' : Option (List ℕ)) (first : FinderModel) (bs : List ℕ) → ReadsAndPasses left left' first old bs [] → CallReadsAreNeeded first old bs → Raised first.longest old.longest old.rest → size ≡ length_here (drop place old.rest)
+      → ReadsOn left left' first s' (stream_event offset (drop place old.rest) here) (stream_event offset (drop place old.rest) here)
+  found-reads left left' first bs steps each raised stated = (
+    bs,
+    pass-step left left' first old s' bs [] _ steps (ap (λ x. x.ended) is) (ap (λ x. x.reads) is) found-step found-follows,
+    λ _. found-sees first old s' bs offset place size here steps.follows raised found stated at (ap (λ x. x.longest) is),
+    waits-still first old s' bs each (ap (λ x. x.reads) is) (omega (arith, ap (λ x. x.longest) is)),
+  )
+
+-- a read was made only where nothing was certain
+pub waits-only : (old s s' : FinderModel) → (s ≡ old) ⊎ NoEventCertain old.at old.rest → s'.reads ≡ s.reads → (old.reads ≢ s'.reads → NoEventCertain old.at old.rest)
+waits-only old s s' (inl same) reads differ = absurd (differ (sym (reads ∙ ap (λ x. x.reads) same)))
+waits-only old s s' (inr none) reads differ = none
+
+-- a call that passed its reads on, without a fault before
+pub returns-next : (left left' : Option (List ℕ)) (reads reads' : ℕ) (old new : FinderModel) (result : Result Event RunFault) → old.fault ≡ None
+    → ReadsOn left left' old new (events_returned [] result) (events_returned (first_left new) result) → LeavesFinder old new result → AddsReads reads reads' old.reads new.reads → (old.reads ≢ new.reads → NoEventCertain old.at old.rest)
+    → new.at < 2 ^ 63 → held new ≤ max 4096 new.longest → ReturnsNextEvent left left' reads reads' old new result
+returns-next left left' reads reads' old new result sound steps ends counts waits near bound =
+    let A : Option RunFault → Type 0 = λ o. IfSome o (λ _. new ≡ old) in
+    record { steps = steps; ends = ends; counts = counts; waits = waits; near = near; bound = bound; again = subst A (sym sound) tt }
+
+-- a call after a fault
+pub returns-again : (left : Option (List ℕ)) (reads : ℕ) (s : FinderModel) (fault : RunFault) → s.fault ≡ Some fault → s.ended ≡ false → s.reads ≤ max_reads → s.at < 2 ^ 63 → held s ≤ max 4096 s.longest
+    → ReturnsNextEvent left left reads reads s s (Err fault)
+returns-again left reads s fault is open' most near bound =
+    let A : Option RunFault → Type 0 = λ o. IfSome o (λ _. s ≡ s) in
+    record {
+      steps = ([], step-none left s, (λ sound. absurd (some-none s.fault fault is sound)), none-waited s);
+      ends = (open', (λ sound. absurd (some-none s.fault fault is sound)));
+      counts = adds-none reads s.reads most;
+      waits = λ differ. absurd (differ refl);
+      near = near;
+      bound = bound;
+      again = subst A (sym is) refl;
+    }
+
+-- at the end no event is left
+pub raises-none : (old s : FinderModel) (bs : List ℕ) → Raised old.longest s.longest s.rest → (StartsWithBufr s.rest → ⊥) → RaisesLongest old s bs []
+raises-none old s bs (inl same) none = omega (arith, same)
+raises-none old s bs (inr (word, long, grown)) none = absurd (none word)

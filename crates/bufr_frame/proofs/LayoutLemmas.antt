@@ -1,7 +1,7 @@
 -- A message that was written, section by section, read again.
 use Rattle.std.proofs.lemmas.Grind.{common_steps}
 use Rattle.std.proofs.Common.{◌≡◌, ◌==◌, ◌-◌, ℕ, true, false, List, Ok, length, refl, eq-eqb, ◌∙◌, ◌+◌, ◌*◌, ◌/◌, ◌%◌, ◌≤◌, Bool, [], ◌∷◌, ◌++◌, ap, sym, subst, arith, Option, Some, None, get_or, codes, append_assoc, length-append, Err, append-nil, zero, suc, ◌<◌, slice_get, if◌then◌else◌, nat_lt, nat_le, is_some, slice_range, ◌&&◌, ◌||◌, Result, OnOk, option_map}
-use Rattle.bufr_frame.specs.Prelude.{is_edition, first_least, Slot, Field, Flags, Single, Double, slots_of, octets_of_slots, slot_octets, slot_value, head_value, head_in, sections_of, section_end, parts, edition_of, has_section2, is_long_edition_3, head_of, Sections, is_padded, u24_at, u16_at, words, three_octets, two_octets, octets_of_words, MessageParts, message_octets, message_size, section0_octets, section1_octets, section2_octets, section2_size, section3_octets, section4_octets, data_flags, sections_from, head_octets, even_size, with_even_length, with_pad_octet, is_writable, size_from, parts_of, Head}
+use Rattle.bufr_frame.specs.Prelude.{is_edition, first_least, head_size, head_by_edition, flags_of, octets_3, octets_4, head_octets, sections_of, section_end, parts, edition_of, has_section2, is_long_edition_3, head_of, Sections, is_padded, u24_at, u16_at, words, three_octets, two_octets, octets_of_words, MessageParts, message_octets, message_size, section0_octets, section1_octets, section2_octets, section2_size, section3_octets, section4_octets, data_flags, sections_from, head_octets, even_size, with_even_length, with_pad_octet, is_writable, size_from, parts_of, Head}
 use Rattle.std.proofs.lemmas.Bool.Decides.{nat_tests}
 use Rattle.bufr_bits.specs.Prelude.{bits_of, bits_of_octet}
 
@@ -67,11 +67,14 @@ even-stays edition n = by (edition == 3) (n % 2 == 1) refl
         let even : (n + 1) % 2 ≡ 0 = omega (arith, h) in
         ap (λ k. k == 1) even
 
--- section 1: its octets are those of its slots
-length-octets_in : (slots : List Slot) (says : Field → ℕ) → length (slot_octets slots says) ≡ octets_of_slots slots
-length-octets_in [] says = refl
-length-octets_in (Single field ∷ more) says = omega (arith, length-octets_in more says)
-length-octets_in (Double field ∷ more) says = omega (arith, length-octets_in more says)
+-- section 1 after its length
+length-head : (h : Head) (optional : Bool) → 3 + length (head_octets h optional) ≡ first_least h.edition
+unfolding head_size
+length-head h optional = by (h.edition == 3)
+  where
+    by : (third : Bool) → 3 + length (if third then octets_3 h (if optional then 128 else 0) else octets_4 h (if optional then 128 else 0)) ≡ 3 + (if third then 14 else 19)
+    by true = refl
+    by false = refl
 
 -- what comes after a prefix
 pub index-after : (prefix rest : List ℕ) (p k : ℕ) → p ≡ length prefix → get_or (prefix ++ rest) (p + k) 0 ≡ get_or rest k 0
@@ -155,14 +158,18 @@ second-part m prefix rest (Some octets) p q is at to has =
     let begin : p + 4 ≡ length (prefix ++ head) = omega (arith, length-append prefix head) in
     rw has (ap Some (ap (λ l. slice_range l (p + 4) q) same ∙ range-after (prefix ++ head) octets rest (p + 4) q begin (omega arith)))
 
--- section 1 read back, by the slots that it was written by
+-- section 1 read back
 module _ (h : Head) (optional : Bool) (size n : ℕ) (local1 rest : List ℕ) where
-  abbrev with_slots : List Slot → List ℕ
-  with_slots slots = section0_octets size h.edition ++ ((three_octets n ++ slot_octets slots (head_value h optional) ++ local1) ++ rest)
+  abbrev flags : ℕ
+  flags = if optional then 128 else 0
 
-  flags-back : (is_writable h ≡ true) → slot_value (slots_of h.edition) (with_slots (slots_of h.edition)) 11 Flags ≡ (if optional then 128 else 0)
+  -- the message by its edition
+  abbrev of_edition : (edition : ℕ) → List ℕ
+  of_edition edition = section0_octets size edition ++ ((three_octets n ++ (if edition == 3 then octets_3 h flags else octets_4 h flags) ++ local1) ++ rest)
+
+  flags-back : (is_writable h ≡ true) → flags_of (of_edition h.edition) ≡ flags
   flags-back is =
-      let P : ℕ → Type 0 = λ e. slot_value (slots_of e) (with_slots (slots_of e)) 11 Flags ≡ (if optional then 128 else 0) in
+      let P : ℕ → Type 0 = λ e. flags_of (of_edition e) ≡ flags in
       by-edition h is (λ e. subst P (sym e) refl) (λ e l s. subst P (sym e) refl)
 
   head-same : (c s y : ℕ) → c ≡ h.centre → s ≡ h.subcentre → y ≡ h.year → (record h { centre = c; subcentre = s; year = y }) ≡ h
@@ -172,12 +179,13 @@ module _ (h : Head) (optional : Bool) (size n : ℕ) (local1 rest : List ℕ) wh
   head-lacking : (l s : ℕ) → l ≡ h.local_subcategory → s ≡ h.second → (record h { local_subcategory = l; second = s }) ≡ h
   head-lacking l s a b = ap (λ x. record h { local_subcategory = x; second = s }) a ∙ ap (λ x. record h { second = x }) b
 
-  pub head-back : (is_writable h ≡ true) → head_in h.edition (slots_of h.edition) (with_slots (slots_of h.edition)) 11 ≡ h
+  pub head-back : (is_writable h ≡ true) → head_of (of_edition h.edition) ≡ h
+  unfolding head_by_edition
   head-back is =
-      let P : ℕ → Type 0 = λ e. head_in h.edition (slots_of e) (with_slots (slots_of e)) 11 ≡ h in
+      let P : ℕ → Type 0 = λ e. head_of (of_edition e) ≡ (record h { edition = e }) in
       by-edition h is
-      (λ e. subst P (sym e) (head-same _ _ _ (two-number h.centre) (two-number h.subcentre) (two-number h.year)))
-      (λ e l s. subst P (sym e) (head-lacking 0 0 (sym l) (sym s)))
+      (λ e. subst P (sym e) (ap (λ (x : Head). record x { edition = 4 }) (head-same _ _ _ (two-number h.centre) (two-number h.subcentre) (two-number h.year))))
+      (λ e l s. subst P (sym e) (ap (λ (x : Head). record x { edition = 3 }) (head-lacking 0 0 (sym l) (sym s))))
 
 make : Head → List ℕ → Option (List ℕ) → List ℕ → ℕ → Bool → Bool → List ℕ → ℕ → Sections
 make head local1 second descriptors subsets observed compressed payload size = record {
@@ -232,7 +240,7 @@ read-back h p writable =
     let at4 : m ≡ f4 ++ (s4 ++ end) = at3 ∙ sym (append_assoc f3 s3 (s4 ++ end)) in
     let least = first_least edition in
     let ho = head_octets h (is_some p.section2) in
-    let lh : length ho ≡ octets_of_slots (slots_of edition) = length-octets_in (slots_of edition) (head_value h (is_some p.section2)) in
+    let lh = length-head h (is_some p.section2) in
     let n1 = least + length p.local1 in
     let n2 = section2_size p.section2 in
     let n3 = 7 + length c3 in

@@ -6,7 +6,7 @@ use Rattle.std.proofs.lemmas.Slice.Eq.{bytes_eq-Decides}
 use Rattle.std.proofs.lemmas.Grind.{common_steps}
 use Rattle.memchr.specs.Find.{OccursAt, FindsNeedle, Nowhere}
 use Rattle.memchr.proofs.lemmas.MatchLemmas.{OccursAt-from_part, OccursAt-part}
-use Rattle.bufr_frame.specs.Prelude.{Candidate, scan_from, classify, has_word_at, stated_length, stream_event, candidate_len, StreamEvent, scan, open_scan, is_decided, Advances, NoEventCertain, length_here, longest_of, first_event, FrameAt, StrayAt, StartsWithBufr, IsNextEvent, IsIncomplete, HasNoFurtherEvent, event_by, FinderModel, Follows, RaisesLongest, max_octets}
+use Rattle.bufr_frame.specs.Prelude.{Candidate, scan_from, classify, has_word_at, stated_length, stream_event, candidate_len, StreamEvent, scan, open_scan, is_decided, Advances, NoEventCertain, length_here, longest_of, first_event, FrameAt, StrayAt, StartsWithBufr, IsNextEvent, IsIncomplete, HasNoFurtherEvent, FinderModel, Follows, RaisesLongest, max_octets}
 use Rattle.bufr_frame.specs.declared.finder.Candidate.TheVariants.{Nothing, Stray, Frame}
 use Rattle.bufr_frame.specs.declared.fault.Cause.TheVariants.{Cut, ShortLength, NoEnd}
 use Rattle.std.specs.List.{list_all, prefix_len, AllByRecursion}
@@ -200,6 +200,13 @@ holds-there s j occurs = (bytes_eq-Decides (take 4 (drop j s)) (codes "BUFR")).1
 pub absent-there : (s m : List ℕ) (place : ℕ) (b : Bool) → m ≡ drop place s → b ≡ has_word_at (codes "BUFR") 0 m → b ≡ false → OccursAt s (codes "BUFR") place → ⊥
 absent-there s m place b is so differs occurs = true≢false (sym (so ∙ ap (has_word_at (codes "BUFR") 0) is ∙ holds-there s place occurs) ∙ differs)
 
+-- `BUFR` is at an index, and not before it
+pub first-there : (s : List ℕ) (place : ℕ) → Nowhere (OccursAt s (codes "BUFR")) 0 place → has_word_at (codes "BUFR") 0 (drop place s) ≡ true → FindsNeedle s (codes "BUFR") 0 (Some place)
+first-there s place before here =
+    let same : take 4 (drop place s) ≡ codes "BUFR" = (bytes_eq-Decides (take 4 (drop place s)) (codes "BUFR")).0 here in
+    let occurs = OccursAt-from_part s (codes "BUFR") place (omega (arith, length-take {A = ℕ}, length-drop {A = ℕ}, ap length same)) same in
+    (record { low = omega arith; high = omega (arith, occurs.fits); before = before }, occurs)
+
 -- nor at the indices before it
 pub nowhere-more : (s : List ℕ) (place : ℕ) → Nowhere (OccursAt s (codes "BUFR")) 0 place → (OccursAt s (codes "BUFR") place → ⊥) → Nowhere (OccursAt s (codes "BUFR")) 0 (place + 1)
 nowhere-more s place before here k low below = below_more (λ j. OccursAt s (codes "BUFR") j → ⊥) place (λ j less. before j (omega arith) less) here k below
@@ -253,48 +260,44 @@ first-prefix : (s : List ℕ) (place : ℕ) → FindsNeedle s (codes "BUFR") 0 (
 first-prefix s zero found here = refl
 first-prefix s (suc k) found here = absurd (found.0.before 0 (omega arith) (omega arith) (word-occurs s here))
 
+-- the first `BUFR` has the next event, by what the scan does there
+next-so : (ended : Bool) (s : List ℕ) (place : ℕ) → FindsNeedle s (codes "BUFR") 0 (Some place)
+    → ((at : ℕ) → Advances ended at s (stream_event (at + place) (drop place s) (classify (drop place s))) (at + place + candidate_len (drop place s) (classify (drop place s))) (drop (place + candidate_len (drop place s) (classify (drop place s))) s))
+    → IsNextEvent ended s place (classify (drop place s))
+next-so ended s place found advances =
+    let here = holds-there s place found.1 in
+    let bounds = taken-bounds (drop place s) here in
+    record {
+      is = refl;
+      some = verdict-there s place found.1;
+      frame = frame-long (drop place s) here;
+      moves = bounds.0;
+      within = omega (arith, found.1.fits, bounds.1, length-drop place s);
+      first = first-prefix s place found;
+      advances = advances;
+    }
+
 pub found-so : (ended : Bool) (s : List ℕ) (place : ℕ) → FindsNeedle s (codes "BUFR") 0 (Some place)
     → 8 ≤ length (drop place s) → stated_length (drop place s) ≤ length (drop place s) → IsNextEvent ended s place (classify (drop place s))
 found-so ended s place found long whole =
     let m = drop place s in
-    let k = candidate_len m (classify m) in
     let here = holds-there s place found.1 in
-    let bounds = taken-bounds m here in
-    record {
-      is = refl;
-      some = verdict-there s place found.1;
-      frame = frame-long m here;
-      moves = bounds.0;
-      within = omega (arith, found.1.fits, bounds.1, length-drop place s);
-      first = first-prefix s place found;
-      advances = λ at. record {
-        whole = λ t _. to-first s place found t at ∙ found-prefix m t (at + place) here long whole
-            ∙ ap (λ l. stream_event (at + place) m (classify m) ++ scan_from 0 (at + place + k) (l ++ t)) (drop-twice k place s);
-        decided = λ _. certain m (at + place) here long whole;
-      };
-    }
+    next-so ended s place found (λ at. record {
+      whole = λ t _. to-first s place found t at ∙ found-prefix m t (at + place) here long whole
+          ∙ ap (λ l. stream_event (at + place) m (classify m) ++ scan_from 0 (at + place + candidate_len m (classify m)) (l ++ t)) (drop-twice (candidate_len m (classify m)) place s);
+      decided = λ _. certain m (at + place) here long whole;
+    })
 
 -- after the end nothing comes
 pub found-so-end : (s : List ℕ) (place : ℕ) → FindsNeedle s (codes "BUFR") 0 (Some place) → IsNextEvent true s place (classify (drop place s))
 found-so-end s place found =
-    let m = drop place s in
-    let k = candidate_len m (classify m) in
-    let here = holds-there s place found.1 in
-    let bounds = taken-bounds m here in
-    record {
-      is = refl;
-      some = verdict-there s place found.1;
-      frame = frame-long m here;
-      moves = bounds.0;
-      within = omega (arith, found.1.fits, bounds.1, length-drop place s);
-      first = first-prefix s place found;
-      advances = λ at. record {
-        whole = λ t none.
-            let e : t ≡ [] = none refl in
-            rw e (rw (append-nil, append-nil) (scan_from-found s (Some place) found at ∙ scan_from-prefix s (at + place) place k (omega (arith, found.1.fits)) refl (omega (arith, bounds.0))));
-        decided = λ going. absurd (true≢false going);
-      };
-    }
+    let bounds = taken-bounds (drop place s) (holds-there s place found.1) in
+    next-so true s place found (λ at. record {
+      whole = λ t none.
+          let e : t ≡ [] = none refl in
+          rw e (rw (append-nil, append-nil) (scan_from-found s (Some place) found at ∙ scan_from-prefix s (at + place) place (candidate_len (drop place s) (classify (drop place s))) (omega (arith, found.1.fits)) refl (omega (arith, bounds.0))));
+      decided = λ going. absurd (true≢false going);
+    })
 
 none-cut : (at : ℕ) (m : List ℕ) → 0 < length m → classify m ≡ Stray Cut → NoEventCertain at m
 none-cut at m some cut =
@@ -415,6 +418,10 @@ certain-within (suc n) at (x ∷ m) within =
       ]
     ]
 
+-- the scan of octets is the events that were passed and those of what is left
+pub scan-on : (ended : Bool) (at at' : ℕ) (s rest : List ℕ) (events : List StreamEvent) → Advances ended at s events at' rest → scan_from 0 at s ≡ events ++ scan_from 0 at' rest
+scan-on ended at at' s rest events advances = ap (scan_from 0 at) (sym (append-nil s)) ∙ advances.whole [] (λ _. refl) ∙ ap (λ l. events ++ scan_from 0 at' l) (append-nil rest)
+
 pub take_while-all : (xs ys : List StreamEvent) → list_all is_decided xs ≡ true → take_while is_decided (xs ++ ys) ≡ xs ++ take_while is_decided ys
 take_while-all [] ys all = refl
 take_while-all (x ∷ xs) ys all =
@@ -426,7 +433,7 @@ take_while-all (x ∷ xs) ys all =
 pub open-prefix : (s t : List ℕ) → (more : List StreamEvent) × (scan (s ++ t) ≡ open_scan s ++ more)
 open-prefix s t =
     let c = certain-within (length s) 0 s (omega arith) in
-    let whole : scan s ≡ c.events ++ scan_from 0 c.at' c.rest = ap (scan_from 0 0) (sym (append-nil s)) ∙ c.advances.whole [] (λ _. refl) ∙ ap (λ l. c.events ++ scan_from 0 c.at' l) (append-nil c.rest) in
+    let whole : scan s ≡ c.events ++ scan_from 0 c.at' c.rest = scan-on false 0 c.at' s c.rest c.events c.advances in
     let open' : open_scan s ≡ c.events = ap (take_while is_decided) whole ∙ take_while-all c.events (scan_from 0 c.at' c.rest) (c.advances.decided refl) ∙ ap (λ l. c.events ++ l) c.none ∙ append-nil c.events in
     (scan_from 0 c.at' (c.rest ++ t), c.advances.whole t (λ end. absurd (true≢false (sym end))) ∙ ap (λ l. l ++ scan_from 0 c.at' (c.rest ++ t)) (sym open'))
 
@@ -453,7 +460,7 @@ raised-read a b rest bs (inr (word, long, grown)) = inr (
   grown ∙ ap (max a) (sym (stated-prefix rest bs long)),
 )
 
-short-here : (m : List ℕ) → length m < 8 → length_here m ≡ 0
+pub short-here : (m : List ℕ) → length m < 8 → length_here m ≡ 0
 short-here m short = let a : nat_lt (length m) 8 ≡ true = grind (arith, nat_tests) in rw a refl
 
 -- and when the finder goes on to the place that is open
@@ -470,21 +477,21 @@ raised-open a b place size rest before open' is =
     ]
 
 -- one event's length
-longest-event : (at : ℕ) (s : List ℕ) (x : FinderModel) (offset len : ℕ) (here : Candidate) → here ≢ Nothing → longest_of at s (event_by x offset len here) ≡ length_here (drop (offset - at) s)
-longest-event at s x offset len Nothing some = absurd (some refl)
-longest-event at s x offset len (Stray cause) some = max-none (length_here (drop (offset - at) s))
-longest-event at s x offset len Frame some = max-none (length_here (drop (offset - at) s))
+longest-event : (at : ℕ) (s : List ℕ) (m : List ℕ) (offset : ℕ) (here : Candidate) → here ≢ Nothing → longest_of at s (stream_event offset m here) ≡ length_here (drop (offset - at) s)
+longest-event at s m offset Nothing some = absurd (some refl)
+longest-event at s m offset (Stray cause) some = max-none (length_here (drop (offset - at) s))
+longest-event at s m offset Frame some = max-none (length_here (drop (offset - at) s))
 
 -- where a place of the rest is in all octets
 place-in : (at at' place offset : ℕ) (s rest : List ℕ) → Follows at s at' rest → offset ≡ at' + place → drop (offset - at) s ≡ drop place rest
 place-in at at' place offset s rest follows is = grind (arith, common_steps, drop-twice)
 
 -- an event is passed
-pub found-sees : (old s s' : FinderModel) (bs : List ℕ) (offset len place size : ℕ) (here : Candidate) → Follows old.at (old.rest ++ bs) s.at s.rest → Raised old.longest s.longest s.rest
-    → IsNextEvent s.ended s.rest place here → size ≡ length_here (drop place s.rest) → offset ≡ s.at + place → s'.longest ≡ max s.longest size → RaisesLongest old s' bs (event_by s' offset len here)
-found-sees old s s' bs offset len place size here follows raised found is at grown =
+pub found-sees : (old s s' : FinderModel) (bs : List ℕ) (offset place size : ℕ) (here : Candidate) → Follows old.at (old.rest ++ bs) s.at s.rest → Raised old.longest s.longest s.rest
+    → IsNextEvent s.ended s.rest place here → size ≡ length_here (drop place s.rest) → offset ≡ s.at + place → s'.longest ≡ max s.longest size → RaisesLongest old s' bs (stream_event offset (drop place s.rest) here)
+found-sees old s s' bs offset place size here follows raised found is at grown =
     grown ∙ raise old.longest s.longest place size s.rest raised found.first is
-    ∙ ap (max old.longest) (is ∙ ap length_here (sym (place-in old.at s.at place offset (old.rest ++ bs) s.rest follows at)) ∙ sym (longest-event old.at (old.rest ++ bs) s' offset len here found.some))
+    ∙ ap (max old.longest) (is ∙ ap length_here (sym (place-in old.at s.at place offset (old.rest ++ bs) s.rest follows at)) ∙ sym (longest-event old.at (old.rest ++ bs) (drop place s.rest) offset here found.some))
 
 -- the first event that is left is not certain
 first-open : (at old_at size : ℕ) (m s : List ℕ) → drop (at - old_at) s ≡ m → ((length m < 4) ⊎ StartsWithBufr m) → size ≡ length_here m → length m < max 8 size
@@ -528,9 +535,9 @@ all-take zero m all = tt
 all-take (suc n) [] all = tt
 all-take (suc n) (c ∷ m) all = (all.0, all-take n m all.1)
 
-small-then : (es more : List StreamEvent) → AllByRecursion IsSmall es → AllByRecursion IsSmall more → AllByRecursion IsSmall (es ++ more)
-small-then [] more here rest = rest
-small-then (e ∷ es) more here rest = (here.0, small-then es more here.1 rest)
+pub all-then : {X : Type 0} (P : X → Type 0) (xs ys : List X) → AllByRecursion P xs → AllByRecursion P ys → AllByRecursion P (xs ++ ys)
+all-then P [] ys one two = two
+all-then P (x ∷ xs) ys one two = (one.0, all-then P xs ys one.1 two)
 
 small-here : (at : ℕ) (m : List ℕ) (v : Candidate) → AllByRecursion IsOctet m → AllByRecursion IsSmall (stream_event at m v)
 small-here at m Nothing all = tt
@@ -544,7 +551,7 @@ small-frames skip at [] all = tt
 small-frames (suc skip) at (c ∷ m) all = small-frames skip (at + 1) m all.1
 small-frames zero at (c ∷ m) all =
     let v = classify (c ∷ m) in
-    small-then (stream_event at (c ∷ m) v) (scan_from (candidate_len (c ∷ m) v - 1) (at + 1) m) (small-here at (c ∷ m) v all) (small-frames (candidate_len (c ∷ m) v - 1) (at + 1) m all.1)
+    all-then IsSmall (stream_event at (c ∷ m) v) (scan_from (candidate_len (c ∷ m) v - 1) (at + 1) m) (small-here at (c ∷ m) v all) (small-frames (candidate_len (c ∷ m) v - 1) (at + 1) m all.1)
 
 -- the octets of all messages among these events
 abbrev pub framed_octets : List StreamEvent → ℕ

@@ -1,14 +1,13 @@
 -- The model of a finder, its search, and what a call of it does. Cited by public contracts.
-use Rattle.std.specs.Prelude.{◌≡◌, ◌≢◌, ℕ, ◌+◌, ◌*◌, ◌<◌, ◌≤◌, max, Bool, true, false, List, [], ◌∷◌, ◌++◌, Option, Some, None, length, drop, ◌-◌, Result, Ok, Err, MatchResult, take, ◌⊎◌, ◌^◌, codes, IfSome}
+use Rattle.std.specs.Prelude.{◌≡◌, ◌≢◌, ℕ, ◌+◌, ◌*◌, ◌<◌, ◌≤◌, max, Bool, true, false, List, [], ◌∷◌, ◌++◌, Option, Some, None, length, drop, ◌-◌, Result, Ok, Err, take, ◌⊎◌, ◌^◌, codes, IfSome}
 use Rattle.std.specs.List.{concat}
 use Rattle.std.specs.Io.KnownBytes.{Consumes, IsAtEnd}
-use Rattle.bufr_frame.specs.Scan.{StreamEvent, scan_from, Advances, NoEventCertain, longest_of, FrameAt, StrayAt, classify, stream_event, candidate_len, stated_length, has_word_at, first_event, length_here}
-use Rattle.bufr_frame.specs.Input.{AddsReads, max_reads, InputModel, FillsInput}
+use Rattle.bufr_frame.specs.Scan.{StreamEvent, scan_from, Advances, NoEventCertain, longest_of, classify, stream_event, candidate_len, stated_length, has_word_at, first_event, length_here}
+use Rattle.bufr_frame.specs.Input.{AddsReads, max_reads}
 use Rattle.bufr_frame.specs.declared.fault.RunFault.{RunFault}
 use Rattle.bufr_frame.specs.declared.fault.RunFault.TheVariants.{Read, Write, InputTooLong, Memory}
 use Rattle.bufr_frame.specs.declared.finder.Candidate.{Candidate}
 use Rattle.bufr_frame.specs.declared.finder.Candidate.TheVariants.{Nothing, Stray, Frame}
-use Rattle.bufr_frame.specs.declared.finder.PassedEvent.{PassedEvent}
 use Rattle.bufr_frame.specs.declared.finder.SearchResult.{SearchResult}
 use Rattle.bufr_frame.specs.declared.finder.SearchResult.TheVariants.{Found, NeedsMore, End}
 use Rattle.bufr_frame.specs.declared.finder.Finder.TheInside.{Inside}
@@ -74,10 +73,6 @@ abbrev pub RaisesLongest : FinderModel → FinderModel → List ℕ → List Str
 RaisesLongest old new bs seen = new.longest
     ≡ max old.longest (longest_of old.at (old.rest ++ bs) seen)
 
--- The reads of a call are counted, by the reader and by the finder.
-abbrev pub CountsReads : (reads reads' : ℕ) → FinderModel → FinderModel → Type 0
-CountsReads reads reads' old new = AddsReads reads reads' old.reads new.reads
-
 -- what is held has no further event
 abbrev pub HasNoMoreEvents : FinderModel → Type 0
 HasNoMoreEvents s = (s.ended ≡ true) × ((at : ℕ) → scan_from 0 at s.rest ≡ [])
@@ -88,16 +83,13 @@ IsUndecided s fault = (s.fault ≡ Some fault) × (s.ended ≡ false)
     × ((at : ℕ) → NoEventCertain at s.rest)
 
 -- how a fault leaves a finder: it is never one of a write; an input is too long only after 2^32
--- reads, and memory is needed only before
-abbrev pub StopsFinder : FinderModel → RunFault → Type 0
-StopsFinder new Read = IsUndecided new Read
-StopsFinder new Write = ⊥
-StopsFinder new InputTooLong = IsUndecided new InputTooLong × (new.reads ≡ max_reads)
-StopsFinder new Memory = IsUndecided new Memory × (new.reads < max_reads)
-
--- a read is made only where no event is certain in what is left
-abbrev pub ReadsOnlyIfUndecided : FinderModel → FinderModel → Type 0
-ReadsOnlyIfUndecided old new = old.reads ≢ new.reads → NoEventCertain old.at old.rest
+-- reads; memory is needed only before, with room for less than twice the octets that may be held
+abbrev pub StopsFinder : (old new : FinderModel) → RunFault → Type 0
+StopsFinder old new Read = IsUndecided new Read
+StopsFinder old new Write = ⊥
+StopsFinder old new InputTooLong = IsUndecided new InputTooLong × (new.reads ≡ max_reads)
+StopsFinder old new Memory =
+    IsUndecided new Memory × (new.reads < max_reads) × (old.room < 2 * max 4096 new.longest)
 
 -- Reads one after another, of which none gave more than `most` octets. None was made while an event
 -- was certain in what was left and the octets read so far.
@@ -120,60 +112,11 @@ ReadsOn left left' old new events seen =
     (bs : List ℕ) × ReadsAndPasses left left' old new bs events
     × (old.fault ≡ None → RaisesLongest old new bs seen) × CallReadsAreNeeded old new bs
 
--- memory is needed only where the room was less than twice the octets that may be held
-abbrev pub GrowsOnlyIfFull : FinderModel → FinderModel → RunFault → Type 0
-GrowsOnlyIfFull old new Read = Unit {0}
-GrowsOnlyIfFull old new Write = Unit {0}
-GrowsOnlyIfFull old new InputTooLong = Unit {0}
-GrowsOnlyIfFull old new Memory = old.room < 2 * max 4096 new.longest
-
--- What octets show to the search of a finder, when more may come after them, and what its steps do.
-
--- the event that was passed last
-abbrev pub event_by : FinderModel → (offset len : ℕ) → Candidate → List StreamEvent
-event_by s offset len Nothing = []
-event_by s offset len (Stray cause) = StrayAt offset cause ∷ []
-event_by s offset len Frame = FrameAt offset (drop (length s.before - len) s.before) ∷ []
+-- What octets show to the search of a finder, when more may come after them.
 
 -- after a fault the first event that is left counts
 abbrev pub first_left : FinderModel → List StreamEvent
 first_left s = first_event (scan_from 0 s.at s.rest)
-
--- the events of a call that passes one, or these after a fault
-abbrev pub events_by : FinderModel → List StreamEvent → Result (Option PassedEvent) RunFault
-    → List StreamEvent
-events_by s failed (Ok (Some passed)) = event_by s passed.offset passed.len passed.here
-events_by s failed (Ok None) = []
-events_by s failed (Err fault) = failed
-
--- An event was passed: it ends where the rest begins, and it is held.
-pub record PassesEvent (old new : FinderModel) (passed : PassedEvent) : Type 0 where
-  pub sound : new.fault ≡ None
-  pub moves : old.at < new.at
-  pub place : new.at ≡ passed.offset + passed.len
-  pub within : passed.len ≤ length new.before
-  pub some : passed.here ≢ Nothing
-  pub frame : passed.here ≡ Frame → 12 ≤ passed.len
-  pub stray : passed.here ≢ Frame → passed.len ≡ 4
-
--- the input of a finder as far as it is left
-abbrev pub input_left : FinderModel → InputModel
-input_left s = record { held = s.rest; ended = s.ended; reads = s.reads; room = s.room; free = 0 }
-
--- One read: octets come after those that are left, or the end was reached, or a fault stops it.
-pub record ReadsMore (left left' : Option (List ℕ)) (old new : FinderModel)
-    (result : Result (Unit {0}) RunFault) (bs : List ℕ) : Type 0 where
-  pub fills : FillsInput left left' (input_left old) (input_left new)
-      (old.room < 2 * max 4096 old.longest) result bs
-  pub at : new.at ≡ old.at
-  pub fault : MatchResult result (λ _. new.fault ≡ None) (λ fault. new.fault ≡ Some fault)
-  pub longest : new.longest ≡ old.longest
-
--- the end, the fault and the reads stay
-pub record KeepsRun (old new : FinderModel) : Type 0 where
-  pub ended : new.ended ≡ old.ended
-  pub fault : new.fault ≡ old.fault
-  pub reads : new.reads ≡ old.reads
 
 -- the finder after it passes the first n octets that are left, where a length is stated
 abbrev pub gone_to : FinderModel → (n stated_length : ℕ) → FinderModel
@@ -256,15 +199,7 @@ LeavesFinder old new (Ok (Stray offset cause)) =
     (new.fault ≡ None) × (old.at < new.at) × (new.at ≡ offset + 4)
 LeavesFinder old new (Ok Done) = (new.fault ≡ None) × HasNoMoreEvents new
 LeavesFinder old new (Err fault) =
-    (old.ended ≡ false) × (old.fault ≡ None → StopsFinder new fault)
-    × (old.fault ≡ None → GrowsOnlyIfFull old new fault)
-
--- how a call that passes an event leaves a finder
-abbrev pub AdvancesFinder : FinderModel → FinderModel → Result (Option PassedEvent) RunFault
-    → Type 0
-AdvancesFinder old new (Ok (Some passed)) = PassesEvent old new passed
-AdvancesFinder old new (Ok None) = LeavesFinder old new (Ok Done)
-AdvancesFinder old new (Err fault) = LeavesFinder old new (Err fault)
+    (old.ended ≡ false) × (old.fault ≡ None → StopsFinder old new fault)
 
 -- A call reads octets only while nothing is certain, and returns the first event of these.
 pub record ReturnsNextEvent (left left' : Option (List ℕ)) (reads reads' : ℕ)
@@ -273,17 +208,15 @@ pub record ReturnsNextEvent (left left' : Option (List ℕ)) (reads reads' : ℕ
   pub steps : ReadsOn left left' old new (events_returned [] result)
       (events_returned (first_left new) result)
   pub ends : LeavesFinder old new result
-  pub counts : CountsReads reads reads' old new
-  pub waits : ReadsOnlyIfUndecided old new
+  -- the reads are counted, by the reader and by the finder
+  pub counts : AddsReads reads reads' old.reads new.reads
+  -- one is made only where no event is certain in what is left
+  pub waits : old.reads ≢ new.reads → NoEventCertain old.at old.rest
   pub near : new.at < 2 ^ 63
   -- no more octets are held than the greatest stated length needs
   pub bound : held new ≤ max 4096 new.longest
   -- after a fault nothing changes
   pub again : IfSome old.fault (λ _. new ≡ old)
-
--- after a fault the same fault comes again
-abbrev pub RepeatsFault : FinderModel → Result Event RunFault → Type 0
-RepeatsFault old result = IfSome old.fault (λ fault. result ≡ Err fault)
 
 -- all octets that were read, up to `end`, are held: from a frame on, or after a stray word
 abbrev pub HoldsUnread : (end : ℕ) → FinderModel → Result Event RunFault → Type 0

@@ -10,11 +10,8 @@ use Rattle.std.specs.Io.KnownBytes.{Consumes, IsAtEnd}
 
 -- the reader's count of failures after a call: a read fault adds one, and nothing else does
 abbrev pub read_failures_after : {X : Type 0} → ℕ → Result X RunFault → ℕ
-read_failures_after count (Ok x) = count
 read_failures_after count (Err Read) = counted count 1
-read_failures_after count (Err Write) = count
-read_failures_after count (Err InputTooLong) = count
-read_failures_after count (Err Memory) = count
+read_failures_after count _ = count
 
 -- the most reads that are made of one input
 abbrev pub max_reads : ℕ

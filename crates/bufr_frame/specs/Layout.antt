@@ -1,8 +1,8 @@
 -- The layout of a message of edition 3 or 4. (WMO-No. 306, Volume I.2, FM 94: sections 0 to 5; that
 -- lengths are the least, reserved bits zero, is this project's choice) Cited by public contracts.
-use Rattle.std.specs.Prelude.{◌≡◌, ℕ, ◌≤◌, ◌+◌, ◌*◌, ◌==◌, nat_le, ◌&&◌, ◌||◌, Bool, true, false, List, [], ◌∷◌, ◌++◌, Option, Some, None, length, codes, is_some, if◌then◌else◌}
+use Rattle.std.specs.Prelude.{◌≡◌, ℕ, ◌≤◌, ◌+◌, ◌*◌, ◌==◌, nat_le, ◌&&◌, ◌||◌, Bool, true, false, List, [], ◌∷◌, ◌++◌, Option, Some, None, length, codes, is_some, slice_index, if◌then◌else◌}
 use Rattle.bufr_frame.specs.Octets.{three_octets, two_octets, octets_of_words}
-use Rattle.bufr_frame.specs.Section1.{Field, is_edition, Centre, Subcentre, Year, LocalSubcategory, Second, slots_of, slots_3, first_least, most_in, slot_octets, head_value}
+use Rattle.bufr_frame.specs.Section1.{is_edition, first_least, octets_3, octets_4, values_of, mosts_of}
 use Rattle.bufr_frame.specs.Sections.{Sections, is_padded}
 use Rattle.bufr_frame.specs.declared.section1.Head.{Head}
 
@@ -76,25 +76,24 @@ max_extra_octets edition = if edition == 3 then 2 else 0
 abbrev pub section0_octets : (size edition : ℕ) → List ℕ
 section0_octets size edition = codes "BUFR" ++ three_octets size ++ edition ∷ []
 
--- the value of a field fits the octets that edition 3 has for it
-abbrev pub fits_3 : Head → Field → Bool
-fits_3 h field = nat_le (head_value h false field) (most_in slots_3 field)
-
 -- a head that can be written: in edition 3 centre, sub-centre and year have one octet, and local
 -- sub-category and second none
 abbrev pub is_writable : Head → Bool
 is_writable h =
-    (h.edition == 4) || ((h.edition == 3) && (fits_3 h Centre
-    && (fits_3 h Subcentre && (fits_3 h Year && (fits_3 h LocalSubcategory && fits_3 h Second)))))
+    (h.edition == 4) || ((h.edition == 3) && (nat_le h.centre 255 && (nat_le h.subcentre 255
+    && (nat_le h.year 255 && (nat_le h.local_subcategory 0 && nat_le h.second 0)))))
 
 -- The edition of a head is one that is read, and each of its values fits its octets.
 pub record IsFitting (h : Head) : Type 0 where
   pub edition : is_edition h.edition ≡ true
-  pub fits : (field : Field) → head_value h false field ≤ most_in (slots_of h.edition) field
+  pub fits : (i : ℕ) → slice_index (values_of h) i ≤ slice_index (mosts_of h.edition) i
 
--- section 1 after its length and before its local use
+-- section 1 after its length and before its local use; bit 1 of the flags: there is a section 2
+-- rule: section-2-flag
 abbrev pub head_octets : Head → (optional : Bool) → List ℕ
-head_octets h optional = slot_octets (slots_of h.edition) (head_value h optional)
+head_octets h optional =
+    let flags = if optional then 128 else 0 in
+    if h.edition == 3 then octets_3 h flags else octets_4 h flags
 
 -- section 1: its length, its values, and its local use
 -- rule: sections-1-and-2-as-given

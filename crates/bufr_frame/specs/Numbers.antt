@@ -1,5 +1,6 @@
--- The numbers of the faults. (a choice of this project) Cited by public contracts.
-use Rattle.std.specs.Prelude.{ℕ}
+-- The numbers of the faults, and their texts in parts. (a choice of this project)
+-- Cited by public contracts.
+use Rattle.std.specs.Prelude.{ℕ, List, [], ◌∷◌, codes, decimal}
 use Rattle.bufr_frame.specs.declared.fault.Cause.{Cause}
 use Rattle.bufr_frame.specs.declared.fault.Cause.TheVariants as cause
 use Rattle.bufr_frame.specs.declared.fault.SectionFault.{SectionFault}
@@ -9,26 +10,30 @@ use Rattle.bufr_frame.specs.declared.fault.RunFault.TheVariants as run
 use Rattle.bufr_frame.specs.declared.fault.WriteFault.{WriteFault}
 use Rattle.bufr_frame.specs.declared.fault.WriteFault.TheVariants as write
 
--- the number of a stray word
-abbrev pub number_of_cause : Cause → ℕ
-number_of_cause cause.Cut = 1
-number_of_cause cause.ShortLength = 2
-number_of_cause cause.NoEnd = 3
+-- a stray word
+-- rule: fault-1, fault-2, fault-3
+abbrev pub cause_report : Cause → ℕ × List (List ℕ)
+cause_report cause.Cut = (1, codes "cut" ∷ [])
+cause_report cause.ShortLength = (2, codes "short length" ∷ [])
+cause_report cause.NoEnd = (3, codes "no end" ∷ [])
 
--- the number of a section fault
-abbrev pub number_of_section_fault : SectionFault → ℕ
-number_of_section_fault (section.Edition edition) = 10
-number_of_section_fault (section.SectionShort k) = 11
-number_of_section_fault (section.SectionPast k) = 12
-number_of_section_fault section.SectionsEnd = 13
-number_of_section_fault section.Edition3Long = 14
+-- a section fault
+-- rule: fault-10, fault-11, fault-12, fault-13, fault-14
+abbrev pub section_report : SectionFault → ℕ × List (List ℕ)
+section_report (section.Edition edition) = (10, codes "edition " ∷ decimal edition ∷ [])
+section_report (section.SectionShort k) = (11, codes "section " ∷ decimal k ∷ codes " short" ∷ [])
+section_report (section.SectionPast k) =
+    (12, codes "section " ∷ decimal k ∷ codes " past the end" ∷ [])
+section_report section.SectionsEnd = (13, codes "sections do not meet the end" ∷ [])
+section_report section.Edition3Long = (14, codes "edition 3 length" ∷ [])
 
--- the number of a fault that ends a run
-abbrev pub number_of_run_fault : RunFault → ℕ
-number_of_run_fault run.Read = 70
-number_of_run_fault run.Write = 71
-number_of_run_fault run.InputTooLong = 72
-number_of_run_fault run.Memory = 73
+-- a fault that ends a run
+-- rule: fault-70, fault-71, fault-72, fault-73
+abbrev pub run_report : RunFault → ℕ × List (List ℕ)
+run_report run.Read = (70, codes "read failed" ∷ [])
+run_report run.Write = (71, codes "write failed" ∷ [])
+run_report run.InputTooLong = (72, codes "input too long" ∷ [])
+run_report run.Memory = (73, codes "out of memory" ∷ [])
 
 -- the number of a fault of writing a message
 abbrev pub number_of_write_fault : WriteFault → ℕ

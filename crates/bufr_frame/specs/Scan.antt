@@ -64,10 +64,8 @@ scan s = scan_from 0 0 s
 
 -- the event does not depend on where the stream ends
 abbrev pub is_decided : StreamEvent → Bool
-is_decided (FrameAt offset octets) = true
 is_decided (StrayAt offset Cut) = false
-is_decided (StrayAt offset ShortLength) = true
-is_decided (StrayAt offset NoEnd) = true
+is_decided _ = true
 
 -- the events of a stream whose end is not known: those before the first that is cut
 abbrev pub open_scan : List ℕ → List StreamEvent

@@ -3,8 +3,9 @@
 -- reserved bits are ignored, bits after the data stay, and odd sections are read in edition 3.
 -- Cited by public contracts.
 use Rattle.std.specs.Prelude.{ℕ, ◌+◌, ◌-◌, ◌%◌, ◌==◌, ◌&&◌, ◌||◌, Bool, not, nat_lt, nat_le, List, Option, Some, None, Result, Ok, Err, length, slice_index, slice_range, if◌then◌else◌, ◌≡◌, ◌<◌, true, All, take, drop, codes}
+use Rattle.bufr_bits.specs.Prelude.{◌>>=◌}
 use Rattle.bufr_frame.specs.Octets.{u24_at, u16_at, words}
-use Rattle.bufr_frame.specs.Section1.{Slot, Flags, slots_of, is_edition, first_least, slot_value, head_in}
+use Rattle.bufr_frame.specs.Section1.{is_edition, edition_of, first_least, flags_of, head_of}
 use Rattle.bufr_frame.specs.declared.section1.Head.{Head}
 use Rattle.bufr_frame.specs.declared.fault.SectionFault.{SectionFault}
 use Rattle.bufr_frame.specs.declared.fault.SectionFault.TheVariants.{Edition, SectionShort, SectionPast, SectionsEnd, Edition3Long}
@@ -26,13 +27,6 @@ pub record Sections : Type 0 where
   -- how many octets the message has
   pub size : ℕ
 
--- the first fault of two steps, or the result of the second step
-infixl 10 ◌>>=◌
-abbrev pub ◌>>=◌ : {A B : Type 0} → Result A SectionFault → (A → Result B SectionFault)
-    → Result B SectionFault
-(Ok x) >>= f = f x
-(Err e) >>= f = Err e
-
 -- where section k ends, from p on, of at least `least` octets; the last four octets are section 5
 -- rule: odd-sections-read, length-past-end, length-under-least, section-past-end
 unfoldable pub section_end : List ℕ → (k least p : ℕ) → Result ℕ SectionFault
@@ -42,26 +36,14 @@ section_end m k least p =
     else if nat_lt (length m - 4) (p + u24_at m p) then Err (SectionPast k)
     else Ok (p + u24_at m p)
 
--- the edition of octet 8 of section 0
-abbrev pub edition_of : List ℕ → ℕ
-edition_of m = slice_index m 7
-
 -- whether a section 3 or 4 of `size` octets is written with a zero octet more (edition 3 alone)
 abbrev pub is_padded : (edition size : ℕ) → Bool
 is_padded edition size = (edition == 3) && (size % 2 == 1)
 
--- the slots of section 1 of a message, by its edition
-abbrev pub slots_in : List ℕ → List Slot
-slots_in m = slots_of (edition_of m)
-
 -- bit 1 of the flags of section 1: there is a section 2
 -- rule: section-2-flag
 abbrev pub has_section2 : List ℕ → Bool
-has_section2 m = nat_le 128 (slot_value (slots_in m) m 11 Flags)
-
--- the values of octet 8 of section 0 and of section 1 after its length
-abbrev pub head_of : List ℕ → Head
-head_of m = head_in (edition_of m) (slots_in m) m 11
+has_section2 m = nat_le 128 (flags_of m)
 
 -- the parts, where sections 1 to 4 end at p1 to p4 (section 2 is empty where there is none)
 -- rule: local-use, section-2, section-3, section-4, reserved-ignored
@@ -125,7 +107,7 @@ pub record IsPlain (m : List ℕ) : Type 0 where
   pub octets : All (λ octet. octet < 256) m
   pub word : take 4 m ≡ codes "BUFR"
   pub size : u24_at m 4 ≡ length m
-  pub flags : slot_value (slots_in m) m 11 Flags % 128 ≡ 0
+  pub flags : flags_of m % 128 ≡ 0
   pub section2 : has_section2 m ≡ true → slice_index m (section2_begins m + 3) ≡ 0
   pub section3 : slice_index m (section3_begins m + 3) ≡ 0
   pub whole : edition_of m ≡ 4 → u24_at m (section3_begins m) % 2 ≡ 1

@@ -1,7 +1,7 @@
 //! Faults of a stream, a message, a run and a write, each with a number and the text of its line.
 
 ghost use Rattle.std.specs.Prelude.{◌≡◌};
-ghost use Rattle.bufr_frame.specs.Numbers.{number_of_cause, number_of_section_fault, number_of_run_fault, number_of_write_fault};
+ghost use Rattle.bufr_frame.specs.Numbers.{cause_report, section_report, run_report, number_of_write_fault};
 
 use std::alloc::AllocError;
 use thiserror::Error;
@@ -72,7 +72,7 @@ pub enum WriteFault {
 impl Cause {
     /// The number of this fault, 1 to 3.
     pub fn number(self) -> u8
-        ensures { result ≡ number_of_cause self }
+        ensures { result ≡ (cause_report self).0 }
     {
         match self {
             Cause::Cut => 1,
@@ -85,7 +85,7 @@ impl Cause {
 impl SectionFault {
     /// The number of this fault, 10 to 14.
     pub fn number(self) -> u8
-        ensures { result ≡ number_of_section_fault self }
+        ensures { result ≡ (section_report self).0 }
     {
         match self {
             SectionFault::Edition(_) => 10,
@@ -100,7 +100,7 @@ impl SectionFault {
 impl RunFault {
     /// The number of this fault, 70 to 73.
     pub fn number(self) -> u8
-        ensures { result ≡ number_of_run_fault self }
+        ensures { result ≡ (run_report self).0 }
     {
         match self {
             RunFault::Read => 70,

@@ -1,11 +1,9 @@
 //! The finder: the messages of a stream, one after another, and its search for `BUFR`.
-ghost use Rattle.std.specs.Prelude.{◌≡◌, ◌≢◌, ◌≤◌, ◌<◌, ◌+◌, ◌-◌, ◌^◌, ℕ, List, [], ◌∷◌, ◌++◌, length, take, drop, min, codes, IfOk, IfSome, MatchOption, vec_len, Some, None, Option, true, false, max, IfNone, Err};
-ghost use Rattle.memchr.specs.Find.{FindsNeedle, IsFirst, OccursAt};
-ghost use Rattle.bufr_frame.specs.Scan.{classify, stated_length, has_word_at, length_here, candidate_len, scan_from, Advances};
-ghost use Rattle.bufr_frame.specs.Finder.{IsSearchResult, IsNextEvent, AdvancesFinder, PassesEvent, ReadsMore, KeepsRun, events_by, first_left, event_by, gone_to, FinderModel, held, Follows, ReadsOn, CountsReads, HasNoMoreEvents, ReadsOnlyIfUndecided, new_finder, ReturnsNextEvent, RepeatsFault, events_returned, IsFinder};
-ghost use Rattle.bufr_bits.specs.Prelude.{counted};
-ghost use Rattle.bufr_frame.specs.Events.{events_of, IsEvent};
-ghost use Rattle.bufr_frame.specs.Input.{read_failures_after, max_reads};
+ghost use Rattle.std.specs.Prelude.{◌≡◌, ◌≤◌, ◌<◌, ◌+◌, ◌-◌, ◌^◌, length, take, drop, min, codes, IfSome, Some, None, Option, max, Err};
+ghost use Rattle.memchr.specs.Find.{FindsNeedle};
+ghost use Rattle.bufr_frame.specs.Scan.{classify, stated_length};
+ghost use Rattle.bufr_frame.specs.Finder.{IsSearchResult, gone_to, FinderModel, held, new_finder, ReturnsNextEvent, IsFinder};
+ghost use Rattle.bufr_frame.specs.Input.{read_failures_after};
 ghost use Rattle.std.specs.Borrow.{sem};
 ghost use Rattle.std.specs.Io.BufRead.{Rests};
 
@@ -30,14 +28,6 @@ pub enum Event<'a> {
     Stray(u64, Cause),
     /// The end of the stream.
     Done,
-}
-
-/// An event that was passed, and how many octets it takes.
-#[derive(Clone, Copy)]
-struct PassedEvent {
-    offset: u64,
-    here: Candidate,
-    len: usize,
 }
 
 /// Finds the messages of a stream. Each `BUFR` that is not inside a frame begins one or is a stray
@@ -127,22 +117,6 @@ impl Finder {
         self.longest
     }
 
-    /// The octets that are left.
-    fn rest(&self) -> &[u8]
-        ensures { result.now ≡ self.now.rest }
-    {
-        &self.input.held()[self.passed..]
-    }
-
-    /// What the octets that are left show.
-    fn find_event(&self) -> SearchResult
-        ensures looks { IsSearchResult self.now.ended self.now.rest result }
-        ensures near { self.now.at < 2 ^ 63 }
-        ensures bound { held self.now ≤ max 4096 self.now.longest }
-    {
-        find_event(&self.word, self.rest(), self.input.ended())
-    }
-
     /// Passes the first `n` octets that are left, where this length is stated.
     fn advance_to(&mut self, n: usize, stated_length: usize)
         requires within { n ≤ length self.old.rest }
@@ -154,120 +128,6 @@ impl Finder {
         self.passed += n;
         self.offset += n as u64;
         self.longest = self.longest.max(stated_length);
-    }
-
-    /// How many octets the first event takes.
-    // rule: frame, after-a-stray
-    fn event_len(&self, here: Candidate) -> usize
-        requires whole { here ≡ Candidate.Frame → 8 ≤ length self.now.rest }
-        requires some { here ≢ Candidate.Nothing }
-        ensures { result ≡ candidate_len self.now.rest here }
-    {
-        match here {
-            Candidate::Nothing => unreachable!(),
-            Candidate::Stray(_) => 4,
-            Candidate::Frame => stated_len(self.rest()),
-        }
-    }
-
-    /// Passes an event.
-    // rule: frame
-    fn take_event(&mut self, place: usize, here: Candidate, stated_length: usize) -> PassedEvent
-        requires sound { self.old.fault ≡ None }
-        requires found { IsNextEvent self.old.ended self.old.rest place here }
-        requires stated_length { stated_length < 2 ^ 24 }
-        ensures advances { Advances self.new.ended self.old.at self.old.rest
-            (event_by self.new result.offset result.len result.here) self.new.at self.new.rest }
-        ensures follows { Follows self.old.at self.old.rest self.new.at self.new.rest }
-        ensures same { KeepsRun self.old self.new }
-        ensures passed { PassesEvent self.old self.new result }
-        ensures longest { self.new.longest ≡ max self.old.longest stated_length }
-        ensures offset { result.offset ≡ self.old.at + place }
-        ensures here { result.here ≡ here }
-        ensures near { self.new.at < 2 ^ 63 }
-        ensures bound { held self.new ≤ max 4096 self.new.longest }
-    {
-        self.advance_to(place, stated_length);
-        let offset = self.offset;
-        let len = self.event_len(here);
-        self.advance_to(len, 0);
-        PassedEvent { offset, here, len }
-    }
-
-    /// Reads once after the octets that are left, drops those that were passed, and keeps a fault.
-    fn read_more<R: Source>(&mut self, r: &mut R) -> Result<(), RunFault>
-        requires room { length self.old.rest < max 4096 self.old.longest }
-        requires going { self.old.ended ≡ false }
-        requires sound { self.old.fault ≡ None }
-        ensures read { (bs : List ℕ)
-            × ReadsMore (R.left r.old) (R.left r.new) self.old self.new result bs }
-        ensures near { self.new.at < 2 ^ 63 }
-        ensures bound { held self.new ≤ max 4096 self.new.longest }
-        ensures failed { R.failures r.new ≡ read_failures_after (R.failures r.old) result }
-        ensures counts { CountsReads (R.reads r.old) (R.reads r.new) self.old self.new }
-    {
-        self.input.skip(self.passed);
-        self.passed = 0;
-        let limit = self.longest.max(MIN_HELD);
-        let most = limit - self.input.held().len();
-        match self.input.fill(r, most, 2 * limit) {
-            Ok(()) => Ok(()),
-            Err(fault) => {
-                self.fault = Some(fault);
-                Err(fault)
-            }
-        }
-    }
-
-    /// Passes the next event, where there is one.
-    fn advance<R: Source>(&mut self, r: &mut R) -> Result<Option<PassedEvent>, RunFault>
-        ensures steps { ReadsOn (R.left r.old) (R.left r.new) self.old self.new
-            (events_by self.new [] result) (events_by self.new (first_left self.new) result) }
-        ensures counts { CountsReads (R.reads r.old) (R.reads r.new) self.old self.new }
-        ensures waits { ReadsOnlyIfUndecided self.old self.new }
-        ensures outcome { AdvancesFinder self.old self.new result }
-        ensures failed { self.old.fault ≡ None
-            → R.failures r.new ≡ read_failures_after (R.failures r.old) result }
-        ensures again { IfSome self.old.fault (λ fault. result ≡ Err fault) }
-        ensures same { IfSome self.old.fault (λ _. r.new ≡ r.old) }
-        ensures same_self { IfSome self.old.fault (λ _. self.new ≡ self.old) }
-        ensures near { self.new.at < 2 ^ 63 }
-        ensures bound { held self.new ≤ max 4096 self.new.longest }
-    {
-        if let Some(fault) = self.fault {
-            return Err(fault);
-        }
-        loop {
-            match self.find_event() {
-                SearchResult::End => return Ok(None),
-                SearchResult::Found(place, here, stated_length) => {
-                    return Ok(Some(self.take_event(place, here, stated_length)));
-                }
-                SearchResult::NeedsMore(place, stated_length) => {
-                    self.advance_to(place, stated_length);
-                    self.read_more(r)?;
-                }
-            }
-        }
-    }
-
-    /// The event that was passed.
-    fn event(&self, passed: PassedEvent) -> Event<'_>
-        requires within { passed.len ≤ length self.now.before }
-        requires some { passed.here ≢ Candidate.Nothing }
-        requires frame { passed.here ≡ Candidate.Frame → 12 ≤ passed.len }
-        ensures events_of { events_of result
-            ≡ event_by self.now passed.offset passed.len passed.here }
-        ensures event { IsEvent result }
-    {
-        match passed.here {
-            Candidate::Nothing => unreachable!(),
-            Candidate::Stray(cause) => Event::Stray(passed.offset, cause),
-            Candidate::Frame => {
-                let before = &self.input.held()[..self.passed];
-                Event::Frame(passed.offset, &before[before.len() - passed.len..])
-            }
-        }
     }
 
     /// Returns the next event of the stream `r`, which must be the same at each call. A frame is
@@ -282,15 +142,48 @@ impl Finder {
     pub fn next<R: Source>(&mut self, r: &mut R) -> Result<Event<'_>, RunFault>
         ensures failed { self.old.fault ≡ None
             → R.failures r.new ≡ read_failures_after (R.failures r.old) result }
-        ensures again { RepeatsFault self.old result }
+        ensures again { IfSome self.old.fault (λ fault. result ≡ Err fault) }
         ensures same { IfSome self.old.fault (λ _. r.new ≡ r.old) }
         ensures* next { sem 𝓛 (Rests the_row self.entry
             (λ new. ReturnsNextEvent (R.left r.old) (R.left r.new)
             (R.reads r.old) (R.reads r.new) self.old new result)) }
     {
-        match self.advance(r)? {
-            None => Ok(Event::Done),
-            Some(passed) => Ok(self.event(passed)),
+        if let Some(fault) = self.fault {
+            return Err(fault);
+        }
+        loop {
+            let rest = &self.input.held()[self.passed..];
+            match find_event(&self.word, rest, self.input.ended()) {
+                SearchResult::End => return Ok(Event::Done),
+                SearchResult::Found(place, here, stated_length) => {
+                    let offset = self.offset + place as u64;
+                    let len = match here {
+                        Candidate::Frame => stated_length,
+                        _ => 4,
+                    };
+                    self.advance_to(place + len, stated_length);
+                    return match here {
+                        Candidate::Nothing => unreachable!(),
+                        Candidate::Stray(cause) => Ok(Event::Stray(offset, cause)),
+                        Candidate::Frame => {
+                            let before = &self.input.held()[..self.passed];
+                            Ok(Event::Frame(offset, &before[before.len() - len..]))
+                        }
+                    };
+                }
+                SearchResult::NeedsMore(place, stated_length) => {
+                    self.advance_to(place, stated_length);
+                    // One read comes after the octets that are left, and those passed are dropped.
+                    self.input.skip(self.passed);
+                    self.passed = 0;
+                    let limit = self.longest.max(MIN_HELD);
+                    let most = limit - self.input.held().len();
+                    if let Err(fault) = self.input.fill(r, most, 2 * limit) {
+                        self.fault = Some(fault);
+                        return Err(fault);
+                    }
+                }
+            }
         }
     }
 }
@@ -324,55 +217,18 @@ pub(crate) enum SearchResult {
     End,
 }
 
-/// The suffix of `s` from index `place`.
-pub(crate) fn suffix(s: &[u8], place: usize) -> &[u8]
-    requires { place ≤ length s.now }
-    ensures { result.now ≡ drop place s.now }
-{
-    &s[place..]
-}
-
-/// The length that octets 5 to 7 state.
-// rule: section-0
-pub(crate) fn stated_len(m: &[u8]) -> usize
-    requires { 8 ≤ length m.now }
-    ensures value { result ≡ stated_length m.now }
-    ensures most { result < 2 ^ 24 }
-{
-    u24_from(m, LENGTH)
-}
-
-/// The length that octets 5 to 7 state, or 0 where there are not eight octets.
-pub(crate) fn len_here(m: &[u8]) -> usize
-    ensures value { result ≡ length_here m.now }
-    ensures most { result < 2 ^ 24 }
-{
-    if m.len() < SECTION_0 {
-        0
-    } else {
-        stated_len(m)
-    }
-}
-
-/// Whether the octets begin with `BUFR`.
-fn starts_with_bufr(m: &[u8]) -> bool
-    ensures { result ≡ has_word_at (codes "BUFR") 0 m.now }
-{
-    m.starts_with(b"BUFR")
-}
-
 /// What `m` begins with, if nothing comes after `m`: the first case that holds counts.
 // rule: stray-cut, stray-short-length, stray-no-end, input-ends-early
 pub(crate) fn classify(m: &[u8]) -> Candidate
     ensures { result ≡ classify m.now }
 {
-    if !starts_with_bufr(m) {
+    if !m.starts_with(b"BUFR") {
         return Candidate::Nothing;
     }
     if m.len() < SECTION_0 {
         return Candidate::Stray(Cause::Cut);
     }
-    let len = stated_len(m);
+    let len = u24_from(m, LENGTH);
     if m.len() < len {
         return Candidate::Stray(Cause::Cut);
     }
@@ -385,29 +241,19 @@ pub(crate) fn classify(m: &[u8]) -> Candidate
     Candidate::Frame
 }
 
-/// The first of the nearest indices where `BUFR` is.
-fn find_near(rest: &[u8]) -> Option<usize>
-    ensures { IsFirst (OccursAt rest.now (codes "BUFR")) 0 (min (length rest.now) 16) result }
-{
-    'places: for place in 0..rest.len().min(NEAR) {
-        if starts_with_bufr(suffix(rest, place)) {
-            return Some(place);
-        }
-    }
-    None
-}
-
 /// The first index where `BUFR` is. `word` searches for it.
 fn find_word(word: &memmem::Finder<'_>, rest: &[u8]) -> Option<usize>
     requires { word.now ≡ codes "BUFR" }
     ensures { FindsNeedle rest.now (codes "BUFR") 0 result }
 {
     // Messages and stray words often follow one another.
-    if let Some(place) = find_near(rest) {
-        return Some(place);
-    }
     let near = rest.len().min(NEAR);
-    let place = word.find(suffix(rest, near))?;
+    'places: for place in 0..near {
+        if rest[place..].starts_with(b"BUFR") {
+            return Some(place);
+        }
+    }
+    let place = word.find(&rest[near..])?;
     Some(near + place)
 }
 
@@ -424,12 +270,13 @@ pub(crate) fn find_event(word: &memmem::Finder<'_>, rest: &[u8], ended: bool) ->
         // The last three octets may begin a word.
         return SearchResult::NeedsMore(rest.len() - rest.len().min(3), 0);
     };
-    let m = suffix(rest, place);
-    let stated_length = len_here(m);
-    if ended {
-        return SearchResult::Found(place, classify(m), stated_length);
-    }
-    if m.len() < stated_length.max(SECTION_0) {
+    let m = &rest[place..];
+    let stated_length = if m.len() < SECTION_0 {
+        0
+    } else {
+        u24_from(m, LENGTH)
+    };
+    if !ended && m.len() < stated_length.max(SECTION_0) {
         return SearchResult::NeedsMore(place, stated_length);
     }
     SearchResult::Found(place, classify(m), stated_length)

@@ -1,7 +1,6 @@
 //! An input, read piece by piece or to its end.
-ghost use Rattle.std.specs.Prelude.{◌≡◌, ◌≤◌, ◌<◌, ◌+◌, ◌-◌, ◌*◌, ◌^◌, ℕ, List, ◌++◌, take, length, drop, slice_range, Ok, IfOk, IfErr, OnErr, vec_len, vec_capacity, [], ◌∷◌, true, false};
-ghost use Rattle.std.specs.Io.KnownBytes.{Consumes, Keeps, IsAtEnd};
-ghost use Rattle.bufr_bits.specs.Prelude.{counted, failures_after};
+ghost use Rattle.std.specs.Prelude.{◌≡◌, ◌≤◌, ◌<◌, ◌+◌, ◌-◌, ◌*◌, ◌^◌, ℕ, List, ◌++◌, take, length, drop, slice_range, Ok, IfOk, IfErr, vec_len, vec_capacity, [], ◌∷◌, true, false};
+ghost use Rattle.bufr_bits.specs.Prelude.{counted};
 ghost use Rattle.bufr_frame.specs.Input.{read_failures_after, max_reads, ReadsOnce, ReadsInput, AddsReads, InputModel, FillsInput, new_input};
 
 use crate::fault::RunFault;
@@ -170,22 +169,6 @@ fn make_room(
     }
 }
 
-/// Reads once into the octets of `buf` from index `from` up to index `to`.
-fn read_range<R: Source>(r: &mut R, buf: &mut [u8], from: usize, to: usize) -> Result<usize, Failed>
-    requires order { from < to }
-    requires within { to ≤ length buf.old }
-    ensures prefix { take from buf.new ≡ take from buf.old }
-    ensures fits { IfOk result (λ n. from + n ≤ to) }
-    ensures ok { IfOk result
-        (λ n. Consumes (R.left r.old) (R.left r.new) (take n (drop from buf.new))) }
-    ensures err { OnErr result (Keeps (R.left r.old) (R.left r.new)) }
-    ensures end { IfOk result (λ n. n ≡ 0 → IsAtEnd (R.left r.new)) }
-    ensures failed { R.failures r.new ≡ failures_after (R.failures r.old) result }
-    ensures made { R.reads r.new ≡ counted (R.reads r.old) 1 }
-{
-    r.read(&mut buf[from..to])
-}
-
 /// Reads once after the first `filled` octets of a buffer, up to index `to`, and returns how many.
 fn read_after<R: Source>(
     r: &mut R,
@@ -203,29 +186,9 @@ fn read_after<R: Source>(
     ensures failed { R.failures r.new ≡ read_failures_after (R.failures r.old) result }
     ensures made { R.reads r.new ≡ counted (R.reads r.old) 1 }
 {
-    match read_range(r, buffer.as_mut_slice(), filled, to) {
+    match r.read(&mut buffer[filled..to]) {
         Ok(n) => Ok(n),
         Err(_) => Err(RunFault::Read),
-    }
-}
-
-/// Reads once after the first `held` octets, into the room that is there, and keeps no room.
-fn read_once<R: Source>(r: &mut R, octets: &mut Vec<u8>, held: usize) -> Result<usize, RunFault>
-    requires room { vec_len octets.old ≡ held + CHUNK }
-    ensures read { (bs : List ℕ) × ReadsOnce (R.left r.old) (R.left r.new)
-        (take held octets.old.items) octets.new.items result bs }
-    ensures failed { R.failures r.new ≡ read_failures_after (R.failures r.old) result }
-    ensures made { R.reads r.new ≡ counted (R.reads r.old) 1 }
-{
-    match read_after(r, octets, held, held + CHUNK) {
-        Ok(n) => {
-            octets.truncate(held + n);
-            Ok(n)
-        }
-        Err(fault) => {
-            octets.truncate(held);
-            Err(fault)
-        }
     }
 }
 
@@ -254,7 +217,9 @@ pub fn read_to_end<R: Source>(
         let held = octets.len();
         octets.resize(held + CHUNK, 0)?;
         *reads += 1;
-        if read_once(r, octets, held)? == 0 {
+        let read = read_after(r, octets, held, held + CHUNK);
+        octets.truncate(held + read.unwrap_or(0));
+        if read? == 0 {
             return Ok(());
         }
     }

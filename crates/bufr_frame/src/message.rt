@@ -1,9 +1,9 @@
 //! A message divided into its sections. (WMO-No. 306, Volume I.2, FM 94)
-ghost use Rattle.std.specs.Prelude.{◌≡◌, ◌≤◌, ◌+◌, length, IsTrue, Some, None, slice_range, if◌then◌else◌, ◌<◌, ◌*◌, ◌/◌, ◌%◌, ◌^◌, ◌-◌, ℕ, Ok, IfOk, slice_get, ◌↔◌, []};
+ghost use Rattle.std.specs.Prelude.{◌≡◌, ◌≤◌, ◌+◌, length, IsTrue, Some, None, slice_range, if◌then◌else◌, ◌<◌, ◌*◌, ◌/◌, ◌%◌, ◌^◌, ◌-◌, Ok, IfOk, slice_get, ◌↔◌, []};
 ghost use Rattle.std.specs.Option.{option_map};
-ghost use Rattle.bufr_frame.specs.Section1.{first_least, head_in, is_edition, slots_3, slots_4, Flags, slot_value};
-ghost use Rattle.bufr_frame.specs.Sections.{edition_of, head_of, has_section2, slots_in, section_end, sections_of, parts, is_long_edition_3, Sections};
-ghost use Rattle.bufr_frame.specs.Octets.{u16_at, u24_at, three_octets, words_left, words};
+ghost use Rattle.bufr_frame.specs.Section1.{edition_of, first_least, head_of};
+ghost use Rattle.bufr_frame.specs.Sections.{has_section2, section_end, sections_of, Sections};
+ghost use Rattle.bufr_frame.specs.Octets.{u16_at, u24_at, words_left, words};
 ghost use Rattle.bufr_bits.specs.Prelude.{octets_of};
 ghost use Rattle.std.specs.Iterator.{YieldsFirst, item_count};
 
@@ -61,6 +61,7 @@ impl<'a> Model for Message<'a> {
 /// The values of octet 8 of section 0 and of section 1 after its length.
 // rule: odd-values-kept, section-1-of-edition-3, edition-3-lacks, year-of-the-century
 // rule: listing-of-edition-3, section-1-of-edition-4
+#[tactic(auto, unfolding(crate::specs::Section1::head_by_edition, crate::specs::Section1::head_size))]
 #[inline(always)]
 fn head_at(m: &[u8]) -> Head
     requires long { 8 ≤ length m.now }
@@ -107,7 +108,6 @@ fn head_at(m: &[u8]) -> Head
     }
 }
 
-/// The octets of section 2 from its octet 5 on, where there is a section 2.
 // rule: section-2
 fn section2_of(m: &[u8], first: usize, second: usize) -> Option<&[u8]>
     requires long { 18 ≤ length m.now }
@@ -138,7 +138,7 @@ impl<'a> Message<'a> {
     /// and the message has more than 16,777,213.
     #[tactic(auto, unfolding(crate::specs::Sections::sections_of))]
     // rule: edition-first, sections-in-order, section-4-end, local-use, section-3, section-4
-    // rule: reserved-ignored
+    // rule: reserved-ignored, edition-3-length
     #[inline(always)]
     pub fn parse(octets: &'a [u8]) -> Result<Message<'a>, SectionFault>
         requires { 12 ≤ length octets.now }
@@ -155,7 +155,8 @@ impl<'a> Message<'a> {
         if fourth != octets.len() - SECTION_5 {
             return Err(SectionFault::SectionsEnd);
         }
-        if is_long(octets, second, third, fourth) {
+        let is_odd = is_padded(edition, third - second) || is_padded(edition, fourth - third);
+        if is_odd && octets.len() > MOST_ODD {
             return Err(SectionFault::Edition3Long);
         }
         let flags = octets[second + 6];
@@ -208,7 +209,9 @@ impl<'a> Message<'a> {
     pub fn descriptors(&self) -> Words<'a>
         ensures { words_left result ≡ self.now.descriptors }
     {
-        Words::new(self.descriptors)
+        Words {
+            octets: self.descriptors,
+        }
     }
 
     /// The number of subsets, octets 5 and 6 of section 3.
@@ -248,22 +251,13 @@ impl<'a> Message<'a> {
     }
 }
 
-/// The number that two octets write.
-pub(crate) fn word_of(high: u8, low: u8) -> u16
-    ensures { result ≡ 256 * high + low }
-{
-    256 * u16::from(high) + u16::from(low)
-}
-
-/// The number that the two octets from `p` write.
 pub(crate) fn two_at(m: &[u8], p: usize) -> u16
     requires { p + 2 ≤ length m.now }
     ensures { result ≡ u16_at m.now p }
 {
-    word_of(m[p], m[p + 1])
+    256 * u16::from(m[p]) + u16::from(m[p + 1])
 }
 
-/// The number that the three octets from `p` write.
 pub(crate) fn u24_from(m: &[u8], p: usize) -> usize
     requires { p + 3 ≤ length m.now }
     ensures value { result ≡ u24_at m.now p }
@@ -272,26 +266,16 @@ pub(crate) fn u24_from(m: &[u8], p: usize) -> usize
     65536 * (m[p] as usize) + 256 * (m[p + 1] as usize) + m[p + 2] as usize
 }
 
-/// The first of the two octets that write a number.
 pub(crate) fn high(word: u16) -> u8
     ensures { result ≡ word / 256 }
 {
     (word / 256) as u8
 }
 
-/// The second of the two octets that write a number.
 pub(crate) fn low(word: u16) -> u8
     ensures { result ≡ word % 256 }
 {
     (word % 256) as u8
-}
-
-/// The three octets that write a number.
-pub(crate) fn three_octets_of(n: usize) -> [u8; 3]
-    requires { n < 2 ^ 24 }
-    ensures { result ≡ three_octets n }
-{
-    [(n / 65536) as u8, (n / 256 % 256) as u8, (n % 256) as u8]
 }
 
 /// An iterator over the words of two octets each, most significant octet first. An octet left over
@@ -302,13 +286,6 @@ pub struct Words<'a> {
 }
 
 impl<'a> Words<'a> {
-    /// The words of `octets`.
-    pub(crate) fn new(octets: &'a [u8]) -> Words<'a>
-        ensures { words_left result ≡ words octets.now }
-    {
-        Words { octets }
-    }
-
     /// How many words are left.
     pub fn len(&self) -> usize
         ensures { result ≡ length (words_left self.now) }
@@ -335,7 +312,7 @@ impl<'a> Iterator for Words<'a> {
     fn next(&mut self) -> Option<u16> {
         match self.octets {
             [first, second, rest @ ..] => {
-                let word = word_of(*first, *second);
+                let word = 256 * u16::from(*first) + u16::from(*second);
                 self.octets = rest;
                 Some(word)
             }
@@ -369,7 +346,6 @@ fn section_end_at(m: &[u8], k: u8, least: usize, p: usize) -> Result<usize, Sect
     Ok(p + len)
 }
 
-/// Whether there is a section 2.
 // rule: section-2-flag
 fn has_second(m: &[u8]) -> bool
     requires { 18 ≤ length m.now }
@@ -399,14 +375,3 @@ fn second_end(m: &[u8], first: usize) -> Result<usize, SectionFault>
 
 /// The most octets of a message of edition 3 that two zero octets more may pad.
 const MOST_ODD: usize = 16_777_213;
-
-/// Whether a message with these ends of sections is too long for its sections 3 and 4 to be padded.
-// rule: edition-3-length
-fn is_long(m: &[u8], second: usize, third: usize, fourth: usize) -> bool
-    requires long { 8 ≤ length m.now }
-    requires third { second ≤ third }
-    requires fourth { third ≤ fourth }
-    ensures { result ≡ is_long_edition_3 m.now second third fourth }
-{
-    m.len() > MOST_ODD && (is_padded(m[7], third - second) || is_padded(m[7], fourth - third))
-}

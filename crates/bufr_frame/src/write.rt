@@ -1,10 +1,10 @@
 //! Writing a message from its parts.
-ghost use Rattle.std.specs.Prelude.{◌≡◌, ◌≢◌, ◌≤◌, ◌<◌, ◌+◌, ◌*◌, ◌/◌, ◌%◌, ◌^◌, ◌↔◌, ◌++◌, ◌∷◌, [], length, IfOk, OnOk, Ok, Err, Some, SomeIff, IsTrue, codes, if◌then◌else◌};
+ghost use Rattle.std.specs.Prelude.{◌≡◌, ◌≤◌, ◌<◌, ◌+◌, ◌*◌, ◌/◌, ◌%◌, ◌^◌, ◌↔◌, ◌++◌, length, IfOk, OnOk, Ok, Err, Some, SomeIff, IsTrue, if◌then◌else◌};
 ghost use Rattle.std.specs.Option.{option_map};
-ghost use Rattle.bufr_frame.specs.Prelude.{three_octets, two_octets, octets_of_words, sections_of, data_flags, even_size, with_even_length, is_writable, message_octets, message_size, max_octets, with_pad_octet, parts_of, sections_from, head_octets, section0_octets, section1_octets, section2_octets, section3_octets, section4_octets, section2_size, size_from, first_least, is_edition, slot_octets, head_value, slots_3, slots_4};
+ghost use Rattle.bufr_frame.specs.Prelude.{three_octets, octets_of_words, sections_of, even_size, with_even_length, is_writable, message_octets, message_size, max_octets, with_pad_octet, parts_of, sections_from, head_octets, section2_octets, section3_octets, section4_octets, section2_size, size_from, octets_3, octets_4};
 
 use crate::fault::WriteFault;
-use crate::message::{high, low, three_octets_of};
+use crate::message::{high, low};
 use crate::section1::{
     Head, SECTION_0, SECTION_2, SECTION_3, SECTION_4, SECTION_5, even_len, is_padded, section_1,
 };
@@ -14,6 +14,7 @@ use std::alloc::{AllocError, Global};
 const MAX_OCTETS: usize = 16_777_215;
 
 /// The number of octets of the message, or `TooLong`.
+#[tactic(auto, unfolding(crate::specs::Section1::head_size))]
 // rule: greatest-length
 fn size_of(
     edition: u8,
@@ -41,12 +42,11 @@ fn size_of(
     if size > MAX_OCTETS { None } else { Some(size) }
 }
 
-/// Appends a number in three octets.
 fn push_three(octets: &mut Vec<u8>, n: usize) -> Result<(), AllocError>
     requires { n < 2 ^ 24 }
     ensures { OnOk result (octets.new.items ≡ octets.old.items ++ three_octets n) }
 {
-    octets.extend_from_slice(&three_octets_of(n))
+    octets.extend_from_slice(&[(n / 65536) as u8, (n / 256 % 256) as u8, (n % 256) as u8])
 }
 
 /// Section 1 of edition 3 after its length.
@@ -55,7 +55,7 @@ fn head_octets_3(head: &Head, optional: bool) -> [u8; 14]
     requires centre { head.now.centre ≤ 255 }
     requires subcentre { head.now.subcentre ≤ 255 }
     requires year { head.now.year ≤ 255 }
-    ensures { result ≡ slot_octets slots_3 (head_value head.now optional) }
+    ensures { result ≡ octets_3 head.now (if optional then 128 else 0) }
 {
     [
         head.master,
@@ -78,7 +78,7 @@ fn head_octets_3(head: &Head, optional: bool) -> [u8; 14]
 /// Section 1 of edition 4 after its length.
 // rule: section-1-of-edition-4
 fn head_octets_4(head: &Head, optional: bool) -> [u8; 19]
-    ensures { result ≡ slot_octets slots_4 (head_value head.now optional) }
+    ensures { result ≡ octets_4 head.now (if optional then 128 else 0) }
 {
     [
         head.master,
@@ -115,25 +115,6 @@ fn push_head(octets: &mut Vec<u8>, head: &Head, optional: bool) -> Result<(), Al
     }
 }
 
-/// Appends section 1.
-// rule: sections-1-and-2-as-given
-fn push_section1(
-    octets: &mut Vec<u8>,
-    head: &Head,
-    local1: &[u8],
-    optional: bool,
-) -> Result<(), AllocError>
-    requires writable { IsTrue (is_writable head.now) }
-    requires short { first_least head.now.edition + length local1.now < 2 ^ 24 }
-    ensures { OnOk result
-        (octets.new.items ≡ octets.old.items ++ section1_octets head.now local1.now optional) }
-{
-    push_three(octets, section_1(head.edition) + local1.len())?;
-    push_head(octets, head, optional)?;
-    octets.extend_from_slice(local1)
-}
-
-/// Appends a zero octet to a section that is padded.
 // rule: writes-even-sections
 fn push_padding(octets: &mut Vec<u8>, pads: bool) -> Result<(), AllocError>
     ensures { OnOk result (octets.new.items ≡ with_pad_octet pads octets.old.items) }
@@ -157,7 +138,6 @@ fn push_plain(octets: &mut Vec<u8>, content: &[u8], pads: bool) -> Result<(), Al
     push_padding(octets, pads)
 }
 
-/// Appends section 2, where there is one.
 // rule: section-2, sections-1-and-2-as-given
 fn push_section2(octets: &mut Vec<u8>, section2: Option<&[u8]>) -> Result<(), AllocError>
     requires { section2_size (option_map (λ s. s.now) section2) < 2 ^ 24 }
@@ -170,7 +150,6 @@ fn push_section2(octets: &mut Vec<u8>, section2: Option<&[u8]>) -> Result<(), Al
     }
 }
 
-/// Appends words, two octets each.
 fn push_words(octets: &mut Vec<u8>, words: &[u16]) -> Result<(), AllocError>
     ensures { OnOk result (octets.new.items ≡ octets.old.items ++ octets_of_words words.now) }
 {
@@ -180,7 +159,6 @@ fn push_words(octets: &mut Vec<u8>, words: &[u16]) -> Result<(), AllocError>
     Ok(())
 }
 
-/// Appends section 3.
 // rule: section-3, reserved-zero, writes-no-pad-octet
 fn push_section3(
     octets: &mut Vec<u8>,
@@ -199,16 +177,6 @@ fn push_section3(
     octets.extend_from_slice(&[0, high(subsets), low(subsets), flags])?;
     push_words(octets, descriptors)?;
     push_padding(octets, is_padded(edition, len))
-}
-
-/// Octet 7 of section 3.
-// rule: reserved-zero
-fn flags_of(observed: bool, compressed: bool) -> u8
-    ensures { result ≡ data_flags observed compressed }
-{
-    let first: u8 = if observed { 128 } else { 0 };
-    let second: u8 = if compressed { 64 } else { 0 };
-    first + second
 }
 
 /// Writes a message of edition 3 or 4 from its parts: `BUFR` first, its length in octets 5 to 7,
@@ -233,7 +201,7 @@ fn flags_of(observed: bool, compressed: bool) -> u8
 ///
 /// [`WriteFault::TooLong`] exactly where the message would have more than 16,777,215 octets.
 /// [`WriteFault::Memory`] where memory ran out.
-// rule: section-0, section-4, section-5
+// rule: reserved-zero, section-0, section-4, section-5, sections-1-and-2-as-given
 pub fn write_message(
     alloc: Global,
     head: &Head,
@@ -265,14 +233,16 @@ pub fn write_message(
     octets.extend_from_slice(b"BUFR")?;
     push_three(&mut octets, size)?;
     octets.extend_from_slice(&[head.edition])?;
-    push_section1(&mut octets, head, local1, section2.is_some())?;
+    push_three(&mut octets, section_1(head.edition) + local1.len())?;
+    push_head(&mut octets, head, section2.is_some())?;
+    octets.extend_from_slice(local1)?;
     push_section2(&mut octets, section2)?;
     push_section3(
         &mut octets,
         head.edition,
         descriptors,
         subsets,
-        flags_of(observed, compressed),
+        128 * u8::from(observed) + 64 * u8::from(compressed),
     )?;
     let pads = is_padded(head.edition, SECTION_4 + payload.len());
     push_plain(&mut octets, payload, pads)?;

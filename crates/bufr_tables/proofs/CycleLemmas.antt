@@ -5,7 +5,7 @@ use Rattle.std.proofs.lemmas.List.{append_assoc, get_or_append_left, get_or-set_
 use Rattle.std.proofs.lemmas.List.Elements.{Contains-append_cases, Contains-append_left, Contains-append_right, Contains-push, Contains-push_cases, Contains-get_or}
 use Rattle.std.specs.List.{find}
 use borrow.Author.Count.{below_more}
-use Rattle.bufr_tables.specs.Prelude.{Chain, HasNoCycle, IsFirstCycle, Leads, ReachesItself, one, more, Sequence, fxys_of, members_or_none, members_of, IsAbove, IsSet, IsVisited, Falls, rank_of, unset}
+use Rattle.bufr_tables.specs.Prelude.{Chain, IsFirstCycle, Leads, ReachesItself, one, more, Sequence, fxys_of, members_or_none, members_of, IsAbove, IsSet, IsVisited, Falls, rank_of, unset}
 
 -- each member of a sequence that is a sequence was seen
 abbrev pub AreSeen : List Sequence → List Bool → ℕ → Type 0
@@ -272,7 +272,7 @@ module _ (table : List Sequence) (place : ℕ) (was : IsPassed table place) wher
           was k under (omega arith) (rw (get_or-map (λ (s : Sequence). s.fxy) table k e 0 (omega arith), ← get_or-take place table k e under) again)
 
   -- none reaches itself
-  pub passed-all : length table ≤ place → HasNoCycle table
+  pub passed-all : length table ≤ place → (fxy : ℕ) → ¬ ReachesItself table fxy
   passed-all all fxy chain =
       let (k, inside, at) = place-in table fxy (chain-sequence table chain) in
       was k (omega arith) inside (rw at chain)

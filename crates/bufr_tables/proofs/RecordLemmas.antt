@@ -10,7 +10,7 @@ use Rattle.csv.specs.declared.parser.State.{State}
 use Rattle.csv.specs.declared.parser.Terminator.{Terminator}
 use Rattle.csv.specs.declared.parser.Action.{Action}
 use Rattle.csv.specs.declared.reader.Reader.{Reader}
-use Rattle.bufr_tables.specs.Prelude.{Record, GivesNext, IsBetween, count_of, record_given, records_after, text_left, field_of, IsOpened, records_left, field_texts, has_fields, has_header, table_from, table_of, ReturnsUnlessMemory, and_then, number_after_digits, if_i64, i64_of, integer_of, natural_of, negated, TableFault, ReadsTableD, Sequence, table_d_of, with_record_d}
+use Rattle.bufr_tables.specs.Prelude.{◌>>=◌, Record, GivesNext, IsBetween, count_of, record_given, records_after, text_left, field_of, IsOpened, records_left, field_texts, has_fields, has_header, table_from, table_of, ReturnsUnlessMemory, number_after_digits, if_i64, i64_of, integer_of, natural_of, negated, TableFault, ReadsTableD, Sequence, table_d_of, with_record_d}
 use Rattle.bufr_tables.specs.declared.rows.RecordReader.{RecordReader}
 use Rattle.std.specs.Str.{bytes_eq}
 use Rattle.csv.specs.Records.{field_at}
@@ -251,33 +251,11 @@ module _ (A : Type 0) (with_record : ℕ → A → Record → Result A TableFaul
   unfolding table_from
   table-end is = so_far ∙ rw step.next (rw is refl)
 
--- the first step of a reader
-module _ (names : List (List ℕ)) (old new : RecordReader) (found : Bool) (step : GivesNext old new found) where
-  pub opens : old.number ≡ 0 → found ≡ true → has_fields names (record_given new) ≡ true → IsOpened names (records_left old) new
-  opens none is header = record {
-    between = step.between is;
-    number = rw (step.number is, none) refl;
-    header = rw step.next (rw is header);
-    rest = rw step.next (rw is refl);
-  }
-
-  pub opens-empty : found ≡ false → has_header names (records_left old) ≡ false
-  opens-empty is = rw step.next (rw is refl)
-
-  pub opens-other : found ≡ true → has_fields names (record_given new) ≡ false → has_header names (records_left old) ≡ false
-  opens-other is other = rw step.next (rw is other)
-
 -- ---- The answer of a call whose memory may run out.
 
 -- a fault that is expected, unless it is want of memory
 pub gives-fault : (A : Type 0) (expected answer : Result A TableFault) (fault : TableFault) → answer ≡ Err fault → (fault ≢ Memory → expected ≡ Err fault) → ReturnsUnlessMemory expected answer
-gives-fault A expected answer Header is same = rw is (same (λ e. cc e))
-gives-fault A expected answer (Row n) is same = rw is (same (λ e. cc e))
-gives-fault A expected answer (Duplicate fxy) is same = rw is (same (λ e. cc e))
-gives-fault A expected answer (Cycle fxy) is same = rw is (same (λ e. cc e))
-gives-fault A expected answer TableSize is same = rw is (same (λ e. cc e))
-gives-fault A expected answer Csv is same = rw is (same (λ e. cc e))
-gives-fault A expected answer Memory is same = rw is tt
+gives-fault A expected answer fault is same = rw is same
 
 record-no_cycle : (n : ℕ) (table : List Sequence) (r : Record) (fxy : ℕ) → with_record_d n table r ≡ Err (Cycle fxy) → ⊥
 unfolding with_record_d
@@ -288,7 +266,7 @@ unfolding table_from
 rows-no_cycle n table [] fxy e = cc e
 rows-no_cycle n table (r ∷ rs) fxy e = by (with_record_d n table r) refl e (λ longer. rows-no_cycle (n + 1) longer rs fxy)
   where
-    by : (row : Result (List Sequence) TableFault) → with_record_d n table r ≡ row → and_then row (λ longer. table_from with_record_d (n + 1) longer rs) ≡ Err (Cycle fxy)
+    by : (row : Result (List Sequence) TableFault) → with_record_d n table r ≡ row → (row >>= (λ longer. table_from with_record_d (n + 1) longer rs)) ≡ Err (Cycle fxy)
         → ((longer : List Sequence) → table_from with_record_d (n + 1) longer rs ≡ Err (Cycle fxy) → ⊥) → ⊥
     by (Ok longer) is e on = on longer e
     by (Err fault) is e on = record-no_cycle n table r fxy (is ∙ e)
@@ -299,14 +277,14 @@ table-no_cycle [] fxy e = cc e
 table-no_cycle (first ∷ rest) fxy e = grind (arith, common_steps, rows-no_cycle)
 
 -- the same of a read of Table D, which comes to the cycles only after all records
-pub reads-fault : (records : List Record) (answer : Result (List Sequence) TableFault) (fault : TableFault) → answer ≡ Err fault → ReturnsUnlessMemory (table_d_of records) answer → ReadsTableD records answer
-reads-fault records answer Header is given = rw is (rw is at given)
-reads-fault records answer (Row n) is given = rw is (rw is at given)
-reads-fault records answer (Duplicate fxy) is given = rw is (rw is at given)
-reads-fault records answer (Cycle fxy) is given = absurd (table-no_cycle records fxy (rw is at given))
-reads-fault records answer TableSize is given = rw is (rw is at given)
-reads-fault records answer Csv is given = rw is (rw is at given)
-reads-fault records answer Memory is given = rw is tt
+pub reads-fault : (records : List Record) (answer : Result (List Sequence) TableFault) (fault : TableFault) → answer ≡ Err fault → (fault ≢ Memory → table_d_of records ≡ Err fault) → ReadsTableD records answer
+reads-fault records answer Header is given = rw is given
+reads-fault records answer (Row n) is given = rw is given
+reads-fault records answer (Duplicate fxy) is given = rw is given
+reads-fault records answer (Cycle fxy) is given = absurd (table-no_cycle records fxy (given (λ e. cc e)))
+reads-fault records answer TableSize is given = rw is given
+reads-fault records answer Csv is given = rw is given
+reads-fault records answer Memory is given = rw is given
 
 -- ---- Digits one after another, and numbers past their bits.
 

@@ -6,7 +6,7 @@ use Rattle.std.proofs.lemmas.Bool.{cases_eq, eqb-true}
 use Rattle.std.proofs.lemmas.List.{get_or-set_same, get_or-set_other, map-append, map-id}
 use Rattle.std.proofs.lemmas.Map.Steps.{length-le_from_distinct_below}
 use Rattle.std.proofs.lemmas.Option.{same_Some, option_and_then_some}
-use Rattle.bufr_tables.specs.Prelude.{mark_of, place_of, f_of, fxy_text, key_of, ExtendsBlock, IsStored, row_parsed, rows_kept, IsRowKept, row_kept, Row, entry_of, row_comment, row_line_start, kind_of, IsRow, allows_scale, allows_width, element_of, is_name, plain_of, row_of, scale_of, width_of, AreRows, columns_b, table_b_of, with_record_b, with_row, i64_of, Record, field_of, only_if, and_then, has_fields, table_from, table_of, TableFault}
+use Rattle.bufr_tables.specs.Prelude.{◌>>=◌, mark_of, place_of, f_of, fxy_text, key_of, ExtendsBlock, IsStored, row_parsed, rows_kept, IsRowKept, row_kept, Row, entry_of, row_comment, row_line_start, kind_of, IsRow, allows_scale, allows_width, element_of, is_name, plain_of, row_of, scale_of, width_of, AreRows, columns_b, table_b_of, with_record_b, with_row, i64_of, Record, field_of, only_if, has_fields, table_from, table_of, TableFault}
 use Rattle.bufr_tables.specs.declared.table_b.ParsedRow.{ParsedRow}
 use Rattle.bufr_tables.specs.declared.table_b.Stored.{Stored}
 use Rattle.bufr_tables.specs.declared.table_b.Kind.{Kind}
@@ -407,7 +407,7 @@ rows-add n rows [] table is distinct =
     record { more = []; longer = sym same ∙ sym (append-nil rows); written = refl; distinct = rw (← same) distinct }
 rows-add n rows (r ∷ rs) table is distinct = by (with_record_b n rows r) refl is (λ longer. rows-add (n + 1) longer rs table)
   where
-    by : (o : Result (List Row) TableFault) → with_record_b n rows r ≡ o → and_then o (λ longer. table_from with_record_b (n + 1) longer rs) ≡ Ok table
+    by : (o : Result (List Row) TableFault) → with_record_b n rows r ≡ o → (o >>= (λ longer. table_from with_record_b (n + 1) longer rs)) ≡ Ok table
         → ((longer : List Row) → table_from with_record_b (n + 1) longer rs ≡ Ok table → IsDistinct nat_eq (map (λ row. row.fxy) longer) → AddRows longer rs table)
         → AddRows rows (r ∷ rs) table
     by (Err fault) e is on = cc is

@@ -4,7 +4,7 @@ use Rattle.std.proofs.Common.{◌≡◌, ◌≢◌, ℕ, ◌+◌, ◌-◌, ◌/�
 use Rattle.std.specs.List.{AllByRecursion, IsDistinct, find}
 use Rattle.std.proofs.lemmas.List.{take_all, drop_at, map-append, append-nil, append_assoc, map-id}
 use Rattle.bufr_tables.proofs.TableBLemmas.{find-absent, find-found, place-absent, range-append, distinct-added, distinct-none}
-use Rattle.bufr_tables.specs.Prelude.{place_of, f_of, key_of, IsMemberRange, LastEnds, run_key, sequence_kept, sequences_kept, Sequence, extended, fxys_of, is_last, members_of, AreSequences, Member, added, begins_again, columns_d, members_or_none, member_of, members_in, table_d_of, with_member, with_record_d, Record, and_then, has_fields, table_from, table_of, TableFault}
+use Rattle.bufr_tables.specs.Prelude.{◌>>=◌, place_of, f_of, key_of, IsMemberRange, LastEnds, run_key, sequence_kept, sequences_kept, Sequence, extended, fxys_of, is_last, members_of, AreSequences, Member, added, begins_again, columns_d, members_or_none, member_of, members_in, table_d_of, with_member, with_record_d, Record, has_fields, table_from, table_of, TableFault}
 use Rattle.bufr_tables.specs.declared.table_d.MemberRange.{MemberRange}
 use Rattle.std.proofs.lemmas.Bool.{eqb-true}
 use Rattle.bufr_tables.specs.declared.fault.TableFault.TheVariants.{Csv, Duplicate, Header, TableSize}
@@ -299,7 +299,7 @@ rows-add n before [] table is distinct =
     record { rows = []; written = refl; members = λ fxy. rw (← same) (sym (append-nil (members_or_none before fxy))) }
 rows-add n before (r ∷ rs) table is distinct = by (with_record_d n before r) refl is (λ longer. rows-add (n + 1) longer rs table)
   where
-    by : (o : Result (List Sequence) TableFault) → with_record_d n before r ≡ o → and_then o (λ longer. table_from with_record_d (n + 1) longer rs) ≡ Ok table
+    by : (o : Result (List Sequence) TableFault) → with_record_d n before r ≡ o → (o >>= (λ longer. table_from with_record_d (n + 1) longer rs)) ≡ Ok table
         → ((longer : List Sequence) → table_from with_record_d (n + 1) longer rs ≡ Ok table → IsDistinct nat_eq (fxys_of longer) → AddRows longer rs table)
         → AddRows before (r ∷ rs) table
     by (Err fault) e is on = cc is

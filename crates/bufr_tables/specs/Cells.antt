@@ -71,14 +71,8 @@ cells_of (delayed fxy body more) at tail =
 
 -- the factor that comes first
 abbrev pub factor_first : List Cell → ℕ
-factor_first [] = 0
-factor_first (cell.Element fxy ∷ cells) = 0
-factor_first (cell.Operator fxy ∷ cells) = 0
-factor_first (cell.Fixed n after ∷ cells) = 0
-factor_first (cell.Delayed after ∷ cells) = 0
 factor_first (cell.Factor fxy ∷ cells) = fxy
-factor_first (cell.PassEnd ∷ cells) = 0
-factor_first (cell.Finish ∷ cells) = 0
+factor_first _ = 0
 
 -- a cell, and the factor after it, put before the trees that were read after it
 abbrev pub prepend_cell : Cell → ℕ → List Tree → List Tree

@@ -2,6 +2,7 @@
 -- (WMO-No. 306, Volume I.2, FM 94: section 3, replications, Tables C and D; the faults and limits
 -- are a choice of this project) Cited by public contracts.
 use Rattle.std.specs.Prelude.{ℕ, zero, suc, ◌+◌, ◌==◌, nat_lt, nat_le, not, ◌||◌, Bool, true, false, List, [], ◌∷◌, length, take, Option, Some, None, Result, Ok, Err, ok_or, is_some, ◌≡◌, ◌≤◌, ◌⊎◌, ◌++◌, ◌<◌, ◌≢◌, IfOk, IfErr}
+use Rattle.bufr_tables.specs.Records.{◌>>=◌}
 use Rattle.bufr_tables.specs.declared.fault.TemplateFault.{TemplateFault}
 use Rattle.bufr_tables.specs.Fxy.{f_of, x_of, y_of}
 pub use Rattle.bufr_tables.specs.Fxy.{is_factor}
@@ -19,13 +20,6 @@ pub record Tables : Type 0 where
 -- the most groups and sequences that may be open together
 abbrev pub max_open : ℕ
 max_open = 32
-
--- one step after another, up to the first fault
-infixl 10 ◌>>=◌
-abbrev pub ◌>>=◌ : {A B : Type 0} → Result A TemplateFault → (A → Result B TemplateFault)
-    → Result B TemplateFault
-(Ok a) >>= next = next a
-(Err why) >>= next = Err why
 
 -- a fault, unless a test is met
 abbrev pub unless : Bool → TemplateFault → Result (Unit {0}) TemplateFault
@@ -181,11 +175,8 @@ tables_of b d = record { known = λ fxy. is_some (entry_of b fxy); members = mem
 
 -- whether the first node is an element
 abbrev pub is_element_first : Tree → Bool
-is_element_first bare = false
 is_element_first (element fxy rest) = true
-is_element_first (operator fxy rest) = false
-is_element_first (fixed count body rest) = false
-is_element_first (delayed factor body rest) = false
+is_element_first _ = false
 
 -- Elements have F = 0, and factors are replication factors. Operators have F = 2 and are those that
 -- a template may hold. One that gives a width comes before an element.

@@ -1,29 +1,32 @@
--- The numbers of the faults. (a choice of this project) Cited by public contracts.
-use Rattle.std.specs.Prelude.{ℕ}
+-- The numbers of the faults, and their texts in parts. (a choice of this project)
+-- Want of memory ends a run, whose line reports it. Cited by public contracts.
+use Rattle.std.specs.Prelude.{ℕ, List, [], ◌∷◌, codes, decimal}
+use Rattle.bufr_tables.specs.Fxy.{fxy_text}
 use Rattle.bufr_tables.specs.declared.fault.TableFault.{TableFault}
 use Rattle.bufr_tables.specs.declared.fault.TableFault.TheVariants as table
 use Rattle.bufr_tables.specs.declared.fault.TemplateFault.{TemplateFault}
 use Rattle.bufr_tables.specs.declared.fault.TemplateFault.TheVariants as template
 
--- the number of a fault of a table
-abbrev pub number_of_table_fault : TableFault → ℕ
-number_of_table_fault table.Header = 40
-number_of_table_fault (table.Row n) = 41
-number_of_table_fault (table.Duplicate fxy) = 42
-number_of_table_fault (table.Cycle fxy) = 43
-number_of_table_fault table.TableSize = 44
-number_of_table_fault table.Csv = 45
-number_of_table_fault table.Memory = 73
+-- a fault of a table
+abbrev pub table_report : TableFault → ℕ × List (List ℕ)
+table_report table.Header = (40, codes "header" ∷ [])
+table_report (table.Row n) = (41, codes "row " ∷ decimal n ∷ [])
+table_report (table.Duplicate fxy) = (42, codes "duplicate " ∷ fxy_text fxy ∷ [])
+table_report (table.Cycle fxy) = (43, codes "cycle " ∷ fxy_text fxy ∷ [])
+table_report table.TableSize = (44, codes "table size" ∷ [])
+table_report table.Csv = (45, codes "csv" ∷ [])
+table_report table.Memory = (73, [])
 
--- the number of a fault of a template
-abbrev pub number_of_template_fault : TemplateFault → ℕ
-number_of_template_fault (template.UnknownElement fxy) = 20
-number_of_template_fault (template.UnknownSequence fxy) = 21
-number_of_template_fault (template.Operator fxy) = 22
-number_of_template_fault (template.GroupShape fxy) = 23
-number_of_template_fault (template.NoFactor fxy) = 24
-number_of_template_fault (template.EmptyGroup fxy) = 25
-number_of_template_fault (template.Depth fxy) = 26
-number_of_template_fault (template.TemplateSize fxy) = 27
-number_of_template_fault (template.LocalShape fxy) = 28
-number_of_template_fault template.Memory = 73
+-- a fault of a template
+-- rule: fault-20, fault-21, fault-22, fault-23, fault-24, fault-25, fault-26, fault-27, fault-28
+abbrev pub template_report : TemplateFault → ℕ × List (List ℕ)
+template_report (template.UnknownElement fxy) = (20, codes "unknown element " ∷ fxy_text fxy ∷ [])
+template_report (template.UnknownSequence fxy) = (21, codes "unknown sequence " ∷ fxy_text fxy ∷ [])
+template_report (template.Operator fxy) = (22, codes "operator " ∷ fxy_text fxy ∷ [])
+template_report (template.GroupShape fxy) = (23, codes "group shape " ∷ fxy_text fxy ∷ [])
+template_report (template.NoFactor fxy) = (24, codes "no factor " ∷ fxy_text fxy ∷ [])
+template_report (template.EmptyGroup fxy) = (25, codes "empty group " ∷ fxy_text fxy ∷ [])
+template_report (template.Depth fxy) = (26, codes "depth " ∷ fxy_text fxy ∷ [])
+template_report (template.TemplateSize fxy) = (27, codes "template size " ∷ fxy_text fxy ∷ [])
+template_report (template.LocalShape fxy) = (28, codes "local shape " ∷ fxy_text fxy ∷ [])
+template_report template.Memory = (73, [])

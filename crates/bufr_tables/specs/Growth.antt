@@ -7,7 +7,8 @@ use Rattle.bufr_tables.specs.declared.fault.TemplateFault.{TemplateFault}
 use Rattle.bufr_tables.specs.declared.fault.TemplateFault.TheVariants as fault
 use Rattle.bufr_tables.specs.Tree.{Tree, depth, consumes, bare, fixed, delayed}
 use Rattle.bufr_tables.specs.Cells.{cells_of}
-use Rattle.bufr_tables.specs.Expansion.{ExpandedPart, part, with_places, ◌>>=◌, Tables, Expansion, body_of, inner_of, level, tables_of}
+use Rattle.bufr_tables.specs.Records.{◌>>=◌}
+use Rattle.bufr_tables.specs.Expansion.{ExpandedPart, part, with_places, Tables, Expansion, body_of, inner_of, level, tables_of}
 use Rattle.bufr_tables.specs.declared.expand.Passes.TheVariants as passes
 use Rattle.bufr_tables.specs.declared.expand.Expander.{Expander}
 

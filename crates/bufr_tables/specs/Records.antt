@@ -1,13 +1,13 @@
 -- The records of a table's text, as the crate `csv` gives them, and the faults that they have.
 -- They have any number of fields, not trimmed; the header is record 1. (a choice of this project)
 -- Cited by public contracts.
-use Rattle.std.specs.Prelude.{ℕ, ◌+◌, ◌-◌, ◌*◌, ◌^◌, ◌==◌, ◌&&◌, Bool, nat_lt, if◌then◌else◌, ℤ, pos, negsuc, neg_ℤ, List, [], ◌∷◌, length, drop, slice_index, Option, Some, None, option_and_then, option_map, unwrap_or, ◌≡◌, ⊤, Result, Ok, Err, true, false, ◌<◌, map, IsSome}
+use Rattle.std.specs.Prelude.{ℕ, ◌+◌, ◌-◌, ◌*◌, ◌^◌, ◌==◌, ◌&&◌, Bool, nat_lt, if◌then◌else◌, ℤ, pos, negsuc, neg_ℤ, List, [], ◌∷◌, length, drop, slice_index, Option, Some, None, option_and_then, option_map, unwrap_or, ◌≡◌, ◌≢◌, Result, Ok, Err, true, false, ◌<◌, map, IsSome}
 use Rattle.std.specs.Char.{is_ascii_digit}
 use Rattle.std.specs.List.{list_all}
 use Rattle.csv.specs.Reading.{default_config, records, strip_bom, Ready, is_flexible, reader_config, reader_state, reader_trim, records_from, source_of}
 use Rattle.csv.specs.Records.{field_at, fields_of}
 use Rattle.bufr_tables.specs.declared.fault.TableFault.{TableFault}
-use Rattle.bufr_tables.specs.declared.fault.TableFault.TheVariants.{Header, Row, Duplicate, Cycle, TableSize, Csv, Memory}
+use Rattle.bufr_tables.specs.declared.fault.TableFault.TheVariants.{Header, Memory}
 use Rattle.std.specs.Str.{bytes_eq}
 use Rattle.std.specs.Borrow.{Bor}
 use Rattle.csv.specs.Machine.{ends_at_end}
@@ -23,13 +23,11 @@ abbrev pub number_after_digits : ℕ → List ℕ → ℕ
 number_after_digits n [] = n
 number_after_digits n (digit ∷ digits) = number_after_digits (10 * n + (digit - 48)) digits
 
--- one or more digits
-abbrev pub are_digits : List ℕ → Bool
-are_digits text = nat_lt 0 (length text) && list_all is_ascii_digit text
-
--- the number that digits write, where they are digits
+-- the number that a text writes, where it is one digit or more
 unfoldable pub natural_of : List ℕ → Option ℕ
-natural_of digits = if are_digits digits then Some (number_after_digits 0 digits) else None
+natural_of text =
+    if nat_lt 0 (length text) && list_all is_ascii_digit text
+    then Some (number_after_digits 0 text) else None
 
 abbrev pub negated : ℕ → ℤ
 negated n = neg_ℤ (pos n)
@@ -68,29 +66,14 @@ field_of record' place = unwrap_or (field_at record' place) []
 -- ---- Steps that may fail, one after another, and the answer of a call whose memory may run out.
 
 infixl 10 ◌>>=◌
-abbrev pub ◌>>=◌ : {A B : Type 0} → Option A → (A → Option B) → Option B
-o >>= f = option_and_then f o
-
--- the value, where the test passes
-abbrev pub only_if : {A : Type 0} → Bool → A → Option A
-only_if test x = if test then Some x else None
-
--- the step after one that may be at fault
-abbrev pub and_then : {A B : Type 0} → Result A TableFault → (A → Result B TableFault)
-    → Result B TableFault
-and_then (Ok x) f = f x
-and_then (Err fault) f = Err fault
+abbrev pub ◌>>=◌ : {E A B : Type 0} → Result A E → (A → Result B E) → Result B E
+(Ok x) >>= next = next x
+(Err fault) >>= next = Err fault
 
 -- a call answers what is expected, or memory ran out
 abbrev pub ReturnsUnlessMemory : {A : Type 0} → Result A TableFault → Result A TableFault → Type 0
 ReturnsUnlessMemory expected (Ok x) = expected ≡ Ok x
-ReturnsUnlessMemory expected (Err Header) = expected ≡ Err Header
-ReturnsUnlessMemory expected (Err (Row n)) = expected ≡ Err (Row n)
-ReturnsUnlessMemory expected (Err (Duplicate fxy)) = expected ≡ Err (Duplicate fxy)
-ReturnsUnlessMemory expected (Err (Cycle fxy)) = expected ≡ Err (Cycle fxy)
-ReturnsUnlessMemory expected (Err TableSize) = expected ≡ Err TableSize
-ReturnsUnlessMemory expected (Err Csv) = expected ≡ Err Csv
-ReturnsUnlessMemory expected (Err Memory) = ⊤
+ReturnsUnlessMemory expected (Err fault) = fault ≢ Memory → expected ≡ Err fault
 
 -- A table as the records of its text: a header, and under it a row each. (A choice of this project)
 
@@ -113,7 +96,7 @@ unfoldable pub table_from : {A : Type 0} → (with_record : ℕ → A → Record
     → A → List Record → Result A TableFault
 table_from with_record n table [] = Ok table
 table_from with_record n table (r ∷ rs) =
-    and_then (with_record n table r) (λ more. table_from with_record (n + 1) more rs)
+    with_record n table r >>= λ more. table_from with_record (n + 1) more rs
 
 -- the table of these records: the header is record 1
 unfoldable pub table_of : {A : Type 0} → (header : List (List ℕ)) → (with_record : ℕ → A → Record

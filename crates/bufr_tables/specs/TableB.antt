@@ -9,34 +9,25 @@ use Rattle.std.specs.List.{IsDistinct, find, list_all, AllByRecursion}
 use Rattle.std.specs.Int.RustNames.{unsigned_abs}
 use Rattle.bufr_tables.specs.declared.fault.TableFault.{TableFault}
 use Rattle.bufr_tables.specs.declared.fault.TableFault.TheVariants.{Row as RowFault, Duplicate, Csv}
-use Rattle.bufr_tables.specs.Fxy.{f_of, fxy_of, fxy_text, is_factor, y_of}
-use Rattle.bufr_tables.specs.Records.{i64_of, Record, field_of, ◌>>=◌, only_if, has_fields, table_of}
+use Rattle.bufr_tables.specs.Fxy.{◌>>=◌, only_if, f_of, fxy_of, fxy_text, is_factor, y_of}
+use Rattle.bufr_tables.specs.Records.{i64_of, Record, field_of, has_fields, table_of}
 use Rattle.bufr_tables.specs.declared.table_b.Stored.{Stored}
 use Rattle.bufr_tables.specs.declared.table_b.ParsedRow.{ParsedRow}
 use Rattle.bufr_tables.specs.declared.table_b.TableB.TheInside.{Inside}
 
 -- ---- What a unit says of the values; ASCII case makes no difference. (a choice of this project)
 
--- a text is these words
-unfoldable pub is_words : List ℕ → List ℕ → Bool
-is_words text words = str_eq_ignore_ascii_case text words
-
 -- a text begins with these words
 unfoldable pub begins_with : List ℕ → List ℕ → Bool
-begins_with text words = is_words (take (length words) text) words
-
--- a unit that names a table of figures
-unfoldable pub is_code_table : List ℕ → Bool
-is_code_table unit =
-    begins_with unit (codes "Code table") || begins_with unit (codes "Common code table")
-    || begins_with unit (codes "Flag table")
+begins_with text words = str_eq_ignore_ascii_case (take (length words) text) words
 
 -- `CCITT IA5` is text; tables of figures are coded; every other unit is a quantity
 -- rule: kind-by-unit
 unfoldable pub kind_of : List ℕ → Kind
 kind_of unit =
-    if is_words unit (codes "CCITT IA5") then Character else if is_code_table unit
-    then Coded else Numeric
+    if str_eq_ignore_ascii_case unit (codes "CCITT IA5") then Character
+    else if begins_with unit (codes "Code table") || begins_with unit (codes "Common code table")
+    || begins_with unit (codes "Flag table") then Coded else Numeric
 
 -- an element of the table: its descriptor, and what its row says of it; the width is in bits
 pub record Row : Type 0 where
@@ -88,8 +79,7 @@ scale_of text = i64_of text >>= λ scale. only_if (allows_scale scale) scale
 -- the widths that an element may have, in bits: whole octets for text
 abbrev pub allows_width : Kind → ℕ → Bool
 allows_width Character width = nat_le 8 width && nat_le width 2040 && (width % 8 == 0)
-allows_width Coded width = nat_le 1 width && nat_le width 63
-allows_width Numeric width = nat_le 1 width && nat_le width 63
+allows_width _ width = nat_le 1 width && nat_le width 63
 
 abbrev pub natural_part : ℤ → Option ℕ
 natural_part (pos n) = Some n
@@ -107,8 +97,7 @@ factor_width fxy =
 
 abbrev pub is_character : Kind → Bool
 is_character Character = true
-is_character Coded = false
-is_character Numeric = false
+is_character _ = false
 
 abbrev pub is_valid_factor : Option ℕ → Row → Bool
 is_valid_factor None row = true

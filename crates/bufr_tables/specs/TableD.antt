@@ -1,12 +1,12 @@
 -- Table D: its sequences, its faults, and chains of members.
 -- (WMO-No. 306, Volume I.2, FM 94: Table D; the text, its limits and faults are a choice of this
 -- project) Cited by public contracts.
-use Rattle.std.specs.Prelude.{◌≡◌, ℕ, ◌-◌, ◌==◌, ◌&&◌, Bool, true, false, not, nat_le, if◌then◌else◌, List, [], ◌∷◌, ◌++◌, length, map, codes, Option, Some, None, is_some, option_map, unwrap_or, Result, Ok, Err, IsSome, Contains, All, ⊤, ◌≤◌, ◌<◌, slice_range, ◌+◌, ◌⊎◌, slice_index, slice_index_or}
+use Rattle.std.specs.Prelude.{◌≡◌, ◌≢◌, ℕ, ◌-◌, ◌==◌, ◌&&◌, Bool, true, false, not, nat_le, if◌then◌else◌, List, [], ◌∷◌, ◌++◌, length, map, codes, Option, Some, None, is_some, option_map, unwrap_or, Result, Ok, Err, IsSome, Contains, All, ⊤, ◌≤◌, ◌<◌, slice_range, ◌+◌, ◌⊎◌, slice_index, slice_index_or}
 use Rattle.std.specs.List.{find, AllByRecursion}
 use Rattle.bufr_tables.specs.declared.fault.TableFault.{TableFault}
 use Rattle.bufr_tables.specs.declared.fault.TableFault.TheVariants.{Row as RowFault, Duplicate, TableSize, Csv, Header, Row, Cycle, Memory}
-use Rattle.bufr_tables.specs.Fxy.{f_of, fxy_of, key_of}
-use Rattle.bufr_tables.specs.Records.{Record, field_of, ◌>>=◌, only_if, has_fields, table_of}
+use Rattle.bufr_tables.specs.Fxy.{◌>>=◌, only_if, f_of, fxy_of, key_of}
+use Rattle.bufr_tables.specs.Records.{Record, field_of, has_fields, table_of}
 use Rattle.bufr_tables.specs.declared.table_d.MemberRange.{MemberRange}
 use Rattle.bufr_tables.specs.declared.table_d.TableD.TheInside.{Inside}
 
@@ -122,10 +122,6 @@ pub data Chain (table : List Sequence) : ℕ → ℕ → Type 0 where
 abbrev pub ReachesItself : List Sequence → ℕ → Type 0
 ReachesItself table fxy = Chain table fxy fxy
 
--- no sequence of the table reaches itself
-abbrev pub HasNoCycle : List Sequence → Type 0
-HasNoCycle table = (fxy : ℕ) → ¬ ReachesItself table fxy
-
 -- the first sequence of the file that reaches itself
 -- rule: fault-43
 pub record IsFirstCycle (table : List Sequence) (fxy : ℕ) : Type 0 where
@@ -140,15 +136,11 @@ pub record IsFirstCycle (table : List Sequence) (fxy : ℕ) : Type 0 where
 -- what a read answers: the table without a cycle, or the first fault; a cycle comes after others
 -- rule: fault-43-last
 abbrev pub ReadsTableD : List Record → Result (List Sequence) TableFault → Type 0
-ReadsTableD records (Ok table) = (table_d_of records ≡ Ok table) × HasNoCycle table
+ReadsTableD records (Ok table) =
+    (table_d_of records ≡ Ok table) × ((fxy : ℕ) → ¬ ReachesItself table fxy)
 ReadsTableD records (Err (Cycle fxy)) =
     (table : List Sequence) × (table_d_of records ≡ Ok table) × IsFirstCycle table fxy
-ReadsTableD records (Err Header) = table_d_of records ≡ Err Header
-ReadsTableD records (Err (Row n)) = table_d_of records ≡ Err (Row n)
-ReadsTableD records (Err (Duplicate fxy)) = table_d_of records ≡ Err (Duplicate fxy)
-ReadsTableD records (Err TableSize) = table_d_of records ≡ Err TableSize
-ReadsTableD records (Err Csv) = table_d_of records ≡ Err Csv
-ReadsTableD records (Err Memory) = ⊤
+ReadsTableD records (Err fault) = fault ≢ Memory → table_d_of records ≡ Err fault
 
 -- ---- How Table D is kept: all members one after another, and for each sequence its places.
 

@@ -1,8 +1,8 @@
 //! The expansion of descriptors, depth first, from left to right, and the cells that it builds.
 //! Few descriptors are looked at for each place, so a hostile list is refused soon.
-ghost use Rattle.std.specs.Prelude.{◌≡◌, ◌+◌, ◌<◌, ◌≤◌, ◌++◌, ◌∷◌, [], length, take, drop, Ok, Err, MatchResult, OnOk, OnErr, IfErr, IfOk};
+ghost use Rattle.std.specs.Prelude.{◌≡◌, ◌+◌, ◌<◌, ◌≤◌, ◌++◌, ◌∷◌, [], length, Ok, Err, MatchResult, OnOk, OnErr, IfErr, IfOk};
 ghost use Rattle.bufr_tables.specs.Fxy.{x_of};
-ghost use Rattle.bufr_tables.specs.Expansion.{begins_with_element as element_begins, first_of as first_of_list, part_of, group_part, with_places};
+ghost use Rattle.bufr_tables.specs.Expansion.{begins_with_element as element_begins, part_of, group_part, with_places};
 ghost use Rattle.bufr_tables.specs.Growth.{places_so_far, PushesTreeUnlessMemory, GivesPart, factor_cells, first_cell, own_places, tables_in, inner_in, list_in, group_in};
 
 use crate::fault::TemplateFault;
@@ -23,7 +23,6 @@ pub(crate) struct Expander<'a> {
 impl Expander<'_> {
     ghost use Rattle.bufr_tables.specs.Growing.{builder_model};
 
-    /// Whether Table B knows an element.
     fn knows(&self, fxy: Fxy) -> bool
         ensures { result ≡ (tables_in self.now).known fxy }
     {
@@ -177,14 +176,6 @@ impl Expander<'_> {
     }
 }
 
-/// The first descriptor, or 000000.
-pub(crate) fn first_of(list: &[Fxy]) -> Fxy
-    ensures { result ≡ first_of_list list.now }
-{
-    list.first().copied().unwrap_or(Fxy::from_word(0))
-}
-
-/// Whether a list begins with an element.
 fn begins_with_element(list: &[Fxy]) -> bool
     ensures { result ≡ element_begins list.now }
 {
@@ -223,10 +214,7 @@ impl Passes {
 }
 
 /// The most places that a template may take.
-const MAX_PLACES: u32 = 65_535;
-
-/// The least room for cells that is made at the beginning: most templates fit in it.
-const MIN_ROOM: usize = 128;
+pub(crate) const MAX_PLACES: u32 = 65_535;
 
 /// The cells of a template, as far as its list has been expanded.
 #[derive(Drop)]
@@ -257,7 +245,6 @@ fn check_places(places: u32, more: u32, fxy: Fxy) -> Result<(), TemplateFault>
     Ok(())
 }
 
-/// Puts a cell after others.
 pub(crate) fn push_cell(cells: &mut Vec<Cell>, cell: Cell) -> Result<(), TemplateFault>
     ensures ok { OnOk result (cells.new.items ≡ cells.old.items ++ cell ∷ []) }
     ensures err { IfErr result (λ why. why ≡ TemplateFault.Memory) }
@@ -281,27 +268,8 @@ fn push_factor(cells: &mut Vec<Cell>, passes: &Passes) -> Result<(), TemplateFau
 impl TemplateBuilder {
     ghost use Rattle.std.specs.Prelude.{◌≡◌, ◌+◌, ◌<◌, ◌≤◌, Ok, [], length, false, IfOk, IfErr};
     ghost use Rattle.bufr_tables.specs.Tree.{bare, element, operator};
-    ghost use Rattle.bufr_tables.specs.Growth.{growth, places_so_far, with_cell, with_closed_group, GivesGrowth, GivesPlace};
+    ghost use Rattle.bufr_tables.specs.Growth.{places_so_far, with_cell, with_closed_group, GivesGrowth, GivesPlace};
     ghost use Rattle.bufr_tables.specs.Growing.{builder_model};
-
-    /// No cells yet, with room for those of a list of so many elements and for the end.
-    pub(crate) fn with_room(
-        alloc: Global,
-        elements: usize,
-    ) -> Result<TemplateBuilder, TemplateFault>
-        ensures ok { IfOk result (λ growing. builder_model growing ≡ growth [] 0 0 false) }
-        ensures err { IfErr result (λ why. why ≡ TemplateFault.Memory) }
-    {
-        let room = elements.saturating_add(1).max(MIN_ROOM);
-        let room = room.min(MAX_PLACES as usize);
-        let cells = Vec::with_capacity(alloc, room).map_err(|_| TemplateFault::Memory)?;
-        Ok(TemplateBuilder {
-            cells,
-            open_groups: 0,
-            depth: 0,
-            consumes: false,
-        })
-    }
 
     /// The places up to here, with those of the ends that are still to come.
     fn places(&self) -> u32
@@ -311,7 +279,6 @@ impl TemplateBuilder {
         self.cells.len() as u32 + self.open_groups + 1
     }
 
-    /// Puts an element after the cells.
     pub(crate) fn push_element(&mut self, fxy: Fxy) -> Result<(), TemplateFault>
         ensures { GivesGrowth (with_cell (builder_model self.old) fxy (element fxy bare)) result
             (builder_model self.new) }
@@ -322,7 +289,6 @@ impl TemplateBuilder {
         Ok(())
     }
 
-    /// Puts an operator after the cells.
     pub(crate) fn push_operator(&mut self, fxy: Fxy) -> Result<(), TemplateFault>
         ensures { GivesGrowth (with_cell (builder_model self.old) fxy (operator fxy bare)) result
             (builder_model self.new) }

@@ -1,7 +1,7 @@
 //! Why a table cannot be read, and why a list of descriptors makes no template.
 ghost use Rattle.std.specs.Prelude.{◌≡◌};
 ghost use Rattle.bufr_tables.specs.declared.fault.TableFault.TheVariants.{Memory};
-ghost use Rattle.bufr_tables.specs.FaultNumber.{number_of_table_fault, number_of_template_fault};
+ghost use Rattle.bufr_tables.specs.FaultNumber.{table_report, template_report};
 
 use crate::fxy::Fxy;
 use std::alloc::{AllocError, AllocFailed};
@@ -41,7 +41,7 @@ pub enum TableFault {
 impl TableFault {
     /// Its number: 40 to 45, or 73.
     pub fn number(self) -> u8
-        ensures { result ≡ number_of_table_fault self }
+        ensures { result ≡ (table_report self).0 }
     {
         match self {
             TableFault::Header => 40,
@@ -95,7 +95,7 @@ pub enum TemplateFault {
 impl TemplateFault {
     /// Its number: 20 to 28, or 73.
     pub fn number(self) -> u8
-        ensures { result ≡ number_of_template_fault self }
+        ensures { result ≡ (template_report self).0 }
     {
         match self {
             TemplateFault::UnknownElement(_) => 20,

@@ -167,7 +167,6 @@ fn digit_at(text: &[u8], place: usize) -> u16
     u16::from(text[place] - b'0')
 }
 
-/// Whether each octet is a digit.
 pub(crate) fn are_digits(text: &[u8]) -> bool
     ensures { result ≡ list_all is_ascii_digit text.now }
 {

@@ -1,6 +1,6 @@
 //! The rows of a table's text: its records, one after another, and the whole numbers in them.
-ghost use Rattle.std.specs.Prelude.{◌≡◌, ◌≢◌, ◌-◌, ◌^◌, ◌<◌, ◌≤◌, ◌==◌, IfOk, IfErr, List, ℕ, drop, false, length, min, option_map, pos, slice_index};
-ghost use Rattle.bufr_tables.specs.Records.{if_i64, i64_of, natural_of, negated, GivesNext, IsBetween, IsOpened, record_given, records_left, field_texts, field_of, records_of, has_fields, has_header};
+ghost use Rattle.std.specs.Prelude.{◌≡◌, ◌≢◌, ◌-◌, ◌^◌, ◌<◌, ◌==◌, IfOk, IfErr, false, min, option_map, slice_index};
+ghost use Rattle.bufr_tables.specs.Records.{if_i64, i64_of, natural_of, GivesNext, IsBetween, IsOpened, field_texts, field_of, records_of, has_fields, has_header};
 ghost use Rattle.bufr_tables.specs.declared.fault.TableFault.TheVariants.{Header, Memory};
 ghost use Rattle.csv.specs.Records.{fields_of};
 
@@ -20,23 +20,6 @@ pub(crate) struct RecordReader<'a> {
 }
 
 impl<'a> RecordReader<'a> {
-    /// A reader before the first record of a text.
-    fn new(alloc: Global, text: &'a [u8]) -> RecordReader<'a>
-        ensures between { IsBetween result }
-        ensures number { result.number ≡ 0 }
-        ensures records { records_left result ≡ records_of text.now }
-    {
-        let reader = ReaderBuilder::new()
-            .has_headers(false)
-            .flexible(true)
-            .from_reader(alloc, text);
-        RecordReader {
-            reader,
-            row: ByteRecord::new(alloc),
-            number: 0,
-        }
-    }
-
     /// A reader after the header of a text: a first record of these fields.
     pub(crate) fn open(
         alloc: Global,
@@ -48,7 +31,15 @@ impl<'a> RecordReader<'a> {
             (λ e. e ≢ Memory
             → (e ≡ Header) × (has_header (field_texts header.now) (records_of text.now) ≡ false)) }
     {
-        let mut records = RecordReader::new(alloc, text);
+        let reader = ReaderBuilder::new()
+            .has_headers(false)
+            .flexible(true)
+            .from_reader(alloc, text);
+        let mut records = RecordReader {
+            reader,
+            row: ByteRecord::new(alloc),
+            number: 0,
+        };
         if !records.advance()? || !has_fields(&records.row, header) {
             return Err(TableFault::Header);
         }
@@ -83,7 +74,6 @@ pub(crate) fn field(fields: &ByteRecord, place: usize) -> &[u8]
     fields.get(place).unwrap_or(&[])
 }
 
-/// Whether a record has these fields, and no other.
 // rule: fault-40
 fn has_fields(fields: &ByteRecord, names: &[&[u8]]) -> bool
     ensures { result ≡ has_fields (field_texts names.now) (fields_of fields.now) }

@@ -3,7 +3,7 @@ ghost use Rattle.std.specs.Prelude.{◌≡◌, ◌≢◌, ◌<◌, [], ◌∷◌
 ghost use Rattle.std.specs.List.{list_all};
 ghost use Rattle.csv.specs.Records.{fields_of};
 ghost use Rattle.bufr_tables.specs.declared.fault.TableFault.TheVariants.{Memory};
-ghost use Rattle.bufr_tables.specs.TableB.{ExtendsBlock, IsStored, row_parsed, IsRowKept, AreRows, IsRow, Row, element_of, entry_of, is_valid_factor, factor_width, is_printed, plain_of, row_of, scale_of, table_b_of, width_of, with_record_b, begins_with, is_words, kind_of, is_code_table};
+ghost use Rattle.bufr_tables.specs.TableB.{ExtendsBlock, IsStored, row_parsed, IsRowKept, AreRows, IsRow, Row, element_of, entry_of, is_valid_factor, factor_width, is_printed, plain_of, row_of, scale_of, table_b_of, width_of, with_record_b, begins_with, kind_of};
 ghost use Rattle.bufr_tables.specs.Records.{records_of, ReturnsUnlessMemory};
 
 use crate::fault::TableFault;
@@ -195,7 +195,6 @@ fn read_plain(text: &[u8]) -> Option<&[u8]>
     Some(text)
 }
 
-/// Whether no octet is a control character of ASCII.
 fn is_printable_text(text: &[u8]) -> bool
     ensures { result ≡ list_all is_printed text.now }
 {
@@ -222,20 +221,6 @@ fn read_width(kind: Kind, text: &[u8]) -> Option<u32>
     Some(width)
 }
 
-/// The width of a factor of delayed replications, in bits.
-fn factor_width(fxy: Fxy) -> Option<u32>
-    ensures { result ≡ factor_width fxy }
-{
-    if !fxy.is_factor() {
-        return None;
-    }
-    match fxy.y() {
-        0 => Some(1),
-        1 => Some(8),
-        _ => Some(16),
-    }
-}
-
 /// The row that a record writes.
 #[derive(Clone, Copy)]
 struct ParsedRow<'a> {
@@ -252,8 +237,13 @@ struct ParsedRow<'a> {
 fn is_valid_factor(row: &ParsedRow) -> bool
     ensures { result ≡ is_valid_factor (factor_width row.now.fxy) (row_parsed row.now) }
 {
-    let Some(width) = factor_width(row.fxy) else {
+    if !row.fxy.is_factor() {
         return true;
+    }
+    let width = match row.fxy.y() {
+        0 => 1,
+        1 => 8,
+        _ => 16,
     };
     row.width == width && row.scale == 0 && row.reference == 0 && row.kind != Kind::Character
 }
@@ -396,7 +386,6 @@ impl TableB {
         Ok(())
     }
 
-    /// Adds an element that the table lacks.
     fn push(&mut self, row: &ParsedRow) -> Result<(), AllocError>
         requires element { row.now.fxy < 16384 }
         requires absent { entry_of self.old row.now.fxy ≡ None }
@@ -455,9 +444,12 @@ impl Kind {
     pub(crate) fn of(unit: &[u8]) -> Kind
         ensures { result ≡ kind_of unit.now }
     {
-        if eq_ignore_case(unit, b"CCITT IA5") {
+        if unit.eq_ignore_ascii_case(b"CCITT IA5") {
             Kind::Character
-        } else if is_code_table(unit) {
+        } else if starts_with(unit, b"Code table")
+            || starts_with(unit, b"Common code table")
+            || starts_with(unit, b"Flag table")
+        {
             Kind::Coded
         } else {
             Kind::Numeric
@@ -465,31 +457,13 @@ impl Kind {
     }
 }
 
-/// Whether a unit names a table of figures.
-#[tactic(auto, unfolding(crate::specs::TableB::is_code_table))]
-fn is_code_table(unit: &[u8]) -> bool
-    ensures { result ≡ is_code_table unit.now }
-{
-    starts_with(unit, b"Code table")
-        || starts_with(unit, b"Common code table")
-        || starts_with(unit, b"Flag table")
-}
-
-/// Whether a text is these words, whatever their case.
-#[tactic(auto, unfolding(crate::specs::TableB::is_words))]
-fn eq_ignore_case(text: &[u8], words: &[u8]) -> bool
-    ensures { result ≡ is_words text.now words.now }
-{
-    text.eq_ignore_ascii_case(words)
-}
-
 /// Whether a text begins with these words, whatever their case.
-#[tactic(auto, unfolding(crate::specs::TableB::begins_with, crate::specs::TableB::is_words))]
+#[tactic(auto, unfolding(crate::specs::TableB::begins_with))]
 fn starts_with(text: &[u8], words: &[u8]) -> bool
     ensures { result ≡ begins_with text.now words.now }
 {
     if text.len() < words.len() {
         return false;
     }
-    eq_ignore_case(&text[..words.len()], words)
+    text[..words.len()].eq_ignore_ascii_case(words)
 }

@@ -1,9 +1,9 @@
 //! Table D, the sequences, read from CSV, and refused where a sequence reaches itself.
-ghost use Rattle.std.specs.Prelude.{◌≡◌, ◌≢◌, ◌≤◌, ◌<◌, [], ◌∷◌, ◌++◌, None, length, slice_index, OnOk, IfErr, IfOk, IfSome, is_some, option_map, Ok, Err, vec_len, IsTrue, MatchOption, ◌↔◌, List};
+ghost use Rattle.std.specs.Prelude.{◌≡◌, ◌≢◌, ◌≤◌, ◌<◌, [], ◌∷◌, ◌++◌, None, length, slice_index, OnOk, IfErr, IfOk, IfSome, is_some, option_map, Ok, Err, IsTrue, MatchOption, ◌↔◌, List, ℕ};
 ghost use Rattle.csv.specs.Records.{fields_of};
 ghost use Rattle.bufr_tables.specs.declared.fault.TableFault.TheVariants.{Memory};
-ghost use Rattle.bufr_tables.specs.TableD.{ReadsTableD, HasNoCycle, IsFirstCycle, ReachesItself, AreSequences, extended, fxys_of, is_last, members_or_none, member_of, members_of, table_d_of, with_record_d, IsAbove, IsVisited, Falls, rank_of, Sequence, IsTableD, table_d_rows};
-ghost use Rattle.bufr_tables.specs.Records.{records_of, ReturnsUnlessMemory};
+ghost use Rattle.bufr_tables.specs.TableD.{ReadsTableD, IsFirstCycle, ReachesItself, AreSequences, extended, fxys_of, is_last, members_or_none, member_of, members_of, with_record_d, IsAbove, IsVisited, Falls, Sequence, IsTableD, table_d_rows};
+ghost use Rattle.bufr_tables.specs.Records.{records_of};
 
 use crate::fault::TableFault;
 use crate::fxy::Fxy;
@@ -82,22 +82,10 @@ impl TableD {
     /// [`TableFault::Header`], and of the first record at fault [`TableFault::Csv`],
     /// [`TableFault::Row`], [`TableFault::Duplicate`] or [`TableFault::TableSize`], in this order;
     /// after all records [`TableFault::Cycle`]; [`TableFault::Memory`] where memory ran out.
-    // rule: fault-43-last
+    // rule: first-record-decides, fault-43-last
     pub fn read(alloc: Global, text: &[u8]) -> Result<TableD, TableFault>
         ensures read { ReadsTableD (records_of text.now) result }
         ensures rows { IfOk result (AreSequences (records_of text.now)) }
-    {
-        let table = TableD::read_rows(alloc, text)?;
-        match first_cycle(alloc, &table)? {
-            Some(sequence) => Err(TableFault::Cycle(sequence)),
-            None => Ok(table),
-        }
-    }
-
-    /// Reads the rows, whatever sequences reach themselves.
-    // rule: first-record-decides
-    pub(crate) fn read_rows(alloc: Global, text: &[u8]) -> Result<TableD, TableFault>
-        ensures { ReturnsUnlessMemory (table_d_of (records_of text.now)) result }
     {
         let mut records = RecordReader::open(alloc, text, &HEADER)?;
         let mut table = TableD {
@@ -108,7 +96,10 @@ impl TableD {
         while records.advance()? {
             table.add(records.number, &records.row)?;
         }
-        Ok(table)
+        match first_cycle(alloc, &table)? {
+            Some(sequence) => Err(TableFault::Cycle(sequence)),
+            None => Ok(table),
+        }
     }
 
     /// The members of a sequence in order, if the table has it.
@@ -124,21 +115,18 @@ impl TableD {
         Some(&self.members[run.start..run.end])
     }
 
-    /// The members of a sequence in order, or none where the table lacks it.
     pub(crate) fn members_or_none(&self, fxy: Fxy) -> &[Fxy]
         ensures { result.now ≡ members_or_none self.now fxy }
     {
         self.members(fxy).unwrap_or(&[])
     }
 
-    /// Whether a descriptor is a sequence of the table.
     pub(crate) fn is_sequence(&self, fxy: Fxy) -> bool
         ensures { result ≡ is_some (members_of self.now fxy) }
     {
         self.members(fxy).is_some()
     }
 
-    /// How many sequences the table has.
     pub(crate) fn count(&self) -> usize
         ensures { result ≡ length self.now }
     {
@@ -183,7 +171,6 @@ impl TableD {
         Ok(())
     }
 
-    /// Whether the last sequence is this one.
     fn is_last(&self, sequence: Fxy) -> bool
         ensures { result ≡ is_last self.now sequence }
     {
@@ -193,7 +180,6 @@ impl TableD {
         }
     }
 
-    /// Adds a member to the last sequence.
     fn extend(&mut self, member: Fxy) -> Result<(), AllocError>
         requires { self.old ≢ [] }
         ensures ok { OnOk result (self.new ≡ extended self.old member) }
@@ -204,7 +190,6 @@ impl TableD {
         Ok(())
     }
 
-    /// Adds a sequence that the table lacks, with one member.
     fn begin(&mut self, sequence: Fxy, member: Fxy) -> Result<(), AllocError>
         requires low { 49152 ≤ sequence }
         requires high { sequence < 65536 }
@@ -233,7 +218,8 @@ const WORDS: usize = 65536;
 /// The first sequence that reaches itself, if one does; ranks leave only that one to search.
 // rule: fault-43
 pub(crate) fn first_cycle(alloc: Global, table: &TableD) -> Result<Option<Fxy>, AllocError>
-    ensures { IfOk result (λ o. MatchOption o (HasNoCycle table.now) (IsFirstCycle table.now)) }
+    ensures { IfOk result (λ o. MatchOption o ((fxy : ℕ) → ¬ ReachesItself table.now fxy)
+        (IsFirstCycle table.now)) }
 {
     let ranks = ranks_of(alloc, table)?;
     let falls = falls(table, &ranks);
@@ -277,7 +263,6 @@ fn is_above(table: &TableD, ranks: &[u32], sequence: Fxy, limit: u32) -> bool
     true
 }
 
-/// Whether a sequence reaches itself.
 fn reaches_itself(alloc: Global, table: &TableD, sequence: Fxy) -> Result<bool, AllocError>
     ensures { IfOk result (λ yes. IsTrue yes ↔ ReachesItself table.now sequence) }
 {

@@ -3,10 +3,10 @@ ghost use Rattle.std.specs.Prelude.{◌≡◌, ◌≢◌, ◌≤◌, length, Ok,
 ghost use Rattle.bufr_tables.specs.TableB.{entry_of};
 ghost use Rattle.bufr_tables.specs.TableD.{members_of};
 ghost use Rattle.bufr_tables.specs.Tree.{places as places_of, depth as depth_of, Tree};
-ghost use Rattle.bufr_tables.specs.Expansion.{leaves, ListsLeaves, IsKnown, IsLegal, IsSound, tree_of, Tables, tables_of, IsAnswer, ListByTables};
+ghost use Rattle.bufr_tables.specs.Expansion.{leaves, ListsLeaves, IsKnown, IsLegal, IsSound, tree_of, tables_of, IsAnswer, ListByTables};
 ghost use Rattle.bufr_tables.specs.Cells.{AreCellsOf, tree_code, trees_of_cells, IsTemplate};
 
-use crate::expand::{Expander, TemplateBuilder, first_of, push_cell};
+use crate::expand::{Expander, MAX_PLACES, TemplateBuilder, push_cell};
 use crate::fault::TemplateFault;
 use crate::fxy::Fxy;
 use crate::table_b::TableB;
@@ -16,6 +16,9 @@ use std::marker::Model;
 
 /// The most groups and sequences that may be open together.
 const MAX_OPEN: u32 = 32;
+
+/// The least room for cells that is made at the beginning: most templates fit in it.
+const MIN_ROOM: usize = 128;
 
 /// One place of a template, as a walk takes them, one a turn.
 ///
@@ -129,10 +132,19 @@ impl Template {
             table_d,
             room: MAX_OPEN,
         };
-        let mut growing = TemplateBuilder::with_room(alloc, descriptors.len())?;
+        let room = descriptors.len().saturating_add(1).max(MIN_ROOM);
+        let room = room.min(MAX_PLACES as usize);
+        let cells = Vec::with_capacity(alloc, room).map_err(|_| TemplateFault::Memory)?;
+        let mut growing = TemplateBuilder {
+            cells,
+            open_groups: 0,
+            depth: 0,
+            consumes: false,
+        };
         expander.list(descriptors, &mut growing)?;
         if !growing.consumes {
-            return Err(TemplateFault::EmptyGroup(first_of(descriptors)));
+            let first = descriptors.first().copied().unwrap_or(Fxy::from_word(0));
+            return Err(TemplateFault::EmptyGroup(first));
         }
         let TemplateBuilder {
             mut cells,

@@ -9,7 +9,7 @@ use crate::support::{
 use bufr_bits::BitSlice;
 use bufr_tables::{Fxy, TableB, Template};
 use bufr_walk::{
-    Fields, ItemView, PackedFault, PackedIn, Reading, Spot, Steps, Value, Visitor, WalkFault,
+    DataFault, Fields, ItemView, PackedIn, Reading, Spot, Steps, Value, Visitor, WalkFault,
     WalkStop, read_message, walk,
 };
 use std::alloc::{AllocError, Global};
@@ -407,7 +407,7 @@ const PACKED_ITEMS: &[(&str, u16, &str, &str, (u8, u64))] = &[
 ];
 
 /// The number of the fault that a walk ends with, 0 where it ends well.
-fn number_of(answer: Result<(), WalkStop<PackedFault>>) -> u8 {
+fn number_of(answer: Result<(), WalkStop<DataFault>>) -> u8 {
     match answer {
         Ok(()) => 0,
         Err(WalkStop::Field(fault)) => fault.number(),
@@ -453,7 +453,7 @@ fn items_of_compressed_subsets(rt: HostRuntime) {
 #[test]
 fn faults_have_numbers(rt: HostRuntime) {
     assert_same(&rt, &WalkFault::Memory.number(), &73, &"memory");
-    assert_same(&rt, &PackedFault::Memory.number(), &73, &"memory");
-    let many = PackedFault::TooManyValues(Fxy::from_word(257));
+    assert_same(&rt, &DataFault::Memory.number(), &73, &"memory");
+    let many = DataFault::TooManyValues(Fxy::from_word(257));
     assert_same(&rt, &many.number(), &35, &"values");
 }

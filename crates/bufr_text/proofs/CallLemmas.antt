@@ -3,8 +3,8 @@ use Rattle.std.proofs.Common.{inl, inr, ◌⊎◌, ◌≡◌, ℕ, ◌<◌, Bool
 use Rattle.std.proofs.KnownBytes.{Consumes-trans}
 use Rattle.std.proofs.lemmas.Bool.{true≢false}
 use Rattle.std.proofs.lemmas.List.{nil_from_length}
-use Rattle.bufr_text.specs.Prelude.{ParserState, ParseResult, parse_lines, parse_open_lines, lines_of, split_of, Document, Complete, Refused, NotAllowed, documents_of, open_documents_of, text_of_lines, has_no_feed, ReaderPosition, ContinuesParse, TakesWholeLines, TakesEndLine, ReaderModel, position_of, position_after, IsMissingFeed, ReadsLines, EndsAtEndLine, parse, parse_open, new_reader, HasNoMoreLines, KeepsUnread, ReadsOnlyIfNoLine, ReturnsNextDocument, HasNoWholeLine, ParsesHeldLines, ReadsMoreText, TakesHeldLines, HandlesEnd, FillsBuffer, text_input, stopped, IsProper, ReadFault}
-use Rattle.bufr_text.proofs.ReaderLemmas.{goes-further, line-held, one-line, nothing-yet, some-held, call-keeps, keeps-same, passes-none}
+use Rattle.bufr_text.specs.Prelude.{ParserState, ParseResult, parse_lines, parse_open_lines, lines_of, split_of, Document, Complete, Refused, NotAllowed, documents_of, open_documents_of, text_of_lines, has_no_feed, ReaderPosition, ContinuesParse, TakesWholeLines, TakesEndLine, ReaderModel, position_of, position_after, IsMissingFeed, ReadsLines, EndsAtEndLine, parse, parse_open, new_reader, HasNoMoreLines, KeepsUnread, ReadsOnlyIfNoLine, ReturnsNextDocument, HasNoWholeLine, ParsesHeldLines, ReadsMoreText, TakesHeldLines, FillsBuffer, text_input, stopped, IsProper, ReadFault}
+use Rattle.bufr_text.proofs.ReaderLemmas.{goes-further, line-held, one-line, nothing-yet, some-held, call-keeps, keeps-same, passes-none, HandlesEnd}
 use Rattle.std.specs.Io.KnownBytes.{Consumes}
 use Rattle.bufr_frame.specs.Prelude.{max_reads, FillEnds, FillFails, AddsReads}
 use Rattle.bufr_frame.specs.declared.fault.RunFault.{RunFault}
@@ -209,16 +209,13 @@ module _ (left mid : Option (List ℕ)) (old s s' : ReaderModel) (bs : List ℕ)
     ends = went.1;
   }
 
-  went-keeps : (results : List ParseResult) → ParsesHeldLines s s' results → KeepsUnread old s' bs
-  went-keeps results reports = call-keeps left mid old s' results bs (call-takes left mid old s s' bs results call reports ended reads)
-
   -- a line that is refused, or want of memory
   pub went-fault : (f : ReadFault) → TakesHeldLines s s' (Err f) → ReturnsNextDocument left mid old s' (Err f)
   went-fault (Run Read) went = absurd went
   went-fault (Run Write) went = absurd went
   went-fault (Run InputTooLong) went = absurd went
-  went-fault (Run Memory) went = record { octets = bs; keeps = keeps-same old s s' bs (call-keeps left mid old s [] bs call) went.2 ended; reads = (call.read, omega (arith, call.few, reads), λ e. held-before left mid old s bs [] call e (some-held s.held went.1), inr (record { mid = went.3.mid; taken = call-takes left mid old s went.3.mid bs [] call went.3.taken went.3.ended went.3.reads; next = went.3.next })); waits = waits-same left old s s' bs bs waits reads refl; ends = (went.0, inl (ap has_no_feed went.2 ∙ went.1)) }
-  went-fault f went = record { octets = bs; reads = call-takes left mid old s s' bs _ call went.0 ended reads; keeps = went-keeps _ went.0; waits = waits-same left old s s' bs bs waits reads refl; ends = went.1 }
+  went-fault (Run Memory) went = record { octets = bs; keeps = keeps-same old s s' bs (call-keeps left mid old s [] bs call) went.2 ended; reads = (call.read, omega (arith, call.few, reads), λ e. held-before left mid old s bs [] call e (some-held s.held went.1), inr (went.3.mid, call-takes left mid old s went.3.mid bs [] call went.3.taken went.3.ended went.3.reads, went.3.next)); waits = waits-same left old s s' bs bs waits reads refl; ends = (went.0, inl (ap has_no_feed went.2 ∙ went.1)) }
+  went-fault f went = record { octets = bs; reads = call-takes left mid old s s' bs _ call went.0 ended reads; keeps = call-keeps left mid old s' _ bs (call-takes left mid old s s' bs _ call went.0 ended reads); waits = waits-same left old s s' bs bs waits reads refl; ends = went.1 }
 
 -- the end
 module _ (left mid : Option (List ℕ)) (old s s' : ReaderModel) (bs : List ℕ) (call : ReadsLines left mid old s [] bs) (waits : (s.reads ≡ old.reads) ⊎ ReadsOnlyIfNoLine left old s.reads bs) (sound : s.fault ≡ None) (ended : s.ended ≡ true) where
@@ -238,10 +235,6 @@ module _ (left mid : Option (List ℕ)) (old s s' : ReaderModel) (bs : List ℕ)
 pub end-proper : (s s' : ReaderModel) (result : Result (Option Document) ReadFault) → HandlesEnd s s' result → IfOk result (λ found. IfSome found (λ document. IsProper document))
 end-proper s s' (Ok (Some d)) so = absurd so
 end-proper s s' result so = tt
-
--- nothing is reported, and nothing but the fault and the reads is new
-quiet-reports : (s s' : ReaderModel) → s'.at ≡ s.at → s'.place ≡ s.place → s'.held ≡ s.held → s'.ended ≡ s.ended → ParsesHeldLines s s' []
-quiet-reports s s' h1 h2 h3 h4 = grind (arith, nat_tests, common_steps)
 
 -- no octets come, and the end is not reached
 open-call : (left left' : Option (List ℕ)) (s s' : ReaderModel) (results : List ParseResult) (bs : List ℕ) → bs ≡ [] → Consumes left left' bs → ParsesHeldLines s s' results → s.ended ≡ false → s'.ended ≡ false → s.reads ≤ s'.reads → ReadsLines left left' s s' results bs
@@ -288,7 +281,7 @@ module _ (left mid left' : Option (List ℕ)) (old s s' : ReaderModel) (bs bs' :
 
   quiet-call : (x : ReaderModel) → bs' ≡ [] → Consumes mid left' bs' → x.at ≡ s.at → x.place ≡ s.place → x.held ≡ s.held → x.ended ≡ false → s.reads ≤ x.reads → ReadsLines left left' old x [] (bs ++ bs')
   quiet-call x none read at place held ended order =
-      call-then left mid left' old s x [] [] bs bs' call (open-call mid left' s x [] bs' none read (quiet-reports s x at place held (ended ∙ sym open')) open' ended order)
+      call-then left mid left' old s x [] [] bs bs' call (open-call mid left' s x [] bs' none read (grind (arith, nat_tests, common_steps)) open' ended order)
 
   pub fill-fault : (f : ReadFault) → FillsBuffer mid left' s s' (Err f) bs' → ReturnsNextDocument left left' old s' (Err f)
   fill-fault (Line line) so =

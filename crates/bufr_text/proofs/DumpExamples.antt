@@ -4,13 +4,13 @@ use Rattle.std.specs.Fmt.{digits}
 use Rattle.bufr_bits.specs.Prelude.{decimal_text_of, unsigned_text}
 use Rattle.bufr_tables.specs.declared.table_b.Kind.{Kind}
 use Rattle.bufr_tables.specs.declared.table_b.Kind.TheVariants as kind
-use Rattle.bufr_tables.specs.Prelude.{Row, bare}
-use Rattle.bufr_frame.specs.Prelude.{Sections, sections_of, section_end}
+use Rattle.bufr_tables.specs.Prelude.{Row}
+use Rattle.bufr_frame.specs.Prelude.{head_by_edition, head_size, Sections, sections_of, section_end}
 use Rattle.bufr_frame.specs.declared.fault.SectionFault.{SectionFault}
 use Rattle.bufr_walk.specs.declared.spec.Role.{Role}
 use Rattle.bufr_walk.specs.declared.spec.Role.TheVariants as role
-use Rattle.bufr_walk.specs.Prelude.{FieldSpec, Content, number, text, missing, reference, view_of, read_by, data_in, Item, Values, apart, together}
-use Rattle.bufr_text.specs.Prelude.{runs_after, runs_of, hex_text, descriptors_text, quoted, keys, header_lines, local1_line, descriptors_line, subset_lines, dump_text_of, item_text, text_of_lines, dump_item_of, dump_items_of}
+use Rattle.bufr_walk.specs.Prelude.{FieldSpec, Content, number, text, missing, reference, view_of, Item, Values, apart, together}
+use Rattle.bufr_text.specs.Prelude.{leasts, mosts, runs_after, runs_of, hex_text, descriptors_text, quoted, keys, header_lines, local1_line, descriptors_line, subset_lines, dump_text_of, item_text, text_of_lines, dump_items}
 
 unfoldable listed : (fxy : ℕ) → (name unit : List ℕ) → Kind → (width : ℕ) → Row
 listed fxy name unit k width = record { fxy = fxy; name = name; unit = unit; kind = k; scale = pos 0; reference = pos 0; width = width }
@@ -35,15 +35,15 @@ asked fxy r k scale base listed = record { fxy = fxy; role = r; kind = k; width 
 -- the line of an item
 unfoldable line : FieldSpec → Content → List ℕ
 unfolding table
-line spec content = item_text (dump_item_of (view_of table spec content))
+line spec content = item_text (view_of table spec content)
 
 -- the dump text of octets with these values
 abbrev text_in : Result Sections SectionFault → Values → List ℕ
-text_in (Ok s) values = dump_text_of s (dump_items_of (read_by table bare (data_in s.compressed s.subsets s.payload) 0 0) values)
+text_in (Ok s) values = dump_text_of s (dump_items table s.subsets values)
 text_in (Err why) values = []
 
 unfoldable dumped : List ℕ → Values → List ℕ
-unfolding table sections_of section_end
+unfolding table sections_of section_end head_by_edition head_size
 dumped octets values = text_in (sections_of octets) values
 
 item : {C : Type 0} → FieldSpec → C → Item C
@@ -118,5 +118,5 @@ texts_dumped :
     -- 33 octets and nine descriptors take two lines each
     × (text_of_lines (map local1_line (runs_of 32 (replicate 33 171)) ++ map descriptors_line (runs_of 8 (replicate 9 257)))
     ≡ codes "local1 ABABABABABABABABABABABABABABABABABABABABABABABABABABABABABABABAB\nlocal1 AB\ndescriptors 001001 001001 001001 001001 001001 001001 001001 001001\ndescriptors 001001\n")
-unfolding line digits decimal_text_of unsigned_text quoted dumped block_number item table keys header_lines subset_lines runs_after hex_text descriptors_text temperatures
+unfolding line digits decimal_text_of unsigned_text quoted dumped block_number item table keys leasts mosts header_lines subset_lines runs_after hex_text descriptors_text temperatures
 texts_dumped = (refl, refl, refl, refl, refl, refl, refl, refl, refl, refl, refl, refl, refl, refl, refl, refl, refl, refl, refl)

@@ -1,5 +1,5 @@
 -- Rows of Table B that were read, and messages that can be dumped.
-use Rattle.std.proofs.Common.{◌≡◌, ℕ, suc, ◌/◌, ◌<◌, ◌≤◌, ◌^◌, Bool, true, false, ℤ, pos, negsuc, List, [], ◌∷◌, map, Option, Some, None, refl, subst, arith, zero, Result, Ok, Err, ◌+◌, ◌-◌, length, take, drop, sym, ◌∙◌, ap, ◌+ℤ◌, nat_abs, pow_mono, ◌==◌, nat_lt, if◌then◌else◌, unsigned_abs, slice_index, slice_range, unwrap_or, option_map}
+use Rattle.std.proofs.Common.{◌≡◌, ℕ, suc, ◌/◌, ◌<◌, ◌≤◌, ◌^◌, Bool, true, false, ℤ, pos, negsuc, List, [], ◌∷◌, map, Option, Some, None, refl, subst, arith, zero, Result, Ok, Err, ◌+◌, ◌-◌, length, take, drop, sym, ◌∙◌, ap, ◌+ℤ◌, nat_abs, pow_mono, ◌==◌, nat_lt, if◌then◌else◌, unsigned_abs, slice_index, slice_range, unwrap_or}
 use Rattle.std.specs.List.{AllByRecursion}
 use Rattle.std.proofs.lemmas.Bool.Decides.{nat_tests}
 use Rattle.std.proofs.lemmas.Option.{option_and_then_some}
@@ -8,14 +8,14 @@ use Rattle.bufr_tables.specs.Prelude.{fxy_of, f_of, kind_of, IsRow, Row, AreRows
 use Rattle.bufr_fill.proofs.SpecLemmas.{AreGoodRows}
 use Rattle.bufr_walk.specs.declared.spec.TurnRefusal.{TurnRefusal}
 use Rattle.bufr_walk.specs.declared.spec.Taken.{Taken}
-use Rattle.bufr_walk.specs.Prelude.{FieldSpec, IsSpec, HasWidth, HasRole, Content, number, text, missing, reference, shown, found, packed_field, Course, take_next, NextTurn, asked, operated, ahead, next_item, counts_of, Turns, finish, open_end, group, pass_end, factor_turn, element_turn, operator_turn, Rest, passes, unroll, turns_of, if_valid_width, spec_by_kind, new_reference_spec, unsigned_field, unsigned_of, begin, local_width_spec, listed_by, element_spec, factor_field, factor_by, factor_spec, inserted_spec, OperatorModel, is_defining, after_operator, after_field, view_of, content_at, data_of, Item, plain, packed, ReadsItems, ReadsSubsets, IsPackedReading, IsReading, Values, apart, together, item_answer, after}
-use Rattle.bufr_text.specs.Prelude.{IsDescriptorWord, value_of, comment_of, dump_item_of, items_apart, compressed_dump_items, compressed_dump_subsets, IsOctet, IsScale, IsValue, IsName, IsComment, IsItem, IsDumpable, IsAccepted, dump_items_in}
+use Rattle.bufr_walk.specs.Prelude.{FieldSpec, IsSpec, HasWidth, HasRole, Content, number, text, missing, reference, shown, found, packed_field, Course, take_next, NextTurn, asked, operated, ahead, next_item, counts_of, Turns, finish, open_end, group, pass_end, factor_turn, element_turn, operator_turn, Rest, passes, unroll, turns_of, if_valid_width, spec_by_kind, new_reference_spec, unsigned_field, begin, local_width_spec, listed_by, element_spec, factor_field, factor_by, factor_spec, inserted_spec, OperatorModel, is_defining, after_operator, after_field, view_of, content_at, data_of, Item, plain, packed, ReadsItems, ReadsSubsets, IsPackedReading, IsReading, Values, apart, together, item_answer, after}
+use Rattle.bufr_text.specs.Prelude.{IsDescriptorWord, IsOctet, IsValue, IsComment, IsItem, IsDumpable, IsAccepted, items_shown, dump_items}
 use Rattle.std.proofs.lemmas.List.{length-map}
 use Rattle.bufr_bits.specs.Prelude.{bits_of}
 use Rattle.bufr_frame.specs.Prelude.{u16_at, words, Sections, sections_of, parts, edition_of, head_of, has_section2, IsFitting, first_least}
 use Rattle.bufr_frame.proofs.AgainLemmas.{sections-ended, heads-fit}
 use Rattle.bufr_walk.specs.declared.spec.Role.{Role}
-use Rattle.bufr_fill.specs.Prelude.{AreOctets, FitsKind, FitsRole, Fits, AllFit}
+use Rattle.bufr_fill.specs.Prelude.{AreOctets, FitsKind, FitsRole, Fits, AllFit, subsets_from, items_of_subset}
 use Rattle.bufr_fill.proofs.PlainLaws.{AllSpecs, EachSpecs, plain_read}
 use Rattle.bufr_fill.proofs.FieldLemmas.{top_below}
 use Rattle.bufr_fill.proofs.GoodReads.{template_good, plain_specs, packed_specs}
@@ -69,9 +69,6 @@ element-below cell fxy is =
     first : (z : ℕ) → (z / 16384 == 0) ≡ true → z < 16384
     first z test = let e : z / 16384 ≡ 0 = grind (arith, nat_tests) in omega (arith, e)
 
-scale-few : (z : ℤ) → allows_scale z ≡ true → unsigned_abs z ≤ 127
-scale-few z h1 = grind (arith, nat_tests, common_steps)
-
 row-read : (r : Record) (row : Row) → row_of r ≡ Some row → IsRead row
 unfolding row_of
 row-read r row is =
@@ -92,7 +89,7 @@ row-read r row is =
       };
       good = record {
         width = width-allowed (kind_of unit) (field_of r 5) width width_is;
-        scale = scale-few scale (scale-allowed (field_of r 3) scale scale_is);
+        scale = grind (arith, nat_tests, common_steps, scale-allowed (field_of r 3) scale scale_is);
         reference = reference-fits (field_of r 4) reference reference_is;
       };
       element = element-below (field_of r 0) fxy fxy_is;
@@ -141,12 +138,6 @@ word_kept a b h1 h2 = grind (arith, nat_tests, common_steps)
 kind_word : (kd : Kind) (s : OperatorModel) (row : Row) (spec : FieldSpec) → IsDescriptorWord row.fxy → spec_by_kind kd s row ≡ Ok spec → HasWord spec
 kind_word kd s row spec h1 h2 = grind (arith, nat_tests, common_steps)
 
-defined_word : (kd : Kind) (s : OperatorModel) (fxy : ℕ) (spec : FieldSpec) → IsDescriptorWord fxy → new_reference_spec kd s fxy ≡ Ok spec → HasWord spec
-defined_word kd s fxy spec h1 h2 = grind (arith, nat_tests, common_steps)
-
-inserted_word : (s : OperatorModel) (fxy : ℕ) (spec : FieldSpec) → IsDescriptorWord fxy → inserted_spec s fxy ≡ Ok spec → HasWord spec
-inserted_word s fxy spec h1 h2 = grind (arith, nat_tests, common_steps)
-
 -- each descriptor of turns has 16 bits
 abbrev AreWords : Turns → Type 0
 AreWords finish = Unit {0}
@@ -165,10 +156,10 @@ module _ (table : List Row) (all : AllByRecursion IsRead table) where
   element_word s fxy spec h e = by_given (nat_lt 0 s.local_width) (entry_of table fxy) refl e
     where
       by_defining : (b : Bool) (row : Row) → IsDescriptorWord row.fxy → (if b then new_reference_spec row.kind s fxy else spec_by_kind row.kind s row) ≡ Ok spec → HasWord spec
-      by_defining true row good q = defined_word row.kind s fxy spec h q
+      by_defining true row good q = grind (arith, nat_tests, common_steps)
       by_defining false row good q = kind_word row.kind s row spec good q
 
-      by_width : (b : Bool) (row : Row) → IsDescriptorWord row.fxy → (if b then spec_by_kind row.kind begin row else unsigned_of fxy s.local_width) ≡ Ok spec → HasWord spec
+      by_width : (b : Bool) (row : Row) → IsDescriptorWord row.fxy → (if b then spec_by_kind row.kind begin row else if_valid_width (unsigned_field fxy s.local_width)) ≡ Ok spec → HasWord spec
       by_width true row good q = kind_word row.kind begin row spec good q
       by_width false row good q = word_kept (unsigned_field fxy s.local_width) spec q h
 
@@ -209,7 +200,7 @@ module _ (table : List Row) (all : AllByRecursion IsRead table) where
       by : (b : Bool) → (if b then asked (inserted_spec s fxy) (λ t more. ahead table next (after_field s fxy t) more) results else operated (after_operator s fxy) (λ s'. ahead table next s' results)).next ≡ take_next spec
           → ((t : Taken) (more : List Taken) → (ahead table next (after_field s fxy t) more).next ≡ take_next spec → HasWord spec)
           → ((s' : OperatorModel) → (ahead table next s' results).next ≡ take_next spec → HasWord spec) → HasWord spec
-      by true q f g = asked_word (inserted_spec s fxy) (λ t more. ahead table next (after_field s fxy t) more) results spec (λ x r. inserted_word s fxy x h.0 r) f q
+      by true q f g = asked_word (inserted_spec s fxy) (λ t more. ahead table next (after_field s fxy t) more) results spec (λ x r. grind (arith, nat_tests, common_steps, h.0)) f q
       by false q f g = operated_word (after_operator s fxy) (λ s'. ahead table next s' results) spec g q
 
 -- the descriptors of a legal template
@@ -294,22 +285,15 @@ sections_given m s h e = let f = sections-ended m s e in subst AreGiven (sym f.i
 
 -- ---- one item
 
-scale_fits : (z : ℤ) → unsigned_abs z ≤ 300 → IsScale z
-scale_fits (pos n) h = h
-scale_fits (negsuc n) h = h
-
-sum_fits : (raw : ℕ) (z : ℤ) → raw < 2 ^ 63 → unsigned_abs z ≤ 2 ^ 125 → unsigned_abs (pos raw +ℤ z) < 10 ^ 39
-sum_fits raw z h1 h2 = grind (arith, nat_tests, common_steps)
-
 pub octets_are : (octets : List ℕ) → AreOctets octets → AllByRecursion IsOctet octets
 octets_are [] h = tt
 octets_are (c ∷ octets) h = (h.0, octets_are octets h.1)
 
 module _ (spec : FieldSpec) (good : IsSpec spec) where
-  number_value : (raw : ℕ) → spec.width ≤ 63 → raw < 2 ^ spec.width → IsValue (value_of (shown spec (number raw)))
-  number_value raw narrow h = let p : 2 ^ spec.width ≤ 2 ^ 63 = pow_mono narrow in (sum_fits raw spec.reference (omega (arith, h, p)) good.reference, scale_fits spec.scale good.scale)
+  number_value : (raw : ℕ) → spec.width ≤ 63 → raw < 2 ^ spec.width → IsValue (shown spec (number raw))
+  number_value raw narrow h = let p : 2 ^ spec.width ≤ 2 ^ 63 = pow_mono narrow in (grind (arith, nat_tests, common_steps, p, good.reference), good.scale)
 
-  kind_value : (k : Kind) (m : Bool) (c : Content) → HasWidth k spec.width → FitsKind k m spec.width c → IsValue (value_of (shown spec c))
+  kind_value : (k : Kind) (m : Bool) (c : Content) → HasWidth k spec.width → FitsKind k m spec.width c → IsValue (shown spec c)
   kind_value kind.Character m (number raw) w h = absurd h
   kind_value kind.Character m (text octets) w h = (octets_are octets h.1, omega (arith, h.0, w.1))
   kind_value kind.Character m missing w h = tt
@@ -330,45 +314,42 @@ module _ (spec : FieldSpec) (good : IsSpec spec) where
       by (pos n) h = omega (arith, h)
       by (negsuc n) h = omega (arith, h)
 
-  role_value : (r : Role) (c : Content) → HasRole r spec.kind spec.may_be_missing → FitsRole r spec c → IsValue (value_of (shown spec c))
+  role_value : (r : Role) (c : Content) → HasRole r spec.kind spec.may_be_missing → FitsRole r spec c → IsValue (shown spec c)
   role_value role.Reference (reference v) hr h = reference_value v (numeric_most spec.kind good.width hr.0) h
   role_value role.Reference c hr h = absurd h
   role_value r c hr h = kind_value spec.kind spec.may_be_missing c good.width h
 
-  value_fits : (c : Content) → Fits spec c → IsValue (value_of (shown spec c))
+  value_fits : (c : Content) → Fits spec c → IsValue (shown spec c)
   value_fits c h = role_value spec.role c good.role h
 
-  value_at : (j : ℕ) (cs : List Content) → AllFit spec cs → IsValue (value_of (shown spec (content_at j cs)))
+  value_at : (j : ℕ) (cs : List Content) → AllFit spec cs → IsValue (shown spec (content_at j cs))
   value_at zero [] h = tt
   value_at (suc j) [] h = tt
   value_at zero (c ∷ cs) h = value_fits c h.0
   value_at (suc j) (c ∷ cs) h = value_at j cs h.1
 
-name_fits : (name : List ℕ) → is_name name ≡ true → IsName name
-name_fits name h1 = grind (arith, nat_tests, common_steps)
-
 module _ (table : List Row) (all : AllByRecursion IsRead table) where
-  comment_fits : (listed : Bool) (fxy : ℕ) → IsComment (option_map comment_of (if listed then entry_of table fxy else None))
+  comment_fits : (listed : Bool) (fxy : ℕ) → IsComment (if listed then entry_of table fxy else None)
   comment_fits false fxy = tt
   comment_fits true fxy = by (entry_of table fxy) refl
     where
-      by : (o : Option Row) → entry_of table fxy ≡ o → IsComment (option_map comment_of o)
+      by : (o : Option Row) → entry_of table fxy ≡ o → IsComment o
       by None e = tt
-      by (Some row) e = let r = found-read table fxy row all e in (name_fits row.name r.listed.name, name_fits row.unit r.listed.unit)
+      by (Some row) e = let r = found-read table fxy row all e in (r.listed.name, r.listed.unit)
 
-  item_fits : (spec : FieldSpec) (c : Content) → HasWord spec → IsValue (value_of (shown spec c)) → IsItem (dump_item_of (view_of table spec c))
+  item_fits : (spec : FieldSpec) (c : Content) → HasWord spec → IsValue (shown spec c) → IsItem (view_of table spec c)
   item_fits spec c w v = record { word = w; value = v; comment = comment_fits spec.listed spec.fxy }
 
   -- ---- the items of subsets
 
-  items_fit : (course : Course) (items : List (Item Content)) (bits suffix : List Bool) → IsWordCourse course → AllSpecs items → ReadsItems plain course items bits suffix → AllByRecursion IsItem (items_apart table items)
+  items_fit : (course : Course) (items : List (Item Content)) (bits suffix : List Bool) → IsWordCourse course → AllSpecs items → ReadsItems plain course items bits suffix → AllByRecursion IsItem (items_shown table items)
   items_fit course [] bits suffix good specs h = tt
   items_fit course (i ∷ items) bits suffix good specs h = (
     item_fits i.spec i.content (good [] i.spec h.1) (value_fits i.spec specs.0 i.content (plain_read i.spec specs.0 bits h.0 i.content h.2).0),
     items_fit (after plain course i) items h.0 suffix (λ results spec e. good (item_answer plain i ∷ results) spec e) specs.1 h.3,
   )
 
-  subsets_fit : (course : Course) (subsets : List (List (Item Content))) (bits suffix : List Bool) → IsWordCourse course → EachSpecs subsets → ReadsSubsets course subsets bits suffix → AllByRecursion (λ items. AllByRecursion IsItem items) (map (items_apart table) subsets)
+  subsets_fit : (course : Course) (subsets : List (List (Item Content))) (bits suffix : List Bool) → IsWordCourse course → EachSpecs subsets → ReadsSubsets course subsets bits suffix → AllByRecursion (λ items. AllByRecursion IsItem items) (map (items_shown table) subsets)
   subsets_fit course [] bits suffix good specs h = tt
   subsets_fit course (items ∷ subsets) bits suffix good specs h = (items_fit course items bits h.0 good specs.0 h.1.0, subsets_fit course subsets h.0 suffix good specs.1 h.2)
 
@@ -376,33 +357,33 @@ module _ (table : List Row) (all : AllByRecursion IsRead table) where
   packed_fits n spec [] bits mid good e = tt
   packed_fits n spec (c ∷ cs) bits mid good e = (packed_again n spec good c cs bits mid e).2.fits
 
-  packed_items_fit : (n j : ℕ) (course : Course) (items : List (Item (List Content))) (bits suffix : List Bool) → IsWordCourse course → AllSpecs items → ReadsItems (packed n) course items bits suffix → AllByRecursion IsItem (compressed_dump_items table j items)
+  packed_items_fit : (n j : ℕ) (course : Course) (items : List (Item (List Content))) (bits suffix : List Bool) → IsWordCourse course → AllSpecs items → ReadsItems (packed n) course items bits suffix → AllByRecursion IsItem (items_shown table (items_of_subset j items))
   packed_items_fit n j course [] bits suffix good specs h = tt
   packed_items_fit n j course (i ∷ items) bits suffix good specs h = (
     item_fits i.spec (content_at j i.content) (good [] i.spec h.1) (value_at i.spec specs.0 j i.content (packed_fits n i.spec i.content bits h.0 specs.0 h.2)),
     packed_items_fit n j (after (packed n) course i) items h.0 suffix (λ results spec e. good (item_answer (packed n) i ∷ results) spec e) specs.1 h.3,
   )
 
-  together_fit : (left j : ℕ) (items : List (Item (List Content))) → ((j : ℕ) → AllByRecursion IsItem (compressed_dump_items table j items)) → AllByRecursion (λ items. AllByRecursion IsItem items) (compressed_dump_subsets table left j items)
+  together_fit : (left j : ℕ) (items : List (Item (List Content))) → ((j : ℕ) → AllByRecursion IsItem (items_shown table (items_of_subset j items))) → AllByRecursion (λ items. AllByRecursion IsItem items) (map (items_shown table) (subsets_from left j items))
   together_fit zero j items h = tt
-  together_fit (suc left) j items h = (h j, together_fit left (j + 1) items h)
+  together_fit (suc left) j items h = (h j, together_fit left (suc j) items h)
 
-  pub packed_fit : (n : ℕ) (course : Course) (items : List (Item (List Content))) (bits suffix : List Bool) → IsWordCourse course → ((n : ℕ) → ReadsItems (packed n) course items bits suffix → AllSpecs items) → IsPackedReading n course items bits suffix → AllByRecursion (λ items. AllByRecursion IsItem items) (compressed_dump_subsets table n 0 items)
+  pub packed_fit : (n : ℕ) (course : Course) (items : List (Item (List Content))) (bits suffix : List Bool) → IsWordCourse course → ((n : ℕ) → ReadsItems (packed n) course items bits suffix → AllSpecs items) → IsPackedReading n course items bits suffix → AllByRecursion (λ items. AllByRecursion IsItem items) (map (items_shown table) (subsets_from n 0 items))
   packed_fit zero course items bits suffix good specs h = tt
   packed_fit (suc n) course items bits suffix good specs h = together_fit (suc n) 0 items (λ j. packed_items_fit (suc n) j course items bits suffix good (specs (suc n) h.0.0) h.0.0)
 
-together_count : (table : List Row) (left j : ℕ) (items : List (Item (List Content))) → length (compressed_dump_subsets table left j items) ≡ left
+together_count : (table : List Row) (left j : ℕ) (items : List (Item (List Content))) → length (map (items_shown table) (subsets_from left j items)) ≡ left
 together_count table zero j items = refl
-together_count table (suc left) j items = ap suc (together_count table left (j + 1) items)
+together_count table (suc left) j items = ap suc (together_count table left (suc j) items)
 
 -- ---- the message
 
-counted : (table : List Row) (template : Tree) (s : Sections) (values : Values) (used : ℕ) → IsReading (next_item table template) (data_of s) values used → length (dump_items_in table template s values) ≡ s.subsets
-counted table template s (apart subsets) used h = length-map subsets (items_apart table) ∙ h.2.1
+counted : (table : List Row) (template : Tree) (s : Sections) (values : Values) (used : ℕ) → IsReading (next_item table template) (data_of s) values used → length (dump_items table s.subsets values) ≡ s.subsets
+counted table template s (apart subsets) used h = length-map subsets (items_shown table) ∙ h.2.1
 counted table template s (together items) used h = together_count table s.subsets 0 items
 
 all_fit : (table : List Row) (template : Tree) (s : Sections) (values : Values) (used : ℕ) → AllByRecursion IsRead table → IsLegal template → IsReading (next_item table template) (data_of s) values used
-    → AllByRecursion (λ items. AllByRecursion IsItem items) (dump_items_in table template s values)
+    → AllByRecursion (λ items. AllByRecursion IsItem items) (dump_items table s.subsets values)
 all_fit table template s (apart subsets) used all legal h =
     let course = next_item table template in
     let bits = bits_of s.payload in
@@ -413,7 +394,7 @@ all_fit table template s (together items) used all legal h =
     packed_fit table all s.subsets course items bits (drop used bits) (next_word table template all legal) (λ n r. packed_specs n course items bits (drop used bits) (template_good table template (good-rows table all) legal) r) h.2
 
 pub dumpable : (table : List Row) (sequences : List Sequence) (m : List ℕ) (s : Sections) (template : Tree) (values : Values) (used : ℕ) → AllByRecursion IsRead table → IsLegal template
-    → IsAccepted table sequences m s template values used → IsDumpable s (dump_items_in table template s values)
+    → IsAccepted table sequences m s template values used → IsDumpable s (dump_items table s.subsets values)
 dumpable table sequences m s template values used all legal a =
     let given = sections_given m s a.octets a.sections in
     record {

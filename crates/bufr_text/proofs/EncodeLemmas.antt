@@ -4,7 +4,7 @@ use Rattle.bufr_walk.specs.declared.spec.Taken.{Taken}
 use Rattle.bufr_walk.specs.Prelude.{FieldSpec, octets_in, Course, Next, take_next, at_end, astray, refused, NextTurn, asked, operated, ahead, counts_of, next_item, Turns, finish, open_end, group, pass_end, factor_turn, element_turn, operator_turn, Rest, passes, unroll, TakenField, Takes, course_after, ticked, answers_of, oks, StopsWalk, Walked, element_spec, factor_spec, inserted_spec, OperatorModel, after_operator, after_field}
 use Rattle.bufr_fill.specs.Prelude.{FaultAt, at_line, draft_fault, Draft, DraftEntry, Holds, Ends, Subset, subset, prepend_to_subset, subsets_of, WrittenItem, Filler, fill, fill_one, fill_none, filled, with_bits_before, plainly, plain_filler, plain_data, ◌>>=◌, cells_at, rows, longest, are_many, packed_filler, packed_data, AreOctets, PlainOutModel, PlainFills, IsFaultNext, after_end, line_at, items_left, end_left, ends_of, PackedOutModel, new_packed_out, PackedFills, IsFaultHere, all_at_end, first_line_at, rows_left}
 use Rattle.bufr_fill.proofs.WalkLemmas.{HasFilled, after_answers, fills, walk_of_items, fault_as_defined}
-use Rattle.bufr_text.specs.Prelude.{RefusedAt, report_of_items, octets_of_bits, message_of, IsDocumentRefusal, report_of_draft, reported_stop, AreOctetsOf, counted_one, counted_at, count_filled, turned_one, turned_at, turns_filled, CountsSteps, reported_refusal, left_after, fill_next, count_next, turns_next, IsSubset, IsNoSubset, IsData, IsNoData, count_plain, turns_plain, count_after, count_packed, turns_packed, DocumentFault}
+use Rattle.bufr_text.specs.Prelude.{RefusedAt, report_of_items, octets_of_bits, message_of, IsDocumentRefusal, report_of_draft, reported_stop, AreOctetsOf, counted_one, counted_at, count_filled, turned_one, turned_at, turns_filled, CountsSteps, reported_refusal, IsData, IsNoData, count_plain, turns_plain, count_after, count_packed, turns_packed, DocumentFault}
 use Rattle.std.specs.Option.{option_map}
 use Rattle.bufr_bits.specs.Prelude.{padding, bits_of}
 use Rattle.bufr_fill.proofs.FieldLemmas.{octets_again}
@@ -18,7 +18,7 @@ use Rattle.bufr_walk.specs.declared.walker.WalkStop.{WalkStop}
 use Rattle.bufr_fill.specs.declared.fault.DraftFault.{DraftFault}
 use Rattle.bufr_walk.proofs.ShownLemmas.{ticked_more}
 use Rattle.bufr_fill.proofs.EntryLemmas.{length-subsets}
-use Rattle.bufr_fill.proofs.PackedWalks.{stays, fault_as_defined as packed_fault_as_defined, written_as_defined, fills as packed_fills}
+use Rattle.bufr_fill.proofs.PackedWalks.{stays, written_as_defined, fault_as_defined as packed_fault_as_defined, fills as packed_fills}
 use Rattle.bufr_walk.specs.declared.spec.Taken.TheVariants as taken
 use Rattle.std.proofs.lemmas.Grind.{common_steps}
 
@@ -284,6 +284,37 @@ pub mul_most : (n a b : ℕ) → a ≤ b → n * a ≤ n * b
 mul_most n a b h1 = grind (arith, nat_tests, common_steps)
 
 -- ---- one subset
+
+-- what is left after the end of the next subset
+abbrev pub left_after : List DraftEntry → List DraftEntry
+left_after [] = []
+left_after (Holds d ∷ more) = left_after more
+left_after (Ends line ∷ more) = more
+
+-- what the definition makes of the next subset
+abbrev pub fill_next : Course → List DraftEntry → Result (List Bool) FaultAt
+fill_next course left = fill (plain_filler (end_left left)) course (items_left left)
+
+abbrev pub count_next : Course → List DraftEntry → ℕ
+count_next course left = count_filled (plain_filler (end_left left)) course (items_left left)
+
+abbrev pub turns_next : Course → List DraftEntry → ℕ
+turns_next course left = turns_filled (plain_filler (end_left left)) course (items_left left)
+
+pub record IsSubset (places : ℕ) (course : Course) (s : PlainOutModel) (steps : ℕ)
+    (s' : PlainOutModel) (steps' : ℕ) : Type 0 where
+  pub bits : List Bool
+  pub is : fill_next course s.left ≡ Ok bits
+  pub written : s'.bits ≡ s.bits ++ bits
+  pub left : s'.left ≡ left_after s.left
+  pub made : steps' ≡ ticked steps (turns_next course s.left)
+  pub few : steps' ≤ steps + places * length bits
+
+pub record IsNoSubset (places : ℕ) (course : Course) (s : PlainOutModel) (steps : ℕ)
+    (why : DocumentFault) (steps' : ℕ) : Type 0 where
+  pub refuses : IsDocumentRefusal (reported_refusal why) (report_of_items (fill_next course s.left))
+  pub made : CountsSteps (reported_refusal why) steps (turns_next course s.left) steps'
+  pub few : steps' ≤ steps + places * (count_next course s.left + 1)
 
 -- a walk stays in its subset
 record Keeps (s s' : PlainOutModel) : Type 0 where

@@ -1,13 +1,16 @@
 -- Lines computed on examples, each rule beside its nearest wrong neighbour.
-use Rattle.std.proofs.Common.{◌≡◌, ℕ, List, [], ◌∷◌, ◌++◌, refl, codes, replicate, map, ◌≤◌, true, false, arith, drop, take, Some, None, pos, ◌+◌, inl}
+use Rattle.std.proofs.Common.{◌≡◌, ℕ, List, [], ◌∷◌, ◌++◌, refl, codes, replicate, map, true, false, arith, drop, take, Some, None, pos, ◌+◌, inl}
 use Rattle.bufr_fill.specs.Prelude.{number_token, text_form, missing_form, reference_token, draft, Holds, Ends}
-use Rattle.bufr_text.specs.Prelude.{prefix_while, suffix_while, without_prefix, hex_read, fxy_read, descriptors_read, quoted_read, is_hashed, quoted, hex_text, descriptors_text, runs_after, Line, Passed, Header, Local1, Section2, Descriptors, Begins, Item, Wrong, keys, place_from, value_read, worded, line_of, Opens, Closes, line_within_limit, ParseResult, Complete, Refused, NotAllowed, SubsetCount, HeaderRange, turn, parse_lines, lines_of, documents_of, Document, open_documents_of, split_of, parse_open_lines, IsText, item_text, local1_line, descriptors_line, text_of_lines, IsDumpable, dump_text_of, header_lines, subset_lines, item_entries, subset_entries, document_of, DumpItem, IsNumber, ls_line, AreEnded, IsProper, NumberedLine, numbered_line, numbered_lines, SubsetHeard, subsets_heard, entries_heard, IsDocument}
+use Rattle.bufr_text.specs.Prelude.{leasts, mosts, prefix_while, suffix_while, without_prefix, hex_read, fxy_read, descriptors_read, quoted_read, is_hashed, quoted, hex_text, descriptors_text, runs_after, Line, Passed, Header, Local1, Section2, Descriptors, Begins, Item, Wrong, keys, place_from, value_read, worded, line_of, Opens, Closes, line_within_limit, ParseResult, Complete, Refused, NotAllowed, SubsetCount, HeaderRange, turn, parse_lines, lines_of, documents_of, Document, open_documents_of, split_of, parse_open_lines, item_text, local1_line, descriptors_line, text_of_lines, IsDumpable, dump_text_of, header_lines, subset_lines, item_entries, subset_entries, document_of, ls_line, AreEnded, IsProper, NumberedLine, numbered_line, numbered_lines, SubsetHeard, subsets_heard, entries_heard, IsDocument}
 use Rattle.bufr_frame.specs.declared.section1.Head.{Head}
-use Rattle.bufr_frame.specs.Prelude.{IsFitting, Field, Master, Centre, Subcentre, Update, Flags, Category, Subcategory, LocalSubcategory, MasterVersion, LocalVersion, Year, Month, Day, Hour, Minute, Second, most_in, slots_4, Sections}
+use Rattle.bufr_frame.specs.Prelude.{IsFitting, mosts_of, values_of, Sections}
+use Rattle.bufr_frame.proofs.AgainLemmas.{at-most}
 use Rattle.std.specs.Fmt.{digits}
 use Rattle.bufr_bits.specs.Prelude.{decimal_text_of, unsigned_text}
 use Rattle.bufr_text.proofs.EncodingExamples.{document, number}
-use Rattle.bufr_frame.specs.Section1 as section1
+use Rattle.bufr_tables.specs.Prelude.{Row}
+use Rattle.bufr_tables.specs.declared.table_b.Kind.TheVariants as kind
+use Rattle.bufr_walk.specs.Prelude.{View, shown_number, shown_text}
 
 -- an inserted text with a quote, a backslash, a line feed and an octet that is no character
 abbrev inserted : List ℕ
@@ -45,7 +48,7 @@ centre_with centre = documents_of (document_with centre (codes "optional 0") (co
 -- rule: reading-hexadecimal, reading-descriptor, reading-quoted, reading-header-ranges
 -- rule: fault-order-of-a-line, reading-header-order, reading-subsets, reading-line-numbers
 lines_read :
-    (item_text (record { fxy = 0x8504; comment = None; value = IsText inserted }) ≡ inserted_line)
+    (item_text (record { fxy = 0x8504; entry = None; value = shown_text inserted }) ≡ inserted_line)
     × (all_said (
     inserted_line ∷ codes "012101 MISSING" ∷ codes "R 012101 -400" ∷ codes "005002 -0.05 #" ∷ codes "005002 -0.05  # LATITUDE [degree]" ∷ [])
     ≡ Item 0x8504 (text_form inserted) ∷ Item 0x0C65 missing_form ∷ Item 0x0C65 (reference_token (codes "-400")) ∷ Item 0x0502 (number_token (codes "-0.05")) ∷ Item 0x0502 (number_token (codes "-0.05")) ∷ [])
@@ -96,7 +99,7 @@ lines_read :
     -- lines are counted on over documents; a comment between them is counted
     × (documents_of (document_with (codes "centre 98") (codes "optional 1") (codes "subsets 0") (codes "end" ∷ codes "# x" ∷ []) ++ document_with (codes "centre 98") (codes "optional 1") (codes "subsets 0") (codes "end" ∷ []))
     ≡ Complete (record { line = 1; header = header_written; local1 = []; section2 = []; descriptors = []; entries = [] }) ∷ Complete (record { line = 24; header = header_written; local1 = []; section2 = []; descriptors = []; entries = [] }) ∷ [])
-unfolding quoted line_of worded prefix_while suffix_while without_prefix fxy_read value_read quoted_read is_hashed place_from keys hex_read descriptors_read hex_text descriptors_text ten parse_lines lines_of turn
+unfolding quoted line_of worded prefix_while suffix_while without_prefix fxy_read value_read quoted_read is_hashed place_from keys leasts mosts hex_read descriptors_read hex_text descriptors_text ten parse_lines lines_of turn
 lines_read = (refl, refl, refl, refl, refl, refl, refl, refl, refl, refl, refl, refl, refl, refl, refl, refl, refl, refl, refl, refl, refl, refl, refl)
 
 -- ---- The definitions computed on worked examples.
@@ -107,8 +110,11 @@ the_head = record { edition = 4; master = 0; centre = 98; subcentre = 0; update 
 abbrev one_block_number : Sections
 one_block_number = record { head = the_head; local1 = []; section2 = None; descriptors = 257 ∷ []; subsets = 1; observed = true; compressed = false; payload = 0x14 ∷ []; size = 48 }
 
-abbrev block_number : List (List DumpItem)
-block_number = ((record { fxy = 257; comment = Some (record { name = codes "WMO BLOCK NUMBER"; unit = codes "Numeric" }); value = IsNumber (pos 10) (pos 0) }) ∷ []) ∷ []
+abbrev block_row : Row
+block_row = record { fxy = 257; name = codes "WMO BLOCK NUMBER"; unit = codes "Numeric"; kind = kind.Numeric; scale = pos 0; reference = pos 0; width = 7 }
+
+abbrev block_number : List (List View)
+block_number = ((record { fxy = 257; entry = Some block_row; value = shown_number (pos 10) (pos 0) }) ∷ []) ∷ []
 
 -- the header lines of a document, with these for `centre` and `subsets`
 abbrev head_with : (centre subsets : List ℕ) → List (List ℕ)
@@ -164,25 +170,7 @@ document_3 = record {
 
 -- the head of edition 4 fits its octets
 the_head_fits : IsFitting the_head
-the_head_fits = record { edition = refl; fits = fits }
-  where
-    fits : (field : Field) → section1.head_value the_head false field ≤ most_in slots_4 field
-    fits Master = omega arith
-    fits Centre = omega arith
-    fits Subcentre = omega arith
-    fits Update = omega arith
-    fits Flags = omega arith
-    fits Category = omega arith
-    fits Subcategory = omega arith
-    fits LocalSubcategory = omega arith
-    fits MasterVersion = omega arith
-    fits LocalVersion = omega arith
-    fits Year = omega arith
-    fits Month = omega arith
-    fits Day = omega arith
-    fits Hour = omega arith
-    fits Minute = omega arith
-    fits Second = omega arith
+the_head_fits = record { edition = refl; fits = at-most (values_of the_head) (mosts_of 4) ((omega arith), ((omega arith), ((omega arith), ((omega arith), ((omega arith), ((omega arith), ((omega arith), ((omega arith), ((omega arith), ((omega arith), ((omega arith), ((omega arith), ((omega arith), ((omega arith), ((omega arith), tt))))))))))))))) }
 
 -- the message and its reading give what the law asks for
 one_is_dumpable : IsDumpable one_block_number block_number
@@ -193,7 +181,7 @@ one_is_dumpable = record {
   descriptors = (omega arith, tt);
   few = omega arith;
   counted = refl;
-  items = ((record { word = omega arith; value = (omega arith, omega arith); comment = (record { printed = refl; short = omega arith }, record { printed = refl; short = omega arith }) }, tt), tt);
+  items = ((record { word = omega arith; value = (omega arith, omega arith); comment = (refl, refl) }, tt), tt);
 }
 
 -- rule: reading-subset-end, reading-empty-lines, fault-50, fault-61, reading-subsets, fault-57
@@ -222,7 +210,7 @@ documents_read :
     × (documents_of (text_of_lines (lines_3 (codes "edition 5") (codes "centre 98") (codes "second 0") ++ item_lines)) ≡ Refused 2 HeaderRange ∷ [])
     -- a document of edition 4 that says edition 3 is refused at its year
     × (documents_of (text_of_lines (codes "message" ∷ codes "edition 3" ∷ drop 2 head_lines ++ item_lines)) ≡ Refused 12 HeaderRange ∷ [])
-unfolding header_lines subset_lines item_entries subset_entries keys digits runs_after hex_text descriptors_text quoted decimal_text_of unsigned_text parse_lines lines_of turn line_of worded prefix_while suffix_while place_from without_prefix descriptors_read fxy_read value_read quoted_read hex_read is_hashed parse_open_lines split_of
+unfolding header_lines subset_lines item_entries subset_entries keys leasts mosts digits runs_after hex_text descriptors_text quoted decimal_text_of unsigned_text parse_lines lines_of turn line_of worded prefix_while suffix_while place_from without_prefix descriptors_read fxy_read value_read quoted_read hex_read is_hashed parse_open_lines split_of
 documents_read = (refl, refl, refl, refl, refl, refl, refl, refl, refl, refl, refl, refl, refl, refl, refl, refl, refl, refl, refl)
 
 -- ---- The listing line computed on a message.
@@ -251,7 +239,7 @@ different-listed = refl
 -- ---- documents that lines can spell
 
 one_item : IsProper (document 0 1 (257 ∷ []) (number 24 257 (codes "10") ∷ Ends 25 ∷ []))
-unfolding document number keys
+unfolding document number keys leasts mosts
 one_item = record {
   headed = record { whole = refl; ranges = refl };
   local1 = tt;
@@ -290,7 +278,7 @@ no_section2 h = some-none 1 [] (h.no_section2 refl)
 -- comments and empty lines are counted, and passed over
 passed_over : numbered_lines 21 (codes "# x" ∷ [] ∷ codes "subset 1" ∷ codes "001001 10  # x" ∷ codes "end" ∷ codes "x" ∷ [])
     ≡ numbered_line 23 (Begins 1) ∷ numbered_line 24 (Item 257 (number_token (codes "10"))) ∷ numbered_line 25 Closes ∷ numbered_line 26 Wrong ∷ []
-unfolding numbered_lines line_of worded prefix_while suffix_while without_prefix fxy_read value_read is_hashed place_from keys
+unfolding numbered_lines line_of worded prefix_while suffix_while without_prefix fxy_read value_read is_hashed place_from keys leasts mosts
 passed_over = refl
 
 abbrev subset_at : (at : ℕ) → SubsetHeard

@@ -4,7 +4,7 @@ use Rattle.std.proofs.lemmas.Bool.Decides.{nat_tests}
 use Rattle.std.proofs.lemmas.List.{take-append-drop}
 use Rattle.bufr_bits.specs.Prelude.{bits_of, padding}
 use Rattle.bufr_tables.specs.Prelude.{Row, AreRows, Sequence, Tree, IsLegal, tables_of, Record}
-use Rattle.bufr_walk.specs.Prelude.{FieldSpec, IsSpec, Content, content_in, bits_for, FieldFault, FieldRead, found, plain_field, Course, next_item, Item, plain, packed, ReadsItems, ReadsPass, ReadsSubsets, IsPackedReading, after, apart, together, Values, IsReading, max_values, IsPlainReading, data_of, content_at}
+use Rattle.bufr_walk.specs.Prelude.{FieldSpec, IsSpec, Content, content_in, bits_for, FieldFault, found, plain_field, Course, next_item, Item, plain, packed, ReadsItems, ReadsPass, ReadsSubsets, IsPackedReading, after, apart, together, Values, IsReading, max_values, IsPlainReading, data_of, View}
 use Rattle.bufr_fill.specs.Prelude.{IsMinusZero, content_of, plain_filler, plainly, written_item, Filler, fill, fill_none, plain_data, ◌>>=◌, ItemRow, RowCell, rows, longest, are_many, packed_filler, packed_data, pack_across, packed_to, contents_here, first_line, packing, FaultAt, at_line, too_many_values, Subset, subsets_of, Draft, DraftEntry, AreDrafts, AreDumped, IsDumped, AreDumpedFrom, subsets_from, IsUnlike, IsTogetherOrNot}
 use Rattle.bufr_fill.proofs.PlainLaws.{AllSpecs, EachSpecs, draft_again, plain_read, same_draft, same_bits, IsDumpedAcross, HaveContents, join}
 use Rattle.bufr_frame.specs.Prelude.{with_even_length, message_octets, message_size, max_octets, MessageParts, parts_of, sections_from, Sections, sections_of}
@@ -15,25 +15,21 @@ use Rattle.bufr_fill.proofs.WholeLaws.{rows_dumped, template_apart, template_tog
 use Rattle.bufr_fill.proofs.GoodReads.{template_good, plain_specs, packed_specs}
 use Rattle.bufr_fill.proofs.PackedLaws.{packed_count}
 use Rattle.bufr_fill.proofs.FormLaws.{packed_rewritten}
-use Rattle.bufr_text.specs.Prelude.{subset_entries, document_of, lines_before, items_apart, compressed_dump_subsets, DumpItem, compressed_dump_items, IsAccepted, dump_items_in, HaveNoMinusZero, ArePacked, AreWritten, IsCanonical, IsEncodedAgain, each_subset, HasReadingIn, IsForForm, IsFormed, IsFaultIn, EncodesForm, data_bits, octets_of_bits, parts_of_document, encoding_of, by_item, too_long, RefusedAt, refused_at, report_of_items, parts_as, compressed_as, message_of, encoding_in, IsDocumentRefusal, reported_refusal, compressed_by, form_of_flag, compressed_in, Document, DocumentFault, Form}
+use Rattle.bufr_text.specs.Prelude.{subset_entries, document_of, lines_before, items_shown, IsAccepted, dump_items, HaveNoMinusZero, ArePacked, AreWritten, IsCanonical, IsEncodedAgain, each_subset, HasReadingIn, IsForForm, IsFormed, IsFaultIn, EncodesForm, data_bits, octets_of_bits, encoding_of, by_item, too_long, RefusedAt, refused_at, report_of_items, parts_as, compressed_as, message_of, encoding_in, IsDocumentRefusal, reported_refusal, compressed_by, form_of_flag, compressed_in, Document, DocumentFault, Form}
 use Rattle.bufr_text.proofs.DumpableLemmas.{octets_are, sections_given, rows-read, good-rows}
-use Rattle.bufr_text.proofs.RoundTripLemmas.{all_apart, all_together, encoded_to, parts_back, parts_with, size_least, fills_as, bit_back, section2_back, padded, payload_bits, size_is, enough, suffix, encoded_again, as_written, no_data, octets_small, framed}
+use Rattle.bufr_text.proofs.RoundTripLemmas.{all_apart, all_together, encoded_to, parts_back, parts_with, size_least, fills_as, bit_back, section2_back, padded, payload_bits, size_is, enough, suffix, encoded_again, as_written, no_data, octets_small, framed, parts_of_document}
 use Rattle.std.specs.Global.{Global}
 use Rattle.bufr_bits.proofs.BitLemmas.{length-bits_of}
 use Rattle.bufr_tables.proofs.SoundLemmas.{tree_fine}
 use Rattle.bufr_fill.proofs.FieldLemmas.{octets_in-are}
 use Rattle.bufr_frame.specs.Layout as layout
 use Rattle.bufr_walk.specs.Reading as reading
-use Rattle.bufr_fill.specs.RoundTrip as again
 use Rattle.bufr_text.specs.declared.encode.Form.TheVariants as form
 use Rattle.std.proofs.lemmas.Grind.{common_steps}
 
 -- ---- A canonical message is encoded to the same octets.
 
 -- ---- one field of data that are not compressed
-
-same_found : (a b : FieldRead Content) → ◌≡◌ {A = Result (FieldRead Content) FieldFault} (Ok a) (Ok b) → a ≡ b
-same_found a b e = cc
 
 record IsTaken (spec : FieldSpec) (bits mid : List Bool) (c : Content) : Type 0 where
   is : content_in spec (take spec.width bits) ≡ c
@@ -102,9 +98,6 @@ subsets_filled course (items ∷ subsets) (s ∷ ss) bits suffix specs dumped h 
 
 -- ---- compressed data
 
-same_bits_ok : (a b : List Bool) → ◌≡◌ {A = Result (List Bool) FieldFault} (Ok a) (Ok b) → a ≡ b
-same_bits_ok a b e = cc
-
 -- what is packed is the packing of its contents
 packs_as : (spec : FieldSpec) (cs : List Content) (cells : List RowCell) (xs : List Content) (out : List Bool) (p : Result (List Bool) FieldFault) → packing spec xs ≡ p → packed_to xs cells p ≡ Ok (written_item cs out) → packing spec cs ≡ Ok out
 packs_as spec cs cells xs out p h1 h2 = grind (arith, nat_tests, common_steps)
@@ -124,7 +117,7 @@ packed_filled n line many some course [] (d ∷ ds) bits suffix read left specs 
 packed_filled n line many some course (i ∷ items) [] bits suffix read left specs drafts h c = absurd drafts
 packed_filled n line many some course (i ∷ items) (d ∷ ds) bits suffix read left specs drafts h c =
     let r = packed_rewritten n line many some i d read h.0.0 specs.0 drafts.0 h.0.2 in
-    let same : c.0 ≡ r.out = same_bits_ok c.0 r.out (sym c.2 ∙ packed_as i.spec i.content d r.out r.fills) in
+    let same : c.0 ≡ r.out = let is = sym c.2 ∙ packed_as i.spec i.content d r.out r.fills in cc in
     let here : (packed_filler line many).fills i.spec d ≡ Ok (written_item i.content c.0) = r.fills ∙ ap (λ x. Ok (written_item i.content x)) (sym same) in
     let rest = packed_filled n line many some (after (packed n) course i) items ds c.1 suffix h.0.0 left specs.1 drafts.1 (h.0.3, h.1) c.4 in
     record {
@@ -153,17 +146,17 @@ all_packed (suc n) course items (s ∷ ss) bits suffix count specs dumped h c =
 
 data_filled : (table : List Row) (template : Tree) (s : Sections) (values : Values) (used at : ℕ) → AreGoodRows table → IsLegal template
     → IsReading (next_item table template) (data_of s) values used → AreWritten values (bits_of s.payload) (drop used (bits_of s.payload))
-    → AreAllFilled (data_bits s.compressed (next_item table template) (subsets_of (subset_entries at (dump_items_in table template s values)))) (bits_of s.payload) (drop used (bits_of s.payload))
+    → AreAllFilled (data_bits s.compressed (next_item table template) (subsets_of (subset_entries at (dump_items table s.subsets values)))) (bits_of s.payload) (drop used (bits_of s.payload))
 data_filled table template s (apart subsets) used at rows legal read writes =
     let course = next_item table template in
     let bits = bits_of s.payload in
-    let drafts = subsets_of (subset_entries at (map (items_apart table) subsets)) in
+    let drafts = subsets_of (subset_entries at (map (items_shown table) subsets)) in
     let f = subsets_filled course subsets drafts bits (drop used bits) (plain_specs course subsets bits (drop used bits) (template_good table template rows legal) read.2.0) (all_apart table at subsets) read.2.0 writes in
     record { out = f.out; fills = fills_as s.compressed false course drafts f.out read.0 f.fills; splits = f.splits }
 data_filled table template s (together items) used at rows legal read writes =
     let course = next_item table template in
     let bits = bits_of s.payload in
-    let drafts = subsets_of (subset_entries at (compressed_dump_subsets table s.subsets 0 items)) in
+    let drafts = subsets_of (subset_entries at (map (items_shown table) (subsets_from s.subsets 0 items))) in
     let dumped = all_together table at s.subsets 0 items in
     let f = all_packed s.subsets course items drafts bits (drop used bits) dumped.1 (λ n r. packed_specs n course items bits (drop used bits) (template_good table template rows legal) r) dumped.0 read.2 writes in
     record { out = f.out; fills = fills_as s.compressed true course drafts f.out read.0 f.fills; splits = f.splits }
@@ -176,10 +169,10 @@ prefix_is : (bits out : List Bool) (used : ℕ) → used ≤ length bits → bit
 prefix_is bits out used h1 h2 = grind (arith, nat_tests, common_steps)
 
 pub canonical_encoded : (table : List Row) (sequences : List Sequence) (m : List ℕ) (s : Sections) (template : Tree) (values : Values) (used at : ℕ) → AreGoodRows table → IsLegal template
-    → IsAccepted table sequences m s template values used → IsCanonical m s values used → encoding_of table sequences (document_of at s (dump_items_in table template s values)) ≡ Ok m
+    → IsAccepted table sequences m s template values used → IsCanonical m s values used → encoding_of table sequences (document_of at s (dump_items table s.subsets values)) ≡ Ok m
 unfolding parts_with
 canonical_encoded table sequences m s template values used at rows legal a c =
-    let items = dump_items_in table template s values in
+    let items = dump_items table s.subsets values in
     let d = document_of at s items in
     let course = next_item table template in
     let bits = bits_of s.payload in
@@ -197,24 +190,6 @@ canonical_encoded table sequences m s template values used at rows legal a c =
     ∙ ap Ok (sym (written-even s.head s.local1 s.section2 s.descriptors s.subsets s.observed s.compressed made)
     ∙ ap (λ (o : List ℕ). message_octets s.head (parts_with s o)) (sym payload)
     ∙ written-again m s c.plain a.sections)
-
--- ---- the items of a dump
-
-apart_items : (table : List Row) (j : ℕ) (items : List (reading.Item (List Content))) → compressed_dump_items table j items ≡ items_apart table (again.items_of_subset j items)
-apart_items table j [] = refl
-apart_items table j (i ∷ items) = ap (λ xs. items_apart table (record { spec = i.spec; content = content_at j i.content } ∷ []) ++ xs) (apart_items table j items)
-
-apart_subsets : (table : List Row) (n j : ℕ) (items : List (reading.Item (List Content))) → compressed_dump_subsets table n j items ≡ map (items_apart table) (subsets_from n j items)
-apart_subsets table zero j items = refl
-apart_subsets table (suc n) j items =
-    let next : j + 1 ≡ suc j = omega arith in
-    ap (λ x. x ∷ compressed_dump_subsets table n (j + 1) items) (apart_items table j items)
-    ∙ ap (λ k. items_apart table (again.items_of_subset j items) ∷ compressed_dump_subsets table n k items) next
-    ∙ ap (λ xs. items_apart table (again.items_of_subset j items) ∷ xs) (apart_subsets table n (suc j) items)
-
-pub items_each : (table : List Row) (template : Tree) (s : Sections) (values : Values) → dump_items_in table template s values ≡ map (items_apart table) (each_subset s.subsets values)
-items_each table template s (apart subsets) = refl
-items_each table template s (together items) = apart_subsets table s.subsets 0 items
 
 -- ---- the data
 
@@ -241,9 +216,9 @@ record IsUnfilled (table : List Row) (template : Tree) (entries : List DraftEntr
   unlike : IsUnlike why.fault
 
 module _ (table : List Row) (template : Tree) (s : Sections) (used at : ℕ) (rows : AreGoodRows table) (legal : IsLegal template) where
-  filled_plainly : (values : Values) → IsReading (next_item table template) (data_of s) values used → IsFilled false table template s values (subset_entries at (dump_items_in table template s values))
+  filled_plainly : (values : Values) → IsReading (next_item table template) (data_of s) values used → IsFilled false table template s values (subset_entries at (dump_items table s.subsets values))
   filled_plainly (apart subsets) read =
-      let entries = subset_entries at (map (items_apart table) subsets) in
+      let entries = subset_entries at (map (items_shown table) subsets) in
       let w = plain_template_again table template subsets (subsets_of entries) (bits_of s.payload) (drop used (bits_of s.payload)) rows legal (all_apart table at subsets) read.2.0 in
       record {
         found = apart subsets;
@@ -253,7 +228,7 @@ module _ (table : List Row) (template : Tree) (s : Sections) (used at : ℕ) (ro
         each = refl;
       }
   filled_plainly (together items) read =
-      let entries = subset_entries at (compressed_dump_subsets table s.subsets 0 items) in
+      let entries = subset_entries at (map (items_shown table) (subsets_from s.subsets 0 items)) in
       let dumped = all_together table at s.subsets 0 items in
       let w = template_apart s.subsets table template items (subsets_of entries) (bits_of s.payload) (drop used (bits_of s.payload)) rows legal dumped.1 dumped.0 read.2 in
       record {
@@ -265,9 +240,9 @@ module _ (table : List Row) (template : Tree) (s : Sections) (used at : ℕ) (ro
       }
 
   packedly : (values : Values) → length (bits_of s.payload) ≤ max_values → IsReading (next_item table template) (data_of s) values used
-      → IsFilled true table template s values (subset_entries at (dump_items_in table template s values)) ⊎ IsUnfilled table template (subset_entries at (dump_items_in table template s values))
+      → IsFilled true table template s values (subset_entries at (dump_items table s.subsets values)) ⊎ IsUnfilled table template (subset_entries at (dump_items table s.subsets values))
   packedly (together items) few read =
-      let entries = subset_entries at (compressed_dump_subsets table s.subsets 0 items) in
+      let entries = subset_entries at (map (items_shown table) (subsets_from s.subsets 0 items)) in
       let dumped = all_together table at s.subsets 0 items in
       let w = packed_template_again s.subsets table template items (subsets_of entries) (bits_of s.payload) (drop used (bits_of s.payload)) rows legal dumped.1 dumped.0 read.2 in
       inl (record {
@@ -280,7 +255,7 @@ module _ (table : List Row) (template : Tree) (s : Sections) (used at : ℕ) (ro
   packedly (apart subsets) few read = by (template_together table template subsets (subsets_of entries) (bits_of s.payload) (drop used (bits_of s.payload)) few rows legal (all_apart table at subsets) read.2.0)
     where
       entries : List DraftEntry
-      entries = subset_entries at (map (items_apart table) subsets)
+      entries = subset_entries at (map (items_shown table) subsets)
 
       by : IsTogetherOrNot (next_item table template) subsets (subsets_of entries) → IsFilled true table template s (apart subsets) entries ⊎ IsUnfilled table template entries
       by (inr x) = inr (record { why = x.0; is = x.1; unlike = x.2 })
@@ -297,7 +272,7 @@ module _ (table : List Row) (template : Tree) (s : Sections) (used at : ℕ) (ro
 unfoldable parts_for : Bool → Sections → List ℕ → MessageParts
 parts_for b s payload = parts_of s.local1 s.section2 s.descriptors s.subsets s.observed b payload
 
-parts_back_as : (form : Form) (at : ℕ) (s : Sections) (items : List (List DumpItem)) (payload : List ℕ) → parts_as (compressed_as form (document_of at s items)) (document_of at s items) payload ≡ parts_for (compressed_by form s.compressed) s payload
+parts_back_as : (form : Form) (at : ℕ) (s : Sections) (items : List (List View)) (payload : List ℕ) → parts_as (compressed_as form (document_of at s items)) (document_of at s items) payload ≡ parts_for (compressed_by form s.compressed) s payload
 unfolding parts_for
 parts_back_as form at s items payload = λ j. parts_of s.local1 (section2_back s.section2 j) s.descriptors s.subsets (bit_back s.observed j) (compressed_by form (bit_back s.compressed j)) payload
 
@@ -311,7 +286,7 @@ bits_few m s e few =
 
 module _ (form : Form) (table : List Row) (sequences : List Sequence) (m : List ℕ) (s : Sections) (template : Tree) (values : Values) (used at : ℕ) (a : IsAccepted table sequences m s template values used) where
   -- a message that is not too long has the reading
-  has_reading : (f : IsFilled (compressed_by form s.compressed) table template s values (subset_entries (at + lines_before s) (dump_items_in table template s values)))
+  has_reading : (f : IsFilled (compressed_by form s.compressed) table template s values (subset_entries (at + lines_before s) (dump_items table s.subsets values)))
       → message_size s.head.edition (parts_for (compressed_by form s.compressed) s (octets_of_bits f.out)) ≤ max_octets
       → HasReadingIn form table s template values (message_octets s.head (parts_for (compressed_by form s.compressed) s (octets_of_bits f.out)))
   unfolding parts_for
@@ -336,18 +311,18 @@ module _ (form : Form) (table : List Row) (sequences : List Sequence) (m : List 
         used = length f.out;
         read = f.read (with_even_length edition 4 payload) (padding (length f.out) ++ padded_bits.0) written;
         each = f.each;
-        items = items_each table template (sections_from s.head parts) f.found ∙ ap (map (items_apart table)) f.each ∙ sym (items_each table template s values);
+        items = ap (map (items_shown table)) f.each;
       }
 
   abbrev encoded : Result (List ℕ) RefusedAt
-  encoded = encoding_in form table sequences (document_of at s (dump_items_in table template s values))
+  encoded = encoding_in form table sequences (document_of at s (dump_items table s.subsets values))
 
   -- the data are written: nothing is at fault but the length
-  written : IsForForm form too_long → IsFilled (compressed_by form s.compressed) table template s values (subset_entries (at + lines_before s) (dump_items_in table template s values)) → IsFormed form table s template values encoded
+  written : IsForForm form too_long → IsFilled (compressed_by form s.compressed) table template s values (subset_entries (at + lines_before s) (dump_items table s.subsets values)) → IsFormed form table s template values encoded
   written long f = subst (IsFormed form table s template values) (sym is) (by (nat_lt max_octets (message_size s.head.edition parts)) refl)
     where
       d : Document
-      d = document_of at s (dump_items_in table template s values)
+      d = document_of at s (dump_items table s.subsets values)
 
       parts : MessageParts
       parts = parts_for (compressed_by form s.compressed) s (octets_of_bits f.out)
@@ -356,7 +331,7 @@ module _ (form : Form) (table : List Row) (sequences : List Sequence) (m : List 
       fills = ap (λ b. data_bits (compressed_by form b) (next_item table template) (subsets_of d.entries)) (bit_back s.compressed) ∙ f.fills
 
       is : encoded ≡ (if nat_lt max_octets (message_size s.head.edition parts) then Err (refused_at at too_long) else Ok (message_octets s.head parts))
-      is = as_written form table sequences d template f.out (octets_of_bits f.out) a.expands fills refl ∙ ap (message_of at s.head) (parts_back_as form at s (dump_items_in table template s values) (octets_of_bits f.out))
+      is = as_written form table sequences d template f.out (octets_of_bits f.out) a.expands fills refl ∙ ap (message_of at s.head) (parts_back_as form at s (dump_items table s.subsets values) (octets_of_bits f.out))
 
       by : (b : Bool) → nat_lt max_octets (message_size s.head.edition parts) ≡ b → IsFormed form table s template values (if b then Err (refused_at at too_long) else Ok (message_octets s.head parts))
       by true e = long
@@ -364,28 +339,28 @@ module _ (form : Form) (table : List Row) (sequences : List Sequence) (m : List 
 
 -- an item is at fault
 not_written : (table : List Row) (sequences : List Sequence) (m : List ℕ) (s : Sections) (template : Tree) (values : Values) (used at : ℕ) → IsAccepted table sequences m s template values used
-    → IsUnfilled table template (subset_entries (at + lines_before s) (dump_items_in table template s values)) → IsFormed form.Compressed table s template values (encoding_in form.Compressed table sequences (document_of at s (dump_items_in table template s values)))
+    → IsUnfilled table template (subset_entries (at + lines_before s) (dump_items table s.subsets values)) → IsFormed form.Compressed table s template values (encoding_in form.Compressed table sequences (document_of at s (dump_items table s.subsets values)))
 not_written table sequences m s template values used at a f =
-    let d = document_of at s (dump_items_in table template s values) in
+    let d = document_of at s (dump_items table s.subsets values) in
     let refused = refused_at f.why.line (by_item f.why.fault) in
     let is : encoding_in form.Compressed table sequences d ≡ Err refused = no_data form.Compressed table sequences d template (Some refused) a.expands (ap report_of_items f.is) in
     subst (IsFormed form.Compressed table s template values) (sym is) f.unlike
 
-as_it_is : (table : List Row) (m : List ℕ) (s : Sections) (template : Tree) (values : Values) (used at : ℕ) (sequences : List Sequence) → length m ≤ max_octets → IsEncodedAgain table sequences m s template values (document_of at s (dump_items_in table template s values))
-    → IsFormed form.AsWritten table s template values (encoding_in form.AsWritten table sequences (document_of at s (dump_items_in table template s values)))
+as_it_is : (table : List Row) (m : List ℕ) (s : Sections) (template : Tree) (values : Values) (used at : ℕ) (sequences : List Sequence) → length m ≤ max_octets → IsEncodedAgain table sequences m s template values (document_of at s (dump_items table s.subsets values))
+    → IsFormed form.AsWritten table s template values (encoding_in form.AsWritten table sequences (document_of at s (dump_items table s.subsets values)))
 as_it_is table m s template values used at sequences h1 h2 = grind (arith, nat_tests, common_steps)
 
 -- the document of an accepted message, in each form
 pub formed : (form : Form) (table : List Row) (sequences : List Sequence) (m : List ℕ) (s : Sections) (template : Tree) (values : Values) (used at : ℕ) → AreGoodRows table → IsLegal template → IsAccepted table sequences m s template values used
-    → IsFormed form table s template values (encoding_in form table sequences (document_of at s (dump_items_in table template s values)))
+    → IsFormed form table s template values (encoding_in form table sequences (document_of at s (dump_items table s.subsets values)))
 formed form.AsWritten table sequences m s template values used at rows legal a =
     as_it_is table m s template values used at sequences a.few (encoded_again table sequences m s template values used at rows legal a)
 formed form.Plain table sequences m s template values used at rows legal a =
     written form.Plain table sequences m s template values used at a tt (filled_plainly table template s used (at + lines_before s) rows legal values a.read)
 formed form.Compressed table sequences m s template values used at rows legal a = by (packedly table template s used (at + lines_before s) rows legal values (bits_few m s a.sections a.few) a.read)
   where
-    by : IsFilled true table template s values (subset_entries (at + lines_before s) (dump_items_in table template s values)) ⊎ IsUnfilled table template (subset_entries (at + lines_before s) (dump_items_in table template s values))
-        → IsFormed form.Compressed table s template values (encoding_in form.Compressed table sequences (document_of at s (dump_items_in table template s values)))
+    by : IsFilled true table template s values (subset_entries (at + lines_before s) (dump_items table s.subsets values)) ⊎ IsUnfilled table template (subset_entries (at + lines_before s) (dump_items table s.subsets values))
+        → IsFormed form.Compressed table s template values (encoding_in form.Compressed table sequences (document_of at s (dump_items table s.subsets values)))
     by (inl f) = written form.Compressed table sequences m s template values used at a tt f
     by (inr f) = not_written table sequences m s template values used at a f
 
@@ -395,26 +370,23 @@ formed form.Compressed table sequences m s template values used at rows legal a 
 pub answered : (form : Form) (table : List Row) (s : Sections) (template : Tree) (values : Values) (defined : Result (List ℕ) RefusedAt) (why : DocumentFault) → IsFormed form table s template values defined → IsDocumentRefusal (reported_refusal why) defined → IsFaultIn form why
 answered form table s template values defined why h1 h2 = grind (arith, nat_tests, common_steps)
 
-pub answered_well : (form : Form) (table : List Row) (s : Sections) (template : Tree) (values : Values) (defined : Result (List ℕ) RefusedAt) (octets : List ℕ) → IsFormed form table s template values defined → defined ≡ Ok octets → HasReadingIn form table s template values octets
-answered_well form table s template values defined octets h e = subst (IsFormed form table s template values) e h
-
 -- the document of a message that a table of records accepts
 pub formed_of : (form : Form) (records : List Record) (table : List Row) (sequences : List Sequence) (m : List ℕ) (s : Sections) (template : Tree) (values : Values) (used at : ℕ) (d : Document) → AreRows records table → IsAccepted table sequences m s template values used
-    → d ≡ document_of at s (dump_items_in table template s values) → IsFormed form table s template values (encoding_in form table sequences d)
+    → d ≡ document_of at s (dump_items table s.subsets values) → IsFormed form table s template values (encoding_in form table sequences d)
 formed_of form records table sequences m s template values used at d rows a same =
     subst (λ (x : Document). IsFormed form table s template values (encoding_in form table sequences x)) (sym same)
     (formed form table sequences m s template values used at (good-rows table (rows-read records table rows)) (tree_fine (tables_of table sequences) s.descriptors template a.expands).legal a)
 
 pub form_so : (form : Form) (table : List Row) (s : Sections) (template : Tree) (values : Values) (defined : Result (List ℕ) RefusedAt) (r : Result (Vec ℕ Global) DocumentFault) → IfOk r (λ octets. defined ≡ Ok octets.items) → IfErr r (λ why. IsDocumentRefusal (reported_refusal why) defined)
     → IsFormed form table s template values defined → EncodesForm form table s template values r
-form_so form table s template values defined (Ok octets) ok err h = answered_well form table s template values defined octets.items h ok
+form_so form table s template values defined (Ok octets) ok err h = subst (IsFormed form table s template values) ok h
 form_so form table s template values defined (Err why) ok err h = answered form table s template values defined why h err
 
 -- A message in another form is accepted, and its dump text differs in the flag alone. From it a
 -- canonical message comes back in its own form.
 
 -- in the form that is asked for, a document is encoded alike whatever it says of its form
-in_the_form : (table : List Row) (sequences : List Sequence) (at : ℕ) (s : Sections) (said flag : Bool) (items : List (List DumpItem))
+in_the_form : (table : List Row) (sequences : List Sequence) (at : ℕ) (s : Sections) (said flag : Bool) (items : List (List View))
     → encoding_in (form_of_flag flag) table sequences (document_of at (record s { compressed = said }) items) ≡ encoding_of table sequences (document_of at (record s { compressed = flag }) items)
 unfolding encoding_in
 in_the_form table sequences at s said true items = refl
@@ -422,10 +394,10 @@ in_the_form table sequences at s said false items = refl
 
 pub canonical_back : (form : Form) (table : List Row) (sequences : List Sequence) (m : List ℕ) (s : Sections) (template : Tree) (values : Values) (used at : ℕ) (octets : List ℕ) → AreGoodRows table → IsLegal template
     → IsAccepted table sequences m s template values used → IsCanonical m s values used → (again : HasReadingIn form table s template values octets)
-    → encoding_in (form_of_flag s.compressed) table sequences (document_of at again.sections (dump_items_in table template again.sections again.found)) ≡ Ok m
+    → encoding_in (form_of_flag s.compressed) table sequences (document_of at again.sections (dump_items table again.sections.subsets again.found)) ≡ Ok m
 canonical_back form table sequences m s template values used at octets rows legal a canonical again =
     let own = form_of_flag s.compressed in
-    let items = dump_items_in table template s values in
+    let items = dump_items table s.subsets values in
     let same = again.same in
     ap (λ xs. encoding_in own table sequences (document_of at again.sections xs)) again.items
     ∙ (λ j. encoding_in own table sequences (document_of at (record {

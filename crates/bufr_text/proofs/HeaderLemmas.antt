@@ -2,16 +2,34 @@
 use Rattle.std.proofs.Common.{◌≡◌, ℕ, ◌+◌, List, [], ◌∷◌, ◌++◌, length, refl, ap, ◌∙◌, subst, sym, arith, zero, suc, ◌-◌, ◌*◌, ◌<◌, ◌≤◌, ◌==◌, nat_le, nat_lt, Bool, true, false, Option, Some, None, codes, if◌then◌else◌, length-append, cond, map, take, drop, get_or, ◌&&◌, not, IfSome, slice_index, option_map, position}
 use Rattle.std.specs.List.{AllByRecursion, position_from}
 use Rattle.bufr_fill.specs.Prelude.{Draft, DraftEntry, Holds, Ends, Subset, prepend_to_subset, subsets_of, DraftValue, number_token, text_form, missing_form, reference_token, draft, HasOctets, AllHaveOctets, AreOctets}
-use Rattle.bufr_text.specs.Prelude.{Document, line_within_limit, edition_in, subsets_in, ParserState, Between, Heading, BeforeSubsets, Filling, Stopped, LineEffect, in_range, heading, before_subsets, filling, beginning, closing, with_value, with_entry, turn, are_in_range, head_from_values, IsHeaded, IsOctet, IsDescriptorWord, AreEnded, IsBare, HasLineGroups, EntryHasOctets, HasSubsets, IsParserState, HoldsAfter, without_space, upper_value, either_value, pair_value, onto_read, hex_read, fxy_read, descriptors_read, number_read, QuotedToken, Octet, quoting_of, quoted_on, quoted_read, is_number_octet, is_passed_after, prefix_while, suffix_while, Line, Passed, Opens, Header, Local1, Section2, Descriptors, Begins, Item, Closes, Wrong, keys, place_from, made, with_one_to, item_if_comment, number_value, value_read, valued, item_line, worded, line_of, leasts, mosts, is_named, lead_of, key_in}
+use Rattle.bufr_text.specs.Prelude.{Document, line_within_limit, edition_in, subsets_in, ParserState, Between, Heading, BeforeSubsets, Filling, Stopped, LineEffect, in_range, heading, before_subsets, filling, beginning, closing, with_entry, turn, are_in_range, head_from_values, IsHeaded, IsOctet, IsDescriptorWord, AreEnded, IsBare, HasLineGroups, EntryHasOctets, HasSubsets, IsParserState, without_space, upper_value, either_value, pair_value, onto_read, hex_read, fxy_read, descriptors_read, number_read, QuotedToken, Octet, quoting_of, quoted_on, quoted_read, is_number_octet, is_passed_after, prefix_while, suffix_while, Line, Passed, Opens, Header, Local1, Section2, Descriptors, Begins, Item, Closes, Wrong, keys, place_from, made, with_one_to, item_if_comment, number_value, value_read, valued, item_line, worded, line_of, leasts, mosts, is_named, lead_of, key_at, WalkGoes, Gives, Faults, IsProper}
 use Rattle.std.specs.Str.{bytes_eq}
 use Rattle.std.proofs.lemmas.Bool.Decides.{nat_tests}
 use Rattle.bufr_bits.proofs.DecimalLemmas.{and_first, and_second}
 use Rattle.bufr_tables.specs.Prelude.{fxy_of, is_fxy, f_in, x_in, y_in}
-use Rattle.bufr_frame.specs.Prelude.{IsFitting, Field, Master, Centre, Subcentre, Update, Flags, Category, Subcategory, LocalSubcategory, MasterVersion, LocalVersion, Year, Month, Day, Hour, Minute, Second, is_edition, most_in, slots_of, slots_3, slots_4}
+use Rattle.bufr_frame.specs.Prelude.{IsFitting, is_edition, mosts_of, values_of}
+use Rattle.bufr_frame.proofs.AgainLemmas.{at-most, by-third}
 use Rattle.std.proofs.lemmas.Iterator.Adapters.{position_from-zero}
-use Rattle.bufr_frame.specs.Section1 as section1
-use Rattle.bufr_text.specs.Line as line
 use Rattle.std.proofs.lemmas.Grind.{common_steps}
+
+-- the document with one more part
+abbrev pub with_value : Document → ℕ → Document
+with_value d value = record d { header = d.header ++ value ∷ [] }
+
+abbrev pub with_local1 : Document → List ℕ → Document
+with_local1 d octets = record d { local1 = d.local1 ++ octets }
+
+abbrev pub with_section2 : Document → List ℕ → Document
+with_section2 d octets = record d { section2 = d.section2 ++ octets }
+
+abbrev pub with_descriptors : Document → List ℕ → Document
+with_descriptors d words = record d { descriptors = d.descriptors ++ words }
+
+-- the same after a turn at a line
+abbrev pub HoldsAfter : (at : ℕ) → LineEffect → Type 0
+HoldsAfter at (WalkGoes place) = IsParserState (at + 1) place
+HoldsAfter at (Gives d) = IsProper d × (length d.entries ≤ at)
+HoldsAfter at (Faults fault) = Unit {0}
 
 -- ---- The entries of a document, and the subsets that they are.
 
@@ -67,14 +85,8 @@ if-some : {X : Type 0} (P : X → Type 0) (b : Bool) (x y : Option X) → (b ≡
 if-some P true x y p q = p refl
 if-some P false x y p q = q refl
 
-lower-small : (c : ℕ) → (nat_le 97 c && nat_le c 102) ≡ true → c - 87 < 16
-lower-small c h = let le : nat_le c 102 ≡ true = and_second (nat_le 97 c) (nat_le c 102) h in grind (arith, nat_tests, le)
-
-upper-digit : (c : ℕ) → IfSome (upper_value c) (λ n. n < 16)
-upper-digit c = grind (arith, nat_tests, common_steps)
-
 either-digit : (c : ℕ) → IfSome (either_value c) (λ n. n < 16)
-either-digit c = if-some (λ n. n < 16) (nat_le 97 c && nat_le c 102) (Some (c - 87)) (upper_value c) (lower-small c) (λ _. upper-digit c)
+either-digit c = if-some (λ n. n < 16) (nat_le 97 c && nat_le c 102) (Some (c - 87)) (upper_value c) (λ h. let le : nat_le c 102 ≡ true = and_second (nat_le 97 c) (nat_le c 102) h in grind (arith, nat_tests, le)) (λ _. grind (arith, nat_tests, common_steps))
 
 pair-octet : (high low : Option ℕ) → IfSome high (λ n. n < 16) → IfSome low (λ n. n < 16) → IfSome (pair_value high low) IsOctet
 pair-octet high low h1 h2 = grind (arith, nat_tests, common_steps)
@@ -91,14 +103,12 @@ hex-octets text = tt
 fxy-fits : (text : List ℕ) → is_fxy text ≡ true → 16384 * f_in text + 256 * x_in text + y_in text < 65536
 fxy-fits text h1 = grind (arith, nat_tests, common_steps, and_first, and_second)
 
-fxy-word : (text : List ℕ) → IfSome (fxy_of text) IsDescriptorWord
-fxy-word text = if-some IsDescriptorWord (is_fxy text) (Some (16384 * f_in text + 256 * x_in text + y_in text)) None (fxy-fits text) (λ _. tt)
-
 descriptors-words : (text : List ℕ) → IfSome (descriptors_read text) (λ l. AllByRecursion IsDescriptorWord l)
 unfolding descriptors_read
 descriptors-words (s ∷ a ∷ b ∷ c ∷ d ∷ e ∷ g ∷ more) =
-    if-some (λ l. AllByRecursion IsDescriptorWord l) (s == 32) (onto_read (fxy_of (a ∷ b ∷ c ∷ d ∷ e ∷ g ∷ [])) (descriptors_read more)) None
-    (λ _. onto-all IsDescriptorWord (fxy_of (a ∷ b ∷ c ∷ d ∷ e ∷ g ∷ [])) (descriptors_read more) (fxy-word (a ∷ b ∷ c ∷ d ∷ e ∷ g ∷ [])) (descriptors-words more)) (λ _. tt)
+    let word = a ∷ b ∷ c ∷ d ∷ e ∷ g ∷ [] in
+    if-some (λ l. AllByRecursion IsDescriptorWord l) (s == 32) (onto_read (fxy_of word) (descriptors_read more)) None
+    (λ _. onto-all IsDescriptorWord (fxy_of word) (descriptors_read more) (if-some IsDescriptorWord (is_fxy word) (Some (16384 * f_in word + 256 * x_in word + y_in word)) None (fxy-fits word) (λ _. tt)) (descriptors-words more)) (λ _. tt)
 descriptors-words text = tt
 
 -- texts
@@ -197,22 +207,22 @@ both a b h k = rw (h, k) refl
 below : (a b c : ℕ) → (nat_le a b && nat_le b c) ≡ true → b ≤ c
 below a b c h = let le : nat_le b c ≡ true = and_second (nat_le a b) (nat_le b c) h in grind (arith, nat_tests, le)
 
-value-most : (e k i : ℕ) (xs : List ℕ) → are_in_range e k xs ≡ true → slice_index xs i ≤ slice_index (mosts (slots_of e)) (k + i)
+value-most : (e k i : ℕ) (xs : List ℕ) → are_in_range e k xs ≡ true → slice_index xs i ≤ slice_index (mosts e) (k + i)
 value-most e k i [] h = omega arith
 value-most e k zero (x ∷ xs) h =
     let same : k + 0 ≡ k = omega arith in
-    subst (λ (n : ℕ). x ≤ slice_index (mosts (slots_of e)) n) (sym same) (below (slice_index leasts k) x (slice_index (mosts (slots_of e)) k) (and_first (in_range e k x) (are_in_range e (k + 1) xs) h))
+    subst (λ (n : ℕ). x ≤ slice_index (mosts e) n) (sym same) (below (slice_index leasts k) x (slice_index (mosts e) k) (and_first (in_range e k x) (are_in_range e (k + 1) xs) h))
 value-most e k (suc i) (x ∷ xs) h =
     let same : k + 1 + i ≡ k + suc i = omega arith in
-    subst (λ (n : ℕ). slice_index xs i ≤ slice_index (mosts (slots_of e)) n) same (value-most e (k + 1) i xs (and_second (in_range e k x) (are_in_range e (k + 1) xs) h))
+    subst (λ (n : ℕ). slice_index xs i ≤ slice_index (mosts e) n) same (value-most e (k + 1) i xs (and_second (in_range e k x) (are_in_range e (k + 1) xs) h))
 
-pub header-most : (d : Document) (i : ℕ) → IsHeaded d → slice_index d.header i ≤ slice_index (mosts (slots_of (edition_in d))) i
+pub header-most : (d : Document) (i : ℕ) → IsHeaded d → slice_index d.header i ≤ slice_index (mosts (edition_in d)) i
 header-most d i h =
     let same : 0 + i ≡ i = omega arith in
-    subst (λ (n : ℕ). slice_index d.header i ≤ slice_index (mosts (slots_of (edition_in d))) n) same (value-most (edition_in d) 0 i d.header h.ranges)
+    subst (λ (n : ℕ). slice_index d.header i ≤ slice_index (mosts (edition_in d)) n) same (value-most (edition_in d) 0 i d.header h.ranges)
 
 pub subsets-few : (d : Document) → IsHeaded d → subsets_in d < 65536
-unfolding keys
+unfolding mosts
 subsets-few d h = let most : slice_index d.header 19 ≤ 65535 = header-most d 19 h in omega (arith, most)
 
 -- no range of edition 3 is wider than that of edition 4
@@ -228,13 +238,21 @@ no-wider (a ∷ xs) [] i h = absurd cc
 no-wider (a ∷ xs) (b ∷ bs) zero h = let le : nat_le a b ≡ true = and_first (nat_le a b) (none-above xs bs) h in grind (arith, nat_tests, le)
 no-wider (a ∷ xs) (b ∷ bs) (suc i) h = no-wider xs bs i (and_second (nat_le a b) (none-above xs bs) h)
 
-widest : (third : Bool) (i : ℕ) → slice_index (mosts (if third then slots_3 else slots_4)) i ≤ slice_index (mosts slots_4) i
-unfolding keys none-above
-widest false i = omega arith
-widest true i = no-wider (mosts slots_3) (mosts slots_4) i refl
+widest : (e i : ℕ) → slice_index (mosts e) i ≤ slice_index (mosts 4) i
+unfolding none-above mosts
+widest e i = by-third (λ l. slice_index (4 ∷ l ++ 1 ∷ 1 ∷ 1 ∷ 65535 ∷ []) i ≤ slice_index (mosts 4) i) e (no-wider (mosts 3) (mosts 4) i refl) (omega arith)
 
-pub header-widest : (d : Document) (i : ℕ) → IsHeaded d → slice_index d.header i ≤ slice_index (mosts slots_4) i
-header-widest d i h = omega (arith, header-most d i h, widest (edition_in d == 3) i)
+-- the greatest values of another edition than 3 are those of edition 4
+pub mosts-of-4 : (e : ℕ) → (e ≡ 3 → ⊥) → mosts e ≡ mosts 4
+unfolding mosts
+mosts-of-4 e other =
+    let no : (e == 3) ≡ false = grind (arith, nat_tests, other) in
+    let P : Bool → Type 0 = λ third. (let wide = if third then 255 else 65535 in let late = if third then 0 else 255 in
+    4 ∷ (255 ∷ wide ∷ wide ∷ 255 ∷ 255 ∷ 255 ∷ late ∷ 255 ∷ 255 ∷ wide ∷ 255 ∷ 255 ∷ 255 ∷ 255 ∷ late ∷ []) ++ 1 ∷ 1 ∷ 1 ∷ 65535 ∷ []) ≡ mosts 4 in
+    subst P (sym no) refl
+
+pub header-widest : (d : Document) (i : ℕ) → IsHeaded d → slice_index d.header i ≤ slice_index (mosts 4) i
+header-widest d i h = omega (arith, header-most d i h, widest (edition_in d) i)
 
 -- the head can be written
 value-least : (e : ℕ) (xs : List ℕ) → 0 < length xs → are_in_range e 0 xs ≡ true → in_range e 0 (slice_index xs 0) ≡ true
@@ -245,26 +263,12 @@ known : (n : ℕ) → (nat_le 3 n && nat_le n 4) ≡ true → is_edition n ≡ t
 known n h1 = grind (arith, nat_tests, common_steps)
 
 pub headed-fits : (d : Document) → IsHeaded d → IsFitting (head_from_values d)
-unfolding keys
-headed-fits d h = record { edition = known (edition_in d) (value-least (edition_in d) d.header (omega (arith, h.whole)) h.ranges); fits = fits d h }
-  where
-    fits : (d : Document) → IsHeaded d → (field : Field) → section1.head_value (head_from_values d) false field ≤ most_in (slots_of (edition_in d)) field
-    fits d h Master = header-most d 1 h
-    fits d h Centre = header-most d 2 h
-    fits d h Subcentre = header-most d 3 h
-    fits d h Update = header-most d 4 h
-    fits d h Flags = omega arith
-    fits d h Category = header-most d 5 h
-    fits d h Subcategory = header-most d 6 h
-    fits d h LocalSubcategory = header-most d 7 h
-    fits d h MasterVersion = header-most d 8 h
-    fits d h LocalVersion = header-most d 9 h
-    fits d h Year = header-most d 10 h
-    fits d h Month = header-most d 11 h
-    fits d h Day = header-most d 12 h
-    fits d h Hour = header-most d 13 h
-    fits d h Minute = header-most d 14 h
-    fits d h Second = header-most d 15 h
+unfolding leasts mosts
+headed-fits d h = record {
+  edition = known (edition_in d) (value-least (edition_in d) d.header (omega (arith, h.whole)) h.ranges);
+  fits = at-most (values_of (head_from_values d)) (mosts_of (edition_in d))
+      (header-most d 1 h, (header-most d 2 h, (header-most d 3 h, (header-most d 4 h, (header-most d 5 h, (header-most d 6 h, (header-most d 7 h, (header-most d 8 h, (header-most d 9 h, (header-most d 10 h, (header-most d 11 h, (header-most d 12 h, (header-most d 13 h, (header-most d 14 h, (header-most d 15 h, tt)))))))))))))));
+}
 
 -- one more value in its range
 ranges-more : (e k : ℕ) (xs : List ℕ) (v : ℕ) → are_in_range e k xs ≡ true → in_range e (k + length xs) v ≡ true → are_in_range e k (xs ++ v ∷ []) ≡ true
@@ -278,7 +282,7 @@ ranges-more e k (x ∷ xs) v h g =
 
 -- the range of the edition itself goes by no edition
 pub any-edition : (a b v : ℕ) → in_range a 0 v ≡ in_range b 0 v
-unfolding keys
+unfolding mosts
 any-edition a b v = refl
 
 ranges-again : (xs : List ℕ) (v : ℕ) → are_in_range (slice_index xs 0) 0 xs ≡ true → in_range (slice_index xs 0) (length xs) v ≡ true → are_in_range (slice_index (xs ++ v ∷ []) 0) 0 (xs ++ v ∷ []) ≡ true
@@ -382,12 +386,12 @@ turn-holds at place line some sound s = tt
 -- ---- The table of the keys of the header, beside its definition.
 
 -- what is before the value of a key has the key's name and no other
-named : (key : line.Key) (name : List ℕ) → is_named (lead_of key) name ≡ bytes_eq name key.name
+named : (key : List ℕ) (name : List ℕ) → is_named (lead_of key) name ≡ bytes_eq name key
 named key name = grind (arith, nat_tests, common_steps)
 
 -- the place of a key is that of what is before its value
 module _ {Row : Type 0} (lead : Row → List ℕ) (name : List ℕ) where
-  places : (at : ℕ) (rows : List Row) (ks : List line.Key) → map lead rows ≡ map lead_of ks → position_from (λ row. is_named (lead row) name) at rows ≡ place_from at name ks
+  places : (at : ℕ) (rows : List Row) (ks : List (List ℕ)) → map lead rows ≡ map lead_of ks → position_from (λ row. is_named (lead row) name) at rows ≡ place_from at name ks
   unfolding place_from
   places at [] [] same = refl
   places at [] (k ∷ ks) same = cc
@@ -397,14 +401,14 @@ module _ {Row : Type 0} (lead : Row → List ℕ) (name : List ℕ) where
       let there : map lead rows ≡ map lead_of ks = cc in
       let rest : Option ℕ = position_from (λ row. is_named (lead row) name) (at + 1) rows in
       ap (λ (b : Bool). cond b (Some at) rest) (ap (λ (l : List ℕ). is_named l name) here ∙ named k name)
-      ∙ ap (λ (o : Option ℕ). cond (bytes_eq name k.name) (Some at) o) (places (at + 1) rows ks there)
+      ∙ ap (λ (o : Option ℕ). cond (bytes_eq name k) (Some at) o) (places (at + 1) rows ks there)
 
   pub place-is : (rows : List Row) → map lead rows ≡ map lead_of keys → position (λ row. is_named (lead row) name) rows ≡ place_from 0 name keys
   place-is rows same = position_from-zero (λ row. is_named (lead row) name) rows ∙ places 0 rows keys same
 
 -- what is before a value has the key's name and a space after its first octet
 module _ {Row : Type 0} (lead : Row → List ℕ) where
-  lead_at : (rows : List Row) (ks : List line.Key) (i : ℕ) (d : Row) → map lead rows ≡ map lead_of ks → i < length rows → lead (get_or rows i d) ≡ lead_of (key_in ks i)
+  lead_at : (rows : List Row) (ks : List (List ℕ)) (i : ℕ) (d : Row) → map lead rows ≡ map lead_of ks → i < length rows → lead (get_or rows i d) ≡ lead_of (get_or ks i [])
   lead_at [] ks i d same below = absurd (omega (arith, below))
   lead_at (row ∷ rows) [] i d same below = absurd cc same
   lead_at (row ∷ rows) (k ∷ ks) zero d same below = cc
@@ -417,11 +421,17 @@ module _ {Row : Type 0} (lead : Row → List ℕ) where
   take_all (x ∷ xs) = ap (λ l. x ∷ l) (take_all xs)
 
   pub word_there : (rows : List Row) (i : ℕ) (row : Row) → map lead rows ≡ map lead_of keys → i < length rows → row ≡ get_or rows i row
-      → take (length (lead row) - 1) (drop 1 (lead row)) ≡ (key_in keys i).name ++ 32 ∷ []
+      → take (length (lead row) - 1) (drop 1 (lead row)) ≡ key_at i ++ 32 ∷ []
   word_there rows i row same below is =
-      let is_lead : lead row ≡ lead_of (key_in keys i) = ap lead is ∙ lead_at rows keys i row same below in
-      let word : List ℕ = (key_in keys i).name ++ 32 ∷ [] in
+      let is_lead : lead row ≡ lead_of (key_at i) = ap lead is ∙ lead_at rows keys i row same below in
+      let word : List ℕ = key_at i ++ 32 ∷ [] in
       let count : length (10 ∷ word) - 1 ≡ length word = omega arith in
       ap (λ l. take (length l - 1) (drop 1 l)) is_lead ∙ ap (λ n. take n word) count ∙ take_all word
 
 pub ruleset octet_steps = (header-widest)
+
+-- what a table says of a key
+pub at-key : {X : Type 0} (f : X → ℕ) (rows : List X) (k : ℕ) (none : X) → k < length rows → f (get_or rows k none) ≡ slice_index (map f rows) k
+at-key f [] k none h = absurd (omega (arith, h))
+at-key f (x ∷ rows) zero none h = refl
+at-key f (x ∷ rows) (suc k) none h = at-key f rows k none (omega (arith, h))

@@ -8,8 +8,8 @@ use Rattle.std.proofs.lemmas.Grind.{common_steps}
 use Rattle.std.proofs.lemmas.List.{drop_all}
 use Rattle.bufr_bits.proofs.DecimalLemmas.{and_first, and_second}
 use Rattle.bufr_tables.specs.Prelude.{fxy_of, is_fxy, f_in, x_in, y_in}
-use Rattle.bufr_text.specs.Prelude.{prefix_while, suffix_while, without_space, without_prefix, fxy_read, is_number_octet, is_hashed, is_passed_after, hex_read, onto_read, descriptors_read, either_value, pair_value, QuotedToken, Closed, Octet, Nothing, is_unescaped, upper_value, says_pair, escape_of, quoting_of, octet_onto, quoted_on, quoted_read, Describes, Unhexes, Unquotes, value_read, text_value, number_value, missing_value, Passed, Item, Local1, Section2, made, with_one_to, item_line, worded, line_of, is_no_space, Descriptors, Wrong}
-use Rattle.bufr_fill.specs.Prelude.{number_token, reference_token, DraftValue}
+use Rattle.bufr_text.specs.Prelude.{prefix_while, suffix_while, without_space, without_prefix, fxy_read, is_number_octet, is_hashed, is_passed_after, hex_read, onto_read, descriptors_read, either_value, pair_value, QuotedToken, Closed, Octet, Nothing, is_unescaped, upper_value, says_pair, escape_of, quoting_of, octet_onto, quoted_on, quoted_read, Describes, Unhexes, Unquotes, value_read, number_value, Passed, Item, Local1, Section2, made, with_one_to, item_line, worded, line_of, is_no_space, Descriptors, Wrong}
+use Rattle.bufr_fill.specs.Prelude.{number_token, reference_token, DraftValue, text_form, missing_form}
 use Rattle.memchr.specs.Find.{IsFirstByte, is_byte}
 use Rattle.std.specs.Char.{is_ascii_digit}
 use Rattle.std.proofs.Math.Seq.{drop-nil}
@@ -103,6 +103,12 @@ unfolding prefix_while suffix_while
 token-end text at h1 h2 = grind (arith, nat_tests, common_steps)
 
 -- values
+abbrev text_value : List ℕ → Option (DraftValue × List ℕ)
+text_value text = option_map (λ read. (text_form (read.0), read.1)) (quoted_read 0 text)
+
+abbrev missing_value : List ℕ → Option (DraftValue × List ℕ)
+missing_value text = option_map (λ rest. (missing_form, rest)) (without_prefix (codes "MISSING") text)
+
 pub value-quote : (text : List ℕ) → slice_index text 0 ≡ 34 → value_read text ≡ text_value (drop 1 text)
 unfolding value_read
 value-quote [] e = absurd (omega arith)
@@ -470,13 +476,10 @@ quoting-by text false true c = escape-by text ((slice_index text 1 == 34) || (sl
 quoting-by text false false true = (omega arith, λ some. omega arith)
 quoting-by text false false false = (omega arith, λ some. omega arith)
 
-quoting-in : (text : List ℕ) → IsIn text (quoting_of text)
-quoting-in text = quoting-by text (slice_index text 0 == 34) (slice_index text 0 == 92) (is_unescaped (slice_index text 0))
-
 pub says-in : (text : List ℕ) (octet written : ℕ) → Octet octet written ≡ quoting_of text → 0 < length text → (1 ≤ written) × (written ≤ length text)
 unfolding IsIn written-in
 says-in text octet written e some =
-    let q : IsIn text (Octet octet written) = subst (IsIn text) (sym e) (quoting-in text) in
+    let q : IsIn text (Octet octet written) = subst (IsIn text) (sym e) (quoting-by text (slice_index text 0 == 34) (slice_index text 0 == 92) (is_unescaped (slice_index text 0))) in
     (q.0, q.1 some)
 
 -- what is read after an octet

@@ -1,18 +1,19 @@
 -- What the lines of a text spell, and the laws on what a reading reports.
-use Rattle.std.proofs.Common.{inl, inr, ◌⊎◌, ◌≡◌, ◌∙◌, ℕ, ◌+◌, ◌≤◌, ◌==◌, ◌&&◌, nat_le, not, Bool, true, false, if◌then◌else◌, List, [], ◌∷◌, ◌++◌, length, map, refl, sym, ap, subst, arith, append_assoc, append-nil, length-append, ◌<◌, codes, Option, Some, None, slice_index, is_some, unwrap_or}
+use Rattle.std.proofs.Common.{zero, suc, inl, inr, ◌⊎◌, ◌≡◌, ◌∙◌, ℕ, ◌+◌, ◌≤◌, ◌==◌, ◌&&◌, nat_le, not, Bool, true, false, if◌then◌else◌, List, [], ◌∷◌, ◌++◌, length, map, refl, sym, ap, subst, arith, append_assoc, append-nil, length-append, ◌<◌, codes, Option, Some, None, slice_index, is_some, unwrap_or}
 use Rattle.std.specs.List.{concat, AllByRecursion}
 use Rattle.std.proofs.lemmas.Bool.Decides.{nat_tests}
 use Rattle.std.proofs.lemmas.List.{map-append, length-map}
 use Rattle.bufr_bits.proofs.DecimalLemmas.{and_first, and_second}
 use Rattle.bufr_fill.specs.Prelude.{DraftValue, draft, DraftEntry, Holds, Ends}
-use Rattle.bufr_text.specs.Prelude.{Document, edition_in, optional_in, subsets_in, ParserState, Between, Heading, BeforeSubsets, Filling, Stopped, LineEffect, WalkGoes, Gives, Faults, NotAllowed, SubsetCount, HeaderRange, in_range, heading, beginning, closing, with_value, with_local1, with_section2, with_descriptors, with_entry, turn, line_within_limit, parse_lines, place_after, reported_at, reported_at_end, lines_of, documents_of, blank, Complete, Line, Passed, Opens, Header, Local1, Section2, Descriptors, Begins, Item, Closes, keys, NumberedLine, numbered_line, onto_heard, numbered_lines, header_says, Element, SubsetHeard, subsets_heard, first_at, entries_heard, IsDocument, AreReported, IsProperlyReported, AreProper, IsBare, IsParserState, HoldsAfter, header_lines, local1_line, section2_line, descriptors_line, subset_line, subset_lines, item_text, dump_value_of, item_entries, subset_entries, IsOctet, IsDescriptorWord, IsItem, header_of, bit, head_lines, dump_lines, dump_text_of, document_of, lines_before, IsDumpable, runs_of, runs_after}
+use Rattle.bufr_text.specs.Prelude.{leasts, mosts, Document, edition_in, optional_in, subsets_in, ParserState, Between, Heading, BeforeSubsets, Filling, Stopped, LineEffect, WalkGoes, Gives, Faults, NotAllowed, SubsetCount, HeaderRange, in_range, heading, beginning, closing, with_entry, turn, line_within_limit, parse_lines, place_after, reported_at, reported_at_end, lines_of, documents_of, blank, Complete, Line, Passed, Opens, Header, Local1, Section2, Descriptors, Begins, Item, Closes, NumberedLine, numbered_line, onto_heard, numbered_lines, header_says, Element, SubsetHeard, subsets_heard, first_at, entries_heard, IsDocument, AreReported, IsProperlyReported, AreProper, IsBare, IsParserState, header_lines, local1_line, section2_line, descriptors_line, subset_line, subset_lines, item_text, dump_value_of, item_entries, subset_entries, IsOctet, IsDescriptorWord, IsItem, header_of, bit, head_lines, dump_lines, dump_text_of, document_of, lines_before, IsDumpable, runs_of, runs_after}
 use Rattle.bufr_text.proofs.ReaderLemmas.{stopped-reports}
-use Rattle.bufr_text.proofs.HeaderLemmas.{turn-holds, all-more, said-sound, any-edition}
-use Rattle.bufr_text.proofs.LineLemmas.{IsLineOf, header-line, local1-line, section2-line, descriptors-line, subset-line, item-line, end-line, IsRun, message-line, runs-are, concat-runs, IsAbove, lines-back}
-use Rattle.bufr_frame.specs.Prelude.{IsFitting, Field, Master, Centre, Subcentre, Update, Category, Subcategory, LocalSubcategory, MasterVersion, LocalVersion, Year, Month, Day, Hour, Minute, Second, Slot, Single, Double, is_edition, is_for, most, most_in, slots_of, Sections}
-use Rattle.bufr_text.specs.Dump as dump
-use Rattle.bufr_frame.specs.Section1 as section1
+use Rattle.bufr_text.proofs.HeaderLemmas.{turn-holds, all-more, said-sound, any-edition, HoldsAfter, with_value, with_local1, with_section2, with_descriptors}
+use Rattle.bufr_text.proofs.LineLemmas.{IsLineOf, header-line, local1-line, section2-line, descriptors-line, subset-line, item-line, end-line, IsRun, message-line, runs-after, concat-after, IsAbove, lines-back}
+use Rattle.bufr_frame.specs.Prelude.{IsFitting, is_edition, mosts_of, values_of, Sections}
+use Rattle.bufr_frame.proofs.AgainLemmas.{by-third}
+use Rattle.std.specs.List.{list_all}
 use Rattle.std.proofs.lemmas.Grind.{common_steps}
+use Rattle.bufr_walk.specs.Prelude.{View}
 
 abbrev says : List NumberedLine → List Line
 says lines = map (λ l. l.says) lines
@@ -484,9 +485,6 @@ first-stays : (xs ys : List ℕ) → 0 < length xs → slice_index (xs ++ ys) 0 
 first-stays [] ys some = absurd (omega (arith, some))
 first-stays (x ∷ xs) ys some = refl
 
-edition-stays : (edition k : ℕ) (d : Document) (value : ℕ) → 0 < k → k ≡ length d.header → edition_in d ≡ edition → edition_in (with_value d value) ≡ edition
-edition-stays edition k d value suffix is same = first-stays d.header (value ∷ []) (omega (arith, suffix, is)) ∙ same
-
 ranged : (edition k value : ℕ) (d : Document) → edition_in d ≡ edition → in_range edition k value ≡ true → in_range (edition_in d) k value ≡ true
 ranged edition k value d same range = ap (λ (n : ℕ). in_range n k value) same ∙ range
 
@@ -500,7 +498,7 @@ run-on edition k value [] d at more suffix count is same (range, small, rest) =
     ∙ ap (λ n. parse_lines n (BeforeSubsets 0 (with_value d value)) more) (omega arith)
 run-on edition k value (v ∷ values) d at more suffix count is same (range, small, rest) =
     goes at (Heading d) (Heading (with_value d value)) _ (Header k value) (header_lines (k + 1) (v ∷ values) ++ more) (header-line k value (omega (arith, count)) small) (rw (same-key k d is, ranged edition k value d same range, not-last k (omega (arith, count))) refl)
-    ∙ run-on edition (k + 1) v values (with_value d value) (at + 1) more (omega arith) (omega (arith, count)) (omega (arith, length-append d.header (value ∷ []), is)) (edition-stays edition k d value suffix is same) rest
+    ∙ run-on edition (k + 1) v values (with_value d value) (at + 1) more (omega arith) (omega (arith, count)) (omega (arith, length-append d.header (value ∷ []), is)) (first-stays d.header (value ∷ []) (omega (arith, suffix, is)) ∙ same) rest
     ∙ ap (λ (t : List ℕ). parse_lines (at + 1 + 1 + length values) (BeforeSubsets 0 (with_header d t)) more) (append_assoc d.header (value ∷ []) (v ∷ values))
     ∙ ap (λ n. parse_lines n (BeforeSubsets 0 (with_header d (d.header ++ value ∷ v ∷ values))) more) (omega arith)
 
@@ -567,7 +565,7 @@ descriptors-run (run ∷ runs) part d at more (here, all) =
 abbrev pub with_entries : Document → List DraftEntry → Document
 with_entries d entries = record d { entries = d.entries ++ entries }
 
-items-run : (items : List dump.DumpItem) (subset : ℕ) (d : Document) (at : ℕ) (more : List (List ℕ)) → AllByRecursion IsItem items
+items-run : (items : List View) (subset : ℕ) (d : Document) (at : ℕ) (more : List (List ℕ)) → AllByRecursion IsItem items
     → parse_lines at (Filling subset d) (map item_text items ++ more) ≡ parse_lines (at + length items) (Filling subset (with_entries d (item_entries at items))) more
 unfolding turn item_entries
 items-run [] subset d at more all =
@@ -579,19 +577,19 @@ items-run (item ∷ items) subset d at more (here, all) =
     ∙ ap (λ (t : List DraftEntry). parse_lines (at + 1 + length items) (Filling subset (record d { entries = t })) more) (append_assoc d.entries (one ∷ []) (item_entries (at + 1) items))
     ∙ ap (λ n. parse_lines n (Filling subset (with_entries d (item_entries at (item ∷ items)))) more) (omega arith)
 
-subset-lines-count : (n : ℕ) (items : List dump.DumpItem) (subsets : List (List dump.DumpItem)) → length (subset_lines n (items ∷ subsets)) ≡ 1 + length items + length (subset_lines (n + 1) subsets)
+subset-lines-count : (n : ℕ) (items : List View) (subsets : List (List View)) → length (subset_lines n (items ∷ subsets)) ≡ 1 + length items + length (subset_lines (n + 1) subsets)
 unfolding subset_lines
 subset-lines-count n items subsets = omega (arith, length-append (map item_text items) (subset_lines (n + 1) subsets), length-map items item_text)
 
 -- a subset begins and its items follow
-subset-run : (items : List dump.DumpItem) (subset : ℕ) (d : Document) (at : ℕ) (place : ParserState) (tail more : List (List ℕ)) → subset < 65536 → AllByRecursion IsItem items → turn at place (Begins subset) ≡ WalkGoes (Filling subset d)
+subset-run : (items : List View) (subset : ℕ) (d : Document) (at : ℕ) (place : ParserState) (tail more : List (List ℕ)) → subset < 65536 → AllByRecursion IsItem items → turn at place (Begins subset) ≡ WalkGoes (Filling subset d)
     → parse_lines at place ((subset_line subset ∷ (map item_text items ++ tail)) ++ more) ≡ parse_lines (at + 1 + length items) (Filling subset (with_entries d (item_entries (at + 1) items))) (tail ++ more)
 subset-run items subset d at place tail more few all begins =
     goes at place (Filling subset d) _ (Begins subset) ((map item_text items ++ tail) ++ more) (subset-line subset few) begins
     ∙ ap (parse_lines (at + 1) (Filling subset d)) (append_assoc (map item_text items) tail more)
     ∙ items-run items subset d (at + 1) (tail ++ more) all
 
-subsets-run : (subsets : List (List dump.DumpItem)) (n : ℕ) (d : Document) (at : ℕ) (more : List (List ℕ)) → n + length subsets ≡ subsets_in d → subsets_in d < 65536 → AllByRecursion (λ items. AllByRecursion IsItem items) subsets
+subsets-run : (subsets : List (List View)) (n : ℕ) (d : Document) (at : ℕ) (more : List (List ℕ)) → n + length subsets ≡ subsets_in d → subsets_in d < 65536 → AllByRecursion (λ items. AllByRecursion IsItem items) subsets
     → parse_lines at (Filling n d) (subset_lines (n + 1) subsets ++ codes "end" ∷ more)
     ≡ Complete (with_entries d (Ends at ∷ subset_entries at subsets)) ∷ parse_lines (at + length (subset_lines (n + 1) subsets) + 1) Between more
 unfolding turn subset_entries subset_lines
@@ -613,7 +611,7 @@ subsets-run (items ∷ subsets) n d at more stated few (here, all) =
     ∙ ap (λ k. Complete (with_entries d (Ends at ∷ subset_entries at (items ∷ subsets))) ∷ parse_lines k Between more) (omega (arith, subset-lines-count (n + 1) items subsets))
 
 -- the subsets and the end, where they are after the parts before them
-pub subsets-written : (subsets : List (List dump.DumpItem)) (part : ℕ) (d : Document) (at : ℕ) (more : List (List ℕ)) → d.entries ≡ [] → length subsets ≡ subsets_in d → subsets_in d < 65536 → AllByRecursion (λ items. AllByRecursion IsItem items) subsets
+pub subsets-written : (subsets : List (List View)) (part : ℕ) (d : Document) (at : ℕ) (more : List (List ℕ)) → d.entries ≡ [] → length subsets ≡ subsets_in d → subsets_in d < 65536 → AllByRecursion (λ items. AllByRecursion IsItem items) subsets
     → parse_lines at (BeforeSubsets part d) (subset_lines 1 subsets ++ codes "end" ∷ more)
     ≡ Complete (with_entries d (subset_entries at subsets)) ∷ parse_lines (at + length (subset_lines 1 subsets) + 1) Between more
 unfolding turn subset_entries subset_lines
@@ -640,30 +638,24 @@ bit-few : (on : Bool) → bit on ≤ 1
 bit-few true = omega arith
 bit-few false = omega arith
 
-most-few : (slots : List Slot) (field : Field) → most_in slots field ≤ 65535
-most-few [] field = omega arith
-most-few (slot ∷ more) field = pick (is_for field slot) (most slot) (most_in more field) (widest slot) (most-few more field)
-  where
-    widest : (slot : Slot) → most slot ≤ 65535
-    widest (Single field) = omega arith
-    widest (Double field) = omega arith
-
-    pick : (b : Bool) (x y : ℕ) → x ≤ 65535 → y ≤ 65535 → (if b then x else y) ≤ 65535
-    pick true x y h k = h
-    pick false x y h k = k
+all-few : (xs : List ℕ) (i : ℕ) → list_all (λ n. nat_le n 65535) xs ≡ true → slice_index xs i ≤ 65535
+all-few [] i all = omega arith
+all-few (x ∷ xs) zero all = grind (arith, nat_tests, common_steps)
+all-few (x ∷ xs) (suc i) all = all-few xs i (grind (arith, common_steps))
 
 edition-few : (edition : ℕ) → is_edition edition ≡ true → ((nat_le 3 edition && nat_le edition 4) ≡ true) × (edition < 65536)
 edition-few edition h1 = grind (arith, nat_tests, common_steps)
 
 header-fits : (s : Sections) → IsFitting s.head → s.subsets < 65536 → InRange s.head.edition 0 (header_of s)
-unfolding keys
+unfolding leasts mosts
 header-fits s h few =
-    let slots = slots_of s.head.edition in
-    let held : (field : Field) → (((nat_le 0 (section1.head_value s.head false field) && nat_le (section1.head_value s.head false field) (most_in slots field)) ≡ true) × (section1.head_value s.head false field < 65536)) =
-    λ field. (up_to 0 (most_in slots field) (section1.head_value s.head false field) (omega arith) (h.fits field), omega (arith, h.fits field, most-few slots field)) in
+    let vs = values_of s.head in
+    let ms = mosts_of s.head.edition in
+    let held : (i : ℕ) → (((nat_le 0 (slice_index vs i) && nat_le (slice_index vs i) (slice_index ms i)) ≡ true) × (slice_index vs i < 65536)) =
+    λ i. (up_to 0 (slice_index ms i) (slice_index vs i) (omega arith) (h.fits i), omega (arith, h.fits i, by-third (λ l. slice_index l i ≤ 65535) s.head.edition (all-few (mosts_of 3) i refl) (all-few (mosts_of 4) i refl))) in
     let flag : (v : ℕ) → v ≤ 1 → (((nat_le 0 v && nat_le v 1) ≡ true) × (v < 65536)) = λ v b. (up_to 0 1 v (omega arith) (omega arith), omega arith) in
     let edition = edition-few s.head.edition h.edition in
-    (edition.0, edition.1, ((held Master).0, (held Master).1, ((held Centre).0, (held Centre).1, ((held Subcentre).0, (held Subcentre).1, ((held Update).0, (held Update).1, ((held Category).0, (held Category).1, ((held Subcategory).0, (held Subcategory).1, ((held LocalSubcategory).0, (held LocalSubcategory).1, ((held MasterVersion).0, (held MasterVersion).1, ((held LocalVersion).0, (held LocalVersion).1, ((held Year).0, (held Year).1, ((held Month).0, (held Month).1, ((held Day).0, (held Day).1, ((held Hour).0, (held Hour).1, ((held Minute).0, (held Minute).1, ((held Second).0, (held Second).1, ((flag (bit s.observed) (bit-few s.observed)).0, (flag (bit s.observed) (bit-few s.observed)).1, ((flag (bit s.compressed) (bit-few s.compressed)).0, (flag (bit s.compressed) (bit-few s.compressed)).1, ((flag (bit (is_some s.section2)) (bit-few (is_some s.section2))).0, (flag (bit (is_some s.section2)) (bit-few (is_some s.section2))).1, (up_to 0 65535 s.subsets (omega arith) (omega (arith, few)), few, tt))))))))))))))))))))
+    (edition.0, edition.1, ((held 0).0, (held 0).1, ((held 1).0, (held 1).1, ((held 2).0, (held 2).1, ((held 3).0, (held 3).1, ((held 4).0, (held 4).1, ((held 5).0, (held 5).1, ((held 6).0, (held 6).1, ((held 7).0, (held 7).1, ((held 8).0, (held 8).1, ((held 9).0, (held 9).1, ((held 10).0, (held 10).1, ((held 11).0, (held 11).1, ((held 12).0, (held 12).1, ((held 13).0, (held 13).1, ((held 14).0, (held 14).1, ((flag (bit s.observed) (bit-few s.observed)).0, (flag (bit s.observed) (bit-few s.observed)).1, ((flag (bit s.compressed) (bit-few s.compressed)).0, (flag (bit s.compressed) (bit-few s.compressed)).1, ((flag (bit (is_some s.section2)) (bit-few (is_some s.section2))).0, (flag (bit (is_some s.section2)) (bit-few (is_some s.section2))).1, (up_to 0 65535 s.subsets (omega arith) (omega (arith, few)), few, tt))))))))))))))))))))
 
 -- section 2 has lines only where it is there
 optional-there : (section2 : Option (List ℕ)) → 0 < length (runs_of 32 (unwrap_or section2 [])) → bit (is_some section2) ≡ 1
@@ -672,7 +664,7 @@ optional-there None some = absurd (omega arith)
 optional-there (Some octets) some = refl
 
 -- a document by its parts
-abbrev document_with : (line : ℕ) → (header local1 section2 descriptors : List ℕ) → List (List dump.DumpItem) → (at : ℕ) → Document
+abbrev document_with : (line : ℕ) → (header local1 section2 descriptors : List ℕ) → List (List View) → (at : ℕ) → Document
 document_with line header local1 section2 descriptors subsets at =
     record { line = line; header = header; local1 = local1; section2 = section2; descriptors = descriptors; entries = subset_entries at subsets }
 
@@ -682,7 +674,7 @@ header-tail s = let h = s.head in
     ∷ h.local_version ∷ h.year ∷ h.month ∷ h.day ∷ h.hour ∷ h.minute ∷ h.second ∷ bit s.observed ∷ bit s.compressed
     ∷ bit (is_some s.section2) ∷ s.subsets ∷ []
 
-all-lines-run : (s : Sections) (subsets : List (List dump.DumpItem)) (at : ℕ) (more : List (List ℕ)) → IsDumpable s subsets →
+all-lines-run : (s : Sections) (subsets : List (List View)) (at : ℕ) (more : List (List ℕ)) → IsDumpable s subsets →
     let a = runs_of 32 s.local1 in
     let b = runs_of 32 (unwrap_or s.section2 []) in
     let c = runs_of 8 s.descriptors in
@@ -705,9 +697,9 @@ all-lines-run s subsets at more given =
     let A = map local1_line a ++ B in
     goes at Between (Heading d0) (codes "message") Opens (header_lines 0 (header_of s) ++ A) message-line refl
     ∙ header-run s.head.edition s.head.master (header-tail s) at (at + 1) A refl (header-fits s given.head given.few)
-    ∙ local1-run a d1 (at + 1 + 1 + 19) B (runs-are IsOctet 31 s.local1 given.local1)
-    ∙ section2-run b 0 d2 (at + 1 + 1 + 19 + length a) C (omega arith) (λ some. optional-there s.section2 some) (runs-are IsOctet 31 (unwrap_or s.section2 []) given.section2)
-    ∙ descriptors-run c (written 0 b 1) d3 (at + 1 + 1 + 19 + length a + length b) D (runs-are IsDescriptorWord 7 s.descriptors given.descriptors)
+    ∙ local1-run a d1 (at + 1 + 1 + 19) B (runs-after IsOctet 0 31 s.local1 given.local1)
+    ∙ section2-run b 0 d2 (at + 1 + 1 + 19 + length a) C (omega arith) (λ some. optional-there s.section2 some) (runs-after IsOctet 0 31 (unwrap_or s.section2 []) given.section2)
+    ∙ descriptors-run c (written 0 b 1) d3 (at + 1 + 1 + 19 + length a + length b) D (runs-after IsDescriptorWord 0 7 s.descriptors given.descriptors)
     ∙ subsets-written subsets (written (written 0 b 1) c 2) d4 (at + 1 + 1 + 19 + length a + length b + length c) more refl given.counted (omega (arith, given.few)) given.items
 
 header-lines-count : (k : ℕ) (values : List ℕ) → length (header_lines k values) ≡ length values
@@ -715,14 +707,14 @@ unfolding header_lines
 header-lines-count k [] = refl
 header-lines-count k (v ∷ values) = omega (arith, header-lines-count (k + 1) values)
 
-dump-lines-count : (s : Sections) (subsets : List (List dump.DumpItem)) → length (dump_lines s subsets) ≡ lines_before s + length (subset_lines 1 subsets) + 1
+dump-lines-count : (s : Sections) (subsets : List (List View)) → length (dump_lines s subsets) ≡ lines_before s + length (subset_lines 1 subsets) + 1
 dump-lines-count s subsets = grind (arith, nat_tests, common_steps, header-lines-count, length-append, length-map)
 
-dump-lines-more : (s : Sections) (subsets : List (List dump.DumpItem)) (more : List (List ℕ)) →
+dump-lines-more : (s : Sections) (subsets : List (List View)) (more : List (List ℕ)) →
     dump_lines s subsets ++ more ≡ codes "message" ∷ (header_lines 0 (header_of s) ++ (map local1_line (runs_of 32 s.local1) ++ (map section2_line (runs_of 32 (unwrap_or s.section2 [])) ++ (map descriptors_line (runs_of 8 s.descriptors) ++ (subset_lines 1 subsets ++ codes "end" ∷ more)))))
 dump-lines-more s subsets more = grind (arith, nat_tests, common_steps)
 
-pub dump-spells : (s : Sections) (subsets : List (List dump.DumpItem)) (at : ℕ) (more : List (List ℕ)) → IsDumpable s subsets
+pub dump-spells : (s : Sections) (subsets : List (List View)) (at : ℕ) (more : List (List ℕ)) → IsDumpable s subsets
     → parse_lines at Between (dump_lines s subsets ++ more) ≡ Complete (document_of at s subsets) ∷ parse_lines (at + length (dump_lines s subsets)) Between more
 dump-spells s subsets at more given =
     let a = runs_of 32 s.local1 in
@@ -734,9 +726,9 @@ dump-spells s subsets at more given =
     let rest = parse_lines (e + n + 1) Between more in
     ap (parse_lines at Between) (dump-lines-more s subsets more)
     ∙ all-lines-run s subsets at more given
-    ∙ ap (λ (t : List ℕ). Complete (document_with at H t (concat b) (concat c) subsets e) ∷ rest) (concat-runs 31 s.local1)
-    ∙ ap (λ (t : List ℕ). Complete (document_with at H s.local1 t (concat c) subsets e) ∷ rest) (concat-runs 31 (unwrap_or s.section2 []))
-    ∙ ap (λ (t : List ℕ). Complete (document_with at H s.local1 (unwrap_or s.section2 []) t subsets e) ∷ rest) (concat-runs 7 s.descriptors)
+    ∙ ap (λ (t : List ℕ). Complete (document_with at H t (concat b) (concat c) subsets e) ∷ rest) (concat-after 0 31 s.local1)
+    ∙ ap (λ (t : List ℕ). Complete (document_with at H s.local1 t (concat c) subsets e) ∷ rest) (concat-after 0 31 (unwrap_or s.section2 []))
+    ∙ ap (λ (t : List ℕ). Complete (document_with at H s.local1 (unwrap_or s.section2 []) t subsets e) ∷ rest) (concat-after 0 7 s.descriptors)
     ∙ ap (λ (k : ℕ). Complete (document_with at H s.local1 (unwrap_or s.section2 []) s.descriptors subsets k) ∷ rest) (omega arith)
     ∙ ap (λ (k : ℕ). Complete (document_of at s subsets) ∷ parse_lines k Between more) (omega (arith, dump-lines-count s subsets))
 
@@ -755,17 +747,17 @@ above-runs : (P : ℕ → Type 0) (most : ℕ) (line : List ℕ → List ℕ) (m
 above-runs P most line meaning is [] all = tt
 above-runs P most line meaning is (run ∷ runs) (here, all) = ((is run here.all here.some here.few).clean, above-runs P most line meaning is runs all)
 
-above-items : (items : List dump.DumpItem) → AllByRecursion IsItem items → AllByRecursion IsAbove (map item_text items)
+above-items : (items : List View) → AllByRecursion IsItem items → AllByRecursion IsAbove (map item_text items)
 above-items [] all = tt
 above-items (item ∷ items) (here, all) = ((item-line item here).clean, above-items items all)
 
-above-subsets : (n : ℕ) (subsets : List (List dump.DumpItem)) → n + length subsets ≤ 65536 → AllByRecursion (λ items. AllByRecursion IsItem items) subsets → AllByRecursion IsAbove (subset_lines n subsets)
+above-subsets : (n : ℕ) (subsets : List (List View)) → n + length subsets ≤ 65536 → AllByRecursion (λ items. AllByRecursion IsItem items) subsets → AllByRecursion IsAbove (subset_lines n subsets)
 unfolding subset_lines
 above-subsets n [] few all = tt
 above-subsets n (items ∷ subsets) few (here, all) =
     ((subset-line n (omega (arith, few))).clean, above-both (map item_text items) (subset_lines (n + 1) subsets) (above-items items here) (above-subsets (n + 1) subsets (omega (arith, few)) all))
 
-above-dump : (s : Sections) (subsets : List (List dump.DumpItem)) → IsDumpable s subsets → AllByRecursion IsAbove (dump_lines s subsets)
+above-dump : (s : Sections) (subsets : List (List View)) → IsDumpable s subsets → AllByRecursion IsAbove (dump_lines s subsets)
 above-dump s subsets given =
     let a = runs_of 32 s.local1 in
     let b = runs_of 32 (unwrap_or s.section2 []) in
@@ -778,18 +770,18 @@ above-dump s subsets given =
     above-both (head_lines s) D (
       message-line.clean,
       above-both (header_lines 0 (header_of s)) A (above-header s.head.edition 0 (header_of s) (omega arith) (header-fits s given.head given.few))
-          (above-both (map local1_line a) B (above-runs IsOctet 32 local1_line Local1 local1-line a (runs-are IsOctet 31 s.local1 given.local1))
-          (above-both (map section2_line b) C (above-runs IsOctet 32 section2_line Section2 section2-line b (runs-are IsOctet 31 (unwrap_or s.section2 []) given.section2))
-          (above-runs IsDescriptorWord 8 descriptors_line Descriptors descriptors-line c (runs-are IsDescriptorWord 7 s.descriptors given.descriptors)))),
+          (above-both (map local1_line a) B (above-runs IsOctet 32 local1_line Local1 local1-line a (runs-after IsOctet 0 31 s.local1 given.local1))
+          (above-both (map section2_line b) C (above-runs IsOctet 32 section2_line Section2 section2-line b (runs-after IsOctet 0 31 (unwrap_or s.section2 []) given.section2))
+          (above-runs IsDescriptorWord 8 descriptors_line Descriptors descriptors-line c (runs-after IsDescriptorWord 0 7 s.descriptors given.descriptors)))),
     )
     e
 
 -- the law: after a dump text the reading goes on between documents
-pub text-spells : (s : Sections) (subsets : List (List dump.DumpItem)) (at : ℕ) (t : List ℕ) → IsDumpable s subsets
+pub text-spells : (s : Sections) (subsets : List (List View)) (at : ℕ) (t : List ℕ) → IsDumpable s subsets
     → parse_lines at Between (lines_of (dump_text_of s subsets ++ t)) ≡ Complete (document_of at s subsets) ∷ parse_lines (at + length (dump_lines s subsets)) Between (lines_of t)
 text-spells s subsets at t given = ap (parse_lines at Between) (lines-back (dump_lines s subsets) t (above-dump s subsets given)) ∙ dump-spells s subsets at (lines_of t) given
 
-pub one-document : (s : Sections) (subsets : List (List dump.DumpItem)) → IsDumpable s subsets → documents_of (dump_text_of s subsets) ≡ Complete (document_of 1 s subsets) ∷ []
+pub one-document : (s : Sections) (subsets : List (List View)) → IsDumpable s subsets → documents_of (dump_text_of s subsets) ≡ Complete (document_of 1 s subsets) ∷ []
 unfolding parse_lines lines_of
 one-document s subsets given =
     ap documents_of (sym (append-nil (dump_text_of s subsets))) ∙ text-spells s subsets 1 [] given

@@ -1,20 +1,20 @@
 -- Each line of a dump text has what it was written for, and is short.
-use Rattle.std.proofs.Common.{◌≡◌, ℕ, ◌+◌, ◌-◌, ◌*◌, ◌/◌, ◌%◌, ◌<◌, nat_le, true, refl, ap, arith, Some, ◌==◌, nat_lt, Bool, false, not, List, [], ◌∷◌, ◌++◌, length, ◌∙◌, if◌then◌else◌, append_assoc, zero, suc, ◌^◌, ◌≤◌, ◌&&◌, take, drop, replicate, ℤ, pos, negsuc, length-append, length-take, length-drop, sym, Option, None, codes, ◌||◌, option_map, unsigned_abs, IfSome}
+use Rattle.std.proofs.Common.{get_or, ◌≡◌, ℕ, ◌+◌, ◌-◌, ◌*◌, ◌/◌, ◌%◌, ◌<◌, nat_le, true, refl, ap, arith, Some, ◌==◌, nat_lt, Bool, false, not, List, [], ◌∷◌, ◌++◌, length, ◌∙◌, if◌then◌else◌, append_assoc, zero, suc, ◌^◌, ◌≤◌, ◌&&◌, take, drop, replicate, ℤ, pos, negsuc, length-append, length-take, length-drop, sym, Option, None, codes, ◌||◌, option_map, unsigned_abs, IfSome}
 use Rattle.std.specs.Char.{is_ascii_digit}
 use Rattle.std.specs.List.{list_all, AllByRecursion, concat}
 use Rattle.std.proofs.lemmas.Bool.Decides.{nat_tests}
-use Rattle.bufr_tables.specs.Prelude.{fxy_of, fxy_text, f_of, x_of, y_of, f_in, x_in, y_in, is_printed}
+use Rattle.bufr_tables.specs.Prelude.{fxy_of, fxy_text, f_of, x_of, y_of, f_in, x_in, y_in, is_printed, Row, places, is_name}
 use Rattle.std.specs.Fmt.{decimal}
 use Rattle.std.proofs.lemmas.Fmt.{decimal_is_IsNumeral_wide, length-decimal-le_wide}
 use Rattle.bufr_bits.proofs.DecimalLemmas.{own, and_first, and_second, all_digits-take, all_digits-drop, zeros_digits}
-use Rattle.bufr_text.specs.Prelude.{prefix_while, suffix_while, hex_digit, upper_value, either_value, pair_value, hex_pair, hex_text, hex_read, fxy_read, descriptors_text, descriptors_read, number_read, is_unescaped, escaped, quoted, octet_onto, quoted_read, is_number_octet, without_prefix, is_hashed, is_passed_after, runs_after, runs_of, IsOctet, IsDescriptorWord, IsScale, header_line, local1_line, section2_line, descriptors_line, subset_line, comment_text, Comment, DumpValue, IsNumber, IsText, IsMissing, IsReference, dump_value_of, form_text, item_text, IsValue, IsName, IsComment, IsItem, text_of_lines, Opens, Header, Local1, Section2, Descriptors, Begins, Item, Closes, key_in, keys, made, place_from, number_value, value_read, worded, line_of, Line, Key, lines_of}
+use Rattle.bufr_text.specs.Prelude.{prefix_while, suffix_while, hex_digit, upper_value, either_value, pair_value, hex_pair, hex_text, hex_read, fxy_read, descriptors_text, descriptors_read, number_read, is_unescaped, escaped, quoted, octet_onto, quoted_read, is_number_octet, without_prefix, is_hashed, is_passed_after, runs_after, IsOctet, IsDescriptorWord, local1_line, section2_line, descriptors_line, subset_line, comment_text, dump_value_of, form_text, item_text, IsValue, IsComment, IsItem, text_of_lines, Opens, Header, Local1, Section2, Descriptors, Begins, Item, Closes, key_at, keys, made, place_from, number_value, value_read, worded, line_of, Line, lines_of}
 use Rattle.std.proofs.lemmas.List.{length-replicate, take-append-drop}
 use Rattle.std.proofs.lemmas.List.Folds.{list_all-append}
 use Rattle.bufr_bits.specs.Prelude.{decimal_text_of, unsigned_text, pointed}
 use Rattle.bufr_fill.specs.Prelude.{DraftValue, number_token, text_form, missing_form, reference_token}
 use Rattle.std.proofs.Math.Seq.{drop-nil}
-use Rattle.bufr_text.specs.Dump as dump
 use Rattle.std.proofs.lemmas.Grind.{common_steps}
+use Rattle.bufr_walk.specs.Prelude.{View, ShownValue, shown_number, shown_text, shown_missing, shown_reference}
 
 -- ---- Descriptors as six digits, read back.
 
@@ -119,14 +119,11 @@ close : (rest : List ℕ) → quoted_read 0 (34 ∷ rest) ≡ Some ([], rest)
 unfolding quoted_read
 close rest = refl
 
-quoted-escaped : (c : ℕ) (rest : List ℕ) → c < 256 → quoted_read 0 (escaped c ++ rest) ≡ octet_onto c (quoted_read 0 rest)
-quoted-escaped c rest h = by-plain c rest (is_unescaped c) refl h
-
 pub quoted_back : (xs rest : List ℕ) → AllByRecursion IsOctet xs → quoted_read 0 (quoted xs ++ rest) ≡ Some (xs, rest)
 unfolding quoted
 quoted_back [] rest all = close rest
 quoted_back (c ∷ xs) rest (octet, all) =
-    ap (quoted_read 0) (append_assoc (escaped c) (quoted xs) rest) ∙ quoted-escaped c (quoted xs ++ rest) octet ∙ ap (octet_onto c) (quoted_back xs rest all)
+    ap (quoted_read 0) (append_assoc (escaped c) (quoted xs) rest) ∙ by-plain c (quoted xs ++ rest) (is_unescaped c) refl octet ∙ ap (octet_onto c) (quoted_back xs rest all)
 
 -- ---- Decimal texts are number tokens.
 
@@ -184,23 +181,17 @@ zeros-token n less h few =
 zeros-none : (n : ℕ) → n < 10 ^ 39 → IsToken (decimal n) 399
 zeros-none n h = record { octets = digits-are (decimal n) (decimal-digits n (omega arith)); some = decimal-some n (omega arith); short = omega (arith, length-decimal-le_wide 39 n (omega arith) h (omega arith)) }
 
-unsigned-token : (n : ℕ) (scale : ℤ) → n < 10 ^ 39 → IsScale scale → IsToken (unsigned_text n scale) 399
+unsigned-token : (n : ℕ) (scale : ℤ) → n < 10 ^ 39 → unsigned_abs scale ≤ 300 → IsToken (unsigned_text n scale) 399
 unfolding unsigned_text
 unsigned-token n (pos zero) h few = zeros-none n h
 unsigned-token n (pos (suc places)) h few = pointed-token n (suc places) h few
 unsigned-token zero (negsuc less) h few = zeros-none 0 h
 unsigned-token (suc n) (negsuc less) h few = zeros-token (suc n) (suc less) h few
 
-minus-token : (token : List ℕ) → IsToken token 399 → IsToken (45 ∷ token) 400
-minus-token token t = record { octets = t.octets; some = omega arith; short = omega (arith, t.short) }
-
-more-token : (token : List ℕ) → IsToken token 399 → IsToken token 400
-more-token token t = record { octets = t.octets; some = t.some; short = omega (arith, t.short) }
-
-pub number-token : (v scale : ℤ) → unsigned_abs v < 10 ^ 39 → IsScale scale → IsToken (decimal_text_of v scale) 400
+pub number-token : (v scale : ℤ) → unsigned_abs v < 10 ^ 39 → unsigned_abs scale ≤ 300 → IsToken (decimal_text_of v scale) 400
 unfolding decimal_text_of
-number-token (pos n) scale h few = more-token (unsigned_text n scale) (unsigned-token n scale h few)
-number-token (negsuc n) scale h few = minus-token (unsigned_text (suc n) scale) (unsigned-token (suc n) scale h few)
+number-token (pos n) scale h few = let t = unsigned-token n scale h few in record { octets = t.octets; some = t.some; short = omega (arith, t.short) }
+number-token (negsuc n) scale h few = let t = unsigned-token (suc n) scale h few in record { octets = t.octets; some = omega arith; short = omega (arith, t.short) }
 
 in_bounds : (xs : List ℕ) (most : ℕ) → 0 < length xs → length xs ≤ most → (nat_lt 0 (length xs) && nat_le (length xs) most) ≡ true
 in_bounds xs most some few = grind (arith, nat_tests)
@@ -232,12 +223,9 @@ unfolding line_of worded prefix_while suffix_while
 end-says = refl
 
 -- header lines
-pub key-says : (k : ℕ) (rest : List ℕ) → k < 20 → line_of ((key_in keys k).name ++ 32 ∷ rest) ≡ made (Header k) (number_read rest)
+pub key-says : (k : ℕ) (rest : List ℕ) → k < 20 → line_of (key_at k ++ 32 ∷ rest) ≡ made (Header k) (number_read rest)
 unfolding line_of worded prefix_while suffix_while without_prefix place_from keys
 key-says k rest h1 = grind (arith, nat_tests, common_steps)
-
-pub header-says : (k v : ℕ) → k < 20 → v < 65536 → line_of (header_line k v) ≡ Header k v
-header-says k v h n = key-says k (decimal v) h ∙ ap (made (Header k)) (number_back v n)
 
 suffix_is : (word text rest : List ℕ) → without_prefix word text ≡ Some rest → text ≡ word ++ rest
 unfolding without_prefix
@@ -250,11 +238,11 @@ suffix_is (w ∷ word) (c ∷ text) rest h = by (c == w) refl h (suffix_is word 
     by false is h more = absurd cc h
 
 -- what is after a key and a space is its value
-pub value_there : (k : ℕ) (word line rest : List ℕ) (r : Option ℕ) → k < 20 → word ≡ (key_in keys k).name ++ 32 ∷ [] → Some rest ≡ without_prefix word line → r ≡ number_read rest
+pub value_there : (k : ℕ) (word line rest : List ℕ) (r : Option ℕ) → k < 20 → word ≡ key_at k ++ 32 ∷ [] → Some rest ≡ without_prefix word line → r ≡ number_read rest
     → IfSome r (λ v. line_of line ≡ Header k v)
 value_there k word line rest None few is there read = tt
 value_there k word line rest (Some v) few is there read =
-    let name : List ℕ = (key_in keys k).name in
+    let name : List ℕ = key_at k in
     let whole : line ≡ name ++ 32 ∷ rest = suffix_is word line rest (sym there) ∙ ap (λ w. w ++ rest) is ∙ append_assoc name (32 ∷ []) rest in
     ap line_of whole ∙ key-says k rest few ∙ ap (made (Header k)) (sym read)
 
@@ -285,12 +273,12 @@ pub item-of : (fxy : ℕ) (text rest : List ℕ) (form : DraftValue) → fxy < 6
 unfolding line_of without_prefix
 item-of fxy text rest form h read passed = rw (no-hash fxy h, first-digit fxy h, fxy_read_back fxy (32 ∷ text) h, read, passed) refl
 
-pub comment-passed : (comment : Option Comment) → is_passed_after (comment_text comment) ≡ true
+pub comment-passed : (comment : Option Row) → is_passed_after (comment_text comment) ≡ true
 unfolding is_hashed
 comment-passed None = refl
 comment-passed (Some comment) = refl
 
-pub comment-stops : (comment : Option Comment) → stops is_number_octet (comment_text comment) ≡ true
+pub comment-stops : (comment : Option Row) → stops is_number_octet (comment_text comment) ≡ true
 comment-stops None = refl
 comment-stops (Some comment) = refl
 
@@ -334,23 +322,17 @@ weaker : (p q : ℕ → Bool) → ((c : ℕ) → p c ≡ true → q c ≡ true) 
 weaker p q implies [] h = refl
 weaker p q implies (c ∷ xs) h = both _ _ (implies c (and_first (p c) (list_all p xs) h)) (weaker p q implies xs (and_second (p c) (list_all p xs) h))
 
-digit-above : (c : ℕ) → is_ascii_digit c ≡ true → is_above c ≡ true
-digit-above c h = grind (arith, nat_tests)
-
-number-above : (c : ℕ) → is_number_octet c ≡ true → is_above c ≡ true
-number-above c h = grind (arith, nat_tests)
-
-printed-above : (c : ℕ) → is_printed c ≡ true → is_above c ≡ true
-printed-above c h = and_first (is_above c) (not (c == 127)) h
-
 decimal-clean : (n k : ℕ) → 0 < k → n < 10 ^ k → n < 10 ^ 64 → IsClean (decimal n) k
-decimal-clean n k some h wide = record { clean = weaker is_ascii_digit is_above digit-above (decimal n) (own.from (decimal n) (decimal_is_IsNumeral_wide n wide).0.1); short = length-decimal-le_wide k n some h wide }
+decimal-clean n k some h wide = record { clean = weaker is_ascii_digit is_above (λ c h. grind (arith, nat_tests)) (decimal n) (own.from (decimal n) (decimal_is_IsNumeral_wide n wide).0.1); short = length-decimal-le_wide k n some h wide }
 
 token-clean : (token : List ℕ) (most : ℕ) → IsToken token most → IsClean token most
-token-clean token most t = record { clean = weaker is_number_octet is_above number-above token t.octets; short = t.short }
+token-clean token most t = record { clean = weaker is_number_octet is_above (λ c h. grind (arith, nat_tests)) token t.octets; short = t.short }
 
-name-clean : (name : List ℕ) → IsName name → IsClean name 512
-name-clean name n = record { clean = weaker is_printed is_above printed-above name n.printed; short = n.short }
+name-clean : (name : List ℕ) → is_name name ≡ true → IsClean name 512
+name-clean name n =
+    let printed : list_all is_printed name ≡ true = grind (arith, nat_tests, n) in
+    let short : length name ≤ 512 = grind (arith, nat_tests, n) in
+    record { clean = weaker is_printed is_above (λ c. and_first (is_above c) (not (c == 127))) name printed; short = short }
 
 digit-of-above : (n : ℕ) → is_above (48 + n) ≡ true
 digit-of-above n = grind (arith, nat_tests)
@@ -393,7 +375,7 @@ quoted-clean (c ∷ xs) = joined-two (escaped c) (quoted xs) 4 (4 * length xs + 
 literal : (text : List ℕ) (most : ℕ) → list_all is_above text ≡ true → length text ≤ most → IsClean text most
 literal text most h k = record { clean = h; short = k }
 
-comment-clean : (comment : Option Comment) → IsComment comment → IsClean (comment_text comment) 1040
+comment-clean : (comment : Option Row) → IsComment comment → IsClean (comment_text comment) 1040
 comment-clean comment h1 = grind (arith, nat_tests, common_steps, joined-two, literal, name-clean)
 
 -- the lines
@@ -419,8 +401,8 @@ pub subset-line : (n : ℕ) → n < 65536 → IsLineOf (subset_line n) (Begins n
 subset-line n h = line-from (subset_line n) (Begins n) 12 (subset-says n (omega arith)) (joined-two (codes "subset ") (decimal n) 7 5 12 (literal (codes "subset ") 7 refl (omega arith)) (decimal-clean n 5 (omega arith) (omega arith) (omega arith)) (omega arith)) (omega arith)
 
 -- names of keys
-abbrev key-passes : Key → Bool
-key-passes k = nat_le (length k.name) 16 && list_all is_above k.name
+abbrev key-passes : List ℕ → Bool
+key-passes k = nat_le (length k) 16 && list_all is_above k
 
 keys-pass : list_all key-passes keys ≡ true
 unfolding keys
@@ -430,44 +412,44 @@ keys-length : length keys ≡ 20
 unfolding keys
 keys-length = refl
 
-key-at : (ks : List Key) (i : ℕ) → list_all key-passes ks ≡ true → i < length ks → key-passes (key_in ks i) ≡ true
-key-at [] i h below = absurd (omega arith)
-key-at (k ∷ ks) zero h below = and_first (key-passes k) (list_all key-passes ks) h
-key-at (k ∷ ks) (suc i) h below = key-at ks i (and_second (key-passes k) (list_all key-passes ks) h) (omega arith)
+key-passes-at : (ks : List (List ℕ)) (i : ℕ) → list_all key-passes ks ≡ true → i < length ks → key-passes (get_or ks i []) ≡ true
+key-passes-at [] i h below = absurd (omega arith)
+key-passes-at (k ∷ ks) zero h below = and_first (key-passes k) (list_all key-passes ks) h
+key-passes-at (k ∷ ks) (suc i) h below = key-passes-at ks i (and_second (key-passes k) (list_all key-passes ks) h) (omega arith)
 
-key-clean : (k : Key) → key-passes k ≡ true → IsClean k.name 16
+key-clean : (k : List ℕ) → key-passes k ≡ true → IsClean k 16
 key-clean k h1 = grind (arith, nat_tests, common_steps)
 
-pub header-line : (k v : ℕ) → k < 20 → v < 65536 → IsLineOf (header_line k v) (Header k v)
+pub header-line : (k v : ℕ) → k < 20 → v < 65536 → IsLineOf (key_at k ++ 32 ∷ decimal v) (Header k v)
 header-line k v h n =
-    let name = key-clean (key_in keys k) (key-at keys k keys-pass (omega (arith, keys-length))) in
-    line-from (header_line k v) (Header k v) 22 (header-says k v h (omega arith))
-    (joined-two (key_in keys k).name (32 ∷ decimal v) 16 6 22 name (one-more 32 (decimal v) 5 6 (omega arith) (decimal-clean v 5 (omega arith) (omega arith) (omega arith)) (omega arith)) (omega arith)) (omega arith)
+    let name = key-clean (key_at k) (key-passes-at keys k keys-pass (omega (arith, keys-length))) in
+    line-from (key_at k ++ 32 ∷ decimal v) (Header k v) 22 (key-says k (decimal v) h ∙ ap (made (Header k)) (number_back v (omega arith)))
+    (joined-two (key_at k) (32 ∷ decimal v) 16 6 22 name (one-more 32 (decimal v) 5 6 (omega arith) (decimal-clean v 5 (omega arith) (omega arith) (omega arith)) (omega arith)) (omega arith)) (omega arith)
 
 -- items
-form-line : (fxy : ℕ) (text : List ℕ) (form : DraftValue) (comment : Option Comment) (most : ℕ) → fxy < 65536 → IsComment comment → value_read (text ++ comment_text comment) ≡ Some (form, comment_text comment) → IsClean text most → most ≤ 2000
+form-line : (fxy : ℕ) (text : List ℕ) (form : DraftValue) (comment : Option Row) (most : ℕ) → fxy < 65536 → IsComment comment → value_read (text ++ comment_text comment) ≡ Some (form, comment_text comment) → IsClean text most → most ≤ 2000
     → IsLineOf ((fxy_text fxy ++ 32 ∷ text) ++ comment_text comment) (Item fxy form)
 form-line fxy text form comment most word given read c h =
     line-from ((fxy_text fxy ++ 32 ∷ text) ++ comment_text comment) (Item fxy form) 3047 (item-of fxy (text ++ comment_text comment) (comment_text comment) form word read (comment-passed comment))
     (joined-two (fxy_text fxy ++ 32 ∷ text) (comment_text comment) 2007 1040 3047 (joined-two (fxy_text fxy) (32 ∷ text) 6 2001 2007 (fxy-clean fxy) (one-more 32 text most 2001 (omega arith) c (omega arith)) (omega arith)) (comment-clean comment given) (omega arith)) (omega arith)
 
-by-value : (fxy : ℕ) (comment : Option Comment) (value : DumpValue) → fxy < 65536 → IsComment comment → IsValue value → IsLineOf (form_text fxy (dump_value_of value) ++ comment_text comment) (Item fxy (dump_value_of value))
-by-value fxy comment (IsNumber v scale) word c (small, few) =
+by-value : (fxy : ℕ) (comment : Option Row) (value : ShownValue) → fxy < 65536 → IsComment comment → IsValue value → IsLineOf (form_text fxy (dump_value_of value) ++ comment_text comment) (Item fxy (dump_value_of value))
+by-value fxy comment (shown_number v scale) word c (small, few) =
     let token = number-token v scale small few in
     form-line fxy (decimal_text_of v scale) (number_token (decimal_text_of v scale)) comment 400 word c (value-number (decimal_text_of v scale) (comment_text comment) 400 token (comment-stops comment)) (token-clean (decimal_text_of v scale) 400 token) (omega arith)
-by-value fxy comment (IsText octets) word c (all, few) =
+by-value fxy comment (shown_text octets) word c (all, few) =
     form-line fxy (34 ∷ quoted octets) (text_form octets) comment 1022 word c (value-text octets (comment_text comment) all) (one-more 34 (quoted octets) (4 * length octets + 1) 1022 (omega arith) (quoted-clean octets) (omega arith)) (omega arith)
-by-value fxy comment IsMissing word c given =
+by-value fxy comment shown_missing word c given =
     form-line fxy (codes "MISSING") missing_form comment 7 word c (value-missing (comment_text comment)) (literal (codes "MISSING") 7 refl (omega arith)) (omega arith)
-by-value fxy comment (IsReference v) word c small =
+by-value fxy comment (shown_reference v) word c small =
     let token = number-token v (pos 0) small (omega arith) in
     let text = decimal_text_of v (pos 0) in
     line-from ((codes "R " ++ fxy_text fxy ++ 32 ∷ text) ++ comment_text comment) (Item fxy (reference_token text)) 1449
     (reference-of fxy (text ++ comment_text comment) (comment_text comment) (reference_token text) word (reference-value text (comment_text comment) 400 token (comment-stops comment)) (comment-passed comment))
     (joined-two (codes "R " ++ fxy_text fxy ++ 32 ∷ text) (comment_text comment) 409 1040 1449 (joined-two (codes "R " ++ fxy_text fxy) (32 ∷ text) 8 401 409 (joined-two (codes "R ") (fxy_text fxy) 2 6 8 (literal (codes "R ") 2 refl (omega arith)) (fxy-clean fxy) (omega arith)) (one-more 32 text 400 401 (omega arith) (token-clean text 400 token) (omega arith)) (omega arith)) (comment-clean comment c) (omega arith)) (omega arith)
 
-pub item-line : (item : dump.DumpItem) → IsItem item → IsLineOf (item_text item) (Item item.fxy (dump_value_of item.value))
-item-line item given = by-value item.fxy item.comment item.value given.word given.comment given.value
+pub item-line : (item : View) → IsItem item → IsLineOf (item_text item) (Item item.fxy (dump_value_of item.value))
+item-line item given = by-value item.fxy item.entry item.value given.word given.comment given.value
 
 -- ---- Lines that were each ended by a line feed are the lines of the text.
 
@@ -491,16 +473,13 @@ lines-back (line ∷ ls) t (here, all) =
 
 -- ---- A list in runs: they join to the list, none is empty, none is long.
 
-concat-after : (skip less : ℕ) (xs : List ℕ) → concat (runs_after skip (suc less) xs) ≡ drop skip xs
+pub concat-after : (skip less : ℕ) (xs : List ℕ) → concat (runs_after skip (suc less) xs) ≡ drop skip xs
 unfolding runs_after
 concat-after skip less [] = rw drop-nil refl
 concat-after (suc skip) less (x ∷ xs) = concat-after skip less xs
 concat-after zero less (x ∷ xs) =
     let e : suc less - 1 ≡ less = omega arith in
     rw e (ap (λ (t : List ℕ). x ∷ (take less xs ++ t)) (concat-after less less xs) ∙ ap (λ (t : List ℕ). x ∷ t) (take-append-drop less xs))
-
-pub concat-runs : (less : ℕ) (xs : List ℕ) → concat (runs_of (suc less) xs) ≡ xs
-concat-runs less xs = concat-after 0 less xs
 
 -- a run
 pub record IsRun (P : ℕ → Type 0) (most : ℕ) (run : List ℕ) : Type 0 where
@@ -513,13 +492,10 @@ all-take P zero xs all = tt
 all-take P (suc n) [] all = tt
 all-take P (suc n) (x ∷ xs) (here, all) = (here, all-take P n xs all)
 
-runs-after : (P : ℕ → Type 0) (skip less : ℕ) (xs : List ℕ) → AllByRecursion P xs → AllByRecursion (IsRun P (suc less)) (runs_after skip (suc less) xs)
+pub runs-after : (P : ℕ → Type 0) (skip less : ℕ) (xs : List ℕ) → AllByRecursion P xs → AllByRecursion (IsRun P (suc less)) (runs_after skip (suc less) xs)
 unfolding runs_after
 runs-after P skip less [] all = tt
 runs-after P (suc skip) less (x ∷ xs) (here, all) = runs-after P skip less xs all
 runs-after P zero less (x ∷ xs) (here, all) =
     let e : suc less - 1 ≡ less = omega arith in
     (record { all = (here, all-take P less xs all); some = omega arith; few = omega (arith, length-take less xs) }, rw e (runs-after P less less xs all))
-
-pub runs-are : (P : ℕ → Type 0) (less : ℕ) (xs : List ℕ) → AllByRecursion P xs → AllByRecursion (IsRun P (suc less)) (runs_of (suc less) xs)
-runs-are P less xs all = runs-after P 0 less xs all

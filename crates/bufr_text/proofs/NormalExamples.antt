@@ -7,7 +7,7 @@ use Rattle.bufr_tables.specs.declared.table_b.Kind.TheVariants as kind
 use Rattle.bufr_tables.specs.Prelude.{Row, Tree, bare, element, operator, delayed}
 use Rattle.bufr_walk.specs.Prelude.{next_item}
 use Rattle.bufr_fill.specs.Prelude.{draft, text_form, reference_token, DraftEntry, Holds, Ends, subsets_of}
-use Rattle.bufr_text.specs.Prelude.{Form, Document, header_lines, text_of_lines, runs_after, hex_text, descriptors_text, quoted, keys, header_as, normal_subsets, normal}
+use Rattle.bufr_text.specs.Prelude.{leasts, mosts, Form, Document, header_lines, text_of_lines, runs_after, hex_text, descriptors_text, quoted, keys, header_as, normal_subsets, normal}
 use Rattle.bufr_text.specs.declared.encode.Form.TheVariants.{AsWritten, Plain, Compressed}
 use Rattle.bufr_text.proofs.EncodingExamples.{document, number, missing}
 
@@ -36,7 +36,7 @@ parse_lines form tree d = normal form table tree d
 -- a point and zeros are gone, and the comment comes
 point_and_zeros : parse_lines AsWritten (element 257 bare) (document 0 1 (257 ∷ []) (number 24 257 (codes "010.0") ∷ Ends 25 ∷ []))
     ≡ codes "message\nedition 4\nmaster 0\ncentre 98\nsubcentre 0\nupdate 0\ncategory 0\nsubcategory 0\nlocalsubcategory 0\nmasterversion 14\nlocalversion 0\nyear 2024\nmonth 1\nday 2\nhour 3\nminute 4\nsecond 5\nobserved 1\ncompressed 0\noptional 0\nsubsets 1\ndescriptors 001001\nsubset 1\n001001 10  # WMO BLOCK NUMBER [Numeric]\nend\n"
-unfolding parse_lines document number keys header_lines runs_after hex_text descriptors_text digits decimal_text_of unsigned_text decimal_value_of
+unfolding parse_lines document number keys leasts mosts header_lines runs_after hex_text descriptors_text digits decimal_text_of unsigned_text decimal_value_of
 point_and_zeros = refl
 
 -- in a form the flag is the form's

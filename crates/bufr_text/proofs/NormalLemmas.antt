@@ -9,14 +9,14 @@ use Rattle.bufr_tables.proofs.SoundLemmas.{tree_fine}
 use Rattle.bufr_frame.specs.Prelude.{with_even_length, message_octets, message_size, max_octets, sections_from, MessageParts, parts_of}
 use Rattle.bufr_frame.proofs.LayoutLemmas.{evened-bits, read-back}
 use Rattle.bufr_frame.proofs.AgainLemmas.{fitting-writable}
-use Rattle.bufr_walk.specs.Prelude.{Content, FieldSpec, next_item, Course, Values, apart, together, Item, IsReading, plain, after, data_of, view_of}
-use Rattle.bufr_fill.specs.Prelude.{Subset, subsets_of, Draft, FaultAt, AllHaveOctets, AreSaid, IsSaid, AreDrafts, content_of}
+use Rattle.bufr_walk.specs.Prelude.{Content, FieldSpec, next_item, Course, Values, apart, together, Item, IsReading, plain, after, data_of, view_of, View}
+use Rattle.bufr_fill.specs.Prelude.{Subset, subsets_of, Draft, FaultAt, AllHaveOctets, AreSaid, IsSaid, AreDrafts, content_of, subsets_from}
 use Rattle.bufr_fill.proofs.BackLaws.{plain_template_back, packed_template_back}
 use Rattle.bufr_fill.proofs.FieldLemmas.{octets_in-are}
-use Rattle.bufr_text.specs.Prelude.{Form, Document, optional_in, head_from_values, Complete, documents_of, IsHeaded, observed_in, compressed_in, section2_in, too_long, refused_at, ◌>>=◌, report_of_template, report_of_items, data_bits, octets_of_bits, parts_as, compressed_as, message_of, encoding_in, RefusedAt, parts_of_document, encoding_of, IsOctet, DumpItem, bit, header_lines, local1_line, section2_line, descriptors_line, head_lines, item_text, subset_line, subset_lines, text_of_lines, dump_text_of, subset_entries, lines_before, document_of, dump_item_of, items_apart, compressed_dump_subsets, IsProper, header_as, normal_head, normal_line, draft_answer, line_and, normal_items, normal_subsets, normal, AreValuesOf, IsReadAs, dump_items_in, each_subset, runs_of, keys}
+use Rattle.bufr_text.specs.Prelude.{mosts, Form, Document, optional_in, head_from_values, Complete, documents_of, key_value, compressed_in, section2_in, too_long, refused_at, ◌>>=◌, report_of_template, report_of_items, data_bits, octets_of_bits, parts_as, compressed_as, message_of, encoding_in, RefusedAt, encoding_of, IsOctet, bit, header_lines, local1_line, section2_line, descriptors_line, head_lines, item_text, subset_line, subset_lines, text_of_lines, dump_text_of, subset_entries, lines_before, document_of, IsProper, header_as, normal_head, normal_line, draft_answer, line_and, normal_items, normal_subsets, normal, AreValuesOf, IsReadAs, each_subset, runs_of, items_shown, dump_items}
 use Rattle.bufr_text.proofs.DumpableLemmas.{octets_are, dumpable, rows-read}
-use Rattle.bufr_text.proofs.RoundTripLemmas.{padded, payload_bits, size_is, octets_small, framed, same_form, all_apart, all_together, bit_back, parts_back, parts_with}
-use Rattle.bufr_text.proofs.FormLemmas.{plain_reading, packed_reading, items_each}
+use Rattle.bufr_text.proofs.RoundTripLemmas.{padded, payload_bits, size_is, octets_small, framed, same_form, all_apart, all_together, bit_back, parts_back, parts_with, parts_of_document}
+use Rattle.bufr_text.proofs.FormLemmas.{plain_reading, packed_reading}
 use Rattle.bufr_text.proofs.HeaderLemmas.{headed-fits, subsets-few, header-widest}
 use Rattle.bufr_frame.specs.declared.section1.Head.{Head}
 use Rattle.bufr_fill.proofs.PlainLaws.{normal_dumped, said_fxy}
@@ -125,10 +125,10 @@ module _ (form : Form) (records : List Record) (table : List Row) (sequences : L
 
 -- ---- the items
 
-line_is : (table : List Row) (spec : FieldSpec) (d : Draft) (c : Content) → content_of spec d ≡ Ok c → normal_line table spec d ≡ item_text (dump_item_of (view_of table spec c))
+line_is : (table : List Row) (spec : FieldSpec) (d : Draft) (c : Content) → content_of spec d ≡ Ok c → normal_line table spec d ≡ item_text (view_of table spec c)
 line_is table spec d c h1 = grind (arith, nat_tests, common_steps, said_fxy, normal_dumped, same_form)
 
-items_are : (table : List Row) (course : Course) (items : List (reading.Item Content)) (ds : List Draft) → Follows course items → AreDrafts IsSaid items ds → normal_items table course ds ≡ map item_text (items_apart table items)
+items_are : (table : List Row) (course : Course) (items : List (reading.Item Content)) (ds : List Draft) → Follows course items → AreDrafts IsSaid items ds → normal_items table course ds ≡ map item_text (items_shown table items)
 items_are table course [] [] f said = refl
 items_are table course [] (d ∷ ds) f said = absurd said
 items_are table course (i ∷ items) [] f said = absurd said
@@ -136,16 +136,16 @@ items_are table course (i ∷ items) (d ∷ ds) f said =
     ap (λ n. line_and table n d (λ t. normal_items table (λ results. course (t ∷ results)) ds)) f.0
     ∙ ap (λ r. normal_line table i.spec d ∷ normal_items table (λ results. course (draft_answer i.spec r ∷ results)) ds) said.0
     ∙ ap (λ x. x ∷ normal_items table (after plain course i) ds) (line_is table i.spec d i.content said.0)
-    ∙ ap (λ xs. item_text (dump_item_of (view_of table i.spec i.content)) ∷ xs) (items_are table (after plain course i) items ds f.3 said.1)
+    ∙ ap (λ xs. item_text (view_of table i.spec i.content) ∷ xs) (items_are table (after plain course i) items ds f.3 said.1)
 
-pub subsets_are : (table : List Row) (course : Course) (n : ℕ) (subsets : List (List (reading.Item Content))) (drafts : List Subset) → AllFollow course subsets → AreSaid subsets drafts → normal_subsets table course n drafts ≡ subset_lines n (map (items_apart table) subsets)
+pub subsets_are : (table : List Row) (course : Course) (n : ℕ) (subsets : List (List (reading.Item Content))) (drafts : List Subset) → AllFollow course subsets → AreSaid subsets drafts → normal_subsets table course n drafts ≡ subset_lines n (map (items_shown table) subsets)
 unfolding subset_lines
 subsets_are table course n [] [] f said = refl
 subsets_are table course n [] (s ∷ ss) f said = absurd said
 subsets_are table course n (items ∷ subsets) [] f said = absurd said
 subsets_are table course n (items ∷ subsets) (s ∷ ss) f said =
     ap (λ xs. subset_line n ∷ (xs ++ normal_subsets table course (n + 1) ss)) (items_are table course items s.items f.0 said.0)
-    ∙ ap (λ xs. subset_line n ∷ (map item_text (items_apart table items) ++ xs)) (subsets_are table course (n + 1) subsets ss f.1 said.1)
+    ∙ ap (λ xs. subset_line n ∷ (map item_text (items_shown table items) ++ xs)) (subsets_are table course (n + 1) subsets ss f.1 said.1)
 
 -- ---- the header
 
@@ -182,13 +182,6 @@ with_flags h o c s =
     slice_index h 0 ∷ slice_index h 1 ∷ slice_index h 2 ∷ slice_index h 3 ∷ slice_index h 4 ∷ slice_index h 5 ∷ slice_index h 6 ∷ slice_index h 7 ∷ slice_index h 8
     ∷ slice_index h 9 ∷ slice_index h 10 ∷ slice_index h 11 ∷ slice_index h 12 ∷ slice_index h 13 ∷ slice_index h 14 ∷ slice_index h 15 ∷ o ∷ c ∷ s ∷ slice_index h 19 ∷ []
 
-whole_header : (h : List ℕ) → length h ≡ 20 → h ≡ with_flags h (slice_index h 16) (slice_index h 17) (slice_index h 18)
-whole_header h l = all_values 20 h l
-
-flags_few : (d : Document) → IsHeaded d → (slice_index d.header 16 ≤ 1) × (slice_index d.header 17 ≤ 1) × (slice_index d.header 18 ≤ 1)
-unfolding keys
-flags_few d h = (header-widest d 16 h, header-widest d 17 h, header-widest d 18 h)
-
 abbrev head_with : Document → (header section2 : List ℕ) → List (List ℕ)
 head_with d header section2 =
     codes "message" ∷ (header_lines 0 header ++ (map local1_line (runs_of 32 d.local1) ++ (map section2_line (runs_of 32 section2) ++ map descriptors_line (runs_of 8 d.descriptors))))
@@ -198,10 +191,11 @@ module _ (form : Form) (d : Document) (proper : IsProper d) where
   value i = slice_index d.header i
 
   few : (value 16 ≤ 1) × (value 17 ≤ 1) × (value 18 ≤ 1)
-  few = flags_few d proper.headed
+  unfolding mosts
+  few = (header-widest d 16 proper.headed, header-widest d 17 proper.headed, header-widest d 18 proper.headed)
 
   whole : d.header ≡ with_flags d.header (value 16) (value 17) (value 18)
-  whole = whole_header d.header proper.headed.whole
+  whole = all_values 20 d.header proper.headed.whole
 
   -- the flag of compression is the form's
   form_flag : (f : Form) → with_flags d.header (value 16) (bit (compressed_as f d)) (value 18) ≡ header_as f d.header
@@ -209,7 +203,7 @@ module _ (form : Form) (d : Document) (proper : IsProper d) where
   form_flag Plain = ap (λ (h : List ℕ). take 17 h ++ 0 ∷ drop 18 h) (sym whole)
   form_flag Compressed = ap (λ (h : List ℕ). take 17 h ++ 1 ∷ drop 18 h) (sym whole)
 
-  header_is : with_flags d.header (bit (observed_in d)) (bit (compressed_as form d)) (bit (is_some (section2_in d))) ≡ header_as form d.header
+  header_is : with_flags d.header (bit (key_value d 16 == 1)) (bit (compressed_as form d)) (bit (is_some (section2_in d))) ≡ header_as form d.header
   header_is =
       ap (λ o. with_flags d.header o (bit (compressed_as form d)) (bit (is_some (section2_in d)))) (flag_back (value 16) few.0)
       ∙ ap (λ s. with_flags d.header (value 16) (bit (compressed_as form d)) s) (section2_flag (optional_in d == 1) d.section2 ∙ flag_back (value 18) few.2)
@@ -243,8 +237,8 @@ module _ (form : Form) (records : List Record) (table : List Row) (sequences : L
   abbrev bits : List Bool
   bits = bits_of h.sections.payload
 
-  abbrev shown_items : List (List DumpItem)
-  shown_items = dump_items_in table h.template h.sections h.values
+  abbrev shown_items : List (List View)
+  shown_items = dump_items table h.sections.subsets h.values
 
   -- each subset of a reading follows the template, and says what the drafts say
   follow : (values : Values) (used : ℕ) → IsReading course (data_of h.sections) values used → AllFollow course (each_subset h.sections.subsets values)
@@ -257,8 +251,7 @@ module _ (form : Form) (records : List Record) (table : List Row) (sequences : L
 
   lines_of_items : (drafts : List Subset) → length drafts ≡ h.sections.subsets → AreValuesOf h.values drafts → subset_lines 1 shown_items ≡ normal_subsets table course 1 drafts
   lines_of_items drafts count said =
-      ap (subset_lines 1) (items_each table h.template h.sections h.values)
-      ∙ sym (subsets_are table course 1 (each_subset h.sections.subsets h.values) drafts (follow h.values h.used h.accepted.read) (says h.values drafts count said))
+      sym (subsets_are table course 1 (each_subset h.sections.subsets h.values) drafts (follow h.values h.used h.accepted.read) (says h.values drafts count said))
 
   pub dump_is_normal : IsProper d → dump_text_of h.sections shown_items ≡ normal form table h.template d
   dump_is_normal proper =
@@ -283,9 +276,9 @@ module _ (form : Form) (records : List Record) (table : List Row) (sequences : L
     by_flag : (b c : Bool) (xs ys : List Subset) → b ≡ c → data_bits c course xs ≡ data_bits c course ys → data_bits b course xs ≡ data_bits b course ys
     by_flag b c xs ys e g = subst (λ x. data_bits x course xs ≡ data_bits x course ys) (sym e) g
 
-    are_again : (values : Values) (used place : ℕ) → IsReading course (data_of h.sections) values used → AreAgain values (subsets_of (subset_entries place (dump_items_in table h.template h.sections values)))
+    are_again : (values : Values) (used place : ℕ) → IsReading course (data_of h.sections) values used → AreAgain values (subsets_of (subset_entries place (dump_items table h.sections.subsets values)))
     are_again (apart subsets) used place read =
-        let drafts = subsets_of (subset_entries place (map (items_apart table) subsets)) in
+        let drafts = subsets_of (subset_entries place (map (items_shown table) subsets)) in
         let dumped = all_apart table place subsets in
         let said = subsets_said course subsets drafts (plain_follows records table h.template rows legal subsets bits (drop used bits) read.2.0) dumped in
         record {
@@ -294,7 +287,7 @@ module _ (form : Form) (records : List Record) (table : List Row) (sequences : L
           alike = λ others count is. by_flag h.sections.compressed false others drafts read.0 (plain_said_alike records table h.template subsets others drafts bits (drop used bits) rows legal read.2.0 is said);
         }
     are_again (together items) used place read =
-        let drafts = subsets_of (subset_entries place (compressed_dump_subsets table h.sections.subsets 0 items)) in
+        let drafts = subsets_of (subset_entries place (map (items_shown table) (subsets_from h.sections.subsets 0 items))) in
         let dumped = all_together table place h.sections.subsets 0 items in
         let said = together_said course h.sections.subsets 0 items drafts dumped.1 (packed_follows records table h.template rows legal h.sections.subsets items bits (drop used bits) read.2) dumped.0 in
         record {

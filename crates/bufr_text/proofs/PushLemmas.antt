@@ -4,13 +4,13 @@ use Rattle.std.specs.Io.KnownBytes.{Appends}
 use Rattle.std.proofs.KnownBytes.{Appends-trans}
 use Rattle.std.proofs.lemmas.List.{take-append-drop, length-take-le, take_all, length-replicate, at_drop_more, at_drop_all, take_more, length-set, take_more_set}
 use Rattle.bufr_frame.specs.declared.fault.RunFault.{RunFault}
-use Rattle.bufr_text.specs.Prelude.{MovesPrefix, Writes, GrowsByPrefix, CountsWrites, LineModel, Moves, MovesOn, StaysFailed, PushesFrom, Pushes, Puts, joined, flag, zero_padded, item_text, subset_line, subset_lines, text_of_lines, head_lines, dump_text_of, items_apart, dump_items_of, bit, header_of, header_lines, local1_line, section2_line, descriptors_line, CountsFaults, MakesSteps, StepsWithin, WritesPrefix, call_line, Ends, IsFirstFault, PushesCall, PushesPrefix, subsets_text, descriptors_text, runs_after, runs_of, escaped, hex_pair, hex_text, is_unescaped, quoted, header_text, lead_of, keys, key_in, counts_texts, ls_line, source_texts, time_texts, DocumentFault, RefusedAt, IsDocumentRefusal, reported_refusal}
+use Rattle.bufr_text.specs.Prelude.{MovesPrefix, Writes, GrowsByPrefix, CountsWrites, LineModel, Moves, MovesOn, StaysFailed, PushesFrom, Pushes, Puts, joined, flag, zero_padded, item_text, subset_line, subset_lines, text_of_lines, head_lines, dump_text_of, bit, header_of, header_lines, local1_line, section2_line, descriptors_line, CountsFaults, MakesSteps, StepsWithin, WritesPrefix, call_line, PushesCall, descriptors_text, runs_after, runs_of, escaped, hex_pair, hex_text, is_unescaped, quoted, lead_of, key_at, counts_texts, ls_line, source_texts, time_texts, DocumentFault, RefusedAt, IsDocumentRefusal, reported_refusal, items_shown, dump_items}
 use Rattle.std.proofs.Math.Seq.{take-append_seam}
 use borrow.Rule.Slice.PartMut.{put_mid, post_of}
-use Rattle.std.proofs.lemmas.Grind.{flat_map-append, common_steps}
+use Rattle.std.proofs.lemmas.Grind.{common_steps}
 use Rattle.bufr_frame.specs.Prelude.{Sections}
-use Rattle.bufr_frame.specs.declared.fault.RunFault.TheVariants.{Write}
-use Rattle.bufr_tables.specs.Prelude.{Row, fxy_text}
+use Rattle.bufr_frame.specs.declared.fault.RunFault.TheVariants.{Write, Memory}
+use Rattle.bufr_tables.specs.Prelude.{Row, fxy_text, places}
 use Rattle.bufr_walk.specs.declared.fault.ShowFault.{ShowFault}
 use Rattle.bufr_walk.specs.Prelude.{item_call, Timed, view_of, content_at, item_calls, subset_calls, compressed_item_calls, compressed_subset_calls, calls_of, turns_shown, Shows, EndsAt, Content, Course, ticked, Item, Values, apart, together, plain, after, turns_after}
 use Rattle.std.specs.Int.{from_bool}
@@ -29,37 +29,14 @@ use Rattle.std.proofs.lemmas.List.Folds.{list_all_more}
 use Rattle.bufr_bits.proofs.DecimalLemmas.{value-append}
 use Rattle.bufr_walk.specs.declared.fault.ShowFault.TheVariants as show
 use Rattle.bufr_walk.specs.Reading as outcome
-use Rattle.bufr_text.specs.Dump as dumped
 use Rattle.bufr_text.specs.declared.fault.DocumentFault.TheVariants as fault
 use Rattle.bufr_bits.proofs.CountLemmas.{empty_writes_after-some}
+use Rattle.bufr_fill.specs.Prelude.{subsets_from, items_of_subset}
 
 -- the digits that were passed write a number
 pub record IsNumberTo (text : List ℕ) (at n : ℕ) : Type 0 where
   pub digits : list_all is_ascii_digit (take at text) ≡ true
   pub value : n ≡ min (digits_value 10 (take at text)) 65536
-
--- ---- Texts that are written one after another.
-
-module _ (a b c : Option (List ℕ)) (s t : List ℕ) where
-  -- the first was written, and then the second
-  pub Writes-then : {X : Type 0} (r : Result X RunFault) → Appends a b s → Writes b c t r → Writes a c (s ++ t) r
-  Writes-then (Ok x) first second = Appends-trans a b c s t first second
-  Writes-then (Err f) first second = (
-    second.0,
-    record {
-      prefix = s ++ second.1.prefix;
-      back = second.1.back;
-      parts = ap (λ l. s ++ l) second.1.parts ∙ sym (append_assoc s second.1.prefix second.1.back);
-      gains = Appends-trans a b c s second.1.prefix first second.1.gains;
-    },
-  )
-
-prefix-more : (a b : Option (List ℕ)) (s t : List ℕ) → GrowsByPrefix a b s → GrowsByPrefix a b (s ++ t)
-prefix-more a b s t h1 = grind (arith, nat_tests, common_steps)
-
--- the first could not be written
-pub Writes-stop : {X Y : Type 0} (a b : Option (List ℕ)) (s t : List ℕ) (first : Result X RunFault) (r : Result Y RunFault) (f : RunFault) → Writes a b s first → first ≡ Err f → r ≡ Err f → Writes a b (s ++ t) r
-Writes-stop a b s t first r f h1 h2 h3 = grind (arith, nat_tests, common_steps)
 
 -- one more write of the rest
 pub more-written : (a b c : Option (List ℕ)) (octets rest rest' : List ℕ) (n : ℕ) → MovesPrefix a b octets rest → n ≤ length rest → Appends b c (take n rest) → rest' ≡ drop n rest
@@ -181,12 +158,13 @@ puts_first s rest first is = rw is (omega (arith, length-append s rest), take-ap
 pub puts_from : (free part : List ℕ) (at n k : ℕ) {text : List ℕ} → at ≤ length free → n ≤ length part → take n part ≡ text → Puts free at text (put_mid at k free part) (Some (at + n))
 puts_from free part at n k h1 h2 h3 = grind (arith, nat_tests, common_steps, length-append, length-take-le, held_filled)
 
--- one more text of some
+-- one more zero after some
+zeros_suc : (count : ℕ) → replicate {A = ℕ} count 48 ++ 48 ∷ [] ≡ replicate (suc count) 48
+zeros_suc zero = refl
+zeros_suc (suc count) = ap (λ (t : List ℕ). 48 ∷ t) (zeros_suc count)
+
 pub zeros_more : (done : ℕ) → replicate {A = ℕ} done 48 ++ 48 ∷ [] ≡ replicate (done + 1) 48
-zeros_more zero = refl
-zeros_more (suc done) =
-    let on : suc done + 1 ≡ suc (done + 1) = omega arith in
-    ap (λ (l : List ℕ). 48 ∷ l) (zeros_more done) ∙ ap (λ n. replicate n 48) (sym on)
+zeros_more done = zeros_suc done ∙ ap (λ n. replicate n 48) (let on : suc done ≡ done + 1 = omega arith in on)
 
 -- a prefix of a text was pushed, and the rest is left
 pub record PushedSoFar (before after : LineModel) (text rest : List ℕ) : Type 0 where
@@ -215,16 +193,13 @@ so_far_end before none = so_far_last before none nothing_pushed
 abbrev pub calls_text : List Timed → List ℕ
 calls_text calls = flat_map (λ t. call_line t.call ++ 10 ∷ []) calls
 
-text-append : (xs ys : List (List ℕ)) → text_of_lines (xs ++ ys) ≡ text_of_lines xs ++ text_of_lines ys
-text-append xs ys = flat_map-append (λ line. line ++ 10 ∷ []) xs ys
-
 -- the items of a subset
-items-text : (table : List Row) (before : ℕ) (course : Course) (items : List (Item Content)) → calls_text (item_calls table before course items) ≡ text_of_lines (map item_text (items_apart table items))
+items-text : (table : List Row) (before : ℕ) (course : Course) (items : List (Item Content)) → calls_text (item_calls table before course items) ≡ text_of_lines (map item_text (items_shown table items))
 items-text table before course [] = refl
 items-text table before course (i ∷ items) =
     ap (λ l. (call_line (item_call (view_of table i.spec i.content)) ++ 10 ∷ []) ++ l) (items-text table before (after plain course i) items)
 
-together-text : (table : List Row) (j : ℕ) (items : List (Item (List Content))) → calls_text (compressed_item_calls table j items) ≡ text_of_lines (map item_text (dumped.compressed_dump_items table j items))
+together-text : (table : List Row) (j : ℕ) (items : List (Item (List Content))) → calls_text (compressed_item_calls table j items) ≡ text_of_lines (map item_text (items_shown table (items_of_subset j items)))
 together-text table j [] = refl
 together-text table j (i ∷ items) =
     ap (λ l. (call_line (item_call (view_of table i.spec (content_at j i.content))) ++ 10 ∷ []) ++ l) (together-text table j items)
@@ -234,29 +209,60 @@ subset-text : (number : ℕ) (calls more : List Timed) (lines suffix : List (Lis
     → (subset_line number ++ 10 ∷ []) ++ calls_text (calls ++ more) ≡ text_of_lines (subset_line number ∷ (lines ++ suffix))
 subset-text number calls more lines suffix h1 h2 = grind (arith, nat_tests, common_steps)
 
-subsets-text : (table : List Row) (course : Course) (before number : ℕ) (subsets : List (List (Item Content))) → calls_text (subset_calls table course before number subsets) ≡ text_of_lines (subset_lines number (map (items_apart table) subsets))
+subsets-text : (table : List Row) (course : Course) (before number : ℕ) (subsets : List (List (Item Content))) → calls_text (subset_calls table course before number subsets) ≡ text_of_lines (subset_lines number (map (items_shown table) subsets))
 unfolding subset_lines
 subsets-text table course before number [] = refl
 subsets-text table course before number (items ∷ subsets) =
     subset-text number (item_calls table before course items) (subset_calls table course (before + turns_after plain course items) (number + 1) subsets)
-    (map item_text (items_apart table items)) (subset_lines (number + 1) (map (items_apart table) subsets))
+    (map item_text (items_shown table items)) (subset_lines (number + 1) (map (items_shown table) subsets))
     (items-text table before course items) (subsets-text table course (before + turns_after plain course items) (number + 1) subsets)
 
-all-together-text : (table : List Row) (left j : ℕ) (items : List (Item (List Content))) → calls_text (compressed_subset_calls table left j items) ≡ text_of_lines (subset_lines (j + 1) (dumped.compressed_dump_subsets table left j items))
+all-together-text : (table : List Row) (left j : ℕ) (items : List (Item (List Content))) → calls_text (compressed_subset_calls table left j items) ≡ text_of_lines (subset_lines (j + 1) (map (items_shown table) (subsets_from left j items)))
 unfolding subset_lines
 all-together-text table zero j items = refl
 all-together-text table (suc left) j items =
+    let next : j + 1 ≡ suc j = omega arith in
     subset-text (j + 1) (compressed_item_calls table j items) (compressed_subset_calls table left (j + 1) items)
-    (map item_text (dumped.compressed_dump_items table j items)) (subset_lines (j + 1 + 1) (dumped.compressed_dump_subsets table left (j + 1) items))
-    (together-text table j items) (all-together-text table left (j + 1) items)
+    (map item_text (items_shown table (items_of_subset j items))) (subset_lines (j + 1 + 1) (map (items_shown table) (subsets_from left (suc j) items)))
+    (together-text table j items)
+    (subst (λ k. calls_text (compressed_subset_calls table left (j + 1) items) ≡ text_of_lines (subset_lines (j + 1 + 1) (map (items_shown table) (subsets_from left k items)))) next (all-together-text table left (j + 1) items))
 
 -- the calls of a reading write its subsets
-pub reading-text : (r : outcome.Read) (values : Values) → calls_text (calls_of r values) ≡ text_of_lines (subset_lines 1 (dump_items_of r values))
+pub reading-text : (r : outcome.Read) (values : Values) → calls_text (calls_of r values) ≡ text_of_lines (subset_lines 1 (dump_items r.table r.source.subsets values))
 reading-text r (apart subsets) = subsets-text r.table (outcome.course_of r) 0 1 subsets
 reading-text r (together items) = all-together-text r.table r.source.subsets 0 items
 
+-- a text was written after all that was held
+moved : (r : Result Unit RunFault) (old new : Option (List ℕ)) (octets held held' : List ℕ) → held ≡ [] → held' ≡ [] → Writes old new octets r → Moves old new (held ++ octets) held' r
+moved (Ok x) old new octets held held' e f writes = rw (e, f) (record { prefix = octets; parts = sym (append-nil octets); gains = writes })
+moved (Err why) old new octets held held' e f writes = rw e writes
+
+written_through : {b c : LineModel} {octets : List ℕ} → b.status ≡ Ok tt → b.held ≡ [] → c.held ≡ [] → Writes b.taken c.taken octets c.status → CountsWrites b.failures c.failures b.empty_writes c.empty_writes c.status → c.flushes ≡ b.flushes → c.sink ≡ b.sink → Pushes b octets c
+written_through {b = b} {c = c} {octets = octets} ok none none' writes counts flushes sink = record {
+  from = rw ok (record { moves = moved c.status b.taken c.taken octets b.held c.held none none' writes; counts = counts });
+  flushes = flushes;
+  sink = sink;
+}
+
+pub pushed_through : {a b mid c : LineModel} {octets : List ℕ} → Pushes a [] mid → b ≡ mid → mid.held ≡ [] → b.status ≡ Ok tt → Writes b.taken c.taken octets c.status → CountsWrites b.failures c.failures b.empty_writes c.empty_writes c.status → c.held ≡ [] → c.flushes ≡ b.flushes → c.sink ≡ b.sink → Pushes a octets c
+pushed_through {b = b} {c = c} {octets = octets} first is none ok writes counts none' flushes sink =
+    let B : LineModel → Type 0 = λ b. Pushes b octets c in
+    first ⨾ subst B is (written_through ok (ap (λ x. x.held) is ∙ none) none' writes counts flushes sink)
+
 pub fails_pushes : {a b : LineModel} {s : List ℕ} (t : List ℕ) (f : RunFault) → Pushes a s b → b.status ≡ Err f → Pushes a (s ++ t) b
 fails_pushes t f h1 h2 = grind (arith, nat_tests, common_steps)
+
+-- a prefix of a text was pushed
+pub record PushesPrefix (before : LineModel) (text : List ℕ) (after : LineModel) : Type 0 where
+  pub prefix : List ℕ
+  pub suffix : List ℕ
+  pub parts : text ≡ prefix ++ suffix
+  pub pushes : Pushes before prefix after
+
+-- the first fault: that of a write, else want of memory
+abbrev pub IsFirstFault : Result Unit RunFault → RunFault → Type 0
+IsFirstFault (Ok x) fault = fault ≡ Memory
+IsFirstFault (Err first) fault = fault ≡ first
 
 -- What the calls of a showing push: all their lines, or a prefix where memory ran out.
 abbrev pub PushesCalls : LineModel → List ℕ → Result (Unit {0}) (ShowFault RunFault) → LineModel → Type 0
@@ -278,9 +284,7 @@ calls-on a mid b line text (Err show.Memory) one more = record {
 -- the call that ends them
 calls-end : (a b : LineModel) (t : Timed) (text : List ℕ) (why : ShowFault RunFault) → EndsAt PushesCall a t.call why b → PushesCalls a ((call_line t.call ++ 10 ∷ []) ++ text) (Err why) b
 calls-end a b t text (show.Visitor f) here = (fails_pushes text f here.pushes (sym here.status), sym here.status)
-calls-end a b t text show.Memory here =
-    let whole = (call_line t.call ++ 10 ∷ []) ++ text in
-    rw here.0 (record { prefix = []; suffix = whole; parts = refl; pushes = nothing_pushed })
+calls-end a b t text show.Memory here = rw here.0 (record { prefix = []; suffix = (call_line t.call ++ 10 ∷ []) ++ text; parts = refl; pushes = nothing_pushed })
 
 pub calls-pushed : (a : LineModel) (calls : List Timed) (turns : ℕ) (r : Result (Unit {0}) (ShowFault RunFault)) (b : LineModel) (steps : ℕ) → Shows PushesCall a calls turns r b steps → PushesCalls a (calls_text calls) r b
 calls-pushed a [] turns (Ok x) b steps (same, made) =
@@ -317,46 +321,12 @@ no-steps r (apart []) = refl
 no-steps r (apart (items ∷ subsets)) = inl refl
 no-steps r (together items) = compressed-none r.table r.source.subsets items
 
-pub none-made : {X E : Type 0} (r : outcome.Read) (values : Values) (steps : ℕ) (result : Result X E) (fault : E) → result ≡ Err fault → steps ≡ 0 → MakesSteps (calls_of r values) (turns_shown r values) result steps
-none-made r values steps result fault is none = rw (is, none) (no-steps r values)
-
 -- a prefix of a text was pushed, and with it one of a longer text
 prefix-longer : {a b : LineModel} {s : List ℕ} (t : List ℕ) → PushesPrefix a s b → PushesPrefix a (s ++ t) b
 prefix-longer t h1 = grind (arith, nat_tests, common_steps)
 
-module _ (a b : LineModel) (r : outcome.Read) (values : Values) where
-  text-is : subsets_text r values ≡ calls_text (calls_of r values) ++ codes "end\n"
-  text-is = ap (λ l. l ++ codes "end\n") (sym (reading-text r values))
-
-  -- all calls were made, and then the last line was pushed and handed on
-  pub ends-whole : {c d : LineModel} (q : Result Unit RunFault) → Pushes a (calls_text (calls_of r values)) b → Pushes b (codes "end\n") c → Pushes c [] d → d.held ≡ [] → q ≡ d.status → Ends a (subsets_text r values) q d
-  ends-whole {c = c} {d = d} q calls last handed none is = by q is
-    where
-      whole : Pushes a (subsets_text r values) d
-      whole = retold (calls ⨾ last ⨾ handed) (append-nil (calls_text (calls_of r values) ++ codes "end\n") ∙ sym text-is)
-
-      by : (q : Result Unit RunFault) → q ≡ d.status → Ends a (subsets_text r values) q d
-      by (Ok x) is = (whole, none, sym is)
-      by (Err f) is = (
-        record { prefix = subsets_text r values; suffix = []; parts = sym (append-nil (subsets_text r values)); pushes = whole },
-        rw (sym is) refl,
-      )
-
-  -- a prefix of the calls was made
-  pub ends-first : (first : RunFault) → PushesPrefix a (calls_text (calls_of r values)) b → IsFirstFault b.status first → Ends a (subsets_text r values) (Err first) b
-  ends-first first within is =
-      (rw (text-is) (prefix-longer (codes "end\n") within), is)
-
-  -- a write failed
-  pub ends-failed : (fault : RunFault) → Pushes a (calls_text (calls_of r values)) b → b.status ≡ Err fault → Ends a (subsets_text r values) (Err fault) b
-  ends-failed fault calls is =
-      let all : PushesPrefix a (calls_text (calls_of r values)) b = record {
-        prefix = calls_text (calls_of r values);
-        suffix = [];
-        parts = sym (append-nil (calls_text (calls_of r values)));
-        pushes = calls;
-      } in
-      ends-first fault all (rw is refl)
+whole-prefix : {a b : LineModel} (s : List ℕ) → Pushes a s b → PushesPrefix a s b
+whole-prefix s all = record { prefix = s; suffix = []; parts = sym (append-nil s); pushes = all }
 
 -- what a writer that held nothing wrote
 prefix-moved : (a b : LineModel) (text : List ℕ) (r : Result Unit RunFault) → Moves a.taken b.taken (a.held ++ text) b.held r → GrowsByPrefix a.taken b.taken (a.held ++ text)
@@ -368,6 +338,7 @@ pub record LeavesSink {X : Type 0} (a : LineModel) (text : List ℕ) (r : Result
   pub writes : WritesPrefix a.taken c.taken text r
   pub counts : CountsFaults a.failures c.failures a.empty_writes c.empty_writes r
   pub flushes : c.flushes ≡ a.flushes
+  pub sink : c.sink ≡ a.sink
 
 counts-fault : (f f' e e' : ℕ) (status : Result Unit RunFault) (fault : RunFault) → IsFirstFault status fault → ((g : RunFault) → status ≡ Err g → g ≡ Write) → CountsWrites f f' e e' status → CountsFaults {X = Unit} f f' e e' (Err fault)
 counts-fault f f' e e' (Ok x) fault is only counts = rw is counts
@@ -378,16 +349,6 @@ only-write a b text held (Ok x) moves g is = absurd (cc)
 only-write a b text held (Err f) moves g is = let same : f ≡ g = cc in sym same ∙ moves.0
 
 module _ {a b c : LineModel} {head : List ℕ} (rest : List ℕ) (ok : a.status ≡ Ok tt) (none : a.held ≡ []) (first : Pushes a head b) where
-  leaves-all : Pushes b rest c → c.held ≡ [] → c.status ≡ Ok tt → LeavesSink {X = Unit} a (head ++ rest) (Ok tt) c
-  leaves-all more empty fine =
-      let whole = first ⨾ more in
-      let from = rw ok at whole.from in
-      record {
-        writes = all_written {r = Ok tt} tt whole nothing_pushed ok none empty refl refl (sym fine);
-        counts = rw fine at from.counts;
-        flushes = whole.flushes;
-      }
-
   leaves-prefix : (fault : RunFault) → PushesPrefix b rest c → IsFirstFault c.status fault → LeavesSink {X = Unit} a (head ++ rest) (Err fault) c
   leaves-prefix fault more is =
       let whole = first ⨾ more.pushes in
@@ -403,38 +364,91 @@ module _ {a b c : LineModel} {head : List ℕ} (rest : List ℕ) (ok : a.status 
         };
         counts = counts-fault a.failures c.failures a.empty_writes c.empty_writes c.status fault is (only-write a c (a.held ++ (head ++ more.prefix)) c.held c.status from.moves) from.counts;
         flushes = whole.flushes;
+        sink = whole.sink;
       }
 
-  pub leaves : (r : Result Unit RunFault) → Ends b rest r c → LeavesSink a (head ++ rest) r c
-  leaves (Ok x) ends = leaves-all ends.0 ends.1 ends.2
-  leaves (Err fault) ends = leaves-prefix fault ends.0 ends.1
+  leaves-end : (r : Result Unit RunFault) → Pushes b rest c → c.held ≡ [] → r ≡ c.status → LeavesSink a (head ++ rest) r c
+  leaves-end (Ok x) more empty is =
+      let whole = first ⨾ more in
+      let from = rw ok at whole.from in
+      record {
+        writes = all_written {r = Ok tt} tt whole nothing_pushed ok none empty refl refl is;
+        counts = rw (sym is) at from.counts;
+        flushes = whole.flushes;
+        sink = whole.sink;
+      }
+  leaves-end (Err fault) more empty is = leaves-prefix fault (whole-prefix rest more) (rw (sym is) refl)
+
+-- a showing of a reading, whatever its values are, and what it leaves of the sink
+abbrev pub Shown : (Values → Type 0) → outcome.Read → LineModel → Result (Unit {0}) (ShowFault RunFault) → LineModel → ℕ → Type 0
+Shown R r b o c steps = (values : Values) → R values → Shows PushesCall b (calls_of r values) (turns_shown r values) o c steps
+
+abbrev pub Left : (Values → Type 0) → Sections → outcome.Read → LineModel → Result Unit RunFault → LineModel → ℕ → Type 0
+Left R s r a q c steps =
+    (values : Values) → R values → LeavesSink a (text_of_lines (head_lines s) ++ (calls_text (calls_of r values) ++ codes "end\n")) q c × MakesSteps (calls_of r values) (turns_shown r values) q steps
+
+-- the head was pushed, and then the calls of a showing: all and the last line, up to a failed write,
+-- or up to where memory ran out
+module _ {a b c : LineModel} {R : Values → Type 0} (s : Sections) (r : outcome.Read) (steps : ℕ) (ok : a.status ≡ Ok tt) (none : a.held ≡ []) (head : Pushes a (text_of_lines (head_lines s)) b) where
+  pub left-whole : {d e : LineModel} (q : Result Unit RunFault) → Shown R r b (Ok tt) c steps → Pushes c (codes "end\n") d → Pushes d [] e → e.held ≡ [] → q ≡ e.status → Left R s r a q e steps
+  left-whole q shown last handed empty is values read =
+      let calls = calls_of r values in
+      let turns = turns_shown r values in
+      let all = calls-pushed b calls turns (Ok tt) c steps (shown values read) ⨾ last ⨾ handed in (
+        leaves-end (calls_text calls ++ codes "end\n") ok none head q (retold all (append-nil (calls_text calls ++ codes "end\n"))) empty is,
+        steps-of calls turns steps q (calls-steps b calls turns (Ok tt) c steps (shown values read)),
+      )
+
+  pub left-failed : (fault : RunFault) (why : ShowFault RunFault) → why ≡ show.Visitor fault → Shown R r b (Err why) c steps → Left R s r a (Err fault) c steps
+  left-failed fault why is shown values read =
+      let calls = calls_of r values in
+      let here = rw is at (shown values read) in
+      let all = calls-pushed b calls (turns_shown r values) (Err (show.Visitor fault)) c steps here in (
+        leaves-prefix (calls_text calls ++ codes "end\n") ok none head fault (prefix-longer (codes "end\n") (whole-prefix (calls_text calls) all.0)) (rw all.1 refl),
+        calls-steps b calls (turns_shown r values) (Err (show.Visitor fault)) c steps here,
+      )
+
+  pub left-first : (first : RunFault) (q : Result Unit RunFault) (why : ShowFault RunFault) → q ≡ Err first → why ≡ show.Memory → Shown R r b (Err why) c steps → IsFirstFault c.status first → Left R s r a q c steps
+  left-first first q why fails is shown of values read =
+      let calls = calls_of r values in
+      let here = rw is at (shown values read) in
+      rw fails (
+        leaves-prefix (calls_text calls ++ codes "end\n") ok none head first (prefix-longer (codes "end\n") (calls-pushed b calls (turns_shown r values) (Err show.Memory) c steps here)) of,
+        calls-steps b calls (turns_shown r values) (Err show.Memory) c steps here,
+      )
+
+pub all-counted-of : {a c : LineModel} {text : List ℕ} {f f' e e' : ℕ} (r : Result Unit RunFault) → LeavesSink a text r c → a.failures ≡ f → f' ≡ c.failures → a.empty_writes ≡ e → e' ≡ c.empty_writes → CountsFaults f f' e e' r
+all-counted-of r h h1 h2 h3 h4 = rw (sym h1, h2, sym h3, h4) h.counts
 
 -- the dump text of a message, by a writer of lines over a sink
-pub all-written-of : {a c : LineModel} {old new : Option (List ℕ)} (s : Sections) (read : outcome.Read) (values : Values) (r : Result Unit RunFault) → LeavesSink a (text_of_lines (head_lines s) ++ subsets_text read values) r c → a.taken ≡ old → new ≡ c.taken
-    → WritesPrefix old new (dump_text_of s (dump_items_of read values)) r
-all-written-of s read values r h1 h2 h3 = grind (arith, nat_tests, common_steps)
+pub all-written-of : {a c : LineModel} {old new : Option (List ℕ)} (s : Sections) (read : outcome.Read) (values : Values) (r : Result Unit RunFault)
+    → LeavesSink a (text_of_lines (head_lines s) ++ (calls_text (calls_of read values) ++ codes "end\n")) r c → a.taken ≡ old → new ≡ c.taken
+    → WritesPrefix old new (dump_text_of s (dump_items read.table read.source.subsets values)) r
+all-written-of {a = a} {c = c} s read values r h1 h2 h3 =
+    let writes : WritesPrefix a.taken c.taken (text_of_lines (head_lines s) ++ (text_of_lines (subset_lines 1 (dump_items read.table read.source.subsets values)) ++ codes "end\n")) r = rw (reading-text read values) at h1.writes in
+    grind (arith, nat_tests, common_steps, writes)
 
 -- ---- The listing line, and the lines of a dump before its subsets.
-
-line-on : (name value more : List ℕ) → ((name ++ 32 ∷ value) ++ 10 ∷ []) ++ more ≡ name ++ (32 ∷ (value ++ 10 ∷ more))
-line-on name value more = append_assoc (name ++ 32 ∷ value) (10 ∷ []) more ∙ append_assoc name (32 ∷ value) (10 ∷ more)
 
 key-on : (name value more : List ℕ) → name ++ (32 ∷ (value ++ (more ++ 10 ∷ []))) ≡ ((name ++ 32 ∷ []) ++ (value ++ more)) ++ 10 ∷ []
 key-on name value more = grind (arith, nat_tests, common_steps)
 
+-- the values of the keys from one on, each after its lead
+unfoldable pub header_text : (key : ℕ) → List ℕ → List ℕ
+header_text key [] = []
+header_text key (value ∷ more) =
+    lead_of (key_at key) ++ (decimal value ++ header_text (key + 1) more)
+
 -- lines of keys, with the line feed before each in place of the one after it
-header-lines : (key : ℕ) (values : List ℕ) → 10 ∷ text_of_lines (header_lines key values) ≡ header_text key values ++ 10 ∷ []
+pub header-lines : (key : ℕ) (values : List ℕ) → 10 ∷ text_of_lines (header_lines key values) ≡ header_text key values ++ 10 ∷ []
 unfolding header_lines header_text
 header-lines key [] = refl
 header-lines key (value ∷ more) =
-    let name : List ℕ = (key_in keys key).name in
-    ap (λ (l : List ℕ). 10 ∷ l) (line-on name (decimal value) (text_of_lines (header_lines (key + 1) more))
+    let name : List ℕ = key_at key in
+    let lines = text_of_lines (header_lines (key + 1) more) in
+    ap (λ (l : List ℕ). 10 ∷ l) (append_assoc (name ++ 32 ∷ decimal value) (10 ∷ []) lines ∙ append_assoc name (32 ∷ decimal value) (10 ∷ lines)
     ∙ ap (λ l. name ++ (32 ∷ (decimal value ++ l))) (header-lines (key + 1) more)
     ∙ key-on name (decimal value) (header_text (key + 1) more))
-
--- the line `message`, and the lines of the keys
-pub header-is : (s : Sections) → codes "message" ++ (header_text 0 (header_of s) ++ codes "\n") ≡ text_of_lines (codes "message" ∷ header_lines 0 (header_of s))
-header-is s = ap (λ l. codes "message" ++ l) (sym (header-lines 0 (header_of s)))
 
 -- a flag as a number
 pub flag-is : (on : Bool) → from_bool on ≡ bit on
@@ -537,12 +551,6 @@ line-pushed offset s source time counts =
     joined_then (source_texts offset s.size s.head) (time_texts s.head ++ C) source (joined_then (time_texts s.head) C time counts)
 
 -- ---- Numbers, digit by digit and at a scale, and octets as texts.
-
--- Numbers in at least so many digits, and with a point before the last of them.
-
-zeros_suc : (count : ℕ) → replicate {A = ℕ} count 48 ++ 48 ∷ [] ≡ replicate (suc count) 48
-zeros_suc zero = refl
-zeros_suc (suc count) = ap (λ (t : List ℕ). 48 ∷ t) (zeros_suc count)
 
 step_long : (m n : ℕ) → 10 ≤ n → n < 2 ^ 64 → zero_padded (m + 1) n ≡ zero_padded m (n / 10) ++ (48 + n % 10) ∷ []
 step_long m n h1 h2 = grind (arith, nat_tests, common_steps, decimal_step, length-append, append_assoc)
@@ -648,9 +656,6 @@ five_places n fits =
 
 -- ---- A number at a scale, part by part.
 
-not_zero : (n : ℕ) → (suc n == 0) ≡ false
-not_zero n = grind (arith, nat_tests)
-
 -- a number that is not below zero, at a scale above 0
 pub unsigned_pointed : (n : ℕ) (scale : ℤ) (places : ℕ) → int_lt (pos 0) scale ≡ true → places ≡ unsigned_abs scale → pointed places (decimal n) ≡ unsigned_text n scale
 unfolding unsigned_text
@@ -661,6 +666,14 @@ unsigned_pointed n scale places h e = absurd cc
 pub unsigned_plain : (n : ℕ) (scale : ℤ) (places count : ℕ) → int_lt (pos 0) scale ≡ false → places ≡ unsigned_abs scale → count ≡ (if n == 0 then 0 else places) → decimal n ++ replicate count 48 ≡ unsigned_text n scale
 unfolding unsigned_text
 unsigned_plain n scale places count h1 h2 h3 = grind (arith, nat_tests, common_steps)
+
+pub sign-below : (v : ℤ) → int_lt v (pos 0) ≡ true → 45 ∷ [] ≡ sign_of v
+sign-below (pos n) h = let none : suc n ≤ 0 = grind (arith, nat_tests, h) in absurd (omega (arith, none))
+sign-below (negsuc n) h = refl
+
+pub sign-none : (v : ℤ) → int_lt v (pos 0) ≡ false → [] ≡ sign_of v
+sign-none (pos n) h = refl
+sign-none (negsuc n) h = absurd cc
 
 pub signed_text : (v scale : ℤ) (size : ℕ) → size ≡ unsigned_abs v → sign_of v ++ unsigned_text size scale ≡ decimal_text_of v scale
 unfolding decimal_text_of
@@ -754,10 +767,6 @@ unescaped_below (suc n) c t h =
       | inl z ↦ let e : c ≡ n = omega arith in rw e (same→eq _ _ (and_l _ (are_told n) t))
       | inr g ↦ unescaped_below n c (and_r _ (are_told n) t) (omega arith)
     ]
-
--- ---- The comment that a row of Table B has ready.
-
--- ---- Which faults report want of memory.
 
 -- what is encoded is refused for nothing else
 pub memory_alone : (why : DocumentFault) (defined : Result (List ℕ) RefusedAt) (octets : List ℕ) → defined ≡ Ok octets → IsDocumentRefusal (reported_refusal why) defined → why ≡ fault.Memory

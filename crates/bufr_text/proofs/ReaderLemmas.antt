@@ -2,17 +2,16 @@
 use Rattle.std.proofs.Common.{◌≡◌, ℕ, ◌+◌, ◌<◌, ◌≤◌, ◌==◌, nat_lt, not, Bool, true, false, List, [], ◌∷◌, ◌++◌, length, refl, sym, ap, ◌∙◌, arith, append_assoc, append-nil, length-append, subst, if◌then◌else◌, ◌⊎◌, inl, inr, zero, suc, ◌&&◌, take, drop, Option, Some, None, ◌-◌, length-drop, Result, Ok, Err, OnErr, slice_index}
 use Rattle.std.proofs.lemmas.Bool.Decides.{nat_tests}
 use Rattle.bufr_bits.proofs.DecimalLemmas.{and_first, and_second}
-use Rattle.bufr_text.specs.Prelude.{line_fault_of, Line, Passed, Item, Closes, Wrong, line_of, ParserState, Between, Heading, BeforeSubsets, Filling, Stopped, WalkGoes, Faults, ParseResult, Refused, NotAllowed, turn, line_within_limit, parse_lines, place_after, reported_at, reported_at_end, lines_of, prepend_to_line, Split, onto_split, octet_onto_split, split_of, parse_open_lines, documents_of, open_documents_of, Document, LineEffect, Gives, with_entry, has_no_feed, ReaderPosition, parse, parse_open, ContinuesParse, ReaderModel, KeepsUnread, IsMissingFeed, ReadsLines, TakesWholeLines, position_of, FeedAt, place_with, turned, IsParserState, HoldsAfter, step_results, position_with, position_after_take, TakesLines, IsTaking, place_following, WantsAt, ends_by_feed, place_now, IsProgress, IsReader, ParsesHeldLines, WantsHere, TakesHeldLines, read_fault_at, stopped, text_of_lines, ReadFault}
+use Rattle.bufr_text.specs.Prelude.{line_fault_of, Line, Passed, Item, Closes, Wrong, line_of, ParserState, Between, Heading, BeforeSubsets, Filling, Stopped, WalkGoes, Faults, ParseResult, Refused, NotAllowed, turn, line_within_limit, parse_lines, place_after, reported_at, reported_at_end, lines_of, prepend_to_line, Split, onto_split, split_of, parse_open_lines, documents_of, open_documents_of, Document, LineEffect, Gives, with_entry, has_no_feed, ReaderPosition, parse, parse_open, ContinuesParse, ReaderModel, KeepsUnread, IsMissingFeed, ReadsLines, TakesWholeLines, position_of, place_with, turned, IsParserState, step_results, position_with, position_after_take, TakesLines, IsTaking, place_following, WantsAt, adds, ends_by_feed, place_now, IsProgress, IsReader, ParsesHeldLines, WantsHere, TakesHeldLines, read_fault_at, stopped, text_of_lines, ReadFault}
 use Rattle.std.proofs.lemmas.Bool.{true≢false}
 use Rattle.memchr.specs.Find.{IsFirstByte, is_byte}
 use Rattle.std.proofs.lemmas.List.{take_at}
-use Rattle.bufr_fill.specs.Prelude.{DraftValue, draft, Holds}
+use Rattle.bufr_fill.specs.Prelude.{DraftValue, DraftEntry, draft, Holds}
 use Rattle.std.specs.List.{AllByRecursion}
-use Rattle.std.proofs.lemmas.Grind.{common_steps}
+use Rattle.std.proofs.lemmas.Grind.{common_steps, flat_map-append}
 use Rattle.bufr_text.specs.declared.document.Progress.{Progress}
-use Rattle.bufr_text.specs.declared.document.ParserState.{ParserState as CodeState}
 use Rattle.bufr_text.specs.declared.document.LineRefusal.{LineRefusal}
-use Rattle.bufr_text.proofs.HeaderLemmas.{turn-holds, said-sound}
+use Rattle.bufr_text.proofs.HeaderLemmas.{turn-holds, said-sound, HoldsAfter}
 use Rattle.bufr_frame.specs.Prelude.{InputModel}
 use Rattle.bufr_text.specs.declared.document.TakeResult.{TakeResult}
 use Rattle.bufr_text.specs.Documents as documents
@@ -21,6 +20,21 @@ use Rattle.bufr_text.specs.declared.document.LineEffect.TheVariants as turn
 use Rattle.bufr_text.specs.declared.document.ParserState.TheVariants as place
 use Rattle.bufr_text.specs.declared.document.LineRefusal.TheVariants as refusal
 use Rattle.bufr_text.specs.declared.fault.ReadFault.TheVariants as fault
+use Rattle.bufr_text.specs.declared.document.ParserState.{ParserState as CodeState}
+
+-- the first line feed, or there is none
+abbrev pub FeedAt : List ℕ → Option ℕ → Type 0
+FeedAt held None = has_no_feed held ≡ true
+FeedAt held (Some place) = (place < length held) × (has_no_feed (take place held) ≡ true)
+    × (held ≡ take place held ++ 10 ∷ drop (place + 1) held)
+
+-- what the end comes to, where no line is held
+abbrev pub HandlesEnd : ReaderModel → ReaderModel → Result (Option Document) ReadFault → Type 0
+HandlesEnd old new (Ok None) = (new ≡ old) × (new.held ≡ []) × (parse (position_of new) [] ≡ [])
+HandlesEnd old new (Err (fault.Line line)) =
+    ParsesHeldLines old new (Refused line NotAllowed ∷ [])
+    × (new.fault ≡ Some (fault.Line line)) × (new.ended ≡ old.ended) × (new.reads ≡ old.reads)
+HandlesEnd old new result = ⊥
 
 -- after a fault nothing is reported
 stays-stopped : (at : ℕ) (meaning : Line) → turn at Stopped meaning ≡ WalkGoes Stopped
@@ -54,7 +68,7 @@ line-held (c ∷ line) t h =
 
 split-octet : (c : ℕ) (t : List ℕ) (s : Split) → (c == 10) ≡ false → split_of t ≡ s → split_of (c ∷ t) ≡ onto_split c s.whole s.rest
 unfolding split_of
-split-octet c t s h e = ap (octet_onto_split c) e ∙ rw h refl
+split-octet c t s h e = ap (λ (s : Split). if c == 10 then record { whole = [] ∷ s.whole; rest = s.rest } else onto_split c s.whole s.rest) e ∙ rw h refl
 
 pub line-split : (line t : List ℕ) → has_no_feed line ≡ true → split_of (line ++ 10 ∷ t) ≡ record { whole = line ∷ (split_of t).whole; rest = (split_of t).rest }
 unfolding split_of
@@ -139,15 +153,11 @@ openly-long : (at : ℕ) (place : ParserState) (held : List ℕ) (s : Split) →
 unfolding LongSplit parse_open_lines
 openly-long at place held s h1 h2 h3 = grind (arith, nat_tests, common_steps, LongSplit, length-append, wrong-faults, stopped-reports-openly)
 
-refuses-openly : (at : ℕ) (place : ParserState) (held t : List ℕ) → Reads place → has_no_feed held ≡ true → 4096 < length held
-    → openly-from at place (split_of (held ++ t)) ≡ Refused at NotAllowed ∷ openly-from at Stopped (split_of (held ++ t))
-refuses-openly at place held t h1 h2 h3 = grind (arith, nat_tests, common_steps, openly-long, long-split, stopped-reports-openly)
-
 pub refuses-long : (at : ℕ) (place : ParserState) (held : List ℕ) (ended : Bool) → Reads place → has_no_feed held ≡ true → 4096 < length held
     → ContinuesParse (record { at = at; place = place; held = held; ended = ended }) (record { at = at; place = Stopped; held = held; ended = ended }) (Refused at NotAllowed ∷ [])
 unfolding parse_lines
 refuses-long at place held ended r h long = record {
-  openly = λ unended t. refuses-openly at place held t r h long;
+  openly = λ unended t. grind (arith, nat_tests, common_steps, openly-long, long-split, stopped-reports-openly);
   whole = λ t none.
       let (more, rest, e) = long-first held t h (omega (arith, long)) in
       let over : nat_lt 4096 (length (held ++ more)) ≡ true = grind (arith, nat_tests, length-append held more, long) in
@@ -208,10 +218,6 @@ feed-at held None h = nowhere held h
 feed-at held (Some n) h = (h.0.high, before held n h.0.high h.0.before, at-feed held n h.0.high h.1)
 
 -- octets with a line feed
-neither : (a b : Bool) → b ≡ false → (a && b) ≡ false
-neither true b e = e
-neither false b e = refl
-
 pub some-held : (held : List ℕ) → has_no_feed held ≡ false → 0 < length held
 some-held [] e = absurd (true≢false e)
 some-held (c ∷ held) e = omega arith
@@ -308,9 +314,6 @@ open-prefix s t =
 abbrev cut : List ℕ → List ℕ
 cut xs = take (length xs - 1) xs
 
-cut-back : (xs : List ℕ) → cut (xs ++ 10 ∷ []) ≡ xs
-cut-back xs = take_at xs (10 ∷ []) (length (xs ++ 10 ∷ []) - 1) (omega (arith, length-append xs (10 ∷ [])))
-
 cut-prefix : (xs : List ℕ) (y : ℕ) (ys : List ℕ) → cut (xs ++ y ∷ ys) ≡ xs ++ cut (y ∷ ys)
 cut-prefix [] y ys = refl
 cut-prefix (x ∷ xs) y ys =
@@ -335,7 +338,7 @@ keeps-by false false h bs feed t (k ∷ more) (inl none) kept fed same = (t, sym
 keeps-by false false h bs feed t (k ∷ more) (inr (open', ended, e)) kept fed same = absurd (true≢false (sym ended))
 keeps-by false true h bs feed t (k ∷ more) (inl none) kept fed same = absurd (omega (arith, ap length (fed refl refl none)))
 keeps-by false true h bs feed t (k ∷ more) (inr (open', ended, e)) kept fed same =
-    (t, sym (cut-back (h ++ bs)) ∙ ap (λ (z : List ℕ). cut ((h ++ bs) ++ z)) (sym e) ∙ ap (λ (z : List ℕ). cut z) same ∙ cut-prefix t k more)
+    (t, sym (take_at (h ++ bs) (10 ∷ []) (length ((h ++ bs) ++ 10 ∷ []) - 1) (omega (arith, length-append (h ++ bs) (10 ∷ [])))) ∙ ap (λ (z : List ℕ). cut ((h ++ bs) ++ z)) (sym e) ∙ ap (λ (z : List ℕ). cut z) same ∙ cut-prefix t k more)
 
 pub call-keeps : (left left' : Option (List ℕ)) (old new : ReaderModel) (results : List ParseResult) (bs : List ℕ) → ReadsLines left left' old new results bs → KeepsUnread old new bs
 call-keeps left left' old new results bs call =
@@ -362,10 +365,18 @@ gives-end at place line d e = subst (IsByEnd line) (sym e) (turn-end at place li
 -- ---- Lines that are taken one after another.
 
 -- a line with an item, in a subset
-pub item-turn : (at subset : ℕ) (line : List ℕ) (d new : documents.Document) (fxy : ℕ) (form : DraftValue) → length line ≤ 4096 → line_of line ≡ Item fxy form → new ≡ with_entry d (Holds (draft at fxy form))
+item-turn : (at subset : ℕ) (line : List ℕ) (d new : documents.Document) (fxy : ℕ) (form : DraftValue) → length line ≤ 4096 → line_of line ≡ Item fxy form → new ≡ with_entry d (Holds (draft at fxy form))
     → documents.WalkGoes (documents.Filling subset new) ≡ documents.turn at (documents.Filling subset d) (line_within_limit line)
 unfolding documents.turn
 item-turn at subset line d new fxy form h1 h2 h3 = grind (arith, nat_tests, common_steps)
+
+pub item-taken : (old p : Progress) (line : List ℕ) (entries : List DraftEntry) (subset fxy : ℕ) (form : DraftValue) → p ≡ old → p.place ≡ place.Filling subset → length line ≤ 4096 → line_of line ≡ Item fxy form → entries ≡ p.parts.entries ++ Holds (draft p.at fxy form) ∷ []
+    → documents.WalkGoes (place_with p.place (record p.parts { entries = entries })) ≡ documents.turn old.at (place_with old.place old.parts) (line_within_limit line)
+item-taken old p line entries subset fxy form same inside short says more =
+    let T : Progress → Type 0 = λ x. documents.WalkGoes (place_with x.place (record x.parts { entries = entries })) ≡ documents.turn old.at (place_with old.place old.parts) (line_within_limit line) in
+    let E : Progress → Type 0 = λ x. entries ≡ x.parts.entries ++ Holds (draft x.at fxy form) ∷ [] in
+    let here : T old = rw (sym (ap (λ x. x.place) same) ∙ inside) (item-turn old.at subset line old.parts (record old.parts { entries = entries }) fxy form short says (ap (λ es. record old.parts { entries = es }) (subst E same more))) in
+    subst T (sym same) here
 
 drop-on : (a b : ℕ) (s : List ℕ) → drop a (drop b s) ≡ drop (b + a) s
 drop-on a b s = grind (arith, common_steps)
@@ -375,11 +386,6 @@ line-taken : (new : Progress) (held : List ℕ) (from n : ℕ) (t : documents.Li
     → t ≡ documents.turn new.at (place_with new.place new.parts) (line_within_limit (take n (drop from held)))
     → ContinuesParse (position_with new (drop from held) ended) (record { at = new.at + 1; place = place_after t; held = drop (from + (n + 1)) held; ended = ended }) (reported_at new.at t)
 line-taken new held from n t ended h1 h2 = grind (arith, nat_tests, common_steps, before, takes-line, drop-on)
-
--- lines, and then more
-pub text-append : (a b : List (List ℕ)) → text_of_lines (a ++ b) ≡ text_of_lines a ++ text_of_lines b
-text-append [] b = refl
-text-append (line ∷ a) b = ap (λ (t : List ℕ). (line ++ 10 ∷ []) ++ t) (text-append a b) ∙ sym (append_assoc (line ++ 10 ∷ []) (text_of_lines a) (text_of_lines b))
 
 pub all-append : (P : List ℕ → Type 0) (a b : List (List ℕ)) → AllByRecursion P a → AllByRecursion P b → AllByRecursion P (a ++ b)
 all-append P [] b x y = y
@@ -396,7 +402,7 @@ passes-line at at' held rest line more p clean e = record {
   octets = p.octets ∙ ap (λ (t : List ℕ). text_of_lines p.lines ++ t) e
       ∙ ap (λ (t : List ℕ). text_of_lines p.lines ++ t) (sym (append_assoc line (10 ∷ []) more))
       ∙ sym (append_assoc (text_of_lines p.lines) (line ++ 10 ∷ []) more)
-      ∙ ap (λ (t : List ℕ). t ++ more) (ap (λ (t : List ℕ). text_of_lines p.lines ++ t) (one-line line) ∙ sym (text-append p.lines (line ∷ [])));
+      ∙ ap (λ (t : List ℕ). t ++ more) (ap (λ (t : List ℕ). text_of_lines p.lines ++ t) (one-line line) ∙ sym (flat_map-append (λ (line : List ℕ). line ++ 10 ∷ []) p.lines (line ∷ [])));
 }
   where
     one-line : (line : List ℕ) → line ++ 10 ∷ [] ≡ text_of_lines (line ∷ [])
@@ -460,6 +466,19 @@ taking-refuses old new held from n line refusal last is feed at here e = record 
   closes = λ gives. absurd cc;
 }
 
+-- the next line adds to the document, and memory is wanted
+pub wants-at : (old new : Progress) (held : List ℕ) (from n : ℕ) → IsTaking old new held from → FeedAt (drop from held) (Some n) → adds (place_with new.place new.parts) (line_within_limit (take n (drop from held))) ≡ true → WantsAt old held
+wants-at old new held from n is feed more = record {
+  progress = new;
+  place = from;
+  taking = is;
+  line = take n (drop from held);
+  rest = drop (n + 1) (drop from held);
+  holds = feed.2;
+  single = feed.1;
+  adds_to = more;
+}
+
 -- ---- What the steps of a reader of dump texts do.
 
 -- where a reader is that goes on
@@ -506,9 +525,6 @@ pub reported-inside : (p : CodeState) (d : documents.Document) (at : ℕ) → (p
 reported-inside place.Between d at not = absurd (not refl)
 reported-inside p d at not = refl
 
-pub none-held : (s : ReaderModel) → s.ended ≡ true → (s.ended ≡ true → ends_by_feed s.held ≡ true) → has_no_feed s.held ≡ true → s.held ≡ []
-none-held s ended ends clean = ends-none s.held (ends ended) clean
-
 pub done-between : (s : ReaderModel) → s.place ≡ Between → s.held ≡ [] → parse (position_of s) [] ≡ []
 unfolding parse_lines lines_of
 done-between s place held =
@@ -516,6 +532,14 @@ done-between s place held =
 
 pub end-reports : (s : ReaderModel) → s.ended ≡ true → s.held ≡ [] → reported_at_end s.at s.place ≡ Refused s.at NotAllowed ∷ [] → ParsesHeldLines s (stopped s (fault.Line s.at)) (Refused s.at NotAllowed ∷ [])
 end-reports s h1 h2 h3 = grind (arith, nat_tests, common_steps, ends-inside, passes-none)
+
+-- the end inside of a document stops the reading
+pub end-inside : (s s' : ReaderModel) (line : ℕ) (f : ReadFault) → s.ended ≡ true → s.held ≡ [] → reported_at_end s.at s.place ≡ Refused s.at NotAllowed ∷ [] → line ≡ s.at → s' ≡ stopped s (fault.Line line) → f ≡ fault.Line line → HandlesEnd s s' (Err f)
+end-inside s s' line f ended held reports at new is =
+    let F : ReadFault → Type 0 = λ f. HandlesEnd s s' (Err f) in
+    let N : ReaderModel → Type 0 = λ n. HandlesEnd s n (Err (fault.Line line)) in
+    let K : ℕ → Type 0 = λ k. HandlesEnd s (stopped s (fault.Line k)) (Err (fault.Line k)) in
+    subst F (sym is) (subst N (sym new) (subst K (sym at) (end-reports s ended held reports, refl, refl, refl)))
 
 -- a line that is too long
 pub reads-place : (p : CodeState) (d : documents.Document) → Reads (place_with p d)
@@ -548,6 +572,4 @@ room-made zero reads' room room' made order first some = first refl some
 room-made (suc reads) reads' room room' made order first some = omega (arith, made (omega arith), order)
 
 -- what closes the goals of single functions
-pub ruleset finish_steps = (none-held, place-sound, done-between, reported-inside, end-reports)
-
 pub ruleset more_steps = (length-append, ends-append, progress-read, room-made)

@@ -1,16 +1,16 @@
 -- The document of an accepted message is encoded to a message with the same reading.
-use Rattle.std.proofs.Common.{◌≡◌, ℕ, suc, ◌/◌, ◌<◌, ◌≤◌, ◌^◌, Bool, true, false, List, [], ◌∷◌, map, Option, Some, None, refl, subst, arith, zero, ◌*◌, ◌&&◌, Result, Ok, Err, ◌+◌, ◌-◌, length, take, drop, sym, ◌∙◌, ap, ◌%◌, ◌++◌, codes, append_assoc, length-append, ◌≢◌, ◌==◌, nat_lt, if◌then◌else◌, unwrap_or, is_some, ◌||◌, IfOk, IfErr}
+use Rattle.std.proofs.Common.{◌≡◌, ℕ, suc, ◌/◌, ◌<◌, ◌≤◌, ◌^◌, Bool, true, false, List, [], ◌∷◌, map, Option, Some, None, refl, subst, arith, zero, ◌*◌, ◌&&◌, Result, Ok, Err, ◌+◌, ◌-◌, length, take, drop, sym, ◌∙◌, ap, ◌%◌, ◌++◌, codes, append_assoc, length-append, ◌≢◌, ◌==◌, nat_lt, if◌then◌else◌, unwrap_or, is_some, ◌||◌, IfOk, IfErr, Vec}
 use Rattle.std.specs.List.{AllByRecursion}
 use Rattle.std.proofs.lemmas.Bool.Decides.{nat_tests}
-use Rattle.bufr_tables.specs.Prelude.{Row, IsLegal, tree_of, tables_of, Tree, Sequence}
+use Rattle.bufr_tables.specs.Prelude.{Row, IsLegal, tree_of, tables_of, Tree, Sequence, places}
 use Rattle.bufr_fill.proofs.SpecLemmas.{AreGoodRows}
-use Rattle.bufr_walk.specs.Prelude.{FieldSpec, Content, shown, Course, next_item, content_at, data_of, Item, ReadsSubsets, IsPackedReading, IsReading, Values, apart, together}
-use Rattle.bufr_text.specs.Prelude.{IsDescriptorWord, value_of, items_apart, compressed_dump_items, compressed_dump_subsets, IsOctet, DumpItem, bit, dump_value_of, item_entries, subset_entries, document_of, dump_text_of, lines_before, IsAccepted, dump_items_in, extra_octets, SaySame, HasSameReading, IsEncodedAgain, Document, head_from_values, compressed_in, ◌>>=◌, report_of_template, report_of_items, data_bits, octets_of_bits, parts_of_document, message_of, encoding_in, encoding_of, RefusedAt, compressed_as, parts_as, AreOctetsOf, IsData, IsDocumentRefusal, Form}
+use Rattle.bufr_walk.specs.Prelude.{FieldSpec, Content, shown, Course, next_item, content_at, data_of, Item, ReadsSubsets, IsPackedReading, IsReading, Values, apart, together, View}
+use Rattle.bufr_text.specs.Prelude.{IsDescriptorWord, items_shown, IsOctet, bit, dump_value_of, item_entries, subset_entries, document_of, dump_text_of, lines_before, IsAccepted, dump_items, extra_octets, SaySame, HasSameReading, IsEncodedAgain, Document, head_from_values, compressed_in, ◌>>=◌, report_of_template, report_of_items, data_bits, octets_of_bits, message_of, encoding_in, encoding_of, RefusedAt, compressed_as, parts_as, AreOctetsOf, IsData, IsDocumentRefusal, Form, WritesForm, by_template, refused_at, reported_refusal, DocumentFault}
 use Rattle.std.proofs.lemmas.List.{take_at, drop_at, length-replicate}
 use Rattle.bufr_bits.specs.Prelude.{bits_of, padding}
 use Rattle.bufr_frame.specs.Prelude.{three_octets, octets_of_words, u24_at, Sections, sections_of, edition_of, section3_begins, section4_begins, IsFitting, MessageParts, even_size, with_even_length, message_octets, message_size, max_octets, section0_octets, section1_octets, section2_octets, section3_octets, section4_octets, data_flags, head_octets, max_extra_octets, parts_in, parts_of, sections_from, first_least, FrameAt, has_word_at, stated_length, classify, stream_event, candidate_len, scan_from}
 use Rattle.bufr_frame.proofs.AgainLemmas.{sections-ended, edition-cases, head-small, least-when-even, no-longer, not-too-long, fitting-writable}
-use Rattle.bufr_fill.specs.Prelude.{IsDumped, AreDrafts, AreDumped, AreDumpedFrom, Draft, draft, DraftEntry, Ends, Subset, subset, prepend_to_subset, subsets_of}
+use Rattle.bufr_fill.specs.Prelude.{IsDumped, AreDrafts, AreDumped, AreDumpedFrom, Draft, draft, DraftEntry, Ends, Subset, subset, prepend_to_subset, subsets_of, subsets_from, items_of_subset}
 use Rattle.bufr_fill.proofs.FieldLemmas.{octet_bits_again, octets_in-are, length-octets_in}
 use Rattle.bufr_frame.specs.declared.section1.Head.{Head}
 use Rattle.bufr_frame.proofs.LayoutLemmas.{three-number, length-evened, length-octets_of_words, read-back, evened-bits, size-least}
@@ -18,12 +18,17 @@ use Rattle.bufr_frame.proofs.ScanLemmas.{scan_from-here}
 use Rattle.bufr_bits.proofs.BitLemmas.{length-bits_of}
 use Rattle.bufr_fill.proofs.WholeLaws.{plain_template_again, packed_template_again}
 use Rattle.bufr_text.specs.declared.encode.Form.TheVariants.{AsWritten}
+use Rattle.bufr_tables.specs.declared.fault.TemplateFault.{TemplateFault}
+use Rattle.bufr_text.specs.declared.fault.DocumentFault.TheVariants as fault
+use Rattle.std.specs.Global.{Global}
 use Rattle.bufr_frame.specs.Layout as layout
 use Rattle.bufr_walk.specs.Reading as reading
-use Rattle.bufr_fill.specs.DraftContent as fill
-use Rattle.bufr_fill.specs.RoundTrip as again
+use Rattle.bufr_fill.specs.Draft as fill
 use Rattle.std.proofs.lemmas.Grind.{common_steps}
 use Rattle.bufr_text.proofs.DumpableLemmas.{sections_given, octets_are}
+
+abbrev pub parts_of_document : Document → (payload : List ℕ) → MessageParts
+parts_of_document d payload = parts_as (compressed_in d) d payload
 
 -- ---- The document of an accepted message is encoded to a message with the same reading.
 
@@ -83,7 +88,7 @@ octets_small h p head local1 section2 descriptors subsets payload few =
     let long3 : 7 + length third ≡ even_size e (7 + 2 * length p.descriptors) = length-evened e 7 words ∙ ap (λ (k : ℕ). even_size e (7 + k)) (length-octets_of_words p.descriptors) in
     let long4 : 4 + length fourth ≡ even_size e (4 + length p.payload) = length-evened e 4 p.payload in
     let edition_small : e < 256 = edition-cases e head.edition (λ is. omega (arith, is)) (λ is. omega (arith, is)) in
-    both s0 (s1 ++ (s2 ++ (s3 ++ (s4 ++ end)))) (section0_small n e (omega (arith, few)) edition_small)
+    both s0 (s1 ++ (s2 ++ (s3 ++ (s4 ++ end)))) (let t = three_small n (omega (arith, few)) in (omega arith, (omega arith, (omega arith, (omega arith, (t.0, (t.1.0, (t.1.1.0, (edition_small, tt)))))))))
     (both s1 (s2 ++ (s3 ++ (s4 ++ end)))
     (both (three_octets (least + length p.local1) ++ head_octets h (is_some p.section2)) p.local1
     (both (three_octets (least + length p.local1)) (head_octets h (is_some p.section2)) (three_small (least + length p.local1) (omega (arith, few))) (head-small h (is_some p.section2) head)) local1)
@@ -91,9 +96,6 @@ octets_small h p head local1 section2 descriptors subsets payload few =
     (both s3 (s4 ++ end) (section3_small third p.subsets flags (omega (arith, few, long3)) subsets (flags_small p.observed p.compressed) (evened_small e 7 words (words_small p.descriptors descriptors)))
     (both s4 end (plain_small fourth (omega (arith, few, long4)) (evened_small e 4 p.payload payload)) (omega arith, (omega arith, (omega arith, (omega arith, tt))))))))
   where
-    section0_small : (size edition : ℕ) → size < 2 ^ 24 → edition < 256 → AllByRecursion IsOctet (section0_octets size edition)
-    section0_small size edition h g = let t = three_small size h in (omega arith, (omega arith, (omega arith, (omega arith, (t.0, (t.1.0, (t.1.1.0, (g, tt))))))))
-
     section3_small : (content : List ℕ) (subsets flags : ℕ) → 7 + length content < 2 ^ 24 → subsets < 65536 → flags < 256 → AllByRecursion IsOctet content → AllByRecursion IsOctet (section3_octets content subsets flags)
     section3_small content subsets flags h g f w =
         let t = three_small (7 + length content) h in
@@ -114,12 +116,6 @@ at_least a b h = grind (arith, nat_tests)
 
 -- what is after a message that states its length n
 module _ (m t : List ℕ) (n : ℕ) (is : stated_length (m ++ t) ≡ n) (long : length m ≡ n) where
-  taken_whole : take (stated_length (m ++ t)) (m ++ t) ≡ m
-  taken_whole = ap (λ k. take k (m ++ t)) is ∙ take_at m t n long
-
-  left_whole : drop (stated_length (m ++ t)) (m ++ t) ≡ t
-  left_whole = ap (λ k. drop k (m ++ t)) is ∙ drop_at m t n long
-
   framed_by : (at : ℕ) → 12 ≤ n → classify (m ++ t) ≡ classify least_message → scan_from 0 at (m ++ t) ≡ FrameAt at m ∷ scan_from 0 (at + length m) t
   unfolding least_message
   framed_by at least frame =
@@ -128,8 +124,8 @@ module _ (m t : List ℕ) (n : ℕ) (is : stated_length (m ++ t) ≡ n) (long : 
       let size : stated_length (m ++ t) ≡ length m = is ∙ sym long in
       scan_from-here at (m ++ t) some moves
       ∙ ap (λ v. stream_event at (m ++ t) v ++ scan_from 0 (at + candidate_len (m ++ t) v) (drop (candidate_len (m ++ t) v) (m ++ t))) frame
-      ∙ ap (λ x. FrameAt at x ∷ scan_from 0 (at + stated_length (m ++ t)) (drop (stated_length (m ++ t)) (m ++ t))) taken_whole
-      ∙ ap (λ x. FrameAt at m ∷ scan_from 0 (at + stated_length (m ++ t)) x) left_whole
+      ∙ ap (λ x. FrameAt at x ∷ scan_from 0 (at + stated_length (m ++ t)) (drop (stated_length (m ++ t)) (m ++ t))) (ap (λ k. take k (m ++ t)) is ∙ take_at m t n long)
+      ∙ ap (λ x. FrameAt at m ∷ scan_from 0 (at + stated_length (m ++ t)) x) (ap (λ k. drop k (m ++ t)) is ∙ drop_at m t n long)
       ∙ ap (λ k. FrameAt at m ∷ scan_from 0 (at + k) t) size
 
 ends_with : (prefix t : List ℕ) (k : ℕ) → length prefix ≡ k → has_word_at (codes "7777") k ((prefix ++ codes "7777") ++ t) ≡ true
@@ -161,57 +157,52 @@ framed h p at t long =
 
 -- ---- the text
 
-pub items_same : (table : List Row) (template : Tree) (a b : Sections) (values : Values) → b.subsets ≡ a.subsets → dump_items_in table template b values ≡ dump_items_in table template a values
-items_same table template a b (apart subsets) e = refl
-items_same table template a b (together items) e = ap (λ n. compressed_dump_subsets table n 0 items) e
-
-text_same : (a b : Sections) (items items' : List (List DumpItem)) → SaySame AsWritten a b → items' ≡ items → dump_text_of b items' ≡ dump_text_of a items
+text_same : (a b : Sections) (items items' : List (List View)) → SaySame AsWritten a b → items' ≡ items → dump_text_of b items' ≡ dump_text_of a items
 text_same a b items items' h1 h2 = grind (arith, nat_tests, common_steps)
 
 pub same_text : (table : List Row) (m : List ℕ) (s : Sections) (template : Tree) (values : Values) (octets : List ℕ) → (h : HasSameReading table m s template values octets)
-    → dump_text_of h.sections (dump_items_in table template h.sections values) ≡ dump_text_of s (dump_items_in table template s values)
-same_text table m s template values octets h = text_same s h.sections (dump_items_in table template s values) (dump_items_in table template h.sections values) h.same (items_same table template s h.sections values h.same.subsets)
+    → dump_text_of h.sections (dump_items table h.sections.subsets values) ≡ dump_text_of s (dump_items table s.subsets values)
+same_text table m s template values octets h = text_same s h.sections (dump_items table s.subsets values) (dump_items table h.sections.subsets values) h.same (ap (λ n. dump_items table n values) h.same.subsets)
 
 -- ---- the drafts of a dump
 
-abbrev drafts_from : (at : ℕ) → List DumpItem → List Draft
+abbrev drafts_from : (at : ℕ) → List View → List Draft
 drafts_from at [] = []
 drafts_from at (item ∷ more) = draft at item.fxy (dump_value_of item.value) ∷ drafts_from (at + 1) more
 
-items_drafted : (at line : ℕ) (items : List DumpItem) (more : List DraftEntry) → subsets_of (item_entries at items ++ (Ends line ∷ more)) ≡ subset (drafts_from at items) line ∷ subsets_of more
+items_drafted : (at line : ℕ) (items : List View) (more : List DraftEntry) → subsets_of (item_entries at items ++ (Ends line ∷ more)) ≡ subset (drafts_from at items) line ∷ subsets_of more
 unfolding item_entries
 items_drafted at line [] more = refl
 items_drafted at line (item ∷ items) more = ap (prepend_to_subset (draft at item.fxy (dump_value_of item.value))) (items_drafted (at + 1) line items more)
 
-pub same_form : (spec : FieldSpec) (c : Content) → dump_value_of (value_of (shown spec c)) ≡ fill.draft_value_of spec c
+pub same_form : (spec : FieldSpec) (c : Content) → dump_value_of (shown spec c) ≡ fill.draft_value_of spec c
 same_form spec c = grind (arith, nat_tests, common_steps)
 
-apart_drafted : (table : List Row) (at : ℕ) (items : List (reading.Item Content)) → AreDrafts IsDumped items (drafts_from at (items_apart table items))
+apart_drafted : (table : List Row) (at : ℕ) (items : List (reading.Item Content)) → AreDrafts IsDumped items (drafts_from at (items_shown table items))
 apart_drafted table at [] = tt
 apart_drafted table at (i ∷ items) = ((refl, same_form i.spec i.content), apart_drafted table (at + 1) items)
 
-together_drafted : (table : List Row) (at j : ℕ) (items : List (reading.Item (List Content))) → AreDrafts IsDumped (again.items_of_subset j items) (drafts_from at (compressed_dump_items table j items))
+together_drafted : (table : List Row) (at j : ℕ) (items : List (reading.Item (List Content))) → AreDrafts IsDumped (items_of_subset j items) (drafts_from at (items_shown table (items_of_subset j items)))
 together_drafted table at j [] = tt
 together_drafted table at j (i ∷ items) = ((refl, same_form i.spec (content_at j i.content)), together_drafted table (at + 1) j items)
 
-pub all_apart : (table : List Row) (at : ℕ) (subsets : List (List (reading.Item Content))) → AreDumped subsets (subsets_of (subset_entries at (map (items_apart table) subsets)))
+pub all_apart : (table : List Row) (at : ℕ) (subsets : List (List (reading.Item Content))) → AreDumped subsets (subsets_of (subset_entries at (map (items_shown table) subsets)))
 unfolding subset_entries
 all_apart table at [] = tt
 all_apart table at (items ∷ subsets) =
-    let here = items_apart table items in
+    let here = items_shown table items in
     let line = at + 1 + length here in
-    subst (AreDumped (items ∷ subsets)) (sym (items_drafted (at + 1) line here (subset_entries line (map (items_apart table) subsets)))) (apart_drafted table (at + 1) items, all_apart table line subsets)
+    subst (AreDumped (items ∷ subsets)) (sym (items_drafted (at + 1) line here (subset_entries line (map (items_shown table) subsets)))) (apart_drafted table (at + 1) items, all_apart table line subsets)
 
-pub all_together : (table : List Row) (at n j : ℕ) (items : List (reading.Item (List Content))) → AreDumpedFrom j items (subsets_of (subset_entries at (compressed_dump_subsets table n j items))) × (length (subsets_of (subset_entries at (compressed_dump_subsets table n j items))) ≡ n)
+pub all_together : (table : List Row) (at n j : ℕ) (items : List (reading.Item (List Content))) → AreDumpedFrom j items (subsets_of (subset_entries at (map (items_shown table) (subsets_from n j items)))) × (length (subsets_of (subset_entries at (map (items_shown table) (subsets_from n j items)))) ≡ n)
 unfolding subset_entries
 all_together table at zero j items = (tt, refl)
 all_together table at (suc n) j items =
-    let here = compressed_dump_items table j items in
+    let here = items_shown table (items_of_subset j items) in
     let line = at + 1 + length here in
-    let rest = all_together table line n (j + 1) items in
-    let next : j + 1 ≡ suc j = omega arith in
-    let is = sym (items_drafted (at + 1) line here (subset_entries line (compressed_dump_subsets table n (j + 1) items))) in (
-      subst (AreDumpedFrom j items) is (together_drafted table (at + 1) j items, subst (λ k. AreDumpedFrom k items (subsets_of (subset_entries line (compressed_dump_subsets table n (j + 1) items)))) next rest.0),
+    let rest = all_together table line n (suc j) items in
+    let is = sym (items_drafted (at + 1) line here (subset_entries line (map (items_shown table) (subsets_from n (suc j) items)))) in (
+      subst (AreDumpedFrom j items) is (together_drafted table (at + 1) j items, rest.0),
       subst (λ (ds : List Subset). length ds ≡ suc n) is (ap suc rest.1),
     )
 
@@ -222,9 +213,6 @@ padded bits = omega (arith, length-append bits (padding (length bits)), length-r
 
 pub payload_bits : (bits : List Bool) → bits_of (octets_of_bits bits) ≡ bits ++ padding (length bits)
 payload_bits bits = octet_bits_again ((length bits + 7) / 8) (bits ++ padding (length bits)) (padded bits)
-
-payload_short : (bits : List Bool) (octets : List ℕ) → length bits ≤ length (bits_of octets) → length (octets_of_bits bits) ≤ length octets
-payload_short bits octets h = omega (arith, h, length-bits_of octets, length-octets_in ((length bits + 7) / 8) (bits ++ padding (length bits)))
 
 -- a document that is encoded
 within : (a b : ℕ) → a ≤ b → nat_lt b a ≡ false
@@ -248,7 +236,7 @@ section2_back (Some octets) = refl
 unfoldable pub parts_with : Sections → List ℕ → MessageParts
 parts_with s payload = parts_of s.local1 s.section2 s.descriptors s.subsets s.observed s.compressed payload
 
-pub parts_back : (at : ℕ) (s : Sections) (items : List (List DumpItem)) (payload : List ℕ) → parts_of_document (document_of at s items) payload ≡ parts_with s payload
+pub parts_back : (at : ℕ) (s : Sections) (items : List (List View)) (payload : List ℕ) → parts_of_document (document_of at s items) payload ≡ parts_with s payload
 unfolding parts_with
 parts_back at s items payload = λ j. parts_of s.local1 (section2_back s.section2 j) s.descriptors s.subsets (bit_back s.observed j) (bit_back s.compressed j) payload
 
@@ -276,10 +264,10 @@ pub fills_as : (b c : Bool) (course : Course) (drafts : List Subset) (out : List
 fills_as b c course drafts out e h = ap (λ x. data_bits x course drafts) e ∙ h
 
 filled : (table : List Row) (template : Tree) (s : Sections) (values : Values) (used at : ℕ) → AreGoodRows table → IsLegal template
-    → IsReading (next_item table template) (data_of s) values used → IsFilled table template s values (subset_entries at (dump_items_in table template s values))
+    → IsReading (next_item table template) (data_of s) values used → IsFilled table template s values (subset_entries at (dump_items table s.subsets values))
 filled table template s (apart subsets) used at rows legal read =
     let course = next_item table template in
-    let entries = subset_entries at (map (items_apart table) subsets) in
+    let entries = subset_entries at (map (items_shown table) subsets) in
     let w = plain_template_again table template subsets (subsets_of entries) (bits_of s.payload) (drop used (bits_of s.payload)) rows legal (all_apart table at subsets) read.2.0 in
     record {
       out = w.out;
@@ -297,7 +285,7 @@ filled table template s (apart subsets) used at rows legal read =
     }
 filled table template s (together items) used at rows legal read =
     let course = next_item table template in
-    let entries = subset_entries at (compressed_dump_subsets table s.subsets 0 items) in
+    let entries = subset_entries at (map (items_shown table) (subsets_from s.subsets 0 items)) in
     let dumped = all_together table at s.subsets 0 items in
     let w = packed_template_again s.subsets table template items (subsets_of entries) (bits_of s.payload) (drop used (bits_of s.payload)) rows legal dumped.1 dumped.0 read.2 in
     record {
@@ -340,17 +328,17 @@ at-most-even m s is = by (edition_of m == 3) (u24_at m (section3_begins m) % 2 =
     by true false true f g h = two f
 
 pub encoded_again : (table : List Row) (sequences : List Sequence) (m : List ℕ) (s : Sections) (template : Tree) (values : Values) (used at : ℕ) → AreGoodRows table → IsLegal template
-    → IsAccepted table sequences m s template values used → IsEncodedAgain table sequences m s template values (document_of at s (dump_items_in table template s values))
+    → IsAccepted table sequences m s template values used → IsEncodedAgain table sequences m s template values (document_of at s (dump_items table s.subsets values))
 unfolding parts_with
 encoded_again table sequences m s template values used at rows legal a =
-    let items = dump_items_in table template s values in
+    let items = dump_items table s.subsets values in
     let d = document_of at s items in
     let f = filled table template s values used (at + lines_before s) rows legal a.read in
     let payload = octets_of_bits f.out in
     let parts = parts_with s payload in
     let same = parts_back at s items payload in
     let edition = s.head.edition in
-    let short = payload_short f.out s.payload f.short in
+    let short : length payload ≤ length s.payload = omega (arith, f.short, length-bits_of s.payload, length-octets_in ((length f.out + 7) / 8) (f.out ++ padding (length f.out))) in
     let least : message_size edition parts ≤ length m + extra_octets m = size_least s payload (length m + extra_octets m) short (at-most-even m s a.sections) in
     let most : message_size edition parts ≤ max_octets = size_least s payload max_octets short (not-too-long m s a.sections a.few) in
     let few : message_size edition (parts_of_document d payload) ≤ max_octets = subst (λ (p : MessageParts). message_size edition p ≤ max_octets) (sym same) most in
@@ -424,3 +412,23 @@ module _ (form : Form) (table : List Row) (sequences : List Sequence) (d : Docum
   unfolding encoding_in
   no_template None h = tt
   no_template (Some f) h = ap (λ r. r >>= λ t. report_of_items (data_bits (compressed_as form d) (next_item table t) (subsets_of d.entries)) >>= λ b. message_of d.line (head_from_values d) (parts_as (compressed_as form d) d (octets_of_bits b))) h
+
+  -- a document whose data are not written is refused
+  pub refused_form : (made : Result Tree TemplateFault) (why : DocumentFault) (steps : ℕ) → tree_of (tables_of table sequences) d.descriptors ≡ made → WritesForm form table d made (Err why) steps → IsDocumentRefusal (reported_refusal why) (encoding_in form table sequences d)
+  refused_form (Ok template) why steps e h = no_data template (reported_refusal why) e h.refuses
+  refused_form (Err why) w steps e h =
+      let R : DocumentFault → Type 0 = λ w. IsDocumentRefusal (reported_refusal w) (encoding_in form table sequences d) in
+      subst R (sym (same_fault w (fault.Template d.line why) h.0)) (no_template (Some (refused_at d.line (by_template why))) (ap (report_of_template d.line) e))
+    where
+      same_fault : (a b : DocumentFault) → ◌≡◌ {A = Result (Vec ℕ Global) DocumentFault} (Err a) (Err b) → a ≡ b
+      same_fault a b e = cc
+
+  -- its data, where they were written
+  pub record IsWrittenForm (octets : List ℕ) (steps : ℕ) : Type 0 where
+    pub template : Tree
+    pub is : tree_of (tables_of table sequences) d.descriptors ≡ Ok template
+    pub written : IsData (places template) (compressed_as form d) (next_item table template) (subsets_of d.entries) octets steps
+
+  pub written_form : (made : Result Tree TemplateFault) (octets : Vec ℕ Global) (steps : ℕ) → tree_of (tables_of table sequences) d.descriptors ≡ made → WritesForm form table d made (Ok octets) steps → IsWrittenForm octets.items steps
+  written_form (Ok template) octets steps e h = record { template = template; is = e; written = h }
+  written_form (Err why) octets steps e h = absurd (cc h.0)

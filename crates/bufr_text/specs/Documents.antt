@@ -3,7 +3,6 @@
 -- Cited by public contracts.
 use Rattle.std.specs.Prelude.{ℕ, List, [], slice_index, ◌+◌, ◌==◌, nat_le, nat_lt, Bool, true, false, not, ◌&&◌, if◌then◌else◌, ◌∷◌, ◌++◌, length, ◌≡◌, ◌^◌, Option, Some, None}
 use Rattle.bufr_fill.specs.Prelude.{DraftEntry, draft, Holds, Ends}
-use Rattle.bufr_frame.specs.Prelude.{slots_of}
 use Rattle.bufr_text.specs.Line.{Line, Passed, Opens, Header, Local1, Section2, Descriptors, Begins, Item, Closes, Wrong, leasts, mosts, line_of}
 use Rattle.bufr_frame.specs.declared.section1.Head.{Head}
 
@@ -37,8 +36,7 @@ optional_in d = slice_index d.header 18
 abbrev pub subsets_in : Document → ℕ
 subsets_in d = slice_index d.header 19
 
--- why a line is refused: no line that its place allows (50), too few or too many subsets (57), a
--- header value past its range (61)
+-- why a line is refused: not allowed there (50), the number of subsets (57), a header value (61)
 pub data TextLineFault : Type 0 where
   NotAllowed : TextLineFault
   SubsetCount : TextLineFault
@@ -64,34 +62,22 @@ pub data ParseResult : Type 0 where
   Complete : Document → ParseResult
   Refused : (line : ℕ) (fault : TextLineFault) → ParseResult
 
--- the document with one more part
-abbrev pub with_value : Document → ℕ → Document
-with_value d value = record d { header = d.header ++ value ∷ [] }
-
-abbrev pub with_local1 : Document → List ℕ → Document
-with_local1 d octets = record d { local1 = d.local1 ++ octets }
-
-abbrev pub with_section2 : Document → List ℕ → Document
-with_section2 d octets = record d { section2 = d.section2 ++ octets }
-
-abbrev pub with_descriptors : Document → List ℕ → Document
-with_descriptors d words = record d { descriptors = d.descriptors ++ words }
-
+-- the document with one more entry
 abbrev pub with_entry : Document → DraftEntry → Document
 with_entry d entry = record d { entries = d.entries ++ entry ∷ [] }
 
 -- in the range of its key, which goes by the edition
 abbrev pub in_range : (edition key value : ℕ) → Bool
 in_range edition key value = nat_le (slice_index leasts key) value
-    && nat_le value (slice_index (mosts (slots_of edition)) key)
+    && nat_le value (slice_index (mosts edition) key)
 
 -- a header line
 -- rule: reading-header-order, fault-61, fault-order-of-a-line
 abbrev pub heading : Document → Line → LineEffect
 heading d (Header key value) = if not (key == length d.header) then Faults NotAllowed
     else if not (in_range (edition_in d) key value) then Faults HeaderRange
-    else WalkGoes (if key == 19 then BeforeSubsets 0 (with_value d value)
-    else Heading (with_value d value))
+    else let next = record d { header = d.header ++ value ∷ [] } in
+    WalkGoes (if key == 19 then BeforeSubsets 0 next else Heading next)
 heading d line = Faults NotAllowed
 
 -- `subset` and its number, where so many subsets were read
@@ -110,10 +96,13 @@ closing read d = if read == subsets_in d then Gives d else Faults SubsetCount
 -- rule: reading-section2
 abbrev pub before_subsets : (part : ℕ) → Document → Line → LineEffect
 before_subsets part d (Local1 octets) =
-    if part == 0 then WalkGoes (BeforeSubsets 0 (with_local1 d octets)) else Faults NotAllowed
+    if part == 0 then WalkGoes (BeforeSubsets 0 (record d { local1 = d.local1 ++ octets }))
+    else Faults NotAllowed
 before_subsets part d (Section2 octets) = if nat_le part 1 && (optional_in d == 1)
-    then WalkGoes (BeforeSubsets 1 (with_section2 d octets)) else Faults NotAllowed
-before_subsets part d (Descriptors words) = WalkGoes (BeforeSubsets 2 (with_descriptors d words))
+    then WalkGoes (BeforeSubsets 1 (record d { section2 = d.section2 ++ octets }))
+    else Faults NotAllowed
+before_subsets part d (Descriptors words) =
+    WalkGoes (BeforeSubsets 2 (record d { descriptors = d.descriptors ++ words }))
 before_subsets part d (Begins subset) = beginning 0 d subset
 before_subsets part d Closes = closing 0 d
 before_subsets part d line = Faults NotAllowed
@@ -127,17 +116,12 @@ filling at subset d (Begins next) = beginning subset (with_entry d (Ends at)) ne
 filling at subset d Closes = closing subset (with_entry d (Ends at))
 filling at subset d line = Faults NotAllowed
 
--- a line between documents
--- rule: reading-between-documents
-abbrev pub opening : (at : ℕ) → Line → LineEffect
-opening at Opens = WalkGoes (Heading (blank at))
-opening at line = Faults NotAllowed
-
--- what a line does at a place
--- rule: reading-empty-lines, fault-50
+-- what a line does at a place; between documents only `message` may be
+-- rule: reading-empty-lines, reading-between-documents, fault-50
 unfoldable pub turn : (at : ℕ) → ParserState → Line → LineEffect
 turn at place Passed = WalkGoes place
-turn at Between line = opening at line
+turn at Between Opens = WalkGoes (Heading (blank at))
+turn at Between line = Faults NotAllowed
 turn at (Heading d) line = heading d line
 turn at (BeforeSubsets part d) line = before_subsets part d line
 turn at (Filling subset d) line = filling at subset d line
@@ -218,13 +202,11 @@ abbrev pub onto_split : ℕ → List (List ℕ) → List ℕ → Split
 onto_split c [] rest = record { whole = []; rest = c ∷ rest }
 onto_split c (line ∷ more) rest = record { whole = (c ∷ line) ∷ more; rest = rest }
 
-abbrev pub octet_onto_split : ℕ → Split → Split
-octet_onto_split c s =
-    if c == 10 then record { whole = [] ∷ s.whole; rest = s.rest } else onto_split c s.whole s.rest
-
 unfoldable pub split_of : List ℕ → Split
 split_of [] = record { whole = []; rest = [] }
-split_of (c ∷ more) = octet_onto_split c (split_of more)
+split_of (c ∷ more) =
+    let s = split_of more in
+    if c == 10 then record { whole = [] ∷ s.whole; rest = s.rest } else onto_split c s.whole s.rest
 
 -- the documents of a text whose end is not known
 abbrev pub open_documents_of : List ℕ → List ParseResult
@@ -257,10 +239,7 @@ head_from_values d = record {
   second = key_value d 15;
 }
 
--- the two flags of section 3
-abbrev pub observed_in : Document → Bool
-observed_in d = key_value d 16 == 1
-
+-- whether the data are compressed
 abbrev pub compressed_in : Document → Bool
 compressed_in d = key_value d 17 == 1
 

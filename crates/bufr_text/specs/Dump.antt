@@ -1,58 +1,47 @@
 -- The dump text of a message, line by line, its items and their bounds, and the line that lists it.
 -- (A choice of this project)
 -- Cited by public contracts.
-use Rattle.std.specs.Prelude.{ℕ, ◌+◌, Bool, if◌then◌else◌, List, [], ◌∷◌, ◌++◌, length, map, flat_map, codes, decimal, Option, Some, None, is_some, unwrap_or, ℤ, pos, zero, suc, option_map, ◌≡◌, ◌^◌, ◌<◌, ◌≤◌, true, negsuc, unsigned_abs}
+use Rattle.std.specs.Prelude.{ℕ, ◌+◌, Bool, if◌then◌else◌, List, [], ◌∷◌, ◌++◌, length, map, flat_map, codes, decimal, Option, Some, None, is_some, unwrap_or, pos, ◌≡◌, ◌^◌, ◌<◌, ◌≤◌, true, unsigned_abs, replicate, ◌-◌}
 use Rattle.bufr_bits.specs.Prelude.{decimal_text_of}
-use Rattle.bufr_tables.specs.Prelude.{fxy_text, Row, is_printed}
-use Rattle.bufr_frame.specs.Prelude.{Sections, IsFitting}
-use Rattle.bufr_fill.specs.Prelude.{DraftValue, draft, number_token, text_form, missing_form, reference_token, DraftEntry, Holds, Ends}
+use Rattle.bufr_tables.specs.Prelude.{fxy_text, Row, is_name}
+use Rattle.bufr_frame.specs.Prelude.{Sections, IsFitting, values_of}
+use Rattle.bufr_fill.specs.Prelude.{DraftValue, draft, number_token, text_form, missing_form, reference_token, DraftEntry, Holds, Ends, subsets_from}
 use Rattle.bufr_text.specs.Documents.{Document}
-use Rattle.bufr_text.specs.Grammar.{runs_of, hex_text, descriptors_text, quoted}
-use Rattle.bufr_text.specs.Line.{keys, key_in}
-pub use Rattle.bufr_text.specs.Writing.{joined, zero_padded, flag}
-use Rattle.bufr_walk.specs.Prelude.{View, view_of, content_at, Content, ShownValue, shown_number, shown_text, shown_missing, shown_reference, Read, Values, apart, together}
-use Rattle.std.specs.List.{list_all, AllByRecursion}
-use Rattle.bufr_walk.specs.Reading as reading
+use Rattle.bufr_text.specs.Line.{keys, key_at, runs_of, hex_text, descriptors_text, quoted}
+use Rattle.bufr_walk.specs.Prelude.{View, view_of, Content, Item, ShownValue, shown_number, shown_text, shown_missing, shown_reference, Values, apart, together}
+use Rattle.std.specs.List.{AllByRecursion}
 use Rattle.bufr_frame.specs.declared.section1.Head.{Head}
 
--- what was read for an item
-pub data DumpValue : Type 0 where
-  IsNumber : (v scale : ℤ) → DumpValue
-  IsText : (octets : List ℕ) → DumpValue
-  IsMissing : DumpValue
-  IsReference : (v : ℤ) → DumpValue
+-- decimal digits, at least so many, with leading zeros
+-- rule: listing-time
+abbrev pub zero_padded : (least n : ℕ) → List ℕ
+zero_padded least n = replicate (least - length (decimal n)) 48 ++ decimal n
 
--- the name and the unit of a comment
-pub record Comment : Type 0 where
-  pub name : List ℕ
-  pub unit : List ℕ
+-- 1 or 0
+-- rule: listing-flags
+abbrev pub flag : Bool → List ℕ
+flag on = if on then codes "1" else codes "0"
 
--- an item of a subset
-pub record DumpItem : Type 0 where
-  pub fxy : ℕ
-  pub comment : Option Comment
-  pub value : DumpValue
+-- texts, one after another
+abbrev pub joined : List (List ℕ) → List ℕ
+joined [] = []
+joined (text ∷ more) = text ++ joined more
 
--- the values of the header lines
 abbrev pub bit : Bool → ℕ
 bit on = if on then 1 else 0
 
+-- the values of the header lines
 -- rule: text-header, text-header-of-edition-3
 abbrev pub header_of : Sections → List ℕ
-header_of s = let h = s.head in
-    h.edition ∷ h.master ∷ h.centre ∷ h.subcentre ∷ h.update ∷ h.category ∷ h.subcategory
-    ∷ h.local_subcategory ∷ h.master_version
-    ∷ h.local_version ∷ h.year ∷ h.month ∷ h.day ∷ h.hour ∷ h.minute ∷ h.second
-    ∷ bit s.observed ∷ bit s.compressed ∷ bit (is_some s.section2) ∷ s.subsets ∷ []
-
--- a key and its value
-abbrev pub header_line : (key value : ℕ) → List ℕ
-header_line key value = (key_in keys key).name ++ 32 ∷ decimal value
+header_of s =
+    s.head.edition ∷ values_of s.head ++ bit s.observed ∷ bit s.compressed
+    ∷ bit (is_some s.section2) ∷ s.subsets ∷ []
 
 -- the header lines from a key on
 unfoldable pub header_lines : (key : ℕ) → List ℕ → List (List ℕ)
 header_lines key [] = []
-header_lines key (value ∷ more) = header_line key value ∷ header_lines (key + 1) more
+header_lines key (value ∷ more) =
+    (key_at key ++ 32 ∷ decimal value) ∷ header_lines (key + 1) more
 
 -- rule: text-local1
 abbrev pub local1_line : List ℕ → List ℕ
@@ -68,18 +57,18 @@ descriptors_line words = codes "descriptors" ++ descriptors_text words
 
 -- the form of a value in a document
 -- rule: text-number
-abbrev pub dump_value_of : DumpValue → DraftValue
-dump_value_of (IsNumber v scale) = number_token (decimal_text_of v scale)
-dump_value_of (IsText octets) = text_form octets
-dump_value_of IsMissing = missing_form
-dump_value_of (IsReference v) = reference_token (decimal_text_of v (pos 0))
+abbrev pub dump_value_of : ShownValue → DraftValue
+dump_value_of (shown_number v scale) = number_token (decimal_text_of v scale)
+dump_value_of (shown_text octets) = text_form octets
+dump_value_of shown_missing = missing_form
+dump_value_of (shown_reference v) = reference_token (decimal_text_of v (pos 0))
 
--- two spaces, `# `, the name, the unit in brackets
--- rule: text-comment
-abbrev pub comment_text : Option Comment → List ℕ
+-- two spaces, `# `, the name, the unit in brackets; exactly where the item was read by a row
+-- rule: text-comment, text-no-comment
+abbrev pub comment_text : Option Row → List ℕ
 comment_text None = []
-comment_text (Some comment) =
-    joined (codes "  # " ∷ comment.name ∷ codes " [" ∷ comment.unit ∷ codes "]" ∷ [])
+comment_text (Some row) =
+    joined (codes "  # " ∷ row.name ∷ codes " [" ∷ row.unit ∷ codes "]" ∷ [])
 
 -- a descriptor and its value's text
 -- rule: text-quoted, text-missing, text-reference, text-inserted
@@ -89,15 +78,15 @@ form_text fxy (text_form octets) = fxy_text fxy ++ 32 ∷ 34 ∷ quoted octets
 form_text fxy missing_form = fxy_text fxy ++ 32 ∷ codes "MISSING"
 form_text fxy (reference_token token) = codes "R " ++ fxy_text fxy ++ 32 ∷ token
 
-abbrev pub item_text : DumpItem → List ℕ
-item_text item = form_text item.fxy (dump_value_of item.value) ++ comment_text item.comment
+abbrev pub item_text : View → List ℕ
+item_text item = form_text item.fxy (dump_value_of item.value) ++ comment_text item.entry
 
 abbrev pub subset_line : ℕ → List ℕ
 subset_line subset = codes "subset " ++ decimal subset
 
 -- the lines of the subsets from a number on
 -- rule: text-subset
-unfoldable pub subset_lines : (subset : ℕ) → List (List DumpItem) → List (List ℕ)
+unfoldable pub subset_lines : (subset : ℕ) → List (List View) → List (List ℕ)
 subset_lines subset [] = []
 subset_lines subset (items ∷ more) =
     subset_line subset ∷ (map item_text items ++ subset_lines (subset + 1) more)
@@ -111,7 +100,7 @@ head_lines s = codes "message" ∷ (header_lines 0 (header_of s)
 
 -- the lines of a message
 -- rule: text-lines-in-order
-abbrev pub dump_lines : Sections → List (List DumpItem) → List (List ℕ)
+abbrev pub dump_lines : Sections → List (List View) → List (List ℕ)
 dump_lines s subsets = head_lines s ++ (subset_lines 1 subsets ++ codes "end" ∷ [])
 
 -- lines, each ended by a line feed
@@ -119,17 +108,17 @@ abbrev pub text_of_lines : List (List ℕ) → List ℕ
 text_of_lines lines = flat_map (λ line. line ++ 10 ∷ []) lines
 
 -- the dump text of a message
-abbrev pub dump_text_of : Sections → List (List DumpItem) → List ℕ
+abbrev pub dump_text_of : Sections → List (List View) → List ℕ
 dump_text_of s subsets = text_of_lines (dump_lines s subsets)
 
 -- the entries of items whose first is at a line
-unfoldable pub item_entries : (at : ℕ) → List DumpItem → List DraftEntry
+unfoldable pub item_entries : (at : ℕ) → List View → List DraftEntry
 item_entries at [] = []
 item_entries at (item ∷ more) =
     Holds (draft at item.fxy (dump_value_of item.value)) ∷ item_entries (at + 1) more
 
 -- the entries of subsets whose first begins at a line
-unfoldable pub subset_entries : (at : ℕ) → List (List DumpItem) → List DraftEntry
+unfoldable pub subset_entries : (at : ℕ) → List (List View) → List DraftEntry
 subset_entries at [] = []
 subset_entries at (items ∷ more) = item_entries (at + 1) items
     ++ (Ends (at + 1 + length items) ∷ subset_entries (at + 1 + length items) more)
@@ -140,7 +129,7 @@ lines_before s = 21 + length (runs_of 32 s.local1) + length (runs_of 32 (unwrap_
     + length (runs_of 8 s.descriptors)
 
 -- the document of a message whose dump text begins at a line
-abbrev pub document_of : (at : ℕ) → Sections → List (List DumpItem) → Document
+abbrev pub document_of : (at : ℕ) → Sections → List (List View) → Document
 document_of at s subsets = record {
   line = at;
   header = header_of s;
@@ -152,44 +141,18 @@ document_of at s subsets = record {
 
 -- ---- The items that a reading gives to a dump text. (a choice of this project)
 
--- the value of an item that is shown
-abbrev pub value_of : ShownValue → DumpValue
-value_of (shown_number value scale) = IsNumber value scale
-value_of (shown_text octets) = IsText octets
-value_of shown_missing = IsMissing
-value_of (shown_reference value) = IsReference value
+-- the items of a subset, each as it is shown
+abbrev pub items_shown : List Row → List (Item Content) → List View
+items_shown table items = map (λ i. view_of table i.spec i.content) items
 
--- the name and the unit of the row of Table B by which an item was read
-abbrev pub comment_of : Row → Comment
-comment_of row = record { name = row.name; unit = row.unit }
+-- the items of each subset, whatever the form in which they were read
+abbrev pub each_subset : (subsets : ℕ) → Values → List (List (Item Content))
+each_subset n (apart subsets) = subsets
+each_subset n (together items) = subsets_from n 0 items
 
--- an item as it is shown: with a comment exactly where it was read by a row of Table B
--- rule: text-no-comment
-abbrev pub dump_item_of : View → DumpItem
-dump_item_of v =
-    record { fxy = v.fxy; comment = option_map comment_of v.entry; value = value_of v.value }
-
--- the items of a subset that has bits of its own
-abbrev pub items_apart : List Row → List (reading.Item Content) → List DumpItem
-items_apart table items = map (λ i. dump_item_of (view_of table i.spec i.content)) items
-
--- the items of one subset of compressed data, counted from 0
-abbrev pub compressed_dump_items : List Row → (subset : ℕ) → List (reading.Item (List Content))
-    → List DumpItem
-compressed_dump_items table subset items =
-    map (λ i. dump_item_of (view_of table i.spec (content_at subset i.content))) items
-
--- the items of so many subsets of compressed data, from one on, counted from 0
-abbrev pub compressed_dump_subsets : List Row → (left subset : ℕ)
-    → List (reading.Item (List Content)) → List (List DumpItem)
-compressed_dump_subsets table zero subset items = []
-compressed_dump_subsets table (suc left) subset items =
-    compressed_dump_items table subset items ∷ compressed_dump_subsets table left (subset + 1) items
-
--- the items of each subset of a reading
-abbrev pub dump_items_of : Read → Values → List (List DumpItem)
-dump_items_of r (apart subsets) = map (items_apart r.table) subsets
-dump_items_of r (together items) = compressed_dump_subsets r.table r.source.subsets 0 items
+-- the items of each of so many subsets, as the dump text of a message gives them
+abbrev pub dump_items : List Row → (subsets : ℕ) → Values → List (List View)
+dump_items table n values = map (items_shown table) (each_subset n values)
 
 -- ---- What sections and a reading give of the parts of a dump text.
 
@@ -200,34 +163,25 @@ IsOctet c = c < 256
 abbrev pub IsDescriptorWord : ℕ → Type 0
 IsDescriptorWord w = w < 65536
 
--- scales go from -300 to 300
-abbrev pub IsScale : ℤ → Type 0
-IsScale (pos n) = n ≤ 300
-IsScale (negsuc n) = suc n ≤ 300
+-- a number has at most 39 digits and a scale from -300 to 300, a text at most 255 octets
+abbrev pub IsValue : ShownValue → Type 0
+IsValue (shown_number v scale) = (unsigned_abs v < 10 ^ 39) × (unsigned_abs scale ≤ 300)
+IsValue (shown_text octets) = AllByRecursion IsOctet octets × (length octets ≤ 255)
+IsValue shown_missing = Unit {0}
+IsValue (shown_reference v) = unsigned_abs v < 10 ^ 39
 
--- a number is one of an i128, a text has at most 255 octets
-abbrev pub IsValue : DumpValue → Type 0
-IsValue (IsNumber v scale) = (unsigned_abs v < 10 ^ 39) × IsScale scale
-IsValue (IsText octets) = AllByRecursion IsOctet octets × (length octets ≤ 255)
-IsValue IsMissing = Unit {0}
-IsValue (IsReference v) = unsigned_abs v < 10 ^ 39
-
--- a name or a unit is one that Table B can have
-pub record IsName (name : List ℕ) : Type 0 where
-  pub printed : list_all is_printed name ≡ true
-  pub short : length name ≤ 512
-
-abbrev pub IsComment : Option Comment → Type 0
+-- the name and the unit are some that Table B can have
+abbrev pub IsComment : Option Row → Type 0
 IsComment None = Unit {0}
-IsComment (Some comment) = IsName comment.name × IsName comment.unit
+IsComment (Some row) = (is_name row.name ≡ true) × (is_name row.unit ≡ true)
 
-pub record IsItem (item : DumpItem) : Type 0 where
+pub record IsItem (item : View) : Type 0 where
   pub word : IsDescriptorWord item.fxy
   pub value : IsValue item.value
-  pub comment : IsComment item.comment
+  pub comment : IsComment item.entry
 
 -- sections and as many subsets as they state
-pub record IsDumpable (s : Sections) (subsets : List (List DumpItem)) : Type 0 where
+pub record IsDumpable (s : Sections) (subsets : List (List View)) : Type 0 where
   pub head : IsFitting s.head
   pub local1 : AllByRecursion IsOctet s.local1
   pub section2 : AllByRecursion IsOctet (unwrap_or s.section2 [])

@@ -1,17 +1,17 @@
 -- The message that a document is encoded to, or its first refusal, with the turns made.
 -- (WMO-No. 306, Volume I.2, FM 94: sections 0 to 5)
 -- Cited by public contracts.
-use Rattle.std.specs.Prelude.{Bool, true, false, ℕ, ◌+◌, ◌/◌, nat_lt, if◌then◌else◌, List, ◌++◌, length, Result, Ok, Err, ◌≡◌, Option, Some, None, ◌≤◌, [], ◌∷◌, Vec, ◌*◌}
+use Rattle.std.specs.Prelude.{◌==◌, Bool, true, false, ℕ, ◌+◌, ◌/◌, nat_lt, if◌then◌else◌, List, ◌++◌, length, Result, Ok, Err, ◌≡◌, Option, Some, None, ◌≤◌, [], ◌∷◌, Vec, ◌*◌, ◌≢◌}
 use Rattle.bufr_text.specs.declared.encode.Form.{Form}
-use Rattle.bufr_bits.specs.Prelude.{padding, bits_of}
+use Rattle.bufr_bits.specs.Prelude.{◌>>=◌, padding, bits_of}
 use Rattle.bufr_tables.specs.declared.fault.TemplateFault.{TemplateFault}
 use Rattle.bufr_tables.specs.Prelude.{tree_of, tables_of, Row, Sequence, Tree, places}
 use Rattle.bufr_frame.specs.declared.section1.Head.{Head}
 use Rattle.bufr_frame.specs.Prelude.{MessageParts, parts_of, message_octets, message_size, max_octets}
 use Rattle.bufr_walk.specs.Prelude.{octets_in, FieldSpec, Course, next_item, Next, take_next, ticked}
-use Rattle.bufr_fill.specs.Prelude.{plain_data, packed_data, packed_filler, rows, longest, are_many, plain_filler, WrittenItem, Filler, fill, Subset, subsets_of, DraftEntry, Holds, Ends, DraftFaultKind, FaultAt, wrong_number, out_of_range, text_long, missing_forbidden, unequal_factors, uneven_increment, walk_refused, too_many_values, other_than, at_line, draft_fault, PlainOutModel, items_left, end_left}
+use Rattle.bufr_fill.specs.Prelude.{plain_data, packed_data, packed_filler, rows, longest, are_many, plain_filler, WrittenItem, Filler, fill, Subset, subsets_of, DraftFaultKind, FaultAt, wrong_number, out_of_range, text_long, missing_forbidden, unequal_factors, uneven_increment, walk_refused, too_many_values, other_than, at_line, draft_fault}
 use Rattle.bufr_text.specs.declared.encode.Form.TheVariants.{AsWritten}
-use Rattle.bufr_text.specs.Documents.{Document, subsets_in, head_from_values, observed_in, compressed_in, section2_in}
+use Rattle.bufr_text.specs.Documents.{Document, subsets_in, head_from_values, key_value, compressed_in, section2_in}
 use Rattle.bufr_text.specs.declared.fault.DocumentFault.{DocumentFault}
 use Rattle.bufr_text.specs.declared.fault.WalkRefusal.{WalkRefusal}
 use Rattle.bufr_walk.specs.declared.spec.Taken.{Taken}
@@ -23,6 +23,7 @@ use Rattle.bufr_walk.specs.declared.spec.TurnRefusal.TheVariants as refusal
 use Rattle.bufr_text.specs.declared.fault.DocumentFault.TheVariants as fault
 use Rattle.bufr_text.specs.declared.fault.WalkRefusal.TheVariants as walk
 use Rattle.bufr_walk.specs.declared.walker.WalkStop.TheVariants as stops
+use Rattle.bufr_tables.specs.declared.fault.TemplateFault.TheVariants as template_fault
 
 -- ---- The form in which the data of a document are written. (a choice of this project)
 
@@ -38,9 +39,7 @@ abbrev pub form_of_flag : (compressed : Bool) → Form
 form_of_flag false = form.Plain
 form_of_flag true = form.Compressed
 
--- why a document is refused: its descriptors make no template, or an item is at fault; or there is
--- none where one should be, or the walk there is at fault; or its message would be too long; that
--- it is, and in which order, is a choice of this project
+-- why a document is refused: by its template, by an item or the walk to it, or by its length
 pub data DocumentRefusal : Type 0 where
   by_template : (why : TemplateFault) → DocumentRefusal
   by_item : (why : DraftFaultKind) → DocumentRefusal
@@ -53,13 +52,6 @@ pub record RefusedAt : Type 0 where
 
 abbrev pub refused_at : ℕ → DocumentRefusal → RefusedAt
 refused_at line why = record { line = line; why = why }
-
--- one step after another, up to the first refusal
-infixl 10 ◌>>=◌
-abbrev pub ◌>>=◌ : {A B : Type 0} → Result A RefusedAt → (A → Result B RefusedAt)
-    → Result B RefusedAt
-(Ok a) >>= next = next a
-(Err why) >>= next = Err why
 
 -- a fault of the template is reported at the line of `message`
 -- rule: fault-56
@@ -85,10 +77,7 @@ octets_of_bits bits = octets_in ((length bits + 7) / 8) (bits ++ padding (length
 -- rule: writes-local-use
 abbrev pub parts_as : (compressed : Bool) → Document → (payload : List ℕ) → MessageParts
 parts_as compressed d payload = parts_of d.local1 (section2_in d) d.descriptors (subsets_in d)
-    (observed_in d) compressed payload
-
-abbrev pub parts_of_document : Document → (payload : List ℕ) → MessageParts
-parts_of_document d payload = parts_as (compressed_in d) d payload
+    (key_value d 16 == 1) compressed payload
 
 -- whether the data of a document are compressed in a form
 -- rule: form-option
@@ -102,8 +91,7 @@ message_of line head parts =
     if nat_lt max_octets (message_size head.edition parts) then Err (refused_at line too_long)
     else Ok (message_octets head parts)
 
--- the octets of a document's message, or its first fault: the template goes before all, then the
--- items in the order of the template, then the length
+-- a document's message, or its first fault: of the template, of the items in order, of the length
 -- rule: fault-56-first-60-last
 unfoldable pub encoding_in : Form → List Row → List Sequence → Document → Result (List ℕ) RefusedAt
 encoding_in form table sequences d = do
@@ -313,41 +301,10 @@ WritesData places compressed course subsets (Ok octets) steps =
 WritesData places compressed course subsets (Err why) steps =
     IsNoData places compressed course subsets why steps
 
--- ---- one subset
-
--- what is left after the end of the next subset
-abbrev pub left_after : List DraftEntry → List DraftEntry
-left_after [] = []
-left_after (Holds d ∷ more) = left_after more
-left_after (Ends line ∷ more) = more
-
--- what the definition makes of the next subset
-abbrev pub fill_next : Course → List DraftEntry → Result (List Bool) FaultAt
-fill_next course left = fill (plain_filler (end_left left)) course (items_left left)
-
-abbrev pub count_next : Course → List DraftEntry → ℕ
-count_next course left = count_filled (plain_filler (end_left left)) course (items_left left)
-
-abbrev pub turns_next : Course → List DraftEntry → ℕ
-turns_next course left = turns_filled (plain_filler (end_left left)) course (items_left left)
-
-pub record IsSubset (places : ℕ) (course : Course) (s : PlainOutModel) (steps : ℕ)
-    (s' : PlainOutModel) (steps' : ℕ) : Type 0 where
-  pub bits : List Bool
-  pub is : fill_next course s.left ≡ Ok bits
-  pub written : s'.bits ≡ s.bits ++ bits
-  pub left : s'.left ≡ left_after s.left
-  pub made : steps' ≡ ticked steps (turns_next course s.left)
-  pub few : steps' ≤ steps + places * length bits
-
-pub record IsNoSubset (places : ℕ) (course : Course) (s : PlainOutModel) (steps : ℕ)
-    (why : DocumentFault) (steps' : ℕ) : Type 0 where
-  pub refuses : IsDocumentRefusal (reported_refusal why) (report_of_items (fill_next course s.left))
-  pub made : CountsSteps (reported_refusal why) steps (turns_next course s.left) steps'
-  pub few : steps' ≤ steps + places * (count_next course s.left + 1)
-
--- the next subset was written and its end passed, or it is refused
-abbrev pub WritesSubset : (places : ℕ) → Course → PlainOutModel → (steps : ℕ)
-    → Result (Unit {0}) DocumentFault → PlainOutModel → (steps' : ℕ) → Type 0
-WritesSubset places course s steps (Ok _) s' steps' = IsSubset places course s steps s' steps'
-WritesSubset places course s steps (Err why) s' steps' = IsNoSubset places course s steps why steps'
+-- the same by the template, or why there is none
+abbrev pub WritesForm : Form → List Row → Document → Result Tree TemplateFault
+    → Result (Vec ℕ Global) DocumentFault → (steps : ℕ) → Type 0
+WritesForm form table d (Ok template) result steps = WritesData (places template)
+    (compressed_as form d) (next_item table template) (subsets_of d.entries) result steps
+WritesForm form table d (Err why) result steps =
+    (result ≡ Err (fault.Template d.line why)) × (why ≢ template_fault.Memory) × (steps ≡ 0)

@@ -1,12 +1,176 @@
--- What a line says, apart from where it is, and the keys of the header.
+-- The words and values that lines are made of, what a line says, and the keys of the header.
 -- (A choice of this project)
 -- Cited by public contracts.
-use Rattle.std.specs.Prelude.{ℕ, zero, suc, ◌+◌, ◌==◌, nat_le, nat_lt, Bool, not, ◌&&◌, if◌then◌else◌, List, [], ◌∷◌, Option, Some, None, option_map, codes, length, map, ◌-◌, ◌++◌, decimal, take, drop, ◌≡◌, ◌*◌, ◌≤◌}
+use Rattle.std.specs.Prelude.{ℕ, zero, suc, ◌+◌, ◌==◌, nat_le, nat_lt, Bool, not, ◌&&◌, if◌then◌else◌, List, [], ◌∷◌, Option, Some, None, option_map, codes, length, get_or, replicate, ◌-◌, ◌++◌, take, drop, ◌≡◌, ◌*◌, ◌≤◌, ◌/◌, ◌%◌, min, true, false, ◌||◌, slice_index}
+use Rattle.std.specs.List.{list_all}
 use Rattle.std.specs.Char.{is_ascii_digit}
+use Rattle.std.specs.Str.Parse.{digits_value}
+use Rattle.bufr_tables.specs.Prelude.{fxy_of, fxy_text}
+pub use Rattle.bufr_text.specs.declared.line.QuotedToken.{QuotedToken}
+pub use Rattle.bufr_text.specs.declared.line.QuotedToken.TheVariants.{Closed, Octet, Nothing}
 use Rattle.std.specs.Str.{bytes_eq}
-use Rattle.bufr_frame.specs.Prelude.{Field, Master, Centre, Subcentre, Update, Category, Subcategory, LocalSubcategory, MasterVersion, LocalVersion, Year, Month, Day, Hour, Minute, Second, Slot, most_in}
+use Rattle.bufr_frame.specs.Prelude.{mosts_of}
 use Rattle.bufr_fill.specs.Prelude.{DraftValue, number_token, text_form, missing_form, reference_token}
-use Rattle.bufr_text.specs.Grammar.{prefix_while, suffix_while, without_prefix, without_space, hex_read, fxy_read, descriptors_read, number_read, quoted_read, is_number_octet, is_passed_after}
+
+-- the longest prefix of elements that pass a test, and the rest
+unfoldable pub prefix_while : (ℕ → Bool) → List ℕ → List ℕ
+prefix_while test [] = []
+prefix_while test (c ∷ more) = if test c then c ∷ prefix_while test more else []
+
+unfoldable pub suffix_while : (ℕ → Bool) → List ℕ → List ℕ
+suffix_while test [] = []
+suffix_while test (c ∷ more) = if test c then suffix_while test more else c ∷ more
+
+-- the rest after a word that comes first
+unfoldable pub without_prefix : (word text : List ℕ) → Option (List ℕ)
+without_prefix [] text = Some text
+without_prefix (w ∷ word) [] = None
+without_prefix (w ∷ word) (c ∷ text) = if c == w then without_prefix word text else None
+
+-- what is after one space
+abbrev pub without_space : List ℕ → Option (List ℕ)
+without_space text = without_prefix (32 ∷ []) text
+
+-- a list in runs of at most so many; the elements that a run has taken are skipped
+unfoldable pub runs_after : (skip most : ℕ) → List ℕ → List (List ℕ)
+runs_after skip most [] = []
+runs_after (suc skip) most (x ∷ more) = runs_after skip most more
+runs_after zero most (x ∷ more) = take most (x ∷ more) ∷ runs_after (most - 1) most more
+
+abbrev pub runs_of : (most : ℕ) → List ℕ → List (List ℕ)
+runs_of most xs = runs_after 0 most xs
+
+-- the upper-case hexadecimal digit of a number under 16
+abbrev pub hex_digit : ℕ → ℕ
+hex_digit n = if nat_lt n 10 then 48 + n else 55 + n
+
+-- the number of a digit of upper case, or of either case
+abbrev pub upper_value : ℕ → Option ℕ
+upper_value c = if is_ascii_digit c then Some (c - 48) else if nat_le 65 c && nat_le c 70
+    then Some (c - 55) else None
+
+-- rule: reading-hexadecimal
+abbrev pub either_value : ℕ → Option ℕ
+either_value c = if nat_le 97 c && nat_le c 102 then Some (c - 87) else upper_value c
+
+-- two digits as an octet
+abbrev pub pair_value : Option ℕ → Option ℕ → Option ℕ
+pair_value (Some high) (Some low) = Some (16 * high + low)
+pair_value (Some high) None = None
+pair_value None low = None
+
+-- two digits for an octet
+abbrev pub hex_pair : ℕ → List ℕ
+hex_pair octet = hex_digit (octet / 16) ∷ hex_digit (octet % 16) ∷ []
+
+-- two digits for each octet
+-- rule: text-hexadecimal
+unfoldable pub hex_text : List ℕ → List ℕ
+hex_text [] = []
+hex_text (octet ∷ more) = hex_digit (octet / 16) ∷ hex_digit (octet % 16) ∷ hex_text more
+
+-- one more element before a list that was read
+abbrev pub onto_read : {X : Type 0} → Option X → Option (List X) → Option (List X)
+onto_read (Some x) (Some xs) = Some (x ∷ xs)
+onto_read (Some x) None = None
+onto_read None xs = None
+
+-- the octets that digits of either case write
+unfoldable pub hex_read : List ℕ → Option (List ℕ)
+hex_read [] = Some []
+hex_read (high ∷ []) = None
+hex_read (high ∷ low ∷ more) =
+    onto_read (pair_value (either_value high) (either_value low)) (hex_read more)
+
+-- the descriptor that six digits write first, and what is after it
+unfoldable pub fxy_read : List ℕ → Option (ℕ × List ℕ)
+fxy_read (a ∷ b ∷ c ∷ d ∷ e ∷ g ∷ more) =
+    option_map (λ fxy. (fxy, more)) (fxy_of (a ∷ b ∷ c ∷ d ∷ e ∷ g ∷ []))
+fxy_read text = None
+
+-- descriptors, each after one space
+unfoldable pub descriptors_text : List ℕ → List ℕ
+descriptors_text [] = []
+descriptors_text (fxy ∷ more) = 32 ∷ fxy_text fxy ++ descriptors_text more
+
+-- rule: reading-descriptor
+unfoldable pub descriptors_read : List ℕ → Option (List ℕ)
+descriptors_read [] = Some []
+descriptors_read (s ∷ a ∷ b ∷ c ∷ d ∷ e ∷ g ∷ more) = if s == 32
+    then onto_read (fxy_of (a ∷ b ∷ c ∷ d ∷ e ∷ g ∷ [])) (descriptors_read more) else None
+descriptors_read text = None
+
+-- an unsigned decimal of any length; numbers past 65,535 are all alike, since none fits anywhere
+-- rule: reading-header-number
+abbrev pub number_read : List ℕ → Option ℕ
+number_read text = if nat_lt 0 (length text) && list_all is_ascii_digit text
+    then Some (min (digits_value 10 text) 65536) else None
+
+-- an octet that a text has unescaped
+abbrev pub is_unescaped : ℕ → Bool
+is_unescaped c = nat_le 32 c && nat_le c 126 && not (c == 34) && not (c == 92)
+
+-- an octet in a text: a quote and a backslash after a backslash, what cannot be printed as `\xHH`
+-- rule: text-escapes
+abbrev pub escaped : ℕ → List ℕ
+escaped octet = if is_unescaped octet then octet ∷ []
+    else if (octet == 34) || (octet == 92) then 92 ∷ octet ∷ [] else 92 ∷ 120 ∷ hex_pair octet
+
+-- octets as a text, with the quote that closes it
+unfoldable pub quoted : List ℕ → List ℕ
+quoted [] = 34 ∷ []
+quoted (octet ∷ more) = escaped octet ++ quoted more
+
+abbrev pub says_pair : Option ℕ → QuotedToken
+says_pair (Some octet) = Octet octet 4
+says_pair None = Nothing
+
+-- what begins with a backslash; past the end of the text is 0, which no case allows
+abbrev pub escape_of : List ℕ → QuotedToken
+escape_of text = if (slice_index text 1 == 34) || (slice_index text 1 == 92)
+    then Octet (slice_index text 1) 2 else if slice_index text 1 == 120 then says_pair
+    (pair_value (upper_value (slice_index text 2)) (upper_value (slice_index text 3))) else Nothing
+
+-- how a text begins
+-- rule: reading-quoted
+abbrev pub quoting_of : List ℕ → QuotedToken
+quoting_of text = if slice_index text 0 == 34 then Closed
+    else if slice_index text 0 == 92 then escape_of text
+    else if is_unescaped (slice_index text 0) then Octet (slice_index text 0) 1 else Nothing
+
+-- a text that was read, and what is after its closing quote
+abbrev pub octet_onto : ℕ → Option (List ℕ × List ℕ) → Option (List ℕ × List ℕ)
+octet_onto octet None = None
+octet_onto octet (Some read) = Some (octet ∷ read.0, read.1)
+
+abbrev pub quoted_on : QuotedToken → (closed : List ℕ) → (more : ℕ → Option (List ℕ × List ℕ))
+    → Option (List ℕ × List ℕ)
+quoted_on Closed closed more = Some ([], closed)
+quoted_on (Octet octet written) closed more = octet_onto octet (more (written - 1))
+quoted_on Nothing closed more = None
+
+-- the octets of a text and what is after its closing quote; octets that were seen are skipped
+unfoldable pub quoted_read : (skip : ℕ) → List ℕ → Option (List ℕ × List ℕ)
+quoted_read skip [] = None
+quoted_read (suc skip) (c ∷ more) = quoted_read skip more
+quoted_read zero (c ∷ more) = quoted_on (quoting_of (c ∷ more)) more (λ skip. quoted_read skip more)
+
+-- an octet of a number token
+-- rule: reading-number
+abbrev pub is_number_octet : ℕ → Bool
+is_number_octet c = is_ascii_digit c || (c == 45) || (c == 46)
+
+-- nothing, or spaces and then `#` and anything
+unfoldable pub is_hashed : List ℕ → Bool
+is_hashed [] = false
+is_hashed (c ∷ more) = if c == 32 then is_hashed more else (c == 35)
+
+-- rule: reading-after-a-value
+abbrev pub is_passed_after : List ℕ → Bool
+is_passed_after [] = true
+is_passed_after (c ∷ more) = (c == 32) && is_hashed more
+
+-- ---- What a line says, apart from where it is.
 
 -- what a line says; `Header` has the place of its key, `Wrong` is no line of a document
 pub data Line : Type 0 where
@@ -21,66 +185,33 @@ pub data Line : Type 0 where
   Closes : Line
   Wrong : Line
 
--- what bounds the value of a key: an edition that is read, what section 1 holds for a field, a bit,
--- what two octets hold
-pub data Bound : Type 0 where
-  Editions : Bound
-  Holds : (field : Field) → Bound
-  Bit : Bound
-  Count : Bound
-
-abbrev pub least_of : Bound → ℕ
-least_of Editions = 3
-least_of bound = 0
-
--- rule: reading-header-ranges
-abbrev pub most_of : List Slot → Bound → ℕ
-most_of slots Editions = 4
-most_of slots (Holds field) = most_in slots field
-most_of slots Bit = 1
-most_of slots Count = 65535
-
--- a key of the header
-pub record Key : Type 0 where
-  pub name : List ℕ
-  pub bound : Bound
-
-abbrev pub key : List ℕ → Bound → Key
-key name bound = record { name = name; bound = bound }
-
 -- the keys of the header, in their order
 -- rule: text-header
-unfoldable pub keys : List Key
-keys = key (codes "edition") Editions ∷ key (codes "master") (Holds Master)
-    ∷ key (codes "centre") (Holds Centre) ∷ key (codes "subcentre") (Holds Subcentre)
-    ∷ key (codes "update") (Holds Update) ∷ key (codes "category") (Holds Category)
-    ∷ key (codes "subcategory") (Holds Subcategory)
-    ∷ key (codes "localsubcategory") (Holds LocalSubcategory) ∷ key (codes "masterversion")
-    (Holds MasterVersion) ∷ key (codes "localversion") (Holds LocalVersion)
-    ∷ key (codes "year") (Holds Year) ∷ key (codes "month") (Holds Month)
-    ∷ key (codes "day") (Holds Day) ∷ key (codes "hour") (Holds Hour)
-    ∷ key (codes "minute") (Holds Minute) ∷ key (codes "second") (Holds Second)
-    ∷ key (codes "observed") Bit ∷ key (codes "compressed") Bit ∷ key (codes "optional") Bit
-    ∷ key (codes "subsets") Count ∷ []
+unfoldable pub keys : List (List ℕ)
+keys =
+    codes "edition" ∷ codes "master" ∷ codes "centre" ∷ codes "subcentre" ∷ codes "update"
+    ∷ codes "category" ∷ codes "subcategory" ∷ codes "localsubcategory" ∷ codes "masterversion"
+    ∷ codes "localversion" ∷ codes "year" ∷ codes "month" ∷ codes "day" ∷ codes "hour"
+    ∷ codes "minute" ∷ codes "second" ∷ codes "observed" ∷ codes "compressed"
+    ∷ codes "optional" ∷ codes "subsets" ∷ []
 
 -- the key at a place
-abbrev pub key_in : List Key → (place : ℕ) → Key
-key_in [] place = key [] Bit
-key_in (k ∷ more) zero = k
-key_in (k ∷ more) (suc place) = key_in more place
+abbrev pub key_at : (place : ℕ) → List ℕ
+key_at place = get_or keys place []
 
--- the least values of the keys, and the greatest where section 1 has these slots
-abbrev pub leasts : List ℕ
-leasts = map (λ k. least_of k.bound) keys
+-- the least value of each key, and the greatest by edition
+-- rule: reading-header-ranges
+unfoldable pub leasts : List ℕ
+leasts = 3 ∷ replicate 19 0
 
-abbrev pub mosts : List Slot → List ℕ
-mosts slots = map (λ k. most_of slots k.bound) keys
+unfoldable pub mosts : (edition : ℕ) → List ℕ
+mosts edition = 4 ∷ mosts_of edition ++ 1 ∷ 1 ∷ 1 ∷ 65535 ∷ []
 
 -- the place of a key of this name, where the first of these keys has place `at`
-unfoldable pub place_from : (at : ℕ) → (name : List ℕ) → List Key → Option ℕ
+unfoldable pub place_from : (at : ℕ) → (name : List ℕ) → List (List ℕ) → Option ℕ
 place_from at name [] = None
-place_from at name (k ∷ more) =
-    if bytes_eq name k.name then Some at else place_from (at + 1) name more
+place_from at name (key ∷ more) =
+    if bytes_eq name key then Some at else place_from (at + 1) name more
 
 -- a line that what was read makes, or none
 abbrev pub made : {X : Type 0} → (X → Line) → Option X → Line
@@ -97,10 +228,7 @@ with_one_to most line xs =
 abbrev pub item_if_comment : (fxy : ℕ) → DraftValue × List ℕ → Line
 item_if_comment fxy (form, rest) = if is_passed_after rest then Item fxy form else Wrong
 
--- a value, and the rest after it
-abbrev pub text_value : List ℕ → Option (DraftValue × List ℕ)
-text_value text = option_map (λ read. (text_form (read.0), read.1)) (quoted_read 0 text)
-
+-- a number by its form, and the rest after it
 abbrev pub number_value : (List ℕ → DraftValue) → List ℕ → Option (DraftValue × List ℕ)
 number_value form [] = None
 number_value form (c ∷ more) = if is_number_octet c then Some (
@@ -108,14 +236,13 @@ number_value form (c ∷ more) = if is_number_octet c then Some (
   suffix_while is_number_octet (c ∷ more),
 ) else None
 
-abbrev pub missing_value : List ℕ → Option (DraftValue × List ℕ)
-missing_value text = option_map (λ rest. (missing_form, rest)) (without_prefix (codes "MISSING") text)
-
+-- a value, and the rest after it
 unfoldable pub value_read : List ℕ → Option (DraftValue × List ℕ)
 value_read [] = None
-value_read (c ∷ more) = if c == 34 then text_value more
+value_read (c ∷ more) =
+    if c == 34 then option_map (λ read. (text_form (read.0), read.1)) (quoted_read 0 more)
     else if is_number_octet c then number_value number_token (c ∷ more)
-    else missing_value (c ∷ more)
+    else option_map (λ rest. (missing_form, rest)) (without_prefix (codes "MISSING") (c ∷ more))
 
 -- a descriptor, one space and a value
 abbrev pub valued : (List ℕ → Option (DraftValue × List ℕ)) → ℕ × List ℕ → Line
@@ -157,18 +284,12 @@ line_of (c ∷ more) = if c == 35 then Passed
 -- ---- The keys of the header as the code has them.
 
 -- what is before the value of a key: a line feed, its name and a space
-abbrev pub lead_of : Key → List ℕ
-lead_of key = 10 ∷ (key.name ++ 32 ∷ [])
+abbrev pub lead_of : (key : List ℕ) → List ℕ
+lead_of key = 10 ∷ (key ++ 32 ∷ [])
 
 -- what is between the first octet and the last is this name
 abbrev pub is_named : (lead name : List ℕ) → Bool
 is_named lead name = nat_le 2 (length lead) && bytes_eq name (take (length lead - 2) (drop 1 lead))
-
--- the values of the keys from one on, each after its lead
-unfoldable pub header_text : (key : ℕ) → List ℕ → List ℕ
-header_text key [] = []
-header_text key (value ∷ more) =
-    lead_of (key_in keys key) ++ (decimal value ++ header_text (key + 1) more)
 
 -- ---- Private: what the readers of descriptors, hexadecimal digits and quoted texts return.
 

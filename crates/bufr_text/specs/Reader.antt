@@ -2,7 +2,7 @@
 -- (A choice of this project)
 -- Cited by public contracts.
 use Rattle.std.specs.Prelude.{ℕ, ◌≡◌, ◌+◌, ◌==◌, Bool, true, false, not, List, [], ◌∷◌, ◌++◌, length, ◌⊎◌, ◌-◌, ◌*◌, ◌<◌, ◌≤◌, if◌then◌else◌, take, Option, Some, None, Result, Ok, Err}
-use Rattle.bufr_frame.specs.Prelude.{number_of_run_fault, max_reads, read_failures_after}
+use Rattle.bufr_frame.specs.Prelude.{run_report, max_reads, read_failures_after}
 use Rattle.bufr_text.specs.declared.fault.ReadFault.{ReadFault}
 use Rattle.bufr_text.specs.declared.fault.ReadFault.TheVariants.{Line, SubsetCount, HeaderRange, Run}
 use Rattle.std.specs.List.{list_all, AllByRecursion}
@@ -18,7 +18,7 @@ abbrev pub number_of_read_fault : ReadFault → ℕ
 number_of_read_fault (Line line) = 50
 number_of_read_fault (SubsetCount line) = 57
 number_of_read_fault (HeaderRange line) = 61
-number_of_read_fault (Run fault) = number_of_run_fault fault
+number_of_read_fault (Run fault) = (run_report fault).0
 
 -- ---- How a reading of documents goes on, piece by piece. (a choice of this project)
 
@@ -185,14 +185,6 @@ pub record AddsNext (s : ReaderModel) : Type 0 where
   pub single : has_no_feed line ≡ true
   pub adds_to : adds s.place (line_within_limit line) ≡ true
 
--- The lines that were read report nothing, up to one that adds to the document: there memory was
--- wanted.
-pub record NeedsMemoryForLine (left left' : Option (List ℕ)) (old : ReaderModel)
-    (bs : List ℕ) : Type 0 where
-  pub mid : ReaderModel
-  pub taken : ReadsLines left left' old mid [] bs
-  pub next : AddsNext mid
-
 -- what a call reads and reports; where memory was wanted it reports nothing, and says no more of
 -- what it holds; it is wanted only where a line was held or the end was not reached; after the
 -- first read it is wanted only for a line that adds to the document
@@ -204,7 +196,7 @@ ReadsDocument left left' old new (Err (Run Write)) bs = ⊥
 ReadsDocument left left' old new (Err (Run Memory)) bs =
     Consumes left left' bs × (length bs ≤ 4096 * (new.reads - old.reads))
     × (old.ended ≡ true → 0 < length old.held)
-    × ((new.reads ≡ 0) ⊎ NeedsMemoryForLine left left' old bs)
+    × ((new.reads ≡ 0) ⊎ ((mid : ReaderModel) × ReadsLines left left' old mid [] bs × AddsNext mid))
 ReadsDocument left left' old new result bs = ReadsLines left left' old new (parse_results result) bs
 
 -- A call reports the next document, or why there is none.

@@ -4,14 +4,14 @@ use Rattle.std.specs.Prelude.{◌≡◌, ℕ, ◌+◌, ◌%◌, ◌≤◌, ◌==
 use Rattle.std.specs.List.{AllByRecursion}
 use Rattle.bufr_tables.specs.Prelude.{tree_of, tables_of, Row, Sequence, Tree}
 use Rattle.bufr_frame.specs.Prelude.{max_octets, with_even_length, u24_at, section3_begins, section4_begins, Sections, sections_of, edition_of, IsPlain, FrameAt, scan_from}
-use Rattle.bufr_walk.specs.Prelude.{next_item, read_by, data_of, Values, IsReading, Item, apart, together, Content}
+use Rattle.bufr_walk.specs.Prelude.{next_item, data_of, Values, IsReading, Item, apart, together, Content}
 use Rattle.bufr_text.specs.declared.encode.Form.{Form}
 use Rattle.bufr_text.specs.declared.encode.Form.TheVariants.{AsWritten}
-use Rattle.bufr_text.specs.Documents.{Document, subsets_in, head_from_values, observed_in, section2_in}
-use Rattle.bufr_text.specs.Dump.{DumpItem, dump_items_of, IsOctet}
+use Rattle.bufr_text.specs.Documents.{Document, subsets_in, head_from_values, key_value, section2_in}
+use Rattle.bufr_text.specs.Dump.{dump_items, each_subset, IsOctet}
 use Rattle.bufr_text.specs.Encoding.{compressed_by, encoding_of, DocumentRefusal, by_template, by_item, too_long, RefusedAt, reported_refusal, octets_of_bits, compressed_as}
 use Rattle.std.specs.Global.{Global}
-use Rattle.bufr_fill.specs.Prelude.{subsets_from, IsUnlike, AreSaid, AreSaidFrom, IsMinusZero, packing, Subset, subsets_of}
+use Rattle.bufr_fill.specs.Prelude.{IsUnlike, AreSaid, AreSaidFrom, IsMinusZero, packing, Subset, subsets_of}
 use Rattle.bufr_text.specs.declared.fault.DocumentFault.{DocumentFault}
 use Rattle.bufr_bits.specs.Prelude.{bits_of}
 use Rattle.bufr_text.specs.declared.encode.Form.TheVariants as form
@@ -26,11 +26,6 @@ pub record IsAccepted (table : List Row) (sequences : List Sequence) (m : List �
   pub expands : tree_of (tables_of table sequences) s.descriptors ≡ Ok template
   pub read : IsReading (next_item table template) (data_of s) values used
 
--- the items of each subset, as the dump text of the message gives them
-abbrev pub dump_items_in : List Row → Tree → Sections → Values → List (List DumpItem)
-dump_items_in table template s values = dump_items_of (read_by table template (data_of s) 0 0)
-    values
-
 -- the sections of two messages say the same; the lengths, the bits of the data, and the flag of
 -- compression, which is that of a form, may differ
 pub record SaySame (form : Form) (a b : Sections) : Type 0 where
@@ -42,16 +37,13 @@ pub record SaySame (form : Form) (a b : Sections) : Type 0 where
   pub observed : b.observed ≡ a.observed
   pub compressed : b.compressed ≡ compressed_by form a.compressed
 
--- whether section 3 or 4 of a message of edition 3 has an odd number of octets
-abbrev pub has_odd_section : List ℕ → Bool
-has_odd_section m = edition_of m == 3
-    && (u24_at m (section3_begins m) % 2 == 1 || u24_at m (section4_begins m) % 2 == 1)
-
 -- how many octets more a message may have when it is written again: in edition 3 up to two make
--- odd sections even
+-- sections 3 and 4 even where one of them is odd
 -- rule: becomes-canonical
 abbrev pub extra_octets : (m : List ℕ) → ℕ
-extra_octets m = if has_odd_section m then 2 else 0
+extra_octets m = if edition_of m == 3
+    && (u24_at m (section3_begins m) % 2 == 1 || u24_at m (section4_begins m) % 2 == 1)
+    then 2 else 0
 
 -- octets are a message with the same reading as the message m of sections s; they are no longer,
 -- but that in edition 3 up to two octets make odd sections even
@@ -78,11 +70,6 @@ pub record IsEncodedAgain (table : List Row) (sequences : List Sequence) (m : Li
 
 -- ---- The message that the document of an accepted message is encoded to in a form.
 
--- the items of each subset, whatever the form in which they were read
-abbrev pub each_subset : (subsets : ℕ) → Values → List (List (Item Content))
-each_subset n (apart subsets) = subsets
-each_subset n (together items) = subsets_from n 0 items
-
 -- octets are a message in a form, with the same reading as the message of sections s but for the
 -- flag of compression
 pub record HasReadingIn (form : Form) (table : List Row) (s : Sections) (template : Tree)
@@ -101,7 +88,7 @@ pub record HasReadingIn (form : Form) (table : List Row) (s : Sections) (templat
   -- each subset has the same items: what was asked of the data, and what was found
   pub each : each_subset s.subsets found ≡ each_subset s.subsets values
   -- so its dump text has the same items
-  pub items : dump_items_in table template sections found ≡ dump_items_in table template s values
+  pub items : dump_items table sections.subsets found ≡ dump_items table s.subsets values
 
 -- what the document of an accepted message may be refused for in a form: in the one that it has,
 -- nothing; else the length, and in compressed data factors that differ and contents that no
@@ -186,6 +173,6 @@ pub record IsReadAs (form : Form) (table : List Row) (sequences : List Sequence)
   pub section2 : sections.section2 ≡ section2_in d
   pub descriptors : sections.descriptors ≡ d.descriptors
   pub subsets : sections.subsets ≡ subsets_in d
-  pub observed : sections.observed ≡ observed_in d
+  pub observed : sections.observed ≡ (key_value d 16 == 1)
   pub compressed : sections.compressed ≡ compressed_as form d
   pub said : AreValuesOf values (subsets_of d.entries)

@@ -1,18 +1,17 @@
 -- What the lines of a document are, in order, and the one spelling that a dump has.
 -- (A choice of this project)
 -- Cited by public contracts.
-use Rattle.std.specs.Prelude.{◌≡◌, ◌==◌, false, List, [], ◌∷◌, length, ◌≤◌, ◌⊎◌, ℕ, ◌+◌, ◌++◌, map, if◌then◌else◌, take, drop, codes, Option, None, option_map, Result, Ok, Err}
+use Rattle.std.specs.Prelude.{◌≡◌, ◌==◌, false, List, [], ◌∷◌, length, ◌≤◌, ◌⊎◌, ℕ, ◌+◌, ◌++◌, map, if◌then◌else◌, take, drop, codes, None, Result, Ok, Err}
 use Rattle.std.specs.List.{AllByRecursion, concat}
 use Rattle.bufr_fill.specs.Prelude.{AllHaveOctets, DraftEntry, Holds, Ends, subsets_of, DraftValue, draft, Draft, Subset, DraftFaultKind, content_of, normal_form}
 use Rattle.bufr_text.specs.Documents.{Document, optional_in, subsets_in, IsHeaded, ParseResult, Complete, Refused, most_entries, line_within_limit}
-use Rattle.bufr_text.specs.Dump.{IsOctet, IsDescriptorWord, Comment, header_lines, local1_line, section2_line, descriptors_line, form_text, comment_text, subset_line, text_of_lines, comment_of}
-use Rattle.bufr_text.specs.Line.{Line, Passed, Opens, Header, Local1, Section2, Descriptors, Begins, Item, Closes}
+use Rattle.bufr_text.specs.Dump.{IsOctet, IsDescriptorWord, header_lines, local1_line, section2_line, descriptors_line, form_text, comment_text, subset_line, text_of_lines}
+use Rattle.bufr_text.specs.Line.{Line, Passed, Opens, Header, Local1, Section2, Descriptors, Begins, Item, Closes, runs_of}
 use Rattle.bufr_tables.specs.Prelude.{Row, entry_of, Tree}
 use Rattle.bufr_walk.specs.declared.spec.Taken.{Taken}
 use Rattle.bufr_walk.specs.Prelude.{FieldSpec, Content, answer_of, Course, Next, take_next, next_item}
 use Rattle.bufr_text.specs.declared.encode.Form.{Form}
 use Rattle.bufr_text.specs.declared.encode.Form.TheVariants.{AsWritten, Plain, Compressed}
-use Rattle.bufr_text.specs.Grammar.{runs_of}
 use Rattle.bufr_walk.specs.declared.spec.Taken.TheVariants as taken
 
 -- ---- A document as the lines of a text can spell it. (a choice of this project)
@@ -150,16 +149,12 @@ normal_head form d = codes "message" ∷ (header_lines 0 (header_as form d.heade
     ++ (map local1_line (runs_of 32 d.local1) ++ (map section2_line (runs_of 32 d.section2)
     ++ map descriptors_line (runs_of 8 d.descriptors))))
 
--- the comment of a field: name and unit of the row of Table B by which it is read
-abbrev pub comment_at : List Row → FieldSpec → Option Comment
-comment_at table spec =
-    option_map comment_of (if spec.listed then entry_of table spec.fxy else None)
-
 -- the line of an item at its field: its descriptor, the one spelling of what is after it, and
--- the comment
+-- the comment of the row of Table B by which the field is read
 abbrev pub normal_line : List Row → FieldSpec → Draft → List ℕ
 normal_line table spec d =
-    form_text d.fxy (normal_form spec d.form) ++ comment_text (comment_at table spec)
+    form_text d.fxy (normal_form spec d.form)
+    ++ comment_text (if spec.listed then entry_of table spec.fxy else None)
 
 -- what an item says to those after it; one that is no content of its field reports nothing
 abbrev pub draft_answer : FieldSpec → Result Content DraftFaultKind → Taken

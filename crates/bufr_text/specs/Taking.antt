@@ -12,7 +12,7 @@ use Rattle.bufr_text.specs.declared.document.LineGroup.{LineGroup}
 use Rattle.bufr_text.specs.declared.document.ParserState.{ParserState}
 use Rattle.bufr_text.specs.declared.document.LineRefusal.{LineRefusal}
 use Rattle.bufr_text.specs.declared.document.LineEffect.{LineEffect}
-use Rattle.bufr_text.specs.Reader.{has_no_feed, ReaderPosition, ContinuesParse, TakesWholeLines, TakesEndLine, parse, parse_results, ReaderModel, position_of, AddsNext}
+use Rattle.bufr_text.specs.Reader.{has_no_feed, ReaderPosition, ContinuesParse, TakesWholeLines, TakesEndLine, parse_results, ReaderModel, position_of, AddsNext}
 use Rattle.bufr_text.specs.declared.document.Progress.{Progress}
 use Rattle.bufr_text.specs.declared.document.TakeResult.{TakeResult}
 use Rattle.std.specs.Io.KnownBytes.{Consumes}
@@ -29,11 +29,6 @@ use Rattle.bufr_text.specs.declared.document.ParserState.TheVariants as place
 use Rattle.bufr_text.specs.declared.document.LineRefusal.TheVariants as refusal
 use Rattle.bufr_text.specs.declared.document.LineEffect.TheVariants as turn
 use Rattle.bufr_text.specs.declared.document.TakeResult.TheVariants as taken
-
--- there are at most twenty values
-pub record IsHeaderInside (d : Inside) : Type 0 where
-  pub known : d.known ≤ 20
-  pub room : length d.header ≡ 20
 
 abbrev pub document_kept : Inside → documents.Document
 document_kept d = record {
@@ -123,19 +118,7 @@ IsParserState at (documents.Filling subset d) =
     × ((ended : ℕ) × (subset ≡ ended + 1) × HasSubsets ended d)
 IsParserState at place = Unit {0}
 
--- the same after a turn at a line
-abbrev pub HoldsAfter : (at : ℕ) → documents.LineEffect → Type 0
-HoldsAfter at (documents.WalkGoes place) = IsParserState (at + 1) place
-HoldsAfter at (documents.Gives d) = IsProper d × (length d.entries ≤ at)
-HoldsAfter at (documents.Faults fault) = Unit {0}
-
 -- ---- What taking the lines that are held comes to.
-
--- the first line feed, or there is none
-abbrev pub FeedAt : List ℕ → Option ℕ → Type 0
-FeedAt held None = has_no_feed held ≡ true
-FeedAt held (Some place) = (place < length held) × (has_no_feed (take place held) ≡ true)
-    × (held ≡ take place held ++ 10 ∷ drop (place + 1) held)
 
 -- what was reported
 abbrev pub step_results : TakeResult → documents.Document → List documents.ParseResult
@@ -286,14 +269,6 @@ read_fault_at line refusal.HeaderRange = HeaderRange line
 abbrev pub stopped : ReaderModel → ReadFault → ReaderModel
 stopped s (Run fault) = record s { fault = Some (Run fault) }
 stopped s fault = record s { fault = Some fault; place = Stopped }
-
--- what the end comes to, where no line is held
-abbrev pub HandlesEnd : ReaderModel → ReaderModel → Result (Option Document) ReadFault → Type 0
-HandlesEnd old new (Ok None) = (new ≡ old) × (new.held ≡ []) × (parse (position_of new) [] ≡ [])
-HandlesEnd old new (Err (Line line)) =
-    ParsesHeldLines old new (Refused line documents.NotAllowed ∷ [])
-    × (new.fault ≡ Some (Line line)) × (new.ended ≡ old.ended) × (new.reads ≡ old.reads)
-HandlesEnd old new result = ⊥
 
 -- a read, or why none is made
 abbrev pub FillsBuffer : (left left' : Option (List ℕ)) → ReaderModel → ReaderModel

@@ -1,11 +1,15 @@
--- What a writer gains, whole or in part, and what a text does to a writer of lines.
+-- What a writer gains, what a text does to a writer of lines, and what a dump leaves on it.
 -- (A choice of this project)
 -- Cited by public contracts.
-use Rattle.std.specs.Prelude.{◌≡◌, ◌≤◌, ◌⊎◌, ℕ, ◌-◌, Bool, List, [], ◌∷◌, ◌++◌, Option, Result, Ok, Err, IfSome, codes, decimal, length, replicate, take, if◌then◌else◌}
+use Rattle.std.specs.Prelude.{◌≡◌, ◌≤◌, ◌⊎◌, ℕ, List, [], ◌∷◌, ◌++◌, Option, Result, Ok, Err, IfSome, length, take}
 use Rattle.std.specs.Io.KnownBytes.{Appends}
 use Rattle.bufr_bits.specs.Prelude.{counted}
 use Rattle.bufr_frame.specs.declared.fault.RunFault.{RunFault}
-use Rattle.bufr_frame.specs.declared.fault.RunFault.TheVariants.{Write}
+use Rattle.bufr_frame.specs.declared.fault.RunFault.TheVariants.{Write, Read, InputTooLong}
+use Rattle.bufr_frame.specs.Prelude.{Sections}
+use Rattle.bufr_walk.specs.Prelude.{Timed, Call, subset_call, item_call, course_of, data_of, Values, IsReading, ticked}
+use Rattle.bufr_text.specs.Dump.{subset_line, item_text}
+use Rattle.bufr_walk.specs.Reading as outcome
 
 -- known octets grow by a prefix of a text
 pub record GrowsByPrefix (old new : Option (List ℕ)) (text : List ℕ) : Type 0 where
@@ -34,21 +38,6 @@ abbrev pub CountsWrites : {X : Type 0} → (failures failures' empty empty' : �
     → Result X RunFault → Type 0
 CountsWrites failures failures' empty empty' (Ok x) = Stays failures failures' empty empty'
 CountsWrites failures failures' empty empty' (Err fault) = Fails failures failures' empty empty'
-
--- decimal digits, at least so many, with leading zeros
--- rule: listing-time
-abbrev pub zero_padded : (least n : ℕ) → List ℕ
-zero_padded least n = replicate (least - length (decimal n)) 48 ++ decimal n
-
--- 1 or 0
--- rule: listing-flags
-abbrev pub flag : Bool → List ℕ
-flag on = if on then codes "1" else codes "0"
-
--- texts, one after another
-abbrev pub joined : List (List ℕ) → List ℕ
-joined [] = []
-joined (text ∷ more) = text ++ joined more
 
 -- a text was put into octets, after those before a place; where there was no room nothing is known
 abbrev pub Puts : (old : List ℕ) (at : ℕ) (text new : List ℕ) → Option ℕ → Type 0
@@ -106,3 +95,50 @@ pub record Pushes (before : LineModel) (text : List ℕ) (after : LineModel) : T
   pub from : PushesFrom before.status before text after
   pub flushes : after.flushes ≡ before.flushes
   pub sink : after.sink ≡ before.sink
+
+-- ---- What a dump leaves on its writer, and the steps that are made for it.
+
+-- a reading is one of this message's data
+pub record ReadsMessage (s : Sections) (r : outcome.Read) : Type 0 where
+  pub source : r.source ≡ data_of s
+  pub values : Values
+  pub read : IsReading (course_of r) r.source values r.bits
+
+-- the text was written, or a prefix of it where the writer failed or memory ran out
+abbrev pub WritesPrefix : {X : Type 0} → (old new : Option (List ℕ)) → List ℕ
+    → Result X RunFault → Type 0
+WritesPrefix old new text (Ok x) = Appends old new text
+WritesPrefix old new text (Err fault) = GrowsByPrefix old new text
+
+-- a write fault comes only from a call that the writer counts; the only other fault is want of
+-- memory, and nothing else changes the counts
+abbrev pub CountsFaults : {X : Type 0} → (failures failures' empty empty' : ℕ)
+    → Result X RunFault → Type 0
+CountsFaults failures failures' empty empty' (Err Write) = Fails failures failures' empty empty'
+CountsFaults failures failures' empty empty' (Err Read) = ⊥
+CountsFaults failures failures' empty empty' (Err InputTooLong) = ⊥
+CountsFaults failures failures' empty empty' result = Stays failures failures' empty empty'
+
+-- the steps of a showing that was given up: the turns before one of its calls, or all
+abbrev pub StepsWithin : List Timed → (turns steps : ℕ) → Type 0
+StepsWithin [] turns steps = steps ≡ ticked 0 turns
+StepsWithin (t ∷ calls) turns steps = (steps ≡ ticked 0 t.turns) ⊎ StepsWithin calls turns steps
+
+-- the steps of a showing: all turns at Ok, those up to where it was given up at a fault
+abbrev pub MakesSteps : {X E : Type 0} → List Timed → (turns : ℕ) → Result X E → (steps : ℕ)
+    → Type 0
+MakesSteps calls turns (Ok x) steps = steps ≡ ticked 0 turns
+MakesSteps calls turns (Err fault) steps = StepsWithin calls turns steps
+
+-- ---- What the calls of a showing push to a writer of lines.
+
+-- the line of a call
+abbrev pub call_line : Call → List ℕ
+call_line (subset_call number) = subset_line number
+call_line (item_call v) = item_text v
+
+-- the line of a call was pushed, and the answer is whether a write has failed by then
+pub record PushesCall (before : LineModel) (call : Call) (answer : Result Unit RunFault)
+    (after : LineModel) : Type 0 where
+  pub pushes : Pushes before (call_line call ++ 10 ∷ []) after
+  pub status : answer ≡ after.status

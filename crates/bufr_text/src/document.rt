@@ -1,9 +1,8 @@
 //! A message as its text gives it, and how its lines build it.
-ghost use Rattle.std.specs.Prelude.{◌≡◌, ◌+◌, ◌<◌, ◌≤◌, length, OnOk, IsTrue, slice_index, option_map, true, IfOk, OnErr, ◌^◌, false};
-ghost use Rattle.bufr_bits.specs.Prelude.{short_text};
-ghost use Rattle.bufr_fill.specs.Prelude.{draft, number_token, Holds, subsets_of};
-ghost use Rattle.bufr_frame.specs.Prelude.{is_writable, slots_4};
-ghost use Rattle.bufr_text.specs.Prelude.{subsets_in, with_entry, heading, before_subsets, filling, beginning, closing, opening, turn, adds, line_within_limit, head_from_values, observed_in, compressed_in, section2_in, most_entries, IsWhole, mosts, meaning, part_number, place_with, turned, IsParserState, TakesLines, FeedAt, WantsAt, has_no_feed, Header, blank};
+ghost use Rattle.std.specs.Prelude.{◌==◌, ◌≡◌, ◌+◌, ◌<◌, ◌≤◌, length, IsTrue, slice_index, option_map, true, IfOk, OnErr, ◌^◌, false};
+ghost use Rattle.bufr_fill.specs.Prelude.{subsets_of};
+ghost use Rattle.bufr_frame.specs.Prelude.{is_writable};
+ghost use Rattle.bufr_text.specs.Prelude.{subsets_in, beginning, closing, turn, adds, line_within_limit, head_from_values, key_value, compressed_in, section2_in, most_entries, IsWhole, mosts, meaning, place_with, turned, IsParserState, TakesLines, WantsAt, has_no_feed, Header, blank};
 ghost use Rattle.bufr_text.specs.declared.document.ParserState.TheVariants.{Between};
 
 use crate::header::{MOST_WORDS, in_range};
@@ -37,11 +36,12 @@ impl Model for DocumentParts {
 
     ghost Value = { documents.Document };
 
-    ghost use Rattle.bufr_text.specs.Taking.{IsHeaderInside, document_kept};
+    ghost use Rattle.std.specs.Prelude.{◌≡◌, ◌≤◌, length};
+    ghost use Rattle.bufr_text.specs.Taking.{document_kept};
 
     ghost view = { document_kept };
 
-    ghost invariant = { IsHeaderInside };
+    ghost invariant = { λ d. (d.known ≤ 20) × (length d.header ≡ 20) };
 }
 
 impl DocumentParts {
@@ -60,26 +60,6 @@ impl DocumentParts {
         }
     }
 
-    /// Begins a document of which its first line was read, in the memory of the one before.
-    pub(crate) fn begin(&mut self, line: u64)
-        ensures { self.new ≡ blank line }
-    {
-        self.line = line;
-        self.known = 0;
-        self.local1.clear();
-        self.section2.clear();
-        self.descriptors.clear();
-        self.entries.clear();
-    }
-
-    /// How many values of the header were read.
-    pub(crate) fn known(&self) -> usize
-        ensures value { result ≡ length self.now.header }
-        ensures most { result ≤ 20 }
-    {
-        self.known
-    }
-
     /// The value of a key of the header, or 0 where it was not read yet.
     pub(crate) fn value(&self, key: usize) -> u16
         requires { key < 20 }
@@ -91,15 +71,6 @@ impl DocumentParts {
             0
         }
     }
-
-    /// One more item, whose value is a short decimal.
-    #[inline(always)]
-    fn push_decimal(&mut self, line: u64, fxy: Fxy, number: ShortDecimal) -> Result<(), AllocError>
-        ensures { OnOk result (self.new
-            ≡ with_entry self.old (Holds (draft line fxy (number_token (short_text number))))) }
-    {
-        self.entries.push_decimal(line, fxy, number)
-    }
 }
 
 /// A message as its text gives it: the header, the octets of local use, the descriptors, and the
@@ -109,7 +80,7 @@ impl DocumentParts {
 /// It is made by [`crate::DumpReader`] alone. A clause sees it as what its lines say.
 #[derive(Drop)]
 pub struct Document {
-    parts: DocumentParts,
+    pub(crate) parts: DocumentParts,
 }
 
 impl Model for Document {
@@ -124,21 +95,6 @@ impl Model for Document {
 }
 
 impl Document {
-    /// The document whose parts were all read.
-    pub(crate) fn whole(parts: DocumentParts) -> Document
-        requires { IsWhole parts }
-        ensures { result ≡ parts }
-    {
-        Document { parts }
-    }
-
-    /// Its parts.
-    pub(crate) fn into_parts(self) -> DocumentParts
-        ensures { result ≡ self }
-    {
-        self.parts
-    }
-
     /// The number of the line of `message`, from 1.
     pub fn line(&self) -> u64
         ensures { result ≡ self.now.line }
@@ -150,14 +106,14 @@ impl Document {
     #[tactic(auto, using(crate::proofs::HeaderLemmas::octet_steps))]
     fn octet(&self, key: usize) -> u8
         requires place { key < 20 }
-        requires few { slice_index (mosts slots_4) key ≤ 255 }
+        requires few { slice_index (mosts 4) key ≤ 255 }
         ensures { result ≡ slice_index self.now.header key }
     {
         self.parts.value(key) as u8
     }
 
     /// The edition, which is 3 or 4, and what section 1 says; it can be written.
-    #[tactic(auto, unfolding(crate::specs::Line::keys))]
+    #[tactic(auto, unfolding(crate::specs::Line::mosts))]
     pub fn head(&self) -> Head
         ensures value { result ≡ head_from_values self.now }
         ensures writable { IsTrue (is_writable result) }
@@ -184,7 +140,7 @@ impl Document {
 
     /// Whether the data are observed (octet 7 of section 3, bit 1).
     pub fn observed(&self) -> bool
-        ensures { result ≡ observed_in self.now }
+        ensures { result ≡ (key_value self.now 16 == 1) }
     {
         self.parts.value(16) == 1
     }
@@ -269,19 +225,6 @@ pub(crate) enum LineGroup {
     Descriptors,
 }
 
-impl LineGroup {
-    /// Its place in the order, from 0.
-    fn number(self) -> u8
-        ensures { result ≡ part_number self }
-    {
-        match self {
-            LineGroup::Local1 => 0,
-            LineGroup::Section2 => 1,
-            LineGroup::Descriptors => 2,
-        }
-    }
-}
-
 /// Where the reading is.
 #[derive(Clone, Copy)]
 pub(crate) enum ParserState {
@@ -309,28 +252,6 @@ pub(crate) enum LineEffect {
     Refuses(LineRefusal),
 }
 
-/// A header line.
-// rule: reading-header-order, fault-61, fault-order-of-a-line
-fn heading(parts: &mut DocumentParts, key: usize, value: u32) -> LineEffect
-    requires { length parts.old.header < 20 }
-    ensures turns { turned result parts.new ≡ heading parts.old (Header key value) }
-{
-    if key != parts.known() {
-        return LineEffect::Refuses(LineRefusal::NotAllowed);
-    }
-    // The edition is the first value; its own range goes by none.
-    if !in_range(parts.value(0), key, value) {
-        return LineEffect::Refuses(LineRefusal::HeaderRange);
-    }
-    parts.header[parts.known] = value as u16;
-    parts.known += 1;
-    if key == 19 {
-        LineEffect::WalkGoes(ParserState::BeforeSubsets(LineGroup::Local1))
-    } else {
-        LineEffect::WalkGoes(ParserState::Heading)
-    }
-}
-
 /// `subset` and its number, where so many subsets were read.
 // rule: reading-subsets, fault-57
 fn beginning(parts: &DocumentParts, read: u32, subset: u32) -> LineEffect
@@ -356,88 +277,10 @@ fn closing(parts: &DocumentParts, read: u32) -> LineEffect
     }
 }
 
-/// A line after the header and before the first subset.
-// rule: reading-section2
-fn before_subsets(
-    parts: &mut DocumentParts,
-    part: LineGroup,
-    said: ParsedLine<'_>,
-) -> Result<LineEffect, AllocError>
-    ensures turns { IfOk result (λ t. turned t parts.new
-        ≡ before_subsets (part_number part) parts.old (meaning said.entry)) }
-    ensures wants { OnErr result
-        (adds (place_with (ParserState.BeforeSubsets part) parts.old) (meaning said.entry) ≡ true) }
-{
-    let turn = match said {
-        ParsedLine::Local1(octets) if part.number() == 0 => {
-            parts.local1.extend_from_slice(octets)?;
-            LineEffect::WalkGoes(ParserState::BeforeSubsets(LineGroup::Local1))
-        }
-        ParsedLine::Section2(octets) if part.number() <= 1 && parts.value(18) == 1 => {
-            parts.section2.extend_from_slice(octets)?;
-            LineEffect::WalkGoes(ParserState::BeforeSubsets(LineGroup::Section2))
-        }
-        ParsedLine::Descriptors(words) => {
-            parts.descriptors.extend_from_slice(words)?;
-            LineEffect::WalkGoes(ParserState::BeforeSubsets(LineGroup::Descriptors))
-        }
-        ParsedLine::Begins(subset) => beginning(parts, 0, subset),
-        ParsedLine::Closes => closing(parts, 0),
-        _ => LineEffect::Refuses(LineRefusal::NotAllowed),
-    };
-    Ok(turn)
-}
-
-/// A line in a subset.
-// rule: reading-subset-end
-fn filling(
-    parts: &mut DocumentParts,
-    at: u64,
-    subset: u32,
-    said: ParsedLine<'_>,
-) -> Result<LineEffect, AllocError>
-    requires { subset < 65536 }
-    ensures turns { IfOk result
-        (λ t. turned t parts.new ≡ filling at subset parts.old (meaning said.entry)) }
-    ensures wants { OnErr result
-        (adds (place_with (ParserState.Filling subset) parts.old) (meaning said.entry) ≡ true) }
-{
-    let turn = match said {
-        ParsedLine::Item { fxy, form } => {
-            let (line, fxy) = (at, Fxy::from_word(fxy));
-            parts.entries.push_item(DraftItem { line, fxy, form })?;
-            LineEffect::WalkGoes(ParserState::Filling(subset))
-        }
-        ParsedLine::Begins(next) => {
-            parts.entries.push_end(at)?;
-            beginning(parts, subset, next)
-        }
-        ParsedLine::Closes => {
-            parts.entries.push_end(at)?;
-            closing(parts, subset)
-        }
-        _ => LineEffect::Refuses(LineRefusal::NotAllowed),
-    };
-    Ok(turn)
-}
-
-/// A line between documents.
-// rule: reading-between-documents
-fn opening(parts: &mut DocumentParts, at: u64, said: ParsedLine<'_>) -> LineEffect
-    ensures turns { turned result parts.new ≡ opening at (meaning said.entry) }
-{
-    match said {
-        ParsedLine::Opens => {
-            parts.begin(at);
-            LineEffect::WalkGoes(ParserState::Heading)
-        }
-        _ => LineEffect::Refuses(LineRefusal::NotAllowed),
-    }
-}
-
 /// A line at a place.
 #[tactic(auto, unfolding(crate::specs::Documents::turn))]
-// rule: fault-50
+// rule: fault-50, fault-61, fault-order-of-a-line, reading-header-order, reading-section2
+// rule: reading-subset-end, reading-between-documents
 pub(crate) fn step(
     place: ParserState,
     parts: &mut DocumentParts,
@@ -452,15 +295,74 @@ pub(crate) fn step(
     if matches!(said, ParsedLine::Passed) {
         return Ok(LineEffect::WalkGoes(place));
     }
-    match place {
-        ParserState::Between => Ok(opening(parts, at, said)),
-        ParserState::Heading => match said {
-            ParsedLine::Header { key, value } => Ok(heading(parts, key, value)),
-            _ => Ok(LineEffect::Refuses(LineRefusal::NotAllowed)),
+    let turn = match place {
+        ParserState::Between => match said {
+            ParsedLine::Opens => {
+                parts.line = at;
+                parts.known = 0;
+                parts.local1.clear();
+                parts.section2.clear();
+                parts.descriptors.clear();
+                parts.entries.clear();
+                LineEffect::WalkGoes(ParserState::Heading)
+            }
+            _ => LineEffect::Refuses(LineRefusal::NotAllowed),
         },
-        ParserState::BeforeSubsets(part) => before_subsets(parts, part, said),
-        ParserState::Filling(subset) => filling(parts, at, subset, said),
-    }
+        ParserState::Heading => match said {
+            ParsedLine::Header { key, value } => {
+                if key != parts.known {
+                    return Ok(LineEffect::Refuses(LineRefusal::NotAllowed));
+                }
+                // The edition is the first value; its own range goes by none.
+                if !in_range(parts.value(0), key, value) {
+                    return Ok(LineEffect::Refuses(LineRefusal::HeaderRange));
+                }
+                parts.header[parts.known] = value as u16;
+                parts.known += 1;
+                if key == 19 {
+                    LineEffect::WalkGoes(ParserState::BeforeSubsets(LineGroup::Local1))
+                } else {
+                    LineEffect::WalkGoes(ParserState::Heading)
+                }
+            }
+            _ => LineEffect::Refuses(LineRefusal::NotAllowed),
+        },
+        ParserState::BeforeSubsets(part) => match said {
+            ParsedLine::Local1(octets) if matches!(part, LineGroup::Local1) => {
+                parts.local1.extend_from_slice(octets)?;
+                LineEffect::WalkGoes(ParserState::BeforeSubsets(LineGroup::Local1))
+            }
+            ParsedLine::Section2(octets)
+                if !matches!(part, LineGroup::Descriptors) && parts.value(18) == 1 => {
+                parts.section2.extend_from_slice(octets)?;
+                LineEffect::WalkGoes(ParserState::BeforeSubsets(LineGroup::Section2))
+            }
+            ParsedLine::Descriptors(words) => {
+                parts.descriptors.extend_from_slice(words)?;
+                LineEffect::WalkGoes(ParserState::BeforeSubsets(LineGroup::Descriptors))
+            }
+            ParsedLine::Begins(subset) => beginning(parts, 0, subset),
+            ParsedLine::Closes => closing(parts, 0),
+            _ => LineEffect::Refuses(LineRefusal::NotAllowed),
+        },
+        ParserState::Filling(subset) => match said {
+            ParsedLine::Item { fxy, form } => {
+                let (line, fxy) = (at, Fxy::from_word(fxy));
+                parts.entries.push_item(DraftItem { line, fxy, form })?;
+                LineEffect::WalkGoes(ParserState::Filling(subset))
+            }
+            ParsedLine::Begins(next) => {
+                parts.entries.push_end(at)?;
+                beginning(parts, subset, next)
+            }
+            ParsedLine::Closes => {
+                parts.entries.push_end(at)?;
+                closing(parts, subset)
+            }
+            _ => LineEffect::Refuses(LineRefusal::NotAllowed),
+        },
+    };
+    Ok(turn)
 }
 
 /// How far the reading has come: where it is, and the document that is being read.
@@ -481,13 +383,6 @@ pub(crate) enum TakeResult {
     Gives,
     /// This line is refused.
     Refuses(u64, LineRefusal),
-}
-
-/// The place of the first line feed.
-fn feed(held: &[u8]) -> Option<usize>
-    ensures { FeedAt held.now result }
-{
-    memchr(b'\n', held)
 }
 
 /// A line that is whole, mostly an item with a short decimal.
@@ -512,10 +407,13 @@ fn take_line(
         && line.len() <= MAX_LINE
         && let Some((fxy, number)) = decimal_item(line)
     {
-        progress.parts.push_decimal(progress.at, fxy, number)?;
+        progress
+            .parts
+            .entries
+            .push_decimal(progress.at, fxy, number)?;
         return Ok(LineEffect::WalkGoes(progress.place));
     }
-    let said = read_line(line, progress.parts.known(), octets, words);
+    let said = read_line(line, progress.parts.known, octets, words);
     step(progress.place, &mut progress.parts, progress.at, said)
 }
 
@@ -536,7 +434,7 @@ pub(crate) fn take_lines(
 {
     let mut words = [0; MOST_WORDS];
     let mut from = 0;
-    while let Some(length) = feed(suffix(held, from)) {
+    while let Some(length) = memchr(b'\n', suffix(held, from)) {
         let line = ahead(suffix(held, from), length);
         let at = progress.at;
         let turn = take_line(progress, line, octets, &mut words)?;
@@ -549,14 +447,4 @@ pub(crate) fn take_lines(
         }
     }
     Ok((from, TakeResult::More))
-}
-
-/// Takes a document that is whole out.
-pub(crate) fn take_parts(alloc: Global, progress: &mut Progress) -> DocumentParts
-    ensures parts { result ≡ progress.old.parts }
-    ensures place { progress.new.place ≡ Between }
-    ensures at { progress.new.at ≡ progress.old.at }
-{
-    progress.place = ParserState::Between;
-    std::mem::replace(&mut progress.parts, DocumentParts::blank(alloc, 0))
 }

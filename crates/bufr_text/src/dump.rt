@@ -1,8 +1,7 @@
 //! The text that dumps a message: the lines before its subsets, and a line for each item.
 ghost use Rattle.std.specs.Prelude.{◌≡◌, ◌++◌, [], ◌∷◌, drop, map, take, unwrap_or, ◌≤◌, ◌*◌};
 ghost use Rattle.bufr_frame.specs.Prelude.{words_left};
-ghost use Rattle.bufr_text.specs.Prelude.{descriptors_line, head_lines, header_of, section2_line, text_of_lines, dump_value_of, form_text, item_text, dump_item_of, value_of, dump_text_of, dump_items_of, descriptors_text, hex_text, runs_of, header_text, Pushes, CountsFaults, MakesSteps, ReadsMessage, WritesPrefix, Ends, subsets_text, PushesCall};
-ghost use Rattle.bufr_bits.specs.Prelude.{decimal_text_of};
+ghost use Rattle.bufr_text.specs.Prelude.{descriptors_line, head_lines, text_of_lines, dump_value_of, form_text, item_text, dump_text_of, dump_items, descriptors_text, hex_text, runs_of, Pushes, CountsFaults, MakesSteps, ReadsMessage, WritesPrefix, PushesCall};
 ghost use Rattle.bufr_tables.specs.Prelude.{fxy_text, places};
 ghost use Rattle.bufr_walk.specs.Prelude.{seen, seen_value, calls_of, turns_shown, course_of, IsReading, Values};
 
@@ -12,40 +11,13 @@ use bufr_bits::Sink;
 use bufr_frame::{Message, RunFault, Words};
 use bufr_tables::{Entry, Fxy, TableB};
 use bufr_walk::{ItemView, Reading, ShowFault, SpecCache, Steps, Value, Visitor};
-use std::alloc::{AllocError, Global};
+use std::alloc::Global;
 
 /// How many octets a line holds at most.
 const OCTETS: usize = 32;
 
 /// How many descriptors a line holds at most.
 const DESCRIPTORS: usize = 8;
-
-/// Pushes the keys and their values.
-fn push_header<W: Sink>(lines: &mut LineWriter<'_, '_, W>, message: &Message<'_>)
-    ensures { Pushes lines.old (header_text 0 (header_of message.now)) lines.new }
-{
-    let head = message.head();
-    lines.push_named(KEYS[0].0, u64::from(head.edition));
-    lines.push_named(KEYS[1].0, u64::from(head.master));
-    lines.push_named(KEYS[2].0, u64::from(head.centre));
-    lines.push_named(KEYS[3].0, u64::from(head.subcentre));
-    lines.push_named(KEYS[4].0, u64::from(head.update));
-    lines.push_named(KEYS[5].0, u64::from(head.category));
-    lines.push_named(KEYS[6].0, u64::from(head.subcategory));
-    lines.push_named(KEYS[7].0, u64::from(head.local_subcategory));
-    lines.push_named(KEYS[8].0, u64::from(head.master_version));
-    lines.push_named(KEYS[9].0, u64::from(head.local_version));
-    lines.push_named(KEYS[10].0, u64::from(head.year));
-    lines.push_named(KEYS[11].0, u64::from(head.month));
-    lines.push_named(KEYS[12].0, u64::from(head.day));
-    lines.push_named(KEYS[13].0, u64::from(head.hour));
-    lines.push_named(KEYS[14].0, u64::from(head.minute));
-    lines.push_named(KEYS[15].0, u64::from(head.second));
-    lines.push_named(KEYS[16].0, u64::from(message.observed()));
-    lines.push_named(KEYS[17].0, u64::from(message.compressed()));
-    lines.push_named(KEYS[18].0, u64::from(message.section2().is_some()));
-    lines.push_named(KEYS[19].0, u64::from(message.subsets()));
-}
 
 /// Pushes lines of a word and octets, 32 on each line but the last.
 #[inline(always)]
@@ -99,21 +71,32 @@ fn push_descriptor_lines<W: Sink>(lines: &mut LineWriter<'_, '_, W>, message: &M
 pub(crate) fn push_head_lines<W: Sink>(lines: &mut LineWriter<'_, '_, W>, message: &Message<'_>)
     ensures { Pushes lines.old (text_of_lines (head_lines message.now)) lines.new }
 {
+    let head = message.head();
     lines.push(b"message");
-    push_header(lines, message);
+    lines.push_named(KEYS[0].0, u64::from(head.edition));
+    lines.push_named(KEYS[1].0, u64::from(head.master));
+    lines.push_named(KEYS[2].0, u64::from(head.centre));
+    lines.push_named(KEYS[3].0, u64::from(head.subcentre));
+    lines.push_named(KEYS[4].0, u64::from(head.update));
+    lines.push_named(KEYS[5].0, u64::from(head.category));
+    lines.push_named(KEYS[6].0, u64::from(head.subcategory));
+    lines.push_named(KEYS[7].0, u64::from(head.local_subcategory));
+    lines.push_named(KEYS[8].0, u64::from(head.master_version));
+    lines.push_named(KEYS[9].0, u64::from(head.local_version));
+    lines.push_named(KEYS[10].0, u64::from(head.year));
+    lines.push_named(KEYS[11].0, u64::from(head.month));
+    lines.push_named(KEYS[12].0, u64::from(head.day));
+    lines.push_named(KEYS[13].0, u64::from(head.hour));
+    lines.push_named(KEYS[14].0, u64::from(head.minute));
+    lines.push_named(KEYS[15].0, u64::from(head.second));
+    lines.push_named(KEYS[16].0, u64::from(message.observed()));
+    lines.push_named(KEYS[17].0, u64::from(message.compressed()));
+    lines.push_named(KEYS[18].0, u64::from(message.section2().is_some()));
+    lines.push_named(KEYS[19].0, u64::from(message.subsets()));
     lines.push(b"\n");
     push_octet_lines(lines, b"local1 ", message.local1());
     push_octet_lines(lines, b"section2 ", message.section2().unwrap_or(b""));
     push_descriptor_lines(lines, message);
-}
-
-/// Pushes a descriptor and a space.
-#[inline(never)]
-fn push_fxy<W: Sink>(lines: &mut LineWriter<'_, '_, W>, fxy: Fxy)
-    ensures { Pushes lines.old (fxy_text fxy ++ 32 ∷ []) lines.new }
-{
-    lines.push(&fxy.text());
-    lines.push(b" ");
 }
 
 /// Pushes a descriptor and a space. An entry of this descriptor has them ready.
@@ -123,29 +106,16 @@ fn push_descriptor<W: Sink>(lines: &mut LineWriter<'_, '_, W>, fxy: Fxy, entry: 
 {
     match entry {
         Some(entry) if entry.fxy() == fxy => lines.push(entry.line_start()),
-        _ => push_fxy(lines, fxy),
+        _ => {
+            lines.push(&fxy.text());
+            lines.push(b" ");
+        }
     }
-}
-
-/// Pushes a descriptor, a space and a number.
-#[inline(always)]
-// rule: text-number
-fn push_number<W: Sink>(
-    lines: &mut LineWriter<'_, '_, W>,
-    fxy: Fxy,
-    entry: Option<Entry<'_>>,
-    value: i128,
-    scale: i16,
-)
-    ensures { Pushes lines.old (fxy_text fxy ++ 32 ∷ decimal_text_of value scale) lines.new }
-{
-    push_descriptor(lines, fxy, entry);
-    lines.push_scaled(value, scale);
 }
 
 /// Pushes an item but for its comment: `R ` before a redefined reference, descriptor and value.
 #[inline(always)]
-// rule: text-missing, text-reference
+// rule: text-missing, text-number, text-reference
 fn push_any_form<W: Sink>(
     lines: &mut LineWriter<'_, '_, W>,
     fxy: Fxy,
@@ -153,10 +123,13 @@ fn push_any_form<W: Sink>(
     value: Value<'_>,
 )
     ensures { Pushes lines.old
-        (form_text fxy (dump_value_of (value_of (seen_value value.entry)))) lines.new }
+        (form_text fxy (dump_value_of (seen_value value.entry))) lines.new }
 {
     match value {
-        Value::Number(number, scale) => push_number(lines, fxy, entry, number, scale),
+        Value::Number(number, scale) => {
+            push_descriptor(lines, fxy, entry);
+            lines.push_scaled(number, scale);
+        }
         Value::Text(octets) => {
             push_descriptor(lines, fxy, entry);
             lines.push(b"\"");
@@ -168,7 +141,8 @@ fn push_any_form<W: Sink>(
         }
         Value::Reference(reference) => {
             lines.push(b"R ");
-            push_number(lines, fxy, entry, i128::from(reference), 0);
+            push_descriptor(lines, fxy, entry);
+            lines.push_scaled(i128::from(reference), 0);
         }
     }
 }
@@ -182,8 +156,8 @@ fn push_any_item<W: Sink>(
     entry: Option<Entry<'_>>,
     value: Value<'_>,
 )
-    ensures { Pushes lines.old (item_text (dump_item_of
-        (seen (record { fxy = fxy; entry = entry.entry; value = value.entry }))) ++ 10 ∷ [])
+    ensures { Pushes lines.old (item_text
+        (seen (record { fxy = fxy; entry = entry.entry; value = value.entry })) ++ 10 ∷ [])
         lines.new }
 {
     push_any_form(lines, fxy, entry, value);
@@ -196,7 +170,7 @@ fn push_any_item<W: Sink>(
 /// Pushes the line of an item. Most are numbers of 64 bits, or missing, and were read by an entry.
 #[inline(always)]
 pub(crate) fn push_item<W: Sink>(lines: &mut LineWriter<'_, '_, W>, item: &ItemView<'_>)
-    ensures { Pushes lines.old (item_text (dump_item_of (seen item.now)) ++ 10 ∷ []) lines.new }
+    ensures { Pushes lines.old (item_text (seen item.now) ++ 10 ∷ []) lines.new }
 {
     let (fxy, entry, value) = (item.fxy, item.entry, item.value);
     if let Value::Number(number, scale) = value
@@ -242,14 +216,6 @@ impl<'t> DumpMemory<'t> {
     }
 }
 
-/// Takes the block where it is not taken yet.
-fn take_block(block: &mut Vec<u8>) -> Result<(), AllocError> {
-    if block.is_empty() {
-        block.resize(PAGE + LINE, 0)?;
-    }
-    Ok(())
-}
-
 impl<'b, 'w, W: Sink> Visitor for LineWriter<'b, 'w, W> {
     type Fault = RunFault;
 
@@ -269,39 +235,6 @@ impl<'b, 'w, W: Sink> Visitor for LineWriter<'b, 'w, W> {
         push_item(self, item);
         self.end_line(PAGE);
         self.status()
-    }
-}
-
-/// Pushes the lines of the subsets and the last line, and hands on what is held.
-fn push_subsets<W: Sink>(
-    alloc: Global,
-    reading: &Reading<'_>,
-    specs: &mut SpecCache<'_>,
-    lines: &mut LineWriter<'_, '_, W>,
-    steps: &mut Steps,
-) -> Result<(), RunFault>
-    requires { specs.old ≡ reading.now.table }
-    ensures same { specs.new ≡ specs.old }
-    ensures ends { (values : Values)
-        → IsReading (course_of reading.now) reading.now.source values reading.now.bits
-        → Ends lines.old (subsets_text reading.now values) result lines.new }
-    ensures steps { (values : Values)
-        → IsReading (course_of reading.now) reading.now.source values reading.now.bits
-        → MakesSteps (calls_of reading.now values) (turns_shown reading.now values)
-        result steps.new }
-    ensures bounded { steps.new ≤ places reading.now.template * reading.now.bits }
-{
-    match reading.show_by(specs, lines, steps) {
-        Ok(()) => {
-            lines.push(b"end\n");
-            lines.hand_on();
-            lines.status()
-        }
-        Err(ShowFault::Visitor(fault)) => Err(fault),
-        Err(ShowFault::Memory) => {
-            lines.status()?;
-            Err(RunFault::Memory)
-        }
     }
 }
 
@@ -331,8 +264,8 @@ pub fn write_dump<W: Sink>(
     // At `Ok` the writer took the dump text of the reading's items, at a fault a prefix of it.
     ensures writes { (values : Values)
         → IsReading (course_of reading.now) reading.now.source values reading.now.bits →
-        WritesPrefix (W.taken w.old) (W.taken w.new)
-        (dump_text_of message.now (dump_items_of reading.now values)) result }
+        WritesPrefix (W.taken w.old) (W.taken w.new) (dump_text_of message.now
+        (dump_items reading.now.table reading.now.source.subsets values)) result }
     // At `Ok` the steps are all turns of the reading, at a fault those before a call or all.
     ensures steps { (values : Values)
         → IsReading (course_of reading.now) reading.now.source values reading.now.bits →
@@ -366,8 +299,8 @@ pub fn write_dump_by<W: Sink>(
     // At `Ok` the writer took the dump text of the reading's items, at a fault a prefix of it.
     ensures writes { (values : Values)
         → IsReading (course_of reading.now) reading.now.source values reading.now.bits →
-        WritesPrefix (W.taken w.old) (W.taken w.new)
-        (dump_text_of message.now (dump_items_of reading.now values)) result }
+        WritesPrefix (W.taken w.old) (W.taken w.new) (dump_text_of message.now
+        (dump_items reading.now.table reading.now.source.subsets values)) result }
     // At `Ok` the steps are all turns of the reading, at a fault those before a call or all.
     ensures steps { (values : Values)
         → IsReading (course_of reading.now) reading.now.source values reading.now.bits →
@@ -378,10 +311,26 @@ pub fn write_dump_by<W: Sink>(
     ensures bounded { steps.new ≤ places reading.now.template * reading.now.bits }
 {
     *steps = Steps::new();
-    take_block(&mut memory.block)?;
+    memory.block.resize(PAGE + LINE, 0)?;
     let mut lines = LineWriter::new(memory.block.as_mut_slice(), w);
     push_head_lines(&mut lines, message);
-    let outcome = push_subsets(memory.alloc, reading, &mut memory.specs, &mut lines, steps);
-    let _ = lines.into_sink();
-    outcome
+    match reading.show_by(&mut memory.specs, &mut lines, steps) {
+        Ok(()) => {
+            lines.push(b"end\n");
+            lines.hand_on();
+            let outcome = lines.status();
+            let _ = lines.into_sink();
+            outcome
+        }
+        Err(ShowFault::Visitor(fault)) => {
+            let _ = lines.into_sink();
+            Err(fault)
+        }
+        Err(ShowFault::Memory) => {
+            let first = lines.status();
+            let _ = lines.into_sink();
+            first?;
+            Err(RunFault::Memory)
+        }
+    }
 }

@@ -1,10 +1,10 @@
 //! The documents of an input.
 ghost use Rattle.std.specs.Prelude.{◌≡◌, ◌≤◌, ◌<◌, ◌-◌, ℕ, List, None, Some, Err, true, false, length, IfSome, IfOk};
-ghost use Rattle.bufr_text.specs.Prelude.{read_fault_at, IsProper, has_no_feed, ReaderModel, new_reader, unfed, ReturnsNextDocument, failures_by, TakesHeldLines, HandlesEnd, FillsBuffer, ReadsMoreText, stopped};
+ghost use Rattle.bufr_text.specs.Prelude.{read_fault_at, IsProper, has_no_feed, ReaderModel, new_reader, unfed, ReturnsNextDocument, failures_by, TakesHeldLines, FillsBuffer, ReadsMoreText, stopped};
 ghost use Rattle.bufr_frame.specs.Prelude.{read_failures_after, AddsReads};
 
 use crate::document::{
-    Document, DocumentParts, LineRefusal, ParserState, Progress, TakeResult, take_lines, take_parts,
+    Document, DocumentParts, LineRefusal, ParserState, Progress, TakeResult, take_lines,
 };
 use crate::fault::ReadFault;
 use crate::line::MAX_LINE;
@@ -95,7 +95,7 @@ impl DumpReader {
         ensures { self.new ≡ self.old }
     {
         if let ParserState::Between = self.progress.place {
-            self.progress.parts = document.into_parts();
+            self.progress.parts = document.parts;
         }
     }
 
@@ -143,32 +143,15 @@ impl DumpReader {
         match taken {
             TakeResult::More => Ok(None),
             TakeResult::Gives => {
-                let parts = take_parts(self.alloc, &mut self.progress);
-                Ok(Some(Document::whole(parts)))
+                self.progress.place = ParserState::Between;
+                let blank = DocumentParts::blank(self.alloc, 0);
+                let parts = std::mem::replace(&mut self.progress.parts, blank);
+                Ok(Some(Document { parts }))
             }
             TakeResult::Refuses(line, refusal) => {
                 let fault = refusal.at(line);
                 self.fault = Some(fault);
                 Err(fault)
-            }
-        }
-    }
-
-    /// What the end of the input comes to, where no line is left: none may be missing.
-    #[tactic(auto, using(crate::proofs::ReaderLemmas::finish_steps))]
-    // rule: fault-50, input-ends-early
-    fn finish(&mut self) -> Result<Option<Document>, ReadFault>
-        requires sound { self.old.fault ≡ None }
-        requires ended { self.old.ended ≡ true }
-        requires none { has_no_feed self.old.held ≡ true }
-        ensures end { HandlesEnd self.old self.new result }
-        ensures bound { length self.new.held ≤ 8192 }
-    {
-        match self.progress.place {
-            ParserState::Between => Ok(None),
-            _ => {
-                let fault = ReadFault::Line(self.progress.at);
-                Err(self.stop(fault))
             }
         }
     }
@@ -227,6 +210,7 @@ impl DumpReader {
     /// by a line that is held. The same where the buffer could not be made before the first read.
     /// All documents that were read whole were given before. After a fault each call returns the
     /// same one, and reads nothing.
+    // rule: fault-50, input-ends-early
     pub fn next_document<R: Source>(&mut self, r: &mut R) -> Result<Option<Document>, ReadFault>
         ensures next { self.old.fault ≡ None
             → ReturnsNextDocument (R.left r.old) (R.left r.new) self.old self.new result }
@@ -247,7 +231,12 @@ impl DumpReader {
                 return Ok(Some(document));
             }
             if self.input.ended() {
-                return self.finish();
+                // At the end no line may be missing.
+                if let ParserState::Between = self.progress.place {
+                    return Ok(None);
+                }
+                let fault = ReadFault::Line(self.progress.at);
+                return Err(self.stop(fault));
             }
             self.fill(r)?;
         }

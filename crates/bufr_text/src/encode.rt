@@ -1,9 +1,9 @@
 //! The message of a document, in a form.
 ghost use Rattle.std.specs.Prelude.{ℕ, ◌≡◌, ◌≢◌, ◌≤◌, ◌*◌, ◌+◌, ◌^◌, List, Bool, length, IfOk, IfErr, OnOk, OnErr, Ok, option_map, false, true};
-ghost use Rattle.bufr_tables.specs.Prelude.{Tree, places, Record, AreRows};
+ghost use Rattle.bufr_tables.specs.Prelude.{Tree, places, Record, AreRows, tree_of, tables_of};
 ghost use Rattle.bufr_frame.specs.Prelude.{Sections};
 ghost use Rattle.bufr_walk.specs.Prelude.{Values, next_item, ticked};
-ghost use Rattle.bufr_text.specs.Prelude.{document_of, IsAccepted, dump_items_in, EncodesForm, encoding_in, encoding_of, octets_of_bits, message_of, compressed_as, parts_as, IsDocumentRefusal, report_of_draft, reported_refusal, AreOctetsOf, WritesData, WritesSubset, reported_stop, CountsSteps, places_by, bits_by, turns_by, compressed_by, head_from_values, AsWritten};
+ghost use Rattle.bufr_text.specs.Prelude.{document_of, IsAccepted, dump_items, EncodesForm, encoding_in, encoding_of, octets_of_bits, message_of, compressed_as, parts_as, IsDocumentRefusal, report_of_draft, reported_refusal, AreOctetsOf, WritesData, reported_stop, CountsSteps, places_by, bits_by, turns_by, compressed_by, head_from_values, AsWritten, WritesForm};
 ghost use Rattle.bufr_fill.specs.Prelude.{subsets_of};
 
 use crate::document::Document;
@@ -38,27 +38,6 @@ fn descriptors_of(alloc: Global, words: &[u16]) -> Result<Vec<Fxy>, AllocError>
     Ok(descriptors)
 }
 
-/// Writes one subset, and goes past its end.
-fn write_subset(
-    template: &Template,
-    cache: &mut SpecCache<'_>,
-    out: &mut PlainOut<'_>,
-    steps: &mut Steps,
-) -> Result<(), DocumentFault>
-    requires { 1 ≤ length (subsets_of out.old.left) }
-    ensures same { cache.new ≡ cache.old }
-    ensures written { WritesSubset (places template.now) (next_item cache.old template.now) out.old
-        steps.old result out.new steps.new }
-{
-    match walk_by(template, cache, out, steps) {
-        Ok(()) => match out.end_subset() {
-            Ok(()) => Ok(()),
-            Err(why) => Err(of_draft(why)),
-        },
-        Err(why) => Err(of_stop(why, out.line())),
-    }
-}
-
 /// The octets of data that are not compressed, of so many subsets.
 fn write_plain(
     template: &Template,
@@ -76,7 +55,14 @@ fn write_plain(
 {
     let mut out = PlainOut::new(cache.allocator(), entries);
     'subsets: for done in 0..subsets {
-        write_subset(template, cache, &mut out, steps)?;
+        match walk_by(template, cache, &mut out, steps) {
+            Ok(()) => {
+                if let Err(why) = out.end_subset() {
+                    return Err(of_draft(why));
+                }
+            }
+            Err(why) => return Err(of_stop(why, out.line())),
+        }
     }
     Ok(out.into_octets())
 }
@@ -108,20 +94,27 @@ fn write_packed(
     }
 }
 
-/// The octets of a document's data in a form.
-// rule: form-option
+/// The octets of a document's data in a form, by the template that was selected for it.
+// rule: form-option, fault-56
 fn write_data(
-    template: &Template,
     document: &Document,
     form: Form,
+    templates: &TemplateCache<'_>,
     cache: &mut SpecCache<'_>,
     steps: &mut Steps,
 ) -> Result<Vec<u8>, DocumentFault>
-    requires { steps.old ≡ 0 }
+    requires none { steps.old ≡ 0 }
+    requires list { templates.now.list ≡ document.now.descriptors }
+    requires cached { cache.old ≡ templates.now.table_b }
     ensures same { cache.new ≡ cache.old }
-    ensures written { WritesData (places template.now) (compressed_as form document.now)
-        (next_item cache.old template.now) (subsets_of document.now.entries) result steps.new }
+    ensures written { WritesForm form templates.now.table_b document.now
+        (tree_of (tables_of templates.now.table_b templates.now.table_d) document.now.descriptors)
+        result steps.new }
 {
+    let template = match templates.answer() {
+        Ok(template) => template,
+        Err(why) => return Err(DocumentFault::Template(document.line(), *why)),
+    };
     if form.is_compressed(document.compressed()) {
         write_packed(template, document.items(), cache, steps)
     } else {
@@ -162,45 +155,6 @@ fn write_whole(
         Err(WriteFault::TooLong) => Err(DocumentFault::TooLong(document.line())),
         Err(WriteFault::Memory) => Err(DocumentFault::Memory),
     }
-}
-
-/// The octets of a document's message in a form, by the template that was selected for it.
-// rule: fault-56
-fn encode_selected(
-    document: &Document,
-    form: Form,
-    templates: &TemplateCache<'_>,
-    cache: &mut SpecCache<'_>,
-    steps: &mut Steps,
-) -> Result<Vec<u8>, DocumentFault>
-    requires none { steps.old ≡ 0 }
-    requires list { templates.now.list ≡ document.now.descriptors }
-    requires cached { cache.old ≡ templates.now.table_b }
-    ensures same { cache.new ≡ cache.old }
-    ensures octets { IfOk result (λ octets.
-        encoding_in form templates.now.table_b templates.now.table_d document.now
-        ≡ Ok octets.items) }
-    ensures fault { IfErr result (λ why. IsDocumentRefusal (reported_refusal why)
-        (encoding_in form templates.now.table_b templates.now.table_d document.now)) }
-    ensures memory { IfErr result
-        (λ why. (line : ℕ) → why ≢ DocumentFault.Template line TemplateFault.Memory) }
-    ensures made { OnOk result (steps.new
-        ≡ ticked 0 (turns_by form templates.now.table_b templates.now.table_d document.now)) }
-    ensures made_refused { IfErr result (λ why. CountsSteps (reported_refusal why) 0
-        (turns_by form templates.now.table_b templates.now.table_d document.now) steps.new) }
-    ensures accepted { OnOk result (steps.new
-        ≤ places_by templates.now.table_b templates.now.table_d document.now
-        * bits_by form templates.now.table_b templates.now.table_d document.now) }
-    ensures refused { OnErr result (steps.new
-        ≤ places_by templates.now.table_b templates.now.table_d document.now
-        * (bits_by form templates.now.table_b templates.now.table_d document.now + 1)) }
-{
-    let template = match templates.answer() {
-        Ok(template) => template,
-        Err(why) => return Err(DocumentFault::Template(document.line(), *why)),
-    };
-    let payload = write_data(template, document, form, cache, steps)?;
-    write_whole(cache.allocator(), document, form, &payload)
 }
 
 /// The octets of a document's message in a form, by the tables of `templates`, which keeps the last
@@ -250,9 +204,9 @@ pub fn encode_by(
     let descriptors = descriptors_of(alloc, document.descriptors())?;
     templates.select(&descriptors)?;
     let mut cache = templates.take_specs();
-    let outcome = encode_selected(document, form, templates, &mut cache, steps);
+    let payload = write_data(document, form, templates, &mut cache, steps);
     templates.put_specs(cache);
-    outcome
+    write_whole(alloc, document, form, &payload?)
 }
 
 /// The octets of a document's message in a form, by the tables: its template first, then its items
@@ -313,7 +267,7 @@ pub fn encode_form(
     ensures again { (records : List Record) (m : List ℕ) (s : Sections) (template : Tree)
         (values : Values) (used at : ℕ)
         → AreRows records table_b.now → IsAccepted table_b.now table_d.now m s template values used
-        → document.now ≡ document_of at s (dump_items_in table_b.now template s values)
+        → document.now ≡ document_of at s (dump_items table_b.now s.subsets values)
         → EncodesForm form table_b.now s template values result }
 {
     let mut templates = TemplateCache::new(alloc, table_b, table_d);

@@ -1,9 +1,8 @@
 //! The twenty keys of the header of a dump text, and the descriptors of a line.
-ghost use Rattle.std.specs.Prelude.{◌≡◌, ◌<◌, ◌++◌, [], ◌∷◌, length, map, position, slice_index, true, IfSome, ◌+◌, ◌*◌, ◌≤◌, option_map};
-ghost use Rattle.bufr_frame.specs.Prelude.{slots_3, slots_4, slots_of};
-ghost use Rattle.bufr_text.specs.Prelude.{in_range, is_named, lead_of, key_in, keys, leasts, mosts, place_from, Describes, fxy_read};
+ghost use Rattle.std.specs.Prelude.{◌≡◌, ◌<◌, ◌++◌, [], ◌∷◌, length, map, position, true, IfSome, ◌+◌, ◌*◌, ◌≤◌, option_map};
+ghost use Rattle.bufr_text.specs.Prelude.{in_range, is_named, lead_of, key_at, keys, leasts, mosts, place_from, Describes, fxy_read};
 
-use crate::line::{ahead, is, octet_at, suffix};
+use crate::line::{ahead, is, suffix};
 use bufr_tables::Fxy;
 
 /// What is before a key's value, its least value, and its greatest in editions 3 and 4.
@@ -38,8 +37,8 @@ fn keys() -> &'static [Key]
     ensures count { length result.now ≡ 20 }
     ensures leads { map (λ key. key.0.now) result.now ≡ map lead_of keys }
     ensures leasts { map (λ key. key.1) result.now ≡ leasts }
-    ensures mosts_3 { map (λ key. key.2) result.now ≡ mosts slots_3 }
-    ensures mosts_4 { map (λ key. key.3) result.now ≡ mosts slots_4 }
+    ensures mosts_3 { map (λ key. key.2) result.now ≡ mosts 3 }
+    ensures mosts_4 { map (λ key. key.3) result.now ≡ mosts 4 }
 {
     &KEYS
 }
@@ -64,7 +63,7 @@ fn position(keys: &[Key], name: &[u8]) -> Option<usize>
 /// The name of the key at a place, and the space after it.
 pub(crate) fn word_at(place: usize) -> Option<&'static [u8]>
     ensures few { IfSome result (λ _. place < 20) }
-    ensures word { IfSome result (λ word. word.now ≡ (key_in keys place).name ++ 32 ∷ []) }
+    ensures word { IfSome result (λ word. word.now ≡ key_at place ++ 32 ∷ []) }
 {
     match keys().get(place)?.0 {
         [_, word @ ..] => Some(word),
@@ -80,35 +79,17 @@ pub(crate) fn place(name: &[u8]) -> Option<usize>
     position(keys(), name)
 }
 
-/// The least value of a key.
-fn least(key: usize) -> u16
-    requires { key < 20 }
-    ensures { result ≡ slice_index leasts key }
-{
-    keys()[key].1
-}
-
-/// The greatest value of a key.
-fn most(edition: u16, key: usize) -> u16
-    requires { key < 20 }
-    ensures { result ≡ slice_index (mosts (slots_of edition)) key }
-{
-    if edition == 3 {
-        keys()[key].2
-    } else {
-        keys()[key].3
-    }
-}
-
 /// Whether a value is in the range of its key, which goes by the edition.
-#[tactic(auto, unfolding(crate::specs::Line::keys))]
+#[tactic(auto, unfolding(crate::specs::Line::mosts))]
 // rule: reading-header-ranges
 pub(crate) fn in_range(edition: u16, key: usize, value: u32) -> bool
     requires { key < 20 }
     ensures value { result ≡ in_range edition key value }
     ensures few { result ≡ true → value < 65536 }
 {
-    u32::from(least(key)) <= value && value <= u32::from(most(edition, key))
+    let key = &keys()[key];
+    let most = if edition == 3 { key.2 } else { key.3 };
+    u32::from(key.1) <= value && value <= u32::from(most)
 }
 
 /// How many octets a descriptor takes in a line, with the space before it.
@@ -137,19 +118,13 @@ pub(crate) fn describe(text: &[u8], out: &mut [u16]) -> Option<usize>
     requires { length out.old ≡ 8 }
     ensures { Describes text.now out.new result }
 {
-    if text.is_empty() {
-        return None;
-    }
-    if text.len() > SPACED * MOST_WORDS {
+    if text.is_empty() || text.len() > SPACED * MOST_WORDS {
         return None;
     }
     let mut count = 0;
     while SPACED * count < text.len() {
         let next = suffix(text, SPACED * count);
-        if next.len() < SPACED {
-            return None;
-        }
-        if octet_at(next, 0) != b' ' {
+        if next.len() < SPACED || next[0] != b' ' {
             return None;
         }
         let fxy = Fxy::read(ahead(suffix(next, 1), 6))?;

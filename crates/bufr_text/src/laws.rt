@@ -2,15 +2,15 @@
 //! encoded and read.
 ghost use Rattle.std.specs.Prelude.{◌≡◌, ℕ, ◌+◌, true, false, List, [], ◌∷◌, ◌++◌, length, Option, None, Result, Ok};
 ghost use Rattle.bufr_frame.specs.Prelude.{Sections};
-ghost use Rattle.bufr_text.specs.Prelude.{Between, ParseResult, Complete, documents_of, open_documents_of, lines_of, parse_lines, Document, DumpItem, document_of, dump_lines, dump_text_of, IsDumpable, TakesWholeLines, parse, parse_open, ReaderModel, new_reader, unfed, position_of, IsMissingFeed, ReadsLines, ReturnsNextDocument, HasNoMoreLines, HasNoWholeLine, AreReported, numbered_lines, AreProper, normal, IsProper, ReadFault, DocumentFault, IsCanonical, HasSameReading, IsAccepted, IsEncodedAgain, dump_items_in, HasReadingIn, IsFaultIn, IsFormed, IsReadAs, encoding_in, encoding_of, IsDocumentRefusal, reported_refusal, compressed_by, form_of_flag, Form, AsWritten};
+ghost use Rattle.bufr_text.specs.Prelude.{Between, ParseResult, Complete, documents_of, open_documents_of, lines_of, parse_lines, Document, document_of, dump_lines, dump_text_of, IsDumpable, TakesWholeLines, parse, parse_open, ReaderModel, new_reader, unfed, position_of, IsMissingFeed, ReadsLines, ReturnsNextDocument, HasNoMoreLines, HasNoWholeLine, AreReported, numbered_lines, AreProper, normal, IsProper, ReadFault, DocumentFault, IsCanonical, HasSameReading, IsAccepted, IsEncodedAgain, dump_items, HasReadingIn, IsFaultIn, IsFormed, IsReadAs, encoding_in, encoding_of, IsDocumentRefusal, reported_refusal, compressed_by, form_of_flag, Form, AsWritten};
 ghost use Rattle.bufr_tables.specs.Prelude.{Record, AreRows, Row, Sequence, Tree};
-ghost use Rattle.bufr_walk.specs.Prelude.{Values};
+ghost use Rattle.bufr_walk.specs.Prelude.{Values, View};
 ghost use Rattle.bufr_text.specs.declared.fault.DocumentFault.TheVariants.{Memory};
 
 /// The dump text of a message spells its document, and the reading goes on after it. Alone it
 /// spells one document, and nothing else.
 pub fn dump_text_spells_its_document()
-    ensures { (s : Sections) (subsets : List (List DumpItem)) → IsDumpable s subsets
+    ensures { (s : Sections) (subsets : List (List View)) → IsDumpable s subsets
         → ((at : ℕ) (t : List ℕ) → parse_lines at Between (lines_of (dump_text_of s subsets ++ t))
         ≡ Complete (document_of at s subsets)
         ∷ parse_lines (at + length (dump_lines s subsets)) Between (lines_of t))
@@ -80,7 +80,7 @@ pub fn dumped_messages_are_encoded_again()
     ensures { (records : List Record) (table : List Row) (sequences : List Sequence) (m : List ℕ)
         (s : Sections) (template : Tree) (values : Values) (used : ℕ)
         → AreRows records table → IsAccepted table sequences m s template values used
-        → let items = dump_items_in table template s values in IsDumpable s items
+        → let items = dump_items table s.subsets values in IsDumpable s items
         × (documents_of (dump_text_of s items) ≡ Complete (document_of 1 s items) ∷ [])
         × ((at : ℕ) → IsEncodedAgain table sequences m s template values (document_of at s items))
         × ((at : ℕ) (why : DocumentFault) → IsDocumentRefusal (reported_refusal why)
@@ -96,8 +96,8 @@ pub fn encoded_messages_are_accepted()
     ensures same_text { (table : List Row) (m : List ℕ) (s : Sections) (template : Tree)
         (values : Values) (octets : List ℕ)
         → (again : HasSameReading table m s template values octets)
-        → dump_text_of again.sections (dump_items_in table template again.sections values)
-        ≡ dump_text_of s (dump_items_in table template s values) }
+        → dump_text_of again.sections (dump_items table again.sections.subsets values)
+        ≡ dump_text_of s (dump_items table s.subsets values) }
     ensures accepted { (table : List Row) (sequences : List Sequence) (m : List ℕ) (s : Sections)
         (template : Tree) (values : Values) (used : ℕ) (octets : List ℕ)
         → IsAccepted table sequences m s template values used
@@ -111,9 +111,9 @@ pub fn encoded_messages_are_accepted()
     ensures formed_text { (form : Form) (table : List Row) (s : Sections) (template : Tree)
         (values : Values) (octets : List ℕ)
         → (again : HasReadingIn form table s template values octets)
-        → dump_text_of again.sections (dump_items_in table template again.sections again.found)
+        → dump_text_of again.sections (dump_items table again.sections.subsets again.found)
         ≡ dump_text_of (record s { compressed = compressed_by form s.compressed })
-        (dump_items_in table template s values) }
+        (dump_items table s.subsets values) }
 {}
 
 /// The document of an accepted message's dump text is encoded in each form. The message has the
@@ -131,7 +131,7 @@ pub fn dumped_messages_are_encoded_in_each_form()
         (s : Sections) (template : Tree) (values : Values) (used at : ℕ) (form : Form)
         → AreRows records table → IsAccepted table sequences m s template values used
         → let result = encoding_in form table sequences
-        (document_of at s (dump_items_in table template s values)) in
+        (document_of at s (dump_items table s.subsets values)) in
         IsFormed form table s template values result × ((why : DocumentFault)
         → IsDocumentRefusal (reported_refusal why) result → IsFaultIn form why) }
 {}
@@ -145,11 +145,11 @@ pub fn canonical_messages_are_encoded_to_themselves()
         (s : Sections) (template : Tree) (values : Values) (used at : ℕ)
         → AreRows records table → IsAccepted table sequences m s template values used
         → IsCanonical m s values used
-        → (encoding_of table sequences (document_of at s (dump_items_in table template s values))
+        → (encoding_of table sequences (document_of at s (dump_items table s.subsets values))
         ≡ Ok m) × ((form : Form) (octets : List ℕ)
         → (again : HasReadingIn form table s template values octets)
         → encoding_in (form_of_flag s.compressed) table sequences
-        (document_of at again.sections (dump_items_in table template again.sections again.found))
+        (document_of at again.sections (dump_items table again.sections.subsets again.found))
         ≡ Ok m) }
 {}
 
@@ -166,7 +166,7 @@ pub fn encoded_documents_are_read()
         (d : Document) (octets : List ℕ) → AreRows records table → IsProper d
         → (encoding_in form table sequences d ≡ Ok octets → IsReadAs form table sequences d octets)
         × ((read : IsReadAs form table sequences d octets)
-        → let items = dump_items_in table read.template read.sections read.values in
+        → let items = dump_items table read.sections.subsets read.values in
         (dump_text_of read.sections items ≡ normal form table read.template d)
         × (normal AsWritten table read.template (document_of 1 read.sections items)
         ≡ normal form table read.template d) × (documents_of (normal form table read.template d)

@@ -29,18 +29,6 @@ fn octets_after<'a>(rest: &[u8], scratch: &'a mut [u8]) -> Option<&'a [u8]>
     Some(ahead(scratch, count))
 }
 
-/// What a word alone says.
-fn alone<'a>(rest: &[u8], line_within_limit: ParsedLine<'a>) -> Option<ParsedLine<'a>>
-    ensures { made meaning result
-        ≡ (if length rest.now == 0 then meaning line_within_limit.entry else Wrong) }
-{
-    if rest.is_empty() {
-        Some(line_within_limit)
-    } else {
-        None
-    }
-}
-
 /// What a line says that begins with this word.
 // rule: reading-long-lists
 #[tactic(auto, unfolding(crate::specs::Line::worded))]
@@ -54,7 +42,7 @@ fn worded<'a>(
     ensures { made meaning result ≡ worded word.now rest.now }
 {
     if is(word, b"message") {
-        return alone(rest, ParsedLine::Opens);
+        return rest.is_empty().then_some(ParsedLine::Opens);
     }
     if is(word, b"local1") {
         let octets = octets_after(rest, octets.as_mut_slice())?;
@@ -76,7 +64,7 @@ fn worded<'a>(
         return reference(without_space(rest)?);
     }
     if is(word, b"end") {
-        return alone(rest, ParsedLine::Closes);
+        return rest.is_empty().then_some(ParsedLine::Closes);
     }
     let key = place(word)?;
     let value = number(without_space(rest)?)?;
@@ -180,22 +168,6 @@ fn token(text: &[u8]) -> usize
     at
 }
 
-/// A number in the one spelling that a dump has of it, and the rest after it.
-#[inline(always)]
-// rule: reading-number
-fn decimal<'a>(text: &'a [u8]) -> Option<(ShortDecimal, &'a [u8])>
-    ensures value { IfSome result (λ read.
-        value_read text.now ≡ Some (number_token (short_text read.0), read.1.now)) }
-    ensures within { IfSome result (λ read. length read.1.now ≤ length text.now) }
-{
-    let (number, count) = ShortDecimal::prefix(text)?;
-    let rest = suffix(text, count);
-    if is_number_octet(octet_at(rest, 0)) {
-        return None;
-    }
-    Some((number, rest))
-}
-
 /// A value, and the rest after it; the octets of a text are put into `scratch`.
 #[tactic(auto, using(crate::proofs::ItemLemmas::value_steps))]
 fn value<'a>(text: &'a [u8], scratch: &'a mut [u8]) -> Option<(DraftValue<'a>, &'a [u8])>
@@ -250,7 +222,12 @@ pub(crate) fn decimal_item(line: &[u8]) -> Option<(Fxy, ShortDecimal)>
     if line.len() < 6 {
         return None;
     }
-    let (number, rest) = decimal(without_space(suffix(line, 6))?)?;
+    let text = without_space(suffix(line, 6))?;
+    let (number, count) = ShortDecimal::prefix(text)?;
+    let rest = suffix(text, count);
+    if is_number_octet(octet_at(rest, 0)) {
+        return None;
+    }
     if !is_passed_after(rest) {
         return None;
     }
@@ -404,11 +381,7 @@ pub(crate) fn decode_hex(text: &[u8], out: &mut [u8]) -> Option<usize>
         out[count] = 16 * high + low;
         count += 1;
     }
-    if 2 * count == text.len() {
-        Some(count)
-    } else {
-        None
-    }
+    (2 * count == text.len()).then_some(count)
 }
 
 /// The octet at a place, or 0 after the end.
@@ -449,11 +422,5 @@ pub(crate) fn without_space<'a>(text: &'a [u8]) -> Option<&'a [u8]>
     ensures value { option_map (λ s. s.now) result ≡ without_space text.now }
     ensures within { IfSome result (λ s. length s.now ≤ length text.now) }
 {
-    if text.is_empty() {
-        return None;
-    }
-    if text[0] != b' ' {
-        return None;
-    }
-    Some(suffix(text, 1))
+    without_prefix(text, b" ")
 }

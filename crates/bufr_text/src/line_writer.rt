@@ -80,46 +80,6 @@ fn write_prefix<W: Sink>(octets: &mut [u8], at: usize, w: &mut W) -> Result<(), 
     write_all(&octets[..at], w)
 }
 
-/// Writes the octets before an index, and then a text.
-#[inline(never)]
-fn write_after<W: Sink>(
-    octets: &mut [u8],
-    at: usize,
-    text: &[u8],
-    w: &mut W,
-) -> Result<(), RunFault>
-    requires { at ≤ length octets.old }
-    ensures writes { Writes (W.taken w.old) (W.taken w.new) (take at octets.old ++ text.now)
-        result }
-    ensures counts { CountsWrites (W.failures w.old) (W.failures w.new) (W.empty_writes w.old)
-        (W.empty_writes w.new) result }
-    ensures flushes { W.flushes w.new ≡ W.flushes w.old }
-{
-    write_prefix(octets, at, w)?;
-    write_all(text, w)
-}
-
-/// Writes the octets before an index, then a name and a number.
-#[inline(never)]
-fn write_named_after<W: Sink>(
-    octets: &mut [u8],
-    at: usize,
-    name: &[u8],
-    value: u64,
-    w: &mut W,
-) -> Result<(), RunFault>
-    requires { at ≤ length octets.old }
-    ensures writes { Writes (W.taken w.old) (W.taken w.new)
-        (take at octets.old ++ (name.now ++ decimal value)) result }
-    ensures counts { CountsWrites (W.failures w.old) (W.failures w.new) (W.empty_writes w.old)
-        (W.empty_writes w.new) result }
-    ensures flushes { W.flushes w.new ≡ W.flushes w.old }
-{
-    let mut buffer = Buffer::new();
-    write_after(octets, at, name, w)?;
-    write_all(buffer.format(value).as_bytes(), w)
-}
-
 /// The upper-case hexadecimal digit of a number.
 fn hex_digit(n: u8) -> u8
     requires { n < 16 }
@@ -164,20 +124,18 @@ impl<'b, 'w, W: Sink> LineWriter<'b, 'w, W> {
     }
 
     /// Writes what is held and a text after it. Where a write fails, both are let go.
-    #[inline(always)]
+    #[inline(never)]
     fn push_through(&mut self, octets: &[u8])
-        ensures pushes { Pushes self.old octets.now self.new }
-        ensures none { self.new.held ≡ [] }
+        ensures { Pushes self.old octets.now self.new }
     {
-        let len = self.len;
-        self.len = 0;
+        self.hand_on();
         if self.status.is_ok() {
-            self.status = write_after(self.octets, len, octets, self.w);
+            self.status = write_all(octets, self.w);
         }
     }
 
     /// Writes what is held. Where a write fails, it is let go.
-    #[inline(always)]
+    #[inline(never)]
     pub fn hand_on(&mut self)
         ensures pushes { Pushes self.old [] self.new }
         ensures none { self.new.held ≡ [] }
@@ -241,14 +199,17 @@ impl<'b, 'w, W: Sink> LineWriter<'b, 'w, W> {
     {
         match fill_named(name, value, &mut self.octets[self.len..]) {
             Some(len) => self.len += len,
-            None => {
-                let len = self.len;
-                self.len = 0;
-                if self.status.is_ok() {
-                    self.status = write_named_after(self.octets, len, name, value, self.w);
-                }
-            }
+            None => self.push_named_through(name, value),
         }
+    }
+
+    /// Writes what is held, then a name and a number after it.
+    #[inline(never)]
+    fn push_named_through(&mut self, name: &[u8], value: u64)
+        ensures { Pushes self.old (name.now ++ decimal value) self.new }
+    {
+        self.push_through(name);
+        self.push_through(Buffer::new().format(value).as_bytes());
     }
 
     /// Pushes the line of a number that an entry reads.

@@ -261,14 +261,18 @@ pub(crate) fn fill_number_line(
 }
 
 impl<'b, 'w, W: Sink> LineWriter<'b, 'w, W> {
-    /// Pushes a number that is not below zero at a scale. Of 0 no zeros come after the digit.
-    // rule: decimal-point, decimal-zeros-after
-    fn push_unsigned(&mut self, size: u128, scale: i16)
-        ensures { Pushes self.old (unsigned_text size scale) self.new }
+    /// Pushes a number at a scale. Of 0 no zeros come after the digit.
+    #[inline(never)]
+    // rule: decimal-sign, decimal-point, decimal-zeros-after
+    pub(crate) fn push_scaled(&mut self, value: i128, scale: i16)
+        ensures { Pushes self.old (decimal_text_of value scale) self.new }
     {
         let mut buffer = Buffer::new();
+        let size = value.unsigned_abs();
         let digits = buffer.format(size).as_bytes();
         let places = usize::from(scale.unsigned_abs());
+        let sign: &[u8] = if value < 0 { b"-" } else { b"" };
+        self.push(sign);
         if scale > 0 {
             if digits.len() <= places {
                 self.push(b"0.");
@@ -282,24 +286,5 @@ impl<'b, 'w, W: Sink> LineWriter<'b, 'w, W> {
         }
         self.push(digits);
         self.push_zeros(if size == 0 { 0 } else { places });
-    }
-
-    /// Pushes a minus before a number below zero.
-    // rule: decimal-sign
-    fn push_sign(&mut self, value: i128)
-        ensures { Pushes self.old (sign_of value) self.new }
-    {
-        if value < 0 {
-            self.push(b"-");
-        }
-    }
-
-    /// Pushes a number at a scale.
-    #[inline(never)]
-    pub(crate) fn push_scaled(&mut self, value: i128, scale: i16)
-        ensures { Pushes self.old (decimal_text_of value scale) self.new }
-    {
-        self.push_sign(value);
-        self.push_unsigned(value.unsigned_abs(), scale);
     }
 }

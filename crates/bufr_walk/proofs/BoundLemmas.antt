@@ -3,10 +3,10 @@ use Rattle.std.proofs.lemmas.Grind.{common_steps}
 use Rattle.std.proofs.Common.{◌≡◌, ℕ, zero, suc, ◌+◌, ◌-◌, ◌*◌, ◌<◌, ◌≤◌, List, [], ◌∷◌, length, Bool, true, false, ◌||◌, Result, Ok, Err, refl, ap, subst, arith, ◌++◌, inl, inr, drop, sym, ◌∙◌, if◌then◌else◌}
 use Rattle.std.proofs.Math.Nat.{mul-le-mul_left}
 use Rattle.bufr_tables.specs.Prelude.{Tree, bare, element, operator, fixed, delayed, size, places, consumes, is_inserted_text, Row, EveryGroupConsumes, IsSound}
-use Rattle.bufr_walk.specs.Prelude.{Taken, TurnRefusal, FieldSpec, Content, OperatorModel, begin, after_operator, after_field, element_spec, factor_spec, inserted_spec, Turns, finish, operator_turn, Rest, unroll, passes, pass_end, Next, take_next, refused, at_end, astray, NextTurn, ahead, asked, operated, stop, Course, next_item, counts_of, TakenField, Takes, oks, answers_of, StopsWalk, Walked, ticked, WalkStop, ShowFault, Call, Timed, item_calls, subset_calls, compressed_item_calls, compressed_subset_calls, calls_of, items_called, turns_shown, Shows, IsStoredReading, PaysBits, items_in, Read, course_of, Item, plain, item_answer, after, next_after, turns_after, turns_in, ReadsSubsets, Values, apart, together, IsReading, IsPackedReading, max_values}
+use Rattle.bufr_walk.specs.Prelude.{Taken, TurnRefusal, FieldSpec, Content, OperatorModel, begin, after_operator, after_field, element_spec, factor_spec, inserted_spec, Turns, finish, operator_turn, Rest, unroll, passes, pass_end, at_end, astray, NextTurn, ahead, asked, operated, stop, Course, next_item, counts_of, TakenField, Takes, oks, answers_of, Walked, ticked, WalkStop, ShowFault, Call, Timed, item_calls, subset_calls, compressed_item_calls, compressed_subset_calls, calls_of, items_called, turns_shown, Shows, IsStoredReading, PaysBits, items_in, Read, course_of, Item, plain, item_answer, after, next_after, turns_after, turns_in, ReadsSubsets, Values, apart, together, IsReading, IsPackedReading, max_values}
 use Rattle.bufr_walk.specs.declared.reading.StoredItems.{StoredItems}
 use Rattle.bufr_walk.proofs.OneReading.{one_reading}
-use Rattle.bufr_walk.specs.declared.walker.WalkStop.TheVariants as stops
+use Rattle.bufr_walk.proofs.WalkLemmas.{stop_cases}
 
 module _ (table : List Row) (n : ℕ) where
   -- each item pays for n turns, and what follows for `a`
@@ -181,15 +181,6 @@ module _ {S E : Type 0} (takes : S → FieldSpec → Result Taken E → S → Ty
   items_used n s [] s' w = omega (arith, ap used w)
   items_used n s (i ∷ items) s' w = omega (arith, advances s i.spec i.taken w.0 w.2, items_used (λ more. n (i.taken ∷ more)) w.0 items s' w.3)
 
-  stop_keeps : (next : Next) (s : S) (why : WalkStop E) (s' : S) → StopsWalk takes next s why s' → used s ≤ used s'
-  stop_keeps (take_next spec) s (stops.Field e) s' h = omega (arith, refuses s spec e s' h)
-  stop_keeps (take_next spec) s stops.Memory s' h = omega (arith, ap used h.1)
-  stop_keeps (take_next spec) s (stops.Width fxy) s' h = absurd h
-  stop_keeps (take_next spec) s (stops.Defining fxy) s' h = absurd h
-  stop_keeps at_end s why s' h = absurd h
-  stop_keeps astray s why s' h = absurd h
-  stop_keeps (refused w) s why s' h = omega (arith, ap used h.1)
-
   pub steps_ok : (table : List Row) (t : Tree) (s : S) (c : ℕ) (s' : S) (c' : ℕ) → IsSound t → Walked takes (next_item table t) s c (Ok tt) s' c' → c' ≤ c + places t * (used s' - used s)
   steps_ok table t s c s' c' sound w =
       let paid : used s + length w.0 ≤ used s' = items_used (next_item table t) s w.0 s' w.1 in
@@ -199,7 +190,7 @@ module _ {S E : Type 0} (takes : S → FieldSpec → Result Taken E → S → Ty
 
   pub steps_err : (table : List Row) (t : Tree) (s : S) (c : ℕ) (why : WalkStop E) (s' : S) (c' : ℕ) → IsSound t → Walked takes (next_item table t) s c (Err why) s' c' → c' ≤ c + places t * (used s' - used s + 1)
   steps_err table t s c why s' c' sound w =
-      let same : used w.1 ≤ used s' = stop_keeps (next_item table t (answers_of w.0)).next w.1 why s' w.3 in
+      let same : used w.1 ≤ used s' = stop_cases takes (λ next y. used w.1 ≤ used s') w.1 s' (λ spec e h. omega (arith, refuses w.1 spec e s' h)) (λ spec r h. omega (arith, ap used h)) (λ x h. omega (arith, ap used h)) (next_item table t (answers_of w.0)).next why w.3 in
       let paid : used s + length w.0 ≤ used w.1 = items_used (next_item table t) s w.0 w.1 w.2 in
       let turns : (next_item table t (answers_of w.0)).turns ≤ places t * (length w.0 + 1) = subst (λ k. (next_item table t (answers_of w.0)).turns ≤ places t * (k + 1)) (answer_length w.0) (turns_before table t (answers_of w.0) sound) in
       let bits : places t * (length w.0 + 1) ≤ places t * (used s' - used s + 1) = mul-le-mul_left (places t) (let h : length w.0 + 1 ≤ used s' - used s + 1 = omega (arith, same, paid) in h) in

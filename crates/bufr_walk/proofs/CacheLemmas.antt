@@ -1,15 +1,13 @@
 -- What is cached: specs by their keys, and lists of descriptors in slots.
 use Rattle.std.proofs.lemmas.Grind.{common_steps}
-use Rattle.std.proofs.Common.{◌≡◌, ℕ, ◌+◌, ◌*◌, ◌<◌, arith, sym, ◌^◌, Bool, true, false, List, Option, Some, None, Ok, ap, subst, ◌≤◌, [], ◌∷◌, ◌++◌, length, length-append, ◌==◌, nat_lt, if◌then◌else◌}
-use Rattle.bufr_walk.specs.Prelude.{MayStay, list_of, lists_of, OperatorModel, IsKey, is_defining, element_spec, factor_spec, spec_by_kind, new_reference_spec, numeric_spec, coded_spec, text_spec, text_width, local_width_spec, listed_by, unsigned_of, unsigned_field, begin, IsFieldKey, descriptor_of, key_word, spec_of, FieldSpec, is_reference, IsSpecBy, IsOther, TableField, Kind}
+use Rattle.std.proofs.Common.{◌≡◌, ℕ, ◌+◌, ◌*◌, ◌<◌, arith, sym, ◌^◌, false, List, Ok, ap, subst, ◌≤◌, [], ◌∷◌, ◌++◌, length, length-append, nat_lt}
+use Rattle.bufr_walk.specs.Prelude.{MayStay, list_of, lists_of, OperatorModel, IsKey, is_defining, element_spec, factor_spec, unsigned_field, IsFieldKey, descriptor_of, key_word, spec_of, FieldSpec, is_reference, IsSpecBy, IsOther, TableField}
 use Rattle.std.proofs.lemmas.Bool.Decides.{nat_tests}
-use Rattle.bufr_tables.specs.Prelude.{Row, entry_of, Sequence}
-use Rattle.bufr_walk.proofs.WalkLemmas.{fitted_role}
+use Rattle.bufr_tables.specs.Prelude.{Row, Sequence}
+use Rattle.bufr_walk.proofs.WalkLemmas.{fitted_role, element_cases, kind_role}
 use Rattle.std.specs.List.{All}
 use Rattle.std.proofs.lemmas.List.Elements.{All-append, All-cons, All-head, All-tail, All-nil}
 use Rattle.bufr_walk.specs.declared.lists.Slot.{Slot}
-use Rattle.bufr_tables.specs.declared.table_b.Kind.TheVariants as kind
-use Rattle.bufr_walk.specs.declared.spec.Role.TheVariants as role
 use Rattle.bufr_walk.specs.declared.operators.TableField.TheVariants as field
 
 -- a word is added to the key of the operators
@@ -55,31 +53,14 @@ spec_cached table s f key spec h found few = record {
       subst (λ x. spec_of table x g ≡ Ok spec) e.0 (subst (λ x. spec_of table s x ≡ Ok spec) (same_field f g h.word word e.1) found);
 }
 
-kind_plain : (k : Kind) (s : OperatorModel) (row : Row) (spec : FieldSpec) → spec_by_kind k s row ≡ Ok spec → is_reference spec.role ≡ false
-kind_plain kind.Numeric s row spec e = ap is_reference (sym (fitted_role (numeric_spec s row) spec e))
-kind_plain kind.Coded s row spec e = ap is_reference (sym (fitted_role (coded_spec s row) spec e))
-kind_plain kind.Character s row spec e = let is : text_spec role.Element row.fxy (text_width s row.width) true ≡ spec = cc in ap (λ x. is_reference x.role) (sym is)
-
 none_defining : (n : ℕ) → n ≡ 0 → nat_lt 0 n ≡ false
 none_defining n h = grind (arith, nat_tests)
 
 -- while no reference is being defined, no element is one
 element_plain : (table : List Row) (s : OperatorModel) (fxy : ℕ) (spec : FieldSpec) → s.new_reference_width ≡ 0 → element_spec table s fxy ≡ Ok spec → is_reference spec.role ≡ false
-element_plain table s fxy spec none e = by_given (nat_lt 0 s.local_width) (entry_of table fxy) e
-  where
-    by_width : (b : Bool) (row : Row) → (if b then spec_by_kind row.kind begin row else unsigned_of fxy s.local_width) ≡ Ok spec → is_reference spec.role ≡ false
-    by_width true row q = kind_plain row.kind begin row spec q
-    by_width false row q = ap is_reference (sym (fitted_role (unsigned_field fxy s.local_width) spec q))
-
-    by_defining : (b : Bool) (row : Row) → b ≡ false → (if b then new_reference_spec row.kind s fxy else spec_by_kind row.kind s row) ≡ Ok spec → is_reference spec.role ≡ false
-    by_defining true row n q = absurd cc
-    by_defining false row n q = kind_plain row.kind s row spec q
-
-    by_given : (b : Bool) (o : Option Row) → (if b then local_width_spec o s fxy else listed_by o s fxy) ≡ Ok spec → is_reference spec.role ≡ false
-    by_given true None q = ap is_reference (sym (fitted_role (unsigned_field fxy s.local_width) spec q))
-    by_given false None q = absurd cc
-    by_given true (Some row) q = by_width (row.width == s.local_width) row q
-    by_given false (Some row) q = by_defining (is_defining s) row (none_defining s.new_reference_width none) q
+element_plain table s fxy spec none e =
+    let none_is : is_defining s ≡ false = none_defining s.new_reference_width none in
+    element_cases (is_reference spec.role ≡ false) table s fxy spec (λ z row p q. ap is_reference (sym (kind_role row.kind z row spec q))) (λ q. ap is_reference (sym (fitted_role (unsigned_field fxy s.local_width) spec q))) (λ row d q. absurd cc) e
 
 -- no factor is one
 factor_plain : (table : List Row) (s : OperatorModel) (fxy : ℕ) (spec : FieldSpec) → factor_spec table s fxy ≡ Ok spec → is_reference spec.role ≡ false

@@ -6,6 +6,7 @@ mod PackedExamples
 pub mod OneReading
 pub mod SomeReading
 pub mod SpecLemmas
+pub mod WalkProgress
 pub mod WalkLemmas
 pub mod BoundLemmas
 pub mod PlainLemmas

@@ -28,6 +28,9 @@ pub record HasOutcome {C : Type 0} (form : DataCoding C) (many : ℕ → Bool) (
   pub few : (j : ℕ) → j < length items → many (from + j) ≡ false
   pub ends : outcome_of form (many (from + length items)) (next_after form course items) left ≡ Some o
 
+pub same_found : {C : Type 0} (a b : FieldRead C) → ◌≡◌ {A = Result (FieldRead C) FieldFault} (Ok a) (Ok b) → a ≡ b
+same_found a b e = cc
+
 module _ {C : Type 0} (form : DataCoding C) (many : ℕ → Bool) where
   -- nothing ends where an item was read
   goes_on : (spec : FieldSpec) (bits mid : List Bool) (c : C) (b : Bool) (n : Next) (o : Outcome) → b ≡ false → n ≡ take_next spec → form.field spec bits ≡ Ok (found c mid) → outcome_of form b n bits ≡ Some o → ⊥
@@ -36,9 +39,6 @@ module _ {C : Type 0} (form : DataCoding C) (many : ℕ → Bool) where
       let f : outcome_of form b n bits ≡ None = ap (λ x. outcome_of form x n bits) few ∙ ap (λ x. outcome_of form false x bits) next ∙ e in
       let g : ◌≡◌ {A = Option Outcome} None (Some o) = sym f ∙ ends in
       cc
-
-  same_found : (a b : FieldRead C) → ◌≡◌ {A = Result (FieldRead C) FieldFault} (Ok a) (Ok b) → a ≡ b
-  same_found a b e = cc
 
   first_few : (from : ℕ) (n : ℕ) → ((j : ℕ) → j < suc n → many (from + j) ≡ false) → many (from + 0) ≡ false
   first_few from n h = h 0 (omega arith)

@@ -259,6 +259,6 @@ number_holds kind.Coded a k n j base suffix c h all = one_holds a k n j base suf
 number_holds kind.Numeric a k n j base suffix c h all = one_holds a k n j base suffix h (is_missing a base) all
 
 -- the bits of an increment, at the place that is reached in 64 bits
-pub increment_at : (octets : List ℕ) (at w k j width subset step raw : ℕ) → width ≡ w → subset ≡ j → step ≡ k → raw ≡ number_of (bits_at octets (at + (width + 6) + subset * step) k)
-    → raw ≡ number_of (take k (drop (j * k) (drop (at + (w + 6)) (bits_of octets))))
-increment_at octets at w k j width subset step raw a b c is = grind (arith, common_steps, drop-drop)
+pub increment_at : (octets : List ℕ) (at w k size j width subset step raw : ℕ) → width ≡ w → subset ≡ j → step ≡ k → k ≡ size → raw ≡ number_of (bits_at octets (at + (width + 6) + subset * step) k)
+    → raw ≡ number_of (take size (drop (j * size) (drop (at + (w + 6)) (bits_of octets))))
+increment_at octets at w k size j width subset step raw a b c e is = grind (arith, common_steps, drop-drop)

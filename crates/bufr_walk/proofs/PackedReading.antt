@@ -7,8 +7,9 @@ use Rattle.std.proofs.lemmas.Bool.Decides.{Decides-eqb, Decides-int_eq}
 use Rattle.bufr_bits.specs.Prelude.{number_of}
 use Rattle.bufr_tables.specs.Prelude.{is_character, Row, Tree}
 use Rattle.bufr_walk.specs.declared.compressed.ItemBits.{ItemBits}
-use Rattle.bufr_walk.specs.declared.compressed.PackedFault.{PackedFault}
-use Rattle.bufr_walk.specs.Prelude.{FieldSpec, data_end, FieldFault, increment, unequal_factor, Content, FieldRead, increment_bits_of, contents_of, holds_in, answer_first, equal_in, packed_field, IsSeen, IsUnseen, HasSpecAt, IsPut, no_field, item_at_location, indexed_items, IsReadAndKept, IsStoredReading, PackedCursor, item_with_contents, item_at, items_at, contents_found, fits_at, packed_view, IsPackedTaken, wrong_of, PackedTakes, remaining_bits, IsPackedWrong, refuses_packed, new_packed_in, packed_fault, IndexedItem, max_values, items_at_once, Item, packed, ReadsItems, ReadsPass, next_after, turns_after, after, Data, together, IsPackedReading, turns_together, spot, walk_fault_of, bits_before, IsRead, IsFault, IsRefused, Stop, walk_stop, too_many, field_stop, field_stop_of, stop_at, ComesToTogether, would_be_many, IsPackedShort, data_in, data_of, read_by, IsReadingOf, WalkStop, Course, Next, take_next, at_end, astray, refused, next_item, TakenField, Takes, ticked, oks, answers_of, StopsWalk, Walked}
+use Rattle.bufr_walk.specs.declared.fault.DataFault.{DataFault}
+use Rattle.bufr_walk.specs.Readers.{AreKept}
+use Rattle.bufr_walk.specs.Prelude.{FieldSpec, data_end, FieldFault, increment, unequal_factor, Content, FieldRead, increment_bits_of, contents_of, holds_in, answer_first, equal_in, packed_field, IsSeen, IsUnseen, HasSpecAt, IsPut, no_field, item_at_location, indexed_items, IsStoredReading, PackedCursor, item_at, items_at, contents_found, fits_at, packed_view, IsPackedTaken, wrong_of, PackedTakes, remaining_bits, refuses_packed, new_packed_in, fault_at, IndexedItem, max_values, items_at_once, Item, packed, ReadsItems, ReadsPass, next_after, turns_after, after, Data, together, IsPackedReading, turns_together, spot, walk_fault_of, bits_before, IsRead, IsFault, IsRefused, Stop, walk_stop, too_many, field_stop, field_stop_of, stop_at, ComesToTogether, would_be_many, IsPackedShort, data_in, data_of, read_by, IsReadingOf, WalkStop, Course, Next, take_next, refused, next_item, TakenField, Takes, ticked, oks, answers_of, Walked, TurnRefusal, stop_by}
 use Rattle.std.specs.Ordering.{int_eq}
 use Rattle.std.proofs.Math.Bool.{beq}
 use Rattle.std.specs.List.{All, list_all}
@@ -17,12 +18,23 @@ use Rattle.std.proofs.Math.Nat.{mul-le-mul_left}
 use Rattle.bufr_frame.specs.Prelude.{Sections}
 use Rattle.bufr_walk.proofs.PlainLemmas.{used_most}
 use Rattle.bufr_walk.proofs.PackedLemmas.{item_tested}
-use Rattle.bufr_walk.specs.declared.compressed.PackedFault.TheVariants as wrong
+use Rattle.bufr_walk.specs.declared.fault.DataFault.TheVariants as wrong
 use Rattle.bufr_walk.specs.declared.spec.TurnRefusal.TheVariants as refusal
 use Rattle.bufr_walk.specs.declared.spec.Role.TheVariants as role
 use Rattle.bufr_walk.specs.declared.walker.WalkStop.TheVariants as stops
 use Rattle.bufr_walk.specs.declared.fault.WalkFault.TheVariants as fault
 use Rattle.bufr_walk.specs.declared.reading.StoredItems.TheVariants as kept
+use Rattle.bufr_walk.proofs.WalkLemmas.{stop_cases}
+
+-- compressed data were read, and each item is kept
+abbrev pub IsReadAndKept : Course → Data → List IndexedItem → (used steps : ℕ) → Type 0
+IsReadAndKept course d entries used steps =
+    (items : List (Item (List Content))) × IsRead course d (together items) used steps
+    × AreKept d entries items
+
+-- with no subset nothing is read
+pub none_read : (course : Course) (bits : List Bool) → IsReadAndKept course (record { compressed = true; subsets = 0; bits = bits }) [] 0 0
+none_read course bits = ([], ((refl, omega arith, (refl, refl)), refl), (refl, refl))
 
 module _ (bits : List Bool) (at n : ℕ) (a : FieldSpec) where
   -- the k that is read there
@@ -145,7 +157,7 @@ takes_one bits at n kept kept' e seen here few look is = record {
   gives = look.gives;
   bits = refl;
   subsets = refl;
-  items = ap (items_at bits n) is ∙ items_at-append bits n kept e ∙ ap (λ x. items_at bits n kept ++ item_with_contents e.spec x ∷ []) (ap (λ j. contents_found (packed_field n e.spec (drop j bits))) here ∙ ap contents_found look.field);
+  items = ap (items_at bits n) is ∙ items_at-append bits n kept e ∙ ap (λ x. items_at bits n kept ++ (let i : Item (List Content) = record { spec = e.spec; content = x } in i) ∷ []) (ap (λ j. contents_found (packed_field n e.spec (drop j bits))) here ∙ ap contents_found look.field);
   forth = look.least;
 }
 
@@ -160,20 +172,20 @@ pub few_here : (bits : List Bool) (n : ℕ) (kept : List IndexedItem) (len from 
 few_here bits n kept len from f g few = subst (λ z. z ≤ max_values) (ap (λ l. (l + 1) * from) (f ∙ sym (length-items_at bits n kept)) ∙ ap (λ m. (length (items_at bits n kept) + 1) * m) g) few
 
 -- a fault of the item
-pub fault_here : (s : PackedCursor) (a : FieldSpec) (bits : List Bool) (at n : ℕ) (kept : List IndexedItem) (e : PackedFault) → s ≡ packed_view bits at n kept → (length (items_at bits n kept) + 1) * n ≤ max_values → IsUnseen bits at n a e → PackedTakes s a (Err e) s
+pub fault_here : (s : PackedCursor) (a : FieldSpec) (bits : List Bool) (at n : ℕ) (kept : List IndexedItem) (e : DataFault) → s ≡ packed_view bits at n kept → (length (items_at bits n kept) + 1) * n ≤ max_values → IsUnseen bits at n a e → PackedTakes s a (Err e) s
 fault_here s a bits at n kept e view few h = subst (λ x. PackedTakes x a (Err e) x) (sym view) (subst (λ w. PackedTakes (packed_view bits at n kept) a (Err w) (packed_view bits at n kept)) (sym h.fault) (by h.why h.field))
   where
     by : (why : FieldFault) → packed_field n a (drop at bits) ≡ Err why → PackedTakes (packed_view bits at n kept) a (Err (wrong_of a.fxy why)) (packed_view bits at n kept)
-    by data_end f = (record { why = data_end; few = few; field = f; fault = refl }, refl)
-    by increment f = (record { why = increment; few = few; field = f; fault = refl }, refl)
-    by unequal_factor f = (record { why = unequal_factor; few = few; field = f; fault = refl }, refl)
+    by data_end f = (record { why = data_end; field = f; fault = refl }, refl, few)
+    by increment f = (record { why = increment; field = f; fault = refl }, refl, few)
+    by unequal_factor f = (record { why = unequal_factor; field = f; fault = refl }, refl, few)
 
 -- how many values were read
 pub few_values : (s : PackedCursor) (bits : List Bool) (at n : ℕ) (kept : List IndexedItem) → packed_view bits at n kept ≡ s → length kept * n ≤ max_values → length s.items * s.subsets ≤ max_values
 few_values s bits at n kept e h = subst (λ x. length x.items * x.subsets ≤ max_values) e (subst (λ l. l * n ≤ max_values) (sym (length-items_at bits n kept)) h)
 
 -- no room could be made
-pub no_room : (s : PackedCursor) (a : FieldSpec) (bits : List Bool) (at n : ℕ) (kept kept' : List IndexedItem) (e : PackedFault) → packed_view bits at n kept ≡ s → kept' ≡ kept → e ≡ wrong.Memory → length kept % items_at_once ≡ 0 → PackedTakes s a (Err e) (packed_view bits at n kept')
+pub no_room : (s : PackedCursor) (a : FieldSpec) (bits : List Bool) (at n : ℕ) (kept kept' : List IndexedItem) (e : DataFault) → packed_view bits at n kept ≡ s → kept' ≡ kept → e ≡ wrong.Memory → length kept % items_at_once ≡ 0 → PackedTakes s a (Err e) (packed_view bits at n kept')
 no_room s a bits at n kept kept' e view same is full =
     subst (λ w. PackedTakes s a (Err w) (packed_view bits at n kept')) (sym is)
     (ap (packed_view bits at n) same ∙ view, subst (λ x. length x.items % items_at_once ≡ 0) view (subst (λ l. l % items_at_once ≡ 0) (sym (length-items_at bits n kept)) full))
@@ -203,7 +215,7 @@ passes n course s [] s' e h = record {
 }
 passes n course s (i ∷ turns) s' e h =
     let step : IsPackedTaken s i.spec i.taken h.0 = h.2 in
-    let item : Item (List Content) = item_with_contents i.spec step.contents in
+    let item : Item (List Content) = record { spec = i.spec; content = step.contents } in
     let same : (λ answers. course (i.taken ∷ answers)) ≡ after (packed n) course item = ap (λ t answers. course (t ∷ answers)) step.gives in
     let more = passes n (λ answers. course (i.taken ∷ answers)) h.0 turns s' (step.subsets ∙ e) h.3 in
     record {
@@ -262,15 +274,15 @@ module _ (n : ℕ) (course : Course) (bits : List Bool) (s : PackedCursor) (firs
       )
 
   -- with the entries that were kept
-  pub whole_read : (s' : PackedCursor) (c c' used : ℕ) (kept : List IndexedItem) → c ≡ 0 → Walked PackedTakes course s c (Ok tt) s' c' → s'.at ≤ length s'.bits → length s'.items * s'.subsets ≤ max_values → used ≡ s'.at → items_at s'.bits s'.subsets kept ≡ s'.items → list_all (fits_at s'.bits s'.subsets) kept ≡ true
-      → IsReadAndKept course (packed_data n bits) kept used c'
-  whole_read s' c c' used kept zero_first w within few at are fit =
+  pub whole_read : (s' : PackedCursor) (c c' : ℕ) (held : List Bool) (at m : ℕ) (kept : List IndexedItem) → packed_view held at m kept ≡ s' → c ≡ 0 → Walked PackedTakes course s c (Ok tt) s' c' → at ≤ length held → length kept * m ≤ max_values → list_all (fits_at held m) kept ≡ true
+      → IsReadAndKept course (packed_data n bits) kept at c'
+  whole_read s' c c' held at m kept view zero_first w within few fit =
       let p = passes n course s w.0 s' begins w.1 in (
         s'.items,
-        subst (λ u. IsRead course (packed_data n bits) (together s'.items) u c') (sym at) (walk_reads s' c c' zero_first w within few),
+        subst (λ u. IsRead course (packed_data n bits) (together s'.items) u c') (sym (ap (λ x. x.at) view)) (walk_reads s' c c' zero_first w (subst (λ x. x.at ≤ length x.bits) view within) (few_values s' held at m kept view few)),
         (
-          ap (λ b. items_at b n kept) (sym (all_bits w.0 s' p)) ∙ ap (λ m. items_at s'.bits m kept) (sym p.subsets) ∙ are,
-          ap (λ b. list_all (fits_at b n) kept) (sym (all_bits w.0 s' p)) ∙ ap (λ m. list_all (fits_at s'.bits m) kept) (sym p.subsets) ∙ fit,
+          ap (λ b. items_at b n kept) (sym (all_bits w.0 s' p)) ∙ ap (λ k. items_at s'.bits k kept) (sym p.subsets) ∙ subst (λ x. items_at x.bits x.subsets kept ≡ x.items) view refl,
+          ap (λ b. list_all (fits_at b n) kept) (sym (all_bits w.0 s' p)) ∙ ap (λ k. list_all (fits_at s'.bits k) kept) (sym p.subsets) ∙ subst (λ x. list_all (fits_at x.bits x.subsets) kept ≡ true) view fit,
         ),
       )
 
@@ -313,7 +325,7 @@ module _ (n : ℕ) (course : Course) (bits : List Bool) (s : PackedCursor) (firs
 
   -- a fault of the field
   field_so : (turns : List TakenField) (mid : PackedCursor) (p : Passed n course s turns mid) (spec : FieldSpec) (at c' : ℕ) (why : FieldFault) → (course (answers_of turns)).next ≡ take_next spec → mid.at ≤ length bits → length mid.items * n ≤ max_values → at ≡ mid.at
-      → (length mid.items + 1) * mid.subsets ≤ max_values → packed_field mid.subsets spec (remaining_bits mid) ≡ Err why → c' ≡ ticked 0 (course (answers_of turns)).turns → IsFault course (packed_data n bits) (packed_fault (stops.Field (wrong_of spec.fxy why)) at) c'
+      → (length mid.items + 1) * mid.subsets ≤ max_values → packed_field mid.subsets spec (remaining_bits mid) ≡ Err why → c' ≡ ticked 0 (course (answers_of turns)).turns → IsFault course (packed_data n bits) (fault_at (stops.Field (wrong_of spec.fxy why)) 0 at) c'
   field_so turns mid p spec at c' why e within few here room field ticks = by why field
     where
       many : would_be_many n (length p.read) ≡ false
@@ -322,14 +334,15 @@ module _ (n : ℕ) (course : Course) (bits : List Bool) (s : PackedCursor) (firs
       ends : (why : FieldFault) → packed_field mid.subsets spec (remaining_bits mid) ≡ Err why → stop_at (packed n) (would_be_many n (length p.read)) (take_next spec) (remaining_bits mid) ≡ Some (field_stop spec.fxy why)
       ends why f = ap (λ b. stop_at (packed n) b (take_next spec) (remaining_bits mid)) many ∙ ap (field_stop_of spec.fxy) (ap (λ m. packed_field m spec (remaining_bits mid)) (sym p.subsets) ∙ f)
 
-      by : (why : FieldFault) → packed_field mid.subsets spec (remaining_bits mid) ≡ Err why → IsFault course (packed_data n bits) (packed_fault (stops.Field (wrong_of spec.fxy why)) at) c'
+      by : (why : FieldFault) → packed_field mid.subsets spec (remaining_bits mid) ≡ Err why → IsFault course (packed_data n bits) (fault_at (stops.Field (wrong_of spec.fxy why)) 0 at) c'
       by data_end f = ((course (answers_of turns)).turns, refused_so turns mid p (take_next spec) (field_stop spec.fxy data_end) at e within few here (ends data_end f), ticks)
       by increment f = ((course (answers_of turns)).turns, refused_so turns mid p (take_next spec) (field_stop spec.fxy increment) at e within few here (ends increment f), ticks)
       by unequal_factor f = ((course (answers_of turns)).turns, refused_so turns mid p (take_next spec) (field_stop spec.fxy unequal_factor) at e within few here (ends unequal_factor f), ticks)
 
   -- a refused walk
-  pub walk_stops : (s' : PackedCursor) (c c' at : ℕ) (why : WalkStop PackedFault) → c ≡ 0 → Walked PackedTakes course s c (Err why) s' c' → s'.at ≤ length s'.bits → length s'.items * s'.subsets ≤ max_values → at ≡ s'.at → IsFault course (packed_data n bits) (packed_fault why at) c'
-  walk_stops s' c c' at why zero_first w within few here = by why (course (answers_of w.0)).next refl w.3
+  pub walk_stops : (s' : PackedCursor) (c c' at : ℕ) (why : WalkStop DataFault) → c ≡ 0 → Walked PackedTakes course s c (Err why) s' c' → s'.at ≤ length s'.bits → length s'.items * s'.subsets ≤ max_values → at ≡ s'.at → IsFault course (packed_data n bits) (fault_at why 0 at) c'
+  walk_stops s' c c' at why zero_first w within few here =
+      stop_cases PackedTakes (λ next y. (course (answers_of w.0)).next ≡ next → IsFault course (packed_data n bits) (fault_at y 0 at) c') w.1 s' field (λ spec r e q. ((course (answers_of w.0)).turns, short_so w.0 w.1 p spec q (inside e) (room e) (inr r), ticks)) refuses (course (answers_of w.0)).next why w.3 refl
     where
       p : Passed n course s w.0 w.1
       p = passes n course s w.0 w.1 begins w.2
@@ -347,53 +360,32 @@ module _ (n : ℕ) (course : Course) (bits : List Bool) (s : PackedCursor) (firs
       place : s' ≡ w.1 → at ≡ w.1.at
       place e = here ∙ ap (λ x. x.at) e
 
-      wrong_so : (spec : FieldSpec) (e : PackedFault) → (course (answers_of w.0)).next ≡ take_next spec → IsPackedWrong w.1 spec e → s' ≡ w.1 → IsFault course (packed_data n bits) (packed_fault (stops.Field e) at) c'
-      wrong_so spec e q h same =
-          subst (λ x. IsFault course (packed_data n bits) (packed_fault (stops.Field x) at) c') (sym h.fault) (field_so w.0 w.1 p spec at c' h.why q (inside same) (room same) (place same) h.few h.field ticks)
+      wrong_so : (spec : FieldSpec) (e : DataFault) → (course (answers_of w.0)).next ≡ take_next spec → IsUnseen w.1.bits w.1.at w.1.subsets spec e → s' ≡ w.1 → (length w.1.items + 1) * w.1.subsets ≤ max_values → IsFault course (packed_data n bits) (fault_at (stops.Field e) 0 at) c'
+      wrong_so spec e q h same room_for =
+          subst (λ x. IsFault course (packed_data n bits) (fault_at (stops.Field x) 0 at) c') (sym h.fault) (field_so w.0 w.1 p spec at c' h.why q (inside same) (room same) (place same) room_for h.field ticks)
 
       many_so : (spec : FieldSpec) → max_values < (length w.1.items + 1) * w.1.subsets → would_be_many n (length p.read) ≡ true
       many_so spec h = lt-ltb max_values ((length p.read + 1) * n) (subst (λ xs. max_values < (length xs + 1) * n) (all_items w.0 w.1 p) (subst (λ m. max_values < (length w.1.items + 1) * m) p.subsets h))
 
-      by : (why : WalkStop PackedFault) (next : Next) → (course (answers_of w.0)).next ≡ next → StopsWalk PackedTakes next w.1 why s' → IsFault course (packed_data n bits) (packed_fault why at) c'
-      by (stops.Field (wrong.TooManyValues fxy)) (take_next spec) q h =
+      field : (spec : FieldSpec) (e : DataFault) → PackedTakes w.1 spec (Err e) s' → (course (answers_of w.0)).next ≡ take_next spec → IsFault course (packed_data n bits) (fault_at (stops.Field e) 0 at) c'
+      field spec (wrong.TooManyValues fxy) h q =
           ((course (answers_of w.0)).turns, subst (λ f. IsRefused course (packed_data n bits) (fault.TooManyValues (spot 0 f at)) (course (answers_of w.0)).turns) (sym h.0) (refused_so w.0 w.1 p (take_next spec) (too_many spec.fxy) at q (inside h.2) (room h.2) (place h.2) (ap (λ b. stop_at (packed n) b (take_next spec) (remaining_bits w.1)) (many_so spec h.1))), ticks)
-      by (stops.Field wrong.Memory) (take_next spec) q h = ((course (answers_of w.0)).turns, short_so w.0 w.1 p spec q (inside h.0) (room h.0) (inl h.1), ticks)
-      by (stops.Field (wrong.DataEnd fxy)) (take_next spec) q h = wrong_so spec (wrong.DataEnd fxy) q h.0 h.1
-      by (stops.Field (wrong.Increment fxy)) (take_next spec) q h = wrong_so spec (wrong.Increment fxy) q h.0 h.1
-      by (stops.Field (wrong.UnequalFactor fxy)) (take_next spec) q h = wrong_so spec (wrong.UnequalFactor fxy) q h.0 h.1
-      by stops.Memory (take_next spec) q h = ((course (answers_of w.0)).turns, short_so w.0 w.1 p spec q (inside h.1) (room h.1) (inr h.0), ticks)
-      by (stops.Width fxy) (take_next spec) q h = absurd h
-      by (stops.Defining fxy) (take_next spec) q h = absurd h
-      by why at_end q h = absurd h
-      by why astray q h = absurd h
-      by (stops.Width fxy) (refused (refusal.Width f)) q h =
-          ((course (answers_of w.0)).turns, subst (λ x. IsRefused course (packed_data n bits) (packed_fault x at) (course (answers_of w.0)).turns) (sym h.0) (refused_so w.0 w.1 p (refused (refusal.Width f)) (walk_stop (refusal.Width f)) at q (inside h.1) (room h.1) (place h.1) refl), ticks)
-      by (stops.Defining fxy) (refused (refusal.Defining f)) q h =
-          ((course (answers_of w.0)).turns, subst (λ x. IsRefused course (packed_data n bits) (packed_fault x at) (course (answers_of w.0)).turns) (sym h.0) (refused_so w.0 w.1 p (refused (refusal.Defining f)) (walk_stop (refusal.Defining f)) at q (inside h.1) (room h.1) (place h.1) refl), ticks)
-      by (stops.Width fxy) (refused (refusal.Defining f)) q h = absurd cc h.0
-      by (stops.Defining fxy) (refused (refusal.Width f)) q h = absurd cc h.0
-      by (stops.Field e) (refused (refusal.Width f)) q h = absurd cc h.0
-      by (stops.Field e) (refused (refusal.Defining f)) q h = absurd cc h.0
-      by stops.Memory (refused (refusal.Width f)) q h = absurd cc h.0
-      by stops.Memory (refused (refusal.Defining f)) q h = absurd cc h.0
+      field spec wrong.Memory h q = ((course (answers_of w.0)).turns, short_so w.0 w.1 p spec q (inside h.0) (room h.0) (inl h.1), ticks)
+      field spec (wrong.DataEnd fxy) h q = wrong_so spec (wrong.DataEnd fxy) q h.0 h.1 h.2
+      field spec (wrong.Increment fxy) h q = wrong_so spec (wrong.Increment fxy) q h.0 h.1 h.2
+      field spec (wrong.UnequalFactor fxy) h q = wrong_so spec (wrong.UnequalFactor fxy) q h.0 h.1 h.2
 
--- a refusal leaves the bits
-stop_bits : (next : Next) (mid s' : PackedCursor) (why : WalkStop PackedFault) → StopsWalk PackedTakes next mid why s' → s'.bits ≡ mid.bits
-stop_bits (take_next spec) mid s' (stops.Field e) h = ap (λ x. x.bits) (refuses_packed mid spec e s' h)
-stop_bits (take_next spec) mid s' stops.Memory h = ap (λ x. x.bits) h.1
-stop_bits (take_next spec) mid s' (stops.Width fxy) h = absurd h
-stop_bits (take_next spec) mid s' (stops.Defining fxy) h = absurd h
-stop_bits at_end mid s' why h = absurd h
-stop_bits astray mid s' why h = absurd h
-stop_bits (refused r) mid s' why h = ap (λ x. x.bits) h.1
+      refuses : (x : TurnRefusal) → s' ≡ w.1 → (course (answers_of w.0)).next ≡ refused x → IsFault course (packed_data n bits) (fault_at (stop_by x) 0 at) c'
+      refuses (refusal.Width f) e q = ((course (answers_of w.0)).turns, refused_so w.0 w.1 p (refused (refusal.Width f)) (walk_stop (refusal.Width f)) at q (inside e) (room e) (place e) refl, ticks)
+      refuses (refusal.Defining f) e q = ((course (answers_of w.0)).turns, refused_so w.0 w.1 p (refused (refusal.Defining f)) (walk_stop (refusal.Defining f)) at q (inside e) (room e) (place e) refl, ticks)
 
-pub stopped_within : (course : Course) (bits : List Bool) (n : ℕ) (s s' : PackedCursor) (c c' : ℕ) (why : WalkStop PackedFault) → s ≡ new_packed_in bits n → Walked PackedTakes course s c (Err why) s' c' → s'.at ≤ length s'.bits → s'.at ≤ length bits
+pub stopped_within : (course : Course) (bits : List Bool) (n : ℕ) (s s' : PackedCursor) (c c' : ℕ) (why : WalkStop DataFault) → s ≡ new_packed_in bits n → Walked PackedTakes course s c (Err why) s' c' → s'.at ≤ length s'.bits → s'.at ≤ length bits
 stopped_within course bits n s s' c c' why first w h =
     let p = passes n course s w.0 w.1 (ap (λ x. x.subsets) first) w.2 in
-    subst (λ b. s'.at ≤ length b) (stop_bits (course (answers_of w.0)).next w.1 s' why w.3 ∙ p.bits ∙ ap (λ x. x.bits) first) h
+    subst (λ b. s'.at ≤ length b) (stop_cases PackedTakes (λ next y. s'.bits ≡ w.1.bits) w.1 s' (λ spec e g. ap (λ x. x.bits) (refuses_packed w.1 spec e s' g)) (λ spec r g. ap (λ x. x.bits) g) (λ x g. ap (λ z. z.bits) g) (course (answers_of w.0)).next why w.3 ∙ p.bits ∙ ap (λ x. x.bits) first) h
 
 -- the bound of steps
-pub few_stopped : (k steps steps' at here all : ℕ) (s : PackedCursor) (bits : List Bool) (n : ℕ) (why : WalkStop PackedFault) → s ≡ new_packed_in bits n → steps ≡ 0 → steps' ≤ steps + k * (at - s.at + 1) → here ≡ at → at ≤ all → steps' ≤ k * (bits_before (packed_fault why here) all + 1)
+pub few_stopped : (k steps steps' at here all : ℕ) (s : PackedCursor) (bits : List Bool) (n : ℕ) (why : WalkStop DataFault) → s ≡ new_packed_in bits n → steps ≡ 0 → steps' ≤ steps + k * (at - s.at + 1) → here ≡ at → at ≤ all → steps' ≤ k * (bits_before (fault_at why 0 here) all + 1)
 few_stopped k steps steps' at here all s bits n why first e h u within = grind (arith, common_steps, mul-le-mul_left)
 
 -- ---- The parts of a reading of compressed data.

@@ -1,13 +1,14 @@
 -- Fields and texts read from bits, and the readings that a walk over them makes.
 use Rattle.std.proofs.lemmas.Grind.{common_steps}
-use Rattle.std.proofs.Common.{◌≡◌, ℕ, suc, ◌+◌, ◌-◌, ◌*◌, ◌^◌, ◌<◌, ◌≤◌, Bool, true, false, List, [], ◌∷◌, length, take, drop, Ok, Err, refl, sym, ◌∙◌, ap, subst, arith, ℤ, pos, neg_ℤ, zero, ◌/◌, ◌%◌, ◌++◌, set, add-one, Result, ◌==◌, nat_lt, if◌then◌else◌, slice_index, slice_range, Option, Some, None, option_map, SomeIff, IfSome}
+use Rattle.std.proofs.Common.{◌≡◌, ℕ, suc, ◌+◌, ◌-◌, ◌*◌, ◌^◌, ◌<◌, ◌≤◌, Bool, true, false, List, [], ◌∷◌, length, take, drop, Ok, Err, refl, sym, ◌∙◌, ap, subst, arith, ℤ, pos, neg_ℤ, zero, ◌/◌, ◌%◌, ◌++◌, set, add-one, Result, ◌==◌, nat_lt, if◌then◌else◌, slice_index, slice_range, Option, Some, None, option_map, SomeIff, IfSome, ◌⊎◌, inl, inr}
 use Rattle.std.proofs.lemmas.Bool.{le-ltb, lt-ltb}
 use Rattle.std.proofs.lemmas.List.{length-drop, drop-drop, drop-take, take-take, take_more_set, length-set, length-take-le}
 use Rattle.std.proofs.Math.Nat.{pow-le-pow_right}
 use Rattle.bufr_bits.specs.Prelude.{bits_of, bits_at, number_of, are_all_ones}
 use Rattle.bufr_bits.proofs.BitLemmas.{length-bits_of, length-bits_at, are_all_ones-number, drop-bits_of, take-bits_of, number_of_middle, number-bits_of_octet}
-use Rattle.bufr_walk.specs.Prelude.{turns_in, items_in, Stop, stop_at, walk_fault_of, plain, WalkFault, Kind, Taken, Role, is_reference, FieldSpec, IsSpec, HasRole, HasWidth, answer_of, answer_by_role, content_in, content_by, signed_by, plain_field, found, data_end, octets_in, Content, Cursor, rest_of, past, IsTaken, plain_fault, PlainTakes, WalkStop, Course, Next, take_next, at_end, astray, refused, next_item, TakenField, Takes, ticked, oks, answers_of, StopsWalk, Walked, spot, walk_stop, field_stop, field_stop_of, data_in, data_of, read_by, Read, course_of, IsRead, IsReadingOf, Item, ReadsItems, next_after, turns_after, after, apart, ReadsSubsets, max_values, IsStoredReading, IsReadAndPaid}
-use Rattle.bufr_walk.specs.declared.plain.DataEnd.{DataEnd}
+use Rattle.bufr_walk.specs.Prelude.{turns_in, items_in, Stop, stop_at, walk_fault_of, plain, WalkFault, Kind, Taken, Role, is_reference, FieldSpec, IsSpec, HasRole, HasWidth, answer_of, answer_by_role, content_in, content_by, signed_by, plain_field, found, data_end, octets_in, Content, Cursor, rest_of, past, IsTaken, fault_at, PlainTakes, WalkStop, Course, Next, take_next, at_end, refused, next_item, TakenField, Takes, ticked, oks, answers_of, Walked, spot, walk_stop, field_stop, field_stop_of, data_in, data_of, read_by, Read, course_of, IsRead, IsReadingOf, Item, ReadsItems, next_after, turns_after, after, apart, ReadsSubsets, max_values, IsStoredReading, IsReadAndPaid, TurnRefusal, stop_by}
+use Rattle.bufr_walk.specs.declared.fault.DataFault.{DataFault}
+use Rattle.bufr_walk.specs.declared.fault.DataFault.TheVariants as wrong
 use Rattle.bufr_frame.specs.Prelude.{Sections}
 use Rattle.bufr_tables.specs.Prelude.{Row, Tree}
 use Rattle.bufr_tables.specs.declared.table_b.Kind.TheVariants as kind
@@ -17,6 +18,7 @@ use Rattle.bufr_walk.specs.declared.spec.TurnRefusal.TheVariants as refusal
 use Rattle.bufr_walk.specs.declared.walker.WalkStop.TheVariants as stops
 use Rattle.bufr_walk.specs.declared.fault.WalkFault.TheVariants as fault
 use Rattle.bufr_walk.specs.declared.reading.StoredItems.TheVariants as kept
+use Rattle.bufr_walk.proofs.WalkLemmas.{stop_cases}
 
 -- items were read up to what comes next, and their turns were counted
 pub record PassComes (course : Course) (s : Cursor) (steps : ℕ) (next : Next) (s' : Cursor) (steps' : ℕ) : Type 0 where
@@ -40,13 +42,12 @@ pub record SubsetsRead (n : ℕ) (course : Course) (bits : List Bool) (count : �
 
 -- what comes next cannot be read, or, where it is a reference, cannot be kept
 abbrev pub PassStops : Course → Cursor → (steps subset : ℕ) → WalkFault → Cursor → (steps' : ℕ) → Type 0
-PassStops course s steps subset fault.Memory s' steps' =
-    (spec : FieldSpec) × PassComes course s steps (take_next spec) s' steps' × (spec.role ≡ role.Reference)
 PassStops course s steps subset why s' steps' =
-    (next : Next) × (stop : Stop) × PassComes course s steps next s' steps'
-    × (stop_at plain false next (rest_of s') ≡ Some stop) × (why ≡ walk_fault_of stop subset s'.at)
+    ((spec : FieldSpec) × PassComes course s steps (take_next spec) s' steps' × (spec.role ≡ role.Reference) × (why ≡ fault.Memory))
+    ⊎ ((next : Next) × (stop : Stop) × PassComes course s steps next s' steps'
+    × (stop_at plain false next (rest_of s') ≡ Some stop) × (why ≡ walk_fault_of stop subset s'.at))
 
-numeric_width : (k : Kind) (w : ℕ) → k ≡ kind.Numeric → HasWidth k w → w ≤ 63
+pub numeric_width : (k : Kind) (w : ℕ) → k ≡ kind.Numeric → HasWidth k w → w ≤ 63
 numeric_width kind.Character w e h = absurd cc
 numeric_width kind.Coded w e h = h.1
 numeric_width kind.Numeric w e h = h.1
@@ -250,50 +251,34 @@ pass_reads course s s' c c' w =
     record { items = r.0; reads = r.1; next_is = sym (r.2 ∙ w.2); ticks = w.3 ∙ ap (ticked c) (sym r.3); same = same_bits course s w.0 s' w.1; pays = reads_paid course s w.0 s' w.1 }
 
 -- a refused walk stops a reading
-pub pass_stops : (course : Course) (s s' : Cursor) (c c' subset at : ℕ) (why : WalkStop DataEnd) → at ≡ s'.at → Walked PlainTakes course s c (Err why) s' c' → PassStops course s c subset (plain_fault why subset at) s' c'
+pub pass_stops : (course : Course) (s s' : Cursor) (c c' subset at : ℕ) (why : WalkStop DataFault) → at ≡ s'.at → Walked PlainTakes course s c (Err why) s' c' → PassStops course s c subset (fault_at why subset at) s' c'
 pass_stops course s s' c c' subset at why here w =
     let r = reads course s w.0 w.1 w.2 in
-    by why (course (answers_of w.0)).next w.3 (record { items = r.0; reads = r.1; next_is = sym r.2; ticks = w.4 ∙ ap (ticked c) (sym r.3); same = same_bits course s w.0 w.1 w.2; pays = reads_paid course s w.0 w.1 w.2 })
+    stop_cases PlainTakes (λ next y. PassComes course s c next w.1 c' → PassStops course s c subset (fault_at y subset at) s' c') w.1 s' field (λ spec h e p. inl (spec, moved (take_next spec) w.1 e p, h, refl)) refuses (course (answers_of w.0)).next why w.3 (record { items = r.0; reads = r.1; next_is = sym r.2; ticks = w.4 ∙ ap (ticked c) (sym r.3); same = same_bits course s w.0 w.1 w.2; pays = reads_paid course s w.0 w.1 w.2 })
   where
     moved : (next : Next) (mid : Cursor) → s' ≡ mid → PassComes course s c next mid c' → PassComes course s c next s' c'
     moved next mid e p = subst (λ x. PassComes course s c next x c') (sym e) p
 
-    by : (why : WalkStop DataEnd) (next : Next) → StopsWalk PlainTakes next w.1 why s' → PassComes course s c next w.1 c' → PassStops course s c subset (plain_fault why subset at) s' c'
-    by (stops.Field e) (take_next spec) h p =
-        (take_next spec, field_stop spec.fxy data_end, moved (take_next spec) w.1 h.2 p, ap (field_stop_of spec.fxy) (ap (λ x. plain_field spec (rest_of x)) h.2 ∙ h.0), ap fault.DataEnd (ap (λ f. spot subset f at) h.1 ∙ ap (λ b. spot subset spec.fxy b) here))
-    by stops.Memory (take_next spec) h p = (spec, moved (take_next spec) w.1 h.1 p, h.0)
-    by (stops.Width fxy) (take_next spec) h p = absurd h
-    by (stops.Defining fxy) (take_next spec) h p = absurd h
-    by why at_end h p = absurd h
-    by why astray h p = absurd h
-    by (stops.Width fxy) (refused (refusal.Width f)) h p =
-        (refused (refusal.Width f), walk_stop (refusal.Width f), moved (refused (refusal.Width f)) w.1 h.1 p, refl, ap (λ x. plain_fault x subset at) h.0 ∙ ap (λ b. fault.Width (spot subset f b)) here)
-    by (stops.Defining fxy) (refused (refusal.Defining f)) h p =
-        (refused (refusal.Defining f), walk_stop (refusal.Defining f), moved (refused (refusal.Defining f)) w.1 h.1 p, refl, ap (λ x. plain_fault x subset at) h.0 ∙ ap (λ b. fault.Defining (spot subset f b)) here)
-    by (stops.Width fxy) (refused (refusal.Defining f)) h p = absurd cc h.0
-    by (stops.Defining fxy) (refused (refusal.Width f)) h p = absurd cc h.0
-    by (stops.Field e) (refused (refusal.Width f)) h p = absurd cc h.0
-    by (stops.Field e) (refused (refusal.Defining f)) h p = absurd cc h.0
-    by stops.Memory (refused (refusal.Width f)) h p = absurd cc h.0
-    by stops.Memory (refused (refusal.Defining f)) h p = absurd cc h.0
+    field : (spec : FieldSpec) (e : DataFault) → PlainTakes w.1 spec (Err e) s' → PassComes course s c (take_next spec) w.1 c' → PassStops course s c subset (fault_at (stops.Field e) subset at) s' c'
+    field spec (wrong.DataEnd f) h p =
+        inr (take_next spec, field_stop spec.fxy data_end, moved (take_next spec) w.1 h.2 p, ap (field_stop_of spec.fxy) (ap (λ x. plain_field spec (rest_of x)) h.2 ∙ h.0), ap (λ e. fault_at (stops.Field e) subset at) h.1 ∙ ap (λ b. fault.DataEnd (spot subset spec.fxy b)) here)
+    field spec (wrong.Increment f) h p = absurd cc h.1
+    field spec (wrong.UnequalFactor f) h p = absurd cc h.1
+    field spec (wrong.TooManyValues f) h p = absurd cc h.1
+    field spec wrong.Memory h p = absurd cc h.1
+
+    refuses : (x : TurnRefusal) → s' ≡ w.1 → PassComes course s c (refused x) w.1 c' → PassStops course s c subset (fault_at (stop_by x) subset at) s' c'
+    refuses (refusal.Width f) e p = inr (refused (refusal.Width f), walk_stop (refusal.Width f), moved (refused (refusal.Width f)) w.1 e p, refl, ap (λ b. fault.Width (spot subset f b)) here)
+    refuses (refusal.Defining f) e p = inr (refused (refusal.Defining f), walk_stop (refusal.Defining f), moved (refused (refusal.Defining f)) w.1 e p, refl, ap (λ b. fault.Defining (spot subset f b)) here)
 
 -- a walk does not move back
 takes_forth : (course : Course) (s : Cursor) (items : List TakenField) (s' : Cursor) → Takes (oks PlainTakes) course s items s' → s.at ≤ s'.at
 takes_forth course s [] s' h = omega (arith, ap (λ x. x.at) h)
 takes_forth course s (i ∷ items) s' h = omega (arith, takes_forth (λ answers. course (i.taken ∷ answers)) h.0 items s' h.3, ap (λ x. x.at) h.2.next)
 
-stop_forth : (next : Next) (mid s' : Cursor) (why : WalkStop DataEnd) → StopsWalk PlainTakes next mid why s' → mid.at ≤ s'.at
-stop_forth (take_next spec) mid s' (stops.Field e) h = omega (arith, ap (λ x. x.at) h.2)
-stop_forth (take_next spec) mid s' stops.Memory h = omega (arith, ap (λ x. x.at) h.1)
-stop_forth (take_next spec) mid s' (stops.Width fxy) h = absurd h
-stop_forth (take_next spec) mid s' (stops.Defining fxy) h = absurd h
-stop_forth at_end mid s' why h = absurd h
-stop_forth astray mid s' why h = absurd h
-stop_forth (refused r) mid s' why h = omega (arith, ap (λ x. x.at) h.1)
-
-pub walk_forth : (course : Course) (s s' : Cursor) (c c' : ℕ) (r : Result (Unit {0}) (WalkStop DataEnd)) → Walked PlainTakes course s c r s' c' → s.at ≤ s'.at
+pub walk_forth : (course : Course) (s s' : Cursor) (c c' : ℕ) (r : Result (Unit {0}) (WalkStop DataFault)) → Walked PlainTakes course s c r s' c' → s.at ≤ s'.at
 walk_forth course s s' c c' (Ok u) w = takes_forth course s w.0 s' w.1
-walk_forth course s s' c c' (Err why) w = omega (arith, takes_forth course s w.0 w.1 w.2, stop_forth (course (answers_of w.0)).next w.1 s' why w.3)
+walk_forth course s s' c c' (Err why) w = omega (arith, takes_forth course s w.0 w.1 w.2, stop_cases PlainTakes (λ next y. w.1.at ≤ s'.at) w.1 s' (λ spec e h. omega (arith, ap (λ x. x.at) h.2)) (λ spec r h. omega (arith, ap (λ x. x.at) h)) (λ r h. omega (arith, ap (λ x. x.at) h)) (course (answers_of w.0)).next why w.3)
 
 -- ---- The parts of a reading.
 

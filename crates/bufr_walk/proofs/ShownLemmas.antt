@@ -3,14 +3,13 @@ use Rattle.std.proofs.lemmas.Grind.{common_steps}
 use Rattle.std.proofs.Common.{◌≡◌, ℕ, ◌+◌, ◌-◌, ◌*◌, ◌^◌, ◌<◌, ◌≤◌, false, Bool, List, [], ◌∷◌, ◌++◌, length, drop, Some, refl, sym, ◌∙◌, ap, subst, arith, length-append, length-drop, ◌/◌, ◌&&◌, true, ◌⊎◌, inl, inr, take, Result, Ok, Err, ℤ, pos, ◌+ℤ◌, ◌==◌, ◌||◌, nat_lt, if◌then◌else◌, nat_le, not, unsigned_abs}
 use Rattle.std.proofs.lemmas.Bool.{eqb-true, ltb-true, ne_eqb}
 use Rattle.bufr_bits.specs.Prelude.{bits_of, number_of, are_all_ones, bits_at}
-use Rattle.bufr_walk.specs.Prelude.{number_from, Kind, WalkFault, Content, data_end, increment, unequal_factor, answer_of, number, text, missing, content_in, content_by, value_in, said_by, octets_in, signed_by, shown_number, shown_text, shown_missing, shown_reference, shown, FieldFault, FieldRead, found, plain_field, FieldSpec, IsSpec, HasRole, is_reference, IsFor, IsForRole, is_plain_number, is_plain, IsPlainNumber, ones, Course, Next, take_next, at_end, astray, refused, ticked, TakenField, Takes, oks, answers_of, StopsWalk, Walked, walk_fault_of, bits_before, data_in, IsFault, IsRefused, Stop, walk_stop, too_many, field_stop, stop_at, ComesTo, Item, plain, ReadsPass, ReadsSubsets, turns_after, turns_in, after, items_in, content_kept, is_missing, stays_within, fits_at, Cursor, rest_of, past, IsTaken, Stage, stage, IsShown, IsUnshown, ShowingTakes, IsEnd, MayEnd, Sofar, ItemsShown, ItemsEnded, ItemsGo, ShowFault, TurnRefusal, Role, Taken, WalkStop, Call, item_call, view_of, Timed, timed, item_calls, Shows, EndsAt, IsReferenceValue, subset_call, subset_calls, IndexedItem}
+use Rattle.bufr_walk.specs.Prelude.{number_from, Kind, WalkFault, Content, data_end, increment, unequal_factor, answer_of, number, text, missing, content_in, content_by, said_by, octets_in, signed_by, shown_number, shown_text, shown_missing, shown_reference, shown, FieldFault, FieldRead, found, plain_field, FieldSpec, IsSpec, HasRole, is_reference, IsFor, IsForRole, is_plain_number, is_plain, IsPlainNumber, ones, Course, Next, take_next, at_end, refused, ticked, TakenField, Takes, oks, answers_of, Walked, walk_fault_of, bits_before, data_in, IsFault, IsRefused, Stop, walk_stop, too_many, field_stop, stop_at, ComesTo, Item, plain, ReadsPass, ReadsSubsets, turns_after, turns_in, after, items_in, content_kept, is_missing, stays_within, fits_at, Cursor, rest_of, past, IsTaken, Stage, stage, IsShown, IsUnshown, ShowingTakes, Sofar, ItemsShown, ItemsEnded, ItemsGo, ShowFault, TurnRefusal, Role, Taken, WalkStop, Call, item_call, view_of, Timed, timed, item_calls, Shows, EndsAt, IsReferenceValue, subset_call, subset_calls, IndexedItem, stop_by}
 use Rattle.bufr_tables.specs.Prelude.{Row, is_character}
 use Rattle.bufr_walk.specs.declared.plain.ShowStop.{ShowStop}
 use Rattle.std.proofs.lemmas.Bool.Decides.{nat_tests}
 use Rattle.bufr_bits.proofs.DecimalLemmas.{and_first, and_second}
 use Rattle.bufr_walk.proofs.PlainLemmas.{PassStops, answer_element, is_reference_role, PassComes, SubsetsRead}
 use Rattle.bufr_walk.proofs.PackedLemmas.{base_content, kept_base, kept_ones, kept_parts, number_holds, varied_parts, number_content}
-use Rattle.bufr_walk.specs.declared.fault.WalkFault.TheVariants as fault
 use Rattle.bufr_walk.specs.declared.spec.TurnRefusal.TheVariants as refusal
 use Rattle.bufr_tables.specs.declared.table_b.Kind.TheVariants as kind
 use Rattle.bufr_walk.specs.declared.fault.ShowFault.TheVariants as show_fault
@@ -18,6 +17,7 @@ use Rattle.bufr_walk.specs.declared.plain.ShowStop.TheVariants as stop
 use Rattle.bufr_walk.specs.declared.spec.Role.TheVariants as role
 use Rattle.bufr_walk.specs.declared.walker.WalkStop.TheVariants as stops
 use Rattle.bufr_walk.specs.declared.spec.Taken.TheVariants as taken
+use Rattle.bufr_walk.proofs.WalkLemmas.{stop_cases}
 
 -- ---- Subsets that are read one after another.
 
@@ -91,28 +91,33 @@ refused_so n course octets i total s s' c c' next stop why h p more within stops
 )
 
 pub stopped : (n : ℕ) (course : Course) (octets : List ℕ) (i total : ℕ) (s s' : Cursor) (c c' : ℕ) (why : WalkFault) → SubsetsRead n course (bits_of octets) i s c → i < total → PassStops course s c (i + 1) why s' c' → s'.at ≤ length s'.bits → IsFault course (data_in false total octets) why c'
-stopped n course octets i total s s' c c' why h more p within = by why p
+stopped n course octets i total s s' c c' why h more p within = by p
   where
     inside : (next : Next) → PassComes course s c next s' c' → s'.at ≤ length (bits_of octets)
     inside next p = omega (arith, within, ap length (p.same ∙ h.same))
 
-    by : (why : WalkFault) → PassStops course s c (i + 1) why s' c' → IsFault course (data_in false total octets) why c'
-    by fault.Memory p =
-        let m = p.1 in (
+    -- a stop that is no lack of memory
+    refusal_so : (stop : Stop) → (turns : ℕ) × IsRefused course (data_in false total octets) (walk_fault_of stop (i + 1) s'.at) turns × (c' ≡ ticked 0 turns) → IsFault course (data_in false total octets) (walk_fault_of stop (i + 1) s'.at) c'
+    refusal_so (walk_stop (refusal.Width f)) r = r
+    refusal_so (walk_stop (refusal.Defining f)) r = r
+    refusal_so (too_many f) r = r
+    refusal_so (field_stop f data_end) r = r
+    refusal_so (field_stop f increment) r = r
+    refusal_so (field_stop f unequal_factor) r = r
+
+    by : PassStops course s c (i + 1) why s' c' → IsFault course (data_in false total octets) why c'
+    by (inl p) =
+        let m = p.1 in
+        rw p.3 (
           turns_in course h.subsets + turns_after plain course m.items,
           (p.0, rest_of s', i + 1, s'.at, comes n course (bits_of octets) i total s s' c c' s'.at (take_next p.0) h m more (here s' (bits_of octets) (m.same ∙ h.same) (inside (take_next p.0) m)), p.2),
           ticks_of n course (bits_of octets) i s s' c c' (take_next p.0) h m,
         )
-    by (fault.DataEnd f) p = refused_so n course octets i total s s' c c' p.0 p.1 (fault.DataEnd f) h p.2 more (inside p.0 p.2) p.3 p.4
-    by (fault.Width f) p = refused_so n course octets i total s s' c c' p.0 p.1 (fault.Width f) h p.2 more (inside p.0 p.2) p.3 p.4
-    by (fault.Defining f) p = refused_so n course octets i total s s' c c' p.0 p.1 (fault.Defining f) h p.2 more (inside p.0 p.2) p.3 p.4
-    by (fault.UnequalFactor f) p = refused_so n course octets i total s s' c c' p.0 p.1 (fault.UnequalFactor f) h p.2 more (inside p.0 p.2) p.3 p.4
-    by (fault.Increment f) p = refused_so n course octets i total s s' c c' p.0 p.1 (fault.Increment f) h p.2 more (inside p.0 p.2) p.3 p.4
-    by (fault.TooManyValues f) p = refused_so n course octets i total s s' c c' p.0 p.1 (fault.TooManyValues f) h p.2 more (inside p.0 p.2) p.3 p.4
+    by (inr p) = subst (λ x. IsFault course (data_in false total octets) x c') (sym p.4) (refusal_so p.1 (refused_so n course octets i total s s' c c' p.0 p.1 _ h p.2 more (inside p.0 p.2) p.3 refl))
 
 -- the turns up to a fault
 pub few_stopped : (n : ℕ) (course : Course) (bits : List Bool) (i : ℕ) (s s' : Cursor) (c c' subset : ℕ) (why : WalkFault) → SubsetsRead n course bits i s c → PassStops course s c subset why s' c' → c' ≤ c + n * (s'.at - s.at + 1) → s'.at ≤ length s'.bits → s.at ≤ s'.at → c' ≤ n * (bits_before why (length bits) + 1)
-few_stopped n course bits i s s' c c' subset why h p few within forth = most (bits_before why (length bits)) (by why p)
+few_stopped n course bits i s s' c c' subset why h p few within forth = most (bits_before why (length bits)) (by p)
   where
     split : (n a d b : ℕ) → b ≡ a + d → n * b ≡ n * a + n * d
     split n a d b e = ap (λ x. n * x) e ∙ grind arith
@@ -134,14 +139,9 @@ few_stopped n course bits i s s' c c' subset why h p few within forth = most (bi
     at_spot (field_stop f increment) = refl
     at_spot (field_stop f unequal_factor) = refl
 
-    by : (why : WalkFault) → PassStops course s c subset why s' c' → s'.at ≤ bits_before why (length bits)
-    by fault.Memory p = omega (arith, within, ap length (p.1.same ∙ h.same))
-    by (fault.DataEnd f) p = omega (arith, ap (λ w. bits_before w (length bits)) p.4, at_spot p.1)
-    by (fault.Width f) p = omega (arith, ap (λ w. bits_before w (length bits)) p.4, at_spot p.1)
-    by (fault.Defining f) p = omega (arith, ap (λ w. bits_before w (length bits)) p.4, at_spot p.1)
-    by (fault.UnequalFactor f) p = omega (arith, ap (λ w. bits_before w (length bits)) p.4, at_spot p.1)
-    by (fault.Increment f) p = omega (arith, ap (λ w. bits_before w (length bits)) p.4, at_spot p.1)
-    by (fault.TooManyValues f) p = omega (arith, ap (λ w. bits_before w (length bits)) p.4, at_spot p.1)
+    by : PassStops course s c subset why s' c' → s'.at ≤ bits_before why (length bits)
+    by (inl p) = omega (arith, within, ap length (p.1.same ∙ h.same), ap (λ w. bits_before w (length bits)) p.3)
+    by (inr p) = omega (arith, ap (λ w. bits_before w (length bits)) p.4, at_spot p.1)
 
 same_found : (a b : FieldRead Content) → ◌≡◌ {A = Result (FieldRead Content) FieldFault} (Ok a) (Ok b) → a ≡ b
 same_found a b e = cc
@@ -151,7 +151,7 @@ pub content_is : (spec : FieldSpec) (bits suffix : List Bool) (c : Content) → 
 content_is spec bits suffix c h = grind (arith, common_steps, nat_lt, same_found)
 
 -- a number, and a reference, by their kind and role
-pub value_by : (r : Role) (spec : FieldSpec) (bits : List Bool) → is_reference r ≡ false → content_by r spec bits ≡ value_in spec bits
+pub value_by : (r : Role) (spec : FieldSpec) (bits : List Bool) → is_reference r ≡ false → content_by r spec bits ≡ (if are_all_ones bits && spec.may_be_missing then missing else said_by spec.kind spec.width bits)
 value_by role.Element spec bits e = refl
 value_by role.Inserted spec bits e = refl
 value_by role.Factor spec bits e = refl
@@ -205,6 +205,18 @@ course_is course i a c e is = ap (λ t more. course (t ∷ more)) e ∙ ap (afte
 
 suffix_of : (course : Course) (i : TakenField) (a : Item Content) (others : List (Item Content)) (mid' mid left : List Bool) → (λ more. course (i.taken ∷ more)) ≡ after plain course a → mid' ≡ mid → ReadsPass plain (after plain course a) others mid' left → ReadsPass plain (λ more. course (i.taken ∷ more)) others mid left
 suffix_of course i a others mid' mid left go e r = subst (λ c. ReadsPass plain c others mid left) (sym go) (subst (λ b. ReadsPass plain (after plain course a) others b left) e r)
+
+-- the end of a walk over data that were read before: the visitor refuses, or memory runs out
+abbrev pub IsEnd : {E : Type 0} → WalkStop (ShowStop E) → ShowFault E → Type 0
+IsEnd (stops.Field (stop.Visitor e)) why = why ≡ show_fault.Visitor e
+IsEnd stops.Memory why = why ≡ show_fault.Memory
+IsEnd _ why = ⊥
+
+-- whether a walk over such data may stop so
+abbrev pub MayEnd : {E : Type 0} → WalkStop (ShowStop E) → Type 0
+MayEnd (stops.Field (stop.Visitor e)) = Unit {0}
+MayEnd stops.Memory = Unit {0}
+MayEnd _ = ⊥
 
 module _ {V E : Type 0} (sees : V → Call → Result (Unit {0}) E → V → Type 0) where
   -- a field that was peeked at, shown and passed
@@ -267,19 +279,13 @@ module _ {V E : Type 0} (sees : V → Call → Result (Unit {0}) E → V → Typ
     names_so course s [] s' h = ap (λ x. (on x).names) h
     names_so course s (i ∷ items) s' h = names_so (λ answer_of. course (i.taken ∷ answer_of)) h.0 items s' h.3 ∙ h.2.names
 
-    stop_names : (next : Next) (s : S) (why : WalkStop (ShowStop E)) (s' : S) → StopsWalk took next s why s' → ((on s').names ≡ (on s).names)
-    stop_names (take_next spec) s (stops.Field stop.DataEnd) s' h = ap (λ x. x.names) h.1
-    stop_names (take_next spec) s (stops.Field (stop.Visitor e)) s' h = h.names
-    stop_names (take_next spec) s stops.Memory s' h = ap (λ x. (on x).names) h.1
-    stop_names (take_next spec) s (stops.Width f) s' h = absurd h
-    stop_names (take_next spec) s (stops.Defining f) s' h = absurd h
-    stop_names at_end s why s' h = absurd h
-    stop_names astray s why s' h = absurd h
-    stop_names (refused w) s why s' h = ap (λ x. (on x).names) h.1
+    field_names : (s : S) (spec : FieldSpec) (e : ShowStop E) (s' : S) → took s spec (Err e) s' → ((on s').names ≡ (on s).names)
+    field_names s spec stop.DataEnd s' h = ap (λ x. x.names) h.1
+    field_names s spec (stop.Visitor e) s' h = h.names
 
     pub same_names : (course : Course) (s : S) (c : ℕ) (r : Result (Unit {0}) (WalkStop (ShowStop E))) (s' : S) (c' : ℕ) → Walked took course s c r s' c' → ((on s').names ≡ (on s).names)
     same_names course s c (Ok u) s' c' w = names_so course s w.0 s' w.1
-    same_names course s c (Err why) s' c' w = stop_names (course (answers_of w.0)).next w.1 why s' w.3 ∙ names_so course s w.0 w.1 w.2
+    same_names course s c (Err why) s' c' w = stop_cases took (λ next y. (on s').names ≡ (on w.1).names) w.1 s' (λ spec e h. field_names w.1 spec e s' h) (λ spec r h. ap (λ x. (on x).names) h) (λ x h. ap (λ z. (on z).names) h) (course (answers_of w.0)).next why w.3 ∙ names_so course s w.0 w.1 w.2
 
     shown_so : (table : List Row) (before : ℕ) (course : Course) (s : S) (items : List TakenField) (s' : S) → Takes (oks took) course s items s' → (on s).table ≡ table → (all : List (Item Content)) (left : List Bool) (more : List Timed) → ReadsPass plain course all (rest_of (on s).cursor) left → Left table course before all left more (answers_of items) (on s).visitor (on s')
     shown_so table before course s [] s' h t all left more r = record {
@@ -353,34 +359,29 @@ module _ {V E : Type 0} (sees : V → Call → Result (Unit {0}) E → V → Typ
     all_ended table course s c why end s' c' t w is = record {
       ended = λ before all left more turns r now.
           let l = shown_so table before course s w.0 w.1 w.2 t all left more r in
-          l.so_far.on turns (Err end) (on s').visitor c' (by before left more turns now l.rest l.further l.here l.reads why (course (answers_of w.0)).next refl w.3 is);
+          l.so_far.on turns (Err end) (on s').visitor c' (stop_cases took (λ next y. (course (answers_of w.0)).next ≡ next → IsEnd y end → Shows sees (on w.1).visitor (item_calls table before l.further l.rest ++ more) turns (Err end) (on s').visitor c') w.1 s'
+          (field before left more turns now l.rest l.further l.here l.reads) (λ spec h e n is. memory_here table course l.further (answers_of w.0) before c c' turns l.rest left more spec end w.1 s' l.here n l.reads is h e now w.4)
+          (λ x e n is. absurd (refuses x is)) (course (answers_of w.0)).next why w.3 refl is);
     }
       where
         rows : (on w.1).table ≡ table
         rows = table_so course s w.0 w.1 w.2 ∙ t
 
-        by : (before : ℕ) (left : List Bool) (more : List Timed) (turns : ℕ) → c ≡ ticked 0 before → (rest : List (Item Content)) (further : Course) → further [] ≡ course (answers_of w.0) → ReadsPass plain further rest (rest_of (on w.1).cursor) left → (why : WalkStop (ShowStop E)) (next : Next) → (course (answers_of w.0)).next ≡ next → StopsWalk took next w.1 why s' → IsEnd why end → Shows sees (on w.1).visitor (item_calls table before further rest ++ more) turns (Err end) (on s').visitor c'
-        by before left more turns now rest further e r (stops.Field (stop.Visitor fault_is)) (take_next spec) n h is =
+        field : (before : ℕ) (left : List Bool) (more : List Timed) (turns : ℕ) → c ≡ ticked 0 before → (rest : List (Item Content)) (further : Course) → further [] ≡ course (answers_of w.0) → ReadsPass plain further rest (rest_of (on w.1).cursor) left → (spec : FieldSpec) (e : ShowStop E) → took w.1 spec (Err e) s' → (course (answers_of w.0)).next ≡ take_next spec → IsEnd (stops.Field e) end → Shows sees (on w.1).visitor (item_calls table before further rest ++ more) turns (Err end) (on s').visitor c'
+        field before left more turns now rest further e r spec (stop.Visitor fault_is) h n is =
             ends_here table course further (answers_of w.0) before c c' turns rest left more spec h.is_taken.content (rest_of (past (on w.1).cursor spec)) end w.1 (on s').visitor e n r h.is_taken.field
             (subst (λ f. EndsAt sees (on w.1).visitor (item_call (view_of table spec h.is_taken.content)) f (on s').visitor) (sym is) (subst (λ rows. sees (on w.1).visitor (item_call (view_of rows spec h.is_taken.content)) (Err fault_is) (on s').visitor) rows h.call)) now w.4
-        by before left more turns now rest further e r stops.Memory (take_next spec) n h is =
-            memory_here table course further (answers_of w.0) before c c' turns rest left more spec end w.1 s' e n r is h.0 h.1 now w.4
-        by before left more turns now rest further e r (stops.Field stop.DataEnd) (take_next spec) n h is = absurd is
-        by before left more turns now rest further e r (stops.Width f) next n h is = absurd is
-        by before left more turns now rest further e r (stops.Defining f) next n h is = absurd is
-        by before left more turns now rest further e r why at_end n h is = absurd h
-        by before left more turns now rest further e r why astray n h is = absurd h
-        by before left more turns now rest further e r (stops.Field (stop.Visitor x)) (refused (refusal.Width f)) n h is = absurd cc h.0
-        by before left more turns now rest further e r (stops.Field (stop.Visitor x)) (refused (refusal.Defining f)) n h is = absurd cc h.0
-        by before left more turns now rest further e r (stops.Field stop.DataEnd) (refused why) n h is = absurd is
-        by before left more turns now rest further e r stops.Memory (refused (refusal.Width f)) n h is = absurd cc h.0
-        by before left more turns now rest further e r stops.Memory (refused (refusal.Defining f)) n h is = absurd cc h.0
+        field before left more turns now rest further e r spec stop.DataEnd h n is = absurd is
+
+        refuses : (x : TurnRefusal) → IsEnd (stop_by x) end → ⊥
+        refuses (refusal.Width f) is = is
+        refuses (refusal.Defining f) is = is
 
     -- data that were read before can be shown to their end
     pub may_end : (table : List Row) (course : Course) (s : S) (c : ℕ) (why : WalkStop (ShowStop E)) (s' : S) (c' : ℕ) (all : List (Item Content)) (left : List Bool) → (on s).table ≡ table → ReadsPass plain course all (rest_of (on s).cursor) left → Walked took course s c (Err why) s' c' → MayEnd why
     may_end table course s c why s' c' all left t r w =
         let l = shown_so table 0 course s w.0 w.1 w.2 t all left [] r in
-        by l.rest l.further l.here l.reads why (course (answers_of w.0)).next refl w.3
+        stop_cases took (λ next y. (l.further []).next ≡ next → MayEnd y) w.1 s' (λ spec e h n. field l.rest l.further spec e n h l.reads) (λ spec r h n. tt) (λ x h n. absurd (no_refusal l.rest l.further x n l.reads)) (course (answers_of w.0)).next why w.3 (ap (λ a. a.next) l.here)
       where
         -- a walk is not refused where a reading goes on
         goes_on : (rest : List (Item Content)) (further : Course) (next : Next) → (further []).next ≡ next → ReadsPass plain further rest (rest_of (on w.1).cursor) left → (next ≡ at_end) ⊎ ((x : Item Content) × (mid : List Bool) × (next ≡ take_next x.spec) × (plain_field x.spec (rest_of (on w.1).cursor) ≡ Ok (found x.content mid)))
@@ -393,21 +394,9 @@ module _ {V E : Type 0} (sees : V → Call → Result (Unit {0}) E → V → Typ
         no_end : (rest : List (Item Content)) (further : Course) (spec : FieldSpec) → (further []).next ≡ take_next spec → plain_field spec (rest_of (on w.1).cursor) ≡ Err data_end → ReadsPass plain further rest (rest_of (on w.1).cursor) left → ⊥
         no_end rest further spec e short r = elim (goes_on rest further (take_next spec) e r) as (λ _. ⊥) [ inl f ↦ absurd cc | inr g ↦ (let f : take_next spec ≡ take_next g.0.spec = g.2 in let same : spec ≡ g.0.spec = cc in let b : ◌≡◌ {A = Result (FieldRead Content) FieldFault} (Err data_end) (Ok (found g.0.content g.1)) = sym short ∙ ap (λ z. plain_field z (rest_of (on w.1).cursor)) same ∙ g.3 in cc) ]
 
-        by : (rest : List (Item Content)) (further : Course) → further [] ≡ course (answers_of w.0) → ReadsPass plain further rest (rest_of (on w.1).cursor) left → (why : WalkStop (ShowStop E)) (next : Next) → (course (answers_of w.0)).next ≡ next → StopsWalk took next w.1 why s' → MayEnd why
-        by rest further e r (stops.Field (stop.Visitor x)) next n h = tt
-        by rest further e r stops.Memory next n h = tt
-        by rest further e r (stops.Field stop.DataEnd) (take_next spec) n h = absurd (no_end rest further spec (ap (λ a. a.next) e ∙ n) h.0 r)
-        by rest further e r (stops.Width f) (take_next spec) n h = absurd h
-        by rest further e r (stops.Defining f) (take_next spec) n h = absurd h
-        by rest further e r (stops.Field stop.DataEnd) at_end n h = absurd h
-        by rest further e r (stops.Width f) at_end n h = absurd h
-        by rest further e r (stops.Defining f) at_end n h = absurd h
-        by rest further e r (stops.Field stop.DataEnd) astray n h = absurd h
-        by rest further e r (stops.Width f) astray n h = absurd h
-        by rest further e r (stops.Defining f) astray n h = absurd h
-        by rest further e r (stops.Field stop.DataEnd) (refused why) n h = absurd (no_refusal rest further why (ap (λ a. a.next) e ∙ n) r)
-        by rest further e r (stops.Width f) (refused why) n h = absurd (no_refusal rest further why (ap (λ a. a.next) e ∙ n) r)
-        by rest further e r (stops.Defining f) (refused why) n h = absurd (no_refusal rest further why (ap (λ a. a.next) e ∙ n) r)
+        field : (rest : List (Item Content)) (further : Course) (spec : FieldSpec) (e : ShowStop E) → (further []).next ≡ take_next spec → took w.1 spec (Err e) s' → ReadsPass plain further rest (rest_of (on w.1).cursor) left → MayEnd (stops.Field e)
+        field rest further spec (stop.Visitor x) n h r = tt
+        field rest further spec stop.DataEnd n h r = absurd (no_end rest further spec n h.0 r)
 
 -- ---- Subsets that are shown one after another.
 
@@ -451,17 +440,6 @@ module _ {V E : Type 0} (sees : V → Call → Result (Unit {0}) E → V → Typ
 
   pub subset_refused : (index : ℕ) (c c' : Cursor) (s s' : V) (steps steps' : ℕ) (e : E) → sees s (subset_call index) (Err e) s' → steps' ≡ steps → SubsetGoes sees table course index c s steps (Err (show_fault.Visitor e)) c' s' steps'
   subset_refused index c c' s s' steps steps' e h same = record { ended = λ before items subsets left turns r now. inl (h, same ∙ now) }
-
-  pub none_shown : (all : List (List (Item Content))) (left bits : List Bool) (s : V) (c : Cursor) (steps : ℕ) → c ≡ record { bits = bits; at = 0 } → steps ≡ 0 → ReadsSubsets course all bits left → SubsetsShown sees table course all 0 left s c s steps
-  none_shown all left bits s c steps first e h = record {
-    before = 0;
-    more = all;
-    whole = subst (λ b. ReadsSubsets course all b left) (sym (ap rest_of first)) h;
-    count = omega arith;
-    ticks = e;
-    total = omega arith;
-    shown = sofar_self sees s (subset_calls table course 0 1 all);
-  }
 
   -- the next subset is there
   pub next_there : (all more : List (List (Item Content))) (done : ℕ) (bits left : List Bool) → ReadsSubsets course more bits left → done + length more ≡ length all → done < length all → (items : List (Item Content)) × (mid : List Bool) × ReadsPass plain course items bits mid

@@ -5,12 +5,13 @@ use Rattle.std.proofs.lemmas.Bool.{leb-true, ltb-false}
 use Rattle.std.proofs.lemmas.Bool.Decides.{nat_tests}
 use Rattle.bufr_bits.proofs.DecimalLemmas.{and_first}
 use Rattle.bufr_tables.specs.Prelude.{y_of, IsLegal, is_legal_operator, Tree, bare, element, operator, fixed, delayed, is_inserted_text, Row, entry_of, allows_width, AreRows, row_of, Record}
-use Rattle.bufr_walk.specs.Prelude.{Role, TurnRefusal, Taken, FieldSpec, IsFor, IsForRole, Content, content_in, answer_by_role, FieldFault, data_end, FieldRead, found, plain_field, increments, increment_bits_of, kind_step, content_from, holds_in, equal_in, contents_of, packed_field, answer_first, Course, Next, take_next, astray, refused, at_end, NextTurn, asked, operated, ahead, counts_in, counts_of, next_item, finish, open_end, group, pass_end, element_turn, operator_turn, Rest, passes, unroll, if_valid_width, numeric_spec, coded_spec, text_spec, text_width, spec_by_kind, defined_field, new_reference_spec, unsigned_field, unsigned_of, begin, local_width_spec, listed_by, element_spec, factor_field, factor_by, factor_spec, inserted_spec, OperatorModel, is_defining, after_operator, after_field, Item, DataCoding, plain, packed, next_after, after, ReadsItems, ReadsPass, ReadsSubsets, turns_after, turns_in, max_values, Data, Values, apart, together, IsReading, walk_stop, too_many, field_stop, field_stop_of, walk_fault_of, IsRefused, Stop, stop_at, would_be_many, WalkFault, Kind}
+use Rattle.bufr_walk.specs.Prelude.{Role, TurnRefusal, Taken, FieldSpec, IsFor, IsForRole, Content, content_in, answer_by_role, FieldFault, data_end, FieldRead, found, plain_field, increments, increment_bits_of, kind_step, content_from, holds_in, equal_in, contents_of, packed_field, answer_first, Course, Next, take_next, astray, refused, at_end, NextTurn, asked, operated, ahead, counts_of, next_item, finish, open_end, group, pass_end, operator_turn, Rest, passes, unroll, if_valid_width, numeric_spec, coded_spec, text_spec, text_width, spec_by_kind, defined_field, new_reference_spec, unsigned_field, begin, element_spec, factor_field, factor_by, factor_spec, inserted_spec, OperatorModel, is_defining, after_operator, after_field, Item, DataCoding, plain, packed, next_after, after, ReadsItems, ReadsPass, ReadsSubsets, turns_after, turns_in, max_values, Data, Values, apart, together, IsReading, walk_stop, too_many, field_stop, field_stop_of, walk_fault_of, IsRefused, Stop, stop_at, would_be_many, WalkFault, Kind}
 use Rattle.bufr_walk.proofs.SpecLemmas.{inserted_width}
+use Rattle.bufr_walk.proofs.WalkLemmas.{no_count, element_cases}
 use Rattle.bufr_walk.proofs.PackedLemmas.{item_ok, neither}
 use Rattle.std.proofs.lemmas.List.{length-drop, drop-drop}
 use Rattle.bufr_bits.specs.Prelude.{number_of}
-use Rattle.bufr_walk.proofs.OneReading.{Outcome, ended, stopped, stopped_by, outcome_of, HasOutcome}
+use Rattle.bufr_walk.proofs.OneReading.{Outcome, ended, stopped, stopped_by, outcome_of, HasOutcome, same_found}
 use Rattle.bufr_tables.proofs.TableBLemmas.{row-limits}
 use Rattle.bufr_tables.specs.declared.table_b.Kind.TheVariants as kind
 use Rattle.bufr_walk.specs.declared.spec.Role.TheVariants as role
@@ -77,18 +78,6 @@ is_counting role.Reference = false
 abbrev IsUncounted : FieldSpec → Type 0
 IsUncounted a = (1 ≤ a.width) × (is_counting a.role ≡ false)
 
-uncounted : (r : Role) (t : Taken) (counts : List ℕ) → is_counting r ≡ false → IsForRole r t → counts_in t counts ≡ counts
-uncounted role.Element taken.Plain counts e f = refl
-uncounted role.Element (taken.Count n) counts e f = absurd f
-uncounted role.Element (taken.Reference r) counts e f = absurd f
-uncounted role.Inserted taken.Plain counts e f = refl
-uncounted role.Inserted (taken.Count n) counts e f = absurd f
-uncounted role.Inserted (taken.Reference r) counts e f = absurd f
-uncounted role.Factor t counts e f = absurd cc
-uncounted role.Reference taken.Plain counts e f = absurd f
-uncounted role.Reference (taken.Count n) counts e f = absurd f
-uncounted role.Reference (taken.Reference r) counts e f = refl
-
 same_ok : (a b : FieldSpec) → ◌≡◌ {A = Result FieldSpec TurnRefusal} (Ok a) (Ok b) → a ≡ b
 same_ok a b e = cc
 
@@ -132,21 +121,8 @@ inserted_steps s fxy spec legal x e = by (is_defining s) e
 
 module _ (table : List Row) (rows : (fxy : ℕ) (row : Row) → entry_of table fxy ≡ Some row → allows_width row.kind row.width ≡ true) where
   element_steps : (s : OperatorModel) (fxy : ℕ) (spec : FieldSpec) → element_spec table s fxy ≡ Ok spec → IsUncounted spec
-  element_steps s fxy spec e = by_given (nat_lt 0 s.local_width) (entry_of table fxy) refl e
-    where
-      by_defining : (b : Bool) (row : Row) → allows_width row.kind row.width ≡ true → (if b then new_reference_spec row.kind s fxy else spec_by_kind row.kind s row) ≡ Ok spec → IsUncounted spec
-      by_defining true row good q = defined_steps s row.kind fxy spec q
-      by_defining false row good q = kind_steps s row.kind row spec refl good q
-
-      by_width : (b : Bool) (row : Row) → allows_width row.kind row.width ≡ true → (if b then spec_by_kind row.kind begin row else unsigned_of fxy s.local_width) ≡ Ok spec → IsUncounted spec
-      by_width true row good q = kind_steps begin row.kind row spec refl good q
-      by_width false row good q = fitted_uncounted (unsigned_field fxy s.local_width) spec refl q
-
-      by_given : (b : Bool) (o : Option Row) → entry_of table fxy ≡ o → (if b then local_width_spec o s fxy else listed_by o s fxy) ≡ Ok spec → IsUncounted spec
-      by_given true None p q = fitted_uncounted (unsigned_field fxy s.local_width) spec refl q
-      by_given false None p q = absurd cc
-      by_given true (Some row) p q = by_width (row.width == s.local_width) row (rows fxy row p) q
-      by_given false (Some row) p q = by_defining (is_defining s) row (rows fxy row p) q
+  element_steps s fxy spec e =
+      element_cases (IsUncounted spec) table s fxy spec (λ z row p q. kind_steps z row.kind row spec refl (rows fxy row p) q) (λ q. fitted_uncounted (unsigned_field fxy s.local_width) spec refl q) (λ row d q. defined_steps s row.kind fxy spec q) e
 
   factor_steps : (s : OperatorModel) (fxy : ℕ) (spec : FieldSpec) → factor_spec table s fxy ≡ Ok spec → (1 ≤ spec.width) × (role.Factor ≡ spec.role)
   factor_steps s fxy spec e = by (is_defining s) (entry_of table fxy) e
@@ -156,26 +132,14 @@ module _ (table : List Row) (rows : (fxy : ℕ) (row : Row) → entry_of table f
       by false None q = absurd cc
       by false (Some row) q = let f = fitted (factor_field row fxy) spec q in (f.1, ap (λ z. z.role) f.0)
 
-  finish_goes : (n : ℕ) (s : OperatorModel) → IsSane n (λ answers. ahead table finish s answers)
-  finish_goes n s = sane_end n (λ answers. ahead table finish s answers) at_end refl (λ q. absurd cc) (λ spec q. absurd cc)
-
-  pass_goes : (rest : Rest) → ((n : ℕ) (s : OperatorModel) → IsSane n (λ answers. ahead table (rest (counts_of answers)) s answers)) → (n : ℕ) (s : OperatorModel) → IsSane n (λ answers. ahead table (pass_end (rest (counts_of answers))) s answers)
-  pass_goes rest h n s = sane_same n (λ answers. ahead table (rest (counts_of answers)) s answers) (λ answers. ahead table (pass_end (rest (counts_of answers))) s answers) (λ answers. refl) (h n s)
-
-  group_goes : (rest : Rest) → ((n : ℕ) (s : OperatorModel) → IsSane n (λ answers. ahead table (rest (counts_of answers)) s answers)) → (n : ℕ) (s : OperatorModel) → IsSane n (λ answers. ahead table (group (rest (counts_of answers))) s answers)
-  group_goes rest h n s = sane_same n (λ answers. ahead table (rest (counts_of answers)) s answers) (λ answers. ahead table (group (rest (counts_of answers))) s answers) (λ answers. refl) (h n s)
-
   -- a field that returns no count
   uncounted_goes : (r : Result FieldSpec TurnRefusal) (s : OperatorModel) (fxy : ℕ) (rest : Rest) → ((spec : FieldSpec) → r ≡ Ok spec → IsUncounted spec) → ((n : ℕ) (s : OperatorModel) → IsSane n (λ answers. ahead table (rest (counts_of answers)) s answers))
       → (n : ℕ) → IsSane n (λ answers. asked r (λ t more. ahead table (rest (counts_of answers)) (after_field s fxy t) more) answers)
   uncounted_goes r s fxy rest good h n =
       field_sane n r (λ answers. asked r (λ t more. ahead table (rest (counts_of answers)) (after_field s fxy t) more) answers) (asked_first r _) (λ spec e. (good spec e).0)
       (λ spec e t f m. sane_same m (λ answers. ahead table (rest (counts_of answers)) (after_field s fxy t) answers) (λ answers. asked r (λ u more. ahead table (rest (counts_of (t ∷ answers))) (after_field s fxy u) more) (t ∷ answers))
-      (λ answers. sym (asked_next r (λ u more. ahead table (rest (counts_of (t ∷ answers))) (after_field s fxy u) more) spec t answers e ∙ ap (λ cs. (ahead table (rest cs) (after_field s fxy t) answers).next) (uncounted spec.role t (counts_of answers) (good spec e).1 f)))
+      (λ answers. sym (asked_next r (λ u more. ahead table (rest (counts_of (t ∷ answers))) (after_field s fxy u) more) spec t answers e ∙ ap (λ cs. (ahead table (rest cs) (after_field s fxy t) answers).next) (no_count spec.role t (counts_of answers) (λ q. absurd (let c : is_counting role.Factor ≡ false = subst (λ z. is_counting z ≡ false) q (good spec e).1 in cc)) f)))
       (h m (after_field s fxy t)))
-
-  element_goes : (fxy : ℕ) (rest : Rest) → ((n : ℕ) (s : OperatorModel) → IsSane n (λ answers. ahead table (rest (counts_of answers)) s answers)) → (n : ℕ) (s : OperatorModel) → IsSane n (λ answers. ahead table (element_turn fxy (rest (counts_of answers))) s answers)
-  element_goes fxy rest h n s = uncounted_goes (element_spec table s fxy) s fxy rest (λ spec e. element_steps s fxy spec e) h n
 
   operated_goes : (r : Result OperatorModel TurnRefusal) (rest : Rest) → ((n : ℕ) (s : OperatorModel) → IsSane n (λ answers. ahead table (rest (counts_of answers)) s answers)) → (n : ℕ) → IsSane n (λ answers. operated r (λ s'. ahead table (rest (counts_of answers)) s' answers))
   operated_goes (Err why) rest h n = sane_end n (λ answers. operated (Err why) (λ s'. ahead table (rest (counts_of answers)) s' answers)) (refused why) refl (λ q. absurd cc) (λ spec q. absurd cc)
@@ -191,7 +155,7 @@ module _ (table : List Row) (rows : (fxy : ℕ) (row : Row) → entry_of table f
   passes_go : (k : ℕ) (body : Rest → Rest) (rest : Rest) → ((r : Rest) → ((n : ℕ) (s : OperatorModel) → IsSane n (λ answers. ahead table (r (counts_of answers)) s answers)) → (n : ℕ) (s : OperatorModel) → IsSane n (λ answers. ahead table (body r (counts_of answers)) s answers))
       → ((n : ℕ) (s : OperatorModel) → IsSane n (λ answers. ahead table (rest (counts_of answers)) s answers)) → (n : ℕ) (s : OperatorModel) → IsSane n (λ answers. ahead table (passes k body rest (counts_of answers)) s answers)
   passes_go zero body rest f h n s = h n s
-  passes_go (suc k) body rest f h n s = f (λ later. pass_end (passes k body rest later)) (pass_goes (passes k body rest) (λ m z. passes_go k body rest f h m z)) n s
+  passes_go (suc k) body rest f h n s = f (λ later. pass_end (passes k body rest later)) (λ m z. sane_same m (λ answers. ahead table (passes k body rest (counts_of answers)) z answers) (λ answers. ahead table (pass_end (passes k body rest (counts_of answers))) z answers) (λ answers. refl) (passes_go k body rest f h m z)) n s
 
   counted_goes : (fxy : ℕ) (body more : Rest → Rest) (rest : Rest) (s : OperatorModel) (spec : FieldSpec) (t : Taken) (c : Course)
       → ((k : ℕ) (n : ℕ) (z : OperatorModel) → IsSane n (λ answers. ahead table (passes k body (more rest) (counts_of answers)) z answers))
@@ -206,10 +170,11 @@ module _ (table : List Row) (rows : (fxy : ℕ) (row : Row) → entry_of table f
 
   unroll_goes : (tree : Tree) (rest : Rest) → IsLegal tree → ((n : ℕ) (s : OperatorModel) → IsSane n (λ answers. ahead table (rest (counts_of answers)) s answers)) → (n : ℕ) (s : OperatorModel) → IsSane n (λ answers. ahead table (unroll tree rest (counts_of answers)) s answers)
   unroll_goes bare rest legal h n s = h n s
-  unroll_goes (element fxy more) rest legal h n s = element_goes fxy (unroll more rest) (λ m z. unroll_goes more rest legal.1 h m z) n s
+  unroll_goes (element fxy more) rest legal h n s = uncounted_goes (element_spec table s fxy) s fxy (unroll more rest) (λ spec e. element_steps s fxy spec e) (λ m z. unroll_goes more rest legal.1 h m z) n
   unroll_goes (operator fxy more) rest legal h n s = operator_goes fxy (unroll more rest) legal.1.0 (λ m z. unroll_goes more rest legal.1.1.1 h m z) n s
   unroll_goes (fixed k body more) rest legal h n s =
-      group_goes (passes k (unroll body) (unroll more rest)) (λ m z. passes_go k (unroll body) (unroll more rest) (λ r g i y. unroll_goes body r legal.0 g i y) (λ i y. unroll_goes more rest legal.1 h i y) m z) n s
+      sane_same n (λ answers. ahead table (passes k (unroll body) (unroll more rest) (counts_of answers)) s answers) (λ answers. ahead table (group (passes k (unroll body) (unroll more rest) (counts_of answers))) s answers) (λ answers. refl)
+      (passes_go k (unroll body) (unroll more rest) (λ r g i y. unroll_goes body r legal.0 g i y) (λ i y. unroll_goes more rest legal.1 h i y) n s)
   unroll_goes (delayed fxy body more) rest legal h n s =
       field_sane n (factor_spec table s fxy) (λ answers. ahead table (unroll (delayed fxy body more) rest (counts_of answers)) s answers) (asked_first (factor_spec table s fxy) (λ t more. ahead table open_end (after_field s fxy t) more)) (λ spec e. (factor_steps s fxy spec e).0)
       (λ spec e t f m. counted_goes fxy (unroll body) (unroll more) rest s spec t (λ answers. ahead table (unroll (delayed fxy body more) rest (counts_of answers)) s answers)
@@ -218,7 +183,7 @@ module _ (table : List Row) (rows : (fxy : ℕ) (row : Row) → entry_of table f
 
   pub template_sane : (tree : Tree) → IsLegal tree → (n : ℕ) → IsSane n (next_item table tree)
   unfolding next_item
-  template_sane tree legal n = unroll_goes tree (λ c. finish) legal (λ m z. finish_goes m z) n begin
+  template_sane tree legal n = unroll_goes tree (λ c. finish) legal (λ m z. sane_end m (λ answers. ahead table finish z answers) at_end refl (λ q. absurd cc) (λ spec q. absurd cc)) n begin
 
 -- ---- A pass over data has an outcome.
 
@@ -295,9 +260,6 @@ answer_for role.Element c = tt
 answer_for role.Inserted c = tt
 answer_for role.Factor c = tt
 answer_for role.Reference c = tt
-
-same_found : {C : Type 0} (a b : FieldRead C) → ◌≡◌ {A = Result (FieldRead C) FieldFault} (Ok a) (Ok b) → a ≡ b
-same_found a b e = cc
 
 suffix_is : {C : Type 0} (a b : C) (l m : List Bool) → ◌≡◌ {A = Result (FieldRead C) FieldFault} (Ok (found a l)) (Ok (found b m)) → m ≡ l
 suffix_is {C} a b l m e = sym (ap (λ (z : FieldRead C). z.suffix) (same_found (found a l) (found b m) e))

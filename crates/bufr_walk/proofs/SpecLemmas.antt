@@ -16,6 +16,7 @@ use Rattle.bufr_walk.specs.Prelude.{Kind, Redefined, current_reference, with_ref
 use Rattle.bufr_tables.specs.declared.table_b.Kind.TheVariants as kind
 use Rattle.bufr_walk.specs.declared.spec.NumberParts.{NumberParts}
 use Rattle.bufr_walk.specs.declared.spec.Role.TheVariants as role
+use Rattle.bufr_walk.proofs.PlainLemmas.{is_reference_role, numeric_width}
 
 number_width : (k : Kind) (w : ℕ) → is_character k ≡ false → 1 ≤ w → w ≤ 63 → HasWidth k w
 number_width kind.Character w e some most = absurd cc
@@ -120,15 +121,4 @@ pub whole_width : (a : FieldSpec) → IsSpec a → is_character a.kind ≡ true 
 whole_width a h e = grind (arith, common_steps)
 
 pub reference_width : (a : FieldSpec) → IsSpec a → is_reference a.role ≡ true → a.width ≤ 63
-reference_width a h e = by a.role a.kind a.may_be_missing a.width h.role h.width e
-  where
-    numeric : (k : Kind) (w : ℕ) → k ≡ kind.Numeric → HasWidth k w → w ≤ 63
-    numeric kind.Character w q g = absurd cc
-    numeric kind.Coded w q g = g.1
-    numeric kind.Numeric w q g = g.1
-
-    by : (r : Role) (k : Kind) (m : Bool) (w : ℕ) → HasRole r k m → HasWidth k w → is_reference r ≡ true → w ≤ 63
-    by role.Element k m w x g q = absurd cc
-    by role.Inserted k m w x g q = absurd cc
-    by role.Factor k m w x g q = absurd cc
-    by role.Reference k m w x g q = numeric k w x.0 g
+reference_width a h e = let r : HasRole role.Reference a.kind a.may_be_missing = subst (λ x. HasRole x a.kind a.may_be_missing) (is_reference_role a.role e) h.role in numeric_width a.kind a.width r.0 h.width

@@ -2,7 +2,8 @@
 use Rattle.std.proofs.lemmas.Grind.{common_steps}
 use Rattle.std.proofs.Common.{◌≡◌, ℕ, ◌+◌, List, [], ◌∷◌, ◌++◌, Result, refl, sym, ◌∙◌, ap, subst, zero-add, add_assoc, arith, ◌*◌, append-nil, Bool, true, false, Option, Some, None, Ok, Err, zero, suc, ◌-◌, ◌^◌, ◌<◌, length, drop, get_or, add-zero, ◌≤◌, length-append, ◌==◌, nat_lt, nat_le, if◌then◌else◌}
 use Rattle.bufr_tables.specs.Prelude.{Row, entry_of, x_of, Tree, delayed, is_inserted_text, bare, element, operator, fixed, size, depth, is_legal_operator, cells_of, AreCellsOf, IsLegal}
-use Rattle.bufr_walk.specs.Prelude.{Kind, Taken, FieldSpec, IsFor, IsForRole, is_reference, OperatorModel, after_field, after_operator, is_defining, element_spec, factor_spec, inserted_spec, if_valid_width, spec_by_kind, new_reference_spec, defined_field, numeric_spec, coded_spec, text_spec, text_width, local_width_spec, listed_by, unsigned_of, unsigned_field, begin, Rest, Course, NextTurn, later, ahead, counts_of, finish, open_end, operator_turn, unroll, passes, turns_of, asked, operated, counts_in, stop, at_end, refused, next_item, TakenField, Takes, oks, answers_of, StopsWalk, WalkGoes, Stops, HasWalked, StopsIn, ticked, Walked, course, TakesField, stop_by, tail_of, costs, owed, OpenGroup, frames_of, turns_after_pass, AllGroupsFit, IsAtNodes, IsAtCell, weight, Turned, WalkStop, Role, TurnRefusal}
+use Rattle.bufr_walk.specs.Prelude.{Kind, Taken, FieldSpec, IsFor, IsForRole, is_reference, OperatorModel, after_field, after_operator, is_defining, element_spec, factor_spec, inserted_spec, if_valid_width, spec_by_kind, new_reference_spec, defined_field, numeric_spec, coded_spec, text_spec, text_width, local_width_spec, listed_by, unsigned_field, begin, Rest, Course, NextTurn, later, ahead, counts_of, finish, open_end, operator_turn, unroll, passes, turns_of, asked, operated, counts_in, stop, at_end, refused, next_item, TakenField, Takes, oks, answers_of, StopsWalk, ticked, Walked, TakesField, stop_by, WalkStop, Role, TurnRefusal, Next, take_next, astray}
+use Rattle.bufr_walk.proofs.WalkProgress.{WalkGoes, Stops, HasWalked, StopsIn, course, tail_of, costs, owed, OpenGroup, frames_of, turns_after_pass, AllGroupsFit, IsAtNodes, IsAtCell, weight, Turned}
 use Rattle.std.proofs.lemmas.Bool.Decides.{nat_tests}
 use Rattle.std.proofs.lemmas.List.{drop-drop}
 use Rattle.bufr_tables.specs.declared.template.Cell.{Cell}
@@ -88,17 +89,24 @@ module _ {S E : Type 0} (takes : S → FieldSpec → Result Taken E → S → Ty
 
 -- ---- Walks over one field, and over an operator.
 
+-- by what a walk stops: a field, memory for its reference, or a refusal of the template
+pub stop_cases : {S E : Type 0} (takes : S → FieldSpec → Result Taken E → S → Type 0) (P : Next → WalkStop E → Type 0) (s s' : S) → ((spec : FieldSpec) (e : E) → takes s spec (Err e) s' → P (take_next spec) (stops.Field e)) → ((spec : FieldSpec) → spec.role ≡ role.Reference → s' ≡ s → P (take_next spec) stops.Memory) → ((why : TurnRefusal) → s' ≡ s → P (refused why) (stop_by why))
+    → (next : Next) (why : WalkStop E) → StopsWalk takes next s why s' → P next why
+stop_cases takes P s s' field short refusal (take_next spec) (stops.Field e) h = field spec e h
+stop_cases takes P s s' field short refusal (take_next spec) stops.Memory h = short spec h.0 h.1
+stop_cases takes P s s' field short refusal (take_next spec) (stops.Width fxy) h = absurd h
+stop_cases takes P s s' field short refusal (take_next spec) (stops.Defining fxy) h = absurd h
+stop_cases takes P s s' field short refusal (refused w) why h = subst (P (refused w)) (sym h.0) (refusal w h.1)
+stop_cases takes P s s' field short refusal at_end why h = absurd h
+stop_cases takes P s s' field short refusal astray why h = absurd h
+
 -- roles other than a factor return no count
-no_count : (r : Role) (t : Taken) (counts : List ℕ) → (r ≡ role.Factor → ⊥) → IsForRole r t → counts_in t counts ≡ counts
-no_count role.Factor t counts n h = absurd (n refl)
-no_count role.Element taken.Plain counts n h = refl
+pub no_count : (r : Role) (t : Taken) (counts : List ℕ) → (r ≡ role.Factor → ⊥) → IsForRole r t → counts_in t counts ≡ counts
+no_count r taken.Plain counts n h = refl
+no_count r (taken.Reference x) counts n h = refl
+no_count role.Factor (taken.Count x) counts n h = absurd (n refl)
 no_count role.Element (taken.Count x) counts n h = absurd h
-no_count role.Element (taken.Reference x) counts n h = absurd h
-no_count role.Inserted taken.Plain counts n h = refl
 no_count role.Inserted (taken.Count x) counts n h = absurd h
-no_count role.Inserted (taken.Reference x) counts n h = absurd h
-no_count role.Reference (taken.Reference x) counts n h = refl
-no_count role.Reference taken.Plain counts n h = absurd h
 no_count role.Reference (taken.Count x) counts n h = absurd h
 
 -- no element is a factor
@@ -108,32 +116,39 @@ NoFactor a = a.role ≡ role.Factor → ⊥
 pub fitted_role : (a spec : FieldSpec) → if_valid_width a ≡ Ok spec → a.role ≡ spec.role
 fitted_role a spec e = grind (arith, common_steps, nat_le)
 
-kind_role : (k : Kind) (s : OperatorModel) (row : Row) (spec : FieldSpec) → spec_by_kind k s row ≡ Ok spec → spec.role ≡ role.Factor → ⊥
-kind_role kind.Numeric s row spec e h = let q : role.Element ≡ role.Factor = fitted_role (numeric_spec s row) spec e ∙ h in cc
-kind_role kind.Coded s row spec e h = let q : role.Element ≡ role.Factor = fitted_role (coded_spec s row) spec e ∙ h in cc
-kind_role kind.Character s row spec e h = let is : text_spec role.Element row.fxy (text_width s row.width) true ≡ spec = cc in let q : role.Element ≡ role.Factor = ap (λ x. x.role) is ∙ h in cc
+pub kind_role : (k : Kind) (s : OperatorModel) (row : Row) (spec : FieldSpec) → spec_by_kind k s row ≡ Ok spec → role.Element ≡ spec.role
+kind_role kind.Numeric s row spec e = fitted_role (numeric_spec s row) spec e
+kind_role kind.Coded s row spec e = fitted_role (coded_spec s row) spec e
+kind_role kind.Character s row spec e = let is : text_spec role.Element row.fxy (text_width s row.width) true ≡ spec = cc in ap (λ x. x.role) is
 
 defined_role : (k : Kind) (s : OperatorModel) (fxy : ℕ) (spec : FieldSpec) → new_reference_spec k s fxy ≡ Ok spec → spec.role ≡ role.Factor → ⊥
 defined_role kind.Character s fxy spec e h = cc
 defined_role kind.Coded s fxy spec e h = let q : role.Reference ≡ role.Factor = fitted_role (defined_field s fxy) spec e ∙ h in cc
 defined_role kind.Numeric s fxy spec e h = let q : role.Reference ≡ role.Factor = fitted_role (defined_field s fxy) spec e ∙ h in cc
 
-pub element_role : (table : List Row) (s : OperatorModel) (fxy : ℕ) (spec : FieldSpec) → element_spec table s fxy ≡ Ok spec → spec.role ≡ role.Factor → ⊥
-element_role table s fxy spec e h = by_given (nat_lt 0 s.local_width) (entry_of table fxy) e
+-- the ways in which an element has its spec
+pub element_cases : (P : Type 0) (table : List Row) (s : OperatorModel) (fxy : ℕ) (spec : FieldSpec) → ((z : OperatorModel) (row : Row) → entry_of table fxy ≡ Some row → spec_by_kind row.kind z row ≡ Ok spec → P) → (if_valid_width (unsigned_field fxy s.local_width) ≡ Ok spec → P) → ((row : Row) → is_defining s ≡ true → new_reference_spec row.kind s fxy ≡ Ok spec → P)
+    → element_spec table s fxy ≡ Ok spec → P
+element_cases P table s fxy spec listed local defined e = by_given (nat_lt 0 s.local_width) (entry_of table fxy) refl e
   where
-    by_width : (b : Bool) (row : Row) → (if b then spec_by_kind row.kind begin row else unsigned_of fxy s.local_width) ≡ Ok spec → ⊥
-    by_width true row q = kind_role row.kind begin row spec q h
-    by_width false row q = let r : role.Element ≡ role.Factor = fitted_role (unsigned_field fxy s.local_width) spec q ∙ h in cc
+    by_width : (b : Bool) (row : Row) → entry_of table fxy ≡ Some row → (if b then spec_by_kind row.kind begin row else if_valid_width (unsigned_field fxy s.local_width)) ≡ Ok spec → P
+    by_width true row p q = listed begin row p q
+    by_width false row p q = local q
 
-    by_defining : (b : Bool) (row : Row) → (if b then new_reference_spec row.kind s fxy else spec_by_kind row.kind s row) ≡ Ok spec → ⊥
-    by_defining true row q = defined_role row.kind s fxy spec q h
-    by_defining false row q = kind_role row.kind s row spec q h
+    by_defining : (b : Bool) (row : Row) → is_defining s ≡ b → entry_of table fxy ≡ Some row → (if b then new_reference_spec row.kind s fxy else spec_by_kind row.kind s row) ≡ Ok spec → P
+    by_defining true row d p q = defined row d q
+    by_defining false row d p q = listed s row p q
 
-    by_given : (b : Bool) (o : Option Row) → (if b then local_width_spec o s fxy else listed_by o s fxy) ≡ Ok spec → ⊥
-    by_given true None q = let r : role.Element ≡ role.Factor = fitted_role (unsigned_field fxy s.local_width) spec q ∙ h in cc
-    by_given false None q = cc
-    by_given true (Some row) q = by_width (row.width == s.local_width) row q
-    by_given false (Some row) q = by_defining (is_defining s) row q
+    by_given : (b : Bool) (o : Option Row) → entry_of table fxy ≡ o → (if b then local_width_spec o s fxy else listed_by o s fxy) ≡ Ok spec → P
+    by_given true None p q = local q
+    by_given false None p q = absurd cc
+    by_given true (Some row) p q = by_width (row.width == s.local_width) row p q
+    by_given false (Some row) p q = by_defining (is_defining s) row refl p q
+
+element_role : (table : List Row) (s : OperatorModel) (fxy : ℕ) (spec : FieldSpec) → element_spec table s fxy ≡ Ok spec → spec.role ≡ role.Factor → ⊥
+element_role table s fxy spec e h =
+    let none : role.Element ≡ spec.role → ⊥ = λ is. let q : role.Element ≡ role.Factor = is ∙ h in cc in
+    element_cases ⊥ table s fxy spec (λ z row p q. none (kind_role row.kind z row spec q)) (λ q. none (fitted_role (unsigned_field fxy s.local_width) spec q)) (λ row d q. defined_role row.kind s fxy spec q h) e
 
 pub inserted_role : (s : OperatorModel) (fxy : ℕ) (spec : FieldSpec) → inserted_spec s fxy ≡ Ok spec → spec.role ≡ role.Factor → ⊥
 inserted_role s fxy spec e h = grind (arith, common_steps)
@@ -351,25 +366,39 @@ owed_push cost (g ∷ frames) f = omega (arith, owed_push cost frames f)
 
 -- ---- The effect of each turn of the walk.
 
--- the cell before these nodes
-spot : (more : Tree) (groups : List OpenGroup) (place : ℕ) → (c : Cell) × (cs : List Cell) × (cells_of more place (tail_of groups) ≡ c ∷ cs)
-spot bare [] place = (cell.Finish, [], refl)
-spot bare (s ∷ outer) place = (cell.PassEnd, _, refl)
-spot (element fxy more) groups place = (_, _, refl)
-spot (operator fxy more) groups place = (_, _, refl)
-spot (fixed n body more) groups place = (_, _, refl)
-spot (delayed fxy body more) groups place = (_, _, refl)
+-- the nodes before which these cells are
+abbrev pub Meets : List Cell → Tree → List OpenGroup → ℕ → Type 0
+Meets [] more groups place = ⊥
+Meets (cell.Element fxy ∷ cs) more groups place = (m : Tree) × (more ≡ element fxy m) × (cs ≡ cells_of m (place + 1) (tail_of groups))
+Meets (cell.Operator fxy ∷ cs) more groups place = (m : Tree) × (more ≡ operator fxy m) × (cs ≡ cells_of m (place + 1) (tail_of groups))
+Meets (cell.Fixed count after ∷ cs) more groups place = (body m : Tree) × (more ≡ fixed count body m) × (after ≡ place + 2 + size body) × (cs ≡ cells_of body (place + 1) (cell.PassEnd ∷ cells_of m (place + 2 + size body) (tail_of groups)))
+Meets (cell.Delayed after ∷ cs) more groups place = (word : ℕ) × (body : Tree) × (m : Tree) × (more ≡ delayed word body m) × (after ≡ place + 3 + size body) × (cs ≡ cell.Factor word ∷ cells_of body (place + 2) (cell.PassEnd ∷ cells_of m (place + 3 + size body) (tail_of groups)))
+Meets (cell.Factor fxy ∷ cs) more groups place = ⊥
+Meets (cell.PassEnd ∷ cs) more groups place = (s : OpenGroup) × (outer : List OpenGroup) × (groups ≡ s ∷ outer) × (more ≡ bare)
+Meets (cell.Finish ∷ cs) more groups place = (groups ≡ []) × (more ≡ bare)
+
+meets : (more : Tree) (groups : List OpenGroup) (place : ℕ) → Meets (cells_of more place (tail_of groups)) more groups place
+meets bare [] place = (refl, refl)
+meets bare (s ∷ outer) place = (s, outer, refl, refl)
+meets (element fxy m) groups place = (m, refl, refl)
+meets (operator fxy m) groups place = (m, refl, refl)
+meets (fixed n body m) groups place = (body, m, refl, refl, refl)
+meets (delayed fxy body m) groups place = (fxy, body, m, refl, refl, refl)
+
+spot : (cs : List Cell) (more : Tree) (groups : List OpenGroup) (place : ℕ) → Meets cs more groups place → (c : Cell) × (rest : List Cell) × (cs ≡ c ∷ rest)
+spot [] more groups place h = absurd h
+spot (c ∷ rest) more groups place h = (c, rest, refl)
 
 module _ (cells : List Cell) where
   pub in_range : (place : ℕ) (stack : List Frame) (left : Rest → Rest) → IsAtCell cells place stack left → place < length cells
-  in_range place stack left st = let k = spot st.0 st.1 place in (drop_head cells place k.0 k.1 (st.2.here ∙ k.2)).0
+  in_range place stack left st = let k = spot _ st.0 st.1 place (meets st.0 st.1 place) in (drop_head cells place k.0 k.1 (st.2.here ∙ k.2)).0
 
-  -- the cells of these nodes begin with this cell
-  pub at_cell : (place : ℕ) (more : Tree) (groups : List OpenGroup) (d c : Cell) → drop place cells ≡ cells_of more place (tail_of groups) → get_or cells place d ≡ c → cells_of more place (tail_of groups) ≡ c ∷ drop (place + 1) cells
-  at_cell place more groups d c h e =
-      let k = spot more groups place in
-      let r = drop_head cells place k.0 k.1 (h ∙ k.2) in
-      k.2 ∙ ap (λ x. x ∷ k.1) (sym (r.1 d) ∙ e) ∙ ap (λ xs. c ∷ xs) (sym r.2)
+  -- the nodes at this cell
+  pub met : (place : ℕ) (stack : List Frame) (left : Rest → Rest) (d c : Cell) (st : IsAtCell cells place stack left) → get_or cells place d ≡ c → Meets (c ∷ drop (place + 1) cells) st.0 st.1 place
+  met place stack left d c st e =
+      let k = spot _ st.0 st.1 place (meets st.0 st.1 place) in
+      let r = drop_head cells place k.0 k.1 (st.2.here ∙ k.2) in
+      subst (λ l. Meets l st.0 st.1 place) (k.2 ∙ ap (λ x. x ∷ k.1) (sym (r.1 d) ∙ e) ∙ ap (λ xs. c ∷ xs) (sym r.2)) (meets st.0 st.1 place)
 
   frames_length : (groups : List OpenGroup) → length (frames_of groups) ≡ length groups
   frames_length [] = refl
@@ -406,63 +435,6 @@ module _ (cells : List Cell) where
         omega (arith, suc-mul m (1 + worst body), cost_here cells next body groups' here, ap (λ x. m * (1 + x)) (cost_here cells start body groups' h1), cost_here cells after more groups h2, ap (owed (costs cells 0)) same, owed_push (costs cells 0) stack f),
       )
 
--- which nodes have this cell first
-is_element : (more : Tree) (groups : List OpenGroup) (place fxy : ℕ) (cs : List Cell) → cells_of more place (tail_of groups) ≡ cell.Element fxy ∷ cs → (m : Tree) × (more ≡ element fxy m) × (cs ≡ cells_of m (place + 1) (tail_of groups))
-is_element bare [] place fxy cs h = absurd cc
-is_element bare (s ∷ outer) place fxy cs h = absurd cc
-is_element (element word m) groups place fxy cs h = let e : word ≡ fxy = cc in (m, ap (λ f. element f m) e, cc)
-is_element (operator word m) groups place fxy cs h = absurd cc
-is_element (fixed count body m) groups place fxy cs h = absurd cc
-is_element (delayed word body m) groups place fxy cs h = absurd cc
-
-is_operator : (more : Tree) (groups : List OpenGroup) (place fxy : ℕ) (cs : List Cell) → cells_of more place (tail_of groups) ≡ cell.Operator fxy ∷ cs → (m : Tree) × (more ≡ operator fxy m) × (cs ≡ cells_of m (place + 1) (tail_of groups))
-is_operator bare [] place fxy cs h = absurd cc
-is_operator bare (s ∷ outer) place fxy cs h = absurd cc
-is_operator (element word m) groups place fxy cs h = absurd cc
-is_operator (operator word m) groups place fxy cs h = let e : word ≡ fxy = cc in (m, ap (λ f. operator f m) e, cc)
-is_operator (fixed count body m) groups place fxy cs h = absurd cc
-is_operator (delayed word body m) groups place fxy cs h = absurd cc
-
-is_fixed : (more : Tree) (groups : List OpenGroup) (place count after : ℕ) (cs : List Cell) → cells_of more place (tail_of groups) ≡ cell.Fixed count after ∷ cs → (body m : Tree) × (more ≡ fixed count body m) × (after ≡ place + 2 + size body) × (cs ≡ cells_of body (place + 1) (cell.PassEnd ∷ cells_of m (place + 2 + size body) (tail_of groups)))
-is_fixed bare [] place count after cs h = absurd cc
-is_fixed bare (s ∷ outer) place count after cs h = absurd cc
-is_fixed (element word m) groups place count after cs h = absurd cc
-is_fixed (operator word m) groups place count after cs h = absurd cc
-is_fixed (fixed k body m) groups place count after cs h = let e : k ≡ count = cc in (body, m, ap (λ j. fixed j body m) e, cc, cc)
-is_fixed (delayed word body m) groups place count after cs h = absurd cc
-
-is_delayed : (more : Tree) (groups : List OpenGroup) (place after : ℕ) (cs : List Cell) → cells_of more place (tail_of groups) ≡ cell.Delayed after ∷ cs → (word : ℕ) × (body : Tree) × (m : Tree) × (more ≡ delayed word body m) × (after ≡ place + 3 + size body) × (cs ≡ cell.Factor word ∷ cells_of body (place + 2) (cell.PassEnd ∷ cells_of m (place + 3 + size body) (tail_of groups)))
-is_delayed bare [] place after cs h = absurd cc
-is_delayed bare (s ∷ outer) place after cs h = absurd cc
-is_delayed (element word m) groups place after cs h = absurd cc
-is_delayed (operator word m) groups place after cs h = absurd cc
-is_delayed (fixed k body m) groups place after cs h = absurd cc
-is_delayed (delayed word body m) groups place after cs h = (word, body, m, refl, cc, cc)
-
-pub no_factor : (more : Tree) (groups : List OpenGroup) (place fxy : ℕ) (cs : List Cell) → cells_of more place (tail_of groups) ≡ cell.Factor fxy ∷ cs → ⊥
-no_factor bare [] place fxy cs h = cc
-no_factor bare (s ∷ outer) place fxy cs h = cc
-no_factor (element word m) groups place fxy cs h = cc
-no_factor (operator word m) groups place fxy cs h = cc
-no_factor (fixed k body m) groups place fxy cs h = cc
-no_factor (delayed word body m) groups place fxy cs h = cc
-
-is_pass_end : (more : Tree) (groups : List OpenGroup) (place : ℕ) (cs : List Cell) → cells_of more place (tail_of groups) ≡ cell.PassEnd ∷ cs → (s : OpenGroup) × (outer : List OpenGroup) × (groups ≡ s ∷ outer) × (more ≡ bare)
-is_pass_end bare [] place cs h = absurd cc
-is_pass_end bare (s ∷ outer) place cs h = (s, outer, refl, refl)
-is_pass_end (element word m) groups place cs h = absurd cc
-is_pass_end (operator word m) groups place cs h = absurd cc
-is_pass_end (fixed k body m) groups place cs h = absurd cc
-is_pass_end (delayed word body m) groups place cs h = absurd cc
-
-is_finish : (more : Tree) (groups : List OpenGroup) (place : ℕ) (cs : List Cell) → cells_of more place (tail_of groups) ≡ cell.Finish ∷ cs → (groups ≡ []) × (more ≡ bare)
-is_finish bare [] place cs h = (refl, refl)
-is_finish bare (s ∷ outer) place cs h = absurd cc
-is_finish (element word m) groups place cs h = absurd cc
-is_finish (operator word m) groups place cs h = absurd cc
-is_finish (fixed k body m) groups place cs h = absurd cc
-is_finish (delayed word body m) groups place cs h = absurd cc
-
 -- the groups round the innermost, and that
 pub innermost : (groups : List Frame) → 0 < length groups → (outer : List Frame) × (frame : Frame) × (groups ≡ outer ++ frame ∷ [])
 innermost [] some = absurd (omega (arith, some))
@@ -481,10 +453,6 @@ last_is A (a ∷ b ∷ xs) [] x y h = absurd cc
 last_is A (a ∷ xs) (b ∷ ys) x y h = let t : xs ++ x ∷ [] ≡ ys ++ y ∷ [] = cc in let r = last_is A xs ys x y t in let e : a ≡ b = cc in (ap (λ z. z ∷ xs) e ∙ ap (λ zs. b ∷ zs) r.0, r.1)
 
 module _ {S E : Type 0} (takes : S → FieldSpec → Result Taken E → S → Type 0) (table : List Row) (cells : List Cell) where
-  -- the cell at the place
-  here_is : (place : ℕ) (stack : List Frame) (left : Rest → Rest) (d c : Cell) (st : IsAtCell cells place stack left) → get_or cells place d ≡ c → cells_of st.0 place (tail_of st.1) ≡ c ∷ drop (place + 1) cells
-  here_is place stack left d c st e = at_cell cells place st.0 st.1 d c st.2.here e
-
   -- the walk is before other nodes
   moved : (place : ℕ) (stack : List Frame) (left : Rest → Rest) (st : IsAtCell cells place stack left) (t : Tree) → st.0 ≡ t → IsAtNodes cells place stack left t st.1
   moved place stack left st t e = subst (λ x. IsAtNodes cells place stack left x st.1) e st.2
@@ -501,7 +469,7 @@ module _ {S E : Type 0} (takes : S → FieldSpec → Result Taken E → S → Ty
 
   pub turn_element : (place : ℕ) (stack : List Frame) (left : Rest → Rest) (d : Cell) (fxy : ℕ) (s s' : OperatorModel) (f f' : S) (c c' : ℕ) (r : Result FieldSpec TurnRefusal) (t : Taken) → IsAtCell cells place stack left → get_or cells place d ≡ cell.Element fxy → r ≡ element_spec table s fxy → TakesField takes r f (Ok t) f' → c' ≡ ticked c 1 → s' ≡ after_field s fxy t → Turned takes table cells left place stack s f c (Ok (Some (place + 1))) stack s' f' c'
   turn_element place stack left d fxy s s' f f' c c' r t st e spec took tick answers =
-      let i = is_element st.0 st.1 place fxy _ (here_is place stack left d _ st e) in
+      let i = met cells place stack left d (cell.Element fxy) st e in
       let at : IsAtNodes cells place stack left (element fxy i.0) st.1 = moved place stack left st _ i.1 in
       turn_on place stack left st.1 i.0 (element fxy i.0) s s' f f' c c' at i.2 refl refl at.legal.1
       (subst (λ z. HasWalked takes table (λ k. unroll (element fxy i.0) (turns_after_pass st.1 k)) (λ k. unroll i.0 (turns_after_pass st.1 k)) s f c z f' c') (sym answers)
@@ -509,19 +477,19 @@ module _ {S E : Type 0} (takes : S → FieldSpec → Result Taken E → S → Ty
 
   pub fail_element : (place : ℕ) (stack : List Frame) (left : Rest → Rest) (d : Cell) (fxy : ℕ) (s : OperatorModel) (f f' : S) (c c' : ℕ) (r : Result FieldSpec TurnRefusal) (why : WalkStop E) → IsAtCell cells place stack left → get_or cells place d ≡ cell.Element fxy → r ≡ element_spec table s fxy → TakesField takes r f (Err why) f' → c' ≡ ticked c 1 → StopsIn takes table left s f c why f' c'
   fail_element place stack left d fxy s f f' c c' r why st e spec took tick =
-      let i = is_element st.0 st.1 place fxy _ (here_is place stack left d _ st e) in
+      let i = met cells place stack left d (cell.Element fxy) st e in
       let at : IsAtNodes cells place stack left (element fxy i.0) st.1 = moved place stack left st _ i.1 in
       came_stops takes table why (came_none takes table left (λ k. unroll (element fxy i.0) (turns_after_pass st.1 k)) s f c at.left_is)
       (stops_field takes table (λ k. unroll (element fxy i.0) (turns_after_pass st.1 k)) (λ k. unroll i.0 (turns_after_pass st.1 k)) fxy s f c (element_spec table s fxy) why f' c' (λ rest counts answers. refl) (subst (λ q. TakesField takes q f (Err why) f') spec took) tick)
 
   pub operator_legal : (place : ℕ) (stack : List Frame) (left : Rest → Rest) (d : Cell) (fxy : ℕ) → IsAtCell cells place stack left → get_or cells place d ≡ cell.Operator fxy → is_legal_operator fxy ≡ true
   operator_legal place stack left d fxy st e =
-      let i = is_operator st.0 st.1 place fxy _ (here_is place stack left d _ st e) in
+      let i = met cells place stack left d (cell.Operator fxy) st e in
       (moved place stack left st _ i.1).legal.1.0
 
   pub turn_inserted : (place : ℕ) (stack : List Frame) (left : Rest → Rest) (d : Cell) (fxy : ℕ) (s s' : OperatorModel) (f f' : S) (c c' : ℕ) (r : Result FieldSpec TurnRefusal) (t : Taken) → IsAtCell cells place stack left → get_or cells place d ≡ cell.Operator fxy → is_inserted_text fxy ≡ true → r ≡ inserted_spec s fxy → TakesField takes r f (Ok t) f' → c' ≡ ticked c 1 → s' ≡ after_field s fxy t → Turned takes table cells left place stack s f c (Ok (Some (place + 1))) stack s' f' c'
   turn_inserted place stack left d fxy s s' f f' c c' r t st e x spec took tick answers =
-      let i = is_operator st.0 st.1 place fxy _ (here_is place stack left d _ st e) in
+      let i = met cells place stack left d (cell.Operator fxy) st e in
       let at : IsAtNodes cells place stack left (operator fxy i.0) st.1 = moved place stack left st _ i.1 in
       let over : Rest → Rest = λ k. unroll (operator fxy i.0) (turns_after_pass st.1 k) in
       let next : Rest → Rest = λ k. unroll i.0 (turns_after_pass st.1 k) in
@@ -531,7 +499,7 @@ module _ {S E : Type 0} (takes : S → FieldSpec → Result Taken E → S → Ty
 
   pub fail_inserted : (place : ℕ) (stack : List Frame) (left : Rest → Rest) (d : Cell) (fxy : ℕ) (s : OperatorModel) (f f' : S) (c c' : ℕ) (r : Result FieldSpec TurnRefusal) (why : WalkStop E) → IsAtCell cells place stack left → get_or cells place d ≡ cell.Operator fxy → is_inserted_text fxy ≡ true → r ≡ inserted_spec s fxy → TakesField takes r f (Err why) f' → c' ≡ ticked c 1 → StopsIn takes table left s f c why f' c'
   fail_inserted place stack left d fxy s f f' c c' r why st e x spec took tick =
-      let i = is_operator st.0 st.1 place fxy _ (here_is place stack left d _ st e) in
+      let i = met cells place stack left d (cell.Operator fxy) st e in
       let at : IsAtNodes cells place stack left (operator fxy i.0) st.1 = moved place stack left st _ i.1 in
       let over : Rest → Rest = λ k. unroll (operator fxy i.0) (turns_after_pass st.1 k) in
       let next : Rest → Rest = λ k. unroll i.0 (turns_after_pass st.1 k) in
@@ -540,14 +508,14 @@ module _ {S E : Type 0} (takes : S → FieldSpec → Result Taken E → S → Ty
 
   pub turn_operator : (place : ℕ) (stack : List Frame) (left : Rest → Rest) (d : Cell) (fxy : ℕ) (s s' : OperatorModel) (f : S) (c c' : ℕ) → IsAtCell cells place stack left → get_or cells place d ≡ cell.Operator fxy → is_inserted_text fxy ≡ false → after_operator s fxy ≡ Ok s' → c' ≡ ticked c 1 → Turned takes table cells left place stack s f c (Ok (Some (place + 1))) stack s' f c'
   turn_operator place stack left d fxy s s' f c c' st e x answers tick =
-      let i = is_operator st.0 st.1 place fxy _ (here_is place stack left d _ st e) in
+      let i = met cells place stack left d (cell.Operator fxy) st e in
       let at : IsAtNodes cells place stack left (operator fxy i.0) st.1 = moved place stack left st _ i.1 in
       turn_on place stack left st.1 i.0 (operator fxy i.0) s s' f f c c' at i.2 refl refl at.legal.1.1.1
       (came_operator takes table (λ k. unroll (operator fxy i.0) (turns_after_pass st.1 k)) (λ k. unroll i.0 (turns_after_pass st.1 k)) fxy s s' f c c' x (λ rest counts. refl) answers tick)
 
   pub fail_operator : (place : ℕ) (stack : List Frame) (left : Rest → Rest) (d : Cell) (fxy : ℕ) (s : OperatorModel) (f : S) (c c' : ℕ) (why : TurnRefusal) → IsAtCell cells place stack left → get_or cells place d ≡ cell.Operator fxy → is_inserted_text fxy ≡ false → after_operator s fxy ≡ Err why → c' ≡ ticked c 1 → StopsIn takes table left s f c (stop_by why) f c'
   fail_operator place stack left d fxy s f c c' why st e x answers tick =
-      let i = is_operator st.0 st.1 place fxy _ (here_is place stack left d _ st e) in
+      let i = met cells place stack left d (cell.Operator fxy) st e in
       let at : IsAtNodes cells place stack left (operator fxy i.0) st.1 = moved place stack left st _ i.1 in
       came_stops takes table (stop_by why) (came_none takes table left (λ k. unroll (operator fxy i.0) (turns_after_pass st.1 k)) s f c at.left_is)
       (stops_operator takes table (λ k. unroll (operator fxy i.0) (turns_after_pass st.1 k)) (λ k. unroll i.0 (turns_after_pass st.1 k)) fxy s f c c' why x (λ rest counts. refl) answers tick)
@@ -561,20 +529,20 @@ module _ {S E : Type 0} (takes : S → FieldSpec → Result Taken E → S → Ty
 
   pub fixed_room : (place : ℕ) (stack : List Frame) (left : Rest → Rest) (d : Cell) (count after : ℕ) → IsAtCell cells place stack left → get_or cells place d ≡ cell.Fixed count after → length stack < 32
   fixed_room place stack left d count after st e =
-      let i = is_fixed st.0 st.1 place count after _ (here_is place stack left d _ st e) in
+      let i = met cells place stack left d (cell.Fixed count after) st e in
       let deep : length st.1 + depth (fixed count i.0 i.1) ≤ 32 = subst (λ x. length st.1 + depth x ≤ 32) i.2 st.2.deep in
       omega (arith, deep, stack_length place stack left st)
 
   pub delayed_room : (place : ℕ) (stack : List Frame) (left : Rest → Rest) (d : Cell) (after : ℕ) → IsAtCell cells place stack left → get_or cells place d ≡ cell.Delayed after → length stack < 32
   delayed_room place stack left d after st e =
-      let i = is_delayed st.0 st.1 place after _ (here_is place stack left d _ st e) in
+      let i = met cells place stack left d (cell.Delayed after) st e in
       let deep : length st.1 + depth (delayed i.0 i.1 i.2) ≤ 32 = subst (λ x. length st.1 + depth x ≤ 32) i.3 st.2.deep in
       omega (arith, deep, stack_length place stack left st)
 
   -- the factor is at the next place
   pub factor_next : (place : ℕ) (stack : List Frame) (left : Rest → Rest) (d : Cell) (after : ℕ) → IsAtCell cells place stack left → get_or cells place d ≡ cell.Delayed after → (place + 1 < length cells) × (word : ℕ) × ((d2 : Cell) → get_or cells (place + 1) d2 ≡ cell.Factor word)
   factor_next place stack left d after st e =
-      let i = is_delayed st.0 st.1 place after _ (here_is place stack left d _ st e) in
+      let i = met cells place stack left d (cell.Delayed after) st e in
       let r = drop_head cells (place + 1) _ _ i.5 in
       (r.0, i.0, r.1)
 
@@ -582,7 +550,7 @@ module _ {S E : Type 0} (takes : S → FieldSpec → Result Taken E → S → Ty
       → (count ≡ 0 → (next ≡ after) × (stack' ≡ stack)) → (0 < count → (next ≡ place + 1) × (stack' ≡ stack ++ record { start = place + 1; after = after; left = count - 1 } ∷ []))
       → c' ≡ ticked c 1 → Turned takes table cells left place stack s f c (Ok (Some next)) stack' s f c'
   turn_fixed place stack left d count after next stack' s f c c' st e none some tick =
-      let i = is_fixed st.0 st.1 place count after _ (here_is place stack left d _ st e) in
+      let i = met cells place stack left d (cell.Fixed count after) st e in
       let body : Tree = i.0 in
       let m : Tree = i.1 in
       let at : IsAtNodes cells place stack left (fixed count body m) st.1 = moved place stack left st _ i.2 in
@@ -602,7 +570,7 @@ module _ {S E : Type 0} (takes : S → FieldSpec → Result Taken E → S → Ty
       → (count ≡ 0 → (next ≡ after) × (stack' ≡ stack)) → (0 < count → (next ≡ place + 2) × (stack' ≡ stack ++ record { start = place + 2; after = after; left = count - 1 } ∷ []))
       → c' ≡ ticked c 1 → c'' ≡ ticked c' 1 → Turned takes table cells left place stack s f c (Ok (Some next)) stack' s' f' c''
   turn_delayed place stack left d d2 after count next fxy stack' s s' f f' c c' c'' r t st e e2 spec took is answers most none some tick tock =
-      let i = is_delayed st.0 st.1 place after _ (here_is place stack left d _ st e) in
+      let i = met cells place stack left d (cell.Delayed after) st e in
       let body : Tree = i.1 in
       let m : Tree = i.2 in
       let head = drop_head cells (place + 1) _ _ i.5 in
@@ -625,7 +593,7 @@ module _ {S E : Type 0} (takes : S → FieldSpec → Result Taken E → S → Ty
   pub fail_delayed : (place : ℕ) (stack : List Frame) (left : Rest → Rest) (d d2 : Cell) (after fxy : ℕ) (s : OperatorModel) (f f' : S) (c c' c'' : ℕ) (r : Result FieldSpec TurnRefusal) (why : WalkStop E) → IsAtCell cells place stack left → get_or cells place d ≡ cell.Delayed after → get_or cells (place + 1) d2 ≡ cell.Factor fxy
       → r ≡ factor_spec table s fxy → TakesField takes r f (Err why) f' → c' ≡ ticked c 1 → c'' ≡ ticked c' 1 → StopsIn takes table left s f c why f' c''
   fail_delayed place stack left d d2 after fxy s f f' c c' c'' r why st e e2 spec took tick tock =
-      let i = is_delayed st.0 st.1 place after _ (here_is place stack left d _ st e) in
+      let i = met cells place stack left d (cell.Delayed after) st e in
       let head = drop_head cells (place + 1) _ _ i.5 in
       let same : i.0 ≡ fxy = let q : ◌≡◌ {A = Cell} (cell.Factor i.0) (cell.Factor fxy) = sym (head.1 d2) ∙ e2 in cc in
       let at : IsAtNodes cells place stack left (delayed fxy i.1 i.2) st.1 = moved place stack left st _ (i.3 ∙ ap (λ w. delayed w i.1 i.2) same) in
@@ -634,7 +602,7 @@ module _ {S E : Type 0} (takes : S → FieldSpec → Result Taken E → S → Ty
 
   pub pass_end_open : (place : ℕ) (stack : List Frame) (left : Rest → Rest) (d : Cell) → IsAtCell cells place stack left → get_or cells place d ≡ cell.PassEnd → (0 < length stack) × (length stack ≤ 32)
   pass_end_open place stack left d st e =
-      let i = is_pass_end st.0 st.1 place _ (here_is place stack left d _ st e) in
+      let i = met cells place stack left d cell.PassEnd st e in
       let more : length st.1 ≡ length (i.0 ∷ i.1) = ap length i.2 in
       (omega (arith, more, stack_length place stack left st), omega (arith, st.2.deep, stack_length place stack left st))
 
@@ -642,7 +610,7 @@ module _ {S E : Type 0} (takes : S → FieldSpec → Result Taken E → S → Ty
       → (frame.left ≡ 0 → (next ≡ frame.after) × (stack' ≡ stack1)) → (0 < frame.left → (next ≡ frame.start) × (stack' ≡ stack1 ++ record { start = frame.start; after = frame.after; left = frame.left - 1 } ∷ []))
       → c' ≡ ticked c 1 → Turned takes table cells left place stack s f c (Ok (Some next)) stack' s f c'
   turn_pass_end place stack left d frame stack1 stack' next s f c c' st e popped none some tick =
-      let i = is_pass_end st.0 st.1 place _ (here_is place stack left d _ st e) in
+      let i = met cells place stack left d cell.PassEnd st e in
       let g : OpenGroup = i.0 in
       let outer : List OpenGroup = i.1 in
       let half : IsAtNodes cells place stack left bare st.1 = moved place stack left st _ i.3 in
@@ -662,7 +630,7 @@ module _ {S E : Type 0} (takes : S → FieldSpec → Result Taken E → S → Ty
 
   pub turn_finish : (place : ℕ) (stack : List Frame) (left : Rest → Rest) (d : Cell) (s : OperatorModel) (f : S) (c c' : ℕ) → IsAtCell cells place stack left → get_or cells place d ≡ cell.Finish → c' ≡ ticked c 1 → Turned takes table cells left place stack s f c (Ok None) stack s f c'
   turn_finish place stack left d s f c c' st e tick =
-      let i = is_finish st.0 st.1 place _ (here_is place stack left d _ st e) in
+      let i = met cells place stack left d cell.Finish st e in
       let half : IsAtNodes cells place stack left bare st.1 = moved place stack left st _ i.1 in
       let at : IsAtNodes cells place stack left bare [] = subst (λ x. IsAtNodes cells place stack left bare x) i.0 half in
       (at.left_is, refl, refl, tick)
@@ -672,10 +640,6 @@ pub fits_first : (cells : List Cell) (template : Tree) (stack : List Frame) → 
 fits_first cells template stack h e = (template, [], record { frames = e; here = h.flattened; deep = omega (arith, h.shallow); legal = h.legal; outer = tt; left_is = λ k counts. refl })
 
 module _ {S E : Type 0} (takes : S → FieldSpec → Result Taken E → S → Type 0) (table : List Row) (cells : List Cell) where
-  -- a turn that led on
-  pub led_on : (left : Rest → Rest) (place : ℕ) (stack : List Frame) (s : OperatorModel) (f : S) (c : ℕ) (o : Option ℕ) (next : ℕ) (stack' : List Frame) (s' : OperatorModel) (f' : S) (c' : ℕ) → o ≡ Some next → Turned takes table cells left place stack s f c (Ok o) stack' s' f' c' → Turned takes table cells left place stack s f c (Ok (Some next)) stack' s' f' c'
-  led_on left place stack s f c o next stack' s' f' c' e t = subst (λ x. Turned takes table cells left place stack s f c (Ok x) stack' s' f' c') e t
-
   -- a turn that ended the walk
   pub led_out : (template : Tree) (left : Rest → Rest) (place : ℕ) (stack : List Frame) (s : OperatorModel) (f0 f : S) (c0 c : ℕ) (o : Option ℕ) (stack' : List Frame) (s' : OperatorModel) (f' : S) (c' : ℕ) → ((next : ℕ) → o ≡ Some next → ⊥) → HasWalked takes table (unroll template) left begin f0 c0 s f c → Turned takes table cells left place stack s f c (Ok o) stack' s' f' c' → Walked takes (next_item table template) f0 c0 (Ok tt) f' c'
   unfolding next_item

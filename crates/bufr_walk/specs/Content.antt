@@ -69,10 +69,8 @@ IsFor spec t = IsForRole spec.role t
 
 -- whether a field is a reference that is being defined
 abbrev pub is_reference : Role → Bool
-is_reference role.Element = Bool.false
-is_reference role.Inserted = Bool.false
-is_reference role.Factor = Bool.false
 is_reference role.Reference = Bool.true
+is_reference _ = Bool.false
 
 -- ---- Fields that are numbers.
 
@@ -94,9 +92,7 @@ number_field fxy role n =
 abbrev pub is_plain_number : Role → (width : ℕ) → (reference : ℤ) → (listed : Bool) → Bool
 is_plain_number role.Element width r listed =
     listed && (nat_le width 62 && nat_lt (unsigned_abs r) (2 ^ 62))
-is_plain_number role.Inserted width r listed = false
-is_plain_number role.Factor width r listed = false
-is_plain_number role.Reference width r listed = false
+is_plain_number _ width r listed = false
 
 -- whether a field is a plain number
 abbrev pub is_plain : FieldSpec → Bool
@@ -136,22 +132,14 @@ signed_by (sign ∷ bits) = if sign then neg_ℤ (pos (number_of bits)) else pos
 -- the content that bits write, by kind, where it is not missing
 abbrev pub said_by : Kind → ℕ → List Bool → Content
 said_by kind.Character width bits = text (octets_in (width / 8) bits)
-said_by kind.Coded width bits = number (number_of bits)
-said_by kind.Numeric width bits = number (number_of bits)
+said_by _ width bits = number (number_of bits)
 
--- the content of a field that is no reference; all ones is missing where that is allowed
--- rule: missing
-abbrev pub value_in : FieldSpec → List Bool → Content
-value_in spec bits =
-    if are_all_ones bits && spec.may_be_missing then missing else said_by spec.kind spec.width bits
-
--- the content of a field, by role
--- rule: missing-inserted-text
+-- the content of a field, by role; all ones is missing where that is allowed
+-- rule: missing, missing-inserted-text
 abbrev pub content_by : Role → FieldSpec → List Bool → Content
-content_by role.Element spec bits = value_in spec bits
-content_by role.Inserted spec bits = value_in spec bits
-content_by role.Factor spec bits = value_in spec bits
 content_by role.Reference spec bits = reference (signed_by bits)
+content_by _ spec bits =
+    if are_all_ones bits && spec.may_be_missing then missing else said_by spec.kind spec.width bits
 
 -- the content that the bits of a field write
 abbrev pub content_in : FieldSpec → List Bool → Content
@@ -173,23 +161,18 @@ bits_for width (reference value) = sign_bit value ∷ bits_in (nat_abs value) (w
 -- the count of a factor
 abbrev pub count_in : Content → ℕ
 count_in (number raw) = raw
-count_in (text octets) = 0
-count_in missing = 0
-count_in (reference value) = 0
+count_in _ = 0
 
 -- the reference that a field defines
 abbrev pub reference_in : Content → ℤ
-reference_in (number raw) = pos 0
-reference_in (text octets) = pos 0
-reference_in missing = pos 0
 reference_in (reference value) = value
+reference_in _ = pos 0
 
 -- what a content returns to the walk, by role
 abbrev pub answer_by_role : Role → Content → Taken
-answer_by_role role.Element c = taken.Plain
-answer_by_role role.Inserted c = taken.Plain
 answer_by_role role.Factor c = taken.Count (count_in c)
 answer_by_role role.Reference c = taken.Reference (reference_in c)
+answer_by_role _ c = taken.Plain
 
 -- what a field returns to the walk
 abbrev pub answer_of : FieldSpec → Content → Taken
@@ -248,15 +231,12 @@ increments (suc n) k bits = take k bits ∷ increments n k (drop k bits)
 -- how many bits each subset has after the base and k, by kind
 abbrev pub kind_step : Kind → ℕ → ℕ
 kind_step kind.Character k = 8 * k
-kind_step kind.Coded k = k
-kind_step kind.Numeric k = k
+kind_step _ k = k
 
 -- the same by role
 abbrev pub increment_bits_of : Role → Kind → ℕ → ℕ
-increment_bits_of role.Element kind k = kind_step kind k
-increment_bits_of role.Inserted kind k = kind_step kind k
-increment_bits_of role.Factor kind k = kind_step kind k
 increment_bits_of role.Reference kind k = 0
+increment_bits_of _ kind k = kind_step kind k
 
 -- whether a base is missing: all ones, where that is allowed
 -- rule: compressed-all-missing
@@ -283,16 +263,13 @@ numbers_hold spec k n base suffix =
 -- rule: compressed-text-past-width, compressed-text-base
 abbrev pub holds_by : Kind → FieldSpec → (k subsets : ℕ) → (base suffix : List Bool) → Bool
 holds_by kind.Character spec k n base suffix = not (nat_lt (spec.width / 8) k)
-holds_by kind.Coded spec k n base suffix = numbers_hold spec k n base suffix
-holds_by kind.Numeric spec k n base suffix = numbers_hold spec k n base suffix
+holds_by _ spec k n base suffix = numbers_hold spec k n base suffix
 
 -- the same by role: a redefined reference has no increments
 -- rule: compressed-references
 abbrev pub holds_in : Role → FieldSpec → (k subsets : ℕ) → (base suffix : List Bool) → Bool
-holds_in role.Element spec k n base suffix = holds_by spec.kind spec k n base suffix
-holds_in role.Inserted spec k n base suffix = holds_by spec.kind spec k n base suffix
-holds_in role.Factor spec k n base suffix = holds_by spec.kind spec k n base suffix
 holds_in role.Reference spec k n base suffix = false
+holds_in _ spec k n base suffix = holds_by spec.kind spec k n base suffix
 
 -- whether all increments of k bits are the same number
 abbrev pub all_equal : (k subsets first : ℕ) → List Bool → Bool
@@ -301,10 +278,8 @@ all_equal k n first bits = list_all (λ i. number_of i == first) (increments n k
 -- whether the counts of a factor are the same in all subsets
 -- rule: compressed-factors
 abbrev pub equal_in : Role → (k subsets : ℕ) → (suffix : List Bool) → Bool
-equal_in role.Element k n suffix = true
-equal_in role.Inserted k n suffix = true
 equal_in role.Factor k n suffix = all_equal k n (number_of (take k suffix)) suffix
-equal_in role.Reference k n suffix = true
+equal_in _ k n suffix = true
 
 -- the number that a base and an increment give, where their sum stays within the width
 -- rule: compressed-missing-increment, compressed-sum-of-ones
@@ -329,8 +304,7 @@ padded_text octets k bits =
 -- the content of an item with an increment, by kind
 abbrev pub content_from : Kind → FieldSpec → (k : ℕ) → (base bits : List Bool) → Content
 content_from kind.Character spec k base i = padded_text (spec.width / 8) k i
-content_from kind.Coded spec k base i = number_from spec k base i
-content_from kind.Numeric spec k base i = number_from spec k base i
+content_from _ spec k base i = number_from spec k base i
 
 -- the contents of an item, for each subset: without increments all have the base
 -- rule: compressed-equal

@@ -1,19 +1,24 @@
--- The reading of data by a template, each item as what comes next specifies; and why data cannot
--- be read. (WMO-No. 306, Volume I.2, FM 94: sections 3 and 4; the order of the faults at one item
--- is a choice of this project)
+-- The reading of data by a template, each item as what comes next specifies; why data cannot be
+-- read; and the calls of a visitor that show a reading. (WMO-No. 306, Volume I.2, FM 94: sections 3
+-- and 4; the order of the faults at one item is a choice of this project)
 -- Cited by public contracts.
-use Rattle.std.specs.Prelude.{ℕ, zero, suc, ◌≡◌, ◌+◌, ◌*◌, ◌≤◌, Bool, true, false, List, [], ◌∷◌, length, drop, Result, Ok, ◌⊎◌, ◌%◌, nat_lt, Option, Some, None, Err}
-use Rattle.bufr_walk.specs.Content.{Taken, FieldSpec, Content, answer_of, FieldFault, FieldRead, found, plain_field, data_end, increment, unequal_factor, packed_field, answer_first}
+use Rattle.std.specs.Prelude.{ℕ, zero, suc, ◌≡◌, ◌+◌, ◌*◌, ◌≤◌, Bool, true, false, List, [], ◌∷◌, length, drop, Result, Ok, ◌⊎◌, ◌%◌, nat_lt, Option, Some, None, Err, codes, decimal, if◌then◌else◌, ◌++◌, option_map}
+use Rattle.bufr_walk.specs.Content.{Taken, FieldSpec, Content, answer_of, FieldFault, FieldRead, found, plain_field, data_end, increment, unequal_factor, packed_field, answer_first, ShownValue, shown, missing, shown_number, shown_text, shown_missing, shown_reference}
 use Rattle.bufr_walk.specs.Course.{Course, Next, take_next, at_end, refused, next_item, ticked}
 use Rattle.bufr_walk.specs.declared.spec.TurnRefusal.{TurnRefusal}
 use Rattle.bufr_walk.specs.declared.fault.Spot.{Spot}
 pub use Rattle.bufr_walk.specs.declared.fault.WalkFault.{WalkFault}
 use Rattle.bufr_bits.specs.Prelude.{bits_of}
 use Rattle.bufr_frame.specs.Prelude.{Sections}
-use Rattle.bufr_tables.specs.Prelude.{Row, Tree}
+use Rattle.bufr_tables.specs.Prelude.{Row, Tree, fxy_text, entry_of, row_of_entry}
 use Rattle.bufr_walk.specs.declared.spec.Role.TheVariants as role
 use Rattle.bufr_walk.specs.declared.spec.TurnRefusal.TheVariants as refusal
 use Rattle.bufr_walk.specs.declared.fault.WalkFault.TheVariants as fault
+pub use Rattle.bufr_walk.specs.declared.fault.ShowFault.{ShowFault}
+use Rattle.bufr_walk.specs.declared.visitor.Value.{Value}
+use Rattle.bufr_walk.specs.declared.visitor.ItemView.{ItemView}
+use Rattle.bufr_walk.specs.declared.fault.ShowFault.TheVariants as show_fault
+use Rattle.bufr_walk.specs.declared.visitor.Value.TheVariants as item_value
 
 -- an item: its specification, and its content for one subset or for all
 pub record Item (C : Type 0) : Type 0 where
@@ -243,15 +248,23 @@ bits_before (fault.Increment s) all = s.bit
 bits_before (fault.TooManyValues s) all = s.bit
 bits_before fault.Memory all = all
 
--- the number of a fault
-abbrev pub number_of_walk_fault : WalkFault → ℕ
-number_of_walk_fault (fault.DataEnd s) = 30
-number_of_walk_fault (fault.Width s) = 31
-number_of_walk_fault (fault.Defining s) = 32
-number_of_walk_fault (fault.UnequalFactor s) = 33
-number_of_walk_fault (fault.Increment s) = 34
-number_of_walk_fault (fault.TooManyValues s) = 35
-number_of_walk_fault fault.Memory = 73
+-- a text, and where in the data an item is: the subset, the descriptor, and the bits before it
+-- rule: stream-fault-place
+abbrev pub spot_text : List ℕ → Spot → List (List ℕ)
+spot_text name s =
+    name ∷ codes " at subset " ∷ decimal s.subset ∷ codes " descriptor " ∷ fxy_text s.fxy
+    ∷ codes " bit " ∷ decimal s.bit ∷ []
+
+-- the number of a fault, and its text in parts; want of memory ends a run, whose line reports it
+-- rule: fault-30, fault-31, fault-32, fault-33, fault-34, fault-35
+abbrev pub data_report : WalkFault → ℕ × List (List ℕ)
+data_report (fault.DataEnd s) = (30, spot_text (codes "data end") s)
+data_report (fault.Width s) = (31, spot_text (codes "width") s)
+data_report (fault.Defining s) = (32, spot_text (codes "defining") s)
+data_report (fault.UnequalFactor s) = (33, spot_text (codes "unequal factor") s)
+data_report (fault.Increment s) = (34, spot_text (codes "increment") s)
+data_report (fault.TooManyValues s) = (35, spot_text (codes "too many values") s)
+data_report fault.Memory = (73, [])
 
 -- ---- What the reading of a message returns.
 
@@ -318,3 +331,141 @@ abbrev pub IsReadingOf : List Row → Tree → Data → Read → (steps : ℕ) �
 IsReadingOf table template d r steps =
     (r.table ≡ table) × (r.template ≡ template) × (r.source ≡ d) × (values : Values)
     × IsRead (next_item table template) d values r.bits steps
+
+-- ---- The calls of a visitor that show a reading, in order, up to its first fault.
+
+-- an item as it is shown: its descriptor, the row of Table B by which it was read, and its value
+pub record View : Type 0 where
+  pub fxy : ℕ
+  pub entry : Option Row
+  pub value : ShownValue
+
+-- a call of a visitor: a subset begins, or an item is shown
+pub data Call : Type 0 where
+  subset_call : (number : ℕ) → Call
+  item_call : (item : View) → Call
+
+-- a view from its parts
+abbrev pub view : (fxy : ℕ) → Option Row → ShownValue → View
+view fxy entry value = record { fxy = fxy; entry = entry; value = value }
+
+-- the view of one field: the row of Table B only where the field was read by it
+abbrev pub view_of : List Row → FieldSpec → Content → View
+view_of table spec c =
+    view spec.fxy (if spec.listed then entry_of table spec.fxy else None) (shown spec c)
+
+-- a call, and how many turns the walk makes before it
+pub record Timed : Type 0 where
+  pub turns : ℕ
+  pub call : Call
+
+-- a call from its parts
+abbrev pub timed : ℕ → Call → Timed
+timed turns call = record { turns = turns; call = call }
+
+-- the calls for the items of one subset, where the walk made `before` turns before the subset
+abbrev pub item_calls : List Row → (before : ℕ) → Course → List (Item Content) → List Timed
+item_calls table before course [] = []
+item_calls table before course (i ∷ items) =
+    timed (before + (course []).turns) (item_call (view_of table i.spec i.content))
+    ∷ item_calls table before (after plain course i) items
+
+-- the calls for subsets, the first of which has this number, from 1
+abbrev pub subset_calls : List Row → Course → (before number : ℕ)
+    → List (List (Item Content)) → List Timed
+subset_calls table course before number [] = []
+subset_calls table course before number (items ∷ subsets) =
+    timed before (subset_call number) ∷ item_calls table before course items
+    ++ subset_calls table course (before + turns_after plain course items) (number + 1) subsets
+
+-- the content of one subset, counted from 0
+abbrev pub content_at : (subset : ℕ) → List Content → Content
+content_at j [] = missing
+content_at zero (c ∷ cs) = c
+content_at (suc j) (c ∷ cs) = content_at j cs
+
+-- the calls for the items of one subset of compressed data, which take no turns
+abbrev pub compressed_item_calls : List Row → (subset : ℕ) → List (Item (List Content)) → List Timed
+compressed_item_calls table j [] = []
+compressed_item_calls table j (i ∷ items) =
+    timed 0 (item_call (view_of table i.spec (content_at j i.content)))
+    ∷ compressed_item_calls table j items
+
+-- the calls for the last `left` subsets of compressed data; `subset` is the first of them, from 0
+abbrev pub compressed_subset_calls : List Row → (left subset : ℕ) → List (Item (List Content))
+    → List Timed
+compressed_subset_calls table zero j items = []
+compressed_subset_calls table (suc n) j items =
+    timed 0 (subset_call (j + 1)) ∷ compressed_item_calls table j items
+    ++ compressed_subset_calls table n (j + 1) items
+
+-- the calls that show a reading
+abbrev pub calls_of : Read → Values → List Timed
+calls_of r (apart subsets) = subset_calls r.table (course_of r) 0 1 subsets
+calls_of r (together items) = compressed_subset_calls r.table r.source.subsets 0 items
+
+-- 1 for a call of an item, 0 for one of a subset
+abbrev pub item_or_not : Call → ℕ
+item_or_not (subset_call number) = 0
+item_or_not (item_call item) = 1
+
+-- how many of the calls are of items
+abbrev pub items_called : List Timed → ℕ
+items_called [] = 0
+items_called (t ∷ calls) = item_or_not t.call + items_called calls
+
+-- the turns of a showing; one of compressed data takes none
+abbrev pub turns_shown : Read → Values → ℕ
+turns_shown r (apart subsets) = turns_in (course_of r) subsets
+turns_shown r (together items) = 0
+
+-- ---- Calls of a visitor, one after another, up to the first fault, with the turns made for them.
+
+-- whether the value is a redefined reference, the only one that the walk keeps
+abbrev pub IsReferenceValue : ShownValue → Type 0
+IsReferenceValue (shown_number value scale) = ⊥
+IsReferenceValue (shown_text octets) = ⊥
+IsReferenceValue shown_missing = ⊥
+IsReferenceValue (shown_reference value) = Unit {0}
+
+-- whether memory may run out at the item
+abbrev pub NeedsMemory : Call → Type 0
+NeedsMemory (subset_call number) = ⊥
+NeedsMemory (item_call item) = IsReferenceValue item.value
+
+-- a call that ends a showing: the visitor refuses it, or memory runs out before it
+abbrev pub EndsAt : {S E : Type 0} → (S → Call → Result (Unit {0}) E → S → Type 0) → S → Call
+    → ShowFault E → S → Type 0
+EndsAt sees s call (show_fault.Visitor e) s' = sees s call (Err e) s'
+EndsAt sees s call show_fault.Memory s' = (s' ≡ s) × NeedsMemory call
+
+-- the calls that were made: all at Ok, else a prefix; the steps are the turns up to its end
+abbrev pub Shows : {S E : Type 0} → (S → Call → Result (Unit {0}) E → S → Type 0) → S → List Timed
+    → (turns : ℕ) → Result (Unit {0}) (ShowFault E) → S → (steps : ℕ) → Type 0
+Shows sees s [] turns (Ok _) s' steps = (s' ≡ s) × (steps ≡ ticked 0 turns)
+Shows sees s [] turns (Err why) s' steps = ⊥
+Shows {S} sees s (t ∷ calls) turns (Ok _) s' steps =
+    (mid : S) × sees s t.call (Ok tt) mid × Shows sees mid calls turns (Ok tt) s' steps
+Shows {S} sees s (t ∷ calls) turns (Err why) s' steps =
+    (EndsAt sees s t.call why s' × (steps ≡ ticked 0 t.turns))
+    ⊎ ((mid : S) × sees s t.call (Ok tt) mid × Shows sees mid calls turns (Err why) s' steps)
+
+-- the showing of a reading: its calls and its turns are those of its items
+abbrev pub ShowsReading : {S E : Type 0} → (S → Call → Result (Unit {0}) E → S → Type 0) → Read → S
+    → Result (Unit {0}) (ShowFault E) → S → (steps : ℕ) → Type 0
+ShowsReading sees r s result s' steps =
+    (values : Values) → IsReading (course_of r) r.source values r.bits
+    → Shows sees s (calls_of r values) (turns_shown r values) result s' steps
+
+-- ---- The model of the view of an item.
+
+-- the model of a value
+abbrev pub seen_value : Value → ShownValue
+seen_value (item_value.Number n scale) = shown_number n scale
+seen_value (item_value.Text t) = shown_text t.now
+seen_value item_value.Missing = shown_missing
+seen_value (item_value.Reference r) = shown_reference r
+
+-- the model of the view of an item
+abbrev pub seen : ItemView → View
+seen v = view v.fxy (option_map row_of_entry v.entry) (seen_value v.value)

@@ -95,10 +95,9 @@ with_reference fxy reference (r ∷ more) =
 -- the operators in force after a field: a given width ends, and a reference is kept
 -- rule: 2-06-y-used-up
 abbrev pub after_field : OperatorModel → ℕ → Taken → OperatorModel
-after_field s fxy taken.Plain = record s { local_width = 0 }
-after_field s fxy (taken.Count n) = record s { local_width = 0 }
 after_field s fxy (taken.Reference r) =
     record s { local_width = 0; new_references = with_reference fxy r s.new_references }
+after_field s fxy _ = record s { local_width = 0 }
 
 -- the reference of an element: the one that the data defined, or that of Table B
 abbrev pub current_reference : List Redefined → ℕ → ℤ → ℤ
@@ -111,37 +110,40 @@ current_reference (r ∷ more) fxy listed =
 abbrev pub if_valid_width : FieldSpec → Result FieldSpec TurnRefusal
 if_valid_width a = if nat_le 1 a.width && nat_le a.width 63 then Ok a else Err (refusal.Width a.fxy)
 
--- a change by Y - 128, where one is in force
+-- what 2 02 Y adds to a scale: Y - 128, and nothing where Y is 0
 -- rule: 2-02-y, cancel-2-01-and-2-02
 abbrev pub scale_change_of : ℕ → ℤ
 scale_change_of y = if y == 0 then pos 0 else pos y -ℤ pos 128
 
--- how many bits 2 07 Y adds to a width
--- rule: 2-07-y, cancel-2-07-and-2-08
-abbrev pub extra_bits : ℕ → ℕ
-extra_bits y = (10 * y + 2) / 3
+-- a quantity's width: 2 07 Y adds (10 Y + 2) / 3, rounded down, 2 01 Y adds Y - 128; at least 0
+-- rule: 2-01-y, 2-07-y, cancel-2-01-and-2-02, cancel-2-07-and-2-08
+abbrev pub operator_width : (width precision change : ℕ) → ℕ
+operator_width width precision change =
+    let wider = width + (10 * precision + 2) / 3 in
+    if change == 0 then wider else (wider + change) - 128
 
--- a width changed by Y - 128, and 0 where that is below it
--- rule: 2-01-y, cancel-2-01-and-2-02
-abbrev pub operator_width : (width extra y : ℕ) → ℕ
-operator_width width extra y = if y == 0 then width + extra else (width + extra + y) - 128
-
--- whether all ones is a number, not a missing value
--- rule: class-31-never-missing
-abbrev pub is_never_missing : ℕ → Bool
-is_never_missing fxy = x_of fxy == 31
+-- an unsigned number of a given width; in class 31 none is missing
+-- rule: 2-06-y-of-class-31, class-31-never-missing
+abbrev pub unsigned_field : (fxy width : ℕ) → FieldSpec
+unsigned_field fxy width =
+    record {
+      fxy = fxy;
+      role = role.Element;
+      kind = kind.Numeric;
+      width = width;
+      scale = pos 0;
+      reference = pos 0;
+      may_be_missing = not (x_of fxy == 31);
+      listed = false;
+    }
 
 -- a figure of a code table: only a redefined reference changes it
 -- rule: new-reference-of-figures, figures-unchanged
 abbrev pub coded_spec : OperatorModel → Row → FieldSpec
-coded_spec s row = record {
-  fxy = row.fxy;
-  role = role.Element;
+coded_spec s row = record (unsigned_field row.fxy row.width) {
   kind = kind.Coded;
-  width = row.width;
   scale = row.scale;
   reference = current_reference s.new_references row.fxy row.reference;
-  may_be_missing = not (is_never_missing row.fxy);
   listed = true;
 }
 
@@ -150,7 +152,7 @@ coded_spec s row = record {
 abbrev pub numeric_spec : OperatorModel → Row → FieldSpec
 numeric_spec s row = record (coded_spec s row) {
   kind = kind.Numeric;
-  width = operator_width row.width (extra_bits s.precision_increase) s.width_change;
+  width = operator_width row.width s.precision_increase s.width_change;
   scale = (row.scale +ℤ scale_change_of s.scale_change) +ℤ pos s.precision_increase;
   reference = current_reference s.new_references row.fxy row.reference *ℤ pos
       (10 ^ s.precision_increase);
@@ -158,17 +160,8 @@ numeric_spec s row = record (coded_spec s row) {
 
 -- text of `width` bits
 abbrev pub text_spec : Role → (fxy width : ℕ) → Bool → FieldSpec
-text_spec r fxy width listed =
-    record {
-      fxy = fxy;
-      role = r;
-      kind = kind.Character;
-      width = width;
-      scale = pos 0;
-      reference = pos 0;
-      may_be_missing = true;
-      listed = listed;
-    }
+text_spec r fxy width listed = record (unsigned_field fxy width)
+    { role = r; kind = kind.Character; may_be_missing = true; listed = listed }
 
 -- the width of a text element
 -- rule: 2-08-y, cancel-2-07-and-2-08
@@ -182,21 +175,6 @@ spec_by_kind kind.Coded s row = if_valid_width (coded_spec s row)
 spec_by_kind kind.Character s row = Ok
     (text_spec role.Element row.fxy (text_width s row.width) true)
 
--- an unsigned number of a given width
--- rule: 2-06-y-of-class-31
-abbrev pub unsigned_field : (fxy width : ℕ) → FieldSpec
-unsigned_field fxy width =
-    record {
-      fxy = fxy;
-      role = role.Element;
-      kind = kind.Numeric;
-      width = width;
-      scale = pos 0;
-      reference = pos 0;
-      may_be_missing = not (is_never_missing fxy);
-      listed = false;
-    }
-
 -- a reference that is being defined
 abbrev pub defined_field : OperatorModel → ℕ → FieldSpec
 defined_field s fxy = record (unsigned_field fxy s.new_reference_width)
@@ -208,18 +186,13 @@ abbrev pub new_reference_spec : Kind → OperatorModel → ℕ → Result FieldS
 new_reference_spec kind.Character s fxy = Err (refusal.Defining fxy)
 new_reference_spec _ s fxy = if_valid_width (defined_field s fxy)
 
--- such a number, or the refusal of its width
--- rule: 2-06-y-other-width
-abbrev pub unsigned_of : (fxy width : ℕ) → Result FieldSpec TurnRefusal
-unsigned_of fxy width = if_valid_width (unsigned_field fxy width)
-
--- an element whose width is given: by its row alone where its width in Table B is that
--- rule: 2-06-y, 2-06-y-width-of-table-b
+-- an element of a given width: by its row alone where Table B has that width, else unsigned
+-- rule: 2-06-y, 2-06-y-width-of-table-b, 2-06-y-other-width
 abbrev pub local_width_spec : Option Row → OperatorModel → ℕ → Result FieldSpec TurnRefusal
-local_width_spec None s fxy = unsigned_of fxy s.local_width
+local_width_spec None s fxy = if_valid_width (unsigned_field fxy s.local_width)
 local_width_spec (Some row) s fxy =
     if row.width == s.local_width then spec_by_kind row.kind begin row
-    else unsigned_of fxy s.local_width
+    else if_valid_width (unsigned_field fxy s.local_width)
 
 -- an element by its row; a template's elements have one
 -- rule: fault-32-before-31

@@ -1,14 +1,14 @@
 //! Compressed data, where each item occurs once for all subsets: fields, reading, and showing.
-ghost use Rattle.std.specs.Prelude.{◌≡◌, ◌≤◌, ◌<◌, ◌+◌, ◌*◌, ◌^◌, false, true, length, IfSome, ◌-◌, ◌/◌, ◌++◌, drop, MatchResult, IfOk, IfErr, ◌==◌, ◌&&◌, take, get_or, replicate, []};
+ghost use Rattle.std.specs.Prelude.{unwrap_or, option_map, ◌≡◌, ◌≤◌, ◌<◌, ◌+◌, ◌*◌, ◌^◌, false, true, length, IfSome, ◌-◌, ◌/◌, ◌++◌, drop, MatchResult, IfOk, ◌==◌, ◌&&◌, take, get_or, replicate};
 ghost use Rattle.bufr_bits.specs.Prelude.{bits_at, number_of, bits_of, octets_of};
-ghost use Rattle.bufr_tables.specs.Prelude.{is_character, places};
-ghost use Rattle.bufr_walk.specs.Prelude.{stays_within, all_equal, numbers_hold, IsSeen, IsUnseen, sum_content, IsReadAndKept, call_kept, content_kept, packed_fault, items_at, fits_at, IsFor, is_reference, ones, increment_bits_of, missing, number, shown, next_item, bits_before, data_in, IsFault, compressed_item_calls, compressed_subset_calls, seen_value, Shows, IndexedItem, number_of_walk_fault, new_packed_in, max_values, PackedTakes, refuses_packed};
+ghost use Rattle.bufr_tables.specs.Prelude.{is_character};
+ghost use Rattle.bufr_walk.specs.Prelude.{stays_within, all_equal, numbers_hold, IsSeen, IsUnseen, call_kept, content_kept, items_at, fits_at, IsFor, is_reference, increment_bits_of, missing, number, shown, compressed_item_calls, compressed_subset_calls, seen_value, Shows, IndexedItem, new_packed_in, PackedTakes, refuses_packed};
 ghost use Rattle.bufr_walk.specs.declared.walker.WalkStop.TheVariants as stops;
 ghost use Rattle.std.specs.List.{list_all};
 ghost use Rattle.std.proofs.Common.{arith, ap};
 
-use crate::fault::{ShowFault, Spot, WalkFault};
-use crate::item_index::{IndexedItem, ItemIndex, PackedRead};
+use crate::fault::{DataFault, ShowFault, WalkFault, fault_at};
+use crate::item_index::{IndexedItem, ItemIndex};
 use crate::lists::SpecCache;
 use crate::plain::{answer_at, copy_octets, number_at, ones_at, raw_at, show_value, value_at};
 use crate::spec::{Role, Spec, Taken};
@@ -18,38 +18,6 @@ use bufr_bits::BitSlice;
 use bufr_tables::{Fxy, Kind, TableB, Template};
 use std::alloc::Global;
 use std::marker::Model;
-use thiserror::Error;
-
-/// The fault of an item of compressed data, with its descriptor.
-#[derive(Clone, Copy, Debug, PartialEq, Eq, Error)]
-pub enum PackedFault {
-    /// The data end inside the item.
-    #[error("the data end inside an item")]
-    DataEnd(Fxy),
-    /// A sum past the width of a number, more octets than a text has, or a redefined reference with
-    /// increments.
-    #[error("an increment that cannot be")]
-    Increment(Fxy),
-    /// The factor of a replication is not the same in all subsets.
-    #[error("a factor is not the same in all subsets")]
-    UnequalFactor(Fxy),
-    /// With this item there are more than 134,217,728 values.
-    #[error("too many values")]
-    TooManyValues(Fxy),
-    /// Memory ran out: room is made at every 64th item, from the first on.
-    #[error("out of memory")]
-    Memory,
-}
-
-impl PackedFault {
-    /// The number of the [`WalkFault`](crate::WalkFault) that it becomes: 30, 33 to 35, and 73
-    /// where memory ran out.
-    pub fn number(self) -> u8
-        ensures { result ≡ number_of_walk_fault (packed_fault (stops.Field self) 0) }
-    {
-        fault_at(WalkStop::Field(self), 0).number()
-    }
-}
 
 /// Whether an increment of `k` bits is valid: it is missing, or the sum stays within the width.
 // rule: compressed-past-width, compressed-class-31
@@ -119,12 +87,12 @@ fn increment_bits_of(spec: &Spec, k: u32) -> u32
     ensures value { result ≡ increment_bits_of spec.now.role spec.now.kind k }
     ensures most { result ≤ 504 }
 {
-    match spec.role() {
-        Role::Reference => 0,
-        Role::Element | Role::Inserted | Role::Factor => match spec.kind() {
-            Kind::Character => 8 * k,
-            Kind::Coded | Kind::Numeric => k,
-        },
+    if spec.is_reference() {
+        0
+    } else if spec.is_text() {
+        8 * k
+    } else {
+        k
     }
 }
 
@@ -146,7 +114,7 @@ fn item_bits_at(
     at: u64,
     subsets: u16,
     spec: &Spec,
-) -> Result<ItemBits, PackedFault>
+) -> Result<ItemBits, DataFault>
     requires subsets { 1 ≤ subsets }
     requires within { at ≤ 8 * length (octets_of bits.now) }
     ensures seen { MatchResult result (λ s. IsSeen (bits_of (octets_of bits.now)) at subsets
@@ -156,26 +124,26 @@ fn item_bits_at(
     let width = u64::from(spec.width());
     let left = bits.len_bits() - at;
     if left < width + 6 {
-        return Err(PackedFault::DataEnd(spec.fxy()));
+        return Err(DataFault::DataEnd(spec.fxy()));
     }
     let k = number_at(bits, at + width, 6) as u32;
     let size = width + 6 + u64::from(subsets) * u64::from(increment_bits_of(spec, k));
     if left < size {
-        return Err(PackedFault::DataEnd(spec.fxy()));
+        return Err(DataFault::DataEnd(spec.fxy()));
     }
     let answer = if k == 0 {
         answer_at(bits, at, spec)
     } else {
         let reference = spec.is_reference();
         if reference {
-            return Err(PackedFault::Increment(spec.fxy()));
+            return Err(DataFault::Increment(spec.fxy()));
         }
         let valid = match spec.kind() {
             Kind::Character => k <= spec.width() / 8,
             Kind::Coded | Kind::Numeric => numbers_hold(bits, at, subsets, spec, k),
         };
         if !valid {
-            return Err(PackedFault::Increment(spec.fxy()));
+            return Err(DataFault::Increment(spec.fxy()));
         }
         match spec.role() {
             Role::Factor => {
@@ -183,7 +151,7 @@ fn item_bits_at(
                 let first = number_at(bits, suffix, k);
                 let equal = are_equal(bits, suffix, subsets, k, first);
                 if !equal {
-                    return Err(PackedFault::UnequalFactor(spec.fxy()));
+                    return Err(DataFault::UnequalFactor(spec.fxy()));
                 }
                 Taken::Count(number_at(bits, at, spec.width()) + first)
             }
@@ -213,16 +181,16 @@ pub const MAX_VALUES: u64 = 134_217_728;
 #[derive(Drop)]
 pub struct PackedIn<'a> {
     bits: BitSlice<'a>,
-    at: u64,
+    pub(crate) at: u64,
     subsets: u16,
-    kept: ItemIndex,
+    pub(crate) kept: ItemIndex,
     /// The guess at the index of the next field.
     next: u32,
 }
 
 impl<'a> Model for PackedIn<'a> {
     ghost use Rattle.bufr_bits.specs.Prelude.{bits_of, octets_of};
-    ghost use Rattle.bufr_walk.specs.PackedIn.{PackedCursor, IsPackedIn, packed_view};
+    ghost use Rattle.bufr_walk.specs.Readers.{PackedCursor, IsPackedIn, packed_view};
 
     ghost Value = { PackedCursor };
 
@@ -248,7 +216,7 @@ impl<'a> PackedIn<'a> {
 }
 
 impl<'a> Fields for PackedIn<'a> {
-    type Fault = PackedFault;
+    type Fault = DataFault;
 
     ghost used = { λ s. s.at };
 
@@ -259,10 +227,10 @@ impl<'a> Fields for PackedIn<'a> {
     ghost refuses = { λ s spec e next h. ap (λ c. c.at) (refuses_packed s spec e next h) };
 
     // rule: too-many-values, compressed-fault-order
-    fn take(&mut self, spec: &Spec) -> Result<Taken, PackedFault> {
+    fn take(&mut self, spec: &Spec) -> Result<Taken, DataFault> {
         let items = self.kept.len() as u64 + 1;
         if items * u64::from(self.subsets) > MAX_VALUES {
-            return Err(PackedFault::TooManyValues(spec.fxy()));
+            return Err(DataFault::TooManyValues(spec.fxy()));
         }
         let seen = item_bits_at(&self.bits, self.at, self.subsets, spec)?;
         let item = IndexedItem {
@@ -292,84 +260,6 @@ impl<'a> Fields for PackedIn<'a> {
     }
 }
 
-/// The fault of the stop of a walk, after `bit` bits.
-fn fault_at(why: WalkStop<PackedFault>, bit: u64) -> WalkFault
-    ensures { result ≡ packed_fault why bit }
-{
-    match why {
-        WalkStop::Width(fxy) => WalkFault::Width(Spot {
-            subset: 0,
-            fxy,
-            bit,
-        }),
-        WalkStop::Defining(fxy) => WalkFault::Defining(Spot {
-            subset: 0,
-            fxy,
-            bit,
-        }),
-        WalkStop::Field(wrong) => match wrong {
-            PackedFault::DataEnd(fxy) => WalkFault::DataEnd(Spot {
-                subset: 0,
-                fxy,
-                bit,
-            }),
-            PackedFault::Increment(fxy) => WalkFault::Increment(Spot {
-                subset: 0,
-                fxy,
-                bit,
-            }),
-            PackedFault::UnequalFactor(fxy) => WalkFault::UnequalFactor(Spot {
-                subset: 0,
-                fxy,
-                bit,
-            }),
-            PackedFault::TooManyValues(fxy) => WalkFault::TooManyValues(Spot {
-                subset: 0,
-                fxy,
-                bit,
-            }),
-            PackedFault::Memory => WalkFault::Memory,
-        },
-        WalkStop::Memory => WalkFault::Memory,
-    }
-}
-
-/// Reads all items, each for all subsets; where there are no subsets nothing is read.
-// rule: no-subsets
-pub(crate) fn read_packed(
-    bits: BitSlice<'_>,
-    subsets: u16,
-    template: &Template,
-    cache: &mut SpecCache<'_>,
-    steps: &mut Steps,
-) -> Result<PackedRead, WalkFault>
-    requires { steps.old ≡ 0 }
-    ensures same { cache.new ≡ cache.old }
-    ensures reading { IfOk result (λ r. IsReadAndKept (next_item cache.old template.now)
-        (data_in true subsets (octets_of bits.entry)) r.kept r.used steps.new) }
-    ensures held { IfOk result (λ r. 7 * length r.kept ≤ r.used) }
-    ensures fault { IfErr result (λ why. IsFault (next_item cache.old template.now)
-        (data_in true subsets (octets_of bits.entry)) why steps.new) }
-    ensures accepted { IfOk result (λ r. steps.new ≤ places template.now * r.used) }
-    ensures refused { IfErr result (λ why. steps.new
-        ≤ places template.now * (bits_before why (length (bits_of (octets_of bits.entry))) + 1)) }
-{
-    if subsets == 0 {
-        return Ok(PackedRead {
-            used: 0,
-            kept: ItemIndex::new(cache.allocator()),
-        });
-    }
-    let mut fields = PackedIn::new(cache.allocator(), bits, subsets);
-    match walk_by(template, cache, &mut fields, steps) {
-        Ok(()) => Ok(PackedRead {
-            used: fields.at,
-            kept: fields.kept,
-        }),
-        Err(why) => Err(fault_at(why, fields.at)),
-    }
-}
-
 /// Compressed data, how many subsets they have, and the table by which they were read.
 #[derive(Clone, Copy)]
 pub(crate) struct PackedData<'a> {
@@ -387,7 +277,7 @@ fn number_of(pack: &PackedData<'_>, item: &IndexedItem, subset: u16) -> Option<u
     requires subset { subset < pack.now.subsets }
     requires number { is_character item.now.spec.kind ≡ false }
     requires value { is_reference item.now.spec.role ≡ false }
-    ensures value { sum_content result
+    ensures value { unwrap_or (option_map number result) missing
         ≡ content_kept (bits_of (octets_of pack.now.bits)) pack.now.subsets item.now subset }
     ensures below { IfSome result (λ raw. raw < 2 ^ item.now.spec.width) }
 {

@@ -1,7 +1,9 @@
 //! Faults in the data of a message. (Their numbers and their order are a choice of this project.)
 ghost use Rattle.std.specs.Prelude.{◌≡◌};
-ghost use Rattle.bufr_walk.specs.Prelude.{number_of_walk_fault};
+ghost use Rattle.bufr_walk.specs.Prelude.{data_report, fault_at};
+ghost use Rattle.bufr_walk.specs.declared.walker.WalkStop.TheVariants as stops;
 
+use crate::walker::WalkStop;
 use bufr_frame::RunFault;
 use bufr_tables::Fxy;
 use std::alloc::AllocError;
@@ -66,7 +68,7 @@ pub enum WalkFault {
 impl WalkFault {
     /// The number of this fault: 30 to 35, and 73 where memory ran out.
     pub fn number(self) -> u8
-        ensures { result ≡ number_of_walk_fault self }
+        ensures { result ≡ (data_report self).0 }
     {
         match self {
             WalkFault::DataEnd(_) => 30,
@@ -77,6 +79,55 @@ impl WalkFault {
             WalkFault::TooManyValues(_) => TOO_MANY_VALUES,
             WalkFault::Memory => RunFault::Memory.number(),
         }
+    }
+}
+
+/// Why an item of the data cannot be read, with its descriptor.
+#[derive(Clone, Copy, Debug, PartialEq, Eq, Error)]
+pub enum DataFault {
+    /// The data end inside the item.
+    #[error("the data end inside an item")]
+    DataEnd(Fxy),
+    /// A sum past the width of a number, more octets than a text has, or a redefined reference with
+    /// increments.
+    #[error("an increment that cannot be")]
+    Increment(Fxy),
+    /// The factor of a replication is not the same in all subsets.
+    #[error("a factor is not the same in all subsets")]
+    UnequalFactor(Fxy),
+    /// With this item there are more than 134,217,728 values.
+    #[error("too many values")]
+    TooManyValues(Fxy),
+    /// Memory ran out: room is made at every 64th item, from the first on.
+    #[error("out of memory")]
+    Memory,
+}
+
+impl DataFault {
+    /// The number of the [`WalkFault`] that it becomes: 30, 33 to 35, and 73
+    /// where memory ran out.
+    pub fn number(self) -> u8
+        ensures { result ≡ (data_report (fault_at (stops.Field self) 0 0)).0 }
+    {
+        fault_at(WalkStop::Field(self), 0, 0).number()
+    }
+}
+
+/// The fault of the stop of a walk, in a subset, after `bit` bits.
+pub(crate) fn fault_at(why: WalkStop<DataFault>, subset: u16, bit: u64) -> WalkFault
+    ensures { result ≡ fault_at why subset bit }
+{
+    match why {
+        WalkStop::Width(fxy) => WalkFault::Width(Spot { subset, fxy, bit }),
+        WalkStop::Defining(fxy) => WalkFault::Defining(Spot { subset, fxy, bit }),
+        WalkStop::Field(wrong) => match wrong {
+            DataFault::DataEnd(fxy) => WalkFault::DataEnd(Spot { subset, fxy, bit }),
+            DataFault::Increment(fxy) => WalkFault::Increment(Spot { subset, fxy, bit }),
+            DataFault::UnequalFactor(fxy) => WalkFault::UnequalFactor(Spot { subset, fxy, bit }),
+            DataFault::TooManyValues(fxy) => WalkFault::TooManyValues(Spot { subset, fxy, bit }),
+            DataFault::Memory => WalkFault::Memory,
+        },
+        WalkStop::Memory => WalkFault::Memory,
     }
 }
 

@@ -1,9 +1,9 @@
 //! The index of the items of compressed data, and the specifications that they were read by.
-ghost use Rattle.bufr_walk.specs.declared.compressed.PackedFault.TheVariants as wrong;
-ghost use Rattle.std.specs.Prelude.{◌≡◌, ◌≤◌, ◌<◌, ◌+◌, ◌%◌, ◌^◌, ◌++◌, ◌∷◌, [], length, true, vec_len, vec_capacity, IfErr, OnOk, OnErr, get_or};
-ghost use Rattle.bufr_walk.specs.Prelude.{HasSpecAt, IsPut, room_for, room_left, items_at_once};
+ghost use Rattle.bufr_walk.specs.declared.fault.DataFault.TheVariants as wrong;
+ghost use Rattle.std.specs.Prelude.{◌≡◌, ◌≤◌, ◌<◌, ◌+◌, ◌%◌, ◌^◌, ◌++◌, ◌∷◌, [], length, vec_len, vec_capacity, IfErr, OnOk, OnErr, get_or};
+ghost use Rattle.bufr_walk.specs.Prelude.{IsPut, room_for, room_left, items_at_once};
 
-use crate::compressed::PackedFault;
+use crate::fault::DataFault;
 use crate::spec::Spec;
 use std::alloc::Global;
 use std::marker::Model;
@@ -15,13 +15,6 @@ pub(crate) struct IndexedItem {
     pub(crate) at: u64,
     pub(crate) base: u64,
     pub(crate) step: u8,
-}
-
-/// The result of a reading: how many bits the items take, and the items.
-#[derive(Drop)]
-pub(crate) struct PackedRead {
-    pub(crate) used: u64,
-    pub(crate) kept: ItemIndex,
 }
 
 /// How many items room is made for at once.
@@ -37,23 +30,9 @@ pub(crate) struct ItemLocation {
     step: u8,
 }
 
-/// Whether a field has an index among others.
+/// Makes room for one more item and one more field, by 64 at once.
 #[inline(always)]
-fn fits(specs: &[Spec], place: u32, spec: &Spec) -> bool
-    ensures { result ≡ true → HasSpecAt specs.now place spec.now }
-{
-    let place = place as usize;
-    if place < specs.len() {
-        let there = specs[place];
-        return there == *spec;
-    }
-    false
-}
-
-/// Makes room for one more item and one more field. Room is made for 64 at once, so memory is
-/// needed only where the items so far are a multiple of 64.
-#[inline(always)]
-fn make_room(places: &mut Vec<ItemLocation>, specs: &mut Vec<Spec>) -> Result<(), PackedFault>
+fn make_room(places: &mut Vec<ItemLocation>, specs: &mut Vec<Spec>) -> Result<(), DataFault>
     requires places { room_for (vec_len places.old) ≤ vec_capacity places.old }
     requires specs { vec_len specs.old + room_left (vec_len places.old) ≤ vec_capacity specs.old }
     ensures same_places { places.new.items ≡ places.old.items }
@@ -72,11 +51,11 @@ fn make_room(places: &mut Vec<ItemLocation>, specs: &mut Vec<Spec>) -> Result<()
     }
     match places.reserve(ITEMS_AT_ONCE) {
         Ok(()) => {}
-        Err(_) => return Err(PackedFault::Memory),
+        Err(_) => return Err(DataFault::Memory),
     }
     match specs.reserve(ITEMS_AT_ONCE) {
         Ok(()) => Ok(()),
-        Err(_) => Err(PackedFault::Memory),
+        Err(_) => Err(DataFault::Memory),
     }
 }
 
@@ -88,8 +67,12 @@ fn place_of(specs: &mut Vec<Spec>, guess: u32, spec: &Spec) -> u32
     ensures put { IsPut specs.old.items spec.now result specs.new.items }
     ensures room { vec_capacity specs.old ≤ vec_capacity specs.new }
 {
-    if fits(specs, guess, spec) {
-        return guess;
+    let known = specs.as_slice();
+    if (guess as usize) < known.len() {
+        let there = known[guess as usize];
+        if there == *spec {
+            return guess;
+        }
     }
     let place = specs.len() as u32;
     match specs.push(*spec) {
@@ -113,7 +96,7 @@ impl Model for ItemIndex {
 
     ghost Value = { List IndexedItem };
 
-    ghost use Rattle.bufr_walk.specs.PackedIn.{indexed_items, IsKeptBy};
+    ghost use Rattle.bufr_walk.specs.Readers.{indexed_items, IsKeptBy};
 
     ghost view = { λ k. indexed_items k.specs.items k.places.items };
 
@@ -156,10 +139,8 @@ impl ItemIndex {
     }
 
     /// Appends an item, and returns the index of its field, which is looked for at the guess first.
-    /// Room is made for 64 at once, so memory is needed only where the items so far are a multiple
-    /// of 64.
     #[inline(always)]
-    pub(crate) fn keep(&mut self, guess: u32, item: IndexedItem) -> Result<u32, PackedFault>
+    pub(crate) fn keep(&mut self, guess: u32, item: IndexedItem) -> Result<u32, DataFault>
         requires { length self.old < 2 ^ 32 }
         ensures kept { OnOk result (self.new ≡ self.old ++ item ∷ []) }
         ensures same { OnErr result (self.new ≡ self.old) }

@@ -19,10 +19,10 @@ mod spec;
 mod visitor;
 mod walker;
 
-pub use compressed::{MAX_VALUES, PackedFault, PackedIn};
-pub use fault::{DEFINING, ShowFault, Spot, TOO_MANY_VALUES, WIDTH, WalkFault};
+pub use compressed::{MAX_VALUES, PackedIn};
+pub use fault::{DEFINING, DataFault, ShowFault, Spot, TOO_MANY_VALUES, WIDTH, WalkFault};
 pub use lists::{SpecCache, TemplateCache};
-pub use plain::{DataEnd, PlainIn};
+pub use plain::PlainIn;
 pub use reading::{Reading, read_by, read_message};
 pub use spec::{Role, Spec, Taken, TurnRefusal};
 pub use visitor::{ItemView, Value, Visitor};

@@ -1,5 +1,5 @@
 //! The last lists of descriptors, each with its template and the specs that its cells were read by.
-ghost use Rattle.std.specs.Prelude.{◌≡◌, ◌<◌, ◌^◌, Ok, IfSome, ◌≢◌, ◌≤◌, [], length, true, false, IfErr, OnOk, get_or, List, Err, IfOk};
+ghost use Rattle.std.specs.Prelude.{◌≡◌, ◌<◌, ◌^◌, Ok, IfSome, ◌≢◌, ◌≤◌, [], length, true, false, IfErr, OnOk, List, Err};
 ghost use Rattle.bufr_tables.specs.Prelude.{Row, Sequence, tree_of, tables_of};
 ghost use Rattle.bufr_walk.specs.TemplateCache.{MayStay, IsSlotBy, IsOther, AreSlots};
 ghost use Rattle.std.specs.List.{All};
@@ -39,8 +39,9 @@ struct CachedSpec {
 /// ```
 #[derive(Drop)]
 pub struct SpecCache<'a> {
-    alloc: Global,
-    table: &'a TableB,
+    pub(crate) alloc: Global,
+    /// The table that the specs are found by.
+    pub(crate) table: &'a TableB,
     entries: Vec<CachedSpec>,
 }
 
@@ -67,14 +68,6 @@ impl<'a> SpecCache<'a> {
             table,
             entries: Vec::new(alloc),
         }
-    }
-
-    /// The table that the specs are found by.
-    #[inline(always)]
-    pub fn table(&self) -> &'a TableB
-        ensures { result.now ≡ self.now }
-    {
-        self.table
     }
 
     /// Where the cache takes memory.
@@ -207,20 +200,6 @@ impl<'a> Slot<'a> {
     }
 }
 
-/// The index of the slot that has this list.
-fn index_of(slots: &[Slot<'_>], descriptors: &[Fxy]) -> Option<usize>
-    ensures { IfSome result (λ index. (index < length slots.now)
-        × ((d : Slot) → (get_or slots.now index d).templates.list ≡ descriptors.now)) }
-{
-    'slots: for index in 0..slots.len() {
-        let slot = &slots[index];
-        if slot.templates.is_selected(descriptors) {
-            return Some(index);
-        }
-    }
-    None
-}
-
 /// Drops the first of the slots where they are full.
 fn drop_first(slots: &mut Vec<Slot<'_>>)
     requires { length slots.old.items ≤ 15 }
@@ -305,7 +284,8 @@ impl<'a> TemplateCache<'a> {
         if self.last.templates.is_selected(descriptors) {
             return Ok(());
         }
-        if let Some(index) = index_of(&self.others, descriptors) {
+        let kept = |slot: &Slot<'_>| slot.templates.is_selected(descriptors);
+        if let Some(index) = self.others.iter().position(kept) {
             if self.last.may_stay() {
                 mem::swap(&mut self.last, &mut self.others[index]);
             } else {
@@ -319,8 +299,7 @@ impl<'a> TemplateCache<'a> {
         self.last.expand(descriptors)
     }
 
-    /// Puts the last list among the others, of which the first is dropped where they are full. Then
-    /// the list of no descriptors is the last.
+    /// Puts the last list among the others. Then the list of no descriptors is the last.
     fn set_aside(&mut self) -> Result<(), AllocError>
         requires { MayStay self.old.table_b self.old.table_d self.old.list }
         ensures table_b { self.new.table_b ≡ self.old.table_b }

@@ -1,9 +1,8 @@
 //! The operators in force, and the specification of a field under them.
-ghost use Rattle.std.specs.Prelude.{◌≡◌, ◌≤◌, ◌<◌, ◌*◌, ◌+◌, ◌^◌, ◌+ℤ◌, ◌*ℤ◌, if◌then◌else◌, ◌==◌, pos, unsigned_abs, List, Result, Ok, Err, Some, OnOk, IfOk, IfErr, IsSome, true, false, [], ◌∷◌};
-ghost use Rattle.std.specs.Ordering.{nat_cmp};
+ghost use Rattle.std.specs.Prelude.{◌≡◌, ◌≤◌, ◌<◌, ◌*◌, ◌+◌, ◌^◌, ◌+ℤ◌, ◌*ℤ◌, ◌==◌, pos, unsigned_abs, List, Result, Ok, Err, Some, OnOk, IfOk, IfErr, true, false};
 ghost use Rattle.std.specs.BTreeMap.{get};
 ghost use Rattle.bufr_tables.specs.Prelude.{row_of_entry, is_legal_operator, is_inserted_text, IsRow};
-ghost use Rattle.bufr_walk.specs.Prelude.{if_valid_width, factor_by, spec_by_kind, new_reference_spec, unsigned_field, local_width_spec, scale_change_of, operator_width, extra_bits, OperatorModel, Redefined, current_reference, with_reference, AreOperands, known_by, operator_model, IsOperatorKey, HasRole, descriptor_of, key_word, element_spec, factor_spec, inserted_spec, begin, after_operator, after_field, IsFieldKey, spec_of, is_reference, TakesField};
+ghost use Rattle.bufr_walk.specs.Prelude.{if_valid_width, spec_by_kind, unsigned_field, scale_change_of, operator_width, OperatorModel, Redefined, current_reference, AreOperands, known_by, operator_model, IsOperatorKey, HasRole, descriptor_of, inserted_spec, begin, after_operator, after_field, IsFieldKey, spec_of, is_reference, TakesField};
 ghost use Rattle.bufr_tables.specs.declared.table_b.Kind.TheVariants as kinds;
 ghost use Rattle.bufr_walk.specs.declared.operators.OperatorOperands.{OperatorOperands};
 
@@ -50,8 +49,7 @@ impl TableField {
         ensures { result ≡ descriptor_of self.now }
     {
         match *self {
-            TableField::Element(fxy) => fxy,
-            TableField::Factor(fxy) => fxy,
+            TableField::Element(fxy) | TableField::Factor(fxy) => fxy,
         }
     }
 }
@@ -91,17 +89,6 @@ fn key_by(operands: OperatorOperands, new_references: &BTreeMap<u16, i64>) -> u6
         + 0x1_0000_0000 * u64::from(operands.local_width)
 }
 
-/// Makes room for the reference of an element, by a reference of 0.
-#[tactic(auto, using(crate::proofs::SpecLemmas::known_more))]
-fn make_room(new_references: &mut BTreeMap<u16, i64>, fxy: Fxy) -> Result<(), AllocError>
-    ensures known { OnOk result (known_by new_references.new.entries
-        ≡ with_reference fxy (pos 0) (known_by new_references.old.entries)) }
-    ensures room { OnOk result (IsSome (get nat_cmp new_references.new fxy)) }
-{
-    new_references.insert(fxy.word(), 0)?;
-    Ok(())
-}
-
 /// The reference that the data defined for an element, or that of Table B.
 #[tactic(auto, using(crate::proofs::SpecLemmas::reference_found))]
 #[inline(always)]
@@ -122,7 +109,7 @@ fn reference_of(new_references: &BTreeMap<u16, i64>, entry: &Entry<'_>) -> i64
 // rule: 2-01-y, 2-07-y, cancel-2-01-and-2-02, cancel-2-07-and-2-08
 fn operator_width(width: u32, precision_increase: u8, width_change: u8) -> u32
     requires { width ≤ 2040 }
-    ensures { result ≡ operator_width width (extra_bits precision_increase) width_change }
+    ensures { result ≡ operator_width width precision_increase width_change }
 {
     let extra = (10 * u32::from(precision_increase) + 2) / 3;
     if width_change == 0 {
@@ -243,38 +230,6 @@ fn unlisted(fxy: Fxy, role: Role, width: u8, may_be_missing: bool) -> Result<Spe
     Spec::number(fxy, role, number)
 }
 
-/// An element whose width is given (2 06 Y).
-#[inline(always)]
-// rule: 2-06-y, 2-06-y-width-of-table-b
-fn local_width_spec(local_width: u8, fxy: Fxy, entry: &Entry<'_>) -> Result<Spec, TurnRefusal>
-    requires row { IsRow (row_of_entry entry.now) }
-    ensures { (s : OperatorModel) → s.local_width ≡ local_width
-        → result ≡ local_width_spec (Some (row_of_entry entry.now)) s fxy }
-{
-    if entry.width() == u32::from(local_width) {
-        spec_by_kind(NO_OPERATORS, entry.reference(), entry)
-    } else {
-        unlisted(fxy, Role::Element, local_width, fxy.x() != 31)
-    }
-}
-
-/// A factor by its row.
-#[inline(always)]
-fn factor_by(fxy: Fxy, entry: &Entry<'_>) -> Result<Spec, TurnRefusal>
-    requires row { IsRow (row_of_entry entry.now) }
-    ensures { result ≡ factor_by (Some (row_of_entry entry.now)) fxy }
-{
-    let number = NumberParts {
-        kind: Kind::Numeric,
-        width: entry.width(),
-        scale: entry.scale(),
-        reference: i128::from(entry.reference()),
-        may_be_missing: false,
-        listed: true,
-    };
-    Spec::number(fxy, Role::Factor, number)
-}
-
 impl OperatorState {
     /// No operator is in force.
     pub(crate) fn new(alloc: Global) -> OperatorState
@@ -301,62 +256,54 @@ impl OperatorState {
         }
     }
 
-    /// The specification of an element.
-    #[inline(always)]
-    // rule: fault-32-before-31, defining-no-text
-    fn element(&self, table: &TableB, fxy: Fxy) -> Result<Spec, TurnRefusal>
-        ensures { result ≡ element_spec table.now self.now fxy }
-    {
-        let operands = self.operands;
-        match table.get(fxy) {
-            Some(entry) => {
-                if operands.local_width > 0 {
-                    local_width_spec(operands.local_width, fxy, &entry)
-                } else if operands.new_reference_width > 0 {
-                    match entry.kind() {
-                        Kind::Character => Err(TurnRefusal::Defining(fxy)),
-                        Kind::Coded | Kind::Numeric => {
-                            unlisted(fxy, Role::Reference, operands.new_reference_width, false)
-                        }
-                    }
-                } else {
-                    let reference = reference_of(&self.new_references, &entry);
-                    spec_by_kind(operands, reference, &entry)
-                }
-            }
-            None => {
-                if operands.local_width > 0 {
-                    unlisted(fxy, Role::Element, operands.local_width, fxy.x() != 31)
-                } else {
-                    Err(TurnRefusal::Width(fxy))
-                }
-            }
-        }
-    }
-
     /// The specification of a field. (WMO-No. 306, Volume I.2, FM 94: Tables B and C)
-    #[inline(always)]
+    #[inline(never)]
+    // rule: 2-06-y, 2-06-y-width-of-table-b, fault-32-before-31, defining-no-text
+    // rule: factor-by-entry, defining-no-delayed-group
     pub(crate) fn spec(&self, table: &TableB, field: &TableField) -> Result<Spec, TurnRefusal>
         ensures { result ≡ spec_of table.now self.now field.now }
     {
+        let operands = self.operands;
         match *field {
-            TableField::Element(fxy) => self.element(table, fxy),
-            TableField::Factor(fxy) => self.factor(table, fxy),
-        }
-    }
-
-    /// The specification of the factor of a delayed replication.
-    #[inline(always)]
-    // rule: factor-by-entry, defining-no-delayed-group
-    fn factor(&self, table: &TableB, fxy: Fxy) -> Result<Spec, TurnRefusal>
-        ensures { result ≡ factor_spec table.now self.now fxy }
-    {
-        if self.operands.new_reference_width > 0 {
-            return Err(TurnRefusal::Defining(fxy));
-        }
-        match table.get(fxy) {
-            Some(entry) => factor_by(fxy, &entry),
-            None => Err(TurnRefusal::Width(fxy)),
+            TableField::Element(fxy) => match table.get(fxy) {
+                Some(entry) if operands.local_width > 0 => {
+                    if entry.width() == u32::from(operands.local_width) {
+                        return spec_by_kind(NO_OPERATORS, entry.reference(), &entry);
+                    }
+                    unlisted(fxy, Role::Element, operands.local_width, fxy.x() != 31)
+                }
+                Some(entry) if operands.new_reference_width > 0 => match entry.kind() {
+                    Kind::Character => Err(TurnRefusal::Defining(fxy)),
+                    Kind::Coded | Kind::Numeric => {
+                        unlisted(fxy, Role::Reference, operands.new_reference_width, false)
+                    }
+                },
+                Some(entry) => {
+                    let reference = reference_of(&self.new_references, &entry);
+                    spec_by_kind(operands, reference, &entry)
+                }
+                None if operands.local_width > 0 => {
+                    unlisted(fxy, Role::Element, operands.local_width, fxy.x() != 31)
+                }
+                None => Err(TurnRefusal::Width(fxy)),
+            },
+            TableField::Factor(fxy) if operands.new_reference_width > 0 => {
+                Err(TurnRefusal::Defining(fxy))
+            }
+            TableField::Factor(fxy) => match table.get(fxy) {
+                Some(entry) => {
+                    let number = NumberParts {
+                        kind: Kind::Numeric,
+                        width: entry.width(),
+                        scale: entry.scale(),
+                        reference: i128::from(entry.reference()),
+                        may_be_missing: false,
+                        listed: true,
+                    };
+                    Spec::number(fxy, Role::Factor, number)
+                }
+                None => Err(TurnRefusal::Width(fxy)),
+            },
         }
     }
 
@@ -460,8 +407,8 @@ impl OperatorState {
             return self.take_other(fxy, spec, fields);
         }
         self.key = NO_KEY;
-        match make_room(&mut self.new_references, fxy) {
-            Ok(()) => {}
+        match self.new_references.insert(fxy.word(), 0) {
+            Ok(_) => {}
             Err(_) => return Err(WalkStop::Memory),
         }
         match fields.take(spec) {

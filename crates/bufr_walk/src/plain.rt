@@ -1,12 +1,12 @@
 //! Data that are not compressed: fields, reading, and showing.
-ghost use Rattle.std.specs.Prelude.{◌≡◌, ◌≤◌, ◌<◌, ◌+◌, ◌-◌, ◌*◌, ◌^◌, length, take, drop, if◌then◌else◌, ◌==◌, pos, neg_ℤ, false, List, IfOk, IfErr, ◌/◌, Bool, Result, Some, Ok, Err, true, MatchResult, IfSome, ℕ};
+ghost use Rattle.std.specs.Prelude.{◌≡◌, ◌≤◌, ◌<◌, ◌+◌, ◌-◌, ◌*◌, ◌^◌, length, take, drop, if◌then◌else◌, ◌==◌, pos, neg_ℤ, false, List, IfOk, IfErr, ◌/◌, Bool, Result, Some, Ok, Err, MatchResult};
 ghost use Rattle.bufr_bits.specs.Prelude.{number_of, bits_at, bits_of, are_all_ones, octets_of};
-ghost use Rattle.bufr_walk.specs.Prelude.{IsFor, IsPlainNumber, answer_of, content_in, signed_by, octets_in, Content, shown, next_item, bits_before, data_in, IsFault, Item, plain, ReadsPass, ReadsSubsets, turns_in, IsReadAndPaid, plain_fault, rest_of, IsEnd, MayEnd, ItemsGo, item_call, view_of, subset_calls, seen_value, Shows, PlainTakes, past};
-ghost use Rattle.bufr_tables.specs.Prelude.{places, is_character};
+ghost use Rattle.bufr_walk.specs.Prelude.{IsFor, answer_of, content_in, signed_by, octets_in, Content, shown, next_item, bits_before, data_in, IsFault, Item, plain, ReadsPass, ReadsSubsets, turns_in, IsReadAndPaid, rest_of, ItemsGo, item_call, view_of, subset_calls, seen_value, Shows, PlainTakes, past};
+ghost use Rattle.bufr_tables.specs.Prelude.{places};
 ghost use Rattle.std.proofs.Common.{arith, ap};
-ghost use Rattle.bufr_walk.specs.PlainIn.{ShowingTakes, refusal_keeps, stage};
+ghost use Rattle.bufr_walk.specs.Readers.{ShowingTakes, refusal_keeps, stage};
 
-use crate::fault::{ShowFault, Spot, WalkFault};
+use crate::fault::{DataFault, ShowFault, WalkFault, fault_at};
 use crate::lists::SpecCache;
 use crate::spec::{Role, Spec, Taken};
 use crate::visitor::{ItemView, Value, Visitor, plain_number};
@@ -92,7 +92,7 @@ pub(crate) fn answer_at(bits: &BitSlice<'_>, at: u64, spec: &Spec) -> Taken
         return Taken::Plain;
     }
     let width = spec.width();
-    match spec.role() {
+    match spec.role {
         Role::Element | Role::Inserted => Taken::Plain,
         Role::Factor => Taken::Count(number_at(bits, at, width)),
         Role::Reference => Taken::Reference(signed_at(bits, at, width)),
@@ -167,13 +167,6 @@ pub(crate) fn value_at<'a: 't, 't>(
     Value::Number(i128::from(raw.number) + spec.reference(), spec.scale())
 }
 
-/// The data end inside a field.
-#[derive(Clone, Copy, Debug, PartialEq, Eq)]
-pub struct DataEnd {
-    /// The field's descriptor.
-    pub fxy: Fxy,
-}
-
 /// Fields of data that are not compressed, one after another. A contract sees the bits, and how
 /// many of them were read. (WMO-No. 306, Volume I.2, FM 94: section 4)
 #[derive(Drop)]
@@ -185,7 +178,7 @@ pub struct PlainIn<'a> {
 impl<'a> Model for PlainIn<'a> {
     ghost use Rattle.std.specs.Prelude.{◌≤◌, length};
     ghost use Rattle.bufr_bits.specs.Prelude.{bits_of, octets_of};
-    ghost use Rattle.bufr_walk.specs.PlainIn.{Cursor};
+    ghost use Rattle.bufr_walk.specs.Readers.{Cursor};
 
     ghost Value = { Cursor };
 
@@ -206,7 +199,7 @@ impl<'a> PlainIn<'a> {
     #[tactic(auto, using(crate::proofs::PlainLemmas::taken_here, crate::proofs::PlainLemmas::ends_here, crate::proofs::PlainLemmas::bits_length))]
     #[inline(always)]
     // rule: field-past-end
-    pub(crate) fn peek(&self, spec: &Spec) -> Result<Taken, DataEnd>
+    pub(crate) fn peek(&self, spec: &Spec) -> Result<Taken, DataFault>
         ensures found { MatchResult result (λ t. PlainTakes self.now spec.now (Ok t)
             (past self.now spec.now)) (λ e. PlainTakes self.now spec.now (Err e) self.now) }
         ensures shape { IfOk result (λ t. IsFor spec.now t) }
@@ -215,7 +208,7 @@ impl<'a> PlainIn<'a> {
     {
         let width = spec.width();
         if self.bits.len_bits() - self.at < u64::from(width) {
-            return Err(DataEnd { fxy: spec.fxy() });
+            return Err(DataFault::DataEnd(spec.fxy));
         }
         Ok(answer_at(&self.bits, self.at, spec))
     }
@@ -232,7 +225,7 @@ impl<'a> PlainIn<'a> {
 }
 
 impl<'a> Fields for PlainIn<'a> {
-    type Fault = DataEnd;
+    type Fault = DataFault;
 
     ghost used = { λ s. s.at };
 
@@ -243,7 +236,7 @@ impl<'a> Fields for PlainIn<'a> {
     ghost refuses = { λ s spec e next h. ap (λ c. c.at) h.2 };
 
     #[inline(always)]
-    fn take(&mut self, spec: &Spec) -> Result<Taken, DataEnd> {
+    fn take(&mut self, spec: &Spec) -> Result<Taken, DataFault> {
         let answer = self.peek(spec)?;
         self.at += u64::from(spec.width());
         Ok(answer)
@@ -251,22 +244,6 @@ impl<'a> Fields for PlainIn<'a> {
 
     fn bits(&self) -> u64 {
         self.at
-    }
-}
-
-/// The fault of the stop of a walk.
-fn plain_fault(why: WalkStop<DataEnd>, subset: u16, bit: u64) -> WalkFault
-    ensures { result ≡ plain_fault why subset bit }
-{
-    match why {
-        WalkStop::Width(fxy) => WalkFault::Width(Spot { subset, fxy, bit }),
-        WalkStop::Defining(fxy) => WalkFault::Defining(Spot { subset, fxy, bit }),
-        WalkStop::Field(end) => WalkFault::DataEnd(Spot {
-            subset,
-            fxy: end.fxy,
-            bit,
-        }),
-        WalkStop::Memory => WalkFault::Memory,
     }
 }
 
@@ -295,7 +272,7 @@ pub(crate) fn read_plain(
         let at = fields.at;
         match outcome {
             Ok(()) => {}
-            Err(why) => return Err(plain_fault(why, done + 1, at)),
+            Err(why) => return Err(fault_at(why, done + 1, at)),
         }
     }
     Ok(fields.at)
@@ -312,7 +289,7 @@ pub(crate) fn show_value<V: Visitor>(
     ensures { (content : Content) → seen_value value.entry ≡ shown spec.now content
         → V.sees visitor.old (item_call (view_of table.now spec.now content)) result visitor.new }
 {
-    let fxy = spec.fxy();
+    let fxy = spec.fxy;
     let entry = if spec.listed() { table.get(fxy) } else { None };
     visitor.item(&ItemView { fxy, entry, value })
 }
@@ -348,12 +325,12 @@ fn show_field<V: Visitor>(
     ensures { V.sees visitor.old (item_call (view_of table.now spec.now
         (content_in spec.now (take spec.now.width (rest_of input.now))))) result visitor.new }
 {
-    let fxy = spec.fxy();
+    let fxy = spec.fxy;
     if spec.is_plain()
         && let Some(entry) = table.get(fxy)
     {
         let raw = raw_at(&input.bits, input.at, spec.width());
-        let value = if raw.all_ones && spec.may_be_missing() {
+        let value = if raw.all_ones && spec.may_be_missing {
             Value::Missing
         } else {
             plain_number(spec, raw.number)
@@ -421,18 +398,6 @@ impl<'i, 't, 'v, 'b, V: Visitor> Fields for ShowFields<'i, 't, 'v, 'b, V> {
     }
 }
 
-/// The fault of the stop of a walk over data that were read before.
-fn fault_of<E>(why: WalkStop<ShowStop<E>>) -> ShowFault<E>
-    requires { MayEnd why }
-    ensures { IsEnd why result }
-{
-    match why {
-        WalkStop::Field(ShowStop::Visitor(fault)) => ShowFault::Visitor(fault),
-        WalkStop::Memory => ShowFault::Memory,
-        _ => unreachable!(),
-    }
-}
-
 /// Walks over one subset, and shows each item.
 fn walk_showing<V: Visitor>(
     template: &Template,
@@ -452,7 +417,11 @@ fn walk_showing<V: Visitor>(
 {
     match walk_by(template, cache, fields, steps) {
         Ok(()) => Ok(()),
-        Err(why) => Err(fault_of(why)),
+        Err(why) => match why {
+            WalkStop::Field(ShowStop::Visitor(fault)) => Err(ShowFault::Visitor(fault)),
+            WalkStop::Memory => Err(ShowFault::Memory),
+            _ => unreachable!(),
+        },
     }
 }
 
@@ -470,7 +439,7 @@ fn show_items<V: Visitor>(
     ensures shown { ItemsGo V.sees cache.old (next_item cache.old template.now) input.old
         visitor.old steps.old result input.new visitor.new steps.new }
 {
-    let table = cache.table();
+    let table = cache.table;
     let mut fields = ShowFields {
         input,
         table,
@@ -490,28 +459,28 @@ pub(crate) struct PlainData<'a> {
 
 /// Shows each subset, and its items.
 pub(crate) fn show_plain<V: Visitor>(
-    data: &PlainData<'_>,
+    given: &PlainData<'_>,
     cache: &mut SpecCache<'_>,
     visitor: &mut V,
     steps: &mut Steps,
 ) -> Result<(), ShowFault<V::Fault>>
     requires steps { steps.old ≡ 0 }
     requires readable { (all : List (List (Item Content))) × (left : List Bool)
-        × ReadsSubsets (next_item cache.old data.now.template.now) all
-        (bits_of (octets_of data.now.bits)) left × (length all ≡ data.now.subsets) }
+        × ReadsSubsets (next_item cache.old given.now.template.now) all
+        (bits_of (octets_of given.now.bits)) left × (length all ≡ given.now.subsets) }
     ensures same { cache.new ≡ cache.old }
     ensures shown { (all : List (List (Item Content))) (left : List Bool)
-        → ReadsSubsets (next_item cache.old data.now.template.now) all
-        (bits_of (octets_of data.now.bits)) left
-        → length all ≡ data.now.subsets
+        → ReadsSubsets (next_item cache.old given.now.template.now) all
+        (bits_of (octets_of given.now.bits)) left
+        → length all ≡ given.now.subsets
         → Shows V.sees visitor.old
-        (subset_calls cache.old (next_item cache.old data.now.template.now) 0 1 all)
-        (turns_in (next_item cache.old data.now.template.now) all) result visitor.new steps.new }
+        (subset_calls cache.old (next_item cache.old given.now.template.now) 0 1 all)
+        (turns_in (next_item cache.old given.now.template.now) all) result visitor.new steps.new }
 {
-    let mut input = PlainIn::new(data.bits);
-    'subsets: for done in 0..data.subsets {
+    let mut input = PlainIn::new(given.bits);
+    'subsets: for done in 0..given.subsets {
         match visitor.subset(done + 1) {
-            Ok(()) => show_items(data.template, cache, &mut input, visitor, steps)?,
+            Ok(()) => show_items(given.template, cache, &mut input, visitor, steps)?,
             Err(fault) => return Err(ShowFault::Visitor(fault)),
         }
     }

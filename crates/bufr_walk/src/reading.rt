@@ -3,13 +3,13 @@ ghost use Rattle.std.specs.Prelude.{◌≡◌, ◌≤◌, ◌+◌, ◌*◌, leng
 ghost use Rattle.bufr_tables.specs.Prelude.{places};
 ghost use Rattle.bufr_walk.specs.Prelude.{next_item, bits_before, data_of, IsFault, IsReadingOf, calls_of, items_called, ShowsReading, course_of, Values, IsReading, items_kept, max_values};
 
-use crate::compressed::{PackedData, read_packed, show_packed};
-use crate::fault::{ShowFault, WalkFault};
+use crate::compressed::{PackedData, PackedIn, show_packed};
+use crate::fault::{ShowFault, WalkFault, fault_at};
 use crate::item_index::ItemIndex;
 use crate::lists::SpecCache;
 use crate::plain::{PlainData, read_plain, show_plain};
 use crate::visitor::Visitor;
-use crate::walker::Steps;
+use crate::walker::{Steps, walk_by};
 use bufr_bits::BitSlice;
 use bufr_frame::Message;
 use bufr_tables::{TableB, Template};
@@ -46,7 +46,7 @@ impl<'a> Model for Reading<'a> {
 
     ghost coded = { Prim.hlevel (codes, tree_code) };
 
-    ghost use Rattle.bufr_walk.specs.PackedIn.{held_of, IsStoredReading};
+    ghost use Rattle.bufr_walk.specs.Readers.{held_of, IsStoredReading};
 
     ghost view = { λ r. read_by r.table.now r.template.now
         (data_in r.compressed r.subsets (octets_of r.bits)) r.used (held_of r.kept) };
@@ -101,6 +101,7 @@ pub fn read_message<'a>(
 /// # Errors
 ///
 /// Those of [`read_message`].
+// rule: no-subsets
 pub fn read_by<'a, 't: 'a>(
     message: &Message<'a>,
     template: &'a Template,
@@ -119,17 +120,32 @@ pub fn read_by<'a, 't: 'a>(
     *steps = Steps::new();
     let bits = message.payload();
     let subsets = message.subsets();
-    let table = cache.table();
+    let table = cache.table;
     if message.compressed() {
-        let read = read_packed(bits, subsets, template, cache, steps)?;
+        if subsets == 0 {
+            return Ok(Reading {
+                bits,
+                template,
+                table,
+                compressed: true,
+                subsets,
+                used: 0,
+                kept: StoredItems::Together(ItemIndex::new(cache.alloc)),
+            });
+        }
+        let mut fields = PackedIn::new(cache.alloc, bits, subsets);
+        match walk_by(template, cache, &mut fields, steps) {
+            Ok(()) => {}
+            Err(why) => return Err(fault_at(why, 0, fields.at)),
+        }
         return Ok(Reading {
             bits,
             template,
             table,
             compressed: true,
             subsets,
-            used: read.used,
-            kept: StoredItems::Together(read.kept),
+            used: fields.at,
+            kept: StoredItems::Together(fields.kept),
         });
     }
     let used = read_plain(bits, subsets, template, cache, steps)?;
@@ -181,39 +197,6 @@ impl<'a> Reading<'a> {
         }
     }
 
-    /// Shows each subset and its items to a visitor, from what is kept.
-    #[tactic(auto, using(crate::proofs::PlainLemmas::readable_of, crate::proofs::PackedShowing::entries_fit, crate::proofs::PackedShowing::packed_shown))]
-    fn show_kept<V: Visitor>(
-        &self,
-        cache: &mut SpecCache<'_>,
-        visitor: &mut V,
-        steps: &mut Steps,
-    ) -> Result<(), ShowFault<V::Fault>>
-        requires { cache.old ≡ self.now.table }
-        ensures same { cache.new ≡ cache.old }
-        ensures shown { ShowsReading V.sees self.now visitor.old result visitor.new steps.new }
-    {
-        *steps = Steps::new();
-        match &self.kept {
-            StoredItems::Apart => {
-                let data = PlainData {
-                    bits: self.bits,
-                    subsets: self.subsets,
-                    template: self.template,
-                };
-                show_plain(&data, cache, visitor, steps)
-            }
-            StoredItems::Together(items) => {
-                let data = PackedData {
-                    bits: self.bits,
-                    subsets: self.subsets,
-                    table: self.table,
-                };
-                show_packed(&data, items, visitor)
-            }
-        }
-    }
-
     /// Shows each subset and its items to a visitor, in the order of the data, and stops at its
     /// first fault. Sets `steps` to the steps of the showing, 0 where the data are compressed. At
     /// most 134,217,728 items are shown. There are at most as many steps as the template has places
@@ -244,6 +227,7 @@ impl<'a> Reading<'a> {
     /// # Errors
     ///
     /// Those of [`Reading::show`].
+    #[tactic(auto, using(crate::proofs::PlainLemmas::readable_of, crate::proofs::PackedShowing::entries_fit, crate::proofs::PackedShowing::packed_shown))]
     pub fn show_by<V: Visitor>(
         &self,
         cache: &mut SpecCache<'_>,
@@ -259,6 +243,24 @@ impl<'a> Reading<'a> {
     {
         // For the proof alone: what a template ensures of its groups bounds the steps.
         let _ = self.template.cells();
-        self.show_kept(cache, visitor, steps)
+        *steps = Steps::new();
+        match &self.kept {
+            StoredItems::Apart => {
+                let data = PlainData {
+                    bits: self.bits,
+                    subsets: self.subsets,
+                    template: self.template,
+                };
+                show_plain(&data, cache, visitor, steps)
+            }
+            StoredItems::Together(items) => {
+                let data = PackedData {
+                    bits: self.bits,
+                    subsets: self.subsets,
+                    table: self.table,
+                };
+                show_packed(&data, items, visitor)
+            }
+        }
     }
 }

@@ -1,7 +1,7 @@
 //! The specification of one field of the data.
 ghost use Rattle.std.specs.Prelude.{◌≡◌, ◌≤◌, ◌^◌, false, true, unsigned_abs, ◌%◌};
 ghost use Rattle.bufr_tables.specs.Prelude.{is_character};
-ghost use Rattle.bufr_walk.specs.Prelude.{HasRole, HasWidth, number_field, is_plain_number, if_valid_width, text_spec, IsSpec, is_reference, IsPlainNumber};
+ghost use Rattle.bufr_walk.specs.Prelude.{HasRole, HasWidth, number_field, if_valid_width, text_spec, IsSpec, is_reference, IsPlainNumber};
 ghost use Rattle.bufr_tables.specs.declared.table_b.Kind.TheVariants as kinds;
 
 use bufr_tables::{Fxy, Kind};
@@ -45,13 +45,13 @@ pub enum Taken {
 // reading of a number.
 #[derive(Clone, Copy, Debug, PartialEq, Eq)]
 pub struct Spec {
-    reference: i128,
+    pub(crate) reference: i128,
     width: u32,
-    fxy: Fxy,
-    scale: i16,
-    role: Role,
+    pub(crate) fxy: Fxy,
+    pub(crate) scale: i16,
+    pub(crate) role: Role,
     kind: Kind,
-    may_be_missing: bool,
+    pub(crate) may_be_missing: bool,
     listed: bool,
     plain: bool,
 }
@@ -229,20 +229,14 @@ impl Spec {
     pub fn is_text(&self) -> bool
         ensures { result ≡ is_character self.now.kind }
     {
-        match self.kind {
-            Kind::Character => true,
-            Kind::Coded | Kind::Numeric => false,
-        }
+        matches!(self.kind, Kind::Character)
     }
 
     /// Whether the field is a reference that is being defined.
     pub fn is_reference(&self) -> bool
         ensures { result ≡ is_reference self.now.role }
     {
-        match self.role {
-            Role::Reference => true,
-            Role::Element | Role::Inserted | Role::Factor => false,
-        }
+        matches!(self.role, Role::Reference)
     }
 
     /// Whether the field is read by an entry of Table B.

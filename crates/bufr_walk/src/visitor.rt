@@ -1,5 +1,5 @@
 //! The visitor of a reading, and the items that it is shown.
-ghost use Rattle.std.specs.Prelude.{ℕ, Result, ◌≡◌, ◌<◌, ◌^◌, ◌+ℤ◌, pos};
+ghost use Rattle.std.specs.Prelude.{Result, ◌≡◌, ◌<◌, ◌^◌, ◌+ℤ◌, pos};
 ghost use Rattle.bufr_walk.specs.Prelude.{Call, subset_call, item_call, seen, seen_value, shown_number, IsPlainNumber};
 
 use crate::spec::Spec;
@@ -27,8 +27,8 @@ pub(crate) fn plain_number<'t>(spec: &Spec, raw: u64) -> Value<'t>
         ≡ shown_number (pos raw +ℤ spec.now.reference) spec.now.scale }
 {
     // In 64 bits, so that a visitor sees that it fits.
-    let number = raw as i64 + spec.reference() as i64;
-    Value::Number(i128::from(number), spec.scale())
+    let number = raw as i64 + spec.reference as i64;
+    Value::Number(i128::from(number), spec.scale)
 }
 
 /// An item of the data as it is shown.

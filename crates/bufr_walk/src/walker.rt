@@ -1,6 +1,6 @@
 //! The walk over the cells of a template, with the fields that it takes, its stops and its steps.
-ghost use Rattle.std.specs.Prelude.{◌≡◌, ℕ, ◌+◌, ◌-◌, ◌^◌, ◌<◌, Result, Ok, Err, IfOk, ◌≤◌, length, slice_index_or, ◌*◌, ◌++◌, ◌∷◌, [], List, OnOk, OnErr};
-ghost use Rattle.bufr_walk.specs.Prelude.{ticked, IsAtCell, Turned, Walked, TakesField, next_item, Rest, FieldSpec, IsFor, Taken, after_field, descriptor_of, spec_of, stop_by};
+ghost use Rattle.std.specs.Prelude.{◌≡◌, ℕ, ◌+◌, ◌-◌, ◌^◌, ◌<◌, Result, Ok, Err, IfOk, ◌≤◌, ◌*◌, ◌++◌, ◌∷◌, [], List, OnOk, OnErr};
+ghost use Rattle.bufr_walk.specs.Prelude.{ticked, Walked, TakesField, next_item, FieldSpec, IsFor, Taken, after_field, descriptor_of, spec_of, stop_by};
 ghost use Rattle.arrayvec.specs.ArrayVec.{array_vec_len};
 ghost use Rattle.bufr_tables.specs.Prelude.{places};
 ghost use Rattle.bufr_walk.specs.declared.walker.Frame.{Frame};
@@ -121,16 +121,6 @@ pub trait Fields {
         → takes s spec (Err e) next → used next ≡ used s };
 }
 
-/// The cell at a place.
-pub(crate) fn cell_at(cells: &[Cell], place: u32) -> Cell
-    requires within { length cells.now ≤ 65535 }
-    requires inside { place < length cells.now }
-    ensures value { slice_index_or cells.now place result ≡ result }
-    ensures room { place + 2 < 2 ^ 32 }
-{
-    cells[place as usize]
-}
-
 /// An open group: first cell of its body, first cell after it, passes left after this one.
 #[derive(Clone, Copy, Default)]
 pub(crate) struct Frame {
@@ -182,30 +172,7 @@ fn end_pass(groups: &mut ArrayVec<Frame, 32>) -> u32
     frame.start
 }
 
-/// Takes a field whose spec is not cached, and caches it.
-#[tactic(auto, using(crate::proofs::CacheLemmas::spec_cached))]
-#[inline(never)]
-fn take_new<S: Fields>(
-    field: TableField,
-    place: u32,
-    cache: &mut SpecCache<'_>,
-    fields: &mut S,
-    in_force: &mut OperatorState,
-) -> Result<Taken, WalkStop<S::Fault>>
-    ensures took { TakesField S.takes (spec_of cache.old in_force.old field) fields.old result
-        fields.new }
-    ensures kept { IfOk result
-        (λ t. in_force.new ≡ after_field in_force.old (descriptor_of field) t) }
-    ensures same { cache.new ≡ cache.old }
-{
-    let fxy = field.fxy();
-    let key = in_force.key(&field);
-    let spec = in_force.spec(cache.table(), &field)?;
-    cache.insert(place, key, &spec);
-    in_force.take(fxy, &spec, fields)
-}
-
-/// Takes the field of a cell, by the spec that is cached for it, if there is one.
+/// Takes the field of a cell, by the spec that is cached for it, or that is found and cached.
 #[tactic(auto, using(crate::proofs::CacheLemmas::spec_got, crate::proofs::CacheLemmas::spec_got_plain))]
 #[inline(always)]
 fn take_field<S: Fields>(
@@ -228,85 +195,16 @@ fn take_field<S: Fields>(
     let key = in_force.key(&field);
     let answer = match cache.get(place, key) {
         Some(spec) => in_force.take_other(fxy, spec, fields),
-        None => take_new(field, place, cache, fields, in_force),
+        None => {
+            let spec = in_force.spec(cache.table, &field)?;
+            cache.insert(place, key, &spec);
+            in_force.take(fxy, &spec, fields)
+        }
     };
     if let Some(kept) = fields.last_place() {
         cache.set_kept(place, kept);
     }
     answer
-}
-
-/// A place in the cells of a template.
-#[derive(Clone, Copy)]
-struct CellPlace<'c> {
-    cells: &'c [Cell],
-    index: u32,
-}
-
-/// What a walk keeps from cell to cell: the open groups, outermost first, and the operators.
-#[derive(Drop)]
-struct WalkState {
-    open_groups: ArrayVec<Frame, 32>,
-    in_force: OperatorState,
-}
-
-/// Makes one step, and returns the place after it, or `None` at the end.
-#[inline(always)]
-// rule: defining-fixed-groups, fault-62-first
-fn turn<S: Fields>(
-    at: CellPlace<'_>,
-    walk: &mut WalkState,
-    cache: &mut SpecCache<'_>,
-    fields: &mut S,
-    steps: &mut Steps,
-) -> Result<Option<u32>, WalkStop<S::Fault>>
-    requires within { length at.cells.now ≤ 65535 }
-    requires fits { (left : Rest → Rest)
-        × IsAtCell at.cells.now at.index walk.old.open_groups.items left }
-    ensures same { cache.new ≡ cache.old }
-    ensures turned { (left : Rest → Rest)
-        → IsAtCell at.entry.cells.now at.entry.index walk.old.open_groups.items left
-        → Turned S.takes cache.old at.entry.cells.now left at.entry.index
-        walk.old.open_groups.items walk.old.in_force fields.old steps.old result
-        walk.new.open_groups.items walk.new.in_force fields.new steps.new }
-{
-    let place = at.index;
-    steps.tick();
-    match cell_at(at.cells, place) {
-        Cell::Element(fxy) => {
-            let element = TableField::Element(fxy);
-            take_field(element, place, cache, fields, &mut walk.in_force)?;
-            Ok(Some(place + 1))
-        }
-        Cell::Operator(fxy) => {
-            if fxy.x() == 5 {
-                walk.in_force.take_inserted(fxy, fields)?;
-                return Ok(Some(place + 1));
-            }
-            walk.in_force.apply(fxy)?;
-            Ok(Some(place + 1))
-        }
-        Cell::Fixed(count, after) => {
-            let groups = &mut walk.open_groups;
-            Ok(Some(open_group(u64::from(count), place + 1, after, groups)))
-        }
-        Cell::Delayed(after) => {
-            let Cell::Factor(fxy) = cell_at(at.cells, place + 1) else {
-                unreachable!()
-            };
-            steps.tick();
-            let factor = TableField::Factor(fxy);
-            let answer = take_field(factor, place + 1, cache, fields, &mut walk.in_force)?;
-            let groups = &mut walk.open_groups;
-            match answer {
-                Taken::Count(count) => Ok(Some(open_group(count, place + 2, after, groups))),
-                _ => unreachable!(),
-            }
-        }
-        Cell::Factor(_) => unreachable!(),
-        Cell::PassEnd => Ok(Some(end_pass(&mut walk.open_groups))),
-        Cell::Finish => Ok(None),
-    }
 }
 
 /// Walks over the cells of a template once, field by field: over one subset, or over all of them
@@ -351,6 +249,7 @@ pub fn walk<S: Fields>(
 /// # Errors
 ///
 /// Those of [`walk`].
+// rule: defining-fixed-groups, fault-62-first
 pub fn walk_by<S: Fields>(
     template: &Template,
     cache: &mut SpecCache<'_>,
@@ -366,19 +265,61 @@ pub fn walk_by<S: Fields>(
         ≤ steps.old + places template.now * (S.used fields.new - S.used fields.old + 1)) }
 {
     let cells = template.cells();
-    let mut walk = WalkState {
-        open_groups: ArrayVec::new(),
-        in_force: OperatorState::new(cache.allocator()),
-    };
+    let mut open_groups: ArrayVec<Frame, 32> = ArrayVec::new();
+    let mut in_force = OperatorState::new(cache.alloc);
     let mut index: u32 = 0;
-    'turns: while let Some(next) = turn(
-        CellPlace { cells, index },
-        &mut walk,
-        cache,
-        fields,
-        steps,
-    )? {
-        index = next;
+    'turns: loop {
+        steps.tick();
+        let cell = cells[index as usize];
+        match cell {
+            Cell::Element(fxy) => {
+                take_field(
+                    TableField::Element(fxy),
+                    index,
+                    cache,
+                    fields,
+                    &mut in_force,
+                )?;
+                index += 1;
+                continue;
+            }
+            Cell::Operator(fxy) => {
+                if fxy.x() == 5 {
+                    in_force.take_inserted(fxy, fields)?;
+                    index += 1;
+                    continue;
+                }
+                in_force.apply(fxy)?;
+                index += 1;
+                continue;
+            }
+            Cell::Fixed(count, after) => {
+                index = open_group(u64::from(count), index + 1, after, &mut open_groups);
+                continue;
+            }
+            Cell::Delayed(after) => {
+                let place = index + 1;
+                let next = cells[place as usize];
+                let Cell::Factor(fxy) = next else {
+                    unreachable!()
+                };
+                steps.tick();
+                let factor = TableField::Factor(fxy);
+                let answer = take_field(factor, place, cache, fields, &mut in_force)?;
+                match answer {
+                    Taken::Count(count) => {
+                        index = open_group(count, index + 2, after, &mut open_groups);
+                        continue;
+                    }
+                    _ => unreachable!(),
+                }
+            }
+            Cell::Factor(_) => unreachable!(),
+            Cell::PassEnd => {
+                index = end_pass(&mut open_groups);
+                continue;
+            }
+            Cell::Finish => return Ok(()),
+        }
     }
-    Ok(())
 }

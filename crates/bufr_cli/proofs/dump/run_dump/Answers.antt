@@ -1,17 +1,19 @@
 use Rattle.std.proofs.Common.{subst, sym}
+use Rattle.bufr_frame.specs.Prelude.{StreamEvent}
 use Rattle.bufr_walk.specs.Prelude.{Lists}
-use Rattle.bufr_cli.specs.Prelude.{IsDumpPiece, event_pieces, GivesPieces}
-use Rattle.bufr_cli.proofs.RunLemmas.{all-known}
+use Rattle.bufr_cli.specs.Prelude.{GivesPieces, IsDump, IsDumpPiece, Piece, input_of, writers_of}
+use Rattle.bufr_cli.proofs.RunLemmas.{each-gives, leaves-devices}
 use Rattle.bufr_cli.proofs.dump.run_dump.Goals as goal
 
-pub returns-clause-whole : goal.returns-clause-whole
-returns-clause-whole g c piece gives =
-    let by_both = subst (λ (both : Lists). GivesPieces (IsDumpPiece both.table_b both.table_d) piece) (sym c.new.ensures) gives in
-    all-known (event_pieces piece) _ _ _ _ _ _ _ _ c.run_events.result (c.run_events.ensures.run.0, c.run_events.ensures.run.1 piece by_both)
-
-pub returns-clause-run : goal.returns-clause-run
-returns-clause-run g c = (
-  c.run_events.ensures.run.0,
-  λ piece gives.
-      c.run_events.ensures.run.1 piece (subst (λ (both : Lists). GivesPieces (IsDumpPiece both.table_b both.table_d) piece) (sym c.new.ensures) gives),
-)
+pub returns : goal.returns
+returns g c =
+    let from = input_of g.R.Source c.args.r.now in
+    let to = input_of g.R.Source c.run_events.new.r in
+    let before = writers_of g.W.Sink c.args.w.now g.E.Sink c.args.e.now in
+    let after = writers_of g.W.Sink c.run_events.new.w g.E.Sink c.run_events.new.e in
+    let run = c.run_events.ensures in
+    let gives : (StreamEvent → Piece) → Type 0 = GivesPieces (IsDumpPiece c.args.table_b.now c.args.table_d.now) in
+    leaves-devices (IsDump c.args.table_b.now c.args.table_d.now) from to before after c.run_events.result
+    (each-gives gives from to before after c.run_events.result
+    (run.run.0, λ (piece : StreamEvent → Piece) (is : gives piece). run.run.1 piece (subst (λ (both : Lists). GivesPieces (IsDumpPiece both.table_b both.table_d) piece) (sym c.new.ensures) is)))
+    run.order run.flushed (run.reader, run.reads) run.writers

@@ -1,8 +1,7 @@
 use Rattle.std.proofs.Common.{◌∙◌, ◌∷◌, [], ap, codes, decimal}
-use Rattle.bufr_tables.specs.Prelude.{number_of_template_fault}
+use Rattle.bufr_tables.specs.Prelude.{template_report}
 use Rattle.bufr_text.specs.Prelude.{number_of_document_fault}
 use Rattle.bufr_text.proofs.PushLemmas.{◌⨾◌, nothing_pushed, joined_then}
-use Rattle.bufr_cli.specs.Prelude.{template_fault_text}
 use Rattle.bufr_cli.proofs.FaultLineLemmas.{line_pushed}
 use Rattle.bufr_cli.proofs.fault_line.push_document_fault.Goals as goal
 
@@ -12,7 +11,7 @@ returns-in-Template g c =
     let place = rw number at c.push_place.ensures in
     let named = rw (c.from.ensures, c.number.ensures) at c.push_named.ensures in
     let why = c.in-Template.why in
-    let first = codes "template " ∷ decimal (number_of_template_fault why) ∷ codes " " ∷ [] in
-    let text = joined_then first (template_fault_text why) (named ⨾ (c.push.ensures ⨾ nothing_pushed)) c.push_template_fault.ensures in
+    let first = codes "template " ∷ decimal (template_report why).0 ∷ codes " " ∷ [] in
+    let text = joined_then first (template_report why).1 (named ⨾ (c.push.ensures ⨾ nothing_pushed)) c.push_template_fault.ensures in
     rw c.in-Template.is
-    (line_pushed (codes "line ") c.in-Template.place 56 (codes "template " ∷ decimal (number_of_template_fault why) ∷ codes " " ∷ template_fault_text why) place text c.push-in-Template.ensures)
+    (line_pushed (codes "line ") c.in-Template.place 56 (codes "template " ∷ decimal (template_report why).0 ∷ codes " " ∷ (template_report why).1) place text c.push-in-Template.ensures)

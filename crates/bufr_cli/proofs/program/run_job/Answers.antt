@@ -1,5 +1,5 @@
 use Rattle.std.proofs.Common.{◌≡◌, refl, sym, subst}
-use Rattle.bufr_cli.specs.Prelude.{Writers, ByTables, CommandOutcome, Known, NoTables, RunsJob}
+use Rattle.bufr_cli.specs.Prelude.{Writers, ByTables, CommandOutcome, Known, NoTables}
 use Rattle.bufr_cli.specs.declared.job.Job.{Job}
 use Rattle.bufr_cli.specs.declared.job.Subcommand.{Subcommand}
 use Rattle.bufr_cli.specs.declared.outcome.Outcome.{Outcome}
@@ -8,7 +8,7 @@ use Rattle.bufr_cli.proofs.program.run_job.Goals as goal
 
 -- what comes of the command that a job has
 job-runs : (inputs : Known) (job : Job) (command : Subcommand) (before after : Writers) (outcome : Outcome) → job.command ≡ command → CommandOutcome inputs command job.file before after outcome
-    → RunsJob inputs job before after outcome
+    → CommandOutcome inputs job.command job.file before after outcome
 job-runs inputs job command before after outcome is comes = subst (λ command. CommandOutcome inputs command job.file before after outcome) (sym is) comes
 
 pub returns-in-Ls : goal.returns-in-Ls

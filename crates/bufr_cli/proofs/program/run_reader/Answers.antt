@@ -6,5 +6,4 @@ use Rattle.bufr_cli.proofs.program.run_reader.Goals as goal
 pub returns : goal.returns
 returns g c =
     ends-run (IsOfCommand c.args.command) _ _ _ _ _ _ c.run_command-ran.result c.flush_rest.result
-    c.run_command-ran.ensures.run c.run_command-ran.ensures.flushed c.run_command-ran.ensures.input c.run_command-ran.ensures.writers
-    c.flush_rest.ensures.same c.flush_rest.ensures.rest refl (search rules)
+    c.run_command-ran.ensures c.flush_rest.ensures.same c.flush_rest.ensures.rest refl (search rules)

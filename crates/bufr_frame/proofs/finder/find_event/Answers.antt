@@ -1,7 +1,16 @@
-use Rattle.std.proofs.Common.{◌≡◌, ◌∙◌, ℕ, ◌-◌, ◌<◌, List, length, drop, max, arith, ap, sym, subst, lit≤}
-use Rattle.bufr_frame.specs.Prelude.{IsIncomplete, length_here}
-use Rattle.bufr_frame.proofs.ScanLemmas.{none-so, none-stated, end-so, found-at-end, found-whole, open-so}
+use Rattle.std.proofs.Common.{◌≡◌, ◌∙◌, ℕ, ◌-◌, ◌<◌, ◌≤◌, ◌^◌, take, List, length, drop, arith, ap, sym, subst, lit≤}
+use Rattle.std.proofs.lemmas.List.{take_rest}
+use Rattle.bufr_frame.specs.Prelude.{IsIncomplete, IsStatedLength, length_here, stated_length}
+use Rattle.bufr_frame.proofs.ScanLemmas.{none-so, none-stated, end-so, found-at-end, found-whole, length-eight, open-so, short-here}
+use Rattle.bufr_frame.proofs.finder.find_event.Goals.{then-m-lt-SECTION_0, else-m-lt-SECTION_0, else-not-ended-via-then-not-ended+else-m-max, else-not-ended-via-else-not-ended}
 use Rattle.bufr_frame.proofs.finder.find_event.Goals as goal
+
+-- the length that is stated there
+short : (s : List ℕ) (place size : ℕ) → length (take (length s - place) (drop place s)) < 8 → size ≡ 0 → IsStatedLength (drop place s) size
+short s place size few is = (is ∙ sym (short-here (drop place s) (omega (arith, few, ap length (take_rest s place)))), omega (arith, is))
+
+long : (s : List ℕ) (place size : ℕ) → 8 ≤ length (take (length s - place) (drop place s)) → size ≡ stated_length (take (length s - place) (drop place s)) → size < 2 ^ 24 → IsStatedLength (drop place s) size
+long s place size enough is most = (is ∙ ap stated_length (take_rest s place) ∙ sym (length-eight (drop place s) (omega (arith, enough, ap length (take_rest s place)))), most)
 
 pub returns-then-ended : goal.returns-then-ended
 returns-then-ended c = (c.if-ended.true, end-so c.args.rest.now c.in_default.ensures)
@@ -13,17 +22,24 @@ returns-in_default c =
     let Z : ℕ → Type 0 = λ k. 0 ≡ length_here (drop (length c.args.rest.now - k) c.args.rest.now) in
     (c.if-ended.false, subst K (sym c.min.ensures) (none-so c.args.rest.now found), (subst Z (sym c.min.ensures) (none-stated c.args.rest.now), lit≤ tt))
 
-pub returns-then-ended-2 : goal.returns-then-ended-2
-returns-then-ended-2 c = (found-at-end _ _ _ _ _ c.in-Some.ensures c.if-ended-2.true c.suffix-m.ensures c.classify.ensures, (c.len_here-stated_length.ensures.value ∙ ap length_here c.suffix-m.ensures, c.len_here-stated_length.ensures.most))
-
 pub returns-then-m-max : goal.returns-then-m-max
 returns-then-m-max c =
-    let is = c.len_here-stated_length.ensures.value ∙ ap length_here c.suffix-m.ensures in
-    let F : List ℕ → Type 0 = λ l. length l < max 8 c.len_here-stated_length.result in
-    (c.if-ended-2.false, open-so _ _ _ c.in-Some.ensures is (subst F c.suffix-m.ensures (omega (arith, c.if-m-max.true, c.max.ensures))), (is, c.len_here-stated_length.ensures.most))
+    let is : IsStatedLength (drop c.in-Some.place c.args.rest.now) c.if-m-lt-SECTION_0.stated_length = elim c.if-m-lt-SECTION_0.branch [
+      | then-m-lt-SECTION_0 w ↦ short c.args.rest.now c.in-Some.place _ w.if-m-lt-SECTION_0.true w.stated_length-is
+      | else-m-lt-SECTION_0 w ↦ long c.args.rest.now c.in-Some.place _ w.if-m-lt-SECTION_0.false (w.stated_length-is ∙ w.u24_from-stated_length.ensures.value) (omega (arith, w.stated_length-is, w.u24_from-stated_length.ensures.most))
+    ] in
+    (c.if-not-ended.true, open-so _ _ _ c.in-Some.ensures is.0 (omega (arith, c.if-m-max.true, c.max.ensures, ap length (take_rest c.args.rest.now c.in-Some.place))), is)
 
 pub returns : goal.returns
-returns c = (
-  found-whole _ _ _ _ _ _ c.in-Some.ensures c.len_here-stated_length.ensures.value (omega (arith, c.if-m-max.false, c.max.ensures)) (omega (arith, c.if-m-max.false, c.max.ensures)) c.suffix-m.ensures c.classify-2.ensures,
-  (c.len_here-stated_length.ensures.value ∙ ap length_here c.suffix-m.ensures, c.len_here-stated_length.ensures.most),
-)
+returns c =
+    let is : IsStatedLength (drop c.in-Some.place c.args.rest.now) c.if-m-lt-SECTION_0.stated_length = elim c.if-m-lt-SECTION_0.branch [
+      | then-m-lt-SECTION_0 w ↦ short c.args.rest.now c.in-Some.place _ w.if-m-lt-SECTION_0.true w.stated_length-is
+      | else-m-lt-SECTION_0 w ↦ long c.args.rest.now c.in-Some.place _ w.if-m-lt-SECTION_0.false (w.stated_length-is ∙ w.u24_from-stated_length.ensures.value) (omega (arith, w.stated_length-is, w.u24_from-stated_length.ensures.most))
+    ] in
+    let same = take_rest c.args.rest.now c.in-Some.place in (
+      elim c.else-not-ended.branch [
+        | else-not-ended-via-then-not-ended+else-m-max w ↦ found-whole _ _ _ _ _ _ c.in-Some.ensures (is.0 ∙ ap length_here (sym same)) (omega (arith, w.if-m-max.false, w.max.ensures)) (omega (arith, w.if-m-max.false, w.max.ensures)) same c.classify.ensures
+        | else-not-ended-via-else-not-ended w ↦ found-at-end _ _ _ _ _ c.in-Some.ensures w.if-not-ended.false same c.classify.ensures
+      ],
+      is,
+    )

@@ -1,23 +1,40 @@
-use Rattle.std.proofs.Common.{◌≤◌, ℕ, List, Option, None, Some, arith, codes, length, subst, sym}
-use Rattle.memchr.specs.Find.{FindsNeedle, Nowhere, OccursAt}
-use Rattle.bufr_frame.proofs.ScanLemmas.{found-after, none-after}
+use Rattle.std.proofs.Common.{rules, eqb, take, drop, ◌-◌, ◌≡◌, ◌∙◌, ℕ, List, Option, None, Some, arith, ap, codes, length, subst, sym}
+use Rattle.std.proofs.lemmas.List.{take_rest}
+use Rattle.std.specs.List.{starts_with}
+use Rattle.memchr.specs.Find.{FindsNeedle}
+use Rattle.bufr_frame.specs.Prelude.{has_word_at}
+use Rattle.bufr_frame.proofs.ScanLemmas.{absent-there, first-there, found-after, none-after, nowhere-more}
 use Rattle.bufr_frame.proofs.finder.find_word.Goals as goal
+
+-- the octets from an index on, and what the code asks of them
+abbrev rest-from : (s : List ℕ) (place : ℕ) → List ℕ
+rest-from s place = take (length s - place) (drop place s)
+
+begins : (m : List ℕ) → starts_with eqb m (codes "BUFR") ≡ has_word_at (codes "BUFR") 0 m
+begins m = search rules
+
+pub returns-then-starts_with : goal.returns-then-starts_with
+returns-then-starts_with c =
+    first-there c.args.rest.now c.places.place c.places.invariant
+    (sym (ap (has_word_at (codes "BUFR") 0) (take_rest c.args.rest.now c.places.place)) ∙ sym (begins (rest-from c.args.rest.now c.places.place)) ∙ sym c.starts_with.ensures.value ∙ c.if-starts_with.true)
+
+pub places-preserved : goal.places-preserved
+places-preserved c =
+    nowhere-more c.args.rest.now c.places.place c.places.invariant
+    (absent-there c.args.rest.now (rest-from c.args.rest.now c.places.place) c.places.place c.starts_with.result (take_rest c.args.rest.now c.places.place) (c.starts_with.ensures.value ∙ begins (rest-from c.args.rest.now c.places.place)) c.if-starts_with.false)
 
 pub returns-in_err-place : goal.returns-in_err-place
 returns-in_err-place c =
     let R : Option ℕ → Type 0 = λ r. FindsNeedle c.args.rest.now (codes "BUFR") 0 r in
-    let F : List ℕ → Type 0 = λ w. FindsNeedle c.suffix.result.now w 0 None in
-    let N : ℕ → Type 0 = λ n. Nowhere (OccursAt c.args.rest.now (codes "BUFR")) 0 n in
-    let within : c.min-near.result ≤ length c.args.rest.now = omega (arith, c.min-near.ensures) in
+    let F : List ℕ → Type 0 = λ w. FindsNeedle (rest-from c.args.rest.now c.min-near.result) w 0 None in
     subst R (sym c.from_residual.ensures)
-    (none-after c.args.rest.now c.suffix.result.now c.min-near.result c.suffix.ensures within
-    (subst N (sym c.min-near.ensures) c.in_default.ensures)
+    (none-after c.args.rest.now (rest-from c.args.rest.now c.min-near.result) c.min-near.result (take_rest c.args.rest.now c.min-near.result) (omega (arith, c.min-near.ensures))
+    (λ k low below. c.places.invariant k low (omega (arith, c.places-test.false)))
     (subst F c.requires c.in_err-place.ensures))
 
 pub returns : goal.returns
 returns c =
-    let F : List ℕ → Type 0 = λ w. FindsNeedle c.suffix.result.now w 0 (Some c.in_ok-place.place) in
-    let N : ℕ → Type 0 = λ n. Nowhere (OccursAt c.args.rest.now (codes "BUFR")) 0 n in
-    found-after c.args.rest.now c.suffix.result.now c.min-near.result c.in_ok-place.place c.suffix.ensures
-    (subst N (sym c.min-near.ensures) c.in_default.ensures)
+    let F : List ℕ → Type 0 = λ w. FindsNeedle (rest-from c.args.rest.now c.min-near.result) w 0 (Some c.in_ok-place.place) in
+    found-after c.args.rest.now (rest-from c.args.rest.now c.min-near.result) c.min-near.result c.in_ok-place.place (take_rest c.args.rest.now c.min-near.result)
+    (λ k low below. c.places.invariant k low (omega (arith, c.places-test.false)))
     (subst F c.requires c.in_ok-place.ensures)

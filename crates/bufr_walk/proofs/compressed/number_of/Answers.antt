@@ -1,5 +1,5 @@
-use Rattle.std.proofs.Common.{◌≡◌, ℕ, ◌+◌, ◌*◌, ◌^◌, ◌<◌, ◌≤◌, List, false, true, length, take, drop, arith, sym, ◌∙◌, ap, subst}
-use Rattle.bufr_bits.specs.Prelude.{bits_of, octets_of, number_of}
+use Rattle.std.proofs.Common.{◌≡◌, ℕ, ◌+◌, ◌*◌, ◌^◌, ◌<◌, ◌≤◌, List, false, true, length, arith, sym, ◌∙◌, ap}
+use Rattle.bufr_bits.specs.Prelude.{bits_of, octets_of}
 use Rattle.bufr_tables.specs.Prelude.{is_character}
 use Rattle.bufr_walk.specs.Prelude.{IndexedItem, fits_at}
 use Rattle.std.proofs.Math.Nat.{pow-le-pow_right}
@@ -41,8 +41,7 @@ overflow_add-place-2 c =
 
 pub overflow_add-place-3 : goal.overflow_add-place-3
 overflow_add-place-3 c =
-    let r = reach (octets_of c.args.pack.now.bits) c.args.pack.now.subsets c.args.item.now c.args.subset _ _ _ _ c.requires.fits (omega (arith, c.if-item-eq0.false)) c.requires.subset c.requires.number (c.from.ensures ∙ c.width-width.ensures.value) c.from-2.ensures c.from-3.ensures c.from-k.ensures in
-    omega (arith, r)
+    omega (arith, reach (octets_of c.args.pack.now.bits) c.args.pack.now.subsets c.args.item.now c.args.subset _ _ _ _ c.requires.fits (omega (arith, c.if-item-eq0.false)) c.requires.subset c.requires.number (c.from.ensures ∙ c.width-width.ensures.value) c.from-2.ensures c.from-3.ensures c.from-k.ensures)
 
 pub number_at-increment-requires-clause-within : goal.number_at-increment-requires-clause-within
 number_at-increment-requires-clause-within c =
@@ -63,8 +62,7 @@ returns-then-not-may_be_missing-clause-value c =
     let octets = octets_of c.args.pack.now.bits in
     let item = c.args.item.now in
     let some : 1 ≤ item.step = omega (arith, c.if-item-eq0.false) in
-    let more = subst (λ k. c.number_at-increment.result ≡ number_of (take k (drop (c.args.subset * k) (drop (item.at + (item.spec.width + 6)) (bits_of octets))))) c.from-k.ensures
-    (increment_at octets item.at item.spec.width c.from-k.result c.args.subset _ _ _ c.number_at-increment.result (c.from.ensures ∙ c.width-width.ensures.value) c.from-2.ensures c.from-3.ensures c.number_at-increment.ensures.value) in
+    let more = increment_at octets item.at item.spec.width c.from-k.result item.step c.args.subset _ _ _ c.number_at-increment.result (c.from.ensures ∙ c.width-width.ensures.value) c.from-2.ensures c.from-3.ensures c.from-k.ensures c.number_at-increment.ensures.value in
     (kept_never octets c.args.pack.now.subsets item c.args.subset c.number_at-increment.result c.requires.fits some c.requires.subset c.requires.number more (sym c.may_be_missing-may_be_missing.ensures ∙ c.if-not-may_be_missing.true)).0
 
 pub returns-then-not-may_be_missing-clause-below : goal.returns-then-not-may_be_missing-clause-below
@@ -72,8 +70,7 @@ returns-then-not-may_be_missing-clause-below c =
     let octets = octets_of c.args.pack.now.bits in
     let item = c.args.item.now in
     let some : 1 ≤ item.step = omega (arith, c.if-item-eq0.false) in
-    let more = subst (λ k. c.number_at-increment.result ≡ number_of (take k (drop (c.args.subset * k) (drop (item.at + (item.spec.width + 6)) (bits_of octets))))) c.from-k.ensures
-    (increment_at octets item.at item.spec.width c.from-k.result c.args.subset _ _ _ c.number_at-increment.result (c.from.ensures ∙ c.width-width.ensures.value) c.from-2.ensures c.from-3.ensures c.number_at-increment.ensures.value) in
+    let more = increment_at octets item.at item.spec.width c.from-k.result item.step c.args.subset _ _ _ c.number_at-increment.result (c.from.ensures ∙ c.width-width.ensures.value) c.from-2.ensures c.from-3.ensures c.from-k.ensures c.number_at-increment.ensures.value in
     let most = (kept_never octets c.args.pack.now.subsets item c.args.subset c.number_at-increment.result c.requires.fits some c.requires.subset c.requires.number more (sym c.may_be_missing-may_be_missing.ensures ∙ c.if-not-may_be_missing.true)).1 in
     let low = (kept_number octets c.args.pack.now.subsets item c.requires.fits c.requires.number).1 in
     omega (arith, most, low)
@@ -83,8 +80,7 @@ returns-then-increment-k-clause-value c =
     let octets = octets_of c.args.pack.now.bits in
     let item = c.args.item.now in
     let some : 1 ≤ item.step = omega (arith, c.if-item-eq0.false) in
-    let more = subst (λ k. c.number_at-increment.result ≡ number_of (take k (drop (c.args.subset * k) (drop (item.at + (item.spec.width + 6)) (bits_of octets))))) c.from-k.ensures
-    (increment_at octets item.at item.spec.width c.from-k.result c.args.subset _ _ _ c.number_at-increment.result (c.from.ensures ∙ c.width-width.ensures.value) c.from-2.ensures c.from-3.ensures c.number_at-increment.ensures.value) in
+    let more = increment_at octets item.at item.spec.width c.from-k.result item.step c.args.subset _ _ _ c.number_at-increment.result (c.from.ensures ∙ c.width-width.ensures.value) c.from-2.ensures c.from-3.ensures c.from-k.ensures c.number_at-increment.ensures.value in
     let all = all_ones _ _ c.width-width.ensures.value (c.width-width.ensures.narrow c.requires.number) in
     elim c.then-increment-k.branch [
       | then-increment-k-via-then-increment-k w ↦ kept_last octets c.args.pack.now.subsets item c.args.subset c.number_at-increment.result c.requires.fits some c.requires.subset c.requires.number more (sym c.may_be_missing-may_be_missing.ensures ∙ c.if-not-may_be_missing.false) (w.if-increment-k.true ∙ all_ones _ _ c.from-k.ensures (step_small (bits_of octets) c.args.pack.now.subsets item c.requires.fits))
@@ -96,7 +92,6 @@ returns-clause-value c =
     let octets = octets_of c.args.pack.now.bits in
     let item = c.args.item.now in
     let some : 1 ≤ item.step = omega (arith, c.if-item-eq0.false) in
-    let more = subst (λ k. c.number_at-increment.result ≡ number_of (take k (drop (c.args.subset * k) (drop (item.at + (item.spec.width + 6)) (bits_of octets))))) c.from-k.ensures
-    (increment_at octets item.at item.spec.width c.from-k.result c.args.subset _ _ _ c.number_at-increment.result (c.from.ensures ∙ c.width-width.ensures.value) c.from-2.ensures c.from-3.ensures c.number_at-increment.ensures.value) in
+    let more = increment_at octets item.at item.spec.width c.from-k.result item.step c.args.subset _ _ _ c.number_at-increment.result (c.from.ensures ∙ c.width-width.ensures.value) c.from-2.ensures c.from-3.ensures c.from-k.ensures c.number_at-increment.ensures.value in
     let all = all_ones _ _ c.width-width.ensures.value (c.width-width.ensures.narrow c.requires.number) in
     kept_some octets c.args.pack.now.subsets item c.args.subset c.number_at-increment.result c.requires.fits some c.requires.subset c.requires.number more (λ e. c.if-increment-k.false (e ∙ sym (all_ones _ _ c.from-k.ensures (step_small (bits_of octets) c.args.pack.now.subsets item c.requires.fits)))) (omega (arith, c.if-sum-width.false, all))

@@ -19,7 +19,7 @@ pub returns-in-Err-clause-fault : goal.returns-in-Err-clause-fault
 returns-in-Err-clause-fault c =
     let course = next_item c.args.cache.now c.args.template.now in
     let within = subst (λ (s : Cursor). s.at ≤ length s.bits) c.fields.view_is c.fields.invariant in
-    rw c.plain_fault.ensures (stopped (places c.args.template.now) course (octets_of c.args.bits) c.subsets.done c.args.subsets c.subsets.fields c.walk_by-outcome.new.fields c.subsets.steps c.walk_by-outcome.new.steps _ c.subsets.invariant.1 c.subsets-test.true
+    rw c.fault_at.ensures (stopped (places c.args.template.now) course (octets_of c.args.bits) c.subsets.done c.args.subsets c.subsets.fields c.walk_by-outcome.new.fields c.subsets.steps c.walk_by-outcome.new.steps _ c.subsets.invariant.1 c.subsets-test.true
     (pass_stops course _ _ _ _ (c.subsets.done + 1) c.fields.inside.at c.in-Err.why (ap (λ (s : Cursor). s.at) c.fields.view_is) (rw c.subsets.invariant.0 at c.in-Err.ensures.walked)) within)
 
 pub returns-in-Err-clause-refused : goal.returns-in-Err-clause-refused
@@ -27,5 +27,5 @@ returns-in-Err-clause-refused c =
     let course = next_item c.args.cache.now c.args.template.now in
     let walked = rw c.subsets.invariant.0 at c.in-Err.ensures.walked in
     let within = subst (λ (s : Cursor). s.at ≤ length s.bits) c.fields.view_is c.fields.invariant in
-    rw c.plain_fault.ensures (few_stopped (places c.args.template.now) course (bits_of (octets_of c.args.bits)) c.subsets.done c.subsets.fields c.walk_by-outcome.new.fields c.subsets.steps c.walk_by-outcome.new.steps (c.subsets.done + 1) _ c.subsets.invariant.1
+    rw c.fault_at.ensures (few_stopped (places c.args.template.now) course (bits_of (octets_of c.args.bits)) c.subsets.done c.subsets.fields c.walk_by-outcome.new.fields c.subsets.steps c.walk_by-outcome.new.steps (c.subsets.done + 1) _ c.subsets.invariant.1
     (pass_stops course _ _ _ _ (c.subsets.done + 1) c.fields.inside.at c.in-Err.why (ap (λ (s : Cursor). s.at) c.fields.view_is) walked) c.in-Err.ensures.refused within (walk_forth course c.subsets.fields c.walk_by-outcome.new.fields c.subsets.steps c.walk_by-outcome.new.steps (Err c.in-Err.why) walked))

@@ -1,22 +1,23 @@
+use Rattle.std.proofs.Common.{rules, false}
 use Rattle.std.proofs.lemmas.Result.{err_from_is_err_and}
-use Rattle.bufr_tables.specs.Prelude.{trees_of_cells, tables_of, builder_model}
+use Rattle.bufr_tables.specs.Prelude.{trees_of_cells, tables_of, builder_model, growth}
 use Rattle.bufr_tables.proofs.SoundLemmas.{tree_says, tree_fine, whole-fault, whole-empty, whole-ok, whole-built, IsBuilt}
 use Rattle.bufr_tables.proofs.template.Template.build.Goals as goal
 
 pub returns-in_err-list-clause-fault : goal.returns-in_err-list-clause-fault
 returns-in_err-list-clause-fault c =
     let p = err_from_is_err_and c.from_residual-in_err-list.result c.from_residual-in_err-list.ensures.1 in
-    rw (p.1, p.2) (whole-fault (tables_of c.args.table_b.now c.args.table_d.now) c.args.descriptors.now (builder_model c.in_ok-growing.growing) _ c.in_ok-growing.ensures.ok c.in_err-list.ensures)
+    rw (p.1, p.2) (whole-fault (tables_of c.args.table_b.now c.args.table_d.now) c.args.descriptors.now (growth c.in_ok-cells.cells.items 0 0 false) _ (search rules) c.in_err-list.ensures)
 
 pub returns-then-not-growing-clause-fault : goal.returns-then-not-growing-clause-fault
 returns-then-not-growing-clause-fault c = λ other.
-    whole-empty (tables_of c.args.table_b.now c.args.table_d.now) c.args.descriptors.now (builder_model c.in_ok-growing.growing) (builder_model c.list.new.growing) c.first_of.result c.in_ok-growing.ensures.ok c.in_ok-list.ensures c.if-not-growing.true c.first_of.ensures
+    whole-empty (tables_of c.args.table_b.now c.args.table_d.now) c.args.descriptors.now (growth c.in_ok-cells.cells.items 0 0 false) (builder_model c.list.new.growing) _ (search rules) c.in_ok-list.ensures c.if-not-growing.true (search rules)
 
 -- what has been built
 built : (c : goal.In_ok-push_cell) → IsBuilt (tables_of c.args.table_b.now c.args.table_d.now) c.args.descriptors.now c.push_cell.new.cells.items c.list.new.growing.depth
 built c =
     whole-built (tables_of c.args.table_b.now c.args.table_d.now) c.args.descriptors.now (builder_model c.list.new.growing) c.push_cell.new.cells.items
-    (whole-ok (tables_of c.args.table_b.now c.args.table_d.now) c.args.descriptors.now (builder_model c.in_ok-growing.growing) (builder_model c.list.new.growing) c.in_ok-growing.ensures.ok c.in_ok-list.ensures c.if-not-growing.false)
+    (whole-ok (tables_of c.args.table_b.now c.args.table_d.now) c.args.descriptors.now (growth c.in_ok-cells.cells.items 0 0 false) (builder_model c.list.new.growing) (search rules) c.in_ok-list.ensures c.if-not-growing.false)
     c.in_ok-push_cell.ensures.ok c.list.new.growing.within
 
 pub invariant_of-result : goal.invariant_of-result

@@ -1,0 +1,288 @@
+-- The writers of data, compressed or not; the rows of all subsets, and the k that is found.
+-- (A choice of this project)
+-- Cited by public contracts.
+use Rattle.std.specs.Prelude.{ℕ, ◌≡◌, ◌≤◌, ◌<◌, ◌*◌, ◌^◌, Bool, List, [], ◌∷◌, ◌++◌, length, Option, Some, None, Result, Ok, Err, ◌+◌, ◌-◌, suc, ◌==◌, ◌&&◌, nat_lt, max, min, if◌then◌else◌, take}
+use Rattle.bufr_walk.specs.declared.spec.Taken.{Taken}
+use Rattle.bufr_walk.specs.Prelude.{FieldSpec, Content, answer_of, bits_for, Next, take_next, at_end, astray, refused, FieldFault, answer_first, max_values}
+use Rattle.bufr_fill.specs.Draft.{DraftFault, Draft, DraftEntry, Holds, Ends, DraftFaultKind, FaultAt, at_line, item_too_many, walk_refused, draft_fault, Subset, content_of, wrong_for, FieldContent, raw_limit, content_drawn, IsDrawn}
+use Rattle.bufr_fill.specs.declared.fault.DraftFault.{DraftFault}
+use Rattle.bufr_fill.specs.Encoding.{written_item, RowCell, ItemRow, rows, longest, item_row, cells_at, first_line, pack_across, content_here, contents_here, first_from, Taken}
+use Rattle.std.specs.List.{list_all, AllByRecursion}
+use Rattle.bufr_fill.specs.declared.packed_out.NumberRange.{NumberRange}
+use Rattle.bufr_fill.specs.declared.field_value.FieldContent.TheVariants as drawn
+
+-- the writer: the entries that are left, and the bits that were written
+pub record PlainOutModel : Type 0 where
+  pub left : List DraftEntry
+  pub bits : List Bool
+
+-- a writer from its parts
+abbrev pub plain_out_model : List DraftEntry → List Bool → PlainOutModel
+plain_out_model left bits = record { left = left; bits = bits }
+
+-- what holds of a writer: `place` of `count` entries were taken, each for at most 2,040 bits
+pub record IsPlainOut (place count bits : ℕ) : Type 0 where
+  pub within : place ≤ count
+  pub few : count ≤ 2 ^ 45
+  pub room : bits ≤ 2040 * place
+
+-- the next item is that of the field, and was written
+pub record IsFilled (s : PlainOutModel) (spec : FieldSpec) (t : Taken)
+    (s' : PlainOutModel) : Type 0 where
+  pub draft : Draft
+  pub content : Content
+  pub here : s.left ≡ Holds draft ∷ s'.left
+  pub is : content_of spec draft ≡ Ok content
+  pub gives : t ≡ answer_of spec content
+  pub bits : s'.bits ≡ s.bits ++ bits_for spec.width content
+  pub forth : length s.bits < length s'.bits
+
+-- the fault of the next item, or of the line that ends the subset, which is 0 after the last
+abbrev pub IsFaultOf : FieldSpec → List DraftEntry → FaultAt → Type 0
+IsFaultOf spec [] f = f ≡ at_line 0 (wrong_for spec)
+IsFaultOf spec (Ends line ∷ more) f = f ≡ at_line line (wrong_for spec)
+IsFaultOf spec (Holds d ∷ more) f =
+    (why : DraftFaultKind) × (content_of spec d ≡ Err why) × (f ≡ at_line d.line why)
+
+-- a property of the fault, where it is one of the dump text and not that memory ran out
+abbrev pub IfDraftFault : Option FaultAt → (FaultAt → Type 0) → Type 0
+IfDraftFault None p = Unit {0}
+IfDraftFault (Some f) p = p f
+
+-- one call: the next item was written, or is at fault, or memory ran out; a fault changes nothing
+abbrev pub PlainFills : PlainOutModel → FieldSpec → Result Taken DraftFault → PlainOutModel → Type 0
+PlainFills s spec (Ok t) s' = IsFilled s spec t s'
+PlainFills s spec (Err e) s' = IfDraftFault (draft_fault e) (IsFaultOf spec s.left) × (s' ≡ s)
+
+-- the line of the next entry, 0 after the last
+abbrev pub line_at : List DraftEntry → ℕ
+line_at [] = 0
+line_at (Holds d ∷ more) = d.line
+line_at (Ends line ∷ more) = line
+
+-- the entries after the end of a subset, where the end is next
+abbrev pub after_end : List DraftEntry → Result (List DraftEntry) FaultAt
+after_end [] = Err (at_line 0 item_too_many)
+after_end (Holds d ∷ more) = Err (at_line d.line item_too_many)
+after_end (Ends line ∷ more) = Ok more
+
+-- the end of a subset was passed, or an item is next
+abbrev pub EndsSubset : PlainOutModel → Result (Unit {0}) DraftFault → PlainOutModel → Type 0
+EndsSubset s (Ok _) s' = (after_end s.left ≡ Ok s'.left) × (s'.bits ≡ s.bits)
+EndsSubset s (Err e) s' =
+    ((f : FaultAt) × (draft_fault e ≡ Some f) × (after_end s.left ≡ Err f)) × (s' ≡ s)
+
+-- the fault by what comes next: of the item, of the walk on its line, or of an item left over
+abbrev pub IsFaultNext : Next → List DraftEntry → FaultAt → Type 0
+IsFaultNext (take_next spec) left f = IsFaultOf spec left f
+IsFaultNext (refused why) left f = f ≡ at_line (line_at left) (walk_refused why)
+IsFaultNext at_end left f = (1 ≤ length left) × (after_end left ≡ Err f)
+IsFaultNext astray left f = ⊥
+
+-- the items of the next subset
+abbrev pub items_left : List DraftEntry → List Draft
+items_left [] = []
+items_left (Holds d ∷ more) = d ∷ items_left more
+items_left (Ends line ∷ more) = []
+
+-- the line that ends the next subset; after the last subset it is 0
+abbrev pub end_left : List DraftEntry → ℕ
+end_left [] = 0
+end_left (Holds d ∷ more) = end_left more
+end_left (Ends line ∷ more) = line
+
+-- the writer: the subsets, how many items of each were taken, and the bits that were written
+pub record PackedOutModel : Type 0 where
+  pub subsets : List Subset
+  pub place : ℕ
+  pub bits : List Bool
+
+-- a writer that has written nothing
+abbrev pub new_packed_out : List Subset → PackedOutModel
+new_packed_out subsets = record { subsets = subsets; place = 0; bits = [] }
+
+-- a writer for these subsets, where there is one at least
+abbrev pub StartsPackedOut : List Subset → Option PackedOutModel → Type 0
+StartsPackedOut subsets None = subsets ≡ []
+StartsPackedOut subsets (Some s) = s ≡ new_packed_out subsets
+
+-- the indices of the ends among entries, the first of which has index `from`
+abbrev pub ends_of : (from : ℕ) → List DraftEntry → List ℕ
+ends_of from [] = []
+ends_of from (Holds d ∷ more) = ends_of (from + 1) more
+ends_of from (Ends line ∷ more) = from ∷ ends_of (from + 1) more
+
+-- what holds of a writer: the ends of its subsets, and bounds on its bits and values
+pub record IsPackedOut (entries : List DraftEntry) (ends : List ℕ) (place bits : ℕ) : Type 0 where
+  pub few : length entries ≤ 2 ^ 45
+  pub ends_are : ends ≡ ends_of 0 entries
+  pub some : 1 ≤ length ends
+  pub room : bits ≤ 2550 * (place * length ends)
+  pub values : place * length ends ≤ max_values
+
+-- the item of all subsets in a row was written after the bits before
+pub record IsPutAcross (old new : List Bool) (spec : FieldSpec) (a : ItemRow)
+    (t : Taken) : Type 0 where
+  pub contents : List Content
+  pub item : List Bool
+  pub is : pack_across spec a ≡ Ok (written_item contents item)
+  pub gives : t ≡ answer_first spec contents
+  pub bits : new ≡ old ++ item
+  pub forth : length old < length new
+
+-- the next item of all subsets was written
+pub record IsPacked (s : PackedOutModel) (spec : FieldSpec) (t : Taken)
+    (s' : PackedOutModel) : Type 0 where
+  pub put : IsPutAcross s.bits s'.bits spec (item_row s.place s.subsets) t
+  pub place : s'.place ≡ s.place + 1
+  pub subsets : s'.subsets ≡ s.subsets
+
+-- one call: the next item was packed, or is at fault, or memory ran out; a fault changes nothing
+abbrev pub PackedFills : PackedOutModel → FieldSpec → Result Taken DraftFault → PackedOutModel
+    → Type 0
+PackedFills s spec (Ok t) s' = IsPacked s spec t s'
+PackedFills s spec (Err e) s' =
+    IfDraftFault (draft_fault e) (λ f. pack_across spec (item_row s.place s.subsets) ≡ Err f)
+    × (s' ≡ s)
+
+-- the end of a cell, or the fault of an item that is left over
+abbrev pub and_end : Option Draft → Result (Unit {0}) FaultAt → Result (Unit {0}) FaultAt
+and_end None rest = rest
+and_end (Some d) rest = Err (at_line d.line item_too_many)
+
+-- whether all subsets end, or the first item that is left over
+abbrev pub all_at_end : List RowCell → Result (Unit {0}) FaultAt
+all_at_end [] = Ok tt
+all_at_end (c ∷ cells) = and_end c.draft (all_at_end cells)
+
+-- a call finds that all subsets end, or the first item that is left over
+abbrev pub EndsAllSubsets : (place : ℕ) → List Subset → Result (Unit {0}) DraftFault → Type 0
+EndsAllSubsets place subsets (Ok _) = all_at_end (cells_at place subsets) ≡ Ok tt
+EndsAllSubsets place subsets (Err e) =
+    (f : FaultAt) × (draft_fault e ≡ Some f) × (all_at_end (cells_at place subsets) ≡ Err f)
+
+-- the line of the first subset's next item, or of its end
+abbrev pub first_line_at : (place : ℕ) → List Subset → ℕ
+first_line_at place subsets = first_line (cells_at place subsets)
+
+-- the rows that are left
+abbrev pub rows_left : PackedOutModel → List ItemRow
+rows_left s = rows (longest s.subsets - s.place) s.place s.subsets
+
+-- the fault by what comes next: of the item, of the walk on its line, or of an item left over
+abbrev pub IsFaultHere : Next → PackedOutModel → FaultAt → Type 0
+IsFaultHere (take_next spec) s f = pack_across spec (item_row s.place s.subsets) ≡ Err f
+IsFaultHere (refused why) s f = f ≡ at_line (first_line_at s.place s.subsets) (walk_refused why)
+IsFaultHere at_end s f = all_at_end (cells_at s.place s.subsets) ≡ Err f
+IsFaultHere astray s f = ⊥
+
+-- ---- How the code finds the least k of an item, and what it writes.
+
+-- the number of a content, or another where it is none
+abbrev pub number_or : (other : ℕ) → FieldContent → ℕ
+number_or other (drawn.Number n) = n
+number_or other _ = other
+
+-- an increment over a base
+abbrev pub over_of : (base : ℕ) → FieldContent → ℕ
+over_of base (drawn.Number n) = n - base
+over_of base _ = 0
+
+-- the greatest increment over a base
+abbrev pub spread : (base : ℕ) → List FieldContent → ℕ
+spread base [] = 0
+spread base (d ∷ ds) = max (over_of base d) (spread base ds)
+
+-- the least number, or the greatest of 64 bits
+abbrev pub least_number : List FieldContent → ℕ
+least_number [] = 18446744073709551615
+least_number (d ∷ ds) = min (number_or 18446744073709551615 d) (least_number ds)
+
+-- the least k from some k on, under 64, whose bits write an increment, else 64
+unfoldable pub least_from : (may_be_missing : Bool) (spread from : ℕ) → ℕ
+least_from m spread from = first_from (λ k. nat_lt spread (raw_limit m k)) (64 - from) from
+
+-- how many octets of a text come before the spaces at its end
+abbrev pub trimmed : List ℕ → ℕ
+trimmed [] = 0
+trimmed (o ∷ os) = if (trimmed os == 0) && (o == 32) then 0 else suc (trimmed os)
+
+-- how many octets determine a text: those before its last spaces, one more where all are 255
+abbrev pub need : List ℕ → ℕ
+need os =
+    if list_all (λ octet. octet == 255) (take (trimmed os) os) then suc (trimmed os) else trimmed os
+
+-- how many octets determine a content
+abbrev pub need_of : FieldContent → ℕ
+need_of (drawn.Text octets) = need octets.now
+need_of _ = 1
+
+-- how many octets determine each of the contents
+abbrev pub most_need : List FieldContent → ℕ
+most_need [] = 1
+most_need (d ∷ ds) = max (need_of d) (most_need ds)
+
+-- an item was packed in at most `most` bits, or memory ran out
+abbrev pub PacksItem : (old new : List Bool) → (expected : Result (List Bool) FieldFault)
+    → (most : ℕ) → {E : Type 0} → Result (Unit {0}) E → Type 0
+PacksItem old new expected most (Ok _) =
+    (bits : List Bool) × (expected ≡ Ok bits) × (new ≡ old ++ bits) × (length bits ≤ most)
+    × (length old < length new)
+PacksItem old new expected most (Err _) = new ≡ old
+
+-- a content's increment over a base fits k bits
+abbrev pub FitsIncrement : (base k : ℕ) → FieldContent → Type 0
+FitsIncrement base k (drawn.Number raw) = raw - base < 2 ^ k
+FitsIncrement base k _ = Unit {0}
+
+-- the same of all contents
+abbrev pub AreShort : (base k : ℕ) → List FieldContent → Type 0
+AreShort base k ds = AllByRecursion (λ (d : FieldContent). FitsIncrement base k d) ds
+
+-- the item of all subsets in a row was written, in at most `most` bits
+pub record IsPutWithin (old new : List Bool) (spec : FieldSpec) (a : ItemRow) (most : ℕ)
+    (t : Taken) : Type 0 where
+  pub put : IsPutAcross old new spec a t
+  pub few : length put.item ≤ most
+
+-- such an item was written, or it is at fault, or memory ran out; a fault changes nothing
+abbrev pub PutAcross : (old new : List Bool) → FieldSpec → ItemRow → (most : ℕ)
+    → Result Taken DraftFault → Type 0
+PutAcross old new spec a most (Ok t) = IsPutWithin old new spec a most t
+PutAcross old new spec a most (Err e) =
+    IfDraftFault (draft_fault e) (λ f. pack_across spec a ≡ Err f) × (new ≡ old)
+
+-- ---- The rows of all subsets, as the code reads them.
+
+-- a subset's entry in a row: its item, or its end
+abbrev pub entry_or_end : Option Draft → (end_line : ℕ) → DraftEntry
+entry_or_end (Some d) end_line = Holds d
+entry_or_end None end_line = Ends end_line
+
+-- the content of an entry, or its fault
+abbrev pub entry_here : FieldSpec → DraftEntry → Result Content FaultAt
+entry_here spec (Holds d) = content_here spec (Some d) d.line
+entry_here spec (Ends line) = content_here spec None line
+
+-- each content is one that the field can have
+abbrev pub AllDrawn : FieldSpec → List FieldContent → Type 0
+AllDrawn spec ds = AllByRecursion (λ (d : FieldContent). IsDrawn spec d) ds
+
+-- the contents, whose texts have `count` octets
+abbrev pub contents_drawn : (count : ℕ) → List FieldContent → List Content
+contents_drawn count [] = []
+contents_drawn count (d ∷ ds) = content_drawn count d ∷ contents_drawn count ds
+
+-- the least number among contents, or the greatest of 64 bits, and the greatest, or 0
+pub record IsRangeOf (range : NumberRange) (drawn : List FieldContent) : Type 0 where
+  pub least : range.least ≡ least_number drawn
+  pub greatest : range.greatest ≡ spread 0 drawn
+
+-- all cells were converted, and the range of their numbers returned, or the first fault
+abbrev pub ReturnsRow : (count : ℕ) → FieldSpec → List RowCell → List FieldContent
+    → Result NumberRange DraftFault → Type 0
+ReturnsRow count spec cells drawn (Ok range) =
+    (contents_here spec cells ≡ Ok (contents_drawn count drawn)) × AllDrawn spec drawn
+    × (length drawn ≡ length cells) × IsRangeOf range drawn
+ReturnsRow count spec cells drawn (Err e) =
+    IfDraftFault (draft_fault e) (λ f. contents_here spec cells ≡ Err f)

@@ -1,7 +1,0 @@
-use Rattle.std.proofs.Common.{codes}
-use Rattle.memchr.specs.Find.{Nowhere, OccursAt}
-use Rattle.bufr_frame.proofs.finder.find_near.Given as goal
-
--- no `BUFR` is at the indices so far
-abbrev pub invariant-places : goal.invariant-places
-invariant-places l = Nowhere (OccursAt l.rest (codes "BUFR")) 0 l.place

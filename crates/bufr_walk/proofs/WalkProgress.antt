@@ -1,0 +1,137 @@
+-- How far a walk over the cells of a template came, and how many turns are left.
+use Rattle.std.specs.Prelude.{ℕ, List, [], ◌∷◌, ◌++◌, ◌+◌, ◌-◌, ◌*◌, ◌^◌, ◌<◌, ◌≤◌, ◌≡◌, Result, Ok, Err, Option, Some, None, length, drop, slice_index}
+use Rattle.bufr_tables.specs.Prelude.{Tree, depth, Row, IsLegal, cells_of}
+use Rattle.bufr_walk.specs.Prelude.{Taken, FieldSpec, OperatorModel, Rest, Course, later, ahead, counts_of, unroll, passes, pass_end, TakenField, Takes, oks, answers_of, StopsWalk, ticked, WalkStop}
+use Rattle.bufr_tables.specs.declared.template.Cell.{Cell}
+use Rattle.bufr_walk.specs.declared.walker.Frame.{Frame}
+use Rattle.bufr_tables.specs.declared.template.Cell.TheVariants as cell
+
+-- the course of turns whose counts are among those returned
+abbrev pub course : List Row → Rest → OperatorModel → Course
+course table rest s answers = ahead table (rest (counts_of answers)) s answers
+
+-- a walk from one course and state to another, in t turns
+pub record WalkGoes {S E : Type 0} (takes : S → FieldSpec → Result Taken E → S → Type 0)
+    (n : Course)
+    (s : S) (t : ℕ) (n' : Course) (s' : S) : Type 0 where
+  pub items : List TakenField
+  pub taken : Takes (oks takes) n s items s'
+  pub leads : (more : List Taken) → n (answers_of items ++ more) ≡ later t (n' more)
+
+-- a walk from a course and state to a stop, in t turns
+pub record Stops {S E : Type 0} (takes : S → FieldSpec → Result Taken E → S → Type 0) (n : Course)
+    (s : S) (t : ℕ) (stop : WalkStop E) (s' : S) : Type 0 where
+  pub items : List TakenField
+  pub mid : S
+  pub taken : Takes (oks takes) n s items mid
+  pub stops : StopsWalk takes (n (answers_of items)).next mid stop s'
+  pub turns : (n (answers_of items)).turns ≡ t
+
+-- a walk from all the turns to those that are left
+pub record HasWalked {S E : Type 0} (takes : S → FieldSpec → Result Taken E → S → Type 0)
+    (table : List Row)
+    (over left : Rest → Rest) (s : OperatorModel) (f : S) (c : ℕ) (s' : OperatorModel) (f' : S)
+    (c' : ℕ) : Type 0 where
+  pub turns : ℕ
+  pub ticks : c' ≡ ticked c turns
+  pub way : (rest : Rest)
+      → WalkGoes takes (course table (over rest) s) f turns (course table (left rest) s') f'
+
+-- a walk that stopped within the turns that were left
+pub record StopsIn {S E : Type 0} (takes : S → FieldSpec → Result Taken E → S → Type 0)
+    (table : List Row) (over : Rest → Rest) (s : OperatorModel) (f : S) (c : ℕ) (why : WalkStop E)
+    (f' : S) (c' : ℕ) : Type 0 where
+  pub turns : ℕ
+  pub ticks : c' ≡ ticked c turns
+  pub way : (rest : Rest) → Stops takes (course table (over rest) s) f turns why f'
+
+-- ---- The state of a walk in the cells of a template.
+
+-- an open group: its frame, its body and the nodes after it
+pub record OpenGroup : Type 0 where
+  pub frame : Frame
+  pub body : Tree
+  pub more : Tree
+
+-- the frames, the outermost first; the groups begin with the innermost
+abbrev pub frames_of : List OpenGroup → List Frame
+frames_of [] = []
+frames_of (s ∷ outer) = frames_of outer ++ s.frame ∷ []
+
+-- the turns from the end of the innermost group's pass on
+abbrev pub turns_after_pass : List OpenGroup → Rest → Rest
+turns_after_pass [] k counts = k counts
+turns_after_pass (s ∷ outer) k counts =
+    pass_end (passes s.frame.left (unroll s.body) (unroll s.more (turns_after_pass outer k)) counts)
+
+-- the cells from the end of the innermost group's pass on
+abbrev pub tail_of : List OpenGroup → List Cell
+tail_of [] = cell.Finish ∷ []
+tail_of (s ∷ outer) = cell.PassEnd ∷ cells_of s.more s.frame.after (tail_of outer)
+
+-- each open group is in the cells, no deeper than 32
+abbrev pub AllGroupsFit : List Cell → List OpenGroup → Type 0
+AllGroupsFit cells [] = Unit {0}
+AllGroupsFit cells (s ∷ outer) =
+    (drop s.frame.start cells ≡ cells_of s.body s.frame.start (tail_of (s ∷ outer)))
+    × (drop s.frame.after cells ≡ cells_of s.more s.frame.after (tail_of outer))
+    × (length outer + 1 + depth s.body ≤ 32) × (length outer + depth s.more ≤ 32)
+    × IsLegal s.body × IsLegal s.more × AllGroupsFit cells outer
+
+-- A walk is at a place before these nodes, with these open groups; `left` is the rest of its turns.
+pub record IsAtNodes (cells : List Cell) (place : ℕ) (stack : List Frame) (left : Rest → Rest)
+    (more : Tree) (groups : List OpenGroup) : Type 0 where
+  pub frames : stack ≡ frames_of groups
+  pub here : drop place cells ≡ cells_of more place (tail_of groups)
+  pub deep : length groups + depth more ≤ 32
+  pub legal : IsLegal more
+  pub outer : AllGroupsFit cells groups
+  pub left_is : (k : Rest) (counts : List ℕ) → left k counts
+      ≡ unroll more (turns_after_pass groups k) counts
+
+-- a walk is at a place, with this stack of open groups
+abbrev pub IsAtCell : List Cell → ℕ → List Frame → (Rest → Rest) → Type 0
+IsAtCell cells place stack left =
+    (more : Tree) × (groups : List OpenGroup) × IsAtNodes cells place stack left more groups
+
+-- the most turns from a cell to the end of its pass, by those from each later cell
+abbrev pub cost_of : Cell → ℕ → List ℕ → ℕ
+cost_of (cell.Element f) at later = 1 + slice_index later 0
+cost_of (cell.Operator f) at later = 1 + slice_index later 0
+cost_of (cell.Fixed n after) at later =
+    1 + n * (1 + slice_index later 0) + slice_index later (after - (at + 1))
+cost_of (cell.Delayed after) at later =
+    2 + 2 ^ 64 * (1 + slice_index later 1) + slice_index later (after - (at + 1))
+cost_of (cell.Factor f) at later = 0
+cost_of cell.PassEnd at later = 0
+cost_of cell.Finish at later = 0
+
+-- the most turns from each cell to the end of its pass
+abbrev pub costs : List Cell → ℕ → List ℕ
+costs [] at = []
+costs (c ∷ cells) at = cost_of c at (costs cells (at + 1)) ∷ costs cells (at + 1)
+
+-- the most turns that open groups still have after their passes
+abbrev pub owed : List ℕ → List Frame → ℕ
+owed cost [] = 0
+owed cost (f ∷ frames) =
+    1 + f.left * (1 + slice_index cost f.start) + slice_index cost f.after + owed cost frames
+
+-- the most turns that are left
+abbrev pub weight : List Cell → ℕ → List Frame → ℕ
+weight cells place stack = slice_index (costs cells 0) place + owed (costs cells 0) stack
+
+-- the result of a turn
+abbrev pub Turned : {S E : Type 0} → (S → FieldSpec → Result Taken E → S → Type 0) → List Row
+    → List Cell → (Rest → Rest) → ℕ → List Frame → OperatorModel → S → ℕ
+    → Result (Option ℕ) (WalkStop E)
+    → List Frame → OperatorModel → S → ℕ → Type 0
+Turned takes table cells left place stack s f c (Ok None) stack' s' f' c' =
+    ((k : Rest) (counts : List ℕ) → left k counts ≡ k counts) × (s' ≡ s) × (f' ≡ f)
+    × (c' ≡ ticked c 1)
+Turned takes table cells left place stack s f c (Ok (Some next)) stack' s' f' c' =
+    (left' : Rest → Rest) × IsAtCell cells next stack' left'
+    × HasWalked takes table left left' s f c s' f' c'
+    × (weight cells next stack' < weight cells place stack)
+Turned takes table cells left place stack s f c (Err why) stack' s' f' c' =
+    StopsIn takes table left s f c why f' c'

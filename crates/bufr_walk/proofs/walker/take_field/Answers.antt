@@ -1,0 +1,10 @@
+use Rattle.std.proofs.Common.{sym}
+use Rattle.bufr_walk.proofs.CacheLemmas.{spec_cached, spec_got_plain}
+use Rattle.bufr_walk.proofs.walker.take_field.Goals as goal
+
+pub take_other-answer-requires : goal.take_other-answer-requires
+take_other-answer-requires g c = spec_got_plain c.args.cache.now c.args.in_force.now c.args.field c.key-key.result c.in-Some-get.spec.now c.key-key.ensures c.in-Some-get.ensures
+
+pub insert-requires : goal.insert-requires
+insert-requires g c =
+    spec_cached c.args.cache.now c.args.in_force.now c.args.field c.key-key.result c.in_ok-spec-in-None.spec c.key-key.ensures (sym (rw c.cache.view_is at c.in_ok-spec-in-None.ensures))

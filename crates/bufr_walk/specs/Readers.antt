@@ -1,0 +1,352 @@
+-- The readers of data, compressed or not: one pass over them, fields shown at once, an item as the
+-- code reads it, and what a reading keeps.
+-- Cited by public contracts.
+use Rattle.std.specs.Prelude.{ℕ, ◌≡◌, ◌≤◌, ◌+◌, Bool, List, drop, Result, Ok, Err, ◌++◌, ◌<◌, ◌*◌, ◌%◌, ◌==◌, ◌&&◌, ◌||◌, true, false, [], ◌∷◌, length, take, ◌/◌, ◌-◌, map, get_or}
+use Rattle.bufr_walk.specs.Content.{Taken, FieldSpec, Content, answer_of, plain_field, found, data_end, FieldFault, increment, unequal_factor, FieldRead, packed_field, answer_first}
+use Rattle.bufr_walk.specs.Reading.{WalkFault, spot, Item, plain, turns_after, ReadsPass, Read, course_of, IsRead, max_values, items_at_once, Data, Values, apart, together, IsReading, ShowFault, Call, item_call, view_of, Timed, item_calls, Shows, content_at}
+use Rattle.bufr_walk.specs.Course.{WalkStop, Course, ticked}
+use Rattle.bufr_walk.specs.declared.walker.WalkStop.TheVariants as stops
+use Rattle.bufr_walk.specs.declared.fault.WalkFault.TheVariants as fault
+use Rattle.std.proofs.Common.{ap}
+use Rattle.bufr_tables.specs.Prelude.{Row, is_character}
+use Rattle.bufr_walk.specs.declared.plain.ShowStop.{ShowStop}
+use Rattle.bufr_walk.specs.declared.plain.ShowStop.TheVariants as show_stop
+use Rattle.std.specs.List.{list_all, All}
+use Rattle.bufr_bits.specs.Prelude.{number_of}
+pub use Rattle.bufr_walk.specs.declared.item_index.IndexedItem.{IndexedItem}
+use Rattle.bufr_walk.specs.declared.fault.DataFault.{DataFault}
+use Rattle.bufr_walk.specs.declared.fault.DataFault.TheVariants as wrong
+use Rattle.bufr_walk.specs.declared.compressed.ItemBits.{ItemBits}
+use Rattle.bufr_walk.specs.declared.reading.StoredItems.{StoredItems}
+use Rattle.bufr_walk.specs.Rules.{unsigned_field}
+use Rattle.bufr_walk.specs.declared.item_index.ItemLocation.{ItemLocation}
+use Rattle.bufr_walk.specs.declared.reading.StoredItems.TheVariants as stored
+
+-- the bits, and how many of them were read
+pub record Cursor : Type 0 where
+  pub bits : List Bool
+  pub at : ℕ
+
+-- the bits that are left
+abbrev pub rest_of : Cursor → List Bool
+rest_of s = drop s.at s.bits
+
+-- the reader after a field
+abbrev pub past : Cursor → FieldSpec → Cursor
+past s spec = record { bits = s.bits; at = s.at + spec.width }
+
+-- the rest begins with a field, and this is its answer
+pub record IsTaken (s : Cursor) (spec : FieldSpec) (t : Taken) (s' : Cursor) : Type 0 where
+  pub content : Content
+  pub some : 1 ≤ spec.width
+  pub field : plain_field spec (rest_of s) ≡ Ok (found content (rest_of s'))
+  pub gives : t ≡ answer_of spec content
+  pub next : s' ≡ past s spec
+
+-- one call: a field was read, or the bits end in it
+abbrev pub PlainTakes : Cursor → FieldSpec → Result Taken DataFault → Cursor → Type 0
+PlainTakes s spec (Ok t) s' = IsTaken s spec t s'
+PlainTakes s spec (Err e) s' =
+    (plain_field spec (rest_of s) ≡ Err data_end) × (e ≡ wrong.DataEnd spec.fxy) × (s' ≡ s)
+
+-- the state of a showing: the reader, the visitor, the table, and the names of the first two
+pub record Stage (V : Type 0) : Type 0 where
+  pub cursor : Cursor
+  pub visitor : V
+  pub table : List Row
+  pub names : ℕ × ℕ
+
+-- a state from its parts
+abbrev pub stage : {V : Type 0} → Cursor → V → List Row → ℕ → ℕ → Stage V
+stage cursor visitor table a b =
+    record { cursor = cursor; visitor = visitor; table = table; names = (a, b) }
+
+-- a field was found, and the visitor took it
+pub record IsShown {V E : Type 0} (sees : V → Call → Result (Unit {0}) E → V → Type 0) (s : Stage V)
+    (spec : FieldSpec) (t : Taken) (s' : Stage V) : Type 0 where
+  pub is_taken : IsTaken s.cursor spec t s'.cursor
+  pub call : sees s.visitor (item_call (view_of s.table spec is_taken.content)) (Ok tt) s'.visitor
+  pub table : s'.table ≡ s.table
+  pub names : s'.names ≡ s.names
+
+-- a field was found, and the visitor refused it
+pub record IsUnshown {V E : Type 0} (sees : V → Call → Result (Unit {0}) E → V → Type 0)
+    (s : Stage V) (spec : FieldSpec) (e : E) (s' : Stage V) : Type 0 where
+  pub answer : Taken
+  pub is_taken : IsTaken s.cursor spec answer (past s.cursor spec)
+  pub call : sees s.visitor (item_call (view_of s.table spec is_taken.content)) (Err e) s'.visitor
+  pub cursor : s'.cursor ≡ s.cursor
+  pub names : s'.names ≡ s.names
+
+-- one call: a field was shown, the data end in it, or the visitor refused it
+abbrev pub ShowingTakes : {V E : Type 0} → (V → Call → Result (Unit {0}) E → V → Type 0) → Stage V
+    → FieldSpec → Result Taken (ShowStop E) → Stage V → Type 0
+ShowingTakes sees s spec (Ok t) s' = IsShown sees s spec t s'
+ShowingTakes sees s spec (Err show_stop.DataEnd) s' =
+    (plain_field spec (rest_of s.cursor) ≡ Err data_end) × (s' ≡ s)
+ShowingTakes sees s spec (Err (show_stop.Visitor e)) s' = IsUnshown sees s spec e s'
+
+-- a refusal passes no bit
+pub refusal_keeps : {V E : Type 0} (sees : V → Call → Result (Unit {0}) E → V → Type 0)
+    (s : Stage V) (spec : FieldSpec) (e : ShowStop E) (s' : Stage V)
+    → ShowingTakes sees s spec (Err e) s' → s'.cursor.at ≡ s.cursor.at
+refusal_keeps sees s spec show_stop.DataEnd s' h = ap (λ x. x.cursor.at) h.1
+refusal_keeps sees s spec (show_stop.Visitor e) s' h = ap (λ c. c.at) h.cursor
+
+-- the calls up to `rest` were made: what ends `rest` ends all
+pub record Sofar {S E : Type 0} (sees : S → Call → Result (Unit {0}) E → S → Type 0) (s : S)
+    (calls : List Timed) (s1 : S) (rest : List Timed) : Type 0 where
+  pub on : (turns : ℕ) (r : Result (Unit {0}) (ShowFault E)) (s' : S) (steps : ℕ)
+      → Shows sees s1 rest turns r s' steps → Shows sees s calls turns r s' steps
+
+-- the items of a subset were shown, whatever follows them
+pub record ItemsShown {S E : Type 0} (sees : S → Call → Result (Unit {0}) E → S → Type 0)
+    (table : List Row) (course : Course) (c : Cursor) (s : S) (steps : ℕ) (c' : Cursor) (s' : S)
+    (steps' : ℕ) : Type 0 where
+  pub shown : (before : ℕ) (items : List (Item Content)) (left : List Bool) (more : List Timed)
+      → ReadsPass plain course items (rest_of c) left
+      → Sofar sees s (item_calls table before course items ++ more) s' more
+  pub left_is : (items : List (Item Content)) (left : List Bool)
+      → ReadsPass plain course items (rest_of c) left
+      → (rest_of c' ≡ left) × (steps' ≡ ticked steps (turns_after plain course items))
+
+-- the items of a subset were shown up to one that ended the showing
+pub record ItemsEnded {S E : Type 0} (sees : S → Call → Result (Unit {0}) E → S → Type 0)
+    (table : List Row) (course : Course) (c : Cursor) (s : S) (steps : ℕ) (why : ShowFault E)
+    (s' : S) (steps' : ℕ) : Type 0 where
+  pub ended : (before : ℕ) (items : List (Item Content)) (left : List Bool) (more : List Timed)
+      (turns : ℕ) → ReadsPass plain course items (rest_of c) left → steps ≡ ticked 0 before
+      → Shows sees s (item_calls table before course items ++ more) turns (Err why) s' steps'
+
+-- the items of a subset were shown, or one of them ended the showing
+abbrev pub ItemsGo : {S E : Type 0} → (S → Call → Result (Unit {0}) E → S → Type 0) → List Row
+    → Course → Cursor → S → ℕ → Result (Unit {0}) (ShowFault E) → Cursor → S → ℕ → Type 0
+ItemsGo sees table course c s steps (Ok _) c' s' steps' =
+    ItemsShown sees table course c s steps c' s' steps'
+ItemsGo sees table course c s steps (Err why) c' s' steps' =
+    ItemsEnded sees table course c s steps why s' steps'
+
+-- the reader: the bits, how many of them were read, the number of subsets, and the items read
+pub record PackedCursor : Type 0 where
+  pub bits : List Bool
+  pub at : ℕ
+  pub subsets : ℕ
+  pub items : List (Item (List Content))
+
+-- a reader that has read nothing
+abbrev pub new_packed_in : (bits : List Bool) (subsets : ℕ) → PackedCursor
+new_packed_in bits n = record { bits = bits; at = 0; subsets = n; items = [] }
+
+-- the bits that are left
+abbrev pub remaining_bits : PackedCursor → List Bool
+remaining_bits s = drop s.at s.bits
+
+-- the contents that were found, or none
+abbrev pub contents_found : Result (FieldRead (List Content)) FieldFault → List Content
+contents_found (Ok f) = f.content
+contents_found (Err why) = []
+
+-- whether an item was found
+abbrev pub was_found : Result (FieldRead (List Content)) FieldFault → Bool
+was_found (Ok f) = true
+was_found (Err why) = false
+
+-- the item at the location of an entry
+abbrev pub item_at : (bits : List Bool) (subsets : ℕ) → IndexedItem → Item (List Content)
+item_at bits n e = record {
+  spec = e.spec;
+  content = contents_found (packed_field n e.spec (drop e.at bits));
+}
+
+-- the items at the locations of entries
+abbrev pub items_at : (bits : List Bool) (subsets : ℕ) → List IndexedItem
+    → List (Item (List Content))
+items_at bits n [] = []
+items_at bits n (e ∷ kept) = item_at bits n e ∷ items_at bits n kept
+
+-- whether an entry has the number of the base in the bits; a text has none
+abbrev pub has_base : (bits : List Bool) → IndexedItem → Bool
+has_base bits e =
+    is_character e.spec.kind || (e.base == number_of (take e.spec.width (drop e.at bits)))
+
+-- whether an item is at the location of an entry, with its k and base
+abbrev pub fits_at : (bits : List Bool) (subsets : ℕ) → IndexedItem → Bool
+fits_at bits n e =
+    was_found (packed_field n e.spec (drop e.at bits))
+    && ((e.step == number_of (take 6 (drop (e.at + e.spec.width) bits))) && has_base bits e)
+
+-- the reader with these entries
+abbrev pub packed_view : (bits : List Bool) (at subsets : ℕ) → List IndexedItem → PackedCursor
+packed_view bits at n kept =
+    record { bits = bits; at = at; subsets = n; items = items_at bits n kept }
+
+-- what holds of a reader: each item has at least one bit and the six of its k
+pub record IsPackedIn (bits : List Bool) (at subsets : ℕ) (kept : List IndexedItem) : Type 0 where
+  pub within : at ≤ length bits
+  pub some : 1 ≤ subsets
+  pub few : length kept * subsets ≤ max_values
+  pub held : 7 * length kept ≤ at
+  pub fit : list_all (fits_at bits subsets) kept ≡ true
+
+-- the fault of a field with this descriptor
+abbrev pub wrong_of : (fxy : ℕ) → FieldFault → DataFault
+wrong_of fxy data_end = wrong.DataEnd fxy
+wrong_of fxy increment = wrong.Increment fxy
+wrong_of fxy unequal_factor = wrong.UnequalFactor fxy
+
+-- the rest begins with an item, and this is its answer
+pub record IsPackedTaken (s : PackedCursor) (spec : FieldSpec) (t : Taken)
+    (s' : PackedCursor) : Type 0 where
+  pub contents : List Content
+  pub few : (length s.items + 1) * s.subsets ≤ max_values
+  pub field : packed_field s.subsets spec (remaining_bits s)
+      ≡ Ok (found contents (remaining_bits s'))
+  pub gives : t ≡ answer_first spec contents
+  pub bits : s'.bits ≡ s.bits
+  pub subsets : s'.subsets ≡ s.subsets
+  pub items : s'.items ≡ s.items ++ record { spec = spec; content = contents } ∷ []
+  pub forth : s.at + 7 ≤ s'.at
+
+-- an item at a bit is at fault
+pub record IsUnseen (bits : List Bool) (at n : ℕ) (spec : FieldSpec)
+    (e : DataFault) : Type 0 where
+  pub why : FieldFault
+  pub field : packed_field n spec (drop at bits) ≡ Err why
+  pub fault : e ≡ wrong_of spec.fxy why
+
+-- One call: an item was read and kept, or there would be too many values, or it is at fault, or
+-- memory for more items ran out. A fault changes nothing.
+abbrev pub PackedTakes : PackedCursor → FieldSpec → Result Taken DataFault → PackedCursor → Type 0
+PackedTakes s spec (Ok t) s' = IsPackedTaken s spec t s'
+PackedTakes s spec (Err (wrong.TooManyValues fxy)) s' =
+    (fxy ≡ spec.fxy) × (max_values < (length s.items + 1) * s.subsets) × (s' ≡ s)
+PackedTakes s spec (Err wrong.Memory) s' = (s' ≡ s) × (length s.items % items_at_once ≡ 0)
+PackedTakes s spec (Err e) s' =
+    IsUnseen s.bits s.at s.subsets spec e × (s' ≡ s)
+    × ((length s.items + 1) * s.subsets ≤ max_values)
+
+-- a refusal changes nothing
+pub refuses_packed : (s : PackedCursor) (spec : FieldSpec) (e : DataFault) (s' : PackedCursor)
+    → PackedTakes s spec (Err e) s' → s' ≡ s
+refuses_packed s spec (wrong.TooManyValues fxy) s' h = h.2
+refuses_packed s spec wrong.Memory s' h = h.0
+refuses_packed s spec (wrong.DataEnd fxy) s' h = h.1
+refuses_packed s spec (wrong.Increment fxy) s' h = h.1
+refuses_packed s spec (wrong.UnequalFactor fxy) s' h = h.1
+
+-- the fault of the stop of a walk, in a subset, after `bit` bits
+abbrev pub fault_at : WalkStop DataFault → (subset bit : ℕ) → WalkFault
+fault_at (stops.Width fxy) subset bit = fault.Width (spot subset fxy bit)
+fault_at (stops.Defining fxy) subset bit = fault.Defining (spot subset fxy bit)
+fault_at (stops.Field (wrong.DataEnd fxy)) subset bit = fault.DataEnd (spot subset fxy bit)
+fault_at (stops.Field (wrong.Increment fxy)) subset bit = fault.Increment (spot subset fxy bit)
+fault_at (stops.Field (wrong.UnequalFactor f)) subset bit = fault.UnequalFactor (spot subset f bit)
+fault_at (stops.Field (wrong.TooManyValues f)) subset bit = fault.TooManyValues (spot subset f bit)
+fault_at (stops.Field wrong.Memory) subset bit = fault.Memory
+fault_at stops.Memory subset bit = fault.Memory
+
+-- an item at a bit: its contents, its answer, its k, the number of its base, and the bit after it
+pub record IsSeen (bits : List Bool) (at n : ℕ) (spec : FieldSpec) (s : ItemBits) : Type 0 where
+  pub contents : List Content
+  pub field : packed_field n spec (drop at bits) ≡ Ok (found contents (drop s.end bits))
+  pub gives : s.answer ≡ answer_first spec contents
+  pub step : s.step ≡ number_of (take 6 (drop (at + spec.width) bits))
+  pub base : is_character spec.kind ≡ false → s.base ≡ number_of (take spec.width (drop at bits))
+  pub within : s.end ≤ length bits
+  pub least : at + 7 ≤ s.end
+
+-- one entry for each item of compressed data, which is at the entry's location
+abbrev pub AreKept : Data → List IndexedItem → List (Item (List Content)) → Type 0
+AreKept d entries items =
+    (items_at d.bits d.subsets entries ≡ items)
+    × (list_all (fits_at d.bits d.subsets) entries ≡ true)
+
+-- the content of a kept item for one subset, counted from 0
+abbrev pub content_kept : (bits : List Bool) (subsets : ℕ) → IndexedItem → (subset : ℕ) → Content
+content_kept bits n e j = content_at j (contents_found (packed_field n e.spec (drop e.at bits)))
+
+-- the call that shows a kept item
+abbrev pub call_kept : List Row → (bits : List Bool) (subsets : ℕ) → IndexedItem → (subset : ℕ)
+    → Call
+call_kept table bits n e j = item_call (view_of table e.spec (content_kept bits n e j))
+
+-- the number of items kept
+abbrev pub held_of : StoredItems → ℕ
+held_of stored.Apart = 0
+held_of (stored.Together entries) = length entries
+
+-- nothing is kept where each subset has bits of its own
+abbrev pub KeepsValues : StoredItems → Data → Values → Type 0
+KeepsValues stored.Apart d (apart subsets) = Unit {0}
+KeepsValues stored.Apart d (together items) = ⊥
+KeepsValues (stored.Together entries) d (apart subsets) = ⊥
+KeepsValues (stored.Together entries) d (together items) = AreKept d entries items
+
+-- the number of items of all subsets
+abbrev pub items_in : List (List (Item Content)) → ℕ
+items_in [] = 0
+items_in (items ∷ subsets) = length items + items_in subsets
+
+-- data that are not compressed were read, and each item took at least a bit
+abbrev pub IsReadAndPaid : Course → Data → (used steps : ℕ) → Type 0
+IsReadAndPaid course d used steps =
+    (subsets : List (List (Item Content))) × IsRead course d (apart subsets) used steps
+    × (items_in subsets ≤ used)
+
+-- an item of one subset takes at least one bit
+abbrev pub PaysBits : Values → (used : ℕ) → Type 0
+PaysBits (apart subsets) used = items_in subsets ≤ used
+PaysBits (together items) used = Unit {0}
+
+-- a reading, and what is kept of it: each item that is kept took at least 7 bits
+pub record IsStoredReading (r : Read) (k : StoredItems) : Type 0 where
+  pub values : Values
+  pub reading : IsReading (course_of r) r.source values r.bits
+  pub keeps : KeepsValues k r.source values
+  pub few : 7 * held_of k ≤ r.bits
+  pub pays : PaysBits values r.bits
+  pub short : r.bits ≤ max_values
+
+-- ---- The index of the items of compressed data, and their specifications.
+
+-- the room for entries, once room was made for the last of them
+abbrev pub room_for : (entries : ℕ) → ℕ
+room_for entries = (entries + (items_at_once - 1)) / items_at_once * items_at_once
+
+-- how many more entries have room
+abbrev pub room_left : (entries : ℕ) → ℕ
+room_left entries = room_for entries - entries
+
+-- a default for an index after the last field; no item has it
+abbrev pub no_field : FieldSpec
+no_field = unsigned_field 0 0
+
+-- the item of a location
+abbrev pub item_at_location : List FieldSpec → ItemLocation → IndexedItem
+item_at_location specs p =
+    record { spec = get_or specs p.spec no_field; at = p.at; base = p.base; step = p.step }
+
+-- the items of all locations
+abbrev pub indexed_items : List FieldSpec → List ItemLocation → List IndexedItem
+indexed_items specs places = map (item_at_location specs) places
+
+-- a field has this index among others
+pub record HasSpecAt (specs : List FieldSpec) (place : ℕ) (spec : FieldSpec) : Type 0 where
+  pub below : place < length specs
+  pub is : get_or specs place no_field ≡ spec
+
+-- a field is among those that were there before, or is appended
+pub record IsPut (specs : List FieldSpec) (spec : FieldSpec) (place : ℕ)
+    (specs' : List FieldSpec) : Type 0 where
+  pub more : List FieldSpec
+  pub grows : specs' ≡ specs ++ more
+  pub few : length more ≤ 1
+  pub fits : HasSpecAt specs' place spec
+
+-- each location has its field; the items have room until it is made again, and a field with each
+pub record IsKeptBy (specs : List FieldSpec) (places : List ItemLocation)
+    (room_specs room_places : ℕ) : Type 0 where
+  pub have : All (λ p. p.spec < length specs) places
+  pub few : length specs ≤ length places
+  pub has_room : room_for (length places) ≤ room_places
+  pub has_room_for_specs : length specs + room_left (length places) ≤ room_specs
