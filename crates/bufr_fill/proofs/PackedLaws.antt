@@ -11,7 +11,7 @@ use Rattle.bufr_bits.proofs.BitLemmas.{number_of-below, length-bits_in}
 use Rattle.bufr_bits.proofs.DecimalLemmas.{and_first, and_second}
 use Rattle.bufr_tables.specs.declared.table_b.Kind.{Kind}
 use Rattle.bufr_walk.specs.declared.spec.Role.{Role}
-use Rattle.bufr_walk.specs.Prelude.{FieldSpec, IsSpec, HasRole, HasWidth, Content, number, text, missing, reference, content_in, bits_for, FieldFault, increment, FieldRead, found, increments, padded_text, kind_step, increment_bits_of, is_missing, stays_within, all_within, numbers_hold, holds_by, holds_in, all_equal, equal_in, increased_to, number_from, content_from, contents_of, packed_field}
+use Rattle.bufr_walk.specs.Prelude.{FieldSpec, IsSpec, HasRole, HasWidth, Content, number, text, missing, reference, content_in, bits_for, FieldFault, increment, FieldRead, found, increments, padded_text, kind_step, increment_bits_of, is_missing, stays_within, all_within, are_number_increments_valid, are_increments_valid_by, are_increments_valid, all_equal, equal_in, increased_to, number_from, content_from, contents_of, packed_field}
 use Rattle.bufr_walk.proofs.PackedLemmas.{item_tested, item_ok, neither}
 use Rattle.bufr_fill.specs.Prelude.{raw_limit, same, are_same, lowest, has_bits, has_octets, least_k, increment_bits, octet_bits, packed_bits, numbers_over, packed_by, packed_unlike, packing, k_of, HasLeastK, first_from, FitsNumber, FitsText, FitsKind, FitsRole, Fits, AllFit, Role, Kind}
 use Rattle.bufr_fill.proofs.FieldLemmas.{number_again, number_back, top_below, same_ok}
@@ -27,7 +27,7 @@ pub record IsUnpacked (n : ℕ) (spec : FieldSpec) (bits : List Bool) (cs : List
   pub small : k ≤ 63
   pub base : length (take spec.width bits) ≡ spec.width
   pub enough : n * increment_bits_of spec.role spec.kind k ≤ length (drop (spec.width + 6) bits)
-  pub holds : (k == 0 || holds_in spec.role spec k n (take spec.width bits) (drop (spec.width + 6) bits)) ≡ true
+  pub holds : (k == 0 || are_increments_valid spec.role spec k n (take spec.width bits) (drop (spec.width + 6) bits)) ≡ true
   pub equal : (k == 0 || equal_in spec.role k n (drop (spec.width + 6) bits)) ≡ true
   pub contents : contents_of spec k n (take spec.width bits) (drop (spec.width + 6) bits) ≡ cs
   pub used : spec.width + 6 + n * increment_bits_of spec.role spec.kind k + length mid ≡ length bits
@@ -44,7 +44,7 @@ module _ (n : ℕ) (spec : FieldSpec) where
       let k = number_of (take 6 (drop spec.width bits)) in
       let suffix = drop (spec.width + 6) bits in
       let used = n * increment_bits_of spec.role spec.kind k in
-      let t = item_ok (nat_lt (length bits) (spec.width + 6) || nat_lt (length suffix) used) (k == 0 || holds_in spec.role spec k n (take spec.width bits) suffix) (k == 0 || equal_in spec.role k n suffix) (contents_of spec k n (take spec.width bits) suffix) (drop used suffix) cs mid e in
+      let t = item_ok (nat_lt (length bits) (spec.width + 6) || nat_lt (length suffix) used) (k == 0 || are_increments_valid spec.role spec k n (take spec.width bits) suffix) (k == 0 || equal_in spec.role k n suffix) (contents_of spec k n (take spec.width bits) suffix) (drop used suffix) cs mid e in
       let ends = neither (nat_lt (length bits) (spec.width + 6)) (nat_lt (length suffix) used) t.0 in
       let long : spec.width + 6 ≤ length bits = ltb-false (length bits) (spec.width + 6) ends.0 in
       let enough : used ≤ length suffix = ltb-false (length suffix) used ends.1 in
@@ -60,10 +60,10 @@ module _ (n : ℕ) (spec : FieldSpec) where
 
   -- ---- bits that are packed are read by their parts
   abbrev tested : (bits : List Bool) (k : ℕ) (base suffix : List Bool) → Result (FieldRead (List Content)) FieldFault
-  tested bits k base suffix = item_tested (nat_lt (length bits) (spec.width + 6) || nat_lt (length suffix) (n * increment_bits_of spec.role spec.kind k)) (k == 0 || holds_in spec.role spec k n base suffix) (k == 0 || equal_in spec.role k n suffix) (contents_of spec k n base suffix) (drop (n * increment_bits_of spec.role spec.kind k) suffix)
+  tested bits k base suffix = item_tested (nat_lt (length bits) (spec.width + 6) || nat_lt (length suffix) (n * increment_bits_of spec.role spec.kind k)) (k == 0 || are_increments_valid spec.role spec k n base suffix) (k == 0 || equal_in spec.role k n suffix) (contents_of spec k n base suffix) (drop (n * increment_bits_of spec.role spec.kind k) suffix)
 
   pub packed_reads : (base : List Bool) (k : ℕ) (pieces more : List Bool) (cs : List Content) → length base ≡ spec.width → k ≤ 63 → length pieces ≡ n * increment_bits_of spec.role spec.kind k
-      → (k == 0 || holds_in spec.role spec k n base (pieces ++ more)) ≡ true → (k == 0 || equal_in spec.role k n (pieces ++ more)) ≡ true → contents_of spec k n base (pieces ++ more) ≡ cs
+      → (k == 0 || are_increments_valid spec.role spec k n base (pieces ++ more)) ≡ true → (k == 0 || equal_in spec.role k n (pieces ++ more)) ≡ true → contents_of spec k n base (pieces ++ more) ≡ cs
       → packed_field n spec (packed_bits base k pieces ++ more) ≡ Ok (found cs more)
   packed_reads base k pieces more cs lb small lp holds equal e =
       let w = spec.width in
@@ -107,7 +107,7 @@ module _ (spec : FieldSpec) (k n : ℕ) (base suffix : List Bool) where
       let cs = map (λ i. increased_to spec.may_be_missing spec.width (number_of base) k (number_of i)) (increments n k suffix) in
       (r.fits, λ low q. all_over spec.may_be_missing (number_of base) low k cs (under_lowest cs (number_of base) low r.increment_over q) r.short)
 
-  spec_by_kind : (kd : Kind) → AllLong (kind_step kd k) (increments n (kind_step kd k) suffix) → holds_by kd spec k n base suffix ≡ true → IsVaried kd spec.may_be_missing spec.width k (map (content_from kd spec k base) (increments n (kind_step kd k) suffix))
+  spec_by_kind : (kd : Kind) → AllLong (kind_step kd k) (increments n (kind_step kd k) suffix) → are_increments_valid_by kd spec k n base suffix ≡ true → IsVaried kd spec.may_be_missing spec.width k (map (content_from kd spec k base) (increments n (kind_step kd k) suffix))
   spec_by_kind kind.Character long h =
       let short : k ≤ spec.width / 8 = ltb-false (spec.width / 8) k (not_true (nat_lt (spec.width / 8) k) h) in
       (texts_fit (spec.width / 8) k (increments n (8 * k) suffix) short long, texts_again (spec.width / 8) k (increments n (8 * k) suffix) short long, short)
@@ -134,7 +134,7 @@ pub record IsWritten (kd : Kind) (spec : FieldSpec) (cs : List Content) (most : 
   pub small : k ≤ 63
   pub least : k ≤ most
   pub size : length pieces ≡ length cs * kind_step kd k
-  pub holds : (more : List Bool) → holds_by kd spec k (length cs) base (pieces ++ more) ≡ true
+  pub holds : (more : List Bool) → are_increments_valid_by kd spec k (length cs) base (pieces ++ more) ≡ true
   pub back : (more : List Bool) → map (content_from kd spec k base) (increments (length cs) (kind_step kd k) (pieces ++ more)) ≡ cs
 
 module _ (spec : FieldSpec) (cs : List Content) (most : ℕ) (some : 1 ≤ most) (small : most ≤ 63) where
@@ -152,7 +152,7 @@ module _ (spec : FieldSpec) (cs : List Content) (most : ℕ) (some : 1 ≤ most)
   -- numbers over a base that none is under
   numbers_written : (base : ℕ) → base < raw_limit spec.may_be_missing spec.width → AreNumbers spec.may_be_missing spec.width cs → AreOver base cs → (pass : list_all (has_bits spec.may_be_missing base most) cs ≡ true)
       → (k : ℕ) → k ≡ least_k (has_bits spec.may_be_missing base) cs → (more : List Bool)
-      → (numbers_hold spec k (length cs) (bits_in base spec.width) (flat_map (increment_bits base k) cs ++ more) ≡ true) × (map (number_from spec k (bits_in base spec.width)) (increments (length cs) k (flat_map (increment_bits base k) cs ++ more)) ≡ cs)
+      → (are_number_increments_valid spec k (length cs) (bits_in base spec.width) (flat_map (increment_bits base k) cs ++ more) ≡ true) × (map (number_from spec k (bits_in base spec.width)) (increments (length cs) k (flat_map (increment_bits base k) cs ++ more)) ≡ cs)
   numbers_written base fits are increment_over pass k e more =
       let m = spec.may_be_missing in
       let w = spec.width in
@@ -294,7 +294,7 @@ increments_count (suc n) k bits = ap suc (increments_count n k (drop k bits))
 
 -- an element or an inserted text: its increments are those of its kind
 record IsOpen (spec : FieldSpec) : Type 0 where
-  holds : (k n : ℕ) (base suffix : List Bool) → holds_in spec.role spec k n base suffix ≡ holds_by spec.kind spec k n base suffix
+  holds : (k n : ℕ) (base suffix : List Bool) → are_increments_valid spec.role spec k n base suffix ≡ are_increments_valid_by spec.kind spec k n base suffix
   equal : (k n : ℕ) (suffix : List Bool) → equal_in spec.role k n suffix ≡ true
   steps : (k : ℕ) → increment_bits_of spec.role spec.kind k ≡ kind_step spec.kind k
   packings : (cs : List Content) → packed_unlike spec.role spec cs ≡ packed_by spec.kind spec cs
@@ -302,7 +302,7 @@ record IsOpen (spec : FieldSpec) : Type 0 where
 
 open_element : (spec : FieldSpec) → spec.role ≡ role.Element → IsOpen spec
 open_element spec e = record {
-  holds = λ k n b s. ap (λ r. holds_in r spec k n b s) e;
+  holds = λ k n b s. ap (λ r. are_increments_valid r spec k n b s) e;
   equal = λ k n s. ap (λ r. equal_in r k n s) e;
   steps = λ k. ap (λ r. increment_bits_of r spec.kind k) e;
   packings = λ cs. ap (λ r. packed_unlike r spec cs) e;
@@ -311,7 +311,7 @@ open_element spec e = record {
 
 open_inserted : (spec : FieldSpec) → spec.role ≡ role.Inserted → IsOpen spec
 open_inserted spec e = record {
-  holds = λ k n b s. ap (λ r. holds_in r spec k n b s) e;
+  holds = λ k n b s. ap (λ r. are_increments_valid r spec k n b s) e;
   equal = λ k n s. ap (λ r. equal_in r k n s) e;
   steps = λ k. ap (λ r. increment_bits_of r spec.kind k) e;
   packings = λ cs. ap (λ r. packed_unlike r spec cs) e;
@@ -348,7 +348,7 @@ module _ (n : ℕ) (spec : FieldSpec) (good : IsSpec spec) where
         out = packed_bits w.base w.k w.pieces;
         is = ap (λ b. if b then Ok (packed_bits (bits_for spec.width c) 0 []) else packed_unlike spec.role spec (c ∷ cs)) unlike ∙ o.packings (c ∷ cs) ∙ w.is;
         again = λ more. packed_reads n spec w.base w.k w.pieces more (c ∷ cs) w.long w.small (size ∙ ap (λ s. n * s) (sym (o.steps w.k)))
-            (rw no_zero (o.holds w.k n w.base (w.pieces ++ more) ∙ ap (λ j. holds_by spec.kind spec w.k j w.base (w.pieces ++ more)) (sym count) ∙ w.holds more))
+            (rw no_zero (o.holds w.k n w.base (w.pieces ++ more) ∙ ap (λ j. are_increments_valid_by spec.kind spec w.k j w.base (w.pieces ++ more)) (sym count) ∙ w.holds more))
             (rw no_zero (o.equal w.k n (w.pieces ++ more)))
             (rw no_zero (ap (λ j. map (content_from spec.kind spec w.k w.base) (increments j (kind_step spec.kind w.k) (w.pieces ++ more))) (sym count) ∙ w.back more));
         short =
@@ -379,29 +379,29 @@ module _ (n : ℕ) (spec : FieldSpec) (good : IsSpec spec) where
     count_is : length (c ∷ cs) ≡ n
     count_is = ap length (sym are) ∙ length-map (increments n (kind_step spec.kind k) suffix) (content_from spec.kind spec k base) ∙ increments_count n (kind_step spec.kind k) suffix
 
-    varies_so : n * kind_step spec.kind k ≤ length suffix → holds_by spec.kind spec k n base suffix ≡ true → IsVaried spec.kind spec.may_be_missing spec.width k (c ∷ cs)
+    varies_so : n * kind_step spec.kind k ≤ length suffix → are_increments_valid_by spec.kind spec k n base suffix ≡ true → IsVaried spec.kind spec.may_be_missing spec.width k (c ∷ cs)
     varies_so enough h = subst (IsVaried spec.kind spec.may_be_missing spec.width k) are (spec_by_kind spec k n base suffix spec.kind (increments_all n (kind_step spec.kind k) suffix enough).0 h)
 
-    of_open : IsOpen spec → n * increment_bits_of spec.role spec.kind k ≤ length suffix → holds_in spec.role spec k n base suffix ≡ true → PacksWithin n spec (c ∷ cs) (spec.width + 6 + n * increment_bits_of spec.role spec.kind k)
+    of_open : IsOpen spec → n * increment_bits_of spec.role spec.kind k ≤ length suffix → are_increments_valid spec.role spec k n base suffix ≡ true → PacksWithin n spec (c ∷ cs) (spec.width + 6 + n * increment_bits_of spec.role spec.kind k)
     of_open o enough h =
         let same_step = ap (λ s. n * s) (o.steps k) in
         of_element o c cs k (spec.width + 6 + n * increment_bits_of spec.role spec.kind k) (are_same c cs) refl some small (varies_so (omega (arith, enough, same_step)) (sym (o.holds k n base suffix) ∙ h)) count_is (omega (arith, same_step))
 
     -- what was read with k above 0, for each role
-    by_role : (r : Role) → spec.role ≡ r → n * increment_bits_of spec.role spec.kind k ≤ length suffix → holds_in spec.role spec k n base suffix ≡ true → equal_in spec.role k n suffix ≡ true → PacksWithin n spec (c ∷ cs) (spec.width + 6 + n * increment_bits_of spec.role spec.kind k)
+    by_role : (r : Role) → spec.role ≡ r → n * increment_bits_of spec.role spec.kind k ≤ length suffix → are_increments_valid spec.role spec k n base suffix ≡ true → equal_in spec.role k n suffix ≡ true → PacksWithin n spec (c ∷ cs) (spec.width + 6 + n * increment_bits_of spec.role spec.kind k)
     by_role role.Element er enough h q = of_open (open_element spec er) enough h
     by_role role.Inserted er enough h q = of_open (open_inserted spec er) enough h
-    by_role role.Reference er enough h q = let no : false ≡ true = ap (λ r. holds_in r spec k n base suffix) (sym er) ∙ h in absurd cc
+    by_role role.Reference er enough h q = let no : false ≡ true = ap (λ r. are_increments_valid r spec k n base suffix) (sym er) ∙ h in absurd cc
     by_role role.Factor er enough h q =
         let as_number : spec.kind ≡ kind.Numeric = (subst (λ r. HasRole r spec.kind spec.may_be_missing) er good.role).0 in
         let same_step = ap (λ r. n * increment_bits_of r spec.kind k) er in
-        let v = varies_so (omega (arith, enough, same_step)) (ap (λ r. holds_in r spec k n base suffix) (sym er) ∙ h) in
+        let v = varies_so (omega (arith, enough, same_step)) (ap (λ r. are_increments_valid r spec k n base suffix) (sym er) ∙ h) in
         let equal : all_equal k n (number_of (take k suffix)) suffix ≡ true = ap (λ r. equal_in r k n suffix) (sym er) ∙ q in
         let copies = sym (equal_numbers spec k (number_of (take k suffix)) base (increments n k suffix) equal) ∙ ap (λ kd. map (content_from kd spec k base) (increments n (kind_step kd k) suffix)) (sym as_number) ∙ are in
         uniform c cs _ (subst (λ r. FitsRole r spec c) (sym er) (first_fits_kind spec.kind k c cs v)) (copies_are (length (increments n k suffix)) _ c cs copies).1 count_is (omega arith)
 
   -- what was read with any k
-  by_k : (b : Bool) (k : ℕ) → (k == 0) ≡ b → (c : Content) (cs : List Content) (base suffix : List Bool) → length base ≡ spec.width → k ≤ 63 → n * increment_bits_of spec.role spec.kind k ≤ length suffix → (b || holds_in spec.role spec k n base suffix) ≡ true → (b || equal_in spec.role k n suffix) ≡ true
+  by_k : (b : Bool) (k : ℕ) → (k == 0) ≡ b → (c : Content) (cs : List Content) (base suffix : List Bool) → length base ≡ spec.width → k ≤ 63 → n * increment_bits_of spec.role spec.kind k ≤ length suffix → (b || are_increments_valid spec.role spec k n base suffix) ≡ true → (b || equal_in spec.role k n suffix) ≡ true
       → (if b then replicate n (content_in spec base) else map (content_from spec.kind spec k base) (increments n (kind_step spec.kind k) suffix)) ≡ c ∷ cs → PacksWithin n spec (c ∷ cs) (spec.width + 6 + n * increment_bits_of spec.role spec.kind k)
   by_k true k p c cs base suffix lb small enough h q e =
       let f = copies_are n (content_in spec base) c cs e in
@@ -441,7 +441,7 @@ lesser_step kind.Numeric k j g = g
 
 module _ (n : ℕ) (spec : FieldSpec) (some : 1 ≤ n) where
   -- a reference has no k but 0
-  lesser_k : (r : Role) (b : Bool) (k j : ℕ) (base suffix : List Bool) → (k == 0) ≡ b → (b || holds_in r spec k n base suffix) ≡ true → n * increment_bits_of r spec.kind k ≤ n * increment_bits_of r spec.kind j → k ≤ j
+  lesser_k : (r : Role) (b : Bool) (k j : ℕ) (base suffix : List Bool) → (k == 0) ≡ b → (b || are_increments_valid r spec k n base suffix) ≡ true → n * increment_bits_of r spec.kind k ≤ n * increment_bits_of r spec.kind j → k ≤ j
   lesser_k r true k j base suffix p e h = omega (arith, eqb-true k 0 p)
   lesser_k role.Element false k j base suffix p e h = lesser_step spec.kind k j (le_of_mul-le-mul_left h some)
   lesser_k role.Inserted false k j base suffix p e h = lesser_step spec.kind k j (le_of_mul-le-mul_left h some)

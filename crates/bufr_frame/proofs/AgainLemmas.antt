@@ -7,7 +7,7 @@ use Rattle.std.proofs.lemmas.Bool.{true≢false, cases_Bool}
 use Rattle.std.proofs.lemmas.List.{take-append-drop, get_or-take, get_or-drop}
 use Rattle.bufr_frame.specs.declared.fault.SectionFault.{SectionFault}
 use Rattle.bufr_frame.specs.declared.fault.SectionFault.TheVariants.{SectionShort, SectionPast}
-use Rattle.bufr_frame.specs.Prelude.{u24_at, u16_at, words, three_octets, two_octets, octets_of_words, is_edition, first_least, head_size, head_of, head_by_edition, flags_of, octet_at, head_3, head_4, octets_3, octets_4, values_of, mosts_of, Sections, sections_of, section_end, parts, edition_of, has_section2, is_long_edition_3, parts_if_end_matches, IsPlain, section2_begins, section3_begins, section4_begins, parts_in, message_size, message_octets, section0_octets, section1_octets, section2_octets, section2_size, section3_octets, section4_octets, head_octets, data_flags, even_size, with_even_length, max_extra_octets, max_octets, IsFitting, is_writable, Head}
+use Rattle.bufr_frame.specs.Prelude.{u24_at, u16_at, words, three_octets, two_octets, octets_of_words, is_edition, first_least, head_size, head_of, head_by_edition, flags_of, octet_at, head_3, head_4, octets_3, octets_4, values_of, greatest_values, Sections, sections_of, section_end, parts, edition_of, has_section2, is_long_edition_3, parts_if_end_matches, IsPlain, section2_begins, section3_begins, section4_begins, parts_in, message_size, message_octets, section0_octets, section1_octets, section2_octets, section2_size, section3_octets, section4_octets, head_octets, data_flags, even_size, with_even_length, max_extra_octets, max_octets, IsFitting, is_writable, Head}
 use Rattle.bufr_bits.specs.Prelude.{◌>>=◌}
 use Rattle.bufr_frame.proofs.LayoutLemmas.{length-octets_of_words, even-3, length-words}
 use Rattle.std.proofs.lemmas.List.Elements.{All-take, All-drop}
@@ -509,13 +509,13 @@ writable-3 h e c s y l z = grind (arith, common_steps)
 
 pub fitting-writable : (h : Head) → IsFitting h → is_writable h ≡ true
 fitting-writable h fits =
-    let bound : (i : ℕ) → h.edition ≡ 3 → slice_index (values_of h) i ≤ slice_index (mosts_of 3) i = λ i is. subst (λ n. slice_index (values_of h) i ≤ slice_index (mosts_of n) i) is (fits.fits i) in
+    let bound : (i : ℕ) → h.edition ≡ 3 → slice_index (values_of h) i ≤ slice_index (greatest_values 3) i = λ i is. subst (λ n. slice_index (values_of h) i ≤ slice_index (greatest_values n) i) is (fits.fits i) in
     edition-cases h.edition fits.edition
     (λ is. writable-3 h is (bound 1 is) (bound 2 is) (bound 9 is) (bound 6 is) (bound 14 is))
     (λ is. writable-4 h is)
 
 -- what holds of the greatest values of both editions
-pub by-third : (P : List ℕ → Type 0) (e : ℕ) → P (mosts_of 3) → P (mosts_of 4) → P (mosts_of e)
+pub by-third : (P : List ℕ → Type 0) (e : ℕ) → P (greatest_values 3) → P (greatest_values 4) → P (greatest_values e)
 by-third P e of_3 of_4 = by (e == 3)
   where
     by : (third : Bool) → P (let wide = if third then 255 else 65535 in let late = if third then 0 else 255 in 255 ∷ wide ∷ wide ∷ 255 ∷ 255 ∷ 255 ∷ late ∷ 255 ∷ 255 ∷ wide ∷ 255 ∷ 255 ∷ 255 ∷ 255 ∷ late ∷ [])
@@ -543,10 +543,10 @@ module _ (m : List ℕ) (small : (i : ℕ) → slice_index m i < 256) where
   two : (i : ℕ) → u16_at m i ≤ 65535
   two i = omega (arith, small i, small (i + 1))
 
-  head-3-fits : AreAtMost (values_of (head_3 m)) (mosts_of 3)
+  head-3-fits : AreAtMost (values_of (head_3 m)) (greatest_values 3)
   head-3-fits = (byte 11, (byte 13, (byte 12, (byte 14, (byte 16, (byte 17, ((omega arith), (byte 18, (byte 19, (byte 20, (byte 21, (byte 22, (byte 23, (byte 24, ((omega arith), tt)))))))))))))))
 
-  head-4-fits : AreAtMost (values_of (head_4 m)) (mosts_of 4)
+  head-4-fits : AreAtMost (values_of (head_4 m)) (greatest_values 4)
   head-4-fits = (byte 11, (two 12, (two 14, (byte 16, (byte 18, (byte 19, (byte 20, (byte 21, (byte 22, (two 23, (byte 25, (byte 26, (byte 27, (byte 28, (byte 29, tt)))))))))))))))
 
   head-of-fits : is_edition (edition_of m) ≡ true → IsFitting (head_of m)
@@ -554,9 +554,9 @@ module _ (m : List ℕ) (small : (i : ℕ) → slice_index m i < 256) where
   head-of-fits known =
       edition-cases (edition_of m) known
       (λ e. let h : head_of m ≡ head_3 m = ap (λ n. record (if n == 3 then head_3 m else head_4 m) { edition = edition_of m }) e in
-      subst IsFitting (sym h) (record { edition = known; fits = λ i. subst (λ n. slice_index (values_of (head_3 m)) i ≤ slice_index (mosts_of n) i) (sym e) (at-most (values_of (head_3 m)) (mosts_of 3) head-3-fits i) }))
+      subst IsFitting (sym h) (record { edition = known; fits = λ i. subst (λ n. slice_index (values_of (head_3 m)) i ≤ slice_index (greatest_values n) i) (sym e) (at-most (values_of (head_3 m)) (greatest_values 3) head-3-fits i) }))
       (λ e. let h : head_of m ≡ head_4 m = ap (λ n. record (if n == 3 then head_3 m else head_4 m) { edition = edition_of m }) e in
-      subst IsFitting (sym h) (record { edition = known; fits = λ i. subst (λ n. slice_index (values_of (head_4 m)) i ≤ slice_index (mosts_of n) i) (sym e) (at-most (values_of (head_4 m)) (mosts_of 4) head-4-fits i) }))
+      subst IsFitting (sym h) (record { edition = known; fits = λ i. subst (λ n. slice_index (values_of (head_4 m)) i ≤ slice_index (greatest_values n) i) (sym e) (at-most (values_of (head_4 m)) (greatest_values 4) head-4-fits i) }))
 
 pub heads-fit : (m : List ℕ) (s : Sections) → ((i : ℕ) → slice_index m i < 256) → sections_of m ≡ Ok s → IsFitting s.head
 heads-fit m s small is = let e = sections-ended m s is in subst (λ (x : Sections). IsFitting x.head) (sym e.is) (head-of-fits m small e.edition)
@@ -567,12 +567,12 @@ flag-small : (b : Bool) → (if b then 128 else 0) < 256
 flag-small true = omega arith
 flag-small false = omega arith
 
-head-3 : (h : Head) (b : Bool) → ((i : ℕ) → slice_index (values_of h) i ≤ slice_index (mosts_of 3) i) → AllByRecursion (λ octet. octet < 256) (octets_3 h (if b then 128 else 0))
+head-3 : (h : Head) (b : Bool) → ((i : ℕ) → slice_index (values_of h) i ≤ slice_index (greatest_values 3) i) → AllByRecursion (λ octet. octet < 256) (octets_3 h (if b then 128 else 0))
 head-3 h b fits =
     let f0 = fits 0 in let f1 = fits 1 in let f2 = fits 2 in let f3 = fits 3 in let f4 = fits 4 in let f5 = fits 5 in let f6 = fits 7 in let f7 = fits 8 in let f8 = fits 9 in let f9 = fits 10 in let f10 = fits 11 in let f11 = fits 12 in let f12 = fits 13 in let f13 = flag-small b in
     grind (arith, common_steps)
 
-head-4 : (h : Head) (b : Bool) → ((i : ℕ) → slice_index (values_of h) i ≤ slice_index (mosts_of 4) i) → AllByRecursion (λ octet. octet < 256) (octets_4 h (if b then 128 else 0))
+head-4 : (h : Head) (b : Bool) → ((i : ℕ) → slice_index (values_of h) i ≤ slice_index (greatest_values 4) i) → AllByRecursion (λ octet. octet < 256) (octets_4 h (if b then 128 else 0))
 head-4 h b fits =
     let f0 = fits 0 in let f1 = fits 1 in let f2 = fits 2 in let f3 = fits 3 in let f4 = fits 4 in let f5 = fits 5 in let f6 = fits 6 in let f7 = fits 7 in let f8 = fits 8 in let f9 = fits 9 in let f10 = fits 10 in let f11 = fits 11 in let f12 = fits 12 in let f13 = fits 13 in let f14 = fits 14 in let f15 = flag-small b in
     grind (arith, common_steps)
@@ -580,5 +580,5 @@ head-4 h b fits =
 pub head-small : (h : Head) (b : Bool) → IsFitting h → AllByRecursion (λ octet. octet < 256) (head_octets h b)
 head-small h b g =
     let flags = if b then 128 else 0 in
-    let P : ℕ → Type 0 = λ n. ((i : ℕ) → slice_index (values_of h) i ≤ slice_index (mosts_of n) i) → AllByRecursion (λ octet. octet < 256) (if n == 3 then octets_3 h flags else octets_4 h flags) in
+    let P : ℕ → Type 0 = λ n. ((i : ℕ) → slice_index (values_of h) i ≤ slice_index (greatest_values n) i) → AllByRecursion (λ octet. octet < 256) (if n == 3 then octets_3 h flags else octets_4 h flags) in
     edition-cases h.edition g.edition (λ e. subst P (sym e) (head-3 h b) g.fits) (λ e. subst P (sym e) (head-4 h b) g.fits)

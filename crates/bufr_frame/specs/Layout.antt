@@ -2,7 +2,7 @@
 -- lengths are the least, reserved bits zero, is this project's choice) Cited by public contracts.
 use Rattle.std.specs.Prelude.{◌≡◌, ℕ, ◌≤◌, ◌+◌, ◌*◌, ◌==◌, nat_le, ◌&&◌, ◌||◌, Bool, true, false, List, [], ◌∷◌, ◌++◌, Option, Some, None, length, codes, is_some, slice_index, if◌then◌else◌}
 use Rattle.bufr_frame.specs.Octets.{three_octets, two_octets, octets_of_words}
-use Rattle.bufr_frame.specs.Section1.{is_edition, first_least, octets_3, octets_4, values_of, mosts_of}
+use Rattle.bufr_frame.specs.Section1.{is_edition, first_least, octets_3, octets_4, values_of, greatest_values}
 use Rattle.bufr_frame.specs.Sections.{Sections, is_padded}
 use Rattle.bufr_frame.specs.declared.section1.Head.{Head}
 
@@ -86,7 +86,7 @@ is_writable h =
 -- The edition of a head is one that is read, and each of its values fits its octets.
 pub record IsFitting (h : Head) : Type 0 where
   pub edition : is_edition h.edition ≡ true
-  pub fits : (i : ℕ) → slice_index (values_of h) i ≤ slice_index (mosts_of h.edition) i
+  pub fits : (i : ℕ) → slice_index (values_of h) i ≤ slice_index (greatest_values h.edition) i
 
 -- section 1 after its length and before its local use; bit 1 of the flags: there is a section 2
 -- rule: section-2-flag

@@ -87,7 +87,7 @@ abbrev pub head_of : List ℕ → Head
 head_of m = record (head_by_edition m) { edition = edition_of m }
 
 -- section 1 of edition 3 after its length
--- rule: section-1-of-edition-3
+-- rule: section-1-of-edition-3, year-of-the-century
 abbrev pub octets_3 : Head → (flags : ℕ) → List ℕ
 octets_3 h flags =
     h.master ∷ h.subcentre ∷ h.centre ∷ h.update ∷ flags ∷ h.category ∷ h.subcategory
@@ -111,8 +111,8 @@ values_of h =
 -- the greatest of them; in edition 3 centre, sub-centre and year have one octet, and the local
 -- sub-category and the second none
 -- rule: reading-header-ranges
-abbrev pub mosts_of : (edition : ℕ) → List ℕ
-mosts_of edition =
+abbrev pub greatest_values : (edition : ℕ) → List ℕ
+greatest_values edition =
     let wide = if edition == 3 then 255 else 65535 in
     let late = if edition == 3 then 0 else 255 in
     255 ∷ wide ∷ wide ∷ 255 ∷ 255 ∷ 255 ∷ late ∷ 255 ∷ 255 ∷ wide ∷ 255 ∷ 255 ∷ 255 ∷ 255

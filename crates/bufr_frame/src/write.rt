@@ -50,7 +50,7 @@ fn push_three(octets: &mut Vec<u8>, n: usize) -> Result<(), AllocError>
 }
 
 /// Section 1 of edition 3 after its length.
-// rule: section-1-of-edition-3
+// rule: section-1-of-edition-3, year-of-the-century
 fn head_octets_3(head: &Head, optional: bool) -> [u8; 14]
     requires centre { head.now.centre ≤ 255 }
     requires subcentre { head.now.subcentre ≤ 255 }

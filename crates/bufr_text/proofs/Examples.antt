@@ -3,7 +3,7 @@ use Rattle.std.proofs.Common.{◌≡◌, ℕ, List, [], ◌∷◌, ◌++◌, ref
 use Rattle.bufr_fill.specs.Prelude.{number_token, text_form, missing_form, reference_token, draft, Holds, Ends}
 use Rattle.bufr_text.specs.Prelude.{leasts, mosts, prefix_while, suffix_while, without_prefix, hex_read, fxy_read, descriptors_read, quoted_read, is_hashed, quoted, hex_text, descriptors_text, runs_after, Line, Passed, Header, Local1, Section2, Descriptors, Begins, Item, Wrong, keys, place_from, value_read, worded, line_of, Opens, Closes, line_within_limit, ParseResult, Complete, Refused, NotAllowed, SubsetCount, HeaderRange, turn, parse_lines, lines_of, documents_of, Document, open_documents_of, split_of, parse_open_lines, item_text, local1_line, descriptors_line, text_of_lines, IsDumpable, dump_text_of, header_lines, subset_lines, item_entries, subset_entries, document_of, ls_line, AreEnded, IsProper, NumberedLine, numbered_line, numbered_lines, SubsetHeard, subsets_heard, entries_heard, IsDocument}
 use Rattle.bufr_frame.specs.declared.section1.Head.{Head}
-use Rattle.bufr_frame.specs.Prelude.{IsFitting, mosts_of, values_of, Sections}
+use Rattle.bufr_frame.specs.Prelude.{IsFitting, greatest_values, values_of, Sections}
 use Rattle.bufr_frame.proofs.AgainLemmas.{at-most}
 use Rattle.std.specs.Fmt.{digits}
 use Rattle.bufr_bits.specs.Prelude.{decimal_text_of, unsigned_text}
@@ -170,7 +170,7 @@ document_3 = record {
 
 -- the head of edition 4 fits its octets
 the_head_fits : IsFitting the_head
-the_head_fits = record { edition = refl; fits = at-most (values_of the_head) (mosts_of 4) ((omega arith), ((omega arith), ((omega arith), ((omega arith), ((omega arith), ((omega arith), ((omega arith), ((omega arith), ((omega arith), ((omega arith), ((omega arith), ((omega arith), ((omega arith), ((omega arith), ((omega arith), tt))))))))))))))) }
+the_head_fits = record { edition = refl; fits = at-most (values_of the_head) (greatest_values 4) ((omega arith), ((omega arith), ((omega arith), ((omega arith), ((omega arith), ((omega arith), ((omega arith), ((omega arith), ((omega arith), ((omega arith), ((omega arith), ((omega arith), ((omega arith), ((omega arith), ((omega arith), tt))))))))))))))) }
 
 -- the message and its reading give what the law asks for
 one_is_dumpable : IsDumpable one_block_number block_number

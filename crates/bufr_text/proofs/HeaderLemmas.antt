@@ -7,7 +7,7 @@ use Rattle.std.specs.Str.{bytes_eq}
 use Rattle.std.proofs.lemmas.Bool.Decides.{nat_tests}
 use Rattle.bufr_bits.proofs.DecimalLemmas.{and_first, and_second}
 use Rattle.bufr_tables.specs.Prelude.{fxy_of, is_fxy, f_in, x_in, y_in}
-use Rattle.bufr_frame.specs.Prelude.{IsFitting, is_edition, mosts_of, values_of}
+use Rattle.bufr_frame.specs.Prelude.{IsFitting, is_edition, greatest_values, values_of}
 use Rattle.bufr_frame.proofs.AgainLemmas.{at-most, by-third}
 use Rattle.std.proofs.lemmas.Iterator.Adapters.{position_from-zero}
 use Rattle.std.proofs.lemmas.Grind.{common_steps}
@@ -266,7 +266,7 @@ pub headed-fits : (d : Document) → IsHeaded d → IsFitting (head_from_values 
 unfolding leasts mosts
 headed-fits d h = record {
   edition = known (edition_in d) (value-least (edition_in d) d.header (omega (arith, h.whole)) h.ranges);
-  fits = at-most (values_of (head_from_values d)) (mosts_of (edition_in d))
+  fits = at-most (values_of (head_from_values d)) (greatest_values (edition_in d))
       (header-most d 1 h, (header-most d 2 h, (header-most d 3 h, (header-most d 4 h, (header-most d 5 h, (header-most d 6 h, (header-most d 7 h, (header-most d 8 h, (header-most d 9 h, (header-most d 10 h, (header-most d 11 h, (header-most d 12 h, (header-most d 13 h, (header-most d 14 h, (header-most d 15 h, tt)))))))))))))));
 }
 

@@ -9,7 +9,7 @@ use Rattle.bufr_text.specs.Prelude.{leasts, mosts, Document, edition_in, optiona
 use Rattle.bufr_text.proofs.ReaderLemmas.{stopped-reports}
 use Rattle.bufr_text.proofs.HeaderLemmas.{turn-holds, all-more, said-sound, any-edition, HoldsAfter, with_value, with_local1, with_section2, with_descriptors}
 use Rattle.bufr_text.proofs.LineLemmas.{IsLineOf, header-line, local1-line, section2-line, descriptors-line, subset-line, item-line, end-line, IsRun, message-line, runs-after, concat-after, IsAbove, lines-back}
-use Rattle.bufr_frame.specs.Prelude.{IsFitting, is_edition, mosts_of, values_of, Sections}
+use Rattle.bufr_frame.specs.Prelude.{IsFitting, is_edition, greatest_values, values_of, Sections}
 use Rattle.bufr_frame.proofs.AgainLemmas.{by-third}
 use Rattle.std.specs.List.{list_all}
 use Rattle.std.proofs.lemmas.Grind.{common_steps}
@@ -650,9 +650,9 @@ header-fits : (s : Sections) → IsFitting s.head → s.subsets < 65536 → InRa
 unfolding leasts mosts
 header-fits s h few =
     let vs = values_of s.head in
-    let ms = mosts_of s.head.edition in
+    let ms = greatest_values s.head.edition in
     let held : (i : ℕ) → (((nat_le 0 (slice_index vs i) && nat_le (slice_index vs i) (slice_index ms i)) ≡ true) × (slice_index vs i < 65536)) =
-    λ i. (up_to 0 (slice_index ms i) (slice_index vs i) (omega arith) (h.fits i), omega (arith, h.fits i, by-third (λ l. slice_index l i ≤ 65535) s.head.edition (all-few (mosts_of 3) i refl) (all-few (mosts_of 4) i refl))) in
+    λ i. (up_to 0 (slice_index ms i) (slice_index vs i) (omega arith) (h.fits i), omega (arith, h.fits i, by-third (λ l. slice_index l i ≤ 65535) s.head.edition (all-few (greatest_values 3) i refl) (all-few (greatest_values 4) i refl))) in
     let flag : (v : ℕ) → v ≤ 1 → (((nat_le 0 v && nat_le v 1) ≡ true) × (v < 65536)) = λ v b. (up_to 0 1 v (omega arith) (omega arith), omega arith) in
     let edition = edition-few s.head.edition h.edition in
     (edition.0, edition.1, ((held 0).0, (held 0).1, ((held 1).0, (held 1).1, ((held 2).0, (held 2).1, ((held 3).0, (held 3).1, ((held 4).0, (held 4).1, ((held 5).0, (held 5).1, ((held 6).0, (held 6).1, ((held 7).0, (held 7).1, ((held 8).0, (held 8).1, ((held 9).0, (held 9).1, ((held 10).0, (held 10).1, ((held 11).0, (held 11).1, ((held 12).0, (held 12).1, ((held 13).0, (held 13).1, ((held 14).0, (held 14).1, ((flag (bit s.observed) (bit-few s.observed)).0, (flag (bit s.observed) (bit-few s.observed)).1, ((flag (bit s.compressed) (bit-few s.compressed)).0, (flag (bit s.compressed) (bit-few s.compressed)).1, ((flag (bit (is_some s.section2)) (bit-few (is_some s.section2))).0, (flag (bit (is_some s.section2)) (bit-few (is_some s.section2))).1, (up_to 0 65535 s.subsets (omega arith) (omega (arith, few)), few, tt))))))))))))))))))))

@@ -9,7 +9,7 @@ use Rattle.bufr_tables.specs.Prelude.{fxy_of, fxy_text}
 pub use Rattle.bufr_text.specs.declared.line.QuotedToken.{QuotedToken}
 pub use Rattle.bufr_text.specs.declared.line.QuotedToken.TheVariants.{Closed, Octet, Nothing}
 use Rattle.std.specs.Str.{bytes_eq}
-use Rattle.bufr_frame.specs.Prelude.{mosts_of}
+use Rattle.bufr_frame.specs.Prelude.{greatest_values}
 use Rattle.bufr_fill.specs.Prelude.{DraftValue, number_token, text_form, missing_form, reference_token}
 
 -- the longest prefix of elements that pass a test, and the rest
@@ -205,7 +205,7 @@ unfoldable pub leasts : List ℕ
 leasts = 3 ∷ replicate 19 0
 
 unfoldable pub mosts : (edition : ℕ) → List ℕ
-mosts edition = 4 ∷ mosts_of edition ++ 1 ∷ 1 ∷ 1 ∷ 65535 ∷ []
+mosts edition = 4 ∷ greatest_values edition ++ 1 ∷ 1 ∷ 1 ∷ 65535 ∷ []
 
 -- the place of a key of this name, where the first of these keys has place `at`
 unfoldable pub place_from : (at : ℕ) → (name : List ℕ) → List (List ℕ) → Option ℕ

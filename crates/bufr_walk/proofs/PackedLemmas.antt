@@ -9,7 +9,7 @@ use Rattle.std.proofs.Math.Nat.{pow-le-pow_right, mul-le-mul_right}
 use Rattle.std.proofs.lemmas.Bool.Decides.{nat_tests}
 use Rattle.bufr_bits.specs.Prelude.{number_of, are_all_ones, bits_of, bits_at}
 use Rattle.bufr_bits.proofs.BitLemmas.{number_of-below, length-bits_at}
-use Rattle.bufr_walk.specs.Prelude.{increments, ones, padded_text, increment_bits_of, contents_of, packed_field, holds_in, equal_in, FieldSpec, Content, content_in, FieldFault, increment, unequal_factor, FieldRead, found, data_end, stays_within, all_within, is_missing, numbers_hold, holds_by, number_from, content_from, kind_step, content_kept, contents_found, was_found, has_base, fits_at, Role, IndexedItem, content_at, Kind}
+use Rattle.bufr_walk.specs.Prelude.{increments, ones, padded_text, increment_bits_of, contents_of, packed_field, are_increments_valid, equal_in, FieldSpec, Content, content_in, FieldFault, increment, unequal_factor, FieldRead, found, data_end, stays_within, all_within, is_missing, are_number_increments_valid, are_increments_valid_by, number_from, content_from, kind_step, content_kept, contents_found, was_found, has_base, fits_at, Role, IndexedItem, content_at, Kind}
 use Rattle.bufr_tables.specs.declared.table_b.Kind.{Kind}
 use Rattle.bufr_bits.proofs.DecimalLemmas.{and_first, and_second}
 use Rattle.bufr_tables.specs.Prelude.{is_character}
@@ -62,7 +62,7 @@ all_fit m w base k (suc n) bits h =
     fits true false past e = ap not e
     fits false is_missing past e = ap not e
 
-pub numbers_fit : (a : FieldSpec) (k n value width : ℕ) (base suffix : List Bool) → value ≡ number_of base → width ≡ a.width → value + ones k ≤ ones width → numbers_hold a k n base suffix ≡ true
+pub numbers_fit : (a : FieldSpec) (k n value width : ℕ) (base suffix : List Bool) → value ≡ number_of base → width ≡ a.width → value + ones k ≤ ones width → are_number_increments_valid a k n base suffix ≡ true
 numbers_fit a k n value width base suffix e f h = grind (arith, common_steps, all_fit)
 
 -- ---- What an item returns to the walk, or its fault, by tests of its increments.
@@ -88,7 +88,7 @@ item_ok false true true cs suffix ds mid e = let f = same_read (found cs suffix)
 -- an item at a bit, with its contents
 pub record IsAt (bits : List Bool) (at n : ℕ) (a : FieldSpec) (k : ℕ) (cs : List Content) : Type 0 where
   pub within : at + (a.width + 6 + n * increment_bits_of a.role a.kind k) ≤ length bits
-  pub holds : (k == 0 || holds_in a.role a k n (take a.width (drop at bits)) (drop (at + (a.width + 6)) bits)) ≡ true
+  pub holds : (k == 0 || are_increments_valid a.role a k n (take a.width (drop at bits)) (drop (at + (a.width + 6)) bits)) ≡ true
   pub are : contents_of a k n (take a.width (drop at bits)) (drop (at + (a.width + 6)) bits) ≡ cs
 
 found_by : (r : Result (FieldRead (List Content)) FieldFault) → was_found r ≡ true → (mid : List Bool) × (r ≡ Ok (found (contents_found r) mid))
@@ -105,7 +105,7 @@ parts bits at n a k h is =
     let read = number_of (take 6 (drop a.width here)) in
     let suffix = drop (a.width + 6) here in
     let there = found_by (packed_field n a here) h in
-    let t = item_ok (nat_lt (length here) (a.width + 6) || nat_lt (length suffix) (n * increment_bits_of a.role a.kind read)) (read == 0 || holds_in a.role a read n (take a.width here) suffix) (read == 0 || equal_in a.role read n suffix) (contents_of a read n (take a.width here) suffix) (drop (n * increment_bits_of a.role a.kind read) suffix) (contents_found (packed_field n a here)) there.0 there.1 in
+    let t = item_ok (nat_lt (length here) (a.width + 6) || nat_lt (length suffix) (n * increment_bits_of a.role a.kind read)) (read == 0 || are_increments_valid a.role a read n (take a.width here) suffix) (read == 0 || equal_in a.role read n suffix) (contents_of a read n (take a.width here) suffix) (drop (n * increment_bits_of a.role a.kind read) suffix) (contents_found (packed_field n a here)) there.0 there.1 in
     let ends = neither (nat_lt (length here) (a.width + 6)) (nat_lt (length suffix) (n * increment_bits_of a.role a.kind read)) t.0 in
     let same_k : read ≡ k = ap (λ bs. number_of (take 6 bs)) (drop-drop a.width at bits) ∙ sym is in
     let same : suffix ≡ drop (at + (a.width + 6)) bits = drop-drop (a.width + 6) at bits in
@@ -113,7 +113,7 @@ parts bits at n a k h is =
     let room : n * increment_bits_of a.role a.kind k ≤ length suffix = subst (λ x. n * increment_bits_of a.role a.kind x ≤ length suffix) same_k (ltb-false (length suffix) (n * increment_bits_of a.role a.kind read) ends.1) in
     record {
       within = omega (arith, long, room, length-drop at bits, length-drop (a.width + 6) here);
-      holds = ap (λ bs. k == 0 || holds_in a.role a k n (take a.width here) bs) (sym same) ∙ ap (λ x. x == 0 || holds_in a.role a x n (take a.width here) suffix) (sym same_k) ∙ t.1;
+      holds = ap (λ bs. k == 0 || are_increments_valid a.role a k n (take a.width here) bs) (sym same) ∙ ap (λ x. x == 0 || are_increments_valid a.role a x n (take a.width here) suffix) (sym same_k) ∙ t.1;
       are = ap (λ bs. contents_of a k n (take a.width here) bs) (sym same) ∙ ap (λ x. contents_of a x n (take a.width here) suffix) (sym same_k) ∙ t.3;
     }
 
@@ -152,23 +152,23 @@ base_at a k n j base suffix cs e h are = ap (content_at j) (sym are) ∙ ap (λ 
 
 -- with increments: they are valid, have these contents, and each subset has so many bits
 pub record IsVaried (a : FieldSpec) (k n : ℕ) (base suffix : List Bool) (cs : List Content) : Type 0 where
-  pub holds : holds_by a.kind a k n base suffix ≡ true
+  pub holds : are_increments_valid_by a.kind a k n base suffix ≡ true
   pub contents : map (content_from a.kind a k base) (increments n (kind_step a.kind k) suffix) ≡ cs
   pub step : increment_bits_of a.role a.kind k ≡ kind_step a.kind k
 
-pub varied_parts : (a : FieldSpec) (k n : ℕ) (base suffix : List Bool) (cs : List Content) → 1 ≤ k → (k == 0 || holds_in a.role a k n base suffix) ≡ true → contents_of a k n base suffix ≡ cs → IsVaried a k n base suffix cs
+pub varied_parts : (a : FieldSpec) (k n : ℕ) (base suffix : List Bool) (cs : List Content) → 1 ≤ k → (k == 0 || are_increments_valid a.role a k n base suffix) ≡ true → contents_of a k n base suffix ≡ cs → IsVaried a k n base suffix cs
 varied_parts a k n base suffix cs some h are =
     let some_bits = not_zero k some in
-    let p = by a.role (ap (λ x. x || holds_in a.role a k n base suffix) (sym some_bits) ∙ h) in
+    let p = by a.role (ap (λ x. x || are_increments_valid a.role a k n base suffix) (sym some_bits) ∙ h) in
     record { holds = p.0; contents = ap (λ b. if b then replicate n (content_in a base) else map (content_from a.kind a k base) (increments n (kind_step a.kind k) suffix)) (sym some_bits) ∙ are; step = p.1 }
   where
-    by : (r : Role) → holds_in r a k n base suffix ≡ true → (holds_by a.kind a k n base suffix ≡ true) × (increment_bits_of r a.kind k ≡ kind_step a.kind k)
+    by : (r : Role) → are_increments_valid r a k n base suffix ≡ true → (are_increments_valid_by a.kind a k n base suffix ≡ true) × (increment_bits_of r a.kind k ≡ kind_step a.kind k)
     by role.Element h = (h, refl)
     by role.Inserted h = (h, refl)
     by role.Factor h = (h, refl)
     by role.Reference h = absurd cc
 
-pub varied_at : (a : FieldSpec) (k n j : ℕ) (base suffix : List Bool) (cs : List Content) → 1 ≤ k → j < n → (k == 0 || holds_in a.role a k n base suffix) ≡ true → contents_of a k n base suffix ≡ cs
+pub varied_at : (a : FieldSpec) (k n j : ℕ) (base suffix : List Bool) (cs : List Content) → 1 ≤ k → j < n → (k == 0 || are_increments_valid a.role a k n base suffix) ≡ true → contents_of a k n base suffix ≡ cs
     → content_at j cs ≡ content_from a.kind a k base (take (kind_step a.kind k) (drop (j * kind_step a.kind k) suffix))
 varied_at a k n j base suffix cs some below h are =
     ap (content_at j) (sym (varied_parts a k n base suffix cs some h are).contents) ∙ at_map (content_from a.kind a k base) n (kind_step a.kind k) j suffix below
@@ -253,7 +253,7 @@ one_holds a k n j base suffix h true all = refl
 one_holds a k n j base suffix h false all = all_at (λ i. stays_within a.may_be_missing a.width (number_of base) k (number_of i)) n k j suffix h all
 
 -- a number with an increment is valid, unless its base is missing
-pub number_holds : (kd : Kind) (a : FieldSpec) (k n j : ℕ) (base suffix : List Bool) → is_character kd ≡ false → j < n → holds_by kd a k n base suffix ≡ true → (is_missing a base || stays_within a.may_be_missing a.width (number_of base) k (number_of (take k (drop (j * k) suffix)))) ≡ true
+pub number_holds : (kd : Kind) (a : FieldSpec) (k n j : ℕ) (base suffix : List Bool) → is_character kd ≡ false → j < n → are_increments_valid_by kd a k n base suffix ≡ true → (is_missing a base || stays_within a.may_be_missing a.width (number_of base) k (number_of (take k (drop (j * k) suffix)))) ≡ true
 number_holds kind.Character a k n j base suffix c h all = absurd cc
 number_holds kind.Coded a k n j base suffix c h all = one_holds a k n j base suffix h (is_missing a base) all
 number_holds kind.Numeric a k n j base suffix c h all = one_holds a k n j base suffix h (is_missing a base) all

@@ -9,7 +9,7 @@ use Rattle.bufr_tables.specs.Prelude.{is_character, Row, Tree}
 use Rattle.bufr_walk.specs.declared.compressed.ItemBits.{ItemBits}
 use Rattle.bufr_walk.specs.declared.fault.DataFault.{DataFault}
 use Rattle.bufr_walk.specs.Readers.{AreKept}
-use Rattle.bufr_walk.specs.Prelude.{FieldSpec, data_end, FieldFault, increment, unequal_factor, Content, FieldRead, increment_bits_of, contents_of, holds_in, answer_first, equal_in, packed_field, IsSeen, IsUnseen, HasSpecAt, IsPut, no_field, item_at_location, indexed_items, IsStoredReading, PackedCursor, item_at, items_at, contents_found, fits_at, packed_view, IsPackedTaken, wrong_of, PackedTakes, remaining_bits, refuses_packed, new_packed_in, fault_at, IndexedItem, max_values, items_at_once, Item, packed, ReadsItems, ReadsPass, next_after, turns_after, after, Data, together, IsPackedReading, turns_together, spot, walk_fault_of, bits_before, IsRead, IsFault, IsRefused, Stop, walk_stop, too_many, field_stop, field_stop_of, stop_at, ComesToTogether, would_be_many, IsPackedShort, data_in, data_of, read_by, IsReadingOf, WalkStop, Course, Next, take_next, refused, next_item, TakenField, Takes, ticked, oks, answers_of, Walked, TurnRefusal, stop_by}
+use Rattle.bufr_walk.specs.Prelude.{FieldSpec, data_end, FieldFault, increment, unequal_factor, Content, FieldRead, increment_bits_of, contents_of, are_increments_valid, answer_first, equal_in, packed_field, IsSeen, IsUnseen, HasSpecAt, IsPut, no_field, item_at_location, indexed_items, IsStoredReading, PackedCursor, item_at, items_at, contents_found, fits_at, packed_view, IsPackedTaken, wrong_of, PackedTakes, remaining_bits, refuses_packed, new_packed_in, fault_at, IndexedItem, max_values, items_at_once, Item, packed, ReadsItems, ReadsPass, next_after, turns_after, after, Data, together, IsPackedReading, turns_together, spot, walk_fault_of, bits_before, IsRead, IsFault, IsRefused, Stop, walk_stop, too_many, field_stop, field_stop_of, stop_at, ComesToTogether, would_be_many, IsPackedShort, data_in, data_of, read_by, IsReadingOf, WalkStop, Course, Next, take_next, refused, next_item, TakenField, Takes, ticked, oks, answers_of, Walked, TurnRefusal, stop_by}
 use Rattle.std.specs.Ordering.{int_eq}
 use Rattle.std.proofs.Math.Bool.{beq}
 use Rattle.std.specs.List.{All, list_all}
@@ -44,7 +44,7 @@ module _ (bits : List Bool) (at n : ℕ) (a : FieldSpec) where
   -- an item by its tests, with a k that is known
   abbrev tested : (k : ℕ) (suffix : List Bool) → Result (FieldRead (List Content)) FieldFault
   tested k suffix =
-      item_tested (nat_lt (length (drop at bits)) (a.width + 6) || nat_lt (length suffix) (n * increment_bits_of a.role a.kind k)) (k == 0 || holds_in a.role a k n (take a.width (drop at bits)) suffix) (k == 0 || equal_in a.role k n suffix) (contents_of a k n (take a.width (drop at bits)) suffix) (drop (n * increment_bits_of a.role a.kind k) suffix)
+      item_tested (nat_lt (length (drop at bits)) (a.width + 6) || nat_lt (length suffix) (n * increment_bits_of a.role a.kind k)) (k == 0 || are_increments_valid a.role a k n (take a.width (drop at bits)) suffix) (k == 0 || equal_in a.role k n suffix) (contents_of a k n (take a.width (drop at bits)) suffix) (drop (n * increment_bits_of a.role a.kind k) suffix)
 
   field_is : (k : ℕ) → k ≡ number_of (take 6 (drop (at + a.width) bits)) → packed_field n a (drop at bits) ≡ tested k (drop (at + (a.width + 6)) bits)
   field_is k is = ap (λ x. tested x (drop (a.width + 6) (drop at bits))) (k_here k is) ∙ ap (tested k) (drop-drop (a.width + 6) at bits)
@@ -69,7 +69,7 @@ module _ (bits : List Bool) (at n : ℕ) (a : FieldSpec) where
 
   -- an item that is there whole
   whole : (k size : ℕ) → at + size ≤ length bits → k ≡ number_of (take 6 (drop (at + a.width) bits)) → size ≡ a.width + 6 + n * increment_bits_of a.role a.kind k
-      → packed_field n a (drop at bits) ≡ item_tested false (k == 0 || holds_in a.role a k n (take a.width (drop at bits)) (drop (at + (a.width + 6)) bits)) (k == 0 || equal_in a.role k n (drop (at + (a.width + 6)) bits)) (contents_of a k n (take a.width (drop at bits)) (drop (at + (a.width + 6)) bits)) (drop (at + size) bits)
+      → packed_field n a (drop at bits) ≡ item_tested false (k == 0 || are_increments_valid a.role a k n (take a.width (drop at bits)) (drop (at + (a.width + 6)) bits)) (k == 0 || equal_in a.role k n (drop (at + (a.width + 6)) bits)) (contents_of a k n (take a.width (drop at bits)) (drop (at + (a.width + 6)) bits)) (drop (at + size) bits)
   whole k size within is size_is =
       let suffix = drop (at + (a.width + 6)) bits in
       let s = increment_bits_of a.role a.kind k in
@@ -78,7 +78,7 @@ module _ (bits : List Bool) (at n : ℕ) (a : FieldSpec) where
       let ends : at + (a.width + 6) + n * s ≡ at + size = omega arith in
       field_is k is ∙ rw (there, enough, drop-drop (n * s) (at + (a.width + 6)) bits ∙ ap (λ j. drop j bits) ends) refl
 
-  pub seen_here : (seen : ItemBits) (size : ℕ) → 1 ≤ a.width → seen.end ≡ at + size → at + size ≤ length bits → seen.step ≡ number_of (take 6 (drop (at + a.width) bits)) → size ≡ a.width + 6 + n * increment_bits_of a.role a.kind seen.step → (seen.step == 0 || holds_in a.role a seen.step n (take a.width (drop at bits)) (drop (at + (a.width + 6)) bits)) ≡ true → (seen.step == 0 || equal_in a.role seen.step n (drop (at + (a.width + 6)) bits)) ≡ true → seen.answer ≡ answer_first a (contents_of a seen.step n (take a.width (drop at bits)) (drop (at + (a.width + 6)) bits)) → (is_character a.kind ≡ false → seen.base ≡ number_of (take a.width (drop at bits))) → IsSeen bits at n a seen
+  pub seen_here : (seen : ItemBits) (size : ℕ) → 1 ≤ a.width → seen.end ≡ at + size → at + size ≤ length bits → seen.step ≡ number_of (take 6 (drop (at + a.width) bits)) → size ≡ a.width + 6 + n * increment_bits_of a.role a.kind seen.step → (seen.step == 0 || are_increments_valid a.role a seen.step n (take a.width (drop at bits)) (drop (at + (a.width + 6)) bits)) ≡ true → (seen.step == 0 || equal_in a.role seen.step n (drop (at + (a.width + 6)) bits)) ≡ true → seen.answer ≡ answer_first a (contents_of a seen.step n (take a.width (drop at bits)) (drop (at + (a.width + 6)) bits)) → (is_character a.kind ≡ false → seen.base ≡ number_of (take a.width (drop at bits))) → IsSeen bits at n a seen
   seen_here seen size some end_is within is size_is holds equal gives based = record {
     contents = contents_of a seen.step n (take a.width (drop at bits)) (drop (at + (a.width + 6)) bits);
     field = whole seen.step size within is size_is ∙ rw (holds, equal, end_is) refl;
@@ -89,10 +89,10 @@ module _ (bits : List Bool) (at n : ℕ) (a : FieldSpec) where
     least = omega arith;
   }
 
-  pub invalid_here : (k size f : ℕ) → f ≡ a.fxy → at + size ≤ length bits → k ≡ number_of (take 6 (drop (at + a.width) bits)) → size ≡ a.width + 6 + n * increment_bits_of a.role a.kind k → (k == 0 || holds_in a.role a k n (take a.width (drop at bits)) (drop (at + (a.width + 6)) bits)) ≡ false → IsUnseen bits at n a (wrong.Increment f)
+  pub invalid_here : (k size f : ℕ) → f ≡ a.fxy → at + size ≤ length bits → k ≡ number_of (take 6 (drop (at + a.width) bits)) → size ≡ a.width + 6 + n * increment_bits_of a.role a.kind k → (k == 0 || are_increments_valid a.role a k n (take a.width (drop at bits)) (drop (at + (a.width + 6)) bits)) ≡ false → IsUnseen bits at n a (wrong.Increment f)
   invalid_here k size f g within is size_is h = record { why = increment; field = whole k size within is size_is ∙ rw h refl; fault = ap wrong.Increment g }
 
-  pub unequal_here : (k size f : ℕ) → f ≡ a.fxy → at + size ≤ length bits → k ≡ number_of (take 6 (drop (at + a.width) bits)) → size ≡ a.width + 6 + n * increment_bits_of a.role a.kind k → (k == 0 || holds_in a.role a k n (take a.width (drop at bits)) (drop (at + (a.width + 6)) bits)) ≡ true → (k == 0 || equal_in a.role k n (drop (at + (a.width + 6)) bits)) ≡ false → IsUnseen bits at n a (wrong.UnequalFactor f)
+  pub unequal_here : (k size f : ℕ) → f ≡ a.fxy → at + size ≤ length bits → k ≡ number_of (take 6 (drop (at + a.width) bits)) → size ≡ a.width + 6 + n * increment_bits_of a.role a.kind k → (k == 0 || are_increments_valid a.role a k n (take a.width (drop at bits)) (drop (at + (a.width + 6)) bits)) ≡ true → (k == 0 || equal_in a.role k n (drop (at + (a.width + 6)) bits)) ≡ false → IsUnseen bits at n a (wrong.UnequalFactor f)
   unequal_here k size f g within is size_is h e = record { why = unequal_factor; field = whole k size within is size_is ∙ rw (h, e) refl; fault = ap wrong.UnequalFactor g }
 
 -- the bits of an item, part by part

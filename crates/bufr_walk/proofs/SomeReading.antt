@@ -5,7 +5,7 @@ use Rattle.std.proofs.lemmas.Bool.{leb-true, ltb-false}
 use Rattle.std.proofs.lemmas.Bool.Decides.{nat_tests}
 use Rattle.bufr_bits.proofs.DecimalLemmas.{and_first}
 use Rattle.bufr_tables.specs.Prelude.{y_of, IsLegal, is_legal_operator, Tree, bare, element, operator, fixed, delayed, is_inserted_text, Row, entry_of, allows_width, AreRows, row_of, Record}
-use Rattle.bufr_walk.specs.Prelude.{Role, TurnRefusal, Taken, FieldSpec, IsFor, IsForRole, Content, content_in, answer_by_role, FieldFault, data_end, FieldRead, found, plain_field, increments, increment_bits_of, kind_step, content_from, holds_in, equal_in, contents_of, packed_field, answer_first, Course, Next, take_next, astray, refused, at_end, NextTurn, asked, operated, ahead, counts_of, next_item, finish, open_end, group, pass_end, operator_turn, Rest, passes, unroll, if_valid_width, numeric_spec, coded_spec, text_spec, text_width, spec_by_kind, defined_field, new_reference_spec, unsigned_field, begin, element_spec, factor_field, factor_by, factor_spec, inserted_spec, OperatorModel, is_defining, after_operator, after_field, Item, DataCoding, plain, packed, next_after, after, ReadsItems, ReadsPass, ReadsSubsets, turns_after, turns_in, max_values, Data, Values, apart, together, IsReading, walk_stop, too_many, field_stop, field_stop_of, walk_fault_of, IsRefused, Stop, stop_at, would_be_many, WalkFault, Kind}
+use Rattle.bufr_walk.specs.Prelude.{Role, TurnRefusal, Taken, FieldSpec, IsFor, IsForRole, Content, content_in, answer_by_role, FieldFault, data_end, FieldRead, found, plain_field, increments, increment_bits_of, kind_step, content_from, are_increments_valid, equal_in, contents_of, packed_field, answer_first, Course, Next, take_next, astray, refused, at_end, NextTurn, asked, operated, ahead, counts_of, next_item, finish, open_end, group, pass_end, operator_turn, Rest, passes, unroll, if_valid_width, numeric_spec, coded_spec, text_spec, text_width, spec_by_kind, defined_field, new_reference_spec, unsigned_field, begin, element_spec, factor_field, factor_by, factor_spec, inserted_spec, OperatorModel, is_defining, after_operator, after_field, Item, DataCoding, plain, packed, next_after, after, ReadsItems, ReadsPass, ReadsSubsets, turns_after, turns_in, max_values, Data, Values, apart, together, IsReading, walk_stop, too_many, field_stop, field_stop_of, walk_fault_of, IsRefused, Stop, stop_at, would_be_many, WalkFault, Kind}
 use Rattle.bufr_walk.proofs.SpecLemmas.{inserted_width}
 use Rattle.bufr_walk.proofs.WalkLemmas.{no_count, element_cases}
 use Rattle.bufr_walk.proofs.PackedLemmas.{item_ok, neither}
@@ -289,7 +289,7 @@ packed_forth n spec bits cs mid some e =
     let base = take spec.width bits in
     let suffix = drop (spec.width + 6) bits in
     let used = suc n * increment_bits_of spec.role spec.kind k in
-    let t = item_ok (nat_lt (length bits) (spec.width + 6) || nat_lt (length suffix) used) (k == 0 || holds_in spec.role spec k (suc n) base suffix) (k == 0 || equal_in spec.role k (suc n) suffix) (contents_of spec k (suc n) base suffix) (drop used suffix) cs mid e in
+    let t = item_ok (nat_lt (length bits) (spec.width + 6) || nat_lt (length suffix) used) (k == 0 || are_increments_valid spec.role spec k (suc n) base suffix) (k == 0 || equal_in spec.role k (suc n) suffix) (contents_of spec k (suc n) base suffix) (drop used suffix) cs mid e in
     let ends = neither (nat_lt (length bits) (spec.width + 6)) (nat_lt (length suffix) used) t.0 in
     record {
       gives = first_for spec cs (λ none. some_contents spec k n base suffix (t.3 ∙ none));

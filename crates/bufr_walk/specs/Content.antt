@@ -255,21 +255,21 @@ all_within m width base k n bits =
 
 -- whether the increments of numbers are valid; any are, where the base is missing
 -- rule: compressed-all-missing
-abbrev pub numbers_hold : FieldSpec → (k subsets : ℕ) → (base suffix : List Bool) → Bool
-numbers_hold spec k n base suffix =
+abbrev pub are_number_increments_valid : FieldSpec → (k n : ℕ) → (base suffix : List Bool) → Bool
+are_number_increments_valid spec k n base suffix =
     is_missing spec base || all_within spec.may_be_missing spec.width (number_of base) k n suffix
 
 -- whether the increments of an item are valid, by kind
 -- rule: compressed-text-past-width, compressed-text-base
-abbrev pub holds_by : Kind → FieldSpec → (k subsets : ℕ) → (base suffix : List Bool) → Bool
-holds_by kind.Character spec k n base suffix = not (nat_lt (spec.width / 8) k)
-holds_by _ spec k n base suffix = numbers_hold spec k n base suffix
+abbrev pub are_increments_valid_by : Kind → FieldSpec → (k n : ℕ) → (base suffix : List Bool) → Bool
+are_increments_valid_by kind.Character spec k n base suffix = not (nat_lt (spec.width / 8) k)
+are_increments_valid_by _ spec k n base suffix = are_number_increments_valid spec k n base suffix
 
 -- the same by role: a redefined reference has no increments
 -- rule: compressed-references
-abbrev pub holds_in : Role → FieldSpec → (k subsets : ℕ) → (base suffix : List Bool) → Bool
-holds_in role.Reference spec k n base suffix = false
-holds_in _ spec k n base suffix = holds_by spec.kind spec k n base suffix
+abbrev pub are_increments_valid : Role → FieldSpec → (k n : ℕ) → (base suffix : List Bool) → Bool
+are_increments_valid role.Reference spec k n base suffix = false
+are_increments_valid _ spec k n base suffix = are_increments_valid_by spec.kind spec k n base suffix
 
 -- whether all increments of k bits are the same number
 abbrev pub all_equal : (k subsets first : ℕ) → List Bool → Bool
@@ -323,7 +323,7 @@ packed_field n spec bits =
     let suffix = drop (spec.width + 6) bits in
     let used = n * increment_bits_of spec.role spec.kind k in
     if nat_lt (length bits) (spec.width + 6) || nat_lt (length suffix) used then Err data_end
-    else if not (k == 0 || holds_in spec.role spec k n base suffix) then Err increment
+    else if not (k == 0 || are_increments_valid spec.role spec k n base suffix) then Err increment
     else if not (k == 0 || equal_in spec.role k n suffix) then Err unequal_factor
     else Ok (found (contents_of spec k n base suffix) (drop used suffix))
 

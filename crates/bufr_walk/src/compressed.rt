@@ -2,7 +2,7 @@
 ghost use Rattle.std.specs.Prelude.{unwrap_or, option_map, ◌≡◌, ◌≤◌, ◌<◌, ◌+◌, ◌*◌, ◌^◌, false, true, length, IfSome, ◌-◌, ◌/◌, ◌++◌, drop, MatchResult, IfOk, ◌==◌, ◌&&◌, take, get_or, replicate};
 ghost use Rattle.bufr_bits.specs.Prelude.{bits_at, number_of, bits_of, octets_of};
 ghost use Rattle.bufr_tables.specs.Prelude.{is_character};
-ghost use Rattle.bufr_walk.specs.Prelude.{stays_within, all_equal, numbers_hold, IsSeen, IsUnseen, call_kept, content_kept, items_at, fits_at, IsFor, is_reference, increment_bits_of, missing, number, shown, compressed_item_calls, compressed_subset_calls, seen_value, Shows, IndexedItem, new_packed_in, PackedTakes, refuses_packed};
+ghost use Rattle.bufr_walk.specs.Prelude.{stays_within, all_equal, are_number_increments_valid, IsSeen, IsUnseen, call_kept, content_kept, items_at, fits_at, IsFor, is_reference, increment_bits_of, missing, number, shown, compressed_item_calls, compressed_subset_calls, seen_value, Shows, IndexedItem, new_packed_in, PackedTakes, refuses_packed};
 ghost use Rattle.bufr_walk.specs.declared.walker.WalkStop.TheVariants as stops;
 ghost use Rattle.std.specs.List.{list_all};
 ghost use Rattle.std.proofs.Common.{arith, ap};
@@ -34,11 +34,17 @@ fn stays_within(spec: &Spec, base: u64, k: u32, increment: u64) -> bool
 
 /// Whether the increments of numbers are valid; a base of all ones makes all of them valid.
 // rule: compressed-all-missing
-fn numbers_hold(bits: &BitSlice<'_>, at: u64, subsets: u16, spec: &Spec, k: u32) -> bool
+fn are_number_increments_valid(
+    bits: &BitSlice<'_>,
+    at: u64,
+    subsets: u16,
+    spec: &Spec,
+    k: u32,
+) -> bool
     requires increment { k ≤ 63 }
     requires number { is_character spec.now.kind ≡ false }
     requires within { at + (spec.now.width + 6) + subsets * k ≤ 8 * length (octets_of bits.now) }
-    ensures { result ≡ numbers_hold spec.now k subsets
+    ensures { result ≡ are_number_increments_valid spec.now k subsets
         (bits_at (octets_of bits.now) at spec.now.width)
         (drop (at + (spec.now.width + 6)) (bits_of (octets_of bits.now))) }
 {
@@ -109,7 +115,7 @@ struct ItemBits {
 // rule: compressed-item, compressed-increments-there, fault-30-before-34, fault-34-before-33
 // rule: compressed-equal, compressed-references, compressed-factors
 // rule: compressed-text-past-width, compressed-text-base
-fn item_bits_at(
+fn valid_item_at(
     bits: &BitSlice<'_>,
     at: u64,
     subsets: u16,
@@ -140,7 +146,7 @@ fn item_bits_at(
         }
         let valid = match spec.kind() {
             Kind::Character => k <= spec.width() / 8,
-            Kind::Coded | Kind::Numeric => numbers_hold(bits, at, subsets, spec, k),
+            Kind::Coded | Kind::Numeric => are_number_increments_valid(bits, at, subsets, spec, k),
         };
         if !valid {
             return Err(DataFault::Increment(spec.fxy()));
@@ -232,7 +238,7 @@ impl<'a> Fields for PackedIn<'a> {
         if items * u64::from(self.subsets) > MAX_VALUES {
             return Err(DataFault::TooManyValues(spec.fxy()));
         }
-        let seen = item_bits_at(&self.bits, self.at, self.subsets, spec)?;
+        let seen = valid_item_at(&self.bits, self.at, self.subsets, spec)?;
         let item = IndexedItem {
             spec: *spec,
             at: self.at,

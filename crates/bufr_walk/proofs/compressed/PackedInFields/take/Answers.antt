@@ -10,8 +10,8 @@ pub returns-then-items-from-gt-MAX_VALUES-clause-step : goal.returns-then-items-
 returns-then-items-from-gt-MAX_VALUES-clause-step c =
     too_many_here c.args.self.now c.args.spec.now (bits_of (octets_of c.self.inside.bits)) c.self.inside.at c.self.inside.subsets c.self.inside.kept c.len.result c.from.result _ c.fxy.ensures (sym c.self.view_is) (omega arith) c.from.ensures c.if-items-from-gt-MAX_VALUES.true
 
-pub item_bits_at-requires-clause-within : goal.item_bits_at-requires-clause-within
-item_bits_at-requires-clause-within c = omega (arith, bits_length (octets_of c.self.inside.bits), c.self.invariant.within)
+pub valid_item_at-requires-clause-within : goal.valid_item_at-requires-clause-within
+valid_item_at-requires-clause-within c = omega (arith, bits_length (octets_of c.self.inside.bits), c.self.invariant.within)
 
 pub returns-in_err-seen-clause-step : goal.returns-in_err-seen-clause-step
 returns-in_err-seen-clause-step c =

@@ -8,8 +8,8 @@ use Rattle.bufr_tables.specs.Prelude.{is_character}
 use Rattle.bufr_tables.specs.declared.table_b.Kind.TheVariants as kind
 use Rattle.bufr_walk.specs.declared.spec.Role.TheVariants as role
 use Rattle.bufr_walk.specs.declared.spec.Taken.TheVariants as taken
-use Rattle.bufr_walk.proofs.compressed.item_bits_at.Goals as goal
-use Rattle.bufr_walk.proofs.compressed.item_bits_at.Goals.{then-is_text, else-is_text, then-k-eq0, else-k-eq0+else-reference+else-not-valid+in-Factor+else-not-equal, else-k-eq0+else-reference+else-not-valid+in-Element}
+use Rattle.bufr_walk.proofs.compressed.valid_item_at.Goals as goal
+use Rattle.bufr_walk.proofs.compressed.valid_item_at.Goals.{then-is_text, else-is_text, then-k-eq0, else-k-eq0+else-reference+else-not-valid+in-Factor+else-not-equal, else-k-eq0+else-reference+else-not-valid+in-Element}
 
 -- without increments the first content has the base
 first_base : (a : FieldSpec) (k n : ℕ) (base suffix : List Bool) → k ≡ 0 → 1 ≤ n → answer_of a (content_in a base) ≡ answer_first a (contents_of a k n base suffix)

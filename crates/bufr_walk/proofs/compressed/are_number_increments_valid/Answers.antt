@@ -2,8 +2,8 @@ use Rattle.std.proofs.Common.{Bool, true, false, ◌&&◌, drop, ◌≡◌, ◌�
 use Rattle.bufr_bits.specs.Prelude.{bits_of, bits_at, number_of, are_all_ones, octets_of}
 use Rattle.bufr_walk.specs.Prelude.{ones, stays_within, all_within, is_missing}
 use Rattle.bufr_walk.proofs.PackedLemmas.{passes_next, fails_next, stays_here, numbers_fit, all_ones}
-use Rattle.bufr_walk.proofs.compressed.numbers_hold.Goals as goal
-use Rattle.bufr_walk.proofs.compressed.numbers_hold.Goals.{then-base, else-base}
+use Rattle.bufr_walk.proofs.compressed.are_number_increments_valid.Goals as goal
+use Rattle.bufr_walk.proofs.compressed.are_number_increments_valid.Goals.{then-base, else-base}
 
 pub returns-then-base-k : goal.returns-then-base-k
 returns-then-base-k c =

@@ -1,7 +1,7 @@
 use Rattle.std.proofs.Common.{◌≡◌, ◌+◌, ◌-◌, ◌*◌, drop}
 use Rattle.bufr_bits.specs.Prelude.{bits_of, octets_of}
 use Rattle.bufr_walk.specs.Prelude.{all_within}
-use Rattle.bufr_walk.proofs.compressed.numbers_hold.Given as goal
+use Rattle.bufr_walk.proofs.compressed.are_number_increments_valid.Given as goal
 
 abbrev pub invariant-loop-subset : goal.invariant-loop-subset
 invariant-loop-subset l = record {
