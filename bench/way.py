@@ -21,9 +21,10 @@ BESIDE = {
     "other templates": "select take_specs put_specs take_new take_new_other",
     "other events of a stream": "classify write_stray write_fault push_stray",
     "other cells of a template": "apply take_inserted take_reference open_group end_pass key_by",
-    "other forms of data": "show_packed",
-    "other values": "signed_at show_other push_quoted push_any_item push_any_form fill_any fill_long fill_scaled put_tenths put_hundredths",
-    "the lines round the items": "subset into_sink take_block",
+    "other forms of data": "show_packed set_kept",
+    "the last octets of the data": "by_octets",
+    "other values": "number_at signed_at show_other push_quoted push_any_item push_any_form fill_any fill_long fill_scaled put_tenths put_hundredths",
+    "the lines round the items": "subset push push_through into_sink take_block",
     "the end of the stream": "flush last",
 }
 CRATES = "bits tables frame walk fill text cli".split()

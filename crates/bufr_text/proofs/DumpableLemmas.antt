@@ -1,5 +1,5 @@
 -- Rows of Table B that were read, and messages that can be dumped.
-use Rattle.std.proofs.Common.{◌≡◌, ℕ, suc, ◌/◌, ◌<◌, ◌≤◌, ◌^◌, Bool, true, false, ℤ, pos, negsuc, List, [], ◌∷◌, map, Option, Some, None, refl, subst, arith, zero, Result, Ok, Err, ◌+◌, ◌-◌, length, take, drop, sym, ◌∙◌, ap, ◌+ℤ◌, nat_abs, pow_mono, ◌==◌, nat_lt, if◌then◌else◌, unsigned_abs, slice_index, slice_range, unwrap_or}
+use Rattle.std.proofs.Common.{◌≡◌, ℕ, suc, ◌/◌, ◌<◌, ◌≤◌, ◌^◌, Bool, true, false, ℤ, pos, negsuc, List, [], ◌∷◌, map, Option, Some, None, refl, subst, arith, zero, Result, Ok, Err, ◌+◌, ◌-◌, length, take, drop, sym, ◌∙◌, ap, nat_abs, pow_mono, ◌==◌, nat_lt, if◌then◌else◌, unsigned_abs, slice_index, slice_range, unwrap_or}
 use Rattle.std.specs.List.{AllByRecursion}
 use Rattle.std.proofs.lemmas.Bool.Decides.{nat_tests}
 use Rattle.std.proofs.lemmas.Option.{option_and_then_some}

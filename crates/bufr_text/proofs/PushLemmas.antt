@@ -2,17 +2,17 @@
 use Rattle.std.proofs.Common.{◌≡◌, ℕ, ◌≤◌, List, ◌++◌, length, take, drop, sym, ◌∙◌, ap, Option, None, Some, Ok, Err, append_assoc, ◌+◌, zero, suc, [], ◌∷◌, replicate, refl, subst, arith, append-nil, length-append, map, inl, inr, codes, ◌-◌, ◌<◌, Bool, true, false, ◌*◌, ◌/◌, ◌%◌, ◌^◌, ◌&&◌, T, eqb, eqb→eq, eq-zero-or-pos, get_or, length-drop, int_lt, ◌==◌, if◌then◌else◌, not, ℤ, pos, negsuc, min, option_map, Result, flat_map, decimal, unwrap_or, IsTrue, ◌↔◌, is_some, unsigned_abs, slice_index}
 use Rattle.std.specs.Io.KnownBytes.{Appends}
 use Rattle.std.proofs.KnownBytes.{Appends-trans}
-use Rattle.std.proofs.lemmas.List.{take-append-drop, length-take-le, take_all, length-replicate, at_drop_more, at_drop_all, take_more, length-set, take_more_set}
+use Rattle.std.proofs.lemmas.List.{take_rest, take-append-drop, length-take-le, take_all, length-replicate, at_drop_more, at_drop_all, take_more, length-set, take_more_set}
 use Rattle.bufr_frame.specs.declared.fault.RunFault.{RunFault}
-use Rattle.bufr_text.specs.Prelude.{MovesPrefix, Writes, GrowsByPrefix, CountsWrites, LineModel, Moves, MovesOn, StaysFailed, PushesFrom, Pushes, Puts, joined, flag, zero_padded, item_text, subset_line, subset_lines, text_of_lines, head_lines, dump_text_of, bit, header_of, header_lines, local1_line, section2_line, descriptors_line, CountsFaults, MakesSteps, StepsWithin, WritesPrefix, call_line, PushesCall, descriptors_text, runs_after, runs_of, escaped, hex_pair, hex_text, is_unescaped, quoted, lead_of, key_at, counts_texts, ls_line, source_texts, time_texts, DocumentFault, RefusedAt, IsDocumentRefusal, reported_refusal, items_shown, dump_items}
+use Rattle.bufr_text.specs.Prelude.{MovesPrefix, Writes, GrowsByPrefix, CountsWrites, LineModel, Moves, MovesOn, StaysFailed, PushesFrom, Pushes, Puts, joined, flag, zero_padded, item_text, comment_text, subset_line, subset_lines, text_of_lines, head_lines, dump_text_of, bit, header_of, header_lines, local1_line, section2_line, descriptors_line, CountsFaults, MakesSteps, StepsWithin, WritesPrefix, call_line, PushesCall, descriptors_text, runs_after, runs_of, escaped, hex_pair, hex_text, is_unescaped, quoted, lead_of, key_at, counts_texts, ls_line, source_texts, time_texts, DocumentFault, RefusedAt, IsDocumentRefusal, reported_refusal, items_shown, dump_items}
 use Rattle.std.proofs.Math.Seq.{take-append_seam}
 use borrow.Rule.Slice.PartMut.{put_mid, post_of}
 use Rattle.std.proofs.lemmas.Grind.{common_steps}
 use Rattle.bufr_frame.specs.Prelude.{Sections}
 use Rattle.bufr_frame.specs.declared.fault.RunFault.TheVariants.{Write, Memory}
-use Rattle.bufr_tables.specs.Prelude.{Row, fxy_text, places}
+use Rattle.bufr_tables.specs.Prelude.{Row, fxy_text, places, row_comment, row_line_start}
 use Rattle.bufr_walk.specs.declared.fault.ShowFault.{ShowFault}
-use Rattle.bufr_walk.specs.Prelude.{item_call, Timed, view_of, content_at, item_calls, subset_calls, compressed_item_calls, compressed_subset_calls, calls_of, turns_shown, Shows, EndsAt, Content, Course, ticked, Item, Values, apart, together, plain, after, turns_after}
+use Rattle.bufr_walk.specs.Prelude.{item_call, Timed, View, shown_number, view_of, content_at, item_calls, subset_calls, compressed_item_calls, compressed_subset_calls, calls_of, turns_shown, Shows, EndsAt, Content, Course, ticked, Item, Values, apart, together, plain, after, turns_after}
 use Rattle.std.specs.Int.{from_bool}
 use Rattle.std.proofs.lemmas.Bool.{cases_lt}
 use lib.Ieee.Fits.{and_l, and_r}
@@ -125,6 +125,21 @@ nothing_pushed {a = a} = holds_pushes refl refl refl refl refl refl (sym (append
 -- the same text in other words
 pub retold : {a b : LineModel} {s t : List ℕ} → Pushes a s b → s ≡ t → Pushes a t b
 retold h1 h2 = grind (arith, nat_tests, common_steps)
+
+-- the comment of a row ends its line
+pub comment_line : (row : Row) → comment_text (Some row) ++ 10 ∷ [] ≡ row_comment row
+comment_line row =
+    ap (λ (xs : List ℕ). codes "  # " ++ xs)
+    (append_assoc row.name (codes " [" ++ (row.unit ++ codes "]")) (10 ∷ []) ∙ ap (λ (xs : List ℕ). row.name ++ (codes " [" ++ xs)) (append_assoc row.unit (codes "]") (10 ∷ []))
+    ∙ sym (append_assoc (row.name ++ codes " [") row.unit (codes "]\n") ∙ append_assoc row.name (codes " [") (row.unit ++ codes "]\n")))
+
+-- the line of a number that was read by a row
+pub number_line : (item : View) (row : Row) (n scale : ℤ) → item.fxy ≡ row.fxy → item.entry ≡ Some row → item.value ≡ shown_number n scale
+    → row_line_start row ++ (decimal_text_of n scale ++ row_comment row) ≡ item_text item ++ 10 ∷ []
+number_line item row n scale fxy entry value =
+    let text = decimal_text_of n scale in
+    rw (fxy, entry, value)
+    (ap (λ l. row_line_start row ++ l) (ap (λ l. text ++ l) (sym (comment_line row)) ∙ sym (append_assoc text (comment_text (Some row)) (10 ∷ []))))
 
 pub all_written : {a b c : LineModel} {text : List ℕ} {r : Result Unit RunFault} {old new : Option (List ℕ)} (x : Unit) → Pushes a text b → Pushes b [] c → a.status ≡ Ok x → a.held ≡ [] → c.held ≡ []
     → a.taken ≡ old → new ≡ c.taken → r ≡ c.status → Writes old new text r
@@ -777,6 +792,6 @@ pub ruleset held_steps = (holds_pushes, held_filled)
 
 pub ruleset run_steps = (length-set, take_more_set, take_more, quoted_more)
 
-pub ruleset write_steps = (more-written, empty_writes_after-some)
+pub ruleset write_steps = (more-written, empty_writes_after-some, take_rest)
 
 pub ruleset number_steps = (puts_then, puts_retold, puts_first, decimal_hundreds, decimal_pair, decimal_digit, decimal_two, signed_text, unsigned_whole, unsigned_places, unsigned_ten, five_places, hundredths_put, tenths_put, pairs_below, append_assoc, take_all, length-drop)

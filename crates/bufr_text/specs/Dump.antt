@@ -7,7 +7,7 @@ use Rattle.bufr_tables.specs.Prelude.{fxy_text, Row, is_name}
 use Rattle.bufr_frame.specs.Prelude.{Sections, IsFitting, values_of}
 use Rattle.bufr_fill.specs.Prelude.{DraftValue, draft, number_token, text_form, missing_form, reference_token, DraftEntry, Holds, Ends, subsets_from}
 use Rattle.bufr_text.specs.Documents.{Document}
-use Rattle.bufr_text.specs.Line.{keys, key_at, runs_of, hex_text, descriptors_text, quoted}
+use Rattle.bufr_text.specs.Line.{key_at, runs_of, hex_text, descriptors_text, quoted}
 use Rattle.bufr_walk.specs.Prelude.{View, view_of, Content, Item, ShownValue, shown_number, shown_text, shown_missing, shown_reference, Values, apart, together}
 use Rattle.std.specs.List.{AllByRecursion}
 use Rattle.bufr_frame.specs.declared.section1.Head.{Head}

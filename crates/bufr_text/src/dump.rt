@@ -167,22 +167,6 @@ fn push_any_item<W: Sink>(
     }
 }
 
-/// Pushes the line of an item. Most are numbers of 64 bits, or missing, and were read by an entry.
-#[inline(always)]
-pub(crate) fn push_item<W: Sink>(lines: &mut LineWriter<'_, '_, W>, item: &ItemView<'_>)
-    ensures { Pushes lines.old (item_text (seen item.now) ++ 10 ∷ []) lines.new }
-{
-    let (fxy, entry, value) = (item.fxy, item.entry, item.value);
-    if let Value::Number(number, scale) = value
-        && let Some(entry) = entry
-        && entry.fxy() == fxy
-        && let Ok(number) = i64::try_from(number)
-    {
-        return lines.push_number_line(entry, number, scale);
-    }
-    push_any_item(lines, fxy, entry, value);
-}
-
 /// Room for a line. The longest has 2,061 octets: a text of 4 * 255, a name and a unit of 512.
 const LINE: usize = 2_560;
 
@@ -232,7 +216,17 @@ impl<'b, 'w, W: Sink> Visitor for LineWriter<'b, 'w, W> {
     #[inline(always)]
     // rule: one-write-a-line
     fn item(&mut self, item: &ItemView<'_>) -> Result<(), RunFault> {
-        push_item(self, item);
+        let (fxy, entry, value) = (item.fxy, item.entry, item.value);
+        // most are numbers of 64 bits, and were read by an entry
+        if let Value::Number(number, scale) = value
+            && let Some(entry) = entry
+            && entry.fxy() == fxy
+            && let Ok(number) = i64::try_from(number)
+        {
+            self.push_number_line(entry, number, scale);
+        } else {
+            push_any_item(self, fxy, entry, value);
+        }
         self.end_line(PAGE);
         self.status()
     }

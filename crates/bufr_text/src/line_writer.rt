@@ -62,7 +62,7 @@ pub fn write_all<W: Sink>(octets: &[u8], w: &mut W) -> Result<(), RunFault>
     while !rest.is_empty() {
         match w.write(rest) {
             Ok(0) => return Err(RunFault::Write),
-            Ok(n) => rest = suffix(rest, n),
+            Ok(n) => rest = &rest[n..],
             Err(_) => return Err(RunFault::Write),
         }
     }

@@ -2,7 +2,7 @@
 #![tactic(auto, using(crate::proofs::PushLemmas::number_steps))]
 
 ghost use Rattle.std.specs.Prelude.{◌≡◌, ◌≤◌, ◌<◌, ◌+◌, ◌/◌, ◌%◌, ◌++◌, [], ◌∷◌, decimal, take, ◌==◌};
-ghost use Rattle.bufr_bits.specs.Prelude.{decimal_text_of, pointed, sign_of, unsigned_text};
+ghost use Rattle.bufr_bits.specs.Prelude.{decimal_text_of, pointed, unsigned_text};
 ghost use Rattle.bufr_tables.specs.Prelude.{row_of_entry, row_comment, row_line_start};
 ghost use Rattle.bufr_text.specs.Prelude.{Puts, Pushes};
 
@@ -77,28 +77,23 @@ fn put_pair(value: u64, free: &mut [u8], at: usize) -> Option<usize>
     put([tens, ones], free, at)
 }
 
-/// Puts the digits of a number below 100.
-#[inline(always)]
-fn put_two(value: u64, free: &mut [u8], at: usize) -> Option<usize>
-    requires { value < 100 }
-    ensures { Puts free.old at (decimal value) free.new result }
-{
-    if value < 10 {
-        return put([b'0' + value as u8], free, at);
-    }
-    put_pair(value, free, at)
-}
-
 /// Puts the digits of a number below 10,000.
 #[inline(always)]
 fn put_four(value: u64, free: &mut [u8], at: usize) -> Option<usize>
     requires { value < 10000 }
     ensures { Puts free.old at (decimal value) free.new result }
 {
-    if value < 100 {
-        return put_two(value, free, at);
+    if value < 10 {
+        return put([b'0' + value as u8], free, at);
     }
-    let at = put_two(value / 100, free, at)?;
+    if value < 100 {
+        return put_pair(value, free, at);
+    }
+    let at = if value < 1_000 {
+        put([b'0' + (value / 100) as u8], free, at)?
+    } else {
+        put_pair(value / 100, free, at)?
+    };
     put_pair(value % 100, free, at)
 }
 
@@ -205,40 +200,9 @@ fn fill_scaled(value: u64, scale: i16, free: &mut [u8]) -> Option<usize>
     None
 }
 
-/// Puts a number at a scale. Short ones are put at once.
-#[inline(always)]
-fn put_scaled(value: u64, scale: i16, free: &mut [u8], at: usize) -> Option<usize>
-    ensures { Puts free.old at (unsigned_text value scale) free.new result }
-{
-    if scale == 0 && value < 10_000 {
-        return put_decimal(value, free, at);
-    }
-    if scale == 1 && value < 100_000 {
-        return put_tenths(value, free, at);
-    }
-    if scale == 2 && value < 1_000_000 {
-        return put_hundredths(value, free, at);
-    }
-    if at > free.len() {
-        return None;
-    }
-    Some(at + fill_scaled(value, scale, &mut free[at..])?)
-}
-
-/// Puts a minus where a number is below zero.
-#[inline(always)]
-// rule: decimal-sign
-fn put_sign(number: i64, free: &mut [u8], at: usize) -> Option<usize>
-    ensures { Puts free.old at (sign_of number) free.new result }
-{
-    if number < 0 {
-        return put([b'-'], free, at);
-    }
-    put([], free, at)
-}
-
 /// Fills a prefix with the line of a number that an entry reads; `None` for a long or last row too.
 #[inline(always)]
+// rule: decimal-sign
 pub(crate) fn fill_number_line(
     entry: Entry<'_>,
     number: i64,
@@ -255,8 +219,21 @@ pub(crate) fn fill_number_line(
         return None;
     }
     let at = put_block::<START>(row, 7, free, 0)?;
-    let at = put_sign(number, free, at)?;
-    let at = put_scaled(number.unsigned_abs(), scale, free, at)?;
+    let at = if number < 0 {
+        put([b'-'], free, at)?
+    } else {
+        at
+    };
+    let size = number.unsigned_abs();
+    let at = if scale == 0 && size < 10_000 {
+        put_four(size, free, at)?
+    } else if scale == 1 && size < 100_000 {
+        put_tenths(size, free, at)?
+    } else if scale == 2 && size < 1_000_000 {
+        put_hundredths(size, free, at)?
+    } else {
+        at + fill_scaled(size, scale, &mut free[at..])?
+    };
     put_block::<COMMENT>(&row[7..], len, free, at)
 }
 

@@ -22,10 +22,10 @@ const EMPTY: u64 = u64::MAX;
 
 /// A cached spec: its key, and the index of its field in what the last reading kept.
 #[derive(Clone, Copy)]
-struct CachedSpec {
+pub(crate) struct CachedSpec {
     key: u64,
-    kept: u32,
-    spec: Spec,
+    pub(crate) kept: u32,
+    pub(crate) spec: Spec,
 }
 
 /// The specs of a template's first 1,024 cells, by Table B: for each cell the one that was found
@@ -98,15 +98,15 @@ impl<'a> SpecCache<'a> {
 
     /// The spec that was found last for a cell, if it was found under this key.
     #[inline(always)]
-    pub(crate) fn get(&self, place: u32, key: u64) -> Option<&Spec>
+    pub(crate) fn get(&self, place: u32, key: u64) -> Option<&CachedSpec>
         requires { key < 2 ^ 63 }
-        ensures { IfSome result (λ spec. IsSpecBy self.now key spec.now) }
+        ensures { IfSome result (λ cached. IsSpecBy self.now key cached.now.spec) }
     {
         let place = place as usize;
         if place < self.entries.len() {
-            let entry = &self.entries[place];
-            if entry.key == key {
-                return Some(&entry.spec);
+            let cached = &self.entries[place];
+            if cached.key == key {
+                return Some(cached);
             }
         }
         None
@@ -126,12 +126,6 @@ impl<'a> SpecCache<'a> {
                 spec: *spec,
             };
         }
-    }
-
-    /// The last index of the field of a cell among those that are kept.
-    #[inline(always)]
-    pub(crate) fn kept(&self, place: u32) -> Option<u32> {
-        self.entries.get(place as usize).map(|entry| entry.kept)
     }
 
     /// Notes the index of the field of a cell among those that are kept.

@@ -1,5 +1,5 @@
 //! The operators in force, and the specification of a field under them.
-ghost use Rattle.std.specs.Prelude.{◌≡◌, ◌≤◌, ◌<◌, ◌*◌, ◌+◌, ◌^◌, ◌+ℤ◌, ◌*ℤ◌, ◌==◌, pos, unsigned_abs, List, Result, Ok, Err, Some, OnOk, IfOk, IfErr, true, false};
+ghost use Rattle.std.specs.Prelude.{ℕ, ◌≡◌, ◌≤◌, ◌<◌, ◌*◌, ◌+◌, ◌^◌, ◌+ℤ◌, ◌*ℤ◌, ◌==◌, pos, unsigned_abs, List, Result, Ok, Err, Some, OnOk, IfOk, IfErr, true, false};
 ghost use Rattle.std.specs.BTreeMap.{get};
 ghost use Rattle.bufr_tables.specs.Prelude.{row_of_entry, is_legal_operator, is_inserted_text, IsRow};
 ghost use Rattle.bufr_walk.specs.Prelude.{if_valid_width, spec_by_kind, unsigned_field, scale_change_of, operator_width, OperatorModel, Redefined, current_reference, AreOperands, known_by, operator_model, IsOperatorKey, HasRole, descriptor_of, inserted_spec, begin, after_operator, after_field, IsFieldKey, spec_of, is_reference, TakesField};
@@ -348,13 +348,12 @@ impl OperatorState {
     // rule: 2-06-y-used-up
     pub(crate) fn take_other<S: Fields>(
         &mut self,
-        fxy: Fxy,
         spec: &Spec,
         fields: &mut S,
     ) -> Result<Taken, WalkStop<S::Fault>>
         requires { is_reference spec.now.role ≡ false }
         ensures took { TakesField S.takes (Ok spec.now) fields.old result fields.new }
-        ensures kept { IfOk result (λ t. self.new ≡ after_field self.old fxy t) }
+        ensures kept { IfOk result (λ t. (fxy : ℕ) → self.new ≡ after_field self.old fxy t) }
     {
         match fields.take(spec) {
             Ok(answer) => {
@@ -404,7 +403,7 @@ impl OperatorState {
         ensures kept { IfOk result (λ t. self.new ≡ after_field self.old fxy t) }
     {
         if !spec.is_reference() {
-            return self.take_other(fxy, spec, fields);
+            return self.take_other(spec, fields);
         }
         self.key = NO_KEY;
         match self.new_references.insert(fxy.word(), 0) {

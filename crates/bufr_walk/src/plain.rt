@@ -212,16 +212,6 @@ impl<'a> PlainIn<'a> {
         }
         Ok(answer_at(&self.bits, self.at, spec))
     }
-
-    /// Passes a field.
-    #[inline(always)]
-    pub(crate) fn skip(&mut self, spec: &Spec)
-        requires within { self.old.at + spec.now.width ≤ length self.old.bits }
-        requires small { self.old.at + spec.now.width < 2 ^ 64 }
-        ensures { self.new ≡ past self.old spec.now }
-    {
-        self.at += u64::from(spec.width());
-    }
 }
 
 impl<'a> Fields for PlainIn<'a> {
@@ -386,7 +376,8 @@ impl<'i, 't, 'v, 'b, V: Visitor> Fields for ShowFields<'i, 't, 'v, 'b, V> {
         };
         match show_field(self.input, self.table, spec, &mut self.text, self.visitor) {
             Ok(()) => {
-                self.input.skip(spec);
+                let input = &mut *self.input;
+                input.at += u64::from(spec.width());
                 Ok(answer)
             }
             Err(fault) => Err(ShowStop::Visitor(fault)),

@@ -188,17 +188,16 @@ fn take_field<S: Fields>(
         (λ t. in_force.new ≡ after_field in_force.old (descriptor_of field) t) }
     ensures same { cache.new ≡ cache.old }
 {
-    if let Some(kept) = cache.kept(place) {
-        fields.look_at(kept);
-    }
-    let fxy = field.fxy();
     let key = in_force.key(&field);
     let answer = match cache.get(place, key) {
-        Some(spec) => in_force.take_other(fxy, spec, fields),
+        Some(cached) => {
+            fields.look_at(cached.kept);
+            in_force.take_other(&cached.spec, fields)
+        }
         None => {
             let spec = in_force.spec(cache.table, &field)?;
             cache.insert(place, key, &spec);
-            in_force.take(fxy, &spec, fields)
+            in_force.take(field.fxy(), &spec, fields)
         }
     };
     if let Some(kept) = fields.last_place() {

@@ -3,7 +3,7 @@ use Rattle.bufr_walk.proofs.CacheLemmas.{spec_cached, spec_got_plain}
 use Rattle.bufr_walk.proofs.walker.take_field.Goals as goal
 
 pub take_other-answer-requires : goal.take_other-answer-requires
-take_other-answer-requires g c = spec_got_plain c.args.cache.now c.args.in_force.now c.args.field c.key-key.result c.in-Some-get.spec.now c.key-key.ensures c.in-Some-get.ensures
+take_other-answer-requires g c = spec_got_plain c.args.cache.now c.args.in_force.now c.args.field c.key-key.result c.in-Some.cached.now.spec c.key-key.ensures c.in-Some.ensures
 
 pub insert-requires : goal.insert-requires
 insert-requires g c =
