@@ -1,31 +1,31 @@
 #!/usr/bin/env python3
 """Prints the way of one octet through `dump`: each function that a number in plain data passes, from the read to the write.
 
-    bench/way.py [--all] [CALL]        CALL is a function of bufr_cli, `run_dump` by default
+    bench/way.py [--all] [CALL]        CALL is a free function, `run_dump` by default
 
 A line is NAME FILE:LINE, further in for each call. A function is printed where it is called first. The last line counts
-them. It reads the sources alone: an arm for `Err` or `None`, what comes after `else` of a `let`, and a block where the data
-are `compressed`, is left out. A call of a trait goes to each type of it that a function on the way names, and to `Device`,
-which the program hands in. Calls of std and of the kit are left out. Without --all so are the functions of BESIDE, which
-other octets pass.
+them. It reads the sources alone. Left out are arms for `Err` and `None`, what comes after `else` of a `let`, what is in
+`map_err` and `ok_or`, and blocks where the data are `compressed`. A call of a trait goes to each type of it that a function
+on the way names, and to `Device`, which the program hands in. Calls of std and of the kit are left out. Without --all so
+are the functions of BESIDE, which other octets pass.
 """
 import pathlib
 import re
 import sys
 
 TOP = pathlib.Path(__file__).resolve().parent.parent
-# What an octet does not pass that holds a short whole number, in the middle of data that are not compressed, under no operator.
+# What an octet of a short whole number does not pass, in the middle of plain data, under no operator.
 BESIDE = {
     "what is made before it is read": "new",
     "other sections": "section_end_at section_1 second_end is_padded head_at section2_of subsets compressed descriptors_of push_head_lines",
-    "other templates": "select take_specs put_specs take_new take_new_other",
+    "other templates": "select take_specs put_specs",
     "other events of a stream": "classify write_stray write_fault push_stray",
-    "other cells of a template": "apply take_inserted take_reference open_group end_pass key_by",
+    "other cells of a template": "apply take_inserted open_group end_pass key_by",
     "other forms of data": "show_packed set_kept",
     "the last octets of the data": "by_octets",
-    "other values": "number_at signed_at show_other push_quoted push_any_item push_any_form fill_any fill_long fill_scaled put_tenths put_hundredths",
-    "the lines round the items": "subset push push_through into_sink take_block",
-    "the end of the stream": "flush last",
+    "other values": "number_at signed_at show_other push_quoted push_any_item push_any_form fill_long fill_scaled put_tenths put_hundredths",
+    "the lines round the items": "subset push push_through into_sink",
+    "the end of the stream": "flush",
 }
 CRATES = "bits tables frame walk fill text cli".split()
 IMPL = re.compile(r"^impl(?:<.*?>)? (?:([\w:]+)(?:<.*?>)? for )?(\w+)")
@@ -89,7 +89,7 @@ class House:
 
     def add(self, path):
         text = re.sub(r"(?m)^\s*//.*$", "", path.read_text(encoding="utf-8"))
-        for kind, name in re.findall(r"(?m)^(?:pub(?:\(crate\))? )?(struct|enum|trait) (\w+)", text):
+        for name in re.findall(r"(?m)^(?:pub(?:\(crate\))? )?(?:struct|enum|trait) (\w+)", text):
             self.types.add(name)
         for name, body in re.findall(r"(?ms)^(?:pub(?:\(crate\))? )?struct (\w+)[^\n]*\{\n(.*?)^\}", text):
             self.fields[name] = dict(re.findall(r"(?m)^ *(?:pub(?:\(crate\))? )?(\w+): ([^\n]*?),?$", body))

@@ -7,7 +7,7 @@ ghost use Rattle.bufr_fill.specs.Prelude.{PlainFills};
 
 use crate::draft::Entries;
 use crate::fault::{DraftFault, Expected};
-use crate::field_value::{FieldContent, field_content, push_content, taken_of, wrong_item};
+use crate::field_value::{field_content, push_content, taken_of, wrong_item};
 use bufr_bits::BitWriter;
 use bufr_walk::{Fields, Spec, Taken};
 use std::alloc::Global;

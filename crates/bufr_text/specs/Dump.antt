@@ -67,8 +67,7 @@ dump_value_of (shown_reference v) = reference_token (decimal_text_of v (pos 0))
 -- rule: text-comment, text-no-comment
 abbrev pub comment_text : Option Row → List ℕ
 comment_text None = []
-comment_text (Some row) =
-    joined (codes "  # " ∷ row.name ∷ codes " [" ∷ row.unit ∷ codes "]" ∷ [])
+comment_text (Some row) = joined (codes "  # " ∷ row.name ∷ codes " [" ∷ row.unit ∷ codes "]" ∷ [])
 
 -- a descriptor and its value's text
 -- rule: text-quoted, text-missing, text-reference, text-inserted

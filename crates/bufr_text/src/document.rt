@@ -7,7 +7,6 @@ ghost use Rattle.bufr_text.specs.declared.document.ParserState.TheVariants.{Betw
 
 use crate::header::{MOST_WORDS, in_range};
 use crate::line::{MAX_LINE, ahead, decimal_item, read_line, suffix};
-use bufr_bits::ShortDecimal;
 use bufr_fill::{DraftItem, DraftValue, Entries};
 use bufr_frame::Head;
 use bufr_tables::Fxy;

@@ -32,7 +32,7 @@ fn push_octet_lines<W: Sink>(lines: &mut LineWriter<'_, '_, W>, word: &[u8], oct
         lines.push(word);
         lines.push_hex(run);
         lines.push(b"\n");
-        lines.end_line(PAGE);
+        lines.end_line();
         rest = left;
     }
 }
@@ -62,11 +62,12 @@ fn push_descriptor_lines<W: Sink>(lines: &mut LineWriter<'_, '_, W>, message: &M
         lines.push(b"descriptors");
         push_descriptors(lines, &mut words);
         lines.push(b"\n");
-        lines.end_line(PAGE);
+        lines.end_line();
     }
 }
 
-/// Pushes the lines before the subsets: `message`, a line of each key and its value, and the parts.
+/// Pushes the lines before the subsets: `message`, a line for each key, the octets for local use,
+/// section 2 and the descriptors.
 // rule: text-header, text-header-of-edition-3, text-section2
 pub(crate) fn push_head_lines<W: Sink>(lines: &mut LineWriter<'_, '_, W>, message: &Message<'_>)
     ensures { Pushes lines.old (text_of_lines (head_lines message.now)) lines.new }
@@ -167,7 +168,7 @@ fn push_any_item<W: Sink>(
     }
 }
 
-/// Room for a line. The longest has 2,061 octets: a text of 4 * 255, a name and a unit of 512.
+/// Room for a line. It has at most 2,061 octets: a text of 4 * 255, a name and a unit of 512 each.
 const LINE: usize = 2_560;
 
 /// What dumps by one table keep from message to message: the specs that are cached, and a block of
@@ -209,7 +210,7 @@ impl<'b, 'w, W: Sink> Visitor for LineWriter<'b, 'w, W> {
     fn subset(&mut self, number: u16) -> Result<(), RunFault> {
         self.push_named(b"subset ", u64::from(number));
         self.push(b"\n");
-        self.end_line(PAGE);
+        self.end_line();
         self.status()
     }
 
@@ -217,7 +218,7 @@ impl<'b, 'w, W: Sink> Visitor for LineWriter<'b, 'w, W> {
     // rule: one-write-a-line
     fn item(&mut self, item: &ItemView<'_>) -> Result<(), RunFault> {
         let (fxy, entry, value) = (item.fxy, item.entry, item.value);
-        // most are numbers of 64 bits, and were read by an entry
+        // Most are numbers of 64 bits, and were read by an entry.
         if let Value::Number(number, scale) = value
             && let Some(entry) = entry
             && entry.fxy() == fxy
@@ -227,7 +228,7 @@ impl<'b, 'w, W: Sink> Visitor for LineWriter<'b, 'w, W> {
         } else {
             push_any_item(self, fxy, entry, value);
         }
-        self.end_line(PAGE);
+        self.end_line();
         self.status()
     }
 }

@@ -12,7 +12,7 @@ use bufr_tables::Entry;
 use itoa::Buffer;
 use std::marker::Model;
 
-/// At the end of a line, so many octets or more are handed on: as many as the output holds.
+/// At the end of a line the held octets are handed on where they are at least so many.
 pub(crate) const PAGE: usize = 65_536;
 
 /// A writer of lines over a block of memory and a sink. Where a text does not fit, what is held is
@@ -88,7 +88,7 @@ fn hex_digit(n: u8) -> u8
     if n < 10 { b'0' + n } else { b'A' - 10 + n }
 }
 
-/// Copies the octets at the start that are unescaped, as far as there is room: how many they are.
+/// Copies the octets at the start that need no escape, as far as there is room. Returns how many.
 #[tactic(auto, using(crate::proofs::PushLemmas::run_steps))]
 #[inline(always)]
 fn fill_run(octets: &[u8], free: &mut [u8]) -> usize
@@ -147,12 +147,12 @@ impl<'b, 'w, W: Sink> LineWriter<'b, 'w, W> {
         }
     }
 
-    /// Writes what is held where that is at least so many octets, at the end of a line.
+    /// Writes what is held where that is at least [`PAGE`] octets, at the end of a line.
     #[inline(always)]
-    pub(crate) fn end_line(&mut self, least: usize)
+    pub(crate) fn end_line(&mut self)
         ensures { Pushes self.old [] self.new }
     {
-        if self.len >= least {
+        if self.len >= PAGE {
             self.hand_on();
         }
     }
@@ -212,7 +212,7 @@ impl<'b, 'w, W: Sink> LineWriter<'b, 'w, W> {
         self.push_through(Buffer::new().format(value).as_bytes());
     }
 
-    /// Pushes the line of a number that an entry reads.
+    /// Pushes the line of a number that was read by an entry.
     #[inline(always)]
     pub(crate) fn push_number_line(&mut self, entry: Entry<'_>, number: i64, scale: i16)
         ensures { Pushes self.old (row_line_start (row_of_entry entry.entry)
@@ -224,7 +224,7 @@ impl<'b, 'w, W: Sink> LineWriter<'b, 'w, W> {
         }
     }
 
-    /// Pushes the line of a number that an entry reads, text by text.
+    /// Pushes the line of a number that was read by an entry, text by text.
     #[inline(never)]
     fn push_long_line(&mut self, entry: Entry<'_>, number: i64, scale: i16)
         ensures { Pushes self.old (row_line_start (row_of_entry entry.entry)
@@ -282,7 +282,8 @@ impl<'b, 'w, W: Sink> LineWriter<'b, 'w, W> {
         self.push(&[b'\\', b'x', hex_digit(octet / 16), hex_digit(octet % 16)]);
     }
 
-    /// Pushes the first unescaped octets of a text, as far as there is room: how many they are.
+    /// Pushes the octets at the start of a text that need no escape, as far as there is room.
+    /// Returns how many.
     #[tactic(auto, using(crate::proofs::PushLemmas::held_steps))]
     #[inline(always)]
     fn push_run(&mut self, octets: &[u8]) -> usize

@@ -14,7 +14,7 @@ use itoa::Buffer;
 /// The digits of the greatest `u64`.
 const DIGITS: usize = 20;
 
-/// The octets of a number of 64 bits at a usual scale.
+/// Room for a number of 64 bits at a usual scale.
 const NUMBER: usize = 24;
 
 /// The octets in which the start of a line is copied: one more than it has.
@@ -41,7 +41,7 @@ pub(crate) fn pair(value: u64) -> (u8, u8)
     (PAIRS[from], PAIRS[from + 1])
 }
 
-/// Puts octets after those before `at`: the place after them, `None` where there is no room.
+/// Puts octets from `at` on. Returns the place after them, or `None` where there is no room.
 #[inline(always)]
 pub(crate) fn put<const N: usize>(octets: [u8; N], free: &mut [u8], at: usize) -> Option<usize>
     ensures { Puts free.old at octets.entry free.new result }
@@ -53,7 +53,8 @@ pub(crate) fn put<const N: usize>(octets: [u8; N], free: &mut [u8], at: usize) -
     Some(at + N)
 }
 
-/// Puts the first `len` octets of a text by a block; `None` where text or room is shorter than it.
+/// Puts the first `len` octets of a text by a block of `N`. `None` where text or room has fewer
+/// than `N` octets, or `len` is over `N`.
 #[inline(always)]
 fn put_block<const N: usize>(text: &[u8], len: usize, free: &mut [u8], at: usize) -> Option<usize>
     ensures { Puts free.old at (take len text.now) free.new result }
@@ -140,7 +141,7 @@ pub(crate) fn fill_named(name: &[u8], value: u64, free: &mut [u8]) -> Option<usi
         return None;
     }
     free[..name.len()].copy_from_slice(name);
-    // most numbers of a header have one digit or two
+    // Most numbers of a header have one digit or two.
     if value < 10 {
         return put([b'0' + value as u8], free, name.len());
     }
@@ -169,7 +170,7 @@ fn put_hundredths(value: u64, free: &mut [u8], at: usize) -> Option<usize>
     put([b'.', tens, ones], free, at)
 }
 
-/// Fills a prefix with a number at a scale; `None` for a scale that few elements have, too.
+/// Fills a prefix with a number at a scale. `None` also for a scale that few elements have.
 #[inline(never)]
 fn fill_scaled(value: u64, scale: i16, free: &mut [u8]) -> Option<usize>
     ensures { Puts free.old 0 (unsigned_text value scale) free.new result }
@@ -200,7 +201,8 @@ fn fill_scaled(value: u64, scale: i16, free: &mut [u8]) -> Option<usize>
     None
 }
 
-/// Fills a prefix with the line of a number that an entry reads; `None` for a long or last row too.
+/// Fills a prefix with the line of a number that was read by an entry. `None` also for a long
+/// comment, and for a row near the end of the table.
 #[inline(always)]
 // rule: decimal-sign
 pub(crate) fn fill_number_line(
@@ -214,7 +216,7 @@ pub(crate) fn fill_number_line(
         free.new result }
 {
     let (row, len) = entry.line_on();
-    // with these looks the compiler drops most of those for the parts
+    // After these checks the compiler drops most of those in the parts.
     if row.len() < 7 + COMMENT || len > COMMENT || free.len() < LINE {
         return None;
     }
@@ -238,7 +240,7 @@ pub(crate) fn fill_number_line(
 }
 
 impl<'b, 'w, W: Sink> LineWriter<'b, 'w, W> {
-    /// Pushes a number at a scale. Of 0 no zeros come after the digit.
+    /// Pushes a number at a scale. No zeros come after the digit 0.
     #[inline(never)]
     // rule: decimal-sign, decimal-point, decimal-zeros-after
     pub(crate) fn push_scaled(&mut self, value: i128, scale: i16)

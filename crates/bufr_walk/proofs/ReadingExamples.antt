@@ -21,6 +21,7 @@ delayed_blocks : Tree
 unfolding fxy
 delayed_blocks = delayed (fxy 0 31 1) (element (fxy 0 1 1) bare) bare
 
+-- rule: passes-by-count
 delayed_twice :
     (one delayed_blocks (2 ∷ 20 ∷ 44 ∷ []) ≡ gives ((7937, shown_number (pos 2) (pos 0)) ∷ (257, shown_number (pos 10) (pos 0)) ∷ (257, shown_number (pos 11) (pos 0)) ∷ []) (done 2 7))
     × (one delayed_blocks (0 ∷ []) ≡ gives ((7937, shown_number (pos 0) (pos 0)) ∷ []) (done 0 3))

@@ -27,6 +27,7 @@ abbrev pub Rest : Type 0
 Rest = List ℕ → Turns
 
 -- n passes of a body, and then the rest
+-- rule: passes-by-count
 abbrev pub passes : ℕ → (Rest → Rest) → Rest → Rest
 passes zero body rest counts = rest counts
 passes (suc n) body rest counts = body (λ later. pass_end (passes n body rest later)) counts

@@ -3,19 +3,17 @@ ghost use Rattle.std.specs.Prelude.{unwrap_or, option_map, ◌≡◌, ◌≤◌,
 ghost use Rattle.bufr_bits.specs.Prelude.{bits_at, number_of, bits_of, octets_of};
 ghost use Rattle.bufr_tables.specs.Prelude.{is_character};
 ghost use Rattle.bufr_walk.specs.Prelude.{stays_within, all_equal, are_number_increments_valid, IsSeen, IsUnseen, call_kept, content_kept, items_at, fits_at, IsFor, is_reference, increment_bits_of, missing, number, shown, compressed_item_calls, compressed_subset_calls, seen_value, Shows, IndexedItem, new_packed_in, PackedTakes, refuses_packed};
-ghost use Rattle.bufr_walk.specs.declared.walker.WalkStop.TheVariants as stops;
 ghost use Rattle.std.specs.List.{list_all};
 ghost use Rattle.std.proofs.Common.{arith, ap};
 
-use crate::fault::{DataFault, ShowFault, WalkFault, fault_at};
+use crate::fault::{DataFault, ShowFault};
 use crate::item_index::{IndexedItem, ItemIndex};
-use crate::lists::SpecCache;
 use crate::plain::{answer_at, copy_octets, number_at, ones_at, raw_at, show_value, value_at};
 use crate::spec::{Role, Spec, Taken};
 use crate::visitor::{ItemView, Value, Visitor, plain_number};
-use crate::walker::{Fields, Steps, WalkStop, walk_by};
+use crate::walker::Fields;
 use bufr_bits::BitSlice;
-use bufr_tables::{Fxy, Kind, TableB, Template};
+use bufr_tables::{Kind, TableB};
 use std::alloc::Global;
 use std::marker::Model;
 

@@ -6,7 +6,6 @@ ghost use Rattle.bufr_walk.specs.declared.walker.WalkStop.TheVariants as stops;
 use crate::walker::WalkStop;
 use bufr_frame::RunFault;
 use bufr_tables::Fxy;
-use std::alloc::AllocError;
 use std::fmt;
 use thiserror::Error;
 

@@ -1,9 +1,8 @@
 //! The last lists of descriptors, each with its template and the specs that its cells were read by.
 ghost use Rattle.std.specs.Prelude.{◌≡◌, ◌<◌, ◌^◌, Ok, IfSome, ◌≢◌, ◌≤◌, [], length, true, false, IfErr, OnOk, List, Err};
 ghost use Rattle.bufr_tables.specs.Prelude.{Row, Sequence, tree_of, tables_of};
-ghost use Rattle.bufr_walk.specs.TemplateCache.{MayStay, IsSlotBy, IsOther, AreSlots};
 ghost use Rattle.std.specs.List.{All};
-ghost use Rattle.bufr_walk.specs.Prelude.{IsSpecBy, MayStay, IsSlotBy};
+ghost use Rattle.bufr_walk.specs.Prelude.{IsSpecBy, MayStay, IsSlotBy, IsOther};
 
 use crate::spec::{Role, Spec};
 use bufr_tables::{Fxy, SelectedTemplate, TableB, TableD, Template, TemplateFault};
@@ -11,7 +10,7 @@ use std::alloc::{AllocError, Global};
 use std::marker::Model;
 use std::mem;
 
-/// How many cells of a template have their specs cached.
+/// The most cells of a template whose specs are cached.
 const MAX_CELLS: usize = 1024;
 
 /// The least number that is no key: nothing is cached under it.
@@ -76,7 +75,8 @@ impl<'a> SpecCache<'a> {
         self.alloc
     }
 
-    /// Drops all specs, and makes room for those of a template of this number of cells.
+    /// Drops all specs, and makes room for those of a template of this number of cells: for at most
+    /// 1,024.
     ///
     /// # Errors
     ///
@@ -194,7 +194,7 @@ impl<'a> Slot<'a> {
     }
 }
 
-/// Drops the first of the slots where they are full.
+/// Drops the first of the slots where there is no room for one more.
 fn drop_first(slots: &mut Vec<Slot<'_>>)
     requires { length slots.old.items ≤ 15 }
     ensures few { length slots.new.items ≤ 14 }

@@ -10,7 +10,7 @@ use crate::lists::NO_KEY;
 use crate::spec::{NumberParts, Role, Spec, Taken, TurnRefusal};
 use crate::walker::{Fields, WalkStop};
 use bufr_tables::{Entry, Fxy, Kind, TableB};
-use std::alloc::{AllocError, Global};
+use std::alloc::Global;
 use std::collections::BTreeMap;
 use std::marker::Model;
 
@@ -35,7 +35,7 @@ const NO_OPERATORS: OperatorOperands = OperatorOperands {
     local_width: 0,
 };
 
-/// A field that is read by an entry of Table B: an element, or the factor of a replication.
+/// A field that is looked up in Table B: an element, or the factor of a replication.
 #[derive(Clone, Copy)]
 pub(crate) enum TableField {
     Element(Fxy),
@@ -60,7 +60,7 @@ impl TableField {
 pub(crate) struct OperatorState {
     operands: OperatorOperands,
     new_references: BTreeMap<u16, i64>,
-    /// The key under which specs are cached.
+    /// The part of the operators in the key of a spec, or [`NO_KEY`].
     key: u64,
 }
 
@@ -75,7 +75,7 @@ impl Model for OperatorState {
         × IsOperatorKey (operator_model a.operands (known_by a.new_references.entries)) a.key };
 }
 
-/// The operands in one number, while no reference is defined; else a number that is no key.
+/// The operands in one number. [`NO_KEY`] where a reference is being defined or was redefined.
 fn key_by(operands: OperatorOperands, new_references: &BTreeMap<u16, i64>) -> u64
     ensures { IsOperatorKey (operator_model operands (known_by new_references.now.entries)) result }
 {
@@ -335,14 +335,14 @@ impl OperatorState {
             6 => self.operands.local_width = y,
             7 => self.operands.precision_increase = y,
             8 => self.operands.character_octets = y,
-            // 2 05 Y is a text of the template, and changes no operand.
+            // The walk does not apply 2 05 Y, which changes no operand.
             _ => {}
         }
         self.key = key_by(self.operands, &self.new_references);
         Ok(())
     }
 
-    /// Takes a field that is no reference.
+    /// Takes a field that is no reference. The width of 2 06 Y ends with it.
     #[inline(always)]
     #[tactic(auto, using(crate::proofs::WalkLemmas::no_reference))]
     // rule: 2-06-y-used-up
@@ -389,7 +389,8 @@ impl OperatorState {
         self.take(fxy, &spec, fields)
     }
 
-    /// Takes a field: a given width ends, and a reference is kept. Its room is made before.
+    /// Takes a field. The width of 2 06 Y ends with it, and a new reference is kept. Room for the
+    /// reference is made before.
     #[tactic(auto, using(crate::proofs::SpecLemmas::with_again, crate::proofs::SpecLemmas::known_more))]
     #[inline(never)]
     // rule: last-reference-counts

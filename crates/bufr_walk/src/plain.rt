@@ -12,7 +12,7 @@ use crate::spec::{Role, Spec, Taken};
 use crate::visitor::{ItemView, Value, Visitor, plain_number};
 use crate::walker::{Fields, Steps, WalkStop, walk_by};
 use bufr_bits::BitSlice;
-use bufr_tables::{Entry, Fxy, TableB, Template};
+use bufr_tables::{TableB, Template};
 use std::marker::Model;
 
 /// The number that bits inside the data write.
@@ -29,7 +29,7 @@ pub(crate) fn number_at(bits: &BitSlice<'_>, at: u64, width: u32) -> u64
     bits.number(at, width)
 }
 
-/// What at most 63 bits inside the data write.
+/// The number that bits write, and whether they are all ones.
 #[derive(Clone, Copy)]
 pub(crate) struct RawNumber {
     /// Their number.
@@ -38,7 +38,7 @@ pub(crate) struct RawNumber {
     pub(crate) all_ones: bool,
 }
 
-/// What at least one bit, all of them inside the data, write.
+/// Reads 1 to 63 bits inside the data.
 #[inline(always)]
 pub(crate) fn raw_at(bits: &BitSlice<'_>, at: u64, width: u32) -> RawNumber
     requires some { 1 ≤ width }
@@ -195,7 +195,8 @@ impl<'a> PlainIn<'a> {
         PlainIn { bits, at: 0 }
     }
 
-    /// What the next field returns to the walk, or that the data end in it. It is not passed.
+    /// What the next field returns to the walk, or that the data end in it. The field is not
+    /// passed.
     #[tactic(auto, using(crate::proofs::PlainLemmas::taken_here, crate::proofs::PlainLemmas::ends_here, crate::proofs::PlainLemmas::bits_length))]
     #[inline(always)]
     // rule: field-past-end
@@ -284,7 +285,7 @@ pub(crate) fn show_value<V: Visitor>(
     visitor.item(&ItemView { fxy, entry, value })
 }
 
-/// Shows a field that is not plain.
+/// Shows any field.
 #[inline(never)]
 fn show_other<V: Visitor>(
     input: &PlainIn<'_>,
@@ -440,7 +441,7 @@ fn show_items<V: Visitor>(
     walk_showing(template, cache, &mut fields, steps)
 }
 
-/// Data that are not compressed, their subsets and their template.
+/// Data that are not compressed, how many subsets they have, and their template.
 #[derive(Drop)]
 pub(crate) struct PlainData<'a> {
     pub bits: BitSlice<'a>,

@@ -23,7 +23,7 @@ pub enum Role {
 /// Why a step is refused: an invalid data width, or not allowed while 2 03 Y defines references.
 #[derive(Clone, Copy, Debug, PartialEq, Eq)]
 pub enum TurnRefusal {
-    /// A field that is not text is under 1 or over 63 bits wide.
+    /// A field that is not text is under 1 or over 63 bits wide, or Table B lacks its element.
     Width(Fxy),
     /// A step that is not allowed while 2 03 Y defines references.
     Defining(Fxy),

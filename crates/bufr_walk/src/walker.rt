@@ -16,7 +16,7 @@ use std::marker::Model;
 /// Why a walk stopped.
 #[derive(Debug, PartialEq, Eq, Drop)]
 pub enum WalkStop<E> {
-    /// A field that is not text is under 1 or over 63 bits wide.
+    /// A field that is not text is under 1 or over 63 bits wide, or Table B lacks its element.
     Width(Fxy),
     /// A step that is not allowed while 2 03 Y defines references.
     Defining(Fxy),
@@ -84,9 +84,9 @@ pub trait Fields {
     /// The relation of a call of `take`: before, the field's specification, the answer, after.
     ghost takes: { Self → FieldSpec → Result Taken Self.Fault → Self → Type 0 };
 
-    /// Takes the next field, and returns what the walk needs of it: [`Taken::Count`] exactly for a
-    /// factor, [`Taken::Reference`] exactly for a reference that is being defined, else
-    /// [`Taken::Plain`]. A field that is taken uses at least one bit.
+    /// Takes the next field, and returns what the walk needs of it. That is [`Taken::Count`]
+    /// exactly for a factor, [`Taken::Reference`] exactly for a reference that is being defined,
+    /// else [`Taken::Plain`]. A field that is taken uses at least one bit.
     ///
     /// # Errors
     ///
@@ -95,7 +95,7 @@ pub trait Fields {
         ensures step { takes self.old spec.now result self.new }
         ensures shape { IfOk result (λ t. IsFor spec.now t) };
 
-    /// Where fields that are kept look first for the next field: a guess.
+    /// Sets the index at which fields that are kept look first for the next field. It is a guess.
     fn look_at(&mut self, place: u32)
         ensures { self.new ≡ self.old }
     {
@@ -116,7 +116,7 @@ pub trait Fields {
         → takes s spec (Ok t) next
         → used s < used next };
 
-    /// A refusal uses none.
+    /// A field that is not taken uses no bit.
     ghost refuses: { (s : Self) (spec : FieldSpec) (e : Self.Fault) (next : Self)
         → takes s spec (Err e) next → used next ≡ used s };
 }
@@ -131,6 +131,7 @@ pub(crate) struct Frame {
 
 /// Opens a group, or passes it where its count is 0.
 #[inline(always)]
+// rule: passes-by-count
 fn open_group(count: u64, start: u32, after: u32, stack: &mut ArrayVec<Frame, 32>) -> u32
     requires { array_vec_len stack.old < 32 }
     ensures fits { count < 2 ^ 64 }
@@ -209,8 +210,9 @@ fn take_field<S: Fields>(
 /// Walks over the cells of a template once, field by field: over one subset, or over all of them
 /// where the data are compressed. `steps` grows by one for each descriptor: an element, an
 /// operator, a replication, its factor. It grows by one for each end of a pass of a group, and for
-/// the end. Each bit that is used pays for at most as many steps as the template has places.
-/// (WMO-No. 306, Volume I.2, FM 94: section 3, Tables B and C)
+/// the end. There are at most as many steps as the template has places for each bit that is used;
+/// a refusal makes at most as many again. (WMO-No. 306, Volume I.2, FM 94: section 3, Tables B and
+/// C)
 ///
 /// ```
 /// let mut steps = Steps::new();
@@ -221,9 +223,9 @@ fn take_field<S: Fields>(
 /// # Errors
 ///
 /// The first that is met. [`WalkStop::Defining`] for a step that is not allowed while references
-/// are being defined. [`WalkStop::Width`] for a field that is not text outside 1 to 63 bits.
-/// [`WalkStop::Field`] with the fault of [`Fields::take`]. [`WalkStop::Memory`] where memory runs
-/// out before a reference is taken.
+/// are being defined. [`WalkStop::Width`] for a field that is not text and is under 1 or over 63
+/// bits wide, or whose element the table lacks. [`WalkStop::Field`] with the fault of
+/// [`Fields::take`]. [`WalkStop::Memory`] where memory runs out before a reference is taken.
 pub fn walk<S: Fields>(
     alloc: Global,
     template: &Template,
@@ -243,7 +245,8 @@ pub fn walk<S: Fields>(
 }
 
 /// Walks over the cells of a template once, as [`walk`] does. A field whose spec is cached is taken
-/// by it, and each spec that is found is cached. Takes no memory for the cache.
+/// by it. A spec that is found is cached where the cache has room, and the operators have a key.
+/// Takes no memory for the cache.
 ///
 /// # Errors
 ///
