@@ -17,7 +17,7 @@ TOP = pathlib.Path(__file__).resolve().parent.parent
 # What an octet of a short whole number does not pass, in the middle of plain data, under no operator.
 BESIDE = {
     "what is made before it is read": "new",
-    "other sections": "section_end_at section_1 second_end is_padded head_at section2_of subsets compressed descriptors_of push_head_lines",
+    "other sections": "section_end_at section_1 second_end is_padded head_at section2_of subsets compressed set_descriptors push_head_lines",
     "other templates": "select take_specs put_specs",
     "other events of a stream": "classify write_stray write_fault push_stray",
     "other cells of a template": "apply take_inserted open_group end_pass key_by",

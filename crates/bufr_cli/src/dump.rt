@@ -1,5 +1,5 @@
 //! `bufr dump`: writes the messages of a stream as text.
-ghost use Rattle.std.specs.Prelude.{◌≡◌, ◌≤◌, [], ◌∷◌, true, Ok, IfOk, length};
+ghost use Rattle.std.specs.Prelude.{◌≡◌, ◌≤◌, [], ◌∷◌, true, Ok, OnOk, length};
 ghost use Rattle.bufr_frame.specs.Prelude.{sections_of};
 ghost use Rattle.bufr_cli.specs.Prelude.{LeavesDevices, IsDump, IsDumpPiece, IsMessagePiece, Piece, BlamesWriter, input_of, writers_of, StopsPiece, LeavesPieces};
 
@@ -14,15 +14,17 @@ use bufr_walk::{Steps, TemplateCache, WalkFault, read_by};
 use std::alloc::{AllocError, Global};
 use std::mem;
 
-fn descriptors_of(alloc: Global, message: &Message<'_>) -> Result<Vec<Fxy>, AllocError>
-    ensures { IfOk result (λ descriptors. descriptors.items ≡ message.now.descriptors) }
+/// Sets a list to the descriptors of a message.
+fn set_descriptors(list: &mut Vec<Fxy>, message: &Message<'_>) -> Result<(), AllocError>
+    ensures { OnOk result (list.new.items ≡ message.now.descriptors) }
 {
+    list.clear();
     let words = message.descriptors();
-    let mut descriptors = Vec::with_capacity(alloc, words.len())?;
+    list.reserve(words.len())?;
     for word in words {
-        descriptors.push(Fxy::from_word(word))?;
+        list.push(Fxy::from_word(word))?;
     }
-    Ok(descriptors)
+    Ok(())
 }
 
 /// What a run keeps from message to message: messages repeat their descriptors.
@@ -30,6 +32,8 @@ fn descriptors_of(alloc: Global, message: &Message<'_>) -> Result<Vec<Fxy>, Allo
 struct DumpRun<'a> {
     templates: TemplateCache<'a>,
     memory: DumpMemory<'a>,
+    /// The descriptors of the last message.
+    descriptors: Vec<Fxy>,
 }
 
 /// A message and the template of its descriptors, at one lifetime.
@@ -112,8 +116,8 @@ fn dump_frame<W: Sink, E: Sink>(
 {
     match Message::parse(octets) {
         Ok(message) => {
-            let descriptors = descriptors_of(run.memory.alloc, &message)?;
-            run.templates.select(&descriptors)?;
+            set_descriptors(&mut run.descriptors, &message)?;
+            run.templates.select(&run.descriptors)?;
             let mut specs = run.templates.take_specs();
             mem::swap(&mut run.memory.specs, &mut specs);
             let outcome = dump_selected(offset, &message, run, w, e);
@@ -189,6 +193,7 @@ pub fn run_dump<R: Source, W: Sink, E: Sink>(
     let mut dumping = DumpRun {
         templates: TemplateCache::new(alloc, table_b, table_d),
         memory: DumpMemory::new(alloc, table_b),
+        descriptors: Vec::new(alloc),
     };
     run_events(alloc, &mut dumping, r, w, e)
 }

@@ -3,7 +3,7 @@ use Rattle.std.proofs.lemmas.Result.{err_from_is_err_and}
 use Rattle.bufr_cli.proofs.DumpLemmas.{nothing-written}
 use Rattle.bufr_cli.proofs.dump.dump_frame.Goals as goal
 
-pub returns-in_err-descriptors-in-Ok-clause-reports : goal.returns-in_err-descriptors-in-Ok-clause-reports
-returns-in_err-descriptors-in-Ok-clause-reports g c = λ piece has.
+pub returns-in_err-set_descriptors-in-Ok-clause-reports : goal.returns-in_err-set_descriptors-in-Ok-clause-reports
+returns-in_err-set_descriptors-in-Ok-clause-reports g c = λ piece has.
     let p = err_from_is_err_and c.from_residual.result c.from_residual.ensures.1 in
     nothing-written _ _ (piece ∷ []) c.from_residual.result _ p.1
