@@ -252,6 +252,7 @@ const READINGS: &[(&str, u16, u8, &str, &str, &str)] = &[
         "bits 41 steps 9; 1: 012101 R-400 001001 R5 012101 28415e2 # 001001 15e0 #"),
     ("given_width_is_used_up", 1, PLAIN, "206012 063255 001001", "0F5140",
         "bits 19 steps 4; 1: 063255 245e0 001001 10e0 #"),
+    ("figures_of_ones", 1, PLAIN, "031021", "FC", "bits 6 steps 2; 1: 031021 63e0 #"),
     ("given_class_31", 1, PLAIN, "206012 031021 206004 031255", "FFFF",
         "bits 16 steps 5; 1: 031021 4095e0 031255 15e0"),
     ("defining_inserted", 1, PLAIN, "203010 205001", "41", "32 at 1 205001 0 steps 2"),
@@ -312,7 +313,7 @@ fn assert_row(rt: &impl Runtime, row: &(&str, u16, u8, &str, &str, &str)) {
 // rule: defining-no-delayed-group, defining-fixed-groups, 2-03-255-alone, widths
 // rule: fault-32-before-31, subsets-without-padding, field-past-end, compressed-increments-there
 // rule: compressed-missing-increment, compressed-sum-of-ones, compressed-text
-// rule: compressed-text-missing, compressed-text-base
+// rule: compressed-text-missing, compressed-text-base, class-31-never-missing, passes-by-count
 fn readings_of_messages(rt: HostRuntime) {
     for row in READINGS {
         assert_row(&rt, row);
