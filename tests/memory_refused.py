@@ -10,7 +10,8 @@ its place: std's `collect` of the words first asks for much room.
 
 The output is made of pieces: the lines of `ls`, the texts of `dump`, the messages of `encode`. A prefix of them is left,
 whole, and never fewer than an earlier refusal left. `dump` also leaves the whole lines of the text that it was at. Of
-several pieces a late refusal leaves some: what was written before it is handed on.
+several pieces a late refusal leaves some: what was written before it is handed on. `dump` takes no memory for a message
+whose descriptors are those of the one before.
 
 Then the tests of `growth_tests.rt`, one call of a library each, are run in the same way: each passes at each refusal.
 
@@ -54,7 +55,6 @@ INPUTS = {
     + ONE[30:],
     "four items": message(bytes(4), words("104001 001001 001001 001001 001001")),
     "two subsets that are alike": message(bytes(11), words("001001 001002 005001"), 2),
-    "a template that comes again": ONE * 3,
     "two templates in turn": (ONE + message(b"\x14\x28", words("001001 001001"))) * 2,
     "a long text": message(b"A" * 255, words("205255")),
     "nothing": b"",
@@ -167,6 +167,13 @@ def tests(trial: Trial) -> list:
     return wrong or ["no test of a single call"] * ("growth_tests::" not in listed)
 
 
+def again(trial: Trial) -> list:
+    """What is not so of a template that comes again: it takes no memory."""
+    runs = [Run("dump", [program(), "dump", *TABLES], ONE * messages) for messages in (1, 3)]
+    one, three = (trial.left(run, 0).calls for run in runs)
+    return [f"a template that comes again: {three} calls for memory, {one} of one message"] * (one != three)
+
+
 def runs(work: pathlib.Path) -> list:
     """The runs: of each command, of each table, and of words that are asked for help or not understood."""
     bufr = program()
@@ -226,7 +233,7 @@ def main() -> None:
     with tempfile.TemporaryDirectory() as work:
         trial = Trial(words, pathlib.Path(work))
         found = [f"{run.name}: {wrong}" for run in runs(trial.work) for wrong in wrongs(*trial.lefts(run))]
-        finish(found + tests(trial))
+        finish(found + again(trial) + tests(trial))
 
 
 if __name__ == "__main__":
