@@ -10,8 +10,8 @@ its place: std's `collect` of the words first asks for much room.
 
 The output is made of pieces: the lines of `ls`, the texts of `dump`, the messages of `encode`. A prefix of them is left,
 whole, and never fewer than an earlier refusal left. `dump` also leaves the whole lines of the text that it was at. Of
-several pieces a late refusal leaves some: what was written before it is handed on. `dump` takes no memory for a message
-whose descriptors are those of the one before.
+several pieces a late refusal leaves some: what was written before it is handed on. `dump` takes no memory for plain
+data that redefine no reference, where the descriptors are those of the message before.
 
 Then the tests of `growth_tests.rt`, one call of a library each, are run in the same way: each passes at each refusal.
 
@@ -168,7 +168,7 @@ def tests(trial: Trial) -> list:
 
 
 def again(trial: Trial) -> list:
-    """What is not so of a template that comes again: it takes no memory."""
+    """What is not so of plain data whose template comes again: they take no memory."""
     runs = [Run("dump", [program(), "dump", *TABLES], ONE * messages) for messages in (1, 3)]
     one, three = (trial.left(run, 0).calls for run in runs)
     return [f"a template that comes again: {three} calls for memory, {one} of one message"] * (one != three)
