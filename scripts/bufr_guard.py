@@ -21,6 +21,7 @@ where it cannot go on.
 It imports next to nothing, since it is loaded at each start.
 """
 import os
+import select
 import signal
 import stat
 import sys
@@ -186,7 +187,8 @@ class Progress:
             self.next = time.monotonic() + 1
             total = f" of {self.total / 1e6:.0f}" if self.total else ""
             Progress.is_shown = True
-            write_all(2, f"\r\x1b[K{name()}: {octets / 1e6:.0f}{total} MB".encode())
+            # The fault line of a program that writes there too is longer, and stands over it.
+            write_all(2, f"\r\x1b[K{octets / 1e6:.0f}{total} MB\r".encode())
 
     @staticmethod
     def clear() -> None:
@@ -242,6 +244,19 @@ def wait(process: int) -> int:
     RUNNING.discard(process)
     status = os.waitstatus_to_exitcode(os.waitpid(process, 0)[1])
     return status if status >= 0 else 128 - status
+
+
+def lines_from(pipe: int, progress: Progress, place):
+    """Blocks of whole lines, as a program writes them to a pipe. Meanwhile the progress is told by `place()`."""
+    rest, block = b"", b" "
+    while block:
+        if progress.is_on:
+            while not select.select([pipe], [], [], 1)[0]:
+                progress.at(place())
+            progress.at(place())
+        block = os.read(pipe, BLOCK)
+        lines, end, rest = (rest + block).rpartition(b"\n")
+        yield lines + end
 
 
 def checked(status: int, has_told: bool = True, what: str = "bufr") -> int:
@@ -318,13 +333,15 @@ def put_aside(octets: bytes) -> int:
 
 def copied(source: int) -> int:
     """A temporary file that holds what comes of a descriptor, at its beginning."""
-    descriptor, octets = temporary(), b" "
+    descriptor, octets, progress, size = temporary(), b" ", Progress(has_texts=False), 0
     while octets:
         try:
             octets = os.read(source, BLOCK)
         except OSError:
             raise Failed("read failed") from None
         keep(descriptor, octets)
+        size += len(octets)
+        progress.at(size)
     os.lseek(descriptor, 0, os.SEEK_SET)
     return descriptor
 
