@@ -51,6 +51,7 @@ def run(work, text: str, ends_by_pipe: bool = False) -> None:
             if number == signal.SIGPIPE or signal.getsignal(number) != signal.SIG_IGN:
                 signal.signal(number, leave)
         status = guarded(work, text)
+        stop()
     finally:
         os._exit(status)
 
@@ -88,7 +89,6 @@ def guarded(work, text: str) -> int:
     except BaseException as error:
         told = reason(error)
     # Here the memory of the exception's frames is free again.
-    stop()
     Progress.clear()
     for attempt in (flush, lambda: os.write(2, os.fsencode(shown(f"{name()}: {told}") + "\n"))):
         try:
@@ -111,6 +111,17 @@ def answered(words: list, text: str):
             print(f"{name()}, with {told.read().strip()}")
         return checked(wait(process))
     return None
+
+
+def file_of(words: list):
+    """FILE of a command line without options, or nothing."""
+    if words[:1] == ["--"]:
+        words = words[1:]
+    elif words and words[0].startswith("-"):
+        raise Failed(f"no option {words[0]}; {name()} --help tells more")
+    if len(words) > 1:
+        raise Failed(f"one file a call: cat {' '.join(words)} | {name()}")
+    return words[0] if words else None
 
 
 def reason(error: BaseException) -> str:
@@ -143,15 +154,15 @@ def shown(text: str) -> str:
 
 
 def output():
-    """Standard output in large blocks, which `run` flushes at the end."""
+    """Standard output in large blocks, which `flush` hands on, and `run` at the end."""
     if not hasattr(output, "file"):
         output.file = open(1, "wb", BLOCK, closefd=False)
     return output.file
 
 
 def flush() -> None:
-    """Hands on what was written, or raises that it cannot be."""
-    for file in (getattr(output, "file", None), sys.stdout, sys.stderr):
+    """Hands on what was written, the output before the errors, or raises that it cannot be."""
+    for file in (getattr(output, "file", None), sys.stdout, getattr(say, "file", None), sys.stderr):
         if file is not None:
             file.flush()
 
@@ -163,10 +174,12 @@ def write_all(descriptor: int, octets: bytes) -> None:
 
 
 def say(lines: bytes) -> None:
-    """Writes lines on standard error."""
+    """Writes lines on standard error, at the next `flush` at the latest."""
     if lines:
         Progress.clear()
-        write_all(2, lines)
+        if not hasattr(say, "file"):
+            say.file = open(2, "wb", BLOCK, closefd=False)
+        say.file.write(lines)
 
 
 class Progress:
@@ -320,7 +333,11 @@ def keep(descriptor: int, octets: bytes) -> None:
     try:
         write_all(descriptor, octets)
     except OSError:
-        raise Failed(f"no room in {folder_of_temporary()} (TMPDIR)") from None
+        raise no_room() from None
+
+
+def no_room() -> Failed:
+    return Failed(f"no room in {folder_of_temporary()} (TMPDIR)")
 
 
 def put_aside(octets: bytes) -> int:
@@ -370,3 +387,27 @@ def fault_lines(errors: int):
         for line in lines:
             offset = line[7 : line.find(b":")]
             yield (int(offset) if line.startswith(b"offset ") and offset.isdigit() else NOWHERE), line
+
+
+class Faults:
+    """The lines of errors of a listing, one by one, so that they are told between those of its messages.
+
+    What its run told besides, as its last line, is told at the end; `has_told` says whether there was such a line.
+    """
+
+    def __init__(self, errors: int) -> None:
+        self.lines, self.has_told = fault_lines(errors), False
+        self.next = next(self.lines, (NOWHERE, b""))
+
+    def tell_before(self, offset: float) -> None:
+        """Tells those before a place."""
+        while self.next[0] < offset:
+            say(self.next[1])
+            self.next = next(self.lines, (NOWHERE, b""))
+
+    def tell_rest(self) -> None:
+        self.tell_before(NOWHERE)
+        while self.next[1]:
+            self.has_told = True
+            say(self.next[1])
+            self.next = next(self.lines, (NOWHERE, b""))
