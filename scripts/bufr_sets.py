@@ -32,8 +32,8 @@ class TableSet:
                     found.setdefault(row.get("fxy") or "", []).append(row.get("member") or "")
         return self.tables[name]
 
-    def elements(self) -> dict:
-        return self.table("B.csv")
+    def elements(self):
+        return self.table("B.csv").keys()
 
     def sequences(self) -> dict:
         return self.table("D.csv")

@@ -145,6 +145,154 @@ class Trial:
         told = done.stderr.endswith(b"bufr-auto: No space left on device\n")
         self.holds("a full device", told and done.returncode == 2, done)
 
+    def encodes(self) -> None:
+        """Documents of many versions: the messages, or up to the first that is refused, whose line counts in all."""
+        random.seed(67)
+        for number in range(12):
+            texts, versions = [], random.sample(range(4, 42), 5)
+            for _ in range(random.randint(1, 12)):
+                version = random.choice(versions)
+                message = made(version, LISTS[random.choice((0, 1, 2))], bytes(random.choices(range(255), k=3)))
+                words = [self.program, "dump", *self.tables_of(version)]
+                text = subprocess.run(words, input=message, capture_output=True).stdout
+                texts += [random.choice((b"", b"# end\n", b"\n\n")), text]
+            if number % 3 == 1:
+                texts[-1] = texts[-1].replace(b"0121", b"0120").replace(b"00100", b"00200")
+            if number % 3 == 2:
+                texts.insert(random.choice(range(0, len(texts), 2)), random.choice((b"end\n", b"more\n", texts[-1][:-5])))
+            text = b"".join(texts) + random.choice((b"", b"#", b"\n# more"))
+            wanted = self.encoded_one_by_one(text)
+            done = [self.auto("--encode", stream=text), self.in_pieces(text, "--encode")]
+            for form, given in zip(("a pipe", "pieces"), done):
+                told = b"".join(line for line in given.stderr.splitlines(True) if not line.startswith(b"bufr-auto: "))
+                self.same(f"text {number}, {form}", (given.stdout, told, given.returncode), wanted)
+        for text in (b"", b"\n", b"message\n", b"end", b"# " + b"x" * 5000):
+            done = self.auto("--encode", stream=text)
+            told = b"".join(line for line in done.stderr.splitlines(True) if not line.startswith(b"bufr-auto: "))
+            self.same(f"{text[:9]}", (done.stdout, told, done.returncode), self.encoded_one_by_one(text))
+        stream = b"".join(made(version, LISTS[1], b"\1\1\0", section_2=bytes(90_000)) for version in (13, 16, 39)) * 20
+        text = self.auto(stream=stream).stdout
+        done = self.auto("--encode", stream=text)
+        self.same("many parts", (done.stdout, done.stderr, done.returncode), (stream, b"", 0))
+        # A part of several sets, of which one is refused in the middle, and what would follow.
+        text = text + text.replace(b"001001 0 ", b"001001 0x ", 1) + text
+        line = text[: text.index(b"0x")].count(b"\n") + 1
+        done = self.auto("--encode", stream=text)
+        self.same("one refused", (done.stdout, done.stderr, done.returncode), (stream, b"line %d: 50 line\n" % line, 1))
+        note = b"bufr-auto: 1 document, at line 3: version 41 is later than wmo-39\n"
+        text = self.auto(stream=made(39, LISTS[0], b"\1\1")).stdout.replace(b"masterversion 39", b"masterversion 41")
+        done = self.auto("--encode", stream=b"\n\n" + text)
+        self.same("a note", (done.stdout[21:22], done.stderr, done.returncode), (b"\x29", note.replace(b"3", b"1", 1), 0))
+        begin = time.monotonic()
+        with subprocess.Popen([*AUTO, "--encode"], stdin=subprocess.PIPE, stderr=subprocess.PIPE, env=self.environment) as child:
+            child.stdin.write(b"BUFR" + bytes(100) + b"\n")
+            child.stdin.flush()
+            self.holds("no text: the error", child.stderr.readline() == b"line 1: 50 line\n")
+            child.stdin.close()
+        self.holds("no text: the time", time.monotonic() - begin < 20)
+
+    def encoded_one_by_one(self, text: bytes):
+        """The messages, the fault line and the status of documents that are encoded one by one."""
+        messages, before = [], 0
+        for document in re.findall(rb".*?^end(?:\n|\Z)|.+", text, re.S | re.M):
+            version = re.search(rb"^masterversion (\d+)$", document, re.M)
+            words = [self.program, "encode", *self.tables_of(int(version[1]) if version else 39)]
+            done = subprocess.run(words, input=document, capture_output=True)
+            messages.append(done.stdout)
+            if done.returncode:
+                found = re.fullmatch(rb"line (\d+)(.*)", done.stderr, re.S)
+                return b"".join(messages), b"line %d%s" % (before + int(found[1]), found[2]), done.returncode
+            before += document.count(b"\n")
+        return b"".join(messages), b"", 0
+
+    def feeds(self) -> None:
+        """What a read completes is written before the next read: messages of two sets, faults between, and documents."""
+        one, other = made(13, LISTS[1], b"\1\1\0"), made(39, LISTS[0], b"\1\1")
+        texts = [self.one_by_one(message)[0] for message in (one, other)]
+        fault = b"offset %d: %s\n"
+        steps = [
+            (one, texts[0], b""),
+            (other[:30], b"", b""),
+            (other[30:] + one + b"BU", texts[1] + texts[0], b""),
+            (b"FR\0\0\0\1" + b"x" * 4, b"", fault % (len(one * 2 + other), b"2 short length")),
+            (b"BUFR\0\0\x20\4" + one, b"", b""),
+        ]
+        last = (texts[0], fault % (len(one * 2 + other) + 12, b"1 cut"))
+        self.feed("messages", [], steps, last, 1)
+        steps = [
+            (texts[0], one, b""),
+            (b"\n\n" + texts[1][:50], b"", b""),
+            (texts[1][50:], other, b""),
+            (b"junk\n", b"", b"line %d: 50 line\n" % (b"".join(texts).count(b"\n") + 3)),
+        ]
+        self.feed("documents", ["--encode"], steps, (b"", b""), 1)
+
+    def feed(self, what: str, words: list, steps: list, last: tuple, status: int) -> None:
+        """Writes each step to a pipe, and waits for what is to come of it."""
+        pipes = dict(stdin=subprocess.PIPE, stdout=subprocess.PIPE, stderr=subprocess.PIPE, bufsize=0)
+        with subprocess.Popen([*AUTO, *words], **pipes, env=self.environment) as child:
+            for number, (given, *wanted) in enumerate([*steps, (None, *last)]):
+                child.stdin.close() if given is None else child.stdin.write(given)
+                for name, file, octets in zip(("output", "errors"), (child.stdout, child.stderr), wanted):
+                    told, end = b"", time.monotonic() + 20
+                    while len(told) < len(octets) and select.select([file], [], [], max(0, end - time.monotonic()))[0]:
+                        told += (more := os.read(file.fileno(), 1 << 16))
+                        if not more:
+                            break
+                    self.holds(f"a feed of {what}, step {number}, {name}", told == octets, (told, octets))
+            rest = child.stdout.read() + child.stderr.read()
+        self.holds(f"a feed of {what}: the end", (rest, child.returncode) == (b"", status), (rest, child.returncode))
+
+    def files(self) -> None:
+        """Several files: offsets of each, with its name; one that cannot be read is told at the end, and passed over."""
+        texts, messages = [], [made(39, LISTS[1], b"\1\1\0"), made(13, LISTS[1], b"\2\1\0")]
+        for number, message in enumerate(messages):
+            (self.place / f"file {number}").write_bytes(b"BUFR" + message + made(41, LISTS[0], b"\1\1"))
+            texts.append(self.one_by_one(b"BUFR" + message + made(41, LISTS[0], b"\1\1"))[0])
+        (self.place / "folder").mkdir()
+        names = ["file 0", "nosuch", "folder", "file 1"]
+        done = subprocess.run([*AUTO, *names], cwd=self.place, env=self.environment, capture_output=True)
+        told = (
+            b"file 0:offset 0: 1 cut\nfile 1:offset 0: 1 cut\n"
+            b"bufr-auto: 2 messages, the first in file 0 at offset 56: version 41 is later than wmo-39\n"
+            b"bufr-auto: cannot open nosuch\nbufr-auto: cannot read folder: Is a directory\n"
+        )
+        self.same("files", (done.stdout, done.stderr, done.returncode), (b"".join(texts), told, 2))
+        for number, text in enumerate(texts):
+            (self.place / f"text {number}").write_bytes(text)
+        (self.place / "text 1").write_bytes(texts[1].replace(b"\n012101 ", b"\n012101 x", 1))
+        names = ["text 0", "text 1", "text 0"]
+        done = subprocess.run([*AUTO, "--encode", *names], cwd=self.place, env=self.environment, capture_output=True)
+        line = texts[1][: texts[1].index(b"\n012101 ") + 1].count(b"\n") + 1
+        wanted = messages[0] + made(41, LISTS[0], b"\1\1")
+        self.holds("texts: the messages", done.stdout == wanted, done)
+        self.holds("texts: the fault", done.stderr.startswith(b"text 1:line %d: 50 line\n" % line), (done, line))
+        self.holds("texts: the status", done.returncode == 1, done)
+
+    def no_message(self) -> None:
+        """A file without a message is told, with what it looks like; the status is that of `bufr`."""
+        synop = TOP / "examples/synop.bufr"
+        for begin, kind, status in (
+            (subprocess.run(["gzip", "-c", synop], stdout=subprocess.PIPE).stdout, "looks like gzip data (zcat)", 0),
+            (b"BZh9", "looks like bzip2 data (bzcat)", 0),
+            (b"\n<!DOCTYPE HTML><p>BUFR", "looks like HTML", 1),
+            (b"<?xml version='1.0'?>", "looks like XML", 0),
+            ((TOP / "examples/synop.txt").read_bytes(), "looks like the text of a dump (--encode)", 0),
+            (b"SMVD01 EKMI 010000\r\r\n", "looks like text", 0),
+            (b"", "is empty", 0),
+            (b"\0\7\xff", None, 0),
+        ):
+            file = self.place / "other"
+            file.write_bytes(begin)
+            done = self.auto(str(file))
+            note = f"bufr-auto: {file} has no message{': it ' + kind if kind else ''}\n".encode()
+            told = done.stderr.splitlines(True)[-1:] == [note]
+            self.holds(f"{kind}", told and (done.stdout, done.returncode) == (b"", status), (done, note))
+        done = self.auto(stream=b"")
+        self.holds("an empty input", done.stderr == b"bufr-auto: standard input has no message: it is empty\n", done)
+        done = self.auto("--encode", stream=b"")
+        self.holds("no text", done.stderr == b"bufr-auto: standard input has no document: it is empty\n", done)
+
     def notes(self) -> None:
         """One for each kind, with a count and the first place, and only where such a descriptor is used."""
         exact = made(14, LISTS[0], b"\1" * 2) + made(37, LISTS[0], b"\1" * 2)
@@ -169,19 +317,19 @@ class Trial:
         self.holds("a master table", done.stderr == note, done)
 
     def command_line(self) -> None:
-        """Help, the version, and what is mistaken: more than one file, options, folders of sets, files, the program."""
-        for words in (["--help"], ["-h"]):
-            done = self.auto(*words)
-            self.holds("help", done.returncode == 0 and done.stdout.startswith(b"usage: bufr-auto [FILE]\n"), done)
+        """Help, the version, and what is mistaken: options, folders of sets, files, the program."""
+        for word in ("--help", "-h"):
+            done = self.auto(word)
+            self.holds("help", done.returncode == 0 and b"\n    bufr-auto [FILE..]\n" in done.stdout, done)
             self.holds("help", b"BUFR_TABLES" in done.stdout and done.stderr == b"", done)
         version = subprocess.run([self.program, "--version"], capture_output=True).stdout
-        for words in (["--version"], ["-V"]):
-            self.holds("version", self.auto(*words).stdout == b"bufr-auto, with " + version, self.auto(*words))
+        for word in ("--version", "-V"):
+            self.holds("version", self.auto(word).stdout == b"bufr-auto, with " + version, self.auto(word))
         file = str(TOP / "examples/synop.bufr")
-        for words in ([file, file], [file, "more"], ["--other"], ["--", file, file]):
+        for words in (["--other"], [file, "--other"], ["-x", file]):
             done = self.auto(*words)
-            usage = done.returncode == 2 and done.stdout == b"" and done.stderr.startswith(b"usage: bufr-auto [FILE]\n")
-            self.holds(f"{words} is a usage fault", usage, done)
+            told = done.stderr.startswith(b"bufr-auto: no option -")
+            self.holds(f"{words} is a usage fault", told and (done.returncode, done.stdout) == (2, b""), done)
         shutil.copy(file, self.place / "-dashed")
         done = subprocess.run([*AUTO, "--", "-dashed"], cwd=self.place, env=self.environment, capture_output=True)
         self.holds("a name with a dash", done.stdout == (TOP / "examples/synop.txt").read_bytes(), done)
