@@ -23,7 +23,7 @@ It imports next to nothing, since it is loaded at each start.
 """
 import os
 import select
-import signal
+import _signal as signal
 import stat
 import sys
 import time

@@ -1,12 +1,16 @@
 #!/usr/bin/env python3
-"""What scripts/bufr-auto writes is what the program writes message by message; it is quick, and leaves nothing behind.
+"""What scripts/bufr-auto writes is what the program writes message by message, as soon as a read has completed it.
 
     tests/bufr_auto.py [PROGRAM]
+
+It encodes by the same rule, ends well at each failure, is quick, holds little, and leaves nothing behind.
 """
 import os
 import pathlib
 import random
 import re
+import resource
+import select
 import shutil
 import signal
 import subprocess
@@ -54,7 +58,11 @@ class Trial:
             [*AUTO, *words], input=stream, capture_output=True, env={**self.environment, **environment}, timeout=120
         )
 
-    def one_by_one(self, stream: bytes, tables: pathlib.Path):
+    def tables_of(self, version: int, tables: pathlib.Path = TABLES) -> list:
+        folder = tables / set_of(version)
+        return ["-B", folder / "B.csv", "-D", folder / "D.csv"]
+
+    def one_by_one(self, stream: bytes, tables: pathlib.Path = TABLES):
         """The texts and the fault lines of each message that is dumped alone, and the status."""
         listing = subprocess.run([self.program, "ls"], input=stream, capture_output=True)
         faults = [(int(re.match(rb"offset (\d+)", line)[1]), line) for line in listing.stderr.splitlines(True)]
@@ -62,24 +70,39 @@ class Trial:
         for line in listing.stdout.splitlines():
             found = re.match(rb"offset=(\d+) length=(\d+) .*tables=\d+/(\d+)/", line)
             offset, length, version = map(int, found.groups())
-            folder = tables / set_of(version)
-            words = [self.program, "dump", "-B", folder / "B.csv", "-D", folder / "D.csv"]
+            words = [self.program, "dump", *self.tables_of(version, tables)]
             done = subprocess.run(words, input=stream[offset : offset + length], capture_output=True)
             texts.append(done.stdout)
             status = max(status, done.returncode)
             faults += [(offset, b"offset %d:" % offset + line[9:]) for line in done.stderr.splitlines(True)]
         return b"".join(texts), b"".join(line for _, line in sorted(faults)), status
 
+    def in_pieces(self, stream: bytes, *words: str):
+        """What it gives for a pipe that gets a few octets at a time."""
+        files = [tempfile.TemporaryFile() for _ in range(2)]
+        with subprocess.Popen(
+            [*AUTO, *words], stdin=subprocess.PIPE, stdout=files[0], stderr=files[1], env=self.environment
+        ) as child:
+            at = 0
+            while at < len(stream):
+                at += os.write(child.stdin.fileno(), stream[at : at + random.choice((1, 5, 40, 300))])
+        given = [(file.seek(0), file.read())[1] for file in files]
+        return subprocess.CompletedProcess([], child.returncode, *given)
+
     def compare(self, what: str, stream: bytes) -> None:
         """From standard input and from a file it writes what the messages give one by one, but for the notes."""
         (self.place / "stream").write_bytes(stream)
-        wanted = self.one_by_one(stream, TABLES)
-        for words, given in (((), stream), ((str(self.place / "stream"),), b"")):
-            done = self.auto(*words, stream=given)
+        runs = {"a pipe": self.auto(stream=stream), "a file": self.auto(str(self.place / "stream"))}
+        if len(stream) < 10_000:
+            runs["pieces"] = self.in_pieces(stream)
+        for form, done in runs.items():
             told = b"".join(line for line in done.stderr.splitlines(True) if not line.startswith(b"bufr-auto: "))
-            self.holds(f"{what}, {words}: the texts", done.stdout == wanted[0], (len(done.stdout), len(wanted[0])))
-            self.holds(f"{what}, {words}: the fault lines", told == wanted[1], (told, wanted[1]))
-            self.holds(f"{what}, {words}: the status", done.returncode == wanted[2], done.returncode)
+            self.same(f"{what}, {form}", (done.stdout, told, done.returncode), self.one_by_one(stream))
+
+    def same(self, what: str, given: tuple, wanted: tuple) -> None:
+        """Whether output, errors and status are the same."""
+        for part, one, other in zip(("the output", "the errors", "the status"), given, wanted):
+            self.holds(f"{what}: {part}", one == other, (one, other))
 
     def same_as_one_by_one(self) -> None:
         """Streams at random, one that has many parts, and one without a message."""
@@ -91,14 +114,17 @@ class Trial:
                 data = bytes(random.choices(range(256), k=random.choice((2, 8))))
                 message = made(random.choice(versions), random.choice(LISTS), data)
                 other = [b"BUFR", b"IUSK01 ENMI 010000\r\r\n", message[:-3], message[:7] + b"\2" + message[8:]]
+                other += [b"BUFR\0\0\x0b", b"BUFR\0\0\x0c\x047777", b"BUF", message[:20] + b"7777", b"BUFR\0\1\0\4"]
                 pieces += random.choices((message, random.choice(other)), (4, 1))
             self.compare(f"stream {number}", b"".join(pieces))
         large = [made(random.choice((13, 16, 39)), LISTS[1], b"\1" * 3, section_2=bytes(100_000)) for _ in range(60)]
         large[30:30] = [made(39, LISTS[5], b"")]
         self.compare("parts", b"".join(large))
         self.compare("parts of one set", b"".join([made(39, LISTS[1], b"\1" * 3, section_2=bytes(200_000))] * 30))
-        self.compare("no message", b"BUFR")
-        self.compare("nothing", b"")
+        for stream in (b"", b"BUFR", b"BUFR\0\0\x0b", b"BUFR\0\0\x0c\4", b"xBUFRBUFR\0\0\0\0BU", b"BUFR\xff\xff\xff\4" * 9):
+            self.compare(f"{stream}", stream)
+        held = b"BUFR\xff\xff\xff\4" + made(39, LISTS[1], b"\1" * 3)
+        self.compare("a false word", held + bytes(1 << 24) + held)
 
     def stops(self) -> None:
         """Where a table is at fault what stands before is written, and no more: the status is 2."""
