@@ -21,9 +21,9 @@ where it cannot go on.
 
 It imports next to nothing, since it is loaded at each start.
 """
+import _signal as signal  # without the enumerations of Python's module, which take longer than all else here
 import os
 import select
-import _signal as signal
 import stat
 import sys
 import time
