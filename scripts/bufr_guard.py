@@ -9,6 +9,7 @@ where it cannot go on.
         process = bufr_guard.start([bufr_guard.program(), "ls"], source, errors=errors)
         status = bufr_guard.wait(process)
         ..
+    sys.excepthook = bufr_guard.hook  # before the script imports anything else
     bufr_guard.run(work, __doc__)
 
 - `run` answers --help and --version, and calls the work for anything else. Its status is the script's, once all that
@@ -20,9 +21,9 @@ where it cannot go on.
 
 It imports next to nothing, since it is loaded at each start.
 """
+import _signal as signal  # without the enumerations of Python's module, which take longer than all else here
 import os
 import select
-import _signal as signal
 import stat
 import sys
 import time
@@ -89,13 +90,26 @@ def guarded(work, text: str) -> int:
     except BaseException as error:
         told = reason(error)
     # Here the memory of the exception's frames is free again.
+    end_badly(told)
+    return 2
+
+
+def end_badly(told: str) -> None:
+    """Tells what ends the script, behind what was written, as much of both as can be."""
     Progress.clear()
     for attempt in (flush, lambda: os.write(2, os.fsencode(shown(f"{name()}: {told}") + "\n"))):
         try:
             attempt()
         except (OSError, MemoryError):
             pass
-    return 2
+
+
+def hook(_kind, error: BaseException, _place) -> None:
+    """Python's hook for an exception outside of `run`, as while a script imports."""
+    try:
+        end_badly("out of memory" if isinstance(error, MemoryError) else reason(error))
+    finally:
+        os._exit(2)
 
 
 def answered(words: list, text: str):
