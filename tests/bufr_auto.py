@@ -215,7 +215,7 @@ class Trial:
             (other[:30], b"", b""),
             (other[30:] + one + b"BU", texts[1] + texts[0], b""),
             (b"FR\0\0\0\1" + b"x" * 4, b"", fault % (len(one * 2 + other), b"2 short length")),
-            (b"BUFR\0\0\x20\4" + one, b"", b""),
+            (b"BUFR\0\1\0\4" + one, b"", b""),
         ]
         last = (texts[0], fault % (len(one * 2 + other) + 12, b"1 cut"))
         self.feed("messages", [], steps, last, 1)
@@ -347,45 +347,120 @@ class Trial:
             self.holds(f"{words} {environment}", (done.returncode, done.stdout, done.stderr) == wanted, done)
 
     def signals(self) -> None:
-        """Each signal ends it, and what it runs; its copy of standard input has gone, as it has at the end."""
+        """Each signal ends it, and what it runs. What it had in files has gone, as it has at the end."""
         temporary = self.place / "temporary"
-        stream = (TOP / "examples/synop.bufr").read_bytes() * 1000
-        # A program whose dump does not end, and says so.
+        # A program that does not end, and says so.
         slow = self.place / "slow"
-        slow.write_text(
-            f'#!/bin/sh\n[ "$1" = ls ] && exec "{self.program}" "$@"\n'
-            f'echo $$ > "{self.place}/begun"\nmv "{self.place}/begun" "{self.place}/number"\nexec sleep 60\n'
-        )
+        slow.write_text(f'#!/bin/sh\necho $$ > "{self.place}/begun"\nmv "{self.place}/begun" "{self.place}/number"\nexec sleep 60\n')
         slow.chmod(0o755)
         # A job in the background ignores some signals, and what it starts would too.
         for number in (signal.SIGINT, signal.SIGHUP):
             signal.signal(number, signal.SIG_DFL)
-        for number in (signal.SIGINT, signal.SIGTERM, signal.SIGHUP, signal.SIGPIPE):
+        for number in (signal.SIGINT, signal.SIGTERM, signal.SIGHUP):
             for program in (self.program, str(slow)):
                 (self.place / "number").unlink(missing_ok=True)
                 environment = {**self.environment, "BUFR": program}
-                child = subprocess.Popen(
-                    AUTO, stdin=subprocess.PIPE, stdout=subprocess.PIPE, stderr=subprocess.DEVNULL, env=environment
-                )
-                # More than a pipe holds: when it is written, its reader has begun.
-                child.stdin.write(stream)
-                child.stdin.flush()
-                if program != self.program:
-                    child.stdin.close()
+                child = subprocess.Popen(AUTO, stdin=subprocess.PIPE, stdout=subprocess.PIPE, env=environment, bufsize=0)
+                child.stdin.write(made(39, LISTS[1], b"\1\1\0"))
+                if program == self.program:
+                    child.stdout.read(1)
+                else:
                     self.wait((self.place / "number").exists)
                 child.send_signal(number)
                 status = child.wait(timeout=30)
-                child.stdin.close() if program == self.program else None
+                child.stdin.close()
                 child.stdout.close()
-                what = f"{signal.Signals(number).name} while it {'reads' if program == self.program else 'dumps'}"
+                what = f"{signal.Signals(number).name} while it {'waits' if program == self.program else 'dumps'}"
                 self.holds(f"{what}: the status", status == -number, status)
                 self.holds(f"{what}: what is left", not list(temporary.iterdir()), list(temporary.iterdir()))
                 if program != self.program:
                     started = int((self.place / "number").read_text())
                     has_gone = self.wait(lambda: not pathlib.Path(f"/proc/{started}").exists())
                     self.holds(f"{what}: what still runs", has_gone)
-        self.auto(stream=stream)
+        self.auto(stream=made(39, LISTS[1], b"\1\1\0"))
         self.holds("the end: what is left", not list(temporary.iterdir()), list(temporary.iterdir()))
+
+    def ends(self) -> None:
+        """A reader that has gone, a file that becomes shorter, a signal of children that is ignored."""
+        many = b"".join(made(version, LISTS[1], b"\1\1\0", section_2=bytes(60_000)) for version in (13, 39))
+        for stream, told in ((many * 20, b"bufr-auto: Broken pipe\n"), (many[: len(many) // 2] * 20, b"bufr: 71 write failed\n")):
+            (self.place / "stream").write_bytes(stream)
+            pipes = dict(stdout=subprocess.PIPE, stderr=subprocess.PIPE, env=self.environment)
+            with subprocess.Popen([*AUTO, str(self.place / "stream")], **pipes) as child:
+                child.stdout.close()
+                errors = child.stderr.read()
+            self.holds("a reader that has gone", (child.returncode, errors) == (2, told), (child.returncode, errors))
+        # The file is cut while a first part is dumped.
+        other = self.place / "other"
+        other.write_text(f'#!/bin/sh\nhead -c 5000000 "$STREAM" > "$STREAM.1"\ncat "$STREAM.1" > "$STREAM"\nexec "{self.program}" "$@"\n')
+        other.chmod(0o755)
+        (self.place / "stream").write_bytes(many * 80)
+        words = {"BUFR": str(other), "STREAM": str(self.place / "stream")}
+        done = self.auto(str(self.place / "stream"), **words)
+        told = f"bufr-auto: {self.place}/stream became shorter while it was read\n".encode()
+        whole = self.one_by_one(many)[0] * 80
+        is_prefix = whole.startswith(done.stdout) and done.stdout.endswith(b"\nend\n")
+        self.holds("a file that becomes shorter", is_prefix and (done.returncode, done.stderr) == (2, told), done.stderr)
+        # What a child gives is not whole, and it says nothing of that.
+        other.write_text(f'#!/bin/sh\n"{self.program}" "$@" | head -c 3000\n')
+        done = self.auto(stream=made(13, LISTS[1], b"\1\1\0") * 9 + made(39, LISTS[1], b"\1\1\0"), BUFR=str(other))
+        told = b"bufr-auto: bufr gave less than it was to give\n"
+        self.holds("a text that is cut", (done.returncode, done.stderr) == (2, told), done)
+        ignoring = "import os, signal, sys; signal.signal(signal.SIGCHLD, signal.SIG_IGN); os.execv(sys.argv[1], sys.argv[1:])"
+        words = [sys.executable, "-c", ignoring, *AUTO, str(TOP / "examples/synop.bufr")]
+        done = subprocess.run(words, env=self.environment, capture_output=True)
+        self.holds("ended children are ignored", done.stdout == (TOP / "examples/synop.txt").read_bytes(), done)
+
+    def usage(self, words: list, **more) -> resource.struct_rusage:
+        """What a run took, its children not counted but for their time."""
+        with tempfile.TemporaryFile() as errors:
+            with open(os.devnull, "wb") as nothing:
+                run = subprocess.Popen(list(map(str, words)), stdout=nothing, stderr=errors, **more)
+                _, status, usage = os.wait4(run.pid, 0)
+            run.returncode = os.waitstatus_to_exitcode(status)
+            errors.seek(0)
+            self.lines = sum(1 for _ in errors)
+        self.status = run.returncode
+        return usage
+
+    def memory(self) -> None:
+        """A million strays, and a million messages with gaps, take 40 MB at most."""
+        synop = (TOP / "examples/synop.bufr").read_bytes()
+        rows = (
+            ("strays", synop + b"BUFR\0\0\0\0" * 1_000_000 + synop, (1, 1_000_000)),
+            ("messages", (made(39, "001001", b"\1") + b" gap\n") * 1_000_000, (0, 0)),
+        )
+        for what, stream, wanted in rows:
+            (self.place / "stream").write_bytes(stream)
+            usage = self.usage([*AUTO, self.place / "stream"], env=self.environment)
+            print(f"bufr_auto: a million {what} in {usage.ru_maxrss // 1024} MB")
+            self.holds(f"a million {what}: status and lines", (self.status, self.lines) == wanted, (self.status, self.lines))
+            self.holds(f"a million {what}: the memory", usage.ru_maxrss <= 40 * 1024, usage.ru_maxrss)
+
+    def seconds(self, words: list, environment: dict) -> float:
+        """The processor time of a run and of what it starts."""
+        usage = self.usage(words, env=environment)
+        self.holds(f"{words}: the status", self.status == 0, self.status)
+        return usage.ru_utime + usage.ru_stime
+
+    def start_up(self) -> None:
+        """One message takes at most 1.8 times a Python that does nothing, one `bufr ls` and one `bufr dump`.
+
+        Python is asked not to load what an installation has added, which would hide what the script loads.
+        """
+        environment = {**self.environment, "PYTHONPYCACHEPREFIX": str(self.place / "cache")}
+        environment.pop("PYTHONDONTWRITEBYTECODE", None)
+        synop, python = TOP / "examples/synop.bufr", [sys.executable, "-S"]
+        alone = ([*python, "-c", "pass"], [self.program, "ls", synop], [self.program, "dump", *self.tables_of(39), synop])
+        runs = [[*python, AUTO[1], synop], *alone]
+        least = [1e9] * len(runs)
+        for number in range(41):
+            for at, words in enumerate(runs):
+                seconds = self.seconds(words, environment)
+                least[at] = min(least[at], seconds) if number else 1e9  # the first run fills the cache
+        times = least[0] / sum(least[1:])
+        print(f"bufr_auto: one message in {1000 * least[0]:.0f} ms, {times:.2f} times its bare parts")
+        self.holds("times the bare parts at the start", times <= 1.8, times)
 
     def wait(self, is_so) -> bool:
         end = time.monotonic() + 20
@@ -402,21 +477,14 @@ class Trial:
             versions.append(bytes(message))
         archive = self.place / "archive"
         archive.write_bytes(b"".join(versions) * 12_500)
-        tables = ["-B", TABLES / "wmo-39/B.csv", "-D", TABLES / "wmo-39/D.csv"]
+        words = [[self.program, "dump", *self.tables_of(39), archive], [*AUTO, archive]]
         # Other programs may disturb one of the two: of three tries the best counts.
-        ratios = []
-        while len(ratios) < 3 and min(ratios, default=4) > 3:
-            seconds = []
-            for words in ([self.program, "dump", *tables, archive], [*AUTO, archive]):
-                begin = time.monotonic()
-                dump = subprocess.Popen(words, stdout=subprocess.PIPE, env=self.environment)
-                texts = subprocess.run(["grep", "-cx", "end"], stdin=dump.stdout, stdout=subprocess.PIPE).stdout
-                status = dump.wait()
-                seconds.append(time.monotonic() - begin)
-                self.holds(f"{words[0]} of the archive", (status, texts) == (0, b"50000\n"), (status, texts))
-            ratios.append(seconds[1] / seconds[0])
-            print("bufr_auto: 50,000 messages of four versions in {1:.1f} s, one dump {0:.1f} s".format(*seconds))
-        self.holds("times the seconds of one dump", min(ratios) <= 3, ratios)
+        times = []
+        while len(times) < 3 and min(times, default=4) > 3:
+            one, all_sets = (self.seconds(each, self.environment) for each in words)
+            times.append(all_sets / one)
+            print(f"bufr_auto: 50,000 messages of four versions in {all_sets:.1f} s of the processors, one dump {one:.1f} s")
+        self.holds("times the seconds of one dump", min(times) <= 3, times)
 
 
 def main() -> None:
@@ -424,9 +492,16 @@ def main() -> None:
         trial = Trial(place)
         trial.same_as_one_by_one()
         trial.stops()
+        trial.encodes()
+        trial.feeds()
+        trial.files()
+        trial.no_message()
         trial.notes()
         trial.command_line()
         trial.signals()
+        trial.ends()
+        trial.memory()
+        trial.start_up()
         trial.speed()
     finish(trial.complaints)
 
