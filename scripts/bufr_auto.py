@@ -457,6 +457,7 @@ class Work:
             run.finish()
         prefix, within = (b"", "") if self.is_one else (os.fsencode(feed.name) + b":", f"in {feed.name} ")
         worst, lines = max(part.runs.values(), key=lambda run: run.status, default=None), []
+        is_whole = True
         for place, size, run, told in part.pieces:
             if run is None:
                 lines.append(b"%soffset %d: %s\n" % (prefix, place, told))
@@ -470,7 +471,7 @@ class Work:
                 lines.append(prefix + fault)
                 self.is_over = run.COMMAND == "encode"
             elif not run.copy():
-                worst, self.is_over = run, True
+                worst, is_whole, self.is_over = run, False, True
             if self.is_over:
                 break
         bufr_guard.say(b"".join(lines))
@@ -478,14 +479,11 @@ class Work:
         for run in part.runs.values():
             run.close()
         if worst is not None:
-            self.end(worst)
-
-    def end(self, run: Run) -> None:
-        """Takes over the status of a run."""
-        self.last += run.others
-        status = bufr_guard.checked(run.status, bool(run.others))
-        self.is_over = self.is_over or status == 2
-        self.status = max(self.status, status)
+            self.last += worst.others
+            self.status = max(self.status, bufr_guard.checked(worst.status, bool(worst.others)))
+            self.is_over = self.is_over or worst.status == 2
+        if not is_whole and self.status < 2:
+            raise bufr_guard.Failed("cannot go on: bufr gave less than it was to give")
 
 
 def work(words: list) -> int:
