@@ -44,7 +44,7 @@ def build_wheel(folder: str, config_settings=None, metadata_directory=None) -> s
         rows = []
         for path, octets in sorted(files()):
             info = zipfile.ZipInfo(path)
-            info.external_attr = (0o755 if "/scripts/" in path else 0o644) << 16
+            info.external_attr = (0o100755 if "/scripts/" in path else 0o100644) << 16
             wheel.writestr(info, octets, zipfile.ZIP_DEFLATED)
             digest = base64.urlsafe_b64encode(hashlib.sha256(octets).digest()).rstrip(b"=").decode()
             rows.append(f"{path},sha256={digest},{len(octets)}\n")
