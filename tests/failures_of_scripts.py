@@ -264,15 +264,6 @@ def progress(trial: Trial) -> None:
     holds(f"{trial.name}: progress to a pipe", done.stderr == b"", done.stderr)
 
 
-def seconds_of(words: list, environment: dict) -> float:
-    """The processor time of a program, in user mode and in the system."""
-    with subprocess.Popen(words, env=environment, stdout=subprocess.DEVNULL) as run:
-        _, status, usage = os.wait4(run.pid, 0)
-        run.returncode = os.waitstatus_to_exitcode(status)
-    holds(f"{words[:2]}: the status", run.returncode == 0, run.returncode)
-    return usage.ru_utime + usage.ru_stime
-
-
 def start_up(trial: Trial) -> None:
     """bufr-auto on one message takes at most 1.8 times a Python that does nothing, one `bufr ls` and one `bufr dump`."""
     environment = {**trial.environment, "PYTHONPYCACHEPREFIX": str(trial.place / "cache")}
@@ -280,7 +271,7 @@ def start_up(trial: Trial) -> None:
     alone = [[sys.executable, "-c", "pass"], [program(), "ls", SYNOP], [program(), *DUMP, SYNOP]]
     commands, rounds = [[*trial.words, SYNOP], *alone], []
     for _ in range(12):
-        rounds.append([seconds_of(words, environment) for words in commands])
+        rounds.append([lib.seconds_of(words, env=environment, stdout=subprocess.DEVNULL) for words in commands])
         # Of all rounds but the first, in which Python compiles its modules, the least seconds of each count.
         whole, *parts = map(min, zip(*(rounds[1:] or rounds)))
         bare = sum(parts)
