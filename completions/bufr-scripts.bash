@@ -5,7 +5,6 @@ _bufr_scripts() {
     COMPREPLY=()
     case ${COMP_WORDS[0]##*/} in
         bufr-auto) options='--encode' ;;
-        bufr-dask) options='--scheduler --workers -B -D --header --columns' ;;
         bufr-extract)
             options='--awk'
             words='offset= length= edition= centre= update= category= tables= time= subsets= observed= compressed= optional= descriptors='
@@ -25,7 +24,7 @@ _bufr_scripts() {
             mapfile -t COMPREPLY < <(compgen -d -- "$word"; compgen -f -X '!*.csv' -- "$word")
             return
             ;;
-        -P | --awk | --scheduler | --workers | --header | --columns | --value | --message | --subset) return ;;
+        -P | --awk | --value | --message | --subset) return ;;
     esac
     if [[ $word == -* ]]; then
         mapfile -t COMPREPLY < <(compgen -W "$options --help --version" -- "$word")
