@@ -8,7 +8,9 @@ offers() {
     local wanted=$1
     shift
     COMP_WORDS=("$program" "$@") COMP_CWORD=$# COMPREPLY=()
+    set +e
     "$function"
+    set -e
     [ "${COMPREPLY[*]}" = "$wanted" ] || fail "bash offers '${COMPREPLY[*]}' behind '$program $*', not '$wanted'"
 }
 
