@@ -7,7 +7,8 @@
 - of docs/guide.md: octets and items of the example files, and the differences from ecCodes;
 - of tables/README.md: the counts of the tables;
 - of the man page: its faults, and, where they are there, that `mandoc` and `groff` do not complain;
-- of the man page and the completions: commands and options.
+- of the man page and the completions: commands and options;
+- of all pages: which Python the scripts need.
 """
 import csv
 import pathlib
@@ -17,6 +18,7 @@ import subprocess
 
 from lib import DOCS, FAULT, TOP, finish, program
 
+PYTHON = "3.9"
 complaints = []
 
 
@@ -88,9 +90,23 @@ def man_page() -> None:
         told |= set(re.findall(r"(?:^| , )(\d+) ", item))
     want(faults == told, f"man/bufr.1: of the faults {sorted(faults ^ told)} stand here or in docs/texts.md alone")
     for command in (["mandoc", "-T", "lint"], ["groff", "-ww", "-mandoc", "-T", "utf8", "-z"]):
-        if shutil.which(command[0]):
+        if not shutil.which(command[0]):
+            print(f"docs_names: skipped, {command[0]} is not installed")
+        else:
             done = subprocess.run([*command, TOP / "man/bufr.1"], stdout=subprocess.PIPE, stderr=subprocess.STDOUT)
             want(not done.stdout, f"man/bufr.1: {done.stdout.decode().strip()}")
+
+
+def python_version() -> None:
+    """Each page that says which Python the scripts need says the same one."""
+    pages = ["README.md", "CHANGELOG.md", "CONTRIBUTING.md", "docs/guide.md", "tables/README.md"]
+    pages += sorted(str(path.relative_to(TOP)) for path in [*TOP.glob("man/*"), *TOP.glob("pyproject.toml")])
+    told = {page: set(re.findall(r"Python (3\.\d+)|requires-python = \">=(3\.\d+)\"", read(page))) for page in pages}
+    told = {page: {"".join(version) for version in versions} for page, versions in told.items()}
+    for page in ("README.md", "CHANGELOG.md", "docs/guide.md", "man/bufr.1"):
+        want(told[page] != set(), f"{page} does not say which Python the scripts need")
+    for page, versions in told.items():
+        want(versions <= {PYTHON}, f"{page} says Python {' and '.join(sorted(versions))}, not {PYTHON}")
 
 
 def commands_and_options() -> None:
@@ -128,6 +144,7 @@ def main() -> None:
     example_files()
     counts_of_tables()
     man_page()
+    python_version()
     commands_and_options()
     differences()
     finish(complaints)
