@@ -383,10 +383,10 @@ def levels(
 def _check(columns: List[str], form: re.Pattern[str], header: Sequence[str]) -> None:
     for word in columns:
         if not form.fullmatch(word):
-            raise ValueError(f"no descriptor of six digits: {word}")
+            raise ValueError(f"no descriptor of six digits: '{word}'")
     for word in header:
         if word not in (*HEADER, "optional", "subsets", "offset", "length", "message", "subset"):
-            raise ValueError(f"no key of the header: {word}")
+            raise ValueError(f"no key of the header: '{word}'")
 
 
 def _subsets(

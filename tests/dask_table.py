@@ -117,8 +117,8 @@ def tries(trial: Trial) -> None:
         fails(trial.run("2", COLUMNS, "small.bufr", program=trial.program(script)), told)
     for words, told in [
         (["2", COLUMNS, "small.bufr", "nosuch"], b"nosuch"),
-        (["2", "offset,place", "small.bufr"], b"no key of the header: place"),
-        (["2", "012", "small.bufr"], b"no descriptor of six digits: 012"),
+        (["2", "offset,place", "small.bufr"], b"no key of the header: 'place'"),
+        (["2", "012", "small.bufr"], b"no descriptor of six digits: '012'"),
         (["2", COLUMNS], b"--help tells more"),
         (["tcp://127.0.0.1:9", COLUMNS, "small.bufr"], b"127.0.0.1:9"),
     ]:
