@@ -672,9 +672,9 @@ def _bufr() -> str:
 
 
 def _program(name: str) -> str:
-    """The program beside this file, or in the folder `bin` of the same installation, or the one on the path."""
+    """The program beside this file, or in the folder `bin` of the same installation or of Python, or on the path."""
     here = pathlib.Path(__file__).resolve().parent
-    for path in (here / name, here.parent.parent / "bin" / name):
+    for path in (here / name, here.parent.parent / "bin" / name, pathlib.Path(sys.prefix) / "bin" / name):
         if os.access(path, os.X_OK):
             return str(path)
     return name

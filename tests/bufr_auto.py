@@ -26,6 +26,16 @@ TABLES = TOP / "tables"
 # 0 12 101 has 16 bits; 0 13 164 is unknown in the sets up to wmo-16; 14 001 has another reference from version 14 on.
 LISTS = ["012101", "001001 012101", "014001", "013164", "102002 001001 012101", "063255"]
 
+# It runs a program, and prints its status, the most memory that it took, and its time with that of what it ran.
+# What the test holds itself is not counted so.
+LAUNCHER = """if True:
+    import os, sys
+    actions = [(os.POSIX_SPAWN_OPEN, 1, os.devnull, os.O_WRONLY, 0)]
+    run = os.posix_spawnp(sys.argv[1], sys.argv[1:], os.environ, file_actions=actions)
+    _, status, usage = os.wait4(run, 0)
+    print(os.waitstatus_to_exitcode(status), usage.ru_maxrss, usage.ru_utime + usage.ru_stime)
+"""
+
 
 def made(version: int, descriptors: str, data: bytes, centre: int = 98, local: int = 0, section_2=b"") -> bytes:
     """A message of edition 4, of this centre, and asking for these tables."""
@@ -404,24 +414,21 @@ class Trial:
         # What a child gives is not whole, and it says nothing of that.
         other.write_text(f'#!/bin/sh\n"{self.program}" "$@" | head -c 3000\n')
         done = self.auto(stream=made(13, LISTS[1], b"\1\1\0") * 9 + made(39, LISTS[1], b"\1\1\0"), BUFR=str(other))
-        told = b"bufr-auto: bufr gave less than it was to give\n"
+        told = b"bufr-auto: cannot go on: bufr gave less than it was to give\n"
         self.holds("a text that is cut", (done.returncode, done.stderr) == (2, told), done)
         ignoring = "import os, signal, sys; signal.signal(signal.SIGCHLD, signal.SIG_IGN); os.execv(sys.argv[1], sys.argv[1:])"
         words = [sys.executable, "-c", ignoring, *AUTO, str(TOP / "examples/synop.bufr")]
         done = subprocess.run(words, env=self.environment, capture_output=True)
         self.holds("ended children are ignored", done.stdout == (TOP / "examples/synop.txt").read_bytes(), done)
 
-    def usage(self, words: list, **more) -> resource.struct_rusage:
-        """What a run took, its children not counted but for their time."""
+    def usage(self, words: list, environment: dict) -> tuple:
+        """The status, the most memory in KB and the seconds of the processors of a run, and its lines of errors."""
         with tempfile.TemporaryFile() as errors:
-            with open(os.devnull, "wb") as nothing:
-                run = subprocess.Popen(list(map(str, words)), stdout=nothing, stderr=errors, **more)
-                _, status, usage = os.wait4(run.pid, 0)
-            run.returncode = os.waitstatus_to_exitcode(status)
+            launched = [sys.executable, "-S", "-c", LAUNCHER, *map(str, words)]
+            done = subprocess.run(launched, stdout=subprocess.PIPE, stderr=errors, env=environment)
             errors.seek(0)
-            self.lines = sum(1 for _ in errors)
-        self.status = run.returncode
-        return usage
+            status, memory, seconds = done.stdout.split()
+            return int(status), int(memory), float(seconds), sum(1 for _ in errors)
 
     def memory(self) -> None:
         """A million strays, and a million messages with gaps, take 40 MB at most."""
@@ -432,16 +439,10 @@ class Trial:
         )
         for what, stream, wanted in rows:
             (self.place / "stream").write_bytes(stream)
-            usage = self.usage([*AUTO, self.place / "stream"], env=self.environment)
-            print(f"bufr_auto: a million {what} in {usage.ru_maxrss // 1024} MB")
-            self.holds(f"a million {what}: status and lines", (self.status, self.lines) == wanted, (self.status, self.lines))
-            self.holds(f"a million {what}: the memory", usage.ru_maxrss <= 40 * 1024, usage.ru_maxrss)
-
-    def seconds(self, words: list, environment: dict) -> float:
-        """The processor time of a run and of what it starts."""
-        usage = self.usage(words, env=environment)
-        self.holds(f"{words}: the status", self.status == 0, self.status)
-        return usage.ru_utime + usage.ru_stime
+            status, memory, _, lines = self.usage([*AUTO, self.place / "stream"], self.environment)
+            print(f"bufr_auto: a million {what} in {memory // 1024} MB")
+            self.holds(f"a million {what}: status and lines", (status, lines) == wanted, (status, lines))
+            self.holds(f"a million {what}: the memory", memory <= 40 * 1024, memory)
 
     def start_up(self) -> None:
         """One message takes at most 1.8 times a Python that does nothing, one `bufr ls` and one `bufr dump`.
@@ -456,7 +457,8 @@ class Trial:
         least = [1e9] * len(runs)
         for number in range(41):
             for at, words in enumerate(runs):
-                seconds = self.seconds(words, environment)
+                status, _, seconds, _ = self.usage(words, environment)
+                self.holds(f"{words}: the status", status == 0, status)
                 least[at] = min(least[at], seconds) if number else 1e9  # the first run fills the cache
         times = least[0] / sum(least[1:])
         print(f"bufr_auto: one message in {1000 * least[0]:.0f} ms, {times:.2f} times its bare parts")
@@ -477,13 +479,19 @@ class Trial:
             versions.append(bytes(message))
         archive = self.place / "archive"
         archive.write_bytes(b"".join(versions) * 12_500)
-        words = [[self.program, "dump", *self.tables_of(39), archive], [*AUTO, archive]]
         # Other programs may disturb one of the two: of three tries the best counts.
         times = []
         while len(times) < 3 and min(times, default=4) > 3:
-            one, all_sets = (self.seconds(each, self.environment) for each in words)
-            times.append(all_sets / one)
-            print(f"bufr_auto: 50,000 messages of four versions in {all_sets:.1f} s of the processors, one dump {one:.1f} s")
+            seconds = []
+            for words in ([self.program, "dump", *self.tables_of(39), archive], [*AUTO, archive]):
+                begin = resource.getrusage(resource.RUSAGE_CHILDREN)
+                with subprocess.Popen(words, stdout=subprocess.PIPE, env=self.environment) as dump:
+                    texts = subprocess.run(["grep", "-cx", "end"], stdin=dump.stdout, stdout=subprocess.PIPE).stdout
+                end = resource.getrusage(resource.RUSAGE_CHILDREN)
+                seconds.append(end.ru_utime + end.ru_stime - begin.ru_utime - begin.ru_stime)
+                self.holds(f"{words[0]} of the archive", (dump.returncode, texts) == (0, b"50000\n"), (dump.returncode, texts))
+            times.append(seconds[1] / seconds[0])
+            print("bufr_auto: the processors take {1:.1f} s for 50,000 messages of four versions, {0:.1f} s for one dump".format(*seconds))
         self.holds("times the seconds of one dump", min(times) <= 3, times)
 
 
