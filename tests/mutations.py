@@ -67,6 +67,30 @@ MUTATIONS = [
     ("scripts/bufr_guard.py", "or (status == 2 and not has_told)", "", "tests/failures_of_scripts.py bufr-parallel"),
     ("scripts/bufr_guard.py", "raise no_room() from None\n\n\ndef no_room", "pass\n\n\ndef no_room", "tests/failures_of_scripts.py bufr-extract"),
     ("scripts/bufr_guard.py", "self.next = time.monotonic() + 1\n            total", "total", "tests/failures_of_scripts.py bufr-extract"),
+    ("scripts/bufr_auto.py", "is_cut = max(end, at + 8) > len(held)", "is_cut = end > len(held)", "tests/bufr_auto.py"),
+    ("scripts/bufr_auto.py", "at = at + 4 if fault else end", "at = max(at + 4, end)", "tests/bufr_auto.py"),
+    ("scripts/bufr_auto.py", "elif end < at + 12:", "elif end < at + 11:", "tests/bufr_auto.py"),
+    ("scripts/bufr_auto.py", "else max(at, len(held) - 3)", "else len(held)", "tests/bufr_auto.py"),
+    ("scripts/bufr_auto.py", "return self.poll is not None and not self.poll.poll(0)", "return False", "tests/bufr_auto.py"),
+    ("scripts/bufr_auto.py", "at = max(0, len(held) - len(END))", "at = len(held)", "tests/bufr_auto.py"),
+    ("scripts/bufr_auto.py", "has_ended = not octets or not may_begin(held)", "has_ended = not octets", "tests/bufr_auto.py"),
+    ("scripts/bufr_auto.py", "self.place = int(word[len(self.PLACE) :]) - self.FIRST", "self.place = int(word[len(self.PLACE) :])", "tests/bufr_auto.py"),
+    ("scripts/bufr_auto.py", "place + self.place - begin", "place", "tests/bufr_auto.py"),
+    ("scripts/bufr_auto.py", "+ 2 * (not text.endswith(END))", "", "tests/bufr_auto.py"),
+    ("scripts/bufr_auto.py", "self.is_over = run.COMMAND == \"encode\"", "pass", "tests/bufr_auto.py"),
+    ("scripts/bufr_auto.py", "if not octets and self.taken < self.length:", "if False:", "tests/bufr_auto.py"),
+    ("scripts/bufr_auto.py", "if not is_whole and status < 2:", "if False:", "tests/bufr_auto.py"),
+    ("scripts/bufr_auto.py", "if fault.partition(b\": \")[2][:1] != b\"1\":", "if True:", "tests/bufr_auto.py"),
+    ("scripts/bufr_auto.py", "if self.is_over:\n                bufr_guard.stop()\n                return\n", "", "tests/bufr_auto.py"),
+    ("scripts/bufr_auto.py", "status = bufr_guard.checked(run.status, bool(run.others))", "status = run.status", "tests/failures_of_scripts.py bufr-auto"),
+    ("scripts/bufr_auto.py", "is_full = part.held >= PART or len(part.pieces) == PIECES", "is_full = False", "tests/memory_of_scripts.py bufr-auto"),
+    ("scripts/bufr_guard.py", "import _signal as signal", "import argparse, _signal as signal", "tests/bufr_auto.py"),
+    ("install.sh", "umask 022\n", "", "tests/installation.sh"),
+    ("install.sh", "unset CDPATH\n", "", "tests/installation.sh"),
+    ("install.sh", "export PYTHONPATH=$prefix/share/bufr", "export PYTHONPATH=$prefix/share", "tests/installation.sh"),
+    ("build_wheel.py", "0o100755", "0o100644", "tests/installation.sh"),
+    ("completions/bufr-scripts.bash", "options='--encode'", "options=''", "tests/docs_names.py"),
+    ("man/bufr-parallel.1", ".It Fl P Ar PROCESSES", ".It Fl Q Ar PROCESSES", "tests/docs_names.py"),
     ("tables/convert.py", "aside.unlink(missing_ok=True)", "pass", "tests/table_converter.py"),
     ("tables/convert.py", "out / f\".{name}.{os.getpid()}\"", "out / name", "tests/table_converter.py"),
 ]
@@ -83,8 +107,10 @@ def copied(place: str) -> pathlib.Path:
 def holds(top: pathlib.Path, test: str, program: str) -> bool:
     """Whether a test holds in a copy."""
     script, *words = test.split()
+    start = [sys.executable] * script.endswith(".py")
     try:
-        return subprocess.run([sys.executable, top / script, program, *words], capture_output=True, timeout=900).returncode == 0
+        done = subprocess.run([*start, top / script, program, *words], capture_output=True, timeout=900)
+        return done.returncode == 0
     except subprocess.TimeoutExpired:
         return False
 
