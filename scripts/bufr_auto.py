@@ -298,7 +298,8 @@ class Encode(Run):
     def copy_piece(self) -> bool:
         while len(self.read) < self.at + 7:
             if not self.take():
-                return False
+                # Behind the last document there may be comments alone.
+                return self.status == 0 and self.at == len(self.read)
         left = int.from_bytes(self.read[self.at + 4 : self.at + 7], "big")
         while left > len(self.read) - self.at:
             left -= len(self.read) - self.at
@@ -430,15 +431,15 @@ class Work:
         if fault:
             part.pieces.append((place, 0, None, fault))
             return
-        tables, reasons = self.served(octets)
-        if reasons:
+        tables, notes = self.served(octets)
+        if notes:
             used = tables.used(self.kind.descriptors_of(octets))
-            reasons = [reason for reason, concerns in reasons if any(map(concerns, used))]
+            notes = [reason for reason, concerns in notes if any(map(concerns, used))]
         run = part.runs.get(tables)
         if run is None:
             run = part.runs[tables] = self.kind(tables)
         run.pieces.append(octets)
-        part.pieces.append((place, self.kind.size_of(octets), run, reasons))
+        part.pieces.append((place, self.kind.size_of(octets), run, notes))
         part.held += len(octets)
 
     def served(self, octets: bytes) -> tuple:
@@ -456,8 +457,8 @@ class Work:
         for run in part.runs.values():
             run.finish()
         prefix, within = (b"", "") if self.is_one else (os.fsencode(feed.name) + b":", f"in {feed.name} ")
-        worst, lines = max(part.runs.values(), key=lambda run: run.status, default=None), []
-        is_whole = True
+        worst = max(part.runs.values(), key=lambda run: run.status, default=None)
+        lines, is_whole = [], True
         for place, size, run, told in part.pieces:
             if run is None:
                 lines.append(b"%soffset %d: %s\n" % (prefix, place, told))
@@ -479,11 +480,16 @@ class Work:
         for run in part.runs.values():
             run.close()
         if worst is not None:
-            self.last += worst.others
-            self.status = max(self.status, bufr_guard.checked(worst.status, bool(worst.others)))
-            self.is_over = self.is_over or worst.status == 2
-        if not is_whole and self.status < 2:
+            self.end(worst, is_whole)
+
+    def end(self, run: Run, is_whole: bool) -> None:
+        """Takes over the status of a run."""
+        self.last += run.others
+        status = bufr_guard.checked(run.status, bool(run.others))
+        if not is_whole and status < 2:
             raise bufr_guard.Failed("cannot go on: bufr gave less than it was to give")
+        self.is_over = self.is_over or status == 2
+        self.status = max(self.status, status)
 
 
 def work(words: list) -> int:

@@ -30,7 +30,7 @@ from typing import IO, BinaryIO, Dict, Iterable, Iterator, List, NamedTuple, Opt
 
 __all__ = (
     "HEADER DumpWarning Fault Item Message Place RunError TextError Value "
-    "dump encode find levels listing read rows write"
+    "dump encode find levels listing parts read rows write"
 ).split()
 
 #: The value of an item: a number, a text of octets, or `None` where it is missing.
@@ -383,10 +383,10 @@ def levels(
 def _check(columns: List[str], form: re.Pattern[str], header: Sequence[str]) -> None:
     for word in columns:
         if not form.fullmatch(word):
-            raise ValueError(f"no descriptor of six digits: {word}")
+            raise ValueError(f"no descriptor of six digits: '{word}'")
     for word in header:
         if word not in (*HEADER, "optional", "subsets", "offset", "length", "message", "subset"):
-            raise ValueError(f"no key of the header: {word}")
+            raise ValueError(f"no key of the header: '{word}'")
 
 
 def _subsets(
@@ -478,6 +478,20 @@ def listing(file: _Path, faults: Optional[List[Fault]] = None) -> Iterator[Place
         told.end()
 
 
+def parts(places: Iterable[Place], octets: int = 1 << 19) -> Iterator[List[Place]]:
+    """The places in lists, each with so many octets or some more. The last one may have less."""
+    part: List[Place] = []
+    held = 0
+    for place in places:
+        part.append(place)
+        held += place.length
+        if held >= octets:
+            yield part
+            part, held = [], 0
+    if part:
+        yield part
+
+
 def dump(
     file: _Path,
     table_b: Optional[_Path] = None,
@@ -501,7 +515,8 @@ def dump(
 
 def _dumped(file: _Path, words: List[str], told: _Told, places: Optional[Iterable[Place]]) -> Iterator[Message]:
     with _opened(file) as stream, tempfile.TemporaryFile() as errors:
-        for part in _parts(_listed(stream, errors, told) if places is None else places):
+        # which messages of a part are refused is known when the run over it has ended
+        for part in parts(_listed(stream, errors, told) if places is None else places):
             done = _run(words, b"".join(_octets(stream, place) for place in part))
             refused = told.of_part(done.stderr, part)
             messages = read(io.BytesIO(done.stdout))
@@ -516,20 +531,6 @@ def _dumped(file: _Path, words: List[str], told: _Told, places: Optional[Iterabl
                 message.offset, message.length = place
                 yield message
         told.end()
-
-
-def _parts(places: Iterable[Place]) -> Iterator[List[Place]]:
-    """Messages of some 500,000 octets together: which of them are refused is known when a run over these has ended."""
-    part: List[Place] = []
-    held = 0
-    for place in places:
-        part.append(place)
-        held += place.length
-        if held >= 1 << 19:
-            yield part
-            part, held = [], 0
-    if part:
-        yield part
 
 
 class _Told:
@@ -606,8 +607,9 @@ def _listed(stream: IO[bytes], errors: IO[bytes], told: _Told) -> Iterator[Place
         words = [_bufr(), "ls"]
         status = subprocess.run(words, stdin=stream, stdout=lines, stderr=errors).returncode
         lines.seek(0)
+        has_told = errors.seek(0, os.SEEK_END) > 0
         errors.seek(0)
-        if status not in (0, 1):
+        if status not in (0, 1) or status == 1 and not has_told:
             raise _failure(status, words, errors)
         told.strays = (Fault(int(one[1]), int(one[2]), one[3].decode()) for one in map(_FAULT.match, errors) if one)
         told.stray = next(told.strays, None)
@@ -654,7 +656,7 @@ def _words(command: str, table_b: Optional[_Path], table_d: Optional[_Path]) -> 
 
 def _run(words: List[str], octets: bytes) -> subprocess.CompletedProcess[bytes]:
     done = subprocess.run(words, input=octets, stdout=subprocess.PIPE, stderr=subprocess.PIPE)
-    if done.returncode not in (0, 1):
+    if done.returncode not in (0, 1) or done.returncode == 1 and not done.stderr:
         raise _failure(done.returncode, words, done.stderr.splitlines(True))
     return done
 
@@ -670,9 +672,9 @@ def _bufr() -> str:
 
 
 def _program(name: str) -> str:
-    """The program beside this file, or in the folder `bin` of the same installation, or the one on the path."""
+    """The program beside this file, or in the folder `bin` of the same installation or of Python, or on the path."""
     here = pathlib.Path(__file__).resolve().parent
-    for path in (here / name, here.parent.parent / "bin" / name):
+    for path in (here / name, here.parent.parent / "bin" / name, pathlib.Path(sys.prefix) / "bin" / name):
         if os.access(path, os.X_OK):
             return str(path)
     return name

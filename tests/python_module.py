@@ -459,6 +459,8 @@ class Runs(unittest.TestCase):
         for script, told, status in [
             ("kill -9 $$", "ended with status -9", -9),
             ("exit 7", "ended with status 7", 7),
+            ("exit 1", "ended with status 1", 1),
+            ('[ "$1" = ls ] && exec "$REAL" "$@"; exit 1', "ended with status 1", 1),
             ("echo nonsense", "writes other lines", 2),
             ('[ "$1" = dump ] || exec "$REAL" "$@"', "gave no text of the message at offset 0", 2),
             ('[ "$1" = ls ] && exec "$REAL" "$@"; kill -9 $$', "ended with status -9", -9),
