@@ -27,7 +27,8 @@ FAULTY = TOP / "examples/bulletins.bufr"
 DUMP = ["dump", *TABLES]
 # The words of each script in front of a stream.
 SCRIPTS = {"bufr-auto": [], "bufr-extract": [], "bufr-lacks": [], "bufr-parallel": ["-P", "2", *DUMP]}
-HAS_MATPLOTLIB = subprocess.run([sys.executable, "-c", "import matplotlib"], stderr=subprocess.DEVNULL).returncode == 0
+# Scripts that need packages: of them it is tried how they begin; tests/pictures.py and tests/dask_table.py have the rest.
+OTHERS = {"bufr-plot": ["map", "a.png"], "bufr-dask": ["2", "001001"]}
 complaints = []
 
 
@@ -88,11 +89,6 @@ def descriptors(trial: Trial) -> None:
     trial.fails("a closed output", trial.run([stream], closed=[1]))
     trial.fails("a full output", trial.run([stream], full=[1]))
     holds(f"{trial.name}: a file is written", stream.read_bytes() == gives.read_bytes())
-    for words in (["--help"], ["--version"]):
-        trial.words, kept = trial.words[:2], trial.words
-        trial.fails(f"{words} to a closed output", trial.run(words, closed=[1]))
-        trial.fails(f"{words} to a full output", trial.run(words, full=[1]))
-        trial.words = kept
     done = trial.run([os.devnull], closed=[1])
     holds(f"{trial.name}: nothing to a closed output", done.returncode == 0, done)
     trial.fails("a closed input", trial.run(closed=[0]), "read failed" if trial.name != "bufr-auto" else "read")
@@ -113,6 +109,17 @@ def descriptors(trial: Trial) -> None:
             holds(f"a note to a {kind} descriptor", trial.run(input=note, **{kind: [2]}).returncode == 2)
 
 
+# A script for which there is no memory where a program has ended.
+REFUSED = """
+import runpy, sys
+sys.path[0], sys.argv = "{}", sys.argv[1:]
+import bufr_guard
+def refused(*_): raise MemoryError
+bufr_guard.wait = refused
+runpy.run_path(sys.argv[0], run_name="__main__")
+"""
+
+
 def memory(trial: Trial) -> None:
     """With less and less memory it gives all of it, or says that there is not enough."""
     stream = trial.place / "strays"
@@ -130,15 +137,7 @@ def memory(trial: Trial) -> None:
         is_told = done.returncode == 2 and not done.stderr.splitlines()[-1:] == whole.stderr.splitlines()[-1:]
         holds(f"{trial.name} in {megabytes} MB", is_whole or is_told, (done.returncode, done.stderr[-300:]))
         holds(f"{trial.name} in {megabytes} MB: a prefix", whole.stdout.startswith(done.stdout), done.stdout[-300:])
-    code = f"""
-import runpy, sys
-sys.path[0], sys.argv = {str(TOP / 'scripts')!r}, sys.argv[1:]
-import bufr_guard
-def refused(*_): raise MemoryError
-bufr_guard.wait = refused
-runpy.run_path(sys.argv[0], run_name="__main__")
-"""
-    trial.words[1:1] = ["-c", code]
+    trial.words[1:1] = ["-c", REFUSED.format(TOP / "scripts")]
     trial.fails("want of memory", trial.run([stream]), f"{trial.name}: out of memory")
 
 
@@ -164,8 +163,6 @@ def room(trial: Trial) -> None:
 
 def shorter(trial: Trial) -> None:
     """The file becomes shorter while it is read: before `bufr ls` reads it, behind that, or before a dump."""
-    if trial.name == "bufr-plot":
-        return
     stream = trial.place / "stream"
     octets = lib.asking(lib.message(bytes(60_000)), 39) * 40
     stream.write_bytes(octets)
@@ -265,8 +262,11 @@ def tables(trial: Trial) -> None:
 
 
 def options(trial: Trial) -> None:
-    """--help, --version, an isolated Python, and names that a screen would take for orders."""
+    """--help, --version, mistaken words, an isolated Python, and names that a screen would take for orders."""
     trial.words, kept = trial.words[:2], trial.words
+    for words in (["--help"], ["--version"]):
+        for kind in ("closed", "full"):
+            trial.fails(f"{words} to a {kind} output", trial.run(words, **{kind: [1]}))
     version = subprocess.run([program(), "--version"], stdout=subprocess.PIPE, text=True).stdout
     for words in (["--version"], ["-V"]):
         done = trial.run(words)
@@ -274,13 +274,16 @@ def options(trial: Trial) -> None:
     for words in (["--help"], ["-h"]):
         done = trial.run(words)
         holds(f"{trial.name} {words}", done.returncode == 0 and trial.name in done.stdout.decode(), done)
+    trial.words = [kept[0], "-I", *kept[1:2]]
+    done = trial.run(["--version"], cwd=trial.place)
+    holds(f"{trial.name} in an isolated Python", done.returncode == 0, done)
+    trial.words = [kept[0], "-c", REFUSED.format(TOP / "scripts"), kept[1]]
+    trial.fails("want of memory for the version", trial.run(["--version"]), f"{trial.name}: out of memory")
     trial.words = kept
     done = trial.run(["--nonsense"])
-    holds(f"{trial.name} --nonsense", done.returncode == 2 and b"nonsense" in done.stderr, done)
-    trial.words, kept = [kept[0], "-I", *kept[1:]], trial.words
-    done = trial.run([SYNOP], cwd=trial.place)
-    holds(f"{trial.name} in an isolated Python", done.returncode == 0, done)
-    trial.words = kept
+    holds(f"{trial.name} --nonsense", done.returncode == 2 and b"\n" == done.stderr[-1:], done)
+    if trial.name in OTHERS:
+        return
     done = trial.run(["no\x1b[31m\nsuch\udcff"])
     trial.fails("a name that is not there", done, r"no\x1B[31m\x0Asuch\xFF")
 
@@ -329,11 +332,12 @@ def start_up(trial: Trial) -> None:
 
 
 def main() -> None:
-    asked = sys.argv[2:] or SCRIPTS
+    asked = sys.argv[2:] or [*SCRIPTS, *OTHERS]
     for name in asked:
-        for test in (descriptors, memory, room, shorter, killed, signals, tables, options, progress):
+        of_all = (descriptors, memory, room, shorter, killed, signals, tables, options, progress)
+        for test in of_all if name in SCRIPTS else (options,):
             with tempfile.TemporaryDirectory() as place:
-                test(Trial(name, SCRIPTS[name], place))
+                test(Trial(name, {**SCRIPTS, **OTHERS}[name], place))
     if "bufr-auto" in asked:
         with tempfile.TemporaryDirectory() as place:
             start_up(Trial("bufr-auto", [], place))
