@@ -216,6 +216,11 @@ def signals(trial: Trial) -> None:
         holds(f"{trial.name} at {name.name}", is_begun and (run.returncode, told) == (-name, b""), (run.returncode, told))
         started = pathlib.Path("/proc") / number.read_text().strip()
         holds(f"{trial.name} at {name.name}: what still runs", wait_until(lambda: not started.exists()))
+    done = subprocess.run(
+        [*trial.words, SYNOP], capture_output=True, env=trial.environment,
+        preexec_fn=lambda: signal.signal(signal.SIGCHLD, signal.SIG_IGN),
+    )
+    holds(f"{trial.name} of a parent that ignores its children", (done.returncode, done.stderr) == (0, b""), done)
     # More than a pipe holds.
     (trial.place / "many").write_bytes(SYNOP.read_bytes() * 4000)
     run = subprocess.Popen(
@@ -284,6 +289,10 @@ def options(trial: Trial) -> None:
     holds(f"{trial.name} --nonsense", done.returncode == 2 and b"\n" == done.stderr[-1:], done)
     if trial.name in OTHERS:
         return
+    shutil.copy(SYNOP, trial.place / "-")
+    for words in (["-"], ["--", "-"]):
+        done = trial.run(words, cwd=trial.place)
+        holds(f"{trial.name} of a file {words}", done.stdout == trial.run([SYNOP]).stdout and not done.returncode, done)
     done = trial.run(["no\x1b[31m\nsuch\udcff"])
     trial.fails("a name that is not there", done, r"no\x1B[31m\x0Asuch\xFF")
 
