@@ -7,7 +7,8 @@
 - of docs/guide.md: octets and items of the example files, and the differences from ecCodes;
 - of tables/README.md: the counts of the tables;
 - of the man pages: the faults of that of `bufr`, and, where they are there, that `mandoc` and `groff` do not complain;
-- of the man pages and the completions: commands and options, of the scripts too.
+- of the man pages and the completions: commands and options, of the scripts too;
+- of all pages: which Python the scripts need.
 """
 import csv
 import os
@@ -19,6 +20,7 @@ import sys
 
 from lib import DOCS, FAULT, TOP, finish, program
 
+PYTHON = "3.9"
 complaints = []
 
 
@@ -91,13 +93,25 @@ def man_page() -> None:
     want(faults == told, f"man/bufr.1: of the faults {sorted(faults ^ told)} stand here or in docs/texts.md alone")
     for command in (["mandoc", "-T", "lint"], ["groff", "-ww", "-mandoc", "-T", "utf8", "-z"]):
         if not shutil.which(command[0]):
-            print(f"docs_names: {command[0]} is not there, the man pages are not given to it")
+            print(f"docs_names: skipped, {command[0]} is not installed")
             continue
         for path in sorted(TOP.glob("man/*.1")):
             done = subprocess.run([*command, path], stdout=subprocess.PIPE, stderr=subprocess.STDOUT, text=True)
             # Where the other pages are is a matter of the installation.
             told = [line for line in done.stdout.splitlines() if "not found: Xr" not in line and "mandoc.db" not in line]
             want(not told, f"{path.name}: {told}")
+
+
+def python_version() -> None:
+    """Each page that says which Python the scripts need says the same one."""
+    pages = ["README.md", "CHANGELOG.md", "CONTRIBUTING.md", "docs/guide.md", "tables/README.md"]
+    pages += sorted(str(path.relative_to(TOP)) for path in [*TOP.glob("man/*"), TOP / "build_wheel.py"])
+    told = {page: set(re.findall(r"Python (3\.\d+)|Requires-Python: >=(3\.\d+)", read(page))) for page in pages}
+    told = {page: {"".join(version) for version in versions} for page, versions in told.items()}
+    for page in ("README.md", "CHANGELOG.md", "docs/guide.md", "man/bufr.1", "build_wheel.py"):
+        want(told[page] != set(), f"{page} does not say which Python the scripts need")
+    for page, versions in told.items():
+        want(versions <= {PYTHON}, f"{page} says Python {' and '.join(sorted(versions))}, not {PYTHON}")
 
 
 def commands_and_options() -> None:
@@ -167,6 +181,7 @@ def main() -> None:
     example_files()
     counts_of_tables()
     man_page()
+    python_version()
     commands_and_options()
     scripts()
     differences()

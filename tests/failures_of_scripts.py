@@ -124,15 +124,22 @@ def memory(trial: Trial) -> None:
     words = [sys.executable, "-c", code, trial.words[1], TOP / "scripts"]
     while subprocess.run(words, stderr=subprocess.DEVNULL, preexec_fn=functools.partial(limit_memory, least)).returncode:
         least += 1
-    statuses = set()
     for megabytes in [*range(least + 2, least + 24, 2), 150]:
         done = trial.run([stream], limits={resource.RLIMIT_AS: megabytes << 20})
-        statuses.add(done.returncode)
         is_whole = (done.returncode, done.stdout, done.stderr) == (1, whole.stdout, whole.stderr)
         is_told = done.returncode == 2 and not done.stderr.splitlines()[-1:] == whole.stderr.splitlines()[-1:]
         holds(f"{trial.name} in {megabytes} MB", is_whole or is_told, (done.returncode, done.stderr[-300:]))
         holds(f"{trial.name} in {megabytes} MB: a prefix", whole.stdout.startswith(done.stdout), done.stdout[-300:])
-    holds(f"{trial.name}: memory is wanting in no run", 2 in statuses, statuses)
+    code = f"""
+import runpy, sys
+sys.path[0], sys.argv = {str(TOP / 'scripts')!r}, sys.argv[1:]
+import bufr_guard
+def refused(*_): raise MemoryError
+bufr_guard.wait = refused
+runpy.run_path(sys.argv[0], run_name="__main__")
+"""
+    trial.words[1:1] = ["-c", code]
+    trial.fails("want of memory", trial.run([stream]), f"{trial.name}: out of memory")
 
 
 def limit_memory(megabytes: int) -> None:
@@ -195,6 +202,45 @@ def killed(trial: Trial) -> None:
                     holds(f"{trial.name}: {command} and {how}", trial.name in ("bufr-extract", "bufr-lacks"), done)
     done = trial.run([SYNOP], environment={"BUFR": "/nosuch"})
     trial.fails("no program", done, "cannot run /nosuch: No such file or directory")
+
+
+def signals(trial: Trial) -> None:
+    """A signal ends a script and what it runs. A reader that has gone is a failed write, or ends it quietly."""
+    number = trial.place / "number"
+    slow = trial.program(f"echo $$ > {number}.1; mv {number}.1 {number}; exec sleep 60")
+    for name in (signal.SIGINT, signal.SIGTERM, signal.SIGHUP):
+        number.unlink(missing_ok=True)
+        run = subprocess.Popen(
+            [*trial.words, SYNOP], stdout=subprocess.DEVNULL, stderr=subprocess.PIPE, env={**trial.environment, **slow}
+        )
+        is_begun = wait_until(number.exists)
+        run.send_signal(name)
+        _, told = run.communicate(timeout=60)
+        holds(f"{trial.name} at {name.name}", is_begun and (run.returncode, told) == (-name, b""), (run.returncode, told))
+        started = pathlib.Path("/proc") / number.read_text().strip()
+        holds(f"{trial.name} at {name.name}: what still runs", wait_until(lambda: not started.exists()))
+    # More than a pipe holds.
+    (trial.place / "many").write_bytes(SYNOP.read_bytes() * 4000)
+    run = subprocess.Popen(
+        [*trial.words, trial.place / "many"], stdout=subprocess.PIPE, stderr=subprocess.PIPE, env=trial.environment
+    )
+    if trial.name != "bufr-lacks":  # of which nothing comes
+        run.stdout.read(10)
+    run.stdout.close()
+    told, status = run.stderr.read(), run.wait(timeout=60)
+    if trial.name == "bufr-lacks":
+        holds("bufr-lacks without a reader", (status, told) == (0, b""), (status, told))
+    elif trial.name == "bufr-auto":
+        holds("bufr-auto without a reader", status in (2, -signal.SIGPIPE), (status, told))
+    else:
+        holds(f"{trial.name} without a reader", status == 2 and told.count(b"\n") == 1, (status, told))
+
+
+def wait_until(is_so) -> bool:
+    end = time.monotonic() + 30
+    while not is_so() and time.monotonic() < end:
+        time.sleep(0.02)
+    return bool(is_so())
 
 
 def tables(trial: Trial) -> None:
@@ -260,8 +306,9 @@ def progress(trial: Trial) -> None:
     lines = told.count(b" MB")
     holds(f"{trial.name}: progress", status == 0 and 1 <= lines <= seconds + 1, (status, told, seconds))
     holds(f"{trial.name}: progress that stays", told.endswith(b"\r\x1b[K") and b"\n" not in told, told)
-    done = trial.run([trial.place / "long"], environment=slow)
-    holds(f"{trial.name}: progress to a pipe", done.stderr == b"", done.stderr)
+    if trial.name == "bufr-lacks":
+        done = trial.run([trial.place / "long"], environment=slow)
+        holds(f"{trial.name}: progress to a pipe", done.stderr == b"", done.stderr)
 
 
 def start_up(trial: Trial) -> None:
@@ -284,7 +331,7 @@ def start_up(trial: Trial) -> None:
 def main() -> None:
     asked = sys.argv[2:] or SCRIPTS
     for name in asked:
-        for test in (descriptors, memory, room, shorter, killed, tables, options, progress):
+        for test in (descriptors, memory, room, shorter, killed, signals, tables, options, progress):
             with tempfile.TemporaryDirectory() as place:
                 test(Trial(name, SCRIPTS[name], place))
     if "bufr-auto" in asked:

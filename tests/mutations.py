@@ -1,0 +1,127 @@
+#!/usr/bin/env python3
+"""Breaks the scripts on purpose, one change at a time, and wants the test that stands beside it to fail.
+
+    tests/mutations.py [--all | --only WORD] [PROGRAM]
+
+Each change is made in a copy of this tree. Without --all only the first is tried, and of the others it is looked at
+whether their text is still there. --only tries those whose file, text or test has this word.
+"""
+import os
+import pathlib
+import shutil
+import subprocess
+import sys
+import tempfile
+
+from lib import BUILT, TOP, finish
+
+# A file, its text, what takes its place, and the test with its words behind the program.
+MUTATIONS = [
+    (
+        "scripts/bufr-lacks",
+        "return max(bufr_guard.checked(status), 1 if found else 0)",
+        "return 1 if found else 0",
+        "tests/centre_tables.py",
+    ),
+    ("scripts/bufr-lacks", "base + int(offset)", "int(offset)", "tests/centre_tables.py"),
+    ("scripts/bufr-lacks", "if tables not in tried and is_refused(tables):", "if False:", "tests/failures_of_scripts.py bufr-lacks"),
+    (
+        "scripts/bufr_sets.py",
+        "own[min(good, key=lambda number: abs(number - version))]",
+        "own[good[-1]]",
+        "tests/centre_tables.py",
+    ),
+    (
+        "scripts/bufr_sets.py",
+        "if min(version, nearest) <= number <= max(version, nearest)",
+        "if True",
+        "tests/centre_tables.py",
+    ),
+    ("scripts/bufr-parallel", "status = max(status, told)", "pass", "tests/parallel_dump.py"),
+    ("scripts/bufr-parallel", "ThreadPoolExecutor(asked.P)", "ThreadPoolExecutor(2 * asked.P)", "tests/parallel_dump.py"),
+    ("scripts/bufr-parallel", "faults.tell_before(min(offset, part[-1]))", "pass", "tests/parallel_dump.py"),
+    (
+        "scripts/bufr-parallel",
+        "return max(status, bufr_guard.checked(listing.status, listing.faults.has_told))",
+        "return status",
+        "tests/failures_of_scripts.py bufr-parallel",
+    ),
+    ("scripts/bufr-parallel", "raise stream.failure", "pass", "tests/failures_of_scripts.py bufr-parallel"),
+    ("scripts/bufr-parallel", "or len(self.part) >= 2 * RANGES", "", "tests/memory_of_scripts.py bufr-parallel"),
+    ("scripts/bufr-extract", "base + begin, base + end", "begin, end", "tests/extract_messages.py"),
+    ("scripts/bufr-extract", "pattern += f\"| edition=3", "pattern += f\"|", "tests/extract_messages.py"),
+    ("scripts/bufr-extract", "raise Failed(\"write failed\") from None", "raise", "tests/extract_messages.py"),
+    (
+        "scripts/bufr-extract",
+        "        bufr_guard.checked(status, what=program)\n",
+        "        pass\n",
+        "tests/failures_of_scripts.py bufr-extract",
+    ),
+    (
+        "scripts/bufr_guard.py",
+        "raise Failed(\"the file became shorter while it was read\")",
+        "break",
+        "tests/failures_of_scripts.py bufr-parallel",
+    ),
+    ("scripts/bufr_guard.py", "        take_descriptors()\n", "", "tests/failures_of_scripts.py bufr-parallel"),
+    ("scripts/bufr_guard.py", "or (status == 2 and not has_told)", "", "tests/failures_of_scripts.py bufr-parallel"),
+    ("scripts/bufr_guard.py", "raise no_room() from None\n\n\ndef no_room", "pass\n\n\ndef no_room", "tests/failures_of_scripts.py bufr-extract"),
+    ("scripts/bufr_guard.py", "self.next = time.monotonic() + 1\n            total", "total", "tests/failures_of_scripts.py bufr-extract"),
+    ("tables/convert.py", "aside.unlink(missing_ok=True)", "pass", "tests/table_converter.py"),
+    ("tables/convert.py", "out / f\".{name}.{os.getpid()}\"", "out / name", "tests/table_converter.py"),
+]
+
+
+def copied(place: str) -> pathlib.Path:
+    """A copy of this tree without the crates, which the program was built of."""
+    top = pathlib.Path(place) / "tree"
+    left_out = shutil.ignore_patterns(".git", "crates", "__pycache__")
+    shutil.copytree(TOP, top, symlinks=True, ignore=left_out)
+    return top
+
+
+def holds(top: pathlib.Path, test: str, program: str) -> bool:
+    """Whether a test holds in a copy."""
+    script, *words = test.split()
+    try:
+        return subprocess.run([sys.executable, top / script, program, *words], capture_output=True, timeout=900).returncode == 0
+    except subprocess.TimeoutExpired:
+        return False
+
+
+def survives(top: pathlib.Path, mutation: tuple, program: str) -> str:
+    """What is wrong of a change: its test holds all the same."""
+    file, old, new, test = mutation
+    text = (top / file).read_text(encoding="utf-8")
+    (top / file).write_text(text.replace(old, new), encoding="utf-8")
+    is_wrong = holds(top, test, program)
+    (top / file).write_text(text, encoding="utf-8")
+    return f"{test} holds where {file} has {new!r} for {old!r}" if is_wrong else ""
+
+
+def main() -> None:
+    words = sys.argv[1:]
+    asked = MUTATIONS[:1]
+    if words[:1] == ["--all"]:
+        asked, words = MUTATIONS, words[1:]
+    elif words[:1] == ["--only"]:
+        asked, words = [mutation for mutation in MUTATIONS if words[1] in " ".join(mutation)], words[2:]
+    program = os.path.abspath(words[0] if words else BUILT)
+    wrongs = []
+    for file, old, *_ in MUTATIONS:
+        count = (TOP / file).read_text(encoding="utf-8").count(old)
+        wrongs += [f"{file} has {count} times {old!r}"] * (count == 0)
+    with tempfile.TemporaryDirectory() as place:
+        top = copied(place)
+        wrongs += [f"{test} fails without a change" for test in sorted({test for *_, test in asked}) if not holds(top, test, program)]
+        for mutation in asked:
+            wrong = survives(top, mutation, program)
+            wrongs += [wrong] * bool(wrong)
+            if len(asked) > 1:
+                print(wrong or f"told: {mutation[0]}: {mutation[1]!r}", flush=True)
+    print(f"mutations: {len(asked)} of {len(MUTATIONS)} changes tried")
+    finish(wrongs)
+
+
+if __name__ == "__main__":
+    main()
