@@ -3,7 +3,7 @@
 
     tests/bufr_auto.py [PROGRAM]
 
-It encodes by the same rule, ends well at each failure, is quick, holds little, and leaves nothing behind.
+It encodes by the same rule, is quick, and leaves nothing behind. How it fails failures_of_scripts.py has too.
 """
 import os
 import pathlib
@@ -25,16 +25,6 @@ AUTO = [sys.executable, str(TOP / "scripts/bufr-auto")]
 TABLES = TOP / "tables"
 # 0 12 101 has 16 bits; 0 13 164 is unknown in the sets up to wmo-16; 14 001 has another reference from version 14 on.
 LISTS = ["012101", "001001 012101", "014001", "013164", "102002 001001 012101", "063255"]
-
-# It runs a program, and prints its status, the most memory that it took, and its time with that of what it ran.
-# What the test holds itself is not counted so.
-LAUNCHER = """if True:
-    import os, sys
-    actions = [(os.POSIX_SPAWN_OPEN, 1, os.devnull, os.O_WRONLY, 0)]
-    run = os.posix_spawnp(sys.argv[1], sys.argv[1:], os.environ, file_actions=actions)
-    _, status, usage = os.wait4(run, 0)
-    print(os.waitstatus_to_exitcode(status), usage.ru_maxrss, usage.ru_utime + usage.ru_stime)
-"""
 
 
 def made(version: int, descriptors: str, data: bytes, centre: int = 98, local: int = 0, section_2=b"") -> bytes:
@@ -421,29 +411,6 @@ class Trial:
         done = subprocess.run(words, env=self.environment, capture_output=True)
         self.holds("ended children are ignored", done.stdout == (TOP / "examples/synop.txt").read_bytes(), done)
 
-    def usage(self, words: list, environment: dict) -> tuple:
-        """The status, the most memory in KB and the seconds of the processors of a run, and its lines of errors."""
-        with tempfile.TemporaryFile() as errors:
-            launched = [sys.executable, "-S", "-c", LAUNCHER, *map(str, words)]
-            done = subprocess.run(launched, stdout=subprocess.PIPE, stderr=errors, env=environment)
-            errors.seek(0)
-            status, memory, seconds = done.stdout.split()
-            return int(status), int(memory), float(seconds), sum(1 for _ in errors)
-
-    def memory(self) -> None:
-        """A million strays, and a million messages with gaps, take 40 MB at most."""
-        synop = (TOP / "examples/synop.bufr").read_bytes()
-        rows = (
-            ("strays", synop + b"BUFR\0\0\0\0" * 1_000_000 + synop, (1, 1_000_000)),
-            ("messages", (made(39, "001001", b"\1") + b" gap\n") * 1_000_000, (0, 0)),
-        )
-        for what, stream, wanted in rows:
-            (self.place / "stream").write_bytes(stream)
-            status, memory, _, lines = self.usage([*AUTO, self.place / "stream"], self.environment)
-            print(f"bufr_auto: a million {what} in {memory // 1024} MB")
-            self.holds(f"a million {what}: status and lines", (status, lines) == wanted, (status, lines))
-            self.holds(f"a million {what}: the memory", memory <= 40 * 1024, memory)
-
     def start_up(self) -> None:
         """One message takes at most 1.8 times a Python that does nothing, one `bufr ls` and one `bufr dump`.
 
@@ -457,8 +424,7 @@ class Trial:
         least = [1e9] * len(runs)
         for number in range(41):
             for at, words in enumerate(runs):
-                status, _, seconds, _ = self.usage(words, environment)
-                self.holds(f"{words}: the status", status == 0, status)
+                seconds = lib.seconds_of(words, env=environment, stdout=subprocess.DEVNULL)
                 least[at] = min(least[at], seconds) if number else 1e9  # the first run fills the cache
         times = least[0] / sum(least[1:])
         print(f"bufr_auto: one message in {1000 * least[0]:.0f} ms, {times:.2f} times its bare parts")
@@ -508,7 +474,6 @@ def main() -> None:
         trial.command_line()
         trial.signals()
         trial.ends()
-        trial.memory()
         trial.start_up()
         trial.speed()
     finish(trial.complaints)

@@ -4,7 +4,7 @@
     tests/failures_of_scripts.py [PROGRAM [SCRIPT..]]
 
 Descriptors are closed or full, memory and room are wanting, files become shorter while they are read, tables are at
-fault, and programs are killed. Then come the options that all scripts have, the line of progress and the start-up.
+fault, and programs are killed. Then come the options that all scripts have, and the line of progress.
 """
 import contextlib
 import functools
@@ -311,32 +311,12 @@ def progress(trial: Trial) -> None:
         holds(f"{trial.name}: progress to a pipe", done.stderr == b"", done.stderr)
 
 
-def start_up(trial: Trial) -> None:
-    """bufr-auto on one message takes at most 1.8 times a Python that does nothing, one `bufr ls` and one `bufr dump`."""
-    environment = {**trial.environment, "PYTHONPYCACHEPREFIX": str(trial.place / "cache")}
-    environment.pop("PYTHONDONTWRITEBYTECODE", None)
-    alone = [[sys.executable, "-c", "pass"], [program(), "ls", SYNOP], [program(), *DUMP, SYNOP]]
-    commands, rounds = [[*trial.words, SYNOP], *alone], []
-    for _ in range(12):
-        rounds.append([lib.seconds_of(words, env=environment, stdout=subprocess.DEVNULL) for words in commands])
-        # Of all rounds but the first, in which Python compiles its modules, the least seconds of each count.
-        whole, *parts = map(min, zip(*(rounds[1:] or rounds)))
-        bare = sum(parts)
-        if len(rounds) > 3 and whole <= 1.8 * bare:
-            break
-    print(f"failures_of_scripts: bufr-auto on one message {1000 * whole:.0f} ms, its bare parts {1000 * bare:.0f} ms")
-    holds("the start-up of bufr-auto", whole <= 1.8 * bare, whole / bare)
-
-
 def main() -> None:
     asked = sys.argv[2:] or SCRIPTS
     for name in asked:
         for test in (descriptors, memory, room, shorter, killed, signals, tables, options, progress):
             with tempfile.TemporaryDirectory() as place:
                 test(Trial(name, SCRIPTS[name], place))
-    if "bufr-auto" in asked:
-        with tempfile.TemporaryDirectory() as place:
-            start_up(Trial("bufr-auto", [], place))
     finish(complaints)
 
 
