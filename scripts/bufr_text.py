@@ -51,9 +51,8 @@ _FXY = rb"[0-3](?:[0-5]\d|6[0-3])(?:[01]\d\d|2[0-4]\d|25[0-5])"
 _COLUMN = re.compile(_FXY.decode() + r"(?::[1-9]\d*)?")
 _DESCRIPTORS = re.compile(rb"descriptors(?: " + _FXY + rb"){1,8}")
 _HEX = re.compile(rb"(?:[0-9A-Fa-f]{2}){1,32}")
-_ITEM = re.compile(
-    rb"(R )?(" + _FXY + rb') (?:(-?\d+(?:\.\d+)?)|"(' + _QUOTED + rb')"|MISSING)(?: +#(?: (.*) \[(.*)\]|.*))?', re.DOTALL
-)
+_VALUE = rb'(?:(-?\d+(?:\.\d+)?)|"(' + _QUOTED + rb')"|MISSING)'
+_ITEM = re.compile(rb"(R )?(" + _FXY + rb") " + _VALUE + rb"(?: +#(?: (.*) \[(.*)\]|.*))?", re.DOTALL)
 _ESCAPE = re.compile(rb"\\(?:x(..)|(.))")
 _LISTED = re.compile(rb"offset=(\d+) length=(\d+) ")
 _FAULT = re.compile(rb"offset (\d+): (\d+) (.*)\n?")

@@ -4,15 +4,15 @@
 #       awk -v keep=year,001001,001002 -v columns=007004,012101,012103 -f scripts/levels.awk
 #
 # `columns` are looked for in the passes. A pass has a row where it has the first column, and another one if more than
-# one is named: so of a sounding's groups those are taken that have these columns. `keep` are columns of the whole subset,
-# in each of its rows: descriptors, keys of the header, and `offset` and `length`, with `listing` and `faults` as in wide.awk.
-# A descriptor stands for its first item; texts and missing values are as in long.awk.
+# one is named: so of a sounding's groups those are taken that have these columns. `keep` are columns of the whole
+# subset, in each of its rows: descriptors, keys of the header, and `offset` and `length`, by `listing` and `faults` as
+# in wide.awk. A descriptor stands for its first item; texts and missing values are as in long.awk.
 #
-# A group's first pass begins behind its factor (031000 to 031002), and the next one where the descriptor comes again with
-# which that began. A group inside a pass belongs to the pass. A subset is passed over where it has no such level, and
-# where that descriptor comes twice in a pass. These subsets, and columns that no row had, are told on standard error at
-# the end. The status is 1 where passes could not be told apart. It is 2 where a column is no descriptor and no key, and
-# where listing, fault lines and text are not of one stream. Any awk will do.
+# A group's first pass begins behind its factor (031000 to 031002), and the next one where the descriptor comes again
+# with which that began. A group inside a pass belongs to the pass. A subset is passed over where it has no such level,
+# and where that descriptor comes twice in a pass. These subsets, and columns that no row had, are told on standard error
+# at the end. The status is 1 where passes could not be told apart. It is 2 where a column is no descriptor and no key,
+# and where listing, fault lines and text are not of one stream. Any awk will do.
 
 function fail(text) {
     print "levels.awk: " text | "cat >&2"
@@ -32,7 +32,7 @@ function field(   parts, part, value) {
     return "\"" value "\""
 }
 
-# Sets `offset` and `octets` to those of the next message of the listing without a fault line. Says whether there is one.
+# Sets `offset` and `octets` to those of the next message of the listing without a fault line, if there is one.
 function next_listed(   line, words, is_read) {
     do {
         if ((is_read = (getline line < listing)) <= 0)
@@ -116,8 +116,8 @@ function pass_over(fxy) {
     split("", values)
 }
 
-# One item in or before the passes of a group. `left` of them are still to begin, each with the item `opener`; a pass has
-# had `items` items and `inner` factors so far, and the one before it had `pass_items` and `pass_inner`.
+# One item in or before the passes of a group. `left` of them are still to begin, each with the item `opener`. A pass
+# has had `items` items and `inner` factors so far, and the one before it had `pass_items` and `pass_inner`.
 function item(fxy) {
     if (left && (opener == "" || fxy == opener)) {
         if (opened > 1 && !inner && !pass_inner && items != pass_items) {

@@ -31,7 +31,7 @@ function field(   parts, part, value) {
     return "\"" value "\""
 }
 
-# Sets `offset` and `octets` to those of the next message of the listing without a fault line. Says whether there is one.
+# Sets `offset` and `octets` to those of the next message of the listing without a fault line, if there is one.
 function next_listed(   line, words, is_read) {
     do {
         if ((is_read = (getline line < listing)) <= 0)
@@ -54,7 +54,8 @@ function next_listed(   line, words, is_read) {
 
 # Whether a word is a descriptor of six digits, alone or with a count from 1.
 function is_descriptor(word) {
-    return word ~ /^[0-3][0-9][0-9][0-9][0-9][0-9](:[1-9][0-9]*)?$/ && substr(word, 2, 2) < 64 && substr(word, 4, 3) < 256
+    return word ~ /^[0-3][0-9][0-9][0-9][0-9][0-9](:[1-9][0-9]*)?$/ && \
+        substr(word, 2, 2) < 64 && substr(word, 4, 3) < 256
 }
 
 # The row of the subset that was read, if there was one.

@@ -165,7 +165,7 @@ def seconds(words: list, path: pathlib.Path) -> float:
 
 
 def tries_speed(awk: list, text: bytes, folder: pathlib.Path) -> None:
-    """Items that were not asked for cost little more than their lines. To look at all of them takes 12 times as long."""
+    """Items that were not asked for cost little more than their lines. To look at all takes 12 times as long."""
     path = folder / "text"
     path.write_bytes(text * (16_000_000 // len(text)))
     least = seconds([*awk, '$1 == "012101" { count++ } END { print count }'], path)
