@@ -501,7 +501,7 @@ def work(words: list) -> int:
             break
         if word == "--encode":
             kind = Encode
-        elif word.startswith("-"):
+        elif word.startswith("-") and word != "-":
             raise bufr_guard.Failed(f"no option {word}; bufr-auto --help tells them")
         else:
             names.append(word)

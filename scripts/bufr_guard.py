@@ -51,6 +51,7 @@ def run(work, text: str, ends_by_pipe: bool = False) -> None:
         for number in signals:
             if number == signal.SIGPIPE or signal.getsignal(number) != signal.SIG_IGN:
                 signal.signal(number, leave)
+        signal.signal(signal.SIGCHLD, signal.SIG_DFL)  # where it is ignored no program's status is known
         status = guarded(work, text)
         stop()
     finally:
@@ -100,13 +101,15 @@ def end_badly(told: str) -> None:
     for attempt in (flush, lambda: os.write(2, os.fsencode(shown(f"{name()}: {told}") + "\n"))):
         try:
             attempt()
-        except (OSError, MemoryError):
+        except Exception:
             pass
 
 
 def hook(_kind, error: BaseException, _place) -> None:
     """Python's hook for an exception outside of `run`, as while a script imports."""
     try:
+        if isinstance(error, KeyboardInterrupt):
+            leave(signal.SIGINT, None)
         end_badly("out of memory" if isinstance(error, MemoryError) else reason(error))
     finally:
         os._exit(2)
@@ -131,7 +134,7 @@ def file_of(words: list):
     """FILE of a command line without options, or nothing."""
     if words[:1] == ["--"]:
         words = words[1:]
-    elif words and words[0].startswith("-"):
+    elif words and words[0].startswith("-") and words[0] != "-":
         raise Failed(f"no option {words[0]}; {name()} --help tells more")
     if len(words) > 1:
         raise Failed(f"one file a call: cat {' '.join(words)} | {name()}")
@@ -373,6 +376,7 @@ def copied(source: int) -> int:
         keep(descriptor, octets)
         size += len(octets)
         progress.at(size)
+    Progress.clear()
     os.lseek(descriptor, 0, os.SEEK_SET)
     return descriptor
 

@@ -51,9 +51,8 @@ _FXY = rb"[0-3](?:[0-5]\d|6[0-3])(?:[01]\d\d|2[0-4]\d|25[0-5])"
 _COLUMN = re.compile(_FXY.decode() + r"(?::[1-9]\d*)?")
 _DESCRIPTORS = re.compile(rb"descriptors(?: " + _FXY + rb"){1,8}")
 _HEX = re.compile(rb"(?:[0-9A-Fa-f]{2}){1,32}")
-_ITEM = re.compile(
-    rb"(R )?(" + _FXY + rb') (?:(-?\d+(?:\.\d+)?)|"(' + _QUOTED + rb')"|MISSING)(?: +#(?: (.*) \[(.*)\]|.*))?', re.DOTALL
-)
+_VALUE = rb'(?:(-?\d+(?:\.\d+)?)|"(' + _QUOTED + rb')"|MISSING)'
+_ITEM = re.compile(rb"(R )?(" + _FXY + rb") " + _VALUE + rb"(?: +#(?: (.*) \[(.*)\]|.*))?", re.DOTALL)
 _ESCAPE = re.compile(rb"\\(?:x(..)|(.))")
 _LISTED = re.compile(rb"offset=(\d+) length=(\d+) ")
 _FAULT = re.compile(rb"offset (\d+): (\d+) (.*)\n?")
@@ -116,7 +115,7 @@ class RunError(RuntimeError):
 
 
 class DumpWarning(UserWarning):
-    """Messages of a file were refused, or no set of tables serves them exactly, or levels cannot be told apart."""
+    """A file has no message, or some that were refused or no set of tables serves, or levels cannot be told apart."""
 
 
 class Fault(NamedTuple):
@@ -475,7 +474,7 @@ def listing(file: _Path, faults: Optional[List[Fault]] = None) -> Iterator[Place
         for place in _listed(stream, errors, told):
             told.up_to(place.offset)
             yield place
-        told.end()
+        told.end(stream)
 
 
 def parts(places: Iterable[Place], octets: int = 1 << 19) -> Iterator[List[Place]]:
@@ -503,7 +502,8 @@ def dump(
 
     A list `faults` gets each fault in order: when a message is given those before it are there. Without a list their
     lines go to `sys.stderr`, and a `DumpWarning` at the end says how many there are. What `bufr-auto` notes is such a
-    warning in either case. `places` are messages of a listing of this file: those alone are dumped.
+    warning in either case, and so is a file without a message. `places` are messages of a listing of this file: those
+    alone are dumped.
 
     The file is listed first, and then its messages are read at their places. Of what is no regular file a copy is made.
     Raises `RunError` where a program ends with a status over 1, and `OSError` where a file cannot be read.
@@ -530,14 +530,14 @@ def _dumped(file: _Path, words: List[str], told: _Told, places: Optional[Iterabl
                     raise RunError(2, f"{words[0]} gave no text of the message at offset {place.offset}")
                 message.offset, message.length = place
                 yield message
-        told.end()
+        told.end(stream)
 
 
 class _Told:
     """The faults of a file, which are told in order: strays of its listing between messages that are refused."""
 
     def __init__(self, file: _Path, faults: Optional[List[Fault]]) -> None:
-        self.file, self.faults, self.count = file, faults, 0
+        self.file, self.faults, self.count, self.is_bare = file, faults, 0, False
         self.first: Optional[Fault] = None
         self.strays: Iterator[Fault] = iter(())
         self.stray: Optional[Fault] = None
@@ -572,10 +572,11 @@ class _Told:
                 known[0] += int(note[1])
         return refused
 
-    def end(self) -> None:
+    def end(self, stream: IO[bytes]) -> None:
         """Tells the rest, and warns."""
         self.up_to(float("inf"))
-        told = [f"fault lines: {self.count}, the first: {self.first}"] * (self.faults is None and self.count > 0)
+        told = [f"no message{_looks(stream)}"] * self.is_bare
+        told += [f"fault lines: {self.count}, the first: {self.first}"] * (self.faults is None and self.count > 0)
         for reason, (count, first) in self.notes.items():
             told.append(f"messages: {count}, the first at offset {first}: {reason}")
         for text in told:
@@ -601,18 +602,26 @@ def _octets(stream: IO[bytes], place: Place) -> bytes:
     return octets
 
 
+def _looks(stream: IO[bytes]) -> str:
+    """What a file without a message looks like, as `bufr-auto` tells of its beginning."""
+    words, begin = [_program("bufr-auto")], os.pread(stream.fileno(), 256, 0)
+    told = subprocess.run(words, input=begin, stdout=subprocess.PIPE, stderr=subprocess.PIPE).stderr
+    return told.decode(errors="replace").rstrip().rpartition("has no message")[2]
+
+
 def _listed(stream: IO[bytes], errors: IO[bytes], told: _Told) -> Iterator[Place]:
     """The places of a stream's messages. Its strays wait in a file, from which they are told."""
     with tempfile.TemporaryFile() as lines:
         words = [_bufr(), "ls"]
         status = subprocess.run(words, stdin=stream, stdout=lines, stderr=errors).returncode
-        lines.seek(0)
         has_told = errors.seek(0, os.SEEK_END) > 0
         errors.seek(0)
         if status not in (0, 1) or status == 1 and not has_told:
             raise _failure(status, words, errors)
         told.strays = (Fault(int(one[1]), int(one[2]), one[3].decode()) for one in map(_FAULT.match, errors) if one)
         told.stray = next(told.strays, None)
+        told.is_bare = lines.seek(0, os.SEEK_END) == 0
+        lines.seek(0)
         for line in lines:
             found = _LISTED.match(line)
             if not found:

@@ -4,15 +4,15 @@
 #       awk -v keep=year,001001,001002 -v columns=007004,012101,012103 -f scripts/levels.awk
 #
 # `columns` are looked for in the passes. A pass has a row where it has the first column, and another one if more than
-# one is named: so of a sounding's groups those are taken that have these columns. `keep` are columns of the whole subset,
-# in each of its rows: descriptors, keys of the header, and `offset`, which needs `listing` and `faults` as in wide.awk.
-# A descriptor stands for its first item; texts and missing values are as in long.awk.
+# one is named: so of a sounding's groups those are taken that have these columns. `keep` are columns of the whole
+# subset, in each of its rows: descriptors, keys of the header, and `offset` and `length`, by `listing` and `faults` as
+# in wide.awk. A descriptor stands for its first item; texts and missing values are as in long.awk.
 #
-# A group's first pass begins behind its factor (031000 to 031002), and the next one where the descriptor comes again with
-# which that began. A group inside a pass belongs to the pass. A subset is passed over where it has no such level, and
-# where that descriptor comes twice in a pass. These subsets, and columns that no row had, are told on standard error at
-# the end. The status is 1 where passes could not be told apart. It is 2 where a column is no descriptor and no key, and
-# where listing, fault lines and text are not of one stream. Any awk will do.
+# A group's first pass begins behind its factor (031000 to 031002), and the next one where the descriptor comes again
+# with which that began. A group inside a pass belongs to the pass. A subset is passed over where it has no such level,
+# and where that descriptor comes twice in a pass. These subsets, and columns that no row had, are told on standard error
+# at the end. The status is 1 where passes could not be told apart. It is 2 where a column is no descriptor and no key,
+# and where listing, fault lines and text are not of one stream. Any awk will do.
 
 function fail(text) {
     print "levels.awk: " text | "cat >&2"
@@ -32,7 +32,7 @@ function field(   parts, part, value) {
     return "\"" value "\""
 }
 
-# Sets `listed` to the next offset of the listing without a fault line. Says whether there is one.
+# Sets `offset` and `octets` to those of the next message of the listing without a fault line, if there is one.
 function next_listed(   line, words, is_read) {
     do {
         if ((is_read = (getline line < listing)) <= 0)
@@ -40,15 +40,16 @@ function next_listed(   line, words, is_read) {
         if (line !~ /^offset=[0-9]+ /)
             fail(listing " is no listing of bufr ls")
         split(line, words, /[= ]/)
-        listed = words[2]
-        while (fault + 0 < listed + 0 && (is_read = (getline line < faults)) > 0)
+        offset = words[2]
+        octets = words[4]
+        while (fault + 0 < offset + 0 && (is_read = (getline line < faults)) > 0)
             if (line ~ /^offset [0-9]+: /) {
                 split(line, words, /[ :]/)
                 fault = words[2]
             }
         if (is_read < 0)
             fail("cannot read " faults)
-    } while (fault == listed)
+    } while (fault == offset)
     return 1
 }
 
@@ -115,8 +116,8 @@ function pass_over(fxy) {
     split("", values)
 }
 
-# One item in or before the passes of a group. `left` of them are still to begin, each with the item `opener`; a pass has
-# had `items` items and `inner` factors so far, and the one before it had `pass_items` and `pass_inner`.
+# One item in or before the passes of a group. `left` of them are still to begin, each with the item `opener`. A pass
+# has had `items` items and `inner` factors so far, and the one before it had `pass_items` and `pass_inner`.
 function item(fxy) {
     if (left && (opener == "" || fxy == opener)) {
         if (opened > 1 && !inner && !pass_inner && items != pass_items) {
@@ -158,13 +159,14 @@ function item(fxy) {
 BEGIN {
     if (columns == "")
         fail("name the descriptors: -v columns=007004,012101")
-    keys = " offset edition master centre subcentre update category subcategory localsubcategory masterversion" \
+    keys = " offset length edition master centre subcentre update category subcategory localsubcategory masterversion" \
         " localversion year month day hour minute second observed compressed optional subsets "
     line = "message,subset"
     kept_count = split_columns(keep, kept, keys)
     level_count = split_columns(columns, levels, "")
-    if (is_key["offset"] && (listing == "" || faults == ""))
-        fail("offset needs the files -v listing= (of bufr ls) and -v faults= (the fault lines of this dump)")
+    is_joined = "offset" in is_key || "length" in is_key
+    if (is_joined && (listing == "" || faults == ""))
+        fail("offset and length need the files -v listing= (of bufr ls) and -v faults= (the fault lines of this dump)")
     fault = -1
     print line
     for (column = 1; column <= kept_count; column++)
@@ -197,7 +199,7 @@ BEGIN {
 $1 == "message" {
     message++
     is_open = 1
-    if (is_key["offset"] && !next_listed())
+    if (is_joined && !next_listed())
         fail("the text has more messages than the listing")
 }
 $1 == "end" { end_subset(); is_open = 0 }
@@ -206,7 +208,7 @@ $1 == "subset" {
     subset = $2
     split("", first)
     for (key in is_key)
-        first[key] = key == "offset" ? listed : header[key]
+        first[key] = key == "offset" ? offset : key == "length" ? octets : header[key]
 }
 !subset { header[$1] = $2 }
 
@@ -215,7 +217,7 @@ END {
         exit failed
     if (is_open)
         fail("the text ends inside a message")
-    if (is_key["offset"] && next_listed())
+    if (is_joined && next_listed())
         fail("the listing has more messages than the text and the fault lines")
     for (column = 1; column <= kept_count; column++)
         if (!(kept[column] in had))

@@ -9,7 +9,7 @@
 #     bufr dump -B B.csv -D D.csv FILE 2> faults |
 #       awk -v columns=offset,012101 -v listing=listing -v faults=faults -f scripts/wide.awk
 #
-# A text has no offset: `offset` is that of the next message of the listing without a fault line.
+# A text has no offset: `offset` and `length` are those of the next message of the listing without a fault line.
 # Columns that no subset had are told on standard error at the end. The status is 2 where a column is no descriptor and
 # no key, and where listing, fault lines and text are not of one stream. Any awk will do.
 
@@ -31,7 +31,7 @@ function field(   parts, part, value) {
     return "\"" value "\""
 }
 
-# Sets `listed` to the next offset of the listing without a fault line. Says whether there is one.
+# Sets `offset` and `octets` to those of the next message of the listing without a fault line, if there is one.
 function next_listed(   line, words, is_read) {
     do {
         if ((is_read = (getline line < listing)) <= 0)
@@ -39,21 +39,23 @@ function next_listed(   line, words, is_read) {
         if (line !~ /^offset=[0-9]+ /)
             fail(listing " is no listing of bufr ls")
         split(line, words, /[= ]/)
-        listed = words[2]
-        while (fault + 0 < listed + 0 && (is_read = (getline line < faults)) > 0)
+        offset = words[2]
+        octets = words[4]
+        while (fault + 0 < offset + 0 && (is_read = (getline line < faults)) > 0)
             if (line ~ /^offset [0-9]+: /) {
                 split(line, words, /[ :]/)
                 fault = words[2]
             }
         if (is_read < 0)
             fail("cannot read " faults)
-    } while (fault == listed)
+    } while (fault == offset)
     return 1
 }
 
 # Whether a word is a descriptor of six digits, alone or with a count from 1.
 function is_descriptor(word) {
-    return word ~ /^[0-3][0-9][0-9][0-9][0-9][0-9](:[1-9][0-9]*)?$/ && substr(word, 2, 2) < 64 && substr(word, 4, 3) < 256
+    return word ~ /^[0-3][0-9][0-9][0-9][0-9][0-9](:[1-9][0-9]*)?$/ && \
+        substr(word, 2, 2) < 64 && substr(word, 4, 3) < 256
 }
 
 # The row of the subset that was read, if there was one.
@@ -73,7 +75,7 @@ function row(   line, column) {
 BEGIN {
     if (columns == "")
         fail("name the columns: -v columns=001001,001002")
-    keys = " offset edition master centre subcentre update category subcategory localsubcategory masterversion" \
+    keys = " offset length edition master centre subcentre update category subcategory localsubcategory masterversion" \
         " localversion year month day hour minute second observed compressed optional subsets "
     count = split(columns, asked, /[ ,]+/)
     line = "message,subset"
@@ -91,8 +93,9 @@ BEGIN {
         line = line "," word
         told[column] = word
     }
-    if (is_key["offset"] && (listing == "" || faults == ""))
-        fail("offset needs the files -v listing= (of bufr ls) and -v faults= (the fault lines of this dump)")
+    is_joined = "offset" in is_key || "length" in is_key
+    if (is_joined && (listing == "" || faults == ""))
+        fail("offset and length need the files -v listing= (of bufr ls) and -v faults= (the fault lines of this dump)")
     fault = -1
     print line
     wanted["message"] = wanted["subset"] = wanted["end"] = 1
@@ -102,7 +105,7 @@ BEGIN {
 $1 == "message" {
     message++
     is_open = 1
-    if (is_key["offset"] && !next_listed())
+    if (is_joined && !next_listed())
         fail("the text has more messages than the listing")
     next
 }
@@ -113,7 +116,7 @@ $1 == "subset" {
     split("", values)
     split("", seen)
     for (key in is_key)
-        values[key] = key == "offset" ? listed : header[key]
+        values[key] = key == "offset" ? offset : key == "length" ? octets : header[key]
     next
 }
 !subset { header[$1] = $2; next }
@@ -129,7 +132,7 @@ END {
         exit failed
     if (is_open)
         fail("the text ends inside a message")
-    if (is_key["offset"] && next_listed())
+    if (is_joined && next_listed())
         fail("the listing has more messages than the text and the fault lines")
     for (column = 1; column <= count; column++)
         if (!had[column])

@@ -119,29 +119,29 @@ class Stream:
                 [lib.program(), *words, folder / "stream"], stdout=subprocess.PIPE, stderr=subprocess.PIPE
             )
             path.write_bytes(done.stdout if output == 1 else done.stderr)
-        self.text, self.offsets = done.stdout, []
+        self.text, self.places = done.stdout, []
         # which messages are dumped, by a run for each alone
         for offset, length in re.findall(rb"^offset=(\d+) length=(\d+) ", self.listing.read_bytes(), re.M):
             one = octets[int(offset) : int(offset) + int(length)]
             words = [lib.program(), "dump", *tables]
             if subprocess.run(words, input=one, stdout=subprocess.PIPE, stderr=subprocess.DEVNULL).stdout:
-                self.offsets.append(offset.decode())
+                self.places.append((offset.decode(), length.decode()))
 
 
 def tries_offsets(awk: list, stream: Stream) -> None:
     files = {"listing": stream.listing, "faults": stream.faults}
-    status, output, errors = run(awk, "wide.awk", stream.text, columns="offset", **files)
-    rows = [row.split(",") for row in output.splitlines()[1:]]
-    wanted = [offset for number, offset in enumerate(stream.offsets, 1) if str(number) in {row[0] for row in rows}]
+    status, output, errors = run(awk, "wide.awk", stream.text, columns="offset,length", **files)
+    rows = [tuple(row.split(",")) for row in output.splitlines()[1:]]
+    wanted = [place for number, place in enumerate(stream.places, 1) if str(number) in {row[0] for row in rows}]
     want((status, errors) == (0, ""), f"{awk}: offsets end with {status}: {errors}")
-    want(list(dict.fromkeys(row[2] for row in rows)) == wanted, f"{awk}: the offsets are {rows}, not {wanted}")
+    want(list(dict.fromkeys(row[2:] for row in rows)) == wanted, f"{awk}: the offsets are {rows}, not {wanted}")
     status, output, errors = run(awk, "levels.awk", stream.text, keep="offset,year", columns="007004", **files)
     rows = {tuple(row.split(",")[2:4]) for row in output.splitlines()[1:]}
     want((str(stream.sounding), "2023") in rows and status == 0, f"{awk}: levels have offsets {rows}: {errors}")
-    for script, columns in (("wide.awk", {"columns": "offset"}), ("levels.awk", {"keep": "offset", "columns": "007004"})):
+    for script, columns in (("wide.awk", {"columns": "length"}), ("levels.awk", {"keep": "offset", "columns": "007004"})):
         for given, told in [
-            ({}, "offset needs the files"),
-            ({"listing": stream.listing}, "offset needs the files"),
+            ({}, "offset and length need the files"),
+            ({"listing": stream.listing}, "offset and length need the files"),
             ({"listing": stream.listing, "faults": stream.empty}, "the listing has more messages than the text"),
             ({"listing": stream.empty, "faults": stream.faults}, "the text has more messages than the listing"),
             ({"listing": stream.faults, "faults": stream.faults}, "is no listing"),
@@ -165,7 +165,7 @@ def seconds(words: list, path: pathlib.Path) -> float:
 
 
 def tries_speed(awk: list, text: bytes, folder: pathlib.Path) -> None:
-    """Items that were not asked for cost little more than their lines. To look at all of them takes 12 times as long."""
+    """Items that were not asked for cost little more than their lines. To look at all takes 12 times as long."""
     path = folder / "text"
     path.write_bytes(text * (16_000_000 // len(text)))
     least = seconds([*awk, '$1 == "012101" { count++ } END { print count }'], path)

@@ -81,7 +81,11 @@ def alike(rows: list) -> list:
 
 
 def table(done: subprocess.CompletedProcess) -> tuple:
-    return alike(list(csv.reader(io.StringIO(done.stdout.decode())))), done.stderr.decode().splitlines()
+    """The rows and the fault lines. That a file has no message is told as soon as it is listed."""
+    lines = done.stderr.decode().splitlines()
+    want(lines.count("strays.bufr: no message") == 1, f"of a file without a message it tells {lines[:5]}")
+    lines.remove("strays.bufr: no message")
+    return alike(list(csv.reader(io.StringIO(done.stdout.decode())))), lines
 
 
 def tries(trial: Trial) -> None:
@@ -100,6 +104,10 @@ def tries(trial: Trial) -> None:
     done = trial.run("2", COLUMNS, "later.bufr")
     note = b"later.bufr: messages: 2, the first at offset 0: version 45 is later than wmo-39\n"
     want((done.returncode, done.stderr) == (0, note), f"of a later version it tells {done.stderr}")
+    (trial.folder / "packed.gz").write_bytes(b"\x1f\x8b\0")
+    done = trial.run("2", COLUMNS, "packed.gz", "small.bufr")
+    note = b"packed.gz: no message: it looks like gzip data (zcat)\n"
+    want((done.returncode, done.stderr) == (0, note), f"of a file without a message it tells {done.stderr}")
     # the first worker that dumps a part is killed: bufr < bufr-auto < the worker
     kill = 'kill -9 "$(ps -o ppid= -p $PPID | tr -d " ")"'
     program = trial.program(f'[ "$1" = dump ] && mkdir once 2> /dev/null && {kill}\nexec "$REAL" "$@"')

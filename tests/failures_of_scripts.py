@@ -27,7 +27,8 @@ FAULTY = TOP / "examples/bulletins.bufr"
 DUMP = ["dump", *TABLES]
 # The words of each script in front of a stream.
 SCRIPTS = {"bufr-auto": [], "bufr-extract": [], "bufr-lacks": [], "bufr-parallel": ["-P", "2", *DUMP]}
-HAS_MATPLOTLIB = subprocess.run([sys.executable, "-c", "import matplotlib"], stderr=subprocess.DEVNULL).returncode == 0
+# Scripts that need packages: of them it is tried how they begin; tests/pictures.py and tests/dask_table.py have the rest.
+OTHERS = {"bufr-plot": ["map", "a.png"], "bufr-dask": ["2", "001001"]}
 complaints = []
 
 
@@ -88,11 +89,6 @@ def descriptors(trial: Trial) -> None:
     trial.fails("a closed output", trial.run([stream], closed=[1]))
     trial.fails("a full output", trial.run([stream], full=[1]))
     holds(f"{trial.name}: a file is written", stream.read_bytes() == gives.read_bytes())
-    for words in (["--help"], ["--version"]):
-        trial.words, kept = trial.words[:2], trial.words
-        trial.fails(f"{words} to a closed output", trial.run(words, closed=[1]))
-        trial.fails(f"{words} to a full output", trial.run(words, full=[1]))
-        trial.words = kept
     done = trial.run([os.devnull], closed=[1])
     holds(f"{trial.name}: nothing to a closed output", done.returncode == 0, done)
     trial.fails("a closed input", trial.run(closed=[0]), "read failed" if trial.name != "bufr-auto" else "read")
@@ -113,6 +109,17 @@ def descriptors(trial: Trial) -> None:
             holds(f"a note to a {kind} descriptor", trial.run(input=note, **{kind: [2]}).returncode == 2)
 
 
+# A script for which there is no memory where a program has ended.
+REFUSED = """
+import runpy, sys
+sys.path[0], sys.argv = "{}", sys.argv[1:]
+import bufr_guard
+def refused(*_): raise MemoryError
+bufr_guard.wait = refused
+runpy.run_path(sys.argv[0], run_name="__main__")
+"""
+
+
 def memory(trial: Trial) -> None:
     """With less and less memory it gives all of it, or says that there is not enough."""
     stream = trial.place / "strays"
@@ -124,15 +131,14 @@ def memory(trial: Trial) -> None:
     words = [sys.executable, "-c", code, trial.words[1], TOP / "scripts"]
     while subprocess.run(words, stderr=subprocess.DEVNULL, preexec_fn=functools.partial(limit_memory, least)).returncode:
         least += 1
-    statuses = set()
     for megabytes in [*range(least + 2, least + 24, 2), 150]:
         done = trial.run([stream], limits={resource.RLIMIT_AS: megabytes << 20})
-        statuses.add(done.returncode)
         is_whole = (done.returncode, done.stdout, done.stderr) == (1, whole.stdout, whole.stderr)
         is_told = done.returncode == 2 and not done.stderr.splitlines()[-1:] == whole.stderr.splitlines()[-1:]
         holds(f"{trial.name} in {megabytes} MB", is_whole or is_told, (done.returncode, done.stderr[-300:]))
         holds(f"{trial.name} in {megabytes} MB: a prefix", whole.stdout.startswith(done.stdout), done.stdout[-300:])
-    holds(f"{trial.name}: memory is wanting in no run", 2 in statuses, statuses)
+    trial.words[1:1] = ["-c", REFUSED.format(TOP / "scripts")]
+    trial.fails("want of memory", trial.run([stream]), f"{trial.name}: out of memory")
 
 
 def limit_memory(megabytes: int) -> None:
@@ -157,8 +163,6 @@ def room(trial: Trial) -> None:
 
 def shorter(trial: Trial) -> None:
     """The file becomes shorter while it is read: before `bufr ls` reads it, behind that, or before a dump."""
-    if trial.name == "bufr-plot":
-        return
     stream = trial.place / "stream"
     octets = lib.asking(lib.message(bytes(60_000)), 39) * 40
     stream.write_bytes(octets)
@@ -197,6 +201,50 @@ def killed(trial: Trial) -> None:
     trial.fails("no program", done, "cannot run /nosuch: No such file or directory")
 
 
+def signals(trial: Trial) -> None:
+    """A signal ends a script and what it runs. A reader that has gone is a failed write, or ends it quietly."""
+    number = trial.place / "number"
+    slow = trial.program(f"echo $$ > {number}.1; mv {number}.1 {number}; exec sleep 60")
+    for name in (signal.SIGINT, signal.SIGTERM, signal.SIGHUP):
+        number.unlink(missing_ok=True)
+        run = subprocess.Popen(
+            [*trial.words, SYNOP], stdout=subprocess.DEVNULL, stderr=subprocess.PIPE, env={**trial.environment, **slow}
+        )
+        is_begun = wait_until(number.exists)
+        run.send_signal(name)
+        _, told = run.communicate(timeout=60)
+        holds(f"{trial.name} at {name.name}", is_begun and (run.returncode, told) == (-name, b""), (run.returncode, told))
+        started = pathlib.Path("/proc") / number.read_text().strip()
+        holds(f"{trial.name} at {name.name}: what still runs", wait_until(lambda: not started.exists()))
+    done = subprocess.run(
+        [*trial.words, SYNOP], capture_output=True, env=trial.environment,
+        preexec_fn=lambda: signal.signal(signal.SIGCHLD, signal.SIG_IGN),
+    )
+    holds(f"{trial.name} of a parent that ignores its children", (done.returncode, done.stderr) == (0, b""), done)
+    # More than a pipe holds.
+    (trial.place / "many").write_bytes(SYNOP.read_bytes() * 4000)
+    run = subprocess.Popen(
+        [*trial.words, trial.place / "many"], stdout=subprocess.PIPE, stderr=subprocess.PIPE, env=trial.environment
+    )
+    if trial.name != "bufr-lacks":  # of which nothing comes
+        run.stdout.read(10)
+    run.stdout.close()
+    told, status = run.stderr.read(), run.wait(timeout=60)
+    if trial.name == "bufr-lacks":
+        holds("bufr-lacks without a reader", (status, told) == (0, b""), (status, told))
+    elif trial.name == "bufr-auto":
+        holds("bufr-auto without a reader", status in (2, -signal.SIGPIPE), (status, told))
+    else:
+        holds(f"{trial.name} without a reader", status == 2 and told.count(b"\n") == 1, (status, told))
+
+
+def wait_until(is_so) -> bool:
+    end = time.monotonic() + 30
+    while not is_so() and time.monotonic() < end:
+        time.sleep(0.02)
+    return bool(is_so())
+
+
 def tables(trial: Trial) -> None:
     """A field of 200,000 octets, a NUL, no UTF-8, and a folder whose name looks like an option."""
     if trial.name not in ("bufr-auto", "bufr-lacks"):
@@ -219,8 +267,11 @@ def tables(trial: Trial) -> None:
 
 
 def options(trial: Trial) -> None:
-    """--help, --version, an isolated Python, and names that a screen would take for orders."""
+    """--help, --version, mistaken words, an isolated Python, and names that a screen would take for orders."""
     trial.words, kept = trial.words[:2], trial.words
+    for words in (["--help"], ["--version"]):
+        for kind in ("closed", "full"):
+            trial.fails(f"{words} to a {kind} output", trial.run(words, **{kind: [1]}))
     version = subprocess.run([program(), "--version"], stdout=subprocess.PIPE, text=True).stdout
     for words in (["--version"], ["-V"]):
         done = trial.run(words)
@@ -228,13 +279,20 @@ def options(trial: Trial) -> None:
     for words in (["--help"], ["-h"]):
         done = trial.run(words)
         holds(f"{trial.name} {words}", done.returncode == 0 and trial.name in done.stdout.decode(), done)
+    trial.words = [kept[0], "-I", *kept[1:2]]
+    done = trial.run(["--version"], cwd=trial.place)
+    holds(f"{trial.name} in an isolated Python", done.returncode == 0, done)
+    trial.words = [kept[0], "-c", REFUSED.format(TOP / "scripts"), kept[1]]
+    trial.fails("want of memory for the version", trial.run(["--version"]), f"{trial.name}: out of memory")
     trial.words = kept
     done = trial.run(["--nonsense"])
-    holds(f"{trial.name} --nonsense", done.returncode == 2 and b"nonsense" in done.stderr, done)
-    trial.words, kept = [kept[0], "-I", *kept[1:]], trial.words
-    done = trial.run([SYNOP], cwd=trial.place)
-    holds(f"{trial.name} in an isolated Python", done.returncode == 0, done)
-    trial.words = kept
+    holds(f"{trial.name} --nonsense", done.returncode == 2 and b"\n" == done.stderr[-1:], done)
+    if trial.name in OTHERS:
+        return
+    shutil.copy(SYNOP, trial.place / "-")
+    for words in (["-"], ["--", "-"]):
+        done = trial.run(words, cwd=trial.place)
+        holds(f"{trial.name} of a file {words}", done.stdout == trial.run([SYNOP]).stdout and not done.returncode, done)
     done = trial.run(["no\x1b[31m\nsuch\udcff"])
     trial.fails("a name that is not there", done, r"no\x1B[31m\x0Asuch\xFF")
 
@@ -260,16 +318,18 @@ def progress(trial: Trial) -> None:
     lines = told.count(b" MB")
     holds(f"{trial.name}: progress", status == 0 and 1 <= lines <= seconds + 1, (status, told, seconds))
     holds(f"{trial.name}: progress that stays", told.endswith(b"\r\x1b[K") and b"\n" not in told, told)
-    done = trial.run([trial.place / "long"], environment=slow)
-    holds(f"{trial.name}: progress to a pipe", done.stderr == b"", done.stderr)
+    if trial.name == "bufr-lacks":
+        done = trial.run([trial.place / "long"], environment=slow)
+        holds(f"{trial.name}: progress to a pipe", done.stderr == b"", done.stderr)
 
 
 def main() -> None:
-    asked = sys.argv[2:] or SCRIPTS
+    asked = sys.argv[2:] or [*SCRIPTS, *OTHERS]
     for name in asked:
-        for test in (descriptors, memory, room, shorter, killed, tables, options, progress):
+        of_all = (descriptors, memory, room, shorter, killed, signals, tables, options, progress)
+        for test in of_all if name in SCRIPTS else (options,):
             with tempfile.TemporaryDirectory() as place:
-                test(Trial(name, SCRIPTS[name], place))
+                test(Trial(name, {**SCRIPTS, **OTHERS}[name], place))
     finish(complaints)
 
 

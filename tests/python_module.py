@@ -442,6 +442,21 @@ class Runs(unittest.TestCase):
         wanted = f"{self.stream}: messages: 2, the first at offset {len(self.octets)}: version 45 is later than wmo-39"
         self.assertEqual(str(warned.warning), wanted)
 
+    def test_a_file_without_a_message_is_warned_of(self):
+        web = b"<html>BUFR</html>" * 20
+        for octets, told in [(b"", ": it is empty"), (b"\x1f\x8b\0", ": it looks like gzip data (zcat)"), (b"\0", "")]:
+            self.stream.write_bytes(octets)
+            for call, words in ((bufr_text.dump, TABLES), (bufr_text.dump, []), (bufr_text.listing, [])):
+                with self.assertWarns(bufr_text.DumpWarning) as warned:
+                    self.assertEqual(list(call(self.stream, *words)), [])
+                self.assertEqual(str(warned.warning), f"{self.stream}: no message{told}")
+        self.stream.write_bytes(web)
+        with warnings.catch_warnings(record=True) as told, contextlib.redirect_stderr(io.StringIO()):
+            warnings.simplefilter("always")
+            list(bufr_text.dump(self.stream))
+        wanted = ["no message: it looks like HTML", "fault lines: 20, the first: offset 6: 1 cut"]
+        self.assertEqual([str(one.message) for one in told], [f"{self.stream}: {text}" for text in wanted])
+
     def test_failures_are_told(self):
         for call in (bufr_text.dump, bufr_text.listing):
             with self.assertRaises(FileNotFoundError):
