@@ -12,12 +12,12 @@ from lib import TOP, finish
 
 MOST = {
     "README.md": 900,
-    "docs/guide.md": 4100,
+    "docs/guide.md": 4000,
     "docs/format.md": 2600,
     "docs/texts.md": 2600,
     "docs/design.md": 1800,
     "docs/proof.md": 1500,
-    "docs/DECISIONS.md": 1550,
+    "docs/DECISIONS.md": 1500,
     "CONTRIBUTING.md": 1200,
     "bench/README.md": 400,
     "tables/README.md": 900,
