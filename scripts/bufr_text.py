@@ -569,7 +569,7 @@ class _Told:
                 refused[offset] = Fault(offset, int(fault[2]), fault[3].decode())
             else:
                 count, begin, reason = note.groups() if note else (b"1", b"0", line)
-                if reason not in self.notes and len(self.notes) == 1000:
+                if reason not in self.notes and len(self.notes) >= 1000:
                     reason = b"other notes"
                 self.notes.setdefault(reason, [0, offsets[int(begin)]])[0] += int(count)
         return refused
