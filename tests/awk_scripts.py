@@ -1,5 +1,6 @@
 #!/usr/bin/env python3
-"""Each awk that is there makes the same tables of the examples, and long.awk a row of seven fields for each item.
+"""Each awk that is there makes the same tables of the examples, and long.awk a row of seven fields for each item. What
+two scripts have alike, since a script is one file, is the same.
 
     tests/awk_scripts.py [PROGRAM]
 """
@@ -40,6 +41,12 @@ def run(words: list, text: bytes) -> tuple:
     return done.returncode, done.stdout, done.stderr
 
 
+def functions(script: str) -> dict:
+    """The text of each function of a script, without the script's name."""
+    text = (TOP / "scripts" / script).read_text(encoding="utf-8").replace(script, "")
+    return {name: found for found, name in re.findall(r"^(function (\w+).*?^})$", text, re.M | re.S)}
+
+
 def main() -> None:
     paths = sorted((TOP / "examples").glob("*.txt"))
     lines = [line for path in paths for line in path.read_text(encoding="utf-8").splitlines()]
@@ -58,6 +65,9 @@ def main() -> None:
         for text, wanted in ((ODD, (0, ODD_ROWS, b"")), (ODD[:-4], (2, ODD_ROWS, told))) if shutil.which(awk[0]) else ():
             done = run([*awk, *LONG], text)
             wrongs += [f"{awk}: long.awk gives {done} of {text}"] * (done != wanted)
+    wide, levels = functions("wide.awk"), functions("levels.awk")
+    alike = {name for name in wide if wide[name] == levels.get(name)}
+    wrongs += [f"wide.awk and levels.awk are alike in {alike}"] * (alike != {"fail", "field", "next_listed"})
     rows = list(csv.reader(made["awk"][0].decode().splitlines()))
     wrongs += [f"long.awk: {row}, not seven fields" for row in rows if len(row) != 7]
     wrongs += [f"long.awk: {len(rows) - 1} rows of {items} items"] * (len(rows) != items + 1)

@@ -121,7 +121,7 @@ MUTATIONS = [
         "message.offset, message.length = part[0]",
         "tests/python_module.py",
     ),
-    ("scripts/bufr_text.py", "known[0] += int(note[1])", "known[0] += 1", "tests/python_module.py"),
+    ("scripts/bufr_text.py", "[0] += int(count)", "[0] += 1", "tests/python_module.py"),
     ("scripts/bufr_text.py", "(self.faults is None and self.count > 0)", "(self.count > 0)", "tests/python_module.py"),
     ("scripts/bufr_text.py", "status == 1 and not has_told", "False", "tests/python_module.py"),
     ("scripts/bufr_text.py", "done.returncode == 1 and not done.stderr", "False", "tests/python_module.py"),
