@@ -183,13 +183,8 @@ class Trial:
         text = self.auto(stream=made(39, LISTS[0], b"\1\1")).stdout.replace(b"masterversion 39", b"masterversion 41")
         done = self.auto("--encode", stream=b"\n\n" + text)
         self.same("a note", (done.stdout[21:22], done.stderr, done.returncode), (b"\x29", note.replace(b"3", b"1", 1), 0))
-        begin = time.monotonic()
-        with subprocess.Popen([*AUTO, "--encode"], stdin=subprocess.PIPE, stderr=subprocess.PIPE, env=self.environment) as child:
-            child.stdin.write(b"BUFR" + bytes(100) + b"\n")
-            child.stdin.flush()
-            self.holds("no text: the error", child.stderr.readline() == b"line 1: 50 line\n")
-            child.stdin.close()
-        self.holds("no text: the time", time.monotonic() - begin < 20)
+        # What is no text is refused before its end.
+        self.feed("no text", ["--encode"], [(b"BUFR" + bytes(100) + b"\n", b"", b"line 1: 50 line\n")], (b"", b""), 1)
 
     def encoded_one_by_one(self, text: bytes):
         """The messages, the fault line and the status of documents that are encoded one by one."""
@@ -232,7 +227,10 @@ class Trial:
         pipes = dict(stdin=subprocess.PIPE, stdout=subprocess.PIPE, stderr=subprocess.PIPE, bufsize=0)
         with subprocess.Popen([*AUTO, *words], **pipes, env=self.environment) as child:
             for number, (given, *wanted) in enumerate([*steps, (None, *last)]):
-                child.stdin.close() if given is None else child.stdin.write(given)
+                if given is None:
+                    child.stdin.close()
+                elif child.poll() is None:
+                    child.stdin.write(given)
                 for name, file, octets in zip(("output", "errors"), (child.stdout, child.stderr), wanted):
                     told, end = b"", time.monotonic() + 20
                     while len(told) < len(octets) and select.select([file], [], [], max(0, end - time.monotonic()))[0]:
