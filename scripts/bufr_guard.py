@@ -52,7 +52,7 @@ def run(work, text: str, ends_by_pipe: bool = False) -> None:
             if number == signal.SIGPIPE or signal.getsignal(number) != signal.SIG_IGN:
                 signal.signal(number, leave)
         signal.signal(signal.SIGCHLD, signal.SIG_DFL)  # where it is ignored no program's status is known
-        status = guarded(work, text)
+        status = int(guarded(work, text))
         stop()
     finally:
         os._exit(status)
@@ -98,7 +98,8 @@ def guarded(work, text: str) -> int:
 def end_badly(told: str) -> None:
     """Tells what ends the script, behind what was written, as much of both as can be."""
     Progress.clear()
-    for attempt in (flush, lambda: os.write(2, os.fsencode(shown(f"{name()}: {told}") + "\n"))):
+    flushes = [file.flush for file in written()]
+    for attempt in [*flushes, lambda: os.write(2, os.fsencode(shown(f"{name()}: {told}") + "\n"))]:
         try:
             attempt()
         except Exception:
@@ -146,7 +147,8 @@ def reason(error: BaseException) -> str:
     if isinstance(error, Failed):
         return str(error)
     if isinstance(error, OSError) and error.strerror:
-        return f"{os.fsdecode(error.filename)}: {error.strerror}" if error.filename else error.strerror
+        is_named = isinstance(error.filename, (str, bytes))
+        return f"{os.fsdecode(error.filename)}: {error.strerror}" if is_named else error.strerror
     place = error.__traceback__
     while place.tb_next:
         place = place.tb_next
@@ -177,11 +179,16 @@ def output():
     return output.file
 
 
+def written() -> list:
+    """The files that may hold what was written, the output before the errors."""
+    files = (getattr(output, "file", None), sys.stdout, getattr(say, "file", None), sys.stderr)
+    return [file for file in files if file is not None]
+
+
 def flush() -> None:
-    """Hands on what was written, the output before the errors, or raises that it cannot be."""
-    for file in (getattr(output, "file", None), sys.stdout, getattr(say, "file", None), sys.stderr):
-        if file is not None:
-            file.flush()
+    """Hands on what was written, or raises that it cannot be."""
+    for file in written():
+        file.flush()
 
 
 def write_all(descriptor: int, octets: bytes) -> None:
@@ -218,16 +225,20 @@ class Progress:
             total = f" of {self.total / 1e6:.0f}" if self.total else ""
             Progress.is_shown = True
             # The fault line of a program that writes there too is longer, and stands over it.
-            write_all(2, f"\r\x1b[K{octets / 1e6:.0f}{total} MB\r".encode())
+            self.put(f"\r\x1b[K{octets / 1e6:.0f}{total} MB\r".encode())
 
     @staticmethod
     def clear() -> None:
         if Progress.is_shown:
             Progress.is_shown = False
-            try:
-                write_all(2, b"\r\x1b[K")
-            except OSError:
-                pass  # what is written next tells it
+            Progress.put(b"\r\x1b[K")
+
+    @staticmethod
+    def put(octets: bytes) -> None:
+        try:
+            os.write(2, octets)
+        except OSError:
+            pass  # a terminal that has gone does not end the work
 
 
 # The programs that a script runs.
@@ -242,8 +253,8 @@ def program() -> str:
     if is_program(beside):
         return beside
     built = os.path.join(os.path.dirname(os.path.realpath(__file__)), "../crates/bufr/out/bufr")
-    on_path = any(is_program(os.path.join(folder, "bufr")) for folder in os.get_exec_path())
-    return built if is_program(built) and not on_path else "bufr"
+    is_on_path = any(is_program(os.path.join(folder, "bufr")) for folder in os.get_exec_path())
+    return "bufr" if is_on_path or not is_program(built) else built
 
 
 def is_program(path: str) -> bool:
