@@ -29,7 +29,7 @@ from decimal import Decimal
 from typing import IO, BinaryIO, Dict, Iterable, Iterator, List, NamedTuple, Optional, Sequence, Tuple, Union
 
 __all__ = (
-    "HEADER DumpWarning Fault Item Message Place RunError TextError Value "
+    "HEADER Cell DumpWarning Fault Item Message Place RunError TextError Value "
     "dump encode find levels listing parts read rows write"
 ).split()
 

