@@ -1,9 +1,10 @@
 //! Readers and writers that count their failures, and the readers and writers of `std` as such.
-ghost use Rattle.std.specs.Prelude.{◌≡◌, ◌≤◌, ℕ, Bool, List, Option, length, IfOk};
+ghost use Rattle.std.specs.Prelude.{◌≡◌, ◌≤◌, ℕ, Bool, true, false, List, Option, length, IfOk, IsOk, nat_eq};
+ghost use Rattle.std.specs.Io.Buffered.{reader_remaining, reader_buffer};
 ghost use Rattle.std.specs.Io.KnownBytes.{ReadConsumes, WriteAppends, Keeps};
 ghost use Rattle.bufr_bits.specs.Device.{counted, failures_after, empty_writes_after, all_flushed_after_write, all_flushed_after_flush, fresh_device};
 
-use std::io::{Read, Write};
+use std::io::{BufRead, BufReader, Read, Write};
 use thiserror::Error;
 
 /// A call of a device failed. An interrupted call is a failed one too, and nothing is tried again.
@@ -26,6 +27,17 @@ pub trait Source {
     /// How many reads were made.
     ghost reads: { Self → ℕ };
 
+    /// Whether the next read may wait for octets that are not there yet, or fail.
+    ghost waits: { Self → Bool } = { λ _. true };
+
+    /// Whether the next read may wait for octets that are not there yet, or fail. A source that
+    /// does not know says that it may.
+    fn may_wait(&self) -> bool
+        ensures { result ≡ false → waits self.now ≡ false }
+    {
+        true
+    }
+
     /// Reads octets into the first places of `buf` and returns how many. None are read only at the
     /// end of the input, or where `buf` is empty.
     ///
@@ -36,7 +48,8 @@ pub trait Source {
         ensures bound { IfOk result (λ n. n ≤ length buf.new) }
         ensures octets { ReadConsumes (left self.old) (left self.new) result buf.new }
         ensures failed { failures self.new ≡ failures_after (failures self.old) result }
-        ensures made { reads self.new ≡ counted (reads self.old) 1 };
+        ensures made { reads self.new ≡ counted (reads self.old) 1 }
+        ensures sure { waits self.old ≡ false → IsOk result };
 }
 
 /// A writer of octets that counts its calls.
@@ -139,6 +152,49 @@ impl<T: Read> Source for Device<T> {
                 Err(Failed)
             }
         }
+    }
+}
+
+/// A buffered reader of `std` as a [`Source`]. A read of octets that it holds does not wait.
+#[derive(Drop)]
+pub struct BufferedDevice<T: Read> {
+    device: Device<BufReader<T>>,
+}
+
+impl<T: Read> BufferedDevice<T> {
+    /// The device over `inner`, which has made no call.
+    pub fn new(inner: BufReader<T>) -> BufferedDevice<T>
+        ensures { result.device ≡ fresh_device inner }
+    {
+        BufferedDevice {
+            device: Device::new(inner),
+        }
+    }
+}
+
+impl<T: Read> Source for BufferedDevice<T> {
+    ghost left = { λ d. reader_remaining T.remaining d.device.inner };
+
+    ghost failures = { λ d. d.device.failures };
+
+    ghost reads = { λ d. d.device.reads };
+
+    ghost waits = { λ d. nat_eq (length (reader_buffer d.device.inner)) 0 };
+
+    fn may_wait(&self) -> bool {
+        self.device.inner.buffer().is_empty()
+    }
+
+    fn read(&mut self, buf: &mut [u8]) -> Result<usize, Failed> {
+        let held = self.device.inner.buffer();
+        if !held.is_empty() {
+            let n = held.len().min(buf.len());
+            buf[..n].copy_from_slice(&held[..n]);
+            self.device.inner.consume(n);
+            self.device.reads = self.device.reads.saturating_add(1);
+            return Ok(n);
+        }
+        self.device.read(buf)
     }
 }
 

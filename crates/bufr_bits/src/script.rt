@@ -1,5 +1,5 @@
 //! A reader and a writer in memory for tests, which go in small steps and fail at a given place.
-ghost use Rattle.std.specs.Prelude.{◌≤◌, ◌<◌, vec_len, vec_capacity, ◌≡◌, Some, length, IfOk, [], true, ◌-◌};
+ghost use Rattle.std.specs.Prelude.{◌≤◌, ◌<◌, vec_len, vec_capacity, ◌≡◌, Some, length, IfOk, IsOk, [], true, false, ◌-◌};
 ghost use Rattle.std.specs.Io.KnownBytes.{ReadConsumes, WriteAppends, Keeps};
 ghost use Rattle.bufr_bits.specs.Device.{counted, failures_after, empty_writes_after, all_flushed_after_write, all_flushed_after_flush};
 
@@ -54,6 +54,8 @@ impl<'a> Source for ScriptIn<'a> {
             buf.new }
         ensures failed { self.new.failures ≡ failures_after self.old.failures result }
         ensures made { self.new.reads ≡ counted self.old.reads 1 }
+        // It may wait at each read.
+        ensures sure { true ≡ false → IsOk result }
         // The script is kept to: the answer, the place of failure and the step.
         ensures answer { result ≡ read_answer self.old.step (length buf.old)
             (length self.old.rest.now) self.old.before_failure }
