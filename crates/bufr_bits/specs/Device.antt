@@ -1,4 +1,4 @@
--- What a device has counted: failures, empty writes and flushes, each up to the greatest u64.
+-- What a device has counted: failures, empty writes and failed flushes, each up to the greatest u64.
 -- Cited by public contracts.
 use Rattle.std.specs.Prelude.{true, ℕ, zero, suc, ◌+◌, ◌-◌, ◌^◌, min, max, Bool, false, List, [], ◌∷◌, Result, Ok, Err}
 use Rattle.bufr_bits.specs.declared.device.Device.{Device}
@@ -11,7 +11,7 @@ fresh_device inner =
       failures = 0;
       reads = 0;
       empty_writes = 0;
-      flushes = 0;
+      failed_flushes = 0;
       all_flushed = true;
     }
 

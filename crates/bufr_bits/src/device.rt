@@ -56,7 +56,7 @@ pub trait Source {
 ///
 /// Its contract speaks of values that no code holds: the octets taken so far, where they are
 /// known, and whether a flush handed all of them on. It counts the calls that failed, the writes
-/// that took none of their octets, and the flushes. The counts stop at the greatest `u64`.
+/// that took none of their octets, and the flushes that failed. The counts stop at the greatest `u64`.
 pub trait Sink {
     /// The octets taken so far, where they are known.
     ghost taken: { Self → Option (List ℕ) };
@@ -67,8 +67,8 @@ pub trait Sink {
     /// How many writes took none of the octets that they were given.
     ghost empty_writes: { Self → ℕ };
 
-    /// How many flushes were made.
-    ghost flushes: { Self → ℕ };
+    /// How many flushes failed.
+    ghost failed_flushes: { Self → ℕ };
 
     /// Whether all octets that were taken were handed on.
     ghost all_flushed: { Self → Bool };
@@ -84,7 +84,7 @@ pub trait Sink {
         ensures failed { failures self.new ≡ failures_after (failures self.old) result }
         ensures empty { empty_writes self.new
             ≡ empty_writes_after (empty_writes self.old) buf.now result }
-        ensures flushed { flushes self.new ≡ flushes self.old }
+        ensures flushed { failed_flushes self.new ≡ failed_flushes self.old }
         ensures handed { all_flushed self.new ≡ all_flushed_after_write (all_flushed self.old)
             result };
 
@@ -97,7 +97,8 @@ pub trait Sink {
         ensures octets { Keeps (taken self.old) (taken self.new) }
         ensures failed { failures self.new ≡ failures_after (failures self.old) result }
         ensures empty { empty_writes self.new ≡ empty_writes self.old }
-        ensures flushed { flushes self.new ≡ counted (flushes self.old) 1 }
+        ensures flushed { failed_flushes self.new ≡ failures_after (failed_flushes self.old)
+            result }
         ensures handed { all_flushed self.new ≡ all_flushed_after_flush (all_flushed self.old)
             result };
 }
@@ -116,7 +117,7 @@ pub struct Device<T> {
     failures: u64,
     reads: u64,
     empty_writes: u64,
-    flushes: u64,
+    failed_flushes: u64,
     all_flushed: bool,
 }
 
@@ -130,7 +131,7 @@ impl<T> Device<T> {
             failures: 0,
             reads: 0,
             empty_writes: 0,
-            flushes: 0,
+            failed_flushes: 0,
             all_flushed: true,
         }
     }
@@ -205,7 +206,7 @@ impl<T: Write> Sink for Device<T> {
 
     ghost empty_writes = { λ d. d.empty_writes };
 
-    ghost flushes = { λ d. d.flushes };
+    ghost failed_flushes = { λ d. d.failed_flushes };
 
     ghost all_flushed = { λ d. d.all_flushed };
 
@@ -229,7 +230,6 @@ impl<T: Write> Sink for Device<T> {
     }
 
     fn flush(&mut self) -> Result<(), Failed> {
-        self.flushes = self.flushes.saturating_add(1);
         match self.inner.flush() {
             Ok(()) => {
                 self.all_flushed = true;
@@ -237,6 +237,7 @@ impl<T: Write> Sink for Device<T> {
             }
             Err(_) => {
                 self.failures = self.failures.saturating_add(1);
+                self.failed_flushes = self.failed_flushes.saturating_add(1);
                 Err(Failed)
             }
         }

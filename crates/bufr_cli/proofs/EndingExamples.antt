@@ -1,10 +1,10 @@
 -- Last lines and exit statuses, and ends of runs that are refused, computed.
-use Rattle.std.proofs.Common.{if◌then◌else◌, ◌==◌, ◌≡◌, ◌∷◌, ℕ, List, [], map, refl, ap, codes, ◌∙◌, Option, Some, Result, Ok, Err, sym, subst, arith, inl, inr}
+use Rattle.std.proofs.Common.{if◌then◌else◌, ◌==◌, ◌≡◌, ◌∷◌, ℕ, List, [], map, refl, ap, codes, Option, Some, Result, Ok, Err, sym, subst, arith, inl, inr}
 use Rattle.std.specs.Borrow.{Bor}
 use Rattle.std.specs.Fmt.{digits}
 use Rattle.bufr_frame.specs.declared.fault.RunFault.TheVariants.{Read, Write, InputTooLong, Memory}
 use Rattle.bufr_text.specs.Prelude.{joined}
-use Rattle.bufr_cli.specs.Prelude.{last_line, status_of, EndsRun, FlushesRest, WantsMemory, Ended, Tally, BlamesWriter, RunPieces, Writer, Writers, event_pieces, holding, ls_piece}
+use Rattle.bufr_cli.specs.Prelude.{last_line, status_of, EndsRun, WantsMemory, Ended, Tally, BlamesWriter, RunPieces, Writer, Writers, event_pieces, holding, ls_piece}
 use Rattle.bufr_cli.specs.declared.outcome.Outcome.TheVariants.{Ran, Usage, CannotOpen, TableB, TableD, Run}
 use Rattle.bufr_frame.specs.Prelude.{head_by_edition, head_size, scan_from, sections_of, section_end}
 use Rattle.bufr_frame.specs.declared.fault.RunFault.{RunFault}

@@ -1,6 +1,6 @@
 -- What a run writes, event by event, and what comes of a job.
-use Rattle.bufr_frame.specs.Prelude.{max_reads, read_failures_after, StreamEvent, FrameAt, StrayAt, scan, scan_from, open_scan, Advances, events_of, IsEvent, FinderModel, ReadsAndPasses, StopsFinder, IsUndecided, new_finder, ReturnsNextEvent, LeavesFinder, AddsReads}
-use Rattle.std.proofs.Common.{length, length-append, ◌≡◌, ◌≢◌, ◌∙◌, ◌≤◌, ◌<◌, ◌^◌, ℕ, ◌+◌, ◌-◌, Bool, true, false, List, [], ◌∷◌, ◌++◌, refl, sym, ap, subst, arith, Option, None, Ok, Err, append-nil, Some, append_assoc, inl, inr, Result, flat_map, map, count_by, IfOk, IfSome, OnOk}
+use Rattle.bufr_frame.specs.Prelude.{max_reads, read_failures_after, StreamEvent, FrameAt, StrayAt, scan, scan_from, open_scan, Advances, events_of, IsEvent, FinderModel, ReadsAndPasses, new_finder, ReturnsNextEvent, LeavesFinder, AddsReads}
+use Rattle.std.proofs.Common.{max, ◌*◌, length, length-append, ◌≡◌, ◌≢◌, ◌∙◌, ◌≤◌, ◌<◌, ◌^◌, ℕ, ◌+◌, ◌-◌, Bool, true, false, List, [], ◌∷◌, ◌++◌, refl, sym, ap, subst, arith, Option, None, Ok, Err, append-nil, Some, append_assoc, inl, inr, Result, flat_map, map, count_by, IfOk, IfSome}
 use Rattle.std.specs.Io.KnownBytes.{Consumes, IsAtEnd, Keeps}
 use Rattle.std.proofs.KnownBytes.{Appends-nil, Appends-trans, Appends-kept, Consumes-nil, Consumes-whole}
 use Rattle.std.proofs.lemmas.Bool.{false≢true}
@@ -11,9 +11,10 @@ use Rattle.bufr_frame.specs.declared.fault.RunFault.{RunFault}
 use Rattle.bufr_frame.specs.declared.fault.RunFault.TheVariants.{Read, Write, InputTooLong, Memory}
 use Rattle.bufr_frame.specs.declared.finder.Event.{Event}
 use Rattle.bufr_frame.specs.declared.finder.Event.TheVariants.{Frame, Stray, Done}
-use Rattle.bufr_frame.proofs.FinderLemmas.{events-are-open, Advances-none, Follows-none, ReadsAndPasses-then, CountsReads-then, whole-scan, events-are-certain}
+use Rattle.bufr_frame.specs.Prelude.{FillFails, NeedsRead, ReadsMore, input_left}
+use Rattle.bufr_frame.proofs.FinderLemmas.{read-step, events-are-open, Advances-none, Follows-none, ReadsAndPasses-then, CountsReads-then, whole-scan, events-are-certain}
 use Rattle.bufr_text.specs.Prelude.{GrowsByPrefix, Stays, Fails, Writes}
-use Rattle.bufr_cli.specs.Prelude.{Piece, output_of, errors_of, is_accepted, is_refused, RunPieces, RunsPieces, WritesAndCounts, event_pieces, read_pieces, LeavesRun, Blames, WritesPieces, Tallies, RunDone, RunStopped, RunCut, ReadsFewer, ReadsAtMost, GivesPieces, LeavesPieces, StopsPiece, RunReads, counted_accepted, counted_refused, tally_after, BlamesWriter, CountsCalls, Input, Writers, ReadsAll, WrittenInPart, Tally, Verdict, InPart, WritesHelp, LeavesDevices, EndsRun, Ended, FlushesRest, WritesLine, run_line}
+use Rattle.bufr_cli.specs.Prelude.{HandsOn, AllHandedOn, Piece, output_of, errors_of, is_accepted, is_refused, RunPieces, RunsPieces, event_pieces, read_pieces, LeavesRun, Blames, WritesPieces, Tallies, RunDone, RunStopped, RunCut, ReadsFewer, ReadsAtMost, GivesPieces, LeavesPieces, StopsPiece, RunReads, counted_accepted, counted_refused, tally_after, BlamesWriter, CountsCalls, Input, Writers, ReadsAll, WrittenInPart, Tally, Verdict, InPart, WritesHelp, LeavesDevices, EndsRun, Ended, FlushesRest, WritesLine, run_line}
 
 pub grows-nil : (w : Option (List ℕ)) → GrowsByPrefix w w []
 grows-nil w = record { prefix = []; back = []; parts = refl; gains = Appends-nil w }
@@ -76,7 +77,7 @@ is-event s s' (Frame offset octets) ends not_done = ends.2
 is-event s s' (Stray offset cause) ends not_done = tt
 is-event s s' Done ends not_done = not_done refl
 
-goes-on : (s s' : FinderModel) (event : Event) → LeavesFinder s s' (Ok event) → IsEvent event → (s'.fault ≡ None) × (s.at < s'.at)
+pub goes-on : (s s' : FinderModel) (event : Event) → LeavesFinder s s' (Ok event) → IsEvent event → (s'.fault ≡ None) × (s.at < s'.at)
 goes-on s s' (Frame offset octets) ends some = (ends.0, ends.1)
 goes-on s s' (Stray offset cause) ends some = (ends.0, ends.1)
 goes-on s s' Done ends some = absurd some
@@ -159,7 +160,7 @@ done-cut pieces left left' w w' e e' unflushed bs tally done =
       all = λ whole _. (done.all whole).1;
       end = done.end;
       written = whole-part w w' w' e e' e' all [] all refl refl (sym (append-nil all)) done.certain;
-      flushed = λ _. ((λ whole. (done.all whole).0), done.written);
+      flushed = λ _. done.certain;
     }
 
 some-none : (p : Piece) → Some p ≡ None → ⊥
@@ -192,52 +193,6 @@ module _ (is_piece : StreamEvent → Piece → Type 0) (left mid left' : Option 
         few = omega (arith, ran.few, on.1, one);
         near = next.near;
       }
-
-  -- the finder stopped
-  pub stop-next : (unflushed : Type 0) → unflushed → (f : RunFault) (r : Result Tally RunFault) → result ≡ Err f → r ≡ Err f
-      → (bs : List ℕ) × ((piece : StreamEvent → Piece) → GivesPieces is_piece piece → LeavesRun (event_pieces piece) left left' w w1 e e1 unflushed (ReadsFewer reads reads2) bs r)
-  stop-next unflushed kept f r is same =
-      let steps = rw is at next.steps in
-      let ends = rw is at next.ends in
-      let bs = ran.octets ++ steps.0 in
-      let step = ReadsAndPasses-then left mid left' s s' ran.octets steps.0 ran.events [] ran.step steps.1 in (
-        bs,
-        λ piece gives.
-            rw same (by piece (ran.wrote piece gives).written bs step f (ends.1 ran.sound)),
-      )
-    where
-      fewer : s'.reads < max_reads → ReadsFewer reads reads2
-      fewer few =
-          let counts = CountsReads-then reads reads1 reads2 s s' ran.counts next.counts in
-          let e : s'.reads - 0 ≡ s'.reads = omega arith in
-          (s'.reads, few, counts.made ∙ ap (counted reads) e)
-
-      opens : (piece : StreamEvent → Piece) (bs : List ℕ) → ReadsAndPasses left left' new_finder s' bs (ran.events ++ []) → (g : RunFault) → IsUndecided s' g → map piece (open_scan bs) ≡ map piece ran.events
-      opens piece bs step g so =
-          ap (map piece) (events-are-open bs s'.rest (ran.events ++ []) s'.at (rw so.1 at step.advances) (so.2 s'.at) ∙ append-nil ran.events)
-
-      stopped : (piece : StreamEvent → Piece) → WritesPieces w w1 e e1 (map piece ran.events) → (bs : List ℕ) → ReadsAndPasses left left' new_finder s' bs (ran.events ++ []) → (g : RunFault) → IsUndecided s' g
-          → RunStopped (event_pieces piece) left left' w w1 e e1 bs
-      stopped piece written bs step g so =
-          record { read = step.read; written = rw (opens piece bs step g so) written; accepted = λ stops. absurd (false≢true stops) }
-
-      cut : (piece : StreamEvent → Piece) → WritesPieces w w1 e e1 (map piece ran.events) → (bs : List ℕ) → ReadsAndPasses left left' new_finder s' bs (ran.events ++ []) → (g : RunFault) → IsUndecided s' g
-          → RunCut (event_pieces piece) left left' w w1 e e1 unflushed bs
-      cut piece written bs step g so = record {
-        read = step.read;
-        ended = false;
-        all = λ _ end. absurd (false≢true end);
-        end = λ end. absurd (false≢true end);
-        written = whole-part w w1 w1 e e1 e1 (map piece ran.events) [] _ refl refl (opens piece bs step g so ∙ sym (append-nil (map piece ran.events))) written;
-        flushed = λ not. absurd (not kept);
-      }
-
-      by : (piece : StreamEvent → Piece) → WritesPieces w w1 e e1 (map piece ran.events) → (bs : List ℕ) → ReadsAndPasses left left' new_finder s' bs (ran.events ++ []) → (g : RunFault) → StopsFinder s s' g
-          → LeavesRun (event_pieces piece) left left' w w1 e e1 unflushed (ReadsFewer reads reads2) bs (Err g)
-      by piece written bs step Read so = stopped piece written bs step Read so
-      by piece written bs step InputTooLong so = stopped piece written bs step InputTooLong so.0
-      by piece written bs step Write so = absurd so
-      by piece written bs step Memory so = (cut piece written bs step Memory so.0, (λ _ _. fewer so.1), λ stops. absurd (false≢true stops))
 
   -- the telling of an event was stopped
   pub stop-report : (unflushed : Type 0) → unflushed → (w2 e2 : Option (List ℕ)) (event : Event) (takes : Bool) (write_event : Result Verdict RunFault) (f : RunFault) (r : Result Tally RunFault) → result ≡ Ok event → IsEvent event
@@ -312,6 +267,90 @@ module _ (is_piece : StreamEvent → Piece → Type 0) (left mid left' : Option 
           rw (same ∙ ap Err write) (done-cut (event_pieces piece) left left' w w2 e e2 unflushed flushed.0 tally (flushed.1 piece gives)),
     )
 
+-- ---- A read of a run, before which what was written may be handed on.
+
+module _ (is_piece : StreamEvent → Piece → Type 0) (left mid : Option (List ℕ)) (reads reads1 : ℕ) (w w1 e e1 : Option (List ℕ)) (s s1 : FinderModel) (tally : Tally)
+    (ran : Ran is_piece left mid reads reads1 w w1 e e1 s tally) (needs : NeedsRead s s1) (w2 e2 : Option (List ℕ)) (kept_w : Keeps w1 w2) (kept_e : Keeps e1 e2) where
+  step : ReadsAndPasses left mid new_finder s1 ran.octets ran.events
+  step =
+      let A : List ℕ → List StreamEvent → Type 0 = λ bs es. ReadsAndPasses left mid new_finder s1 bs es in
+      let B : List ℕ → Type 0 = λ bs. A bs ran.events in
+      let C : List StreamEvent → Type 0 = λ es. A (ran.octets ++ []) es in
+      subst B (append-nil ran.octets) (subst C (append-nil ran.events) (ReadsAndPasses-then left mid mid s s1 ran.octets [] ran.events [] ran.step (needs.passes mid)))
+
+  certain : open_scan ran.octets ≡ ran.events
+  certain = events-are-open ran.octets s1.rest ran.events s1.at (rw needs.going at step.advances) (needs.none s1.at)
+
+  written : (piece : StreamEvent → Piece) → GivesPieces is_piece piece → WritesPieces w w2 e e2 (map piece ran.events)
+  written piece gives = written-kept w w1 w2 e e1 e2 (map piece ran.events) kept_w kept_e (ran.wrote piece gives).written
+
+  -- a flush failed: all that was certain stands
+  pub stop-hand-on : (unflushed early : Type 0) (f : RunFault) (r : Result Tally RunFault) → f ≡ Write → r ≡ Err f
+      → (bs : List ℕ) × ((piece : StreamEvent → Piece) → GivesPieces is_piece piece → LeavesRun (event_pieces piece) left mid w w2 e e2 unflushed early bs r)
+  stop-hand-on unflushed early f r write same = (ran.octets, λ piece gives. rw (same ∙ ap Err write) (cut piece (written piece gives)))
+    where
+      cut : (piece : StreamEvent → Piece) → WritesPieces w w2 e e2 (map piece ran.events) → RunCut (event_pieces piece) left mid w w2 e e2 unflushed ran.octets
+      cut piece so = record {
+        read = step.read;
+        ended = false;
+        all = λ _ end. absurd (false≢true end);
+        end = λ end. absurd (false≢true end);
+        written = whole-part w w2 w2 e e2 e2 (map piece ran.events) [] _ refl refl (ap (map piece) certain ∙ sym (append-nil (map piece ran.events))) so;
+        flushed = λ _. rw (ap (map piece) certain) so;
+      }
+
+  module _ (left' : Option (List ℕ)) (reads2 : ℕ) (s2 : FinderModel) (result : Result (Unit {0}) RunFault) (bs : List ℕ) (more : ReadsMore mid left' s1 s2 result bs) (made : AddsReads reads1 reads2 s1.reads s2.reads) where
+    on : ReadsAndPasses left left' new_finder s2 (ran.octets ++ bs) ran.events
+    on = read-step left mid new_finder s1 s2 ran.octets ran.events left' result bs step needs.going (record { fills = more.fills; at = more.at; fault = more.fault; longest = more.longest })
+
+    pub read-counts : AddsReads reads reads2 new_finder.reads s2.reads
+    read-counts = CountsReads-then reads reads1 reads2 s s2 ran.counts (let A : ℕ → Type 0 = λ n. AddsReads reads1 reads2 n s2.reads in subst A needs.reads made)
+
+    -- more octets came
+    pub read-on : (u : Unit {0}) → result ≡ Ok u → Ran is_piece left left' reads reads2 w w2 e e2 s2 tally
+    read-on u ok = record {
+      octets = ran.octets ++ bs;
+      events = ran.events;
+      step = on;
+      counts = read-counts;
+      wrote = λ piece gives. record { written = written piece gives; tallies = (ran.wrote piece gives).tallies };
+      sound = rw ok at more.fault;
+      few = omega (arith, ran.few, (needs.passes mid).follows.offset, more.at);
+      near = omega (arith, needs.near, more.at);
+    }
+
+    -- the read failed, or was not made
+    pub stop-read : (unflushed : Type 0) → unflushed → (f : RunFault) (r : Result Tally RunFault) → result ≡ Err f → r ≡ Err f
+        → (octets : List ℕ) × ((piece : StreamEvent → Piece) → GivesPieces is_piece piece → LeavesRun (event_pieces piece) left left' w w2 e e2 unflushed (ReadsFewer reads reads2) octets r)
+    stop-read unflushed kept f r is same = (ran.octets ++ bs, λ piece gives. rw same (by piece (written piece gives) f (rw is at more.fills.ends)))
+      where
+        fewer : s2.reads < max_reads → ReadsFewer reads reads2
+        fewer few = let n : s2.reads - 0 ≡ s2.reads = omega arith in (s2.reads, few, read-counts.made ∙ ap (counted reads) n)
+
+        opens : (bs ≡ []) → s2.ended ≡ false → open_scan (ran.octets ++ bs) ≡ ran.events
+        opens none open' =
+            events-are-open (ran.octets ++ bs) s2.rest ran.events s2.at (rw open' at on.advances) (rw (more.fills.held ∙ ap (λ l. s1.rest ++ l) none ∙ append-nil s1.rest) (needs.none s2.at))
+
+        stopped : (piece : StreamEvent → Piece) → WritesPieces w w2 e e2 (map piece ran.events) → open_scan (ran.octets ++ bs) ≡ ran.events → RunStopped (event_pieces piece) left left' w w2 e e2 (ran.octets ++ bs)
+        stopped piece so open' = record { read = on.read; written = rw (ap (map piece) open') so; accepted = λ stops. absurd (false≢true stops) }
+
+        cut : (piece : StreamEvent → Piece) → WritesPieces w w2 e e2 (map piece ran.events) → open_scan (ran.octets ++ bs) ≡ ran.events → RunCut (event_pieces piece) left left' w w2 e e2 unflushed (ran.octets ++ bs)
+        cut piece so open' = record {
+          read = on.read;
+          ended = false;
+          all = λ _ end. absurd (false≢true end);
+          end = λ end. absurd (false≢true end);
+          written = whole-part w w2 w2 e e2 e2 (map piece ran.events) [] _ refl refl (ap (map piece) open' ∙ sym (append-nil (map piece ran.events))) so;
+          flushed = λ not. absurd (not kept);
+        }
+
+        by : (piece : StreamEvent → Piece) → WritesPieces w w2 e e2 (map piece ran.events) → (g : RunFault) → (bs ≡ []) × (s2.ended ≡ false) × FillFails (s1.room < 2 * max 4096 s1.longest) (input_left s1) (input_left s2) g
+            → LeavesRun (event_pieces piece) left left' w w2 e e2 unflushed (ReadsFewer reads reads2) (ran.octets ++ bs) (Err g)
+        by piece so Read ends = stopped piece so (opens ends.0 ends.1)
+        by piece so Write ends = absurd ends.2
+        by piece so InputTooLong ends = stopped piece so (opens ends.0 ends.1)
+        by piece so Memory ends = (cut piece so (opens ends.0 ends.1), (λ _ _. fewer ends.2.1), λ stops. absurd (false≢true stops))
+
 nothing-more : (bs t : List ℕ) → bs ≡ bs ++ t → t ≡ []
 nothing-more bs [] is = refl
 nothing-more bs (c ∷ t) is = absurd (omega (arith, ap length is, length-append bs (c ∷ t)))
@@ -331,19 +370,19 @@ pub run-reads : {X : Type 0} (takes : Bool) (reads reads' : ℕ) (s : FinderMode
 run-reads false reads reads' s r counts long wanted = let e : s.reads - 0 ≡ s.reads = omega arith in (s.reads, counts.most, counts.made ∙ ap (counted reads) e, long, wanted refl)
 run-reads true reads reads' s r counts long wanted = let e : s.reads - 0 ≡ s.reads = omega arith in (s.reads, counts.most, counts.made ∙ ap (counted reads) e, long)
 
--- where the finder stopped
-pub run-reads-stop : (takes : Bool) (reads mid reads' : ℕ) (mid_left left' : Option (List ℕ)) (s s' : FinderModel) (result : Result Event RunFault) (f : RunFault) (r : Result Tally RunFault)
-    → AddsReads reads mid new_finder.reads s.reads → ReturnsNextEvent mid_left left' mid reads' s s' result → s.fault ≡ None → result ≡ Err f → r ≡ Err f → RunReads takes reads reads' r
-run-reads-stop takes reads mid reads' mid_left left' s s' result f r before next sound is same =
-    run-reads takes reads reads' s' r (CountsReads-then reads mid reads' s s' before next.counts)
+-- where a read failed, or was not made
+pub run-reads-stop : (takes : Bool) (reads reads' : ℕ) (mid left' : Option (List ℕ)) (s1 s2 : FinderModel) (result : Result (Unit {0}) RunFault) (bs : List ℕ) (f : RunFault) (r : Result Tally RunFault)
+    → AddsReads reads reads' new_finder.reads s2.reads → ReadsMore mid left' s1 s2 result bs → result ≡ Err f → r ≡ Err f → RunReads takes reads reads' r
+run-reads-stop takes reads reads' mid left' s1 s2 result bs f r counts more is same =
+    run-reads takes reads reads' s2 r counts
     (λ long.
     let f_is : f ≡ InputTooLong = cc in
-    let stops = (rw (is, f_is) at next.ends).1 sound in
-    stops.1)
+    let ends = rw (is, f_is) at more.fills.ends in
+    ends.2.1)
     (λ none wanted.
     let f_is : f ≡ Memory = cc in
-    let stops = (rw (is, f_is) at next.ends).1 sound in
-    stops.1)
+    let ends = rw (is, f_is) at more.fills.ends in
+    ends.2.1)
 
 -- where the telling of an event was stopped
 pub run-reads-report : (takes : Bool) (reads reads' : ℕ) (s : FinderModel) (f : RunFault) (r : Result Tally RunFault) → AddsReads reads reads' new_finder.reads s.reads → StopsPiece takes (Err f) → r ≡ Err f → RunReads takes reads reads' r
@@ -373,13 +412,13 @@ fails-then f f1 f2 n n1 n2 before (inl more) = inl (more.0 ∙ ap (λ k. counted
 fails-then f f1 f2 n n1 n2 before (inr more) = inr (more.0 ∙ before.0, more.1 ∙ ap (λ k. counted k 1) before.1)
 
 -- the writers' counts, where the telling of an event was stopped
-pub blames-report : {a b c d a' b' c' d' : Type 0} (write_event : Result Verdict RunFault) (f : RunFault) (r : Result Tally RunFault) → write_event ≡ Err f → r ≡ Err f
+pub blames-report : {X a b c d a' b' c' d' : Type 0} (write_event : Result X RunFault) (f : RunFault) (r : Result Tally RunFault) → write_event ≡ Err f → r ≡ Err f
     → (a → a') → (b → b') → (c → c') → (d → d') → Blames write_event a b c d → Blames r a' b' c' d'
-blames-report {a} {b} {c} {d} {a'} {b'} {c'} {d'} write_event f r is same go_a go_b go_c go_d blames =
+blames-report {X} {a} {b} {c} {d} {a'} {b'} {c'} {d'} write_event f r is same go_a go_b go_c go_d blames =
     let B' : Result Tally RunFault → Type 0 = λ x. Blames x a' b' c' d' in
     subst B' (sym same) (by f (rw is at blames))
   where
-    by : (g : RunFault) → Blames {X = Verdict} (Err g) a b c d → Blames {X = Tally} (Err g) a' b' c' d'
+    by : (g : RunFault) → Blames {X = X} (Err g) a b c d → Blames {X = Tally} (Err g) a' b' c' d'
     by Read (x, y) = (go_a x, go_c y)
     by InputTooLong (x, y) = (go_a x, go_c y)
     by Memory (x, y) = (go_a x, go_c y)
@@ -402,12 +441,12 @@ each-is pieces from to before after ran run = (run.0, λ p is. subst (λ q. Runs
 
 -- what a run leaves, by what it leaves by each of its pieces
 pub leaves-devices : (may_be : RunPieces → Type 0) (from to : Input) (before after : Writers) (ran : Result Tally RunFault)
-    → RunsEach may_be from to before after ran → (after.errors.flushes ≢ before.errors.flushes → after.output.all_flushed ≡ true) → OnOk ran ((after.output.all_flushed ≡ true) × (after.errors.all_flushed ≡ true))
+    → RunsEach may_be from to before after ran → (after.errors.failed_flushes ≢ before.errors.failed_flushes → after.output.all_flushed ≡ true) → HandsOn ran (AllHandedOn after)
     → (to.failures ≡ read_failures_after from.failures ran) × ReadsAtMost from.reads to.reads ran → BlamesWriter before after ran → LeavesDevices may_be from to before after ran
 leaves-devices may_be from to before after ran run order flushed input writers = record {
   octets = run.0;
   run = run.1;
-  whole = λ pieces is. all-known pieces from.left to.left before.output.taken after.output.taken before.errors.taken after.errors.taken ((after.output.flushes ≡ before.output.flushes) × (after.errors.flushes ≡ before.errors.flushes)) (ReadsFewer from.reads to.reads) ran (run.0, run.1 pieces is);
+  whole = λ pieces is. all-known pieces from.left to.left before.output.taken after.output.taken before.errors.taken after.errors.taken ((after.output.failed_flushes ≡ before.output.failed_flushes) × (after.errors.failed_flushes ≡ before.errors.failed_flushes)) (ReadsFewer from.reads to.reads) ran (run.0, run.1 pieces is);
   order = order;
   flushed = flushed;
   failures = input.0;
@@ -429,3 +468,40 @@ pub help-in-part : (text : List ℕ) (before after : Writers) (status : ℕ) (fa
     → WritesLine before.errors after.errors (run_line fault) → status ≡ 2 → WritesHelp text before after status
 help-in-part text before after status fault writes counts line is =
     InPart writes.1 counts (rw writes.0 at line) is
+
+-- ---- The other clauses of a run, at each way to stop.
+
+-- a count of failures goes by the fault, whatever else the answer might have been
+pub failures-as : {X Y : Type 0} (a b c : ℕ) (r : Result X RunFault) (r' : Result Y RunFault) (f : RunFault) → r ≡ Err f → r' ≡ Err f → a ≡ read_failures_after b r → b ≡ c → a ≡ read_failures_after c r'
+failures-as {X} {Y} a b c r r' f is is' e same = rw is' (subst (λ n. a ≡ read_failures_after {X = Y} n (Err f)) same (by f (rw is at e)))
+  where
+    by : (g : RunFault) → a ≡ read_failures_after {X = X} b (Err g) → a ≡ read_failures_after {X = Y} b (Err g)
+    by Read e = e
+    by Write e = e
+    by InputTooLong e = e
+    by Memory e = e
+
+-- a read stops a run by no fault of a write
+pub not-write : (mid left' : Option (List ℕ)) (s1 s2 : FinderModel) (result : Result (Unit {0}) RunFault) (bs : List ℕ) (f : RunFault) → ReadsMore mid left' s1 s2 result bs → result ≡ Err f → f ≢ Write
+not-write mid left' s1 s2 result bs f more is write =
+    let ends = rw (is, write) at more.fills.ends in
+    ends.2
+
+pub blames-stays : {a c : Type 0} (b d : Type 0) (f : RunFault) (r : Result Tally RunFault) → r ≡ Err f → f ≢ Write → a → c → Blames r a b c d
+blames-stays {a} {c} b d f r is not x y = let B : Result Tally RunFault → Type 0 = λ q. Blames q a b c d in subst B (sym is) (by f not)
+  where
+    by : (g : RunFault) → g ≢ Write → Blames {X = Tally} (Err g) a b c d
+    by Read not = (x, y)
+    by Write not = absurd (not refl)
+    by InputTooLong not = (x, y)
+    by Memory not = (x, y)
+
+-- where a read failed all was handed on
+pub hands-on : {all : Type 0} (f : RunFault) (r : Result Tally RunFault) → r ≡ Err f → (f ≡ Read → all) → HandsOn r all
+hands-on {all} f r is so = let H : Result Tally RunFault → Type 0 = λ q. HandsOn q all in subst H (sym is) (by f so)
+  where
+    by : (g : RunFault) → (g ≡ Read → all) → HandsOn {X = Tally} (Err g) all
+    by Read so = so refl
+    by Write so = tt
+    by InputTooLong so = tt
+    by Memory so = tt

@@ -1,14 +1,14 @@
 -- How a run of the program ended, what is flushed after it, its last line, and its exit status. (a
 -- choice of this project)
 -- Cited by public contracts.
-use Rattle.std.specs.Prelude.{◌≡◌, ◌⊎◌, ◌<◌, ◌-◌, ◌^◌, ℕ, true, List, Option, Result, Ok, Err, IfSome, IfOk, OnOk, ◌≢◌, if◌then◌else◌, ◌==◌, [], ◌∷◌, ◌++◌, codes, decimal}
+use Rattle.std.specs.Prelude.{◌≡◌, ◌⊎◌, ◌<◌, ◌-◌, ◌^◌, ℕ, true, List, Option, Result, Ok, Err, IfSome, IfOk, ◌≢◌, if◌then◌else◌, ◌==◌, [], ◌∷◌, ◌++◌, codes, decimal}
 use Rattle.std.specs.Io.KnownBytes.{Appends, Keeps}
 use Rattle.bufr_bits.specs.Prelude.{counted}
 use Rattle.bufr_frame.specs.Prelude.{read_failures_after, run_report}
 use Rattle.bufr_frame.specs.declared.fault.RunFault.{RunFault}
-use Rattle.bufr_frame.specs.declared.fault.RunFault.TheVariants.{Write, Memory}
+use Rattle.bufr_frame.specs.declared.fault.RunFault.TheVariants.{Read, Write, Memory}
 use Rattle.bufr_text.specs.Prelude.{GrowsByPrefix, joined}
-use Rattle.bufr_cli.specs.Running.{BlamesWriter, IsSame, Input, Writer, Writers, ReadsAtMost, RunPieces, RunsPieces, WritesAndCounts}
+use Rattle.bufr_cli.specs.Running.{HandsOn, AllHandedOn, BlamesWriter, IsSame, Input, Writer, Writers, ReadsAtMost, RunPieces, RunsPieces, WritesAndCounts}
 use Rattle.bufr_cli.specs.declared.outcome.Tally.{Tally}
 use Rattle.bufr_tables.specs.Prelude.{table_report}
 use Rattle.bufr_tables.specs.declared.fault.TableFault.{TableFault}
@@ -16,15 +16,19 @@ use Rattle.bufr_tables.specs.declared.fault.TableFault.TheVariants as table
 use Rattle.bufr_cli.specs.declared.outcome.Outcome.{Outcome}
 use Rattle.bufr_cli.specs.declared.outcome.Outcome.TheVariants.{Ran, Usage, CannotOpen, TableB, TableD, Run}
 
--- after a fault other than of a write the output is flushed once, which may fail
+-- after want of memory, or of reads, the output is flushed once, which may fail; a read that failed
+-- came after all was handed on
 abbrev pub FlushesRest : {X : Type 0} → (before after : Writer) → Result X RunFault → Type 0
 FlushesRest before after (Ok x) = after ≡ before
+FlushesRest before after (Err Read) = after ≡ before
 FlushesRest before after (Err Write) = after ≡ before
 FlushesRest before after (Err fault) =
-    Keeps before.taken after.taken × (after.flushes ≡ counted before.flushes 1)
-    × (after.empty_writes ≡ before.empty_writes)
-    × (((after.failures ≡ before.failures) × (after.all_flushed ≡ true))
-    ⊎ ((after.failures ≡ counted before.failures 1) × (after.all_flushed ≡ before.all_flushed)))
+    Keeps before.taken after.taken × (after.empty_writes ≡ before.empty_writes)
+    × (((after.failures ≡ before.failures) × (after.failed_flushes ≡ before.failed_flushes)
+    × (after.all_flushed ≡ true))
+    ⊎ ((after.failures ≡ counted before.failures 1)
+    × (after.failed_flushes ≡ counted before.failed_flushes 1)
+    × (after.all_flushed ≡ before.all_flushed)))
 
 -- a writer gains a prefix of a line, and all of it where no call of it failed or took nothing
 abbrev pub WritesLine : (before after : Writer) → (line : List ℕ) → Type 0
@@ -43,9 +47,8 @@ pub record LeavesDevices (may_be : RunPieces → Type 0) (from to : Input) (befo
   -- where the whole input is known, its pieces were written and counted
   pub whole : (pieces : RunPieces) → may_be pieces → IfOk result
       (λ tally. IfSome from.left (λ s. WritesAndCounts before after tally (pieces.whole s)))
-  pub order : after.errors.flushes ≢ before.errors.flushes → after.output.all_flushed ≡ true
-  pub flushed : OnOk result
-      ((after.output.all_flushed ≡ true) × (after.errors.all_flushed ≡ true))
+  pub order : after.errors.failed_flushes ≢ before.errors.failed_flushes → after.output.all_flushed ≡ true
+  pub flushed : HandsOn result (AllHandedOn after)
   pub failures : to.failures ≡ read_failures_after from.failures result
   pub reads : ReadsAtMost from.reads to.reads result
   pub writers : BlamesWriter before after result

@@ -1,8 +1,7 @@
 -- What each command writes for an input, in order, and on which writer. (a choice of this project)
 -- Cited by public contracts.
 use Rattle.std.specs.Prelude.{ℕ, Bool, true, false, List, [], ◌∷◌, map, Result, Ok, Err, ◌≡◌}
-use Rattle.bufr_frame.specs.Prelude.{StreamEvent, FrameAt, StrayAt, scan, cause_report, section_report, Sections, sections_of}
-use Rattle.bufr_frame.specs.declared.fault.Cause.{Cause}
+use Rattle.bufr_frame.specs.Prelude.{StreamEvent, FrameAt, StrayAt, cause_report, section_report, Sections, sections_of}
 use Rattle.bufr_frame.specs.declared.fault.SectionFault.{SectionFault}
 use Rattle.bufr_text.specs.Prelude.{ls_line, dump_text_of, ParseResult, Complete, Refused, RefusedAt, encoding_in, dump_items}
 use Rattle.bufr_cli.specs.FaultLine.{fault_line, refused_line, refusal_line}

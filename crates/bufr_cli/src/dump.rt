@@ -63,8 +63,8 @@ fn dump_selected<W: Sink, E: Sink>(
     ensures stops { StopsPiece true result }
     ensures counts { BlamesWriter (writers_of W.Sink w.old E.Sink e.old)
         (writers_of W.Sink w.new E.Sink e.new) result }
-    ensures output_flushes { W.flushes w.new ≡ W.flushes w.old }
-    ensures errors_flushes { E.flushes e.new ≡ E.flushes e.old }
+    ensures output_flushes { W.failed_flushes w.new ≡ W.failed_flushes w.old }
+    ensures errors_flushes { E.failed_flushes e.new ≡ E.failed_flushes e.old }
 {
     match run.templates.answer() {
         Ok(template) => {
@@ -111,8 +111,8 @@ fn dump_frame<W: Sink, E: Sink>(
     ensures table_d { run.new.templates.table_d ≡ run.old.templates.table_d }
     ensures counts { BlamesWriter (writers_of W.Sink w.old E.Sink e.old)
         (writers_of W.Sink w.new E.Sink e.new) result }
-    ensures output_flushes { W.flushes w.new ≡ W.flushes w.old }
-    ensures errors_flushes { E.flushes e.new ≡ E.flushes e.old }
+    ensures output_flushes { W.failed_flushes w.new ≡ W.failed_flushes w.old }
+    ensures errors_flushes { E.failed_flushes e.new ≡ E.failed_flushes e.old }
 {
     match Message::parse(octets) {
         Ok(message) => {

@@ -15,7 +15,7 @@ use crate::job::{Job, LineFault, Subcommand, TableNames, parse_line};
 use crate::ls::run_ls;
 use crate::outcome::{Outcome, Tally, finish};
 use crate::run_events::flush;
-use bufr_bits::{Device, Sink, Source};
+use bufr_bits::{BufferedDevice, Device, Sink, Source};
 use bufr_frame::{RunFault, read_to_end};
 use bufr_tables::{TableB, TableD};
 use bufr_text::{Form, write_all};
@@ -292,7 +292,7 @@ fn run_reader<R: Read + Drop, W: Sink, E: Sink>(
     let Ok(input) = BufReader::with_capacity(alloc, BUFFERED, input) else {
         return Err(RunFault::Memory);
     };
-    let mut input = Device::new(input);
+    let mut input = BufferedDevice::new(input);
     let ran = run_command(alloc, command, &mut input, w, e);
     flush_rest(ran, w)
 }
@@ -317,14 +317,15 @@ fn run_command<R: Source, W: Sink, E: Sink>(
     }
 }
 
-/// Hands on what a run has written, where a fault ended it that is none of a write.
+/// Hands on what a run has written, where memory or reads ended it. Before a read that fails, all
+/// was handed on.
 fn flush_rest<W: Sink>(ran: Result<Tally, RunFault>, w: &mut W) -> Result<Tally, RunFault>
     ensures same { result ≡ ran }
     ensures rest { FlushesRest (writer_of W.Sink w.old) (writer_of W.Sink w.new) ran }
 {
     match ran {
-        Ok(_) | Err(RunFault::Write) => {}
-        Err(_) => {
+        Ok(_) | Err(RunFault::Read | RunFault::Write) => {}
+        Err(RunFault::InputTooLong | RunFault::Memory) => {
             let _ = w.flush();
         }
     }

@@ -52,7 +52,7 @@ pub record LineModel : Type 0 where
   pub taken : Option (List ℕ)
   pub failures : ℕ
   pub empty_writes : ℕ
-  pub flushes : ℕ
+  pub failed_flushes : ℕ
   pub held : List ℕ
   pub status : Result Unit RunFault
   pub sink : ℕ
@@ -93,7 +93,7 @@ PushesFrom (Err fault) before text after = StaysFailed fault before after
 -- a text was pushed
 pub record Pushes (before : LineModel) (text : List ℕ) (after : LineModel) : Type 0 where
   pub from : PushesFrom before.status before text after
-  pub flushes : after.flushes ≡ before.flushes
+  pub failed_flushes : after.failed_flushes ≡ before.failed_flushes
   pub sink : after.sink ≡ before.sink
 
 -- ---- What a dump leaves on its writer, and the steps that are made for it.

@@ -267,7 +267,7 @@ pub fn write_dump<W: Sink>(
         MakesSteps (calls_of reading.now values) (turns_shown reading.now values) result steps.new }
     ensures counts { CountsFaults (W.failures w.old) (W.failures w.new) (W.empty_writes w.old)
         (W.empty_writes w.new) result }
-    ensures flushes { W.flushes w.new ≡ W.flushes w.old }
+    ensures failed_flushes { W.failed_flushes w.new ≡ W.failed_flushes w.old }
     ensures bounded { steps.new ≤ places reading.now.template * reading.now.bits }
 {
     let mut memory = DumpMemory::new(alloc, reading.table());
@@ -302,7 +302,7 @@ pub fn write_dump_by<W: Sink>(
         MakesSteps (calls_of reading.now values) (turns_shown reading.now values) result steps.new }
     ensures counts { CountsFaults (W.failures w.old) (W.failures w.new) (W.empty_writes w.old)
         (W.empty_writes w.new) result }
-    ensures flushes { W.flushes w.new ≡ W.flushes w.old }
+    ensures failed_flushes { W.failed_flushes w.new ≡ W.failed_flushes w.old }
     ensures bounded { steps.new ≤ places reading.now.template * reading.now.bits }
 {
     *steps = Steps::new();

@@ -19,7 +19,7 @@ returns-in-Ok g c =
       writes = λ values read. all-written-of c.args.message.now c.args.reading.now values c.status-outcome.result (left values read).0 before.taken (search (rules, one.0.sink));
       steps = λ values read. (left values read).1;
       counts = all-counted-of c.status-outcome.result one.0 before.failures (search (rules, one.0.sink)) before.empty (search (rules, one.0.sink));
-      flushes = (search (rules, one.0.sink)) ∙ one.0.flushes ∙ before.flushes;
+      failed_flushes = (search (rules, one.0.sink)) ∙ one.0.failed_flushes ∙ before.failed_flushes;
       bounded = search rules;
     }
 
@@ -33,7 +33,7 @@ returns-in-Err-Visitor g c =
       writes = λ values read. all-written-of c.args.message.now c.args.reading.now values (Err c.in-Err-Visitor.fault) (left values read).0 before.taken (search (rules, one.0.sink));
       steps = λ values read. (left values read).1;
       counts = all-counted-of (Err c.in-Err-Visitor.fault) one.0 before.failures (search (rules, one.0.sink)) before.empty (search (rules, one.0.sink));
-      flushes = (search (rules, one.0.sink)) ∙ one.0.flushes ∙ before.flushes;
+      failed_flushes = (search (rules, one.0.sink)) ∙ one.0.failed_flushes ∙ before.failed_flushes;
       bounded = search rules;
     }
 
@@ -47,7 +47,7 @@ returns-in_ok-first-in-Err-Memory g c =
       writes = λ values read. all-written-of c.args.message.now c.args.reading.now values (Err run.Memory) (left values read).0 before.taken (search (rules, one.0.sink));
       steps = λ values read. (left values read).1;
       counts = all-counted-of (Err run.Memory) one.0 before.failures (search (rules, one.0.sink)) before.empty (search (rules, one.0.sink));
-      flushes = (search (rules, one.0.sink)) ∙ one.0.flushes ∙ before.flushes;
+      failed_flushes = (search (rules, one.0.sink)) ∙ one.0.failed_flushes ∙ before.failed_flushes;
       bounded = search rules;
     }
 
@@ -62,6 +62,6 @@ returns-in_err-first-in-Err-Memory g c =
       writes = λ values read. all-written-of c.args.message.now c.args.reading.now values c.from_residual-in_err-first-in-Err-Memory.result (left values read).0 before.taken (search (rules, one.0.sink));
       steps = λ values read. (left values read).1;
       counts = all-counted-of c.from_residual-in_err-first-in-Err-Memory.result one.0 before.failures (search (rules, one.0.sink)) before.empty (search (rules, one.0.sink));
-      flushes = (search (rules, one.0.sink)) ∙ one.0.flushes ∙ before.flushes;
+      failed_flushes = (search (rules, one.0.sink)) ∙ one.0.failed_flushes ∙ before.failed_flushes;
       bounded = search rules;
     }
