@@ -11,7 +11,8 @@ use Rattle.bufr_frame.proofs.ScanLemmas.{IsSmall, framed_octets, frames-within, 
 use Rattle.bufr_walk.specs.Prelude.{Values, View}
 use Rattle.bufr_text.specs.Prelude.{Between, lines_of, parse_lines, Document, ParseResult, Complete, Refused, documents_of, dump_lines, dump_text_of, IsOctet, IsAccepted, HasSameReading, dump_items, IsReadAs, RefusedAt, encoding_in, IsProper, AreProper}
 use Rattle.bufr_text.proofs.FormLemmas.{canonical_encoded}
-use Rattle.bufr_text.proofs.DumpableLemmas.{dumpable, rows-read, good-rows}
+use Rattle.bufr_text.proofs.DumpableLemmas.{dumpable}
+use Rattle.bufr_walk.proofs.NextField.{table_read}
 use Rattle.bufr_text.proofs.RoundTripLemmas.{accepted_again, encoded_again, same_text}
 use Rattle.bufr_text.proofs.LawLemmas.{text-spells, spelled-proper}
 use Rattle.bufr_cli.specs.Prelude.{IsDataPiece, IsTemplatePiece, IsMessagePiece, IsDumpPiece, Piece, OnOutput, OnErrors, output_of, errors_of, is_accepted, is_refused, encoded, result_piece, up_to_refused, accepted_in, accepted_messages, dump_pieces, dumped, longer_by, rebuilding, rebuilt, IsBuiltAgain, IsWholeRound, IsCanonicalMessage, RoundTrips, Written, IsDumpedInOneSpelling, before_refused, built, form_pieces, normal_by, normal_text, normal_texts, holding, Dumps, Encodes, GivesPieces, Tallies}
@@ -190,9 +191,9 @@ module _ (b : List Row) (d : List Sequence) (piece : StreamEvent → Piece) (giv
       → Built b d piece (dump_text_of s (dump_items b s.subsets values) ++ text) (m ∷ accepted) (OnOutput (dump_text_of s (dump_items b s.subsets values)) ∷ pieces) (length m + most) line
   built-message m s template values used records text accepted pieces most line rows a r =
       let items = dump_items b s.subsets values in
-      let read = rows-read records b rows in
+      let read = table_read records b rows in
       let legal = (tree_fine (tables_of b d) s.descriptors template a.expands).legal in
-      let w = encoded_again b d m s template values used line (good-rows b read) legal a in
+      let w = encoded_again b d m s template values used line read legal a in
       let here : (at : ℕ) → piece (FrameAt at w.octets) ≡ OnOutput (dump_text_of s items) = λ at. same-piece m s template values used at w.octets a w.same in
       let rest = map (result_piece AsWritten b d) (parse_lines (line + length (dump_lines s items)) Between (lines_of text)) in
       record {
@@ -205,7 +206,7 @@ module _ (b : List Row) (d : List Sequence) (piece : StreamEvent → Piece) (giv
         again = λ at. ap (λ p. p ∷ map piece (placed (at + length w.octets) r.messages)) (here at) ∙ ap (λ l. OnOutput (dump_text_of s items) ∷ l) (r.again (at + length w.octets));
         listed = λ at. ap (λ p. accepted_in (FrameAt at w.octets) p ++ accepted_of piece (placed (at + length w.octets) r.messages)) (here at) ∙ ap (λ l. w.octets ∷ l) (r.listed (at + length w.octets));
         kept = λ all.
-            let same : w.octets ≡ m = ap octets_or_none (sym w.is ∙ canonical_encoded b d m s template values used line (good-rows b read) legal a (all.0 s template values used a)) in
+            let same : w.octets ≡ m = ap octets_or_none (sym w.is ∙ canonical_encoded b d m s template values used line read legal a (all.0 s template values used a)) in
             ap (λ l. l ∷ r.messages) same ∙ ap (λ l. m ∷ l) (r.kept all.1);
       }
 
@@ -358,7 +359,7 @@ module _ (form : Form) (records : List Record) (b : List Row) (d : List Sequence
     spells line more =
         let legal = (tree_fine (tables_of b d) read.sections.descriptors read.template read.accepted.expands).legal in
         ap (λ t. map (result_piece AsWritten b d) (parse_lines line Between (lines_of (t ++ more)))) (sym text-is)
-        ∙ ap (map (result_piece AsWritten b d)) (text-spells read.sections items line more (dumpable b d octets read.sections read.template read.values read.used (rows-read records b rows) legal read.accepted))
+        ∙ ap (map (result_piece AsWritten b d)) (text-spells read.sections items line more (dumpable b d octets read.sections read.template read.values read.used (table_read records b rows) legal read.accepted))
         ∙ ap (λ x. encoded x ∷ map (result_piece AsWritten b d) (parse_lines (line + length (dump_lines read.sections items)) Between (lines_of more)))
         (encoded_again_same form records b d rows document octets read line proper is)
 
