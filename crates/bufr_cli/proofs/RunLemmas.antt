@@ -13,7 +13,7 @@ use Rattle.bufr_frame.specs.declared.finder.Event.{Event}
 use Rattle.bufr_frame.specs.declared.finder.Event.TheVariants.{Frame, Stray, Done}
 use Rattle.bufr_frame.proofs.FinderLemmas.{events-are-open, Advances-none, Follows-none, ReadsAndPasses-then, CountsReads-then, whole-scan, events-are-certain}
 use Rattle.bufr_text.specs.Prelude.{GrowsByPrefix, Stays, Fails, Writes}
-use Rattle.bufr_cli.specs.Prelude.{Piece, output_of, errors_of, is_accepted, is_refused, RunPieces, RunsPieces, WritesAndCounts, event_pieces, read_pieces, LeavesRun, Blames, WritesPieces, Tallies, RunDone, RunStopped, RunCut, ReadsFewer, ReadsAtMost, GivesPieces, LeavesPieces, StopsPiece, RunReads, counted_accepted, counted_refused, tally_after, BlamesWriter, CountsCalls, Input, Writers, ReadsAll, WrittenInPart, Tally, Verdict, InPart, WritesHelp, LeavesDevices, EndsRun, Ended, FlushesRest, WritesLine, run_line}
+use Rattle.bufr_cli.specs.Prelude.{Piece, output_of, errors_of, is_accepted, is_refused, RunPieces, RunsPieces, event_pieces, read_pieces, LeavesRun, Blames, WritesPieces, Tallies, RunDone, RunStopped, RunCut, ReadsFewer, ReadsAtMost, GivesPieces, LeavesPieces, StopsPiece, RunReads, counted_accepted, counted_refused, tally_after, BlamesWriter, CountsCalls, Input, Writers, ReadsAll, WrittenInPart, Tally, Verdict, InPart, WritesHelp, LeavesDevices, EndsRun, Ended, FlushesRest, WritesLine, run_line}
 
 pub grows-nil : (w : Option (List ℕ)) → GrowsByPrefix w w []
 grows-nil w = record { prefix = []; back = []; parts = refl; gains = Appends-nil w }
@@ -388,26 +388,14 @@ blames-report {a} {b} {c} {d} {a'} {b'} {c'} {d'} write_event f r is same go_a g
 
 -- ---- What comes of a job, from what its run answers.
 
--- a run leaves the same by each of the pieces that it may have
-abbrev pub RunsEach : (may_be : RunPieces → Type 0) → (from to : Input) → (before after : Writers) → Result Tally RunFault → Type 0
-RunsEach may_be from to before after ran = (bs : List ℕ) × ((pieces : RunPieces) → may_be pieces → RunsPieces pieces from to before after bs ran)
-
-pub each-gives : (gives : (StreamEvent → Piece) → Type 0) (from to : Input) (before after : Writers) (ran : Result Tally RunFault)
-    → ((bs : List ℕ) × ((piece : StreamEvent → Piece) → gives piece → RunsPieces (event_pieces piece) from to before after bs ran)) → RunsEach (λ pieces. (piece : StreamEvent → Piece) × gives piece × (pieces ≡ event_pieces piece)) from to before after ran
-each-gives gives from to before after ran run = (run.0, λ pieces so. subst (λ p. RunsPieces p from to before after run.0 ran) (sym so.2) (run.1 so.0 so.1))
-
-pub each-is : (pieces : RunPieces) (from to : Input) (before after : Writers) (ran : Result Tally RunFault)
-    → ((bs : List ℕ) × RunsPieces pieces from to before after bs ran) → RunsEach (λ p. p ≡ pieces) from to before after ran
-each-is pieces from to before after ran run = (run.0, λ p is. subst (λ q. RunsPieces q from to before after run.0 ran) (sym is) run.1)
-
--- what a run leaves, by what it leaves by each of its pieces
-pub leaves-devices : (may_be : RunPieces → Type 0) (from to : Input) (before after : Writers) (ran : Result Tally RunFault)
-    → RunsEach may_be from to before after ran → (after.errors.flushes ≢ before.errors.flushes → after.output.all_flushed ≡ true) → OnOk ran ((after.output.all_flushed ≡ true) × (after.errors.all_flushed ≡ true))
-    → (to.failures ≡ read_failures_after from.failures ran) × ReadsAtMost from.reads to.reads ran → BlamesWriter before after ran → LeavesDevices may_be from to before after ran
-leaves-devices may_be from to before after ran run order flushed input writers = record {
+-- what a run leaves
+pub leaves-devices : (pieces : RunPieces) (from to : Input) (before after : Writers) (ran : Result Tally RunFault)
+    → (bs : List ℕ) × RunsPieces pieces from to before after bs ran → (after.errors.flushes ≢ before.errors.flushes → after.output.all_flushed ≡ true) → OnOk ran ((after.output.all_flushed ≡ true) × (after.errors.all_flushed ≡ true))
+    → (to.failures ≡ read_failures_after from.failures ran) × ReadsAtMost from.reads to.reads ran → BlamesWriter before after ran → LeavesDevices pieces from to before after ran
+leaves-devices pieces from to before after ran run order flushed input writers = record {
   octets = run.0;
   run = run.1;
-  whole = λ pieces is. all-known pieces from.left to.left before.output.taken after.output.taken before.errors.taken after.errors.taken ((after.output.flushes ≡ before.output.flushes) × (after.errors.flushes ≡ before.errors.flushes)) (ReadsFewer from.reads to.reads) ran (run.0, run.1 pieces is);
+  whole = all-known pieces from.left to.left before.output.taken after.output.taken before.errors.taken after.errors.taken ((after.output.flushes ≡ before.output.flushes) × (after.errors.flushes ≡ before.errors.flushes)) (ReadsFewer from.reads to.reads) ran run;
   order = order;
   flushed = flushed;
   failures = input.0;
@@ -416,9 +404,9 @@ leaves-devices may_be from to before after ran run order flushed input writers =
 }
 
 -- a run over the octets of its input, and then the flush of the rest
-pub ends-run : (may_be : RunPieces → Type 0) (octets : Option (List ℕ)) (from to : Input) (before between after : Writers) (ran ran' : Result Tally RunFault)
-    → LeavesDevices may_be from to before between ran → ran' ≡ ran → FlushesRest between.output after.output ran → after.errors ≡ between.errors → from.left ≡ octets → EndsRun may_be octets before after ran'
-ends-run may_be octets from to before between after ran ran' leaves same rest errors known = rw same (Ended from to known between leaves rest errors)
+pub ends-run : (pieces : RunPieces) (octets : Option (List ℕ)) (from to : Input) (before between after : Writers) (ran ran' : Result Tally RunFault)
+    → LeavesDevices pieces from to before between ran → ran' ≡ ran → FlushesRest between.output after.output ran → after.errors ≡ between.errors → from.left ≡ octets → EndsRun pieces octets before after ran'
+ends-run pieces octets from to before between after ran ran' leaves same rest errors known = rw same (Ended from to known between leaves rest errors)
 
 -- a fault of reading an input whole
 pub read-fault : (left left' : Option (List ℕ)) (fault : RunFault) (bs : List ℕ) → ReadsAll left left' (Err fault) bs → fault ≡ Write → ⊥

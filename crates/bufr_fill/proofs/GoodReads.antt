@@ -3,9 +3,9 @@ use Rattle.std.proofs.Common.{◌≡◌, ℕ, ◌-◌, ◌^◌, ◌≤◌, Bool,
 use Rattle.bufr_fill.proofs.PackedBack.{AreOctets-append, AreOctets-spaces}
 use Rattle.bufr_fill.proofs.FieldLemmas.{same_ok}
 use Rattle.std.proofs.lemmas.Bool.{ltb-false, ltb-true}
-use Rattle.bufr_tables.specs.Prelude.{Row, is_character, Tree, IsLegal}
-use Rattle.bufr_walk.specs.Prelude.{FieldSpec, IsSpec, HasWidth, HasRole, is_reference, Content, number, text, missing, reference, answer_by_role, answer_of, found, plain_field, packed_field, answer_first, Course, take_next, next_item, Item, DataCoding, plain, packed, ReadsItems, ReadsSubsets, item_answer, after}
-use Rattle.bufr_fill.specs.Prelude.{Taken, Role, Kind, FitsRole, AreOctets, FitsNumber, FitsText, FitsReference, FitsKind, Fits, HasOctets, DraftValue, number_token, text_form, missing_form, reference_token, Draft, wrong_number, out_of_range, text_long, missing_forbidden, is_marked, raw_within, raw_of, reference_of, text_within, content_by_form, is_of, wrong_for, content_of, raw_limit}
+use Rattle.bufr_tables.specs.Prelude.{is_character}
+use Rattle.bufr_walk.specs.Prelude.{FieldSpec, IsSpec, HasWidth, HasRole, is_reference, Content, number, text, missing, reference, answer_by_role, answer_of, found, plain_field, packed_field, answer_first, Course, Item, DataCoding, plain, packed, ReadsItems, ReadsSubsets, item_answer, after}
+use Rattle.bufr_fill.specs.Prelude.{Role, Kind, FitsRole, AreOctets, FitsNumber, FitsText, FitsReference, FitsKind, Fits, HasOctets, DraftValue, number_token, text_form, missing_form, reference_token, Draft, wrong_number, out_of_range, text_long, missing_forbidden, is_marked, raw_within, raw_of, reference_of, text_within, content_by_form, is_of, wrong_for, content_of, raw_limit}
 use Rattle.bufr_walk.proofs.NextField.{IsGoodCourse}
 use Rattle.bufr_walk.specs.Prelude.{IsField, IsWithin}
 use Rattle.std.specs.List.{AllByRecursion}

@@ -1,14 +1,11 @@
 -- A message that is accepted can be dumped.
-use Rattle.std.proofs.Common.{◌≡◌, ℕ, suc, ◌/◌, ◌<◌, ◌≤◌, ◌^◌, Bool, true, false, ℤ, pos, negsuc, List, [], ◌∷◌, map, Option, Some, None, refl, subst, arith, zero, Result, Ok, Err, ◌+◌, ◌-◌, length, take, drop, sym, ◌∙◌, ap, nat_abs, pow_mono, ◌==◌, nat_lt, if◌then◌else◌, unsigned_abs, slice_index, slice_range, unwrap_or}
+use Rattle.std.proofs.Common.{◌≡◌, ℕ, suc, ◌<◌, ◌≤◌, ◌^◌, Bool, true, false, ℤ, pos, negsuc, List, [], ◌∷◌, map, Option, Some, None, refl, subst, arith, zero, Ok, ◌+◌, ◌-◌, length, take, drop, sym, ◌∙◌, ap, nat_abs, pow_mono, if◌then◌else◌, unsigned_abs, slice_index, slice_range, unwrap_or}
 use Rattle.std.specs.List.{AllByRecursion}
 use Rattle.std.proofs.lemmas.Bool.Decides.{nat_tests}
-use Rattle.std.proofs.lemmas.Option.{option_and_then_some}
 use Rattle.bufr_tables.specs.declared.table_b.Kind.{Kind}
-use Rattle.bufr_tables.specs.Prelude.{fxy_of, f_of, kind_of, IsRow, Row, AreRows, allows_scale, allows_width, element_of, entry_of, is_name, plain_of, row_of, scale_of, width_of, i64_of, integer_of, if_i64, Record, field_of, only_if, is_factor, IsLegal, Tree, bare, element, operator, fixed, delayed, is_inserted_text, Sequence}
+use Rattle.bufr_tables.specs.Prelude.{Row, entry_of, IsLegal, Tree, Sequence}
 use Rattle.bufr_walk.proofs.NextField.{AreRead, row_found, next_field}
-use Rattle.bufr_walk.specs.declared.spec.TurnRefusal.{TurnRefusal}
-use Rattle.bufr_walk.specs.declared.spec.Taken.{Taken}
-use Rattle.bufr_walk.specs.Prelude.{FieldSpec, IsSpec, HasWidth, HasRole, Content, number, text, missing, reference, shown, found, packed_field, Course, take_next, NextTurn, asked, operated, ahead, next_item, counts_of, Turns, finish, open_end, group, pass_end, factor_turn, element_turn, operator_turn, Rest, passes, unroll, turns_of, if_valid_width, spec_by_kind, new_reference_spec, unsigned_field, begin, local_width_spec, listed_by, element_spec, factor_field, factor_by, factor_spec, inserted_spec, OperatorModel, is_defining, after_operator, after_field, view_of, content_at, data_of, Item, plain, packed, ReadsItems, ReadsSubsets, IsPackedReading, IsReading, Values, apart, together, item_answer, after}
+use Rattle.bufr_walk.specs.Prelude.{FieldSpec, IsSpec, HasWidth, HasRole, Content, number, text, missing, reference, shown, found, packed_field, Course, next_item, view_of, content_at, data_of, Item, plain, packed, ReadsItems, ReadsSubsets, IsPackedReading, IsReading, Values, apart, together, after}
 use Rattle.bufr_text.specs.Prelude.{IsDescriptorWord, IsOctet, IsValue, IsComment, IsItem, IsDumpable, IsAccepted, items_shown, dump_items}
 use Rattle.std.proofs.lemmas.List.{length-map}
 use Rattle.bufr_bits.specs.Prelude.{bits_of}
@@ -16,13 +13,12 @@ use Rattle.bufr_frame.specs.Prelude.{u16_at, words, Sections, sections_of, parts
 use Rattle.bufr_frame.proofs.AgainLemmas.{sections-ended, heads-fit}
 use Rattle.bufr_walk.specs.declared.spec.Role.{Role}
 use Rattle.bufr_fill.specs.Prelude.{AreOctets, FitsKind, FitsRole, Fits, AllFit, subsets_from, items_of_subset}
-use Rattle.bufr_fill.proofs.PlainLaws.{AllSpecs, EachSpecs, plain_read}
+use Rattle.bufr_fill.proofs.PlainLaws.{plain_read}
 use Rattle.bufr_fill.proofs.FieldLemmas.{top_below}
 use Rattle.bufr_fill.proofs.GoodReads.{AllFields, EachFields, plain_fields, packed_fields}
 use Rattle.bufr_fill.proofs.PackedLaws.{packed_again}
 use Rattle.bufr_tables.specs.declared.table_b.Kind.TheVariants as kind
 use Rattle.bufr_walk.specs.declared.spec.Role.TheVariants as role
-use Rattle.bufr_walk.specs.declared.spec.TurnRefusal.TheVariants as refusal
 use Rattle.std.proofs.lemmas.Grind.{common_steps}
 
 -- ---- the sections

@@ -1,8 +1,8 @@
 -- Worked examples of whole readings: what stops them and where, and how many turns they take.
 use Rattle.std.proofs.Common.{◌≡◌, ℕ, Bool, true, false, List, [], ◌∷◌, length, Option, Some, None, refl}
 use Rattle.bufr_bits.specs.Prelude.{bits_of}
-use Rattle.bufr_tables.specs.Prelude.{Tree, bare, element, operator, fixed, delayed}
-use Rattle.bufr_walk.specs.Prelude.{data_end, increment, unequal_factor, next_item, Stop, walk_stop, field_stop, data_in}
+use Rattle.bufr_tables.specs.Prelude.{Tree, bare, element, operator, fixed}
+use Rattle.bufr_walk.specs.Prelude.{data_end, next_item, Stop, walk_stop, field_stop, data_in}
 use Rattle.bufr_walk.specs.Pass.{reading_of}
 use Rattle.bufr_walk.proofs.ExampleTables.{fxy, table}
 use Rattle.bufr_walk.specs.declared.spec.TurnRefusal.TheVariants as turn

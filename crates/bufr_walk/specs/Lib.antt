@@ -6,7 +6,7 @@ pub mod Course
 pub mod Content
 -- the reading of data by a template, why data cannot be read, and the calls that show a reading
 pub mod Reading
--- a pass over a template, and the reading of data as a function
+-- a pass over a template, the reading of data, which is made of passes, and what reading answers
 pub mod Pass
 -- the readers of data, compressed or not, and what a reading keeps of its items
 pub mod Readers

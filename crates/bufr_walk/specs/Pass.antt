@@ -2,12 +2,13 @@
 -- and the reading of data, which is made of passes. (WMO-No. 306, Volume I.2, FM 94: sections 3 and
 -- 4; the order of the faults at one item is a choice of this project)
 -- Cited by public contracts.
-use Rattle.std.specs.Prelude.{ℕ, zero, suc, ◌+◌, ◌-◌, Bool, true, false, List, [], ◌∷◌, length, Result, Ok, Err, Option, Some, None, option_map, if◌then◌else◌, ◌≡◌, ◌≤◌}
+use Rattle.std.specs.Prelude.{ℕ, zero, suc, ◌+◌, ◌-◌, Bool, true, false, List, [], ◌∷◌, length, Result, Ok, Err, Option, Some, None, option_map, map, if◌then◌else◌, ◌≡◌, ◌++◌, ◌%◌, ◌⊎◌}
 use Rattle.bufr_walk.specs.Content.{Taken, FieldSpec, Content, FieldFault, FieldRead}
 use Rattle.bufr_walk.specs.Rules.{TurnRefusal}
 use Rattle.bufr_walk.specs.Course.{Course, Next, take_next, at_end, astray, refused, ticked, next_item}
 use Rattle.bufr_walk.specs.declared.fault.WalkFault.TheVariants as fault
-use Rattle.bufr_walk.specs.Reading.{DataCoding, plain, packed, would_be_many, Data, Stop, walk_stop, too_many, field_stop, WalkFault, walk_fault_of, Item, Values, apart, together, Read}
+use Rattle.bufr_walk.specs.Reading.{DataCoding, plain, packed, would_be_many, Data, Stop, walk_stop, too_many, field_stop, WalkFault, walk_fault_of, Item, Values, apart, together, Read, course_of, Timed, calls_by, turns_by, next_after, turns_after, items_at_once}
+use Rattle.bufr_walk.specs.declared.spec.Role.TheVariants as role
 use Rattle.bufr_tables.specs.Prelude.{Row, Tree}
 
 -- ---- A pass, whatever is done with the fields.
@@ -24,15 +25,9 @@ pub record Passing (S C E : Type 0) : Type 0 where
   pub refuses : TurnRefusal → S → E
   pub ends : S → Option E
 
--- an item: the number of turns up to it, its specification and its content
-pub record PassItem (C : Type 0) : Type 0 where
-  pub turn : ℕ
-  pub spec : FieldSpec
-  pub content : C
-
 -- a pass: its items, how many turns it took, the state after them, and what stopped it, if anything
 pub record Pass (S C E : Type 0) : Type 0 where
-  pub items : List (PassItem C)
+  pub items : List (Item C)
   pub turns : ℕ
   pub state : S
   pub stop : Option E
@@ -42,10 +37,10 @@ abbrev pub last_turn : {S C E : Type 0} → ℕ → S → Option E → Pass S C 
 last_turn turn state stop = record { items = []; turns = turn; state = state; stop = stop }
 
 -- an item, and the pass after it
-abbrev pub item_then : {S C E : Type 0} → (turn : ℕ) → FieldSpec → C → Pass S C E → Pass S C E
-item_then turn spec content p =
+abbrev pub item_then : {S C E : Type 0} → FieldSpec → C → Pass S C E → Pass S C E
+item_then spec content p =
     record {
-      items = record { turn = turn; spec = spec; content = content } ∷ p.items;
+      items = record { spec = spec; content = content } ∷ p.items;
       turns = p.turns;
       state = p.state;
       stop = p.stop;
@@ -56,7 +51,7 @@ module _ {S C E : Type 0} (how : Passing S C E) where
   abbrev pub pass_field : (turn : ℕ) → FieldSpec → S → Result (Step S C) E
       → (Step S C → Pass S C E) → Pass S C E
   pass_field turn spec s (Err why) rest = last_turn turn s (Some why)
-  pass_field turn spec s (Ok f) rest = item_then turn spec f.content (rest f)
+  pass_field turn spec s (Ok f) rest = item_then spec f.content (rest f)
 
   -- what comes next: a field, the end, or a refusal
   abbrev pub pass_next : (turn : ℕ) → Next → S → (Step S C → Pass S C E) → Pass S C E
@@ -195,24 +190,83 @@ abbrev pub fault_of : Data → DataReading → Option WalkFault
 fault_of d r =
     option_map (λ why. walk_fault_of why r.subset (length d.bits - length r.left)) r.stop
 
--- ---- For the comparison alone: the items without the turns up to them.
+-- ---- What was read.
 
-abbrev pub bare_item : {C : Type 0} → PassItem C → Item C
-bare_item i = record { spec = i.spec; content = i.content }
+-- the items of each pass
+abbrev pub items_by_pass : {C : Type 0} → List (DataPass C) → List (List (Item C))
+items_by_pass passes = map (λ p. p.items) passes
 
-abbrev pub bare_items : {C : Type 0} → List (PassItem C) → List (Item C)
-bare_items [] = []
-bare_items (i ∷ items) = bare_item i ∷ bare_items items
-
-abbrev pub bare_passes : {C : Type 0} → List (DataPass C) → List (List (Item C))
-bare_passes [] = []
-bare_passes (p ∷ passes) = bare_items p.items ∷ bare_passes passes
-
--- the items of the one pass for all, none where there is no pass
+-- the items of the one pass for all; none where there is no pass
 abbrev pub first_items : {C : Type 0} → List (List (Item C)) → List (Item C)
 first_items [] = []
 first_items (items ∷ more) = items
 
-abbrev pub bare_values : Passes → Values
-bare_values (each passes) = apart (bare_passes passes)
-bare_values (all passes) = together (first_items (bare_passes passes))
+-- the items of a reading
+abbrev pub values_of : Passes → Values
+values_of (each passes) = apart (items_by_pass passes)
+values_of (all passes) = together (first_items (items_by_pass passes))
+
+-- the items that were read
+abbrev pub values_read : Read → Values
+values_read r = values_of (reading_of (course_of r) r.source).passes
+
+-- the calls that show a reading, and the turns of the showing
+abbrev pub calls_of : Read → List Timed
+calls_of r = calls_by r (values_read r)
+
+abbrev pub turns_shown : Read → ℕ
+turns_shown r = turns_by r (values_read r)
+
+-- ---- Where memory may run out.
+
+-- memory is wanted before a reference that must be kept, and in compressed data for each 64th item
+abbrev pub WantsMemory : (compressed : Bool) → (items : ℕ) → FieldSpec → Type 0
+WantsMemory false items spec = spec.role ≡ role.Reference
+WantsMemory true items spec = (items % items_at_once ≡ 0) ⊎ (spec.role ≡ role.Reference)
+
+-- it may run out in a pass, before the field that comes next after some of its items
+pub record RunsShort {C : Type 0} (form : DataCoding C) (compressed : Bool) (course : Course)
+    (p : DataPass C) (turns : ℕ) : Type 0 where
+  pub items : List (Item C)
+  pub more : List (Item C)
+  pub are : p.items ≡ items ++ more
+  pub spec : FieldSpec
+  pub next : next_after form course items ≡ take_next spec
+  pub wants : WantsMemory compressed (length items) spec
+  pub turns_are : turns ≡ turns_after form course items
+
+-- in one of some passes
+abbrev pub OneRunsShort : {C : Type 0} → DataCoding C → (compressed : Bool) → Course
+    → List (DataPass C) → (turns : ℕ) → Type 0
+OneRunsShort form compressed course [] turns = ⊥
+OneRunsShort form compressed course (p ∷ passes) turns =
+    RunsShort form compressed course p turns
+    ⊎ ((later : ℕ) × OneRunsShort form compressed course passes later × (turns ≡ p.turns + later))
+
+-- in one of the passes of a reading
+abbrev pub MayRunShort : Course → (subsets : ℕ) → Passes → (turns : ℕ) → Type 0
+MayRunShort course n (each passes) turns = OneRunsShort plain false course passes turns
+MayRunShort course n (all passes) turns = OneRunsShort (packed n) true course passes turns
+
+-- ---- What a call that reads answers.
+
+-- How many bits the items take, or the fault of what stopped the reading; each with the steps of
+-- its turns. Or memory ran out where it is wanted.
+-- rule: bits-left-over
+abbrev pub ReadsData : Course → Data → Result ℕ WalkFault → (steps : ℕ) → Type 0
+ReadsData course d (Ok used) steps =
+    let r = reading_of course d in
+    (r.stop ≡ None) × (used + length r.left ≡ length d.bits) × (steps ≡ ticked 0 r.turns)
+ReadsData course d (Err fault.Memory) steps =
+    (turns : ℕ) × MayRunShort course d.subsets (reading_of course d).passes turns
+    × (steps ≡ ticked 0 turns)
+ReadsData course d (Err why) steps =
+    let r = reading_of course d in (fault_of d r ≡ Some why) × (steps ≡ ticked 0 r.turns)
+
+-- a reading by this table, this template and these data, or a fault
+abbrev pub AnswersReading : List Row → Tree → Data → Result Read WalkFault → (steps : ℕ) → Type 0
+AnswersReading table template d (Ok r) steps =
+    (r.table ≡ table) × (r.template ≡ template) × (r.source ≡ d)
+    × ReadsData (next_item table template) d (Ok r.bits) steps
+AnswersReading table template d (Err why) steps =
+    ReadsData (next_item table template) d (Err why) steps

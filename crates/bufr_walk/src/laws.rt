@@ -1,7 +1,7 @@
 //! The law on the data of a message: they have one reading or one refusal, and never both.
 ghost use Rattle.std.specs.Prelude.{◌≡◌, ◌⊎◌, ℕ, List, None, Some, drop};
 ghost use Rattle.bufr_walk.specs.Reading.{turns_read};
-ghost use Rattle.bufr_walk.specs.Pass.{reading_of, bare_values, fault_of};
+ghost use Rattle.bufr_walk.specs.Pass.{reading_of, values_of, fault_of};
 ghost use Rattle.bufr_tables.specs.Prelude.{IsLegal, Record, Row, AreRows, Tree};
 ghost use Rattle.bufr_walk.specs.Prelude.{Course, next_item, IsRefused, Data, Values, IsReading, WalkFault, Taken, FieldSpec, AreWithin, IsField, take_next};
 
@@ -30,14 +30,14 @@ pub fn passes_read()
         → AreRows records table → IsLegal template
         → (v : Values) (used : ℕ) → IsReading (next_item table template) d v used
         → let r = reading_of (next_item table template) d in (r.stop ≡ None)
-        × (bare_values r.passes ≡ v) × (r.left ≡ drop used d.bits)
+        × (values_of r.passes ≡ v) × (r.left ≡ drop used d.bits)
         × (r.turns ≡ turns_read (next_item table template) d v) }
     ensures only_read { (records : List Record) (table : List Row) (template : Tree) (d : Data)
         → AreRows records table → IsLegal template
         → let r = reading_of (next_item table template) d in r.stop ≡ None
-        → (used : ℕ) × IsReading (next_item table template) d (bare_values r.passes) used
+        → (used : ℕ) × IsReading (next_item table template) d (values_of r.passes) used
         × (r.left ≡ drop used d.bits)
-        × (r.turns ≡ turns_read (next_item table template) d (bare_values r.passes)) }
+        × (r.turns ≡ turns_read (next_item table template) d (values_of r.passes)) }
     ensures refused { (records : List Record) (table : List Row) (template : Tree) (d : Data)
         → AreRows records table → IsLegal template
         → (why : WalkFault) (turns : ℕ) → IsRefused (next_item table template) d why turns
