@@ -427,26 +427,14 @@ blames-report {X} {a} {b} {c} {d} {a'} {b'} {c'} {d'} write_event f r is same go
 
 -- ---- What comes of a job, from what its run answers.
 
--- a run leaves the same by each of the pieces that it may have
-abbrev pub RunsEach : (may_be : RunPieces → Type 0) → (from to : Input) → (before after : Writers) → Result Tally RunFault → Type 0
-RunsEach may_be from to before after ran = (bs : List ℕ) × ((pieces : RunPieces) → may_be pieces → RunsPieces pieces from to before after bs ran)
-
-pub each-gives : (gives : (StreamEvent → Piece) → Type 0) (from to : Input) (before after : Writers) (ran : Result Tally RunFault)
-    → ((bs : List ℕ) × ((piece : StreamEvent → Piece) → gives piece → RunsPieces (event_pieces piece) from to before after bs ran)) → RunsEach (λ pieces. (piece : StreamEvent → Piece) × gives piece × (pieces ≡ event_pieces piece)) from to before after ran
-each-gives gives from to before after ran run = (run.0, λ pieces so. subst (λ p. RunsPieces p from to before after run.0 ran) (sym so.2) (run.1 so.0 so.1))
-
-pub each-is : (pieces : RunPieces) (from to : Input) (before after : Writers) (ran : Result Tally RunFault)
-    → ((bs : List ℕ) × RunsPieces pieces from to before after bs ran) → RunsEach (λ p. p ≡ pieces) from to before after ran
-each-is pieces from to before after ran run = (run.0, λ p is. subst (λ q. RunsPieces q from to before after run.0 ran) (sym is) run.1)
-
--- what a run leaves, by what it leaves by each of its pieces
-pub leaves-devices : (may_be : RunPieces → Type 0) (from to : Input) (before after : Writers) (ran : Result Tally RunFault)
-    → RunsEach may_be from to before after ran → (after.errors.failed_flushes ≢ before.errors.failed_flushes → after.output.all_flushed ≡ true) → HandsOn ran (AllHandedOn after)
-    → (to.failures ≡ read_failures_after from.failures ran) × ReadsAtMost from.reads to.reads ran → BlamesWriter before after ran → LeavesDevices may_be from to before after ran
-leaves-devices may_be from to before after ran run order flushed input writers = record {
+-- what a run leaves
+pub leaves-devices : (pieces : RunPieces) (from to : Input) (before after : Writers) (ran : Result Tally RunFault)
+    → (bs : List ℕ) × RunsPieces pieces from to before after bs ran → (after.errors.failed_flushes ≢ before.errors.failed_flushes → after.output.all_flushed ≡ true) → HandsOn ran (AllHandedOn after)
+    → (to.failures ≡ read_failures_after from.failures ran) × ReadsAtMost from.reads to.reads ran → BlamesWriter before after ran → LeavesDevices pieces from to before after ran
+leaves-devices pieces from to before after ran run order flushed input writers = record {
   octets = run.0;
   run = run.1;
-  whole = λ pieces is. all-known pieces from.left to.left before.output.taken after.output.taken before.errors.taken after.errors.taken ((after.output.failed_flushes ≡ before.output.failed_flushes) × (after.errors.failed_flushes ≡ before.errors.failed_flushes)) (ReadsFewer from.reads to.reads) ran (run.0, run.1 pieces is);
+  whole = all-known pieces from.left to.left before.output.taken after.output.taken before.errors.taken after.errors.taken ((after.output.failed_flushes ≡ before.output.failed_flushes) × (after.errors.failed_flushes ≡ before.errors.failed_flushes)) (ReadsFewer from.reads to.reads) ran run;
   order = order;
   flushed = flushed;
   failures = input.0;
@@ -455,9 +443,9 @@ leaves-devices may_be from to before after ran run order flushed input writers =
 }
 
 -- a run over the octets of its input, and then the flush of the rest
-pub ends-run : (may_be : RunPieces → Type 0) (octets : Option (List ℕ)) (from to : Input) (before between after : Writers) (ran ran' : Result Tally RunFault)
-    → LeavesDevices may_be from to before between ran → ran' ≡ ran → FlushesRest between.output after.output ran → after.errors ≡ between.errors → from.left ≡ octets → EndsRun may_be octets before after ran'
-ends-run may_be octets from to before between after ran ran' leaves same rest errors known = rw same (Ended from to known between leaves rest errors)
+pub ends-run : (pieces : RunPieces) (octets : Option (List ℕ)) (from to : Input) (before between after : Writers) (ran ran' : Result Tally RunFault)
+    → LeavesDevices pieces from to before between ran → ran' ≡ ran → FlushesRest between.output after.output ran → after.errors ≡ between.errors → from.left ≡ octets → EndsRun pieces octets before after ran'
+ends-run pieces octets from to before between after ran ran' leaves same rest errors known = rw same (Ended from to known between leaves rest errors)
 
 -- a fault of reading an input whole
 pub read-fault : (left left' : Option (List ℕ)) (fault : RunFault) (bs : List ℕ) → ReadsAll left left' (Err fault) bs → fault ≡ Write → ⊥

@@ -37,15 +37,14 @@ WritesLine before after line =
     × (before.failures < 2 ^ 64 - 1 → before.empty_writes < 2 ^ 64 - 1 → IsSame before after
     → Appends before.taken after.taken line)
 
--- What a run leaves of its devices, whichever pieces it may have. At its end all is handed on, the
--- errors only after the output. The input counts a read fault, a writer a write fault.
-pub record LeavesDevices (may_be : RunPieces → Type 0) (from to : Input) (before after : Writers)
+-- What a run with these pieces leaves of its devices. At its end all is handed on, the errors only
+-- after the output. The input counts a read fault, a writer a write fault.
+pub record LeavesDevices (pieces : RunPieces) (from to : Input) (before after : Writers)
     (result : Result Tally RunFault) : Type 0 where
   pub octets : List ℕ
-  pub run : (pieces : RunPieces) → may_be pieces
-      → RunsPieces pieces from to before after octets result
+  pub run : RunsPieces pieces from to before after octets result
   -- where the whole input is known, its pieces were written and counted
-  pub whole : (pieces : RunPieces) → may_be pieces → IfOk result
+  pub whole : IfOk result
       (λ tally. IfSome from.left (λ s. WritesAndCounts before after tally (pieces.whole s)))
   pub order : after.errors.failed_flushes ≢ before.errors.failed_flushes → after.output.all_flushed ≡ true
   pub flushed : HandsOn result (AllHandedOn after)
@@ -54,13 +53,13 @@ pub record LeavesDevices (may_be : RunPieces → Type 0) (from to : Input) (befo
   pub writers : BlamesWriter before after result
 
 -- How a run ended: memory was wanted before it began; or it left its devices, and then the rest.
-pub data EndsRun (may_be : RunPieces → Type 0) (octets : Option (List ℕ)) (before after : Writers)
+pub data EndsRun (pieces : RunPieces) (octets : Option (List ℕ)) (before after : Writers)
     (ran : Result Tally RunFault) : Type 0 where
-  WantsMemory : ran ≡ Err Memory → after ≡ before → EndsRun may_be octets before after ran
+  WantsMemory : ran ≡ Err Memory → after ≡ before → EndsRun pieces octets before after ran
   Ended : (from to : Input) → from.left ≡ octets → (between : Writers)
-      → LeavesDevices may_be from to before between ran
+      → LeavesDevices pieces from to before between ran
       → FlushesRest between.output after.output ran → after.errors ≡ between.errors
-      → EndsRun may_be octets before after ran
+      → EndsRun pieces octets before after ran
 
 -- a line of a fault without a place: what it is of, its number and its text
 abbrev pub last_fault_line : (name : List ℕ) → (report : ℕ × List (List ℕ)) → List ℕ

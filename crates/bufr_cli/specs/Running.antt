@@ -8,7 +8,7 @@ use Rattle.bufr_text.specs.Prelude.{Stays, Fails, CountsWrites, GrowsByPrefix, d
 use Rattle.std.specs.Io.KnownBytes.{Consumes, Appends, IsAtEnd, Keeps}
 use Rattle.bufr_bits.specs.Prelude.{counted}
 use Rattle.bufr_frame.specs.Prelude.{max_reads, MakesReads, StreamEvent, scan, open_scan}
-use Rattle.bufr_cli.specs.Pieces.{Piece, output_of, errors_of, is_accepted, is_refused, IsDumpPiece, encode_pieces}
+use Rattle.bufr_cli.specs.Pieces.{Piece, output_of, errors_of, is_accepted, is_refused, dump_piece, encode_pieces}
 use Rattle.bufr_cli.specs.declared.outcome.Tally.{Tally}
 use Rattle.bufr_tables.specs.Prelude.{Row, Sequence}
 use Rattle.bufr_text.specs.declared.encode.Form.{Form}
@@ -273,8 +273,7 @@ WritesAndCounts before after tally pieces =
 -- the pieces that `dump` has for the octets by these tables were written and counted
 abbrev pub Dumps : List Row → List Sequence → (before after : Writers) → Tally → List ℕ → Type 0
 Dumps b d before after tally s =
-    (piece : StreamEvent → Piece) × GivesPieces (IsDumpPiece b d) piece
-    × WritesAndCounts before after tally (map piece (scan s))
+    WritesAndCounts before after tally (map (dump_piece b d) (scan s))
 
 -- the pieces that `encode` has for the octets by these tables were written and counted
 abbrev pub Encodes : Form → List Row → List Sequence → (before after : Writers) → Tally → List ℕ

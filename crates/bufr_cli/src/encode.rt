@@ -183,7 +183,7 @@ pub fn run_encode_form<R: Source, W: Sink, E: Sink>(
     form: Form,
 ) -> Result<Tally, RunFault>
     // Where the whole input is known, exactly its pieces were written, and the tally counts them.
-    ensures { LeavesDevices (λ pieces. pieces ≡ document_pieces form table_b.now table_d.now)
+    ensures { LeavesDevices (document_pieces form table_b.now table_d.now)
         (input_of R.Source r.old) (input_of R.Source r.new)
         (writers_of W.Sink w.old E.Sink e.old) (writers_of W.Sink w.new E.Sink e.new) result }
 {
@@ -222,7 +222,7 @@ pub fn run_encode<R: Source, W: Sink, E: Sink>(
     table_d: &TableD,
 ) -> Result<Tally, RunFault>
     // Where the whole input is known, exactly its pieces were written, and the tally counts them.
-    ensures { LeavesDevices (λ pieces. pieces ≡ document_pieces AsWritten table_b.now table_d.now)
+    ensures { LeavesDevices (document_pieces AsWritten table_b.now table_d.now)
         (input_of R.Source r.old) (input_of R.Source r.new)
         (writers_of W.Sink w.old E.Sink e.old) (writers_of W.Sink w.new E.Sink e.new) result }
 {

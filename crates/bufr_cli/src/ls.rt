@@ -92,7 +92,7 @@ pub fn run_ls<R: Source, W: Sink, E: Sink>(
     e: &mut E,
 ) -> Result<Tally, RunFault>
     // Where the whole input is known, exactly its pieces were written, and the tally counts them.
-    ensures leaves { LeavesDevices (λ pieces. pieces ≡ event_pieces ls_piece)
+    ensures leaves { LeavesDevices (event_pieces ls_piece)
         (input_of R.Source r.old) (input_of R.Source r.new)
         (writers_of W.Sink w.old E.Sink e.old) (writers_of W.Sink w.new E.Sink e.new) result }
     ensures reads { MakesReads (R.reads r.old) (R.reads r.new) result }

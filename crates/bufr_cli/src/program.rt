@@ -7,7 +7,7 @@ ghost use Rattle.bufr_frame.specs.declared.fault.RunFault.TheVariants.{Write};
 ghost use Rattle.bufr_tables.specs.Prelude.{Record, AreRows};
 ghost use Rattle.bufr_text.specs.Prelude.{Writes};
 ghost use Rattle.bufr_cli.specs.declared.outcome.Outcome.TheVariants.{Run};
-ghost use Rattle.bufr_cli.specs.Prelude.{LeavesDevices, CountsCalls, input_of, writer_of, writers_of, ReadsAll, EndsRun, FlushesRest, AreTables, AreUnread, IsClosed, CommandOutcome, RunOutcome, known, IsOfCommand, ran_outcome, RunsProgram};
+ghost use Rattle.bufr_cli.specs.Prelude.{LeavesDevices, CountsCalls, input_of, writer_of, writers_of, ReadsAll, EndsRun, FlushesRest, AreTables, AreUnread, IsClosed, CommandOutcome, RunOutcome, known, command_pieces, ran_outcome, RunsProgram};
 
 use crate::dump::run_dump;
 use crate::encode::run_encode_form;
@@ -264,7 +264,7 @@ fn run_input<'a, I: Inputs, W: Sink, E: Sink>(
     w: &mut W,
     e: &mut E,
 ) -> Outcome<'a>
-    ensures { RunOutcome (IsOfCommand command.entry)
+    ensures { RunOutcome (command_pieces command.entry)
         (known (I.standard_octets call.now.inputs.now) (I.file_octets call.now.inputs.now))
         call.now.file
         (writers_of W.Sink w.old E.Sink e.old) (writers_of W.Sink w.new E.Sink e.new) result }
@@ -286,7 +286,7 @@ fn run_reader<R: Read + Drop, W: Sink, E: Sink>(
     w: &mut W,
     e: &mut E,
 ) -> Result<Tally, RunFault>
-    ensures { EndsRun (IsOfCommand command.entry) (R.remaining input)
+    ensures { EndsRun (command_pieces command.entry) (R.remaining input)
         (writers_of W.Sink w.old E.Sink e.old) (writers_of W.Sink w.new E.Sink e.new) result }
 {
     let Ok(input) = BufReader::with_capacity(alloc, BUFFERED, input) else {
@@ -304,7 +304,7 @@ fn run_command<R: Source, W: Sink, E: Sink>(
     w: &mut W,
     e: &mut E,
 ) -> Result<Tally, RunFault>
-    ensures { LeavesDevices (IsOfCommand command.entry) (input_of R.Source r.old)
+    ensures { LeavesDevices (command_pieces command.entry) (input_of R.Source r.old)
         (input_of R.Source r.new) (writers_of W.Sink w.old E.Sink e.old)
         (writers_of W.Sink w.new E.Sink e.new) result }
 {

@@ -12,7 +12,7 @@ use Rattle.bufr_frame.specs.Prelude.{Sections}
 use Rattle.bufr_frame.specs.declared.fault.RunFault.TheVariants.{Write, Memory}
 use Rattle.bufr_tables.specs.Prelude.{Row, fxy_text, places, row_comment, row_line_start}
 use Rattle.bufr_walk.specs.declared.fault.ShowFault.{ShowFault}
-use Rattle.bufr_walk.specs.Prelude.{item_call, Timed, View, shown_number, view_of, content_at, item_calls, subset_calls, compressed_item_calls, compressed_subset_calls, calls_of, turns_shown, Shows, EndsAt, Content, Course, ticked, Item, Values, apart, together, plain, after, turns_after}
+use Rattle.bufr_walk.specs.Prelude.{item_call, Timed, View, shown_number, view_of, content_at, item_calls, subset_calls, compressed_item_calls, compressed_subset_calls, calls_by, turns_by, calls_of, turns_shown, values_read, Shows, EndsAt, Content, Course, ticked, Item, Values, apart, together, plain, after, turns_after}
 use Rattle.std.specs.Int.{from_bool}
 use Rattle.std.proofs.lemmas.Bool.{cases_lt}
 use lib.Ieee.Fits.{and_l, and_r}
@@ -243,7 +243,7 @@ all-together-text table (suc left) j items =
     (subst (λ k. calls_text (compressed_subset_calls table left (j + 1) items) ≡ text_of_lines (subset_lines (j + 1 + 1) (map (items_shown table) (subsets_from left k items)))) next (all-together-text table left (j + 1) items))
 
 -- the calls of a reading write its subsets
-pub reading-text : (r : outcome.Read) (values : Values) → calls_text (calls_of r values) ≡ text_of_lines (subset_lines 1 (dump_items r.table r.source.subsets values))
+pub reading-text : (r : outcome.Read) (values : Values) → calls_text (calls_by r values) ≡ text_of_lines (subset_lines 1 (dump_items r.table r.source.subsets values))
 reading-text r (apart subsets) = subsets-text r.table (outcome.course_of r) 0 1 subsets
 reading-text r (together items) = all-together-text r.table r.source.subsets 0 items
 
@@ -331,10 +331,13 @@ compressed-none : (table : List Row) (subsets : ℕ) (items : List (Item (List C
 compressed-none table zero items = refl
 compressed-none table (suc n) items = inl refl
 
-pub no-steps : (r : outcome.Read) (values : Values) → StepsWithin (calls_of r values) (turns_shown r values) 0
-no-steps r (apart []) = refl
-no-steps r (apart (items ∷ subsets)) = inl refl
-no-steps r (together items) = compressed-none r.table r.source.subsets items
+pub no-steps : (r : outcome.Read) → StepsWithin (calls_of r) (turns_shown r) 0
+no-steps r = by (values_read r)
+  where
+    by : (values : Values) → StepsWithin (calls_by r values) (turns_by r values) 0
+    by (apart []) = refl
+    by (apart (items ∷ subsets)) = inl refl
+    by (together items) = compressed-none r.table r.source.subsets items
 
 -- a prefix of a text was pushed, and with it one of a longer text
 prefix-longer : {a b : LineModel} {s : List ℕ} (t : List ℕ) → PushesPrefix a s b → PushesPrefix a (s ++ t) b
@@ -394,53 +397,53 @@ module _ {a b c : LineModel} {head : List ℕ} (rest : List ℕ) (ok : a.status 
       }
   leaves-end (Err fault) more empty is = leaves-prefix fault (whole-prefix rest more) (rw (sym is) refl)
 
--- a showing of a reading, whatever its values are, and what it leaves of the sink
-abbrev pub Shown : (Values → Type 0) → outcome.Read → LineModel → Result (Unit {0}) (ShowFault RunFault) → LineModel → ℕ → Type 0
-Shown R r b o c steps = (values : Values) → R values → Shows PushesCall b (calls_of r values) (turns_shown r values) o c steps
+-- a showing of a reading, and what it leaves of the sink
+abbrev pub Shown : outcome.Read → LineModel → Result (Unit {0}) (ShowFault RunFault) → LineModel → ℕ → Type 0
+Shown r b o c steps = Shows PushesCall b (calls_of r) (turns_shown r) o c steps
 
-abbrev pub Left : (Values → Type 0) → Sections → outcome.Read → LineModel → Result Unit RunFault → LineModel → ℕ → Type 0
-Left R s r a q c steps =
-    (values : Values) → R values → LeavesSink a (text_of_lines (head_lines s) ++ (calls_text (calls_of r values) ++ codes "end\n")) q c × MakesSteps (calls_of r values) (turns_shown r values) q steps
+abbrev pub Left : Sections → outcome.Read → LineModel → Result Unit RunFault → LineModel → ℕ → Type 0
+Left s r a q c steps =
+    LeavesSink a (text_of_lines (head_lines s) ++ (calls_text (calls_of r) ++ codes "end\n")) q c × MakesSteps (calls_of r) (turns_shown r) q steps
 
 -- the head was pushed, and then the calls of a showing: all and the last line, up to a failed write,
 -- or up to where memory ran out
-module _ {a b c : LineModel} {R : Values → Type 0} (s : Sections) (r : outcome.Read) (steps : ℕ) (ok : a.status ≡ Ok tt) (none : a.held ≡ []) (head : Pushes a (text_of_lines (head_lines s)) b) where
-  pub left-whole : {d e : LineModel} (q : Result Unit RunFault) → Shown R r b (Ok tt) c steps → Pushes c (codes "end\n") d → Pushes d [] e → e.held ≡ [] → q ≡ e.status → Left R s r a q e steps
-  left-whole q shown last handed empty is values read =
-      let calls = calls_of r values in
-      let turns = turns_shown r values in
-      let all = calls-pushed b calls turns (Ok tt) c steps (shown values read) ⨾ last ⨾ handed in (
+module _ {a b c : LineModel} (s : Sections) (r : outcome.Read) (steps : ℕ) (ok : a.status ≡ Ok tt) (none : a.held ≡ []) (head : Pushes a (text_of_lines (head_lines s)) b) where
+  pub left-whole : {d e : LineModel} (q : Result Unit RunFault) → Shown r b (Ok tt) c steps → Pushes c (codes "end\n") d → Pushes d [] e → e.held ≡ [] → q ≡ e.status → Left s r a q e steps
+  left-whole q shown last handed empty is =
+      let calls = calls_of r in
+      let turns = turns_shown r in
+      let all = calls-pushed b calls turns (Ok tt) c steps shown ⨾ last ⨾ handed in (
         leaves-end (calls_text calls ++ codes "end\n") ok none head q (retold all (append-nil (calls_text calls ++ codes "end\n"))) empty is,
-        steps-of calls turns steps q (calls-steps b calls turns (Ok tt) c steps (shown values read)),
+        steps-of calls turns steps q (calls-steps b calls turns (Ok tt) c steps shown),
       )
 
-  pub left-failed : (fault : RunFault) (why : ShowFault RunFault) → why ≡ show.Visitor fault → Shown R r b (Err why) c steps → Left R s r a (Err fault) c steps
-  left-failed fault why is shown values read =
-      let calls = calls_of r values in
-      let here = rw is at (shown values read) in
-      let all = calls-pushed b calls (turns_shown r values) (Err (show.Visitor fault)) c steps here in (
+  pub left-failed : (fault : RunFault) (why : ShowFault RunFault) → why ≡ show.Visitor fault → Shown r b (Err why) c steps → Left s r a (Err fault) c steps
+  left-failed fault why is shown =
+      let calls = calls_of r in
+      let here = rw is at shown in
+      let all = calls-pushed b calls (turns_shown r) (Err (show.Visitor fault)) c steps here in (
         leaves-prefix (calls_text calls ++ codes "end\n") ok none head fault (prefix-longer (codes "end\n") (whole-prefix (calls_text calls) all.0)) (rw all.1 refl),
-        calls-steps b calls (turns_shown r values) (Err (show.Visitor fault)) c steps here,
+        calls-steps b calls (turns_shown r) (Err (show.Visitor fault)) c steps here,
       )
 
-  pub left-first : (first : RunFault) (q : Result Unit RunFault) (why : ShowFault RunFault) → q ≡ Err first → why ≡ show.Memory → Shown R r b (Err why) c steps → IsFirstFault c.status first → Left R s r a q c steps
-  left-first first q why fails is shown of values read =
-      let calls = calls_of r values in
-      let here = rw is at (shown values read) in
+  pub left-first : (first : RunFault) (q : Result Unit RunFault) (why : ShowFault RunFault) → q ≡ Err first → why ≡ show.Memory → Shown r b (Err why) c steps → IsFirstFault c.status first → Left s r a q c steps
+  left-first first q why fails is shown of =
+      let calls = calls_of r in
+      let here = rw is at shown in
       rw fails (
-        leaves-prefix (calls_text calls ++ codes "end\n") ok none head first (prefix-longer (codes "end\n") (calls-pushed b calls (turns_shown r values) (Err show.Memory) c steps here)) of,
-        calls-steps b calls (turns_shown r values) (Err show.Memory) c steps here,
+        leaves-prefix (calls_text calls ++ codes "end\n") ok none head first (prefix-longer (codes "end\n") (calls-pushed b calls (turns_shown r) (Err show.Memory) c steps here)) of,
+        calls-steps b calls (turns_shown r) (Err show.Memory) c steps here,
       )
 
 pub all-counted-of : {a c : LineModel} {text : List ℕ} {f f' e e' : ℕ} (r : Result Unit RunFault) → LeavesSink a text r c → a.failures ≡ f → f' ≡ c.failures → a.empty_writes ≡ e → e' ≡ c.empty_writes → CountsFaults f f' e e' r
 all-counted-of r h h1 h2 h3 h4 = rw (sym h1, h2, sym h3, h4) h.counts
 
 -- the dump text of a message, by a writer of lines over a sink
-pub all-written-of : {a c : LineModel} {old new : Option (List ℕ)} (s : Sections) (read : outcome.Read) (values : Values) (r : Result Unit RunFault)
-    → LeavesSink a (text_of_lines (head_lines s) ++ (calls_text (calls_of read values) ++ codes "end\n")) r c → a.taken ≡ old → new ≡ c.taken
-    → WritesPrefix old new (dump_text_of s (dump_items read.table read.source.subsets values)) r
-all-written-of {a = a} {c = c} s read values r h1 h2 h3 =
-    let writes : WritesPrefix a.taken c.taken (text_of_lines (head_lines s) ++ (text_of_lines (subset_lines 1 (dump_items read.table read.source.subsets values)) ++ codes "end\n")) r = rw (reading-text read values) at h1.writes in
+pub all-written-of : {a c : LineModel} {old new : Option (List ℕ)} (s : Sections) (read : outcome.Read) (r : Result Unit RunFault)
+    → LeavesSink a (text_of_lines (head_lines s) ++ (calls_text (calls_of read) ++ codes "end\n")) r c → a.taken ≡ old → new ≡ c.taken
+    → WritesPrefix old new (dump_text_of s (dump_items read.table read.source.subsets (values_read read))) r
+all-written-of {a = a} {c = c} s read r h1 h2 h3 =
+    let writes : WritesPrefix a.taken c.taken (text_of_lines (head_lines s) ++ (text_of_lines (subset_lines 1 (dump_items read.table read.source.subsets (values_read read))) ++ codes "end\n")) r = rw (reading-text read (values_read read)) at h1.writes in
     grind (arith, nat_tests, common_steps, writes)
 
 -- ---- The listing line, and the lines of a dump before its subsets.

@@ -3,9 +3,12 @@ mod ReadingExamples
 mod SpecExamples
 mod GroupExamples
 mod PackedExamples
+mod DataExamples
 pub mod OneReading
 pub mod SomeReading
+pub mod PassLemmas
 pub mod SpecLemmas
+pub mod NextField
 pub mod WalkProgress
 pub mod WalkLemmas
 pub mod BoundLemmas

@@ -136,7 +136,7 @@ module _ (course : Course) where
       (ap (λ z. z ∷ done) o.0 ∙ ap (λ zs. c ∷ zs) more.0, more.1, more.2, more.3)
 
 -- so few items that one more is not too many
-few_values : (n items j : ℕ) → items * n ≤ max_values → j < items → would_be_many n (0 + j) ≡ false
+pub few_values : (n items j : ℕ) → items * n ≤ max_values → j < items → would_be_many n (0 + j) ≡ false
 few_values n items j h lt = grind (arith, common_steps, le-ltb)
 
 from_zero : (a b : ℕ) → a ≡ b → a ≡ 0 + b
@@ -146,7 +146,7 @@ module _ (n : ℕ) (course : Course) where
   ends_packed : (items : List (Item (List Content))) (bits left : List Bool) → ReadsPass (packed n) course items bits left → length items * n ≤ max_values → HasOutcome (packed n) (would_be_many n) course 0 bits items left ended
   ends_packed items bits left h few = ends_so (packed n) (would_be_many n) course items bits left h (λ j lt. few_values n (length items) j few lt)
 
-  stops_packed : (items : List (Item (List Content))) (bits left : List Bool) (count : ℕ) (next : Next) (stop : Stop) → ReadsItems (packed n) course items bits left → length items * n ≤ max_values → count ≡ length items → next ≡ next_after (packed n) course items → stop_at (packed n) (would_be_many n count) next left ≡ Some stop → HasOutcome (packed n) (would_be_many n) course 0 bits items left (stopped stop)
+  pub stops_packed : (items : List (Item (List Content))) (bits left : List Bool) (count : ℕ) (next : Next) (stop : Stop) → ReadsItems (packed n) course items bits left → length items * n ≤ max_values → count ≡ length items → next ≡ next_after (packed n) course items → stop_at (packed n) (would_be_many n count) next left ≡ Some stop → HasOutcome (packed n) (would_be_many n) course 0 bits items left (stopped stop)
   stops_packed items bits left count next stop h few k is e =
       stops_so (packed n) (would_be_many n) course items bits left next stop h (λ j lt. few_values n (length items) j few lt) is (subst (λ c. stop_at (packed n) (would_be_many n c) next left ≡ Some stop) (from_zero count (length items) k) e)
 

@@ -402,7 +402,7 @@ module _ (course : Course) where
         count = omega arith;
       })
 
-abbrev Decided : Course → Data → Type 0
+abbrev pub Decided : Course → Data → Type 0
 Decided course d = ((v : Values) × (used : ℕ) × IsReading course d v used) ⊎ ((why : WalkFault) × (turns : ℕ) × IsRefused course d why turns)
 
 length_left : (used : ℕ) (bits : List Bool) → used ≤ length bits → used + length (drop used bits) ≡ length bits
@@ -493,12 +493,12 @@ packed_decided course (suc n) bits sane =
       },
     )
 
-decided : (course : Course) (compressed : Bool) (n : ℕ) (bits : List Bool) → ((m : ℕ) → IsSane m course) → Decided course (record { compressed = compressed; subsets = n; bits = bits })
+pub decided : (course : Course) (compressed : Bool) (n : ℕ) (bits : List Bool) → ((m : ℕ) → IsSane m course) → Decided course (record { compressed = compressed; subsets = n; bits = bits })
 decided course false n bits sane = plain_decided course n bits sane
 decided course true n bits sane = packed_decided course n bits sane
 
 -- the widths of the rows of the records
-rows_within : (records : List Record) (table : List Row) → map row_of records ≡ map Some table → (fxy : ℕ) (row : Row) → entry_of table fxy ≡ Some row → allows_width row.kind row.width ≡ true
+pub rows_within : (records : List Record) (table : List Row) → map row_of records ≡ map Some table → (fxy : ℕ) (row : Row) → entry_of table fxy ≡ Some row → allows_width row.kind row.width ≡ true
 rows_within records [] e fxy row q = absurd cc
 rows_within [] (first ∷ table) e fxy row q = absurd cc
 rows_within (r ∷ records) (first ∷ table) e fxy row q =

@@ -400,9 +400,9 @@ compressed_subset_calls table (suc n) j items =
     ++ compressed_subset_calls table n (j + 1) items
 
 -- the calls that show a reading
-abbrev pub calls_of : Read → Values → List Timed
-calls_of r (apart subsets) = subset_calls r.table (course_of r) 0 1 subsets
-calls_of r (together items) = compressed_subset_calls r.table r.source.subsets 0 items
+abbrev pub calls_by : Read → Values → List Timed
+calls_by r (apart subsets) = subset_calls r.table (course_of r) 0 1 subsets
+calls_by r (together items) = compressed_subset_calls r.table r.source.subsets 0 items
 
 -- 1 for a call of an item, 0 for one of a subset
 abbrev pub item_or_not : Call → ℕ
@@ -415,9 +415,9 @@ items_called [] = 0
 items_called (t ∷ calls) = item_or_not t.call + items_called calls
 
 -- the turns of a showing; one of compressed data takes none
-abbrev pub turns_shown : Read → Values → ℕ
-turns_shown r (apart subsets) = turns_in (course_of r) subsets
-turns_shown r (together items) = 0
+abbrev pub turns_by : Read → Values → ℕ
+turns_by r (apart subsets) = turns_in (course_of r) subsets
+turns_by r (together items) = 0
 
 -- ---- Calls of a visitor, one after another, up to the first fault, with the turns made for them.
 
@@ -449,13 +449,6 @@ Shows {S} sees s (t ∷ calls) turns (Ok _) s' steps =
 Shows {S} sees s (t ∷ calls) turns (Err why) s' steps =
     (EndsAt sees s t.call why s' × (steps ≡ ticked 0 t.turns))
     ⊎ ((mid : S) × sees s t.call (Ok tt) mid × Shows sees mid calls turns (Err why) s' steps)
-
--- the showing of a reading: its calls and its turns are those of its items
-abbrev pub ShowsReading : {S E : Type 0} → (S → Call → Result (Unit {0}) E → S → Type 0) → Read → S
-    → Result (Unit {0}) (ShowFault E) → S → (steps : ℕ) → Type 0
-ShowsReading sees r s result s' steps =
-    (values : Values) → IsReading (course_of r) r.source values r.bits
-    → Shows sees s (calls_of r values) (turns_shown r values) result s' steps
 
 -- ---- The model of the view of an item.
 
