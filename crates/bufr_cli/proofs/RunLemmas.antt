@@ -14,7 +14,7 @@ use Rattle.bufr_frame.specs.declared.finder.Event.TheVariants.{Frame, Stray, Don
 use Rattle.bufr_frame.specs.Prelude.{FillFails, NeedsRead, ReadsMore, input_left}
 use Rattle.bufr_frame.proofs.FinderLemmas.{read-step, events-are-open, Advances-none, Follows-none, ReadsAndPasses-then, CountsReads-then, whole-scan, events-are-certain}
 use Rattle.bufr_text.specs.Prelude.{GrowsByPrefix, Stays, Fails, Writes}
-use Rattle.bufr_cli.specs.Prelude.{HandsOn, AllHandedOn, Piece, output_of, errors_of, is_accepted, is_refused, RunPieces, RunsPieces, event_pieces, read_pieces, LeavesRun, Blames, WritesPieces, Tallies, RunDone, RunStopped, RunCut, ReadsFewer, ReadsAtMost, GivesPieces, LeavesPieces, StopsPiece, RunReads, counted_accepted, counted_refused, tally_after, BlamesWriter, CountsCalls, Input, Writers, ReadsAll, WrittenInPart, Tally, Verdict, InPart, WritesHelp, LeavesDevices, EndsRun, Ended, FlushesRest, WritesLine, run_line}
+use Rattle.bufr_cli.specs.Prelude.{HandsOn, AllHandedOn, Piece, output_of, errors_of, is_accepted, is_refused, RunPieces, RunsPieces, event_pieces, read_pieces, LeavesRun, Blames, WritesPieces, Tallies, RunDone, RunStopped, RunCut, ReadsFewer, ReadsAtMost, LeavesPieces, StopsPiece, RunReads, counted_accepted, counted_refused, tally_after, BlamesWriter, CountsCalls, Input, Writers, ReadsAll, WrittenInPart, Tally, Verdict, InPart, WritesHelp, LeavesDevices, EndsRun, Ended, FlushesRest, WritesLine, run_line}
 
 pub grows-nil : (w : Option (List ℕ)) → GrowsByPrefix w w []
 grows-nil w = record { prefix = []; back = []; parts = refl; gains = Appends-nil w }
@@ -34,20 +34,20 @@ pub record ReportedSoFar (w w' e e' : Option (List ℕ)) (tally : Tally) (pieces
   pub tallies : Tallies tally pieces
 
 -- What a run has done so far, whose events have these pieces.
-pub record Ran (is_piece : StreamEvent → Piece → Type 0) (left mid : Option (List ℕ)) (reads reads' : ℕ) (w w' e e' : Option (List ℕ)) (s : FinderModel) (tally : Tally) : Type 0 where
+pub record Ran (piece : StreamEvent → Piece) (left mid : Option (List ℕ)) (reads reads' : ℕ) (w w' e e' : Option (List ℕ)) (s : FinderModel) (tally : Tally) : Type 0 where
   pub octets : List ℕ
   pub events : List StreamEvent
   pub step : ReadsAndPasses left mid new_finder s octets events
   pub counts : AddsReads reads reads' new_finder.reads s.reads
-  pub wrote : (piece : StreamEvent → Piece) → GivesPieces is_piece piece → ReportedSoFar w w' e e' tally (map piece events)
+  pub wrote : ReportedSoFar w w' e e' tally (map piece events)
   pub sound : s.fault ≡ None
   pub few : tally.accepted + tally.refused ≤ s.at
   pub near : s.at < 2 ^ 63
 
 -- nothing was done yet
-pub ran-fresh : (is_piece : StreamEvent → Piece → Type 0) (left : Option (List ℕ)) (reads : ℕ) (w e : Option (List ℕ)) (s : FinderModel) (tally : Tally)
-    → s ≡ new_finder → tally.accepted ≡ 0 → tally.refused ≡ 0 → Ran is_piece left left reads reads w w e e s tally
-ran-fresh is_piece left reads w e s tally is accepted refused =
+pub ran-fresh : (piece : StreamEvent → Piece) (left : Option (List ℕ)) (reads : ℕ) (w e : Option (List ℕ)) (s : FinderModel) (tally : Tally)
+    → s ≡ new_finder → tally.accepted ≡ 0 → tally.refused ≡ 0 → Ran piece left left reads reads w w e e s tally
+ran-fresh piece left reads w e s tally is accepted refused =
     rw is (record {
       octets = [];
       events = [];
@@ -59,7 +59,7 @@ ran-fresh is_piece left reads w e s tally is accepted refused =
         end = λ _ end. absurd (false≢true end);
       };
       counts = record { made = sym (counted-none reads); order = omega arith; most = omega arith };
-      wrote = λ piece gives. record { written = Written-nil w e; tallies = record { accepted = accepted; refused = refused } };
+      wrote = record { written = Written-nil w e; tallies = record { accepted = accepted; refused = refused } };
       sound = refl;
       few = omega arith;
       near = omega arith;
@@ -174,13 +174,13 @@ cut-by piece left left' w w' e e' unflushed early bs takes Write stops cut some 
 cut-by piece left left' w w' e e' unflushed early bs takes InputTooLong stops cut some = absurd stops
 cut-by piece left left' w w' e e' unflushed early bs takes Memory stops cut some = (cut, (λ _ none. absurd (some none)), λ stops. absurd (false≢true stops))
 
-module _ (is_piece : StreamEvent → Piece → Type 0) (left mid left' : Option (List ℕ)) (reads reads1 reads2 : ℕ) (w w1 e e1 : Option (List ℕ)) (s s' : FinderModel) (tally : Tally) (result : Result Event RunFault)
-    (ran : Ran is_piece left mid reads reads1 w w1 e e1 s tally) (next : ReturnsNextEvent mid left' reads1 reads2 s s' result) where
+module _ (piece : StreamEvent → Piece) (left mid left' : Option (List ℕ)) (reads reads1 reads2 : ℕ) (w w1 e e1 : Option (List ℕ)) (s s' : FinderModel) (tally : Tally) (result : Result Event RunFault)
+    (ran : Ran piece left mid reads reads1 w w1 e e1 s tally) (next : ReturnsNextEvent mid left' reads1 reads2 s s' result) where
   -- an event was reported and counted
   pub turn : (w2 e2 : Option (List ℕ)) (verdict : Verdict) (tally' : Tally) (event : Event) → result ≡ Ok event → IsEvent event
-      → ((piece : StreamEvent → Piece) → GivesPieces is_piece piece → LeavesPieces w1 w2 e1 e2 (map piece (events_of event)) (Ok verdict))
+      → (LeavesPieces w1 w2 e1 e2 (map piece (events_of event)) (Ok verdict))
       → tally' ≡ tally_after tally verdict → tally'.accepted + tally'.refused ≡ tally.accepted + tally.refused + 1
-      → Ran is_piece left left' reads reads2 w w2 e e2 s' tally'
+      → Ran piece left left' reads reads2 w w2 e e2 s' tally'
   turn w2 e2 verdict tally' event is some reports counts one =
       let steps = rw is at next.steps in
       let on = goes-on s s' event (rw is at next.ends) some in record {
@@ -188,7 +188,7 @@ module _ (is_piece : StreamEvent → Piece → Type 0) (left mid left' : Option 
         events = ran.events ++ events_of event;
         step = ReadsAndPasses-then left mid left' s s' ran.octets steps.0 ran.events (events_of event) ran.step steps.1;
         counts = CountsReads-then reads reads1 reads2 s s' ran.counts next.counts;
-        wrote = λ piece gives. reported-then piece w w1 w2 e e1 e2 tally tally' verdict ran.events (events_of event) (ran.wrote piece gives) (reports piece gives) counts;
+        wrote = reported-then piece w w1 w2 e e1 e2 tally tally' verdict ran.events (events_of event) ran.wrote reports counts;
         sound = on.0;
         few = omega (arith, ran.few, on.1, one);
         near = next.near;
@@ -196,8 +196,8 @@ module _ (is_piece : StreamEvent → Piece → Type 0) (left mid left' : Option 
 
   -- the telling of an event was stopped
   pub stop-report : (unflushed : Type 0) → unflushed → (w2 e2 : Option (List ℕ)) (event : Event) (takes : Bool) (write_event : Result Verdict RunFault) (f : RunFault) (r : Result Tally RunFault) → result ≡ Ok event → IsEvent event
-      → ((piece : StreamEvent → Piece) → GivesPieces is_piece piece → LeavesPieces w1 w2 e1 e2 (map piece (events_of event)) write_event) → StopsPiece takes write_event → write_event ≡ Err f → r ≡ Err f
-      → (bs : List ℕ) × ((piece : StreamEvent → Piece) → GivesPieces is_piece piece → LeavesRun (event_pieces piece) left left' w w2 e e2 unflushed (ReadsFewer reads reads2) bs r)
+      → (LeavesPieces w1 w2 e1 e2 (map piece (events_of event)) write_event) → StopsPiece takes write_event → write_event ≡ Err f → r ≡ Err f
+      → (bs : List ℕ) × (LeavesRun (event_pieces piece) left left' w w2 e e2 unflushed (ReadsFewer reads reads2) bs r)
   stop-report unflushed kept w2 e2 event takes write_event f r is some reports stops fails same =
       let steps = rw is at next.steps in
       let bs = ran.octets ++ steps.0 in
@@ -206,8 +206,7 @@ module _ (is_piece : StreamEvent → Piece → Type 0) (left mid left' : Option 
       let rest = prefix.0 in
       let one = reported-one event some in (
         bs,
-        λ piece gives.
-            let lines = rw fails at (reports piece gives) in
+        let lines = rw fails at reports in
             rw same (cut-by piece left left' w w2 e e2 unflushed (ReadsFewer reads reads2) bs takes f (rw fails at stops) (record {
               read = step.read;
               ended = s'.ended;
@@ -223,7 +222,7 @@ module _ (is_piece : StreamEvent → Piece → Type 0) (left mid left' : Option 
                     ∙ ap (λ l. map piece ran.events ++ (map piece l ++ map piece rest)) one.1;
                 between_output = w1;
                 between_errors = e1;
-                whole = (ran.wrote piece gives).written;
+                whole = ran.wrote.written;
                 output = rw one.1 at lines.0;
                 errors = rw one.1 at lines.1;
               };
@@ -233,7 +232,7 @@ module _ (is_piece : StreamEvent → Piece → Type 0) (left mid left' : Option 
 
   -- all was read and written, and then flushed
   module _ (is : result ≡ Ok Done) (w2 e2 : Option (List ℕ)) (kept_w : Keeps w1 w2) (kept_e : Keeps e1 e2) where
-    pub flushed : (bs : List ℕ) × ((piece : StreamEvent → Piece) → GivesPieces is_piece piece → RunDone (event_pieces piece) left left' w w2 e e2 bs tally)
+    pub flushed : (bs : List ℕ) × (RunDone (event_pieces piece) left left' w w2 e e2 bs tally)
     flushed =
         let steps = rw is at next.steps in
         let done = (rw is at next.ends).1 in
@@ -241,8 +240,7 @@ module _ (is_piece : StreamEvent → Piece → Type 0) (left mid left' : Option 
         let step = ReadsAndPasses-then left mid left' s s' ran.octets steps.0 ran.events [] ran.step steps.1 in
         let all : scan bs ≡ ran.events = whole-scan s'.ended bs s'.rest (ran.events ++ []) s'.at step.advances ∙ ap (λ l. (ran.events ++ []) ++ l) (done.1 s'.at) ∙ append-nil (ran.events ++ []) ∙ append-nil ran.events in (
           bs,
-          λ piece gives.
-              let before = ran.wrote piece gives in
+          let before = ran.wrote in
               let W : List StreamEvent → Type 0 = λ l. WritesPieces w w2 e e2 (map piece l) in
               let T : List StreamEvent → Type 0 = λ l. Tallies tally (map piece l) in
               let end = step.end (λ end. absurd (false≢true end)) done.0 in
@@ -260,17 +258,16 @@ module _ (is_piece : StreamEvent → Piece → Type 0) (left mid left' : Option 
 
     -- a flush failed
     pub stop-flush : (unflushed : Type 0) (f : RunFault) (r : Result Tally RunFault) → f ≡ Write → r ≡ Err f
-        → (bs : List ℕ) × ((piece : StreamEvent → Piece) → GivesPieces is_piece piece → LeavesRun (event_pieces piece) left left' w w2 e e2 unflushed (ReadsFewer reads reads2) bs r)
+        → (bs : List ℕ) × (LeavesRun (event_pieces piece) left left' w w2 e e2 unflushed (ReadsFewer reads reads2) bs r)
     stop-flush unflushed f r write same = (
       flushed.0,
-      λ piece gives.
-          rw (same ∙ ap Err write) (done-cut (event_pieces piece) left left' w w2 e e2 unflushed flushed.0 tally (flushed.1 piece gives)),
+      rw (same ∙ ap Err write) (done-cut (event_pieces piece) left left' w w2 e e2 unflushed flushed.0 tally flushed.1),
     )
 
 -- ---- A read of a run, before which what was written may be handed on.
 
-module _ (is_piece : StreamEvent → Piece → Type 0) (left mid : Option (List ℕ)) (reads reads1 : ℕ) (w w1 e e1 : Option (List ℕ)) (s s1 : FinderModel) (tally : Tally)
-    (ran : Ran is_piece left mid reads reads1 w w1 e e1 s tally) (needs : NeedsRead s s1) (w2 e2 : Option (List ℕ)) (kept_w : Keeps w1 w2) (kept_e : Keeps e1 e2) where
+module _ (piece : StreamEvent → Piece) (left mid : Option (List ℕ)) (reads reads1 : ℕ) (w w1 e e1 : Option (List ℕ)) (s s1 : FinderModel) (tally : Tally)
+    (ran : Ran piece left mid reads reads1 w w1 e e1 s tally) (needs : NeedsRead s s1) (w2 e2 : Option (List ℕ)) (kept_w : Keeps w1 w2) (kept_e : Keeps e1 e2) where
   step : ReadsAndPasses left mid new_finder s1 ran.octets ran.events
   step =
       let A : List ℕ → List StreamEvent → Type 0 = λ bs es. ReadsAndPasses left mid new_finder s1 bs es in
@@ -281,16 +278,16 @@ module _ (is_piece : StreamEvent → Piece → Type 0) (left mid : Option (List 
   certain : open_scan ran.octets ≡ ran.events
   certain = events-are-open ran.octets s1.rest ran.events s1.at (rw needs.going at step.advances) (needs.none s1.at)
 
-  written : (piece : StreamEvent → Piece) → GivesPieces is_piece piece → WritesPieces w w2 e e2 (map piece ran.events)
-  written piece gives = written-kept w w1 w2 e e1 e2 (map piece ran.events) kept_w kept_e (ran.wrote piece gives).written
+  written : WritesPieces w w2 e e2 (map piece ran.events)
+  written = written-kept w w1 w2 e e1 e2 (map piece ran.events) kept_w kept_e ran.wrote.written
 
   -- a flush failed: all that was certain stands
   pub stop-hand-on : (unflushed early : Type 0) (f : RunFault) (r : Result Tally RunFault) → f ≡ Write → r ≡ Err f
-      → (bs : List ℕ) × ((piece : StreamEvent → Piece) → GivesPieces is_piece piece → LeavesRun (event_pieces piece) left mid w w2 e e2 unflushed early bs r)
-  stop-hand-on unflushed early f r write same = (ran.octets, λ piece gives. rw (same ∙ ap Err write) (cut piece (written piece gives)))
+      → (bs : List ℕ) × (LeavesRun (event_pieces piece) left mid w w2 e e2 unflushed early bs r)
+  stop-hand-on unflushed early f r write same = (ran.octets, rw (same ∙ ap Err write) (cut written))
     where
-      cut : (piece : StreamEvent → Piece) → WritesPieces w w2 e e2 (map piece ran.events) → RunCut (event_pieces piece) left mid w w2 e e2 unflushed ran.octets
-      cut piece so = record {
+      cut : WritesPieces w w2 e e2 (map piece ran.events) → RunCut (event_pieces piece) left mid w w2 e e2 unflushed ran.octets
+      cut so = record {
         read = step.read;
         ended = false;
         all = λ _ end. absurd (false≢true end);
@@ -307,13 +304,13 @@ module _ (is_piece : StreamEvent → Piece → Type 0) (left mid : Option (List 
     read-counts = CountsReads-then reads reads1 reads2 s s2 ran.counts (let A : ℕ → Type 0 = λ n. AddsReads reads1 reads2 n s2.reads in subst A needs.reads made)
 
     -- more octets came
-    pub read-on : (u : Unit {0}) → result ≡ Ok u → Ran is_piece left left' reads reads2 w w2 e e2 s2 tally
+    pub read-on : (u : Unit {0}) → result ≡ Ok u → Ran piece left left' reads reads2 w w2 e e2 s2 tally
     read-on u ok = record {
       octets = ran.octets ++ bs;
       events = ran.events;
       step = on;
       counts = read-counts;
-      wrote = λ piece gives. record { written = written piece gives; tallies = (ran.wrote piece gives).tallies };
+      wrote = record { written = written; tallies = ran.wrote.tallies };
       sound = rw ok at more.fault;
       few = omega (arith, ran.few, (needs.passes mid).follows.offset, more.at);
       near = omega (arith, needs.near, more.at);
@@ -321,8 +318,8 @@ module _ (is_piece : StreamEvent → Piece → Type 0) (left mid : Option (List 
 
     -- the read failed, or was not made
     pub stop-read : (unflushed : Type 0) → unflushed → (f : RunFault) (r : Result Tally RunFault) → result ≡ Err f → r ≡ Err f
-        → (octets : List ℕ) × ((piece : StreamEvent → Piece) → GivesPieces is_piece piece → LeavesRun (event_pieces piece) left left' w w2 e e2 unflushed (ReadsFewer reads reads2) octets r)
-    stop-read unflushed kept f r is same = (ran.octets ++ bs, λ piece gives. rw same (by piece (written piece gives) f (rw is at more.fills.ends)))
+        → (octets : List ℕ) × (LeavesRun (event_pieces piece) left left' w w2 e e2 unflushed (ReadsFewer reads reads2) octets r)
+    stop-read unflushed kept f r is same = (ran.octets ++ bs, rw same (by written f (rw is at more.fills.ends)))
       where
         fewer : s2.reads < max_reads → ReadsFewer reads reads2
         fewer few = let n : s2.reads - 0 ≡ s2.reads = omega arith in (s2.reads, few, read-counts.made ∙ ap (counted reads) n)
@@ -331,11 +328,11 @@ module _ (is_piece : StreamEvent → Piece → Type 0) (left mid : Option (List 
         opens none open' =
             events-are-open (ran.octets ++ bs) s2.rest ran.events s2.at (rw open' at on.advances) (rw (more.fills.held ∙ ap (λ l. s1.rest ++ l) none ∙ append-nil s1.rest) (needs.none s2.at))
 
-        stopped : (piece : StreamEvent → Piece) → WritesPieces w w2 e e2 (map piece ran.events) → open_scan (ran.octets ++ bs) ≡ ran.events → RunStopped (event_pieces piece) left left' w w2 e e2 (ran.octets ++ bs)
-        stopped piece so open' = record { read = on.read; written = rw (ap (map piece) open') so; accepted = λ stops. absurd (false≢true stops) }
+        stopped : WritesPieces w w2 e e2 (map piece ran.events) → open_scan (ran.octets ++ bs) ≡ ran.events → RunStopped (event_pieces piece) left left' w w2 e e2 (ran.octets ++ bs)
+        stopped so open' = record { read = on.read; written = rw (ap (map piece) open') so; accepted = λ stops. absurd (false≢true stops) }
 
-        cut : (piece : StreamEvent → Piece) → WritesPieces w w2 e e2 (map piece ran.events) → open_scan (ran.octets ++ bs) ≡ ran.events → RunCut (event_pieces piece) left left' w w2 e e2 unflushed (ran.octets ++ bs)
-        cut piece so open' = record {
+        cut : WritesPieces w w2 e e2 (map piece ran.events) → open_scan (ran.octets ++ bs) ≡ ran.events → RunCut (event_pieces piece) left left' w w2 e e2 unflushed (ran.octets ++ bs)
+        cut so open' = record {
           read = on.read;
           ended = false;
           all = λ _ end. absurd (false≢true end);
@@ -344,12 +341,12 @@ module _ (is_piece : StreamEvent → Piece → Type 0) (left mid : Option (List 
           flushed = λ not. absurd (not kept);
         }
 
-        by : (piece : StreamEvent → Piece) → WritesPieces w w2 e e2 (map piece ran.events) → (g : RunFault) → (bs ≡ []) × (s2.ended ≡ false) × FillFails (s1.room < 2 * max 4096 s1.longest) (input_left s1) (input_left s2) g
+        by : WritesPieces w w2 e e2 (map piece ran.events) → (g : RunFault) → (bs ≡ []) × (s2.ended ≡ false) × FillFails (s1.room < 2 * max 4096 s1.longest) (input_left s1) (input_left s2) g
             → LeavesRun (event_pieces piece) left left' w w2 e e2 unflushed (ReadsFewer reads reads2) (ran.octets ++ bs) (Err g)
-        by piece so Read ends = stopped piece so (opens ends.0 ends.1)
-        by piece so Write ends = absurd ends.2
-        by piece so InputTooLong ends = stopped piece so (opens ends.0 ends.1)
-        by piece so Memory ends = (cut piece so (opens ends.0 ends.1), (λ _ _. fewer ends.2.1), λ stops. absurd (false≢true stops))
+        by so Read ends = stopped so (opens ends.0 ends.1)
+        by so Write ends = absurd ends.2
+        by so InputTooLong ends = stopped so (opens ends.0 ends.1)
+        by so Memory ends = (cut so (opens ends.0 ends.1), (λ _ _. fewer ends.2.1), λ stops. absurd (false≢true stops))
 
 nothing-more : (bs t : List ℕ) → bs ≡ bs ++ t → t ≡ []
 nothing-more bs [] is = refl

@@ -1,7 +1,7 @@
 -- Passes on the names that proofs and other crates cite. Declares nothing.
 pub use Rattle.bufr_cli.specs.RoundTrip.{accepted_in, accepted_messages, dump_pieces, dumped, longer_by, event_octets, rebuilding, rebuilt, IsBuiltAgain, IsWholeRound, written_by, IsCanonicalMessage, RoundTrips, Written, IsDumpedInOneSpelling, before_refused, built, form_pieces, normal_by, normal_text, RunsInMemory}
 unfoldable pub use Rattle.bufr_cli.specs.RoundTrip.{normal_texts}
-pub use Rattle.bufr_cli.specs.Running.{HandsOn, AllHandedOn, HandsOnBoth, RunPieces, RunsPieces, WritesAndCounts, event_pieces, read_pieces, LeavesRun, Blames, WritesPieces, Tallies, RunDone, RunStopped, RunCut, ReadsFewer, GivesPieces, LeavesPieces, StopsPiece, RunReads, counted_accepted, counted_refused, tally_after, BlamesWriter, CountsCalls, Input, Writers, ReadsAll, WrittenInPart, holding, Dumps, Encodes, document_pieces, ReadsAtMost, LeavesNext, Writer, input_of, writers_of, OnlyWrites, writer_of, IsSame}
+pub use Rattle.bufr_cli.specs.Running.{HandsOn, AllHandedOn, HandsOnBoth, RunPieces, RunsPieces, WritesAndCounts, event_pieces, read_pieces, LeavesRun, Blames, WritesPieces, Tallies, RunDone, RunStopped, RunCut, ReadsFewer, LeavesPieces, StopsPiece, RunReads, counted_accepted, counted_refused, tally_after, BlamesWriter, CountsCalls, Input, Writers, ReadsAll, WrittenInPart, holding, Dumps, Encodes, document_pieces, ReadsAtMost, LeavesNext, Writer, input_of, writers_of, OnlyWrites, writer_of, IsSame}
 pub use Rattle.bufr_cli.specs.FaultLine.{document_line, item_fault_line, line_of_read_fault, line_of_refusal, refusal_line, refused_line, walk_text, place_texts, fault_line, HasLine, stream_report}
 pub use Rattle.bufr_cli.specs.Pieces.{Piece, output_of, errors_of, is_accepted, is_refused, dump_piece, OnOutput, OnErrors, text_or_fault, data_piece, template_piece, message_piece, encode_pieces, encoded, result_piece, ls_piece, ls_or_fault}
 unfoldable pub use Rattle.bufr_cli.specs.Pieces.{up_to_refused}

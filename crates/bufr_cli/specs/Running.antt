@@ -253,10 +253,6 @@ RunsPieces pieces from to before after bs result =
     after.errors.taken ((after.output.failed_flushes ≡ before.output.failed_flushes)
     × (after.errors.failed_flushes ≡ before.errors.failed_flushes)) (ReadsFewer from.reads to.reads) bs result
 
--- a run's pieces, each what its event is to put on the writers
-abbrev pub GivesPieces : (StreamEvent → Piece → Type 0) → (StreamEvent → Piece) → Type 0
-GivesPieces is_piece piece = (here : StreamEvent) → is_piece here (piece here)
-
 -- at most 2^32 reads were made; an input is too long only after all of them
 -- rule: fault-72
 abbrev pub ReadsAtMost : {X : Type 0} → (reads reads' : ℕ) → Result X RunFault → Type 0

@@ -129,8 +129,7 @@ fn dump_frame<W: Sink, E: Sink>(
 }
 
 impl<'a> EventWriter for DumpRun<'a> {
-    ghost is_piece = { λ d here piece.
-        piece ≡ dump_piece d.templates.table_b d.templates.table_d here };
+    ghost piece = { λ d. dump_piece d.templates.table_b d.templates.table_d };
 
     ghost takes_memory = { λ _. true };
 

@@ -45,7 +45,7 @@ fn list_frame<W: Sink, E: Sink>(
 struct LsRun;
 
 impl EventWriter for LsRun {
-    ghost is_piece = { λ _ here piece. piece ≡ ls_piece here };
+    ghost piece = { λ _. ls_piece };
 
     ghost takes_memory = { λ _. false };
 

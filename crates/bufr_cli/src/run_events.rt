@@ -2,7 +2,7 @@
 ghost use Rattle.std.specs.Prelude.{◌≡◌, ◌≢◌, ℕ, Bool, List, true, OnOk, IfErr, map};
 ghost use Rattle.std.specs.Io.KnownBytes.{Keeps};
 ghost use Rattle.bufr_frame.specs.Prelude.{events_of, IsEvent, read_failures_after, StreamEvent};
-ghost use Rattle.bufr_cli.specs.Prelude.{Piece, BlamesWriter, CountsCalls, input_of, writer_of, writers_of, RunsPieces, HandsOn, AllHandedOn, HandsOnBoth, event_pieces, GivesPieces, RunReads, StopsPiece, LeavesPieces};
+ghost use Rattle.bufr_cli.specs.Prelude.{Piece, BlamesWriter, CountsCalls, input_of, writer_of, writers_of, RunsPieces, HandsOn, AllHandedOn, HandsOnBoth, event_pieces, RunReads, StopsPiece, LeavesPieces};
 
 use crate::outcome::{Tally, Verdict};
 use bufr_bits::{Sink, Source};
@@ -11,8 +11,8 @@ use std::alloc::Global;
 
 /// What a run writes for the events of its stream: for each a piece, on one of its two writers.
 pub trait EventWriter {
-    /// Whether this is to be written for an event.
-    ghost is_piece: { Self → StreamEvent → Piece → Type 0 };
+    /// What is to be written for an event.
+    ghost piece: { Self → StreamEvent → Piece };
 
     /// Whether writing takes memory.
     ghost takes_memory: { Self → Bool };
@@ -25,12 +25,10 @@ pub trait EventWriter {
         e: &mut E,
     ) -> Result<Verdict, RunFault>
         requires { IsEvent event }
-        ensures reports { (piece : StreamEvent → Piece) → GivesPieces (is_piece self.old) piece
-            → LeavesPieces (W.taken w.old) (W.taken w.new) (E.taken e.old) (E.taken e.new)
-            (map piece (events_of event.entry)) result }
+        ensures reports { LeavesPieces (W.taken w.old) (W.taken w.new) (E.taken e.old)
+            (E.taken e.new) (map (piece self.old) (events_of event.entry)) result }
         ensures stops { StopsPiece (takes_memory self.old) result }
-        ensures same { (piece : StreamEvent → Piece) → GivesPieces (is_piece self.old) piece
-            → GivesPieces (is_piece self.new) piece }
+        ensures same { piece self.new ≡ piece self.old }
         ensures memory { takes_memory self.new ≡ takes_memory self.old }
         ensures counts { BlamesWriter (writers_of W.Sink w.old E.Sink e.old)
             (writers_of W.Sink w.new E.Sink e.new) result }
@@ -88,10 +86,9 @@ pub fn run_events<T: EventWriter, R: Source, W: Sink, E: Sink>(
 ) -> Result<Tally, RunFault>
     ensures order { E.failed_flushes e.new ≢ E.failed_flushes e.old → W.all_flushed w.new ≡ true }
     ensures flushed { HandsOn result (AllHandedOn (writers_of W.Sink w.new E.Sink e.new)) }
-    ensures run { (bs : List ℕ)
-        × ((piece : StreamEvent → Piece) → GivesPieces (T.is_piece teller.old) piece
-        → RunsPieces (event_pieces piece) (input_of R.Source r.old) (input_of R.Source r.new)
-        (writers_of W.Sink w.old E.Sink e.old) (writers_of W.Sink w.new E.Sink e.new) bs result) }
+    ensures run { (bs : List ℕ) × RunsPieces (event_pieces (T.piece teller.old))
+        (input_of R.Source r.old) (input_of R.Source r.new)
+        (writers_of W.Sink w.old E.Sink e.old) (writers_of W.Sink w.new E.Sink e.new) bs result }
     ensures reader { R.failures r.new ≡ read_failures_after (R.failures r.old) result }
     ensures reads { RunReads (T.takes_memory teller.old) (R.reads r.old) (R.reads r.new) result }
     ensures writers { BlamesWriter (writers_of W.Sink w.old E.Sink e.old)

@@ -1,7 +1,4 @@
-use Rattle.std.proofs.Common.{◌≡◌, refl, subst, sym}
-use Rattle.bufr_frame.specs.Prelude.{StreamEvent}
-use Rattle.bufr_walk.specs.Prelude.{Lists}
-use Rattle.bufr_cli.specs.Prelude.{event_pieces, dump_piece, Piece, input_of, writers_of}
+use Rattle.bufr_cli.specs.Prelude.{event_pieces, dump_piece, input_of, writers_of}
 use Rattle.bufr_cli.proofs.RunLemmas.{leaves-devices}
 use Rattle.bufr_cli.proofs.dump.run_dump.Goals as goal
 
@@ -12,7 +9,5 @@ returns g c =
     let before = writers_of g.W.Sink c.args.w.now g.E.Sink c.args.e.now in
     let after = writers_of g.W.Sink c.run_events.new.w g.E.Sink c.run_events.new.e in
     let run = c.run_events.ensures in
-    let piece : StreamEvent → Piece = dump_piece c.args.table_b.now c.args.table_d.now in
-    leaves-devices (event_pieces piece) from to before after c.run_events.result
-    (run.run.0, run.run.1 piece (subst (λ (both : Lists). (here : StreamEvent) → piece here ≡ dump_piece both.table_b both.table_d here) (sym c.new.ensures) (λ here. refl)))
+    leaves-devices (event_pieces (dump_piece c.args.table_b.now c.args.table_d.now)) from to before after c.run_events.result (rw c.new.ensures at run.run)
     run.order run.flushed (run.reader, run.reads) run.writers

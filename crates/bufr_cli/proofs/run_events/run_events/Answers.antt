@@ -5,8 +5,8 @@ use Rattle.bufr_cli.proofs.run_events.run_events.Goals as goal
 
 pub loop-r-init : goal.loop-r-init
 loop-r-init g c = record {
-  ran = ran-fresh (g.T.EventWriter.is_piece c.args.teller.now) _ _ _ _ c.new-finder.result _ c.new-finder.ensures refl refl;
-  same = λ piece gives. gives;
+  ran = ran-fresh (g.T.EventWriter.piece c.args.teller.now) _ _ _ _ c.new-finder.result _ c.new-finder.ensures refl refl;
+  same = refl;
   memory = refl;
   reader = refl;
   output_flushes = refl;
@@ -20,7 +20,7 @@ returns-in_err-hand_on_before_read-in-None-clause-run g c =
     let p = err_from_is_err_and c.from_residual.result c.from_residual.ensures.1 in
     let needs = rw c.in-None.is at c.next_held.follows.holds-at-none in
     let handed = c.hand_on_before_read.ensures.handed in
-    stop-hand-on (g.T.EventWriter.is_piece c.args.teller.now) _ _ _ _ _ _ _ _ _ _ _ c.loop-r.invariant.ran needs _ _ handed.output handed.errors _ _ _ c.from_residual.result (rw c.in_err-hand_on_before_read-in-None.was at handed.fault) (p.1 ∙ ap Err p.2)
+    stop-hand-on (g.T.EventWriter.piece c.args.teller.now) _ _ _ _ _ _ _ _ _ _ _ c.loop-r.invariant.ran needs _ _ handed.output handed.errors _ _ _ c.from_residual.result (rw c.in_err-hand_on_before_read-in-None.was at handed.fault) (p.1 ∙ ap Err p.2)
 
 pub loop-r-smaller-in-Continue-branch-2 : goal.loop-r-smaller-in-Continue-branch-2
 loop-r-smaller-in-Continue-branch-2 g c =
@@ -38,7 +38,7 @@ loop-r-preserved-in-Continue-branch-2 g c =
     let ok = c.in_ok-read_more-in-None.was in
     let before = c.loop-r.invariant in
     record {
-      ran = read-on (g.T.EventWriter.is_piece c.args.teller.now) _ _ _ _ _ _ _ _ _ _ _ before.ran needs _ _ handed.output handed.errors _ _ _ _ _ (c.read_more.ensures.read needs.fault).1 c.read_more.ensures.counts _ ok;
+      ran = read-on (g.T.EventWriter.piece c.args.teller.now) _ _ _ _ _ _ _ _ _ _ _ before.ran needs _ _ handed.output handed.errors _ _ _ _ _ (c.read_more.ensures.read needs.fault).1 c.read_more.ensures.counts _ ok;
       same = before.same;
       memory = before.memory;
       reader = (rw ok at c.read_more.ensures.failed needs.fault) ∙ before.reader;
@@ -55,7 +55,7 @@ returns-in_err-read_more-in-None-clause-run g c =
     let handed = c.hand_on_before_read.ensures.handed in
     let none = rw c.in_ok-hand_on_before_read-in-None.was at handed.none in
     let before = c.loop-r.invariant in
-    stop-read (g.T.EventWriter.is_piece c.args.teller.now) _ _ _ _ _ _ _ _ _ _ _ before.ran needs _ _ handed.output handed.errors _ _ _ _ _ (c.read_more.ensures.read needs.fault).1 c.read_more.ensures.counts _ (none.0 ∙ before.output_flushes, none.1 ∙ before.errors_flushes) _ c.from_residual-in_err-read_more-in-None.result c.in_err-read_more-in-None.was (p.1 ∙ ap Err p.2)
+    stop-read (g.T.EventWriter.piece c.args.teller.now) _ _ _ _ _ _ _ _ _ _ _ before.ran needs _ _ handed.output handed.errors _ _ _ _ _ (c.read_more.ensures.read needs.fault).1 c.read_more.ensures.counts _ (none.0 ∙ before.output_flushes, none.1 ∙ before.errors_flushes) _ c.from_residual-in_err-read_more-in-None.result c.in_err-read_more-in-None.was (p.1 ∙ ap Err p.2)
 
 pub returns-in_err-read_more-in-None-clause-reader : goal.returns-in_err-read_more-in-None-clause-reader
 returns-in_err-read_more-in-None-clause-reader g c =
@@ -68,7 +68,7 @@ returns-in_err-read_more-in-None-clause-reads g c =
     let p = err_from_is_err_and c.from_residual-in_err-read_more-in-None.result c.from_residual-in_err-read_more-in-None.ensures.1 in
     let needs = rw c.in-None.is at c.next_held.follows.holds-at-none in
     let handed = c.hand_on_before_read.ensures.handed in
-    let counts = read-counts (g.T.EventWriter.is_piece c.args.teller.now) _ _ _ _ _ _ _ _ _ _ _ c.loop-r.invariant.ran needs _ _ handed.output handed.errors _ _ _ _ _ (c.read_more.ensures.read needs.fault).1 c.read_more.ensures.counts in
+    let counts = read-counts (g.T.EventWriter.piece c.args.teller.now) _ _ _ _ _ _ _ _ _ _ _ c.loop-r.invariant.ran needs _ _ handed.output handed.errors _ _ _ _ _ (c.read_more.ensures.read needs.fault).1 c.read_more.ensures.counts in
     run-reads-stop _ _ _ _ _ _ _ _ _ _ c.from_residual-in_err-read_more-in-None.result counts (c.read_more.ensures.read needs.fault).1 c.in_err-read_more-in-None.was (p.1 ∙ ap Err p.2)
 
 pub returns-in_err-read_more-in-None-clause-writers : goal.returns-in_err-read_more-in-None-clause-writers
@@ -94,9 +94,9 @@ loop-r-preserved g c =
     let some = is-event c.loop-r.finder c.next_held.follows.lender-at-none c.in-Some-Ok.event next.ends c.in_default.not-Done in
     let counts = rw c.in_ok-verdict-in-Some-Ok.was at c.write_event.ensures.counts in
     record {
-      ran = turn (g.T.EventWriter.is_piece c.args.teller.now) _ _ _ _ _ _ _ _ _ _ _ _ _ _ before.ran next _ _ c.in_ok-verdict-in-Some-Ok.verdict _ c.in-Some-Ok.event refl some
-          (λ piece gives. (rw c.in_ok-verdict-in-Some-Ok.was at c.write_event.ensures.reports) piece (before.same piece gives)) c.count.ensures.value c.count.ensures.one;
-      same = λ piece gives. c.write_event.ensures.same piece (before.same piece gives);
+      ran = turn (g.T.EventWriter.piece c.args.teller.now) _ _ _ _ _ _ _ _ _ _ _ _ _ _ before.ran next _ _ c.in_ok-verdict-in-Some-Ok.verdict _ c.in-Some-Ok.event refl some
+          (rw (before.same, c.in_ok-verdict-in-Some-Ok.was) at c.write_event.ensures.reports) c.count.ensures.value c.count.ensures.one;
+      same = c.write_event.ensures.same ∙ before.same;
       memory = c.write_event.ensures.memory ∙ before.memory;
       reader = before.reader;
       output_flushes = c.write_event.ensures.output_flushes ∙ before.output_flushes;
@@ -110,14 +110,14 @@ returns-in_err-hand_on-clause-run g c =
     let p = err_from_is_err_and c.from_residual-in_err-hand_on.result c.from_residual-in_err-hand_on.ensures.1 in
     let before = c.loop-r.invariant in
     let next = (rw (c.in-Some-Ok.is, c.in-Some-Ok.field-0-is) at c.next_held.follows.holds-at-none).1 (g.R.Source.left c.loop-r.r) (g.R.Source.reads c.loop-r.r) in
-    stop-flush (g.T.EventWriter.is_piece c.args.teller.now) _ _ _ _ _ _ _ _ _ _ _ _ _ _ before.ran next (ap Ok c.in-Done.is) _ _
+    stop-flush (g.T.EventWriter.piece c.args.teller.now) _ _ _ _ _ _ _ _ _ _ _ _ _ _ before.ran next (ap Ok c.in-Done.is) _ _
     c.hand_on.ensures.handed.output c.hand_on.ensures.handed.errors _ _ c.from_residual-in_err-hand_on.result (rw c.in_err-hand_on.was at c.hand_on.ensures.handed.fault) (p.1 ∙ ap Err p.2)
 
 pub returns-clause-run : goal.returns-clause-run
 returns-clause-run g c =
     let before = c.loop-r.invariant in
     let next = (rw (c.in-Some-Ok.is, c.in-Some-Ok.field-0-is) at c.next_held.follows.holds-at-none).1 (g.R.Source.left c.loop-r.r) (g.R.Source.reads c.loop-r.r) in
-    flushed (g.T.EventWriter.is_piece c.args.teller.now) _ _ _ _ _ _ _ _ _ _ _ _ _ _ before.ran next (ap Ok c.in-Done.is) _ _
+    flushed (g.T.EventWriter.piece c.args.teller.now) _ _ _ _ _ _ _ _ _ _ _ _ _ _ before.ran next (ap Ok c.in-Done.is) _ _
     c.hand_on.ensures.handed.output c.hand_on.ensures.handed.errors
 
 pub write_event-requires : goal.write_event-requires
@@ -140,9 +140,9 @@ returns-in_err-verdict-in-Some-Ok-clause-run g c =
     let before = c.loop-r.invariant in
     let next = (rw (c.in-Some-Ok.is, c.in-Some-Ok.field-0-is) at c.next_held.follows.holds-at-none).1 (g.R.Source.left c.loop-r.r) (g.R.Source.reads c.loop-r.r) in
     let some = is-event c.loop-r.finder c.next_held.follows.lender-at-none c.in-Some-Ok.event next.ends c.in_default.not-Done in
-    stop-report (g.T.EventWriter.is_piece c.args.teller.now) _ _ _ _ _ _ _ _ _ _ _ _ _ _ before.ran next _
+    stop-report (g.T.EventWriter.piece c.args.teller.now) _ _ _ _ _ _ _ _ _ _ _ _ _ _ before.ran next _
     (c.write_event.ensures.output_flushes ∙ before.output_flushes, c.write_event.ensures.errors_flushes ∙ before.errors_flushes) _ _ c.in-Some-Ok.event _ c.write_event.result _ c.from_residual-in_err-verdict-in-Some-Ok.result
-    refl some (λ piece gives. c.write_event.ensures.reports piece (before.same piece gives)) (rw before.memory at c.write_event.ensures.stops) c.in_err-verdict-in-Some-Ok.was (p.1 ∙ ap Err p.2)
+    refl some (rw before.same at c.write_event.ensures.reports) (rw before.memory at c.write_event.ensures.stops) c.in_err-verdict-in-Some-Ok.was (p.1 ∙ ap Err p.2)
 
 pub returns-in_err-verdict-in-Some-Ok-clause-reader : goal.returns-in_err-verdict-in-Some-Ok-clause-reader
 returns-in_err-verdict-in-Some-Ok-clause-reader g c =
