@@ -10,7 +10,7 @@ use Rattle.bufr_frame.specs.declared.fault.SectionFault.{SectionFault}
 use Rattle.bufr_frame.proofs.ScanLemmas.{IsSmall, framed_octets, frames-within, small-frames, scan_from-nil}
 use Rattle.bufr_walk.specs.Prelude.{Values, View, next_item, data_of, reading_of, values_of, walk_fault_of, Stop}
 use Rattle.bufr_walk.proofs.PassLemmas.{legal_sane, reading_is, reads_so}
-use Rattle.bufr_walk.proofs.SomeReading.{IsSane}
+use Rattle.bufr_walk.proofs.CourseLemmas.{IsSane}
 use Rattle.bufr_text.specs.Prelude.{Between, lines_of, parse_lines, Document, ParseResult, Complete, Refused, documents_of, dump_lines, dump_text_of, IsOctet, IsAccepted, HasSameReading, dump_items, IsReadAs, RefusedAt, encoding_in, IsProper, AreProper}
 use Rattle.bufr_text.proofs.FormLemmas.{canonical_encoded}
 use Rattle.bufr_text.proofs.DumpableLemmas.{dumpable}

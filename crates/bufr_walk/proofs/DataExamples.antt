@@ -2,8 +2,8 @@
 use Rattle.std.proofs.Common.{◌≡◌, ℕ, Bool, true, false, List, [], ◌∷◌, length, Option, Some, None, refl}
 use Rattle.bufr_bits.specs.Prelude.{bits_of}
 use Rattle.bufr_tables.specs.Prelude.{Tree, bare, element, operator, fixed}
-use Rattle.bufr_walk.specs.Prelude.{data_end, next_item, Stop, walk_stop, field_stop, data_in}
-use Rattle.bufr_walk.specs.Pass.{reading_of}
+use Rattle.bufr_walk.specs.Prelude.{data_end, increment, next_item, Stop, walk_stop, too_many, field_stop, data_in, Course}
+use Rattle.bufr_walk.specs.Pass.{reading_of, reading_in}
 use Rattle.bufr_walk.proofs.ExampleTables.{fxy, table}
 use Rattle.bufr_walk.specs.declared.spec.TurnRefusal.TheVariants as turn
 
@@ -61,3 +61,19 @@ eight_or_nine n = fixed n (element (fxy 0 31 0) bare) bare
 as_many_items_as_bits : (ends false 1 (eight_or_nine 8) (255 ∷ []) ≡ (None, 1, 0, 18)) × (ends false 1 (eight_or_nine 9) (255 ∷ []) ≡ (Some (field_stop 7936 data_end), 1, 0, 18))
 unfolding ends eight_or_nine
 as_many_items_as_bits = (refl, refl)
+
+-- A refusal is at the bits before its item: fails where the base is counted too.
+refused_at_its_item : ends true 2 block (252 ∷ 17 ∷ 0 ∷ []) ≡ (Some (field_stop 257 increment), 0, 24, 1)
+unfolding ends block
+refused_at_its_item = refl
+
+-- Too many values are refused before the data end: fails where the bound is another.
+-- rule: too-many-values
+too_many_values : (ends true 134217729 block [] ≡ (Some (too_many 257), 0, 0, 1)) × (ends true 134217728 block [] ≡ (Some (field_stop 257 data_end), 0, 0, 1))
+unfolding ends block
+too_many_values = (refl, refl)
+
+-- With no subset nothing is refused, whatever the template and the bits.
+-- rule: no-subsets
+never_refused : (course : Course) (bits : List Bool) → ((reading_in course false 0 bits).stop ≡ None) × ((reading_in course true 0 bits).stop ≡ None)
+never_refused course bits = (refl, refl)

@@ -4,8 +4,7 @@ mod SpecExamples
 mod GroupExamples
 mod PackedExamples
 mod DataExamples
-pub mod OneReading
-pub mod SomeReading
+pub mod CourseLemmas
 pub mod PassLemmas
 pub mod SpecLemmas
 pub mod NextField

@@ -1,24 +1,20 @@
--- The reading of data by passes is the reading that the relations say.
-use Rattle.std.proofs.lemmas.Bool.{ltb-false}
+-- A pass over data reads each item where the one before ended.
+use Rattle.std.proofs.lemmas.Bool.{ltb-false, le-ltb}
 use Rattle.bufr_bits.specs.Prelude.{number_of}
 use Rattle.bufr_walk.proofs.PackedLemmas.{item_ok, neither}
-use Rattle.std.proofs.Common.{◌≡◌, ℕ, zero, suc, ◌+◌, ◌-◌, ◌<◌, ◌≤◌, Bool, true, false, List, [], ◌∷◌, ◌++◌, length, option_map, Option, Some, None, Result, Ok, Err, ◌==◌, ◌||◌, ◌*◌, nat_lt, take, refl, sym, ◌∙◌, ap, subst, arith, drop, length-drop, inl, inr, if◌then◌else◌}
+use Rattle.std.proofs.Common.{◌≡◌, ℕ, zero, suc, ◌+◌, ◌-◌, ◌<◌, ◌≤◌, Bool, true, false, List, [], ◌∷◌, ◌++◌, length, Option, Some, None, Result, Ok, Err, ◌==◌, ◌||◌, ◌*◌, nat_lt, take, refl, sym, ◌∙◌, ap, subst, arith, drop, length-drop, if◌then◌else◌}
 use Rattle.bufr_tables.specs.Prelude.{Row, Tree, IsLegal, Record, AreRows}
-use Rattle.bufr_walk.specs.Prelude.{packed_field, increment_bits_of, are_increments_valid, equal_in, contents_of, FieldSpec, Content, FieldFault, FieldRead, found, Course, Next, take_next, at_end, astray, refused, next_item, Item, DataCoding, plain, packed, item_answer, after, ReadsItems, ReadsPass, next_after, turns_after, turns_in, ReadsSubsets, IsPackedReading, turns_together, Data, Values, apart, together, IsReading, Stop, walk_stop, too_many, field_stop, field_stop_of, stop_at, would_be_many, IsStopped, IsRefused, WalkFault, walk_fault_of, max_values}
-use Rattle.bufr_walk.specs.Reading.{turns_read}
-use Rattle.bufr_walk.specs.Pass.{Step, Pass, last_turn, item_then, pass_field, pass_next, pass, Place, place_at, read_field, reading, read_pass, DataPass, unless_stopped, passes_apart, passes_together, first_stop, stop_of, left_after, turns_in_all, DataReading, reading_in, reading_of, fault_of, items_by_pass, first_items, values_of}
-use Rattle.bufr_walk.proofs.OneReading.{Outcome, ended, stopped, stopped_by, outcome_of, HasOutcome, ends_so, stops_so, few_values, stops_packed}
-use Rattle.bufr_walk.proofs.SomeReading.{IsSane, Forth, plain_forth, Decided, decided, rows_within, template_sane}
+use Rattle.bufr_walk.specs.Prelude.{packed_field, increment_bits_of, are_increments_valid, equal_in, contents_of, FieldSpec, Content, FieldFault, FieldRead, found, Course, Next, take_next, at_end, astray, refused, next_item, Item, DataCoding, plain, packed, item_answer, after, ReadsItems, ReadsPass, next_after, turns_after, ReadsSubsets, IsPackedReading, turns_together, Data, Values, apart, together, IsReading, Stop, walk_stop, too_many, field_stop, field_stop_of, stop_at, would_be_many, max_values}
+use Rattle.bufr_walk.specs.Pass.{Step, Pass, last_turn, item_then, pass_field, pass_next, pass, Place, place_at, read_field, reading, read_pass, DataPass, unless_stopped, passes_apart, passes_together, first_stop, stop_of, left_after, turns_in_all, DataReading, reading_in, reading_of, items_by_pass, first_items, values_of, EndsPass, ReadsTo}
+use Rattle.std.proofs.lemmas.Grind.{common_steps}
+use Rattle.std.proofs.lemmas.List.{drop-drop}
+use Rattle.bufr_walk.proofs.CourseLemmas.{IsSane, Forth, plain_forth, packed_forth, rows_within, template_sane}
 
-same_outcome : (a b : Outcome) → ◌≡◌ {A = Option Outcome} (Some a) (Some b) → a ≡ b
-same_outcome a b e = cc
+same_stop : (a b : Stop) → ◌≡◌ {A = Option Stop} (Some a) (Some b) → a ≡ b
+same_stop a b e = cc
 
-no_outcome : (o : Outcome) → ◌≡◌ {A = Option Outcome} None (Some o) → ⊥
-no_outcome o e = cc
-
-abbrev stop_in : Outcome → Option Stop
-stop_in ended = None
-stop_in (stopped s) = Some s
+no_stop : (s : Stop) → ◌≡◌ {A = Option Stop} None (Some s) → ⊥
+no_stop s e = cc
 
 none_more : (a : ℕ) → a + 0 ≡ a
 none_more a = omega arith
@@ -27,34 +23,37 @@ one_more : (a b : ℕ) → a + 1 + b ≡ a + suc b
 one_more a b = omega arith
 
 -- the pass that has these items
-abbrev pub passed : {C : Type 0} → DataCoding C → Course → ℕ → List (Item C) → List Bool → Outcome → Pass Place C Stop
-passed form course place items left o = record { items = items; turns = turns_after form course items; state = place_at place left; stop = stop_in o }
+abbrev pub passed : {C : Type 0} → DataCoding C → Course → ℕ → List (Item C) → List Bool → Option Stop → Pass Place C Stop
+passed form course place items left o = record { items = items; turns = turns_after form course items; state = place_at place left; stop = o }
 
 module _ {C : Type 0} (form : DataCoding C) (many : ℕ → Bool) where
   -- at what ends a pass, nothing more is passed
-  at_last : (turn : ℕ) (next : Next) (from : ℕ) (bits : List Bool) (o : Outcome) (go : Step Place C → Pass Place C Stop) → outcome_of form (many from) next bits ≡ Some o
-      → pass_next (reading form many) turn next (place_at from bits) go ≡ last_turn turn (place_at from bits) (stop_in o)
-  at_last turn at_end from bits o go h = ap (λ x. last_turn turn (place_at from bits) (stop_in x)) (same_outcome ended o h)
-  at_last turn (refused why) from bits o go h = ap (λ x. last_turn turn (place_at from bits) (stop_in x)) (same_outcome (stopped (walk_stop why)) o h)
-  at_last turn astray from bits o go h = absurd (no_outcome o h)
-  at_last turn (take_next spec) from bits o go h = by (many from) refl (form.field spec bits) refl
+  at_last : (turn : ℕ) (next : Next) (from : ℕ) (bits : List Bool) (o : Option Stop) (go : Step Place C → Pass Place C Stop) → EndsPass form (many from) next bits o
+      → pass_next (reading form many) turn next (place_at from bits) go ≡ last_turn turn (place_at from bits) o
+  at_last turn next from bits None go h = ap (λ n. pass_next (reading form many) turn n (place_at from bits) go) h
+  at_last turn (refused why) from bits (Some stop) go h = ap (last_turn turn (place_at from bits)) h
+  at_last turn at_end from bits (Some stop) go h = absurd (by (many from) h)
     where
-      made : Bool → Result (FieldRead C) FieldFault → Pass Place C Stop
-      made b r = pass_field (reading form many) turn spec (place_at from bits) (if b then Err (too_many spec.fxy) else read_field form spec from r) go
-
+      by : (b : Bool) → stop_at form b at_end bits ≡ Some stop → ⊥
+      by true e = no_stop stop e
+      by false e = no_stop stop e
+  at_last turn astray from bits (Some stop) go h = absurd (by (many from) h)
+    where
+      by : (b : Bool) → stop_at form b astray bits ≡ Some stop → ⊥
+      by true e = no_stop stop e
+      by false e = no_stop stop e
+  at_last turn (take_next spec) from bits (Some stop) go h = by (many from) refl (form.field spec bits) refl
+    where
       by : (b : Bool) → many from ≡ b → (r : Result (FieldRead C) FieldFault) → form.field spec bits ≡ r
-          → pass_next (reading form many) turn (take_next spec) (place_at from bits) go ≡ last_turn turn (place_at from bits) (stop_in o)
+          → pass_next (reading form many) turn (take_next spec) (place_at from bits) go ≡ last_turn turn (place_at from bits) (Some stop)
       by true m r q =
-          let e : Some (stopped (too_many spec.fxy)) ≡ Some o = sym (ap (λ b. outcome_of form b (take_next spec) bits) m) ∙ h in
           ap (λ b. pass_field (reading form many) turn spec (place_at from bits) (if b then Err (too_many spec.fxy) else read_field form spec from (form.field spec bits)) go) m
-          ∙ ap (λ x. last_turn turn (place_at from bits) (stop_in x)) (same_outcome (stopped (too_many spec.fxy)) o e)
+          ∙ ap (last_turn turn (place_at from bits)) (sym (ap (λ b. stop_at form b (take_next spec) bits) m) ∙ h)
       by false m (Err why) q =
-          let e : Some (stopped (field_stop spec.fxy why)) ≡ Some o = sym (ap (λ b. outcome_of form b (take_next spec) bits) m ∙ ap (λ r. stopped_by (field_stop_of spec.fxy r)) q) ∙ h in
           ap (λ b. pass_field (reading form many) turn spec (place_at from bits) (if b then Err (too_many spec.fxy) else read_field form spec from (form.field spec bits)) go) m
           ∙ ap (λ r. pass_field (reading form many) turn spec (place_at from bits) (read_field form spec from r) go) q
-          ∙ ap (λ x. last_turn turn (place_at from bits) (stop_in x)) (same_outcome (stopped (field_stop spec.fxy why)) o e)
-      by false m (Ok f) q =
-          absurd (no_outcome o (sym (ap (λ b. outcome_of form b (take_next spec) bits) m ∙ ap (λ r. stopped_by (field_stop_of spec.fxy r)) q) ∙ h))
+          ∙ ap (last_turn turn (place_at from bits)) (sym (ap (λ b. stop_at form b (take_next spec) bits) m ∙ ap (field_stop_of spec.fxy) q) ∙ h)
+      by false m (Ok f) q = absurd (no_stop stop (sym (ap (λ b. stop_at form b (take_next spec) bits) m ∙ ap (field_stop_of spec.fxy) q) ∙ h))
 
   -- an item that is read is followed by the rest of the pass
   item_first : (most : ℕ) (course : Course) (from : ℕ) (bits : List Bool) (x : Item C) (xs : List (Item C)) (left : List Bool) → (h : ReadsItems form course (x ∷ xs) bits left) → many from ≡ false
@@ -66,18 +65,18 @@ module _ {C : Type 0} (form : DataCoding C) (many : ℕ → Bool) where
       ∙ ap (λ r. pass_field (reading form many) (course []).turns x.spec (place_at from bits) (read_field form x.spec from r) go) h.2
 
   -- a pass with these items and this end is what the function gives
-  pub pass_is : (most : ℕ) (course : Course) (from : ℕ) (bits : List Bool) (items : List (Item C)) (left : List Bool) (o : Outcome) → HasOutcome form many course from bits items left o → length items < most
+  pub pass_is : (most : ℕ) (course : Course) (from : ℕ) (bits : List Bool) (items : List (Item C)) (left : List Bool) (o : Option Stop) → ReadsTo form many course from bits items left o → length items < most
       → pass (reading form many) most course (place_at from bits) ≡ passed form course (from + length items) items left o
   pass_is zero course from bits items left o h lt = absurd (omega (arith, lt))
   pass_is (suc more) course from bits [] left o h lt =
-      let ends : outcome_of form (many from) (course []).next bits ≡ Some o = subst (λ b. outcome_of form (many from) (course []).next b ≡ Some o) (sym h.reads) (subst (λ k. outcome_of form (many k) (course []).next left ≡ Some o) (none_more from) h.ends) in
+      let ends : EndsPass form (many from) (course []).next bits o = subst (λ b. EndsPass form (many from) (course []).next b o) (sym h.reads) (subst (λ k. EndsPass form (many k) (course []).next left o) (none_more from) h.ends) in
       at_last (course []).turns (course []).next from bits o (λ f. pass (reading form many) more (λ answers. course (f.returned ∷ answers)) f.state) ends
-      ∙ ap (λ b. last_turn (course []).turns (place_at from b) (stop_in o)) h.reads
-      ∙ ap (λ k. last_turn (course []).turns (place_at k left) (stop_in o)) (sym (none_more from))
+      ∙ ap (λ b. last_turn (course []).turns (place_at from b) o) h.reads
+      ∙ ap (λ k. last_turn (course []).turns (place_at k left) o) (sym (none_more from))
   pass_is (suc more) course from bits (x ∷ xs) left o h lt =
       let few : many from ≡ false = subst (λ k. many k ≡ false) (none_more from) (h.few 0 (omega arith)) in
       let rest = pass_is more (after form course x) (from + 1) h.reads.0 xs left o
-      (record { reads = h.reads.3; few = λ j l. ap many (one_more from j) ∙ h.few (suc j) (omega (arith, l)); ends = subst (λ k. outcome_of form (many k) (next_after form (after form course x) xs) left ≡ Some o) (sym (one_more from (length xs))) h.ends })
+      (record { reads = h.reads.3; few = λ j l. ap many (one_more from j) ∙ h.few (suc j) (omega (arith, l)); ends = subst (λ k. EndsPass form (many k) (next_after form (after form course x) xs) left o) (sym (one_more from (length xs))) h.ends })
       (omega (arith, lt)) in
       item_first more course from bits x xs left h.reads few
       ∙ ap (item_then x.spec x.content) rest
@@ -92,40 +91,77 @@ module _ {C : Type 0} (form : DataCoding C) (many : ℕ → Bool) where
       let rest = pass_prefix most (after form course x) (from + 1) h.0 xs left h.3 (λ j l. ap many (one_more from j) ∙ few (suc j) (omega (arith, l))) (omega (arith, lt)) in
       (rest.0, ap (λ (p : Pass Place C Stop). p.items) (item_first most course from bits x xs left h (subst (λ k. many k ≡ false) (none_more from) (few 0 (omega arith)))) ∙ ap (λ z. x ∷ z) rest.1)
 
-  -- items take at least a bit each
-  pub fits : ((spec : FieldSpec) (bits : List Bool) (c : C) (mid : List Bool) → 1 ≤ spec.width → form.field spec bits ≡ Ok (found c mid) → Forth form spec bits c mid)
-      → (n : ℕ) (course : Course) (items : List (Item C)) (bits left : List Bool) → IsSane n course → length items ≤ n → ReadsItems form course items bits left → length items ≤ length bits
-  fits forth n course [] bits left sane few h = omega arith
-  fits forth zero course (x ∷ xs) bits left sane few h = absurd (omega (arith, few))
-  fits forth (suc n) course (x ∷ xs) bits left sane few h =
-      let w = sane.1 x.spec h.1 in
-      let f = forth x.spec bits x.content h.0 w.0 h.2 in
-      omega (arith, fits forth n (after form course x) xs h.0 left (w.1 (item_answer form x) f.gives) (omega (arith, few)) h.3, f.some, f.within, length-drop f.size bits, ap length f.left_is)
+-- ---- A pass reads each item where the one before ended.
 
-  pub pass_reads : ((spec : FieldSpec) (bits : List Bool) (c : C) (mid : List Bool) → 1 ≤ spec.width → form.field spec bits ≡ Ok (found c mid) → Forth form spec bits c mid)
-      → (course : Course) → ((m : ℕ) → IsSane m course) → (bits : List Bool) (items : List (Item C)) (left : List Bool) (o : Outcome) → HasOutcome form many course 0 bits items left o
-      → read_pass form many course bits ≡ passed form course (0 + length items) items left o
-  pass_reads forth course sane bits items left o h =
-      pass_is (suc (length bits)) course 0 bits items left o h (omega (arith, fits forth (length items) course items bits left (sane (length items)) (omega arith) h.reads))
+-- bits after some others
+abbrev IsSuffix : (bits left : List Bool) → Type 0
+IsSuffix bits left = (used : ℕ) × (used ≤ length bits) × (left ≡ drop used bits)
 
--- ---- subsets one after another
+suffix_then : (a : ℕ) (bits mid left : List Bool) → a ≤ length bits → mid ≡ drop a bits → IsSuffix mid left → IsSuffix bits left
+suffix_then a bits mid left within e (used, few, is) = (a + used, omega (arith, within, few, ap length e, length-drop a bits), is ∙ ap (drop used) e ∙ drop-drop used a bits)
 
--- what passes over bits come to: their items, what stops the last, the bits left and the turns
-record Sum : Type 0 where
-  items : List (List (Item Content))
-  stop : Option Stop
-  left : List Bool
-  turns : ℕ
-  count : ℕ
+module _ {C : Type 0} (form : DataCoding C) (many : ℕ → Bool) where
+  -- what holds of a pass over bits, with so many items before
+  abbrev ReadsSo : Course → ℕ → List Bool → Pass Place C Stop → Type 0
+  ReadsSo course from bits p = ReadsTo form many course from bits p.items p.state.left p.stop × (p.turns ≡ turns_after form course p.items) × IsSuffix bits p.state.left
 
-abbrev sum : List (List (Item Content)) → Option Stop → List Bool → (turns count : ℕ) → Sum
-sum items stop left turns count = record { items = items; stop = stop; left = left; turns = turns; count = count }
+  pub pass_so : ((spec : FieldSpec) (bits : List Bool) (c : C) (mid : List Bool) → 1 ≤ spec.width → form.field spec bits ≡ Ok (found c mid) → Forth form spec bits c mid)
+      → (n : ℕ) (course : Course) (from : ℕ) (bits : List Bool) → IsSane n course → length bits < n → ReadsSo course from bits (pass (reading form many) n course (place_at from bits))
+  pass_so forth zero course from bits sane lt = absurd (omega (arith, lt))
+  pass_so forth (suc n) course from bits sane lt = by (course []).next refl (λ c bs h l. pass_so forth n c (from + 1) bs h l)
+    where
+      at_once : (o : Option Stop) → EndsPass form (many (from + 0)) (course []).next bits o → ReadsSo course from bits (last_turn (course []).turns (place_at from bits) o)
+      at_once o e = (record { reads = refl; few = λ j l. absurd (omega (arith, l)); ends = e }, refl, (0, omega arith, refl))
 
-abbrev sum_of : List Bool → List (DataPass Content) → Sum
-sum_of bits ps = sum (items_by_pass ps) (stop_of ps) (left_after bits ps) (turns_in_all ps) (length ps)
+      here : (b : Bool) → many from ≡ b → many (from + 0) ≡ b
+      here b m = ap many (none_more from) ∙ m
 
-abbrev sum_then : DataPass Content → Sum → Sum
-sum_then p s = sum (p.items ∷ s.items) (first_stop p.stop s.stop) s.left (p.turns + s.turns) (suc s.count)
+      one_item : (x : Item C) (mid : List Bool) (p : Pass Place C Stop) → many from ≡ false → (course []).next ≡ take_next x.spec → form.field x.spec bits ≡ Ok (found x.content mid) → Forth form x.spec bits x.content mid → ReadsSo (after form course x) (from + 1) mid p
+          → ReadsSo course from bits (item_then x.spec x.content p)
+      one_item x mid p m e q w r = (
+        record { reads = (mid, e, q, r.0.reads); few = few; ends = subst (λ k. EndsPass form (many k) (next_after form (after form course x) p.items) p.state.left p.stop) (one_more from (length p.items)) r.0.ends },
+        r.1,
+        suffix_then w.size bits mid p.state.left w.within w.left_is r.2,
+      )
+        where
+          few : (j : ℕ) → j < suc (length p.items) → many (from + j) ≡ false
+          few zero l = here false m
+          few (suc j) l = ap many (sym (one_more from j)) ∙ r.0.few j (omega (arith, l))
+
+      at_field : (spec : FieldSpec) → (course []).next ≡ take_next spec → (b : Bool) → many from ≡ b → (r : Result (FieldRead C) FieldFault) → form.field spec bits ≡ r
+          → ((c : Course) (bs : List Bool) → IsSane n c → length bs < n → ReadsSo c (from + 1) bs (pass (reading form many) n c (place_at (from + 1) bs)))
+          → ReadsSo course from bits (pass_field (reading form many) (course []).turns spec (place_at from bits) (if b then Err (too_many spec.fxy) else read_field form spec from r) (λ f. pass (reading form many) n (λ answers. course (f.returned ∷ answers)) f.state))
+      at_field spec e true m r q go = at_once (Some (too_many spec.fxy)) (ap (λ x. stop_at form (many (from + 0)) x bits) e ∙ ap (λ b. stop_at form b (take_next spec) bits) (here true m))
+      at_field spec e false m (Err why) q go =
+          at_once (Some (field_stop spec.fxy why)) (ap (λ x. stop_at form (many (from + 0)) x bits) e ∙ ap (λ b. stop_at form b (take_next spec) bits) (here false m) ∙ ap (field_stop_of spec.fxy) q)
+      at_field spec e false m (Ok f) q go =
+          let k = sane.1 spec e in
+          let w = forth spec bits f.content f.suffix k.0 q in
+          one_item (record { spec = spec; content = f.content }) f.suffix (pass (reading form many) n (after form course (record { spec = spec; content = f.content })) (place_at (from + 1) f.suffix)) m e q w
+          (go (after form course (record { spec = spec; content = f.content })) f.suffix (k.1 (form.gives spec f.content) w.gives) (omega (arith, lt, w.some, w.within, length-drop w.size bits, ap length w.left_is)))
+
+      by : (next : Next) → (course []).next ≡ next
+          → ((c : Course) (bs : List Bool) → IsSane n c → length bs < n → ReadsSo c (from + 1) bs (pass (reading form many) n c (place_at (from + 1) bs)))
+          → ReadsSo course from bits (pass_next (reading form many) (course []).turns next (place_at from bits) (λ f. pass (reading form many) n (λ answers. course (f.returned ∷ answers)) f.state))
+      by at_end e go = at_once None e
+      by astray e go = absurd (sane.0 e)
+      by (refused why) e go = at_once (Some (walk_stop why)) (ap (λ x. stop_at form (many (from + 0)) x bits) e)
+      by (take_next spec) e go = at_field spec e (many from) refl (form.field spec bits) refl go
+
+-- so few items that one more is not too many
+pub few_values : (n items j : ℕ) → items * n ≤ max_values → j < items → would_be_many n (0 + j) ≡ false
+few_values n items j h lt = grind (arith, common_steps, le-ltb)
+
+-- and back
+few_all : (n items : ℕ) → ((j : ℕ) → j < items → would_be_many n (0 + j) ≡ false) → items * n ≤ max_values
+few_all n zero h = omega arith
+few_all n (suc k) h = let few : (k + 1) * n ≤ max_values = ltb-false max_values ((k + 1) * n) (subst (λ j. would_be_many n j ≡ false) (none_before k) (h k (omega arith))) in subst (λ m. m * n ≤ max_values) (one_on k) few
+  where
+    none_before : (k : ℕ) → 0 + k ≡ k
+    none_before k = omega arith
+
+    one_on : (k : ℕ) → k + 1 ≡ suc k
+    one_on k = omega arith
 
 -- ---- all subsets together
 
@@ -149,22 +185,25 @@ packed_fits n course (x ∷ xs) bits left h = omega (arith, packed_less n x.spec
 -- one pass, or none where there is no subset
 abbrev together_passes : (n : ℕ) → Course → List (Item (List Content)) → List Bool → List (DataPass (List Content))
 together_passes zero course xs left = []
-together_passes (suc n) course xs left = passed (packed (suc n)) course (0 + length xs) xs left ended ∷ []
+together_passes (suc n) course xs left = passed (packed (suc n)) course (0 + length xs) xs left None ∷ []
 
 together_is : (n : ℕ) (course : Course) (xs : List (Item (List Content))) (bits left : List Bool) → IsPackedReading n course xs bits left
     → passes_together course n bits ≡ together_passes n course xs left
 together_is zero course xs bits left h = refl
 together_is (suc n) course xs bits left h =
-    ap (λ (p : DataPass (List Content)). p ∷ []) (pass_is (packed (suc n)) (would_be_many (suc n)) (suc (length bits)) course 0 bits xs left ended
-    (ends_so (packed (suc n)) (would_be_many (suc n)) course xs bits left h.0 (λ j lt. few_values (suc n) (length xs) j h.1 lt)) (omega (arith, packed_fits (suc n) course xs bits left h.0.0)))
+    ap (λ (p : DataPass (List Content)). p ∷ []) (pass_is (packed (suc n)) (would_be_many (suc n)) (suc (length bits)) course 0 bits xs left None
+    (record { reads = h.0.0; few = λ j lt. few_values (suc n) (length xs) j h.1 lt; ends = h.0.1 }) (omega (arith, packed_fits (suc n) course xs bits left h.0.0)))
 
 -- the one pass, where it is stopped
 pub together_stops : (n : ℕ) (course : Course) (items : List (Item (List Content))) (bits left : List Bool) (next : Next) (stop : Stop) → 1 ≤ n → ReadsItems (packed n) course items bits left → length items * n ≤ max_values → next ≡ next_after (packed n) course items
-    → stop_at (packed n) (would_be_many n (length items)) next left ≡ Some stop → passes_together course n bits ≡ passed (packed n) course (0 + length items) items left (stopped stop) ∷ []
+    → stop_at (packed n) (would_be_many n (length items)) next left ≡ Some stop → passes_together course n bits ≡ passed (packed n) course (0 + length items) items left (Some stop) ∷ []
 together_stops zero course items bits left next stop some h few is e = absurd (omega (arith, some))
 together_stops (suc n) course items bits left next stop some h few is e =
-    ap (λ (p : DataPass (List Content)). p ∷ []) (pass_is (packed (suc n)) (would_be_many (suc n)) (suc (length bits)) course 0 bits items left (stopped stop)
-    (stops_packed (suc n) course items bits left (length items) next stop h few refl is e) (omega (arith, packed_fits (suc n) course items bits left h)))
+    ap (λ (p : DataPass (List Content)). p ∷ []) (pass_is (packed (suc n)) (would_be_many (suc n)) (suc (length bits)) course 0 bits items left (Some stop)
+    (record { reads = h; few = λ j lt. few_values (suc n) (length items) j few lt; ends = subst (λ x. stop_at (packed (suc n)) (would_be_many (suc n) (0 + length items)) x left ≡ Some stop) is (subst (λ k. stop_at (packed (suc n)) (would_be_many (suc n) k) next left ≡ Some stop) (zero_plus (length items)) e) }) (omega (arith, packed_fits (suc n) course items bits left h)))
+  where
+    zero_plus : (k : ℕ) → k ≡ 0 + k
+    zero_plus k = omega arith
 
 -- the one pass begins with these items
 pub together_begins : (n : ℕ) (course : Course) (items : List (Item (List Content))) (bits left : List Bool) → 1 ≤ n → ReadsItems (packed n) course items bits left → length items * n ≤ max_values
@@ -181,115 +220,96 @@ together_read (suc n) course xs bits left h =
     let e = together_is (suc n) course xs bits left h in
     (ap stop_of e, ap (λ ps. first_items (items_by_pass ps)) e, ap (left_after bits) e, ap turns_in_all e ∙ none_more (turns_after (packed (suc n)) course xs))
 
+-- ---- The reading of a legal template's data, both ways.
+
 module _ (course : Course) (sane : (m : ℕ) → IsSane m course) where
-  subset_ends : (x : List (Item Content)) (bits left : List Bool) → ReadsPass plain course x bits left → read_pass plain (λ items. false) course bits ≡ passed plain course (0 + length x) x left ended
-  subset_ends x bits left h = pass_reads plain (λ items. false) plain_forth course sane bits x left ended (ends_so plain (λ n. false) course x bits left h (λ j lt. refl))
+  -- items take at least a bit each
+  fits : {C : Type 0} (form : DataCoding C) → ((spec : FieldSpec) (bits : List Bool) (c : C) (mid : List Bool) → 1 ≤ spec.width → form.field spec bits ≡ Ok (found c mid) → Forth form spec bits c mid)
+      → (n : ℕ) (course : Course) (items : List (Item C)) (bits left : List Bool) → IsSane n course → length items ≤ n → ReadsItems form course items bits left → length items ≤ length bits
+  fits form forth n course [] bits left sane few h = omega arith
+  fits form forth zero course (x ∷ xs) bits left sane few h = absurd (omega (arith, few))
+  fits form forth (suc n) course (x ∷ xs) bits left sane few h =
+      let w = sane.1 x.spec h.1 in
+      let f = forth x.spec bits x.content h.0 w.0 h.2 in
+      omega (arith, fits form forth n (after form course x) xs h.0 left (w.1 (item_answer form x) f.gives) (omega (arith, few)) h.3, f.some, f.within, length-drop f.size bits, ap length f.left_is)
 
-  subset_stops : (x : List (Item Content)) (bits left : List Bool) (stop : Stop) → ReadsItems plain course x bits left → stop_at plain false (next_after plain course x) left ≡ Some stop → read_pass plain (λ items. false) course bits ≡ passed plain course (0 + length x) x left (stopped stop)
-  subset_stops x bits left stop h e = pass_reads plain (λ items. false) plain_forth course sane bits x left (stopped stop) (stops_so plain (λ n. false) course x bits left (next_after plain course x) stop h (λ j lt. refl) refl e)
+  subset_ends : (x : List (Item Content)) (bits left : List Bool) → ReadsPass plain course x bits left → read_pass plain (λ items. false) course bits ≡ passed plain course (0 + length x) x left None
+  subset_ends x bits left h =
+      pass_is plain (λ items. false) (suc (length bits)) course 0 bits x left None (record { reads = h.0; few = λ j lt. refl; ends = h.1 }) (omega (arith, fits plain plain_forth (length x) course x bits left (sane (length x)) (omega arith) h.0))
 
-  subsets_are : (xs : List (List (Item Content))) (n : ℕ) (bits left : List Bool) → ReadsSubsets course xs bits left → length xs ≡ n
-      → sum_of bits (passes_apart course n bits) ≡ sum xs None left (turns_in course xs) n
-  subsets_are [] zero bits left h e = ap (λ l. sum [] None l 0 0) h
-  subsets_are [] (suc n) bits left h e = absurd (omega (arith, e))
-  subsets_are (x ∷ xs) zero bits left h e = absurd (omega (arith, e))
-  subsets_are (x ∷ xs) (suc n) bits left h e =
-      ap (λ (p : DataPass Content). sum_of bits (p ∷ unless_stopped p.stop (passes_apart course n p.state.left))) (subset_ends x bits h.0 h.1)
-      ∙ ap (sum_then (passed plain course (0 + length x) x h.0 ended)) (subsets_are xs n h.0 left h.2 (omega (arith, e)))
-
-  refused_are : (done : List (List (Item Content))) (n : ℕ) (items : List (Item Content)) (bits mid left : List Bool) (stop : Stop)
-      → ReadsSubsets course done bits mid → ReadsItems plain course items mid left → stop_at plain false (next_after plain course items) left ≡ Some stop → length done + 1 ≤ n
-      → sum_of bits (passes_apart course n bits) ≡ sum (done ++ items ∷ []) (Some stop) left (turns_in course done + turns_after plain course items) (length done + 1)
-  refused_are done zero items bits mid left stop w r e k = absurd (omega (arith, k))
-  refused_are [] (suc n) items bits mid left stop w r e k =
-      ap (λ (p : DataPass Content). sum_of bits (p ∷ unless_stopped p.stop (passes_apart course n p.state.left))) (subset_stops items bits left stop (subst (λ b. ReadsItems plain course items b left) (sym w) r) e)
-      ∙ ap (λ t. sum (items ∷ []) (Some stop) left t 1) (swapped (turns_after plain course items))
-    where
-      swapped : (t : ℕ) → t + 0 ≡ 0 + t
-      swapped t = omega arith
-  refused_are (d ∷ done) (suc n) items bits mid left stop w r e k =
-      ap (λ (p : DataPass Content). sum_of bits (p ∷ unless_stopped p.stop (passes_apart course n p.state.left))) (subset_ends d bits w.0 w.1)
-      ∙ ap (sum_then (passed plain course (0 + length d) d w.0 ended)) (refused_are done n items w.0 mid left stop w.2 r e (omega (arith, k)))
-      ∙ ap (λ t. sum (d ∷ done ++ items ∷ []) (Some stop) left t (suc (length done + 1))) (in_turn (turns_after plain course d) (turns_in course done) (turns_after plain course items))
-      ∙ ap (λ c. sum (d ∷ done ++ items ∷ []) (Some stop) left (turns_after plain course d + turns_in course done + turns_after plain course items) c) (one_on (length done))
-    where
-      in_turn : (a b c : ℕ) → a + (b + c) ≡ a + b + c
-      in_turn a b c = omega arith
-
-      one_on : (n : ℕ) → suc (n + 1) ≡ suc n + 1
-      one_on n = omega arith
-
-  -- ---- data of either form
-
-  -- a reading that was not stopped
+  -- the items that a reading has
   pub record IsRead (d : Data) (r : DataReading) (v : Values) (used : ℕ) : Type 0 where
     pub none : r.stop ≡ None
     pub items : values_of r.passes ≡ v
     pub left : r.left ≡ drop used d.bits
-    pub turns : r.turns ≡ turns_read course d v
 
+  subsets_are : (xs : List (List (Item Content))) (n : ℕ) (bits left : List Bool) → ReadsSubsets course xs bits left → length xs ≡ n
+      → (stop_of (passes_apart course n bits) ≡ None) × (items_by_pass (passes_apart course n bits) ≡ xs) × (left_after bits (passes_apart course n bits) ≡ left)
+  subsets_are [] zero bits left h e = (refl, refl, h)
+  subsets_are [] (suc n) bits left h e = absurd (omega (arith, e))
+  subsets_are (x ∷ xs) zero bits left h e = absurd (omega (arith, e))
+  subsets_are (x ∷ xs) (suc n) bits left h e =
+      let more = subsets_are xs n h.0 left h.2 (omega (arith, e)) in
+      subst (λ (p : DataPass Content). let ps = p ∷ unless_stopped p.stop (passes_apart course n p.state.left) in (stop_of ps ≡ None) × (items_by_pass ps ≡ x ∷ xs) × (left_after bits ps ≡ left)) (sym (subset_ends x bits h.0 h.1))
+      (more.0, ap (λ ys. x ∷ ys) more.1, more.2)
+
+  -- a reading by the items is the reading
   pub reading_is : (d : Data) (v : Values) (used : ℕ) → IsReading course d v used → IsRead d (reading_of course d) v used
   reading_is d (apart xs) used h =
       let s = subsets_are xs d.subsets d.bits (drop used d.bits) h.2.0 h.2.1 in
-      subst (λ b. IsRead d (reading_in course b d.subsets d.bits) (apart xs) used) (sym h.0)
-      (record { none = ap (λ (z : Sum). z.stop) s; items = ap (λ (z : Sum). apart z.items) s; left = ap (λ (z : Sum). z.left) s; turns = ap (λ (z : Sum). z.turns) s })
+      subst (λ b. IsRead d (reading_in course b d.subsets d.bits) (apart xs) used) (sym h.0) (record { none = s.0; items = ap apart s.1; left = s.2 })
   reading_is d (together xs) used h =
       let s = together_read d.subsets course xs d.bits (drop used d.bits) h.2 in
-      subst (λ b. IsRead d (reading_in course b d.subsets d.bits) (together xs) used) (sym h.0)
-      (record { none = s.0; items = ap together s.1; left = s.2; turns = s.3 })
+      subst (λ b. IsRead d (reading_in course b d.subsets d.bits) (together xs) used) (sym h.0) (record { none = s.0; items = ap together s.1; left = s.2 })
 
-  place_is : (a b c : ℕ) → a + b ≡ c → c - b ≡ a
-  place_is a b c e = omega (arith, e)
-
-  -- data that are refused have a fault
-  pub refusal_is : (d : Data) (why : WalkFault) (turns : ℕ) → IsRefused course d why turns → (fault_of d (reading_of course d) ≡ Some why) × ((reading_of course d).turns ≡ turns)
-  refusal_is d why turns r = by d.compressed refl r.stopped
+  -- passes that are not stopped read the subsets
+  subsets_so : (n : ℕ) (bits : List Bool) → stop_of (passes_apart course n bits) ≡ None
+      → ReadsSubsets course (items_by_pass (passes_apart course n bits)) bits (left_after bits (passes_apart course n bits)) × (length (items_by_pass (passes_apart course n bits)) ≡ n) × IsSuffix bits (left_after bits (passes_apart course n bits))
+  subsets_so zero bits h = (refl, refl, (0, omega arith, refl))
+  subsets_so (suc n) bits h =
+      let p = read_pass plain (λ items. false) course bits in
+      let so = pass_so plain (λ items. false) plain_forth (suc (length bits)) course 0 bits (sane (suc (length bits))) (omega arith) in
+      by (read_pass plain (λ items. false) course bits).stop refl h so (subsets_so n (read_pass plain (λ items. false) course bits).state.left)
     where
-      by : (b : Bool) → d.compressed ≡ b → IsStopped b d.subsets course d.bits r.stop r.subset r.before turns → (fault_of d (reading_of course d) ≡ Some why) × ((reading_of course d).turns ≡ turns)
-      by false e s =
-          let c = s.2 in
-          let stops : stop_at plain false (next_after plain course c.items) s.1 ≡ Some r.stop = subst (λ n. stop_at plain false n s.1 ≡ Some r.stop) c.next_is s.3 in
-          let is = refused_are c.done d.subsets c.items d.bits c.mid s.1 r.stop c.whole c.reads stops (omega (arith, c.number, c.within)) in (
-            ap (λ b. fault_of d (reading_in course b d.subsets d.bits)) e
-                ∙ ap (λ (z : Sum). option_map (λ w. walk_fault_of w z.count (length d.bits - length z.left)) z.stop) is
-                ∙ ap Some (ap (walk_fault_of r.stop (length c.done + 1)) (place_is r.before (length s.1) (length d.bits) c.place) ∙ ap (λ k. walk_fault_of r.stop k r.before) (sym c.number) ∙ sym r.is),
-            ap (λ b. (reading_in course b d.subsets d.bits).turns) e ∙ ap (λ (z : Sum). z.turns) is ∙ sym c.turns_are,
-          )
-      by true e s =
-          let c = s.1.3 in
-          let is = together_stops d.subsets course c.items d.bits s.1.2 s.1.1 r.stop c.some c.reads c.few c.next_is (subst (λ k. stop_at (packed d.subsets) (would_be_many d.subsets k) s.1.1 s.1.2 ≡ Some r.stop) c.count s.1.4) in (
-            ap (λ b. fault_of d (reading_in course b d.subsets d.bits)) e
-                ∙ ap (λ (ps : List (DataPass (List Content))). option_map (λ w. walk_fault_of w 0 (length d.bits - length (left_after d.bits ps))) (stop_of ps)) is
-                ∙ ap Some (ap (walk_fault_of r.stop 0) (place_is r.before (length s.1.2) (length d.bits) c.place) ∙ ap (λ k. walk_fault_of r.stop k r.before) (sym s.0) ∙ sym r.is),
-            ap (λ b. (reading_in course b d.subsets d.bits).turns) e ∙ ap (λ (ps : List (DataPass (List Content))). turns_in_all ps) is ∙ none_more (turns_after (packed d.subsets) course c.items) ∙ sym c.turns_are,
-          )
+      by : (o : Option Stop) → (read_pass plain (λ items. false) course bits).stop ≡ o
+          → first_stop o (stop_of (unless_stopped o (passes_apart course n (read_pass plain (λ items. false) course bits).state.left))) ≡ None
+          → ReadsSo plain (λ items. false) course 0 bits (read_pass plain (λ items. false) course bits)
+          → (stop_of (passes_apart course n (read_pass plain (λ items. false) course bits).state.left) ≡ None
+          → ReadsSubsets course (items_by_pass (passes_apart course n (read_pass plain (λ items. false) course bits).state.left)) (read_pass plain (λ items. false) course bits).state.left (left_after (read_pass plain (λ items. false) course bits).state.left (passes_apart course n (read_pass plain (λ items. false) course bits).state.left))
+          × (length (items_by_pass (passes_apart course n (read_pass plain (λ items. false) course bits).state.left)) ≡ n) × IsSuffix (read_pass plain (λ items. false) course bits).state.left (left_after (read_pass plain (λ items. false) course bits).state.left (passes_apart course n (read_pass plain (λ items. false) course bits).state.left)))
+          → let ps = read_pass plain (λ items. false) course bits ∷ unless_stopped o (passes_apart course n (read_pass plain (λ items. false) course bits).state.left) in
+          ReadsSubsets course (items_by_pass ps) bits (left_after bits ps) × (length (items_by_pass ps) ≡ suc n) × IsSuffix bits (left_after bits ps)
+      by None e h so more =
+          let p = read_pass plain (λ items. false) course bits in
+          let r = more h in
+          let ends : next_after plain course p.items ≡ at_end = subst (λ o. EndsPass plain false (next_after plain course p.items) p.state.left o) e so.0.ends in
+          ((p.state.left, (so.0.reads, ends), r.0), ap suc r.1, suffix_then so.2.0 bits p.state.left _ so.2.1 so.2.2 r.2)
+      by (Some why) e h so more = absurd cc
 
-  -- ---- and back
-
-  no_fault : (d : Data) (why : WalkFault) → (reading_of course d).stop ≡ None → fault_of d (reading_of course d) ≡ Some why → ⊥
-  no_fault d why e f =
-      let g : None ≡ Some why = sym (ap (λ o. option_map (λ w. walk_fault_of w (reading_of course d).subset (length d.bits - length (reading_of course d).left)) o) e) ∙ f in cc
-
-  same_fault : (a b : WalkFault) → ◌≡◌ {A = Option WalkFault} (Some a) (Some b) → a ≡ b
-  same_fault a b e = cc
-
-  pub reads_so : (d : Data) → (reading_of course d).stop ≡ None → (used : ℕ) × IsReading course d (values_of (reading_of course d).passes) used × ((reading_of course d).left ≡ drop used d.bits) × ((reading_of course d).turns ≡ turns_read course d (values_of (reading_of course d).passes))
-  reads_so d e = by (decided course d.compressed d.subsets d.bits sane)
+  together_so : (n : ℕ) (bits : List Bool) → stop_of (passes_together course n bits) ≡ None
+      → IsPackedReading n course (first_items (items_by_pass (passes_together course n bits))) bits (left_after bits (passes_together course n bits)) × IsSuffix bits (left_after bits (passes_together course n bits))
+  together_so zero bits h = ((refl, refl), (0, omega arith, refl))
+  together_so (suc n) bits h =
+      let p = read_pass (packed (suc n)) (would_be_many (suc n)) course bits in
+      let so = pass_so (packed (suc n)) (would_be_many (suc n)) (packed_forth n) (suc (length bits)) course 0 bits (sane (suc (length bits))) (omega arith) in
+      let ends : next_after (packed (suc n)) course p.items ≡ at_end = subst (λ o. EndsPass (packed (suc n)) (would_be_many (suc n) (0 + length p.items)) (next_after (packed (suc n)) course p.items) p.state.left o) (only p.stop h) so.0.ends in
+      (((so.0.reads, ends), few_all (suc n) (length p.items) so.0.few), so.2)
     where
-      by : Decided course d → (used : ℕ) × IsReading course d (values_of (reading_of course d).passes) used × ((reading_of course d).left ≡ drop used d.bits) × ((reading_of course d).turns ≡ turns_read course d (values_of (reading_of course d).passes))
-      by (inl h) =
-          let k = reading_is d h.0 h.1 h.2 in
-          (h.1, subst (λ v. IsReading course d v h.1) (sym k.items) h.2, k.left, k.turns ∙ ap (turns_read course d) (sym k.items))
-      by (inr h) = absurd (no_fault d h.0 e (refusal_is d h.0 h.1 h.2).0)
+      only : (o : Option Stop) → first_stop o None ≡ None → o ≡ None
+      only None e = refl
+      only (Some why) e = absurd cc
 
-  pub refuses_so : (d : Data) (why : WalkFault) → fault_of d (reading_of course d) ≡ Some why → IsRefused course d why (reading_of course d).turns
-  refuses_so d why e = by (decided course d.compressed d.subsets d.bits sane)
+  -- a reading that is not stopped is a reading by the items
+  pub reads_so : (d : Data) → (reading_of course d).stop ≡ None → (used : ℕ) × IsReading course d (values_of (reading_of course d).passes) used × ((reading_of course d).left ≡ drop used d.bits)
+  reads_so d none = by d.compressed refl none
     where
-      by : Decided course d → IsRefused course d why (reading_of course d).turns
-      by (inl h) = absurd (no_fault d why (reading_is d h.0 h.1 h.2).none e)
-      by (inr h) =
-          let k = refusal_is d h.0 h.1 h.2 in
-          subst (λ t. IsRefused course d why t) (sym k.1) (subst (λ y. IsRefused course d y h.1) (same_fault h.0 why (sym k.0 ∙ e)) h.2)
+      by : (b : Bool) → d.compressed ≡ b → (reading_in course b d.subsets d.bits).stop ≡ None → (used : ℕ) × IsReading course d (values_of (reading_in course b d.subsets d.bits).passes) used × ((reading_in course b d.subsets d.bits).left ≡ drop used d.bits)
+      by false e h =
+          let s = subsets_so d.subsets d.bits h in
+          (s.2.0, (e, s.2.1, (subst (λ l. ReadsSubsets course (items_by_pass (passes_apart course d.subsets d.bits)) d.bits l) s.2.2 s.0, s.1)), s.2.2)
+      by true e h =
+          let s = together_so d.subsets d.bits h in
+          (s.1.0, (e, s.1.1, subst (λ l. IsPackedReading d.subsets course (first_items (items_by_pass (passes_together course d.subsets d.bits))) d.bits l) s.1.2 s.0), s.1.2)
 
 pub legal_sane : (records : List Record) (table : List Row) (template : Tree) → AreRows records table → IsLegal template → (m : ℕ) → IsSane m (next_item table template)
 legal_sane records table template h legal m = template_sane table (λ fxy row e. rows_within h.rest table h.rows fxy row e) template legal m

@@ -3,7 +3,7 @@ use Rattle.std.proofs.lemmas.Grind.{common_steps}
 use Rattle.std.proofs.Common.{suc, None, Option, option_map, append_assoc, ◌≡◌, ℕ, ◌+◌, ◌-◌, ◌*◌, ◌^◌, ◌<◌, ◌≤◌, false, Bool, List, [], ◌∷◌, ◌++◌, length, drop, Some, refl, sym, ◌∙◌, ap, subst, arith, length-append, length-drop, ◌/◌, ◌&&◌, true, ◌⊎◌, inl, inr, take, Result, Ok, Err, ℤ, pos, ◌+ℤ◌, ◌==◌, ◌||◌, nat_lt, if◌then◌else◌, nat_le, not, unsigned_abs}
 use Rattle.std.proofs.lemmas.Bool.{eqb-true, ltb-true, ne_eqb}
 use Rattle.bufr_bits.specs.Prelude.{bits_of, number_of, are_all_ones, bits_at}
-use Rattle.bufr_walk.specs.Prelude.{number_from, Kind, WalkFault, Content, data_end, increment, unequal_factor, answer_of, number, text, missing, content_in, content_by, said_by, octets_in, signed_by, shown_number, shown_text, shown_missing, shown_reference, shown, FieldFault, FieldRead, found, plain_field, FieldSpec, IsSpec, HasRole, is_reference, IsFor, IsForRole, is_plain_number, is_plain, IsPlainNumber, ones, Course, Next, take_next, at_end, refused, ticked, TakenField, Takes, oks, answers_of, Walked, walk_fault_of, bits_before, data_in, Stop, walk_stop, too_many, field_stop, Item, plain, ReadsPass, ReadsSubsets, turns_after, turns_in, after, items_in, IsReading, apart, together, Values, Read, course_of, IsReadAndPaid, PaysBits, IsStoredReading, KeepsValues, calls_by, turns_by, content_kept, is_missing, stays_within, fits_at, Cursor, rest_of, past, IsTaken, Stage, stage, IsShown, IsUnshown, ShowingTakes, Sofar, ItemsShown, ItemsEnded, ItemsGo, ShowFault, TurnRefusal, Role, Taken, WalkStop, Call, item_call, view_of, Timed, timed, item_calls, Shows, EndsAt, IsReferenceValue, subset_call, subset_calls, IndexedItem, stop_by}
+use Rattle.bufr_walk.specs.Prelude.{number_from, Kind, WalkFault, Content, data_end, increment, unequal_factor, answer_of, number, text, missing, content_in, content_by, said_by, octets_in, signed_by, shown_number, shown_text, shown_missing, shown_reference, shown, FieldFault, FieldRead, found, plain_field, FieldSpec, IsSpec, HasRole, is_reference, IsFor, IsForRole, is_plain_number, is_plain, IsPlainNumber, ones, Course, Next, take_next, at_end, refused, ticked, TakenField, Takes, oks, answers_of, Walked, walk_fault_of, bits_before, data_in, stop_at, Stop, walk_stop, too_many, field_stop, Item, plain, ReadsPass, ReadsSubsets, turns_after, turns_in, after, items_in, IsReading, apart, together, Values, Read, course_of, IsReadAndPaid, PaysBits, IsStoredReading, KeepsValues, calls_by, turns_by, content_kept, is_missing, stays_within, fits_at, Cursor, rest_of, past, IsTaken, Stage, stage, IsShown, IsUnshown, ShowingTakes, Sofar, ItemsShown, ItemsEnded, ItemsGo, ShowFault, TurnRefusal, Role, Taken, WalkStop, Call, item_call, view_of, Timed, timed, item_calls, Shows, EndsAt, IsReferenceValue, subset_call, subset_calls, IndexedItem, stop_by}
 use Rattle.bufr_tables.specs.Prelude.{Row, is_character}
 use Rattle.bufr_walk.specs.declared.plain.ShowStop.{ShowStop}
 use Rattle.std.proofs.lemmas.Bool.Decides.{nat_tests}
@@ -19,8 +19,7 @@ use Rattle.bufr_walk.specs.declared.walker.WalkStop.TheVariants as stops
 use Rattle.bufr_walk.specs.declared.spec.Taken.TheVariants as taken
 use Rattle.bufr_walk.proofs.WalkLemmas.{stop_cases}
 use Rattle.std.proofs.lemmas.List.{map-append, append-nil, length-map}
-use Rattle.bufr_walk.specs.Pass.{DataPass, read_pass, passes_apart, unless_stopped, stop_of, first_stop, left_after, turns_in_all, items_by_pass, values_read, calls_of, turns_shown, reading_of, fault_of, OneRunsShort, ReadsData}
-use Rattle.bufr_walk.proofs.OneReading.{Outcome, ended, stopped, HasOutcome, ends_so, stops_so}
+use Rattle.bufr_walk.specs.Pass.{DataPass, read_pass, passes_apart, unless_stopped, stop_of, first_stop, left_after, turns_in_all, items_by_pass, values_read, calls_of, turns_shown, reading_of, fault_of, OneRunsShort, ReadsData, ReadsTo}
 use Rattle.bufr_walk.proofs.PassLemmas.{passed, pass_is, pass_prefix}
 use Rattle.bufr_walk.specs.declared.reading.StoredItems.TheVariants as kept
 
@@ -72,7 +71,7 @@ short_append course (p ∷ a) b turns h = inr (turns_in_all a + turns, short_app
 fuel : (course : Course) (s s' : Cursor) (c c' : ℕ) (next : Next) (p : PassComes course s c next s' c') → s'.at ≤ length s'.bits → length p.items < suc (length (rest_of s))
 fuel course s s' c c' next p within = omega (arith, p.pays, within, ap length p.same, length-drop s.at s.bits)
 
-came : (course : Course) (s s' : Cursor) (c c' : ℕ) (next : Next) (o : Outcome) (p : PassComes course s c next s' c') → s'.at ≤ length s'.bits → HasOutcome plain (λ n. false) course 0 (rest_of s) p.items (rest_of s') o
+came : (course : Course) (s s' : Cursor) (c c' : ℕ) (next : Next) (o : Option Stop) (p : PassComes course s c next s' c') → s'.at ≤ length s'.bits → ReadsTo plain (λ n. false) course 0 (rest_of s) p.items (rest_of s') o
     → read_pass plain (λ items. false) course (rest_of s) ≡ passed plain course (0 + length p.items) p.items (rest_of s') o
 came course s s' c c' next o p within h = pass_is plain (λ n. false) (suc (length (rest_of s))) course 0 (rest_of s) p.items (rest_of s') o h (fuel course s s' c c' next p within)
 
@@ -127,10 +126,10 @@ one_more n course bits i s s' c c' h p few within forth =
     }
   where
     pass : DataPass Content
-    pass = passed plain course (0 + length p.items) p.items (rest_of s') ended
+    pass = passed plain course (0 + length p.items) p.items (rest_of s') None
 
-    is : read_pass plain (λ items. false) course (rest_of s) ≡ passed plain course (0 + length p.items) p.items (rest_of s') ended
-    is = came course s s' c c' at_end ended p within (ends_so plain (λ n. false) course p.items (rest_of s) (rest_of s') (p.reads, sym p.next_is) (λ j lt. refl))
+    is : read_pass plain (λ items. false) course (rest_of s) ≡ passed plain course (0 + length p.items) p.items (rest_of s') None
+    is = came course s s' c c' at_end None p within (record { reads = p.reads; few = λ j lt. refl; ends = sym p.next_is })
 
     counted : (i more : ℕ) → i + 1 + more ≡ i + suc more
     counted i more = omega arith
@@ -210,8 +209,8 @@ stopped_there n course octets total i s s' c c' why h more p within = by p
         )
     by (inr q) =
         let m = q.2 in
-        let pass : DataPass Content = passed plain course (0 + length m.items) m.items (rest_of s') (stopped q.1) in
-        let is = came course s s' c c' q.0 (stopped q.1) m within (stops_so plain (λ n. false) course m.items (rest_of s) (rest_of s') q.0 q.1 m.reads (λ j lt. refl) m.next_is q.3) in
+        let pass : DataPass Content = passed plain course (0 + length m.items) m.items (rest_of s') (Some q.1) in
+        let is = came course s s' c c' q.0 (Some q.1) m within (record { reads = m.reads; few = λ j lt. refl; ends = subst (λ x. stop_at plain false x (rest_of s') ≡ Some q.1) m.next_is q.3 }) in
         let all : passes_apart course total (bits_of octets) ≡ h.passes ++ pass ∷ [] = goes ∙ ap (λ (z : DataPass Content). h.passes ++ (z ∷ unless_stopped z.stop (passes_apart course (total - (i + 1)) z.state.left))) is in
         let at : s'.at + length (rest_of s') ≡ length (bits_of octets) = here s' (bits_of octets) (m.same ∙ h.same) (omega (arith, within, ap length (m.same ∙ h.same))) in
         let count : length (h.passes ++ pass ∷ []) ≡ i + 1 = omega (arith, length-append h.passes (pass ∷ []), h.count_is, ap length h.items, length-map h.passes (λ (z : DataPass Content). z.items)) in

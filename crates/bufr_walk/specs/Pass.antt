@@ -2,12 +2,12 @@
 -- and the reading of data, which is made of passes. (WMO-No. 306, Volume I.2, FM 94: sections 3 and
 -- 4; the order of the faults at one item is a choice of this project)
 -- Cited by public contracts.
-use Rattle.std.specs.Prelude.{ℕ, zero, suc, ◌+◌, ◌-◌, Bool, true, false, List, [], ◌∷◌, length, Result, Ok, Err, Option, Some, None, option_map, map, if◌then◌else◌, ◌≡◌, ◌++◌, ◌%◌, ◌⊎◌}
+use Rattle.std.specs.Prelude.{ℕ, zero, suc, ◌+◌, ◌-◌, Bool, true, false, List, [], ◌∷◌, length, Result, Ok, Err, Option, Some, None, option_map, map, if◌then◌else◌, ◌≡◌, ◌<◌, ◌++◌, ◌%◌, ◌⊎◌}
 use Rattle.bufr_walk.specs.Content.{Taken, FieldSpec, Content, FieldFault, FieldRead}
 use Rattle.bufr_walk.specs.Rules.{TurnRefusal}
 use Rattle.bufr_walk.specs.Course.{Course, Next, take_next, at_end, astray, refused, ticked, next_item}
 use Rattle.bufr_walk.specs.declared.fault.WalkFault.TheVariants as fault
-use Rattle.bufr_walk.specs.Reading.{DataCoding, plain, packed, would_be_many, Data, Stop, walk_stop, too_many, field_stop, WalkFault, walk_fault_of, Item, Values, apart, together, Read, course_of, Timed, calls_by, turns_by, next_after, turns_after, items_at_once}
+use Rattle.bufr_walk.specs.Reading.{DataCoding, plain, packed, would_be_many, Data, Stop, walk_stop, too_many, field_stop, WalkFault, walk_fault_of, Item, Values, apart, together, Read, course_of, Timed, calls_by, turns_by, next_after, turns_after, items_at_once, stop_at, ReadsItems}
 use Rattle.bufr_walk.specs.declared.spec.Role.TheVariants as role
 use Rattle.bufr_tables.specs.Prelude.{Row, Tree}
 
@@ -216,6 +216,22 @@ calls_of r = calls_by r (values_read r)
 
 abbrev pub turns_shown : Read → ℕ
 turns_shown r = turns_by r (values_read r)
+
+-- ---- The same item by item, for a reader: each is what comes next, read where the one before ended.
+
+-- what comes next ends a pass, or stops it
+abbrev pub EndsPass : {C : Type 0} → DataCoding C → (many : Bool) → Next → List Bool → Option Stop
+    → Type 0
+EndsPass form many next bits None = next ≡ at_end
+EndsPass form many next bits (Some stop) = stop_at form many next bits ≡ Some stop
+
+-- items are read from bits, with so many items before them, and then the pass ends
+pub record ReadsTo {C : Type 0} (form : DataCoding C) (many : ℕ → Bool) (course : Course)
+    (before : ℕ) (bits : List Bool) (items : List (Item C)) (left : List Bool)
+    (stop : Option Stop) : Type 0 where
+  pub reads : ReadsItems form course items bits left
+  pub few : (j : ℕ) → j < length items → many (before + j) ≡ false
+  pub ends : EndsPass form (many (before + length items)) (next_after form course items) left stop
 
 -- ---- Where memory may run out.
 
