@@ -1,28 +1,42 @@
 """Reads and writes the text of `bufr dump`, and runs `bufr`, by Python's standard library alone.
 
     import bufr_text
-    for message in bufr_text.dump("synop.bufr", "B.csv", "D.csv"):
+    faults = []
+    for message in bufr_text.dump("synop.bufr", "B.csv", "D.csv", faults):
         for subset in message.subsets:
             air = bufr_text.find(subset, "012101")
-            print(air.value, air.unit)
+            print(message.offset, air.value, air.unit)
 
-`read` and `write` take a text to messages and back. `dump` and `encode` run the program. Each message is read
-when it is asked for, so a text of any length is read in the memory of its longest message.
+`read` and `write` take a text to messages and back. `listing`, `dump` and `encode` run the program. `rows` and `levels`
+make tuples for a table. Each message is read when it is asked for, so a text of any length is read in the memory of its
+longest message.
 """
 from __future__ import annotations
 
+import io
+import itertools
 import os
 import pathlib
 import re
+import shutil
+import stat
 import subprocess
-from dataclasses import dataclass, field
+import sys
+import tempfile
+import warnings
+from dataclasses import dataclass, field, replace
 from decimal import Decimal
-from typing import BinaryIO, Dict, Generator, Iterable, Iterator, List, Optional, Union
+from typing import IO, BinaryIO, Dict, Iterable, Iterator, List, NamedTuple, Optional, Sequence, Tuple, Union
 
-__all__ = ["HEADER", "Item", "Message", "RunError", "TextError", "Value", "dump", "encode", "find", "read", "write"]
+__all__ = (
+    "HEADER DumpWarning Fault Item Message Place RunError TextError Value "
+    "dump encode find levels listing parts read rows write"
+).split()
 
 #: The value of an item: a number, a text of octets, or `None` where it is missing.
 Value = Union[Decimal, bytes, None]
+#: A value in a row: a whole number, another number, a text, or `None`.
+Cell = Union[int, float, str, None]
 _Path = Union[str, "os.PathLike[str]"]
 
 #: The keys of a message's header, in the order of their lines. Lines `optional` and `subsets` follow from the rest.
@@ -33,27 +47,93 @@ HEADER = (
 
 # What stands between quotes: runs of plain octets, and escapes between them.
 _QUOTED = rb'[ !#-\[\]-~]*(?:\\(?:["\\]|x[0-9A-F]{2})[ !#-\[\]-~]*)*'
-_ITEM = re.compile(
-    rb'(R )?([0-3]\d{5}) (?:(-?\d+(?:\.\d+)?)|"(' + _QUOTED + rb')"|MISSING)(?: +#(?: (.*) \[(.*)\]|.*))?', re.DOTALL
-)
+_FXY = rb"[0-3](?:[0-5]\d|6[0-3])(?:[01]\d\d|2[0-4]\d|25[0-5])"
+_COLUMN = re.compile(_FXY.decode() + r"(?::[1-9]\d*)?")
+_DESCRIPTORS = re.compile(rb"descriptors(?: " + _FXY + rb"){1,8}")
+_HEX = re.compile(rb"(?:[0-9A-Fa-f]{2}){1,32}")
+_VALUE = rb'(?:(-?\d+(?:\.\d+)?)|"(' + _QUOTED + rb')"|MISSING)'
+_ITEM = re.compile(rb"(R )?(" + _FXY + rb") " + _VALUE + rb"(?: +#(?: (.*) \[(.*)\]|.*))?", re.DOTALL)
 _ESCAPE = re.compile(rb"\\(?:x(..)|(.))")
+_LISTED = re.compile(rb"offset=(\d+) length=(\d+) ")
+_FAULT = re.compile(rb"offset (\d+): (\d+) (.*)\n?")
+_NOTE = re.compile(rb"bufr-auto: (\d+) messages?,(?: the first)? at offset (\d+): (.*)")
 _UNPRINTED = re.compile(rb'["\\]|[^ -~]')
 
 
-class TextError(ValueError):
-    """A line that may not stand where it stands; `line` is its number, from 1."""
+# How a line may look that is refused, and why. The first that fits is told.
+_CAUSES = [
+    (re.compile(pattern, re.DOTALL), cause)
+    for pattern, cause in [
+        (rb"\xef\xbb\xbf.*", "a byte order mark before it"),
+        (rb"BUFR.*", "a BUFR message, not the text of one"),
+        (rb".*\r", "a carriage return at its end"),
+        (rb">.*", "the > of a quoted mail before it"),
+        (rb"[^\"#]*\t.*", "a tab in place of a space"),
+        (rb" .*", "a space before it"),
+        (rb"message", "no end before it"),
+        (rb"(?:R )?\d{1,5} .*", "a descriptor without its six digits"),
+        (rb"[^\"#]*\S  +[^ #].*", "two spaces in place of one"),
+        (rb"[^\"#]*[^\"# ]#.*|[^\"]*\".*\"#.*", "no space before #"),
+        (rb"[^\"#]* \+.*", "a plus before a number"),
+        (rb"[^\"#]* -?[\d.]+[Ee].*", "an exponent in a number"),
+        (rb"[^\"#]* -?\d*,.*", "a comma in place of the point"),
+        (rb"[^\"#]* -?(?:[Nn][Aa][Nn]|[Ii]nf)\b.*", "no number: what is missing is MISSING"),
+        (rb"[^\"#]* (?!MISSING)(?i:missing)\b.*", "MISSING in small letters"),
+        (rb"[^\"#]* -?(?:\d+\.|\.\d+)(?: .*)?", "no digit beside the point"),
+        (rb"\d{6} ?", "no value: what is missing is MISSING"),
+        (rb".* ", "a space at its end"),
+        (rb"[a-z][^#]*#.*", "a comment, which items alone may have"),
+        (rb"\d{6} \"[^\"]*\\x(?![0-9A-F]{2}).*", "\\x without two digits in upper case"),
+        (rb"\d{6} \"[^\"]*[^ -~].*", "an octet in a text that is written \\xHH"),
+        (rb"\d{6} \".*", "a \" or \\ in a text without \\ before it, or no \" at its end"),
+        (rb"\d{6} [^-.\d\"].*", "a text without quotes"),
+    ]
+]
 
-    def __init__(self, line: int, expected: str) -> None:
-        super().__init__(f"line {line}: expected {expected}")
+
+class TextError(ValueError):
+    """A line that may not stand where it stands; `line` is its number, from 1. The likely cause is told too."""
+
+    def __init__(self, line: int, expected: str, cause: str = "") -> None:
+        super().__init__(line, expected, cause)
         self.line = line
+
+    def __str__(self) -> str:
+        line, expected, cause = self.args
+        return f"line {line}: expected {expected}" + (cause and f", found {cause}")
 
 
 class RunError(RuntimeError):
-    """The program failed, or refused a text; `status` is its exit status."""
+    """The program failed, or refused a text; `status` is its exit status, or less than 0 where a signal ended it."""
 
     def __init__(self, status: int, told: str) -> None:
-        super().__init__(told)
+        super().__init__(status, told)
         self.status = status
+
+    def __str__(self) -> str:
+        return str(self.args[1])
+
+
+class DumpWarning(UserWarning):
+    """A file has no message, or some that were refused or no set of tables serves, or levels cannot be told apart."""
+
+
+class Fault(NamedTuple):
+    """A fault line: where in the stream, the number of the fault, and its text behind that."""
+
+    offset: int
+    number: int
+    text: str
+
+    def __str__(self) -> str:
+        return f"offset {self.offset}: {self.number} {self.text}"
+
+
+class Place(NamedTuple):
+    """Where a message begins in its stream, and its length, in octets."""
+
+    offset: int
+    length: int
 
 
 @dataclass
@@ -76,7 +156,8 @@ class Message:
     """One message: the numbers of its header by the keys of `HEADER`, and the rest of its text.
 
     `local1` has the octets for local use of section 1. `section2` has those of section 2, or is `None` where there is
-    no such section. Each subset is a list of items.
+    no such section. Each subset is a list of items. `offset` and `length` are those of the message in the file that
+    `dump` read, and `None` where a text was read.
     """
 
     header: Dict[str, int]
@@ -84,50 +165,64 @@ class Message:
     subsets: List[List[Item]] = field(default_factory=list)
     local1: bytes = b""
     section2: Optional[bytes] = None
+    offset: Optional[int] = field(default=None, compare=False)
+    length: Optional[int] = field(default=None, compare=False)
 
 
 class _Lines:
-    """The lines of a text without those that are passed over, and the number of the line that was taken last."""
+    """The lines of a text without those that are passed over, and the line that was taken last with its number."""
 
     def __init__(self, stream: Iterable[bytes]) -> None:
         self.rest = iter(stream)
         self.number = 0
+        self.line: Optional[bytes] = None
 
     def take(self) -> Optional[bytes]:
-        for line in self.rest:
+        for self.line in self.rest:
             self.number += 1
-            line = line[:-1] if line.endswith(b"\n") else line
-            if line and not line.startswith(b"#"):
-                return line
+            self.line = self.line[:-1] if self.line.endswith(b"\n") else self.line
+            if len(self.line) > 4096:
+                raise TextError(self.number, "at most 4,096 octets")
+            if self.line and not self.line.startswith(b"#"):
+                return self.line
         self.number += 1
+        self.line = None
         return None
 
     def inside(self, expected: str) -> bytes:
         """A line inside a message, which does not end before it."""
         line = self.take()
         if line is None:
-            raise TextError(self.number, expected)
+            raise self.refused(expected)
         return line
 
+    def refused(self, expected: str) -> TextError:
+        """The error at the line that was taken last."""
+        if self.line is None:
+            return TextError(self.number, expected, "the end of the text")
+        cause = next((cause for pattern, cause in _CAUSES if pattern.fullmatch(self.line)), "")
+        return TextError(self.number, expected, cause)
+
     def count(self, key: str) -> int:
-        """The number behind a key."""
-        found = re.fullmatch(key.encode() + rb" (\d+)", self.inside(key))
+        """The number behind a key. None that may be there has more than five digits behind its zeros."""
+        found = re.fullmatch(key.encode() + rb" 0*(\d{1,5})", self.inside(key))
         if not found:
-            raise TextError(self.number, f"{key} and a number")
+            raise self.refused(f"{key} and a number")
         return int(found[1])
 
 
 def read(stream: Iterable[bytes]) -> Iterator[Message]:
     """The messages of a dump's text: `stream` gives its lines as octets, as a file does that was opened in mode "rb".
 
-    Raises `TextError` at the first line that may not stand where it stands. Whether the items fit the descriptors is
-    not looked at: `encode` does that.
+    Raises `TextError` at the first line that may not stand where it stands. What `bufr encode` refuses beyond that is
+    not looked at: header values past their range, descriptors that make no template, and items that do not fit them.
+    A number that is no decimal, such as `1.`, is a `TextError` here, where `encode` gives 52.
     """
     lines = _Lines(stream)
     line = lines.take()
     while line is not None:
         if line != b"message":
-            raise TextError(lines.number, "message")
+            raise lines.refused("message")
         yield _read_message(lines)
         line = lines.take()
 
@@ -136,41 +231,43 @@ def _read_message(lines: _Lines) -> Message:
     header = {key: lines.count(key) for key in HEADER}
     optional = lines.count("optional")
     if optional > 1:
-        raise TextError(lines.number, "optional 0 or 1")
+        raise lines.refused("optional 0 or 1")
     subsets = lines.count("subsets")
     local_use = {word: bytearray() for word in (b"local1", b"section2")[: 1 + optional]}
     line = lines.inside("descriptors")
     for word, octets in local_use.items():
         while line.startswith(word + b" "):
             digits = line[len(word) + 1 :]
-            if not re.fullmatch(rb"(?:[0-9A-Fa-f]{2})+", digits):
-                raise TextError(lines.number, "hexadecimal digits")
+            if not _HEX.fullmatch(digits):
+                raise lines.refused("hexadecimal digits of 1 to 32 octets")
             octets += bytes.fromhex(digits.decode())
             line = lines.inside("descriptors")
     section2 = bytes(local_use[b"section2"]) if optional else None
     message = Message(header, [], [], bytes(local_use[b"local1"]), section2)
     while line.startswith(b"descriptors "):
-        if not re.fullmatch(rb"descriptors(?: [0-3]\d{5})+", line):
-            raise TextError(lines.number, "descriptors of six digits")
+        if not _DESCRIPTORS.fullmatch(line):
+            raise lines.refused("one to eight descriptors of six digits")
         message.descriptors += line.decode().split()[1:]
         line = lines.inside("subset or end")
-    while line == b"subset %d" % (len(message.subsets) + 1) and len(message.subsets) < subsets:
+    while len(message.subsets) < subsets:
+        number = re.fullmatch(rb"subset 0*(\d{1,5})", line)
+        if not number or int(number[1]) != len(message.subsets) + 1:
+            raise lines.refused(f"subset {len(message.subsets) + 1}")
         items: List[Item] = []
         message.subsets.append(items)
         line = lines.inside("an item, subset or end")
         while line != b"end" and not line.startswith(b"subset "):
-            items.append(_read_item(line, lines.number))
+            items.append(_read_item(lines, line))
             line = lines.inside("an item, subset or end")
-    if line != b"end" or len(message.subsets) < subsets:
-        expected = f"subset {len(message.subsets) + 1}" if len(message.subsets) < subsets else "end"
-        raise TextError(lines.number, expected)
+    if line != b"end":
+        raise lines.refused("end")
     return message
 
 
-def _read_item(line: bytes, number: int) -> Item:
+def _read_item(lines: _Lines, line: bytes) -> Item:
     found = _ITEM.fullmatch(line)
     if not found or found[1] and found[3] is None:
-        raise TextError(number, "an item")
+        raise lines.refused("an item")
     value: Value = None
     if found[3] is not None:
         value = Decimal(found[3].decode())
@@ -245,56 +342,348 @@ def find(subset: List[Item], fxy: str, count: int = 1) -> Optional[Item]:
     return None
 
 
-def dump(file: _Path, table_b: Optional[_Path] = None, table_d: Optional[_Path] = None) -> Iterator[Message]:
+def rows(
+    messages: Union[_Path, Iterable[Message]], columns: Sequence[str], header: Sequence[str] = ()
+) -> Iterator[Tuple[Cell, ...]]:
+    """A tuple for each subset, as a row for `csv.writer` or a DataFrame: values of the header, then of the columns.
+
+    Where `messages` is a file's name its messages are those of `dump` without tables. A column is a descriptor, or
+    `"012101:2"` for its second item in the subset. `header` may name keys of `HEADER`, `"optional"`, `"subsets"`,
+    `"offset"` and `"length"`, and the counts `"message"` and `"subset"`, from 1.
+
+    A number is an `int` where its scale has no digits behind the point, or else the nearest `float`. A text has no
+    spaces at its end, and the escapes of a dump. What is missing, or not there, is `None`.
+    """
+    _check([*columns], _COLUMN, header)
+    asked = [(word[:6], int(word[7:] or 1)) for word in columns]
+    return (
+        (*before, *(_cell(find(subset, fxy, count)) for fxy, count in asked))
+        for before, subset in _subsets(messages, header)
+    )
+
+
+def levels(
+    messages: Union[_Path, Iterable[Message]],
+    columns: Sequence[str],
+    header: Sequence[str] = (),
+    keep: Sequence[str] = (),
+) -> Iterator[Tuple[Cell, ...]]:
+    """A tuple for each level of a sounding: values of the header, of `keep`, then of the columns.
+
+    A level is a pass of a group that a factor among the data repeats. It is given where it has the first column, and
+    another one if more than one is named. The columns are looked for in the pass, those of `keep` in the whole subset,
+    each by its first item. All else is as for `rows`. A subset is passed over where the descriptor with which passes
+    begin comes twice in one: a `DumpWarning` at the end says how many these are.
+    """
+    _check([*columns, *keep], re.compile(_FXY.decode()), header)
+    return _levels(_subsets(messages, [*header, "message", "subset"]), columns, keep)
+
+
+def _check(columns: List[str], form: re.Pattern[str], header: Sequence[str]) -> None:
+    for word in columns:
+        if not form.fullmatch(word):
+            raise ValueError(f"no descriptor of six digits: '{word}'")
+    for word in header:
+        if word not in (*HEADER, "optional", "subsets", "offset", "length", "message", "subset"):
+            raise ValueError(f"no key of the header: '{word}'")
+
+
+def _subsets(
+    messages: Union[_Path, Iterable[Message]], header: Sequence[str]
+) -> Iterator[Tuple[List[Cell], List[Item]]]:
+    """Each subset, with what the keys say of it."""
+    if isinstance(messages, (str, os.PathLike)):
+        messages = dump(messages)
+    for number, message in enumerate(messages, 1):
+        known: Dict[str, Cell] = {**message.header, "offset": message.offset, "length": message.length}
+        known.update(message=number, subsets=len(message.subsets), optional=int(message.section2 is not None))
+        for count, subset in enumerate(message.subsets, 1):
+            known["subset"] = count
+            yield [known[key] for key in header], subset
+
+
+def _cell(item: Optional[Item]) -> Cell:
+    if item is None or item.value is None:
+        return None
+    if isinstance(item.value, bytes):
+        return _UNPRINTED.sub(_escaped, item.value.rstrip(b" ")).decode()
+    return float(item.value) if "." in str(item.value) else int(item.value)
+
+
+def _levels(
+    subsets: Iterable[Tuple[List[Cell], List[Item]]], columns: Sequence[str], keep: Sequence[str]
+) -> Iterator[Tuple[Cell, ...]]:
+    unclear, first = 0, ""
+    for (*header, message, count), subset in subsets:
+        try:
+            passes = _passes(subset)
+        except ValueError as twice:
+            unclear, first = unclear + 1, first or f"message {message} subset {count}: {twice}"
+            continue
+        kept = [_cell(find(subset, fxy)) for fxy in keep]
+        for one in passes:
+            found = [find(one, fxy) for fxy in columns]
+            if found[0] and (len(found) == 1 or any(found[1:])):
+                yield (*header, *kept, *map(_cell, found))
+    if unclear:
+        text = f"subsets with a descriptor twice in a level: {unclear}, the first is {first}"
+        warnings.warn(text, DumpWarning, stacklevel=2)
+
+
+def _passes(subset: List[Item]) -> List[List[Item]]:
+    """The items of each pass of the groups that a factor repeats. Raises `ValueError` where they cannot be told apart.
+
+    `left` passes of a group are still to begin, each with the item `opener`. `one` is the pass that is open. It has had
+    `items` items and `inner` factors so far, and the one before it had `pass_items` and `pass_inner`.
+    """
+    passes: List[List[Item]] = []
+    one: Optional[List[Item]] = None
+    left = opened = items = inner = pass_items = pass_inner = 0
+    opener = ""
+    for item in subset:
+        if item.reference:
+            continue
+        if left and opener in ("", item.fxy):
+            if opened > 1 and not inner and not pass_inner and items != pass_items:
+                raise ValueError(opener)
+            one, opener, opened, left = [], item.fxy, opened + 1, left - 1
+            passes.append(one)
+            pass_items, pass_inner, items, inner = items, inner, 0, 0
+        elif one is not None and not left and opened > 1 and not pass_inner:
+            if items == pass_items:
+                one = None
+            elif item.fxy == opener:
+                raise ValueError(opener)
+        if item.fxy in ("031000", "031001", "031002"):
+            if one is not None and (left or (opened > 1 and inner < pass_inner)):
+                inner += 1
+            else:
+                one, opener, opened, items, inner = None, "", 0, 0, 0
+                left = int(item.value) if isinstance(item.value, Decimal) else 0
+                continue
+        items += 1
+        if one is not None:
+            one.append(item)
+    return passes
+
+
+def listing(file: _Path, faults: Optional[List[Fault]] = None) -> Iterator[Place]:
+    """The place of each message of a file, by `bufr ls`. `faults` and what is raised are as for `dump`."""
+    told = _Told(file, faults)
+    with _opened(file) as stream, tempfile.TemporaryFile() as errors:
+        for place in _listed(stream, errors, told):
+            told.up_to(place.offset)
+            yield place
+        told.end(stream)
+
+
+def parts(places: Iterable[Place], octets: int = 1 << 19) -> Iterator[List[Place]]:
+    """The places in lists, each with so many octets or some more. The last one may have less."""
+    part: List[Place] = []
+    held = 0
+    for place in places:
+        part.append(place)
+        held += place.length
+        if held >= octets:
+            yield part
+            part, held = [], 0
+    if part:
+        yield part
+
+
+def dump(
+    file: _Path,
+    table_b: Optional[_Path] = None,
+    table_d: Optional[_Path] = None,
+    faults: Optional[List[Fault]] = None,
+    places: Optional[Iterable[Place]] = None,
+) -> Iterator[Message]:
     """The messages of a file by `bufr dump` with these two tables, or without tables by `bufr-auto`.
 
-    Each is given as soon as it is dumped. Fault lines of refused messages go to standard error, as those of `bufr` do.
-    Raises `RunError` where the program ends with a status over 1. `BUFR=PROGRAM` names another program.
+    A list `faults` gets each fault in order: when a message is given those before it are there. Without a list their
+    lines go to `sys.stderr`, and a `DumpWarning` at the end says how many there are. What `bufr-auto` notes is such a
+    warning in either case, and so is a file without a message. `places` are messages of a listing of this file: those
+    alone are dumped.
+
+    The file is listed first, and then its messages are read at their places. Of what is no regular file a copy is made.
+    Raises `RunError` where a program ends with a status over 1, and `OSError` where a file cannot be read.
+    `BUFR=PROGRAM` names another program.
     """
+    words = _words("dump", table_b, table_d)
+    return _dumped(file, words, _Told(file, faults), places)
+
+
+def _dumped(file: _Path, words: List[str], told: _Told, places: Optional[Iterable[Place]]) -> Iterator[Message]:
+    with _opened(file) as stream, tempfile.TemporaryFile() as errors:
+        # which messages of a part are refused is known when the run over it has ended
+        for part in parts(_listed(stream, errors, told) if places is None else places):
+            done = _run(words, b"".join(_octets(stream, place) for place in part))
+            refused = told.of_part(done.stderr, part)
+            messages = read(io.BytesIO(done.stdout))
+            for place in part:
+                told.up_to(place.offset)
+                if place.offset in refused:
+                    told.tell(refused[place.offset])
+                    continue
+                message = next(messages, None)
+                if message is None:
+                    raise RunError(2, f"{words[0]} gave no text of the message at offset {place.offset}")
+                message.offset, message.length = place
+                yield message
+        told.end(stream)
+
+
+class _Told:
+    """The faults of a file, which are told in order: strays of its listing between messages that are refused."""
+
+    def __init__(self, file: _Path, faults: Optional[List[Fault]]) -> None:
+        self.file, self.faults, self.count, self.is_bare = file, faults, 0, False
+        self.first: Optional[Fault] = None
+        self.strays: Iterator[Fault] = iter(())
+        self.stray: Optional[Fault] = None
+        self.notes: Dict[str, List[int]] = {}
+
+    def tell(self, fault: Fault) -> None:
+        self.count += 1
+        self.first = self.first or fault
+        if self.faults is not None:
+            self.faults.append(fault)
+        elif sys.stderr is not None:
+            print(fault, file=sys.stderr)
+
+    def up_to(self, offset: float) -> None:
+        """Tells the strays before this offset."""
+        while self.stray and self.stray.offset < offset:
+            self.tell(self.stray)
+            self.stray = next(self.strays, None)
+
+    def of_part(self, errors: bytes, part: List[Place]) -> Dict[int, Fault]:
+        """The faults of the messages of a part, by their offsets. Its notes are kept."""
+        begins = itertools.accumulate((place.length for place in part), initial=0)
+        offsets = {begin: place.offset for begin, place in zip(begins, part)}
+        refused = {}
+        for line in errors.splitlines():
+            fault, note = _FAULT.fullmatch(line), _NOTE.fullmatch(line)
+            if fault:
+                offset = offsets[int(fault[1])]
+                refused[offset] = Fault(offset, int(fault[2]), fault[3].decode())
+            elif note:
+                known = self.notes.setdefault(note[3].decode(errors="replace"), [0, offsets[int(note[2])]])
+                known[0] += int(note[1])
+        return refused
+
+    def end(self, stream: IO[bytes]) -> None:
+        """Tells the rest, and warns."""
+        self.up_to(float("inf"))
+        told = [f"no message{_looks(stream)}"] * self.is_bare
+        told += [f"fault lines: {self.count}, the first: {self.first}"] * (self.faults is None and self.count > 0)
+        for reason, (count, first) in self.notes.items():
+            told.append(f"messages: {count}, the first at offset {first}: {reason}")
+        for text in told:
+            warnings.warn(f"{os.fsdecode(self.file)}: {text}", DumpWarning, stacklevel=3)
+
+
+def _opened(file: _Path) -> IO[bytes]:
+    """A file that can be read at any place: of what cannot a copy."""
+    stream = open(file, "rb")
+    if stat.S_ISREG(os.fstat(stream.fileno()).st_mode):
+        return stream
+    with stream:
+        copy = tempfile.TemporaryFile()
+        shutil.copyfileobj(stream, copy, 1 << 20)
+        copy.seek(0)
+        return copy
+
+
+def _octets(stream: IO[bytes], place: Place) -> bytes:
+    octets = os.pread(stream.fileno(), place.length, place.offset)
+    if len(octets) < place.length:
+        raise RunError(2, f"the file has no whole message at offset {place.offset} any more")
+    return octets
+
+
+def _looks(stream: IO[bytes]) -> str:
+    """What a file without a message looks like, as `bufr-auto` tells of its beginning."""
+    words, begin = [_program("bufr-auto")], os.pread(stream.fileno(), 256, 0)
+    told = subprocess.run(words, input=begin, stdout=subprocess.PIPE, stderr=subprocess.PIPE).stderr
+    return told.decode(errors="replace").rstrip().rpartition("has no message")[2]
+
+
+def _listed(stream: IO[bytes], errors: IO[bytes], told: _Told) -> Iterator[Place]:
+    """The places of a stream's messages. Its strays wait in a file, from which they are told."""
+    with tempfile.TemporaryFile() as lines:
+        words = [_bufr(), "ls"]
+        status = subprocess.run(words, stdin=stream, stdout=lines, stderr=errors).returncode
+        has_told = errors.seek(0, os.SEEK_END) > 0
+        errors.seek(0)
+        if status not in (0, 1) or status == 1 and not has_told:
+            raise _failure(status, words, errors)
+        told.strays = (Fault(int(one[1]), int(one[2]), one[3].decode()) for one in map(_FAULT.match, errors) if one)
+        told.stray = next(told.strays, None)
+        told.is_bare = lines.seek(0, os.SEEK_END) == 0
+        lines.seek(0)
+        for line in lines:
+            found = _LISTED.match(line)
+            if not found:
+                raise RunError(2, f"{words[0]} ls writes other lines than bufr")
+            yield Place(int(found[1]), int(found[2]))
+
+
+def encode(
+    messages: Iterable[Message],
+    table_b: Optional[_Path] = None,
+    table_d: Optional[_Path] = None,
+    form: Optional[str] = None,
+) -> bytes:
+    """The octets of messages by `bufr encode` with these two tables, or without tables by `bufr-auto --encode`.
+
+    They are in the form "plain" or "compressed", or the one that each states. Raises `RunError` with the fault line
+    where a message is refused: nothing is given then.
+    """
+    if form is not None:
+        compressed = ["plain", "compressed"].index(form)
+        messages = (replace(one, header={**one.header, "compressed": compressed}) for one in messages)
+    text = io.BytesIO()
+    write(messages, text)
+    words = _words("encode", table_b, table_d)
+    done = _run(words, text.getvalue())
+    if done.returncode:
+        raise _failure(done.returncode, words, done.stderr.splitlines(True))
+    for line in done.stderr.splitlines():
+        warnings.warn(line.decode(errors="replace"), DumpWarning, stacklevel=2)
+    return done.stdout
+
+
+def _words(command: str, table_b: Optional[_Path], table_d: Optional[_Path]) -> List[str]:
+    if table_b is None and table_d is None:
+        return [_program("bufr-auto"), *["--encode"] * (command == "encode")]
     if table_b is None or table_d is None:
-        words = [_program("bufr-auto"), file]
-    else:
-        words = [os.environ.get("BUFR") or _program("bufr"), "dump", "-B", table_b, "-D", table_d, file]
-    lines = _output_lines(words)
-    try:
-        yield from read(lines)
-    finally:
-        lines.close()
+        raise TypeError("Table B comes with Table D")
+    # a whole path does not begin as an option does
+    return [_bufr(), command, "-B", os.path.abspath(table_b), "-D", os.path.abspath(table_d)]
 
 
-def encode(messages: Iterable[Message], table_b: _Path, table_d: _Path, form: Optional[str] = None) -> bytes:
-    """The octets of messages by `bufr encode`, in the form "plain" or "compressed", or the one that each states.
+def _run(words: List[str], octets: bytes) -> subprocess.CompletedProcess[bytes]:
+    done = subprocess.run(words, input=octets, stdout=subprocess.PIPE, stderr=subprocess.PIPE)
+    if done.returncode not in (0, 1) or done.returncode == 1 and not done.stderr:
+        raise _failure(done.returncode, words, done.stderr.splitlines(True))
+    return done
 
-    Raises `RunError` with the fault line where a message is refused: nothing is given then.
-    """
-    text = b"".join(line + b"\n" for message in messages for line in _lines_of(message))
-    words = [os.environ.get("BUFR") or _program("bufr"), "encode", "-B", table_b, "-D", table_d]
-    told = subprocess.run(
-        [*words, *(["--form", form] if form else [])], input=text, stdout=subprocess.PIPE, stderr=subprocess.PIPE
-    )
-    if told.returncode:
-        raise RunError(told.returncode, told.stderr.decode(errors="replace").strip())
-    return told.stdout
+
+def _failure(status: int, words: List[str], errors: Iterable[bytes]) -> RunError:
+    """The error with the program's last words, or with its status where it left none."""
+    told = b"".join(line for line in errors if not _FAULT.match(line)).decode(errors="replace").strip()
+    return RunError(status, told or f"{words[0]} ended with status {status}")
+
+
+def _bufr() -> str:
+    return os.environ.get("BUFR") or _program("bufr")
 
 
 def _program(name: str) -> str:
-    """The program beside this file, or in the folder `bin` of the same installation, or the one on the path."""
+    """The program beside this file, or in the folder `bin` of the same installation or of Python, or on the path."""
     here = pathlib.Path(__file__).resolve().parent
-    for path in (here / name, here.parent.parent / "bin" / name):
+    for path in (here / name, here.parent.parent / "bin" / name, pathlib.Path(sys.prefix) / "bin" / name):
         if os.access(path, os.X_OK):
             return str(path)
     return name
-
-
-def _output_lines(words: List[_Path]) -> Generator[bytes, None, None]:
-    """The lines that a program writes; behind them its status is looked at. One that is not waited for is ended."""
-    with subprocess.Popen(words, stdout=subprocess.PIPE) as run:
-        assert run.stdout
-        try:
-            for line in run.stdout:
-                yield line
-        except GeneratorExit:
-            run.kill()
-            raise
-    if run.returncode not in (0, 1):
-        raise RunError(run.returncode, f"{words[0]} ended with status {run.returncode}")

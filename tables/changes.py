@@ -6,10 +6,18 @@
 An element counts as changed where its scale, reference or width did, or the kind that its unit says: these decide how
 data are read. A new name changes nothing but what stands behind `#`.
 """
-import csv
-import pathlib
+import os
 import sys
-import textwrap
+
+HERE = os.path.dirname(os.path.realpath(__file__))
+sys.path[:0] = [os.path.join(HERE, "../scripts"), os.path.join(HERE, "..")]
+import bufr_guard  # noqa: E402
+
+if __name__ == "__main__":
+    sys.excepthook = bufr_guard.hook
+import csv  # noqa: E402
+import pathlib  # noqa: E402
+import textwrap  # noqa: E402
 
 
 def kind(unit: str) -> str:
@@ -19,15 +27,27 @@ def kind(unit: str) -> str:
     return "code" if unit.startswith(("code table", "common code table", "flag table")) else "quantity"
 
 
+def rows(folder: str, name: str, *columns: str):
+    """These columns of a table."""
+    path = pathlib.Path(folder) / name
+    with open(path, encoding="utf-8", errors="surrogateescape", newline="") as file:
+        table = csv.DictReader(file)
+        missing = [column for column in columns if column not in (table.fieldnames or [])]
+        if missing:
+            raise bufr_guard.Failed(f"{path} has no column {missing[0]}")
+        for row in table:
+            yield [row[column] or "" for column in columns]
+
+
 def read(folder: str):
     """The elements, each with what its field is read by, and the members of each sequence."""
-    with open(pathlib.Path(folder) / "B.csv", encoding="utf-8", newline="") as file:
-        rows = list(csv.DictReader(file))
-    elements = {r["fxy"]: (r["scale"], r["reference"], r["width"], kind(r["unit"])) for r in rows}
+    elements = {
+        fxy: (*numbers, kind(unit))
+        for fxy, unit, *numbers in rows(folder, "B.csv", "fxy", "unit", "scale", "reference", "width")
+    }
     sequences = {}
-    with open(pathlib.Path(folder) / "D.csv", encoding="utf-8", newline="") as file:
-        for row in csv.DictReader(file):
-            sequences.setdefault(row["fxy"], []).append(row["member"])
+    for fxy, member in rows(folder, "D.csv", "fxy", "member"):
+        sequences.setdefault(fxy, []).append(member)
     return elements, sequences
 
 
@@ -36,19 +56,17 @@ def tell(what: str, names: list) -> None:
     print(textwrap.fill(text, 100, initial_indent="  ", subsequent_indent="    "))
 
 
-def main() -> None:
-    if sys.argv[1:] in (["-h"], ["--help"]):
-        sys.exit(print(__doc__))
-    if len(sys.argv) != 3:
-        print(__doc__, file=sys.stderr)
-        sys.exit(2)
-    old, new = map(read, sys.argv[1:])
-    print(" to ".join(pathlib.Path(folder).name for folder in sys.argv[1:]))
+def work(words: list) -> int:
+    if len(words) != 2:
+        raise bufr_guard.Failed("OLD and NEW are wanted; changes.py --help tells more")
+    old, new = map(read, words)
+    print(" to ".join(bufr_guard.shown(pathlib.Path(folder).name) for folder in words))
     for kind_of_row, before, after in zip(("elements", "sequences"), old, new):
         tell(f"{kind_of_row} changed", [fxy for fxy in before if before[fxy] != after.get(fxy, before[fxy])])
         tell(f"{kind_of_row} gone", [fxy for fxy in before if fxy not in after])
         print(f"  {kind_of_row} new: {len(after.keys() - before.keys())}")
+    return 0
 
 
 if __name__ == "__main__":
-    main()
+    bufr_guard.run(work, __doc__)

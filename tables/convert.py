@@ -18,13 +18,22 @@ master table that they belong to. OUT/B.csv and OUT/D.csv are written, in the or
 
 An element or a sequence that `bufr` would refuse is left out, a sequence as a whole, and told on standard error with
 the reason; what an earlier SOURCE says of it stays. The status is 0 where nothing was left out, 1 where something was,
-and 2 where nothing was written: a SOURCE that holds no tables, or a file that is not laid out as above.
+and 2 where nothing was written: a SOURCE that holds no tables, a file that is not laid out as above, or a full device.
 """
-import csv
-import itertools
-import pathlib
-import re
+import os
 import sys
+
+HERE = os.path.dirname(os.path.realpath(__file__))
+sys.path[:0] = [os.path.join(HERE, "../scripts"), os.path.join(HERE, "..")]
+import bufr_guard  # noqa: E402
+
+sys.excepthook = bufr_guard.hook
+import csv  # noqa: E402
+import itertools  # noqa: E402
+import pathlib  # noqa: E402
+import re  # noqa: E402
+
+from bufr_guard import Failed  # noqa: E402
 
 # The columns of WMO's files that are read; others may stand between them.
 WMO_B = "FXY ElementName_en BUFR_Unit BUFR_Scale BUFR_ReferenceValue BUFR_DataWidth_Bits".split()
@@ -46,11 +55,6 @@ AS_IT_IS = {"encoding": "utf-8", "errors": "surrogateescape"}
 FACTORS = {"031000": 1, "031001": 8, "031002": 16}
 
 
-def stop(why: str):
-    print(why, file=sys.stderr)
-    sys.exit(2)
-
-
 def one_line(text: str) -> str:
     return " ".join(text.split())
 
@@ -63,13 +67,15 @@ def of_csv(folder: pathlib.Path, pattern: str, columns: list):
             header = next(rows, [])
             for column in columns:
                 if column not in header:
-                    stop(f"{path} has no column {column}")
+                    raise Failed(f"{path} has no column {column}")
             places = [header.index(column) for column in columns]
-            for row in rows:
-                if row and len(row) != len(header):
-                    stop(f"{path}, line {rows.line_num}: another number of fields than the header")
-                if row:
+            try:
+                for row in filter(None, rows):
+                    if len(row) != len(header):
+                        raise Failed(f"{path}, line {rows.line_num}: another number of fields than the header")
                     yield [one_line(row[place]) for place in places]
+            except csv.Error as error:
+                raise Failed(f"{path}, line {rows.line_num}: {error}") from None
 
 
 def sequences_of(rows):
@@ -91,7 +97,7 @@ def of_element_table(path: pathlib.Path):
         if not line.startswith("#"):
             fields = [one_line(field) for field in line.split("|")]
             if len(fields) < 8:
-                stop(f"{path}, line {number}: fewer than eight fields")
+                raise Failed(f"{path}, line {number}: fewer than eight fields")
             yield [fields[0], *fields[3:8]]
 
 
@@ -101,7 +107,7 @@ def of_sequence_def(path: pathlib.Path):
     one = r'"([^"]*)"\s*=\s*\[([^\]]*)\]'
     rest = re.sub(one, "", text).split()
     if rest:
-        stop(f"{path}: what is {shown(rest)}")
+        raise Failed(f"{path}: what is {shown(rest)}")
     for fxy, members in re.findall(one, text):
         yield [one_line(fxy), *(one_line(member) for member in members.split(",") if member.strip())]
 
@@ -111,7 +117,7 @@ def of_wreport_b(path: pathlib.Path):
     for number, line in lines_of(path):
         fxy, name, unit, *numbers = (one_line(line[at:end]) for at, end in zip(WREPORT_B, WREPORT_B[1:]))
         if not all(numbers):
-            stop(f"{path}, line {number}: no scale, reference and width in columns 98 to 118")
+            raise Failed(f"{path}, line {number}: no scale, reference and width in columns 98 to 118")
         for short, whole in WREPORT_UNITS.items():
             if unit.startswith(short):
                 unit = one_line(whole + unit[len(short) :])
@@ -130,12 +136,12 @@ def of_wreport_d(path: pathlib.Path):
         if found and found[1]:
             runs.append((found[1], int(found[2]), []))
         if not found or not runs:
-            stop(f"{path}, line {number}: no member of a sequence")
+            raise Failed(f"{path}, line {number}: no member of a sequence")
         runs[-1][2].append(found[3])
     first = {}
     for fxy, count, members in runs:
         if count != len(members):
-            stop(f"{path}: {fxy} states {count} members and has {len(members)}")
+            raise Failed(f"{path}: {fxy} states {count} members and has {len(members)}")
         first.setdefault(fxy, [fxy, *members])
     return first.values()
 
@@ -161,10 +167,10 @@ def source(folder: pathlib.Path):
         return of_csv(folder, "BUFRCREX_TableB_en*.csv", WMO_B), sequences_of(table_d)
     texts = [folder] if folder.match("[BD]*.txt") else sorted(folder.glob("[BD]*.txt"))
     if len({text.name[1:] for text in texts}) > 1:
-        stop(f"{folder} holds many tables of wreport: name one of its files B*.txt")
+        raise Failed(f"{folder} holds many tables of wreport: name one of its files B*.txt")
     if texts and texts[0].exists():
         return of_wreport(texts[0])
-    stop(f"{folder} holds no tables that are known here")
+    raise Failed(f"{folder} holds no tables that are known here")
 
 
 def octets(text: str) -> bytes:
@@ -173,7 +179,12 @@ def octets(text: str) -> bytes:
 
 def is_whole(text: str, least: int, most: int) -> bool:
     """Whether a text is a whole number in these limits."""
-    return re.fullmatch(r"-?0*[0-9]{1,19}", text) is not None and least <= int(text) <= most
+    return re.fullmatch(r"-?0*[0-9]{1,19}", text) is not None and least <= whole(text) <= most
+
+
+def whole(text: str) -> int:
+    """The number of a text, which may have any number of zeros in front."""
+    return int(re.sub("^(-?)0+(?=[0-9])", r"\1", text))
 
 
 def no_descriptor(fxy: str, first: str) -> str:
@@ -198,7 +209,7 @@ def no_numbers(is_text: bool, scale: str, reference: str, width: str) -> str:
         return "no scale from -127 to 127"
     if not is_whole(reference, -(2**63), 2**63 - 1):
         return "no reference of 64 bits with sign"
-    if is_text and not (is_whole(width, 8, 2040) and int(width) % 8 == 0):
+    if is_text and not (is_whole(width, 8, 2040) and whole(width) % 8 == 0):
         return "no width of 8 to 2040 bits in whole octets"
     return "" if is_text or is_whole(width, 1, 63) else "no width of 1 to 63 bits"
 
@@ -208,7 +219,7 @@ def no_element(row: list) -> str:
     fxy, name, unit, *numbers = row
     is_text = octets(unit).upper() == b"CCITT IA5"
     reason = no_descriptor(fxy, "0") or no_text("name", name) or no_text("unit", unit) or no_numbers(is_text, *numbers)
-    if not reason and fxy in FACTORS and (is_text or list(map(int, numbers)) != [0, 0, FACTORS[fxy]]):
+    if not reason and fxy in FACTORS and (is_text or list(map(whole, numbers)) != [0, 0, FACTORS[fxy]]):
         return f"a factor, which has scale 0, reference 0, width {FACTORS[fxy]} and is no text"
     return reason
 
@@ -237,7 +248,8 @@ def taken(folder: pathlib.Path, entries, refused) -> tuple:
         for entry in alike:
             reason = refused(entry) or ("one of several, not alike" if alike.count(entry) < len(alike) else "")
             if reason:
-                print(f"left out of {folder}: {shown(entry)}: {reason}", file=sys.stderr)
+                told = f"left out of {bufr_guard.shown(str(folder))}: {shown(entry)}: {reason}\n"
+                bufr_guard.say(told.encode(**AS_IT_IS))
                 left_out += 1
                 found.pop(fxy, None)
     return {fxy: alike[0] for fxy, alike in found.items()}, left_out
@@ -250,27 +262,32 @@ def write(path: pathlib.Path, header: list, rows) -> None:
         table.writerows(rows)
 
 
-def main() -> None:
-    if sys.argv[1:] in (["-h"], ["--help"]):
-        sys.exit(print(__doc__))
-    if len(sys.argv) < 3:
-        stop(__doc__)
-    out, *folders = map(pathlib.Path, sys.argv[1:])
+def work(words: list) -> int:
+    if len(words) < 2:
+        raise Failed("OUT and a SOURCE are wanted; convert.py --help tells more")
+    out, *folders = map(pathlib.Path, words)
     elements, sequences, left_out = {}, {}, 0
     for folder in folders:
         for table, entries, refused in zip((elements, sequences), source(folder), (no_element, no_sequence)):
             entries, count = taken(folder, entries, refused)
             table.update(entries)
             left_out += count
-    out.mkdir(parents=True, exist_ok=True)
-    write(out / "B.csv", OURS_B, (elements[fxy] for fxy in sorted(elements)))
     members = ([fxy, member] for fxy in sorted(sequences) for member in sequences[fxy][1:])
-    write(out / "D.csv", OURS_D, members)
-    sys.exit(left_out > 0)
+    out.mkdir(parents=True, exist_ok=True)
+    # Both are written aside first, so that a set that cannot be written whole leaves what was there.
+    tables = {out / name: out / f".{name}.{os.getpid()}" for name in ("B.csv", "D.csv")}
+    try:
+        for aside, header, rows in zip(
+            tables.values(), (OURS_B, OURS_D), ((elements[fxy] for fxy in sorted(elements)), members)
+        ):
+            write(aside, header, rows)
+        for path, aside in tables.items():
+            aside.replace(path)
+    finally:
+        for aside in tables.values():
+            aside.unlink(missing_ok=True)
+    return int(left_out > 0)
 
 
 if __name__ == "__main__":
-    try:
-        main()
-    except (OSError, csv.Error) as error:
-        stop(str(error))
+    bufr_guard.run(work, __doc__)

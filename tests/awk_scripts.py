@@ -24,6 +24,9 @@ def main() -> None:
         for awk in AWKS
         if shutil.which(awk[0])
     }
+    for awk in AWKS:
+        if not shutil.which(awk[0]):
+            print(f"awk_scripts: skipped, {awk[0]} is not installed")
     wrongs = [f"{awk} makes other tables than awk" for awk, tables in made.items() if tables != made["awk"]]
     rows = list(csv.reader(made["awk"][0].decode().splitlines()))
     wrongs += [f"long.awk: {row}, not seven fields" for row in rows if len(row) != 7]

@@ -1,12 +1,16 @@
 #!/usr/bin/env python3
-"""What scripts/bufr-auto writes is what the program writes message by message; it is quick, and leaves nothing behind.
+"""What scripts/bufr-auto writes is what the program writes message by message, as soon as a read has completed it.
 
     tests/bufr_auto.py [PROGRAM]
+
+It encodes by the same rule, is quick, and leaves nothing behind. How it fails failures_of_scripts.py has too.
 """
 import os
 import pathlib
 import random
 import re
+import resource
+import select
 import shutil
 import signal
 import subprocess
@@ -54,7 +58,11 @@ class Trial:
             [*AUTO, *words], input=stream, capture_output=True, env={**self.environment, **environment}, timeout=120
         )
 
-    def one_by_one(self, stream: bytes, tables: pathlib.Path):
+    def tables_of(self, version: int, tables: pathlib.Path = TABLES) -> list:
+        folder = tables / set_of(version)
+        return ["-B", folder / "B.csv", "-D", folder / "D.csv"]
+
+    def one_by_one(self, stream: bytes, tables: pathlib.Path = TABLES):
         """The texts and the fault lines of each message that is dumped alone, and the status."""
         listing = subprocess.run([self.program, "ls"], input=stream, capture_output=True)
         faults = [(int(re.match(rb"offset (\d+)", line)[1]), line) for line in listing.stderr.splitlines(True)]
@@ -62,24 +70,39 @@ class Trial:
         for line in listing.stdout.splitlines():
             found = re.match(rb"offset=(\d+) length=(\d+) .*tables=\d+/(\d+)/", line)
             offset, length, version = map(int, found.groups())
-            folder = tables / set_of(version)
-            words = [self.program, "dump", "-B", folder / "B.csv", "-D", folder / "D.csv"]
+            words = [self.program, "dump", *self.tables_of(version, tables)]
             done = subprocess.run(words, input=stream[offset : offset + length], capture_output=True)
             texts.append(done.stdout)
             status = max(status, done.returncode)
             faults += [(offset, b"offset %d:" % offset + line[9:]) for line in done.stderr.splitlines(True)]
         return b"".join(texts), b"".join(line for _, line in sorted(faults)), status
 
+    def in_pieces(self, stream: bytes, *words: str):
+        """What it gives for a pipe that gets a few octets at a time."""
+        files = [tempfile.TemporaryFile() for _ in range(2)]
+        with subprocess.Popen(
+            [*AUTO, *words], stdin=subprocess.PIPE, stdout=files[0], stderr=files[1], env=self.environment
+        ) as child:
+            at = 0
+            while at < len(stream):
+                at += os.write(child.stdin.fileno(), stream[at : at + random.choice((1, 5, 40, 300))])
+        given = [(file.seek(0), file.read())[1] for file in files]
+        return subprocess.CompletedProcess([], child.returncode, *given)
+
     def compare(self, what: str, stream: bytes) -> None:
         """From standard input and from a file it writes what the messages give one by one, but for the notes."""
         (self.place / "stream").write_bytes(stream)
-        wanted = self.one_by_one(stream, TABLES)
-        for words, given in (((), stream), ((str(self.place / "stream"),), b"")):
-            done = self.auto(*words, stream=given)
+        runs = {"a pipe": self.auto(stream=stream), "a file": self.auto(str(self.place / "stream"))}
+        if len(stream) < 10_000:
+            runs["pieces"] = self.in_pieces(stream)
+        for form, done in runs.items():
             told = b"".join(line for line in done.stderr.splitlines(True) if not line.startswith(b"bufr-auto: "))
-            self.holds(f"{what}, {words}: the texts", done.stdout == wanted[0], (len(done.stdout), len(wanted[0])))
-            self.holds(f"{what}, {words}: the fault lines", told == wanted[1], (told, wanted[1]))
-            self.holds(f"{what}, {words}: the status", done.returncode == wanted[2], done.returncode)
+            self.same(f"{what}, {form}", (done.stdout, told, done.returncode), self.one_by_one(stream))
+
+    def same(self, what: str, given: tuple, wanted: tuple) -> None:
+        """Whether output, errors and status are the same."""
+        for part, one, other in zip(("the output", "the errors", "the status"), given, wanted):
+            self.holds(f"{what}: {part}", one == other, (one, other))
 
     def same_as_one_by_one(self) -> None:
         """Streams at random, one that has many parts, and one without a message."""
@@ -91,14 +114,17 @@ class Trial:
                 data = bytes(random.choices(range(256), k=random.choice((2, 8))))
                 message = made(random.choice(versions), random.choice(LISTS), data)
                 other = [b"BUFR", b"IUSK01 ENMI 010000\r\r\n", message[:-3], message[:7] + b"\2" + message[8:]]
+                other += [b"BUFR\0\0\x0b", b"BUFR\0\0\x0c\x047777", b"BUF", message[:20] + b"7777", b"BUFR\0\1\0\4"]
                 pieces += random.choices((message, random.choice(other)), (4, 1))
             self.compare(f"stream {number}", b"".join(pieces))
         large = [made(random.choice((13, 16, 39)), LISTS[1], b"\1" * 3, section_2=bytes(100_000)) for _ in range(60)]
         large[30:30] = [made(39, LISTS[5], b"")]
         self.compare("parts", b"".join(large))
         self.compare("parts of one set", b"".join([made(39, LISTS[1], b"\1" * 3, section_2=bytes(200_000))] * 30))
-        self.compare("no message", b"BUFR")
-        self.compare("nothing", b"")
+        for stream in (b"", b"BUFR", b"BUFR\0\0\x0b", b"BUFR\0\0\x0c\4", b"xBUFRBUFR\0\0\0\0BU", b"BUFR\xff\xff\xff\4" * 9):
+            self.compare(f"{stream}", stream)
+        held = b"BUFR\xff\xff\xff\4" + made(39, LISTS[1], b"\1" * 3)
+        self.compare("a false word", held + bytes(1 << 24) + held)
 
     def stops(self) -> None:
         """Where a table is at fault what stands before is written, and no more: the status is 2."""
@@ -118,6 +144,154 @@ class Trial:
             done = subprocess.run(AUTO, input=before, stdout=full, stderr=subprocess.PIPE, env=self.environment)
         told = done.stderr.endswith(b"bufr-auto: No space left on device\n")
         self.holds("a full device", told and done.returncode == 2, done)
+
+    def encodes(self) -> None:
+        """Documents of many versions: the messages, or up to the first that is refused, whose line counts in all."""
+        random.seed(67)
+        for number in range(12):
+            texts, versions = [], random.sample(range(4, 42), 5)
+            for _ in range(random.randint(1, 12)):
+                version = random.choice(versions)
+                message = made(version, LISTS[random.choice((0, 1, 2))], bytes(random.choices(range(255), k=3)))
+                words = [self.program, "dump", *self.tables_of(version)]
+                text = subprocess.run(words, input=message, capture_output=True).stdout
+                texts += [random.choice((b"", b"# end\n", b"\n\n")), text]
+            if number % 3 == 1:
+                texts[-1] = texts[-1].replace(b"0121", b"0120").replace(b"00100", b"00200")
+            if number % 3 == 2:
+                texts.insert(random.choice(range(0, len(texts), 2)), random.choice((b"end\n", b"more\n", texts[-1][:-5])))
+            text = b"".join(texts) + random.choice((b"", b"#", b"\n# more"))
+            wanted = self.encoded_one_by_one(text)
+            done = [self.auto("--encode", stream=text), self.in_pieces(text, "--encode")]
+            for form, given in zip(("a pipe", "pieces"), done):
+                told = b"".join(line for line in given.stderr.splitlines(True) if not line.startswith(b"bufr-auto: "))
+                self.same(f"text {number}, {form}", (given.stdout, told, given.returncode), wanted)
+        for text in (b"", b"\n", b"message\n", b"end", b"# " + b"x" * 5000):
+            done = self.auto("--encode", stream=text)
+            told = b"".join(line for line in done.stderr.splitlines(True) if not line.startswith(b"bufr-auto: "))
+            self.same(f"{text[:9]}", (done.stdout, told, done.returncode), self.encoded_one_by_one(text))
+        stream = b"".join(made(version, LISTS[1], b"\1\1\0", section_2=bytes(90_000)) for version in (13, 16, 39)) * 20
+        text = self.auto(stream=stream).stdout
+        done = self.auto("--encode", stream=text)
+        self.same("many parts", (done.stdout, done.stderr, done.returncode), (stream, b"", 0))
+        # A part of several sets, of which one is refused in the middle, and what would follow.
+        text = text + text.replace(b"001001 0 ", b"001001 0x ", 1) + text
+        line = text[: text.index(b"0x")].count(b"\n") + 1
+        done = self.auto("--encode", stream=text)
+        self.same("one refused", (done.stdout, done.stderr, done.returncode), (stream, b"line %d: 50 line\n" % line, 1))
+        note = b"bufr-auto: 1 document, at line 3: version 41 is later than wmo-39\n"
+        text = self.auto(stream=made(39, LISTS[0], b"\1\1")).stdout.replace(b"masterversion 39", b"masterversion 41")
+        done = self.auto("--encode", stream=b"\n\n" + text)
+        self.same("a note", (done.stdout[21:22], done.stderr, done.returncode), (b"\x29", note.replace(b"3", b"1", 1), 0))
+        begin = time.monotonic()
+        with subprocess.Popen([*AUTO, "--encode"], stdin=subprocess.PIPE, stderr=subprocess.PIPE, env=self.environment) as child:
+            child.stdin.write(b"BUFR" + bytes(100) + b"\n")
+            child.stdin.flush()
+            self.holds("no text: the error", child.stderr.readline() == b"line 1: 50 line\n")
+            child.stdin.close()
+        self.holds("no text: the time", time.monotonic() - begin < 20)
+
+    def encoded_one_by_one(self, text: bytes):
+        """The messages, the fault line and the status of documents that are encoded one by one."""
+        messages, before = [], 0
+        for document in re.findall(rb".*?^end(?:\n|\Z)|.+", text, re.S | re.M):
+            version = re.search(rb"^masterversion (\d+)$", document, re.M)
+            words = [self.program, "encode", *self.tables_of(int(version[1]) if version else 39)]
+            done = subprocess.run(words, input=document, capture_output=True)
+            messages.append(done.stdout)
+            if done.returncode:
+                found = re.fullmatch(rb"line (\d+)(.*)", done.stderr, re.S)
+                return b"".join(messages), b"line %d%s" % (before + int(found[1]), found[2]), done.returncode
+            before += document.count(b"\n")
+        return b"".join(messages), b"", 0
+
+    def feeds(self) -> None:
+        """What a read completes is written before the next read: messages of two sets, faults between, and documents."""
+        one, other = made(13, LISTS[1], b"\1\1\0"), made(39, LISTS[0], b"\1\1")
+        texts = [self.one_by_one(message)[0] for message in (one, other)]
+        fault = b"offset %d: %s\n"
+        steps = [
+            (one, texts[0], b""),
+            (other[:30], b"", b""),
+            (other[30:] + one + b"BU", texts[1] + texts[0], b""),
+            (b"FR\0\0\0\1" + b"x" * 4, b"", fault % (len(one * 2 + other), b"2 short length")),
+            (b"BUFR\0\1\0\4" + one, b"", b""),
+        ]
+        last = (texts[0], fault % (len(one * 2 + other) + 12, b"1 cut"))
+        self.feed("messages", [], steps, last, 1)
+        steps = [
+            (texts[0], one, b""),
+            (b"\n\n" + texts[1][:50], b"", b""),
+            (texts[1][50:], other, b""),
+            (b"junk\n", b"", b"line %d: 50 line\n" % (b"".join(texts).count(b"\n") + 3)),
+        ]
+        self.feed("documents", ["--encode"], steps, (b"", b""), 1)
+
+    def feed(self, what: str, words: list, steps: list, last: tuple, status: int) -> None:
+        """Writes each step to a pipe, and waits for what is to come of it."""
+        pipes = dict(stdin=subprocess.PIPE, stdout=subprocess.PIPE, stderr=subprocess.PIPE, bufsize=0)
+        with subprocess.Popen([*AUTO, *words], **pipes, env=self.environment) as child:
+            for number, (given, *wanted) in enumerate([*steps, (None, *last)]):
+                child.stdin.close() if given is None else child.stdin.write(given)
+                for name, file, octets in zip(("output", "errors"), (child.stdout, child.stderr), wanted):
+                    told, end = b"", time.monotonic() + 20
+                    while len(told) < len(octets) and select.select([file], [], [], max(0, end - time.monotonic()))[0]:
+                        told += (more := os.read(file.fileno(), 1 << 16))
+                        if not more:
+                            break
+                    self.holds(f"a feed of {what}, step {number}, {name}", told == octets, (told, octets))
+            rest = child.stdout.read() + child.stderr.read()
+        self.holds(f"a feed of {what}: the end", (rest, child.returncode) == (b"", status), (rest, child.returncode))
+
+    def files(self) -> None:
+        """Several files: offsets of each, with its name; one that cannot be read is told at the end, and passed over."""
+        texts, messages = [], [made(39, LISTS[1], b"\1\1\0"), made(13, LISTS[1], b"\2\1\0")]
+        for number, message in enumerate(messages):
+            (self.place / f"file {number}").write_bytes(b"BUFR" + message + made(41, LISTS[0], b"\1\1"))
+            texts.append(self.one_by_one(b"BUFR" + message + made(41, LISTS[0], b"\1\1"))[0])
+        (self.place / "folder").mkdir()
+        names = ["file 0", "nosuch", "folder", "file 1"]
+        done = subprocess.run([*AUTO, *names], cwd=self.place, env=self.environment, capture_output=True)
+        told = (
+            b"file 0:offset 0: 1 cut\nfile 1:offset 0: 1 cut\n"
+            b"bufr-auto: 2 messages, the first in file 0 at offset 56: version 41 is later than wmo-39\n"
+            b"bufr-auto: cannot open nosuch\nbufr-auto: cannot read folder: Is a directory\n"
+        )
+        self.same("files", (done.stdout, done.stderr, done.returncode), (b"".join(texts), told, 2))
+        for number, text in enumerate(texts):
+            (self.place / f"text {number}").write_bytes(text)
+        (self.place / "text 1").write_bytes(texts[1].replace(b"\n012101 ", b"\n012101 x", 1))
+        names = ["text 0", "text 1", "text 0"]
+        done = subprocess.run([*AUTO, "--encode", *names], cwd=self.place, env=self.environment, capture_output=True)
+        line = texts[1][: texts[1].index(b"\n012101 ") + 1].count(b"\n") + 1
+        wanted = messages[0] + made(41, LISTS[0], b"\1\1")
+        self.holds("texts: the messages", done.stdout == wanted, done)
+        self.holds("texts: the fault", done.stderr.startswith(b"text 1:line %d: 50 line\n" % line), (done, line))
+        self.holds("texts: the status", done.returncode == 1, done)
+
+    def no_message(self) -> None:
+        """A file without a message is told, with what it looks like; the status is that of `bufr`."""
+        synop = TOP / "examples/synop.bufr"
+        for begin, kind, status in (
+            (subprocess.run(["gzip", "-c", synop], stdout=subprocess.PIPE).stdout, "looks like gzip data (zcat)", 0),
+            (b"BZh9", "looks like bzip2 data (bzcat)", 0),
+            (b"\n<!DOCTYPE HTML><p>BUFR", "looks like HTML", 1),
+            (b"<?xml version='1.0'?>", "looks like XML", 0),
+            ((TOP / "examples/synop.txt").read_bytes(), "looks like the text of a dump (--encode)", 0),
+            (b"SMVD01 EKMI 010000\r\r\n", "looks like text", 0),
+            (b"", "is empty", 0),
+            (b"\0\7\xff", None, 0),
+        ):
+            file = self.place / "other"
+            file.write_bytes(begin)
+            done = self.auto(str(file))
+            note = f"bufr-auto: {file} has no message{': it ' + kind if kind else ''}\n".encode()
+            told = done.stderr.splitlines(True)[-1:] == [note]
+            self.holds(f"{kind}", told and (done.stdout, done.returncode) == (b"", status), (done, note))
+        done = self.auto(stream=b"")
+        self.holds("an empty input", done.stderr == b"bufr-auto: standard input has no message: it is empty\n", done)
+        done = self.auto("--encode", stream=b"")
+        self.holds("no text", done.stderr == b"bufr-auto: standard input has no document: it is empty\n", done)
 
     def notes(self) -> None:
         """One for each kind, with a count and the first place, and only where such a descriptor is used."""
@@ -143,19 +317,19 @@ class Trial:
         self.holds("a master table", done.stderr == note, done)
 
     def command_line(self) -> None:
-        """Help, the version, and what is mistaken: more than one file, options, folders of sets, files, the program."""
-        for words in (["--help"], ["-h"]):
-            done = self.auto(*words)
-            self.holds("help", done.returncode == 0 and done.stdout.startswith(b"usage: bufr-auto [FILE]\n"), done)
+        """Help, the version, and what is mistaken: options, folders of sets, files, the program."""
+        for word in ("--help", "-h"):
+            done = self.auto(word)
+            self.holds("help", done.returncode == 0 and b"\n    bufr-auto [FILE..]\n" in done.stdout, done)
             self.holds("help", b"BUFR_TABLES" in done.stdout and done.stderr == b"", done)
         version = subprocess.run([self.program, "--version"], capture_output=True).stdout
-        for words in (["--version"], ["-V"]):
-            self.holds("version", self.auto(*words).stdout == b"bufr-auto, with " + version, self.auto(*words))
+        for word in ("--version", "-V"):
+            self.holds("version", self.auto(word).stdout == b"bufr-auto, with " + version, self.auto(word))
         file = str(TOP / "examples/synop.bufr")
-        for words in ([file, file], [file, "more"], ["--other"], ["--", file, file]):
+        for words in (["--other"], [file, "--other"], ["-x", file]):
             done = self.auto(*words)
-            usage = done.returncode == 2 and done.stdout == b"" and done.stderr.startswith(b"usage: bufr-auto [FILE]\n")
-            self.holds(f"{words} is a usage fault", usage, done)
+            told = done.stderr.startswith(b"bufr-auto: no option -")
+            self.holds(f"{words} is a usage fault", told and (done.returncode, done.stdout) == (2, b""), done)
         shutil.copy(file, self.place / "-dashed")
         done = subprocess.run([*AUTO, "--", "-dashed"], cwd=self.place, env=self.environment, capture_output=True)
         self.holds("a name with a dash", done.stdout == (TOP / "examples/synop.txt").read_bytes(), done)
@@ -173,45 +347,88 @@ class Trial:
             self.holds(f"{words} {environment}", (done.returncode, done.stdout, done.stderr) == wanted, done)
 
     def signals(self) -> None:
-        """Each signal ends it, and what it runs; its copy of standard input has gone, as it has at the end."""
+        """Each signal ends it, and what it runs. What it had in files has gone, as it has at the end."""
         temporary = self.place / "temporary"
-        stream = (TOP / "examples/synop.bufr").read_bytes() * 1000
-        # A program whose dump does not end, and says so.
+        # A program that does not end, and says so.
         slow = self.place / "slow"
-        slow.write_text(
-            f'#!/bin/sh\n[ "$1" = ls ] && exec "{self.program}" "$@"\n'
-            f'echo $$ > "{self.place}/begun"\nmv "{self.place}/begun" "{self.place}/number"\nexec sleep 60\n'
-        )
+        slow.write_text(f'#!/bin/sh\necho $$ > "{self.place}/begun"\nmv "{self.place}/begun" "{self.place}/number"\nexec sleep 60\n')
         slow.chmod(0o755)
         # A job in the background ignores some signals, and what it starts would too.
         for number in (signal.SIGINT, signal.SIGHUP):
             signal.signal(number, signal.SIG_DFL)
-        for number in (signal.SIGINT, signal.SIGTERM, signal.SIGHUP, signal.SIGPIPE):
+        for number in (signal.SIGINT, signal.SIGTERM, signal.SIGHUP):
             for program in (self.program, str(slow)):
                 (self.place / "number").unlink(missing_ok=True)
                 environment = {**self.environment, "BUFR": program}
-                child = subprocess.Popen(
-                    AUTO, stdin=subprocess.PIPE, stdout=subprocess.PIPE, stderr=subprocess.DEVNULL, env=environment
-                )
-                # More than a pipe holds: when it is written, its reader has begun.
-                child.stdin.write(stream)
-                child.stdin.flush()
-                if program != self.program:
-                    child.stdin.close()
+                child = subprocess.Popen(AUTO, stdin=subprocess.PIPE, stdout=subprocess.PIPE, env=environment, bufsize=0)
+                child.stdin.write(made(39, LISTS[1], b"\1\1\0"))
+                if program == self.program:
+                    child.stdout.read(1)
+                else:
                     self.wait((self.place / "number").exists)
                 child.send_signal(number)
                 status = child.wait(timeout=30)
-                child.stdin.close() if program == self.program else None
+                child.stdin.close()
                 child.stdout.close()
-                what = f"{signal.Signals(number).name} while it {'reads' if program == self.program else 'dumps'}"
+                what = f"{signal.Signals(number).name} while it {'waits' if program == self.program else 'dumps'}"
                 self.holds(f"{what}: the status", status == -number, status)
                 self.holds(f"{what}: what is left", not list(temporary.iterdir()), list(temporary.iterdir()))
                 if program != self.program:
                     started = int((self.place / "number").read_text())
                     has_gone = self.wait(lambda: not pathlib.Path(f"/proc/{started}").exists())
                     self.holds(f"{what}: what still runs", has_gone)
-        self.auto(stream=stream)
+        self.auto(stream=made(39, LISTS[1], b"\1\1\0"))
         self.holds("the end: what is left", not list(temporary.iterdir()), list(temporary.iterdir()))
+
+    def ends(self) -> None:
+        """A reader that has gone, a file that becomes shorter, a signal of children that is ignored."""
+        many = b"".join(made(version, LISTS[1], b"\1\1\0", section_2=bytes(60_000)) for version in (13, 39))
+        for stream, told in ((many * 20, b"bufr-auto: Broken pipe\n"), (many[: len(many) // 2] * 20, b"bufr: 71 write failed\n")):
+            (self.place / "stream").write_bytes(stream)
+            pipes = dict(stdout=subprocess.PIPE, stderr=subprocess.PIPE, env=self.environment)
+            with subprocess.Popen([*AUTO, str(self.place / "stream")], **pipes) as child:
+                child.stdout.close()
+                errors = child.stderr.read()
+            self.holds("a reader that has gone", (child.returncode, errors) == (2, told), (child.returncode, errors))
+        # The file is cut while a first part is dumped.
+        other = self.place / "other"
+        other.write_text(f'#!/bin/sh\nhead -c 5000000 "$STREAM" > "$STREAM.1"\ncat "$STREAM.1" > "$STREAM"\nexec "{self.program}" "$@"\n')
+        other.chmod(0o755)
+        (self.place / "stream").write_bytes(many * 80)
+        words = {"BUFR": str(other), "STREAM": str(self.place / "stream")}
+        done = self.auto(str(self.place / "stream"), **words)
+        told = f"bufr-auto: {self.place}/stream became shorter while it was read\n".encode()
+        whole = self.one_by_one(many)[0] * 80
+        is_prefix = whole.startswith(done.stdout) and done.stdout.endswith(b"\nend\n")
+        self.holds("a file that becomes shorter", is_prefix and (done.returncode, done.stderr) == (2, told), done.stderr)
+        # What a child gives is not whole, and it says nothing of that.
+        other.write_text(f'#!/bin/sh\n"{self.program}" "$@" | head -c 3000\n')
+        done = self.auto(stream=made(13, LISTS[1], b"\1\1\0") * 9 + made(39, LISTS[1], b"\1\1\0"), BUFR=str(other))
+        told = b"bufr-auto: cannot go on: bufr gave less than it was to give\n"
+        self.holds("a text that is cut", (done.returncode, done.stderr) == (2, told), done)
+        ignoring = "import os, signal, sys; signal.signal(signal.SIGCHLD, signal.SIG_IGN); os.execv(sys.argv[1], sys.argv[1:])"
+        words = [sys.executable, "-c", ignoring, *AUTO, str(TOP / "examples/synop.bufr")]
+        done = subprocess.run(words, env=self.environment, capture_output=True)
+        self.holds("ended children are ignored", done.stdout == (TOP / "examples/synop.txt").read_bytes(), done)
+
+    def start_up(self) -> None:
+        """One message takes at most 1.8 times a Python that does nothing, one `bufr ls` and one `bufr dump`.
+
+        Python is asked not to load what an installation has added, which would hide what the script loads.
+        """
+        environment = {**self.environment, "PYTHONPYCACHEPREFIX": str(self.place / "cache")}
+        environment.pop("PYTHONDONTWRITEBYTECODE", None)
+        synop, python = TOP / "examples/synop.bufr", [sys.executable, "-S"]
+        alone = ([*python, "-c", "pass"], [self.program, "ls", synop], [self.program, "dump", *self.tables_of(39), synop])
+        runs = [[*python, AUTO[1], synop], *alone]
+        least = [1e9] * len(runs)
+        for number in range(41):
+            for at, words in enumerate(runs):
+                seconds = lib.seconds_of(words, env=environment, stdout=subprocess.DEVNULL)
+                least[at] = min(least[at], seconds) if number else 1e9  # the first run fills the cache
+        times = least[0] / sum(least[1:])
+        print(f"bufr_auto: one message in {1000 * least[0]:.0f} ms, {times:.2f} times its bare parts")
+        self.holds("times the bare parts at the start", times <= 1.8, times)
 
     def wait(self, is_so) -> bool:
         end = time.monotonic() + 20
@@ -228,21 +445,20 @@ class Trial:
             versions.append(bytes(message))
         archive = self.place / "archive"
         archive.write_bytes(b"".join(versions) * 12_500)
-        tables = ["-B", TABLES / "wmo-39/B.csv", "-D", TABLES / "wmo-39/D.csv"]
         # Other programs may disturb one of the two: of three tries the best counts.
-        ratios = []
-        while len(ratios) < 3 and min(ratios, default=4) > 3:
+        times = []
+        while len(times) < 3 and min(times, default=4) > 3:
             seconds = []
-            for words in ([self.program, "dump", *tables, archive], [*AUTO, archive]):
-                begin = time.monotonic()
-                dump = subprocess.Popen(words, stdout=subprocess.PIPE, env=self.environment)
-                texts = subprocess.run(["grep", "-cx", "end"], stdin=dump.stdout, stdout=subprocess.PIPE).stdout
-                status = dump.wait()
-                seconds.append(time.monotonic() - begin)
-                self.holds(f"{words[0]} of the archive", (status, texts) == (0, b"50000\n"), (status, texts))
-            ratios.append(seconds[1] / seconds[0])
-            print("bufr_auto: 50,000 messages of four versions in {1:.1f} s, one dump {0:.1f} s".format(*seconds))
-        self.holds("times the seconds of one dump", min(ratios) <= 3, ratios)
+            for words in ([self.program, "dump", *self.tables_of(39), archive], [*AUTO, archive]):
+                begin = resource.getrusage(resource.RUSAGE_CHILDREN)
+                with subprocess.Popen(words, stdout=subprocess.PIPE, env=self.environment) as dump:
+                    texts = subprocess.run(["grep", "-cx", "end"], stdin=dump.stdout, stdout=subprocess.PIPE).stdout
+                end = resource.getrusage(resource.RUSAGE_CHILDREN)
+                seconds.append(end.ru_utime + end.ru_stime - begin.ru_utime - begin.ru_stime)
+                self.holds(f"{words[0]} of the archive", (dump.returncode, texts) == (0, b"50000\n"), (dump.returncode, texts))
+            times.append(seconds[1] / seconds[0])
+            print("bufr_auto: the processors take {1:.1f} s for 50,000 messages of four versions, {0:.1f} s for one dump".format(*seconds))
+        self.holds("times the seconds of one dump", min(times) <= 3, times)
 
 
 def main() -> None:
@@ -250,9 +466,15 @@ def main() -> None:
         trial = Trial(place)
         trial.same_as_one_by_one()
         trial.stops()
+        trial.encodes()
+        trial.feeds()
+        trial.files()
+        trial.no_message()
         trial.notes()
         trial.command_line()
         trial.signals()
+        trial.ends()
+        trial.start_up()
         trial.speed()
     finish(trial.complaints)
 

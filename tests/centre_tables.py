@@ -64,6 +64,19 @@ def made(version: int, local: int, centre: int, descriptors: str, data: bytes) -
     return lib.asking(lib.message(data, lib.words(descriptors)), version, local, centre)
 
 
+def nearest_own_set(tables: pathlib.Path, script, message: bytes, holds) -> None:
+    """Of a centre's own sets between a version and WMO's next later one the nearest serves: 10 for version 9."""
+    name = "MADE UP: KIND OF BUOY"
+    for version in (8, 10, 11, 12):
+        shutil.copytree(tables / "wmo-13+98-102", tables / f"wmo-{version}+98-102")
+        table_b = tables / f"wmo-{version}+98-102/B.csv"
+        table_b.write_text(table_b.read_text(encoding="utf-8").replace(name, f"OF SET {version}"), encoding="utf-8")
+    status, output, _ = script("bufr-auto", message)
+    holds("the nearest own set", (status, "OF SET 10 " in output), (0, True))
+    for version in (8, 10, 11, 12):
+        shutil.rmtree(tables / f"wmo-{version}+98-102")
+
+
 def main() -> None:
     complaints = []
 
@@ -115,6 +128,16 @@ def main() -> None:
         holds("encode", done.stdout, message)
         holds("bufr-lacks behind", script("bufr-lacks", message + b"".join(others)), (1, other_lines, ""))
         holds("nothing lacks", script("bufr-lacks", message), (0, "", ""))
+        holds("a fault alone", script("bufr-lacks", b"BUFR" + message), (1, "", "offset 0: 1 cut\n"))
+        (place / "stream").write_bytes(b"BUFR" + message + b"".join(others))
+        for name, output, errors in (("bufr-lacks", other_lines, ""), ("bufr-auto", TEXT, "offset")):
+            with open(place / "stream", "rb", buffering=0) as stream:
+                stream.seek(4)
+                words = [sys.executable, TOP / "scripts" / name]
+                done = subprocess.run(words, stdin=stream, capture_output=True, env=environment)
+            told = (done.returncode, done.stdout.decode(), done.stderr.decode()[:6])
+            holds(f"{name} from octet 4 on", told, (1, output, errors))
+        nearest_own_set(place / "tables", script, message_9, holds)
         status, output, _ = script("bufr-auto", b"".join(others))
         holds("those of others", (status, output), (1, ""))
 

@@ -1,5 +1,5 @@
 #!/usr/bin/env bash
-# What the completions offer behind --form, in bash and, where it is installed, in zsh.
+# What the completions offer: behind --form, in bash and, where it is installed, in zsh; and for the scripts, in bash.
 set -eu
 . "$(dirname "$0")/lib.sh"
 
@@ -7,18 +7,37 @@ set -eu
 offers() {
     local wanted=$1
     shift
-    COMP_WORDS=(bufr "$@") COMP_CWORD=$# COMPREPLY=()
-    _bufr
-    [ "${COMPREPLY[*]}" = "$wanted" ] || fail "bash offers '${COMPREPLY[*]}' behind '$*', not '$wanted'"
+    COMP_WORDS=("$program" "$@") COMP_CWORD=$# COMPREPLY=()
+    set +e
+    "$function"
+    set -e
+    [ "${COMPREPLY[*]}" = "$wanted" ] || fail "bash offers '${COMPREPLY[*]}' behind '$program $*', not '$wanted'"
 }
 
+# Bash has this only while it completes.
+compopt() { true; }
+
 . completions/bufr.bash
+program=bufr function=_bufr
 offers 'plain compressed' encode --form ''
 offers 'compressed' encode --form c
 offers 'plain compressed' encode --form =
 offers 'plain' encode --form = p
 offers '-B -D --form --help' encode -
 offers '--form' encode --f
+. completions/bufr-scripts.bash
+function=_bufr_scripts program=bufr-auto
+offers '--encode' --e
+offers 'examples/synop.bufr' --encode examples/synop.b
+program=bufr-extract
+offers 'tables= time=' t
+offers '' --awk ''
+offers 'examples/synop.bufr' time=2024 examples/synop.b
+program=bufr-parallel
+offers 'dump' d
+offers 'tables/wmo-39/B.csv' -P 2 dump -B tables/wmo-39/B
+program=bufr-plot
+offers 'map sounding' ''
 
 command -v zsh > /dev/null || { echo "$0: zsh is not there, its completions are skipped" && exit; }
 # A shell in a terminal of its own types the line and a tab, and is then asked what the line has become.

@@ -1,11 +1,17 @@
 #!/usr/bin/env python3
-"""Tries scripts/wide.awk and scripts/levels.awk by each awk that is there: rows, and columns that are told or refused.
+"""Tries scripts/wide.awk and scripts/levels.awk by each awk that is there: rows, and columns that are told or refused;
+rows joined to a listing; and how long they take.
 
     tests/csv_by_awk.py [PROGRAM]
 """
 import csv
+import os
+import pathlib
+import re
+import resource
 import shutil
 import subprocess
+import tempfile
 
 import lib
 from awk_scripts import AWKS
@@ -40,13 +46,34 @@ end
 """
 # passes that begin and end with the same descriptor, two and three of them
 ENCLOSED = b"message\nsubset 1\n031001 %d\n" + b"008002 1\n020011 2\n008002 MISSING\n" * 3 + b"end\n"
-WORDS = ["airTemperature", "01210", "0121011", "412101", "064001", "001256", "012101,x"]
+# escapes, what is passed over, and comments whose octets are no characters
+ODD = b"""# a note
+
+message
+edition 4
+centre 74
+subset 1
+012101 28.5  # T\xDF [\xB0C]
+R 012101 -400
+001015 "A \\"B\\\\"  # N\xDF [\xB0C]
+001015 "\\\\\\\\\\" # \\\\\\"  "  # N\xDF [\xB0C]
+012101 MISSING  # T\xDF [\xB0C]
+001015 ""
+end
+"""
+# behind two passes come an item that is not asked for, and one that is
+BEHIND = b"message\nsubset 1\n031001 2\n007004 1\n012101 1.0\n007004 2\n012103 2.0\n002001 1\n012101 3.0\nend\n"
+WORDS = ["airTemperature", "01210", "0121011", "412101", "064001", "001256", "012101,x", "012101,", "local1", "optiona"]
 
 
 def run(awk: list, script: str, text: bytes, **variables) -> tuple:
     words = [word for name, value in variables.items() for word in ("-v", f"{name}={value}")]
     done = subprocess.run(
-        [*awk, *words, "-f", TOP / "scripts" / script], input=text, stdout=subprocess.PIPE, stderr=subprocess.PIPE
+        [*awk, *words, "-f", TOP / "scripts" / script],
+        input=text,
+        stdout=subprocess.PIPE,
+        stderr=subprocess.PIPE,
+        env={**os.environ, "LC_ALL": "C.UTF-8"},
     )
     return done.returncode, done.stdout.decode(), done.stderr.decode()
 
@@ -59,9 +86,96 @@ def tries_wide(awk: list, text: bytes) -> None:
         run(awk, "wide.awk", text, columns="001002,012101:2,012104") == wanted,
         f"{awk}: wide.awk tells no empty columns",
     )
+    status, output, errors = run(awk, "wide.awk", ODD, columns="centre,012101,012101:2,001015,001015:2,001015:3")
+    rows = list(csv.reader(output.splitlines()))[1:]
+    wanted = ["1", "1", "74", "28.5", "", 'A \\"B\\\\', '\\\\\\\\\\" # \\\\\\"', ""]
+    want((status, rows, errors) == (0, [wanted], ""), f"{awk}: of odd texts wide.awk makes {rows}: {errors}")
+    head = re.findall(rb"^(\w+) (\d+)$", text, re.M)[:20]
+    status, output, errors = run(awk, "wide.awk", text, columns=",".join(key.decode() for key, _ in head))
+    row = output.splitlines()[-1].split(",")
+    want(row == ["1", "3", *(value.decode() for _, value in head)], f"{awk}: the header's columns are {row}")
     for word in [*WORDS, "012101:0", "012101:", "012101:x"]:
         status, output, errors = run(awk, "wide.awk", text, columns=word)
         want(status == 2 and not output and "no descriptor of six digits" in errors, f"{awk}: wide.awk takes {word}")
+    want(run(awk, "wide.awk", text)[0] == 2, f"{awk}: wide.awk takes no columns")
+    status, _, errors = run(awk, "wide.awk", text[:-4], columns="001001")
+    want((status, errors) == (2, "wide.awk: the text ends inside a message\n"), f"{awk}: a cut text gives {errors}")
+
+
+class Stream:
+    """A stream with messages that are refused between others, its text, and the files of its listing and its faults."""
+
+    def __init__(self, folder: pathlib.Path) -> None:
+        # version 13 lacks sequences and elements of some of these messages
+        tables = [word.replace("wmo-39", "wmo-13") for word in TABLES]
+        paths = sorted((TOP / "examples").glob("*.bufr"), key=lambda path: path.stem != "sounding")
+        octets = b"".join(path.read_bytes() + b"BUFR" for path in paths)
+        self.sounding = octets.index((TOP / "examples/sounding.bufr").read_bytes())
+        (folder / "stream").write_bytes(octets)
+        self.listing, self.faults, self.empty = folder / "listing", folder / "faults", folder / "empty"
+        self.empty.touch()
+        for path, words, output in ((self.listing, ["ls"], 1), (self.faults, ["dump", *tables], 2)):
+            done = subprocess.run(
+                [lib.program(), *words, folder / "stream"], stdout=subprocess.PIPE, stderr=subprocess.PIPE
+            )
+            path.write_bytes(done.stdout if output == 1 else done.stderr)
+        self.text, self.places = done.stdout, []
+        # which messages are dumped, by a run for each alone
+        for offset, length in re.findall(rb"^offset=(\d+) length=(\d+) ", self.listing.read_bytes(), re.M):
+            one = octets[int(offset) : int(offset) + int(length)]
+            words = [lib.program(), "dump", *tables]
+            if subprocess.run(words, input=one, stdout=subprocess.PIPE, stderr=subprocess.DEVNULL).stdout:
+                self.places.append((offset.decode(), length.decode()))
+
+
+def tries_offsets(awk: list, stream: Stream) -> None:
+    files = {"listing": stream.listing, "faults": stream.faults}
+    status, output, errors = run(awk, "wide.awk", stream.text, columns="offset,length", **files)
+    rows = [tuple(row.split(",")) for row in output.splitlines()[1:]]
+    wanted = [place for number, place in enumerate(stream.places, 1) if str(number) in {row[0] for row in rows}]
+    want((status, errors) == (0, ""), f"{awk}: offsets end with {status}: {errors}")
+    want(list(dict.fromkeys(row[2:] for row in rows)) == wanted, f"{awk}: the offsets are {rows}, not {wanted}")
+    status, output, errors = run(awk, "levels.awk", stream.text, keep="offset,year", columns="007004", **files)
+    rows = {tuple(row.split(",")[2:4]) for row in output.splitlines()[1:]}
+    want((str(stream.sounding), "2023") in rows and status == 0, f"{awk}: levels have offsets {rows}: {errors}")
+    for script, columns in (("wide.awk", {"columns": "length"}), ("levels.awk", {"keep": "offset", "columns": "007004"})):
+        for given, told in [
+            ({}, "offset and length need the files"),
+            ({"listing": stream.listing}, "offset and length need the files"),
+            ({"listing": stream.listing, "faults": stream.empty}, "the listing has more messages than the text"),
+            ({"listing": stream.empty, "faults": stream.faults}, "the text has more messages than the listing"),
+            ({"listing": stream.faults, "faults": stream.faults}, "is no listing"),
+            ({"listing": "nosuch", "faults": stream.faults}, "cannot read nosuch"),
+            ({"listing": stream.listing, "faults": "nosuch"}, "cannot read nosuch"),
+        ]:
+            status, _, errors = run(awk, script, stream.text, **columns, **given)
+            want(status == 2 and told in errors, f"{awk}: {script} with {given} ends with {status}: {errors}")
+
+
+def seconds(words: list, path: pathlib.Path) -> float:
+    """The processor's time of a run in a locale of many octets a character; the least of three."""
+    spent = []
+    for _ in range(3):
+        before = resource.getrusage(resource.RUSAGE_CHILDREN)
+        with open(path, "rb") as text, open(os.devnull, "wb") as aside:
+            subprocess.run(words, stdin=text, stdout=aside, stderr=aside, env={**os.environ, "LC_ALL": "C.UTF-8"})
+        after = resource.getrusage(resource.RUSAGE_CHILDREN)
+        spent.append(after.ru_utime + after.ru_stime - before.ru_utime - before.ru_stime)
+    return min(spent)
+
+
+def tries_speed(awk: list, text: bytes, folder: pathlib.Path) -> None:
+    """Items that were not asked for cost little more than their lines. To look at all takes 12 times as long."""
+    path = folder / "text"
+    path.write_bytes(text * (16_000_000 // len(text)))
+    least = seconds([*awk, '$1 == "012101" { count++ } END { print count }'], path)
+    for script, columns, most in [
+        ("wide.awk", ["columns=001001,001002,012101"], 2),
+        ("levels.awk", ["keep=001001", "columns=007004,012101,012103"], 4),
+    ]:
+        words = [word for column in columns for word in ("-v", column)]
+        spent = seconds([*awk, *words, "-f", TOP / "scripts" / script], path)
+        want(spent < most * least, f"{awk}: {script} takes {spent / least:.1f} times as long as a count, over {most}")
 
 
 def tries_levels(awk: list, sounding: bytes, synop: bytes) -> None:
@@ -78,24 +192,43 @@ def tries_levels(awk: list, sounding: bytes, synop: bytes) -> None:
         run(awk, "levels.awk", sounding, keep="001015", columns="007004,011061") == wanted,
         f"{awk}: the wind shear is another",
     )
-    clouds = run(awk, "levels.awk", synop, keep="001015", columns="020012,020011")
-    wanted = 'message,subset,001015,020012,020011\n1,2,"HEATHROW",7,2\n1,2,"HEATHROW",8,5\n1,2,"HEATHROW",5,8\n1,3,"SAENTIS",3,1\n1,3,"SAENTIS",6,8\n'
-    want(clouds == (0, wanted, ""), f"{awk}: the clouds are {clouds}")
+    status, output, errors = run(awk, "levels.awk", synop, keep="year,001015", columns="020012,020011")
+    wanted = "message,subset,year,001015,020012,020011\n"
+    wanted += "".join(f"1,{row}\n" for row in ['2,2023,"HEATHROW",7,2', '2,2023,"HEATHROW",8,5', '2,2023,"HEATHROW",5,8'])
+    wanted += '1,3,2023,"SAENTIS",3,1\n1,3,2023,"SAENTIS",6,8\n'
+    told = "levels.awk: subsets without such a level: 1, the first is message 1 subset 1\n"
+    want((status, output, errors) == (0, wanted, told), f"{awk}: the clouds are {output}: {errors}")
     # an item behind a group of two passes or more belongs to none of them
     rows = "message,subset,012101,007004,012101,011001\n1,1,1.0,100,5.0,1\n1,1,1.0,200,,\n1,1,1.0,300,7.0,\n"
     rows += "1,1,1.0,400,9.0,\n1,1,1.0,500,9.5,\n"
     nested = run(awk, "levels.awk", NESTED, keep="012101", columns="007004,012101,011001")
     want(nested == (0, rows, ""), f"{awk}: nested groups give {nested}")
     behind = run(awk, "levels.awk", NESTED, columns="007004,012103")
-    want(
-        behind
-        == (0, "message,subset,007004,012103\n", "levels.awk: no row has 007004\nlevels.awk: no row has 012103\n"),
-        f"{awk}: an item behind all passes is in a row: {behind}",
-    )
-    for passes in (2, 3):
-        status, _, errors = run(awk, "levels.awk", ENCLOSED % passes, columns="008002,020011")
-        told = (2, "levels.awk: message 1 subset 1: 008002 comes twice in a level\n")
-        want((status, errors) == told, f"{awk}: passes that cannot be told apart give {status}, {errors}")
+    told = "levels.awk: no row has 007004\nlevels.awk: no row has 012103\n"
+    told += "levels.awk: subsets without such a level: 1, the first is message 1 subset 1\n"
+    wanted = (0, "message,subset,007004,012103\n", told)
+    want(behind == wanted, f"{awk}: an item behind all passes is in a row: {behind}")
+    behind = run(awk, "levels.awk", BEHIND, columns="007004,012101,012103")
+    wanted = (0, "message,subset,007004,012101,012103\n1,1,1,1.0,\n1,1,2,,2.0\n", "")
+    want(behind == wanted, f"{awk}: an item behind two passes is in a row: {behind}")
+    # passes that cannot be told apart, between others: the rest is given
+    both = BEHIND[:-4] + b"".join((ENCLOSED % 3).splitlines(True)[2:])
+    between = both + NESTED + ENCLOSED % 2 + ODD + NESTED
+    status, output, errors = run(awk, "levels.awk", between, columns="007004,012101")
+    told = "levels.awk: subsets without such a level: 1, the first is message 4 subset 1\n"
+    told += "levels.awk: subsets with a descriptor twice in a level: 2, the first is message 1 subset 1: 008002\n"
+    want((status, errors) == (1, told), f"{awk}: passes that cannot be told apart give {status}, {errors}")
+    rows = [line.split(",")[0] for line in output.splitlines()[1:]]
+    want(rows == ["2"] * 5 + ["5"] * 5, f"{awk}: beside passes that cannot be told apart there are {output}")
+    # three passes, of which the second has lines that are no items
+    head, one, rest = (b"".join(ODD.splitlines(True)[part]) for part in (slice(6), slice(6, 10), slice(10, None)))
+    odd = head + b"031001 3\n" + one + b"\n# a note\n" + one + one + rest
+    status, output, errors = run(awk, "levels.awk", odd, keep="centre", columns="012101,001015")
+    rows = list(csv.reader(output.splitlines()))[1:]
+    wanted = (0, [["1", "1", "74", "28.5", 'A \\"B\\\\']] * 3, "")
+    want((status, rows, errors) == wanted, f"{awk}: of odd texts levels.awk makes {rows}: {errors}")
+    status, _, errors = run(awk, "levels.awk", NESTED[:-4], columns="007004")
+    want((status, errors) == (2, "levels.awk: the text ends inside a message\n"), f"{awk}: a cut text gives {errors}")
     for word in WORDS:
         for names in ({"columns": word}, {"keep": word, "columns": "007004"}):
             status, output, errors = run(awk, "levels.awk", sounding, **names)
@@ -113,12 +246,18 @@ def main() -> None:
         ).stdout
         for name in ("synop", "sounding")
     )
-    for awk in AWKS:
-        if not shutil.which(awk[0]):
-            print(f"csv_by_awk: skipped, {awk[0]} is not installed")
-            continue
-        tries_wide(awk, synop)
-        tries_levels(awk, sounding, synop)
+    with tempfile.TemporaryDirectory() as place:
+        folder = pathlib.Path(place)
+        stream = Stream(folder)
+        for awk in AWKS:
+            if not shutil.which(awk[0]):
+                print(f"csv_by_awk: skipped, {awk[0]} is not installed")
+                continue
+            tries_wide(awk, synop)
+            tries_levels(awk, sounding, synop)
+            tries_offsets(awk, stream)
+            if awk == ["gawk"]:
+                tries_speed(awk, synop + sounding, folder)
 
 
 if __name__ == "__main__":

@@ -6,8 +6,9 @@
 A fenced block whose first line begins with `$ ` has commands: each line that begins so, with the lines after it that
 begin with `> `. Below a command stands what it writes, both outputs as one. There a line `...` stands for any lines,
 and a line `(status N)` at the end for a status other than 0. All commands of a document run one after another in one
-shell. They begin in an empty folder, with `bufr` on the path and links to examples/, scripts/ and tables/. A block
-whose fence ends in `if=WORD` is skipped where neither a program nor a module of python3 has that name.
+shell. They begin in an empty folder, with `bufr` on the path and links to examples/, scripts/ and tables/: those of the
+repository, or of the installation that has the document. A block whose fence ends in `if=WORD` is skipped where neither
+a program nor a module of python3 has that name.
 """
 import os
 import pathlib
@@ -17,7 +18,7 @@ import subprocess
 import sys
 import tempfile
 
-from lib import DOCS, TOP, finish, program
+from lib import DOCS, finish, program
 
 
 def is_there(word: str) -> bool:
@@ -54,7 +55,8 @@ def alike(wanted: list, said: list) -> bool:
 
 def wrongs(path: pathlib.Path) -> list:
     """Runs a document's commands. Returns those that say something else."""
-    doc, told, wrong = path.relative_to(TOP), [], []
+    top = next(folder for folder in path.parents if (folder / "examples").is_dir())
+    doc, told, wrong = path.relative_to(top), [], []
     for first, needs, lines in blocks(path.read_text(encoding="utf-8")):
         if needs and not is_there(needs):
             print(f"docs_commands: {doc}:{first}: skipped, {needs} is not there")
@@ -65,7 +67,7 @@ def wrongs(path: pathlib.Path) -> list:
         folder.mkdir(), kept.mkdir(), (kept / "bin").mkdir()
         (kept / "bin/bufr").symlink_to(program())
         for name in ("examples", "scripts", "tables"):
-            (folder / name).symlink_to(TOP / name)
+            (folder / name).symlink_to(top / name)
         script = ["export LC_ALL=C.UTF-8"]
         for number, words, _ in told:
             (kept / f"{number}.sh").write_text("\n".join(words) + "\n")
@@ -83,5 +85,5 @@ def wrongs(path: pathlib.Path) -> list:
 
 
 if __name__ == "__main__":
-    docs = [pathlib.Path(doc).resolve() for doc in sys.argv[2:]] or DOCS
+    docs = [pathlib.Path(doc).absolute() for doc in sys.argv[2:]] or DOCS
     finish([wrong for doc in docs for wrong in wrongs(doc)])

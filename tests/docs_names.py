@@ -6,17 +6,21 @@
 - of all pages: links and paths;
 - of docs/guide.md: octets and items of the example files, and the differences from ecCodes;
 - of tables/README.md: the counts of the tables;
-- of the man page: its faults, and, where they are there, that `mandoc` and `groff` do not complain;
-- of the man page and the completions: commands and options.
+- of the man pages: the faults of that of `bufr`, and, where they are there, that `mandoc` and `groff` do not complain;
+- of the man pages and the completions: commands and options, of the scripts too;
+- of all pages: which Python the scripts need.
 """
 import csv
+import os
 import pathlib
 import re
 import shutil
 import subprocess
+import sys
 
 from lib import DOCS, FAULT, TOP, finish, program
 
+PYTHON = "3.9"
 complaints = []
 
 
@@ -88,9 +92,26 @@ def man_page() -> None:
         told |= set(re.findall(r"(?:^| , )(\d+) ", item))
     want(faults == told, f"man/bufr.1: of the faults {sorted(faults ^ told)} stand here or in docs/texts.md alone")
     for command in (["mandoc", "-T", "lint"], ["groff", "-ww", "-mandoc", "-T", "utf8", "-z"]):
-        if shutil.which(command[0]):
-            done = subprocess.run([*command, TOP / "man/bufr.1"], stdout=subprocess.PIPE, stderr=subprocess.STDOUT)
-            want(not done.stdout, f"man/bufr.1: {done.stdout.decode().strip()}")
+        if not shutil.which(command[0]):
+            print(f"docs_names: skipped, {command[0]} is not installed")
+            continue
+        for path in sorted(TOP.glob("man/*.1")):
+            done = subprocess.run([*command, path], stdout=subprocess.PIPE, stderr=subprocess.STDOUT, text=True)
+            # Where the other pages are is a matter of the installation.
+            told = [line for line in done.stdout.splitlines() if "not found: Xr" not in line and "mandoc.db" not in line]
+            want(not told, f"{path.name}: {told}")
+
+
+def python_version() -> None:
+    """Each page that says which Python the scripts need says the same one."""
+    pages = ["README.md", "CHANGELOG.md", "CONTRIBUTING.md", "docs/guide.md", "tables/README.md"]
+    pages += sorted(str(path.relative_to(TOP)) for path in [*TOP.glob("man/*"), TOP / "build_wheel.py"])
+    told = {page: set(re.findall(r"Python (3\.\d+)|Requires-Python: >=(3\.\d+)", read(page))) for page in pages}
+    told = {page: {"".join(version) for version in versions} for page, versions in told.items()}
+    for page in ("README.md", "CHANGELOG.md", "docs/guide.md", "man/bufr.1", "build_wheel.py"):
+        want(told[page] != set(), f"{page} does not say which Python the scripts need")
+    for page, versions in told.items():
+        want(versions <= {PYTHON}, f"{page} says Python {' and '.join(sorted(versions))}, not {PYTHON}")
 
 
 def commands_and_options() -> None:
@@ -115,6 +136,38 @@ def commands_and_options() -> None:
             want(known, f"{name} has no {option}")
 
 
+def scripts() -> None:
+    """Each script has a man page, completions and a place in `man bufr`, with the options and keys of its help."""
+    zsh = read("completions/_bufr_scripts")
+    names = sorted(path.name for path in TOP.glob("scripts/bufr-*"))
+    want(zsh.split("\n")[0] == " ".join(["#compdef", *names]), "completions/_bufr_scripts: its first line has other scripts")
+    for name in names:
+        words = [sys.executable, TOP / "scripts" / name, "--help"]
+        done = subprocess.run(words, stdout=subprocess.PIPE, env={**os.environ, "BUFR": program()})
+        told = re.sub(r"bufr dump .*\|", "", done.stdout.decode())  # options of `bufr` in an example
+        options = set(re.findall(r"(?<![\w-])(--?[A-Za-z]\w*)", told)) - {"-h", "-V"} | {"--help", "--version"}
+        path = TOP / "man" / f"{name}.1"
+        page = path.read_text(encoding="utf-8") if path.exists() else ""
+        told = {f"-{word}" for word in re.findall(r"(?:Fl|\||,) (-?[A-Za-z]\w*)", page) if len(word.strip("-")) == 1 or word[0] == "-"}
+        want(options <= told, f"man/{path.name}: it has no {sorted(options - told)}")
+        want(f".Xr {name} 1" in read("man/bufr.1"), f"man/bufr.1: {name} is not among the other pages")
+        of_zsh = re.search(rf"^        {name}\)(.*?);;$", zsh, re.M | re.S)
+        offered = of_zsh[1].replace("$tables", zsh.partition("tables=(")[2].partition("\n")[0]) if of_zsh else ""
+        offered = set(re.findall(r"'\*?(--?\w+)\[", offered))
+        want(offered == options - {"--help", "--version"}, f"completions/_bufr_scripts: {name} has {sorted(offered)}")
+        completing = f". completions/bufr-scripts.bash; COMP_WORDS=({name} -) COMP_CWORD=1; complete -p {name}; _bufr_scripts"
+        done = subprocess.run(
+            ["bash", "-c", completing + "; printf '%s\n' \"${COMPREPLY[@]}\""], cwd=TOP, stdout=subprocess.PIPE
+        )
+        offered = set(done.stdout.decode().splitlines()[1:])
+        want(offered == options, f"completions/bufr-scripts.bash: {name} has {sorted(offered)}, not {sorted(options)}")
+    for key in re.findall(r" (\w+)=", subprocess.run(
+        [program(), "ls", TOP / "examples/one_block_number.bufr"], stdout=subprocess.PIPE
+    ).stdout.decode().replace("offset", " offset", 1)):
+        for name in ("man/bufr-extract.1", "completions/_bufr_scripts", "completions/bufr-scripts.bash"):
+            want(re.search(rf"\b{key}\b", read(name)) is not None, f"{name} has no {key}")
+
+
 def differences() -> None:
     """docs/guide.md has the differences of tests/eccodes/against_eccodes.py, in their order."""
     rows = re.search(r'DIFFERENCES = """\n(.*?)"""', read("tests/eccodes/against_eccodes.py"), re.S)[1].splitlines()
@@ -128,7 +181,9 @@ def main() -> None:
     example_files()
     counts_of_tables()
     man_page()
+    python_version()
     commands_and_options()
+    scripts()
     differences()
     finish(complaints)
 

@@ -3,11 +3,18 @@
 set -eu
 . "$(dirname "$0")/lib.sh"
 prefix=$work/prefix
-PROGRAM=$bufr ./install.sh "$prefix" > "$work/told" || fail "install.sh fails"
+# The caller's files are nobody else's, and `cd` prints where it goes.
+(umask 077 && CDPATH=. PROGRAM=$bufr ./install.sh "$prefix") > "$work/told" || fail "install.sh fails"
+find "$prefix" -type d ! -perm 755 -o -type f ! -perm 644 ! -perm 755 > "$work/modes"
+test ! -s "$work/modes" || fail "who did not install them cannot read: $(< "$work/modes")"
+for program in "$prefix"/bin/*; do test -x "$program" || fail "$program is no program"; done
+find "$prefix" -xtype l > "$work/links"
+test ! -s "$work/links" || fail "links to nothing: $(< "$work/links")"
 grep -q "^for completions in zsh.*fpath=($prefix/share/zsh/site-functions" "$work/told" || fail "install.sh names no fpath"
 unset BUFR BUFR_TABLES
 PATH=$prefix/bin:/usr/bin:/bin:$(dirname "$(command -v python3)"):$PATH
 examples=$prefix/share/doc/bufr/examples
+tests=$PWD/tests
 cd "$work"
 
 bufr-auto "$examples/synop.bufr" | cmp - "$examples/synop.txt" || fail "bufr-auto: another dump of examples/synop.bufr"
@@ -20,11 +27,25 @@ set=$prefix/share/bufr/tables/wmo-39
 bufr-extract category=0 "$examples/synop.bufr" | cmp - "$examples/synop.bufr" || fail "bufr-extract: not the message"
 bufr-parallel dump -B "$set/B.csv" -D "$set/D.csv" "$examples/synop.bufr" | cmp - "$examples/synop.txt" ||
     fail "bufr-parallel: another dump of examples/synop.bufr"
-PYTHONPATH=$prefix/share/bufr python3 -c 'import bufr_text, sys; print(len(list(bufr_text.dump(sys.argv[1]))))' \
-    "$examples/synop.bufr" | grep -qx 1 || fail "bufr_text.py: no message of examples/synop.bufr"
-for script in bufr-auto bufr-lacks bufr-extract bufr-parallel bufr-plot "$prefix/share/bufr/tables/convert.py" "$prefix/share/bufr/tables/changes.py"; do
+count='import bufr_text, sys; print(len(list(bufr_text.dump(sys.argv[1]))))'
+(
+    unset PYTHONPATH
+    eval "$(sed -n 's/^for import bufr_text in Python.*: export/export/p' told)"
+    python3 -c "$count" "$examples/synop.bufr" | grep -qx 1
+) || fail "bufr_text.py: no message of examples/synop.bufr by what install.sh prints"
+for script in "$prefix"/bin/bufr-* "$prefix/share/bufr/tables/convert.py" "$prefix/share/bufr/tables/changes.py"; do
     "$script" --help > help 2> errors && test -s help && test ! -s errors || fail "$script --help"
+    name=${script##*/}
+    case $name in *.py) continue ;; esac
+    test -s "$prefix/share/man/man1/$name.1" || fail "$name has no man page"
+    bash -c '. "$1/share/bash-completion/completions/$2" && complete -p "$2"' - "$prefix" "$name" > help ||
+        fail "$name has no completions"
 done
+
+# The guide's commands run where it is installed.
+mkdir own
+ln -s "$prefix"/share/doc/bufr/* own
+"$tests/docs_commands.py" "$prefix/bin/bufr" "$work/own/docs/guide.md" || fail "the guide's commands in an installation"
 
 # A page's links lead to pages that are installed.
 find "$prefix/share" -name '*.md' | while read -r page; do
@@ -37,3 +58,25 @@ test ! -s missing || fail "links that lead nowhere: $(< missing)"
 for section in 'SEE ALSO' ENVIRONMENT; do
     grep -q "^\.Sh $section\$" "$prefix/share/man/man1/bufr.1" || fail "the man page has no $section"
 done
+
+# As a package of Python it has what the scripts need, but for `bufr`.
+if python3 -c 'import pip, venv' 2> errors; then
+    mkdir source
+    cp -r "$tests/../pyproject.toml" "$tests/../build_wheel.py" "$tests/../scripts" "$tests/../man" "$tests/../tables" source
+    python3 -m venv environment
+    (umask 022 && environment/bin/pip install -q --no-index --no-build-isolation ./source) 2> errors || fail "pip: $(< errors)"
+    (
+        unset PYTHONPATH
+        PATH=$prefix/bin:/usr/bin:/bin
+        rm -r "$prefix"/bin/bufr-* "$prefix/share/bufr"
+        environment/bin/bufr-auto "$examples/synop.bufr" | cmp - "$examples/synop.txt" || fail "bufr-auto of the package"
+        environment/bin/python -c "$count" "$examples/synop.bufr" | grep -qx 1 || fail "bufr_text of the package"
+        for script in "$tests"/../scripts/bufr-*; do
+            "environment/bin/${script##*/}" --help > help || fail "${script##*/} of the package"
+        done
+        version=$(environment/bin/pip list --format freeze | sed -n 's/^bufr-text==/bufr /p')
+        [ "$version" = "$(bufr --version)" ] || fail "the package is $version"
+    )
+else
+    echo "$0: pip or venv is not there, the package is not tried"
+fi

@@ -1,5 +1,7 @@
 """What the tests in Python share: the program, tables, how a test ends, and messages that are put together by hand."""
+import os
 import pathlib
+import subprocess
 import sys
 
 TOP = pathlib.Path(__file__).resolve().parent.parent
@@ -27,6 +29,21 @@ def want(holds: bool, wrong: str) -> None:
     """Ends a test at once where something does not hold."""
     if not holds:
         finish([wrong])
+
+
+def usage_of(words: list, **streams):
+    """The status of a program, and what it used with the programs that it waited for: processor time, memory."""
+    with subprocess.Popen(words, **streams) as run:
+        _, status, usage = os.wait4(run.pid, 0)
+        run.returncode = os.waitstatus_to_exitcode(status)
+    return run.returncode, usage
+
+
+def seconds_of(words: list, **streams) -> float:
+    """The processor time of a program that ends with 0, in user mode and in the system."""
+    status, usage = usage_of(words, **streams)
+    want(status == 0, f"{words[:3]} ends with {status}")
+    return usage.ru_utime + usage.ru_stime
 
 
 # Section 1 of each edition, with one octet for local use in edition 3.

@@ -5,14 +5,13 @@
 
 The made stream has headings, strays, and messages that are refused for their sections or their data. A word in it states
 more octets than its part has. It is given as one file, as three files cut inside a message, and over a pipe, to one
-to five processes. Then it is told how long one and four processes take for a longer stream.
+to five processes. As many dumps run at once as are asked for, and need at most twice the processor time of one.
 """
 import os
 import pathlib
 import subprocess
 import sys
 import tempfile
-import time
 
 import lib
 from lib import TABLES, TOP, want
@@ -51,6 +50,11 @@ def same_as_one_run(program: str, folder: pathlib.Path) -> None:
     one = run([program, "dump", *TABLES, path])
     faults = set(line.split(b": ")[1][:2] for line in one[2].splitlines())
     want(one[0] == 1 and faults == {b"1 ", b"3 ", b"10", b"20", b"30"}, f"the made stream has other faults: {faults}")
+    # refused for their data alone, at which `bufr ls` ends with 0
+    data_faults = lib.message(b"\x14", b"\x01\x01", 3) * 3
+    one_of_data = run([program, "dump", *TABLES], input=data_faults)
+    want(one_of_data[0] == 1 and run([program, "ls"], input=data_faults)[0] == 0, "the data have other faults")
+    want(run([*PARALLEL, "dump", *TABLES], input=data_faults) == one_of_data, "faults of data alone are told otherwise")
     for processes in "12345":
         words = [*PARALLEL, "-P", processes, "dump", *TABLES]
         want(run([*words, path]) == one, f"a file by {processes} processes is not as by one")
@@ -104,21 +108,41 @@ def tells_what_fails(program: str, folder: pathlib.Path) -> None:
     )
 
 
-def gain(program: str, folder: pathlib.Path) -> None:
+def runs_as_many_as_asked(program: str, folder: pathlib.Path) -> None:
+    """Of three processes three run at once, and no more: each waits a second, and tells when it begins and ends."""
+    (folder / "waiting").write_text(
+        f'#!/bin/sh\n[ "$1" = ls ] && exec {program} ls\n{program} "$@" > $$.text\n[ -s $$.text ] || exit 0\n'
+        "echo begin >> log; sleep 1; echo end >> log; cat $$.text\n"
+    )
+    (folder / "waiting").chmod(0o755)
+    (folder / "nine.bufr").write_bytes(lib.message(bytes(250_000)) * 9)
+    environment = {**os.environ, "BUFR": str(folder / "waiting")}
+    status, output, _ = run([*PARALLEL, "-P", "3", "dump", *TABLES, "nine.bufr"], cwd=folder, env=environment)
+    want((status, output.count(b"\nend\n")) == (0, 9), f"dumps that wait end with {status}")
+    running = most = 0
+    for line in (folder / "log").read_text().split():
+        running += 1 if line == "begin" else -1
+        most = max(most, running)
+    want(most == 3, f"{most} processes at once, not 3")
+
+
+def needs_at_most_twice_the_time(program: str, folder: pathlib.Path) -> None:
     report = lib.message(bytes(range(250)) * 40, lib.words("101250 012101 101250 012101"), 10)
     path = folder / "long.bufr"
     path.write_bytes(report * 2000)
-    least = {}
-    for _ in range(2):
-        for name, words in {"one": [program], "four": [*PARALLEL, "-P", "4"]}.items():
+    commands = [[*PARALLEL, "-P", "4", "dump", *TABLES, path], [program, "dump", *TABLES, path], [program, "ls", path]]
+    rounds = []
+    for _ in range(10):
+        rounds.append([])
+        for words in [*commands, [sys.executable, "-c", "pass"]]:
             with (folder / "output").open("wb") as output:
-                begin = time.monotonic()
-                subprocess.run([*words, "dump", *TABLES, path], stdout=output, check=True)
-                least[name] = min(least.get(name, 1e9), time.monotonic() - begin)
-    size = (folder / "output").stat().st_size >> 20
-    print(
-        f"parallel_dump: {path.stat().st_size >> 20} MB to {size} MB of text: one process {least['one']:.2f} s, four {least['four']:.2f} s"
-    )
+                rounds[-1].append(lib.seconds_of(words, stdout=output))
+        four, one, listing, nothing = map(min, zip(*rounds))
+        if four <= 2 * (one + listing + nothing):
+            break
+    told = f"processor time of four processes {four:.2f} s, of one {one:.2f} s for {path.stat().st_size >> 20} MB"
+    print(f"parallel_dump: {told}")
+    want(four <= 2 * (one + listing + nothing), f"over twice the time: {told}")
 
 
 def main() -> None:
@@ -127,7 +151,8 @@ def main() -> None:
     with tempfile.TemporaryDirectory() as place:
         same_as_one_run(program, pathlib.Path(place))
         tells_what_fails(program, pathlib.Path(place))
-        gain(program, pathlib.Path(place))
+        runs_as_many_as_asked(program, pathlib.Path(place))
+        needs_at_most_twice_the_time(program, pathlib.Path(place))
 
 
 if __name__ == "__main__":

@@ -1,11 +1,15 @@
 #!/usr/bin/env python3
-"""Tries scripts/bufr-plot: a map, a sounding, and what it tells where there is nothing to draw or no matplotlib.
+"""Tries scripts/bufr-plot: a map with strange places and texts, a sounding, what it tells where there is nothing to draw
+or no matplotlib, and that a picture that fails leaves nothing.
 
     tests/pictures.py [PROGRAM]
 
 The pictures are drawn where a python3 of the path, or /usr/bin/python3, has matplotlib; otherwise that is skipped.
 """
+import os
 import pathlib
+import re
+import resource
 import shutil
 import subprocess
 import sys
@@ -26,6 +30,84 @@ def drawing_python():
 
 def run(python: str, words: list, text: bytes = b"", **others) -> subprocess.CompletedProcess:
     return subprocess.run([python, PLOT, *words], input=text, stdout=subprocess.PIPE, stderr=subprocess.PIPE, **others)
+
+
+def stations(count: int, latitude: str = "50.5", longitude: str = "10.25", name: bytes = b"A") -> bytes:
+    """A document with so many subsets, each a station with a temperature. The first one is elsewhere."""
+    head = (TOP / "examples/synop.txt").read_bytes().partition(b"subset 1\n")[0]
+    text = re.sub(rb"subsets \d+", b"subsets %d" % count, head)
+    for number in range(1, count + 1):
+        place = ("10.5", "20.5") if number == 1 else (latitude, longitude)
+        text += b"subset %d\n005001 %s\n006001 %s\n" % (number, place[0].encode(), place[1].encode())
+        text += b'001015 "%s"  # N\xdf$x^{$ [$y$]\n012101 28%d.5\n' % (name, number)
+    return text + b"end\n"
+
+
+def strange(python: str, folder: pathlib.Path) -> None:
+    """Places past the map, many labels, and texts that are no formulas."""
+    # the same picture for the same map
+    (folder / "matplotlibrc").write_text("svg.fonttype: none\nsvg.hashsalt: a\n")
+    environment = {**os.environ, "SOURCE_DATE_EPOCH": "0"}
+
+    def draw(text: bytes, *words: str) -> tuple:
+        picture = folder / "picture.svg"
+        done = run(python, ["map", *words, picture], text, cwd=folder, env=environment)
+        want(done.returncode == 0, f"a map ends with {done.returncode}: {done.stderr}")
+        drawn = picture.read_text(encoding="utf-8")
+        picture.unlink()
+        return drawn, done.stderr.decode()
+
+    plain = draw(stations(3))
+    want(plain[1] == "", f"a map tells {plain[1]}")
+    for longitude in ("370.25", "-349.75", "730.25"):
+        want(draw(stations(3, longitude=longitude)) == plain, f"longitude {longitude} is not wrapped")
+    want(draw(stations(3, longitude="180.0")) != draw(stations(3, longitude="-180.0")), "180 degrees are wrapped")
+    for latitude, pole in (("91.5", "90.0"), ("-100.0", "-90.0")):
+        told = (draw(stations(3, pole))[0], "bufr-plot: latitudes past a pole: 2, which are drawn there\n")
+        want(draw(stations(3, latitude)) == told, f"latitude {latitude} is not clipped, or not told")
+    want("281.5" in draw(stations(100), "--value", "012101")[0], "100 values have no labels")
+    drawn, told = draw(stations(101), "--value", "012101")
+    want("281.5" not in drawn, "101 values have labels")
+    want(told == "bufr-plot: 101 values, over 100: none is drawn\n", f"of 101 values it tells {told}")
+    drawn, told = draw(stations(2, name=b"$x^{..$ \\\\$\\x07\\xFF"), "--value", "001015")
+    want("$x^{..$ \\$?\ufffd" in drawn and "[$y$]" in drawn, "a text is taken for a formula")
+    want(told == "", f"of a text it tells {told}")
+    drawn, _ = draw(stations(1) + stations(1).replace(b"006001 20.5", b"006001 " + b"9" * 400), "--value", "012101:1")
+    want("1 places" in drawn, "a longitude without end is drawn")
+
+
+def draws_whole(python: str, folder: pathlib.Path) -> None:
+    """A picture that cannot be written is as it was before, and nothing is left of it."""
+    place = folder / "whole"
+    place.mkdir()
+    (place / "old.png").write_bytes(b"old")
+    (place / "full.png").symlink_to("/dev/full")
+
+    def limit() -> None:
+        resource.setrlimit(resource.RLIMIT_FSIZE, (100, 100))
+
+    def close() -> None:
+        os.close(0)
+
+    for name, others, told in [
+        ("old.png", {"preexec_fn": limit}, b"File too large"),
+        ("new.png", {"preexec_fn": limit}, b"File too large"),
+        ("full.png", {}, b"No space left"),
+        ("new.png", {"preexec_fn": close}, b""),
+    ]:
+        done = run(python, ["map", place / name], stations(2), **others)
+        lines = done.stderr.splitlines()
+        want(done.returncode == 2 and len(lines) == 1 and told in lines[0], f"{name} ends with {done.returncode}: {lines}")
+        left = sorted(path.name for path in place.iterdir())
+        want(left == ["full.png", "old.png"] and (place / "old.png").read_bytes() == b"old", f"{name} leaves {left}")
+    done = run(python, ["map", place / "old.png"], stations(2))
+    want(done.returncode == 0 and (place / "old.png").read_bytes()[:4] == b"\x89PNG", "an old picture stays")
+    # matplotlib makes a folder of its own where it has no home
+    (place / "temporary").mkdir()
+    environment = {"PATH": os.environ["PATH"], "HOME": "/proc/nowhere", "TMPDIR": str(place / "temporary")}
+    done = run(python, ["map", place / "new.png"], stations(2), env=environment)
+    want((done.returncode, done.stderr) == (0, b""), f"without a home it ends with {done.returncode}: {done.stderr}")
+    want(not list((place / "temporary").iterdir()), "a temporary folder stays")
 
 
 def draws(python: str, program: str, folder: pathlib.Path) -> None:
@@ -57,7 +139,15 @@ def draws(python: str, program: str, folder: pathlib.Path) -> None:
         (["map", "--value", "012104", folder / "b.png"], texts["synop"], 1, "no subset has 012104"),
         (["sounding", folder / "b.png"], texts["synop"], 1, "no subset asked for has levels"),
         (["sounding", "--subset", "2", folder / "b.png"], texts["sounding"], 1, "no subset asked for has levels"),
-        (["map", folder / "b.png"], b"", 1, "no subset has"),
+        (["map", folder / "b.png"], b"", 1, "bufr-plot: the text has no message"),
+        (["sounding", folder / "b.png"], b"# a note\n", 1, "bufr-plot: the text has no message"),
+        (["map", "--value", "", folder / "b.png"], texts["synop"], 2, "no descriptor of six digits: ''"),
+        (["map", "--value", "T", folder / "b.png"], texts["synop"], 2, "no descriptor of six digits: 'T'"),
+        (["map", ""], texts["synop"], 2, "PICTURE ends in .png, .svg or .pdf, and not so: ''"),
+        (["map", folder / "b.png", ""], b"", 2, "DUMP is an empty word"),
+        (["sounding", "--message", "x", folder / "b.png"], b"", 2, "invalid int value"),
+        (["map"], b"", 2, "PICTURE"),
+        ([], b"", 2, "map|sounding"),
         (["map", folder / "b.png"], b"no dump\n", 2, "line 1: expected message"),
         (["map", folder / "b.png", folder / "nosuch"], b"", 2, "nosuch"),
         (["map", folder / "no" / "b.png"], texts["synop"], 2, "b.png"),
@@ -69,7 +159,12 @@ def draws(python: str, program: str, folder: pathlib.Path) -> None:
             done.returncode == status and told in done.stderr.decode(),
             f"{words} ends with {done.returncode}: {done.stderr}",
         )
+        want(done.stderr.count(b"\n") == 1, f"{words} tells {done.stderr}")
         want(not (folder / "b.png").exists(), f"{words} leaves a picture")
+    done = run(python, ["--version"], env={**os.environ, "BUFR": program})
+    want(done.stdout.startswith(b"bufr-plot, with bufr "), f"its version is {done.stdout}")
+    strange(python, folder)
+    draws_whole(python, folder)
 
 
 def main() -> None:

@@ -1,18 +1,25 @@
 #!/usr/bin/env python3
-"""Tries scripts/bufr_text.py: texts read and written, what is refused and at which line, and the program run by it.
+"""Tries scripts/bufr_text.py: texts read and written, what is refused, at which line and why, rows and levels, and the
+program run by it: faults, offsets, what is told of failures.
 
     tests/python_module.py [PROGRAM]
 """
+import contextlib
+import csv
 import io
 import itertools
 import os
 import pathlib
+import pickle
+import random
+import re
 import shutil
 import subprocess
 import sys
 import tempfile
 import tracemalloc
 import unittest
+import warnings
 from decimal import Decimal
 
 import lib
@@ -22,6 +29,9 @@ sys.path.insert(0, str(TOP / "scripts"))
 import bufr_text
 
 TABLES = lib.TABLES[1::2]
+# these lack sequences and elements of some examples
+OLD_TABLES = [table.replace("wmo-39", "wmo-13") for table in TABLES]
+ONE = TOP / "tests/vectors/texts/one_block_number.txt"
 TEXTS = sorted([*(TOP / "examples").glob("*.txt"), *(TOP / "tests/vectors/texts").glob("*.txt")])
 
 
@@ -33,6 +43,94 @@ def written(messages) -> bytes:
     stream = io.BytesIO()
     bufr_text.write(messages, stream)
     return stream.getvalue()
+
+
+def run(*words, **others) -> subprocess.CompletedProcess:
+    return subprocess.run(words, stdout=subprocess.PIPE, stderr=subprocess.PIPE, **others)
+
+
+def with_line(number: int, lines: bytes) -> bytes:
+    """A document with other lines in the place of one."""
+    text = lines_of(ONE)
+    return b"".join([*text[: number - 1], lines, *text[number:]])
+
+
+# How lines are refused by mistake, and what is told of it. Line 24 of the document is an item, line 22 descriptors.
+MISTAKES = [
+    (1, b"\xef\xbb\xbfmessage\n", "a byte order mark before it"),
+    (1, (TOP / "examples/synop.bufr").read_bytes().partition(b"\n")[0] + b"\n", "a BUFR message, not the text of one"),
+    (24, b"001001 10\r\n", "a carriage return at its end"),
+    (24, b"> 001001 10\n", "the > of a quoted mail before it"),
+    (24, b"001001\t10\n", "a tab in place of a space"),
+    (24, b" 001001 10\n", "a space before it"),
+    (25, b"message\n", "no end before it"),
+    (24, b"1001 10\n", "a descriptor without its six digits"),
+    (2, b"edition  4\n", "two spaces in place of one"),
+    (22, b"descriptors  001001\n", "two spaces in place of one"),
+    (24, b"001001  10  # NAME [UNIT]\n", "two spaces in place of one"),
+    (24, b"001001 10# NAME\n", "no space before #"),
+    (24, b'001015 "A"# NAME\n', "no space before #"),
+    (24, b"012101 +282.55  # NAME [K]\n", "a plus before a number"),
+    (24, b"012101 2.8e2\n", "an exponent in a number"),
+    (24, b"012101 -1E-05\n", "an exponent in a number"),
+    (24, b"012101 282,55  # NAME [K]\n", "a comma in place of the point"),
+    (24, b"012101 NaN\n", "no number: what is missing is MISSING"),
+    (24, b"012101 -inf\n", "no number: what is missing is MISSING"),
+    (24, b"012101 missing  # NAME [K]\n", "MISSING in small letters"),
+    (24, b"012101 missing  # A +B 2.8E2 NaN, A#B\n", "MISSING in small letters"),
+    (24, b"012101 282.  # NAME [K]\n", "no digit beside the point"),
+    (24, b"012101 .5\n", "no digit beside the point"),
+    (24, b"012101\n", "no value: what is missing is MISSING"),
+    (24, b"012101 282.55 \n", "a space at its end"),
+    (2, b"edition 4 # NOTE\n", "a comment, which items alone may have"),
+    (24, b'001015 "\\xc4"\n', "\\x without two digits in upper case"),
+    (24, b'001015 "B\xc3\x96BLINGEN"\n', "an octet in a text that is written \\xHH"),
+    (24, b'001015 "a"b"\n', 'a " or \\ in a text without \\ before it, or no " at its end'),
+    (24, b'001015 "a\n', 'a " or \\ in a text without \\ before it, or no " at its end'),
+    (24, b"001015 HEATHROW\n", "a text without quotes"),
+]
+# What `read` and `encode` take or refuse alike.
+ALIKE = [
+    (23, b"subset 01\n"),
+    (23, b"subset " + b"0" * 4000 + b"1\n"),
+    (23, b"subset 0\n"),
+    (23, b"subset 99999999999999999999\n"),
+    (23, b"subset one\n"),
+    (23, b"subset 1 # NOTE\n"),
+    (2, b"edition " + b"0" * 4000 + b"4\n"),
+    (4, b"centre -1\n"),
+    (22, b"descriptors 063255\n"),
+    (22, b"descriptors 064000\n"),
+    (22, b"descriptors 001256\n"),
+    (22, b"descriptors 099999\n"),
+    (22, b"descriptors" + b" 001001" * 8 + b"\n"),
+    (22, b"descriptors" + b" 001001" * 9 + b"\n"),
+    (22, b"descriptors\n"),
+    (22, b""),
+    (22, b"local1 " + b"0f" * 32 + b"\ndescriptors 001001\n"),
+    (22, b"local1 " + b"00" * 33 + b"\ndescriptors 001001\n"),
+    (22, b"local1 \ndescriptors 001001\n"),
+    (22, b"section2 00\ndescriptors 001001\n"),
+    (24, b"099999 1\n"),
+    (24, b"363255 1\n"),
+    (24, b"001001 " + b"9" * 4089 + b"\n"),
+    (24, b"001001 -0\n"),
+    (24, b"001001 0010\n"),
+    (24, b"001001 10 #" + b"x" * 4085 + b"\n"),
+    (24, b"001001 10 #" + b"x" * 4086 + b"\n"),
+    (24, b"#" * 4096 + b"\n001001 10\n"),
+    (24, b"#" * 4097 + b"\n001001 10\n"),
+    (24, b"R 001001 MISSING\n"),
+    (24, b"  \n001001 10\n"),
+    (24, b"001001 10 # NOTE\r\n"),
+    (24, b"001001 10 #\0\xff\n"),
+    (24, b"001001 10\nsubset 2\n001001 10\n"),
+    (24, b"message\n"),
+    (25, b"end"),
+    (25, b"end\n\n# NOTE\n"),
+    (25, b"end\nnote\n"),
+    (25, b""),
+]
 
 
 class Texts(unittest.TestCase):
@@ -111,8 +209,42 @@ class Texts(unittest.TestCase):
         with self.assertRaises(bufr_text.TextError):
             list(bufr_text.read(more))
 
+    def test_faults_name_their_cause(self):
+        for number, line, cause in MISTAKES:
+            with self.subTest(line[:60]):
+                with self.assertRaises(bufr_text.TextError) as told:
+                    list(bufr_text.read(io.BytesIO(with_line(number, line))))
+                self.assertEqual(told.exception.line, number)
+                self.assertTrue(str(told.exception).endswith(f", found {cause}"), told.exception)
+                done = run(lib.program(), "encode", *lib.TABLES, input=with_line(number, line))
+                self.assertRegex(done.stderr.decode(), f"^line {number}: 5[012] ")
+        with self.assertRaisesRegex(bufr_text.TextError, "^line 25: expected an item, subset or end, found the end of the"):
+            list(bufr_text.read(lines_of(ONE)[:24]))
+        told = {cause for _, _, cause in MISTAKES}
+        self.assertEqual(told, {cause for _, cause in bufr_text._CAUSES})
+
+    def test_encode_takes_and_refuses_the_same_lines(self):
+        for number, lines in ALIKE:
+            with self.subTest(lines[:60]):
+                text, refused = with_line(number, lines), ""
+                try:
+                    list(bufr_text.read(io.BytesIO(text)))
+                except bufr_text.TextError as error:
+                    refused = f"line {error.line}: 5"
+                told = run(lib.program(), "encode", *lib.TABLES, input=text).stderr.decode()
+                told = re.sub(r"^(line \d+: 5)[07] .*\n", r"\1", told)
+                # the rest is not looked at
+                self.assertEqual(refused, "" if re.search(r": 5[1-6] ", told) else told)
+
+    def test_names_may_be_of_any_octets(self):
+        text = with_line(24, b"001001 10  # T\xc3\xa9 \xdf [\xb0C]\n")
+        [message] = bufr_text.read(io.BytesIO(text))
+        item = message.subsets[0][0]
+        self.assertEqual((item.name, item.unit), ("T\xe9 \udcdf", "\udcb0C"))
+        self.assertEqual(written([message]), text)
+
     def test_values_that_cannot_be_written(self):
-        [message] = bufr_text.read(lines_of(TOP / "tests/vectors/texts/one_block_number.txt"))
+        [message] = bufr_text.read(lines_of(ONE))
         for value, error in [
             (10.0, TypeError),
             (10, TypeError),
@@ -146,28 +278,263 @@ class Texts(unittest.TestCase):
         self.assertEqual(len(next(bufr_text.read([*text, b"nonsense\n"])).subsets), 3)
 
 
+class Tables(unittest.TestCase):
+    def test_rows_are_those_of_wide_awk(self):
+        columns = ["001001", "001015", "012101", "012101:2", "020012:2", "031001", "205004", "012104"]
+        header, passed = [*bufr_text.HEADER, "optional", "subsets"], 0
+        for path in TEXTS:
+            with self.subTest(path.name):
+                words = ["awk", "-v", "columns=" + ",".join([*header, *columns]), "-f", TOP / "scripts/wide.awk", path]
+                _, *wanted = csv.reader(run(*words).stdout.decode().splitlines())
+                try:
+                    rows = list(bufr_text.rows(bufr_text.read(lines_of(path)), columns, ["message", "subset", *header]))
+                except bufr_text.TextError:
+                    continue  # such texts are for `encode`
+                self.assertEqual(self.alike(rows), self.alike(wanted))
+                passed += len(rows)
+        self.assertGreater(passed, 100)
+
+    def alike(self, rows) -> list:
+        """The cells of a table, with all spellings of a number as one."""
+        cells = [["" if cell is None else str(cell) for cell in row] for row in rows]
+        return [[str(float(cell)) if re.fullmatch(r"-?[\d.]+", cell) else cell for cell in row] for row in cells]
+
+    def test_rows(self):
+        rows = bufr_text.rows(TOP / "examples/synop.bufr", ["001015", "001002", "012101", "010009"], ["offset", "year"])
+        self.assertEqual(next(rows), (0, 2023, "SODANKYLA", 836, 259.35, None))
+        self.assertIsInstance(next(rows)[3], int)
+        for columns, header in [(["1015"], []), ([""], []), (["064001"], []), (["012101:0"], []), (["012101"], ["place"])]:
+            with self.assertRaises(ValueError):
+                bufr_text.rows([], columns, header)
+            with self.assertRaises(ValueError):
+                bufr_text.levels([], columns, header)
+        with self.assertRaises(ValueError):
+            bufr_text.levels([], ["012101"], keep=["012101:2"])
+
+    def test_levels_are_those_of_levels_awk(self):
+        texts = [(TOP / f"examples/{name}.txt").read_bytes() for name in ("sounding", "synop", "buoys")]
+        chance = random.Random(1)
+        texts += [document(chance) for _ in range(60)]
+        lists = [("001015", "007004,012101,012103"), ("001001", "007004"), ("007004", "012101,007004"), ("", "020012,020011")]
+        unclear, count = 0, 0
+        for keep, columns in lists:
+            words = ["awk", "-v", f"keep=year,{keep}".strip(","), "-v", f"columns={columns}", "-f"]
+            done = run(*words, TOP / "scripts/levels.awk", input=b"".join(texts))
+            _, *wanted = csv.reader(done.stdout.decode().splitlines())
+            with warnings.catch_warnings(record=True) as told:
+                warnings.simplefilter("always")
+                messages = bufr_text.read(io.BytesIO(b"".join(texts)))
+                names = columns.split(","), ["message", "subset", "year"], keep.split() 
+                rows = list(bufr_text.levels(messages, *names))
+            self.assertEqual(self.alike(rows), self.alike(wanted))
+            count += len(rows)
+            lines = [line for line in done.stderr.decode().splitlines() if "twice" in line]
+            self.assertEqual([f"levels.awk: {one.message}" for one in told], lines)
+            unclear += done.returncode
+        self.assertGreater(count, 100)
+        self.assertGreater(unclear, 0)
+
+
+def document(chance: random.Random) -> bytes:
+    """A document with a subset of random groups in one another."""
+
+    def group(depth: int) -> list:
+        some = [b"007004", b"012101", b"001001", b"002002", b"020012", b"020011"]
+        kinds = [depth < 2 and chance.random() < 0.3 for _ in range(chance.randint(1, 4))]
+        return [group(depth + 1) if inner else chance.choice(some) for inner in kinds]
+
+    def lines(members: list):
+        for member in members:
+            if isinstance(member, list):
+                passes = chance.randint(0, 3)
+                yield b"03100%d %d\n" % (chance.randint(0, 2), passes)
+                for _ in range(passes):
+                    yield from lines(member)
+            else:
+                yield member + chance.choice([b" %d\n" % chance.randint(0, 99), b" MISSING\n", b" 1\nR 012101 5\n\n#\n"])
+
+    return with_line(24, b"".join(lines(group(0))))
+
+
 class Runs(unittest.TestCase):
+    def setUp(self):
+        place = tempfile.TemporaryDirectory()
+        self.addCleanup(place.cleanup)
+        self.folder = pathlib.Path(place.name)
+        # all examples, with strays between them and at the end
+        paths = sorted((TOP / "examples").glob("*.bufr"), key=lambda path: path.stem != "sounding")
+        self.octets = b"".join(path.read_bytes() + b"BUFR\0\0\1" for path in paths)
+        self.stream = self.folder / "stream"
+        self.stream.write_bytes(self.octets)
+
     def test_a_file_is_dumped(self):
         for tables in (TABLES, []):
             [message] = bufr_text.dump(TOP / "examples/synop.bufr", *tables)
             self.assertEqual(written([message]), (TOP / "examples/synop.txt").read_bytes())
 
-    def test_messages_behind_refused_ones_are_given(self):
-        # its fault lines go to standard error, which is put aside here
-        kept, aside = os.dup(2), os.open(os.devnull, os.O_WRONLY)
-        os.dup2(aside, 2)
-        try:
-            self.assertEqual(len(list(bufr_text.dump(TOP / "examples/bulletins.bufr", *TABLES))), 4)
-            with self.assertRaises(bufr_text.RunError) as told:
-                list(bufr_text.dump("nosuch", *TABLES))
-        finally:
-            os.dup2(kept, 2)
-        self.assertEqual(told.exception.status, 2)
+    def test_faults_and_places(self):
+        done = run(lib.program(), "dump", *[f"-{word}{table}" for word, table in zip("BD", OLD_TABLES)], self.stream)
+        faults = []
+        messages = list(bufr_text.dump(self.stream, *OLD_TABLES, faults))
+        self.assertEqual(written(messages), done.stdout)
+        self.assertEqual([f"{fault}\n" for fault in faults], done.stderr.decode().splitlines(True))
+        self.assertIn((701, 21, "unknown sequence 315008"), faults)
+        # each message alone
+        listed = re.findall(rb"^offset=(\d+) length=(\d+) ", run(lib.program(), "ls", self.stream).stdout, re.M)
+        listed = [(int(offset), int(length)) for offset, length in listed]
+        refused = {fault.offset for fault in faults}
+        self.assertEqual(len(listed) - len(messages), 2)
+        wanted = []
+        for offset, length in listed:
+            alone = self.folder / "alone"
+            alone.write_bytes(self.octets[offset : offset + length])
+            told = []
+            wanted += [(offset, length, written([one])) for one in bufr_text.dump(alone, *OLD_TABLES, told)]
+            self.assertEqual(bool(told), offset in refused)
+        self.assertEqual([(one.offset, one.length, written([one])) for one in messages], wanted)
+        told = []
+        self.assertEqual(list(bufr_text.listing(self.stream, told)), listed)
+        self.assertEqual(told, [fault for fault in faults if fault.offset not in dict(listed)])
+        last, told = [bufr_text.Place(*listed[number]) for number in (-3, -2, -1)], []
+        some = bufr_text.dump(self.stream, *OLD_TABLES, told, places=last)
+        self.assertEqual([one.offset for one in some], [one.offset for one in messages if one.offset >= last[0].offset])
+        self.assertEqual(told, [fault for fault in faults if fault.offset in dict(last)])
+        [read] = bufr_text.read(lines_of(TOP / "examples/synop.txt"))
+        self.assertEqual((read.offset, read.length), (None, None))
 
-    def test_a_run_that_is_left_is_ended(self):
-        messages = bufr_text.dump(TOP / "examples/synop.bufr", *TABLES)
+    def test_faults_are_there_before_the_message_behind_them(self):
+        # over more than one part
+        one = (TOP / "examples/buoys.bufr").read_bytes()
+        bad = one.replace(one[-8:-4], b"\xff" * 4)
+        piece = one * 700 + b"BUFR" + (TOP / "examples/synop.bufr").read_bytes()
+        self.stream.write_bytes(piece * 3)
+        faults, passed = [], 0
+        for message in bufr_text.dump(self.stream, *OLD_TABLES, faults):
+            self.fail("version 13 has neither")
+        self.assertEqual(len(faults), 3 * 702)
+        self.assertEqual(sorted(faults), faults)
+        faults = []
+        for message in bufr_text.dump(self.stream, *TABLES, faults):
+            self.assertEqual(len(faults), (message.offset + 1) // len(piece) + (message.offset % len(piece) > 700 * len(one)))
+            passed += 1
+        self.assertEqual(passed, 3 * 701)
+
+    def test_refused_messages_are_warned_of(self):
+        for tables, count in ((TABLES, 10), (OLD_TABLES, 12)):
+            told = io.StringIO()
+            with self.assertWarns(bufr_text.DumpWarning) as warned, contextlib.redirect_stderr(told):
+                messages = list(bufr_text.dump(self.stream, *tables))
+            lines = told.getvalue().splitlines()
+            text = f"{self.stream}: fault lines: {len(lines)}, the first: {lines[0]}"
+            self.assertEqual(str(warned.warning), text)
+            self.assertEqual(warned.filename, __file__)
+        with warnings.catch_warnings():
+            warnings.simplefilter("error")
+            list(bufr_text.dump(TOP / "examples/synop.bufr", *TABLES))
+            list(bufr_text.dump(self.stream, *TABLES, []))
+
+    def test_notes_of_tables_are_warnings(self):
+        text = (TOP / "examples/synop.txt").read_bytes().replace(b"masterversion 39", b"masterversion 45")
+        later = bufr_text.encode(bufr_text.read(io.BytesIO(text)), *TABLES)
+        self.stream.write_bytes(self.octets + later * 2)
+        with self.assertWarns(bufr_text.DumpWarning) as warned:
+            list(bufr_text.dump(self.stream, faults=[]))
+        wanted = f"{self.stream}: messages: 2, the first at offset {len(self.octets)}: version 45 is later than wmo-39"
+        self.assertEqual(str(warned.warning), wanted)
+
+    def test_a_file_without_a_message_is_warned_of(self):
+        web = b"<html>BUFR</html>" * 20
+        for octets, told in [(b"", ": it is empty"), (b"\x1f\x8b\0", ": it looks like gzip data (zcat)"), (b"\0", "")]:
+            self.stream.write_bytes(octets)
+            for call, words in ((bufr_text.dump, TABLES), (bufr_text.dump, []), (bufr_text.listing, [])):
+                with self.assertWarns(bufr_text.DumpWarning) as warned:
+                    self.assertEqual(list(call(self.stream, *words)), [])
+                self.assertEqual(str(warned.warning), f"{self.stream}: no message{told}")
+        self.stream.write_bytes(web)
+        with warnings.catch_warnings(record=True) as told, contextlib.redirect_stderr(io.StringIO()):
+            warnings.simplefilter("always")
+            list(bufr_text.dump(self.stream))
+        wanted = ["no message: it looks like HTML", "fault lines: 20, the first: offset 6: 1 cut"]
+        self.assertEqual([str(one.message) for one in told], [f"{self.stream}: {text}" for text in wanted])
+
+    def test_failures_are_told(self):
+        for call in (bufr_text.dump, bufr_text.listing):
+            with self.assertRaises(FileNotFoundError):
+                list(call(self.folder / "nosuch"))
+        for tables, told in ([TABLES[1], TABLES[0]], "table B: 40 header"), (["nosuch", TABLES[1]], "cannot open .*nosuch"):
+            with self.assertRaisesRegex(bufr_text.RunError, told) as error:
+                list(bufr_text.dump(self.stream, *tables, []))
+            self.assertEqual(error.exception.status, 2)
+        for call in (bufr_text.dump, lambda *words: bufr_text.encode([], *words[1:])):
+            for tables in ([TABLES[0]], [None, TABLES[1]]):
+                with self.assertRaises(TypeError):
+                    call(self.stream, *tables)
+        with self.assertRaises(ValueError):
+            bufr_text.encode([], *TABLES, form="small")
+        for script, told, status in [
+            ("kill -9 $$", "ended with status -9", -9),
+            ("exit 7", "ended with status 7", 7),
+            ("exit 1", "ended with status 1", 1),
+            ('[ "$1" = ls ] && exec "$REAL" "$@"; exit 1', "ended with status 1", 1),
+            ("echo nonsense", "writes other lines", 2),
+            ('[ "$1" = dump ] || exec "$REAL" "$@"', "gave no text of the message at offset 0", 2),
+            ('[ "$1" = ls ] && exec "$REAL" "$@"; kill -9 $$', "ended with status -9", -9),
+            ('[ "$1" = ls ] && echo "offset=0 length=9999999 "', "no whole message at offset 0 any more", 2),
+        ]:
+            self.use_program(script)
+            with self.subTest(script), self.assertRaisesRegex(bufr_text.RunError, told) as error:
+                list(bufr_text.dump(self.stream, *TABLES, []))
+            self.assertEqual(error.exception.status, status)
+
+    def test_errors_go_from_one_process_to_another(self):
+        for error in (bufr_text.RunError(1, "line 153: 52 number"), bufr_text.TextError(5, "an item", "a tab")):
+            other = pickle.loads(pickle.dumps(error))
+            self.assertEqual((str(other), vars(other)), (str(error), vars(error)))
+
+    def use_program(self, script: str) -> None:
+        """Puts a script in the place of the program, for this test."""
+        path = self.folder / "program"
+        path.write_text(f"#!/bin/sh\nREAL='{lib.program()}'\n{script}\n")
+        path.chmod(0o755)
+        self.addCleanup(os.environ.__setitem__, "BUFR", lib.program())
+        os.environ["BUFR"] = str(path)
+
+    def test_a_run_that_is_left_leaves_nothing_behind(self):
+        self.stream.write_bytes((TOP / "examples/synop.bufr").read_bytes() * 5000)
+        messages = bufr_text.dump(self.stream, *TABLES)
+        tracemalloc.start()
         next(messages)
+        _, peak = tracemalloc.get_traced_memory()
+        tracemalloc.stop()
+        # a part of the text, which has 99 MB
+        self.assertLess(peak, 50_000_000)
         messages.close()
+        with self.assertRaises(ChildProcessError):
+            os.waitpid(-1, os.WNOHANG)
+
+    def test_names_may_look_like_options(self):
+        for name, octets in [("-x.bufr", self.octets), ("-B.csv", None), ("--D", None)]:
+            path = self.folder / name
+            path.write_bytes(octets or pathlib.Path(TABLES["D" in name]).read_bytes())
+        here = os.getcwd()
+        os.chdir(self.folder)
+        self.addCleanup(os.chdir, here)
+        self.assertEqual(len(list(bufr_text.dump("-x.bufr", "-B.csv", "--D", []))), 9)
+
+    def test_a_pipe_is_read(self):
+        pipe = self.folder / "pipe"
+        os.mkfifo(pipe)
+        with subprocess.Popen(["cp", self.stream, pipe]):
+            self.assertEqual([one.offset for one in bufr_text.dump(pipe, *TABLES, [])][-1], len(self.octets) - 602)
+
+    def test_memory_does_not_grow_with_strays(self):
+        self.stream.write_bytes(b"BUFR\0\0\1" * 40000 + (TOP / "examples/synop.bufr").read_bytes())
+        tracemalloc.start()
+        with open(os.devnull, "w") as aside, contextlib.redirect_stderr(aside), self.assertWarns(bufr_text.DumpWarning):
+            self.assertEqual(len(list(bufr_text.dump(self.stream, *TABLES))), 1)
+        _, peak = tracemalloc.get_traced_memory()
+        tracemalloc.stop()
+        self.assertLess(peak, 3_000_000)
 
     def test_a_changed_value_is_encoded(self):
         [message] = bufr_text.dump(TOP / "examples/synop.bufr", *TABLES)
@@ -177,7 +544,26 @@ class Runs(unittest.TestCase):
         self.assertEqual(len(octets), 595)
         self.assertNotEqual(octets, (TOP / "examples/synop.bufr").read_bytes())
         del message.subsets[1:]
-        self.assertLess(len(bufr_text.encode([message], *TABLES, form="compressed")), 595)
+        self.assertLess(len(bufr_text.encode([message], *TABLES)), 595)
+
+    def test_the_form_is_chosen(self):
+        octets = (TOP / "examples/buoys.bufr").read_bytes()
+        [message] = bufr_text.dump(TOP / "examples/buoys.bufr", *TABLES)
+        lengths = [len(bufr_text.encode([message], *TABLES, form=form)) for form in ("plain", "compressed", None)]
+        self.assertEqual(lengths, [691, len(octets), len(octets)])
+        self.assertEqual(message.header["compressed"], 1)
+
+    def test_each_document_is_encoded_by_its_own_tables(self):
+        both = (TOP / "examples/aircraft.bufr", TOP / "examples/synop.bufr")
+        messages = [message for path in both for message in bufr_text.dump(path)]
+        octets = bufr_text.encode(messages)
+        self.assertEqual(octets, bufr_text.encode(messages[:1], *OLD_TABLES) + bufr_text.encode(messages[1:], *TABLES))
+        self.assertLess(len(bufr_text.encode(messages[:1], form="compressed")), 200)
+        bufr_text.find(messages[1].subsets[1], "012101").value = Decimal("282.555")
+        with self.assertRaises(bufr_text.RunError) as told:
+            bufr_text.encode(messages)
+        number = 153 + written(messages[:1]).count(b"\n")
+        self.assertEqual((str(told.exception), told.exception.status), (f"line {number}: 52 number", 1))
 
     def test_a_refused_value_is_told(self):
         [message] = bufr_text.dump(TOP / "examples/synop.bufr", *TABLES)

@@ -6,7 +6,9 @@
 Each row is in a table of its own. Beside it stands the reason for which the converter leaves it out, or nothing where
 it is kept. Then come sources whose rows are not alike, and files that are not laid out as they should be.
 """
+import functools
 import pathlib
+import resource
 import subprocess
 import sys
 import tempfile
@@ -45,6 +47,8 @@ ELEMENTS = f"""
 012101,NAME,K,-128,0,16 | {SCALE}
 012101,NAME,K,+1,0,16 | {SCALE}
 012101,NAME,K,,0,16 | {SCALE}
+012101,NAME,K,{'1' * 5000},0,16 | {SCALE}
+012101,NAME,K,{'0' * 5000}1,{'0' * 5000}2,16 |
 012101,NAME,K,\u0661,0,16 | {SCALE}
 012101,NAME,K,-007,-0,0016 |
 012101,NAME,K,2,-9223372036854775808,16 |
@@ -97,6 +101,8 @@ def wreport_row(fxy: str, name: str, unit: str, scale: str, reference: str, widt
 
 # A file, its text, the status, what is told, and what the set then holds behind its headers.
 ELEMENT = "012101,NAME,K,2,0,16\n"
+# The elements that version 14 defines otherwise than version 13, on the first of two lines.
+CHANGED = "  elements changed: 13: 014001 014002 014003 014004 014011 014012 014013 014014 014017 014018 014028"
 TWICE = "left out of source: %s: one of several, not alike\n"
 SOURCES = [
     ("B.csv", f"{HEADERS['B']}\n{ELEMENT}{ELEMENT}", 0, "", ELEMENT),
@@ -218,6 +224,53 @@ def wrong_row(place: pathlib.Path, table: str, row: str, reason: str) -> str:
     return "" if (done.returncode, done.stderr) == said else f"the program says {done.stderr!r}"
 
 
+def failures(place: pathlib.Path) -> list:
+    """What is wrong where nothing can be written, or a folder or a column is not there: the set stays as it was."""
+    wrongs = []
+
+    def run(name: str, *words, **more):
+        words = [sys.executable, TOP / "tables" / name, *words]
+        done = subprocess.run(words, cwd=place, stdout=subprocess.PIPE, stderr=subprocess.PIPE, text=True, **more)
+        return done.returncode, done.stdout, done.stderr
+
+    def holds(what: str, done, wanted) -> None:
+        if done != wanted:
+            wrongs.append(f"{what}: {done}, not {wanted}")
+
+    convert(place, "B.csv", f"{HEADERS['B']}\n{ELEMENT}")
+    before = behind_headers(place)
+    for limit in (0, 100, 40_000):
+        limited = functools.partial(resource.setrlimit, resource.RLIMIT_FSIZE, (limit, limit))
+        done = run("convert.py", "out", TOP / "tables/wmo-39", preexec_fn=limited)
+        holds(f"files of {limit} octets", done, (2, "", "convert.py: File too large\n"))
+        holds(f"the set behind files of {limit} octets", behind_headers(place), before)
+        holds(f"what is left behind files of {limit} octets", len(list((place / "out").iterdir())), 2)
+    holds("a whole set", run("convert.py", "out", TOP / "tables/wmo-39"), (0, "", ""))
+    holds("what is left", len(list((place / "out").iterdir())), 2)
+    for told, words in (
+        ("OUT and a SOURCE are wanted; convert.py --help tells more", ["out"]),
+        (r"no\x1Bsuch holds no tables that are known here", ["out", "no\x1bsuch"]),
+        ("long/B.csv, line 2: field larger than field limit (131072)", ["out", "long"]),
+    ):
+        (place / "long").mkdir(exist_ok=True)
+        (place / "long/B.csv").write_text(f"{HEADERS['B']}\n012101,{'N' * 200_000},K,2,0,16\n")
+        holds(f"convert.py {words}", run("convert.py", *words), (2, "", f"convert.py: {told}\n"))
+    holds("convert.py of a full device", run("convert.py", "/dev/full", TOP / "tables/wmo-39")[0], 2)
+    old = TOP / "tables/wmo-39"
+    for told, words in (
+        ("OLD and NEW are wanted; changes.py --help tells more", [old]),
+        ("nosuch/B.csv: No such file or directory", ["nosuch", old]),
+        ("out/D.csv has no column member", [old, "out"]),
+    ):
+        (place / "out/D.csv").write_text("fxy\n")
+        holds(f"changes.py {words}", run("changes.py", *words), (2, "", f"changes.py: {told}\n"))
+    status, told, _ = run("changes.py", TOP / "tables/wmo-13", TOP / "tables/wmo-14")
+    holds("changes.py", (status, told.splitlines()[:2]), (0, ["wmo-13 to wmo-14", CHANGED]))
+    for name in ("convert.py", "changes.py"):
+        holds(f"{name} --help", run(name, "--help")[0], 0)
+    return wrongs
+
+
 def main() -> None:
     wrongs = []
     with tempfile.TemporaryDirectory() as folder:
@@ -229,8 +282,10 @@ def main() -> None:
                 wrongs += [f"{row[:60]!a}: {wrong}"] * bool(wrong)
         for name, text, status, told, kept in SOURCES:
             done = convert(place, name, text)
+            told = f"convert.py: {told}" if status == 2 else told
             if (done.returncode, done.stderr, behind_headers(place)) != (status, told, kept):
                 wrongs.append(f"{text!a} in {name}: {done.returncode}, {done.stderr!r}, {behind_headers(place)!r}")
+        wrongs += failures(place)
     finish(wrongs)
 
 

@@ -1,0 +1,52 @@
+"""Builds the wheel that `pip install .` installs, by Python alone: pip calls `build_wheel` (pyproject.toml)."""
+import base64
+import hashlib
+import pathlib
+import zipfile
+
+TOP = pathlib.Path(__file__).resolve().parent
+NAME = "bufr_text-0.1.0"
+METADATA = """\
+Metadata-Version: 2.1
+Name: bufr-text
+Version: 0.1.0
+Summary: Reads and writes the text of bufr dump, and runs bufr
+Requires-Python: >=3.9
+"""
+WHEEL = """\
+Wheel-Version: 1.0
+Generator: build_wheel
+Root-Is-Purelib: true
+Tag: py3-none-any
+"""
+
+
+def files():
+    """The name of each file in the wheel, and its octets."""
+    for path in TOP.glob("scripts/*.py"):
+        yield path.name, path.read_bytes()
+    for path in TOP.glob("scripts/bufr-*"):
+        # pip writes its own Python in the place of this line.
+        yield f"{NAME}.data/scripts/{path.name}", b"#!python\n" + path.read_bytes().partition(b"\n")[2]
+    for pattern, folder in (("scripts/*.awk", "share/bufr"), ("man/*.1", "share/man/man1")):
+        for path in TOP.glob(pattern):
+            yield f"{NAME}.data/data/{folder}/{path.name}", path.read_bytes()
+    for path in TOP.glob("tables/wmo-*/*.csv"):
+        yield f"{NAME}.data/data/share/bufr/{path.relative_to(TOP)}", path.read_bytes()
+    yield f"{NAME}.dist-info/METADATA", METADATA.encode()
+    yield f"{NAME}.dist-info/WHEEL", WHEEL.encode()
+
+
+def build_wheel(folder: str, config_settings=None, metadata_directory=None) -> str:
+    """Writes the wheel into this folder, and returns its name."""
+    name, record = f"{NAME}-py3-none-any.whl", f"{NAME}.dist-info/RECORD"
+    with zipfile.ZipFile(pathlib.Path(folder) / name, "w") as wheel:
+        rows = []
+        for path, octets in sorted(files()):
+            info = zipfile.ZipInfo(path)
+            info.external_attr = (0o100755 if "/scripts/" in path else 0o100644) << 16
+            wheel.writestr(info, octets, zipfile.ZIP_DEFLATED)
+            digest = base64.urlsafe_b64encode(hashlib.sha256(octets).digest()).rstrip(b"=").decode()
+            rows.append(f"{path},sha256={digest},{len(octets)}\n")
+        wheel.writestr(record, "".join([*rows, f"{record},,\n"]))
+    return name

@@ -1,0 +1,337 @@
+#!/usr/bin/env python3
+"""Fails the scripts on purpose: each says so in one line, ends with 2, and never with 0 or 1 where its output is not whole.
+
+    tests/failures_of_scripts.py [PROGRAM [SCRIPT..]]
+
+Descriptors are closed or full, memory and room are wanting, files become shorter while they are read, tables are at
+fault, and programs are killed. Then come the options that all scripts have, and the line of progress.
+"""
+import contextlib
+import functools
+import os
+import pathlib
+import pty
+import resource
+import shutil
+import signal
+import subprocess
+import sys
+import tempfile
+import time
+
+import lib
+from lib import TABLES, TOP, finish, program
+
+SYNOP = TOP / "examples/synop.bufr"
+FAULTY = TOP / "examples/bulletins.bufr"
+DUMP = ["dump", *TABLES]
+# The words of each script in front of a stream.
+SCRIPTS = {"bufr-auto": [], "bufr-extract": [], "bufr-lacks": [], "bufr-parallel": ["-P", "2", *DUMP]}
+# Scripts that need packages: of them it is tried how they begin; tests/pictures.py and tests/dask_table.py have the rest.
+OTHERS = {"bufr-plot": ["map", "a.png"], "bufr-dask": ["2", "001001"]}
+complaints = []
+
+
+def holds(what: str, is_so: bool, told: object = "") -> None:
+    if not is_so:
+        complaints.append(f"{what}: {told!r}"[:1000])
+
+
+class Trial:
+    """Runs of one script in a folder of its own."""
+
+    def __init__(self, name: str, words: list, place: str) -> None:
+        self.name, self.words, self.place = name, [sys.executable, str(TOP / "scripts" / name), *words], pathlib.Path(place)
+        self.environment = {**os.environ, "BUFR": program(), "TMPDIR": place}
+        self.environment.pop("BUFR_TABLES", None)
+
+    def run(self, words=(), closed=(), full=(), limits=None, **more):
+        """A run with these descriptors closed or full, and these limits: its status, output and errors."""
+
+        def prepare() -> None:
+            for number in full:
+                os.dup2(os.open("/dev/full", os.O_RDWR), number)
+            for number in closed:
+                os.close(number)
+            for which, limit in (limits or {}).items():
+                resource.setrlimit(which, (limit, limit))
+
+        environment = {**self.environment, **more.pop("environment", {})}
+        if "input" not in more and 0 not in closed:
+            more.setdefault("stdin", subprocess.DEVNULL)
+        done = subprocess.run(
+            [*self.words, *map(str, words)], capture_output=True, env=environment, preexec_fn=prepare, timeout=120, **more
+        )
+        for text in (b"Traceback", b"Exception ignored"):
+            holds(f"{self.name} {words}: what Python prints", text not in done.stderr, done.stderr)
+        return done
+
+    def fails(self, what: str, done, told: str = "") -> None:
+        """It ended with 2, and with one more line than the faults of messages, which has this text."""
+        lines = [line for line in done.stderr.decode().splitlines() if not line.startswith("offset ")]
+        holds(f"{self.name}, {what}", done.returncode == 2 and len(lines) == 1 and told in lines[0], done)
+
+    def program(self, script: str) -> dict:
+        """The environment by which another program runs: `bufr`, but for these lines of a shell in front."""
+        path = self.place / "other"
+        path.write_text(f"#!/bin/sh\n{script}\nexec {program()} \"$@\"\n")
+        path.chmod(0o755)
+        return {"BUFR": str(path)}
+
+
+def descriptors(trial: Trial) -> None:
+    """A closed or full descriptor fails where something was to be written to it, and nowhere else."""
+    lacking = trial.place / "lacking"
+    lacking.write_bytes(lib.asking(lib.message(b"", lib.words("063255")), 13))
+    gives = lacking if trial.name == "bufr-lacks" else SYNOP
+    shutil.copy(gives, trial.place / "stream")
+    stream, whole = trial.place / "stream", trial.run([gives])
+    trial.fails("a closed output", trial.run([stream], closed=[1]))
+    trial.fails("a full output", trial.run([stream], full=[1]))
+    holds(f"{trial.name}: a file is written", stream.read_bytes() == gives.read_bytes())
+    done = trial.run([os.devnull], closed=[1])
+    holds(f"{trial.name}: nothing to a closed output", done.returncode == 0, done)
+    trial.fails("a closed input", trial.run(closed=[0]), "read failed" if trial.name != "bufr-auto" else "read")
+    done = trial.run([gives], closed=[0])
+    holds(f"{trial.name}: a closed input beside a file", done.stdout == whole.stdout, done)
+    for kind in ("closed", "full"):
+        done = trial.run([SYNOP], **{kind: [2]})
+        wanted = trial.run([SYNOP])
+        is_same = (done.returncode, done.stdout) == (0, wanted.stdout)
+        holds(f"{trial.name}: no errors to a {kind} descriptor", is_same, done)
+        done = trial.run([FAULTY], **{kind: [2]})
+        holds(f"{trial.name}: faults to a {kind} descriptor", done.returncode == 2, done)
+    done = trial.run([gives], closed=[0, 1, 2])
+    holds(f"{trial.name}: three closed descriptors", done.returncode == 2, done)
+    if trial.name == "bufr-auto":
+        note = lib.asking(lib.message(b"\x14"), 45)
+        for kind in ("closed", "full"):
+            holds(f"a note to a {kind} descriptor", trial.run(input=note, **{kind: [2]}).returncode == 2)
+
+
+# A script for which there is no memory where a program has ended.
+REFUSED = """
+import runpy, sys
+sys.path[0], sys.argv = "{}", sys.argv[1:]
+import bufr_guard
+def refused(*_): raise MemoryError
+bufr_guard.wait = refused
+runpy.run_path(sys.argv[0], run_name="__main__")
+"""
+
+
+def memory(trial: Trial) -> None:
+    """With less and less memory it gives all of it, or says that there is not enough."""
+    stream = trial.place / "strays"
+    stream.write_bytes(SYNOP.read_bytes() + b"BUFR\0\0\0\0" * 50_000 + SYNOP.read_bytes())
+    whole = trial.run([stream])
+    holds(f"{trial.name}: strays", whole.returncode == 1 and whole.stderr.count(b"\n") == 50_000, whole.returncode)
+    # From what Python needs to read the script and the module that all share.
+    code, least = "import sys; script, sys.path[0] = sys.argv[1:]; compile(open(script).read(), '', 'exec'); import bufr_guard", 8
+    words = [sys.executable, "-c", code, trial.words[1], TOP / "scripts"]
+    while subprocess.run(words, stderr=subprocess.DEVNULL, preexec_fn=functools.partial(limit_memory, least)).returncode:
+        least += 1
+    for megabytes in [*range(least + 2, least + 24, 2), 150]:
+        done = trial.run([stream], limits={resource.RLIMIT_AS: megabytes << 20})
+        is_whole = (done.returncode, done.stdout, done.stderr) == (1, whole.stdout, whole.stderr)
+        is_told = done.returncode == 2 and not done.stderr.splitlines()[-1:] == whole.stderr.splitlines()[-1:]
+        holds(f"{trial.name} in {megabytes} MB", is_whole or is_told, (done.returncode, done.stderr[-300:]))
+        holds(f"{trial.name} in {megabytes} MB: a prefix", whole.stdout.startswith(done.stdout), done.stdout[-300:])
+    trial.words[1:1] = ["-c", REFUSED.format(TOP / "scripts")]
+    trial.fails("want of memory", trial.run([stream]), f"{trial.name}: out of memory")
+
+
+def limit_memory(megabytes: int) -> None:
+    resource.setrlimit(resource.RLIMIT_AS, (megabytes << 20, megabytes << 20))
+
+
+def room(trial: Trial) -> None:
+    """No file can grow past 4 KB, as in a full folder of temporary files."""
+    octets = SYNOP.read_bytes() * 100
+    whole = trial.run(input=octets)
+    done = trial.run(input=octets, limits={resource.RLIMIT_FSIZE: 4096})
+    if done.returncode == 0:
+        # It needs no such file.
+        holds(f"{trial.name} without room", done.stdout == whole.stdout, done.stdout[-300:])
+    else:
+        trial.fails("no room", done)
+        holds(f"{trial.name}, no room: a prefix", whole.stdout.startswith(done.stdout), done.stdout[-300:])
+    if trial.name in ("bufr-extract", "bufr-parallel", "bufr-lacks"):
+        told = f"{trial.name}: no room in {trial.place} (TMPDIR)\n"
+        holds(f"{trial.name}: no room", done.stderr.decode() == told, done)
+
+
+def shorter(trial: Trial) -> None:
+    """The file becomes shorter while it is read: before `bufr ls` reads it, behind that, or before a dump."""
+    stream = trial.place / "stream"
+    octets = lib.asking(lib.message(bytes(60_000)), 39) * 40
+    stream.write_bytes(octets)
+    whole = trial.run([stream]).stdout
+    for what, lines in (
+        ("behind", f'if [ "$1" = ls ]; then {program()} ls; status=$?; head -c 100000 {stream} > {stream}.1; '
+                   f'cat {stream}.1 > {stream}; exit $status; fi'),
+        ("before", f'if [ "$1" = ls ]; then : > {stream}; fi'),
+    ):
+        stream.write_bytes(octets)
+        done = trial.run([stream], environment=trial.program(lines))
+        if trial.name in ("bufr-auto", "bufr-extract", "bufr-lacks") and stream.stat().st_size == len(octets):
+            continue  # it reads the stream without `bufr ls`
+        if what == "before" and trial.name in ("bufr-extract", "bufr-lacks"):
+            # `bufr ls` reads an empty file.
+            holds(f"{trial.name}: a file that is empty when it is read", (done.returncode, done.stdout) == (0, b""), done)
+            continue
+        trial.fails(f"a file that becomes shorter {what} `bufr ls`", done, "shorter")
+        holds(f"{trial.name}, {what} `bufr ls`: a prefix", whole.startswith(done.stdout), len(done.stdout))
+
+
+def killed(trial: Trial) -> None:
+    """A program that is killed, ends otherwise than `bufr`, or with 2 and no word."""
+    for command in ("ls", "dump"):
+        for how, told in (("kill -9 $$", "137"), ("exit 3", "3"), ("exit 127", "127"), ("exit 2", "2")):
+            for moment in ("before", "behind"):
+                begin = "" if moment == "before" else f'{program()} "$@"; '
+                done = trial.run([SYNOP], environment=trial.program(f'if [ "$1" = {command} ]; then {begin}{how}; fi'))
+                if done.returncode == 0:  # it does without
+                    holds(f"{trial.name} without {command}", done.stdout == trial.run([SYNOP]).stdout, done)
+                elif told != "2" or done.stderr:
+                    trial.fails(f"{command} and {how}, {moment}", done, f"cannot go on: bufr ended with {told}")
+                else:  # where errors of `bufr` go to the same place, that is told there
+                    holds(f"{trial.name}: {command} and {how}", trial.name in ("bufr-extract", "bufr-lacks"), done)
+    done = trial.run([SYNOP], environment={"BUFR": "/nosuch"})
+    trial.fails("no program", done, "cannot run /nosuch: No such file or directory")
+
+
+def signals(trial: Trial) -> None:
+    """A signal ends a script and what it runs. A reader that has gone is a failed write, or ends it quietly."""
+    number = trial.place / "number"
+    slow = trial.program(f"echo $$ > {number}.1; mv {number}.1 {number}; exec sleep 60")
+    for name in (signal.SIGINT, signal.SIGTERM, signal.SIGHUP):
+        number.unlink(missing_ok=True)
+        run = subprocess.Popen(
+            [*trial.words, SYNOP], stdout=subprocess.DEVNULL, stderr=subprocess.PIPE, env={**trial.environment, **slow}
+        )
+        is_begun = wait_until(number.exists)
+        run.send_signal(name)
+        _, told = run.communicate(timeout=60)
+        holds(f"{trial.name} at {name.name}", is_begun and (run.returncode, told) == (-name, b""), (run.returncode, told))
+        started = pathlib.Path("/proc") / number.read_text().strip()
+        holds(f"{trial.name} at {name.name}: what still runs", wait_until(lambda: not started.exists()))
+    done = subprocess.run(
+        [*trial.words, SYNOP], capture_output=True, env=trial.environment,
+        preexec_fn=lambda: signal.signal(signal.SIGCHLD, signal.SIG_IGN),
+    )
+    holds(f"{trial.name} of a parent that ignores its children", (done.returncode, done.stderr) == (0, b""), done)
+    # More than a pipe holds.
+    (trial.place / "many").write_bytes(SYNOP.read_bytes() * 4000)
+    run = subprocess.Popen(
+        [*trial.words, trial.place / "many"], stdout=subprocess.PIPE, stderr=subprocess.PIPE, env=trial.environment
+    )
+    if trial.name != "bufr-lacks":  # of which nothing comes
+        run.stdout.read(10)
+    run.stdout.close()
+    told, status = run.stderr.read(), run.wait(timeout=60)
+    if trial.name == "bufr-lacks":
+        holds("bufr-lacks without a reader", (status, told) == (0, b""), (status, told))
+    elif trial.name == "bufr-auto":
+        holds("bufr-auto without a reader", status in (2, -signal.SIGPIPE), (status, told))
+    else:
+        holds(f"{trial.name} without a reader", status == 2 and told.count(b"\n") == 1, (status, told))
+
+
+def wait_until(is_so) -> bool:
+    end = time.monotonic() + 30
+    while not is_so() and time.monotonic() < end:
+        time.sleep(0.02)
+    return bool(is_so())
+
+
+def tables(trial: Trial) -> None:
+    """A field of 200,000 octets, a NUL, no UTF-8, and a folder whose name looks like an option."""
+    if trial.name not in ("bufr-auto", "bufr-lacks"):
+        return
+    folder = trial.place / "-sets"
+    shutil.copytree(TOP / "tables/wmo-39", folder / "wmo-39")
+    done, wanted = trial.run([SYNOP], environment={"BUFR_TABLES": "-sets"}, cwd=trial.place), trial.run([SYNOP])
+    is_same = (done.returncode, done.stdout) == (0, wanted.stdout)
+    holds(f"{trial.name}: BUFR_TABLES=-sets", is_same, done)
+    for name in ("B.csv", "D.csv"):
+        for field in ("N" * 200_000, "A\0B"):
+            good = (TOP / "tables/wmo-39" / name).read_text(encoding="utf-8")
+            bad = f"012101,{field},K,2,0,16\n" if name == "B.csv" else f"307080,{field}\n"
+            (folder / "wmo-39" / name).write_text(good + bad, encoding="utf-8")
+            # 2 of 63 asks for the table's rows, so that both scripts read them
+            stream = lib.asking(lib.message(b"", lib.words("063255 012101 307080")), 45, 1)
+            done = trial.run(input=stream, environment={"BUFR_TABLES": str(folder)})
+            holds(f"{trial.name}: {name} with {field[:3]!r}", done.returncode == 2 and done.stderr, done)
+        (folder / "wmo-39" / name).write_text(good, encoding="utf-8")
+
+
+def options(trial: Trial) -> None:
+    """--help, --version, mistaken words, an isolated Python, and names that a screen would take for orders."""
+    trial.words, kept = trial.words[:2], trial.words
+    for words in (["--help"], ["--version"]):
+        for kind in ("closed", "full"):
+            trial.fails(f"{words} to a {kind} output", trial.run(words, **{kind: [1]}))
+    version = subprocess.run([program(), "--version"], stdout=subprocess.PIPE, text=True).stdout
+    for words in (["--version"], ["-V"]):
+        done = trial.run(words)
+        holds(f"{trial.name} {words}", done.stdout.decode() == f"{trial.name}, with {version}", done)
+    for words in (["--help"], ["-h"]):
+        done = trial.run(words)
+        holds(f"{trial.name} {words}", done.returncode == 0 and trial.name in done.stdout.decode(), done)
+    trial.words = [kept[0], "-I", *kept[1:2]]
+    done = trial.run(["--version"], cwd=trial.place)
+    holds(f"{trial.name} in an isolated Python", done.returncode == 0, done)
+    trial.words = [kept[0], "-c", REFUSED.format(TOP / "scripts"), kept[1]]
+    trial.fails("want of memory for the version", trial.run(["--version"]), f"{trial.name}: out of memory")
+    trial.words = kept
+    done = trial.run(["--nonsense"])
+    holds(f"{trial.name} --nonsense", done.returncode == 2 and b"\n" == done.stderr[-1:], done)
+    if trial.name in OTHERS:
+        return
+    shutil.copy(SYNOP, trial.place / "-")
+    for words in (["-"], ["--", "-"]):
+        done = trial.run(words, cwd=trial.place)
+        holds(f"{trial.name} of a file {words}", done.stdout == trial.run([SYNOP]).stdout and not done.returncode, done)
+    done = trial.run(["no\x1b[31m\nsuch\udcff"])
+    trial.fails("a name that is not there", done, r"no\x1B[31m\x0Asuch\xFF")
+
+
+def progress(trial: Trial) -> None:
+    """On a terminal a line comes once a second and goes again; elsewhere there is none."""
+    slow = trial.program('if [ "$1" = ls ] || [ "$1" = dump ] && [ ! -t 0 ]; then sleep 2.5; fi')
+    octets = SYNOP.read_bytes() * 20_000
+    (trial.place / "long").write_bytes(octets)
+    main, terminal = pty.openpty()
+    begin = time.monotonic()
+    words = [*trial.words, str(trial.place / "long")]
+    run = subprocess.Popen(
+        words, stdin=subprocess.DEVNULL, stdout=subprocess.DEVNULL, stderr=terminal, env={**trial.environment, **slow}
+    )
+    os.close(terminal)
+    told = b""
+    with contextlib.suppress(OSError):  # the end of a terminal
+        while octets := os.read(main, 4096):
+            told += octets
+    os.close(main)
+    seconds, status = time.monotonic() - begin, run.wait()
+    lines = told.count(b" MB")
+    holds(f"{trial.name}: progress", status == 0 and 1 <= lines <= seconds + 1, (status, told, seconds))
+    holds(f"{trial.name}: progress that stays", told.endswith(b"\r\x1b[K") and b"\n" not in told, told)
+    if trial.name == "bufr-lacks":
+        done = trial.run([trial.place / "long"], environment=slow)
+        holds(f"{trial.name}: progress to a pipe", done.stderr == b"", done.stderr)
+
+
+def main() -> None:
+    asked = sys.argv[2:] or [*SCRIPTS, *OTHERS]
+    for name in asked:
+        of_all = (descriptors, memory, room, shorter, killed, signals, tables, options, progress)
+        for test in of_all if name in SCRIPTS else (options,):
+            with tempfile.TemporaryDirectory() as place:
+                test(Trial(name, {**SCRIPTS, **OTHERS}[name], place))
+    finish(complaints)
+
+
+if __name__ == "__main__":
+    main()

@@ -1,0 +1,193 @@
+#!/usr/bin/env python3
+"""Breaks the scripts on purpose, one change at a time, and wants the test that stands beside it to fail.
+
+    tests/mutations.py [--all | --only WORD] [PROGRAM]
+
+Each change is made in a copy of this tree. Without --all only the first is tried, and of the others it is looked at
+whether their text is still there. --only tries those whose file, text or test has this word.
+"""
+import os
+import pathlib
+import shutil
+import subprocess
+import sys
+import tempfile
+
+from lib import BUILT, TOP, finish
+
+# A file, its text, what takes its place, and the test with its words behind the program.
+MUTATIONS = [
+    (
+        "scripts/bufr-lacks",
+        "return max(bufr_guard.checked(status), 1 if found else 0)",
+        "return 1 if found else 0",
+        "tests/centre_tables.py",
+    ),
+    ("scripts/bufr-lacks", "base + int(offset)", "int(offset)", "tests/centre_tables.py"),
+    ("scripts/bufr-lacks", "if tables not in tried and is_refused(tables):", "if False:", "tests/failures_of_scripts.py bufr-lacks"),
+    (
+        "scripts/bufr_sets.py",
+        "own[min(good, key=lambda number: abs(number - version))]",
+        "own[good[-1]]",
+        "tests/centre_tables.py",
+    ),
+    (
+        "scripts/bufr_sets.py",
+        "if min(version, nearest) <= number <= max(version, nearest)",
+        "if True",
+        "tests/centre_tables.py",
+    ),
+    ("scripts/bufr-parallel", "status = max(status, told)", "pass", "tests/parallel_dump.py"),
+    ("scripts/bufr-parallel", "ThreadPoolExecutor(asked.P)", "ThreadPoolExecutor(2 * asked.P)", "tests/parallel_dump.py"),
+    ("scripts/bufr-parallel", "faults.tell_before(min(offset, part[-1]))", "pass", "tests/parallel_dump.py"),
+    (
+        "scripts/bufr-parallel",
+        "return max(status, bufr_guard.checked(listing.status, listing.faults.has_told))",
+        "return status",
+        "tests/failures_of_scripts.py bufr-parallel",
+    ),
+    ("scripts/bufr-parallel", "raise stream.failure", "pass", "tests/failures_of_scripts.py bufr-parallel"),
+    ("scripts/bufr-parallel", "or len(self.part) >= 2 * RANGES", "", "tests/memory_of_scripts.py bufr-parallel"),
+    ("scripts/bufr-extract", "base + begin, base + end", "begin, end", "tests/extract_messages.py"),
+    ("scripts/bufr-extract", "pattern += f\"| edition=3", "pattern += f\"|", "tests/extract_messages.py"),
+    ("scripts/bufr-extract", "raise Failed(\"write failed\") from None", "raise", "tests/extract_messages.py"),
+    (
+        "scripts/bufr-extract",
+        "        bufr_guard.checked(status, what=program)\n",
+        "        pass\n",
+        "tests/failures_of_scripts.py bufr-extract",
+    ),
+    (
+        "scripts/bufr_guard.py",
+        "raise Failed(\"the file became shorter while it was read\")",
+        "break",
+        "tests/failures_of_scripts.py bufr-parallel",
+    ),
+    ("scripts/bufr_guard.py", "        take_descriptors()\n", "", "tests/failures_of_scripts.py bufr-parallel"),
+    ("scripts/bufr_guard.py", "or (status == 2 and not has_told)", "", "tests/failures_of_scripts.py bufr-parallel"),
+    ("scripts/bufr_guard.py", "raise no_room() from None\n\n\ndef no_room", "pass\n\n\ndef no_room", "tests/failures_of_scripts.py bufr-extract"),
+    ("scripts/bufr_guard.py", "self.next = time.monotonic() + 1\n            total", "total", "tests/failures_of_scripts.py bufr-extract"),
+    ("scripts/bufr_sets.py", "os.path.abspath(place)", "place", "tests/failures_of_scripts.py bufr-auto"),
+    ("scripts/bufr_text.py", "if done.returncode not in (0, 1) or", "if", "tests/python_module.py"),
+    ("tables/convert.py", "aside.unlink(missing_ok=True)", "pass", "tests/table_converter.py"),
+    ("tables/convert.py", "out / f\".{name}.{os.getpid()}\"", "out / name", "tests/table_converter.py"),
+    (
+        "scripts/bufr_text.py",
+        '"compressed": compressed}',
+        '"compressed": one.header["compressed"]}',
+        "tests/python_module.py",
+    ),
+    (
+        "scripts/bufr_text.py",
+        'part.decode("utf-8", "surrogateescape")',
+        'part.decode("latin-1")',
+        "tests/python_module.py",
+    ),
+    ("scripts/bufr_text.py", "octets: int = 1 << 19", "octets: int = 1 << 29", "tests/python_module.py"),
+    (
+        "scripts/bufr_text.py",
+        "while self.stray and self.stray.offset < offset:",
+        'while self.stray and offset == float("inf"):',
+        "tests/python_module.py",
+    ),
+    ("scripts/bufr_text.py", "if place.offset in refused:", "if False:", "tests/python_module.py"),
+    (
+        "scripts/bufr_text.py",
+        "message.offset, message.length = place",
+        "message.offset, message.length = part[0]",
+        "tests/python_module.py",
+    ),
+    ("scripts/bufr_text.py", "known[0] += int(note[1])", "known[0] += 1", "tests/python_module.py"),
+    ("scripts/bufr_text.py", "(self.faults is None and self.count > 0)", "(self.count > 0)", "tests/python_module.py"),
+    ("scripts/bufr_text.py", "status == 1 and not has_told", "False", "tests/python_module.py"),
+    ("scripts/bufr_text.py", "done.returncode == 1 and not done.stderr", "False", "tests/python_module.py"),
+    ("scripts/bufr_text.py", "if len(octets) < place.length:", "if False:", "tests/python_module.py"),
+    ("scripts/bufr_text.py", "os.path.abspath(table_b)", "str(table_b)", "tests/python_module.py"),
+    ("scripts/bufr_text.py", "> 4096", "> 4097", "tests/python_module.py"),
+    ("scripts/bufr_text.py", 'rb"subset 0*(\\d{1,5})"', 'rb"subset (\\d{1,5})"', "tests/python_module.py"),
+    ("scripts/bufr_text.py", '){1,8}")', ')+")', "tests/python_module.py"),
+    ("scripts/bufr_text.py", "inner < pass_inner", "False", "tests/python_module.py"),
+    ("scripts/bufr_text.py", 'item.value.rstrip(b" ")', "item.value", "tests/python_module.py"),
+    (
+        "scripts/wide.awk",
+        'if ($2 !~ /^"/)\n        return $2 == "MISSING" ? "" : $2\n',
+        'sub(/^.{7}/, "")\n    if ($0 !~ /^"/) {\n        sub(/ .*/, "")\n        return $0 == "MISSING" ? "" : $0\n    }\n',
+        "tests/csv_by_awk.py",
+    ),
+    ("scripts/wide.awk", "while (fault == offset)", "while (0)", "tests/csv_by_awk.py"),
+    ("scripts/wide.awk", "!($1 in wanted) { next }", '/^R / || /^#/ || $0 == "" { next }', "tests/csv_by_awk.py"),
+    ("scripts/levels.awk", "while (fault == offset)", "while (0)", "tests/csv_by_awk.py"),
+    ("scripts/levels.awk", "items += /^[0-3]/", "items++", "tests/csv_by_awk.py"),
+    ("scripts/levels.awk", "(left || opened < 2 || pass_inner || items != pass_items)", "1", "tests/csv_by_awk.py"),
+    ("scripts/levels.awk", "open = left = row_count = 0", "open = left = 0", "tests/csv_by_awk.py"),
+    ("scripts/bufr-plot", "longitude if abs(longitude) <= 180 else", "longitude if True else", "tests/pictures.py"),
+    ("scripts/bufr-plot", "max(-90.0, min(90.0, latitude))", "latitude", "tests/pictures.py"),
+    ("scripts/bufr-plot", "> MOST_LABELS", ">= MOST_LABELS", "tests/pictures.py"),
+    ("scripts/bufr-plot", '.replace("$", r"\\$")', "", "tests/pictures.py"),
+    ("scripts/bufr-plot", 'aside = f"{name}.{os.getpid()}"', "aside = name", "tests/pictures.py"),
+    ("scripts/bufr-dask", "sorted(strays + faults)", "strays + faults", "tests/dask_table.py"),
+    ("scripts/bufr-dask", "status |= bool(strays or faults)", "status |= bool(faults)", "tests/dask_table.py"),
+]
+
+
+def copied(place: str) -> pathlib.Path:
+    """A copy of this tree without the crates, which the program was built of."""
+    top = pathlib.Path(place) / "tree"
+    left_out = shutil.ignore_patterns(".git", "crates", "__pycache__")
+    shutil.copytree(TOP, top, symlinks=True, ignore=left_out)
+    return top
+
+
+def told(top: pathlib.Path, test: str, program: str) -> tuple:
+    """Whether a test fails in a copy, and whether it skips something."""
+    script, *words = test.split()
+    try:
+        done = subprocess.run([top / script, program, *words], stdout=subprocess.PIPE, stderr=subprocess.STDOUT, timeout=900)
+    except subprocess.TimeoutExpired:
+        return True, False
+    return done.returncode != 0, b"skipped" in done.stdout
+
+
+def told_of(top: pathlib.Path, mutation: tuple, program: str) -> tuple:
+    """The same of a test where the text of a file is changed."""
+    file, old, new, test = mutation
+    text = (top / file).read_text(encoding="utf-8")
+    (top / file).write_text(text.replace(old, new), encoding="utf-8")
+    try:
+        return told(top, test, program)
+    finally:
+        (top / file).write_text(text, encoding="utf-8")
+
+
+def main() -> None:
+    words = sys.argv[1:]
+    asked = MUTATIONS[:1]
+    if words[:1] == ["--all"]:
+        asked, words = MUTATIONS, words[1:]
+    elif words[:1] == ["--only"]:
+        asked, words = [mutation for mutation in MUTATIONS if words[1] in " ".join(mutation)], words[2:]
+    program = os.path.abspath(words[0] if words else BUILT)
+    wrongs = []
+    for file, old, *_ in MUTATIONS:
+        count = (TOP / file).read_text(encoding="utf-8").count(old)
+        wrongs += [f"{file} has {count} times {old!r}"] * (count == 0)
+    with tempfile.TemporaryDirectory() as place:
+        top = copied(place)
+        tests = sorted({test for *_, test in asked})
+        wrongs += [f"{test} fails without a change" for test in tests if told(top, test, program)[0]]
+        for mutation in asked:
+            file, old, new, test = mutation
+            is_told, is_skipped = told_of(top, mutation, program)
+            if is_told:
+                print(f"mutations: told: {file}: {old!r}", flush=True)
+            elif is_skipped:
+                print(f"mutations: skipped, as a part of {test} is: {file}: {old!r}", flush=True)
+            else:
+                wrongs.append(f"{test} holds where {file} has {new!r} for {old!r}")
+                print(f"mutations: {wrongs[-1]}", flush=True)
+    print(f"mutations: {len(asked)} of {len(MUTATIONS)} changes tried")
+    finish(wrongs)
+
+
+if __name__ == "__main__":
+    main()
