@@ -5,7 +5,7 @@ import sys
 import bufr_guard
 
 # So many lists of descriptors are remembered, none of them longer.
-REMEMBERED = 1 << 10
+REMEMBERED = 1 << 8
 # A template has at most about so many descriptors.
 LONGEST = 1 << 16
 

@@ -29,7 +29,7 @@ from decimal import Decimal
 from typing import IO, BinaryIO, Dict, Iterable, Iterator, List, NamedTuple, Optional, Sequence, Tuple, Union
 
 __all__ = (
-    "HEADER DumpWarning Fault Item Message Place RunError TextError Value "
+    "HEADER Cell DumpWarning Fault Item Message Place RunError TextError Value "
     "dump encode find levels listing parts read rows write"
 ).split()
 
@@ -541,7 +541,7 @@ class _Told:
         self.first: Optional[Fault] = None
         self.strays: Iterator[Fault] = iter(())
         self.stray: Optional[Fault] = None
-        self.notes: Dict[str, List[int]] = {}
+        self.notes: Dict[bytes, List[int]] = {}
 
     def tell(self, fault: Fault) -> None:
         self.count += 1
@@ -567,9 +567,11 @@ class _Told:
             if fault:
                 offset = offsets[int(fault[1])]
                 refused[offset] = Fault(offset, int(fault[2]), fault[3].decode())
-            elif note:
-                known = self.notes.setdefault(note[3].decode(errors="replace"), [0, offsets[int(note[2])]])
-                known[0] += int(note[1])
+            else:
+                count, begin, reason = note.groups() if note else (b"1", b"0", line)
+                if reason not in self.notes and len(self.notes) >= 1000:
+                    reason = b"other notes"
+                self.notes.setdefault(reason, [0, offsets[int(begin)]])[0] += int(count)
         return refused
 
     def end(self, stream: IO[bytes]) -> None:
@@ -578,7 +580,7 @@ class _Told:
         told = [f"no message{_looks(stream)}"] * self.is_bare
         told += [f"fault lines: {self.count}, the first: {self.first}"] * (self.faults is None and self.count > 0)
         for reason, (count, first) in self.notes.items():
-            told.append(f"messages: {count}, the first at offset {first}: {reason}")
+            told.append(f"messages: {count}, the first at offset {first}: {reason.decode(errors='replace')}")
         for text in told:
             warnings.warn(f"{os.fsdecode(self.file)}: {text}", DumpWarning, stacklevel=3)
 

@@ -4,7 +4,8 @@
 #
 # Messages, subsets and items count from 1. Texts stand in quotes, without the spaces at their end and with the escapes
 # of the dump (\", \\, \xHH); a missing value is an empty field without quotes. An item that is read by no entry of
-# Table B has neither name nor unit; a reference value that the data give has the name REFERENCE. Any awk will do.
+# Table B has neither name nor unit; a reference value that the data give has the name REFERENCE. The status is 2 where
+# the text ends inside a message. Any awk will do.
 
 # What stands in quotes in CSV.
 function quoted(text) {
@@ -12,50 +13,52 @@ function quoted(text) {
     return "\"" text "\""
 }
 
-# The length of a value in quotes at the front of a text.
-function quotes_end(text,   at) {
-    for (at = 2; at <= length(text) && substr(text, at, 1) != "\""; at++)
-        if (substr(text, at, 1) == "\\")
-            at++
-    return at
-}
-
-# Sets `value` and `comment` from what stands behind an item's descriptor.
-function parse(rest,   ends) {
-    ends = substr(rest, 1, 1) == "\"" ? quotes_end(rest) : length(rest) && match(rest, / /) ? RSTART - 1 : length(rest)
-    value = substr(rest, 1, ends)
-    comment = substr(rest, ends + 1)
-    if (substr(value, 1, 1) == "\"") {
-        value = substr(value, 2, length(value) - 2)
+# Sets `value`, `name` and `unit` from an item's line. In a locale where the octets of a comment are no characters no
+# regular expression matches them, so these are split, and not looked for.
+function parse(   rest, parts, part, count) {
+    rest = $0
+    value = $2 == "MISSING" ? "" : $2
+    if ($2 ~ /^"/) {
+        split($0, parts, "\"")
+        value = parts[2]
+        for (part = 3; match(value, /\\+$/) && RLENGTH % 2; part++)
+            value = value "\"" parts[part]
         sub(/ +$/, "", value)
         value = quoted(value)
-    }
-    if (value == "MISSING")
-        value = ""
-    sub(/^ *# */, "", comment)
-}
-
-# The name in a comment: what stands before the last ` [`; and the unit, which stands behind it up to `]`.
-function name_ends(text,   at) {
-    for (at = length(text) - 1; at > 0 && substr(text, at, 2) != " ["; at--)
-        ;
-    return at
+        sub(/^[0-9]+ "([^"\\]|\\.)*"/, "", rest)
+    } else
+        sub(/^[0-9]+ [^ ]*/, "", rest)
+    sub(/^ *# */, "", rest)
+    # the unit stands behind the last ` [`
+    count = split(rest, parts, / \[/)
+    unit = count > 1 ? parts[count] : ""
+    sub(/]$/, "", unit)
+    name = count > 1 ? parts[1] : ""
+    for (part = 2; part < count; part++)
+        name = name " [" parts[part]
 }
 
 BEGIN { print "message,subset,item,descriptor,value,name,unit" }
 
 $0 == "" || /^#/ { next }
-$0 == "message" { message++; subset = 0; next }
-$0 == "end" { subset = 0; next }
+$0 == "message" { message++; subset = 0; is_open = 1; next }
+$0 == "end" { subset = is_open = 0; next }
 /^subset [0-9]/ { subset = $2; item = 0; next }
 
 subset {
-    given = ($0 ~ /^R /)
-    if (given)
-        $0 = substr($0, 3)
-    parse(substr($0, 8))
-    ends = name_ends(comment)
-    name = given ? "REFERENCE" : substr(comment, 1, ends - 1)
-    unit = given || !ends ? "" : substr(comment, ends + 2, length(comment) - ends - 2)
-    print message "," subset "," ++item "," substr($0, 1, 6) "," value "," (name == "" ? "" : quoted(name)) "," (unit == "" ? "" : quoted(unit))
+    is_reference = sub(/^R /, "")
+    parse()
+    if (is_reference) {
+        name = "REFERENCE"
+        unit = ""
+    }
+    line = message "," subset "," ++item "," $1 "," value ","
+    print line (name == "" ? "" : quoted(name)) "," (unit == "" ? "" : quoted(unit))
+}
+
+END {
+    if (is_open) {
+        print "long.awk: the text ends inside a message" | "cat >&2"
+        exit 2
+    }
 }

@@ -310,6 +310,9 @@ class Trial:
         ]
         self.holds("notes", told == [f"bufr-auto: {note}" for note in wanted], told)
         self.holds("no notes", self.auto(stream=exact).stderr == b"", self.auto(stream=exact).stderr)
+        refused = made(41, "012101", b"\1\1").replace(b"\0\0\x16", b"\0\0\x15", 1)
+        done = self.auto(stream=refused)
+        self.holds("no note of what is no message", done.stderr == b"offset 0: 11 section 1 short\n", done)
         other = bytearray(made(13, "012101", b"\1\1"))
         other[11] = 10
         note = b"bufr-auto: 1 message, at offset 0: master table 10 is not WMO's of meteorology\n"

@@ -148,7 +148,7 @@ def scripts() -> None:
         options = set(re.findall(r"(?<![\w-])(--?[A-Za-z]\w*)", told)) - {"-h", "-V"} | {"--help", "--version"}
         path = TOP / "man" / f"{name}.1"
         page = path.read_text(encoding="utf-8") if path.exists() else ""
-        told = {f"-{word}" for word in re.findall(r"(?:Fl|\||,) (-?[A-Za-z]\w*)", page) if len(word.strip("-")) == 1 or word[0] == "-"}
+        told = {f"-{word}" for item in re.findall(r"^\.It Fl (.*)$", page, re.M) for word in re.findall(r"-?[A-Za-z]\w*", item)}
         want(options <= told, f"man/{path.name}: it has no {sorted(options - told)}")
         want(f".Xr {name} 1" in read("man/bufr.1"), f"man/bufr.1: {name} is not among the other pages")
         of_zsh = re.search(rf"^        {name}\)(.*?);;$", zsh, re.M | re.S)

@@ -2,9 +2,10 @@
 # What install.sh installs is whole: it runs without the repository, and the docs lead to what is there.
 set -eu
 . "$(dirname "$0")/lib.sh"
-prefix=$work/prefix
-# The caller's files are nobody else's, and `cd` prints where it goes.
-(umask 077 && CDPATH=. PROGRAM=$bufr ./install.sh "$prefix") > "$work/told" || fail "install.sh fails"
+# The caller's files are nobody else's, and `cd` looks elsewhere first.
+top=$PWD prefix=$work/here/prefix
+mkdir -p "$work/here" "$work/other/prefix"
+(cd "$work/here" && umask 077 && CDPATH=$work/other PROGRAM=$bufr "$top/install.sh" prefix) > "$work/told" || fail "install.sh fails"
 find "$prefix" -type d ! -perm 755 -o -type f ! -perm 644 ! -perm 755 > "$work/modes"
 test ! -s "$work/modes" || fail "who did not install them cannot read: $(< "$work/modes")"
 for program in "$prefix"/bin/*; do test -x "$program" || fail "$program is no program"; done
@@ -14,7 +15,6 @@ grep -q "^for completions in zsh.*fpath=($prefix/share/zsh/site-functions" "$wor
 unset BUFR BUFR_TABLES
 PATH=$prefix/bin:/usr/bin:/bin:$(dirname "$(command -v python3)"):$PATH
 examples=$prefix/share/doc/bufr/examples
-tests=$PWD/tests
 cd "$work"
 
 bufr-auto "$examples/synop.bufr" | cmp - "$examples/synop.txt" || fail "bufr-auto: another dump of examples/synop.bufr"
@@ -45,7 +45,7 @@ done
 # The guide's commands run where it is installed.
 mkdir own
 ln -s "$prefix"/share/doc/bufr/* own
-"$tests/docs_commands.py" "$prefix/bin/bufr" "$work/own/docs/guide.md" || fail "the guide's commands in an installation"
+"$top/tests/docs_commands.py" "$prefix/bin/bufr" "$work/own/docs/guide.md" || fail "the guide's commands in an installation"
 
 # A page's links lead to pages that are installed.
 find "$prefix/share" -name '*.md' | while read -r page; do
@@ -62,7 +62,7 @@ done
 # As a package of Python it has what the scripts need, but for `bufr`.
 if python3 -c 'import pip, venv' 2> errors; then
     mkdir source
-    cp -r "$tests/../pyproject.toml" "$tests/../build_wheel.py" "$tests/../scripts" "$tests/../man" "$tests/../tables" source
+    cp -r "$top/pyproject.toml" "$top/build_wheel.py" "$top/scripts" "$top/man" "$top/tables" source
     python3 -m venv environment
     (umask 022 && environment/bin/pip install -q --no-index --no-build-isolation ./source) 2> errors || fail "pip: $(< errors)"
     (
@@ -71,7 +71,7 @@ if python3 -c 'import pip, venv' 2> errors; then
         rm -r "$prefix"/bin/bufr-* "$prefix/share/bufr"
         environment/bin/bufr-auto "$examples/synop.bufr" | cmp - "$examples/synop.txt" || fail "bufr-auto of the package"
         environment/bin/python -c "$count" "$examples/synop.bufr" | grep -qx 1 || fail "bufr_text of the package"
-        for script in "$tests"/../scripts/bufr-*; do
+        for script in "$top"/scripts/bufr-*; do
             "environment/bin/${script##*/}" --help > help || fail "${script##*/} of the package"
         done
         version=$(environment/bin/pip list --format freeze | sed -n 's/^bufr-text==/bufr /p')

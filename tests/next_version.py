@@ -68,6 +68,7 @@ def main() -> None:
     with tempfile.TemporaryDirectory() as folder:
         place = pathlib.Path(folder)
         shutil.copytree(TOP / "tables", place / "tables")
+        (place / "scripts").symlink_to(TOP / "scripts")
         wmo_csv(place / "wmo-csv")
         done = subprocess.run(["sh", "-eu", "-c", commands], cwd=place, capture_output=True, text=True)
         if (done.returncode, done.stdout, done.stderr) != (0, TOLD, ""):

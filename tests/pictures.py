@@ -65,6 +65,11 @@ def strange(python: str, folder: pathlib.Path) -> None:
     for latitude, pole in (("91.5", "90.0"), ("-100.0", "-90.0")):
         told = (draw(stations(3, pole))[0], "bufr-plot: latitudes past a pole: 2, which are drawn there\n")
         want(draw(stations(3, latitude)) == told, f"latitude {latitude} is not clipped, or not told")
+    for place in ({"longitude": "-165.0"}, {"latitude": "-85.0"}):
+        drawn, _ = draw(stations(3, **place))
+        ticks = re.findall(r">(\u2212?\d+)</text>", drawn)
+        edges = [float(tick.replace("\u2212", "-")) for tick in ticks]
+        want(ticks and (min(edges), max(edges)) == (-150, 150), f"the map of the world has {ticks}")
     want("281.5" in draw(stations(100), "--value", "012101")[0], "100 values have no labels")
     drawn, told = draw(stations(101), "--value", "012101")
     want("281.5" not in drawn, "101 values have labels")

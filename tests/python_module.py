@@ -442,6 +442,19 @@ class Runs(unittest.TestCase):
         wanted = f"{self.stream}: messages: 2, the first at offset {len(self.octets)}: version 45 is later than wmo-39"
         self.assertEqual(str(warned.warning), wanted)
 
+    def test_what_a_program_tells_beside_faults_is_a_warning(self):
+        self.use_program('[ "$1" = ls ] || { echo $$ >&2; echo strange >&2; }; exec "$REAL" "$@"')
+        self.stream.write_bytes((TOP / "examples/synop.bufr").read_bytes())
+        with warnings.catch_warnings(record=True) as told:
+            warnings.simplefilter("always")
+            self.assertEqual(len(list(bufr_text.dump(self.stream, *TABLES))), 1)
+        self.assertEqual(str(told[1].message), f"{self.stream}: messages: 1, the first at offset 0: strange")
+        # their kinds are bounded, as what is held is
+        seen = bufr_text._Told(self.stream, None)
+        for number in range(5000):
+            seen.of_part(b"note %d\n" % number, [bufr_text.Place(0, 48)])
+        self.assertEqual((len(seen.notes), seen.notes[b"other notes"]), (1001, [4000, 0]))
+
     def test_a_file_without_a_message_is_warned_of(self):
         web = b"<html>BUFR</html>" * 20
         for octets, told in [(b"", ": it is empty"), (b"\x1f\x8b\0", ": it looks like gzip data (zcat)"), (b"\0", "")]:
@@ -582,7 +595,7 @@ class Runs(unittest.TestCase):
     def test_public_names_have_a_docstring(self):
         for name in bufr_text.__all__:
             public = getattr(bufr_text, name)
-            if callable(public) and name != "Value":
+            if callable(public) and name not in ("Cell", "Value"):
                 self.assertTrue(public.__doc__, name)
 
 
