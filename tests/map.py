@@ -18,7 +18,7 @@ from lib import FAULT, TOP, finish
 
 CRATES = re.findall(r"^(\w+):", (TOP / "crates.txt").read_text(encoding="utf-8"), re.M)
 TESTS = "bufr_tests"  # the crate of the tests of all others
-OF_DOCS = "DECISIONS design format proof texts".split()
+OF_DOCS = "DECISIONS design format proof proving texts".split()
 PAGES = ["CONTRIBUTING.md", *(f"docs/{page}.md" for page in OF_DOCS)]
 COLUMNS = ["definition", "function", "example", "test"]
 MAP = TOP / "docs/map.md"
