@@ -26,7 +26,8 @@ TIED_AFTER = {"record", "rw", "let", "λ", "at", "where", "unfolding", "pub", "a
 
 def breaks(line: str) -> list:
     """The places where a line may be broken, each with what breaking there costs: the brackets that are open first."""
-    found, depth, tokens = [], 0, [token[0] for token in TOKEN.finditer(line)]
+    code = line.partition(" -- ")[0]
+    found, depth, tokens = [], 0, [token[0] for token in TOKEN.finditer(code)]
     at = 0
     for number, token in enumerate(tokens):
         if token in "([{":
