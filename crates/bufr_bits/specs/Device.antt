@@ -39,7 +39,7 @@ all_flushed_after_write before (Err e) = before
 all_flushed_after_write before (Ok zero) = before
 all_flushed_after_write before (Ok (suc taken)) = false
 
--- the same after a flush: they were, if it went through
+-- all octets that were taken were handed on, after a flush: where it went through they were
 abbrev pub all_flushed_after_flush : {A E : Type 0} → Bool → Result A E → Bool
 all_flushed_after_flush before (Ok x) = true
 all_flushed_after_flush before (Err e) = before

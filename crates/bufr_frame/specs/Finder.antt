@@ -197,7 +197,7 @@ IsSearchResult ended rest End = (ended ≡ true) × HasNoFurtherEvent rest
 
 -- ---- How a finder keeps its octets: those that were passed, and after them those that are left.
 
--- its counts are small, it holds no more than it needs, and no fault comes after the end
+-- a finder's counts are small, it holds no more than it needs, and no fault is after the end
 abbrev pub IsFinder : Inside → Type 0
 IsFinder f =
     (f.passed ≤ length f.input.held)
