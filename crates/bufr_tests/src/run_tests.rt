@@ -199,7 +199,6 @@ fn refuses_a_long_message_with_an_odd_section(rt: HostRuntime) {
 
 #[test]
 fn laws() {
-    laws::each_event_has_one_piece();
     laws::dumped_streams_are_built_again();
     laws::runs_close_the_round();
     laws::encoded_texts_are_dumped_in_one_spelling();
