@@ -86,7 +86,7 @@ pub enum End {
     Zero,
     /// A write fails.
     Fail,
-    /// A write fails, and a flush fails at any time.
+    /// A write fails, and a flush fails where octets are to be handed on.
     Flush,
 }
 
@@ -202,12 +202,12 @@ impl Sink for ScriptOut {
         ensures flushed { self.new.failed_flushes ≡ failures_after self.old.failed_flushes result }
         ensures handed { self.new.all_flushed ≡ all_flushed_after_flush self.old.all_flushed
             result }
-        ensures answer { result ≡ flush_answer self.old.end }
+        ensures answer { result ≡ flush_answer self.old.end self.old.all_flushed }
         ensures left { left_of self.new ≡ left_of self.old }
         ensures step { self.new.step ≡ self.old.step }
         ensures end { self.new.end ≡ self.old.end }
     {
-        if self.end == End::Flush {
+        if self.end == End::Flush && !self.all_flushed {
             self.failures = self.failures.saturating_add(1);
             self.failed_flushes = self.failed_flushes.saturating_add(1);
             return Err(Failed);
