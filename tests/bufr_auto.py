@@ -218,7 +218,9 @@ class Trial:
             (texts[0], one, b""),
             (b"\n\n" + texts[1][:50], b"", b""),
             (texts[1][50:], other, b""),
-            (b"junk\n", b"", b"line %d: 50 line\n" % (b"".join(texts).count(b"\n") + 3)),
+            (texts[0][:-2], b"", b""),
+            (texts[0][-2:], one, b""),
+            (b"junk\n", b"", b"line %d: 50 line\n" % ((texts[0] * 2 + texts[1]).count(b"\n") + 3)),
         ]
         self.feed("documents", ["--encode"], steps, (b"", b""), 1)
 
