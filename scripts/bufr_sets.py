@@ -73,7 +73,7 @@ class TableSets:
             raise bufr_guard.Failed(f"{place} has no set of tables such as wmo-39")
 
     def asked(self, centre: bytes, tables: bytes) -> TableSet:
-        """The set that messages ask for by these words of the listing: of their version, or the next later, or the latest.
+        """The set that these words of a listing ask for: of their version, or the next later one, or the latest.
 
         A centre's own comes first. One of another version would read WMO's rows otherwise, and is passed over.
         """
@@ -90,7 +90,7 @@ def is_number(word: str) -> bool:
 
 
 def folder_of_sets() -> str:
-    """BUFR_TABLES, or where the sets are installed beside this module or the script, or where the repository has them."""
+    """BUFR_TABLES, or where the sets are installed by this module or the script, or where the repository has them."""
     named = os.environ.get("BUFR_TABLES")
     if named:
         places = [named]
@@ -104,7 +104,7 @@ def folder_of_sets() -> str:
 
 
 def descriptors(octets: bytes) -> tuple:
-    """The list of descriptors in section 3 of a message, as six digits each: of a longer one so many as a template has."""
+    """The list of descriptors in section 3 of a message, as six digits each, but no more than a template has."""
     at, flags = 8, octets[17 if octets[7] == 4 else 15 :][:1]
     for _ in range(2 if flags >= b"\x80" else 1):
         at += int.from_bytes(octets[at : at + 3], "big")
