@@ -55,8 +55,9 @@ pub trait Source {
 /// A writer of octets that counts its calls.
 ///
 /// Its contract speaks of values that no code holds: the octets taken so far, where they are
-/// known, and whether a flush handed all of them on. It counts the calls that failed, the writes
-/// that took none of their octets, and the flushes that failed. The counts stop at the greatest `u64`.
+/// known, and whether a flush handed all of them on. It counts the calls that failed, the flushes
+/// among them, and the writes that took none of their octets. The counts stop at the greatest
+/// `u64`.
 pub trait Sink {
     /// The octets taken so far, where they are known.
     ghost taken: { Self → Option (List ℕ) };

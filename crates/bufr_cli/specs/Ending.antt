@@ -46,7 +46,8 @@ pub record LeavesDevices (pieces : RunPieces) (from to : Input) (before after : 
   -- where the whole input is known, its pieces were written and counted
   pub whole : IfOk result
       (λ tally. IfSome from.left (λ s. WritesAndCounts before after tally (pieces.whole s)))
-  pub order : after.errors.failed_flushes ≢ before.errors.failed_flushes → after.output.all_flushed ≡ true
+  pub order : after.errors.failed_flushes ≢ before.errors.failed_flushes
+      → after.output.all_flushed ≡ true
   pub flushed : HandsOn result (AllHandedOn after)
   pub failures : to.failures ≡ read_failures_after from.failures result
   pub reads : ReadsAtMost from.reads to.reads result

@@ -68,10 +68,20 @@ writers_of output w errors e =
 abbrev pub holding : (output errors : Option (List ℕ)) → Writers
 holding output errors =
     record {
-      output = record
-          { taken = output; failures = 0; empty_writes = 0; failed_flushes = 0; all_flushed = true };
-      errors = record
-          { taken = errors; failures = 0; empty_writes = 0; failed_flushes = 0; all_flushed = true };
+      output = record {
+        taken = output;
+        failures = 0;
+        empty_writes = 0;
+        failed_flushes = 0;
+        all_flushed = true;
+      };
+      errors = record {
+        taken = errors;
+        failures = 0;
+        empty_writes = 0;
+        failed_flushes = 0;
+        all_flushed = true;
+      };
     }
 
 -- a write fault comes only from a call that the writer counts as failed, or as an empty write
@@ -251,7 +261,8 @@ abbrev pub RunsPieces : RunPieces → (from to : Input) → (before after : Writ
 RunsPieces pieces from to before after bs result =
     LeavesRun pieces from.left to.left before.output.taken after.output.taken before.errors.taken
     after.errors.taken ((after.output.failed_flushes ≡ before.output.failed_flushes)
-    × (after.errors.failed_flushes ≡ before.errors.failed_flushes)) (ReadsFewer from.reads to.reads) bs result
+    × (after.errors.failed_flushes ≡ before.errors.failed_flushes))
+    (ReadsFewer from.reads to.reads) bs result
 
 -- at most 2^32 reads were made; an input is too long only after all of them
 -- rule: fault-72

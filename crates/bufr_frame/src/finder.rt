@@ -172,9 +172,9 @@ impl Finder {
         }
     }
 
-    /// Returns the next event if the octets that are held make it certain, as [`Finder::next`] does;
-    /// it is lent until the next call. `None` where a read is needed first ([`Finder::read_more`]).
-    /// Then nothing that is left is certain, and the end was not reached.
+    /// Returns the next event, as [`Finder::next`] does, if the octets that are held make it
+    /// certain. It is lent until the next call. `None` where a read is needed first
+    /// ([`Finder::read_more`]): nothing that is left is certain, and the end was not reached.
     pub fn next_held(&mut self) -> Option<Result<Event<'_>, RunFault>>
         ensures* next { sem 𝓛 (Rests the_row self.entry
             (λ new. GivesHeldEvent self.old new result)) }

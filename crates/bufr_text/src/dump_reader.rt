@@ -213,8 +213,8 @@ impl DumpReader {
         None
     }
 
-    /// Reads once, where [`DumpReader::next_held`] needs it. The input `r` is to be the same at each
-    /// call.
+    /// Reads once, where [`DumpReader::next_held`] needs it. The input `r` is to be the same at
+    /// each call.
     ///
     /// # Errors
     ///
