@@ -8,7 +8,7 @@ use Rattle.bufr_tables.proofs.SoundLemmas.{tree_fine}
 use Rattle.bufr_frame.specs.Prelude.{max_octets, StreamEvent, FrameAt, StrayAt, scan, scan_from, Sections, sections_of}
 use Rattle.bufr_frame.specs.declared.fault.SectionFault.{SectionFault}
 use Rattle.bufr_frame.proofs.ScanLemmas.{IsSmall, framed_octets, frames-within, small-frames, scan_from-nil}
-use Rattle.bufr_walk.specs.Prelude.{Values, View, next_item, data_of, reading_of, values_of, walk_fault_of, Stop}
+use Rattle.bufr_walk.specs.Prelude.{Values, View, next_item, data_of, reading_of, values_in, walk_fault_of, Stop}
 use Rattle.bufr_walk.proofs.PassLemmas.{legal_sane, reading_is, reads_so}
 use Rattle.bufr_walk.proofs.CourseLemmas.{IsSane}
 use Rattle.bufr_text.specs.Prelude.{Between, lines_of, parse_lines, Document, ParseResult, Complete, Refused, documents_of, dump_lines, dump_text_of, IsOctet, IsAccepted, HasSameReading, dump_items, IsReadAs, RefusedAt, encoding_in, IsProper, AreProper}
@@ -119,7 +119,7 @@ module _ (records : List Record) (b : List Row) (d : List Sequence) (rows : AreR
               octets = m;
               sections = s;
               template = template;
-              values = values_of (reading_of (next_item b template) (data_of s)).passes;
+              values = values_in (reading_of (next_item b template) (data_of s)).passes;
               used = reads.0;
               is = refl;
               accepted = record { octets = small.0; few = small.1; sections = sections; expands = expands; read = reads.1 };
@@ -127,7 +127,7 @@ module _ (records : List Record) (b : List Row) (d : List Sequence) (rows : AreR
             })
         by (Some why) stops =
             let r = reading_of (next_item b template) (data_of s) in
-            inl (_, ap (λ o. text_or_fault offset (option_map (λ why. walk_fault_of why r.subset (length (data_of s).bits - length r.left)) o) (dump_text_of s (dump_items b s.subsets (values_of r.passes)))) stops)
+            inl (_, ap (λ o. text_or_fault offset (option_map (λ why. walk_fault_of why r.subset (length (data_of s).bits - length r.left)) o) (dump_text_of s (dump_items b s.subsets (values_in r.passes)))) stops)
 
     template-kind : (s : Sections) (made : Result Tree TemplateFault) → sections_of m ≡ Ok s → tree_of (tables_of b d) s.descriptors ≡ made → IsFault (template_piece b offset s made) ⊎ IsDumped b d (FrameAt offset m) (template_piece b offset s made)
     template-kind s (Ok template) sections expands = data-kind s template sections expands

@@ -12,7 +12,7 @@ use Rattle.bufr_frame.specs.Prelude.{Sections}
 use Rattle.bufr_frame.specs.declared.fault.RunFault.TheVariants.{Write, Memory}
 use Rattle.bufr_tables.specs.Prelude.{Row, fxy_text, places, row_comment, row_line_start}
 use Rattle.bufr_walk.specs.declared.fault.ShowFault.{ShowFault}
-use Rattle.bufr_walk.specs.Prelude.{item_call, Timed, View, shown_number, view_of, content_at, item_calls, subset_calls, compressed_item_calls, compressed_subset_calls, calls_by, turns_by, calls_of, turns_shown, values_read, Shows, EndsAt, Content, Course, ticked, Item, Values, apart, together, plain, after, turns_after}
+use Rattle.bufr_walk.specs.Prelude.{item_call, Timed, View, shown_number, view_of, content_at, item_calls, subset_calls, compressed_item_calls, compressed_subset_calls, calls_for, turns_for, calls_of, turns_shown, values_read, Shows, EndsAt, Content, Course, ticked, Item, Values, apart, together, plain, after, turns_after}
 use Rattle.std.specs.Int.{from_bool}
 use Rattle.std.proofs.lemmas.Bool.{cases_lt}
 use lib.Ieee.Fits.{and_l, and_r}
@@ -243,7 +243,7 @@ all-together-text table (suc left) j items =
     (subst (λ k. calls_text (compressed_subset_calls table left (j + 1) items) ≡ text_of_lines (subset_lines (j + 1 + 1) (map (items_shown table) (subsets_from left k items)))) next (all-together-text table left (j + 1) items))
 
 -- the calls of a reading write its subsets
-pub reading-text : (r : outcome.Read) (values : Values) → calls_text (calls_by r values) ≡ text_of_lines (subset_lines 1 (dump_items r.table r.source.subsets values))
+pub reading-text : (r : outcome.Read) (values : Values) → calls_text (calls_for r values) ≡ text_of_lines (subset_lines 1 (dump_items r.table r.source.subsets values))
 reading-text r (apart subsets) = subsets-text r.table (outcome.course_of r) 0 1 subsets
 reading-text r (together items) = all-together-text r.table r.source.subsets 0 items
 
@@ -334,7 +334,7 @@ compressed-none table (suc n) items = inl refl
 pub no-steps : (r : outcome.Read) → StepsWithin (calls_of r) (turns_shown r) 0
 no-steps r = by (values_read r)
   where
-    by : (values : Values) → StepsWithin (calls_by r values) (turns_by r values) 0
+    by : (values : Values) → StepsWithin (calls_for r values) (turns_for r values) 0
     by (apart []) = refl
     by (apart (items ∷ subsets)) = inl refl
     by (together items) = compressed-none r.table r.source.subsets items

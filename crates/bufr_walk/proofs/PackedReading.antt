@@ -24,13 +24,13 @@ use Rattle.bufr_walk.specs.declared.walker.WalkStop.TheVariants as stops
 use Rattle.bufr_walk.specs.declared.fault.WalkFault.TheVariants as fault
 use Rattle.bufr_walk.specs.declared.reading.StoredItems.TheVariants as kept
 use Rattle.bufr_walk.proofs.WalkLemmas.{stop_cases}
-use Rattle.bufr_walk.specs.Pass.{DataPass, passes_together, stop_of, left_after, turns_in_all, reading_of, values_of, fault_of, OneRunsShort, ReadsData, AnswersReading}
+use Rattle.bufr_walk.specs.Pass.{DataPass, passes_together, stop_of, left_after, turns_in_all, reading_of, values_in, fault_of, RunsShort, ReadsData, AnswersReading}
 use Rattle.bufr_walk.proofs.PassLemmas.{together_read, together_stops, together_begins}
 
 -- compressed data were read, and each item is kept
 abbrev pub IsReadAndKept : Course → Data → List IndexedItem → (used steps : ℕ) → Type 0
 IsReadAndKept course d entries used steps =
-    let values = values_of (reading_of course d).passes in
+    let values = values_in (reading_of course d).passes in
     IsReading course d values used × ReadsData course d (Ok used) steps × KeepsValues (kept.Together entries) d values
 
 -- with no subset nothing is read
@@ -282,9 +282,9 @@ module _ (n : ℕ) (course : Course) (bits : List Bool) (s : PackedCursor) (firs
       let d = packed_data n bits in
       let r = walk_reads s' c c' zero_first w (subst (λ x. x.at ≤ length x.bits) view within) (few_values s' held at m entries view few) in
       let f = together_read n course s'.items bits (drop s'.at bits) r.0.2 in
-      let items : together s'.items ≡ values_of (reading_of course (packed_data n bits)).passes = ap together (sym f.1) in
+      let items : together s'.items ≡ values_in (reading_of course (packed_data n bits)).passes = ap together (sym f.1) in
       let used : s'.at ≡ at = sym (ap (λ x. x.at) view) in (
-        subst (λ u. IsReading course d (values_of (reading_of course d).passes) u) used (subst (λ v. IsReading course d v s'.at) items r.0),
+        subst (λ u. IsReading course d (values_in (reading_of course d).passes) u) used (subst (λ v. IsReading course d v s'.at) items r.0),
         subst (λ u. ReadsData course d (Ok u) c') used (f.0, omega (arith, r.0.1, ap length f.2, length-drop s'.at bits), r.1 ∙ ap (ticked 0) (sym f.3)),
         subst (λ v. KeepsValues (kept.Together entries) d v) items (
           ap (λ b. items_at b n entries) (sym (all_bits w.0 s' p)) ∙ ap (λ k. items_at s'.bits k entries) (sym p.subsets) ∙ subst (λ x. items_at x.bits x.subsets entries ≡ x.items) view refl,
@@ -313,18 +313,25 @@ module _ (n : ℕ) (course : Course) (bits : List Bool) (s : PackedCursor) (firs
       none_more t = omega arith
 
   short_so : (turns : List TakenField) (mid : PackedCursor) (p : Passed n course s turns mid) (spec : FieldSpec) → (course (answers_of turns)).next ≡ take_next spec → length mid.items * n ≤ max_values → (length mid.items % items_at_once ≡ 0) ⊎ (spec.role ≡ role.Reference)
-      → OneRunsShort (packed n) true course (passes_together course n bits) (course (answers_of turns)).turns
+      → RunsShort (packed n) true course (passes_together course n bits) (course (answers_of turns)).turns
   short_so turns mid p spec e few why =
       let begins = together_begins n course p.read bits (remaining_bits mid) some (from_first turns mid p) (few_read turns mid p few) in
-      subst (λ ps. OneRunsShort (packed n) true course ps (course (answers_of turns)).turns) (sym begins.1) (inl (record {
+      record {
+        done = [];
+        here = begins.0;
+        later = [];
+        among = begins.1;
         items = p.read;
         more = begins.2;
         are = begins.3;
         spec = spec;
         next = p.next_is ∙ e;
         wants = subst (λ l. (l % items_at_once ≡ 0) ⊎ (spec.role ≡ role.Reference)) (ap length (all_items turns mid p)) why;
-        turns_are = sym p.turns_are;
-      }))
+        turns_are = sym p.turns_are ∙ zero_plus (turns_after (packed n) course p.read);
+      }
+    where
+      zero_plus : (t : ℕ) → t ≡ 0 + t
+      zero_plus t = omega arith
 
   -- a fault of the field
   field_so : (turns : List TakenField) (mid : PackedCursor) (p : Passed n course s turns mid) (spec : FieldSpec) (at c' : ℕ) (why : FieldFault) → (course (answers_of turns)).next ≡ take_next spec → mid.at ≤ length bits → length mid.items * n ≤ max_values → at ≡ mid.at

@@ -4,7 +4,7 @@ use Rattle.std.proofs.Common.{◌≡◌, ℕ, ◌+◌, ◌-◌, ◌*◌, ◌<◌
 use Rattle.std.proofs.lemmas.List.{drop-drop, append-nil, take_more_set, replicate-append-replicate}
 use Rattle.bufr_bits.specs.Prelude.{bits_of, are_all_ones}
 use Rattle.bufr_tables.specs.Prelude.{is_character, Row}
-use Rattle.bufr_walk.specs.Prelude.{IndexedItem, octets_in, text, missing, shown_text, shown_missing, shown, Content, padded_text, FieldSpec, content_kept, call_kept, IsStoredReading, KeepsValues, held_of, fits_at, items_at, ShowFault, Sofar, Call, Timed, timed, compressed_item_calls, Shows, subset_call, compressed_subset_calls, calls_by, turns_by, Item, Values, apart, together, items_kept, Read}
+use Rattle.bufr_walk.specs.Prelude.{IndexedItem, octets_in, text, missing, shown_text, shown_missing, shown, Content, padded_text, FieldSpec, content_kept, call_kept, IsStoredReading, KeepsValues, held_of, fits_at, items_at, ShowFault, Sofar, Call, Timed, timed, compressed_item_calls, Shows, subset_call, compressed_subset_calls, calls_for, turns_for, Item, Values, apart, together, items_kept, Read}
 use Rattle.bufr_walk.proofs.PackedLemmas.{kept_parts, text_content, text_within}
 use Rattle.bufr_walk.proofs.PlainLemmas.{bits_length, octets_prefix}
 use Rattle.std.specs.List.{list_all}
@@ -159,7 +159,7 @@ pub packed_shown : {V E : Type 0} (sees : V → Call → Result (Unit {0}) E →
     → Shows sees v (calls_of r) (turns_shown r) result v' steps
 packed_shown sees r entries items v v' result steps h are none shows = subst (λ n. Shows sees v (calls_of r) (turns_shown r) result v' n) (sym none) (by (values_read r) h.keeps)
   where
-    by : (held : Values) → KeepsValues (kept.Together entries) r.source held → Shows sees v (calls_by r held) (turns_by r held) result v' 0
+    by : (held : Values) → KeepsValues (kept.Together entries) r.source held → Shows sees v (calls_for r held) (turns_for r held) result v' 0
     by (apart all) k = absurd k
     by (together held) k = subst (λ is. Shows sees v (compressed_subset_calls r.table r.source.subsets 0 is) 0 result v' 0) (ap (items_at r.source.bits r.source.subsets) are ∙ k.0) shows
 

@@ -5,7 +5,7 @@ use Rattle.bufr_walk.proofs.PackedLemmas.{item_ok, neither}
 use Rattle.std.proofs.Common.{◌≡◌, ℕ, zero, suc, ◌+◌, ◌-◌, ◌<◌, ◌≤◌, Bool, true, false, List, [], ◌∷◌, ◌++◌, length, Option, Some, None, Result, Ok, Err, ◌==◌, ◌||◌, ◌*◌, nat_lt, take, refl, sym, ◌∙◌, ap, subst, arith, drop, length-drop, if◌then◌else◌}
 use Rattle.bufr_tables.specs.Prelude.{Row, Tree, IsLegal, Record, AreRows}
 use Rattle.bufr_walk.specs.Prelude.{packed_field, increment_bits_of, are_increments_valid, equal_in, contents_of, FieldSpec, Content, FieldFault, FieldRead, found, Course, Next, take_next, at_end, astray, refused, next_item, Item, DataCoding, plain, packed, item_answer, after, ReadsItems, ReadsPass, next_after, turns_after, ReadsSubsets, IsPackedReading, turns_together, Data, Values, apart, together, IsReading, Stop, walk_stop, too_many, field_stop, field_stop_of, stop_at, would_be_many, max_values}
-use Rattle.bufr_walk.specs.Pass.{Step, Pass, last_turn, item_then, pass_field, pass_next, pass, Place, place_at, read_field, reading, read_pass, DataPass, unless_stopped, passes_apart, passes_together, first_stop, stop_of, left_after, turns_in_all, DataReading, reading_in, reading_of, items_by_pass, first_items, values_of, EndsPass, ReadsTo}
+use Rattle.bufr_walk.specs.Pass.{Step, Pass, last_turn, item_then, pass_field, pass_next, pass, Place, place_at, read_field, reading, read_pass, DataPass, unless_stopped, passes_apart, passes_together, first_stop, stop_of, left_after, turns_in_all, DataReading, reading_in, reading_of, items_by_pass, first_items, values_in, EndsPass, ReadsTo}
 use Rattle.std.proofs.lemmas.Grind.{common_steps}
 use Rattle.std.proofs.lemmas.List.{drop-drop}
 use Rattle.bufr_walk.proofs.CourseLemmas.{IsSane, Forth, plain_forth, packed_forth, rows_within, template_sane}
@@ -240,7 +240,7 @@ module _ (course : Course) (sane : (m : ℕ) → IsSane m course) where
   -- the items that a reading has
   pub record IsRead (d : Data) (r : DataReading) (v : Values) (used : ℕ) : Type 0 where
     pub none : r.stop ≡ None
-    pub items : values_of r.passes ≡ v
+    pub items : values_in r.passes ≡ v
     pub left : r.left ≡ drop used d.bits
 
   subsets_are : (xs : List (List (Item Content))) (n : ℕ) (bits left : List Bool) → ReadsSubsets course xs bits left → length xs ≡ n
@@ -300,10 +300,10 @@ module _ (course : Course) (sane : (m : ℕ) → IsSane m course) where
       only (Some why) e = absurd cc
 
   -- a reading that is not stopped is a reading by the items
-  pub reads_so : (d : Data) → (reading_of course d).stop ≡ None → (used : ℕ) × IsReading course d (values_of (reading_of course d).passes) used × ((reading_of course d).left ≡ drop used d.bits)
+  pub reads_so : (d : Data) → (reading_of course d).stop ≡ None → (used : ℕ) × IsReading course d (values_in (reading_of course d).passes) used × ((reading_of course d).left ≡ drop used d.bits)
   reads_so d none = by d.compressed refl none
     where
-      by : (b : Bool) → d.compressed ≡ b → (reading_in course b d.subsets d.bits).stop ≡ None → (used : ℕ) × IsReading course d (values_of (reading_in course b d.subsets d.bits).passes) used × ((reading_in course b d.subsets d.bits).left ≡ drop used d.bits)
+      by : (b : Bool) → d.compressed ≡ b → (reading_in course b d.subsets d.bits).stop ≡ None → (used : ℕ) × IsReading course d (values_in (reading_in course b d.subsets d.bits).passes) used × ((reading_in course b d.subsets d.bits).left ≡ drop used d.bits)
       by false e h =
           let s = subsets_so d.subsets d.bits h in
           (s.2.0, (e, s.2.1, (subst (λ l. ReadsSubsets course (items_by_pass (passes_apart course d.subsets d.bits)) d.bits l) s.2.2 s.0, s.1)), s.2.2)

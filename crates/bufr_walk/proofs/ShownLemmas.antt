@@ -3,7 +3,7 @@ use Rattle.std.proofs.lemmas.Grind.{common_steps}
 use Rattle.std.proofs.Common.{suc, None, Option, option_map, append_assoc, ◌≡◌, ℕ, ◌+◌, ◌-◌, ◌*◌, ◌^◌, ◌<◌, ◌≤◌, false, Bool, List, [], ◌∷◌, ◌++◌, length, drop, Some, refl, sym, ◌∙◌, ap, subst, arith, length-append, length-drop, ◌/◌, ◌&&◌, true, ◌⊎◌, inl, inr, take, Result, Ok, Err, ℤ, pos, ◌+ℤ◌, ◌==◌, ◌||◌, nat_lt, if◌then◌else◌, nat_le, not, unsigned_abs}
 use Rattle.std.proofs.lemmas.Bool.{eqb-true, ltb-true, ne_eqb}
 use Rattle.bufr_bits.specs.Prelude.{bits_of, number_of, are_all_ones, bits_at}
-use Rattle.bufr_walk.specs.Prelude.{number_from, Kind, WalkFault, Content, data_end, increment, unequal_factor, answer_of, number, text, missing, content_in, content_by, said_by, octets_in, signed_by, shown_number, shown_text, shown_missing, shown_reference, shown, FieldFault, FieldRead, found, plain_field, FieldSpec, IsSpec, HasRole, is_reference, IsFor, IsForRole, is_plain_number, is_plain, IsPlainNumber, ones, Course, Next, take_next, at_end, refused, ticked, TakenField, Takes, oks, answers_of, Walked, walk_fault_of, bits_before, data_in, stop_at, Stop, walk_stop, too_many, field_stop, Item, plain, ReadsPass, ReadsSubsets, turns_after, turns_in, after, items_in, IsReading, apart, together, Values, Read, course_of, IsReadAndPaid, PaysBits, IsStoredReading, KeepsValues, calls_by, turns_by, content_kept, is_missing, stays_within, fits_at, Cursor, rest_of, past, IsTaken, Stage, stage, IsShown, IsUnshown, ShowingTakes, Sofar, ItemsShown, ItemsEnded, ItemsGo, ShowFault, TurnRefusal, Role, Taken, WalkStop, Call, item_call, view_of, Timed, timed, item_calls, Shows, EndsAt, IsReferenceValue, subset_call, subset_calls, IndexedItem, stop_by}
+use Rattle.bufr_walk.specs.Prelude.{number_from, Kind, WalkFault, Content, data_end, increment, unequal_factor, answer_of, number, text, missing, content_in, content_by, said_by, octets_in, signed_by, shown_number, shown_text, shown_missing, shown_reference, shown, FieldFault, FieldRead, found, plain_field, FieldSpec, IsSpec, HasRole, is_reference, IsFor, IsForRole, is_plain_number, is_plain, IsPlainNumber, ones, Course, Next, take_next, at_end, refused, ticked, TakenField, Takes, oks, answers_of, Walked, walk_fault_of, bits_before, data_in, stop_at, Stop, walk_stop, too_many, field_stop, Item, plain, ReadsPass, ReadsSubsets, turns_after, turns_in, after, items_in, IsReading, apart, together, Values, Read, course_of, IsReadAndPaid, PaysBits, IsStoredReading, KeepsValues, calls_for, turns_for, content_kept, is_missing, stays_within, fits_at, Cursor, rest_of, past, IsTaken, Stage, stage, IsShown, IsUnshown, ShowingTakes, Sofar, ItemsShown, ItemsEnded, ItemsGo, ShowFault, TurnRefusal, Role, Taken, WalkStop, Call, item_call, view_of, Timed, timed, item_calls, Shows, EndsAt, IsReferenceValue, subset_call, subset_calls, IndexedItem, stop_by}
 use Rattle.bufr_tables.specs.Prelude.{Row, is_character}
 use Rattle.bufr_walk.specs.declared.plain.ShowStop.{ShowStop}
 use Rattle.std.proofs.lemmas.Bool.Decides.{nat_tests}
@@ -19,7 +19,7 @@ use Rattle.bufr_walk.specs.declared.walker.WalkStop.TheVariants as stops
 use Rattle.bufr_walk.specs.declared.spec.Taken.TheVariants as taken
 use Rattle.bufr_walk.proofs.WalkLemmas.{stop_cases}
 use Rattle.std.proofs.lemmas.List.{map-append, append-nil, length-map}
-use Rattle.bufr_walk.specs.Pass.{DataPass, read_pass, passes_apart, unless_stopped, stop_of, first_stop, left_after, turns_in_all, items_by_pass, values_read, calls_of, turns_shown, reading_of, fault_of, OneRunsShort, ReadsData, ReadsTo}
+use Rattle.bufr_walk.specs.Pass.{DataPass, read_pass, passes_apart, unless_stopped, stop_of, first_stop, left_after, turns_in_all, items_by_pass, values_read, calls_of, turns_shown, reading_of, fault_of, ReadsData, ReadsTo}
 use Rattle.bufr_walk.proofs.PassLemmas.{passed, pass_is, pass_prefix}
 use Rattle.bufr_walk.specs.declared.reading.StoredItems.TheVariants as kept
 
@@ -56,16 +56,6 @@ left_append bits (p ∷ a) b = left_append p.state.left a b
 turns_append : (a b : List (DataPass Content)) → turns_in_all (a ++ b) ≡ turns_in_all a + turns_in_all b
 turns_append [] b = omega arith
 turns_append (p ∷ a) b = omega (arith, turns_append a b)
-
-short_append : (course : Course) (a b : List (DataPass Content)) (turns : ℕ) → OneRunsShort plain false course b turns → OneRunsShort plain false course (a ++ b) (turns_in_all a + turns)
-short_append course [] b turns h = subst (λ t. OneRunsShort plain false course b t) (zero_plus turns) h
-  where
-    zero_plus : (t : ℕ) → t ≡ 0 + t
-    zero_plus t = omega arith
-short_append course (p ∷ a) b turns h = inr (turns_in_all a + turns, short_append course a b turns h, assoc p.turns (turns_in_all a) turns)
-  where
-    assoc : (a b c : ℕ) → a + b + c ≡ a + (b + c)
-    assoc a b c = omega arith
 
 -- what a pass over the bits that are left gives
 fuel : (course : Course) (s s' : Cursor) (c c' : ℕ) (next : Next) (p : PassComes course s c next s' c') → s'.at ≤ length s'.bits → length p.items < suc (length (rest_of s))
@@ -203,8 +193,19 @@ stopped_there n course octets total i s s' c c' why h more p within = by p
         let begins = pass_prefix plain (λ n. false) (suc (length (rest_of s))) course 0 (rest_of s) m.items (rest_of s') m.reads (λ j lt. refl) (fuel course s s' c c' (take_next q.0) m within) in
         rw q.3 (
           turns_in_all h.passes + turns_after plain course m.items,
-          subst (λ ps. OneRunsShort plain false course ps (turns_in_all h.passes + turns_after plain course m.items)) (sym goes)
-              (short_append course h.passes _ (turns_after plain course m.items) (inl (record { items = m.items; more = begins.0; are = begins.1; spec = q.0; next = sym m.next_is; wants = q.2; turns_are = refl }))),
+          record {
+            done = h.passes;
+            here = read_pass plain (λ items. false) course (rest_of s);
+            later = unless_stopped (read_pass plain (λ items. false) course (rest_of s)).stop (passes_apart course (total - (i + 1)) (read_pass plain (λ items. false) course (rest_of s)).state.left);
+            among = goes;
+            items = m.items;
+            more = begins.0;
+            are = begins.1;
+            spec = q.0;
+            next = sym m.next_is;
+            wants = q.2;
+            turns_are = refl;
+          },
           ticks_of n course (bits_of octets) i s s' c c' (take_next q.0) h m,
         )
     by (inr q) =
@@ -749,6 +750,6 @@ pub apart_shown : {V E : Type 0} (sees : V → Call → Result (Unit {0}) E → 
     → Shows sees v (calls_of r) (turns_shown r) result v' steps
 apart_shown sees r v v' result steps h shows = by (values_read r) h.reading h.keeps
   where
-    by : (values : Values) → IsReading (course_of r) r.source values r.bits → KeepsValues kept.Apart r.source values → Shows sees v (calls_by r values) (turns_by r values) result v' steps
+    by : (values : Values) → IsReading (course_of r) r.source values r.bits → KeepsValues kept.Apart r.source values → Shows sees v (calls_for r values) (turns_for r values) result v' steps
     by (apart xs) g k = shows xs (drop r.bits r.source.bits) g.2.0 g.2.1
     by (together xs) g k = absurd k
