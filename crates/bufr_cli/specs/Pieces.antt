@@ -26,12 +26,12 @@ abbrev pub errors_of : Piece → List ℕ
 errors_of (OnOutput text) = []
 errors_of (OnErrors text) = text
 
--- it goes to the output
+-- whether a piece goes to the output: its event was accepted
 abbrev pub is_accepted : Piece → Bool
 is_accepted (OnOutput text) = true
 is_accepted (OnErrors text) = false
 
--- it goes to the errors
+-- whether a piece goes to the errors: its event was refused
 abbrev pub is_refused : Piece → Bool
 is_refused (OnOutput text) = false
 is_refused (OnErrors text) = true
