@@ -61,7 +61,8 @@ pub reading-reported : (table : List Row) (offset : ℕ) (s : Sections) (templat
 reading-reported table offset s template r steps w w' e so writes piece is =
     output-reported w w' e (dump_text_of s (dump_items r.table r.source.subsets (values_read r))) piece (is ∙ text-piece table offset s template r steps so) writes
 
-pub reading-stopped : {X : Type 0} (table : List Row) (offset : ℕ) (s : Sections) (template : Tree) (r : Read) (steps : ℕ) (w w' e : Option (List ℕ)) (first : Result X RunFault) (f : RunFault) (result : Result Verdict RunFault) → AnswersReading table template (data_of s) (Ok r) steps
+pub reading-stopped : {X : Type 0} (table : List Row) (offset : ℕ) (s : Sections) (template : Tree) (r : Read) (steps : ℕ) (w w' e : Option (List ℕ)) (first : Result X RunFault) (f : RunFault)
+    (result : Result Verdict RunFault) → AnswersReading table template (data_of s) (Ok r) steps
     → WritesPrefix w w' (dump_text_of s (dump_items r.table r.source.subsets (values_read r))) first → first ≡ Err f → result ≡ Err f
     → (piece : Piece) → piece ≡ data_piece table offset s template → LeavesPieces w w' e e (piece ∷ []) result
 reading-stopped {X = X} table offset s template r steps w w' e first f result so writes fails same piece is =
@@ -69,7 +70,8 @@ reading-stopped {X = X} table offset s template r steps w w' e first f result so
     rw same (output-stopped w w' e text piece f (is ∙ text-piece table offset s template r steps so) (rw fails at writes))
 
 -- a prefix of a fault line was written
-pub line-stopped : {X : Type 0} (w e e' : Option (List ℕ)) (text : List ℕ) (first : Result X RunFault) (f : RunFault) (result : Result Verdict RunFault) (piece : Piece) → piece ≡ OnErrors text → Writes e e' text first → first ≡ Err f → result ≡ Err f
+pub line-stopped : {X : Type 0} (w e e' : Option (List ℕ)) (text : List ℕ) (first : Result X RunFault) (f : RunFault) (result : Result Verdict RunFault) (piece : Piece) → piece ≡ OnErrors text
+    → Writes e e' text first → first ≡ Err f → result ≡ Err f
     → LeavesPieces w w e e' (piece ∷ []) result
 line-stopped {X = X} w e e' text first f result piece is writes fails same =
     rw same (errors-stopped w e e' text piece f is (rw fails at writes).1)
@@ -85,7 +87,8 @@ fault-is course d (walk.TooManyValues s) steps some so = so.0
 fault-is course d walk.Memory steps some so = absurd (some refl)
 
 -- the line of data that were refused
-pub refused-line : (specs table : List Row) (offset : ℕ) (s : Sections) (template : Tree) (why : WalkFault) (steps : ℕ) → specs ≡ table → (why ≡ walk.Memory → ⊥) → AnswersReading specs template (data_of s) (Err why) steps
+pub refused-line : (specs table : List Row) (offset : ℕ) (s : Sections) (template : Tree) (why : WalkFault) (steps : ℕ) → specs ≡ table → (why ≡ walk.Memory → ⊥)
+    → AnswersReading specs template (data_of s) (Err why) steps
     → (piece : Piece) → piece ≡ data_piece table offset s template → piece ≡ OnErrors (fault_line offset (data_report why))
 refused-line specs table offset s template why steps cached some so piece is =
     let course = next_item table template in
@@ -93,5 +96,6 @@ refused-line specs table offset s template why steps cached some so piece is =
     is ∙ ap (λ o. text_or_fault offset o (dump_text_of s (dump_items table s.subsets (values_in (reading_of course (data_of s)).passes)))) (fault-is course (data_of s) why steps some reads)
 
 -- what is written for a message by the template that its descriptors make
-pub data-of : (table : List Row) (d : List Sequence) (offset : ℕ) (s : Sections) (template : Tree) → tree_of (tables_of table d) s.descriptors ≡ Ok template → message_piece table d offset (Ok s) ≡ data_piece table offset s template
+pub data-of : (table : List Row) (d : List Sequence) (offset : ℕ) (s : Sections) (template : Tree) → tree_of (tables_of table d) s.descriptors ≡ Ok template
+    → message_piece table d offset (Ok s) ≡ data_piece table offset s template
 data-of table d offset s template is = ap (template_piece table offset s) is

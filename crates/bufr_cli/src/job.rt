@@ -227,9 +227,10 @@ fn encode_command<'a>(alloc: Global) -> Result<clap::Command<'a>, AllocError>
     let about = "Writes the BUFR message of each document";
     let file = "The text to encode (default: standard input)";
     let command = command_with_tables(alloc, "encode", about, ENCODE_NOTES, file)?;
-    let form = Arg::new(alloc, "form").long("form").value_name("WORD").help(
-        "plain or compressed (default: as each document says)",
-    );
+    let form = Arg::new(alloc, "form")
+        .long("form")
+        .value_name("WORD")
+        .help("plain or compressed (default: as each document says)");
     command.arg(form)
 }
 
