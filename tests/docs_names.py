@@ -21,7 +21,6 @@ import sys
 
 from lib import DOCS, FAULT, TOP, finish, program
 
-PYTHON = "3.9"
 complaints = []
 
 
@@ -104,7 +103,8 @@ def man_page() -> None:
 
 
 def python_version() -> None:
-    """Each page that says which Python the scripts need says the same one."""
+    """Each page that says which Python the scripts need says the one that they look for."""
+    needed = ".".join(re.search(r"version_info < \((\d+), (\d+)\)", read("scripts/bufr_guard.py")).groups())
     pages = ["README.md", "CHANGELOG.md", "CONTRIBUTING.md", "docs/guide.md", "tables/README.md"]
     pages += sorted(str(path.relative_to(TOP)) for path in [*TOP.glob("man/*"), TOP / "build_wheel.py"])
     told = {page: set(re.findall(r"Python (3\.\d+)|Requires-Python: >=(3\.\d+)", read(page))) for page in pages}
@@ -112,7 +112,7 @@ def python_version() -> None:
     for page in ("README.md", "CHANGELOG.md", "docs/guide.md", "man/bufr.1", "build_wheel.py"):
         want(told[page] != set(), f"{page} does not say which Python the scripts need")
     for page, versions in told.items():
-        want(versions <= {PYTHON}, f"{page} says Python {' and '.join(sorted(versions))}, not {PYTHON}")
+        want(versions <= {needed}, f"{page} says Python {' and '.join(sorted(versions))}, not {needed}")
 
 
 def commands_and_options() -> None:

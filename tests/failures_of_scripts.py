@@ -149,6 +149,9 @@ def room(trial: Trial) -> None:
     """No file can grow past 4 KB, as in a full folder of temporary files."""
     octets = SYNOP.read_bytes() * 100
     whole = trial.run(input=octets)
+    done = trial.run(input=octets, environment={"TMPDIR": "/nosuch"})
+    is_same = (done.returncode, done.stdout, done.stderr) == (whole.returncode, whole.stdout, whole.stderr)
+    holds(f"{trial.name} with a TMPDIR that is not there", is_same and not done.returncode, done.stderr)
     done = trial.run(input=octets, limits={resource.RLIMIT_FSIZE: 4096})
     if done.returncode == 0:
         # It needs no such file.
@@ -284,6 +287,8 @@ def options(trial: Trial) -> None:
     holds(f"{trial.name} in an isolated Python", done.returncode == 0, done)
     trial.words = [kept[0], "-c", REFUSED.format(TOP / "scripts"), kept[1]]
     trial.fails("want of memory for the version", trial.run(["--version"]), f"{trial.name}: out of memory")
+    trial.words[2] = trial.words[2].replace("import bufr_guard", "import bufr_guard\nsys.version_info = 3, 8, 18")
+    trial.fails("an old Python", trial.run(["--version"]), f"{trial.name}: Python 3.9 or a later one is needed")
     trial.words = kept
     done = trial.run(["--nonsense"])
     holds(f"{trial.name} --nonsense", done.returncode == 2 and b"\n" == done.stderr[-1:], done)
