@@ -328,7 +328,7 @@ class Notes:
         self.found = {}
 
     def add(self, reason: str, place: str) -> None:
-        if reason not in self.found and len(self.found) == KINDS_OF_NOTES:
+        if reason not in self.found and len(self.found) >= KINDS_OF_NOTES:
             reason = "no set serves these exactly, for other reasons"
         self.found.setdefault(reason, [0, place])[0] += 1
 

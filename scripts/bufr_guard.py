@@ -77,6 +77,8 @@ def take_descriptors() -> None:
 def guarded(work, text: str) -> int:
     """The status of the work, or 2 behind a line that tells of an exception."""
     try:
+        if sys.version_info < (3, 9):
+            raise Failed("Python 3.9 or a later one is needed")
         try:
             status = answered(sys.argv[1:], text)
             if status is None:

@@ -104,7 +104,7 @@ def folder_of_sets() -> str:
 
 
 def descriptors(octets: bytes) -> tuple:
-    """The list of descriptors in section 3 of a message, as six digits each. No longer one makes a template."""
+    """The list of descriptors in section 3 of a message, as six digits each: of a longer one so many as a template has."""
     at, flags = 8, octets[17 if octets[7] == 4 else 15 :][:1]
     for _ in range(2 if flags >= b"\x80" else 1):
         at += int.from_bytes(octets[at : at + 3], "big")

@@ -5,6 +5,7 @@
 
 - of all pages: links and paths;
 - of docs/guide.md: octets and items of the example files, and the differences from ecCodes;
+- of docs/proof.md: calls, their clauses, laws, fields of records, and a contract;
 - of tables/README.md: the counts of the tables;
 - of the man pages: the faults of that of `bufr`, and, where they are there, that `mandoc` and `groff` do not complain;
 - of the man pages and the completions: commands and options, of the scripts too;
@@ -20,7 +21,6 @@ import sys
 
 from lib import DOCS, FAULT, TOP, finish, program
 
-PYTHON = "3.9"
 complaints = []
 
 
@@ -103,7 +103,8 @@ def man_page() -> None:
 
 
 def python_version() -> None:
-    """Each page that says which Python the scripts need says the same one."""
+    """Each page that says which Python the scripts need says the one that they look for."""
+    needed = ".".join(re.search(r"version_info < \((\d+), (\d+)\)", read("scripts/bufr_guard.py")).groups())
     pages = ["README.md", "CHANGELOG.md", "CONTRIBUTING.md", "docs/guide.md", "tables/README.md"]
     pages += sorted(str(path.relative_to(TOP)) for path in [*TOP.glob("man/*"), TOP / "build_wheel.py"])
     told = {page: set(re.findall(r"Python (3\.\d+)|Requires-Python: >=(3\.\d+)", read(page))) for page in pages}
@@ -111,7 +112,7 @@ def python_version() -> None:
     for page in ("README.md", "CHANGELOG.md", "docs/guide.md", "man/bufr.1", "build_wheel.py"):
         want(told[page] != set(), f"{page} does not say which Python the scripts need")
     for page, versions in told.items():
-        want(versions <= {PYTHON}, f"{page} says Python {' and '.join(sorted(versions))}, not {PYTHON}")
+        want(versions <= {needed}, f"{page} says Python {' and '.join(sorted(versions))}, not {needed}")
 
 
 def commands_and_options() -> None:
@@ -176,9 +177,89 @@ def differences() -> None:
     want(told == wanted, "docs/guide.md: the differences are not those of tests/eccodes/against_eccodes.py")
 
 
+class Call:
+    """A function of the crates: its name with its type, its crate and file, and its contract."""
+
+    def __init__(self, name: str, crate: str, file: str, contract: str) -> None:
+        self.name, self.crate, self.file, self.contract = name, crate, file, contract
+
+
+def calls() -> list:
+    """The functions of all crates, without those of the tests."""
+    found = []
+    for path in sorted(TOP.glob("crates/*/src/**/*.rt")):
+        owner, lines = "", path.read_text(encoding="utf-8").splitlines()
+        for at, line in enumerate(lines):
+            if re.match(r"(?:pub(?:\(\w+\))? )?(?:impl|trait)\b", line):
+                head = re.sub(r"^.*?\b(?:impl|trait)\b(?:<[^>]*>)?", "", line)
+                owner = re.search(r"\w+", head.rpartition(" for ")[2])[0]
+            named = re.match(r"( *)(?:pub(?:\(\w+\))? )?(?:const )?fn (\w+)", line)
+            if named:
+                body = re.compile(rf"{named[1]}(?:\{{\}}?|(?:pub|fn|const|\)).*[{{;]|.*\}};)")
+                end = next(n for n in range(at, len(lines)) if body.fullmatch(lines[n]))
+                name = f"{owner}::{named[2]}" if named[1] else named[2]
+                found.append(Call(name, path.parts[-3], path.name, "\n".join(lines[at : end + 1])))
+    return [call for call in found if call.crate != "bufr_tests"]
+
+
+def fields(record: str) -> set:
+    """The fields of a record of specs/; of one that is not there none."""
+    for path in sorted(TOP.glob("crates/*/specs/*.antt")):
+        found = re.search(rf"^pub record {record}\b.*?\n(?=\S)", path.read_text(encoding="utf-8") + "\n.", re.M | re.S)
+        if found:
+            return set(re.findall(r"^  pub (\w+) :", found[0], re.M))
+    return set()
+
+
+def check_part(part: str, every: list, defined: set) -> None:
+    """Each name of a part `A`, `B`: `c`, `d`: clauses of both calls, fields of a record, or functions of a file. A
+    clause `R.f` is the field of a record that the contract names."""
+
+    def lacks(name: str, of: str = "the crates") -> None:
+        complaints.append(f"docs/proof.md: {name} is not in {of}")
+
+    before, _, after = part.partition(": ")
+    clauses = re.findall(r"`([\w.]+)`", after)
+    file = re.search(r"`(\w+\.rt)`(?: of `(\w+)`)?", before)
+    if file:
+        there = {call.name for call in every if (call.crate, call.file) == (file[2] or "bufr_cli", file[1])}
+        for name in clauses if there else [file[1]]:
+            if name not in there:
+                lacks(name, file[0])
+        return
+    for subject in re.findall(r"`([\w:]+)`", before):
+        contract = "".join(call.contract for call in every if call.name == subject)
+        if not contract and subject not in defined:
+            lacks(subject)
+        for clause in clauses:
+            record, _, field = clause.rpartition(".")
+            if record and record not in contract:
+                lacks(record, f"the contract of {subject}")
+            if field not in (fields(record or subject) if record or not contract else re.findall(r"ensures\*? (\w+) ", contract)):
+                lacks(clause, subject)
+
+
+def clauses_of_proof() -> None:
+    """The calls, laws, clauses and records that the tables of docs/proof.md name, in parentheses too, and its contract."""
+    page, every = read("docs/proof.md"), calls()
+    named = re.compile(r"^(?:[a-z]+ )*pub (?:[a-z]+ )*([^\s:]+)", re.M)
+    defined = {name for path in TOP.glob("crates/*/specs/*.antt") for name in named.findall(path.read_text(encoding="utf-8"))}
+    tables = re.findall(r"^\| [^|]* \| (?:calls and clauses|where|contract) \|.*\n\|-.*\n((?:\|.*\n)+)", page, re.M)
+    want(len(tables) == 3, "docs/proof.md: not three tables have calls and clauses")
+    sources = "\n".join(path.read_text(encoding="utf-8") for path in TOP.glob("crates/*/src/*.rt"))
+    for block in re.findall(r"^```\n(.*?)^```$", page, re.M | re.S):
+        want(" ".join(block.split()) in " ".join(sources.split()), f"docs/proof.md: in no crate is {block}")
+    for row in "".join(tables).splitlines():
+        cell = row.split(" | ")[1].rstrip(" |")
+        for text in [re.sub(r"\([^()]*\)", "", cell), *re.findall(r"\(([^()]*)\)", cell)]:
+            for part in text.split(";"):
+                check_part(part, every, defined)
+
+
 def main() -> None:
     links_and_paths()
     example_files()
+    clauses_of_proof()
     counts_of_tables()
     man_page()
     python_version()

@@ -1,5 +1,5 @@
 #!/usr/bin/env python3
-"""Prints the words of each page and the longest sentences, and refuses a page with more words than its bound.
+"""Prints the words of each page and its longest sentences, and refuses a README with more words than its bound.
 
     tests/docs_words.py [-v]        -v prints the sentences of each page that have over 25 words
 
@@ -8,20 +8,9 @@ Code blocks count as words, not as sentences. A cell of a table and an item of a
 import re
 import sys
 
-from lib import TOP, finish
+from lib import DOCS, TOP, finish
 
-MOST = {
-    "README.md": 900,
-    "docs/guide.md": 4000,
-    "docs/format.md": 2600,
-    "docs/texts.md": 2600,
-    "docs/design.md": 1800,
-    "docs/proof.md": 1500,
-    "docs/DECISIONS.md": 1500,
-    "CONTRIBUTING.md": 1200,
-    "bench/README.md": 400,
-    "tables/README.md": 900,
-}
+MOST = {"README.md": 900}
 LONG = 25
 
 
@@ -37,22 +26,22 @@ def sentences(text: str) -> list:
 
 def main() -> None:
     wrongs, total, every = [], 0, []
-    for page, most in MOST.items():
-        text = (TOP / page).read_text(encoding="utf-8")
+    for path in DOCS:
+        page = str(path.relative_to(TOP))
+        text = path.read_text(encoding="utf-8")
         words = len(text.split())
         total += words
         found = sentences(text)
         every += [(len(one), page, " ".join(one)) for one in found]
         whole = [len(one) for one in found if len(one) > 4]  # what is shorter is a word of a table
-        print(f"{words:6} of {most:5}  {page}: {sum(whole) / max(1, len(whole)):.0f} words a sentence, at most {max(map(len, found))}")
-        wrongs += [f"{page} has {words} words, over {most}"] * (words > most)
-    print(f"{total:6} in all; the longest sentences:")
-    for length, page, sentence in sorted(every, reverse=True):
-        if length > LONG and "-v" in sys.argv:
-            print(f"{length:6} {page}: {sentence}")
-    if "-v" not in sys.argv:
-        for length, page, sentence in sorted(every, reverse=True)[:5]:
-            print(f"{length:6} {page}: {sentence[:100]}")
+        bound = f" of {MOST[page]}" if page in MOST else ""
+        print(f"{words:6}{bound}  {page}: {sum(whole) / max(1, len(whole)):.0f} words a sentence, at most {max(map(len, found))}")
+        if words > MOST.get(page, words):
+            wrongs.append(f"{page} has {words} words, over {MOST[page]}")
+    print(f"{total:6} in all")
+    longest = [one for one in sorted(every, reverse=True) if one[0] > LONG]
+    for length, page, sentence in longest if "-v" in sys.argv else longest[:5]:
+        print(f"{length:6} {page}: {sentence if '-v' in sys.argv else sentence[:100]}")
     finish(wrongs)
 
 

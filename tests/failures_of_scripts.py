@@ -284,6 +284,8 @@ def options(trial: Trial) -> None:
     holds(f"{trial.name} in an isolated Python", done.returncode == 0, done)
     trial.words = [kept[0], "-c", REFUSED.format(TOP / "scripts"), kept[1]]
     trial.fails("want of memory for the version", trial.run(["--version"]), f"{trial.name}: out of memory")
+    trial.words[2] = trial.words[2].replace("import bufr_guard", "import bufr_guard\nsys.version_info = 3, 8, 18")
+    trial.fails("an old Python", trial.run(["--version"]), f"{trial.name}: Python 3.9 or a later one is needed")
     trial.words = kept
     done = trial.run(["--nonsense"])
     holds(f"{trial.name} --nonsense", done.returncode == 2 and b"\n" == done.stderr[-1:], done)

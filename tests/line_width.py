@@ -1,23 +1,97 @@
 #!/usr/bin/env python3
-"""Tells the lines of the crates' code and definitions that are longer than 100 characters.
+"""Tells the lines of the crates' code and definitions that are longer than 100 characters, and of proofs than 200.
 
-    tests/line_width.py
+    tests/line_width.py [--write [FILE..]]        --write breaks the long lines of all proofs, or of these
 
-It reads each .rt file of src/ and each .antt file of specs/. Imports and attributes, which `rt fmt` keeps on one line each,
-and texts in quotes, which no line feed may break, are passed over. A line that is too long is told with its file and number.
+It reads each .rt file of src/, and each .antt file of specs/ and proofs/. Imports and attributes, which `rt fmt` keeps on
+one line each, and texts in quotes, which no line feed may break, are passed over. A line that is too long is told with its
+file and number. A proof breaks before an arrow, after a comma, before an operator, or between two arguments, wherever the
+fewest brackets are open. What comes after is four places further in than the line was; then `rt fmt` lays it out.
 """
+import pathlib
 import re
+import sys
 
 from lib import TOP, finish
 
-MOST = 100
-ONE_LINE = re.compile(r"\s*((unfoldable )?(pub )?use |ghost use |#\[)")
+MOST, OF_PROOFS = 100, 200
+PROOFS_ARE_HELD = False  # true once all proofs are broken
+ONE_LINE = re.compile(r"\s*((unfoldable )?(pub )?use |ghost use |#\[|--)")
+TOKEN = re.compile(r"\s+|[()\[\]{}]|[,;]|[^\s()\[\]{},;]+")
+# What a line may begin with, the best first, and what may not be parted from what is before or after it.
+BEFORE = [{"→", "|"}, {"∙", "×", "⊎"}, {"≡", "≤", "<"}, {"++", "∷", "&&", "||"}]
+TIED_BEFORE = {":", "=", "≔", "at", "where", "in", "[", "{", ".", "as"}
+TIED_AFTER = {"record", "rw", "let", "λ", "at", "where", "unfolding", "pub", "abbrev", "unfoldable", ":", "elim", "simp", "if", "|", "→", "∙"}
 
-wide = [
-    f"{path.relative_to(TOP)}:{number}: {len(line)} characters"
-    for pattern in ("crates/*/src/**/*.rt", "crates/*/specs/**/*.antt")
-    for path in sorted(TOP.glob(pattern))
-    for number, line in enumerate(path.read_text(encoding="utf-8").splitlines(), 1)
-    if len(line) > MOST and '"' not in line and not ONE_LINE.match(line)
-]
-finish(wide)
+
+def breaks(line: str) -> list:
+    """The places where a line may be broken, each with what breaking there costs: the brackets that are open first."""
+    code = line.partition(" -- ")[0]
+    found, depth, tokens = [], 0, [token[0] for token in TOKEN.finditer(code)]
+    at = 0
+    for number, token in enumerate(tokens):
+        if token in "([{":
+            depth += 1
+        elif token in ")]}":
+            depth -= 1
+        elif token.isspace() and 0 < number < len(tokens) - 1:
+            before, after = tokens[number - 1], tokens[number + 1]
+            if after in TIED_BEFORE or before in TIED_AFTER or before.endswith(".") and before != ".":
+                pass
+            elif before in (",", ";") or before == "=" and depth == 0:
+                found.append((depth, 0, at + len(token)))
+            else:
+                rank = next((rank for rank, words in enumerate(BEFORE) if after in words), len(BEFORE) + 1)
+                found.append((depth, rank, at + len(token)))
+        at += len(token)
+    return found
+
+
+def broken(line: str) -> list:
+    """The lines that a long line becomes; where it has no place to be broken it stays."""
+    margin = " " * (len(line) - len(line.lstrip()) + 4)
+    lines, rest = [], line
+    while len(rest) > OF_PROOFS:
+        first = len(rest) - len(rest.lstrip())
+        near = [one for one in breaks(rest) if OF_PROOFS // 3 < one[2] <= OF_PROOFS]
+        if not near:
+            break
+        best = min(near, key=lambda one: (one[0], one[1], -one[2]))
+        if best[2] <= first + 4:
+            break
+        lines.append(rest[: best[2]].rstrip())
+        rest = margin + rest[best[2] :]
+    return [*lines, rest]
+
+
+def is_wide(path: pathlib.Path, line: str) -> bool:
+    most = OF_PROOFS if "proofs" in path.parts else MOST
+    return len(line) > most and '"' not in line and not ONE_LINE.match(line)
+
+
+def write(paths: list) -> None:
+    """Breaks the long lines of proofs."""
+    for path in paths:
+        lines = path.read_text(encoding="utf-8").splitlines()
+        made = [piece for line in lines for piece in (broken(line) if is_wide(path, line) else [line])]
+        if made != lines:
+            path.write_text("\n".join(made) + "\n", encoding="utf-8")
+
+
+def main() -> None:
+    if sys.argv[1:2] == ["--write"]:
+        write([pathlib.Path(name).resolve() for name in sys.argv[2:]] or sorted(TOP.glob("crates/*/proofs/**/*.antt")))
+    folders = ["src/**/*.rt", "specs/**/*.antt"] + ["proofs/**/*.antt"] * PROOFS_ARE_HELD
+    finish(
+        [
+            f"{path.relative_to(TOP)}:{number}: {len(line)} characters"
+            for folder in folders
+            for path in sorted(TOP.glob(f"crates/*/{folder}"))
+            for number, line in enumerate(path.read_text(encoding="utf-8").splitlines(), 1)
+            if is_wide(path, line)
+        ]
+    )
+
+
+if __name__ == "__main__":
+    main()

@@ -46,6 +46,7 @@ MUTATIONS = [
         "return status",
         "tests/failures_of_scripts.py bufr-parallel",
     ),
+    ("scripts/bufr-parallel", "self.begins[here] + ", "", "tests/parallel_dump.py"),
     ("scripts/bufr-parallel", "raise stream.failure", "pass", "tests/failures_of_scripts.py bufr-parallel"),
     ("scripts/bufr-parallel", "or len(self.part) >= 2 * RANGES", "", "tests/memory_of_scripts.py bufr-parallel"),
     ("scripts/bufr-extract", "base + begin, base + end", "begin, end", "tests/extract_messages.py"),

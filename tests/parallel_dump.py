@@ -60,6 +60,12 @@ def same_as_one_run(program: str, folder: pathlib.Path) -> None:
         want(run([*words, path]) == one, f"a file by {processes} processes is not as by one")
     want(run([*PARALLEL, "dump", *TABLES, *files]) == one, "three files are not as one stream")
     want(run([*PARALLEL, "dump", *TABLES], input=octets) == one, "a pipe is not as a file")
+    behind = []
+    for words in ([program], PARALLEL):
+        with path.open("rb", buffering=0) as stream:
+            stream.seek(1000)
+            behind.append(run([*words, "dump", *TABLES], stdin=stream))
+    want(behind[0] == behind[1], "standard input that stands behind its beginning is not as by one process")
     small = folder / "small.bufr"
     small.write_bytes(octets[:500])
     many = run([program, "dump", *TABLES], input=octets[:500] * 1500)

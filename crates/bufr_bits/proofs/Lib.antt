@@ -1,3 +1,4 @@
+mod BufferedLemmas
 mod Examples
 pub mod BitLemmas
 pub mod CountLemmas

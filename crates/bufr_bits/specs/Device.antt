@@ -1,4 +1,4 @@
--- What a device has counted: failures, empty writes and flushes, each up to the greatest u64.
+-- What a device has counted: failures, empty writes and failed flushes, each up to the greatest u64.
 -- Cited by public contracts.
 use Rattle.std.specs.Prelude.{true, ℕ, zero, suc, ◌+◌, ◌-◌, ◌^◌, min, max, Bool, false, List, [], ◌∷◌, Result, Ok, Err}
 use Rattle.bufr_bits.specs.declared.device.Device.{Device}
@@ -11,7 +11,7 @@ fresh_device inner =
       failures = 0;
       reads = 0;
       empty_writes = 0;
-      flushes = 0;
+      failed_flushes = 0;
       all_flushed = true;
     }
 
@@ -39,7 +39,7 @@ all_flushed_after_write before (Err e) = before
 all_flushed_after_write before (Ok zero) = before
 all_flushed_after_write before (Ok (suc taken)) = false
 
--- the same after a flush: they were, if it went through
+-- all octets that were taken were handed on, after a flush: where it went through they were
 abbrev pub all_flushed_after_flush : {A E : Type 0} → Bool → Result A E → Bool
 all_flushed_after_flush before (Ok x) = true
 all_flushed_after_flush before (Err e) = before

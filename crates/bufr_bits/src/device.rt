@@ -1,9 +1,10 @@
 //! Readers and writers that count their failures, and the readers and writers of `std` as such.
-ghost use Rattle.std.specs.Prelude.{◌≡◌, ◌≤◌, ℕ, Bool, List, Option, length, IfOk};
+ghost use Rattle.std.specs.Prelude.{◌≡◌, ◌≤◌, ℕ, Bool, true, false, List, Option, length, IfOk, IsOk, nat_eq};
+ghost use Rattle.std.specs.Io.Buffered.{reader_remaining, reader_buffer};
 ghost use Rattle.std.specs.Io.KnownBytes.{ReadConsumes, WriteAppends, Keeps};
 ghost use Rattle.bufr_bits.specs.Device.{counted, failures_after, empty_writes_after, all_flushed_after_write, all_flushed_after_flush, fresh_device};
 
-use std::io::{Read, Write};
+use std::io::{BufRead, BufReader, Read, Write};
 use thiserror::Error;
 
 /// A call of a device failed. An interrupted call is a failed one too, and nothing is tried again.
@@ -26,6 +27,17 @@ pub trait Source {
     /// How many reads were made.
     ghost reads: { Self → ℕ };
 
+    /// Whether the next read may wait for octets that are not there yet, or fail.
+    ghost waits: { Self → Bool } = { λ _. true };
+
+    /// Whether the next read may wait for octets that are not there yet, or fail. A source that
+    /// does not know says that it may.
+    fn may_wait(&self) -> bool
+        ensures { result ≡ false → waits self.now ≡ false }
+    {
+        true
+    }
+
     /// Reads octets into the first places of `buf` and returns how many. None are read only at the
     /// end of the input, or where `buf` is empty.
     ///
@@ -36,14 +48,16 @@ pub trait Source {
         ensures bound { IfOk result (λ n. n ≤ length buf.new) }
         ensures octets { ReadConsumes (left self.old) (left self.new) result buf.new }
         ensures failed { failures self.new ≡ failures_after (failures self.old) result }
-        ensures made { reads self.new ≡ counted (reads self.old) 1 };
+        ensures made { reads self.new ≡ counted (reads self.old) 1 }
+        ensures sure { waits self.old ≡ false → IsOk result };
 }
 
 /// A writer of octets that counts its calls.
 ///
 /// Its contract speaks of values that no code holds: the octets taken so far, where they are
-/// known, and whether a flush handed all of them on. It counts the calls that failed, the writes
-/// that took none of their octets, and the flushes. The counts stop at the greatest `u64`.
+/// known, and whether a flush handed all of them on. It counts the calls that failed, the flushes
+/// among them, and the writes that took none of their octets. The counts stop at the greatest
+/// `u64`.
 pub trait Sink {
     /// The octets taken so far, where they are known.
     ghost taken: { Self → Option (List ℕ) };
@@ -54,8 +68,8 @@ pub trait Sink {
     /// How many writes took none of the octets that they were given.
     ghost empty_writes: { Self → ℕ };
 
-    /// How many flushes were made.
-    ghost flushes: { Self → ℕ };
+    /// How many flushes failed.
+    ghost failed_flushes: { Self → ℕ };
 
     /// Whether all octets that were taken were handed on.
     ghost all_flushed: { Self → Bool };
@@ -71,7 +85,7 @@ pub trait Sink {
         ensures failed { failures self.new ≡ failures_after (failures self.old) result }
         ensures empty { empty_writes self.new
             ≡ empty_writes_after (empty_writes self.old) buf.now result }
-        ensures flushed { flushes self.new ≡ flushes self.old }
+        ensures flushed { failed_flushes self.new ≡ failed_flushes self.old }
         ensures handed { all_flushed self.new ≡ all_flushed_after_write (all_flushed self.old)
             result };
 
@@ -84,7 +98,8 @@ pub trait Sink {
         ensures octets { Keeps (taken self.old) (taken self.new) }
         ensures failed { failures self.new ≡ failures_after (failures self.old) result }
         ensures empty { empty_writes self.new ≡ empty_writes self.old }
-        ensures flushed { flushes self.new ≡ counted (flushes self.old) 1 }
+        ensures flushed { failed_flushes self.new ≡ failures_after (failed_flushes self.old)
+            result }
         ensures handed { all_flushed self.new ≡ all_flushed_after_flush (all_flushed self.old)
             result };
 }
@@ -103,7 +118,7 @@ pub struct Device<T> {
     failures: u64,
     reads: u64,
     empty_writes: u64,
-    flushes: u64,
+    failed_flushes: u64,
     all_flushed: bool,
 }
 
@@ -117,7 +132,7 @@ impl<T> Device<T> {
             failures: 0,
             reads: 0,
             empty_writes: 0,
-            flushes: 0,
+            failed_flushes: 0,
             all_flushed: true,
         }
     }
@@ -142,6 +157,49 @@ impl<T: Read> Source for Device<T> {
     }
 }
 
+/// A buffered reader of `std` as a [`Source`]. A read of octets that it holds does not wait.
+#[derive(Drop)]
+pub struct BufferedDevice<T: Read> {
+    device: Device<BufReader<T>>,
+}
+
+impl<T: Read> BufferedDevice<T> {
+    /// The device over `inner`, which has made no call.
+    pub fn new(inner: BufReader<T>) -> BufferedDevice<T>
+        ensures { result.device ≡ fresh_device inner }
+    {
+        BufferedDevice {
+            device: Device::new(inner),
+        }
+    }
+}
+
+impl<T: Read> Source for BufferedDevice<T> {
+    ghost left = { λ d. reader_remaining T.remaining d.device.inner };
+
+    ghost failures = { λ d. d.device.failures };
+
+    ghost reads = { λ d. d.device.reads };
+
+    ghost waits = { λ d. nat_eq (length (reader_buffer d.device.inner)) 0 };
+
+    fn may_wait(&self) -> bool {
+        self.device.inner.buffer().is_empty()
+    }
+
+    fn read(&mut self, buf: &mut [u8]) -> Result<usize, Failed> {
+        let held = self.device.inner.buffer();
+        if !held.is_empty() {
+            let n = held.len().min(buf.len());
+            buf[..n].copy_from_slice(&held[..n]);
+            self.device.inner.consume(n);
+            self.device.reads = self.device.reads.saturating_add(1);
+            return Ok(n);
+        }
+        self.device.read(buf)
+    }
+}
+
 impl<T: Write> Sink for Device<T> {
     ghost taken = { λ d. T.contents d.inner };
 
@@ -149,7 +207,7 @@ impl<T: Write> Sink for Device<T> {
 
     ghost empty_writes = { λ d. d.empty_writes };
 
-    ghost flushes = { λ d. d.flushes };
+    ghost failed_flushes = { λ d. d.failed_flushes };
 
     ghost all_flushed = { λ d. d.all_flushed };
 
@@ -173,7 +231,6 @@ impl<T: Write> Sink for Device<T> {
     }
 
     fn flush(&mut self) -> Result<(), Failed> {
-        self.flushes = self.flushes.saturating_add(1);
         match self.inner.flush() {
             Ok(()) => {
                 self.all_flushed = true;
@@ -181,6 +238,7 @@ impl<T: Write> Sink for Device<T> {
             }
             Err(_) => {
                 self.failures = self.failures.saturating_add(1);
+                self.failed_flushes = self.failed_flushes.saturating_add(1);
                 Err(Failed)
             }
         }

@@ -12,5 +12,5 @@ mod script;
 pub use bit_slice::BitSlice;
 pub use bit_writer::{BitWriter, pushed_octets_read_back, pushed_reads_back};
 pub use decimal::{NumberFault, ShortDecimal, decimal_read, decimal_reads_back, decimal_text};
-pub use device::{Device, Failed, Sink, Source};
+pub use device::{BufferedDevice, Device, Failed, Sink, Source};
 pub use script::{End, ScriptIn, ScriptOut};

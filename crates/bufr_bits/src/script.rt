@@ -1,5 +1,5 @@
 //! A reader and a writer in memory for tests, which go in small steps and fail at a given place.
-ghost use Rattle.std.specs.Prelude.{◌≤◌, ◌<◌, vec_len, vec_capacity, ◌≡◌, Some, length, IfOk, [], true, ◌-◌};
+ghost use Rattle.std.specs.Prelude.{◌≤◌, ◌<◌, vec_len, vec_capacity, ◌≡◌, Some, length, IfOk, IsOk, [], true, false, ◌-◌};
 ghost use Rattle.std.specs.Io.KnownBytes.{ReadConsumes, WriteAppends, Keeps};
 ghost use Rattle.bufr_bits.specs.Device.{counted, failures_after, empty_writes_after, all_flushed_after_write, all_flushed_after_flush};
 
@@ -54,6 +54,8 @@ impl<'a> Source for ScriptIn<'a> {
             buf.new }
         ensures failed { self.new.failures ≡ failures_after self.old.failures result }
         ensures made { self.new.reads ≡ counted self.old.reads 1 }
+        // It may wait at each read.
+        ensures sure { true ≡ false → IsOk result }
         // The script is kept to: the answer, the place of failure and the step.
         ensures answer { result ≡ read_answer self.old.step (length buf.old)
             (length self.old.rest.now) self.old.before_failure }
@@ -84,7 +86,7 @@ pub enum End {
     Zero,
     /// A write fails.
     Fail,
-    /// A write fails, and a flush fails at any time.
+    /// A write fails, and a flush fails where octets are to be handed on.
     Flush,
 }
 
@@ -98,7 +100,7 @@ pub struct ScriptOut {
     end: End,
     failures: u64,
     empty_writes: u64,
-    flushes: u64,
+    failed_flushes: u64,
     all_flushed: bool,
     ghost has_step: { 0 < step },
     ghost within_room: { vec_len taken ≤ room },
@@ -123,7 +125,7 @@ impl ScriptOut {
         ensures end { IfOk result (λ s. s.end ≡ end) }
         ensures failures { IfOk result (λ s. s.failures ≡ 0) }
         ensures empty_writes { IfOk result (λ s. s.empty_writes ≡ 0) }
-        ensures flushes { IfOk result (λ s. s.flushes ≡ 0) }
+        ensures failed_flushes { IfOk result (λ s. s.failed_flushes ≡ 0) }
         ensures all_flushed { IfOk result (λ s. s.all_flushed ≡ true) }
     {
         let taken = Vec::with_capacity(alloc, room)?;
@@ -134,7 +136,7 @@ impl ScriptOut {
             end,
             failures: 0,
             empty_writes: 0,
-            flushes: 0,
+            failed_flushes: 0,
             all_flushed: true,
         })
     }
@@ -156,7 +158,7 @@ impl Sink for ScriptOut {
 
     ghost empty_writes = { λ s. s.empty_writes };
 
-    ghost flushes = { λ s. s.flushes };
+    ghost failed_flushes = { λ s. s.failed_flushes };
 
     ghost all_flushed = { λ s. s.all_flushed };
 
@@ -167,7 +169,7 @@ impl Sink for ScriptOut {
         ensures failed { self.new.failures ≡ failures_after self.old.failures result }
         ensures empty { self.new.empty_writes
             ≡ empty_writes_after self.old.empty_writes buf.now result }
-        ensures flushed { self.new.flushes ≡ self.old.flushes }
+        ensures flushed { self.new.failed_flushes ≡ self.old.failed_flushes }
         ensures handed { self.new.all_flushed
             ≡ all_flushed_after_write self.old.all_flushed result }
         // The script is kept to: the answer, the room left, the step and the end.
@@ -197,17 +199,17 @@ impl Sink for ScriptOut {
         ensures octets { Keeps (Some self.old.taken.items) (Some self.new.taken.items) }
         ensures failed { self.new.failures ≡ failures_after self.old.failures result }
         ensures empty { self.new.empty_writes ≡ self.old.empty_writes }
-        ensures flushed { self.new.flushes ≡ counted self.old.flushes 1 }
+        ensures flushed { self.new.failed_flushes ≡ failures_after self.old.failed_flushes result }
         ensures handed { self.new.all_flushed ≡ all_flushed_after_flush self.old.all_flushed
             result }
-        ensures answer { result ≡ flush_answer self.old.end }
+        ensures answer { result ≡ flush_answer self.old.end self.old.all_flushed }
         ensures left { left_of self.new ≡ left_of self.old }
         ensures step { self.new.step ≡ self.old.step }
         ensures end { self.new.end ≡ self.old.end }
     {
-        self.flushes = self.flushes.saturating_add(1);
-        if self.end == End::Flush {
+        if self.end == End::Flush && !self.all_flushed {
             self.failures = self.failures.saturating_add(1);
+            self.failed_flushes = self.failed_flushes.saturating_add(1);
             return Err(Failed);
         }
         self.all_flushed = true;

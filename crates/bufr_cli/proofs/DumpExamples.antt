@@ -1,16 +1,14 @@
 -- The pieces of a dump computed on worked examples.
-use Rattle.std.proofs.Common.{true, false, List, [], ◌∷◌, refl, codes, pos, arith, ℕ, ◌++◌, slice_set, take}
+use Rattle.std.proofs.Common.{◌≡◌, List, [], ◌∷◌, refl, codes, pos, ℕ, ◌++◌, slice_set, take}
 use Rattle.std.specs.Fmt.{digits}
 use Rattle.bufr_bits.specs.Prelude.{bits_of, decimal_text_of, unsigned_text}
 use Rattle.bufr_frame.specs.Prelude.{head_by_edition, head_size, FrameAt, StrayAt, sections_of, section_end}
 use Rattle.bufr_frame.specs.declared.fault.Cause.TheVariants.{Cut}
 use Rattle.bufr_tables.specs.Prelude.{tree_of, inner_of, level, part_of, Row}
 use Rattle.bufr_tables.specs.declared.table_b.Kind.TheVariants.{Numeric}
-use Rattle.bufr_walk.specs.Prelude.{number, data_end, next_item, take_next, spot, field_stop, apart}
-use Rattle.bufr_walk.specs.declared.fault.WalkFault.TheVariants as walk
-use Rattle.bufr_walk.specs.declared.spec.Role.TheVariants.{Element}
+use Rattle.bufr_walk.specs.Prelude.{next_item}
 use Rattle.bufr_text.specs.Prelude.{leasts, mosts, header_lines, subset_lines, descriptors_text, hex_text, runs_after, keys}
-use Rattle.bufr_cli.specs.Prelude.{IsDumpPiece, OnOutput, OnErrors}
+use Rattle.bufr_cli.specs.Prelude.{dump_piece, OnOutput, OnErrors}
 use Rattle.bufr_cli.proofs.Examples.{one_block_number}
 
 -- a table of one element
@@ -19,50 +17,29 @@ blocks = record { fxy = 257; name = codes "WMO BLOCK NUMBER"; unit = codes "Nume
 
 -- a stray word, another edition, and an element that the table lacks
 -- rule: one-fault-a-message
-stray-piece : IsDumpPiece blocks [] (StrayAt 4 Cut) (OnErrors (codes "offset 4: 1 cut\n"))
+stray-piece : dump_piece blocks [] (StrayAt 4 Cut) ≡ OnErrors (codes "offset 4: 1 cut\n")
 unfolding digits
 stray-piece = refl
 
-edition-piece : IsDumpPiece blocks [] (FrameAt 0 (slice_set one_block_number 7 2)) (OnErrors (codes "offset 0: 10 edition 2\n"))
+edition-piece : dump_piece blocks [] (FrameAt 0 (slice_set one_block_number 7 2)) ≡ OnErrors (codes "offset 0: 10 edition 2\n")
 unfolding sections_of section_end head_by_edition head_size digits
 edition-piece = refl
 
 -- rule: list-before-data
-unknown-piece : IsDumpPiece [] [] (FrameAt 48 one_block_number) (OnErrors (codes "offset 48: 20 unknown element 001001\n"))
+unknown-piece : dump_piece [] [] (FrameAt 48 one_block_number) ≡ OnErrors (codes "offset 48: 20 unknown element 001001\n")
 unfolding sections_of section_end head_by_edition head_size tree_of inner_of level part_of digits
 unknown-piece = refl
 
 -- its data are read: seven bits are the number 10, and one bit is left over
-read-piece : IsDumpPiece blocks [] (FrameAt 0 one_block_number) (OnOutput (codes "message\nedition 4\nmaster 0\ncentre 98\nsubcentre 0\nupdate 0\ncategory 0\nsubcategory 0\nlocalsubcategory 0\nmasterversion 14\nlocalversion 0\nyear 2024\nmonth 1\nday 2\nhour 3\nminute 4\nsecond 5\nobserved 1\ncompressed 0\noptional 0\nsubsets 1\ndescriptors 001001\nsubset 1\n001001 10  # WMO BLOCK NUMBER [Numeric]\nend\n"))
+read-piece : dump_piece blocks [] (FrameAt 0 one_block_number) ≡ OnOutput (codes "message\nedition 4\nmaster 0\ncentre 98\nsubcentre 0\nupdate 0\ncategory 0\nsubcategory 0\nlocalsubcategory 0\nmasterversion 14\nlocalversion 0\nyear 2024\nmonth 1\nday 2\nhour 3\nminute 4\nsecond 5\nobserved 1\ncompressed 0\noptional 0\nsubsets 1\ndescriptors 001001\nsubset 1\n001001 10  # WMO BLOCK NUMBER [Numeric]\nend\n")
 unfolding sections_of section_end head_by_edition head_size tree_of inner_of level part_of next_item bits_of header_lines subset_lines runs_after hex_text descriptors_text keys leasts mosts decimal_text_of unsigned_text digits
-read-piece = (
-  apart ((record { spec = record { fxy = 257; role = Element; kind = Numeric; width = 7; scale = pos 0; reference = pos 0; may_be_missing = true; listed = true }; content = number 10 } ∷ []) ∷ []),
-  7,
-  (refl, omega arith, ((false ∷ [], ((false ∷ [], refl, refl, refl), refl), refl), refl)),
-  refl,
-)
+read-piece = refl
 
 -- the same without data: they are refused at the first item
 abbrev without_data : List ℕ
 without_data = slice_set (take 39 one_block_number) 6 47 ++ 0 ∷ 0 ∷ 4 ∷ 0 ∷ 55 ∷ 55 ∷ 55 ∷ 55 ∷ []
 
 -- rule: refused-messages-write-nothing
-refused-piece : IsDumpPiece blocks [] (FrameAt 0 without_data) (OnErrors (codes "offset 0: 30 data end at subset 1 descriptor 001001 bit 0\n"))
+refused-piece : dump_piece blocks [] (FrameAt 0 without_data) ≡ OnErrors (codes "offset 0: 30 data end at subset 1 descriptor 001001 bit 0\n")
 unfolding sections_of section_end head_by_edition head_size tree_of inner_of level part_of next_item bits_of digits
-refused-piece = (
-  walk.DataEnd (spot 1 257 0),
-  1,
-  record {
-    stop = field_stop 257 data_end;
-    subset = 1;
-    before = 0;
-    is = refl;
-    stopped = (
-      take_next (record { fxy = 257; role = Element; kind = Numeric; width = 7; scale = pos 0; reference = pos 0; may_be_missing = true; listed = true }),
-      [],
-      record { done = []; items = []; mid = []; whole = refl; reads = refl; next_is = refl; number = refl; within = omega arith; place = refl; turns_are = refl },
-      refl,
-    );
-  },
-  refl,
-)
+refused-piece = refl

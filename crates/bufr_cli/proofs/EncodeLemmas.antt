@@ -156,6 +156,10 @@ pub none-else : (o : Option Verdict) → ((v : Verdict) → o ≡ Some v → ⊥
 none-else None none = refl
 none-else (Some v) none = absurd (none v refl)
 
+pub ok-else : {E : Type 0} (r : Result (Unit {0}) E) → ((why : E) → r ≡ Err why → ⊥) → r ≡ Ok tt
+ok-else (Ok tt) none = refl
+ok-else (Err why) none = absurd (none why refl)
+
 -- the measure of a run falls with each document
 pub falls : (before after n : ℕ) → before < n → after ≡ before + 1 → n - after < n - before
 falls before after n few one = omega (arith, few, one)
@@ -175,6 +179,20 @@ pub record EncodedSoFar (form : Form) (b : List Row) (d : List Sequence) (left m
 pub ran-by-equal : (form : Form) (b : List Row) (d : List Sequence) (left mid : Option (List ℕ)) (reads reads' : ℕ) (w w' e e' : Option (List ℕ)) (s s' : ReaderModel) (tally : Tally)
     → s' ≡ s → EncodedSoFar form b d left mid reads reads' w w' e e' s tally → EncodedSoFar form b d left mid reads reads' w w' e e' s' tally
 ran-by-equal form b d left mid reads reads' w w' e e' s s' tally is ran = subst (λ x. EncodedSoFar form b d left mid reads reads' w w' e e' x tally) (sym is) ran
+
+-- what was written is kept where it is handed on
+pub ran-kept : (form : Form) (b : List Row) (d : List Sequence) (left mid : Option (List ℕ)) (reads reads' : ℕ) (w w1 w2 e e1 e2 : Option (List ℕ)) (s : ReaderModel) (tally : Tally)
+    → Keeps w1 w2 → Keeps e1 e2 → EncodedSoFar form b d left mid reads reads' w w1 e e1 s tally → EncodedSoFar form b d left mid reads reads' w w2 e e2 s tally
+ran-kept form b d left mid reads reads' w w1 w2 e e1 e2 s tally kept_w kept_e ran = record {
+  octets = ran.octets;
+  results = ran.results;
+  call = ran.call;
+  counts = ran.counts;
+  written = written-kept w w1 w2 e e1 e2 (map (result_piece form b d) ran.results) kept_w kept_e ran.written;
+  tallies = ran.tallies;
+  open' = ran.open';
+  sound = ran.sound;
+}
 
 -- nothing was done yet
 pub ran-fresh : (form : Form) (b : List Row) (d : List Sequence) (left : Option (List ℕ)) (reads : ℕ) (w e : Option (List ℕ)) (s : ReaderModel) (tally : Tally)
@@ -488,6 +506,27 @@ module _ (form : Form) (b : List Row) (d : List Sequence) (left mid left' : Opti
       by Memory (inl (is, same_w, same_e)) = stops-memory w2 e2 same_w same_e is
       by Memory (inr (x, is, reports')) = (ran.octets ++ so.octets, stops-piece w2 e2 Memory x is reports')
 
+-- a flush failed before a read: all that is certain of what was read was written
+pub stop-encode-read : (form : Form) (b : List Row) (d : List Sequence) (left mid left' : Option (List ℕ)) (reads reads1 : ℕ) (w w1 w2 e e1 e2 : Option (List ℕ)) (s s' : ReaderModel) (tally : Tally) (unflushed early : Type 0) (f : RunFault) (r : Result Tally RunFault)
+    → EncodedSoFar form b d left mid reads reads1 w w1 e e1 s tally → Keeps w1 w2 → Keeps e1 e2 → (bs : List ℕ) × ReadsLines mid left' s s' [] bs × HasNoWholeLine s' → f ≡ Write → r ≡ Err f
+    → (bs : List ℕ) × LeavesRun (document_pieces form b d) left left' w w2 e e2 unflushed early bs r
+stop-encode-read form b d left mid left' reads reads1 w w1 w2 e e1 e2 s s' tally unflushed early f r ran kept_w kept_e (bs, more, open') write same =
+    let octets = ran.octets ++ bs in
+    let call = call-then left mid left' new_reader s s' ran.results [] ran.octets bs ran.call more in
+    let all : open_documents_of octets ≡ ran.results = reported-at-fault left left' s' (ran.results ++ []) octets call open' ∙ append-nil ran.results in
+    let given = map (result_piece form b d) ran.results in
+    let pieces : encode_pieces form b d (open_documents_of octets) ≡ given = ap (encode_pieces form b d) all ∙ open-all given ran.open' in
+    let written = written-kept w w1 w2 e e1 e2 given kept_w kept_e ran.written in
+    let cut : RunCut (document_pieces form b d) left left' w w2 e e2 unflushed octets = record {
+      read = call.read;
+      ended = false;
+      all = no-whole;
+      end = λ end. absurd (false≢true end);
+      written = whole-part w w2 w2 e e2 e2 given [] _ refl refl (pieces ∙ sym (append-nil given)) written;
+      flushed = λ _. rw pieces written;
+    } in
+    (octets, rw (same ∙ ap Err write) cut)
+
 -- the reads of a run
 pub reads-made : {X : Type 0} (reads reads' : ℕ) (s : ReaderModel) (r : Result X RunFault) → AddsReads reads reads' new_reader.reads s.reads → (r ≡ Err InputTooLong → s.reads ≡ max_reads) → ReadsAtMost reads reads' r
 reads-made reads reads' s r counts long =
@@ -513,7 +552,7 @@ pub verdict-keeps : (w w' e e' : Option (List ℕ)) (piece : ParseResult → Pie
     → LeavesNext w w' e e' piece next write_event → write_event ≡ Ok (Some v) → failures_by count next ≡ count
 verdict-keeps w w' e e' piece count next write_event v reports is = grind (arith, common_steps, reported-keeps)
 
--- a fault before the flushes
+-- a fault before the failed_flushes
 abbrev unflushed-cut : (pieces : RunPieces) (left left' w w' e e' : Option (List ℕ)) (unflushed : Type 0) (bs : List ℕ) → unflushed → RunCut pieces left left' w w' e e' (Unit {0}) bs → RunCut pieces left left' w w' e e' unflushed bs
 unflushed-cut pieces left left' w w' e e' unflushed bs kept cut = record { read = cut.read; ended = cut.ended; all = cut.all; end = cut.end; written = cut.written; flushed = λ not. absurd (not kept) }
 
@@ -529,8 +568,8 @@ stays-unflushed pieces left left' w w' e e' unflushed early kept first f r fails
     by Write cut = unflushed-cut pieces left left' w w' e e' unflushed bs kept cut
 
 -- all was written, and then flushed
-module _ (pieces : RunPieces) (left left' w w1 w2 e e1 e2 : Option (List ℕ)) (early : Type 0) (first : Result Tally RunFault) (tally : Tally) (is : first ≡ Ok tally) (kept_w : Keeps w1 w2) (kept_e : Keeps e1 e2)
-    (before : (bs : List ℕ) × LeavesRun pieces left left' w w1 e e1 (Unit {0}) early bs first) where
+module _ (pieces : RunPieces) (left left' w w1 w2 e e1 e2 : Option (List ℕ)) (kept early : Type 0) (first : Result Tally RunFault) (tally : Tally) (is : first ≡ Ok tally) (kept_w : Keeps w1 w2) (kept_e : Keeps e1 e2)
+    (before : (bs : List ℕ) × LeavesRun pieces left left' w w1 e e1 kept early bs first) where
   pub encode-flushed : (bs : List ℕ) × RunDone pieces left left' w w2 e e2 bs tally
   encode-flushed =
       let done = rw is at before.1 in (

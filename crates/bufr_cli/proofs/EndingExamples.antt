@@ -1,10 +1,10 @@
 -- Last lines and exit statuses, and ends of runs that are refused, computed.
-use Rattle.std.proofs.Common.{if◌then◌else◌, ◌==◌, ◌≡◌, ◌∷◌, ℕ, List, [], map, refl, ap, codes, ◌∙◌, Option, Some, Result, Ok, Err, sym, subst, arith, inl, inr}
+use Rattle.std.proofs.Common.{if◌then◌else◌, ◌==◌, ◌≡◌, ◌∷◌, ℕ, List, [], map, refl, ap, codes, Option, Some, Result, Ok, Err, sym, subst, arith, inl, inr}
 use Rattle.std.specs.Borrow.{Bor}
 use Rattle.std.specs.Fmt.{digits}
 use Rattle.bufr_frame.specs.declared.fault.RunFault.TheVariants.{Read, Write, InputTooLong, Memory}
 use Rattle.bufr_text.specs.Prelude.{joined}
-use Rattle.bufr_cli.specs.Prelude.{last_line, status_of, EndsRun, FlushesRest, WantsMemory, Ended, Tally, BlamesWriter, RunPieces, Writer, Writers, event_pieces, holding, ls_piece}
+use Rattle.bufr_cli.specs.Prelude.{last_line, status_of, EndsRun, WantsMemory, Ended, Tally, BlamesWriter, RunPieces, Writer, Writers, event_pieces, holding, ls_piece}
 use Rattle.bufr_cli.specs.declared.outcome.Outcome.TheVariants.{Ran, Usage, CannotOpen, TableB, TableD, Run}
 use Rattle.bufr_frame.specs.Prelude.{head_by_edition, head_size, scan_from, sections_of, section_end}
 use Rattle.bufr_frame.specs.declared.fault.RunFault.{RunFault}
@@ -56,11 +56,11 @@ unfolding IsOk
 ok-is-no-fault tally fault is = subst IsOk is tt
 
 -- a listing of one stray word ends with status 1, and so never with 0
-a-stray-is-refused : (before after : Writers) (tally : Tally) → EndsRun (λ pieces. pieces ≡ event_pieces ls_piece) (Some (codes "BUFR")) before after (Ok tally) → status_of (Ran tally) ≡ 1
+a-stray-is-refused : (before after : Writers) (tally : Tally) → EndsRun (event_pieces ls_piece) (Some (codes "BUFR")) before after (Ok tally) → status_of (Ran tally) ≡ 1
 unfolding scan_from sections_of section_end head_by_edition head_size
 a-stray-is-refused before after tally (WantsMemory is same) = absurd (ok-is-no-fault tally Memory is)
 a-stray-is-refused before after tally (Ended from to known between leaves rest errors) =
-    ap (λ n. if n == 0 then 0 else 1) (rw known at (leaves.whole (event_pieces ls_piece) refl)).1.refused
+    ap (λ n. if n == 0 then 0 else 1) (rw known at (leaves.whole)).1.refused
 
 -- writers that counted no failure and no empty write are at no fault of a write
 abbrev idle : Writers
@@ -80,6 +80,6 @@ idle-writers-do-not-fail between output errors blames =
     none (inr (same, inl failed)) = absurd (zero-is-not-one failed.0)
     none (inr (same, inr empty)) = absurd (zero-is-not-one empty.1)
 
-no-write-fault : (may_be : RunPieces → Type 0) (octets : Option (List ℕ)) → EndsRun may_be octets idle idle (Err Write) → ⊥
-no-write-fault may_be octets (WantsMemory is same) = absurd cc
-no-write-fault may_be octets (Ended from to known between leaves rest errors) = idle-writers-do-not-fail between rest errors leaves.writers
+no-write-fault : (pieces : RunPieces) (octets : Option (List ℕ)) → EndsRun pieces octets idle idle (Err Write) → ⊥
+no-write-fault pieces octets (WantsMemory is same) = absurd cc
+no-write-fault pieces octets (Ended from to known between leaves rest errors) = idle-writers-do-not-fail between rest errors leaves.writers

@@ -2,12 +2,12 @@
 use Rattle.std.proofs.Common.{◌≡◌, ℕ, List, [], ◌∷◌, ◌++◌, refl, codes, pos, slice_set}
 use Rattle.std.specs.Fmt.{digits}
 use Rattle.bufr_bits.specs.Prelude.{bits_of, bits_in, decimal_value_of, decimal_text_of, unsigned_text}
-use Rattle.bufr_frame.specs.Prelude.{head_by_edition, head_size, StreamEvent, FrameAt, StrayAt, scan_from, sections_of, section_end}
+use Rattle.bufr_frame.specs.Prelude.{head_by_edition, head_size, scan_from, sections_of, section_end}
 use Rattle.bufr_tables.specs.Prelude.{tree_of, inner_of, level, part_of, Row}
 use Rattle.bufr_tables.specs.declared.table_b.Kind.TheVariants.{Numeric}
 use Rattle.bufr_walk.specs.Prelude.{next_item}
-use Rattle.bufr_text.specs.Prelude.{leasts, mosts, lines_of, parse_lines, turn, documents_of, encoding_in, prefix_while, suffix_while, without_prefix, descriptors_read, fxy_read, hex_read, is_hashed, quoted_read, descriptors_text, hex_text, runs_after, keys, line_of, place_from, value_read, worded, header_lines}
-use Rattle.bufr_cli.specs.Prelude.{up_to_refused, Piece, OnOutput, OnErrors, ls_piece, accepted_messages, dumped, longer_by, rebuilt, normal_texts}
+use Rattle.bufr_text.specs.Prelude.{leasts, mosts, lines_of, parse_lines, turn, documents_of, encoding_in, prefix_while, suffix_while, without_prefix, descriptors_read, fxy_read, hex_read, is_hashed, quoted_read, descriptors_text, hex_text, runs_after, keys, line_of, place_from, value_read, worded, header_lines, subset_lines}
+use Rattle.bufr_cli.specs.Prelude.{up_to_refused, accepted_messages, dumped, longer_by, rebuilt, normal_texts}
 use Rattle.bufr_cli.proofs.Examples.{edition_3, one_block_number}
 use Rattle.bufr_text.specs.declared.encode.Form.TheVariants.{AsWritten}
 
@@ -15,9 +15,13 @@ use Rattle.bufr_text.specs.declared.encode.Form.TheVariants.{AsWritten}
 abbrev stream : List ℕ
 stream = codes "BUFR" ++ 0 ∷ 0 ∷ 64 ∷ 4 ∷ (one_block_number ++ (slice_set one_block_number 7 2 ++ slice_set one_block_number 13 99))
 
+-- a table of one element
+abbrev pub blocks : List Row
+blocks = record { fxy = 257; name = codes "WMO BLOCK NUMBER"; unit = codes "Numeric"; kind = Numeric; scale = pos 0; reference = pos 0; width = 7 } ∷ []
+
 -- what is at fault is no accepted message, and the others are in the order of the stream
-accepted-among : accepted_messages ls_piece stream ≡ one_block_number ∷ slice_set one_block_number 13 99 ∷ []
-unfolding scan_from sections_of section_end head_by_edition head_size digits
+accepted-among : accepted_messages blocks [] stream ≡ one_block_number ∷ slice_set one_block_number 13 99 ∷ []
+unfolding scan_from sections_of section_end head_by_edition head_size tree_of inner_of level part_of next_item bits_of header_lines subset_lines runs_after hex_text descriptors_text keys leasts mosts decimal_text_of unsigned_text digits
 accepted-among = refl
 
 -- A message of edition 3 whose section 3 is odd, and one whose section 4 is, may grow by two octets
@@ -26,26 +30,18 @@ accepted-among = refl
 grown : longer_by (slice_set edition_3 28 9 ∷ one_block_number ∷ slice_set edition_3 38 5 ∷ edition_3 ∷ []) ≡ 4
 grown = refl
 
--- an event's text is its offset
-abbrev offset_piece : StreamEvent → Piece
-offset_piece (FrameAt offset octets) = OnOutput (offset ∷ [])
-offset_piece (StrayAt offset cause) = OnErrors (offset ∷ [])
+-- the dump text of the first message
+abbrev text : List ℕ
+text = codes "message\nedition 4\nmaster 0\ncentre 98\nsubcentre 0\nupdate 0\ncategory 0\nsubcategory 0\nlocalsubcategory 0\nmasterversion 14\nlocalversion 0\nyear 2024\nmonth 1\nday 2\nhour 3\nminute 4\nsecond 5\nobserved 1\ncompressed 0\noptional 0\nsubsets 1\ndescriptors 001001\nsubset 1\n001001 10  # WMO BLOCK NUMBER [Numeric]\nend\n"
 
 -- the output has nothing of the errors
-output-alone : dumped offset_piece stream ≡ 8 ∷ 56 ∷ 104 ∷ []
-unfolding scan_from
+output-alone : dumped blocks [] (codes "BUFR" ++ 0 ∷ 0 ∷ 64 ∷ 4 ∷ (one_block_number ++ slice_set one_block_number 7 2)) ≡ text
+unfolding scan_from sections_of section_end head_by_edition head_size tree_of inner_of level part_of next_item bits_of header_lines subset_lines runs_after hex_text descriptors_text keys leasts mosts decimal_text_of unsigned_text digits
 output-alone = refl
 
--- a table of one element
-abbrev pub blocks : List Row
-blocks = record { fxy = 257; name = codes "WMO BLOCK NUMBER"; unit = codes "Numeric"; kind = Numeric; scale = pos 0; reference = pos 0; width = 7 } ∷ []
-
--- a message with this text is built of it
-abbrev text_piece : StreamEvent → Piece
-text_piece here = OnOutput (codes "message\nedition 4\nmaster 0\ncentre 98\nsubcentre 0\nupdate 0\ncategory 0\nsubcategory 0\nlocalsubcategory 0\nmasterversion 14\nlocalversion 0\nyear 2024\nmonth 1\nday 2\nhour 3\nminute 4\nsecond 5\nobserved 1\ncompressed 0\noptional 0\nsubsets 1\ndescriptors 001001\nsubset 1\n001001 10  # WMO BLOCK NUMBER [Numeric]\nend\n")
-
-built-of-its-text : rebuilt blocks [] text_piece one_block_number ≡ one_block_number
-unfolding scan_from up_to_refused parse_lines lines_of turn line_of worded prefix_while suffix_while place_from keys leasts mosts without_prefix descriptors_read fxy_read value_read quoted_read hex_read is_hashed encoding_in head_size tree_of level part_of inner_of next_item decimal_value_of bits_in bits_of
+-- a message is built again of its text
+built-of-its-text : rebuilt blocks [] one_block_number ≡ one_block_number
+unfolding scan_from sections_of section_end head_by_edition head_size tree_of inner_of level part_of next_item bits_of header_lines subset_lines runs_after hex_text descriptors_text keys leasts mosts decimal_text_of unsigned_text digits up_to_refused parse_lines lines_of turn line_of worded prefix_while suffix_while place_from without_prefix descriptors_read fxy_read value_read quoted_read hex_read is_hashed encoding_in decimal_value_of bits_in
 built-of-its-text = refl
 
 -- ---- Texts that were written by hand, in the one spelling that a dump has, on worked examples.

@@ -1,6 +1,6 @@
 -- What a run writes, event by event, and what comes of a job.
-use Rattle.bufr_frame.specs.Prelude.{max_reads, read_failures_after, StreamEvent, FrameAt, StrayAt, scan, scan_from, open_scan, Advances, events_of, IsEvent, FinderModel, ReadsAndPasses, StopsFinder, IsUndecided, new_finder, ReturnsNextEvent, LeavesFinder, AddsReads}
-use Rattle.std.proofs.Common.{length, length-append, ◌≡◌, ◌≢◌, ◌∙◌, ◌≤◌, ◌<◌, ◌^◌, ℕ, ◌+◌, ◌-◌, Bool, true, false, List, [], ◌∷◌, ◌++◌, refl, sym, ap, subst, arith, Option, None, Ok, Err, append-nil, Some, append_assoc, inl, inr, Result, flat_map, map, count_by, IfOk, IfSome, OnOk}
+use Rattle.bufr_frame.specs.Prelude.{max_reads, read_failures_after, StreamEvent, FrameAt, StrayAt, scan, scan_from, open_scan, Advances, events_of, IsEvent, FinderModel, ReadsAndPasses, new_finder, ReturnsNextEvent, LeavesFinder, AddsReads}
+use Rattle.std.proofs.Common.{max, ◌*◌, length, length-append, ◌≡◌, ◌≢◌, ◌∙◌, ◌≤◌, ◌<◌, ◌^◌, ℕ, ◌+◌, ◌-◌, Bool, true, false, List, [], ◌∷◌, ◌++◌, refl, sym, ap, subst, arith, Option, None, Ok, Err, append-nil, Some, append_assoc, inl, inr, Result, flat_map, map, count_by, IfOk, IfSome}
 use Rattle.std.specs.Io.KnownBytes.{Consumes, IsAtEnd, Keeps}
 use Rattle.std.proofs.KnownBytes.{Appends-nil, Appends-trans, Appends-kept, Consumes-nil, Consumes-whole}
 use Rattle.std.proofs.lemmas.Bool.{false≢true}
@@ -11,9 +11,10 @@ use Rattle.bufr_frame.specs.declared.fault.RunFault.{RunFault}
 use Rattle.bufr_frame.specs.declared.fault.RunFault.TheVariants.{Read, Write, InputTooLong, Memory}
 use Rattle.bufr_frame.specs.declared.finder.Event.{Event}
 use Rattle.bufr_frame.specs.declared.finder.Event.TheVariants.{Frame, Stray, Done}
-use Rattle.bufr_frame.proofs.FinderLemmas.{events-are-open, Advances-none, Follows-none, ReadsAndPasses-then, CountsReads-then, whole-scan, events-are-certain}
+use Rattle.bufr_frame.specs.Prelude.{FillFails, NeedsRead, ReadsMore, input_left}
+use Rattle.bufr_frame.proofs.FinderLemmas.{read-step, events-are-open, Advances-none, Follows-none, ReadsAndPasses-then, CountsReads-then, whole-scan, events-are-certain}
 use Rattle.bufr_text.specs.Prelude.{GrowsByPrefix, Stays, Fails, Writes}
-use Rattle.bufr_cli.specs.Prelude.{Piece, output_of, errors_of, is_accepted, is_refused, RunPieces, RunsPieces, WritesAndCounts, event_pieces, read_pieces, LeavesRun, Blames, WritesPieces, Tallies, RunDone, RunStopped, RunCut, ReadsFewer, ReadsAtMost, GivesPieces, LeavesPieces, StopsPiece, RunReads, counted_accepted, counted_refused, tally_after, BlamesWriter, CountsCalls, Input, Writers, ReadsAll, WrittenInPart, Tally, Verdict, InPart, WritesHelp, LeavesDevices, EndsRun, Ended, FlushesRest, WritesLine, run_line}
+use Rattle.bufr_cli.specs.Prelude.{HandsOn, AllHandedOn, Piece, output_of, errors_of, is_accepted, is_refused, RunPieces, RunsPieces, event_pieces, read_pieces, LeavesRun, Blames, WritesPieces, Tallies, RunDone, RunStopped, RunCut, ReadsFewer, ReadsAtMost, LeavesPieces, StopsPiece, RunReads, counted_accepted, counted_refused, tally_after, BlamesWriter, CountsCalls, Input, Writers, ReadsAll, WrittenInPart, Tally, Verdict, InPart, WritesHelp, LeavesDevices, EndsRun, Ended, FlushesRest, WritesLine, run_line}
 
 pub grows-nil : (w : Option (List ℕ)) → GrowsByPrefix w w []
 grows-nil w = record { prefix = []; back = []; parts = refl; gains = Appends-nil w }
@@ -33,20 +34,20 @@ pub record ReportedSoFar (w w' e e' : Option (List ℕ)) (tally : Tally) (pieces
   pub tallies : Tallies tally pieces
 
 -- What a run has done so far, whose events have these pieces.
-pub record Ran (is_piece : StreamEvent → Piece → Type 0) (left mid : Option (List ℕ)) (reads reads' : ℕ) (w w' e e' : Option (List ℕ)) (s : FinderModel) (tally : Tally) : Type 0 where
+pub record Ran (piece : StreamEvent → Piece) (left mid : Option (List ℕ)) (reads reads' : ℕ) (w w' e e' : Option (List ℕ)) (s : FinderModel) (tally : Tally) : Type 0 where
   pub octets : List ℕ
   pub events : List StreamEvent
   pub step : ReadsAndPasses left mid new_finder s octets events
   pub counts : AddsReads reads reads' new_finder.reads s.reads
-  pub wrote : (piece : StreamEvent → Piece) → GivesPieces is_piece piece → ReportedSoFar w w' e e' tally (map piece events)
+  pub wrote : ReportedSoFar w w' e e' tally (map piece events)
   pub sound : s.fault ≡ None
   pub few : tally.accepted + tally.refused ≤ s.at
   pub near : s.at < 2 ^ 63
 
 -- nothing was done yet
-pub ran-fresh : (is_piece : StreamEvent → Piece → Type 0) (left : Option (List ℕ)) (reads : ℕ) (w e : Option (List ℕ)) (s : FinderModel) (tally : Tally)
-    → s ≡ new_finder → tally.accepted ≡ 0 → tally.refused ≡ 0 → Ran is_piece left left reads reads w w e e s tally
-ran-fresh is_piece left reads w e s tally is accepted refused =
+pub ran-fresh : (piece : StreamEvent → Piece) (left : Option (List ℕ)) (reads : ℕ) (w e : Option (List ℕ)) (s : FinderModel) (tally : Tally)
+    → s ≡ new_finder → tally.accepted ≡ 0 → tally.refused ≡ 0 → Ran piece left left reads reads w w e e s tally
+ran-fresh piece left reads w e s tally is accepted refused =
     rw is (record {
       octets = [];
       events = [];
@@ -58,7 +59,7 @@ ran-fresh is_piece left reads w e s tally is accepted refused =
         end = λ _ end. absurd (false≢true end);
       };
       counts = record { made = sym (counted-none reads); order = omega arith; most = omega arith };
-      wrote = λ piece gives. record { written = Written-nil w e; tallies = record { accepted = accepted; refused = refused } };
+      wrote = record { written = Written-nil w e; tallies = record { accepted = accepted; refused = refused } };
       sound = refl;
       few = omega arith;
       near = omega arith;
@@ -76,7 +77,7 @@ is-event s s' (Frame offset octets) ends not_done = ends.2
 is-event s s' (Stray offset cause) ends not_done = tt
 is-event s s' Done ends not_done = not_done refl
 
-goes-on : (s s' : FinderModel) (event : Event) → LeavesFinder s s' (Ok event) → IsEvent event → (s'.fault ≡ None) × (s.at < s'.at)
+pub goes-on : (s s' : FinderModel) (event : Event) → LeavesFinder s s' (Ok event) → IsEvent event → (s'.fault ≡ None) × (s.at < s'.at)
 goes-on s s' (Frame offset octets) ends some = (ends.0, ends.1)
 goes-on s s' (Stray offset cause) ends some = (ends.0, ends.1)
 goes-on s s' Done ends some = absurd some
@@ -159,7 +160,7 @@ done-cut pieces left left' w w' e e' unflushed bs tally done =
       all = λ whole _. (done.all whole).1;
       end = done.end;
       written = whole-part w w' w' e e' e' all [] all refl refl (sym (append-nil all)) done.certain;
-      flushed = λ _. ((λ whole. (done.all whole).0), done.written);
+      flushed = λ _. done.certain;
     }
 
 some-none : (p : Piece) → Some p ≡ None → ⊥
@@ -173,13 +174,13 @@ cut-by piece left left' w w' e e' unflushed early bs takes Write stops cut some 
 cut-by piece left left' w w' e e' unflushed early bs takes InputTooLong stops cut some = absurd stops
 cut-by piece left left' w w' e e' unflushed early bs takes Memory stops cut some = (cut, (λ _ none. absurd (some none)), λ stops. absurd (false≢true stops))
 
-module _ (is_piece : StreamEvent → Piece → Type 0) (left mid left' : Option (List ℕ)) (reads reads1 reads2 : ℕ) (w w1 e e1 : Option (List ℕ)) (s s' : FinderModel) (tally : Tally) (result : Result Event RunFault)
-    (ran : Ran is_piece left mid reads reads1 w w1 e e1 s tally) (next : ReturnsNextEvent mid left' reads1 reads2 s s' result) where
+module _ (piece : StreamEvent → Piece) (left mid left' : Option (List ℕ)) (reads reads1 reads2 : ℕ) (w w1 e e1 : Option (List ℕ)) (s s' : FinderModel) (tally : Tally) (result : Result Event RunFault)
+    (ran : Ran piece left mid reads reads1 w w1 e e1 s tally) (next : ReturnsNextEvent mid left' reads1 reads2 s s' result) where
   -- an event was reported and counted
   pub turn : (w2 e2 : Option (List ℕ)) (verdict : Verdict) (tally' : Tally) (event : Event) → result ≡ Ok event → IsEvent event
-      → ((piece : StreamEvent → Piece) → GivesPieces is_piece piece → LeavesPieces w1 w2 e1 e2 (map piece (events_of event)) (Ok verdict))
+      → (LeavesPieces w1 w2 e1 e2 (map piece (events_of event)) (Ok verdict))
       → tally' ≡ tally_after tally verdict → tally'.accepted + tally'.refused ≡ tally.accepted + tally.refused + 1
-      → Ran is_piece left left' reads reads2 w w2 e e2 s' tally'
+      → Ran piece left left' reads reads2 w w2 e e2 s' tally'
   turn w2 e2 verdict tally' event is some reports counts one =
       let steps = rw is at next.steps in
       let on = goes-on s s' event (rw is at next.ends) some in record {
@@ -187,62 +188,16 @@ module _ (is_piece : StreamEvent → Piece → Type 0) (left mid left' : Option 
         events = ran.events ++ events_of event;
         step = ReadsAndPasses-then left mid left' s s' ran.octets steps.0 ran.events (events_of event) ran.step steps.1;
         counts = CountsReads-then reads reads1 reads2 s s' ran.counts next.counts;
-        wrote = λ piece gives. reported-then piece w w1 w2 e e1 e2 tally tally' verdict ran.events (events_of event) (ran.wrote piece gives) (reports piece gives) counts;
+        wrote = reported-then piece w w1 w2 e e1 e2 tally tally' verdict ran.events (events_of event) ran.wrote reports counts;
         sound = on.0;
         few = omega (arith, ran.few, on.1, one);
         near = next.near;
       }
 
-  -- the finder stopped
-  pub stop-next : (unflushed : Type 0) → unflushed → (f : RunFault) (r : Result Tally RunFault) → result ≡ Err f → r ≡ Err f
-      → (bs : List ℕ) × ((piece : StreamEvent → Piece) → GivesPieces is_piece piece → LeavesRun (event_pieces piece) left left' w w1 e e1 unflushed (ReadsFewer reads reads2) bs r)
-  stop-next unflushed kept f r is same =
-      let steps = rw is at next.steps in
-      let ends = rw is at next.ends in
-      let bs = ran.octets ++ steps.0 in
-      let step = ReadsAndPasses-then left mid left' s s' ran.octets steps.0 ran.events [] ran.step steps.1 in (
-        bs,
-        λ piece gives.
-            rw same (by piece (ran.wrote piece gives).written bs step f (ends.1 ran.sound)),
-      )
-    where
-      fewer : s'.reads < max_reads → ReadsFewer reads reads2
-      fewer few =
-          let counts = CountsReads-then reads reads1 reads2 s s' ran.counts next.counts in
-          let e : s'.reads - 0 ≡ s'.reads = omega arith in
-          (s'.reads, few, counts.made ∙ ap (counted reads) e)
-
-      opens : (piece : StreamEvent → Piece) (bs : List ℕ) → ReadsAndPasses left left' new_finder s' bs (ran.events ++ []) → (g : RunFault) → IsUndecided s' g → map piece (open_scan bs) ≡ map piece ran.events
-      opens piece bs step g so =
-          ap (map piece) (events-are-open bs s'.rest (ran.events ++ []) s'.at (rw so.1 at step.advances) (so.2 s'.at) ∙ append-nil ran.events)
-
-      stopped : (piece : StreamEvent → Piece) → WritesPieces w w1 e e1 (map piece ran.events) → (bs : List ℕ) → ReadsAndPasses left left' new_finder s' bs (ran.events ++ []) → (g : RunFault) → IsUndecided s' g
-          → RunStopped (event_pieces piece) left left' w w1 e e1 bs
-      stopped piece written bs step g so =
-          record { read = step.read; written = rw (opens piece bs step g so) written; accepted = λ stops. absurd (false≢true stops) }
-
-      cut : (piece : StreamEvent → Piece) → WritesPieces w w1 e e1 (map piece ran.events) → (bs : List ℕ) → ReadsAndPasses left left' new_finder s' bs (ran.events ++ []) → (g : RunFault) → IsUndecided s' g
-          → RunCut (event_pieces piece) left left' w w1 e e1 unflushed bs
-      cut piece written bs step g so = record {
-        read = step.read;
-        ended = false;
-        all = λ _ end. absurd (false≢true end);
-        end = λ end. absurd (false≢true end);
-        written = whole-part w w1 w1 e e1 e1 (map piece ran.events) [] _ refl refl (opens piece bs step g so ∙ sym (append-nil (map piece ran.events))) written;
-        flushed = λ not. absurd (not kept);
-      }
-
-      by : (piece : StreamEvent → Piece) → WritesPieces w w1 e e1 (map piece ran.events) → (bs : List ℕ) → ReadsAndPasses left left' new_finder s' bs (ran.events ++ []) → (g : RunFault) → StopsFinder s s' g
-          → LeavesRun (event_pieces piece) left left' w w1 e e1 unflushed (ReadsFewer reads reads2) bs (Err g)
-      by piece written bs step Read so = stopped piece written bs step Read so
-      by piece written bs step InputTooLong so = stopped piece written bs step InputTooLong so.0
-      by piece written bs step Write so = absurd so
-      by piece written bs step Memory so = (cut piece written bs step Memory so.0, (λ _ _. fewer so.1), λ stops. absurd (false≢true stops))
-
   -- the telling of an event was stopped
   pub stop-report : (unflushed : Type 0) → unflushed → (w2 e2 : Option (List ℕ)) (event : Event) (takes : Bool) (write_event : Result Verdict RunFault) (f : RunFault) (r : Result Tally RunFault) → result ≡ Ok event → IsEvent event
-      → ((piece : StreamEvent → Piece) → GivesPieces is_piece piece → LeavesPieces w1 w2 e1 e2 (map piece (events_of event)) write_event) → StopsPiece takes write_event → write_event ≡ Err f → r ≡ Err f
-      → (bs : List ℕ) × ((piece : StreamEvent → Piece) → GivesPieces is_piece piece → LeavesRun (event_pieces piece) left left' w w2 e e2 unflushed (ReadsFewer reads reads2) bs r)
+      → (LeavesPieces w1 w2 e1 e2 (map piece (events_of event)) write_event) → StopsPiece takes write_event → write_event ≡ Err f → r ≡ Err f
+      → (bs : List ℕ) × (LeavesRun (event_pieces piece) left left' w w2 e e2 unflushed (ReadsFewer reads reads2) bs r)
   stop-report unflushed kept w2 e2 event takes write_event f r is some reports stops fails same =
       let steps = rw is at next.steps in
       let bs = ran.octets ++ steps.0 in
@@ -251,8 +206,7 @@ module _ (is_piece : StreamEvent → Piece → Type 0) (left mid left' : Option 
       let rest = prefix.0 in
       let one = reported-one event some in (
         bs,
-        λ piece gives.
-            let lines = rw fails at (reports piece gives) in
+        let lines = rw fails at reports in
             rw same (cut-by piece left left' w w2 e e2 unflushed (ReadsFewer reads reads2) bs takes f (rw fails at stops) (record {
               read = step.read;
               ended = s'.ended;
@@ -268,7 +222,7 @@ module _ (is_piece : StreamEvent → Piece → Type 0) (left mid left' : Option 
                     ∙ ap (λ l. map piece ran.events ++ (map piece l ++ map piece rest)) one.1;
                 between_output = w1;
                 between_errors = e1;
-                whole = (ran.wrote piece gives).written;
+                whole = ran.wrote.written;
                 output = rw one.1 at lines.0;
                 errors = rw one.1 at lines.1;
               };
@@ -278,7 +232,7 @@ module _ (is_piece : StreamEvent → Piece → Type 0) (left mid left' : Option 
 
   -- all was read and written, and then flushed
   module _ (is : result ≡ Ok Done) (w2 e2 : Option (List ℕ)) (kept_w : Keeps w1 w2) (kept_e : Keeps e1 e2) where
-    pub flushed : (bs : List ℕ) × ((piece : StreamEvent → Piece) → GivesPieces is_piece piece → RunDone (event_pieces piece) left left' w w2 e e2 bs tally)
+    pub flushed : (bs : List ℕ) × (RunDone (event_pieces piece) left left' w w2 e e2 bs tally)
     flushed =
         let steps = rw is at next.steps in
         let done = (rw is at next.ends).1 in
@@ -286,8 +240,7 @@ module _ (is_piece : StreamEvent → Piece → Type 0) (left mid left' : Option 
         let step = ReadsAndPasses-then left mid left' s s' ran.octets steps.0 ran.events [] ran.step steps.1 in
         let all : scan bs ≡ ran.events = whole-scan s'.ended bs s'.rest (ran.events ++ []) s'.at step.advances ∙ ap (λ l. (ran.events ++ []) ++ l) (done.1 s'.at) ∙ append-nil (ran.events ++ []) ∙ append-nil ran.events in (
           bs,
-          λ piece gives.
-              let before = ran.wrote piece gives in
+          let before = ran.wrote in
               let W : List StreamEvent → Type 0 = λ l. WritesPieces w w2 e e2 (map piece l) in
               let T : List StreamEvent → Type 0 = λ l. Tallies tally (map piece l) in
               let end = step.end (λ end. absurd (false≢true end)) done.0 in
@@ -305,12 +258,95 @@ module _ (is_piece : StreamEvent → Piece → Type 0) (left mid left' : Option 
 
     -- a flush failed
     pub stop-flush : (unflushed : Type 0) (f : RunFault) (r : Result Tally RunFault) → f ≡ Write → r ≡ Err f
-        → (bs : List ℕ) × ((piece : StreamEvent → Piece) → GivesPieces is_piece piece → LeavesRun (event_pieces piece) left left' w w2 e e2 unflushed (ReadsFewer reads reads2) bs r)
+        → (bs : List ℕ) × (LeavesRun (event_pieces piece) left left' w w2 e e2 unflushed (ReadsFewer reads reads2) bs r)
     stop-flush unflushed f r write same = (
       flushed.0,
-      λ piece gives.
-          rw (same ∙ ap Err write) (done-cut (event_pieces piece) left left' w w2 e e2 unflushed flushed.0 tally (flushed.1 piece gives)),
+      rw (same ∙ ap Err write) (done-cut (event_pieces piece) left left' w w2 e e2 unflushed flushed.0 tally flushed.1),
     )
+
+-- ---- A read of a run, before which what was written may be handed on.
+
+module _ (piece : StreamEvent → Piece) (left mid : Option (List ℕ)) (reads reads1 : ℕ) (w w1 e e1 : Option (List ℕ)) (s s1 : FinderModel) (tally : Tally)
+    (ran : Ran piece left mid reads reads1 w w1 e e1 s tally) (needs : NeedsRead s s1) (w2 e2 : Option (List ℕ)) (kept_w : Keeps w1 w2) (kept_e : Keeps e1 e2) where
+  step : ReadsAndPasses left mid new_finder s1 ran.octets ran.events
+  step =
+      let A : List ℕ → List StreamEvent → Type 0 = λ bs es. ReadsAndPasses left mid new_finder s1 bs es in
+      let B : List ℕ → Type 0 = λ bs. A bs ran.events in
+      let C : List StreamEvent → Type 0 = λ es. A (ran.octets ++ []) es in
+      subst B (append-nil ran.octets) (subst C (append-nil ran.events) (ReadsAndPasses-then left mid mid s s1 ran.octets [] ran.events [] ran.step (needs.passes mid)))
+
+  certain : open_scan ran.octets ≡ ran.events
+  certain = events-are-open ran.octets s1.rest ran.events s1.at (rw needs.going at step.advances) (needs.none s1.at)
+
+  written : WritesPieces w w2 e e2 (map piece ran.events)
+  written = written-kept w w1 w2 e e1 e2 (map piece ran.events) kept_w kept_e ran.wrote.written
+
+  -- a flush failed: all that was certain stands
+  pub stop-hand-on : (unflushed early : Type 0) (f : RunFault) (r : Result Tally RunFault) → f ≡ Write → r ≡ Err f
+      → (bs : List ℕ) × (LeavesRun (event_pieces piece) left mid w w2 e e2 unflushed early bs r)
+  stop-hand-on unflushed early f r write same = (ran.octets, rw (same ∙ ap Err write) (cut written))
+    where
+      cut : WritesPieces w w2 e e2 (map piece ran.events) → RunCut (event_pieces piece) left mid w w2 e e2 unflushed ran.octets
+      cut so = record {
+        read = step.read;
+        ended = false;
+        all = λ _ end. absurd (false≢true end);
+        end = λ end. absurd (false≢true end);
+        written = whole-part w w2 w2 e e2 e2 (map piece ran.events) [] _ refl refl (ap (map piece) certain ∙ sym (append-nil (map piece ran.events))) so;
+        flushed = λ _. rw (ap (map piece) certain) so;
+      }
+
+  module _ (left' : Option (List ℕ)) (reads2 : ℕ) (s2 : FinderModel) (result : Result (Unit {0}) RunFault) (bs : List ℕ) (more : ReadsMore mid left' s1 s2 result bs) (made : AddsReads reads1 reads2 s1.reads s2.reads) where
+    on : ReadsAndPasses left left' new_finder s2 (ran.octets ++ bs) ran.events
+    on = read-step left mid new_finder s1 s2 ran.octets ran.events left' result bs step needs.going (record { fills = more.fills; at = more.at; fault = more.fault; longest = more.longest })
+
+    pub read-counts : AddsReads reads reads2 new_finder.reads s2.reads
+    read-counts = CountsReads-then reads reads1 reads2 s s2 ran.counts (let A : ℕ → Type 0 = λ n. AddsReads reads1 reads2 n s2.reads in subst A needs.reads made)
+
+    -- more octets came
+    pub read-on : (u : Unit {0}) → result ≡ Ok u → Ran piece left left' reads reads2 w w2 e e2 s2 tally
+    read-on u ok = record {
+      octets = ran.octets ++ bs;
+      events = ran.events;
+      step = on;
+      counts = read-counts;
+      wrote = record { written = written; tallies = ran.wrote.tallies };
+      sound = rw ok at more.fault;
+      few = omega (arith, ran.few, (needs.passes mid).follows.offset, more.at);
+      near = omega (arith, needs.near, more.at);
+    }
+
+    -- the read failed, or was not made
+    pub stop-read : (unflushed : Type 0) → unflushed → (f : RunFault) (r : Result Tally RunFault) → result ≡ Err f → r ≡ Err f
+        → (octets : List ℕ) × (LeavesRun (event_pieces piece) left left' w w2 e e2 unflushed (ReadsFewer reads reads2) octets r)
+    stop-read unflushed kept f r is same = (ran.octets ++ bs, rw same (by written f (rw is at more.fills.ends)))
+      where
+        fewer : s2.reads < max_reads → ReadsFewer reads reads2
+        fewer few = let n : s2.reads - 0 ≡ s2.reads = omega arith in (s2.reads, few, read-counts.made ∙ ap (counted reads) n)
+
+        opens : (bs ≡ []) → s2.ended ≡ false → open_scan (ran.octets ++ bs) ≡ ran.events
+        opens none open' =
+            events-are-open (ran.octets ++ bs) s2.rest ran.events s2.at (rw open' at on.advances) (rw (more.fills.held ∙ ap (λ l. s1.rest ++ l) none ∙ append-nil s1.rest) (needs.none s2.at))
+
+        stopped : WritesPieces w w2 e e2 (map piece ran.events) → open_scan (ran.octets ++ bs) ≡ ran.events → RunStopped (event_pieces piece) left left' w w2 e e2 (ran.octets ++ bs)
+        stopped so open' = record { read = on.read; written = rw (ap (map piece) open') so; accepted = λ stops. absurd (false≢true stops) }
+
+        cut : WritesPieces w w2 e e2 (map piece ran.events) → open_scan (ran.octets ++ bs) ≡ ran.events → RunCut (event_pieces piece) left left' w w2 e e2 unflushed (ran.octets ++ bs)
+        cut so open' = record {
+          read = on.read;
+          ended = false;
+          all = λ _ end. absurd (false≢true end);
+          end = λ end. absurd (false≢true end);
+          written = whole-part w w2 w2 e e2 e2 (map piece ran.events) [] _ refl refl (ap (map piece) open' ∙ sym (append-nil (map piece ran.events))) so;
+          flushed = λ not. absurd (not kept);
+        }
+
+        by : WritesPieces w w2 e e2 (map piece ran.events) → (g : RunFault) → (bs ≡ []) × (s2.ended ≡ false) × FillFails (s1.room < 2 * max 4096 s1.longest) (input_left s1) (input_left s2) g
+            → LeavesRun (event_pieces piece) left left' w w2 e e2 unflushed (ReadsFewer reads reads2) (ran.octets ++ bs) (Err g)
+        by so Read ends = stopped so (opens ends.0 ends.1)
+        by so Write ends = absurd ends.2
+        by so InputTooLong ends = stopped so (opens ends.0 ends.1)
+        by so Memory ends = (cut so (opens ends.0 ends.1), (λ _ _. fewer ends.2.1), λ stops. absurd (false≢true stops))
 
 nothing-more : (bs t : List ℕ) → bs ≡ bs ++ t → t ≡ []
 nothing-more bs [] is = refl
@@ -331,19 +367,19 @@ pub run-reads : {X : Type 0} (takes : Bool) (reads reads' : ℕ) (s : FinderMode
 run-reads false reads reads' s r counts long wanted = let e : s.reads - 0 ≡ s.reads = omega arith in (s.reads, counts.most, counts.made ∙ ap (counted reads) e, long, wanted refl)
 run-reads true reads reads' s r counts long wanted = let e : s.reads - 0 ≡ s.reads = omega arith in (s.reads, counts.most, counts.made ∙ ap (counted reads) e, long)
 
--- where the finder stopped
-pub run-reads-stop : (takes : Bool) (reads mid reads' : ℕ) (mid_left left' : Option (List ℕ)) (s s' : FinderModel) (result : Result Event RunFault) (f : RunFault) (r : Result Tally RunFault)
-    → AddsReads reads mid new_finder.reads s.reads → ReturnsNextEvent mid_left left' mid reads' s s' result → s.fault ≡ None → result ≡ Err f → r ≡ Err f → RunReads takes reads reads' r
-run-reads-stop takes reads mid reads' mid_left left' s s' result f r before next sound is same =
-    run-reads takes reads reads' s' r (CountsReads-then reads mid reads' s s' before next.counts)
+-- where a read failed, or was not made
+pub run-reads-stop : (takes : Bool) (reads reads' : ℕ) (mid left' : Option (List ℕ)) (s1 s2 : FinderModel) (result : Result (Unit {0}) RunFault) (bs : List ℕ) (f : RunFault) (r : Result Tally RunFault)
+    → AddsReads reads reads' new_finder.reads s2.reads → ReadsMore mid left' s1 s2 result bs → result ≡ Err f → r ≡ Err f → RunReads takes reads reads' r
+run-reads-stop takes reads reads' mid left' s1 s2 result bs f r counts more is same =
+    run-reads takes reads reads' s2 r counts
     (λ long.
     let f_is : f ≡ InputTooLong = cc in
-    let stops = (rw (is, f_is) at next.ends).1 sound in
-    stops.1)
+    let ends = rw (is, f_is) at more.fills.ends in
+    ends.2.1)
     (λ none wanted.
     let f_is : f ≡ Memory = cc in
-    let stops = (rw (is, f_is) at next.ends).1 sound in
-    stops.1)
+    let ends = rw (is, f_is) at more.fills.ends in
+    ends.2.1)
 
 -- where the telling of an event was stopped
 pub run-reads-report : (takes : Bool) (reads reads' : ℕ) (s : FinderModel) (f : RunFault) (r : Result Tally RunFault) → AddsReads reads reads' new_finder.reads s.reads → StopsPiece takes (Err f) → r ≡ Err f → RunReads takes reads reads' r
@@ -373,13 +409,13 @@ fails-then f f1 f2 n n1 n2 before (inl more) = inl (more.0 ∙ ap (λ k. counted
 fails-then f f1 f2 n n1 n2 before (inr more) = inr (more.0 ∙ before.0, more.1 ∙ ap (λ k. counted k 1) before.1)
 
 -- the writers' counts, where the telling of an event was stopped
-pub blames-report : {a b c d a' b' c' d' : Type 0} (write_event : Result Verdict RunFault) (f : RunFault) (r : Result Tally RunFault) → write_event ≡ Err f → r ≡ Err f
+pub blames-report : {X a b c d a' b' c' d' : Type 0} (write_event : Result X RunFault) (f : RunFault) (r : Result Tally RunFault) → write_event ≡ Err f → r ≡ Err f
     → (a → a') → (b → b') → (c → c') → (d → d') → Blames write_event a b c d → Blames r a' b' c' d'
-blames-report {a} {b} {c} {d} {a'} {b'} {c'} {d'} write_event f r is same go_a go_b go_c go_d blames =
+blames-report {X} {a} {b} {c} {d} {a'} {b'} {c'} {d'} write_event f r is same go_a go_b go_c go_d blames =
     let B' : Result Tally RunFault → Type 0 = λ x. Blames x a' b' c' d' in
     subst B' (sym same) (by f (rw is at blames))
   where
-    by : (g : RunFault) → Blames {X = Verdict} (Err g) a b c d → Blames {X = Tally} (Err g) a' b' c' d'
+    by : (g : RunFault) → Blames {X = X} (Err g) a b c d → Blames {X = Tally} (Err g) a' b' c' d'
     by Read (x, y) = (go_a x, go_c y)
     by InputTooLong (x, y) = (go_a x, go_c y)
     by Memory (x, y) = (go_a x, go_c y)
@@ -388,26 +424,14 @@ blames-report {a} {b} {c} {d} {a'} {b'} {c'} {d'} write_event f r is same go_a g
 
 -- ---- What comes of a job, from what its run answers.
 
--- a run leaves the same by each of the pieces that it may have
-abbrev pub RunsEach : (may_be : RunPieces → Type 0) → (from to : Input) → (before after : Writers) → Result Tally RunFault → Type 0
-RunsEach may_be from to before after ran = (bs : List ℕ) × ((pieces : RunPieces) → may_be pieces → RunsPieces pieces from to before after bs ran)
-
-pub each-gives : (gives : (StreamEvent → Piece) → Type 0) (from to : Input) (before after : Writers) (ran : Result Tally RunFault)
-    → ((bs : List ℕ) × ((piece : StreamEvent → Piece) → gives piece → RunsPieces (event_pieces piece) from to before after bs ran)) → RunsEach (λ pieces. (piece : StreamEvent → Piece) × gives piece × (pieces ≡ event_pieces piece)) from to before after ran
-each-gives gives from to before after ran run = (run.0, λ pieces so. subst (λ p. RunsPieces p from to before after run.0 ran) (sym so.2) (run.1 so.0 so.1))
-
-pub each-is : (pieces : RunPieces) (from to : Input) (before after : Writers) (ran : Result Tally RunFault)
-    → ((bs : List ℕ) × RunsPieces pieces from to before after bs ran) → RunsEach (λ p. p ≡ pieces) from to before after ran
-each-is pieces from to before after ran run = (run.0, λ p is. subst (λ q. RunsPieces q from to before after run.0 ran) (sym is) run.1)
-
--- what a run leaves, by what it leaves by each of its pieces
-pub leaves-devices : (may_be : RunPieces → Type 0) (from to : Input) (before after : Writers) (ran : Result Tally RunFault)
-    → RunsEach may_be from to before after ran → (after.errors.flushes ≢ before.errors.flushes → after.output.all_flushed ≡ true) → OnOk ran ((after.output.all_flushed ≡ true) × (after.errors.all_flushed ≡ true))
-    → (to.failures ≡ read_failures_after from.failures ran) × ReadsAtMost from.reads to.reads ran → BlamesWriter before after ran → LeavesDevices may_be from to before after ran
-leaves-devices may_be from to before after ran run order flushed input writers = record {
+-- what a run leaves
+pub leaves-devices : (pieces : RunPieces) (from to : Input) (before after : Writers) (ran : Result Tally RunFault)
+    → (bs : List ℕ) × RunsPieces pieces from to before after bs ran → (after.errors.failed_flushes ≢ before.errors.failed_flushes → after.output.all_flushed ≡ true) → HandsOn ran (AllHandedOn after)
+    → (to.failures ≡ read_failures_after from.failures ran) × ReadsAtMost from.reads to.reads ran → BlamesWriter before after ran → LeavesDevices pieces from to before after ran
+leaves-devices pieces from to before after ran run order flushed input writers = record {
   octets = run.0;
   run = run.1;
-  whole = λ pieces is. all-known pieces from.left to.left before.output.taken after.output.taken before.errors.taken after.errors.taken ((after.output.flushes ≡ before.output.flushes) × (after.errors.flushes ≡ before.errors.flushes)) (ReadsFewer from.reads to.reads) ran (run.0, run.1 pieces is);
+  whole = all-known pieces from.left to.left before.output.taken after.output.taken before.errors.taken after.errors.taken ((after.output.failed_flushes ≡ before.output.failed_flushes) × (after.errors.failed_flushes ≡ before.errors.failed_flushes)) (ReadsFewer from.reads to.reads) ran run;
   order = order;
   flushed = flushed;
   failures = input.0;
@@ -416,9 +440,9 @@ leaves-devices may_be from to before after ran run order flushed input writers =
 }
 
 -- a run over the octets of its input, and then the flush of the rest
-pub ends-run : (may_be : RunPieces → Type 0) (octets : Option (List ℕ)) (from to : Input) (before between after : Writers) (ran ran' : Result Tally RunFault)
-    → LeavesDevices may_be from to before between ran → ran' ≡ ran → FlushesRest between.output after.output ran → after.errors ≡ between.errors → from.left ≡ octets → EndsRun may_be octets before after ran'
-ends-run may_be octets from to before between after ran ran' leaves same rest errors known = rw same (Ended from to known between leaves rest errors)
+pub ends-run : (pieces : RunPieces) (octets : Option (List ℕ)) (from to : Input) (before between after : Writers) (ran ran' : Result Tally RunFault)
+    → LeavesDevices pieces from to before between ran → ran' ≡ ran → FlushesRest between.output after.output ran → after.errors ≡ between.errors → from.left ≡ octets → EndsRun pieces octets before after ran'
+ends-run pieces octets from to before between after ran ran' leaves same rest errors known = rw same (Ended from to known between leaves rest errors)
 
 -- a fault of reading an input whole
 pub read-fault : (left left' : Option (List ℕ)) (fault : RunFault) (bs : List ℕ) → ReadsAll left left' (Err fault) bs → fault ≡ Write → ⊥
@@ -429,3 +453,40 @@ pub help-in-part : (text : List ℕ) (before after : Writers) (status : ℕ) (fa
     → WritesLine before.errors after.errors (run_line fault) → status ≡ 2 → WritesHelp text before after status
 help-in-part text before after status fault writes counts line is =
     InPart writes.1 counts (rw writes.0 at line) is
+
+-- ---- The other clauses of a run, at each way to stop.
+
+-- a count of failures goes by the fault, whatever else the answer might have been
+pub failures-as : {X Y : Type 0} (a b c : ℕ) (r : Result X RunFault) (r' : Result Y RunFault) (f : RunFault) → r ≡ Err f → r' ≡ Err f → a ≡ read_failures_after b r → b ≡ c → a ≡ read_failures_after c r'
+failures-as {X} {Y} a b c r r' f is is' e same = rw is' (subst (λ n. a ≡ read_failures_after {X = Y} n (Err f)) same (by f (rw is at e)))
+  where
+    by : (g : RunFault) → a ≡ read_failures_after {X = X} b (Err g) → a ≡ read_failures_after {X = Y} b (Err g)
+    by Read e = e
+    by Write e = e
+    by InputTooLong e = e
+    by Memory e = e
+
+-- a read stops a run by no fault of a write
+pub not-write : (mid left' : Option (List ℕ)) (s1 s2 : FinderModel) (result : Result (Unit {0}) RunFault) (bs : List ℕ) (f : RunFault) → ReadsMore mid left' s1 s2 result bs → result ≡ Err f → f ≢ Write
+not-write mid left' s1 s2 result bs f more is write =
+    let ends = rw (is, write) at more.fills.ends in
+    ends.2
+
+pub blames-stays : {a c : Type 0} (b d : Type 0) (f : RunFault) (r : Result Tally RunFault) → r ≡ Err f → f ≢ Write → a → c → Blames r a b c d
+blames-stays {a} {c} b d f r is not x y = let B : Result Tally RunFault → Type 0 = λ q. Blames q a b c d in subst B (sym is) (by f not)
+  where
+    by : (g : RunFault) → g ≢ Write → Blames {X = Tally} (Err g) a b c d
+    by Read not = (x, y)
+    by Write not = absurd (not refl)
+    by InputTooLong not = (x, y)
+    by Memory not = (x, y)
+
+-- where a read failed all was handed on
+pub hands-on : {all : Type 0} (f : RunFault) (r : Result Tally RunFault) → r ≡ Err f → (f ≡ Read → all) → HandsOn r all
+hands-on {all} f r is so = let H : Result Tally RunFault → Type 0 = λ q. HandsOn q all in subst H (sym is) (by f so)
+  where
+    by : (g : RunFault) → (g ≡ Read → all) → HandsOn {X = Tally} (Err g) all
+    by Read so = so refl
+    by Write so = tt
+    by InputTooLong so = tt
+    by Memory so = tt

@@ -1,14 +1,14 @@
 -- How a run of the program ended, what is flushed after it, its last line, and its exit status. (a
 -- choice of this project)
 -- Cited by public contracts.
-use Rattle.std.specs.Prelude.{◌≡◌, ◌⊎◌, ◌<◌, ◌-◌, ◌^◌, ℕ, true, List, Option, Result, Ok, Err, IfSome, IfOk, OnOk, ◌≢◌, if◌then◌else◌, ◌==◌, [], ◌∷◌, ◌++◌, codes, decimal}
+use Rattle.std.specs.Prelude.{◌≡◌, ◌⊎◌, ◌<◌, ◌-◌, ◌^◌, ℕ, true, List, Option, Result, Ok, Err, IfSome, IfOk, ◌≢◌, if◌then◌else◌, ◌==◌, [], ◌∷◌, ◌++◌, codes, decimal}
 use Rattle.std.specs.Io.KnownBytes.{Appends, Keeps}
 use Rattle.bufr_bits.specs.Prelude.{counted}
 use Rattle.bufr_frame.specs.Prelude.{read_failures_after, run_report}
 use Rattle.bufr_frame.specs.declared.fault.RunFault.{RunFault}
-use Rattle.bufr_frame.specs.declared.fault.RunFault.TheVariants.{Write, Memory}
+use Rattle.bufr_frame.specs.declared.fault.RunFault.TheVariants.{Read, Write, Memory}
 use Rattle.bufr_text.specs.Prelude.{GrowsByPrefix, joined}
-use Rattle.bufr_cli.specs.Running.{BlamesWriter, IsSame, Input, Writer, Writers, ReadsAtMost, RunPieces, RunsPieces, WritesAndCounts}
+use Rattle.bufr_cli.specs.Running.{HandsOn, AllHandedOn, BlamesWriter, IsSame, Input, Writer, Writers, ReadsAtMost, RunPieces, RunsPieces, WritesAndCounts}
 use Rattle.bufr_cli.specs.declared.outcome.Tally.{Tally}
 use Rattle.bufr_tables.specs.Prelude.{table_report}
 use Rattle.bufr_tables.specs.declared.fault.TableFault.{TableFault}
@@ -16,15 +16,19 @@ use Rattle.bufr_tables.specs.declared.fault.TableFault.TheVariants as table
 use Rattle.bufr_cli.specs.declared.outcome.Outcome.{Outcome}
 use Rattle.bufr_cli.specs.declared.outcome.Outcome.TheVariants.{Ran, Usage, CannotOpen, TableB, TableD, Run}
 
--- after a fault other than of a write the output is flushed once, which may fail
+-- after want of memory, or of reads, the output is flushed once, which may fail; a read that failed
+-- came after all was handed on
 abbrev pub FlushesRest : {X : Type 0} → (before after : Writer) → Result X RunFault → Type 0
 FlushesRest before after (Ok x) = after ≡ before
+FlushesRest before after (Err Read) = after ≡ before
 FlushesRest before after (Err Write) = after ≡ before
 FlushesRest before after (Err fault) =
-    Keeps before.taken after.taken × (after.flushes ≡ counted before.flushes 1)
-    × (after.empty_writes ≡ before.empty_writes)
-    × (((after.failures ≡ before.failures) × (after.all_flushed ≡ true))
-    ⊎ ((after.failures ≡ counted before.failures 1) × (after.all_flushed ≡ before.all_flushed)))
+    Keeps before.taken after.taken × (after.empty_writes ≡ before.empty_writes)
+    × (((after.failures ≡ before.failures) × (after.failed_flushes ≡ before.failed_flushes)
+    × (after.all_flushed ≡ true))
+    ⊎ ((after.failures ≡ counted before.failures 1)
+    × (after.failed_flushes ≡ counted before.failed_flushes 1)
+    × (after.all_flushed ≡ before.all_flushed)))
 
 -- a writer gains a prefix of a line, and all of it where no call of it failed or took nothing
 abbrev pub WritesLine : (before after : Writer) → (line : List ℕ) → Type 0
@@ -33,31 +37,30 @@ WritesLine before after line =
     × (before.failures < 2 ^ 64 - 1 → before.empty_writes < 2 ^ 64 - 1 → IsSame before after
     → Appends before.taken after.taken line)
 
--- What a run leaves of its devices, whichever pieces it may have. At its end all is handed on, the
--- errors only after the output. The input counts a read fault, a writer a write fault.
-pub record LeavesDevices (may_be : RunPieces → Type 0) (from to : Input) (before after : Writers)
+-- What a run with these pieces leaves of its devices. At its end all is handed on, the errors only
+-- after the output. The input counts a read fault, a writer a write fault.
+pub record LeavesDevices (pieces : RunPieces) (from to : Input) (before after : Writers)
     (result : Result Tally RunFault) : Type 0 where
   pub octets : List ℕ
-  pub run : (pieces : RunPieces) → may_be pieces
-      → RunsPieces pieces from to before after octets result
+  pub run : RunsPieces pieces from to before after octets result
   -- where the whole input is known, its pieces were written and counted
-  pub whole : (pieces : RunPieces) → may_be pieces → IfOk result
+  pub whole : IfOk result
       (λ tally. IfSome from.left (λ s. WritesAndCounts before after tally (pieces.whole s)))
-  pub order : after.errors.flushes ≢ before.errors.flushes → after.output.all_flushed ≡ true
-  pub flushed : OnOk result
-      ((after.output.all_flushed ≡ true) × (after.errors.all_flushed ≡ true))
+  pub order : after.errors.failed_flushes ≢ before.errors.failed_flushes
+      → after.output.all_flushed ≡ true
+  pub flushed : HandsOn result (AllHandedOn after)
   pub failures : to.failures ≡ read_failures_after from.failures result
   pub reads : ReadsAtMost from.reads to.reads result
   pub writers : BlamesWriter before after result
 
 -- How a run ended: memory was wanted before it began; or it left its devices, and then the rest.
-pub data EndsRun (may_be : RunPieces → Type 0) (octets : Option (List ℕ)) (before after : Writers)
+pub data EndsRun (pieces : RunPieces) (octets : Option (List ℕ)) (before after : Writers)
     (ran : Result Tally RunFault) : Type 0 where
-  WantsMemory : ran ≡ Err Memory → after ≡ before → EndsRun may_be octets before after ran
+  WantsMemory : ran ≡ Err Memory → after ≡ before → EndsRun pieces octets before after ran
   Ended : (from to : Input) → from.left ≡ octets → (between : Writers)
-      → LeavesDevices may_be from to before between ran
+      → LeavesDevices pieces from to before between ran
       → FlushesRest between.output after.output ran → after.errors ≡ between.errors
-      → EndsRun may_be octets before after ran
+      → EndsRun pieces octets before after ran
 
 -- a line of a fault without a place: what it is of, its number and its text
 abbrev pub last_fault_line : (name : List ℕ) → (report : ℕ × List (List ℕ)) → List ℕ

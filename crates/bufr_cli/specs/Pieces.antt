@@ -1,14 +1,13 @@
 -- What each command writes for an input, in order, and on which writer. (a choice of this project)
 -- Cited by public contracts.
-use Rattle.std.specs.Prelude.{ℕ, Bool, true, false, List, [], ◌∷◌, map, Result, Ok, Err, ◌≡◌}
-use Rattle.bufr_frame.specs.Prelude.{StreamEvent, FrameAt, StrayAt, scan, cause_report, section_report, Sections, sections_of}
-use Rattle.bufr_frame.specs.declared.fault.Cause.{Cause}
+use Rattle.std.specs.Prelude.{ℕ, Bool, true, false, List, [], ◌∷◌, map, Option, Some, None, Result, Ok, Err}
+use Rattle.bufr_frame.specs.Prelude.{StreamEvent, FrameAt, StrayAt, cause_report, section_report, Sections, sections_of}
 use Rattle.bufr_frame.specs.declared.fault.SectionFault.{SectionFault}
 use Rattle.bufr_text.specs.Prelude.{ls_line, dump_text_of, ParseResult, Complete, Refused, RefusedAt, encoding_in, dump_items}
 use Rattle.bufr_cli.specs.FaultLine.{fault_line, refused_line, refusal_line}
 use Rattle.bufr_tables.specs.Prelude.{tree_of, tables_of, template_report, Row, Sequence, Tree}
 use Rattle.bufr_tables.specs.declared.fault.TemplateFault.{TemplateFault}
-use Rattle.bufr_walk.specs.Prelude.{next_item, data_report, data_of, IsRefused, Values, IsReading}
+use Rattle.bufr_walk.specs.Prelude.{next_item, data_report, data_of, reading_of, values_of, fault_of}
 use Rattle.bufr_walk.specs.declared.fault.WalkFault.{WalkFault}
 use Rattle.bufr_text.specs.declared.encode.Form.{Form}
 
@@ -48,37 +47,36 @@ abbrev pub ls_piece : StreamEvent → Piece
 ls_piece (FrameAt offset octets) = ls_or_fault offset (sections_of octets)
 ls_piece (StrayAt offset cause) = OnErrors (fault_line offset (cause_report cause))
 
--- the text of a message whose data are read by a template, or the fault line of its data
+-- a text, or the fault line of data
 -- rule: refused-messages-write-nothing
-abbrev pub IsDataPiece : List Row → ℕ → Sections → Tree → Piece → Type 0
-IsDataPiece table offset s template (OnOutput text) =
-    (values : Values) × (used : ℕ) × IsReading (next_item table template) (data_of s) values used
-    × (text ≡ dump_text_of s (dump_items table s.subsets values))
-IsDataPiece table offset s template (OnErrors text) =
-    (why : WalkFault) × (turns : ℕ) × IsRefused (next_item table template) (data_of s) why turns
-    × (text ≡ fault_line offset (data_report why))
+abbrev pub text_or_fault : ℕ → Option WalkFault → (text : List ℕ) → Piece
+text_or_fault offset None text = OnOutput text
+text_or_fault offset (Some why) text = OnErrors (fault_line offset (data_report why))
+
+-- what is written for a message whose data are read by a template
+abbrev pub data_piece : List Row → ℕ → Sections → Tree → Piece
+data_piece table offset s template =
+    let r = reading_of (next_item table template) (data_of s) in
+    text_or_fault offset (fault_of (data_of s) r)
+    (dump_text_of s (dump_items table s.subsets (values_of r.passes)))
 
 -- what is written for a message, by the template of its descriptors, or by the fault of these
 -- rule: list-before-data
-abbrev pub IsTemplatePiece : List Row → ℕ → Sections → Result Tree TemplateFault → Piece → Type 0
-IsTemplatePiece table offset s (Ok template) piece = IsDataPiece table offset s template piece
-IsTemplatePiece table offset s (Err fault) piece =
-    piece ≡ OnErrors (fault_line offset (template_report fault))
+abbrev pub template_piece : List Row → ℕ → Sections → Result Tree TemplateFault → Piece
+template_piece table offset s (Ok template) = data_piece table offset s template
+template_piece table offset s (Err fault) = OnErrors (fault_line offset (template_report fault))
 
 -- what is written for a message, by its sections, or by the fault of these
-abbrev pub IsMessagePiece : List Row → List Sequence → ℕ
-    → Result Sections SectionFault → Piece → Type 0
-IsMessagePiece b d offset (Ok s) piece =
-    IsTemplatePiece b offset s (tree_of (tables_of b d) s.descriptors) piece
-IsMessagePiece b d offset (Err fault) piece =
-    piece ≡ OnErrors (fault_line offset (section_report fault))
+abbrev pub message_piece : List Row → List Sequence → ℕ → Result Sections SectionFault → Piece
+message_piece b d offset (Ok s) =
+    template_piece b offset s (tree_of (tables_of b d) s.descriptors)
+message_piece b d offset (Err fault) = OnErrors (fault_line offset (section_report fault))
 
 -- what `dump` writes for an event
 -- rule: one-fault-a-message
-abbrev pub IsDumpPiece : List Row → List Sequence → StreamEvent → Piece → Type 0
-IsDumpPiece b d (FrameAt offset octets) piece = IsMessagePiece b d offset (sections_of octets) piece
-IsDumpPiece b d (StrayAt offset cause) piece =
-    piece ≡ OnErrors (fault_line offset (cause_report cause))
+abbrev pub dump_piece : List Row → List Sequence → StreamEvent → Piece
+dump_piece b d (FrameAt offset octets) = message_piece b d offset (sections_of octets)
+dump_piece b d (StrayAt offset cause) = OnErrors (fault_line offset (cause_report cause))
 
 -- the octets of a document, or the line of its fault
 abbrev pub encoded : Result (List ℕ) RefusedAt → Piece

@@ -2,13 +2,12 @@
 -- Cited by public contracts.
 use Rattle.std.specs.Prelude.{◌≡◌, ◌≢◌, ◌⊎◌, ℕ, List, Option, Some, None, Result, Ok, Err, IfSome, true, string_bytes}
 use Rattle.std.specs.Borrow.{Bor}
-use Rattle.bufr_frame.specs.Prelude.{StreamEvent}
 use Rattle.bufr_frame.specs.declared.fault.RunFault.{RunFault}
 use Rattle.bufr_frame.specs.declared.fault.RunFault.TheVariants.{Write}
 use Rattle.bufr_tables.specs.Prelude.{ReadsTableD, Record, Sequence, records_of, ReturnsUnlessMemory, Row, table_b_of}
 use Rattle.bufr_tables.specs.declared.fault.TableFault.{TableFault}
-use Rattle.bufr_cli.specs.Running.{Writers, RunPieces, GivesPieces, event_pieces, document_pieces, HasFailed, IsSame}
-use Rattle.bufr_cli.specs.Pieces.{IsDumpPiece, Piece, ls_piece}
+use Rattle.bufr_cli.specs.Running.{Writers, RunPieces, event_pieces, document_pieces, HasFailed, IsSame}
+use Rattle.bufr_cli.specs.Pieces.{dump_piece, ls_piece}
 use Rattle.bufr_cli.specs.Ending.{EndsRun, WritesLine, last_line, run_line, status_of}
 use Rattle.bufr_cli.specs.declared.outcome.Outcome.{Outcome}
 use Rattle.bufr_cli.specs.declared.outcome.Outcome.TheVariants.{Ran, CannotOpen, TableB, TableD, Run}
@@ -41,17 +40,11 @@ abbrev pub input_octets : Known → (file : Option (Bor (List ℕ))) → Option 
 input_octets inputs None = inputs.standard
 input_octets inputs (Some name) = inputs.named name.now
 
--- the pieces of a dump by these tables, by whichever function gives them
-abbrev pub IsDump : List Row → List Sequence → RunPieces → Type 0
-IsDump b d pieces =
-    (piece : StreamEvent → Piece) × GivesPieces (IsDumpPiece b d) piece
-    × (pieces ≡ event_pieces piece)
-
--- those of a command whose tables were read
-abbrev pub IsOfCommand : Command → RunPieces → Type 0
-IsOfCommand command.Ls = λ pieces. pieces ≡ event_pieces ls_piece
-IsOfCommand (command.Dump b d) = IsDump b.now d.now
-IsOfCommand (command.Encode form b d) = λ pieces. pieces ≡ document_pieces form b.now d.now
+-- the pieces of a command whose tables were read
+abbrev pub command_pieces : Command → RunPieces
+command_pieces command.Ls = event_pieces ls_piece
+command_pieces (command.Dump b d) = event_pieces (dump_piece b.now d.now)
+command_pieces (command.Encode form b d) = document_pieces form b.now d.now
 
 -- the file of this name is not opened, and it was not known that it can be
 abbrev pub IsClosed : (named : List ℕ → Option (List ℕ)) → (name : Bor (List ℕ)) → Outcome → Type 0
@@ -63,13 +56,13 @@ ran_outcome (Ok tally) = Ran tally
 ran_outcome (Err fault) = Run fault
 
 -- What comes of a run: its input cannot be opened, and nothing was written; or the run ended.
-pub data RunOutcome (may_be : RunPieces → Type 0) (inputs : Known) (file : Option (Bor (List ℕ)))
+pub data RunOutcome (pieces : RunPieces) (inputs : Known) (file : Option (Bor (List ℕ)))
     (before after : Writers) (outcome : Outcome) : Type 0 where
   IsNotOpened : (name : Bor (List ℕ)) → file ≡ Some name → IsClosed inputs.named name outcome
-      → after ≡ before → RunOutcome may_be inputs file before after outcome
+      → after ≡ before → RunOutcome pieces inputs file before after outcome
   Runs : (ran : Result Tally RunFault) → outcome ≡ ran_outcome ran
-      → EndsRun may_be (input_octets inputs file) before after ran
-      → RunOutcome may_be inputs file before after outcome
+      → EndsRun pieces (input_octets inputs file) before after ran
+      → RunOutcome pieces inputs file before after outcome
 
 -- a table's file is not opened, or not read, by a fault that is none of a write; or it is at fault
 -- rule: table-not-read
@@ -107,19 +100,18 @@ pub data TablesOutcome (run : List Row → List Sequence → Outcome → Type 0)
   ByTables : (b : List Row) (d : List Sequence) → AreTables named tables b d → run b d outcome
       → TablesOutcome run named tables before after outcome
 
--- what comes of a command; there are pieces for a dump to write
+-- what comes of a command
 abbrev pub CommandOutcome : Known → Subcommand → (file : Option (Bor (List ℕ)))
     → (before after : Writers) → Outcome → Type 0
 CommandOutcome inputs Ls file before after outcome =
-    RunOutcome (λ pieces. pieces ≡ event_pieces ls_piece) inputs file before after outcome
+    RunOutcome (event_pieces ls_piece) inputs file before after outcome
 CommandOutcome inputs (Dump tables) file before after outcome =
-    TablesOutcome (λ b d ends. ((piece : StreamEvent → Piece)
-    × GivesPieces (IsDumpPiece b d) piece)
-    × RunOutcome (IsDump b d) inputs file before after ends)
+    TablesOutcome
+    (λ b d ends. RunOutcome (event_pieces (dump_piece b d)) inputs file before after ends)
     inputs.named tables before after outcome
 CommandOutcome inputs (Encode tables form) file before after outcome =
-    TablesOutcome (λ b d ends. RunOutcome (λ pieces. pieces ≡ document_pieces form b d)
-    inputs file before after ends)
+    TablesOutcome
+    (λ b d ends. RunOutcome (document_pieces form b d) inputs file before after ends)
     inputs.named tables before after outcome
 
 -- Help was written and handed on; or the output failed at it, and the last line says so.

@@ -9,19 +9,19 @@ use Rattle.bufr_tables.specs.Prelude.{Row, Sequence, Tree, tree_of, tables_of}
 use Rattle.bufr_walk.specs.Prelude.{Values}
 use Rattle.bufr_text.specs.Prelude.{IsCanonical, IsAccepted, HasSameReading, extra_octets, documents_of, Document, ParseResult, Complete, Refused, RefusedAt, encoding_in, normal}
 use Rattle.bufr_text.specs.declared.encode.Form.TheVariants.{AsWritten}
-use Rattle.bufr_cli.specs.Pieces.{IsDumpPiece, Piece, OnOutput, OnErrors, output_of, errors_of, is_accepted, is_refused, encode_pieces}
-use Rattle.bufr_cli.specs.Running.{GivesPieces, Tallies}
+use Rattle.bufr_cli.specs.Pieces.{dump_piece, Piece, OnOutput, OnErrors, output_of, errors_of, is_accepted, is_refused, encode_pieces}
+use Rattle.bufr_cli.specs.Running.{Tallies}
 use Rattle.bufr_cli.specs.declared.laws.RunInMemory.{RunInMemory}
 use Rattle.bufr_cli.specs.declared.outcome.Tally.{Tally}
 use Rattle.bufr_tables.specs.declared.fault.TemplateFault.{TemplateFault}
 use Rattle.bufr_text.specs.declared.encode.Form.{Form}
 
 -- what `dump` writes for a stream, each event by its piece, and what of that is on its output
-abbrev pub dump_pieces : (StreamEvent → Piece) → List ℕ → List Piece
-dump_pieces piece s = map piece (scan s)
+abbrev pub dump_pieces : List Row → List Sequence → List ℕ → List Piece
+dump_pieces b d s = map (dump_piece b d) (scan s)
 
-abbrev pub dumped : (StreamEvent → Piece) → List ℕ → List ℕ
-dumped piece s = flat_map output_of (dump_pieces piece s)
+abbrev pub dumped : List Row → List Sequence → List ℕ → List ℕ
+dumped b d s = flat_map output_of (dump_pieces b d s)
 
 -- what `encode` writes for a text in a form, and what of that is on its output
 abbrev pub form_pieces : Form → List Row → List Sequence → (text : List ℕ) → List Piece
@@ -31,11 +31,11 @@ abbrev pub built : Form → List Row → List Sequence → (text : List ℕ) →
 built form b d text = flat_map output_of (form_pieces form b d text)
 
 -- what `encode` writes for the dump text of a stream, and what of that is on its output
-abbrev pub rebuilding : List Row → List Sequence → (StreamEvent → Piece) → List ℕ → List Piece
-rebuilding b d piece s = form_pieces AsWritten b d (dumped piece s)
+abbrev pub rebuilding : List Row → List Sequence → List ℕ → List Piece
+rebuilding b d s = form_pieces AsWritten b d (dumped b d s)
 
-abbrev pub rebuilt : List Row → List Sequence → (StreamEvent → Piece) → List ℕ → List ℕ
-rebuilt b d piece s = flat_map output_of (rebuilding b d piece s)
+abbrev pub rebuilt : List Row → List Sequence → List ℕ → List ℕ
+rebuilt b d s = flat_map output_of (rebuilding b d s)
 
 -- the octets of an event that is a message
 abbrev pub event_octets : StreamEvent → List (List ℕ)
@@ -48,8 +48,8 @@ accepted_in here (OnOutput text) = event_octets here
 accepted_in here (OnErrors text) = []
 
 -- the messages of a stream that are accepted, in order
-abbrev pub accepted_messages : (StreamEvent → Piece) → List ℕ → List (List ℕ)
-accepted_messages piece s = flat_map (λ here. accepted_in here (piece here)) (scan s)
+abbrev pub accepted_messages : List Row → List Sequence → List ℕ → List (List ℕ)
+accepted_messages b d s = flat_map (λ here. accepted_in here (dump_piece b d here)) (scan s)
 
 -- By how many octets these messages may grow when they are written again: up to two for each of
 -- edition 3 that has an odd section 3 or 4.
@@ -75,27 +75,26 @@ IsCanonicalMessage b d m =
     → IsAccepted b d m sections template values used → IsCanonical m sections values used
 
 -- What `dump` writes for a stream, `encode` builds again, and dumped again that is the same text.
-pub record RoundTrips (b : List Row) (d : List Sequence) (piece : StreamEvent → Piece)
-    (s : List ℕ) : Type 0 where
+pub record RoundTrips (b : List Row) (d : List Sequence) (s : List ℕ) : Type 0 where
   -- `encode` refuses nothing, and builds as many messages as were dumped
-  pub none_refused : count_by is_refused (rebuilding b d piece s) ≡ 0
-  pub no_line : flat_map errors_of (rebuilding b d piece s) ≡ []
-  pub as_many : count_by is_accepted (rebuilding b d piece s)
-      ≡ count_by is_accepted (dump_pieces piece s)
+  pub none_refused : count_by is_refused (rebuilding b d s) ≡ 0
+  pub no_line : flat_map errors_of (rebuilding b d s) ≡ []
+  pub as_many : count_by is_accepted (rebuilding b d s)
+      ≡ count_by is_accepted (dump_pieces b d s)
   -- What it writes is these messages and nothing else. It is longer than the stream by no more than
   -- its messages of edition 3 with odd sections may grow. Each has the reading of its original.
-  pub messages : rebuilt b d piece s ≡ concat (accepted_messages piece (rebuilt b d piece s))
-  pub no_longer : length (rebuilt b d piece s) ≤ length s + longer_by (accepted_messages piece s)
-  pub readings : AllZip (IsBuiltAgain b d) (accepted_messages piece s)
-      (accepted_messages piece (rebuilt b d piece s))
+  pub messages : rebuilt b d s ≡ concat (accepted_messages b d (rebuilt b d s))
+  pub no_longer : length (rebuilt b d s) ≤ length s + longer_by (accepted_messages b d s)
+  pub readings : AllZip (IsBuiltAgain b d) (accepted_messages b d s)
+      (accepted_messages b d (rebuilt b d s))
   -- dumped again it has the pieces of the stream that went to the output, and no other: the same
   -- text, octet for octet, and no fault
-  pub same_pieces : dump_pieces piece (rebuilt b d piece s)
-      ≡ filter is_accepted (dump_pieces piece s)
-  pub same_text : dumped piece (rebuilt b d piece s) ≡ dumped piece s
-  pub no_fault : flat_map errors_of (dump_pieces piece (rebuilt b d piece s)) ≡ []
+  pub same_pieces : dump_pieces b d (rebuilt b d s)
+      ≡ filter is_accepted (dump_pieces b d s)
+  pub same_text : dumped b d (rebuilt b d s) ≡ dumped b d s
+  pub no_fault : flat_map errors_of (dump_pieces b d (rebuilt b d s)) ≡ []
   -- and encoded again it stays as it is
-  pub settled : rebuilt b d piece (rebuilt b d piece s) ≡ rebuilt b d piece s
+  pub settled : rebuilt b d (rebuilt b d s) ≡ rebuilt b d s
 
 -- A run into memory wrote these pieces, and counted them.
 pub record RunsInMemory (ran : RunInMemory) (pieces : List Piece) : Type 0 where
@@ -120,19 +119,16 @@ pub record IsWholeRound (b : List Row) (d : List Sequence) (stream : List ℕ)
   pub no_line : messages.errors ≡ []
   pub none_refused_again : again.tally.refused ≡ 0
   pub no_fault : again.errors ≡ []
-  -- what `dump` writes for each event, by which the accepted messages are known
-  pub piece : StreamEvent → Piece
-  pub gives : GivesPieces (IsDumpPiece b d) piece
   -- the messages that were written, and nothing else, each with the reading of the one that was
   -- dumped
-  pub are_messages : messages.output ≡ concat (accepted_messages piece messages.output)
-  pub readings : AllZip (IsBuiltAgain b d) (accepted_messages piece stream)
-      (accepted_messages piece messages.output)
+  pub are_messages : messages.output ≡ concat (accepted_messages b d messages.output)
+  pub readings : AllZip (IsBuiltAgain b d) (accepted_messages b d stream)
+      (accepted_messages b d messages.output)
   pub no_longer :
-      length messages.output ≤ length stream + longer_by (accepted_messages piece stream)
+      length messages.output ≤ length stream + longer_by (accepted_messages b d stream)
   -- where those that were dumped are as an encoder writes them, these are the same, octet for octet
-  pub canonical : AllByRecursion (IsCanonicalMessage b d) (accepted_messages piece stream)
-      → messages.output ≡ concat (accepted_messages piece stream)
+  pub canonical : AllByRecursion (IsCanonicalMessage b d) (accepted_messages b d stream)
+      → messages.output ≡ concat (accepted_messages b d stream)
 
 -- what a run into memory wrote
 abbrev pub written_by : RunInMemory → Written
@@ -170,16 +166,16 @@ normal_texts form b d (Refused line fault ∷ more) = []
 -- What `encode` builds of a text is dumped to the text's documents before the first that is
 -- refused. Each is in the one spelling that a dump has.
 pub record IsDumpedInOneSpelling (form : Form) (b : List Row) (d : List Sequence)
-    (piece : StreamEvent → Piece) (text : List ℕ) : Type 0 where
+    (text : List ℕ) : Type 0 where
   -- each event is a message that is accepted, and its text is the document's: nothing else, and no
   -- fault
-  pub pieces : dump_pieces piece (built form b d text)
+  pub pieces : dump_pieces b d (built form b d text)
       ≡ map OnOutput (normal_texts form b d (documents_of text))
-  pub same_text : dumped piece (built form b d text)
+  pub same_text : dumped b d (built form b d text)
       ≡ concat (normal_texts form b d (documents_of text))
-  pub as_many : count_by is_accepted (dump_pieces piece (built form b d text))
+  pub as_many : count_by is_accepted (dump_pieces b d (built form b d text))
       ≡ count_by is_accepted (form_pieces form b d text)
-  pub none_refused : count_by is_refused (dump_pieces piece (built form b d text)) ≡ 0
-  pub no_fault : flat_map errors_of (dump_pieces piece (built form b d text)) ≡ []
+  pub none_refused : count_by is_refused (dump_pieces b d (built form b d text)) ≡ 0
+  pub no_fault : flat_map errors_of (dump_pieces b d (built form b d text)) ≡ []
   -- and encoded again, each in the form that it says, these texts are the same octets
-  pub settled : rebuilt b d piece (built form b d text) ≡ built form b d text
+  pub settled : rebuilt b d (built form b d text) ≡ built form b d text

@@ -1,14 +1,14 @@
 -- What a run leaves: its reads, its writes, its counts, and the devices that a fault is of.
 -- (A choice of this project)
 -- Cited by public contracts.
-use Rattle.std.specs.Prelude.{ℕ, Bool, true, List, Option, ◌≡◌, ◌⊎◌, Result, Ok, Err, ◌<◌, ◌≤◌, false, ◌++◌, None, flat_map, count_by, option_to_list, map, [], IfSome, Vec, ◌+◌, ◌∷◌, Some}
+use Rattle.std.specs.Prelude.{ℕ, Bool, true, OnOk, IfErr, ◌≢◌, List, Option, ◌≡◌, ◌⊎◌, Result, Ok, Err, ◌<◌, ◌≤◌, false, ◌++◌, None, flat_map, count_by, option_to_list, map, [], IfSome, Vec, ◌+◌, ◌∷◌, Some}
 use Rattle.bufr_frame.specs.declared.fault.RunFault.{RunFault}
 use Rattle.bufr_frame.specs.declared.fault.RunFault.TheVariants.{Read, Write, InputTooLong, Memory}
 use Rattle.bufr_text.specs.Prelude.{Stays, Fails, CountsWrites, GrowsByPrefix, documents_of, ParseResult, open_documents_of, Document, parse_results}
-use Rattle.std.specs.Io.KnownBytes.{Consumes, Appends, IsAtEnd}
+use Rattle.std.specs.Io.KnownBytes.{Consumes, Appends, IsAtEnd, Keeps}
 use Rattle.bufr_bits.specs.Prelude.{counted}
 use Rattle.bufr_frame.specs.Prelude.{max_reads, MakesReads, StreamEvent, scan, open_scan}
-use Rattle.bufr_cli.specs.Pieces.{Piece, output_of, errors_of, is_accepted, is_refused, IsDumpPiece, encode_pieces}
+use Rattle.bufr_cli.specs.Pieces.{Piece, output_of, errors_of, is_accepted, is_refused, dump_piece, encode_pieces}
 use Rattle.bufr_cli.specs.declared.outcome.Tally.{Tally}
 use Rattle.bufr_tables.specs.Prelude.{Row, Sequence}
 use Rattle.bufr_text.specs.declared.encode.Form.{Form}
@@ -29,13 +29,13 @@ pub record Input : Type 0 where
   pub reads : ℕ
   pub failures : ℕ
 
--- A writer: the octets it took, where known; its failed calls, empty writes and flushes; and
+-- A writer: the octets it took, where known; its failed calls, empty writes and failed flushes; and
 -- whether all that it took was handed on.
 pub record Writer : Type 0 where
   pub taken : Option (List ℕ)
   pub failures : ℕ
   pub empty_writes : ℕ
-  pub flushes : ℕ
+  pub failed_flushes : ℕ
   pub all_flushed : Bool
 
 -- The two writers of a run.
@@ -55,7 +55,7 @@ writer_of ghosts w =
       taken = ghosts.taken w;
       failures = ghosts.failures w;
       empty_writes = ghosts.empty_writes w;
-      flushes = ghosts.flushes w;
+      failed_flushes = ghosts.failed_flushes w;
       all_flushed = ghosts.all_flushed w;
     }
 
@@ -68,10 +68,20 @@ writers_of output w errors e =
 abbrev pub holding : (output errors : Option (List ℕ)) → Writers
 holding output errors =
     record {
-      output = record
-          { taken = output; failures = 0; empty_writes = 0; flushes = 0; all_flushed = true };
-      errors = record
-          { taken = errors; failures = 0; empty_writes = 0; flushes = 0; all_flushed = true };
+      output = record {
+        taken = output;
+        failures = 0;
+        empty_writes = 0;
+        failed_flushes = 0;
+        all_flushed = true;
+      };
+      errors = record {
+        taken = errors;
+        failures = 0;
+        empty_writes = 0;
+        failed_flushes = 0;
+        all_flushed = true;
+      };
     }
 
 -- a write fault comes only from a call that the writer counts as failed, or as an empty write
@@ -82,7 +92,7 @@ CountsCalls before after result =
 -- the same, and nothing is flushed
 abbrev pub OnlyWrites : {X : Type 0} → (before after : Writer) → Result X RunFault → Type 0
 OnlyWrites before after result =
-    CountsCalls before after result × (after.flushes ≡ before.flushes)
+    CountsCalls before after result × (after.failed_flushes ≡ before.failed_flushes)
 
 -- a writer stays, or has failed, as it counts its failed calls and its empty writes
 abbrev pub IsSame : (before after : Writer) → Type 0
@@ -185,7 +195,8 @@ pub record RunStopped (pieces : RunPieces)
   pub written : WritesPieces output output' errors errors' (pieces.certain bs)
   pub accepted : pieces.stops ≡ true → count_by is_refused (pieces.certain bs) ≡ 0
 
--- A writer failed, or memory was refused: a prefix was written, or all where a flush was tried.
+-- A writer failed, or memory was refused: a prefix was written, or, where a flush failed, all that
+-- is certain.
 -- rule: fault-line-not-written, reader-gone
 pub record RunCut (pieces : RunPieces)
     (left left' output output' errors errors' : Option (List ℕ)) (unflushed : Type 0)
@@ -195,9 +206,33 @@ pub record RunCut (pieces : RunPieces)
   pub all : pieces.stops ≡ false → ended ≡ true → IsAtEnd left'
   pub end : ended ≡ true → IfSome left (λ s. bs ≡ s)
   pub written : WrittenInPart output output' errors errors' (read_pieces pieces ended bs)
-  pub flushed : ¬ unflushed → (pieces.stops ≡ false → ended ≡ true)
-      × ((t : List ℕ) → (ended ≡ true → t ≡ [])
-      → WritesPieces output output' errors errors' (pieces.whole (bs ++ t)))
+  pub flushed : ¬ unflushed
+      → WritesPieces output output' errors errors' (read_pieces pieces ended bs)
+
+-- all is handed on where the run went through, or a read of it failed
+-- rule: output-waits
+abbrev pub HandsOn : {X : Type 0} → Result X RunFault → (all : Type 0) → Type 0
+HandsOn (Ok x) all = all
+HandsOn (Err Read) all = all
+HandsOn (Err fault) all = Unit {0}
+
+-- All that both writers took is handed on.
+abbrev pub AllHandedOn : Writers → Type 0
+AllHandedOn after = (after.output.all_flushed ≡ true) × (after.errors.all_flushed ≡ true)
+
+-- Both writers keep what they took, and where it must be all of it was handed on, the output first;
+-- or a flush failed.
+pub record HandsOnBoth {X : Type 0} (before after : Writers) (must : Type 0)
+    (result : Result X RunFault) : Type 0 where
+  pub output : Keeps before.output.taken after.output.taken
+  pub errors : Keeps before.errors.taken after.errors.taken
+  pub handed : OnOk result (must → AllHandedOn after)
+  pub none : OnOk result ((after.output.failed_flushes ≡ before.output.failed_flushes)
+      × (after.errors.failed_flushes ≡ before.errors.failed_flushes))
+  pub order : after.errors.failed_flushes ≢ before.errors.failed_flushes
+      → after.output.all_flushed ≡ true
+  pub fault : IfErr result (λ fault. fault ≡ Write)
+  pub counts : BlamesWriter before after result
 
 -- fewer than 2^32 reads were made
 abbrev pub ReadsFewer : (reads reads' : ℕ) → Type 0
@@ -225,19 +260,9 @@ abbrev pub RunsPieces : RunPieces → (from to : Input) → (before after : Writ
     → Result Tally RunFault → Type 0
 RunsPieces pieces from to before after bs result =
     LeavesRun pieces from.left to.left before.output.taken after.output.taken before.errors.taken
-    after.errors.taken ((after.output.flushes ≡ before.output.flushes)
-    × (after.errors.flushes ≡ before.errors.flushes)) (ReadsFewer from.reads to.reads) bs result
-
--- the same before anything is flushed
-abbrev pub RunsUnflushed : RunPieces → (from to : Input) → (before after : Writers) → List ℕ
-    → Result Tally RunFault → Type 0
-RunsUnflushed pieces from to before after bs result =
-    LeavesRun pieces from.left to.left before.output.taken after.output.taken before.errors.taken
-    after.errors.taken (Unit {0}) (ReadsFewer from.reads to.reads) bs result
-
--- a run's pieces, each what its event is to put on the writers
-abbrev pub GivesPieces : (StreamEvent → Piece → Type 0) → (StreamEvent → Piece) → Type 0
-GivesPieces is_piece piece = (here : StreamEvent) → is_piece here (piece here)
+    after.errors.taken ((after.output.failed_flushes ≡ before.output.failed_flushes)
+    × (after.errors.failed_flushes ≡ before.errors.failed_flushes))
+    (ReadsFewer from.reads to.reads) bs result
 
 -- at most 2^32 reads were made; an input is too long only after all of them
 -- rule: fault-72
@@ -255,8 +280,7 @@ WritesAndCounts before after tally pieces =
 -- the pieces that `dump` has for the octets by these tables were written and counted
 abbrev pub Dumps : List Row → List Sequence → (before after : Writers) → Tally → List ℕ → Type 0
 Dumps b d before after tally s =
-    (piece : StreamEvent → Piece) × GivesPieces (IsDumpPiece b d) piece
-    × WritesAndCounts before after tally (map piece (scan s))
+    WritesAndCounts before after tally (map (dump_piece b d) (scan s))
 
 -- the pieces that `encode` has for the octets by these tables were written and counted
 abbrev pub Encodes : Form → List Row → List Sequence → (before after : Writers) → Tally → List ℕ

@@ -1,7 +1,7 @@
 //! `bufr dump`: writes the messages of a stream as text.
 ghost use Rattle.std.specs.Prelude.{◌≡◌, ◌≤◌, [], ◌∷◌, true, Ok, OnOk, length};
 ghost use Rattle.bufr_frame.specs.Prelude.{sections_of};
-ghost use Rattle.bufr_cli.specs.Prelude.{LeavesDevices, IsDump, IsDumpPiece, IsMessagePiece, Piece, BlamesWriter, input_of, writers_of, StopsPiece, LeavesPieces};
+ghost use Rattle.bufr_cli.specs.Prelude.{LeavesDevices, event_pieces, dump_piece, message_piece, BlamesWriter, input_of, writers_of, StopsPiece, LeavesPieces};
 
 use crate::fault_line::{StreamFault, write_fault, write_stray};
 use crate::outcome::{Tally, Verdict};
@@ -55,16 +55,14 @@ fn dump_selected<W: Sink, E: Sink>(
     requires cached { run.old.memory.specs ≡ run.old.templates.table_b }
     ensures specs { run.new.memory.specs ≡ run.old.memory.specs }
     ensures templates { run.new.templates ≡ run.old.templates }
-    ensures reports { (piece : Piece)
-        → IsMessagePiece run.old.templates.table_b run.old.templates.table_d offset
-        (Ok message.now) piece
-        → LeavesPieces (W.taken w.old) (W.taken w.new) (E.taken e.old) (E.taken e.new)
-        (piece ∷ []) result }
+    ensures reports { LeavesPieces (W.taken w.old) (W.taken w.new) (E.taken e.old) (E.taken e.new)
+        (message_piece run.old.templates.table_b run.old.templates.table_d offset (Ok message.now)
+        ∷ []) result }
     ensures stops { StopsPiece true result }
     ensures counts { BlamesWriter (writers_of W.Sink w.old E.Sink e.old)
         (writers_of W.Sink w.new E.Sink e.new) result }
-    ensures output_flushes { W.flushes w.new ≡ W.flushes w.old }
-    ensures errors_flushes { E.flushes e.new ≡ E.flushes e.old }
+    ensures output_flushes { W.failed_flushes w.new ≡ W.failed_flushes w.old }
+    ensures errors_flushes { E.failed_flushes e.new ≡ E.failed_flushes e.old }
 {
     match run.templates.answer() {
         Ok(template) => {
@@ -101,18 +99,16 @@ fn dump_frame<W: Sink, E: Sink>(
     e: &mut E,
 ) -> Result<Verdict, RunFault>
     requires { 12 ≤ length octets.now }
-    ensures reports { (piece : Piece)
-        → IsMessagePiece run.old.templates.table_b run.old.templates.table_d offset
-        (sections_of octets.now) piece
-        → LeavesPieces (W.taken w.old) (W.taken w.new) (E.taken e.old) (E.taken e.new)
-        (piece ∷ []) result }
+    ensures reports { LeavesPieces (W.taken w.old) (W.taken w.new) (E.taken e.old) (E.taken e.new)
+        (message_piece run.old.templates.table_b run.old.templates.table_d offset
+        (sections_of octets.now) ∷ []) result }
     ensures stops { StopsPiece true result }
     ensures table_b { run.new.templates.table_b ≡ run.old.templates.table_b }
     ensures table_d { run.new.templates.table_d ≡ run.old.templates.table_d }
     ensures counts { BlamesWriter (writers_of W.Sink w.old E.Sink e.old)
         (writers_of W.Sink w.new E.Sink e.new) result }
-    ensures output_flushes { W.flushes w.new ≡ W.flushes w.old }
-    ensures errors_flushes { E.flushes e.new ≡ E.flushes e.old }
+    ensures output_flushes { W.failed_flushes w.new ≡ W.failed_flushes w.old }
+    ensures errors_flushes { E.failed_flushes e.new ≡ E.failed_flushes e.old }
 {
     match Message::parse(octets) {
         Ok(message) => {
@@ -133,7 +129,7 @@ fn dump_frame<W: Sink, E: Sink>(
 }
 
 impl<'a> EventWriter for DumpRun<'a> {
-    ghost is_piece = { λ d. IsDumpPiece d.templates.table_b d.templates.table_d };
+    ghost piece = { λ d. dump_piece d.templates.table_b d.templates.table_d };
 
     ghost takes_memory = { λ _. true };
 
@@ -186,7 +182,7 @@ pub fn run_dump<R: Source, W: Sink, E: Sink>(
     table_d: &TableD,
 ) -> Result<Tally, RunFault>
     // Where the whole input is known, exactly its pieces were written, and the tally counts them.
-    ensures { LeavesDevices (IsDump table_b.now table_d.now)
+    ensures { LeavesDevices (event_pieces (dump_piece table_b.now table_d.now))
         (input_of R.Source r.old) (input_of R.Source r.new)
         (writers_of W.Sink w.old E.Sink e.old) (writers_of W.Sink w.new E.Sink e.new) result }
 {

@@ -1,12 +1,13 @@
 //! `bufr encode`: writes the messages that a text spells.
-ghost use Rattle.std.specs.Prelude.{◌≡◌, ◌≢◌, ℕ, List, Ok, Err};
-ghost use Rattle.bufr_frame.specs.Prelude.{read_failures_after};
+ghost use Rattle.std.specs.Prelude.{◌≡◌, ◌≢◌, ◌≤◌, ℕ, List, [], None, true, Ok, Err, OnOk, OnErr, IfOk};
+ghost use Rattle.bufr_frame.specs.Prelude.{read_failures_after, max_reads, AddsReads};
+ghost use Rattle.bufr_text.specs.Prelude.{ReturnsNextDocument, ReadsLines, HasNoWholeLine, failures_by};
 ghost use Rattle.bufr_text.specs.declared.encode.Form.TheVariants.{AsWritten};
-ghost use Rattle.bufr_cli.specs.Prelude.{LeavesDevices, result_piece, RunsUnflushed, document_pieces, ReadsAtMost, LeavesNext, BlamesWriter, input_of, writers_of};
+ghost use Rattle.bufr_cli.specs.Prelude.{LeavesDevices, result_piece, RunsPieces, AllHandedOn, HandsOnBoth, document_pieces, ReadsAtMost, LeavesNext, BlamesWriter, input_of, writers_of};
 
 use crate::fault_line::{write_document_fault, write_read_fault};
 use crate::outcome::{Tally, Verdict};
-use crate::run_events::flush;
+use crate::run_events::{hand_on, hand_on_before_read};
 use bufr_bits::{Sink, Source};
 use bufr_frame::RunFault;
 use bufr_tables::{TableB, TableD};
@@ -40,10 +41,11 @@ fn encode_next<W: Sink, E: Sink>(
     ensures reports { LeavesNext (W.taken w.old) (W.taken w.new) (E.taken e.old) (E.taken e.new)
         (result_piece run.old.form run.old.templates.table_b run.old.templates.table_d) next
         result }
+    ensures unwritten { result ≡ Err RunFault.Read → (w.new ≡ w.old) × (e.new ≡ e.old) }
     ensures counts { BlamesWriter (writers_of W.Sink w.old E.Sink e.old)
         (writers_of W.Sink w.new E.Sink e.new) result }
-    ensures output_flushes { W.flushes w.new ≡ W.flushes w.old }
-    ensures errors_flushes { E.flushes e.new ≡ E.flushes e.old }
+    ensures output_flushes { W.failed_flushes w.new ≡ W.failed_flushes w.old }
+    ensures errors_flushes { E.failed_flushes e.new ≡ E.failed_flushes e.old }
 {
     match next {
         Ok(None) => Ok(None),
@@ -77,7 +79,41 @@ fn encode_next<W: Sink, E: Sink>(
     }
 }
 
-/// Encodes the documents of `r`, up to the first one that is refused, and flushes nothing.
+/// The next document of `r`. Before a read that may wait, all that was written is handed on.
+fn read_document<R: Source, W: Sink, E: Sink>(
+    reader: &mut DumpReader,
+    r: &mut R,
+    w: &mut W,
+    e: &mut E,
+) -> Result<Result<Option<Document>, ReadFault>, RunFault>
+    requires sound { reader.old.fault ≡ None }
+    requires most { reader.old.reads ≤ max_reads }
+    ensures next { IfOk result (λ next. ReturnsNextDocument (R.left r.old) (R.left r.new)
+        reader.old reader.new next) }
+    ensures open { OnErr result ((bs : List ℕ)
+        × ReadsLines (R.left r.old) (R.left r.new) reader.old reader.new [] bs
+        × HasNoWholeLine reader.new) }
+    ensures handed { HandsOnBoth (writers_of W.Sink w.old E.Sink e.old)
+        (writers_of W.Sink w.new E.Sink e.new)
+        (result ≡ Ok (Err (ReadFault.Run RunFault.Read))) result }
+    ensures failed { IfOk result
+        (λ next. R.failures r.new ≡ failures_by (R.failures r.old) next) }
+    ensures unread { OnErr result (R.failures r.new ≡ R.failures r.old) }
+    ensures counts { AddsReads (R.reads r.old) (R.reads r.new) reader.old.reads reader.new.reads }
+{
+    loop {
+        if let Some(next) = reader.next_held() {
+            return Ok(next);
+        }
+        hand_on_before_read(r, w, e)?;
+        if let Err(fault) = reader.read_more(r) {
+            return Ok(Err(fault));
+        }
+    }
+}
+
+/// Encodes the documents of `r`, up to the first one that is refused. Before a read that may wait,
+/// all that was written is handed on.
 // rule: first-refusal-ends
 fn encode_documents<R: Source, W: Sink, E: Sink>(
     run: &mut EncodeRun<'_>,
@@ -85,8 +121,11 @@ fn encode_documents<R: Source, W: Sink, E: Sink>(
     w: &mut W,
     e: &mut E,
 ) -> Result<Tally, RunFault>
+    ensures order { E.failed_flushes e.new ≢ E.failed_flushes e.old → W.all_flushed w.new ≡ true }
+    ensures flushed { result ≡ Err RunFault.Read
+        → AllHandedOn (writers_of W.Sink w.new E.Sink e.new) }
     ensures run { (bs : List ℕ)
-        × RunsUnflushed (document_pieces run.old.form run.old.templates.table_b
+        × RunsPieces (document_pieces run.old.form run.old.templates.table_b
         run.old.templates.table_d)
         (input_of R.Source r.old) (input_of R.Source r.new)
         (writers_of W.Sink w.old E.Sink e.old) (writers_of W.Sink w.new E.Sink e.new) bs result }
@@ -94,8 +133,8 @@ fn encode_documents<R: Source, W: Sink, E: Sink>(
     ensures reads { ReadsAtMost (R.reads r.old) (R.reads r.new) result }
     ensures writers { BlamesWriter (writers_of W.Sink w.old E.Sink e.old)
         (writers_of W.Sink w.new E.Sink e.new) result }
-    ensures output_flushes { W.flushes w.new ≡ W.flushes w.old }
-    ensures errors_flushes { E.flushes e.new ≡ E.flushes e.old }
+    ensures output_flushes { OnOk result (W.failed_flushes w.new ≡ W.failed_flushes w.old) }
+    ensures errors_flushes { OnOk result (E.failed_flushes e.new ≡ E.failed_flushes e.old) }
 {
     let mut reader = DumpReader::new(run.alloc);
     let mut tally = Tally {
@@ -103,7 +142,7 @@ fn encode_documents<R: Source, W: Sink, E: Sink>(
         refused: 0,
     };
     loop {
-        let next = reader.next_document(r);
+        let next = read_document(&mut reader, r, w, e)?;
         let Some(verdict) = encode_next(run, &mut reader, next, w, e)? else {
             return Ok(tally);
         };
@@ -144,7 +183,7 @@ pub fn run_encode_form<R: Source, W: Sink, E: Sink>(
     form: Form,
 ) -> Result<Tally, RunFault>
     // Where the whole input is known, exactly its pieces were written, and the tally counts them.
-    ensures { LeavesDevices (λ pieces. pieces ≡ document_pieces form table_b.now table_d.now)
+    ensures { LeavesDevices (document_pieces form table_b.now table_d.now)
         (input_of R.Source r.old) (input_of R.Source r.new)
         (writers_of W.Sink w.old E.Sink e.old) (writers_of W.Sink w.new E.Sink e.new) result }
 {
@@ -154,8 +193,7 @@ pub fn run_encode_form<R: Source, W: Sink, E: Sink>(
         templates: TemplateCache::new(alloc, table_b, table_d),
     };
     let tally = encode_documents(&mut run, r, w, e)?;
-    flush(w)?;
-    flush(e)?;
+    hand_on(w, e)?;
     Ok(tally)
 }
 
@@ -184,7 +222,7 @@ pub fn run_encode<R: Source, W: Sink, E: Sink>(
     table_d: &TableD,
 ) -> Result<Tally, RunFault>
     // Where the whole input is known, exactly its pieces were written, and the tally counts them.
-    ensures { LeavesDevices (λ pieces. pieces ≡ document_pieces AsWritten table_b.now table_d.now)
+    ensures { LeavesDevices (document_pieces AsWritten table_b.now table_d.now)
         (input_of R.Source r.old) (input_of R.Source r.new)
         (writers_of W.Sink w.old E.Sink e.old) (writers_of W.Sink w.new E.Sink e.new) result }
 {

@@ -2,8 +2,7 @@
 //! back. [`dump_encode_dump`] runs them in memory.
 ghost use Rattle.std.specs.List.{AllByRecursion, concat};
 ghost use Rattle.std.specs.Prelude.{◌≡◌, List, ℕ, [], Option, Some, IfOk};
-ghost use Rattle.bufr_cli.specs.Prelude.{IsDumpedInOneSpelling, RoundTrips, IsWholeRound, IsCanonicalMessage, Written, accepted_messages, rebuilt, RunsInMemory, written_by, dump_pieces, form_pieces, holding, GivesPieces, Dumps, Encodes, IsDumpPiece, Piece};
-ghost use Rattle.bufr_frame.specs.Prelude.{StreamEvent};
+ghost use Rattle.bufr_cli.specs.Prelude.{IsDumpedInOneSpelling, RoundTrips, IsWholeRound, IsCanonicalMessage, Written, accepted_messages, rebuilt, RunsInMemory, written_by, dump_pieces, form_pieces, holding, Dumps, Encodes};
 ghost use Rattle.bufr_tables.specs.Prelude.{Record, Row, AreRows, Sequence};
 ghost use Rattle.bufr_text.specs.Prelude.{IsOctet};
 ghost use Rattle.bufr_text.specs.declared.encode.Form.{Form};
@@ -18,16 +17,6 @@ use bufr_frame::RunFault;
 use bufr_tables::{TableB, TableD};
 use std::alloc::Global;
 
-/// By each Table B that records write and any Table D, each event has a piece. By whatever tables,
-/// two pieces of an event are the same: the same text, on the same writer.
-pub fn each_event_has_one_piece()
-    ensures some { (records : List Record) (table_b : List Row) (table_d : List Sequence)
-        → AreRows records table_b
-        → (piece : StreamEvent → Piece) × GivesPieces (IsDumpPiece table_b table_d) piece }
-    ensures one { (table_b : List Row) (table_d : List Sequence) (here : StreamEvent) (p q : Piece)
-        → IsDumpPiece table_b table_d here p → IsDumpPiece table_b table_d here q → p ≡ q }
-{}
-
 /// Law: for every stream of octets and all tables that were read, `encode` refuses nothing of the
 /// text that `dump` writes. The messages that it builds have, one by one, the same readings as
 /// those that were dumped. They are no longer, but for up to two octets for each message of
@@ -40,12 +29,10 @@ pub fn each_event_has_one_piece()
 // rule: encode-may-grow
 pub fn dumped_streams_are_built_again()
     ensures { (records : List Record) (table_b : List Row) (table_d : List Sequence)
-        (piece : StreamEvent → Piece) (s : List ℕ)
-        → AreRows records table_b → GivesPieces (IsDumpPiece table_b table_d) piece
-        → AllByRecursion IsOctet s
-        → RoundTrips table_b table_d piece s
-        × (AllByRecursion (IsCanonicalMessage table_b table_d) (accepted_messages piece s)
-        → rebuilt table_b table_d piece s ≡ concat (accepted_messages piece s)) }
+        (s : List ℕ) → AreRows records table_b → AllByRecursion IsOctet s
+        → RoundTrips table_b table_d s × (AllByRecursion (IsCanonicalMessage table_b table_d)
+        (accepted_messages table_b table_d s)
+        → rebuilt table_b table_d s ≡ concat (accepted_messages table_b table_d s)) }
 {}
 
 /// Runs of the program that went through, each over what the one before wrote, by the same tables.
@@ -71,9 +58,8 @@ pub fn runs_close_the_round()
 /// encoded to the same octets again.
 pub fn encoded_texts_are_dumped_in_one_spelling()
     ensures { (form : Form) (records : List Record) (table_b : List Row) (table_d : List Sequence)
-        (piece : StreamEvent → Piece) (text : List ℕ)
-        → AreRows records table_b → GivesPieces (IsDumpPiece table_b table_d) piece
-        → IsDumpedInOneSpelling form table_b table_d piece text }
+        (text : List ℕ) → AreRows records table_b
+        → IsDumpedInOneSpelling form table_b table_d text }
 {}
 
 /// What a run wrote into memory, and its counts.
@@ -97,9 +83,8 @@ fn dump_octets(
     table_b: &TableB,
     table_d: &TableD,
 ) -> Result<RunInMemory, RunFault>
-    ensures { (piece : StreamEvent → Piece) → GivesPieces (IsDumpPiece table_b.now table_d.now)
-        piece
-        → IfOk result (λ ran. RunsInMemory ran (dump_pieces piece stream.now)) }
+    ensures { IfOk result
+        (λ ran. RunsInMemory ran (dump_pieces table_b.now table_d.now stream.now)) }
 {
     let mut output = ScriptOut::new(alloc, room, STEP, End::Fail)?;
     let mut errors = ScriptOut::new(alloc, room, STEP, End::Fail)?;
@@ -150,16 +135,13 @@ pub fn dump_encode_dump(
     table_b: &TableB,
     table_d: &TableD,
 ) -> Result<Round, RunFault>
-    ensures dump { (piece : StreamEvent → Piece)
-        → GivesPieces (IsDumpPiece table_b.now table_d.now) piece
-        → IfOk result (λ round. RunsInMemory round.text (dump_pieces piece stream.now)) }
+    ensures dump { IfOk result
+        (λ round. RunsInMemory round.text (dump_pieces table_b.now table_d.now stream.now)) }
     ensures encode { IfOk result (λ round.
         RunsInMemory round.messages (form_pieces AsWritten table_b.now table_d.now
         (taken_of round.text.output))) }
-    ensures dump_again { (piece : StreamEvent → Piece)
-        → GivesPieces (IsDumpPiece table_b.now table_d.now) piece
-        → IfOk result
-        (λ round. RunsInMemory round.again (dump_pieces piece (taken_of round.messages.output))) }
+    ensures dump_again { IfOk result (λ round. RunsInMemory round.again
+        (dump_pieces table_b.now table_d.now (taken_of round.messages.output))) }
     // By a Table B that was read, nothing is refused, the two texts are the same, and so are the
     // messages' readings.
     ensures round { (records : List Record) → AreRows records table_b.now

@@ -25,8 +25,8 @@ fn list_frame<W: Sink, E: Sink>(
     ensures stops { StopsPiece false result }
     ensures counts { BlamesWriter (writers_of W.Sink w.old E.Sink e.old)
         (writers_of W.Sink w.new E.Sink e.new) result }
-    ensures output_flushes { W.flushes w.new ≡ W.flushes w.old }
-    ensures errors_flushes { E.flushes e.new ≡ E.flushes e.old }
+    ensures output_flushes { W.failed_flushes w.new ≡ W.failed_flushes w.old }
+    ensures errors_flushes { E.failed_flushes e.new ≡ E.failed_flushes e.old }
 {
     match Message::parse(octets) {
         Ok(message) => {
@@ -45,7 +45,7 @@ fn list_frame<W: Sink, E: Sink>(
 struct LsRun;
 
 impl EventWriter for LsRun {
-    ghost is_piece = { λ _ here piece. piece ≡ ls_piece here };
+    ghost piece = { λ _. ls_piece };
 
     ghost takes_memory = { λ _. false };
 
@@ -92,7 +92,7 @@ pub fn run_ls<R: Source, W: Sink, E: Sink>(
     e: &mut E,
 ) -> Result<Tally, RunFault>
     // Where the whole input is known, exactly its pieces were written, and the tally counts them.
-    ensures leaves { LeavesDevices (λ pieces. pieces ≡ event_pieces ls_piece)
+    ensures leaves { LeavesDevices (event_pieces ls_piece)
         (input_of R.Source r.old) (input_of R.Source r.new)
         (writers_of W.Sink w.old E.Sink e.old) (writers_of W.Sink w.new E.Sink e.new) result }
     ensures reads { MakesReads (R.reads r.old) (R.reads r.new) result }

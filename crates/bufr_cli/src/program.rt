@@ -7,7 +7,7 @@ ghost use Rattle.bufr_frame.specs.declared.fault.RunFault.TheVariants.{Write};
 ghost use Rattle.bufr_tables.specs.Prelude.{Record, AreRows};
 ghost use Rattle.bufr_text.specs.Prelude.{Writes};
 ghost use Rattle.bufr_cli.specs.declared.outcome.Outcome.TheVariants.{Run};
-ghost use Rattle.bufr_cli.specs.Prelude.{LeavesDevices, CountsCalls, input_of, writer_of, writers_of, ReadsAll, EndsRun, FlushesRest, AreTables, AreUnread, IsClosed, CommandOutcome, RunOutcome, known, IsOfCommand, ran_outcome, RunsProgram};
+ghost use Rattle.bufr_cli.specs.Prelude.{LeavesDevices, CountsCalls, input_of, writer_of, writers_of, ReadsAll, EndsRun, FlushesRest, AreTables, AreUnread, IsClosed, CommandOutcome, RunOutcome, known, command_pieces, ran_outcome, RunsProgram};
 
 use crate::dump::run_dump;
 use crate::encode::run_encode_form;
@@ -15,7 +15,7 @@ use crate::job::{Job, LineFault, Subcommand, TableNames, parse_line};
 use crate::ls::run_ls;
 use crate::outcome::{Outcome, Tally, finish};
 use crate::run_events::flush;
-use bufr_bits::{Device, Sink, Source};
+use bufr_bits::{BufferedDevice, Device, Sink, Source};
 use bufr_frame::{RunFault, read_to_end};
 use bufr_tables::{TableB, TableD};
 use bufr_text::{Form, write_all};
@@ -264,7 +264,7 @@ fn run_input<'a, I: Inputs, W: Sink, E: Sink>(
     w: &mut W,
     e: &mut E,
 ) -> Outcome<'a>
-    ensures { RunOutcome (IsOfCommand command.entry)
+    ensures { RunOutcome (command_pieces command.entry)
         (known (I.standard_octets call.now.inputs.now) (I.file_octets call.now.inputs.now))
         call.now.file
         (writers_of W.Sink w.old E.Sink e.old) (writers_of W.Sink w.new E.Sink e.new) result }
@@ -286,13 +286,13 @@ fn run_reader<R: Read + Drop, W: Sink, E: Sink>(
     w: &mut W,
     e: &mut E,
 ) -> Result<Tally, RunFault>
-    ensures { EndsRun (IsOfCommand command.entry) (R.remaining input)
+    ensures { EndsRun (command_pieces command.entry) (R.remaining input)
         (writers_of W.Sink w.old E.Sink e.old) (writers_of W.Sink w.new E.Sink e.new) result }
 {
     let Ok(input) = BufReader::with_capacity(alloc, BUFFERED, input) else {
         return Err(RunFault::Memory);
     };
-    let mut input = Device::new(input);
+    let mut input = BufferedDevice::new(input);
     let ran = run_command(alloc, command, &mut input, w, e);
     flush_rest(ran, w)
 }
@@ -304,7 +304,7 @@ fn run_command<R: Source, W: Sink, E: Sink>(
     w: &mut W,
     e: &mut E,
 ) -> Result<Tally, RunFault>
-    ensures { LeavesDevices (IsOfCommand command.entry) (input_of R.Source r.old)
+    ensures { LeavesDevices (command_pieces command.entry) (input_of R.Source r.old)
         (input_of R.Source r.new) (writers_of W.Sink w.old E.Sink e.old)
         (writers_of W.Sink w.new E.Sink e.new) result }
 {
@@ -317,14 +317,15 @@ fn run_command<R: Source, W: Sink, E: Sink>(
     }
 }
 
-/// Hands on what a run has written, where a fault ended it that is none of a write.
+/// Hands on what a run has written, where memory or reads ended it. Before a read that fails, all
+/// was handed on.
 fn flush_rest<W: Sink>(ran: Result<Tally, RunFault>, w: &mut W) -> Result<Tally, RunFault>
     ensures same { result ≡ ran }
     ensures rest { FlushesRest (writer_of W.Sink w.old) (writer_of W.Sink w.new) ran }
 {
     match ran {
-        Ok(_) | Err(RunFault::Write) => {}
-        Err(_) => {
+        Ok(_) | Err(RunFault::Read | RunFault::Write) => {}
+        Err(RunFault::InputTooLong | RunFault::Memory) => {
             let _ = w.flush();
         }
     }

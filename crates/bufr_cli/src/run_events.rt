@@ -1,9 +1,8 @@
 //! A run over the events of a stream, whatever is written for each of them.
 ghost use Rattle.std.specs.Prelude.{◌≡◌, ◌≢◌, ℕ, Bool, List, true, OnOk, IfErr, map};
 ghost use Rattle.std.specs.Io.KnownBytes.{Keeps};
-ghost use Rattle.bufr_bits.specs.Prelude.{counted};
 ghost use Rattle.bufr_frame.specs.Prelude.{events_of, IsEvent, read_failures_after, StreamEvent};
-ghost use Rattle.bufr_cli.specs.Prelude.{Piece, BlamesWriter, CountsCalls, input_of, writer_of, writers_of, RunsPieces, event_pieces, GivesPieces, RunReads, StopsPiece, LeavesPieces};
+ghost use Rattle.bufr_cli.specs.Prelude.{Piece, BlamesWriter, CountsCalls, input_of, writer_of, writers_of, RunsPieces, HandsOn, AllHandedOn, HandsOnBoth, event_pieces, RunReads, StopsPiece, LeavesPieces};
 
 use crate::outcome::{Tally, Verdict};
 use bufr_bits::{Sink, Source};
@@ -12,8 +11,8 @@ use std::alloc::Global;
 
 /// What a run writes for the events of its stream: for each a piece, on one of its two writers.
 pub trait EventWriter {
-    /// Whether this is to be written for an event.
-    ghost is_piece: { Self → StreamEvent → Piece → Type 0 };
+    /// What is to be written for an event.
+    ghost piece: { Self → StreamEvent → Piece };
 
     /// Whether writing takes memory.
     ghost takes_memory: { Self → Bool };
@@ -26,23 +25,21 @@ pub trait EventWriter {
         e: &mut E,
     ) -> Result<Verdict, RunFault>
         requires { IsEvent event }
-        ensures reports { (piece : StreamEvent → Piece) → GivesPieces (is_piece self.old) piece
-            → LeavesPieces (W.taken w.old) (W.taken w.new) (E.taken e.old) (E.taken e.new)
-            (map piece (events_of event.entry)) result }
+        ensures reports { LeavesPieces (W.taken w.old) (W.taken w.new) (E.taken e.old)
+            (E.taken e.new) (map (piece self.old) (events_of event.entry)) result }
         ensures stops { StopsPiece (takes_memory self.old) result }
-        ensures same { (piece : StreamEvent → Piece) → GivesPieces (is_piece self.old) piece
-            → GivesPieces (is_piece self.new) piece }
+        ensures same { piece self.new ≡ piece self.old }
         ensures memory { takes_memory self.new ≡ takes_memory self.old }
         ensures counts { BlamesWriter (writers_of W.Sink w.old E.Sink e.old)
             (writers_of W.Sink w.new E.Sink e.new) result }
-        ensures output_flushes { W.flushes w.new ≡ W.flushes w.old }
-        ensures errors_flushes { E.flushes e.new ≡ E.flushes e.old };
+        ensures output_flushes { W.failed_flushes w.new ≡ W.failed_flushes w.old }
+        ensures errors_flushes { E.failed_flushes e.new ≡ E.failed_flushes e.old };
 }
 
 /// Hands on what was written.
 pub(crate) fn flush<W: Sink>(w: &mut W) -> Result<(), RunFault>
     ensures keeps { Keeps (W.taken w.old) (W.taken w.new) }
-    ensures flushes { W.flushes w.new ≡ counted (W.flushes w.old) 1 }
+    ensures failed_flushes { OnOk result (W.failed_flushes w.new ≡ W.failed_flushes w.old) }
     ensures all_flushed { OnOk result (W.all_flushed w.new ≡ true) }
     ensures err { IfErr result (λ fault. fault ≡ RunFault.Write) }
     ensures counts { CountsCalls (writer_of W.Sink w.old) (writer_of W.Sink w.new) result }
@@ -53,7 +50,32 @@ pub(crate) fn flush<W: Sink>(w: &mut W) -> Result<(), RunFault>
     }
 }
 
-/// Writes the events of `r`, each as soon as it is certain; at the end `w`, then `e` is flushed.
+/// Hands on what was written: the output, then the errors.
+pub(crate) fn hand_on<W: Sink, E: Sink>(w: &mut W, e: &mut E) -> Result<(), RunFault>
+    ensures handed { HandsOnBoth (writers_of W.Sink w.old E.Sink e.old)
+        (writers_of W.Sink w.new E.Sink e.new) (Unit {0}) result }
+{
+    flush(w)?;
+    flush(e)
+}
+
+/// Hands on what was written, where the next read of `r` may wait.
+pub(crate) fn hand_on_before_read<R: Source, W: Sink, E: Sink>(
+    r: &R,
+    w: &mut W,
+    e: &mut E,
+) -> Result<(), RunFault>
+    ensures handed { HandsOnBoth (writers_of W.Sink w.old E.Sink e.old)
+        (writers_of W.Sink w.new E.Sink e.new) (R.waits r.now ≡ true) result }
+{
+    if r.may_wait() {
+        return hand_on(w, e);
+    }
+    Ok(())
+}
+
+/// Writes the events of `r`, each as soon as it is certain. Before a read that may wait, and at the
+/// end, all that was written is handed on.
 // rule: output-in-order, fault-line-not-written, input-not-read, reader-gone
 pub fn run_events<T: EventWriter, R: Source, W: Sink, E: Sink>(
     alloc: Global,
@@ -62,12 +84,11 @@ pub fn run_events<T: EventWriter, R: Source, W: Sink, E: Sink>(
     w: &mut W,
     e: &mut E,
 ) -> Result<Tally, RunFault>
-    ensures order { E.flushes e.new ≢ E.flushes e.old → W.all_flushed w.new ≡ true }
-    ensures flushed { OnOk result ((W.all_flushed w.new ≡ true) × (E.all_flushed e.new ≡ true)) }
-    ensures run { (bs : List ℕ)
-        × ((piece : StreamEvent → Piece) → GivesPieces (T.is_piece teller.old) piece
-        → RunsPieces (event_pieces piece) (input_of R.Source r.old) (input_of R.Source r.new)
-        (writers_of W.Sink w.old E.Sink e.old) (writers_of W.Sink w.new E.Sink e.new) bs result) }
+    ensures order { E.failed_flushes e.new ≢ E.failed_flushes e.old → W.all_flushed w.new ≡ true }
+    ensures flushed { HandsOn result (AllHandedOn (writers_of W.Sink w.new E.Sink e.new)) }
+    ensures run { (bs : List ℕ) × RunsPieces (event_pieces (T.piece teller.old))
+        (input_of R.Source r.old) (input_of R.Source r.new)
+        (writers_of W.Sink w.old E.Sink e.old) (writers_of W.Sink w.new E.Sink e.new) bs result }
     ensures reader { R.failures r.new ≡ read_failures_after (R.failures r.old) result }
     ensures reads { RunReads (T.takes_memory teller.old) (R.reads r.old) (R.reads r.new) result }
     ensures writers { BlamesWriter (writers_of W.Sink w.old E.Sink e.old)
@@ -79,14 +100,21 @@ pub fn run_events<T: EventWriter, R: Source, W: Sink, E: Sink>(
         refused: 0,
     };
     loop {
-        let event = finder.next(r)?;
-        if let Event::Done = event {
-            break;
+        match finder.next_held() {
+            None => {
+                hand_on_before_read(r, w, e)?;
+                finder.read_more(r)?;
+            }
+            Some(Err(fault)) => return Err(fault),
+            Some(Ok(event)) => {
+                if let Event::Done = event {
+                    break;
+                }
+                let verdict = teller.write_event(event, w, e)?;
+                tally.count(verdict);
+            }
         }
-        let verdict = teller.write_event(event, w, e)?;
-        tally.count(verdict);
     }
-    flush(w)?;
-    flush(e)?;
+    hand_on(w, e)?;
     Ok(tally)
 }

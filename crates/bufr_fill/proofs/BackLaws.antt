@@ -7,8 +7,9 @@ use Rattle.std.specs.List.{AllByRecursion}
 use Rattle.bufr_tables.specs.Prelude.{IsLegal, Record, Row, AreRows, Tree}
 use Rattle.bufr_walk.specs.Prelude.{FieldSpec, IsSpec, Content, bits_for, FieldFault, found, content_at, Course, Next, take_next, at_end, astray, refused, next_item, max_values, Item, DataCoding, plain, packed, ReadsPass}
 use Rattle.bufr_fill.specs.Prelude.{Draft, Subset, DraftFaultKind, FaultAt, at_line, too_many_values, content_of, plainly, plain_filler, RowCell, ItemRow, cells_at, rows, longest, at_line_if_fault, content_here, contents_here, packed_to, are_many, pack_across, packed_filler, plain_data, packed_data, first_line, ◌>>=◌, WrittenItem, written_item, Filler, fill, fill_one, fill_none, filled, with_bits_before, packing, Fits, AllFit, HasOctets, AllHaveOctets, IsSaid, AreSaidFrom, IsReadBack, IsPackedReadBack, AreDrafts, items_of_subset}
-use Rattle.bufr_fill.proofs.SpecLemmas.{IsWithin, table_good}
-use Rattle.bufr_fill.proofs.GoodReads.{draft_fits, IsGoodCourse, template_good, answer_within}
+use Rattle.bufr_walk.proofs.NextField.{table_read, IsGoodCourse, next_field}
+use Rattle.bufr_walk.specs.Prelude.{IsWithin}
+use Rattle.bufr_fill.proofs.GoodReads.{draft_fits, answer_within}
 use Rattle.bufr_fill.proofs.PackedLaws.{fitting_again}
 use Rattle.bufr_fill.proofs.PlainLaws.{plain_again}
 
@@ -53,7 +54,7 @@ module _ {C D E : Type 0} (form : DataCoding C) (filler : Filler D C E) (of_item
     back_fill : (spec : FieldSpec) → (course []).next ≡ take_next spec → (r : Result (WrittenItem C) E) → filler.fills spec d ≡ r → filled filler spec r (λ t. fill filler (λ answers. course (t ∷ answers)) ds) ≡ Ok out → IsBack form of_item course (d ∷ ds) out
     back_fill spec q (Err why) p e = cc
     back_fill spec q (Ok w) p e =
-        let here = one spec d w (good [] spec tt q) text p in
+        let here = one spec d w (good [] spec tt q).spec text p in
         back_rest spec w q here (fill filler (λ answers. course (form.gives spec w.content ∷ answers)) ds) refl
         (subst (λ t. with_bits_before filler w.bits (fill filler (λ answers. course (t ∷ answers)) ds) ≡ Ok out) (same_answer spec w.content) e)
 
@@ -263,7 +264,7 @@ packed_back course good (s ∷ ss) out text e =
     }
 
 pub plain_template_back : (records : List Record) (table : List Row) (template : Tree) (drafts : List Subset) (bits : List Bool) → AreRows records table → IsLegal template → AllHaveOctets drafts → plain_data (next_item table template) drafts ≡ Ok bits → IsReadBack (next_item table template) drafts bits
-plain_template_back records table template drafts bits rows legal text e = plain_back (next_item table template) (template_good table template (table_good records table rows) legal) drafts bits text e
+plain_template_back records table template drafts bits rows legal text e = plain_back (next_item table template) (next_field table template (table_read records table rows) legal) drafts bits text e
 
 pub packed_template_back : (records : List Record) (table : List Row) (template : Tree) (drafts : List Subset) (bits : List Bool) → AreRows records table → IsLegal template → AllHaveOctets drafts → packed_data (next_item table template) drafts ≡ Ok bits → IsPackedReadBack (next_item table template) drafts bits
-packed_template_back records table template drafts bits rows legal text e = packed_back (next_item table template) (template_good table template (table_good records table rows) legal) drafts bits text e
+packed_template_back records table template drafts bits rows legal text e = packed_back (next_item table template) (next_field table template (table_read records table rows) legal) drafts bits text e

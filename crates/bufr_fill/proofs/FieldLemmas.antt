@@ -9,9 +9,9 @@ use Rattle.std.proofs.lemmas.Nat.{shr_high}
 use Rattle.bufr_bits.specs.Prelude.{bits_of, bits_of_octet, bits_in, number_after_bits, number_of, are_all_ones}
 use Rattle.bufr_bits.proofs.BitLemmas.{are_all_ones-bits_of, bit, number_after_bits-is, number_of-below, number-bits_of_octet, length-bits_of, bits_in-above, bits_in-octet, length-bits_in, number_of-bits_in, are_all_ones-number, and_false}
 use Rattle.bufr_walk.specs.Prelude.{HasWidth, HasMissing, FieldSpec, is_reference, Content, number, text, missing, reference, octets_in, signed_by, said_by, sign_bit, bits_for, answer_of, answer_by_role, count_in, reference_in}
-use Rattle.bufr_fill.specs.Prelude.{EntryKind, Kind, AreOctets, FitsKind, raw_limit, raw_within, is_of, is_marked, wrong_for, content_of, content_by_form, out_of_range, Draft, draft, number_token, text_form, missing_form, reference_token, DraftEntry, Holds, Ends, at_line_if_fault, entry_by, value_by, is_end, is_entry_of, entry_here}
+use Rattle.bufr_fill.specs.Prelude.{EntryKind, Kind, AreOctets, FitsKind, raw_limit, is_of, is_marked, wrong_for, content_of, content_by_form, Draft, draft, number_token, text_form, missing_form, reference_token, DraftEntry, Holds, Ends, at_line_if_fault, entry_by, value_by, is_end, is_entry_of, entry_here}
 use Rattle.std.proofs.lemmas.Int.{ints}
-use Rattle.std.proofs.lemmas.Bool.{false≢true, eq-eqb, eqb-true, le-ltb}
+use Rattle.std.proofs.lemmas.Bool.{false≢true, eq-eqb, eqb-true}
 use Rattle.bufr_tables.specs.declared.table_b.Kind.TheVariants as kind
 use Rattle.bufr_walk.specs.declared.spec.Role.TheVariants as role
 use Rattle.bufr_walk.specs.declared.spec.Taken.TheVariants as taken

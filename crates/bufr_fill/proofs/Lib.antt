@@ -3,7 +3,6 @@ mod PlainExamples
 mod PackedExamples
 mod ReadBackExamples
 pub mod WalkLemmas
-pub mod SpecLemmas
 pub mod PlainLaws
 pub mod FieldLemmas
 pub mod GoodReads

@@ -9,8 +9,8 @@ use Rattle.bufr_fill.proofs.PlainLaws.{IsCellOf, AreCellsOf, IsDumpedAcross, Hav
 use Rattle.std.proofs.lemmas.List.{length-append}
 use Rattle.std.specs.List.{AllZip}
 use Rattle.bufr_tables.specs.Prelude.{Row, AreRows, Tree, IsLegal, Record}
-use Rattle.bufr_fill.proofs.SpecLemmas.{AreGoodRows, table_good}
-use Rattle.bufr_fill.proofs.GoodReads.{template_good, plain_specs, packed_specs}
+use Rattle.bufr_walk.proofs.NextField.{AreRead, table_read, next_field}
+use Rattle.bufr_fill.proofs.GoodReads.{plain_specs, packed_specs}
 use Rattle.bufr_fill.proofs.PackedLaws.{packed_count, packed_again}
 use Rattle.bufr_fill.proofs.FormLaws.{drafts_length, packed_rewritten, together, apart, all_plain, Follows, AllFollow, follow_reading}
 use Rattle.bufr_fill.proofs.BackLaws.{plain_template_back, packed_template_back}
@@ -118,42 +118,42 @@ items_packed_again (suc n) course items (s ∷ ss) bits suffix count specs dumpe
     record { out = r.out; is = r.fills; again = λ more. ((r.again more, h.0.1), h.1); short = r.short }
 
 -- the same over a template: nothing is required of the specifications
-pub plain_template_again : (table : List Row) (tree : Tree) (subsets : List (List (Item Content))) (drafts : List Subset) (bits suffix : List Bool) → AreGoodRows table → IsLegal tree → AreDumped subsets drafts → ReadsSubsets (next_item table tree) subsets bits suffix → IsWrittenAgain (next_item table tree) subsets drafts bits suffix
+pub plain_template_again : (table : List Row) (tree : Tree) (subsets : List (List (Item Content))) (drafts : List Subset) (bits suffix : List Bool) → AreRead table → IsLegal tree → AreDumped subsets drafts → ReadsSubsets (next_item table tree) subsets bits suffix → IsWrittenAgain (next_item table tree) subsets drafts bits suffix
 plain_template_again table tree subsets drafts bits suffix rows legal dumped h =
-    plain_again (next_item table tree) subsets drafts bits suffix (plain_specs (next_item table tree) subsets bits suffix (template_good table tree rows legal) h) dumped h
+    plain_again (next_item table tree) subsets drafts bits suffix (plain_specs (next_item table tree) subsets bits suffix (next_field table tree rows legal) h) dumped h
 
-pub reads_specs : (n : ℕ) (table : List Row) (tree : Tree) (items : List (Item (List Content))) (bits suffix : List Bool) → AreGoodRows table → IsLegal tree → IsPackedReading n (next_item table tree) items bits suffix → AllSpecs items
+pub reads_specs : (n : ℕ) (table : List Row) (tree : Tree) (items : List (Item (List Content))) (bits suffix : List Bool) → AreRead table → IsLegal tree → IsPackedReading n (next_item table tree) items bits suffix → AllSpecs items
 reads_specs zero table tree items bits suffix rows legal h = subst AllSpecs (sym h.0) tt
-reads_specs (suc n) table tree items bits suffix rows legal h = packed_specs (suc n) (next_item table tree) items bits suffix (template_good table tree rows legal) h.0.0
+reads_specs (suc n) table tree items bits suffix rows legal h = packed_specs (suc n) (next_item table tree) items bits suffix (next_field table tree rows legal) h.0.0
 
-pub packed_template_again : (n : ℕ) (table : List Row) (tree : Tree) (items : List (Item (List Content))) (drafts : List Subset) (bits suffix : List Bool) → AreGoodRows table → IsLegal tree → length drafts ≡ n → AreDumpedFrom 0 items drafts → IsPackedReading n (next_item table tree) items bits suffix → IsPackedAgain n (next_item table tree) items drafts bits suffix
+pub packed_template_again : (n : ℕ) (table : List Row) (tree : Tree) (items : List (Item (List Content))) (drafts : List Subset) (bits suffix : List Bool) → AreRead table → IsLegal tree → length drafts ≡ n → AreDumpedFrom 0 items drafts → IsPackedReading n (next_item table tree) items bits suffix → IsPackedAgain n (next_item table tree) items drafts bits suffix
 packed_template_again n table tree items drafts bits suffix rows legal count dumped h =
     items_packed_again n (next_item table tree) items drafts bits suffix count (reads_specs n table tree items bits suffix rows legal h) dumped h
 
 -- nothing is required of the specifications
-pub template_apart : (n : ℕ) (table : List Row) (template : Tree) (items : List (Item (List Content))) (drafts : List Subset) (bits suffix : List Bool) → AreGoodRows table → IsLegal template → length drafts ≡ n → AreDumpedFrom 0 items drafts → IsPackedReading n (next_item table template) items bits suffix
+pub template_apart : (n : ℕ) (table : List Row) (template : Tree) (items : List (Item (List Content))) (drafts : List Subset) (bits suffix : List Bool) → AreRead table → IsLegal template → length drafts ≡ n → AreDumpedFrom 0 items drafts → IsPackedReading n (next_item table template) items bits suffix
     → IsWrittenApart n (next_item table template) items drafts
 template_apart n table template items drafts bits suffix rows legal count dumped h = apart n (next_item table template) items drafts bits suffix count (reads_specs n table template items bits suffix rows legal h) dumped h
 
-pub template_together : (table : List Row) (template : Tree) (subsets : List (List (Item Content))) (drafts : List Subset) (bits suffix : List Bool) → length bits ≤ max_values → AreGoodRows table → IsLegal template → AreDumped subsets drafts → ReadsSubsets (next_item table template) subsets bits suffix
+pub template_together : (table : List Row) (template : Tree) (subsets : List (List (Item Content))) (drafts : List Subset) (bits suffix : List Bool) → length bits ≤ max_values → AreRead table → IsLegal template → AreDumped subsets drafts → ReadsSubsets (next_item table template) subsets bits suffix
     → IsTogetherOrNot (next_item table template) subsets drafts
 template_together table template subsets drafts bits suffix few rows legal dumped h =
-    together (next_item table template) subsets drafts bits suffix few (plain_specs (next_item table template) subsets bits suffix (template_good table template rows legal) h) dumped h
+    together (next_item table template) subsets drafts bits suffix few (plain_specs (next_item table template) subsets bits suffix (next_field table template rows legal) h) dumped h
 
 -- ---- The round trip of data, and the other form, over the tables of records.
 
 module _ (records : List Record) (table : List Row) (template : Tree) (rows : AreRows records table) (legal : IsLegal template) where
   pub plain_round_trip : (subsets : List (List (Item Content))) (drafts : List Subset) (bits suffix : List Bool) → AreDumped subsets drafts → ReadsSubsets (next_item table template) subsets bits suffix → IsWrittenAgain (next_item table template) subsets drafts bits suffix
-  plain_round_trip subsets drafts bits suffix dumped h = plain_template_again table template subsets drafts bits suffix (table_good records table rows) legal dumped h
+  plain_round_trip subsets drafts bits suffix dumped h = plain_template_again table template subsets drafts bits suffix (table_read records table rows) legal dumped h
 
   pub packed_round_trip : (n : ℕ) (items : List (Item (List Content))) (drafts : List Subset) (bits suffix : List Bool) → length drafts ≡ n → AreDumpedFrom 0 items drafts → IsPackedReading n (next_item table template) items bits suffix → IsPackedAgain n (next_item table template) items drafts bits suffix
-  packed_round_trip n items drafts bits suffix count dumped h = packed_template_again n table template items drafts bits suffix (table_good records table rows) legal count dumped h
+  packed_round_trip n items drafts bits suffix count dumped h = packed_template_again n table template items drafts bits suffix (table_read records table rows) legal count dumped h
 
   pub written_apart : (n : ℕ) (items : List (Item (List Content))) (drafts : List Subset) (bits suffix : List Bool) → length drafts ≡ n → AreDumpedFrom 0 items drafts → IsPackedReading n (next_item table template) items bits suffix → IsWrittenApart n (next_item table template) items drafts
-  written_apart n items drafts bits suffix count dumped h = template_apart n table template items drafts bits suffix (table_good records table rows) legal count dumped h
+  written_apart n items drafts bits suffix count dumped h = template_apart n table template items drafts bits suffix (table_read records table rows) legal count dumped h
 
   pub written_together : (subsets : List (List (Item Content))) (drafts : List Subset) (bits suffix : List Bool) → length bits ≤ max_values → AreDumped subsets drafts → ReadsSubsets (next_item table template) subsets bits suffix → IsTogetherOrNot (next_item table template) subsets drafts
-  written_together subsets drafts bits suffix few dumped h = template_together table template subsets drafts bits suffix few (table_good records table rows) legal dumped h
+  written_together subsets drafts bits suffix few dumped h = template_together table template subsets drafts bits suffix few (table_read records table rows) legal dumped h
 
 -- ---- The contents of drafts determine the bits that are written.
 
@@ -189,7 +189,7 @@ pub plain_said_alike : (records : List Record) (table : List Row) (template : Tr
     → plain_data (next_item table template) drafts ≡ plain_data (next_item table template) others
 plain_said_alike records table template subsets drafts others bits suffix rows legal read said also =
     let course = next_item table template in
-    let specs = plain_specs course subsets bits suffix (template_good table template (table_good records table rows) legal) read in
+    let specs = plain_specs course subsets bits suffix (next_field table template (table_read records table rows) legal) read in
     plain_encoded course subsets drafts bits suffix specs said read ∙ sym (plain_encoded course subsets others bits suffix specs also read)
 
 -- ---- compressed data
@@ -271,7 +271,7 @@ pub packed_said_alike : (n : ℕ) (records : List Record) (table : List Row) (te
     → packed_data (next_item table template) drafts ≡ packed_data (next_item table template) others
 packed_said_alike n records table template items drafts others bits suffix rows legal read count said counted also =
     let course = next_item table template in
-    let specs = reads_specs n table template items bits suffix (table_good records table rows) legal read in
+    let specs = reads_specs n table template items bits suffix (table_read records table rows) legal read in
     all_packed_encoded n course items drafts bits suffix count specs said read ∙ sym (all_packed_encoded n course items others bits suffix counted specs also read)
 
 -- ---- The drafts that a dump writes for items have the contents of these items.
@@ -306,10 +306,10 @@ module _ (records : List Record) (table : List Row) (template : Tree) (rows : Ar
   pub plain_follows : (subsets : List (List (Item Content))) (bits suffix : List Bool) → ReadsSubsets (next_item table template) subsets bits suffix → AllFollow (next_item table template) subsets
   plain_follows subsets bits suffix read =
       let course = next_item table template in
-      (all_plain course subsets bits suffix (plain_specs course subsets bits suffix (template_good table template (table_good records table rows) legal) read) read).0
+      (all_plain course subsets bits suffix (plain_specs course subsets bits suffix (next_field table template (table_read records table rows) legal) read) read).0
 
   pub packed_follows : (n : ℕ) (items : List (Item (List Content))) (bits suffix : List Bool) → IsPackedReading n (next_item table template) items bits suffix → AllFollow (next_item table template) (subsets_from n 0 items)
-  packed_follows n items bits suffix read = follow_reading n (next_item table template) items bits suffix (reads_specs n table template items bits suffix (table_good records table rows) legal read) read
+  packed_follows n items bits suffix read = follow_reading n (next_item table template) items bits suffix (reads_specs n table template items bits suffix (table_read records table rows) legal read) read
 
 -- ---- Drafts with the same contents are written to the same bits.
 

@@ -10,7 +10,7 @@ use Rattle.bufr_fill.specs.declared.fault.DraftFault.TheVariants as item_fault
 use Rattle.std.specs.List.{list_all, AllByRecursion}
 use Rattle.bufr_bits.specs.Prelude.{decimal_text_of, decimal_value_of, short_text}
 use Rattle.bufr_bits.specs.declared.decimal.NumberFault.{NumberFault}
-use Rattle.bufr_bits.specs.declared.decimal.NumberFault.TheVariants.{Syntax, Inexact, Large}
+use Rattle.bufr_bits.specs.declared.decimal.NumberFault.TheVariants.{Large}
 use Rattle.bufr_tables.specs.Prelude.{is_character}
 pub use Rattle.bufr_walk.specs.declared.spec.Role.{Role}
 use Rattle.bufr_walk.specs.Prelude.{FieldSpec, is_reference, Content, number, text, missing, reference, ones}

@@ -4,7 +4,7 @@ use Rattle.std.specs.Io.KnownBytes.{Consumes, IsAtEnd}
 use Rattle.std.proofs.KnownBytes.{Consumes-nil, Consumes-trans}
 use Rattle.bufr_bits.specs.Prelude.{counted}
 use Rattle.bufr_bits.proofs.CountLemmas.{counted-counted, counted-none}
-use Rattle.bufr_frame.specs.Prelude.{AddsReads, max_reads, InputModel, FillsInput, ReadsOnce, FillFails, FillEnds, Candidate, StreamEvent, FrameAt, scan, scan_from, open_scan, stream_event, candidate_len, is_decided, Advances, NoEventCertain, first_event, StrayAt, has_word_at, classify, length_here, longest_of, offset_of, IsNextEvent, IsIncomplete, gone_to, stated_length, StartsWithBufr, FinderModel, ReadsAndPasses, Follows, new_finder, IsStatedLength, RaisesLongest, HasNoMoreEvents, held, EachReadIsNeeded, CallReadsAreNeeded, ReturnsNextEvent, LeavesFinder, events_returned}
+use Rattle.bufr_frame.specs.Prelude.{read_failures_after, StopsFinder, IsUndecided, AddsReads, max_reads, InputModel, FillsInput, ReadsOnce, FillFails, FillEnds, Candidate, StreamEvent, FrameAt, scan, scan_from, open_scan, stream_event, candidate_len, is_decided, Advances, NoEventCertain, first_event, StrayAt, has_word_at, classify, length_here, longest_of, offset_of, IsNextEvent, IsIncomplete, HasNoFurtherEvent, gone_to, stated_length, StartsWithBufr, FinderModel, ReadsAndPasses, Follows, new_finder, IsStatedLength, RaisesLongest, HasNoMoreEvents, held, EachReadIsNeeded, CallReadsAreNeeded, ReturnsNextEvent, LeavesFinder, events_returned}
 use Rattle.bufr_frame.specs.declared.fault.RunFault.{RunFault}
 use Rattle.bufr_frame.specs.declared.fault.RunFault.TheVariants.{Read, Write, InputTooLong, Memory}
 use Rattle.std.proofs.lemmas.List.{drop-take, take-take, take-append-le, drop-append-le}
@@ -13,28 +13,15 @@ use Rattle.bufr_frame.proofs.ScanLemmas.{all-then, scan-on, Raised, found-sees, 
 use Rattle.std.specs.List.{AllByRecursion, list_all, concat}
 use Rattle.std.proofs.lemmas.Bool.{true≢false, cases_Bool, false≢true, cases_lt, and_parts}
 use Rattle.std.proofs.lemmas.Grind.{common_steps}
-use Rattle.bufr_frame.specs.declared.finder.Candidate.TheVariants.{Nothing, Stray, Frame}
+use Rattle.bufr_frame.specs.declared.finder.Candidate.TheVariants.{Stray, Frame}
 use Rattle.bufr_frame.specs.declared.fault.Cause.TheVariants.{Cut}
 use Rattle.bufr_frame.specs.declared.finder.Event.{Event}
 use Rattle.bufr_frame.specs.declared.finder.SearchResult.{SearchResult}
-use Rattle.bufr_frame.specs.Finder.{IsSearchResult, ReadsOn, first_left}
+use Rattle.bufr_frame.specs.Finder.{IsSearchResult, ReadsOn, first_left, NeedsRead, GivesHeldEvent, ReadsMore, input_left, len_at, IsEventAt}
 use Rattle.std.specs.Option.{IfSome}
 use Rattle.std.specs.Result.{MatchResult}
 use Rattle.std.proofs.lemmas.List.Folds.{concat-append, list_all-append}
 use Rattle.bufr_frame.specs.declared.finder.Event.TheVariants as event
-
--- the input of a finder as far as it is left
-abbrev pub input_left : FinderModel → InputModel
-input_left s = record { held = s.rest; ended = s.ended; reads = s.reads; room = s.room; free = 0 }
-
--- One read: octets come after those that are left, or the end was reached, or a fault stops it.
-pub record ReadsMore (left left' : Option (List ℕ)) (old new : FinderModel)
-    (result : Result (Unit {0}) RunFault) (bs : List ℕ) : Type 0 where
-  pub fills : FillsInput left left' (input_left old) (input_left new)
-      (old.room < 2 * max 4096 old.longest) result bs
-  pub at : new.at ≡ old.at
-  pub fault : MatchResult result (λ _. new.fault ≡ None) (λ fault. new.fault ≡ Some fault)
-  pub longest : new.longest ≡ old.longest
 
 -- octets were read and follow those that were held
 pub record ReadSoFar (left mid : Option (List ℕ)) (old now : List ℕ) : Type 0 where
@@ -194,15 +181,10 @@ pub shows : (ended ended' : Bool) (rest rest' : List ℕ) (result : SearchResult
 shows ended ended' rest rest' result end same is = rw (sym end) (rw (sym same) is)
 
 -- the octets that an event takes, as the code has them
-pub takes-frame : (ended : Bool) (rest : List ℕ) (place size len : ℕ) (here : Candidate) → IsNextEvent ended rest place here → IsStatedLength (drop place rest) size → here ≡ Frame → len ≡ size → len ≡ candidate_len (drop place rest) here
-takes-frame ended rest place size len here found stated is same =
-    let long : 8 ≤ length (drop place rest) = omega (arith, found.frame is, found.within, ap (candidate_len (drop place rest)) is, length-drop place rest) in
-    same ∙ stated.0 ∙ length-eight (drop place rest) long ∙ sym (ap (candidate_len (drop place rest)) is)
-
-pub takes-other : (m : List ℕ) (len : ℕ) (here : Candidate) → here ≢ Nothing → here ≢ Frame → len ≡ 4 → len ≡ candidate_len m here
-takes-other m len Nothing some other same = absurd (some refl)
-takes-other m len (Stray cause) some other same = same
-takes-other m len Frame some other same = absurd (other refl)
+takes-len : (ended : Bool) (rest : List ℕ) (place n : ℕ) (here : Candidate) → IsNextEvent ended rest place (Some here) → IsStatedLength (drop place rest) n → len_at here n ≡ candidate_len (drop place rest) (Some here)
+takes-len ended rest place n (Stray cause) found stated = refl
+takes-len ended rest place n Frame found stated =
+    stated.0 ∙ length-eight (drop place rest) (omega (arith, found.frame refl, found.within, length-drop place rest))
 
 module _ (left mid : Option (List ℕ)) (old s s' : FinderModel) (bs : List ℕ) (step : ReadsAndPasses left mid old s bs []) where
   -- a turn that needs more octets passes those that are no event's
@@ -317,12 +299,12 @@ placed-first : (at : ℕ) (s : List ℕ) (xs : List StreamEvent) → AllPlaced a
 placed-first at s [] all = tt
 placed-first at s (x ∷ xs) all = (all.0, tt)
 
-placed-here : (at : ℕ) (m : List ℕ) (v : Candidate) → 8 ≤ length m → AllPlaced at m (stream_event at m v)
-placed-here at m Nothing long = tt
-placed-here at m (Stray cause) long = ((omega arith, λ yes. omega (arith, long)), tt)
-placed-here at m Frame long = ((omega arith, λ yes. omega (arith, long)), tt)
+placed-here : (at : ℕ) (m : List ℕ) (v : Option Candidate) → 8 ≤ length m → AllPlaced at m (stream_event at m v)
+placed-here at m None long = tt
+placed-here at m (Some (Stray cause)) long = ((omega arith, λ yes. omega (arith, long)), tt)
+placed-here at m (Some Frame) long = ((omega arith, λ yes. omega (arith, long)), tt)
 
-placed-cut : (at : ℕ) (m : List ℕ) (v : Candidate) → v ≡ Stray Cut → AllPlaced at m (stream_event at m v)
+placed-cut : (at : ℕ) (m : List ℕ) (v : Option Candidate) → v ≡ Some (Stray Cut) → AllPlaced at m (stream_event at m v)
 placed-cut at m v is =
     rw is ((omega arith, λ yes. absurd (false≢true yes)), tt)
 
@@ -479,7 +461,7 @@ pub not-err : (r : Result (Unit {0}) RunFault) → ((fault : RunFault) → r ≢
 not-err (Ok u) none = refl
 not-err (Err fault) none = absurd (none fault refl)
 
-module _ (given new : InputModel) (passed at longest room : ℕ) (fault fault' : Option RunFault) (bs : List ℕ) (limit : room ≡ 2 * max 4096 longest) where
+module _ (given new : InputModel) (passed at longest room : ℕ) (fault fault' : Option RunFault) (bs : List ℕ) (limit : room ≤ 2 * max 4096 longest) where
   -- the finder before and after
   abbrev pub before-read : FinderModel
   before-read = record { before = take passed given.held; rest = drop passed given.held; at = at; ended = given.ended; fault = fault; reads = given.reads; longest = longest; room = given.room }
@@ -492,7 +474,7 @@ module _ (given new : InputModel) (passed at longest room : ℕ) (fault fault' :
   ends-so (Err Read) e = e
   ends-so (Err Write) e = e
   ends-so (Err InputTooLong) e = e
-  ends-so (Err Memory) e = rw limit at e
+  ends-so (Err Memory) e = (e.0, e.1, (e.2.0, e.2.1, omega (arith, e.2.2, limit)))
 
   pub reads-more : (left left' : Option (List ℕ)) (old : InputModel) (result : Result (Unit {0}) RunFault) → old ≡ record given { held = drop passed given.held }
       → FillsInput left left' old new (old.room < room) result bs → MatchResult result (λ _. fault' ≡ None) (λ why. fault' ≡ Some why) → ReadsMore left left' before-read after-fill result bs
@@ -508,7 +490,7 @@ module _ (given new : InputModel) (passed at longest room : ℕ) (fault fault' :
 -- ---- What a call returns.
 
 -- the event that a finder passes
-module _ (old s' : FinderModel) (offset place len size : ℕ) (here : Candidate) (found : IsNextEvent old.ended old.rest place here)
+module _ (old s' : FinderModel) (offset place len size : ℕ) (here : Option Candidate) (found : IsNextEvent old.ended old.rest place here)
     (takes : len ≡ candidate_len (drop place old.rest) here) (at : offset ≡ old.at + place) (is : s' ≡ gone_to old (place + len) size) where
   found-step : Advances s'.ended old.at old.rest (stream_event offset (drop place old.rest) here) s'.at s'.rest
   found-step =
@@ -520,7 +502,7 @@ module _ (old s' : FinderModel) (offset place len size : ℕ) (here : Candidate)
   found-follows = rw is (record { passed = place + len; within = omega (arith, found.within, takes); offset = refl; left = refl })
 
   -- a message that was passed is held before what is left
-  pub found-octets : here ≡ Frame → drop (length s'.before - len) s'.before ≡ take (stated_length (drop place old.rest)) (drop place old.rest)
+  pub found-octets : here ≡ Some Frame → drop (length s'.before - len) s'.before ≡ take (stated_length (drop place old.rest)) (drop place old.rest)
   found-octets whole =
       let m = drop place old.rest in
       let size_is : len ≡ stated_length m = takes ∙ ap (candidate_len m) whole in
@@ -528,12 +510,12 @@ module _ (old s' : FinderModel) (offset place len size : ℕ) (here : Candidate)
       rw before (event-octets (old.before ++ take place old.rest) m len (omega (arith, found.within, takes, length-drop place old.rest)) ∙ ap (λ n. take n m) size_is)
 
   -- the reads of a call that passes it
-  pub found-reads : (left left' : Option (List ℕ)) (first : FinderModel) (bs : List ℕ) → ReadsAndPasses left left' first old bs [] → CallReadsAreNeeded first old bs → Raised first.longest old.longest old.rest → size ≡ length_here (drop place old.rest)
+  pub found-reads : here ≢ None → (left left' : Option (List ℕ)) (first : FinderModel) (bs : List ℕ) → ReadsAndPasses left left' first old bs [] → CallReadsAreNeeded first old bs → Raised first.longest old.longest old.rest → size ≡ length_here (drop place old.rest)
       → ReadsOn left left' first s' (stream_event offset (drop place old.rest) here) (stream_event offset (drop place old.rest) here)
-  found-reads left left' first bs steps each raised stated = (
+  found-reads some left left' first bs steps each raised stated = (
     bs,
     pass-step left left' first old s' bs [] _ steps (ap (λ x. x.ended) is) (ap (λ x. x.reads) is) found-step found-follows,
-    λ _. found-sees first old s' bs offset place size here steps.follows raised found stated at (ap (λ x. x.longest) is),
+    λ _. found-sees first old s' bs offset place size here some steps.follows raised found stated at (ap (λ x. x.longest) is),
     waits-still first old s' bs each (ap (λ x. x.reads) is) (omega (arith, ap (λ x. x.longest) is)),
   )
 
@@ -569,3 +551,176 @@ returns-again left reads s fault is open' most near bound =
 pub raises-none : (old s : FinderModel) (bs : List ℕ) → Raised old.longest s.longest s.rest → (StartsWithBufr s.rest → ⊥) → RaisesLongest old s bs []
 raises-none old s bs (inl same) none = omega (arith, same)
 raises-none old s bs (inr (word, long, grown)) none = absurd (none word)
+
+-- ---- A call of a finder, from what it did so far.
+
+-- Octets were read, no event was passed, and only a `BUFR` at the start may have raised the
+-- greatest length.
+pub record ReadingOn (left mid : Option (List ℕ)) (reads reads' : ℕ) (first s : FinderModel) : Type 0 where
+  pub steps : (bs : List ℕ) × ReadsAndPasses left mid first s bs []
+  pub each : CallReadsAreNeeded first s steps.0
+  pub counts : AddsReads reads reads' first.reads s.reads
+  pub sound : s.fault ≡ None
+  pub waits : (s ≡ first) ⊎ NoEventCertain first.at first.rest
+  pub raised : Raised first.longest s.longest s.rest
+
+pub reading-fresh : (left : Option (List ℕ)) (reads : ℕ) (s : FinderModel) → s.fault ≡ None → s.reads ≤ max_reads → ReadingOn left left reads reads s s
+reading-fresh left reads s sound most = record {
+  steps = ([], step-none left s);
+  each = none-waited s;
+  counts = adds-none reads s.reads most;
+  sound = sound;
+  waits = inl refl;
+  raised = inl refl;
+}
+
+module _ (left mid : Option (List ℕ)) (reads reads' : ℕ) (first s : FinderModel) (sound : first.fault ≡ None) (on : ReadingOn left mid reads reads' first s) where
+  -- the end was reached
+  pub reading-done : (looks : (s.ended ≡ true) × HasNoFurtherEvent s.rest) → s.at < 2 ^ 63 → held s ≤ max 4096 s.longest → ReturnsNextEvent left mid reads reads' first s (Ok event.Done)
+  reading-done looks near bound =
+      returns-next left mid reads reads' first s (Ok event.Done) sound (on.steps.0, on.steps.1, (λ _. raises-none first s on.steps.0 on.raised looks.1.word), on.each) (on.sound, (looks.0, looks.1.scan)) on.counts (waits-only first s s on.waits refl) near bound
+
+  -- the same by an equal finder
+  pub reading-ends : (s' : FinderModel) (looks : (s.ended ≡ true) × HasNoFurtherEvent s.rest) → s' ≡ s → s'.at < 2 ^ 63 → held s' ≤ max 4096 s'.longest → ReturnsNextEvent left mid reads reads' first s' (Ok event.Done)
+  reading-ends s' looks same near bound = rw same (reading-done looks (rw same at near) (rw same at bound))
+
+  module _ (s' : FinderModel) (place n : ℕ) (here : Candidate) (looks : IsNextEvent s.ended s.rest place (Some here) × IsStatedLength (drop place s.rest) n) (gone : s' ≡ gone_to s (place + len_at here n) n)
+      (near : s'.at < 2 ^ 63) (bound : held s' ≤ max 4096 s'.longest) where
+    abbrev m : List ℕ
+    m = drop place s.rest
+
+    takes : len_at here n ≡ candidate_len m (Some here)
+    takes = takes-len s.ended s.rest place n here looks.0 looks.1
+
+    abbrev offset : ℕ
+    offset = s.at + place
+
+    steps : ReadsOn left mid first s' (stream_event offset m (Some here)) (stream_event offset m (Some here))
+    steps = found-reads s s' offset place (len_at here n) n (Some here) looks.0 takes refl gone (λ e. cc) left mid first on.steps.0 on.steps.1 on.each on.raised looks.1.0
+
+    counts : AddsReads reads reads' first.reads s'.reads
+    counts = adds-same _ _ _ _ _ on.counts (ap (λ x. x.reads) gone)
+
+    waits : first.reads ≢ s'.reads → NoEventCertain first.at first.rest
+    waits = waits-only first s s' on.waits (ap (λ x. x.reads) gone)
+
+    -- the next event is certain
+    pub reading-found : (e : Event) → IsEventAt s' here n e → ReturnsNextEvent left mid reads reads' first s' (Ok e)
+    reading-found e is = by here e refl is
+      where
+        by : (h : Candidate) (e : Event) → here ≡ h → IsEventAt s' h n e → ReturnsNextEvent left mid reads reads' first s' (Ok e)
+        by (Stray cause) (event.Frame o octets) is at = absurd at
+        by (Stray cause) event.Done is at = absurd at
+        by Frame (event.Stray o why) is at = absurd at
+        by Frame event.Done is at = absurd at
+        by (Stray cause) (event.Stray o why) is at =
+            let four = ap (λ h. candidate_len m (Some h)) is in
+            let o_is : o ≡ offset = omega (arith, at.0, takes, four, ap (λ x. x.at) gone) in
+            let E : List StreamEvent → Type 0 = λ es. ReadsOn left mid first s' es es in
+            let steps' = subst E (ap (λ h. stream_event offset m (Some h)) is ∙ ap (λ k. StrayAt k cause ∷ []) (sym o_is) ∙ ap (λ w. StrayAt o w ∷ []) (sym at.1)) steps in
+            returns-next left mid reads reads' first s' (Ok (event.Stray o why)) sound steps' (ap (λ x. x.fault) gone ∙ on.sound, omega (arith, on.steps.1.follows.offset, looks.0.moves, takes, ap (λ x. x.at) gone), omega (arith, at.0)) counts waits near bound
+        by Frame (event.Frame o octets) is at =
+            let whole = ap (λ h. candidate_len m (Some h)) is in
+            let long = ap (λ h. len_at h n) is in
+            let o_is : o ≡ offset = omega (arith, at.0, takes, long, ap (λ x. x.at) gone) in
+            let value = ap (λ k. drop (length s'.before - k) s'.before) (sym long) ∙ found-octets s s' offset place (len_at here n) n (Some here) looks.0 takes refl gone (ap Some is) in
+            let octets_is : octets.now ≡ take (stated_length m) m = at.1 ∙ value in
+            let E : List StreamEvent → Type 0 = λ es. ReadsOn left mid first s' es es in
+            let steps' = subst E (ap (λ h. stream_event offset m (Some h)) is ∙ ap (λ k. FrameAt k (take (stated_length m) m) ∷ []) (sym o_is) ∙ ap (λ l. FrameAt o l ∷ []) (sym octets_is)) steps in
+            let size = ap length octets_is in
+            let short = length-take (stated_length m) m in
+            let rest = length-drop place s.rest in
+            returns-next left mid reads reads' first s' (Ok (event.Frame o octets)) sound steps' (
+              ap (λ x. x.fault) gone ∙ on.sound,
+              omega (arith, on.steps.1.follows.offset, looks.0.moves, takes, ap (λ x. x.at) gone),
+              omega (arith, size, short, takes, whole, looks.0.within, rest, looks.0.frame (ap Some is)),
+              omega (arith, size, short, takes, whole, looks.0.within, rest, at.0, long),
+              omega (arith, size, short, takes, whole, looks.0.within, rest, ap (λ x. length x.before) gone, length-append s.before (take (place + len_at here n) s.rest), length-take (place + len_at here n) s.rest),
+            ) counts waits near bound
+
+  module _ (s1 : FinderModel) (place n : ℕ) (looks : (s.ended ≡ false) × IsIncomplete s.rest place n × IsStatedLength (drop place s.rest) n) (is : s1 ≡ gone_to s place n) where
+    module _ (left' : Option (List ℕ)) (reads2 : ℕ) (s2 : FinderModel) (result : Result (Unit {0}) RunFault) (bs : List ℕ) (more : ReadsMore mid left' s1 s2 result bs) (made : AddsReads reads' reads2 s1.reads s2.reads)
+        (bound : held s2 ≤ max 4096 s2.longest) where
+      adds : AddsReads reads reads2 first.reads s2.reads
+      adds = adds-then _ _ _ _ _ _ (adds-same _ _ _ _ _ on.counts (ap (λ x. x.reads) is)) made
+
+      -- more octets came
+      pub reading-on : (u : Unit {0}) → result ≡ Ok u → ReadingOn left left' reads reads2 first s2
+      reading-on u ok = record {
+        steps = (on.steps.0 ++ bs, turn-on left mid first s s1 place n on.steps on.raised looks is left' s2 result (bs, more));
+        each = waits-read left mid first s s1 s2 place n on.steps.0 on.each on.steps.1 looks.0 looks.1 is bound left' result bs more;
+        counts = adds;
+        sound = rw ok at more.fault;
+        waits = inr (waits-open first s place n on.waits looks.1);
+        raised = raised-on left mid first s s1 place n on.steps on.raised looks is left' s2 result (bs, more);
+      }
+
+      -- the read failed, or none was made
+      module _ (f : RunFault) (fails : result ≡ Err f) (near : s2.at < 2 ^ 63) (room : first.room ≤ s.room) where
+        ends : (bs ≡ []) × (s2.ended ≡ false) × FillFails (s1.room < 2 * max 4096 s1.longest) (input_left s1) (input_left s2) f
+        ends = rw fails at more.fills.ends
+
+        undecided : IsUndecided s2 f
+        undecided =
+            let rest : s2.rest ≡ drop place s.rest = more.fills.held ∙ ap (λ l. s1.rest ++ l) ends.0 ∙ append-nil s1.rest ∙ ap (λ x. x.rest) is in
+            ((rw fails at more.fault), ends.1, rw rest looks.1.none)
+
+        stops : StopsFinder first s2 f
+        stops = by f undecided ends.2
+          where
+            by : (g : RunFault) → IsUndecided s2 g → FillFails (s1.room < 2 * max 4096 s1.longest) (input_left s1) (input_left s2) g → StopsFinder first s2 g
+            by Read so e = so
+            by Write so e = absurd e
+            by InputTooLong so e = (so, e.1)
+            by Memory so e = (so, e.1, omega (arith, e.2, room, ap (λ x. x.room) is, more.longest))
+
+        open-before : first.ended ≡ false
+        open-before = elim (cases_Bool first.ended) [ inl e ↦ absurd (true≢false (sym (on.steps.1.kept e).0 ∙ looks.0)) | inr o ↦ o ]
+
+        pub reading-stops : ReturnsNextEvent left left' reads reads2 first s2 (Err f)
+        reading-stops =
+            returns-next left left' reads reads2 first s2 (Err f) sound (
+              on.steps.0 ++ bs,
+              turn-on left mid first s s1 place n on.steps on.raised looks is left' s2 result (bs, more),
+              (λ _. stop-raises left mid first s s1 place n on.steps on.raised looks is left' s2 result (bs, more) f fails),
+              waits-read left mid first s s1 s2 place n on.steps.0 on.each on.steps.1 looks.0 looks.1 is bound left' result bs more,
+            ) (open-before, λ _. stops) adds (λ _. waits-open first s place n on.waits looks.1) near bound
+
+-- a count of failures goes by the fault, whatever else the answer might have been
+pub failures-as : {X Y : Type 0} (a b c : ℕ) (r : Result X RunFault) (r' : Result Y RunFault) (f : RunFault) → r ≡ Err f → r' ≡ Err f → a ≡ read_failures_after b r → b ≡ c → a ≡ read_failures_after c r'
+failures-as {X} {Y} a b c r r' f is is' e same = rw is' (subst (λ n. a ≡ read_failures_after {X = Y} n (Err f)) same (by f (rw is at e)))
+  where
+    by : (g : RunFault) → a ≡ read_failures_after {X = X} b (Err g) → a ≡ read_failures_after {X = Y} b (Err g)
+    by Read e = e
+    by Write e = e
+    by InputTooLong e = e
+    by Memory e = e
+
+-- ---- What octets that are held give, without a read.
+
+pub held-done : (old new : FinderModel) → old.fault ≡ None → (old.ended ≡ true) × HasNoFurtherEvent old.rest → new ≡ old → new.at < 2 ^ 63 → held new ≤ max 4096 new.longest → old.reads ≤ max_reads → GivesHeldEvent old new (Some (Ok event.Done))
+held-done old new sound looks same near bound most = (
+  sound,
+  λ left reads.
+      reading-ends left left reads reads old old sound (reading-fresh left reads old sound most) new looks same near bound,
+)
+
+pub held-found : (old new : FinderModel) (place n : ℕ) (here : Candidate) (e : Event) → old.fault ≡ None → IsNextEvent old.ended old.rest place (Some here) × IsStatedLength (drop place old.rest) n → new ≡ gone_to old (place + len_at here n) n
+    → new.at < 2 ^ 63 → held new ≤ max 4096 new.longest → old.reads ≤ max_reads → IsEventAt new here n e → GivesHeldEvent old new (Some (Ok e))
+held-found old new place n here e sound looks gone near bound most is = (
+  sound,
+  λ left reads.
+      reading-found left left reads reads old old sound (reading-fresh left reads old sound most) new place n here looks gone near bound e is,
+)
+
+pub held-needs : (old new : FinderModel) (place n : ℕ) → old.fault ≡ None → (old.ended ≡ false) × IsIncomplete old.rest place n × IsStatedLength (drop place old.rest) n → new ≡ gone_to old place n → new.at < 2 ^ 63 → NeedsRead old new
+held-needs old new place n sound looks is near = record {
+  sound = sound;
+  passes = λ left. turn-pass left left old old new [] (step-none left old) place n looks.0 looks.1 is;
+  none = rw is looks.1.none;
+  going = ap (λ x. x.ended) is ∙ looks.0;
+  fault = ap (λ x. x.fault) is ∙ sound;
+  reads = ap (λ x. x.reads) is;
+  near = near;
+  few = omega (arith, ap (λ x. length x.rest) is, ap (λ x. x.longest) is, looks.1.few);
+}

@@ -7,7 +7,7 @@ use Rattle.std.proofs.lemmas.Grind.{common_steps}
 use Rattle.memchr.specs.Find.{OccursAt, FindsNeedle, Nowhere}
 use Rattle.memchr.proofs.lemmas.MatchLemmas.{OccursAt-from_part, OccursAt-part}
 use Rattle.bufr_frame.specs.Prelude.{Candidate, scan_from, classify, has_word_at, stated_length, stream_event, candidate_len, StreamEvent, scan, open_scan, is_decided, Advances, NoEventCertain, length_here, longest_of, first_event, FrameAt, StrayAt, StartsWithBufr, IsNextEvent, IsIncomplete, HasNoFurtherEvent, FinderModel, Follows, RaisesLongest, max_octets}
-use Rattle.bufr_frame.specs.declared.finder.Candidate.TheVariants.{Nothing, Stray, Frame}
+use Rattle.bufr_frame.specs.declared.finder.Candidate.TheVariants.{Stray, Frame}
 use Rattle.bufr_frame.specs.declared.fault.Cause.TheVariants.{Cut, ShortLength, NoEnd}
 use Rattle.std.specs.List.{list_all, prefix_len, AllByRecursion}
 use Rattle.std.proofs.lemmas.Bool.Decides.{nat_tests}
@@ -36,12 +36,12 @@ scan_from-here at [] some _ = absurd (omega arith)
 scan_from-here at (x ∷ m) some goes = grind (arith, common_steps, scan_from-skip, one-on)
 
 -- where no event is, the scan goes on one octet further
-pub scan_from-nothing : (at x : ℕ) (m : List ℕ) → classify (x ∷ m) ≡ Nothing → scan_from 0 at (x ∷ m) ≡ scan_from 0 (at + 1) m
+pub scan_from-nothing : (at x : ℕ) (m : List ℕ) → classify (x ∷ m) ≡ None → scan_from 0 at (x ∷ m) ≡ scan_from 0 (at + 1) m
 unfolding scan_from
 scan_from-nothing at x m nothing = grind (arith, common_steps)
 
 -- no event is at the first k indices
-pub scan_from-past : (k at : ℕ) (m : List ℕ) → k ≤ length m → ((j : ℕ) → j < k → classify (drop j m) ≡ Nothing) → scan_from 0 at m ≡ scan_from 0 (at + k) (drop k m)
+pub scan_from-past : (k at : ℕ) (m : List ℕ) → k ≤ length m → ((j : ℕ) → j < k → classify (drop j m) ≡ None) → scan_from 0 at m ≡ scan_from 0 (at + k) (drop k m)
 scan_from-past zero at m within none = rw add-zero refl
 scan_from-past (suc k) at [] within none = absurd (omega arith)
 scan_from-past (suc k) at (x ∷ m) within none =
@@ -50,10 +50,10 @@ scan_from-past (suc k) at (x ∷ m) within none =
     ∙ ap (λ n. scan_from 0 n (drop k m)) (omega arith)
 
 -- where `BUFR` is not, no event is
-pub verdict-nothing : (m : List ℕ) → has_word_at (codes "BUFR") 0 m ≡ false → classify m ≡ Nothing
+pub verdict-nothing : (m : List ℕ) → has_word_at (codes "BUFR") 0 m ≡ false → classify m ≡ None
 verdict-nothing m absent = rw absent refl
 
-pub verdict-elsewhere : (s : List ℕ) (j : ℕ) → (OccursAt s (codes "BUFR") j → ⊥) → classify (drop j s) ≡ Nothing
+pub verdict-elsewhere : (s : List ℕ) (j : ℕ) → (OccursAt s (codes "BUFR") j → ⊥) → classify (drop j s) ≡ None
 verdict-elsewhere s j absent = verdict-nothing (drop j s) (false_from_ne_true _ (λ yes.
     let same : take 4 (drop j s) ≡ codes "BUFR" = (bytes_eq-Decides (take 4 (drop j s)) (codes "BUFR")).0 yes in
     absent (OccursAt-from_part s (codes "BUFR") j (omega (arith, length-take {A = ℕ}, length-drop {A = ℕ}, ap length same)) same)))
@@ -68,19 +68,6 @@ scan_from-found s None found at =
     ∙ rw (drop-length) (scan_from-nil 0 (at + length s))
 scan_from-found s (Some k) found at =
     scan_from-past k at s (omega (arith, found.1.fits)) (λ j below. verdict-elsewhere s j (found.0.before j (omega arith) below))
-
-not-nothing : (a b c d : Bool) → (if a then Stray Cut else if b then Stray Cut else if c then Stray ShortLength else if d then Stray NoEnd else Frame) ≢ Nothing
-not-nothing true b c d e = cc
-not-nothing false true c d e = cc
-not-nothing false false true d e = cc
-not-nothing false false false true e = cc
-not-nothing false false false false e = cc
-
-verdict-some : (m : List ℕ) → has_word_at (codes "BUFR") 0 m ≡ true → classify m ≢ Nothing
-verdict-some m here = rw here (not-nothing (nat_lt (length m) 8) (nat_lt (length m) (stated_length m)) (nat_lt (stated_length m) 12) (not (has_word_at (codes "7777") (stated_length m - 4) m)))
-
-pub verdict-there : (s : List ℕ) (j : ℕ) → OccursAt s (codes "BUFR") j → classify (drop j s) ≢ Nothing
-verdict-there s j occurs = verdict-some (drop j s) ((bytes_eq-Decides (take 4 (drop j s)) (codes "BUFR")).1 (OccursAt-part s (codes "BUFR") j occurs))
 
 -- the event at an index, and the rest of the scan after it
 pub scan_from-prefix : (s : List ℕ) (at place k : ℕ) → place < length s → k ≡ candidate_len (drop place s) (classify (drop place s)) → 0 < k
@@ -105,7 +92,7 @@ verdict-prefix m t long whole =
     let d : has_word_at (codes "7777") (stated_length m - 4) (m ++ t) ≡ has_word_at (codes "7777") (stated_length m - 4) m = holds-prefix (codes "7777") (stated_length m - 4) m t (omega arith) in
     cc
 
-nothing-prefix : (m t : List ℕ) (j : ℕ) → j + 4 ≤ length m → (OccursAt m (codes "BUFR") j → ⊥) → classify (drop j (m ++ t)) ≡ Nothing
+nothing-prefix : (m t : List ℕ) (j : ℕ) → j + 4 ≤ length m → (OccursAt m (codes "BUFR") j → ⊥) → classify (drop j (m ++ t)) ≡ None
 nothing-prefix m t j long absent =
     verdict-elsewhere (m ++ t) j (λ occurs. absent (record {
       fits = long;
@@ -119,8 +106,8 @@ past-prefix k m t long within absent at =
     scan_from-past k at (m ++ t) (omega (arith, length-append m t)) (λ j below. nothing-prefix m t j (long j below) (absent j below))
     ∙ ap (scan_from 0 (at + k)) (drop-append-le k m t within)
 
-chain : (a b c d : Bool) → Candidate
-chain a b c d = if a then Stray Cut else if b then Stray Cut else if c then Stray ShortLength else if d then Stray NoEnd else Frame
+chain : (a b c d : Bool) → Option Candidate
+chain a b c d = if a then Some (Stray Cut) else if b then Some (Stray Cut) else if c then Some (Stray ShortLength) else if d then Some (Stray NoEnd) else Some Frame
 
 chain-bounds : (a b c d : Bool) (m : List ℕ) → 4 ≤ length m → (b ≡ false → stated_length m ≤ length m) → (c ≡ false → 12 ≤ stated_length m)
     → (4 ≤ candidate_len m (chain a b c d)) × (candidate_len m (chain a b c d) ≤ length m)
@@ -137,11 +124,11 @@ chain-decided true d at m = refl
 chain-decided false true at m = refl
 chain-decided false false at m = refl
 
-chain-cut : (b c d : Bool) → chain true b c d ≡ Stray Cut
+chain-cut : (b c d : Bool) → chain true b c d ≡ Some (Stray Cut)
 unfolding chain
 chain-cut b c d = refl
 
-chain-cut-second : (a c d : Bool) → chain a true c d ≡ Stray Cut
+chain-cut-second : (a c d : Bool) → chain a true c d ≡ Some (Stray Cut)
 unfolding chain
 chain-cut-second true c d = refl
 chain-cut-second false c d = refl
@@ -156,7 +143,7 @@ four-long m here = grind (arith, common_steps, codes, bytes_eq-Decides, length-t
 pub taken-bounds : (m : List ℕ) → has_word_at (codes "BUFR") 0 m ≡ true → (4 ≤ candidate_len m (classify m)) × (candidate_len m (classify m) ≤ length m)
 taken-bounds m here = grind (arith, common_steps, is-chain, chain-bounds, four-long, nat_tests)
 
-chain-frame : (a b c d : Bool) → chain a b c d ≡ Frame → c ≡ false
+chain-frame : (a b c d : Bool) → chain a b c d ≡ Some Frame → c ≡ false
 unfolding chain
 chain-frame true b c d is = cc
 chain-frame false true c d is = cc
@@ -164,21 +151,21 @@ chain-frame false false true d is = cc
 chain-frame false false false d is = refl
 
 -- a message has at least 12 octets
-frame-long : (m : List ℕ) → has_word_at (codes "BUFR") 0 m ≡ true → classify m ≡ Frame → 12 ≤ stated_length m
+frame-long : (m : List ℕ) → has_word_at (codes "BUFR") 0 m ≡ true → classify m ≡ Some Frame → 12 ≤ stated_length m
 frame-long m here is = grind (arith, common_steps, chain-frame, is-chain, nat_tests)
 
 pub certain : (m : List ℕ) (at : ℕ) → has_word_at (codes "BUFR") 0 m ≡ true → 8 ≤ length m → stated_length m ≤ length m → list_all is_decided (stream_event at m (classify m)) ≡ true
 certain m at here long whole = grind (arith, common_steps, nat_tests, is-chain, chain-decided)
 
-happening-prefix : (at : ℕ) (m t : List ℕ) (v : Candidate) → 8 ≤ length m → stated_length m ≤ length m → stream_event at (m ++ t) v ≡ stream_event at m v
-happening-prefix at m t Nothing long whole = refl
-happening-prefix at m t (Stray cause) long whole = refl
-happening-prefix at m t Frame long whole = rw (stated-prefix m t long, take-append-le (stated_length m) m t whole) refl
+happening-prefix : (at : ℕ) (m t : List ℕ) (v : Option Candidate) → 8 ≤ length m → stated_length m ≤ length m → stream_event at (m ++ t) v ≡ stream_event at m v
+happening-prefix at m t None long whole = refl
+happening-prefix at m t (Some (Stray cause)) long whole = refl
+happening-prefix at m t (Some Frame) long whole = rw (stated-prefix m t long, take-append-le (stated_length m) m t whole) refl
 
-taken-prefix : (m t : List ℕ) (v : Candidate) → 8 ≤ length m → candidate_len (m ++ t) v ≡ candidate_len m v
-taken-prefix m t Nothing long = refl
-taken-prefix m t (Stray cause) long = refl
-taken-prefix m t Frame long = stated-prefix m t long
+taken-prefix : (m t : List ℕ) (v : Option Candidate) → 8 ≤ length m → candidate_len (m ++ t) v ≡ candidate_len m v
+taken-prefix m t None long = refl
+taken-prefix m t (Some (Stray cause)) long = refl
+taken-prefix m t (Some Frame) long = stated-prefix m t long
 
 -- the first event, whatever comes after
 pub found-prefix : (m t : List ℕ) (at : ℕ) → has_word_at (codes "BUFR") 0 m ≡ true → 8 ≤ length m → stated_length m ≤ length m
@@ -269,7 +256,6 @@ next-so ended s place found advances =
     let bounds = taken-bounds (drop place s) here in
     record {
       is = refl;
-      some = verdict-there s place found.1;
       frame = frame-long (drop place s) here;
       moves = bounds.0;
       within = omega (arith, found.1.fits, bounds.1, length-drop place s);
@@ -299,12 +285,12 @@ found-so-end s place found =
       decided = λ going. absurd (true≢false going);
     })
 
-none-cut : (at : ℕ) (m : List ℕ) → 0 < length m → classify m ≡ Stray Cut → NoEventCertain at m
+none-cut : (at : ℕ) (m : List ℕ) → 0 < length m → classify m ≡ Some (Stray Cut) → NoEventCertain at m
 none-cut at m some cut =
-    let goes : 0 < candidate_len m (Stray Cut) = omega arith in
+    let goes : 0 < candidate_len m (Some (Stray Cut)) = omega arith in
     ap (take_while is_decided) (scan_from-here at m some (rw cut goes)) ∙ rw cut refl
 
-pub cut-so : (m : List ℕ) → has_word_at (codes "BUFR") 0 m ≡ true → ((length m < 8) ⊎ (length m < stated_length m)) → classify m ≡ Stray Cut
+pub cut-so : (m : List ℕ) → has_word_at (codes "BUFR") 0 m ≡ true → ((length m < 8) ⊎ (length m < stated_length m)) → classify m ≡ Some (Stray Cut)
 cut-so m here (inl short) = grind (arith, common_steps, nat_tests, is-chain, chain-cut)
 cut-so m here (inr short) = grind (arith, common_steps, nat_tests, is-chain, chain-cut-second)
 
@@ -312,7 +298,7 @@ pub length-eight : (m : List ℕ) → 8 ≤ length m → length_here m ≡ state
 length-eight m long = let a : nat_lt (length m) 8 ≡ false = grind (arith, nat_tests) in rw a refl
 
 -- the word with too few octets after it
-pub cut-here : (m : List ℕ) (size : ℕ) → StartsWithBufr m → size ≡ length_here m → length m < max 8 size → classify m ≡ Stray Cut
+pub cut-here : (m : List ℕ) (size : ℕ) → StartsWithBufr m → size ≡ length_here m → length m < max 8 size → classify m ≡ Some (Stray Cut)
 cut-here m size here is few = grind (arith, common_steps, cases_lt, inl, cut-so, inr, length-eight)
 
 -- more octets are needed after the first `BUFR`
@@ -355,12 +341,12 @@ end-so s found = record {
 }
 
 -- as the code reads them
-pub found-at-end : (ended : Bool) (s m : List ℕ) (place : ℕ) (v : Candidate) → FindsNeedle s (codes "BUFR") 0 (Some place) → ended ≡ true
+pub found-at-end : (ended : Bool) (s m : List ℕ) (place : ℕ) (v : Option Candidate) → FindsNeedle s (codes "BUFR") 0 (Some place) → ended ≡ true
     → m ≡ drop place s → v ≡ classify m → IsNextEvent ended s place v
 found-at-end ended s m place v found end is here =
     rw end (rw (here ∙ ap classify is) (found-so-end s place found))
 
-pub found-whole : (ended : Bool) (s m : List ℕ) (place size : ℕ) (v : Candidate) → FindsNeedle s (codes "BUFR") 0 (Some place)
+pub found-whole : (ended : Bool) (s m : List ℕ) (place size : ℕ) (v : Option Candidate) → FindsNeedle s (codes "BUFR") 0 (Some place)
     → size ≡ length_here m → 8 ≤ length m → size ≤ length m → m ≡ drop place s → v ≡ classify m → IsNextEvent ended s place v
 found-whole ended s m place size v found states long whole is here =
     let size_is : size ≡ stated_length m = states ∙ length-eight m long in
@@ -477,21 +463,21 @@ raised-open a b place size rest before open' is =
     ]
 
 -- one event's length
-longest-event : (at : ℕ) (s : List ℕ) (m : List ℕ) (offset : ℕ) (here : Candidate) → here ≢ Nothing → longest_of at s (stream_event offset m here) ≡ length_here (drop (offset - at) s)
-longest-event at s m offset Nothing some = absurd (some refl)
-longest-event at s m offset (Stray cause) some = max-none (length_here (drop (offset - at) s))
-longest-event at s m offset Frame some = max-none (length_here (drop (offset - at) s))
+longest-event : (at : ℕ) (s : List ℕ) (m : List ℕ) (offset : ℕ) (here : Option Candidate) → here ≢ None → longest_of at s (stream_event offset m here) ≡ length_here (drop (offset - at) s)
+longest-event at s m offset None some = absurd (some refl)
+longest-event at s m offset (Some (Stray cause)) some = max-none (length_here (drop (offset - at) s))
+longest-event at s m offset (Some Frame) some = max-none (length_here (drop (offset - at) s))
 
 -- where a place of the rest is in all octets
 place-in : (at at' place offset : ℕ) (s rest : List ℕ) → Follows at s at' rest → offset ≡ at' + place → drop (offset - at) s ≡ drop place rest
 place-in at at' place offset s rest follows is = grind (arith, common_steps, drop-twice)
 
 -- an event is passed
-pub found-sees : (old s s' : FinderModel) (bs : List ℕ) (offset place size : ℕ) (here : Candidate) → Follows old.at (old.rest ++ bs) s.at s.rest → Raised old.longest s.longest s.rest
+pub found-sees : (old s s' : FinderModel) (bs : List ℕ) (offset place size : ℕ) (here : Option Candidate) → here ≢ None → Follows old.at (old.rest ++ bs) s.at s.rest → Raised old.longest s.longest s.rest
     → IsNextEvent s.ended s.rest place here → size ≡ length_here (drop place s.rest) → offset ≡ s.at + place → s'.longest ≡ max s.longest size → RaisesLongest old s' bs (stream_event offset (drop place s.rest) here)
-found-sees old s s' bs offset place size here follows raised found is at grown =
+found-sees old s s' bs offset place size here some follows raised found is at grown =
     grown ∙ raise old.longest s.longest place size s.rest raised found.first is
-    ∙ ap (max old.longest) (is ∙ ap length_here (sym (place-in old.at s.at place offset (old.rest ++ bs) s.rest follows at)) ∙ sym (longest-event old.at (old.rest ++ bs) (drop place s.rest) offset here found.some))
+    ∙ ap (max old.longest) (is ∙ ap length_here (sym (place-in old.at s.at place offset (old.rest ++ bs) s.rest follows at)) ∙ sym (longest-event old.at (old.rest ++ bs) (drop place s.rest) offset here some))
 
 -- the first event that is left is not certain
 first-open : (at old_at size : ℕ) (m s : List ℕ) → drop (at - old_at) s ≡ m → ((length m < 4) ⊎ StartsWithBufr m) → size ≡ length_here m → length m < max 8 size
@@ -502,7 +488,7 @@ first-open at old_at size m s there (inl short) is few =
 first-open at old_at size m s there (inr word) is few =
     let cut = cut-here m size word is few in
     let some : 0 < length m = omega (arith, four-long m word) in
-    let goes : 0 < candidate_len m (Stray Cut) = omega arith in
+    let goes : 0 < candidate_len m (Some (Stray Cut)) = omega arith in
     ap (λ l. longest_of old_at s (first_event l)) (scan_from-here at m some (rw cut goes))
     ∙ rw cut (max-none (length_here (drop (at - old_at) s)) ∙ ap length_here there ∙ sym is)
 
@@ -539,10 +525,10 @@ pub all-then : {X : Type 0} (P : X → Type 0) (xs ys : List X) → AllByRecursi
 all-then P [] ys one two = two
 all-then P (x ∷ xs) ys one two = (one.0, all-then P xs ys one.1 two)
 
-small-here : (at : ℕ) (m : List ℕ) (v : Candidate) → AllByRecursion IsOctet m → AllByRecursion IsSmall (stream_event at m v)
-small-here at m Nothing all = tt
-small-here at m (Stray cause) all = (tt, tt)
-small-here at m Frame all = ((all-take (stated_length m) m all, omega (arith, length-take (stated_length m) m, octet-at m 4 all, octet-at m 5 all, octet-at m 6 all)), tt)
+small-here : (at : ℕ) (m : List ℕ) (v : Option Candidate) → AllByRecursion IsOctet m → AllByRecursion IsSmall (stream_event at m v)
+small-here at m None all = tt
+small-here at m (Some (Stray cause)) all = (tt, tt)
+small-here at m (Some Frame) all = ((all-take (stated_length m) m all, omega (arith, length-take (stated_length m) m, octet-at m 4 all, octet-at m 5 all, octet-at m 6 all)), tt)
 
 -- each message of a stream of octets is small
 pub small-frames : (skip at : ℕ) (m : List ℕ) → AllByRecursion IsOctet m → AllByRecursion IsSmall (scan_from skip at m)
@@ -564,16 +550,16 @@ framed-then [] more = omega arith
 framed-then (FrameAt offset octets ∷ es) more = omega (arith, framed-then es more)
 framed-then (StrayAt offset cause ∷ es) more = framed-then es more
 
-framed-here : (at : ℕ) (m : List ℕ) (v : Candidate) → framed_octets (stream_event at m v) ≤ candidate_len m v
-framed-here at m Nothing = omega arith
-framed-here at m (Stray cause) = omega arith
-framed-here at m Frame = omega (arith, length-take (stated_length m) m)
+framed-here : (at : ℕ) (m : List ℕ) (v : Option Candidate) → framed_octets (stream_event at m v) ≤ candidate_len m v
+framed-here at m None = omega arith
+framed-here at m (Some (Stray cause)) = omega arith
+framed-here at m (Some Frame) = omega (arith, length-take (stated_length m) m)
 
 -- some octet is taken, and only octets that are there
 taken-within : (c : ℕ) (m : List ℕ) → (0 < candidate_len (c ∷ m) (classify (c ∷ m))) × (candidate_len (c ∷ m) (classify (c ∷ m)) ≤ length (c ∷ m))
 taken-within c m = by (has_word_at (codes "BUFR") 0 (c ∷ m)) refl
   where
-    P : Candidate → Type 0
+    P : Option Candidate → Type 0
     P v = (0 < candidate_len (c ∷ m) v) × (candidate_len (c ∷ m) v ≤ length (c ∷ m))
 
     by : (b : Bool) → has_word_at (codes "BUFR") 0 (c ∷ m) ≡ b → P (classify (c ∷ m))

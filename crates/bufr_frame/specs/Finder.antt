@@ -3,11 +3,12 @@ use Rattle.std.specs.Prelude.{◌≡◌, ◌≢◌, ℕ, ◌+◌, ◌*◌, ◌<�
 use Rattle.std.specs.List.{concat}
 use Rattle.std.specs.Io.KnownBytes.{Consumes, IsAtEnd}
 use Rattle.bufr_frame.specs.Scan.{StreamEvent, scan_from, Advances, NoEventCertain, longest_of, classify, stream_event, candidate_len, stated_length, has_word_at, first_event, length_here}
-use Rattle.bufr_frame.specs.Input.{AddsReads, max_reads}
+use Rattle.bufr_frame.specs.Input.{AddsReads, InputModel, FillsInput, max_reads}
+use Rattle.std.specs.Result.{MatchResult}
 use Rattle.bufr_frame.specs.declared.fault.RunFault.{RunFault}
 use Rattle.bufr_frame.specs.declared.fault.RunFault.TheVariants.{Read, Write, InputTooLong, Memory}
 use Rattle.bufr_frame.specs.declared.finder.Candidate.{Candidate}
-use Rattle.bufr_frame.specs.declared.finder.Candidate.TheVariants.{Nothing, Stray, Frame}
+use Rattle.bufr_frame.specs.declared.finder.Candidate.TheVariants.{Stray, Frame}
 use Rattle.bufr_frame.specs.declared.finder.SearchResult.{SearchResult}
 use Rattle.bufr_frame.specs.declared.finder.SearchResult.TheVariants.{Found, NeedsMore, End}
 use Rattle.bufr_frame.specs.declared.finder.Finder.TheInside.{Inside}
@@ -128,15 +129,37 @@ gone_to s n stated_length =
       longest = max s.longest stated_length;
     }
 
+-- how many octets begin there: a message as it states, else the word
+abbrev pub len_at : Candidate → (stated_length : ℕ) → ℕ
+len_at (Stray cause) stated_length = 4
+len_at Frame stated_length = stated_length
+
+-- the finder after it passes what octets show
+abbrev pub passed_by : FinderModel → SearchResult → FinderModel
+passed_by s (Found place here stated_length) =
+    gone_to s (place + len_at here stated_length) stated_length
+passed_by s (NeedsMore place stated_length) = gone_to s place stated_length
+passed_by s End = s
+
+-- the event that a finder passed last
+abbrev pub IsEventAt : FinderModel → Candidate → (stated_length : ℕ) → Event → Type 0
+IsEventAt s (Stray cause) n (Frame offset octets) = ⊥
+IsEventAt s (Stray cause) n (Stray offset why) = (offset + 4 ≡ s.at) × (why ≡ cause)
+IsEventAt s (Stray cause) n Done = ⊥
+IsEventAt s Frame n (Frame offset octets) =
+    (offset + n ≡ s.at) × (octets.now ≡ drop (length s.before - n) s.before)
+IsEventAt s Frame n (Stray offset why) = ⊥
+IsEventAt s Frame n Done = ⊥
+
 -- the octets begin with `BUFR`
 abbrev pub StartsWithBufr : List ℕ → Type 0
 StartsWithBufr m = has_word_at (codes "BUFR") 0 m ≡ true
 
 -- The next event is certain.
-pub record IsNextEvent (ended : Bool) (rest : List ℕ) (place : ℕ) (here : Candidate) : Type 0 where
+pub record IsNextEvent (ended : Bool) (rest : List ℕ) (place : ℕ)
+    (here : Option Candidate) : Type 0 where
   pub is : here ≡ classify (drop place rest)
-  pub some : here ≢ Nothing
-  pub frame : here ≡ Frame → 12 ≤ stated_length (drop place rest)
+  pub frame : here ≡ Some Frame → 12 ≤ stated_length (drop place rest)
   pub moves : 4 ≤ candidate_len (drop place rest) here
   pub within : place + candidate_len (drop place rest) here ≤ length rest
   pub first : StartsWithBufr rest → place ≡ 0
@@ -166,7 +189,7 @@ IsStatedLength m stated_length = (stated_length ≡ length_here m) × (stated_le
 -- what octets show; more may come after them unless the end was reached
 abbrev pub IsSearchResult : Bool → List ℕ → SearchResult → Type 0
 IsSearchResult ended rest (Found place here stated_length) =
-    IsNextEvent ended rest place here × IsStatedLength (drop place rest) stated_length
+    IsNextEvent ended rest place (Some here) × IsStatedLength (drop place rest) stated_length
 IsSearchResult ended rest (NeedsMore place stated_length) =
     (ended ≡ false) × IsIncomplete rest place stated_length
     × IsStatedLength (drop place rest) stated_length
@@ -174,7 +197,7 @@ IsSearchResult ended rest End = (ended ≡ true) × HasNoFurtherEvent rest
 
 -- ---- How a finder keeps its octets: those that were passed, and after them those that are left.
 
--- its counts are small, it holds no more than it needs, and no fault comes after the end
+-- a finder's counts are small, it holds no more than it needs, and no fault is after the end
 abbrev pub IsFinder : Inside → Type 0
 IsFinder f =
     (f.passed ≤ length f.input.held)
@@ -217,6 +240,38 @@ pub record ReturnsNextEvent (left left' : Option (List ℕ)) (reads reads' : ℕ
   pub bound : held new ≤ max 4096 new.longest
   -- after a fault nothing changes
   pub again : IfSome old.fault (λ _. new ≡ old)
+
+-- No event is certain in what is held, and nothing was passed that is one.
+pub record NeedsRead (old new : FinderModel) : Type 0 where
+  pub sound : old.fault ≡ None
+  pub passes : (left : Option (List ℕ)) → ReadsAndPasses left left old new [] []
+  pub none : (at : ℕ) → NoEventCertain at new.rest
+  pub going : new.ended ≡ false
+  pub fault : new.fault ≡ None
+  pub reads : new.reads ≡ old.reads
+  pub near : new.at < 2 ^ 63
+  pub few : length new.rest < max 4096 new.longest
+
+-- what is held shows the next event, without a read, or that one is needed; a fault comes again
+abbrev pub GivesHeldEvent : FinderModel → FinderModel → Option (Result Event RunFault) → Type 0
+GivesHeldEvent old new (Some (Ok event)) =
+    (old.fault ≡ None) × ((left : Option (List ℕ)) (reads : ℕ)
+    → ReturnsNextEvent left left reads reads old new (Ok event))
+GivesHeldEvent old new (Some (Err fault)) = (old.fault ≡ Some fault) × (new ≡ old)
+GivesHeldEvent old new None = NeedsRead old new
+
+-- the input of a finder as far as it is left
+abbrev pub input_left : FinderModel → InputModel
+input_left s = record { held = s.rest; ended = s.ended; reads = s.reads; room = s.room; free = 0 }
+
+-- One read: octets come after those that are left, or the end was reached, or a fault stops it.
+pub record ReadsMore (left left' : Option (List ℕ)) (old new : FinderModel)
+    (result : Result (Unit {0}) RunFault) (bs : List ℕ) : Type 0 where
+  pub fills : FillsInput left left' (input_left old) (input_left new)
+      (old.room < 2 * max 4096 old.longest) result bs
+  pub at : new.at ≡ old.at
+  pub fault : MatchResult result (λ _. new.fault ≡ None) (λ fault. new.fault ≡ Some fault)
+  pub longest : new.longest ≡ old.longest
 
 -- all octets that were read, up to `end`, are held: from a frame on, or after a stray word
 abbrev pub HoldsUnread : (end : ℕ) → FinderModel → Result Event RunFault → Type 0

@@ -1,6 +1,6 @@
 -- The layout of a message of edition 3 or 4. (WMO-No. 306, Volume I.2, FM 94: sections 0 to 5; that
 -- lengths are the least, reserved bits zero, is this project's choice) Cited by public contracts.
-use Rattle.std.specs.Prelude.{◌≡◌, ℕ, ◌≤◌, ◌+◌, ◌*◌, ◌==◌, nat_le, ◌&&◌, ◌||◌, Bool, true, false, List, [], ◌∷◌, ◌++◌, Option, Some, None, length, codes, is_some, slice_index, if◌then◌else◌}
+use Rattle.std.specs.Prelude.{◌≡◌, ℕ, ◌≤◌, ◌+◌, ◌*◌, ◌==◌, nat_le, ◌&&◌, ◌||◌, Bool, true, List, [], ◌∷◌, ◌++◌, Option, Some, None, length, codes, is_some, slice_index, if◌then◌else◌}
 use Rattle.bufr_frame.specs.Octets.{three_octets, two_octets, octets_of_words}
 use Rattle.bufr_frame.specs.Section1.{is_edition, first_least, octets_3, octets_4, values_of, greatest_values}
 use Rattle.bufr_frame.specs.Sections.{Sections, is_padded}

@@ -1,13 +1,13 @@
 -- The events of a stream: its messages and stray words, their lengths, and how a scan goes on.
 -- (WMO-No. 306, Volume I.2, FM 94, section 0; stray words are a choice of this project)
 -- Cited by public contracts.
-use Rattle.std.specs.Prelude.{ℕ, zero, suc, ◌+◌, ◌-◌, Bool, true, false, not, nat_lt, List, [], ◌∷◌, ◌++◌, length, take, drop, codes, if◌then◌else◌, take_while, max, ◌≡◌}
+use Rattle.std.specs.Prelude.{Option, Some, None, ℕ, zero, suc, ◌+◌, ◌-◌, Bool, true, false, not, nat_lt, List, [], ◌∷◌, ◌++◌, length, take, drop, codes, if◌then◌else◌, take_while, max, ◌≡◌}
 use Rattle.std.specs.Str.{bytes_eq}
 use Rattle.bufr_frame.specs.Octets.{u24_at}
 use Rattle.bufr_frame.specs.declared.fault.Cause.{Cause}
 use Rattle.bufr_frame.specs.declared.fault.Cause.TheVariants.{Cut, ShortLength, NoEnd}
 use Rattle.bufr_frame.specs.declared.finder.Candidate.{Candidate}
-use Rattle.bufr_frame.specs.declared.finder.Candidate.TheVariants.{Nothing, Stray, Frame}
+use Rattle.bufr_frame.specs.declared.finder.Candidate.TheVariants.{Stray, Frame}
 use Rattle.std.specs.List.{list_all}
 
 -- a message, or a `BUFR` where no message begins; offsets count from 0
@@ -24,30 +24,31 @@ has_word_at word p m = bytes_eq (take 4 (drop p m)) word
 abbrev pub stated_length : List ℕ → ℕ
 stated_length m = u24_at m 4
 
--- what the octets that are left begin with: the first case that holds counts
+-- what begins where the octets that are left begin, if they begin with `BUFR`: the first case that
+-- holds counts
 -- rule: stray-cut, stray-short-length, stray-no-end, input-ends-early
-abbrev pub classify : List ℕ → Candidate
+abbrev pub classify : List ℕ → Option Candidate
 classify m =
-    if not (has_word_at (codes "BUFR") 0 m) then Nothing
-    else if nat_lt (length m) 8 then Stray Cut
-    else if nat_lt (length m) (stated_length m) then Stray Cut
-    else if nat_lt (stated_length m) 12 then Stray ShortLength
-    else if not (has_word_at (codes "7777") (stated_length m - 4) m) then Stray NoEnd
-    else Frame
+    if not (has_word_at (codes "BUFR") 0 m) then None
+    else if nat_lt (length m) 8 then Some (Stray Cut)
+    else if nat_lt (length m) (stated_length m) then Some (Stray Cut)
+    else if nat_lt (stated_length m) 12 then Some (Stray ShortLength)
+    else if not (has_word_at (codes "7777") (stated_length m - 4) m) then Some (Stray NoEnd)
+    else Some Frame
 
 -- the event there, or none
 -- rule: frame
-abbrev pub stream_event : ℕ → List ℕ → Candidate → List StreamEvent
-stream_event at m Nothing = []
-stream_event at m (Stray cause) = StrayAt at cause ∷ []
-stream_event at m Frame = FrameAt at (take (stated_length m) m) ∷ []
+abbrev pub stream_event : ℕ → List ℕ → Option Candidate → List StreamEvent
+stream_event at m None = []
+stream_event at m (Some (Stray cause)) = StrayAt at cause ∷ []
+stream_event at m (Some Frame) = FrameAt at (take (stated_length m) m) ∷ []
 
 -- by how many octets the scan goes on: one where nothing begins, four after a stray word
 -- rule: frame, after-a-stray
-abbrev pub candidate_len : List ℕ → Candidate → ℕ
-candidate_len m Nothing = 1
-candidate_len m (Stray cause) = 4
-candidate_len m Frame = stated_length m
+abbrev pub candidate_len : List ℕ → Option Candidate → ℕ
+candidate_len m None = 1
+candidate_len m (Some (Stray cause)) = 4
+candidate_len m (Some Frame) = stated_length m
 
 -- the events of the octets that are left, the first at offset `at`, after some are skipped
 -- rule: first-bufr

@@ -1,9 +1,9 @@
 //! The finder: the messages of a stream, one after another, and its search for `BUFR`.
-ghost use Rattle.std.specs.Prelude.{◌≡◌, ◌≤◌, ◌<◌, ◌+◌, ◌-◌, ◌^◌, length, take, drop, min, codes, IfSome, Some, None, Option, max, Err};
+ghost use Rattle.std.specs.Prelude.{◌≡◌, ◌≢◌, ◌≤◌, false, List, ℕ, ◌<◌, ◌+◌, ◌-◌, ◌^◌, length, take, drop, min, codes, IfSome, Some, None, Option, max, Err};
 ghost use Rattle.memchr.specs.Find.{FindsNeedle};
 ghost use Rattle.bufr_frame.specs.Scan.{classify, stated_length};
-ghost use Rattle.bufr_frame.specs.Finder.{IsSearchResult, gone_to, FinderModel, held, new_finder, ReturnsNextEvent, IsFinder};
-ghost use Rattle.bufr_frame.specs.Input.{read_failures_after};
+ghost use Rattle.bufr_frame.specs.Finder.{IsSearchResult, passed_by, len_at, IsEventAt, GivesHeldEvent, ReadsMore, gone_to, StartsWithBufr, FinderModel, held, new_finder, ReturnsNextEvent, IsFinder};
+ghost use Rattle.bufr_frame.specs.Input.{read_failures_after, AddsReads, max_reads};
 ghost use Rattle.std.specs.Borrow.{sem};
 ghost use Rattle.std.specs.Io.BufRead.{Rests};
 
@@ -130,6 +130,105 @@ impl Finder {
         self.longest = self.longest.max(stated_length);
     }
 
+    /// Passes the next event where the octets that are held make it certain, else what begins none.
+    fn pass(&mut self) -> SearchResult
+        ensures shows { IsSearchResult self.old.ended self.old.rest result }
+        ensures gone { self.new ≡ passed_by self.old result }
+        ensures most { self.old.reads ≤ max_reads }
+        ensures near { self.new.at < 2 ^ 63 }
+        ensures bound { held self.new ≤ max 4096 self.new.longest }
+    {
+        let rest = &self.input.held()[self.passed..];
+        let shown = find_event(&self.word, rest, self.input.ended());
+        match shown {
+            SearchResult::End => {}
+            SearchResult::Found {
+                place,
+                here,
+                stated_length,
+            } => self.advance_to(place + candidate_len(here, stated_length), stated_length),
+            SearchResult::NeedsMore {
+                place,
+                stated_length,
+            } => self.advance_to(place, stated_length),
+        }
+        shown
+    }
+
+    /// The event that was passed last.
+    fn passed_event(&self, here: Candidate, stated_length: usize) -> Event<'_>
+        requires within { here ≡ Candidate.Frame → stated_length ≤ length self.now.before }
+        requires order { len_at here stated_length ≤ self.now.at }
+        ensures { IsEventAt self.now here stated_length result }
+    {
+        let len = candidate_len(here, stated_length);
+        let offset = self.offset - len as u64;
+        match here {
+            Candidate::Stray(cause) => Event::Stray(offset, cause),
+            Candidate::Frame => {
+                let before = &self.input.held()[..self.passed];
+                Event::Frame(offset, &before[before.len() - len..])
+            }
+        }
+    }
+
+    /// Returns the next event, as [`Finder::next`] does, if the octets that are held make it
+    /// certain. It is lent until the next call. `None` where a read is needed first
+    /// ([`Finder::read_more`]): nothing that is left is certain, and the end was not reached.
+    pub fn next_held(&mut self) -> Option<Result<Event<'_>, RunFault>>
+        ensures* next { sem 𝓛 (Rests the_row self.entry
+            (λ new. GivesHeldEvent self.old new result)) }
+    {
+        if let Some(fault) = self.fault {
+            return Some(Err(fault));
+        }
+        match self.pass() {
+            SearchResult::End => Some(Ok(Event::Done)),
+            SearchResult::NeedsMore { .. } => None,
+            SearchResult::Found {
+                here,
+                stated_length,
+                ..
+            } => Some(Ok(self.passed_event(here, stated_length))),
+        }
+    }
+
+    /// Reads once, where [`Finder::next_held`] needs it. The stream `r` must be the same at each
+    /// call.
+    ///
+    /// # Errors
+    ///
+    /// As [`Finder::next`]; after a fault it returns the same one, and reads nothing.
+    pub fn read_more<R: Source>(&mut self, r: &mut R) -> Result<(), RunFault>
+        requires going { self.old.ended ≡ false }
+        requires few { length self.old.rest < max 4096 self.old.longest }
+        ensures read { self.old.fault ≡ None → (bs : List ℕ)
+            × ReadsMore (R.left r.old) (R.left r.new) self.old self.new result bs }
+        ensures failed { self.old.fault ≡ None
+            → R.failures r.new ≡ read_failures_after (R.failures r.old) result }
+        ensures sure { self.old.fault ≡ None → R.waits r.old ≡ false
+            → result ≢ Err RunFault.Read }
+        ensures counts { AddsReads (R.reads r.old) (R.reads r.new) self.old.reads self.new.reads }
+        ensures bound { held self.new ≤ max 4096 self.new.longest }
+        ensures again { IfSome self.old.fault (λ fault. result ≡ Err fault) }
+        ensures same { IfSome self.old.fault (λ _. r.new ≡ r.old) }
+        ensures same_self { IfSome self.old.fault (λ _. self.new ≡ self.old) }
+    {
+        if let Some(fault) = self.fault {
+            return Err(fault);
+        }
+        // One read comes after the octets that are left, and those passed are dropped.
+        self.input.skip(self.passed);
+        self.passed = 0;
+        let limit = self.longest.max(MIN_HELD);
+        let held = self.input.held().len();
+        // The room grows with what came, since a stray word may state any length.
+        let room = (2 * limit).min((2 * MIN_HELD).max(2 * held));
+        let read = self.input.fill(r, limit - held, room);
+        self.fault = read.err();
+        read
+    }
+
     /// Returns the next event of the stream `r`, which must be the same at each call. A frame is
     /// lent until the next call. After [`Event::Done`] each call returns it again.
     ///
@@ -152,37 +251,14 @@ impl Finder {
             return Err(fault);
         }
         loop {
-            let rest = &self.input.held()[self.passed..];
-            match find_event(&self.word, rest, self.input.ended()) {
+            match self.pass() {
                 SearchResult::End => return Ok(Event::Done),
-                SearchResult::Found(place, here, stated_length) => {
-                    let offset = self.offset + place as u64;
-                    let len = match here {
-                        Candidate::Frame => stated_length,
-                        _ => 4,
-                    };
-                    self.advance_to(place + len, stated_length);
-                    return match here {
-                        Candidate::Nothing => unreachable!(),
-                        Candidate::Stray(cause) => Ok(Event::Stray(offset, cause)),
-                        Candidate::Frame => {
-                            let before = &self.input.held()[..self.passed];
-                            Ok(Event::Frame(offset, &before[before.len() - len..]))
-                        }
-                    };
-                }
-                SearchResult::NeedsMore(place, stated_length) => {
-                    self.advance_to(place, stated_length);
-                    // One read comes after the octets that are left, and those passed are dropped.
-                    self.input.skip(self.passed);
-                    self.passed = 0;
-                    let limit = self.longest.max(MIN_HELD);
-                    let most = limit - self.input.held().len();
-                    if let Err(fault) = self.input.fill(r, most, 2 * limit) {
-                        self.fault = Some(fault);
-                        return Err(fault);
-                    }
-                }
+                SearchResult::NeedsMore { .. } => self.read_more(r)?,
+                SearchResult::Found {
+                    here,
+                    stated_length,
+                    ..
+                } => return Ok(self.passed_event(here, stated_length)),
             }
         }
     }
@@ -194,37 +270,51 @@ const LENGTH: usize = 4;
 /// How many indices are compared one by one first, since a search costs more to begin.
 const NEAR: usize = 16;
 
-/// What the octets that are left begin with.
+/// What begins at a `BUFR`.
 #[derive(Clone, Copy)]
 pub(crate) enum Candidate {
-    /// They do not begin with `BUFR`.
-    Nothing,
-    /// They begin with `BUFR`, and no message begins there.
+    /// No message: the word is a stray one.
     Stray(Cause),
-    /// They begin with a message.
+    /// A message.
     Frame,
 }
 
-/// What the octets that are held show. Each has an index, from 0, and the length that is stated
-/// there, 0 where its octets are missing.
+/// The length of what begins here: of a message as it states, else of the word.
+fn candidate_len(here: Candidate, stated_length: usize) -> usize
+    ensures { result ≡ len_at here stated_length }
+{
+    match here {
+        Candidate::Stray(_) => 4,
+        Candidate::Frame => stated_length,
+    }
+}
+
+/// What the octets that are held show. A place is an index from 0. The length that is stated there
+/// is 0 where its octets are missing.
 #[derive(Clone, Copy)]
 pub(crate) enum SearchResult {
-    /// The next event: where its `BUFR` is, and whether a message or a stray word begins there.
-    Found(usize, Candidate, usize),
-    /// No event begins before the index, and more octets are needed to classify what does there.
-    NeedsMore(usize, usize),
+    /// The next event: where its `BUFR` is, and what begins there.
+    Found {
+        place: usize,
+        here: Candidate,
+        stated_length: usize,
+    },
+    /// No event begins before the place, and more octets are needed to classify what does there.
+    NeedsMore {
+        place: usize,
+        stated_length: usize,
+    },
     /// No event any more.
     End,
 }
 
-/// What `m` begins with, if nothing comes after `m`: the first case that holds counts.
+/// What begins where `m`, which begins with `BUFR`, begins, if nothing comes after `m`: the first
+/// case that holds counts.
 // rule: stray-cut, stray-short-length, stray-no-end, input-ends-early
 pub(crate) fn classify(m: &[u8]) -> Candidate
-    ensures { result ≡ classify m.now }
+    requires { StartsWithBufr m.now }
+    ensures { classify m.now ≡ Some result }
 {
-    if !m.starts_with(b"BUFR") {
-        return Candidate::Nothing;
-    }
     if m.len() < SECTION_0 {
         return Candidate::Stray(Cause::Cut);
     }
@@ -268,7 +358,10 @@ pub(crate) fn find_event(word: &memmem::Finder<'_>, rest: &[u8], ended: bool) ->
             return SearchResult::End;
         }
         // The last three octets may begin a word.
-        return SearchResult::NeedsMore(rest.len() - rest.len().min(3), 0);
+        return SearchResult::NeedsMore {
+            place: rest.len() - rest.len().min(3),
+            stated_length: 0,
+        };
     };
     let m = &rest[place..];
     let stated_length = if m.len() < SECTION_0 {
@@ -277,7 +370,14 @@ pub(crate) fn find_event(word: &memmem::Finder<'_>, rest: &[u8], ended: bool) ->
         u24_from(m, LENGTH)
     };
     if !ended && m.len() < stated_length.max(SECTION_0) {
-        return SearchResult::NeedsMore(place, stated_length);
+        return SearchResult::NeedsMore {
+            place,
+            stated_length,
+        };
     }
-    SearchResult::Found(place, classify(m), stated_length)
+    SearchResult::Found {
+        place,
+        here: classify(m),
+        stated_length,
+    }
 }

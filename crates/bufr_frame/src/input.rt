@@ -1,5 +1,5 @@
 //! An input, read piece by piece or to its end.
-ghost use Rattle.std.specs.Prelude.{◌≡◌, ◌≤◌, ◌<◌, ◌+◌, ◌-◌, ◌*◌, ◌^◌, ℕ, List, ◌++◌, take, length, drop, slice_range, Ok, IfOk, IfErr, vec_len, vec_capacity, [], ◌∷◌, true, false};
+ghost use Rattle.std.specs.Prelude.{◌≡◌, ◌≢◌, ◌≤◌, ◌<◌, ◌+◌, ◌-◌, ◌*◌, ◌^◌, ℕ, List, ◌++◌, take, length, drop, slice_range, Ok, Err, IsOk, IfOk, IfErr, vec_len, vec_capacity, [], ◌∷◌, true, false};
 ghost use Rattle.bufr_bits.specs.Prelude.{counted};
 ghost use Rattle.bufr_frame.specs.Input.{read_failures_after, max_reads, ReadsOnce, ReadsInput, AddsReads, InputModel, FillsInput, new_input};
 
@@ -118,6 +118,7 @@ impl InputBuffer {
             (self.old.room < room) result bs × (length bs ≤ most) }
         ensures grown { self.old.reads ≡ 0 → 0 < self.new.reads → room ≤ self.new.room }
         ensures free { self.new.ended ≡ true → 0 < self.new.free }
+        ensures sure { R.waits r.old ≡ false → result ≢ Err RunFault.Read }
         ensures failed { R.failures r.new ≡ read_failures_after (R.failures r.old) result }
         ensures counts { AddsReads (R.reads r.old) (R.reads r.new) self.old.reads self.new.reads }
     {
@@ -183,6 +184,7 @@ fn read_after<R: Source>(
     ensures len { vec_len buffer.new ≡ vec_len buffer.old }
     ensures room { vec_capacity buffer.new ≡ vec_capacity buffer.old }
     ensures fits { IfOk result (λ n. filled + n ≤ to) }
+    ensures sure { R.waits r.old ≡ false → IsOk result }
     ensures failed { R.failures r.new ≡ read_failures_after (R.failures r.old) result }
     ensures made { R.reads r.new ≡ counted (R.reads r.old) 1 }
 {

@@ -101,7 +101,7 @@ pub record AreCellsOf (cells : List Cell) (tree : Tree) : Type 0 where
   pub sound : IsSound tree
   pub legal : IsLegal tree
 
--- that, with the depth that is kept beside the cells
+-- cells are the layout of a tree, and the depth that is kept beside them is the tree's
 pub record IsTemplate (cells : List Cell) (depth_reported : ℕ) (tree : Tree) : Type 0 where
   pub is_flattened : AreCellsOf cells tree
   pub depth_is : depth_reported ≡ depth tree

@@ -222,7 +222,7 @@ EveryGroupConsumes (fixed count body rest) =
 EveryGroupConsumes (delayed factor body rest) =
     (consumes body ≡ true) × (EveryGroupConsumes body × EveryGroupConsumes rest)
 
--- that, and some node of the whole takes bits
+-- each group of a template takes bits of the data, and so does the whole
 abbrev pub IsSound : Tree → Type 0
 IsSound tree = EveryGroupConsumes tree × (consumes tree ≡ true)
 

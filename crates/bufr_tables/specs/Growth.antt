@@ -22,7 +22,7 @@ abbrev pub group_of : Passes → Tree → Tree
 group_of (passes.Fixed count) body = fixed count body bare
 group_of (passes.Delayed factor) body = delayed factor body bare
 
--- its first cell, where this place is after its end
+-- the first cell of a group, where this place is after the group's end
 abbrev pub first_cell : Passes → ℕ → Cell
 first_cell (passes.Fixed count) after = cell.Fixed count after
 first_cell (passes.Delayed factor) after = cell.Delayed after

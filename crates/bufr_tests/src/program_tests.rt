@@ -404,7 +404,7 @@ fn hands_on_what_was_written_before_a_fault(rt: HostRuntime) {
     assert_handed_on(&rt, "encode", arguments, text, ONE_BLOCK_NUMBER);
 }
 
-/// A writer that is full, and counts the calls that it is given.
+/// A writer that is full, and counts the calls that it is given from the first write on.
 #[derive(Drop)]
 struct Full<'a> {
     calls: &'a Cell<usize>,
@@ -417,7 +417,9 @@ impl<'a> Write for Full<'a> {
     }
 
     fn flush(&mut self) -> io::Result<()> {
-        self.calls.set(self.calls.get().saturating_add(1));
+        if self.calls.get() > 0 {
+            self.calls.set(self.calls.get().saturating_add(1));
+        }
         Ok(())
     }
 }

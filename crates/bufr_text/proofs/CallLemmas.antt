@@ -3,14 +3,14 @@ use Rattle.std.proofs.Common.{inl, inr, ◌⊎◌, ◌≡◌, ℕ, ◌<◌, Bool
 use Rattle.std.proofs.KnownBytes.{Consumes-trans}
 use Rattle.std.proofs.lemmas.Bool.{true≢false}
 use Rattle.std.proofs.lemmas.List.{nil_from_length}
-use Rattle.bufr_text.specs.Prelude.{ParserState, ParseResult, parse_lines, parse_open_lines, lines_of, split_of, Document, Complete, Refused, NotAllowed, documents_of, open_documents_of, text_of_lines, has_no_feed, ReaderPosition, ContinuesParse, TakesWholeLines, TakesEndLine, ReaderModel, position_of, position_after, IsMissingFeed, ReadsLines, EndsAtEndLine, parse, parse_open, new_reader, HasNoMoreLines, KeepsUnread, ReadsOnlyIfNoLine, ReturnsNextDocument, HasNoWholeLine, ParsesHeldLines, ReadsMoreText, TakesHeldLines, FillsBuffer, text_input, stopped, IsProper, ReadFault}
+use Rattle.bufr_text.specs.Prelude.{NeedsLine, failures_by, ParserState, ParseResult, parse_lines, parse_open_lines, lines_of, split_of, Document, Complete, documents_of, open_documents_of, text_of_lines, has_no_feed, ReaderPosition, ContinuesParse, TakesWholeLines, TakesEndLine, ReaderModel, position_of, position_after, IsMissingFeed, ReadsLines, EndsAtEndLine, parse, parse_open, new_reader, HasNoMoreLines, KeepsUnread, ReadsOnlyIfNoLine, ReturnsNextDocument, HasNoWholeLine, ParsesHeldLines, ReadsMoreText, TakesHeldLines, FillsBuffer, text_input, stopped, IsProper, ReadFault}
 use Rattle.bufr_text.proofs.ReaderLemmas.{goes-further, line-held, one-line, nothing-yet, some-held, call-keeps, keeps-same, passes-none, HandlesEnd}
 use Rattle.std.specs.Io.KnownBytes.{Consumes}
 use Rattle.bufr_frame.specs.Prelude.{max_reads, FillEnds, FillFails, AddsReads}
 use Rattle.bufr_frame.specs.declared.fault.RunFault.{RunFault}
 use Rattle.bufr_frame.specs.declared.fault.RunFault.TheVariants.{Read, Write, InputTooLong, Memory}
 use Rattle.bufr_frame.proofs.FinderLemmas.{adds-none, adds-then}
-use Rattle.bufr_text.specs.declared.fault.ReadFault.TheVariants.{Line, Run}
+use Rattle.bufr_text.specs.declared.fault.ReadFault.TheVariants.{Line, SubsetCount, HeaderRange, Run}
 use Rattle.std.proofs.lemmas.Bool.Decides.{nat_tests}
 use Rattle.std.proofs.lemmas.Grind.{common_steps}
 
@@ -194,6 +194,21 @@ pub call-takes : (left mid : Option (List ℕ)) (old s s' : ReaderModel) (bs : L
 call-takes left mid old s s' bs results call reports ended reads =
     rw (append-nil bs) at (call-then left mid mid old s s' [] results bs [] call (takes-call mid s s' results reports ended reads))
 
+-- what is held gives nothing more
+pub call-needs : (left mid : Option (List ℕ)) (old s s' : ReaderModel) (bs : List ℕ) → ReadsLines left mid old s [] bs → NeedsLine s s' → ReadsLines left mid old s' [] bs
+call-needs left mid old s s' bs call needs = rw (append-nil bs) at (call-then left mid mid old s s' [] [] bs [] call (needs.passes mid))
+
+-- without a read none fails
+pub failures-kept : (count : ℕ) (next : Result (Option Document) ReadFault) → (next ≡ Err (Run Read) → ⊥) → failures_by count next ≡ count
+failures-kept count (Ok document) unread = refl
+failures-kept count (Err (Line line)) unread = refl
+failures-kept count (Err (SubsetCount line)) unread = refl
+failures-kept count (Err (HeaderRange line)) unread = refl
+failures-kept count (Err (Run Read)) unread = absurd (unread refl)
+failures-kept count (Err (Run Write)) unread = refl
+failures-kept count (Err (Run InputTooLong)) unread = refl
+failures-kept count (Err (Run Memory)) unread = refl
+
 -- where the end was reached before, what is held was held before
 held-before : (left mid : Option (List ℕ)) (old s : ReaderModel) (bs : List ℕ) (results : List ParseResult) → ReadsLines left mid old s results bs → old.ended ≡ true → 0 < length s.held → 0 < length old.held
 held-before left mid old s bs results h1 h2 h3 = grind (arith, nat_tests, common_steps)
@@ -284,15 +299,6 @@ module _ (left mid left' : Option (List ℕ)) (old s s' : ReaderModel) (bs bs' :
       call-then left mid left' old s x [] [] bs bs' call (open-call mid left' s x [] bs' none read (grind (arith, nat_tests, common_steps)) open' ended order)
 
   pub fill-fault : (f : ReadFault) → FillsBuffer mid left' s s' (Err f) bs' → ReturnsNextDocument left left' old s' (Err f)
-  fill-fault (Line line) so =
-      let unended : s'.ended ≡ false = so.4 ∙ open' in
-      let whole = call-then left mid left' old s s' [] (Refused line NotAllowed ∷ []) bs bs' call (open-call mid left' s s' (Refused line NotAllowed ∷ []) bs' so.1 so.0 so.2 open' unended (omega (arith, so.5))) in record {
-        octets = bs ++ bs';
-        reads = whole;
-        keeps = call-keeps left left' old s' (Refused line NotAllowed ∷ []) (bs ++ bs') whole;
-        waits = waits-same left old s s' bs (bs ++ bs') waits so.5 (nothing so.1);
-        ends = so.3;
-      }
   fill-fault (Run f) (x, read, is, short) = let N : ReaderModel → Type 0 = λ n. ReturnsNextDocument left left' old n (Err (Run f)) in subst N (sym is) (by f read.fills.ends)
     where
       by : (f : RunFault) → FillEnds (s.reads ≡ 0) (text_input s s.held) (text_input x (s.held ++ bs')) bs' (Err f) → ReturnsNextDocument left left' old (stopped x (Run f)) (Err (Run f))

@@ -10,13 +10,13 @@ use Rattle.bufr_fill.proofs.PlainLaws.{AllSpecs, EachSpecs, draft_again, plain_r
 use Rattle.bufr_frame.specs.Prelude.{with_even_length, message_octets, message_size, max_octets, MessageParts, parts_of, sections_from, Sections, sections_of}
 use Rattle.bufr_frame.proofs.AgainLemmas.{not-too-long, written-again, fitting-writable}
 use Rattle.bufr_frame.proofs.LayoutLemmas.{even-least, written-even, length-evened, evened-bits, read-back}
-use Rattle.bufr_fill.proofs.SpecLemmas.{AreGoodRows}
+use Rattle.bufr_walk.proofs.NextField.{AreRead, table_read, next_field}
 use Rattle.bufr_fill.proofs.WholeLaws.{rows_dumped, template_apart, template_together, plain_template_again, packed_template_again}
-use Rattle.bufr_fill.proofs.GoodReads.{template_good, plain_specs, packed_specs}
+use Rattle.bufr_fill.proofs.GoodReads.{plain_specs, packed_specs}
 use Rattle.bufr_fill.proofs.PackedLaws.{packed_count}
 use Rattle.bufr_fill.proofs.FormLaws.{packed_rewritten}
 use Rattle.bufr_text.specs.Prelude.{subset_entries, document_of, lines_before, items_shown, IsAccepted, dump_items, HaveNoMinusZero, ArePacked, AreWritten, IsCanonical, IsEncodedAgain, each_subset, HasReadingIn, IsForForm, IsFormed, IsFaultIn, EncodesForm, data_bits, octets_of_bits, encoding_of, by_item, too_long, RefusedAt, refused_at, report_of_items, parts_as, compressed_as, message_of, encoding_in, IsDocumentRefusal, reported_refusal, compressed_by, form_of_flag, compressed_in, Document, DocumentFault, Form}
-use Rattle.bufr_text.proofs.DumpableLemmas.{octets_are, sections_given, rows-read, good-rows}
+use Rattle.bufr_text.proofs.DumpableLemmas.{octets_are, sections_given}
 use Rattle.bufr_text.proofs.RoundTripLemmas.{all_apart, all_together, encoded_to, parts_back, parts_with, size_least, fills_as, bit_back, section2_back, padded, payload_bits, size_is, enough, suffix, encoded_again, as_written, no_data, octets_small, framed, parts_of_document}
 use Rattle.std.specs.Global.{Global}
 use Rattle.bufr_bits.proofs.BitLemmas.{length-bits_of}
@@ -144,21 +144,21 @@ all_packed (suc n) course items (s ∷ ss) bits suffix count specs dumped h c =
 
 -- ---- the message
 
-data_filled : (table : List Row) (template : Tree) (s : Sections) (values : Values) (used at : ℕ) → AreGoodRows table → IsLegal template
+data_filled : (table : List Row) (template : Tree) (s : Sections) (values : Values) (used at : ℕ) → AreRead table → IsLegal template
     → IsReading (next_item table template) (data_of s) values used → AreWritten values (bits_of s.payload) (drop used (bits_of s.payload))
     → AreAllFilled (data_bits s.compressed (next_item table template) (subsets_of (subset_entries at (dump_items table s.subsets values)))) (bits_of s.payload) (drop used (bits_of s.payload))
 data_filled table template s (apart subsets) used at rows legal read writes =
     let course = next_item table template in
     let bits = bits_of s.payload in
     let drafts = subsets_of (subset_entries at (map (items_shown table) subsets)) in
-    let f = subsets_filled course subsets drafts bits (drop used bits) (plain_specs course subsets bits (drop used bits) (template_good table template rows legal) read.2.0) (all_apart table at subsets) read.2.0 writes in
+    let f = subsets_filled course subsets drafts bits (drop used bits) (plain_specs course subsets bits (drop used bits) (next_field table template rows legal) read.2.0) (all_apart table at subsets) read.2.0 writes in
     record { out = f.out; fills = fills_as s.compressed false course drafts f.out read.0 f.fills; splits = f.splits }
 data_filled table template s (together items) used at rows legal read writes =
     let course = next_item table template in
     let bits = bits_of s.payload in
     let drafts = subsets_of (subset_entries at (map (items_shown table) (subsets_from s.subsets 0 items))) in
     let dumped = all_together table at s.subsets 0 items in
-    let f = all_packed s.subsets course items drafts bits (drop used bits) dumped.1 (λ n r. packed_specs n course items bits (drop used bits) (template_good table template rows legal) r) dumped.0 read.2 writes in
+    let f = all_packed s.subsets course items drafts bits (drop used bits) dumped.1 (λ n r. packed_specs n course items bits (drop used bits) (next_field table template rows legal) r) dumped.0 read.2 writes in
     record { out = f.out; fills = fills_as s.compressed true course drafts f.out read.0 f.fills; splits = f.splits }
 
 within_data : (table : List Row) (template : Tree) (s : Sections) (values : Values) (used : ℕ) → IsReading (next_item table template) (data_of s) values used → used ≤ length (bits_of s.payload)
@@ -168,7 +168,7 @@ within_data table template s (together items) used h = h.1
 prefix_is : (bits out : List Bool) (used : ℕ) → used ≤ length bits → bits ≡ out ++ drop used bits → out ≡ take used bits
 prefix_is bits out used h1 h2 = grind (arith, nat_tests, common_steps)
 
-pub canonical_encoded : (table : List Row) (sequences : List Sequence) (m : List ℕ) (s : Sections) (template : Tree) (values : Values) (used at : ℕ) → AreGoodRows table → IsLegal template
+pub canonical_encoded : (table : List Row) (sequences : List Sequence) (m : List ℕ) (s : Sections) (template : Tree) (values : Values) (used at : ℕ) → AreRead table → IsLegal template
     → IsAccepted table sequences m s template values used → IsCanonical m s values used → encoding_of table sequences (document_of at s (dump_items table s.subsets values)) ≡ Ok m
 unfolding parts_with
 canonical_encoded table sequences m s template values used at rows legal a c =
@@ -215,7 +215,7 @@ record IsUnfilled (table : List Row) (template : Tree) (entries : List DraftEntr
   is : data_bits true (next_item table template) (subsets_of entries) ≡ Err why
   unlike : IsUnlike why.fault
 
-module _ (table : List Row) (template : Tree) (s : Sections) (used at : ℕ) (rows : AreGoodRows table) (legal : IsLegal template) where
+module _ (table : List Row) (template : Tree) (s : Sections) (used at : ℕ) (rows : AreRead table) (legal : IsLegal template) where
   filled_plainly : (values : Values) → IsReading (next_item table template) (data_of s) values used → IsFilled false table template s values (subset_entries at (dump_items table s.subsets values))
   filled_plainly (apart subsets) read =
       let entries = subset_entries at (map (items_shown table) subsets) in
@@ -351,7 +351,7 @@ as_it_is : (table : List Row) (m : List ℕ) (s : Sections) (template : Tree) (v
 as_it_is table m s template values used at sequences h1 h2 = grind (arith, nat_tests, common_steps)
 
 -- the document of an accepted message, in each form
-pub formed : (form : Form) (table : List Row) (sequences : List Sequence) (m : List ℕ) (s : Sections) (template : Tree) (values : Values) (used at : ℕ) → AreGoodRows table → IsLegal template → IsAccepted table sequences m s template values used
+pub formed : (form : Form) (table : List Row) (sequences : List Sequence) (m : List ℕ) (s : Sections) (template : Tree) (values : Values) (used at : ℕ) → AreRead table → IsLegal template → IsAccepted table sequences m s template values used
     → IsFormed form table s template values (encoding_in form table sequences (document_of at s (dump_items table s.subsets values)))
 formed form.AsWritten table sequences m s template values used at rows legal a =
     as_it_is table m s template values used at sequences a.few (encoded_again table sequences m s template values used at rows legal a)
@@ -375,7 +375,7 @@ pub formed_of : (form : Form) (records : List Record) (table : List Row) (sequen
     → d ≡ document_of at s (dump_items table s.subsets values) → IsFormed form table s template values (encoding_in form table sequences d)
 formed_of form records table sequences m s template values used at d rows a same =
     subst (λ (x : Document). IsFormed form table s template values (encoding_in form table sequences x)) (sym same)
-    (formed form table sequences m s template values used at (good-rows table (rows-read records table rows)) (tree_fine (tables_of table sequences) s.descriptors template a.expands).legal a)
+    (formed form table sequences m s template values used at (table_read records table rows) (tree_fine (tables_of table sequences) s.descriptors template a.expands).legal a)
 
 pub form_so : (form : Form) (table : List Row) (s : Sections) (template : Tree) (values : Values) (defined : Result (List ℕ) RefusedAt) (r : Result (Vec ℕ Global) DocumentFault) → IfOk r (λ octets. defined ≡ Ok octets.items) → IfErr r (λ why. IsDocumentRefusal (reported_refusal why) defined)
     → IsFormed form table s template values defined → EncodesForm form table s template values r
@@ -392,7 +392,7 @@ unfolding encoding_in
 in_the_form table sequences at s said true items = refl
 in_the_form table sequences at s said false items = refl
 
-pub canonical_back : (form : Form) (table : List Row) (sequences : List Sequence) (m : List ℕ) (s : Sections) (template : Tree) (values : Values) (used at : ℕ) (octets : List ℕ) → AreGoodRows table → IsLegal template
+pub canonical_back : (form : Form) (table : List Row) (sequences : List Sequence) (m : List ℕ) (s : Sections) (template : Tree) (values : Values) (used at : ℕ) (octets : List ℕ) → AreRead table → IsLegal template
     → IsAccepted table sequences m s template values used → IsCanonical m s values used → (again : HasReadingIn form table s template values octets)
     → encoding_in (form_of_flag s.compressed) table sequences (document_of at again.sections (dump_items table again.sections.subsets again.found)) ≡ Ok m
 canonical_back form table sequences m s template values used at octets rows legal a canonical again =

@@ -14,7 +14,8 @@ use Rattle.bufr_fill.specs.Prelude.{Subset, subsets_of, Draft, FaultAt, AllHaveO
 use Rattle.bufr_fill.proofs.BackLaws.{plain_template_back, packed_template_back}
 use Rattle.bufr_fill.proofs.FieldLemmas.{octets_in-are}
 use Rattle.bufr_text.specs.Prelude.{mosts, Form, Document, optional_in, head_from_values, Complete, documents_of, key_value, compressed_in, section2_in, too_long, refused_at, ◌>>=◌, report_of_template, report_of_items, data_bits, octets_of_bits, parts_as, compressed_as, message_of, encoding_in, RefusedAt, encoding_of, IsOctet, bit, header_lines, local1_line, section2_line, descriptors_line, head_lines, item_text, subset_line, subset_lines, text_of_lines, dump_text_of, subset_entries, lines_before, document_of, IsProper, header_as, normal_head, normal_line, draft_answer, line_and, normal_items, normal_subsets, normal, AreValuesOf, IsReadAs, each_subset, runs_of, items_shown, dump_items}
-use Rattle.bufr_text.proofs.DumpableLemmas.{octets_are, dumpable, rows-read}
+use Rattle.bufr_text.proofs.DumpableLemmas.{octets_are, dumpable}
+use Rattle.bufr_walk.proofs.NextField.{table_read}
 use Rattle.bufr_text.proofs.RoundTripLemmas.{padded, payload_bits, size_is, octets_small, framed, same_form, all_apart, all_together, bit_back, parts_back, parts_with, parts_of_document}
 use Rattle.bufr_text.proofs.FormLemmas.{plain_reading, packed_reading}
 use Rattle.bufr_text.proofs.HeaderLemmas.{headed-fits, subsets-few, header-widest}
@@ -350,4 +351,4 @@ module _ (form : Form) (records : List Record) (table : List Row) (sequences : L
   pub one_document_again : IsProper d → documents_of (normal form table h.template d) ≡ Complete (document_of 1 h.sections shown_items) ∷ []
   one_document_again proper =
       ap documents_of (sym (dump_is_normal proper))
-      ∙ one-document h.sections shown_items (dumpable table sequences octets h.sections h.template h.values h.used (rows-read records table rows) legal h.accepted)
+      ∙ one-document h.sections shown_items (dumpable table sequences octets h.sections h.template h.values h.used (table_read records table rows) legal h.accepted)

@@ -12,7 +12,7 @@ use Rattle.bufr_frame.specs.Prelude.{Sections}
 use Rattle.bufr_frame.specs.declared.fault.RunFault.TheVariants.{Write, Memory}
 use Rattle.bufr_tables.specs.Prelude.{Row, fxy_text, places, row_comment, row_line_start}
 use Rattle.bufr_walk.specs.declared.fault.ShowFault.{ShowFault}
-use Rattle.bufr_walk.specs.Prelude.{item_call, Timed, View, shown_number, view_of, content_at, item_calls, subset_calls, compressed_item_calls, compressed_subset_calls, calls_of, turns_shown, Shows, EndsAt, Content, Course, ticked, Item, Values, apart, together, plain, after, turns_after}
+use Rattle.bufr_walk.specs.Prelude.{item_call, Timed, View, shown_number, view_of, content_at, item_calls, subset_calls, compressed_item_calls, compressed_subset_calls, calls_by, turns_by, calls_of, turns_shown, values_read, Shows, EndsAt, Content, Course, ticked, Item, Values, apart, together, plain, after, turns_after}
 use Rattle.std.specs.Int.{from_bool}
 use Rattle.std.proofs.lemmas.Bool.{cases_lt}
 use lib.Ieee.Fits.{and_l, and_r}
@@ -111,11 +111,11 @@ infixl 20 ◌⨾◌
 pub ◌⨾◌ : {a b c : LineModel} {s t : List ℕ} → Pushes a s b → Pushes b t c → Pushes a (s ++ t) c
 ◌⨾◌ {a = a} {b = b} {c = c} {s = s} {t = t} first second = record {
   from = goes a b c s t a.status b.status refl first.from second.from;
-  flushes = second.flushes ∙ first.flushes;
+  failed_flushes = second.failed_flushes ∙ first.failed_flushes;
   sink = second.sink ∙ first.sink;
 }
 
-pub holds_pushes : {a b : LineModel} {text : List ℕ} → b.status ≡ a.status → b.taken ≡ a.taken → b.failures ≡ a.failures → b.empty_writes ≡ a.empty_writes → b.flushes ≡ a.flushes → b.sink ≡ a.sink
+pub holds_pushes : {a b : LineModel} {text : List ℕ} → b.status ≡ a.status → b.taken ≡ a.taken → b.failures ≡ a.failures → b.empty_writes ≡ a.empty_writes → b.failed_flushes ≡ a.failed_flushes → b.sink ≡ a.sink
     → b.held ≡ a.held ++ text → Pushes a text b
 holds_pushes h1 h2 h3 h4 h5 h6 h7 = grind (arith, nat_tests, common_steps)
 
@@ -243,7 +243,7 @@ all-together-text table (suc left) j items =
     (subst (λ k. calls_text (compressed_subset_calls table left (j + 1) items) ≡ text_of_lines (subset_lines (j + 1 + 1) (map (items_shown table) (subsets_from left k items)))) next (all-together-text table left (j + 1) items))
 
 -- the calls of a reading write its subsets
-pub reading-text : (r : outcome.Read) (values : Values) → calls_text (calls_of r values) ≡ text_of_lines (subset_lines 1 (dump_items r.table r.source.subsets values))
+pub reading-text : (r : outcome.Read) (values : Values) → calls_text (calls_by r values) ≡ text_of_lines (subset_lines 1 (dump_items r.table r.source.subsets values))
 reading-text r (apart subsets) = subsets-text r.table (outcome.course_of r) 0 1 subsets
 reading-text r (together items) = all-together-text r.table r.source.subsets 0 items
 
@@ -252,17 +252,17 @@ moved : (r : Result Unit RunFault) (old new : Option (List ℕ)) (octets held he
 moved (Ok x) old new octets held held' e f writes = rw (e, f) (record { prefix = octets; parts = sym (append-nil octets); gains = writes })
 moved (Err why) old new octets held held' e f writes = rw e writes
 
-written_through : {b c : LineModel} {octets : List ℕ} → b.status ≡ Ok tt → b.held ≡ [] → c.held ≡ [] → Writes b.taken c.taken octets c.status → CountsWrites b.failures c.failures b.empty_writes c.empty_writes c.status → c.flushes ≡ b.flushes → c.sink ≡ b.sink → Pushes b octets c
-written_through {b = b} {c = c} {octets = octets} ok none none' writes counts flushes sink = record {
+written_through : {b c : LineModel} {octets : List ℕ} → b.status ≡ Ok tt → b.held ≡ [] → c.held ≡ [] → Writes b.taken c.taken octets c.status → CountsWrites b.failures c.failures b.empty_writes c.empty_writes c.status → c.failed_flushes ≡ b.failed_flushes → c.sink ≡ b.sink → Pushes b octets c
+written_through {b = b} {c = c} {octets = octets} ok none none' writes counts failed_flushes sink = record {
   from = rw ok (record { moves = moved c.status b.taken c.taken octets b.held c.held none none' writes; counts = counts });
-  flushes = flushes;
+  failed_flushes = failed_flushes;
   sink = sink;
 }
 
-pub pushed_through : {a b mid c : LineModel} {octets : List ℕ} → Pushes a [] mid → b ≡ mid → mid.held ≡ [] → b.status ≡ Ok tt → Writes b.taken c.taken octets c.status → CountsWrites b.failures c.failures b.empty_writes c.empty_writes c.status → c.held ≡ [] → c.flushes ≡ b.flushes → c.sink ≡ b.sink → Pushes a octets c
-pushed_through {b = b} {c = c} {octets = octets} first is none ok writes counts none' flushes sink =
+pub pushed_through : {a b mid c : LineModel} {octets : List ℕ} → Pushes a [] mid → b ≡ mid → mid.held ≡ [] → b.status ≡ Ok tt → Writes b.taken c.taken octets c.status → CountsWrites b.failures c.failures b.empty_writes c.empty_writes c.status → c.held ≡ [] → c.failed_flushes ≡ b.failed_flushes → c.sink ≡ b.sink → Pushes a octets c
+pushed_through {b = b} {c = c} {octets = octets} first is none ok writes counts none' failed_flushes sink =
     let B : LineModel → Type 0 = λ b. Pushes b octets c in
-    first ⨾ subst B is (written_through ok (ap (λ x. x.held) is ∙ none) none' writes counts flushes sink)
+    first ⨾ subst B is (written_through ok (ap (λ x. x.held) is ∙ none) none' writes counts failed_flushes sink)
 
 pub fails_pushes : {a b : LineModel} {s : List ℕ} (t : List ℕ) (f : RunFault) → Pushes a s b → b.status ≡ Err f → Pushes a (s ++ t) b
 fails_pushes t f h1 h2 = grind (arith, nat_tests, common_steps)
@@ -331,10 +331,13 @@ compressed-none : (table : List Row) (subsets : ℕ) (items : List (Item (List C
 compressed-none table zero items = refl
 compressed-none table (suc n) items = inl refl
 
-pub no-steps : (r : outcome.Read) (values : Values) → StepsWithin (calls_of r values) (turns_shown r values) 0
-no-steps r (apart []) = refl
-no-steps r (apart (items ∷ subsets)) = inl refl
-no-steps r (together items) = compressed-none r.table r.source.subsets items
+pub no-steps : (r : outcome.Read) → StepsWithin (calls_of r) (turns_shown r) 0
+no-steps r = by (values_read r)
+  where
+    by : (values : Values) → StepsWithin (calls_by r values) (turns_by r values) 0
+    by (apart []) = refl
+    by (apart (items ∷ subsets)) = inl refl
+    by (together items) = compressed-none r.table r.source.subsets items
 
 -- a prefix of a text was pushed, and with it one of a longer text
 prefix-longer : {a b : LineModel} {s : List ℕ} (t : List ℕ) → PushesPrefix a s b → PushesPrefix a (s ++ t) b
@@ -352,7 +355,7 @@ prefix-moved a b text (Err f) moves = moves.1
 pub record LeavesSink {X : Type 0} (a : LineModel) (text : List ℕ) (r : Result X RunFault) (c : LineModel) : Type 0 where
   pub writes : WritesPrefix a.taken c.taken text r
   pub counts : CountsFaults a.failures c.failures a.empty_writes c.empty_writes r
-  pub flushes : c.flushes ≡ a.flushes
+  pub failed_flushes : c.failed_flushes ≡ a.failed_flushes
   pub sink : c.sink ≡ a.sink
 
 counts-fault : (f f' e e' : ℕ) (status : Result Unit RunFault) (fault : RunFault) → IsFirstFault status fault → ((g : RunFault) → status ≡ Err g → g ≡ Write) → CountsWrites f f' e e' status → CountsFaults {X = Unit} f f' e e' (Err fault)
@@ -378,7 +381,7 @@ module _ {a b c : LineModel} {head : List ℕ} (rest : List ℕ) (ok : a.status 
           gains = grown.gains;
         };
         counts = counts-fault a.failures c.failures a.empty_writes c.empty_writes c.status fault is (only-write a c (a.held ++ (head ++ more.prefix)) c.held c.status from.moves) from.counts;
-        flushes = whole.flushes;
+        failed_flushes = whole.failed_flushes;
         sink = whole.sink;
       }
 
@@ -389,58 +392,58 @@ module _ {a b c : LineModel} {head : List ℕ} (rest : List ℕ) (ok : a.status 
       record {
         writes = all_written {r = Ok tt} tt whole nothing_pushed ok none empty refl refl is;
         counts = rw (sym is) at from.counts;
-        flushes = whole.flushes;
+        failed_flushes = whole.failed_flushes;
         sink = whole.sink;
       }
   leaves-end (Err fault) more empty is = leaves-prefix fault (whole-prefix rest more) (rw (sym is) refl)
 
--- a showing of a reading, whatever its values are, and what it leaves of the sink
-abbrev pub Shown : (Values → Type 0) → outcome.Read → LineModel → Result (Unit {0}) (ShowFault RunFault) → LineModel → ℕ → Type 0
-Shown R r b o c steps = (values : Values) → R values → Shows PushesCall b (calls_of r values) (turns_shown r values) o c steps
+-- a showing of a reading, and what it leaves of the sink
+abbrev pub Shown : outcome.Read → LineModel → Result (Unit {0}) (ShowFault RunFault) → LineModel → ℕ → Type 0
+Shown r b o c steps = Shows PushesCall b (calls_of r) (turns_shown r) o c steps
 
-abbrev pub Left : (Values → Type 0) → Sections → outcome.Read → LineModel → Result Unit RunFault → LineModel → ℕ → Type 0
-Left R s r a q c steps =
-    (values : Values) → R values → LeavesSink a (text_of_lines (head_lines s) ++ (calls_text (calls_of r values) ++ codes "end\n")) q c × MakesSteps (calls_of r values) (turns_shown r values) q steps
+abbrev pub Left : Sections → outcome.Read → LineModel → Result Unit RunFault → LineModel → ℕ → Type 0
+Left s r a q c steps =
+    LeavesSink a (text_of_lines (head_lines s) ++ (calls_text (calls_of r) ++ codes "end\n")) q c × MakesSteps (calls_of r) (turns_shown r) q steps
 
 -- the head was pushed, and then the calls of a showing: all and the last line, up to a failed write,
 -- or up to where memory ran out
-module _ {a b c : LineModel} {R : Values → Type 0} (s : Sections) (r : outcome.Read) (steps : ℕ) (ok : a.status ≡ Ok tt) (none : a.held ≡ []) (head : Pushes a (text_of_lines (head_lines s)) b) where
-  pub left-whole : {d e : LineModel} (q : Result Unit RunFault) → Shown R r b (Ok tt) c steps → Pushes c (codes "end\n") d → Pushes d [] e → e.held ≡ [] → q ≡ e.status → Left R s r a q e steps
-  left-whole q shown last handed empty is values read =
-      let calls = calls_of r values in
-      let turns = turns_shown r values in
-      let all = calls-pushed b calls turns (Ok tt) c steps (shown values read) ⨾ last ⨾ handed in (
+module _ {a b c : LineModel} (s : Sections) (r : outcome.Read) (steps : ℕ) (ok : a.status ≡ Ok tt) (none : a.held ≡ []) (head : Pushes a (text_of_lines (head_lines s)) b) where
+  pub left-whole : {d e : LineModel} (q : Result Unit RunFault) → Shown r b (Ok tt) c steps → Pushes c (codes "end\n") d → Pushes d [] e → e.held ≡ [] → q ≡ e.status → Left s r a q e steps
+  left-whole q shown last handed empty is =
+      let calls = calls_of r in
+      let turns = turns_shown r in
+      let all = calls-pushed b calls turns (Ok tt) c steps shown ⨾ last ⨾ handed in (
         leaves-end (calls_text calls ++ codes "end\n") ok none head q (retold all (append-nil (calls_text calls ++ codes "end\n"))) empty is,
-        steps-of calls turns steps q (calls-steps b calls turns (Ok tt) c steps (shown values read)),
+        steps-of calls turns steps q (calls-steps b calls turns (Ok tt) c steps shown),
       )
 
-  pub left-failed : (fault : RunFault) (why : ShowFault RunFault) → why ≡ show.Visitor fault → Shown R r b (Err why) c steps → Left R s r a (Err fault) c steps
-  left-failed fault why is shown values read =
-      let calls = calls_of r values in
-      let here = rw is at (shown values read) in
-      let all = calls-pushed b calls (turns_shown r values) (Err (show.Visitor fault)) c steps here in (
+  pub left-failed : (fault : RunFault) (why : ShowFault RunFault) → why ≡ show.Visitor fault → Shown r b (Err why) c steps → Left s r a (Err fault) c steps
+  left-failed fault why is shown =
+      let calls = calls_of r in
+      let here = rw is at shown in
+      let all = calls-pushed b calls (turns_shown r) (Err (show.Visitor fault)) c steps here in (
         leaves-prefix (calls_text calls ++ codes "end\n") ok none head fault (prefix-longer (codes "end\n") (whole-prefix (calls_text calls) all.0)) (rw all.1 refl),
-        calls-steps b calls (turns_shown r values) (Err (show.Visitor fault)) c steps here,
+        calls-steps b calls (turns_shown r) (Err (show.Visitor fault)) c steps here,
       )
 
-  pub left-first : (first : RunFault) (q : Result Unit RunFault) (why : ShowFault RunFault) → q ≡ Err first → why ≡ show.Memory → Shown R r b (Err why) c steps → IsFirstFault c.status first → Left R s r a q c steps
-  left-first first q why fails is shown of values read =
-      let calls = calls_of r values in
-      let here = rw is at (shown values read) in
+  pub left-first : (first : RunFault) (q : Result Unit RunFault) (why : ShowFault RunFault) → q ≡ Err first → why ≡ show.Memory → Shown r b (Err why) c steps → IsFirstFault c.status first → Left s r a q c steps
+  left-first first q why fails is shown of =
+      let calls = calls_of r in
+      let here = rw is at shown in
       rw fails (
-        leaves-prefix (calls_text calls ++ codes "end\n") ok none head first (prefix-longer (codes "end\n") (calls-pushed b calls (turns_shown r values) (Err show.Memory) c steps here)) of,
-        calls-steps b calls (turns_shown r values) (Err show.Memory) c steps here,
+        leaves-prefix (calls_text calls ++ codes "end\n") ok none head first (prefix-longer (codes "end\n") (calls-pushed b calls (turns_shown r) (Err show.Memory) c steps here)) of,
+        calls-steps b calls (turns_shown r) (Err show.Memory) c steps here,
       )
 
 pub all-counted-of : {a c : LineModel} {text : List ℕ} {f f' e e' : ℕ} (r : Result Unit RunFault) → LeavesSink a text r c → a.failures ≡ f → f' ≡ c.failures → a.empty_writes ≡ e → e' ≡ c.empty_writes → CountsFaults f f' e e' r
 all-counted-of r h h1 h2 h3 h4 = rw (sym h1, h2, sym h3, h4) h.counts
 
 -- the dump text of a message, by a writer of lines over a sink
-pub all-written-of : {a c : LineModel} {old new : Option (List ℕ)} (s : Sections) (read : outcome.Read) (values : Values) (r : Result Unit RunFault)
-    → LeavesSink a (text_of_lines (head_lines s) ++ (calls_text (calls_of read values) ++ codes "end\n")) r c → a.taken ≡ old → new ≡ c.taken
-    → WritesPrefix old new (dump_text_of s (dump_items read.table read.source.subsets values)) r
-all-written-of {a = a} {c = c} s read values r h1 h2 h3 =
-    let writes : WritesPrefix a.taken c.taken (text_of_lines (head_lines s) ++ (text_of_lines (subset_lines 1 (dump_items read.table read.source.subsets values)) ++ codes "end\n")) r = rw (reading-text read values) at h1.writes in
+pub all-written-of : {a c : LineModel} {old new : Option (List ℕ)} (s : Sections) (read : outcome.Read) (r : Result Unit RunFault)
+    → LeavesSink a (text_of_lines (head_lines s) ++ (calls_text (calls_of read) ++ codes "end\n")) r c → a.taken ≡ old → new ≡ c.taken
+    → WritesPrefix old new (dump_text_of s (dump_items read.table read.source.subsets (values_read read))) r
+all-written-of {a = a} {c = c} s read r h1 h2 h3 =
+    let writes : WritesPrefix a.taken c.taken (text_of_lines (head_lines s) ++ (text_of_lines (subset_lines 1 (dump_items read.table read.source.subsets (values_read read))) ++ codes "end\n")) r = rw (reading-text read (values_read read)) at h1.writes in
     grind (arith, nat_tests, common_steps, writes)
 
 -- ---- The listing line, and the lines of a dump before its subsets.

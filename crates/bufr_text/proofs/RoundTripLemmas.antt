@@ -3,7 +3,7 @@ use Rattle.std.proofs.Common.{◌≡◌, ℕ, suc, ◌/◌, ◌<◌, ◌≤◌, 
 use Rattle.std.specs.List.{AllByRecursion}
 use Rattle.std.proofs.lemmas.Bool.Decides.{nat_tests}
 use Rattle.bufr_tables.specs.Prelude.{Row, IsLegal, tree_of, tables_of, Tree, Sequence, places}
-use Rattle.bufr_fill.proofs.SpecLemmas.{AreGoodRows}
+use Rattle.bufr_walk.proofs.NextField.{AreRead}
 use Rattle.bufr_walk.specs.Prelude.{FieldSpec, Content, shown, Course, next_item, content_at, data_of, Item, ReadsSubsets, IsPackedReading, IsReading, Values, apart, together, View}
 use Rattle.bufr_text.specs.Prelude.{IsDescriptorWord, items_shown, IsOctet, bit, dump_value_of, item_entries, subset_entries, document_of, dump_text_of, lines_before, IsAccepted, dump_items, extra_octets, SaySame, HasSameReading, IsEncodedAgain, Document, head_from_values, compressed_in, ◌>>=◌, report_of_template, report_of_items, data_bits, octets_of_bits, message_of, encoding_in, encoding_of, RefusedAt, compressed_as, parts_as, AreOctetsOf, IsData, IsDocumentRefusal, Form, WritesForm, by_template, refused_at, reported_refusal, DocumentFault}
 use Rattle.std.proofs.lemmas.List.{take_at, drop_at, length-replicate}
@@ -263,7 +263,7 @@ suffix out more bits e = ap (drop (length out)) e ∙ drop_at out more (length o
 pub fills_as : (b c : Bool) (course : Course) (drafts : List Subset) (out : List Bool) → b ≡ c → data_bits c course drafts ≡ Ok out → data_bits b course drafts ≡ Ok out
 fills_as b c course drafts out e h = ap (λ x. data_bits x course drafts) e ∙ h
 
-filled : (table : List Row) (template : Tree) (s : Sections) (values : Values) (used at : ℕ) → AreGoodRows table → IsLegal template
+filled : (table : List Row) (template : Tree) (s : Sections) (values : Values) (used at : ℕ) → AreRead table → IsLegal template
     → IsReading (next_item table template) (data_of s) values used → IsFilled table template s values (subset_entries at (dump_items table s.subsets values))
 filled table template s (apart subsets) used at rows legal read =
     let course = next_item table template in
@@ -327,7 +327,7 @@ at-most-even m s is = by (edition_of m == 3) (u24_at m (section3_begins m) % 2 =
     by true true c f g h = two f
     by true false true f g h = two f
 
-pub encoded_again : (table : List Row) (sequences : List Sequence) (m : List ℕ) (s : Sections) (template : Tree) (values : Values) (used at : ℕ) → AreGoodRows table → IsLegal template
+pub encoded_again : (table : List Row) (sequences : List Sequence) (m : List ℕ) (s : Sections) (template : Tree) (values : Values) (used at : ℕ) → AreRead table → IsLegal template
     → IsAccepted table sequences m s template values used → IsEncodedAgain table sequences m s template values (document_of at s (dump_items table s.subsets values))
 unfolding parts_with
 encoded_again table sequences m s template values used at rows legal a =

@@ -3,8 +3,8 @@ pub use Rattle.bufr_text.specs.Line.{runs_of, escaped, hex_pair, is_unescaped, w
 unfoldable pub use Rattle.bufr_text.specs.Line.{runs_after, descriptors_text, hex_text, quoted, prefix_while, suffix_while, without_prefix, hex_read, fxy_read, descriptors_read, quoted_read, is_hashed, keys, place_from, value_read, worded, line_of}
 pub use Rattle.bufr_text.specs.Dump.{joined, flag, zero_padded, counts_texts, ls_line, source_texts, time_texts, local1_line, section2_line, descriptors_line, subset_line, item_text, dump_value_of, IsOctet, IsDescriptorWord, IsItem, header_of, bit, head_lines, dump_lines, dump_text_of, document_of, lines_before, IsDumpable, items_shown, each_subset, text_of_lines, dump_items, IsValue, IsComment, comment_text, form_text}
 unfoldable pub use Rattle.bufr_text.specs.Dump.{header_lines, subset_lines, item_entries, subset_entries}
-pub use Rattle.bufr_text.specs.Reader.{has_no_feed, ReaderPosition, ContinuesParse, TakesWholeLines, TakesEndLine, ReaderModel, position_of, position_after, IsMissingFeed, ReadsLines, EndsAtEndLine, parse, parse_open, new_reader, HasNoMoreLines, KeepsUnread, ReadsOnlyIfNoLine, ReturnsNextDocument, HasNoWholeLine, unfed, parse_results, ReadsDocument, LeavesReader, failures_by, number_of_read_fault}
-pub use Rattle.bufr_text.specs.Writing.{MovesPrefix, Writes, GrowsByPrefix, CountsWrites, LineModel, Moves, MovesOn, StaysFailed, PushesFrom, Pushes, Puts, Stays, Fails, ReadsMessage, CountsFaults, MakesSteps, StepsWithin, WritesPrefix, call_line, PushesCall}
+pub use Rattle.bufr_text.specs.Reader.{NeedsLine, GivesHeldDocument, has_no_feed, ReaderPosition, ContinuesParse, TakesWholeLines, TakesEndLine, ReaderModel, position_of, position_after, IsMissingFeed, ReadsLines, EndsAtEndLine, parse, parse_open, new_reader, HasNoMoreLines, KeepsUnread, ReadsOnlyIfNoLine, ReturnsNextDocument, HasNoWholeLine, unfed, parse_results, ReadsDocument, LeavesReader, failures_by, number_of_read_fault}
+pub use Rattle.bufr_text.specs.Writing.{MovesPrefix, Writes, GrowsByPrefix, CountsWrites, LineModel, Moves, MovesOn, StaysFailed, PushesFrom, Pushes, Puts, Stays, Fails, CountsFaults, MakesSteps, StepsWithin, WritesPrefix, call_line, PushesCall}
 unfoldable pub use Rattle.bufr_text.specs.Line.{leasts, mosts}
 pub use Rattle.bufr_text.specs.Documents.{most_entries, Document, edition_in, optional_in, subsets_in, ParserState, Between, Heading, BeforeSubsets, Filling, Stopped, LineEffect, WalkGoes, Gives, Faults, NotAllowed, SubsetCount, HeaderRange, in_range, heading, beginning, closing, with_entry, line_within_limit, place_after, reported_at, reported_at_end, documents_of, blank, Complete, compressed_in, ParseResult, Refused, open_documents_of, head_from_values, IsHeaded, key_value, section2_in, prepend_to_line, Split, onto_split, before_subsets, filling, are_in_range, TextLineFault, adds}
 unfoldable pub use Rattle.bufr_text.specs.Documents.{turn, parse_lines, lines_of, parse_open_lines, split_of}

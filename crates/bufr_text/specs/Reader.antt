@@ -208,6 +208,25 @@ pub record ReturnsNextDocument (left left' : Option (List ℕ)) (old new : Reade
   pub waits : (new.reads ≡ old.reads) ⊎ ReadsOnlyIfNoLine left old new.reads octets
   pub ends : LeavesReader new result
 
+-- No whole line is held, and none was taken that reports something.
+pub record NeedsLine (old new : ReaderModel) : Type 0 where
+  pub passes : (left : Option (List ℕ)) → ReadsLines left left old new [] []
+  pub none : has_no_feed new.held ≡ true
+  pub short : length new.held ≤ 4096
+  pub going : new.ended ≡ false
+  pub sound : new.fault ≡ None
+
+-- the lines that are held give the next document, whatever was read for it before, or a read is
+-- needed
+abbrev pub GivesHeldDocument : (old new : ReaderModel)
+    → Option (Result (Option Document) ReadFault) → Type 0
+GivesHeldDocument old new (Some next) =
+    (left mid : Option (List ℕ)) (first : ReaderModel) (bs : List ℕ)
+    → ReadsLines left mid first old [] bs
+    → (old.reads ≡ first.reads) ⊎ ReadsOnlyIfNoLine left first old.reads bs
+    → ReturnsNextDocument left mid first new next
+GivesHeldDocument old new None = NeedsLine old new
+
 -- the reader's count of failures after a call: a refused line leaves it
 abbrev pub failures_by : {X : Type 0} → ℕ → Result X ReadFault → ℕ
 failures_by count (Err (Run fault)) = read_failures_after {X = Unit {0}} count (Err fault)

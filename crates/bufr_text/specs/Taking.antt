@@ -15,7 +15,6 @@ use Rattle.bufr_text.specs.declared.document.LineEffect.{LineEffect}
 use Rattle.bufr_text.specs.Reader.{has_no_feed, ReaderPosition, ContinuesParse, TakesWholeLines, TakesEndLine, parse_results, ReaderModel, position_of, AddsNext}
 use Rattle.bufr_text.specs.declared.document.Progress.{Progress}
 use Rattle.bufr_text.specs.declared.document.TakeResult.{TakeResult}
-use Rattle.std.specs.Io.KnownBytes.{Consumes}
 use Rattle.bufr_frame.specs.Prelude.{max_reads, InputModel, FillsInput}
 use Rattle.bufr_frame.specs.declared.fault.RunFault.{RunFault}
 use Rattle.bufr_frame.specs.declared.fault.RunFault.TheVariants.{Memory}
@@ -270,15 +269,11 @@ abbrev pub stopped : ReaderModel → ReadFault → ReaderModel
 stopped s (Run fault) = record s { fault = Some (Run fault) }
 stopped s fault = record s { fault = Some fault; place = Stopped }
 
--- a read, or why none is made
+-- one read, or why none is made
 abbrev pub FillsBuffer : (left left' : Option (List ℕ)) → ReaderModel → ReaderModel
     → Result (Unit {0}) ReadFault → List ℕ → Type 0
 FillsBuffer left left' old new (Ok u) bs = ReadsMoreText left left' old new (Ok u) bs
     × (length old.held ≤ 4096)
-FillsBuffer left left' old new (Err (Line line)) bs =
-    Consumes left left' bs × (bs ≡ []) × ParsesHeldLines old new
-    (Refused line documents.NotAllowed ∷ [])
-    × (new.fault ≡ Some (Line line)) × (new.ended ≡ old.ended) × (new.reads ≡ old.reads)
 FillsBuffer left left' old new (Err (Run fault)) bs =
     (s : ReaderModel) × ReadsMoreText left left' old s (Err fault) bs
     × (new ≡ stopped s (Run fault)) × (length old.held ≤ 4096)

@@ -6,10 +6,8 @@ use Rattle.std.specs.Io.KnownBytes.{Appends}
 use Rattle.bufr_bits.specs.Prelude.{counted}
 use Rattle.bufr_frame.specs.declared.fault.RunFault.{RunFault}
 use Rattle.bufr_frame.specs.declared.fault.RunFault.TheVariants.{Write, Read, InputTooLong}
-use Rattle.bufr_frame.specs.Prelude.{Sections}
-use Rattle.bufr_walk.specs.Prelude.{Timed, Call, subset_call, item_call, course_of, data_of, Values, IsReading, ticked}
+use Rattle.bufr_walk.specs.Prelude.{Timed, Call, subset_call, item_call, ticked}
 use Rattle.bufr_text.specs.Dump.{subset_line, item_text}
-use Rattle.bufr_walk.specs.Reading as outcome
 
 -- known octets grow by a prefix of a text
 pub record GrowsByPrefix (old new : Option (List ℕ)) (text : List ℕ) : Type 0 where
@@ -52,7 +50,7 @@ pub record LineModel : Type 0 where
   pub taken : Option (List ℕ)
   pub failures : ℕ
   pub empty_writes : ℕ
-  pub flushes : ℕ
+  pub failed_flushes : ℕ
   pub held : List ℕ
   pub status : Result Unit RunFault
   pub sink : ℕ
@@ -93,16 +91,10 @@ PushesFrom (Err fault) before text after = StaysFailed fault before after
 -- a text was pushed
 pub record Pushes (before : LineModel) (text : List ℕ) (after : LineModel) : Type 0 where
   pub from : PushesFrom before.status before text after
-  pub flushes : after.flushes ≡ before.flushes
+  pub failed_flushes : after.failed_flushes ≡ before.failed_flushes
   pub sink : after.sink ≡ before.sink
 
 -- ---- What a dump leaves on its writer, and the steps that are made for it.
-
--- a reading is one of this message's data
-pub record ReadsMessage (s : Sections) (r : outcome.Read) : Type 0 where
-  pub source : r.source ≡ data_of s
-  pub values : Values
-  pub read : IsReading (course_of r) r.source values r.bits
 
 -- the text was written, or a prefix of it where the writer failed or memory ran out
 abbrev pub WritesPrefix : {X : Type 0} → (old new : Option (List ℕ)) → List ℕ

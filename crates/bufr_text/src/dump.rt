@@ -1,9 +1,9 @@
 //! The text that dumps a message: the lines before its subsets, and a line for each item.
 ghost use Rattle.std.specs.Prelude.{◌≡◌, ◌++◌, [], ◌∷◌, drop, map, take, unwrap_or, ◌≤◌, ◌*◌};
 ghost use Rattle.bufr_frame.specs.Prelude.{words_left};
-ghost use Rattle.bufr_text.specs.Prelude.{descriptors_line, head_lines, text_of_lines, dump_value_of, form_text, item_text, dump_text_of, dump_items, descriptors_text, hex_text, runs_of, Pushes, CountsFaults, MakesSteps, ReadsMessage, WritesPrefix, PushesCall};
+ghost use Rattle.bufr_text.specs.Prelude.{descriptors_line, head_lines, text_of_lines, dump_value_of, form_text, item_text, dump_text_of, dump_items, descriptors_text, hex_text, runs_of, Pushes, CountsFaults, MakesSteps, WritesPrefix, PushesCall};
 ghost use Rattle.bufr_tables.specs.Prelude.{fxy_text, places};
-ghost use Rattle.bufr_walk.specs.Prelude.{seen, seen_value, calls_of, turns_shown, course_of, IsReading, Values};
+ghost use Rattle.bufr_walk.specs.Prelude.{seen, seen_value, calls_of, turns_shown, values_read, data_of};
 
 use crate::header::KEYS;
 use crate::line_writer::{LineWriter, PAGE};
@@ -255,19 +255,16 @@ pub fn write_dump<W: Sink>(
     steps: &mut Steps,
     w: &mut W,
 ) -> Result<(), RunFault>
-    requires { ReadsMessage message.now reading.now }
+    requires { reading.now.source ≡ data_of message.now }
     // At `Ok` the writer took the dump text of the reading's items, at a fault a prefix of it.
-    ensures writes { (values : Values)
-        → IsReading (course_of reading.now) reading.now.source values reading.now.bits →
-        WritesPrefix (W.taken w.old) (W.taken w.new) (dump_text_of message.now
-        (dump_items reading.now.table reading.now.source.subsets values)) result }
+    ensures writes { WritesPrefix (W.taken w.old) (W.taken w.new) (dump_text_of message.now
+        (dump_items reading.now.table reading.now.source.subsets (values_read reading.now)))
+        result }
     // At `Ok` the steps are all turns of the reading, at a fault those before a call or all.
-    ensures steps { (values : Values)
-        → IsReading (course_of reading.now) reading.now.source values reading.now.bits →
-        MakesSteps (calls_of reading.now values) (turns_shown reading.now values) result steps.new }
+    ensures steps { MakesSteps (calls_of reading.now) (turns_shown reading.now) result steps.new }
     ensures counts { CountsFaults (W.failures w.old) (W.failures w.new) (W.empty_writes w.old)
         (W.empty_writes w.new) result }
-    ensures flushes { W.flushes w.new ≡ W.flushes w.old }
+    ensures failed_flushes { W.failed_flushes w.new ≡ W.failed_flushes w.old }
     ensures bounded { steps.new ≤ places reading.now.template * reading.now.bits }
 {
     let mut memory = DumpMemory::new(alloc, reading.table());
@@ -288,21 +285,18 @@ pub fn write_dump_by<W: Sink>(
     steps: &mut Steps,
     w: &mut W,
 ) -> Result<(), RunFault>
-    requires reads { ReadsMessage message.now reading.now }
+    requires reads { reading.now.source ≡ data_of message.now }
     requires cached { memory.old.specs ≡ reading.now.table }
     ensures same { memory.new.specs ≡ memory.old.specs }
     // At `Ok` the writer took the dump text of the reading's items, at a fault a prefix of it.
-    ensures writes { (values : Values)
-        → IsReading (course_of reading.now) reading.now.source values reading.now.bits →
-        WritesPrefix (W.taken w.old) (W.taken w.new) (dump_text_of message.now
-        (dump_items reading.now.table reading.now.source.subsets values)) result }
+    ensures writes { WritesPrefix (W.taken w.old) (W.taken w.new) (dump_text_of message.now
+        (dump_items reading.now.table reading.now.source.subsets (values_read reading.now)))
+        result }
     // At `Ok` the steps are all turns of the reading, at a fault those before a call or all.
-    ensures steps { (values : Values)
-        → IsReading (course_of reading.now) reading.now.source values reading.now.bits →
-        MakesSteps (calls_of reading.now values) (turns_shown reading.now values) result steps.new }
+    ensures steps { MakesSteps (calls_of reading.now) (turns_shown reading.now) result steps.new }
     ensures counts { CountsFaults (W.failures w.old) (W.failures w.new) (W.empty_writes w.old)
         (W.empty_writes w.new) result }
-    ensures flushes { W.flushes w.new ≡ W.flushes w.old }
+    ensures failed_flushes { W.failed_flushes w.new ≡ W.failed_flushes w.old }
     ensures bounded { steps.new ≤ places reading.now.template * reading.now.bits }
 {
     *steps = Steps::new();

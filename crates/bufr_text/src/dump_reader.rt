@@ -1,6 +1,6 @@
 //! The documents of an input.
-ghost use Rattle.std.specs.Prelude.{◌≡◌, ◌≤◌, ◌<◌, ◌-◌, ℕ, List, None, Some, Err, true, false, length, IfSome, IfOk};
-ghost use Rattle.bufr_text.specs.Prelude.{read_fault_at, IsProper, has_no_feed, ReaderModel, new_reader, unfed, ReturnsNextDocument, failures_by, TakesHeldLines, FillsBuffer, ReadsMoreText, stopped};
+ghost use Rattle.std.specs.Prelude.{◌≡◌, ◌≢◌, ◌≤◌, ◌<◌, ◌-◌, ℕ, List, None, Some, Err, true, false, length, IfSome, IfOk};
+ghost use Rattle.bufr_text.specs.Prelude.{read_fault_at, IsProper, has_no_feed, ReaderModel, new_reader, unfed, ReturnsNextDocument, failures_by, TakesHeldLines, GivesHeldDocument, FillsBuffer, ReadsMoreText, stopped};
 ghost use Rattle.bufr_frame.specs.Prelude.{read_failures_after, AddsReads};
 
 use crate::document::{
@@ -159,13 +159,14 @@ impl DumpReader {
     /// Reads once, after the octets that are held. At the end the last line is ended.
     #[tactic(auto, using(crate::proofs::ReaderLemmas::more_steps))]
     // rule: reading-last-line
-    fn read_more<R: Source>(&mut self, r: &mut R) -> Result<(), RunFault>
+    fn fill<R: Source>(&mut self, r: &mut R) -> Result<(), RunFault>
         requires sound { self.old.fault ≡ None }
         requires going { self.old.ended ≡ false }
         requires short { length self.old.held ≤ 4096 }
         ensures read { (bs : List ℕ)
             × ReadsMoreText (R.left r.old) (R.left r.new) self.old self.new result bs }
         ensures failed { R.failures r.new ≡ read_failures_after (R.failures r.old) result }
+        ensures sure { R.waits r.old ≡ false → result ≢ Err RunFault.Read }
         ensures counts { AddsReads (R.reads r.old) (R.reads r.new) self.old.reads self.new.reads }
     {
         self.input.fill(r, MAX_LINE, 2 * MAX_LINE)?;
@@ -175,22 +176,69 @@ impl DumpReader {
         Ok(())
     }
 
-    /// Reads once, where no line is held that is too long.
-    fn fill<R: Source>(&mut self, r: &mut R) -> Result<(), ReadFault>
-        requires sound { self.old.fault ≡ None }
-        requires going { self.old.ended ≡ false }
-        requires none { has_no_feed self.old.held ≡ true }
-        ensures read { (bs : List ℕ)
-            × FillsBuffer (R.left r.old) (R.left r.new) self.old self.new result bs }
-        ensures failed { R.failures r.new ≡ failures_by (R.failures r.old) result }
-        ensures counts { AddsReads (R.reads r.old) (R.reads r.new) self.old.reads self.new.reads }
-        ensures bound { length self.new.held ≤ 8192 }
+    /// The next document if the lines that are held decide it, as [`DumpReader::next_document`]
+    /// returns it. `None` where a read is needed first ([`DumpReader::read_more`]). Then no whole
+    /// line is held, and the end was not reached.
+    pub fn next_held(&mut self) -> Option<Result<Option<Document>, ReadFault>>
+        ensures gives { self.old.fault ≡ None → GivesHeldDocument self.old self.new result }
+        ensures proper { IfSome result (λ next. IfOk next (λ found. IfSome found
+            (λ document. IsProper document))) }
+        ensures reads { self.new.reads ≡ self.old.reads }
+        ensures unread { self.old.fault ≡ None
+            → result ≢ Some (Err (ReadFault.Run RunFault.Read)) }
+        ensures held { length self.new.held ≤ 8192 }
+        ensures again { IfSome self.old.fault (λ fault. result ≡ Some (Err fault)) }
+        ensures same_self { IfSome self.old.fault (λ _. self.new ≡ self.old) }
     {
+        if let Some(fault) = self.fault {
+            return Some(Err(fault));
+        }
+        match self.take_held() {
+            Err(fault) => return Some(Err(fault)),
+            Ok(Some(document)) => return Some(Ok(Some(document))),
+            Ok(None) => {}
+        }
+        if self.input.ended() {
+            // At the end no line may be missing.
+            if let ParserState::Between = self.progress.place {
+                return Some(Ok(None));
+            }
+            let fault = ReadFault::Line(self.progress.at);
+            return Some(Err(self.stop(fault)));
+        }
         if self.input.held().len() > MAX_LINE {
             let fault = ReadFault::Line(self.progress.at);
-            return Err(self.stop(fault));
+            return Some(Err(self.stop(fault)));
         }
-        match self.read_more(r) {
+        None
+    }
+
+    /// Reads once, where [`DumpReader::next_held`] needs it. The input `r` is to be the same at
+    /// each call.
+    ///
+    /// # Errors
+    ///
+    /// [`ReadFault::Run`] as [`DumpReader::next_document`] gives it where no line is held. After a
+    /// fault it returns the same one, and reads nothing.
+    pub fn read_more<R: Source>(&mut self, r: &mut R) -> Result<(), ReadFault>
+        requires going { self.old.ended ≡ false }
+        requires short { length self.old.held ≤ 4096 }
+        ensures read { self.old.fault ≡ None → (bs : List ℕ)
+            × FillsBuffer (R.left r.old) (R.left r.new) self.old self.new result bs }
+        ensures failed { self.old.fault ≡ None
+            → R.failures r.new ≡ failures_by (R.failures r.old) result }
+        ensures sure { self.old.fault ≡ None → R.waits r.old ≡ false
+            → result ≢ Err (ReadFault.Run RunFault.Read) }
+        ensures counts { AddsReads (R.reads r.old) (R.reads r.new) self.old.reads self.new.reads }
+        ensures held { length self.new.held ≤ 8192 }
+        ensures again { IfSome self.old.fault (λ fault. result ≡ Err fault) }
+        ensures same { IfSome self.old.fault (λ _. r.new ≡ r.old) }
+        ensures same_self { IfSome self.old.fault (λ _. self.new ≡ self.old) }
+    {
+        if let Some(fault) = self.fault {
+            return Err(fault);
+        }
+        match self.fill(r) {
             Ok(()) => Ok(()),
             Err(fault) => Err(self.stop(ReadFault::Run(fault))),
         }
@@ -227,18 +275,10 @@ impl DumpReader {
             return Err(fault);
         }
         loop {
-            if let Some(document) = self.take_held()? {
-                return Ok(Some(document));
+            match self.next_held() {
+                Some(next) => return next,
+                None => self.read_more(r)?,
             }
-            if self.input.ended() {
-                // At the end no line may be missing.
-                if let ParserState::Between = self.progress.place {
-                    return Ok(None);
-                }
-                let fault = ReadFault::Line(self.progress.at);
-                return Err(self.stop(fault));
-            }
-            self.fill(r)?;
         }
     }
 }

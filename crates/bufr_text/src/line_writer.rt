@@ -36,7 +36,7 @@ impl<'b, 'w, W: Sink> Model for LineWriter<'b, 'w, W> {
       taken = W.taken a.w.now;
       failures = W.failures a.w.now;
       empty_writes = W.empty_writes a.w.now;
-      flushes = W.flushes a.w.now;
+      failed_flushes = W.failed_flushes a.w.now;
       held = take a.len a.octets.now;
       status = a.status;
       sink = a.w.ghost_name;
@@ -56,7 +56,7 @@ pub fn write_all<W: Sink>(octets: &[u8], w: &mut W) -> Result<(), RunFault>
     ensures writes { Writes (W.taken w.old) (W.taken w.new) octets.now result }
     ensures counts { CountsWrites (W.failures w.old) (W.failures w.new) (W.empty_writes w.old)
         (W.empty_writes w.new) result }
-    ensures flushes { W.flushes w.new ≡ W.flushes w.old }
+    ensures failed_flushes { W.failed_flushes w.new ≡ W.failed_flushes w.old }
 {
     let mut rest = octets;
     while !rest.is_empty() {
@@ -75,7 +75,7 @@ fn write_prefix<W: Sink>(octets: &mut [u8], at: usize, w: &mut W) -> Result<(), 
     ensures writes { Writes (W.taken w.old) (W.taken w.new) (take at octets.old) result }
     ensures counts { CountsWrites (W.failures w.old) (W.failures w.new) (W.empty_writes w.old)
         (W.empty_writes w.new) result }
-    ensures flushes { W.flushes w.new ≡ W.flushes w.old }
+    ensures failed_flushes { W.failed_flushes w.new ≡ W.failed_flushes w.old }
 {
     write_all(&octets[..at], w)
 }
@@ -111,7 +111,7 @@ impl<'b, 'w, W: Sink> LineWriter<'b, 'w, W> {
         ensures taken { result.taken ≡ W.taken w.old }
         ensures failures { result.failures ≡ W.failures w.old }
         ensures empty { result.empty_writes ≡ W.empty_writes w.old }
-        ensures flushes { result.flushes ≡ W.flushes w.old }
+        ensures failed_flushes { result.failed_flushes ≡ W.failed_flushes w.old }
         ensures status { result.status ≡ Ok tt }
         ensures sink { result.sink ≡ w.entry.ghost_name }
     {
@@ -330,7 +330,7 @@ impl<'b, 'w, W: Sink> LineWriter<'b, 'w, W> {
         ensures taken { W.taken result.now ≡ self.entry.taken }
         ensures failures { W.failures result.now ≡ self.entry.failures }
         ensures empty { W.empty_writes result.now ≡ self.entry.empty_writes }
-        ensures flushes { W.flushes result.now ≡ self.entry.flushes }
+        ensures failed_flushes { W.failed_flushes result.now ≡ self.entry.failed_flushes }
         ensures sink { result.ghost_name ≡ self.entry.sink }
     {
         self.w

@@ -1,11 +1,10 @@
 -- Bounds on the items and the steps of readings and showings.
-use Rattle.std.proofs.lemmas.Grind.{common_steps}
 use Rattle.std.proofs.Common.{◌≡◌, ℕ, zero, suc, ◌+◌, ◌-◌, ◌*◌, ◌<◌, ◌≤◌, List, [], ◌∷◌, length, Bool, true, false, ◌||◌, Result, Ok, Err, refl, ap, subst, arith, ◌++◌, inl, inr, drop, sym, ◌∙◌, if◌then◌else◌}
 use Rattle.std.proofs.Math.Nat.{mul-le-mul_left}
 use Rattle.bufr_tables.specs.Prelude.{Tree, bare, element, operator, fixed, delayed, size, places, consumes, is_inserted_text, Row, EveryGroupConsumes, IsSound}
-use Rattle.bufr_walk.specs.Prelude.{Taken, TurnRefusal, FieldSpec, Content, OperatorModel, begin, after_operator, after_field, element_spec, factor_spec, inserted_spec, Turns, finish, operator_turn, Rest, unroll, passes, pass_end, at_end, astray, NextTurn, ahead, asked, operated, stop, Course, next_item, counts_of, TakenField, Takes, oks, answers_of, Walked, ticked, WalkStop, ShowFault, Call, Timed, item_calls, subset_calls, compressed_item_calls, compressed_subset_calls, calls_of, items_called, turns_shown, Shows, IsStoredReading, PaysBits, items_in, Read, course_of, Item, plain, item_answer, after, next_after, turns_after, turns_in, ReadsSubsets, Values, apart, together, IsReading, IsPackedReading, max_values}
+use Rattle.bufr_walk.specs.Prelude.{Taken, TurnRefusal, FieldSpec, Content, OperatorModel, begin, after_operator, after_field, element_spec, factor_spec, inserted_spec, Turns, finish, operator_turn, Rest, unroll, passes, pass_end, at_end, astray, NextTurn, ahead, asked, operated, stop, Course, next_item, counts_of, TakenField, Takes, oks, answers_of, Walked, ticked, WalkStop, ShowFault, Call, Timed, item_calls, subset_calls, compressed_item_calls, compressed_subset_calls, calls_by, items_called, turns_by, Shows, IsStoredReading, PaysBits, items_in, Read, course_of, Item, plain, item_answer, after, next_after, turns_after, turns_in, ReadsSubsets, Values, apart, together, IsReading, IsPackedReading, max_values}
 use Rattle.bufr_walk.specs.declared.reading.StoredItems.{StoredItems}
-use Rattle.bufr_walk.proofs.OneReading.{one_reading}
+use Rattle.bufr_walk.specs.Pass.{values_read, calls_of, turns_shown}
 use Rattle.bufr_walk.proofs.WalkLemmas.{stop_cases}
 
 module _ (table : List Row) (n : ℕ) where
@@ -229,8 +228,12 @@ packed_few table zero used course items bits suffix h = omega arith
 packed_few table (suc n) used course items bits suffix h = h.1
 
 -- the items of all calls
-pub few_items : (r : Read) (k : StoredItems) → IsStoredReading r k → (values : Values) → IsReading (course_of r) r.source values r.bits → items_called (calls_of r values) ≤ max_values
-few_items r k h values reading = grind (arith, common_steps, one_reading, called_subsets, called_all, packed_few)
+pub few_items : (r : Read) (k : StoredItems) → IsStoredReading r k → items_called (calls_of r) ≤ max_values
+few_items r k h = by (values_read r) h.reading h.pays
+  where
+    by : (v : Values) → IsReading (course_of r) r.source v r.bits → PaysBits v r.bits → items_called (calls_by r v) ≤ max_values
+    by (apart xs) g p = omega (arith, called_subsets r.table (course_of r) 0 1 xs, p, h.short)
+    by (together xs) g p = omega (arith, called_all r.table r.source.subsets 0 xs, packed_few r.table r.source.subsets r.bits (course_of r) xs r.source.bits (drop r.bits r.source.bits) g.2)
 
 -- calls before each of which at most so many turns are made
 abbrev AllWithin : ℕ → List Timed → Type 0
@@ -323,11 +326,11 @@ together_within most table (suc n) j items = (omega arith, within_more most (com
 
 -- the steps of a showing
 pub steps_within : {S E : Type 0} (sees : S → Call → Result (Unit {0}) E → S → Type 0) (r : Read) (k : StoredItems) (s s' : S) (result : Result (Unit {0}) (ShowFault E)) (steps : ℕ) → IsSound r.template → IsStoredReading r k
-    → ((values : Values) → IsReading (course_of r) r.source values r.bits → Shows sees s (calls_of r values) (turns_shown r values) result s' steps) → steps ≤ places r.template * r.bits
-steps_within sees r k s s' result steps sound h shows = by h.values h.reading h.pays (shows h.values h.reading)
+    → Shows sees s (calls_of r) (turns_shown r) result s' steps → steps ≤ places r.template * r.bits
+steps_within sees r k s s' result steps sound h shows = by (values_read r) h.reading h.pays shows
   where
-    by : (values : Values) → IsReading (course_of r) r.source values r.bits → PaysBits values r.bits → Shows sees s (calls_of r values) (turns_shown r values) result s' steps → steps ≤ places r.template * r.bits
+    by : (values : Values) → IsReading (course_of r) r.source values r.bits → PaysBits values r.bits → Shows sees s (calls_by r values) (turns_by r values) result s' steps → steps ≤ places r.template * r.bits
     by (apart subsets) g p w =
         let all = subsets_within (places r.template * r.bits) r.table r.template 0 0 1 subsets r.source.bits (drop r.bits r.source.bits) sound g.2.0 (omega arith) (mono (places r.template) (0 + items_in subsets) r.bits (omega (arith, p))) in
-        shows_within sees (places r.template * r.bits) s (calls_of r (apart subsets)) (turns_shown r (apart subsets)) result s' steps w (omega (arith, all.1)) all.0
-    by (together items) g p w = shows_within sees (places r.template * r.bits) s (calls_of r (together items)) (turns_shown r (together items)) result s' steps w (omega arith) (together_within (places r.template * r.bits) r.table r.source.subsets 0 items)
+        shows_within sees (places r.template * r.bits) s (calls_by r (apart subsets)) (turns_by r (apart subsets)) result s' steps w (omega (arith, all.1)) all.0
+    by (together items) g p w = shows_within sees (places r.template * r.bits) s (calls_by r (together items)) (turns_by r (together items)) result s' steps w (omega arith) (together_within (places r.template * r.bits) r.table r.source.subsets 0 items)

@@ -1,10 +1,11 @@
 -- The table of the worked examples, and readings by it: a pass over a template with all that it
--- shows, and its end.
-use Rattle.std.proofs.Common.{ℕ, zero, suc, ◌+◌, ◌-◌, ◌*◌, Bool, List, [], ◌∷◌, ◌++◌, length, map, Result, Ok, Err, ℤ, pos, negsuc, drop}
+-- shows, and its end. They compute the reading that the contracts cite.
+use Rattle.std.proofs.Common.{ℕ, ◌+◌, ◌*◌, List, [], ◌∷◌, length, map, ℤ, pos, negsuc, true, false, Option, Some, None}
 use Rattle.bufr_bits.specs.Prelude.{bits_of}
 use Rattle.bufr_tables.specs.declared.table_b.Kind.TheVariants as kind
 use Rattle.bufr_tables.specs.Prelude.{Row, Tree}
-use Rattle.bufr_walk.specs.Prelude.{Kind, TurnRefusal, Taken, FieldSpec, ShownValue, shown, FieldFault, FieldRead, Course, Next, take_next, at_end, astray, refused, next_item, DataCoding, plain, packed}
+use Rattle.bufr_walk.specs.Prelude.{Kind, TurnRefusal, FieldSpec, ShownValue, shown, FieldFault, Content, next_item, Stop, walk_stop, too_many, field_stop, data_in}
+use Rattle.bufr_walk.specs.Pass.{Pass as DataPass, Place, Passes, each, all, reading_of}
 
 -- the descriptor of F, X and Y
 unfoldable pub fxy : (f x y : ℕ) → ℕ
@@ -45,59 +46,47 @@ pub record Pass (C : Type 0) : Type 0 where
   pub items : List (ℕ × C)
   pub ending : Ending
 
-with_open_group : {C : Type 0} → ℕ × C → Pass C → Pass C
-with_open_group i p = record { items = i ∷ p.items; ending = p.ending }
+-- how a pass of the definitions ended
+ending_of : Option Stop → ℕ → ℕ → Ending
+ending_of None left turns = done left turns
+ending_of (Some (walk_stop why)) left turns = walk_fault why left turns
+ending_of (Some (field_stop fxy why)) left turns = field_fault fxy why left turns
+ending_of (Some (too_many fxy)) left turns = unknown
 
-ended : {C : Type 0} → Ending → Pass C
-ended e = record { items = []; ending = e }
+-- what a pass of the definitions shows
+seen : {C V : Type 0} → (FieldSpec → C → V) → DataPass Place C Stop → Pass V
+unfolding ending_of
+seen shows p = record { items = map (λ i. (i.spec.fxy, shows i.spec i.content)) p.items; ending = ending_of p.stop (length p.state.left) p.turns }
 
-module _ {C V : Type 0} (form : DataCoding C) (shows : FieldSpec → C → V) (course : Course) where
-  field_pass : FieldSpec → ℕ → ℕ → Result (FieldRead C) FieldFault → (C → List Bool → Pass V) → Pass V
-  unfolding with_open_group ended
-  field_pass spec left turns (Err why) go = ended (field_fault spec.fxy why left turns)
-  field_pass spec left turns (Ok f) go = with_open_group (spec.fxy, shows spec f.content) (go f.content f.suffix)
+-- the passes of a reading of data that are not compressed
+apart_in : Passes → List (DataPass Place Content Stop)
+apart_in (each passes) = passes
+apart_in (all passes) = []
 
-  next_pass : Next → ℕ → ℕ → (FieldSpec → Pass V) → Pass V
-  unfolding with_open_group ended
-  next_pass at_end left turns go = ended (done left turns)
-  next_pass (refused why) left turns go = ended (walk_fault why left turns)
-  next_pass (take_next spec) left turns go = go spec
-  next_pass astray left turns go = ended unknown
+-- the passes of a reading of compressed data
+together_in : Passes → List (DataPass Place (List Content) Stop)
+together_in (each passes) = []
+together_in (all passes) = passes
 
-  pass : ℕ → List Taken → List Bool → Pass V
-  unfolding next_pass field_pass ended
-  pass zero answers bits = ended unknown
-  pass (suc more) answers bits =
-      let a = course answers in
-      next_pass a.next (length bits) a.turns (λ spec. field_pass spec (length bits) a.turns (form.field spec bits) (λ c suffix. pass more (answers ++ form.gives spec c ∷ []) suffix))
+first : {V : Type 0} → List (Pass V) → Pass V
+first [] = record { items = []; ending = unknown }
+first (p ∷ passes) = p
 
 -- one subset of data that are not compressed
 unfoldable pub one : Tree → List ℕ → Pass ShownValue
-unfolding table pass next_item bits_of
-one tree octets = pass plain shown (next_item table tree) 40 [] (bits_of octets)
+unfolding table seen apart_in first next_item bits_of
+one tree octets = first (map (seen shown) (apart_in (reading_of (next_item table tree) (data_in false 1 octets)).passes))
 
 -- all of so many compressed subsets
 unfoldable pub together : ℕ → Tree → List ℕ → Pass (List ShownValue)
-unfolding table pass next_item bits_of
-together n tree octets = pass (packed n) (λ spec cs. map (shown spec) cs) (next_item table tree) 40 [] (bits_of octets)
-
-suffix : {V : Type 0} → Ending → (ℕ → List V) → List V
-suffix (done left turns) go = go left
-suffix (walk_fault why left turns) go = []
-suffix (field_fault fxy why left turns) go = []
-suffix unknown go = []
-
-in_turn : ℕ → Course → List Bool → List (Pass ShownValue)
-unfolding pass suffix
-in_turn zero course bits = []
-in_turn (suc n) course bits =
-    let p = pass plain shown course 40 [] bits in p ∷ suffix p.ending (λ left. in_turn n course (drop (length bits - left) bits))
+unfolding table seen together_in first next_item bits_of
+together n tree octets = first (map (seen (λ spec cs. map (shown spec) cs)) (together_in (reading_of (next_item table tree) (data_in true n octets)).passes))
 
 -- two subsets of data that are not compressed, each from the beginning of the template; nothing is
 -- read after a fault
 unfoldable pub two : Tree → List ℕ → List (Pass ShownValue)
-unfolding table in_turn next_item bits_of
-two tree octets = in_turn 2 (next_item table tree) (bits_of octets)
+unfolding table seen apart_in next_item bits_of
+two tree octets = map (seen shown) (apart_in (reading_of (next_item table tree) (data_in false 2 octets)).passes)
 
 -- the expected pass
 unfoldable pub gives : {V : Type 0} → List (ℕ × V) → Ending → Pass V

@@ -1,11 +1,11 @@
 -- Worked examples of groups, of subsets one after another, and of where the data end, computed from
 -- the definitions.
-use Rattle.std.proofs.Common.{◌≡◌, ℕ, Bool, true, false, List, [], ◌∷◌, pos, negsuc, refl, arith, take, drop}
+use Rattle.std.proofs.Common.{◌≡◌, ℕ, Bool, true, false, List, [], ◌∷◌, pos, negsuc, refl, take, drop}
 use Rattle.bufr_bits.specs.Prelude.{bits_of}
 use Rattle.bufr_tables.specs.declared.table_b.Kind.TheVariants as kind
 use Rattle.bufr_tables.specs.Prelude.{Tree, bare, element, operator, fixed, delayed}
 use Rattle.bufr_walk.specs.declared.spec.Role.TheVariants as role
-use Rattle.bufr_walk.specs.Prelude.{Course, next_item, Content, reference, number, text, shown_number, shown_text, shown_reference, data_end, Item, turns_in, IsPlainReading, Stop, field_stop, IsPlainRefused}
+use Rattle.bufr_walk.specs.Prelude.{next_item, Content, reference, number, text, shown_number, shown_text, shown_reference, data_end, Item, turns_in, IsPlainReading}
 use Rattle.bufr_walk.proofs.ExampleTables.{fxy, table, done, field_fault, one, two, gives}
 
 -- A group of so many passes leaves the operators of its passes in force. Fails where a pass or a
@@ -142,33 +142,3 @@ reading_of_letters = ((bits_of (66 ∷ []), ((bits_of (66 ∷ []), refl, refl, r
 turns_of_both : turns_in (next_item table changed_after) ((at_288_15 ∷ minus_400 3173 ∷ []) ∷ (at_288_15 ∷ minus_400 3173 ∷ []) ∷ []) ≡ 16
 unfolding table changed_after at_288_15 minus_400 next_item
 turns_of_both = refl
-
--- A refusal has its subset from 1, and the bits and the turns before it from the first subset on.
--- Fails where they are counted in the subset, or the subsets from 0.
-refused_in_second_subset : IsPlainRefused 65535 (next_item table (element (fxy 0 1 1) bare)) (bits_of (20 ∷ [])) (field_stop 257 data_end) 2 7 3
-unfolding table block_10 next_item bits_of fxy
-refused_in_second_subset = (
-  (next_item table (element (fxy 0 1 1) bare) []).next,
-  drop 7 (bits_of (20 ∷ [])),
-  record {
-    done = (block_10 ∷ []) ∷ [];
-    items = [];
-    mid = drop 7 (bits_of (20 ∷ []));
-    whole = (drop 7 (bits_of (20 ∷ [])), ((drop 7 (bits_of (20 ∷ [])), refl, refl, refl), refl), refl);
-    reads = refl;
-    next_is = refl;
-    number = refl;
-    within = omega arith;
-    place = refl;
-    turns_are = refl;
-  },
-  refl,
-)
-
--- With no subset nothing is read, and nothing is refused: fails where a first subset is read all
--- the same.
-no_subset : IsPlainReading 0 (next_item table (element (fxy 0 1 1) bare)) [] (bits_of (20 ∷ [])) (bits_of (20 ∷ []))
-no_subset = (refl, refl)
-
-no_subset_is_never_refused : (course : Course) (bits : List Bool) (stop : Stop) (subset before turns : ℕ) → IsPlainRefused 0 course bits stop subset before turns → ⊥
-no_subset_is_never_refused course bits stop subset before turns h = omega (arith, h.2.number, h.2.within)

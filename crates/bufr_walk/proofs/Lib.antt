@@ -3,9 +3,11 @@ mod ReadingExamples
 mod SpecExamples
 mod GroupExamples
 mod PackedExamples
-pub mod OneReading
-pub mod SomeReading
+mod DataExamples
+pub mod CourseLemmas
+pub mod PassLemmas
 pub mod SpecLemmas
+pub mod NextField
 pub mod WalkProgress
 pub mod WalkLemmas
 pub mod BoundLemmas

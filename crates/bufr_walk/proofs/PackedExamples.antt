@@ -1,10 +1,9 @@
 -- Worked examples of compressed data, computed from the definitions.
-use Rattle.std.proofs.Common.{◌≡◌, ℕ, ◌*◌, ◌+◌, Bool, true, false, List, [], ◌∷◌, Some, None, pos, negsuc, refl, arith, nat_lt}
-use Rattle.bufr_bits.specs.Prelude.{bits_of}
+use Rattle.std.proofs.Common.{◌≡◌, ◌*◌, ◌+◌, true, false, [], ◌∷◌, Some, None, pos, negsuc, refl, nat_lt}
 use Rattle.bufr_tables.specs.Prelude.{bare, element, operator, delayed}
 use Rattle.bufr_walk.specs.declared.spec.TurnRefusal.TheVariants as refusal
 use Rattle.bufr_walk.specs.declared.spec.Taken.TheVariants as taken
-use Rattle.bufr_walk.specs.Prelude.{Course, next_item, shown_number, shown_text, shown_missing, shown_reference, data_end, increment, packed, turns_together, IsPackedReading, max_values, Stop, walk_stop, too_many, field_stop, stop_at, IsPackedRefused}
+use Rattle.bufr_walk.specs.Prelude.{next_item, shown_number, shown_text, shown_missing, shown_reference, data_end, increment, packed, max_values, walk_stop, too_many, field_stop, stop_at}
 use Rattle.bufr_walk.proofs.ExampleTables.{fxy, table, done, walk_fault, field_fault, together, gives}
 
 -- A base of all ones is missing in all subsets, whatever the increments are, but the increments
@@ -170,29 +169,3 @@ just_not_too_many :
     (nat_lt max_values (4096 * 32768) ≡ false)
     × (nat_lt max_values (4096 * 32768 + 1) ≡ true)
 just_not_too_many = (refl, refl)
-
--- rule: too-many-values
-refused_as_too_many : IsPackedRefused 134217729 (next_item table (element (fxy 0 12 101) bare)) [] (too_many 3173) 0 1
-unfolding table next_item fxy
-refused_as_too_many = (0, (next_item table (element (fxy 0 12 101) bare) []).next, [], record { items = []; some = omega arith; reads = refl; few = omega arith; count = refl; next_is = refl; place = refl; turns_are = refl }, refl)
-
-refused_as_past_the_data : IsPackedRefused 134217728 (next_item table (element (fxy 0 12 101) bare)) [] (field_stop 3173 data_end) 0 1
-unfolding table next_item fxy
-refused_as_past_the_data = (0, (next_item table (element (fxy 0 12 101) bare) []).next, [], record { items = []; some = omega arith; reads = refl; few = omega arith; count = refl; next_is = refl; place = refl; turns_are = refl }, refl)
-
--- A refusal is at the bits before its item: fails where the base is counted too.
-refused_at_its_item : IsPackedRefused 2 (next_item table (element (fxy 0 1 1) bare)) (bits_of (252 ∷ 17 ∷ 0 ∷ [])) (field_stop 257 increment) 0 1
-unfolding table next_item fxy bits_of
-refused_at_its_item = (0, (next_item table (element (fxy 0 1 1) bare) []).next, bits_of (252 ∷ 17 ∷ 0 ∷ []), record { items = []; some = omega arith; reads = refl; few = omega arith; count = refl; next_is = refl; place = refl; turns_are = refl }, refl)
-
--- With no subset nothing is read, and nothing is refused: fails where the items are read all the
--- same.
--- rule: no-subsets
-no_subset_together : IsPackedReading 0 (next_item table (element (fxy 0 1 1) bare)) [] (bits_of (20 ∷ [])) (bits_of (20 ∷ []))
-no_subset_together = (refl, refl)
-
-no_turns_together : turns_together 0 (next_item table (element (fxy 0 1 1) bare)) [] ≡ 0
-no_turns_together = refl
-
-no_subset_together_is_never_refused : (course : Course) (bits : List Bool) (stop : Stop) (before turns : ℕ) → IsPackedRefused 0 course bits stop before turns → ⊥
-no_subset_together_is_never_refused course bits stop before turns h = omega (arith, h.3.some)

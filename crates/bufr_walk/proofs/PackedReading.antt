@@ -1,6 +1,6 @@
 -- A walk over compressed data reads them as the definition does, and keeps its items.
 use Rattle.std.proofs.lemmas.Grind.{common_steps}
-use Rattle.std.proofs.Common.{◌≡◌, ℕ, ◌+◌, ◌*◌, ◌<◌, ◌≤◌, Bool, true, false, List, length, take, drop, Ok, Err, sym, ◌∙◌, ap, arith, suc, ◌&&◌, eqb, ◌++◌, ◌∷◌, [], get_or, refl, zero, ◌^◌, Result, subst, ◌⊎◌, inl, inr, ◌-◌, Some, append_assoc, ◌%◌, nat_lt, ◌||◌, ◌==◌}
+use Rattle.std.proofs.Common.{option_map, ◌≡◌, ℕ, ◌+◌, ◌*◌, ◌<◌, ◌≤◌, Bool, true, false, List, length, take, drop, Ok, Err, sym, ◌∙◌, ap, arith, suc, ◌&&◌, eqb, ◌++◌, ◌∷◌, [], get_or, refl, zero, ◌^◌, Result, subst, ◌⊎◌, inl, inr, ◌-◌, Some, append_assoc, ◌%◌, nat_lt, ◌||◌, ◌==◌}
 use Rattle.std.proofs.lemmas.Bool.{le-ltb, lt-ltb}
 use Rattle.std.proofs.lemmas.List.{length-drop, drop-drop, get_or_default, get_or_append_left, map-append, append-nil}
 use Rattle.std.proofs.lemmas.Bool.Decides.{Decides-eqb, Decides-int_eq}
@@ -8,8 +8,7 @@ use Rattle.bufr_bits.specs.Prelude.{number_of}
 use Rattle.bufr_tables.specs.Prelude.{is_character, Row, Tree}
 use Rattle.bufr_walk.specs.declared.compressed.ItemBits.{ItemBits}
 use Rattle.bufr_walk.specs.declared.fault.DataFault.{DataFault}
-use Rattle.bufr_walk.specs.Readers.{AreKept}
-use Rattle.bufr_walk.specs.Prelude.{FieldSpec, data_end, FieldFault, increment, unequal_factor, Content, FieldRead, increment_bits_of, contents_of, are_increments_valid, answer_first, equal_in, packed_field, IsSeen, IsUnseen, HasSpecAt, IsPut, no_field, item_at_location, indexed_items, IsStoredReading, PackedCursor, item_at, items_at, contents_found, fits_at, packed_view, IsPackedTaken, wrong_of, PackedTakes, remaining_bits, refuses_packed, new_packed_in, fault_at, IndexedItem, max_values, items_at_once, Item, packed, ReadsItems, ReadsPass, next_after, turns_after, after, Data, together, IsPackedReading, turns_together, spot, walk_fault_of, bits_before, IsRead, IsFault, IsRefused, Stop, walk_stop, too_many, field_stop, field_stop_of, stop_at, ComesToTogether, would_be_many, IsPackedShort, data_in, data_of, read_by, IsReadingOf, WalkStop, Course, Next, take_next, refused, next_item, TakenField, Takes, ticked, oks, answers_of, Walked, TurnRefusal, stop_by}
+use Rattle.bufr_walk.specs.Prelude.{FieldSpec, data_end, FieldFault, increment, unequal_factor, Content, FieldRead, increment_bits_of, contents_of, are_increments_valid, answer_first, equal_in, packed_field, IsSeen, IsUnseen, HasSpecAt, IsPut, no_field, item_at_location, indexed_items, IsStoredReading, PackedCursor, item_at, items_at, contents_found, fits_at, packed_view, IsPackedTaken, wrong_of, PackedTakes, remaining_bits, refuses_packed, new_packed_in, fault_at, IndexedItem, max_values, items_at_once, Item, packed, ReadsItems, ReadsPass, next_after, turns_after, after, Data, together, IsPackedReading, turns_together, spot, walk_fault_of, bits_before, IsReading, KeepsValues, Stop, walk_stop, too_many, field_stop, field_stop_of, stop_at, would_be_many, data_in, data_of, read_by, WalkStop, Course, Next, take_next, refused, next_item, TakenField, Takes, ticked, oks, answers_of, Walked, TurnRefusal, stop_by}
 use Rattle.std.specs.Ordering.{int_eq}
 use Rattle.std.proofs.Math.Bool.{beq}
 use Rattle.std.specs.List.{All, list_all}
@@ -25,16 +24,18 @@ use Rattle.bufr_walk.specs.declared.walker.WalkStop.TheVariants as stops
 use Rattle.bufr_walk.specs.declared.fault.WalkFault.TheVariants as fault
 use Rattle.bufr_walk.specs.declared.reading.StoredItems.TheVariants as kept
 use Rattle.bufr_walk.proofs.WalkLemmas.{stop_cases}
+use Rattle.bufr_walk.specs.Pass.{DataPass, passes_together, stop_of, left_after, turns_in_all, reading_of, values_of, fault_of, OneRunsShort, ReadsData, AnswersReading}
+use Rattle.bufr_walk.proofs.PassLemmas.{together_read, together_stops, together_begins}
 
 -- compressed data were read, and each item is kept
 abbrev pub IsReadAndKept : Course → Data → List IndexedItem → (used steps : ℕ) → Type 0
 IsReadAndKept course d entries used steps =
-    (items : List (Item (List Content))) × IsRead course d (together items) used steps
-    × AreKept d entries items
+    let values = values_of (reading_of course d).passes in
+    IsReading course d values used × ReadsData course d (Ok used) steps × KeepsValues (kept.Together entries) d values
 
 -- with no subset nothing is read
 pub none_read : (course : Course) (bits : List Bool) → IsReadAndKept course (record { compressed = true; subsets = 0; bits = bits }) [] 0 0
-none_read course bits = ([], ((refl, omega arith, (refl, refl)), refl), (refl, refl))
+none_read course bits = ((refl, omega arith, (refl, refl)), (refl, omega arith, refl), (refl, refl))
 
 module _ (bits : List Bool) (at n : ℕ) (a : FieldSpec) where
   -- the k that is read there
@@ -234,9 +235,9 @@ passes n course s (i ∷ turns) s' e h =
     }
 
 -- with a subset at least
-reading_of : (n : ℕ) (course : Course) (items : List (Item (List Content))) (bits suffix : List Bool) → 1 ≤ n → ReadsPass (packed n) course items bits suffix → length items * n ≤ max_values → IsPackedReading n course items bits suffix
-reading_of zero course items bits suffix some h few = absurd (omega arith)
-reading_of (suc n) course items bits suffix some h few = (h, few)
+reads_some : (n : ℕ) (course : Course) (items : List (Item (List Content))) (bits suffix : List Bool) → 1 ≤ n → ReadsPass (packed n) course items bits suffix → length items * n ≤ max_values → IsPackedReading n course items bits suffix
+reads_some zero course items bits suffix some h few = absurd (omega arith)
+reads_some (suc n) course items bits suffix some h few = (h, few)
 
 turns_are_those : (n : ℕ) (course : Course) (items : List (Item (List Content))) → 1 ≤ n → turns_together n course items ≡ turns_after (packed n) course items
 turns_are_those zero course items some = absurd (omega arith)
@@ -263,69 +264,71 @@ module _ (n : ℕ) (course : Course) (bits : List Bool) (s : PackedCursor) (firs
   from_first turns s' p = subst (λ here. ReadsItems (packed n) course p.read here (remaining_bits s')) (ap remaining_bits first) p.reads
 
   -- an accepted walk
-  pub walk_reads : (s' : PackedCursor) (c c' : ℕ) → c ≡ 0 → Walked PackedTakes course s c (Ok tt) s' c' → s'.at ≤ length s'.bits → length s'.items * s'.subsets ≤ max_values → IsRead course (packed_data n bits) (together s'.items) s'.at c'
+  pub walk_reads : (s' : PackedCursor) (c c' : ℕ) → c ≡ 0 → Walked PackedTakes course s c (Ok tt) s' c' → s'.at ≤ length s'.bits → length s'.items * s'.subsets ≤ max_values → IsReading course (packed_data n bits) (together s'.items) s'.at × (c' ≡ ticked 0 (turns_together n course s'.items))
   walk_reads s' c c' zero_first w within few =
       let p = passes n course s w.0 s' begins w.1 in
       let are = all_items w.0 s' p in
       let whole : ReadsPass (packed n) course p.read bits (drop s'.at bits) = (subst (λ b. ReadsItems (packed n) course p.read bits b) (rest_is w.0 s' p) (from_first w.0 s' p), p.next_is ∙ w.2) in
       let bound : length s'.items * n ≤ max_values = subst (λ m. length s'.items * m ≤ max_values) p.subsets few in (
-        (refl, subst (λ b. s'.at ≤ length b) (all_bits w.0 s' p) within, reading_of n course s'.items bits (drop s'.at bits) some (subst (λ xs. ReadsPass (packed n) course xs bits (drop s'.at bits)) (sym are) whole) bound),
+        (refl, subst (λ b. s'.at ≤ length b) (all_bits w.0 s' p) within, reads_some n course s'.items bits (drop s'.at bits) some (subst (λ xs. ReadsPass (packed n) course xs bits (drop s'.at bits)) (sym are) whole) bound),
         w.3 ∙ ap (λ t. ticked c t) (sym p.turns_are) ∙ ap (λ xs. ticked c (turns_after (packed n) course xs)) (sym are) ∙ ap (λ t. ticked c t) (sym (turns_are_those n course s'.items some)) ∙ ap (λ b. ticked b (turns_together n course s'.items)) zero_first,
       )
 
   -- with the entries that were kept
-  pub whole_read : (s' : PackedCursor) (c c' : ℕ) (held : List Bool) (at m : ℕ) (kept : List IndexedItem) → packed_view held at m kept ≡ s' → c ≡ 0 → Walked PackedTakes course s c (Ok tt) s' c' → at ≤ length held → length kept * m ≤ max_values → list_all (fits_at held m) kept ≡ true
-      → IsReadAndKept course (packed_data n bits) kept at c'
-  whole_read s' c c' held at m kept view zero_first w within few fit =
-      let p = passes n course s w.0 s' begins w.1 in (
-        s'.items,
-        subst (λ u. IsRead course (packed_data n bits) (together s'.items) u c') (sym (ap (λ x. x.at) view)) (walk_reads s' c c' zero_first w (subst (λ x. x.at ≤ length x.bits) view within) (few_values s' held at m kept view few)),
-        (
-          ap (λ b. items_at b n kept) (sym (all_bits w.0 s' p)) ∙ ap (λ k. items_at s'.bits k kept) (sym p.subsets) ∙ subst (λ x. items_at x.bits x.subsets kept ≡ x.items) view refl,
-          ap (λ b. list_all (fits_at b n) kept) (sym (all_bits w.0 s' p)) ∙ ap (λ k. list_all (fits_at s'.bits k) kept) (sym p.subsets) ∙ subst (λ x. list_all (fits_at x.bits x.subsets) kept ≡ true) view fit,
+  pub whole_read : (s' : PackedCursor) (c c' : ℕ) (held : List Bool) (at m : ℕ) (entries : List IndexedItem) → packed_view held at m entries ≡ s' → c ≡ 0 → Walked PackedTakes course s c (Ok tt) s' c' → at ≤ length held → length entries * m ≤ max_values → list_all (fits_at held m) entries ≡ true
+      → IsReadAndKept course (packed_data n bits) entries at c'
+  whole_read s' c c' held at m entries view zero_first w within few fit =
+      let p = passes n course s w.0 s' begins w.1 in
+      let d = packed_data n bits in
+      let r = walk_reads s' c c' zero_first w (subst (λ x. x.at ≤ length x.bits) view within) (few_values s' held at m entries view few) in
+      let f = together_read n course s'.items bits (drop s'.at bits) r.0.2 in
+      let items : together s'.items ≡ values_of (reading_of course (packed_data n bits)).passes = ap together (sym f.1) in
+      let used : s'.at ≡ at = sym (ap (λ x. x.at) view) in (
+        subst (λ u. IsReading course d (values_of (reading_of course d).passes) u) used (subst (λ v. IsReading course d v s'.at) items r.0),
+        subst (λ u. ReadsData course d (Ok u) c') used (f.0, omega (arith, r.0.1, ap length f.2, length-drop s'.at bits), r.1 ∙ ap (ticked 0) (sym f.3)),
+        subst (λ v. KeepsValues (kept.Together entries) d v) items (
+          ap (λ b. items_at b n entries) (sym (all_bits w.0 s' p)) ∙ ap (λ k. items_at s'.bits k entries) (sym p.subsets) ∙ subst (λ x. items_at x.bits x.subsets entries ≡ x.items) view refl,
+          ap (λ b. list_all (fits_at b n) entries) (sym (all_bits w.0 s' p)) ∙ ap (λ k. list_all (fits_at s'.bits k) entries) (sym p.subsets) ∙ subst (λ x. list_all (fits_at x.bits x.subsets) entries ≡ true) view fit,
         ),
       )
 
-  -- up to what comes next
-  comes : (turns : List TakenField) (mid : PackedCursor) (p : Passed n course s turns mid) → mid.at ≤ length bits → length mid.items * n ≤ max_values → ComesToTogether n course bits (length p.read) mid.at (course (answers_of turns)).turns (course (answers_of turns)).next (remaining_bits mid)
-  comes turns mid p within few = record {
-    items = p.read;
-    some = some;
-    reads = from_first turns mid p;
-    few = subst (λ xs. length xs * n ≤ max_values) (all_items turns mid p) few;
-    count = refl;
-    next_is = sym p.next_is;
-    place = omega (arith, ap length (rest_is turns mid p), length-drop mid.at bits);
-    turns_are = sym p.turns_are;
-  }
+  few_read : (turns : List TakenField) (mid : PackedCursor) (p : Passed n course s turns mid) → length mid.items * n ≤ max_values → length p.read * n ≤ max_values
+  few_read turns mid p few = subst (λ xs. length xs * n ≤ max_values) (all_items turns mid p) few
 
   -- it was refused there
-  refused_so : (turns : List TakenField) (mid : PackedCursor) (p : Passed n course s turns mid) (next : Next) (stop : Stop) (at : ℕ) → (course (answers_of turns)).next ≡ next → mid.at ≤ length bits → length mid.items * n ≤ max_values → at ≡ mid.at
-      → stop_at (packed n) (would_be_many n (length p.read)) next (remaining_bits mid) ≡ Some stop → IsRefused course (packed_data n bits) (walk_fault_of stop 0 at) (course (answers_of turns)).turns
-  refused_so turns mid p next stop at e within few here h = record {
-    stop = stop;
-    subset = 0;
-    before = at;
-    is = refl;
-    stopped = (
-      refl,
-      (
-        length p.read,
-        next,
-        remaining_bits mid,
-        subst (λ x. ComesToTogether n course bits (length p.read) at (course (answers_of turns)).turns x (remaining_bits mid)) e (subst (λ b. ComesToTogether n course bits (length p.read) b (course (answers_of turns)).turns (course (answers_of turns)).next (remaining_bits mid)) (sym here) (comes turns mid p within few)),
-        h,
-      ),
-    );
-  }
+  refused_so : (turns : List TakenField) (mid : PackedCursor) (p : Passed n course s turns mid) (next : Next) (stop : Stop) (at c' : ℕ) → (course (answers_of turns)).next ≡ next → mid.at ≤ length bits → length mid.items * n ≤ max_values → at ≡ mid.at → c' ≡ ticked 0 (course (answers_of turns)).turns
+      → stop_at (packed n) (would_be_many n (length p.read)) next (remaining_bits mid) ≡ Some stop
+      → (fault_of (packed_data n bits) (reading_of course (packed_data n bits)) ≡ Some (walk_fault_of stop 0 at)) × (c' ≡ ticked 0 (reading_of course (packed_data n bits)).turns)
+  refused_so turns mid p next stop at c' e within few here ticks h =
+      let is = together_stops n course p.read bits (remaining_bits mid) next stop some (from_first turns mid p) (few_read turns mid p few) (sym (p.next_is ∙ e)) h in (
+        ap (λ (ps : List (DataPass (List Content))). option_map (λ w. walk_fault_of w 0 (length bits - length (left_after bits ps))) (stop_of ps)) is
+            ∙ ap (λ b. Some (walk_fault_of stop 0 b)) (place_is at (length (remaining_bits mid)) (length bits) (omega (arith, here, within, ap length (rest_is turns mid p), length-drop mid.at bits))),
+        ticks ∙ ap (ticked 0) (sym (ap turns_in_all is ∙ none_more (turns_after (packed n) course p.read) ∙ p.turns_are)),
+      )
+    where
+      place_is : (a b c : ℕ) → a + b ≡ c → c - b ≡ a
+      place_is a b c e = omega (arith, e)
 
-  short_so : (turns : List TakenField) (mid : PackedCursor) (p : Passed n course s turns mid) (spec : FieldSpec) → (course (answers_of turns)).next ≡ take_next spec → mid.at ≤ length bits → length mid.items * n ≤ max_values → (length mid.items % items_at_once ≡ 0) ⊎ (spec.role ≡ role.Reference) → IsPackedShort n course bits (course (answers_of turns)).turns
-  short_so turns mid p spec e within few why =
-      (spec, remaining_bits mid, length p.read, mid.at, subst (λ x. ComesToTogether n course bits (length p.read) mid.at (course (answers_of turns)).turns x (remaining_bits mid)) e (comes turns mid p within few), subst (λ l. (l % items_at_once ≡ 0) ⊎ (spec.role ≡ role.Reference)) (ap length (all_items turns mid p)) why)
+      none_more : (t : ℕ) → t + 0 ≡ t
+      none_more t = omega arith
+
+  short_so : (turns : List TakenField) (mid : PackedCursor) (p : Passed n course s turns mid) (spec : FieldSpec) → (course (answers_of turns)).next ≡ take_next spec → length mid.items * n ≤ max_values → (length mid.items % items_at_once ≡ 0) ⊎ (spec.role ≡ role.Reference)
+      → OneRunsShort (packed n) true course (passes_together course n bits) (course (answers_of turns)).turns
+  short_so turns mid p spec e few why =
+      let begins = together_begins n course p.read bits (remaining_bits mid) some (from_first turns mid p) (few_read turns mid p few) in
+      subst (λ ps. OneRunsShort (packed n) true course ps (course (answers_of turns)).turns) (sym begins.1) (inl (record {
+        items = p.read;
+        more = begins.2;
+        are = begins.3;
+        spec = spec;
+        next = p.next_is ∙ e;
+        wants = subst (λ l. (l % items_at_once ≡ 0) ⊎ (spec.role ≡ role.Reference)) (ap length (all_items turns mid p)) why;
+        turns_are = sym p.turns_are;
+      }))
 
   -- a fault of the field
   field_so : (turns : List TakenField) (mid : PackedCursor) (p : Passed n course s turns mid) (spec : FieldSpec) (at c' : ℕ) (why : FieldFault) → (course (answers_of turns)).next ≡ take_next spec → mid.at ≤ length bits → length mid.items * n ≤ max_values → at ≡ mid.at
-      → (length mid.items + 1) * mid.subsets ≤ max_values → packed_field mid.subsets spec (remaining_bits mid) ≡ Err why → c' ≡ ticked 0 (course (answers_of turns)).turns → IsFault course (packed_data n bits) (fault_at (stops.Field (wrong_of spec.fxy why)) 0 at) c'
+      → (length mid.items + 1) * mid.subsets ≤ max_values → packed_field mid.subsets spec (remaining_bits mid) ≡ Err why → c' ≡ ticked 0 (course (answers_of turns)).turns → ReadsData course (packed_data n bits) (Err (fault_at (stops.Field (wrong_of spec.fxy why)) 0 at)) c'
   field_so turns mid p spec at c' why e within few here room field ticks = by why field
     where
       many : would_be_many n (length p.read) ≡ false
@@ -334,15 +337,15 @@ module _ (n : ℕ) (course : Course) (bits : List Bool) (s : PackedCursor) (firs
       ends : (why : FieldFault) → packed_field mid.subsets spec (remaining_bits mid) ≡ Err why → stop_at (packed n) (would_be_many n (length p.read)) (take_next spec) (remaining_bits mid) ≡ Some (field_stop spec.fxy why)
       ends why f = ap (λ b. stop_at (packed n) b (take_next spec) (remaining_bits mid)) many ∙ ap (field_stop_of spec.fxy) (ap (λ m. packed_field m spec (remaining_bits mid)) (sym p.subsets) ∙ f)
 
-      by : (why : FieldFault) → packed_field mid.subsets spec (remaining_bits mid) ≡ Err why → IsFault course (packed_data n bits) (fault_at (stops.Field (wrong_of spec.fxy why)) 0 at) c'
-      by data_end f = ((course (answers_of turns)).turns, refused_so turns mid p (take_next spec) (field_stop spec.fxy data_end) at e within few here (ends data_end f), ticks)
-      by increment f = ((course (answers_of turns)).turns, refused_so turns mid p (take_next spec) (field_stop spec.fxy increment) at e within few here (ends increment f), ticks)
-      by unequal_factor f = ((course (answers_of turns)).turns, refused_so turns mid p (take_next spec) (field_stop spec.fxy unequal_factor) at e within few here (ends unequal_factor f), ticks)
+      by : (why : FieldFault) → packed_field mid.subsets spec (remaining_bits mid) ≡ Err why → ReadsData course (packed_data n bits) (Err (fault_at (stops.Field (wrong_of spec.fxy why)) 0 at)) c'
+      by data_end f = refused_so turns mid p (take_next spec) (field_stop spec.fxy data_end) at c' e within few here ticks (ends data_end f)
+      by increment f = refused_so turns mid p (take_next spec) (field_stop spec.fxy increment) at c' e within few here ticks (ends increment f)
+      by unequal_factor f = refused_so turns mid p (take_next spec) (field_stop spec.fxy unequal_factor) at c' e within few here ticks (ends unequal_factor f)
 
   -- a refused walk
-  pub walk_stops : (s' : PackedCursor) (c c' at : ℕ) (why : WalkStop DataFault) → c ≡ 0 → Walked PackedTakes course s c (Err why) s' c' → s'.at ≤ length s'.bits → length s'.items * s'.subsets ≤ max_values → at ≡ s'.at → IsFault course (packed_data n bits) (fault_at why 0 at) c'
+  pub walk_stops : (s' : PackedCursor) (c c' at : ℕ) (why : WalkStop DataFault) → c ≡ 0 → Walked PackedTakes course s c (Err why) s' c' → s'.at ≤ length s'.bits → length s'.items * s'.subsets ≤ max_values → at ≡ s'.at → ReadsData course (packed_data n bits) (Err (fault_at why 0 at)) c'
   walk_stops s' c c' at why zero_first w within few here =
-      stop_cases PackedTakes (λ next y. (course (answers_of w.0)).next ≡ next → IsFault course (packed_data n bits) (fault_at y 0 at) c') w.1 s' field (λ spec r e q. ((course (answers_of w.0)).turns, short_so w.0 w.1 p spec q (inside e) (room e) (inr r), ticks)) refuses (course (answers_of w.0)).next why w.3 refl
+      stop_cases PackedTakes (λ next y. (course (answers_of w.0)).next ≡ next → ReadsData course (packed_data n bits) (Err (fault_at y 0 at)) c') w.1 s' field (λ spec r e q. ((course (answers_of w.0)).turns, short_so w.0 w.1 p spec q (room e) (inr r), ticks)) refuses (course (answers_of w.0)).next why w.3 refl
     where
       p : Passed n course s w.0 w.1
       p = passes n course s w.0 w.1 begins w.2
@@ -360,24 +363,24 @@ module _ (n : ℕ) (course : Course) (bits : List Bool) (s : PackedCursor) (firs
       place : s' ≡ w.1 → at ≡ w.1.at
       place e = here ∙ ap (λ x. x.at) e
 
-      wrong_so : (spec : FieldSpec) (e : DataFault) → (course (answers_of w.0)).next ≡ take_next spec → IsUnseen w.1.bits w.1.at w.1.subsets spec e → s' ≡ w.1 → (length w.1.items + 1) * w.1.subsets ≤ max_values → IsFault course (packed_data n bits) (fault_at (stops.Field e) 0 at) c'
+      wrong_so : (spec : FieldSpec) (e : DataFault) → (course (answers_of w.0)).next ≡ take_next spec → IsUnseen w.1.bits w.1.at w.1.subsets spec e → s' ≡ w.1 → (length w.1.items + 1) * w.1.subsets ≤ max_values → ReadsData course (packed_data n bits) (Err (fault_at (stops.Field e) 0 at)) c'
       wrong_so spec e q h same room_for =
-          subst (λ x. IsFault course (packed_data n bits) (fault_at (stops.Field x) 0 at) c') (sym h.fault) (field_so w.0 w.1 p spec at c' h.why q (inside same) (room same) (place same) room_for h.field ticks)
+          subst (λ x. ReadsData course (packed_data n bits) (Err (fault_at (stops.Field x) 0 at)) c') (sym h.fault) (field_so w.0 w.1 p spec at c' h.why q (inside same) (room same) (place same) room_for h.field ticks)
 
       many_so : (spec : FieldSpec) → max_values < (length w.1.items + 1) * w.1.subsets → would_be_many n (length p.read) ≡ true
       many_so spec h = lt-ltb max_values ((length p.read + 1) * n) (subst (λ xs. max_values < (length xs + 1) * n) (all_items w.0 w.1 p) (subst (λ m. max_values < (length w.1.items + 1) * m) p.subsets h))
 
-      field : (spec : FieldSpec) (e : DataFault) → PackedTakes w.1 spec (Err e) s' → (course (answers_of w.0)).next ≡ take_next spec → IsFault course (packed_data n bits) (fault_at (stops.Field e) 0 at) c'
+      field : (spec : FieldSpec) (e : DataFault) → PackedTakes w.1 spec (Err e) s' → (course (answers_of w.0)).next ≡ take_next spec → ReadsData course (packed_data n bits) (Err (fault_at (stops.Field e) 0 at)) c'
       field spec (wrong.TooManyValues fxy) h q =
-          ((course (answers_of w.0)).turns, subst (λ f. IsRefused course (packed_data n bits) (fault.TooManyValues (spot 0 f at)) (course (answers_of w.0)).turns) (sym h.0) (refused_so w.0 w.1 p (take_next spec) (too_many spec.fxy) at q (inside h.2) (room h.2) (place h.2) (ap (λ b. stop_at (packed n) b (take_next spec) (remaining_bits w.1)) (many_so spec h.1))), ticks)
-      field spec wrong.Memory h q = ((course (answers_of w.0)).turns, short_so w.0 w.1 p spec q (inside h.0) (room h.0) (inl h.1), ticks)
+          subst (λ f. ReadsData course (packed_data n bits) (Err (fault.TooManyValues (spot 0 f at))) c') (sym h.0) (refused_so w.0 w.1 p (take_next spec) (too_many spec.fxy) at c' q (inside h.2) (room h.2) (place h.2) ticks (ap (λ b. stop_at (packed n) b (take_next spec) (remaining_bits w.1)) (many_so spec h.1)))
+      field spec wrong.Memory h q = ((course (answers_of w.0)).turns, short_so w.0 w.1 p spec q (room h.0) (inl h.1), ticks)
       field spec (wrong.DataEnd fxy) h q = wrong_so spec (wrong.DataEnd fxy) q h.0 h.1 h.2
       field spec (wrong.Increment fxy) h q = wrong_so spec (wrong.Increment fxy) q h.0 h.1 h.2
       field spec (wrong.UnequalFactor fxy) h q = wrong_so spec (wrong.UnequalFactor fxy) q h.0 h.1 h.2
 
-      refuses : (x : TurnRefusal) → s' ≡ w.1 → (course (answers_of w.0)).next ≡ refused x → IsFault course (packed_data n bits) (fault_at (stop_by x) 0 at) c'
-      refuses (refusal.Width f) e q = ((course (answers_of w.0)).turns, refused_so w.0 w.1 p (refused (refusal.Width f)) (walk_stop (refusal.Width f)) at q (inside e) (room e) (place e) refl, ticks)
-      refuses (refusal.Defining f) e q = ((course (answers_of w.0)).turns, refused_so w.0 w.1 p (refused (refusal.Defining f)) (walk_stop (refusal.Defining f)) at q (inside e) (room e) (place e) refl, ticks)
+      refuses : (x : TurnRefusal) → s' ≡ w.1 → (course (answers_of w.0)).next ≡ refused x → ReadsData course (packed_data n bits) (Err (fault_at (stop_by x) 0 at)) c'
+      refuses (refusal.Width f) e q = refused_so w.0 w.1 p (refused (refusal.Width f)) (walk_stop (refusal.Width f)) at c' q (inside e) (room e) (place e) ticks refl
+      refuses (refusal.Defining f) e q = refused_so w.0 w.1 p (refused (refusal.Defining f)) (walk_stop (refusal.Defining f)) at c' q (inside e) (room e) (place e) ticks refl
 
 pub stopped_within : (course : Course) (bits : List Bool) (n : ℕ) (s s' : PackedCursor) (c c' : ℕ) (why : WalkStop DataFault) → s ≡ new_packed_in bits n → Walked PackedTakes course s c (Err why) s' c' → s'.at ≤ length s'.bits → s'.at ≤ length bits
 stopped_within course bits n s s' c c' why first w h =
@@ -392,12 +395,12 @@ few_stopped k steps steps' at here all s bits n why first e h u within = grind (
 
 pub packed_held : (table : List Row) (template : Tree) (subsets : ℕ) (octets : List ℕ) (used steps : ℕ) (entries : List IndexedItem) → IsReadAndKept (next_item table template) (data_in true subsets octets) entries used steps → 7 * length entries ≤ used → length octets < 2 ^ 24
     → IsStoredReading (read_by table template (data_in true subsets octets) used (length entries)) (kept.Together entries)
-packed_held table template subsets octets used steps entries h few short = record { values = together h.0; reading = h.1.0; keeps = h.2; few = few; pays = tt; short = used_most octets used short h.1.0.1 }
+packed_held table template subsets octets used steps entries h few short = record { reading = h.0; keeps = h.2; few = few; pays = tt; short = used_most octets used short h.0.1 }
 
 -- the compressed data of a message
 pub packed_data_same : (m : Sections) (subsets : ℕ) (octets : List ℕ) → m.compressed ≡ true → subsets ≡ m.subsets → octets ≡ m.payload → data_in true subsets octets ≡ data_of m
 packed_data_same m subsets octets packed e f = grind (arith, common_steps)
 
 pub packed_is : (table : List Row) (template : Tree) (m : Sections) (subsets : ℕ) (octets : List ℕ) (used held steps : ℕ) (entries : List IndexedItem) → data_in true subsets octets ≡ data_of m → IsReadAndKept (next_item table template) (data_in true subsets octets) entries used steps
-    → IsReadingOf table template (data_of m) (read_by table template (data_in true subsets octets) used held) steps
-packed_is table template m subsets octets used held steps entries e h = (refl, refl, e, together h.0, subst (λ d. IsRead (next_item table template) d (together h.0) used steps) e h.1)
+    → AnswersReading table template (data_of m) (Ok (read_by table template (data_in true subsets octets) used held)) steps
+packed_is table template m subsets octets used held steps entries e h = (refl, refl, e, subst (λ d. ReadsData (next_item table template) d (Ok used) steps) e h.1)

@@ -4,7 +4,7 @@ use Rattle.std.proofs.Common.{◌≡◌, ℕ, ◌+◌, ◌-◌, ◌*◌, ◌<◌
 use Rattle.std.proofs.lemmas.List.{drop-drop, append-nil, take_more_set, replicate-append-replicate}
 use Rattle.bufr_bits.specs.Prelude.{bits_of, are_all_ones}
 use Rattle.bufr_tables.specs.Prelude.{is_character, Row}
-use Rattle.bufr_walk.specs.Prelude.{IndexedItem, octets_in, text, missing, shown_text, shown_missing, shown, Content, padded_text, FieldSpec, content_kept, call_kept, IsStoredReading, KeepsValues, held_of, fits_at, items_at, ShowFault, Sofar, Call, Timed, timed, compressed_item_calls, Shows, subset_call, compressed_subset_calls, calls_of, turns_shown, Item, packed, ReadsPass, Values, apart, together, IsReading, IsPackedReading, items_kept, Read, course_of, Course}
+use Rattle.bufr_walk.specs.Prelude.{IndexedItem, octets_in, text, missing, shown_text, shown_missing, shown, Content, padded_text, FieldSpec, content_kept, call_kept, IsStoredReading, KeepsValues, held_of, fits_at, items_at, ShowFault, Sofar, Call, Timed, timed, compressed_item_calls, Shows, subset_call, compressed_subset_calls, calls_by, turns_by, Item, Values, apart, together, items_kept, Read}
 use Rattle.bufr_walk.proofs.PackedLemmas.{kept_parts, text_content, text_within}
 use Rattle.bufr_walk.proofs.PlainLemmas.{bits_length, octets_prefix}
 use Rattle.std.specs.List.{list_all}
@@ -12,7 +12,7 @@ use Rattle.std.proofs.Math.Seq.{drop-cons}
 use Rattle.bufr_bits.proofs.DecimalLemmas.{and_first, and_second}
 use Rattle.bufr_walk.proofs.ShownLemmas.{sofar_self, sofar_then, sofar_call}
 use Rattle.bufr_walk.specs.declared.reading.StoredItems.{StoredItems}
-use Rattle.bufr_walk.proofs.OneReading.{one_reading, HasOutcome, ended, outcome_of, one_outcome}
+use Rattle.bufr_walk.specs.Pass.{values_read, calls_of, turns_shown}
 use Rattle.bufr_walk.specs.declared.fault.ShowFault.TheVariants as fault
 use Rattle.bufr_walk.specs.declared.reading.StoredItems.TheVariants as kept
 
@@ -146,34 +146,33 @@ module _ {S E : Type 0} (sees : S → Call → Result (Unit {0}) E → S → Typ
       let so_far : Sofar sees s all_calls s1 [] = subst (Sofar sees s all_calls s1) (ap (λ left. compressed_subset_calls table left j items) none) so in
       so_far.on 0 (Ok tt) s1 0 (refl, refl)
 
--- compressed data are read in one way
-one_packed : (n : ℕ) (course : Course) (xs ys : List (Item (List Content))) (bits l m : List Bool) → IsPackedReading n course xs bits l → IsPackedReading n course ys bits m → xs ≡ ys
-one_packed zero course xs ys bits l m h g = h.0 ∙ sym g.0
-one_packed (suc n) course xs ys bits l m h g = let one = one_outcome (packed (suc n)) (λ j. false) course 0 bits xs ys l m ended ended (has xs l h.0) (has ys m g.0) in one.0
-  where
-    has : (zs : List (Item (List Content))) (left : List Bool) → ReadsPass (packed (suc n)) course zs bits left → HasOutcome (packed (suc n)) (λ j. false) course 0 bits zs left ended
-    has zs left w = record { reads = w.0; few = λ j lt. refl; ends = ap (λ x. outcome_of (packed (suc n)) false x left) w.1 }
-
 -- the entries that are kept are at their locations
 pub entries_fit : (r : Read) (entries : List IndexedItem) → IsStoredReading r (kept.Together entries) → list_all (fits_at r.source.bits r.source.subsets) entries ≡ true
-entries_fit r entries h = grind (arith, common_steps)
+entries_fit r entries h = by (values_read r) h.keeps
+  where
+    by : (v : Values) → KeepsValues (kept.Together entries) r.source v → list_all (fits_at r.source.bits r.source.subsets) entries ≡ true
+    by (apart xs) k = absurd k
+    by (together xs) k = k.1
 
 pub packed_shown : {V E : Type 0} (sees : V → Call → Result (Unit {0}) E → V → Type 0) (r : Read) (entries : List IndexedItem) (items : List IndexedItem) (v v' : V) (result : Result (Unit {0}) (ShowFault E)) (steps : ℕ) → IsStoredReading r (kept.Together entries) → items ≡ entries → steps ≡ 0
     → Shows sees v (compressed_subset_calls r.table r.source.subsets 0 (items_at r.source.bits r.source.subsets items)) 0 result v' 0
-    → (values : Values) → IsReading (course_of r) r.source values r.bits → Shows sees v (calls_of r values) (turns_shown r values) result v' steps
-packed_shown sees r entries items v v' result steps h are none shows values reading = subst (λ n. Shows sees v (calls_of r values) (turns_shown r values) result v' n) (sym none) (by h.values h.reading h.keeps values reading)
+    → Shows sees v (calls_of r) (turns_shown r) result v' steps
+packed_shown sees r entries items v v' result steps h are none shows = subst (λ n. Shows sees v (calls_of r) (turns_shown r) result v' n) (sym none) (by (values_read r) h.keeps)
   where
-    by : (held : Values) → IsReading (course_of r) r.source held r.bits → KeepsValues (kept.Together entries) r.source held → (values : Values) → IsReading (course_of r) r.source values r.bits → Shows sees v (calls_of r values) (turns_shown r values) result v' 0
-    by (apart all) k w values g = absurd w
-    by (together items) k w (apart all) g = let e : true ≡ false = sym k.0 ∙ g.0 in absurd cc
-    by (together held) k w (together others) g =
-        let same : items_at r.source.bits r.source.subsets entries ≡ others = w.0 ∙ one_packed r.source.subsets (course_of r) held others r.source.bits (drop r.bits r.source.bits) (drop r.bits r.source.bits) k.2 g.2 in
-        subst (λ is. Shows sees v (compressed_subset_calls r.table r.source.subsets 0 is) 0 result v' 0) (ap (items_at r.source.bits r.source.subsets) are ∙ same) shows
+    by : (held : Values) → KeepsValues (kept.Together entries) r.source held → Shows sees v (calls_by r held) (turns_by r held) result v' 0
+    by (apart all) k = absurd k
+    by (together held) k = subst (λ is. Shows sees v (compressed_subset_calls r.table r.source.subsets 0 is) 0 result v' 0) (ap (items_at r.source.bits r.source.subsets) are ∙ k.0) shows
 
 -- each item of compressed data is kept, and nothing of other data
 length-items_at : (bits : List Bool) (n : ℕ) (entries : List IndexedItem) → length entries ≡ length (items_at bits n entries)
 length-items_at bits n [] = refl
 length-items_at bits n (e ∷ entries) = ap suc (length-items_at bits n entries)
 
-pub all_kept : (r : Read) (k : StoredItems) → IsStoredReading r k → (values : Values) → IsReading (course_of r) r.source values r.bits → held_of k ≡ items_kept values
-all_kept r k h values reading = grind (arith, common_steps, one_reading, length-items_at)
+pub all_kept : (r : Read) (k : StoredItems) → IsStoredReading r k → held_of k ≡ items_kept (values_read r)
+all_kept r k h = by k (values_read r) h.keeps
+  where
+    by : (k : StoredItems) (v : Values) → KeepsValues k r.source v → held_of k ≡ items_kept v
+    by kept.Apart (apart xs) w = refl
+    by kept.Apart (together xs) w = absurd w
+    by (kept.Together entries) (apart xs) w = absurd w
+    by (kept.Together entries) (together xs) w = length-items_at r.source.bits r.source.subsets entries ∙ ap length w.0

@@ -6,7 +6,8 @@ use Rattle.std.proofs.lemmas.List.{length-drop, drop-drop, drop-take, take-take,
 use Rattle.std.proofs.Math.Nat.{pow-le-pow_right}
 use Rattle.bufr_bits.specs.Prelude.{bits_of, bits_at, number_of, are_all_ones}
 use Rattle.bufr_bits.proofs.BitLemmas.{length-bits_of, length-bits_at, are_all_ones-number, drop-bits_of, take-bits_of, number_of_middle, number-bits_of_octet}
-use Rattle.bufr_walk.specs.Prelude.{turns_in, items_in, Stop, stop_at, walk_fault_of, plain, WalkFault, Kind, Taken, Role, is_reference, FieldSpec, IsSpec, HasRole, HasWidth, answer_of, answer_by_role, content_in, content_by, signed_by, plain_field, found, data_end, octets_in, Content, Cursor, rest_of, past, IsTaken, fault_at, PlainTakes, WalkStop, Course, Next, take_next, at_end, refused, next_item, TakenField, Takes, ticked, oks, answers_of, Walked, spot, walk_stop, field_stop, field_stop_of, data_in, data_of, read_by, Read, course_of, IsRead, IsReadingOf, Item, ReadsItems, next_after, turns_after, after, apart, ReadsSubsets, max_values, IsStoredReading, IsReadAndPaid, TurnRefusal, stop_by}
+use Rattle.bufr_walk.specs.Prelude.{turns_in, items_in, Stop, stop_at, walk_fault_of, plain, WalkFault, Kind, Taken, Role, is_reference, FieldSpec, IsSpec, HasRole, HasWidth, answer_of, answer_by_role, content_in, content_by, signed_by, plain_field, found, data_end, octets_in, Content, Cursor, rest_of, past, IsTaken, fault_at, PlainTakes, WalkStop, Course, Next, take_next, at_end, refused, next_item, TakenField, Takes, ticked, oks, answers_of, Walked, spot, walk_stop, field_stop, field_stop_of, data_in, data_of, read_by, Read, course_of, Item, ReadsItems, next_after, turns_after, after, apart, together, Values, IsReading, KeepsValues, ReadsSubsets, max_values, IsStoredReading, IsReadAndPaid, TurnRefusal, stop_by}
+use Rattle.bufr_walk.specs.Pass.{DataPass, passes_apart, stop_of, left_after, turns_in_all, items_by_pass, values_read, ReadsData, AnswersReading}
 use Rattle.bufr_walk.specs.declared.fault.DataFault.{DataFault}
 use Rattle.bufr_walk.specs.declared.fault.DataFault.TheVariants as wrong
 use Rattle.bufr_frame.specs.Prelude.{Sections}
@@ -39,6 +40,13 @@ pub record SubsetsRead (n : ℕ) (course : Course) (bits : List Bool) (count : �
   pub few : steps ≤ n * s.at
   pub pays : items_in subsets ≤ s.at
   pub within : s.at ≤ length bits
+  -- the passes that read them, and those that follow
+  pub passes : List (DataPass Content)
+  pub goes : (more : ℕ) → passes_apart course (count + more) bits ≡ passes ++ passes_apart course more (rest_of s)
+  pub none : stop_of passes ≡ None
+  pub left : left_after bits passes ≡ rest_of s
+  pub turns : turns_in_all passes ≡ turns_in course subsets
+  pub items : items_by_pass passes ≡ subsets
 
 -- what comes next cannot be read, or, where it is a reference, cannot be kept
 abbrev pub PassStops : Course → Cursor → (steps subset : ℕ) → WalkFault → Cursor → (steps' : ℕ) → Type 0
@@ -286,16 +294,20 @@ walk_forth course s s' c c' (Err why) w = omega (arith, takes_forth course s w.0
 pub used_most : (octets : List ℕ) (used : ℕ) → length octets < 2 ^ 24 → used ≤ length (bits_of octets) → used ≤ max_values
 used_most octets used h w = omega (arith, h, w, bits_length octets)
 
-pub plain_held : (table : List Row) (template : Tree) (subsets : ℕ) (octets : List ℕ) (used steps : ℕ) → length octets < 2 ^ 24 → IsReadAndPaid (next_item table template) (data_in false subsets octets) used steps → IsStoredReading (read_by table template (data_in false subsets octets) used 0) kept.Apart
-plain_held table template subsets octets used steps short h = record { values = apart h.0; reading = h.1.0; keeps = tt; few = omega arith; pays = h.2; short = used_most octets used short h.1.0.1 }
+pub plain_held : (table : List Row) (template : Tree) (subsets : ℕ) (octets : List ℕ) (used : ℕ) → length octets < 2 ^ 24 → IsReadAndPaid (next_item table template) (data_in false subsets octets) used → IsStoredReading (read_by table template (data_in false subsets octets) used 0) kept.Apart
+plain_held table template subsets octets used short h = record { reading = h.0; keeps = tt; few = omega arith; pays = h.1; short = used_most octets used short h.0.1 }
 
 -- the data of a message that are not compressed
 pub same_data : (m : Sections) (subsets : ℕ) (octets : List ℕ) → m.compressed ≡ false → subsets ≡ m.subsets → octets ≡ m.payload → data_in false subsets octets ≡ data_of m
 same_data m subsets octets plain e f = grind (arith, common_steps)
 
-pub plain_is : (table : List Row) (template : Tree) (m : Sections) (subsets : ℕ) (octets : List ℕ) (used steps : ℕ) → data_in false subsets octets ≡ data_of m → IsReadAndPaid (next_item table template) (data_in false subsets octets) used steps → IsReadingOf table template (data_of m) (read_by table template (data_in false subsets octets) used 0) steps
-plain_is table template m subsets octets used steps e h = (refl, refl, e, apart h.0, subst (λ d. IsRead (next_item table template) d (apart h.0) used steps) e h.1)
+pub plain_is : (table : List Row) (template : Tree) (m : Sections) (subsets : ℕ) (octets : List ℕ) (used steps : ℕ) → data_in false subsets octets ≡ data_of m → ReadsData (next_item table template) (data_in false subsets octets) (Ok used) steps → AnswersReading table template (data_of m) (Ok (read_by table template (data_in false subsets octets) used 0)) steps
+plain_is table template m subsets octets used steps e h = (refl, refl, e, subst (λ d. ReadsData (next_item table template) d (Ok used) steps) e h)
 
 -- data that are not compressed were read before, and can be shown
 pub readable_of : (r : Read) → IsStoredReading r kept.Apart → (all : List (List (Item Content))) × (left : List Bool) × ReadsSubsets (course_of r) all r.source.bits left × (length all ≡ r.source.subsets)
-readable_of r h = grind (arith, common_steps)
+readable_of r h = by (values_read r) h.reading h.keeps
+  where
+    by : (v : Values) → IsReading (course_of r) r.source v r.bits → KeepsValues kept.Apart r.source v → (all : List (List (Item Content))) × (left : List Bool) × ReadsSubsets (course_of r) all r.source.bits left × (length all ≡ r.source.subsets)
+    by (apart xs) g k = (xs, drop r.bits r.source.bits, g.2.0, g.2.1)
+    by (together xs) g k = absurd k

@@ -1,9 +1,9 @@
 -- The items and subsets that a walk with a visitor shows.
 use Rattle.std.proofs.lemmas.Grind.{common_steps}
-use Rattle.std.proofs.Common.{◌≡◌, ℕ, ◌+◌, ◌-◌, ◌*◌, ◌^◌, ◌<◌, ◌≤◌, false, Bool, List, [], ◌∷◌, ◌++◌, length, drop, Some, refl, sym, ◌∙◌, ap, subst, arith, length-append, length-drop, ◌/◌, ◌&&◌, true, ◌⊎◌, inl, inr, take, Result, Ok, Err, ℤ, pos, ◌+ℤ◌, ◌==◌, ◌||◌, nat_lt, if◌then◌else◌, nat_le, not, unsigned_abs}
+use Rattle.std.proofs.Common.{suc, None, Option, option_map, append_assoc, ◌≡◌, ℕ, ◌+◌, ◌-◌, ◌*◌, ◌^◌, ◌<◌, ◌≤◌, false, Bool, List, [], ◌∷◌, ◌++◌, length, drop, Some, refl, sym, ◌∙◌, ap, subst, arith, length-append, length-drop, ◌/◌, ◌&&◌, true, ◌⊎◌, inl, inr, take, Result, Ok, Err, ℤ, pos, ◌+ℤ◌, ◌==◌, ◌||◌, nat_lt, if◌then◌else◌, nat_le, not, unsigned_abs}
 use Rattle.std.proofs.lemmas.Bool.{eqb-true, ltb-true, ne_eqb}
 use Rattle.bufr_bits.specs.Prelude.{bits_of, number_of, are_all_ones, bits_at}
-use Rattle.bufr_walk.specs.Prelude.{number_from, Kind, WalkFault, Content, data_end, increment, unequal_factor, answer_of, number, text, missing, content_in, content_by, said_by, octets_in, signed_by, shown_number, shown_text, shown_missing, shown_reference, shown, FieldFault, FieldRead, found, plain_field, FieldSpec, IsSpec, HasRole, is_reference, IsFor, IsForRole, is_plain_number, is_plain, IsPlainNumber, ones, Course, Next, take_next, at_end, refused, ticked, TakenField, Takes, oks, answers_of, Walked, walk_fault_of, bits_before, data_in, IsFault, IsRefused, Stop, walk_stop, too_many, field_stop, stop_at, ComesTo, Item, plain, ReadsPass, ReadsSubsets, turns_after, turns_in, after, items_in, content_kept, is_missing, stays_within, fits_at, Cursor, rest_of, past, IsTaken, Stage, stage, IsShown, IsUnshown, ShowingTakes, Sofar, ItemsShown, ItemsEnded, ItemsGo, ShowFault, TurnRefusal, Role, Taken, WalkStop, Call, item_call, view_of, Timed, timed, item_calls, Shows, EndsAt, IsReferenceValue, subset_call, subset_calls, IndexedItem, stop_by}
+use Rattle.bufr_walk.specs.Prelude.{number_from, Kind, WalkFault, Content, data_end, increment, unequal_factor, answer_of, number, text, missing, content_in, content_by, said_by, octets_in, signed_by, shown_number, shown_text, shown_missing, shown_reference, shown, FieldFault, FieldRead, found, plain_field, FieldSpec, IsSpec, HasRole, is_reference, IsFor, IsForRole, is_plain_number, is_plain, IsPlainNumber, ones, Course, Next, take_next, at_end, refused, ticked, TakenField, Takes, oks, answers_of, Walked, walk_fault_of, bits_before, data_in, stop_at, Stop, walk_stop, too_many, field_stop, Item, plain, ReadsPass, ReadsSubsets, turns_after, turns_in, after, items_in, IsReading, apart, together, Values, Read, course_of, IsReadAndPaid, PaysBits, IsStoredReading, KeepsValues, calls_by, turns_by, content_kept, is_missing, stays_within, fits_at, Cursor, rest_of, past, IsTaken, Stage, stage, IsShown, IsUnshown, ShowingTakes, Sofar, ItemsShown, ItemsEnded, ItemsGo, ShowFault, TurnRefusal, Role, Taken, WalkStop, Call, item_call, view_of, Timed, timed, item_calls, Shows, EndsAt, IsReferenceValue, subset_call, subset_calls, IndexedItem, stop_by}
 use Rattle.bufr_tables.specs.Prelude.{Row, is_character}
 use Rattle.bufr_walk.specs.declared.plain.ShowStop.{ShowStop}
 use Rattle.std.proofs.lemmas.Bool.Decides.{nat_tests}
@@ -18,6 +18,10 @@ use Rattle.bufr_walk.specs.declared.spec.Role.TheVariants as role
 use Rattle.bufr_walk.specs.declared.walker.WalkStop.TheVariants as stops
 use Rattle.bufr_walk.specs.declared.spec.Taken.TheVariants as taken
 use Rattle.bufr_walk.proofs.WalkLemmas.{stop_cases}
+use Rattle.std.proofs.lemmas.List.{map-append, append-nil, length-map}
+use Rattle.bufr_walk.specs.Pass.{DataPass, read_pass, passes_apart, unless_stopped, stop_of, first_stop, left_after, turns_in_all, items_by_pass, values_read, calls_of, turns_shown, reading_of, fault_of, OneRunsShort, ReadsData, ReadsTo}
+use Rattle.bufr_walk.proofs.PassLemmas.{passed, pass_is, pass_prefix}
+use Rattle.bufr_walk.specs.declared.reading.StoredItems.TheVariants as kept
 
 -- ---- Subsets that are read one after another.
 
@@ -36,6 +40,69 @@ items_more : (xs : List (List (Item Content))) (x : List (Item Content)) → ite
 items_more [] x = omega arith
 items_more (y ∷ xs) x = omega (arith, items_more xs x)
 
+-- passes one after another
+stop_append : (a b : List (DataPass Content)) → stop_of a ≡ None → stop_of (a ++ b) ≡ stop_of b
+stop_append [] b e = refl
+stop_append (p ∷ a) b e = by p.stop e (λ z. stop_append a b z)
+  where
+    by : (o : Option Stop) → first_stop o (stop_of a) ≡ None → (stop_of a ≡ None → stop_of (a ++ b) ≡ stop_of b) → first_stop o (stop_of (a ++ b)) ≡ stop_of b
+    by None e go = go e
+    by (Some why) e go = absurd cc
+
+left_append : (bits : List Bool) (a b : List (DataPass Content)) → left_after bits (a ++ b) ≡ left_after (left_after bits a) b
+left_append bits [] b = refl
+left_append bits (p ∷ a) b = left_append p.state.left a b
+
+turns_append : (a b : List (DataPass Content)) → turns_in_all (a ++ b) ≡ turns_in_all a + turns_in_all b
+turns_append [] b = omega arith
+turns_append (p ∷ a) b = omega (arith, turns_append a b)
+
+short_append : (course : Course) (a b : List (DataPass Content)) (turns : ℕ) → OneRunsShort plain false course b turns → OneRunsShort plain false course (a ++ b) (turns_in_all a + turns)
+short_append course [] b turns h = subst (λ t. OneRunsShort plain false course b t) (zero_plus turns) h
+  where
+    zero_plus : (t : ℕ) → t ≡ 0 + t
+    zero_plus t = omega arith
+short_append course (p ∷ a) b turns h = inr (turns_in_all a + turns, short_append course a b turns h, assoc p.turns (turns_in_all a) turns)
+  where
+    assoc : (a b c : ℕ) → a + b + c ≡ a + (b + c)
+    assoc a b c = omega arith
+
+-- what a pass over the bits that are left gives
+fuel : (course : Course) (s s' : Cursor) (c c' : ℕ) (next : Next) (p : PassComes course s c next s' c') → s'.at ≤ length s'.bits → length p.items < suc (length (rest_of s))
+fuel course s s' c c' next p within = omega (arith, p.pays, within, ap length p.same, length-drop s.at s.bits)
+
+came : (course : Course) (s s' : Cursor) (c c' : ℕ) (next : Next) (o : Option Stop) (p : PassComes course s c next s' c') → s'.at ≤ length s'.bits → ReadsTo plain (λ n. false) course 0 (rest_of s) p.items (rest_of s') o
+    → read_pass plain (λ items. false) course (rest_of s) ≡ passed plain course (0 + length p.items) p.items (rest_of s') o
+came course s s' c c' next o p within h = pass_is plain (λ n. false) (suc (length (rest_of s))) course 0 (rest_of s) p.items (rest_of s') o h (fuel course s s' c c' next p within)
+
+-- nothing was read yet
+pub none_yet : (n : ℕ) (course : Course) (bits : List Bool) (s : Cursor) (steps : ℕ) → s ≡ record { bits = bits; at = 0 } → steps ≡ 0 → SubsetsRead n course bits 0 s steps
+none_yet n course bits s steps e z = record {
+  subsets = [];
+  whole = sym rest;
+  count_is = refl;
+  ticks = z ∙ ticked_none;
+  same = ap (λ x. x.bits) e;
+  few = omega (arith, z);
+  pays = omega arith;
+  within = omega (arith, ap (λ x. x.at) e);
+  passes = [];
+  goes = λ more. ap (λ k. passes_apart course k bits) (zero_plus more) ∙ ap (passes_apart course more) (sym rest);
+  none = refl;
+  left = sym rest;
+  turns = refl;
+  items = refl;
+}
+  where
+    rest : rest_of s ≡ bits
+    rest = ap rest_of e
+
+    zero_plus : (n : ℕ) → 0 + n ≡ n
+    zero_plus n = omega arith
+
+    ticked_none : 0 ≡ ticked 0 0
+    ticked_none = grind (arith, common_steps)
+
 pub one_more : (n : ℕ) (course : Course) (bits : List Bool) (i : ℕ) (s s' : Cursor) (c c' : ℕ) → SubsetsRead n course bits i s c → PassComes course s c at_end s' c' → c' ≤ c + n * (s'.at - s.at) → s'.at ≤ length s'.bits → s.at ≤ s'.at → SubsetsRead n course bits (i + 1) s' c'
 one_more n course bits i s s' c c' h p few within forth =
     let same : s'.bits ≡ bits = p.same ∙ h.same in
@@ -48,72 +115,113 @@ one_more n course bits i s s' c c' h p few within forth =
       few = sums n s.at s'.at c c' h.few few forth;
       pays = omega (arith, items_more h.subsets p.items, h.pays, p.pays);
       within = omega (arith, within, ap length same);
+      passes = h.passes ++ pass ∷ [];
+      goes = λ more. ap (λ k. passes_apart course k bits) (counted i more) ∙ h.goes (suc more)
+          ∙ ap (λ (q : DataPass Content). h.passes ++ (q ∷ unless_stopped q.stop (passes_apart course more q.state.left))) is
+          ∙ sym (append_assoc h.passes (pass ∷ []) (passes_apart course more (rest_of s')));
+      none = stop_append h.passes (pass ∷ []) h.none;
+      left = left_append bits h.passes (pass ∷ []);
+      turns = turns_append h.passes (pass ∷ []) ∙ sums_to (turns_in_all h.passes) (turns_in course h.subsets) (turns_after plain course p.items) h.turns ∙ sym (turns_more course h.subsets p.items);
+      items = map-append (λ (q : DataPass Content). q.items) h.passes (pass ∷ []) ∙ ap (λ xs. xs ++ p.items ∷ []) h.items;
     }
   where
+    pass : DataPass Content
+    pass = passed plain course (0 + length p.items) p.items (rest_of s') None
+
+    is : read_pass plain (λ items. false) course (rest_of s) ≡ passed plain course (0 + length p.items) p.items (rest_of s') None
+    is = came course s s' c c' at_end None p within (record { reads = p.reads; few = λ j lt. refl; ends = sym p.next_is })
+
+    counted : (i more : ℕ) → i + 1 + more ≡ i + suc more
+    counted i more = omega arith
+
+    sums_to : (a b c : ℕ) → a ≡ b → a + (c + 0) ≡ b + c
+    sums_to a b c e = omega (arith, e)
+
     sums : (n a b c c' : ℕ) → c ≤ n * a → c' ≤ c + n * (b - a) → a ≤ b → c' ≤ n * b
     sums n a b c c' h g f = let e : n * b ≡ n * a + n * (b - a) = split n a (b - a) b (omega (arith, f)) in omega (arith, e, h, g)
       where
         split : (n a d b : ℕ) → b ≡ a + d → n * b ≡ n * a + n * d
         split n a d b e = ap (λ x. n * x) e ∙ grind arith
 
--- the state of a pass after some subsets
-comes : (n : ℕ) (course : Course) (bits : List Bool) (i total : ℕ) (s s' : Cursor) (c c' before : ℕ) (next : Next) (h : SubsetsRead n course bits i s c) (p : PassComes course s c next s' c') → i < total → before + length (rest_of s') ≡ length bits → ComesTo total course bits (i + 1) before (turns_in course h.subsets + turns_after plain course p.items) next (rest_of s')
-comes n course bits i total s s' c c' before next h p more place = record {
-  done = h.subsets;
-  items = p.items;
-  mid = rest_of s;
-  whole = h.whole;
-  reads = p.reads;
-  next_is = p.next_is;
-  number = omega (arith, h.count_is);
-  within = omega (arith, more);
-  place = place;
-  turns_are = refl;
-}
-
-ticks_of : (n : ℕ) (course : Course) (bits : List Bool) (i : ℕ) (s s' : Cursor) (c c' : ℕ) (next : Next) (h : SubsetsRead n course bits i s c) (p : PassComes course s c next s' c') → c' ≡ ticked 0 (turns_in course h.subsets + turns_after plain course p.items)
-ticks_of n course bits i s s' c c' next h p = p.ticks ∙ ap (λ x. ticked x (turns_after plain course p.items)) h.ticks ∙ ticked_more (turns_in course h.subsets) (turns_after plain course p.items)
+ticks_of : (n : ℕ) (course : Course) (bits : List Bool) (i : ℕ) (s s' : Cursor) (c c' : ℕ) (next : Next) (h : SubsetsRead n course bits i s c) (p : PassComes course s c next s' c') → c' ≡ ticked 0 (turns_in_all h.passes + turns_after plain course p.items)
+ticks_of n course bits i s s' c c' next h p =
+    p.ticks ∙ ap (λ x. ticked x (turns_after plain course p.items)) h.ticks ∙ ticked_more (turns_in course h.subsets) (turns_after plain course p.items)
+    ∙ ap (λ t. ticked 0 (t + turns_after plain course p.items)) (sym h.turns)
 
 here : (s : Cursor) (bits : List Bool) → s.bits ≡ bits → s.at ≤ length bits → s.at + length (rest_of s) ≡ length bits
 here s bits e h = omega (arith, length-drop s.at s.bits, ap length e, h)
 
-refused_so : (n : ℕ) (course : Course) (octets : List ℕ) (i total : ℕ) (s s' : Cursor) (c c' : ℕ) (next : Next) (stop : Stop) (why : WalkFault) (h : SubsetsRead n course (bits_of octets) i s c) (p : PassComes course s c next s' c') → i < total → s'.at ≤ length (bits_of octets) → stop_at plain false next (rest_of s') ≡ Some stop → why ≡ walk_fault_of stop (i + 1) s'.at → (turns : ℕ) × IsRefused course (data_in false total octets) why turns × (c' ≡ ticked 0 turns)
-refused_so n course octets i total s s' c c' next stop why h p more within stops is = (
-  turns_in course h.subsets + turns_after plain course p.items,
-  record {
-    stop = stop;
-    subset = i + 1;
-    before = s'.at;
-    is = is;
-    stopped = (next, rest_of s', comes n course (bits_of octets) i total s s' c c' s'.at next h p more (here s' (bits_of octets) (p.same ∙ h.same) within), stops);
-  },
-  ticks_of n course (bits_of octets) i s s' c c' next h p,
-)
-
-pub stopped : (n : ℕ) (course : Course) (octets : List ℕ) (i total : ℕ) (s s' : Cursor) (c c' : ℕ) (why : WalkFault) → SubsetsRead n course (bits_of octets) i s c → i < total → PassStops course s c (i + 1) why s' c' → s'.at ≤ length s'.bits → IsFault course (data_in false total octets) why c'
-stopped n course octets i total s s' c c' why h more p within = by p
+-- all subsets were read
+all_passes : (n : ℕ) (course : Course) (bits : List Bool) (total i : ℕ) (s : Cursor) (c : ℕ) (h : SubsetsRead n course bits i s c) → i ≡ total → passes_apart course total bits ≡ h.passes
+all_passes n course bits total i s c h e = ap (λ k. passes_apart course k bits) (sym e ∙ plus_none i) ∙ h.goes 0 ∙ append-nil h.passes
   where
-    inside : (next : Next) → PassComes course s c next s' c' → s'.at ≤ length (bits_of octets)
-    inside next p = omega (arith, within, ap length (p.same ∙ h.same))
+    plus_none : (a : ℕ) → a ≡ a + 0
+    plus_none a = omega arith
 
-    -- a stop that is no lack of memory
-    refusal_so : (stop : Stop) → (turns : ℕ) × IsRefused course (data_in false total octets) (walk_fault_of stop (i + 1) s'.at) turns × (c' ≡ ticked 0 turns) → IsFault course (data_in false total octets) (walk_fault_of stop (i + 1) s'.at) c'
-    refusal_so (walk_stop (refusal.Width f)) r = r
-    refusal_so (walk_stop (refusal.Defining f)) r = r
-    refusal_so (too_many f) r = r
-    refusal_so (field_stop f data_end) r = r
-    refusal_so (field_stop f increment) r = r
-    refusal_so (field_stop f unequal_factor) r = r
+pub all_read : (n : ℕ) (course : Course) (octets : List ℕ) (total i : ℕ) (s : Cursor) (c : ℕ) → SubsetsRead n course (bits_of octets) i s c → i ≡ total → ReadsData course (data_in false total octets) (Ok s.at) c
+all_read n course octets total i s c h e =
+    let is = all_passes n course (bits_of octets) total i s c h e in (
+      ap stop_of is ∙ h.none,
+      ap (λ (ps : List (DataPass Content)). s.at + length (left_after (bits_of octets) ps)) is ∙ ap (λ l. s.at + length l) h.left ∙ here s (bits_of octets) h.same h.within,
+      h.ticks ∙ ap (ticked 0) (sym h.turns ∙ ap turns_in_all (sym is)),
+    )
 
-    by : PassStops course s c (i + 1) why s' c' → IsFault course (data_in false total octets) why c'
-    by (inl p) =
-        let m = p.1 in
-        rw p.3 (
-          turns_in course h.subsets + turns_after plain course m.items,
-          (p.0, rest_of s', i + 1, s'.at, comes n course (bits_of octets) i total s s' c c' s'.at (take_next p.0) h m more (here s' (bits_of octets) (m.same ∙ h.same) (inside (take_next p.0) m)), p.2),
-          ticks_of n course (bits_of octets) i s s' c c' (take_next p.0) h m,
+pub all_paid : (n : ℕ) (course : Course) (octets : List ℕ) (total i : ℕ) (s : Cursor) (c : ℕ) → SubsetsRead n course (bits_of octets) i s c → i ≡ total → IsReadAndPaid course (data_in false total octets) s.at
+all_paid n course octets total i s c h e =
+    let items : h.subsets ≡ items_by_pass (passes_apart course total (bits_of octets)) = sym h.items ∙ ap items_by_pass (sym (all_passes n course (bits_of octets) total i s c h e)) in
+    subst (λ xs. IsReading course (data_in false total octets) (apart xs) s.at × PaysBits (apart xs) s.at) items
+    ((refl, h.within, (subst (λ b. ReadsSubsets course h.subsets (bits_of octets) (drop s.at b)) h.same h.whole, h.count_is ∙ e)), h.pays)
+
+-- a walk that stopped in one subset
+pub stopped_there : (n : ℕ) (course : Course) (octets : List ℕ) (total i : ℕ) (s s' : Cursor) (c c' : ℕ) (why : WalkFault) → SubsetsRead n course (bits_of octets) i s c → i < total → PassStops course s c (i + 1) why s' c' → s'.at ≤ length s'.bits → ReadsData course (data_in false total octets) (Err why) c'
+stopped_there n course octets total i s s' c c' why h more p within = by p
+  where
+    goes : passes_apart course total (bits_of octets) ≡ h.passes ++ (read_pass plain (λ items. false) course (rest_of s) ∷ unless_stopped (read_pass plain (λ items. false) course (rest_of s)).stop (passes_apart course (total - (i + 1)) (read_pass plain (λ items. false) course (rest_of s)).state.left))
+    goes = ap (λ k. passes_apart course k (bits_of octets)) (others total i more) ∙ h.goes (suc (total - (i + 1)))
+      where
+        others : (total i : ℕ) → i < total → total ≡ i + suc (total - (i + 1))
+        others total i h = omega (arith, h)
+
+    fault_so : (stop : Stop) → ((fault_of (data_in false total octets) (reading_of course (data_in false total octets)) ≡ Some (walk_fault_of stop (i + 1) s'.at)) × (c' ≡ ticked 0 (reading_of course (data_in false total octets)).turns))
+        → ReadsData course (data_in false total octets) (Err (walk_fault_of stop (i + 1) s'.at)) c'
+    fault_so (walk_stop (refusal.Width f)) r = r
+    fault_so (walk_stop (refusal.Defining f)) r = r
+    fault_so (too_many f) r = r
+    fault_so (field_stop f data_end) r = r
+    fault_so (field_stop f increment) r = r
+    fault_so (field_stop f unequal_factor) r = r
+
+    place_is : (a b c : ℕ) → a + b ≡ c → c - b ≡ a
+    place_is a b c e = omega (arith, e)
+
+    sums_to : (a b : ℕ) → a + (b + 0) ≡ a + b
+    sums_to a b = omega arith
+
+    by : PassStops course s c (i + 1) why s' c' → ReadsData course (data_in false total octets) (Err why) c'
+    by (inl q) =
+        let m = q.1 in
+        let begins = pass_prefix plain (λ n. false) (suc (length (rest_of s))) course 0 (rest_of s) m.items (rest_of s') m.reads (λ j lt. refl) (fuel course s s' c c' (take_next q.0) m within) in
+        rw q.3 (
+          turns_in_all h.passes + turns_after plain course m.items,
+          subst (λ ps. OneRunsShort plain false course ps (turns_in_all h.passes + turns_after plain course m.items)) (sym goes)
+              (short_append course h.passes _ (turns_after plain course m.items) (inl (record { items = m.items; more = begins.0; are = begins.1; spec = q.0; next = sym m.next_is; wants = q.2; turns_are = refl }))),
+          ticks_of n course (bits_of octets) i s s' c c' (take_next q.0) h m,
         )
-    by (inr p) = subst (λ x. IsFault course (data_in false total octets) x c') (sym p.4) (refusal_so p.1 (refused_so n course octets i total s s' c c' p.0 p.1 _ h p.2 more (inside p.0 p.2) p.3 refl))
+    by (inr q) =
+        let m = q.2 in
+        let pass : DataPass Content = passed plain course (0 + length m.items) m.items (rest_of s') (Some q.1) in
+        let is = came course s s' c c' q.0 (Some q.1) m within (record { reads = m.reads; few = λ j lt. refl; ends = subst (λ x. stop_at plain false x (rest_of s') ≡ Some q.1) m.next_is q.3 }) in
+        let all : passes_apart course total (bits_of octets) ≡ h.passes ++ pass ∷ [] = goes ∙ ap (λ (z : DataPass Content). h.passes ++ (z ∷ unless_stopped z.stop (passes_apart course (total - (i + 1)) z.state.left))) is in
+        let at : s'.at + length (rest_of s') ≡ length (bits_of octets) = here s' (bits_of octets) (m.same ∙ h.same) (omega (arith, within, ap length (m.same ∙ h.same))) in
+        let count : length (h.passes ++ pass ∷ []) ≡ i + 1 = omega (arith, length-append h.passes (pass ∷ []), h.count_is, ap length h.items, length-map h.passes (λ (z : DataPass Content). z.items)) in
+        subst (λ x. ReadsData course (data_in false total octets) (Err x) c') (sym q.4) (fault_so q.1 (
+          ap (λ (ps : List (DataPass Content)). option_map (λ w. walk_fault_of w (length ps) (length (bits_of octets) - length (left_after (bits_of octets) ps))) (stop_of ps)) all
+              ∙ ap (λ o. option_map (λ w. walk_fault_of w (length (h.passes ++ pass ∷ [])) (length (bits_of octets) - length (left_after (bits_of octets) (h.passes ++ pass ∷ [])))) o) (stop_append h.passes (pass ∷ []) h.none)
+              ∙ ap (λ k. Some (walk_fault_of q.1 k (length (bits_of octets) - length (left_after (bits_of octets) (h.passes ++ pass ∷ []))))) count
+              ∙ ap (λ l. Some (walk_fault_of q.1 (i + 1) (length (bits_of octets) - length l))) (left_append (bits_of octets) h.passes (pass ∷ []))
+              ∙ ap (λ b. Some (walk_fault_of q.1 (i + 1) b)) (place_is s'.at (length (rest_of s')) (length (bits_of octets)) at),
+          ticks_of n course (bits_of octets) i s s' c c' q.0 h m ∙ ap (ticked 0) (sym (ap turns_in_all all ∙ turns_append h.passes (pass ∷ []) ∙ sums_to (turns_in_all h.passes) (turns_after plain course m.items))),
+        ))
 
 -- the turns up to a fault
 pub few_stopped : (n : ℕ) (course : Course) (bits : List Bool) (i : ℕ) (s s' : Cursor) (c c' subset : ℕ) (why : WalkFault) → SubsetsRead n course bits i s c → PassStops course s c subset why s' c' → c' ≤ c + n * (s'.at - s.at + 1) → s'.at ≤ length s'.bits → s.at ≤ s'.at → c' ≤ n * (bits_before why (length bits) + 1)
@@ -634,3 +742,13 @@ plain_answer a bits p = answer_element a bits p.role
 
 pub plain_for : (a : FieldSpec) → IsPlainNumber a → IsFor a taken.Plain
 plain_for a p = subst (λ r. IsForRole r taken.Plain) (sym p.role) tt
+
+-- a reading of data that are not compressed was shown
+pub apart_shown : {V E : Type 0} (sees : V → Call → Result (Unit {0}) E → V → Type 0) (r : Read) (v v' : V) (result : Result (Unit {0}) (ShowFault E)) (steps : ℕ) → IsStoredReading r kept.Apart
+    → ((all : List (List (Item Content))) (left : List Bool) → ReadsSubsets (course_of r) all r.source.bits left → length all ≡ r.source.subsets → Shows sees v (subset_calls r.table (course_of r) 0 1 all) (turns_in (course_of r) all) result v' steps)
+    → Shows sees v (calls_of r) (turns_shown r) result v' steps
+apart_shown sees r v v' result steps h shows = by (values_read r) h.reading h.keeps
+  where
+    by : (values : Values) → IsReading (course_of r) r.source values r.bits → KeepsValues kept.Apart r.source values → Shows sees v (calls_by r values) (turns_by r values) result v' steps
+    by (apart xs) g k = shows xs (drop r.bits r.source.bits) g.2.0 g.2.1
+    by (together xs) g k = absurd k

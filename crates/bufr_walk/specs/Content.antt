@@ -15,7 +15,7 @@ use Rattle.bufr_tables.specs.declared.table_b.Kind.TheVariants as kind
 use Rattle.bufr_walk.specs.declared.spec.Role.TheVariants as role
 use Rattle.bufr_walk.specs.declared.spec.Taken.TheVariants as taken
 use Rattle.bufr_bits.specs.Prelude.{bits_of, bits_in, number_of, are_all_ones}
-use Rattle.std.specs.List.{list_all}
+use Rattle.std.specs.List.{list_all, AllByRecursion}
 
 -- a field: its descriptor, what it is for, and how its bits are read; the width is in bits
 pub record FieldSpec : Type 0 where
@@ -54,6 +54,20 @@ pub record IsSpec (a : FieldSpec) : Type 0 where
   pub missing : HasMissing a.kind a.may_be_missing
   pub scale : unsigned_abs a.scale ≤ 300
   pub reference : unsigned_abs a.reference ≤ 2 ^ 125
+
+-- a specification whose descriptor has 16 bits
+pub record IsField (a : FieldSpec) : Type 0 where
+  pub spec : IsSpec a
+  pub word : a.fxy < 2 ^ 16
+
+-- whether a reference that was returned has 64 bits
+abbrev pub IsWithin : Taken → Type 0
+IsWithin taken.Plain = Unit {0}
+IsWithin (taken.Count n) = Unit {0}
+IsWithin (taken.Reference r) = unsigned_abs r ≤ 2 ^ 63
+
+abbrev pub AreWithin : List Taken → Type 0
+AreWithin answers = AllByRecursion (λ (t : Taken). IsWithin t) answers
 
 -- the answers that fit a role: a count for a factor, a reference for a reference, else none
 abbrev pub IsForRole : Role → Taken → Type 0

@@ -6,6 +6,8 @@ pub mod Course
 pub mod Content
 -- the reading of data by a template, why data cannot be read, and the calls that show a reading
 pub mod Reading
+-- a pass over a template, the reading of data, which is made of passes, and what reading answers
+pub mod Pass
 -- the readers of data, compressed or not, and what a reading keeps of its items
 pub mod Readers
 -- the lists of descriptors that are kept with their templates, and the specs of their cells

@@ -3,7 +3,8 @@
 -- Cited by public contracts.
 use Rattle.std.specs.Prelude.{ℕ, ◌≡◌, ◌≤◌, ◌+◌, Bool, List, drop, Result, Ok, Err, ◌++◌, ◌<◌, ◌*◌, ◌%◌, ◌==◌, ◌&&◌, ◌||◌, true, false, [], ◌∷◌, length, take, ◌/◌, ◌-◌, map, get_or}
 use Rattle.bufr_walk.specs.Content.{Taken, FieldSpec, Content, answer_of, plain_field, found, data_end, FieldFault, increment, unequal_factor, FieldRead, packed_field, answer_first}
-use Rattle.bufr_walk.specs.Reading.{WalkFault, spot, Item, plain, turns_after, ReadsPass, Read, course_of, IsRead, max_values, items_at_once, Data, Values, apart, together, IsReading, ShowFault, Call, item_call, view_of, Timed, item_calls, Shows, content_at}
+use Rattle.bufr_walk.specs.Reading.{WalkFault, spot, Item, plain, turns_after, ReadsPass, Read, course_of, max_values, items_at_once, Data, Values, apart, together, IsReading, ShowFault, Call, item_call, view_of, Timed, item_calls, Shows, content_at}
+use Rattle.bufr_walk.specs.Pass.{reading_of, values_of, values_read}
 use Rattle.bufr_walk.specs.Course.{WalkStop, Course, ticked}
 use Rattle.bufr_walk.specs.declared.walker.WalkStop.TheVariants as stops
 use Rattle.bufr_walk.specs.declared.fault.WalkFault.TheVariants as fault
@@ -287,24 +288,23 @@ abbrev pub items_in : List (List (Item Content)) → ℕ
 items_in [] = 0
 items_in (items ∷ subsets) = length items + items_in subsets
 
--- data that are not compressed were read, and each item took at least a bit
-abbrev pub IsReadAndPaid : Course → Data → (used steps : ℕ) → Type 0
-IsReadAndPaid course d used steps =
-    (subsets : List (List (Item Content))) × IsRead course d (apart subsets) used steps
-    × (items_in subsets ≤ used)
-
 -- an item of one subset takes at least one bit
 abbrev pub PaysBits : Values → (used : ℕ) → Type 0
 PaysBits (apart subsets) used = items_in subsets ≤ used
 PaysBits (together items) used = Unit {0}
 
+-- data were read, and each item of one subset took at least a bit
+abbrev pub IsReadAndPaid : Course → Data → (used : ℕ) → Type 0
+IsReadAndPaid course d used =
+    let values = values_of (reading_of course d).passes in
+    IsReading course d values used × PaysBits values used
+
 -- a reading, and what is kept of it: each item that is kept took at least 7 bits
 pub record IsStoredReading (r : Read) (k : StoredItems) : Type 0 where
-  pub values : Values
-  pub reading : IsReading (course_of r) r.source values r.bits
-  pub keeps : KeepsValues k r.source values
+  pub reading : IsReading (course_of r) r.source (values_read r) r.bits
+  pub keeps : KeepsValues k r.source (values_read r)
   pub few : 7 * held_of k ≤ r.bits
-  pub pays : PaysBits values r.bits
+  pub pays : PaysBits (values_read r) r.bits
   pub short : r.bits ≤ max_values
 
 -- ---- The index of the items of compressed data, and their specifications.

@@ -2,7 +2,7 @@
 -- read; and the calls of a visitor that show a reading. (WMO-No. 306, Volume I.2, FM 94: sections 3
 -- and 4; the order of the faults at one item is a choice of this project)
 -- Cited by public contracts.
-use Rattle.std.specs.Prelude.{ℕ, zero, suc, ◌≡◌, ◌+◌, ◌*◌, ◌≤◌, Bool, true, false, List, [], ◌∷◌, length, drop, Result, Ok, ◌⊎◌, ◌%◌, nat_lt, Option, Some, None, Err, codes, decimal, if◌then◌else◌, ◌++◌, option_map}
+use Rattle.std.specs.Prelude.{ℕ, zero, suc, ◌≡◌, ◌+◌, ◌*◌, ◌≤◌, Bool, true, false, List, [], ◌∷◌, length, drop, Result, Ok, ◌⊎◌, nat_lt, Option, Some, None, Err, codes, decimal, if◌then◌else◌, ◌++◌, option_map}
 use Rattle.bufr_walk.specs.Content.{Taken, FieldSpec, Content, answer_of, FieldFault, FieldRead, found, plain_field, data_end, increment, unequal_factor, packed_field, answer_first, ShownValue, shown, missing, shown_number, shown_text, shown_missing, shown_reference}
 use Rattle.bufr_walk.specs.Course.{Course, Next, take_next, at_end, refused, next_item, ticked}
 use Rattle.bufr_walk.specs.declared.spec.TurnRefusal.{TurnRefusal}
@@ -11,7 +11,6 @@ pub use Rattle.bufr_walk.specs.declared.fault.WalkFault.{WalkFault}
 use Rattle.bufr_bits.specs.Prelude.{bits_of}
 use Rattle.bufr_frame.specs.Prelude.{Sections}
 use Rattle.bufr_tables.specs.Prelude.{Row, Tree, fxy_text, entry_of, row_of_entry}
-use Rattle.bufr_walk.specs.declared.spec.Role.TheVariants as role
 use Rattle.bufr_walk.specs.declared.spec.TurnRefusal.TheVariants as refusal
 use Rattle.bufr_walk.specs.declared.fault.WalkFault.TheVariants as fault
 pub use Rattle.bufr_walk.specs.declared.fault.ShowFault.{ShowFault}
@@ -138,11 +137,6 @@ abbrev pub turns_together : (subsets : ℕ) → Course → List (Item (List Cont
 turns_together zero course items = 0
 turns_together (suc n) course items = turns_after (packed (suc n)) course items
 
--- the turns of a reading
-abbrev pub turns_read : Course → Data → Values → ℕ
-turns_read course d (apart subsets) = turns_in course subsets
-turns_read course d (together items) = turns_together d.subsets course items
-
 -- why a reading stops: the walk is refused, too many values, or a field that cannot be read
 pub data Stop : Type 0 where
   walk_stop : (why : TurnRefusal) → Stop
@@ -163,64 +157,10 @@ stop_at form true (take_next spec) bits = Some (too_many spec.fxy)
 stop_at form false (take_next spec) bits = field_stop_of spec.fxy (form.field spec bits)
 stop_at form many _ bits = None
 
--- data were read up to what comes next: in a subset, from 1, after `before` bits, in these turns
-pub record ComesTo (subsets : ℕ) (course : Course) (bits : List Bool) (subset before turns : ℕ)
-    (next : Next) (left : List Bool) : Type 0 where
-  pub done : List (List (Item Content))
-  pub items : List (Item Content)
-  pub mid : List Bool
-  pub whole : ReadsSubsets course done bits mid
-  pub reads : ReadsItems plain course items mid left
-  pub next_is : next ≡ next_after plain course items
-  pub number : subset ≡ length done + 1
-  pub within : subset ≤ subsets
-  pub place : before + length left ≡ length bits
-  pub turns_are : turns ≡ turns_in course done + turns_after plain course items
-
--- compressed data were read up to what comes after `items_before` items
-pub record ComesToTogether (subsets : ℕ) (course : Course) (bits : List Bool)
-    (items_before before turns : ℕ) (next : Next) (left : List Bool) : Type 0 where
-  pub items : List (Item (List Content))
-  pub some : 1 ≤ subsets
-  pub reads : ReadsItems (packed subsets) course items bits left
-  pub few : length items * subsets ≤ max_values
-  pub count : items_before ≡ length items
-  pub next_is : next ≡ next_after (packed subsets) course items
-  pub place : before + length left ≡ length bits
-  pub turns_are : turns ≡ turns_after (packed subsets) course items
-
--- data that are not compressed are refused in a subset, after `before` bits, in these turns
-abbrev pub IsPlainRefused : (subsets : ℕ) → Course → List Bool → Stop
-    → (subset before turns : ℕ) → Type 0
-IsPlainRefused subsets course bits stop subset before turns =
-    (next : Next) × (left : List Bool) × ComesTo subsets course bits subset before turns next left
-    × (stop_at plain false next left ≡ Some stop)
-
 -- whether the values would be too many with one item more
 -- rule: too-many-values
 abbrev pub would_be_many : (subsets items_before : ℕ) → Bool
 would_be_many subsets items_before = nat_lt max_values ((items_before + 1) * subsets)
-
--- compressed data are refused after `before` bits, in these turns
-abbrev pub IsPackedRefused : (subsets : ℕ) → Course → List Bool → Stop → (before turns : ℕ) → Type 0
-IsPackedRefused subsets course bits stop before turns =
-    (items_before : ℕ) × (next : Next) × (left : List Bool)
-    × ComesToTogether subsets course bits items_before before turns next left
-    × (stop_at (packed subsets) (would_be_many subsets items_before) next left ≡ Some stop)
-
--- memory may run out at a reference that must be kept, after these turns
-abbrev pub IsPlainShort : (subsets : ℕ) → Course → List Bool → (turns : ℕ) → Type 0
-IsPlainShort subsets course bits turns =
-    (spec : FieldSpec) × (left : List Bool) × (subset : ℕ) × (before : ℕ)
-    × ComesTo subsets course bits
-    subset before turns (take_next spec) left × (spec.role ≡ role.Reference)
-
--- in compressed data memory may also run out at an item for which room is made, one of 64
-abbrev pub IsPackedShort : (subsets : ℕ) → Course → List Bool → (turns : ℕ) → Type 0
-IsPackedShort subsets course bits turns =
-    (spec : FieldSpec) × (left : List Bool) × (items_before : ℕ) × (before : ℕ)
-    × ComesToTogether subsets course bits items_before before turns (take_next spec) left
-    × ((items_before % items_at_once ≡ 0) ⊎ (spec.role ≡ role.Reference))
 
 -- ---- The faults of the data, by what stops a reading. (The numbers are a choice of this project.)
 
@@ -294,44 +234,6 @@ read_by table template source bits held =
 abbrev pub course_of : Read → Course
 course_of r = next_item r.table r.template
 
--- a refusal, in a subset from 1; 0 where the data are compressed
-abbrev pub IsStopped : Bool → (subsets : ℕ) → Course → List Bool → Stop
-    → (subset before turns : ℕ) → Type 0
-IsStopped false subsets course bits stop subset before turns =
-    IsPlainRefused subsets course bits stop subset before turns
-IsStopped true subsets course bits stop subset before turns =
-    (subset ≡ 0) × IsPackedRefused subsets course bits stop before turns
-
--- memory may run out after these turns
-abbrev pub IsMemoryStop : Bool → (subsets : ℕ) → Course → List Bool → (turns : ℕ) → Type 0
-IsMemoryStop false subsets course bits turns = IsPlainShort subsets course bits turns
-IsMemoryStop true subsets course bits turns = IsPackedShort subsets course bits turns
-
--- the fault of a refusal, after these turns
-pub record IsRefused (course : Course) (d : Data) (why : WalkFault) (turns : ℕ) : Type 0 where
-  pub stop : Stop
-  pub subset : ℕ
-  pub before : ℕ
-  pub is : why ≡ walk_fault_of stop subset before
-  pub stopped : IsStopped d.compressed d.subsets course d.bits stop subset before turns
-
--- a fault, and the steps that were made; only where memory runs out the turns may differ
-abbrev pub IsFault : Course → Data → WalkFault → (steps : ℕ) → Type 0
-IsFault course d fault.Memory steps =
-    (turns : ℕ) × IsMemoryStop d.compressed d.subsets course d.bits turns × (steps ≡ ticked 0 turns)
-IsFault course d why steps = (turns : ℕ) × IsRefused course d why turns × (steps ≡ ticked 0 turns)
-
--- the items, the bits that they take, and the steps that were made
-abbrev pub IsRead : Course → Data → Values → (used steps : ℕ) → Type 0
-IsRead course d values used steps =
-    IsReading course d values used × (steps ≡ ticked 0 (turns_read course d values))
-
--- a reading of these data by this template
-abbrev pub IsReadingOf : List Row → Tree → Data → Read → (steps : ℕ) → Type 0
-IsReadingOf table template d r steps =
-    (r.table ≡ table) × (r.template ≡ template) × (r.source ≡ d) × (values : Values)
-    × IsRead (next_item table template) d values r.bits steps
-
 -- ---- The calls of a visitor that show a reading, in order, up to its first fault.
 
 -- an item as it is shown: its descriptor, the row of Table B by which it was read, and its value
@@ -400,9 +302,9 @@ compressed_subset_calls table (suc n) j items =
     ++ compressed_subset_calls table n (j + 1) items
 
 -- the calls that show a reading
-abbrev pub calls_of : Read → Values → List Timed
-calls_of r (apart subsets) = subset_calls r.table (course_of r) 0 1 subsets
-calls_of r (together items) = compressed_subset_calls r.table r.source.subsets 0 items
+abbrev pub calls_by : Read → Values → List Timed
+calls_by r (apart subsets) = subset_calls r.table (course_of r) 0 1 subsets
+calls_by r (together items) = compressed_subset_calls r.table r.source.subsets 0 items
 
 -- 1 for a call of an item, 0 for one of a subset
 abbrev pub item_or_not : Call → ℕ
@@ -415,9 +317,9 @@ items_called [] = 0
 items_called (t ∷ calls) = item_or_not t.call + items_called calls
 
 -- the turns of a showing; one of compressed data takes none
-abbrev pub turns_shown : Read → Values → ℕ
-turns_shown r (apart subsets) = turns_in (course_of r) subsets
-turns_shown r (together items) = 0
+abbrev pub turns_by : Read → Values → ℕ
+turns_by r (apart subsets) = turns_in (course_of r) subsets
+turns_by r (together items) = 0
 
 -- ---- Calls of a visitor, one after another, up to the first fault, with the turns made for them.
 
@@ -449,13 +351,6 @@ Shows {S} sees s (t ∷ calls) turns (Ok _) s' steps =
 Shows {S} sees s (t ∷ calls) turns (Err why) s' steps =
     (EndsAt sees s t.call why s' × (steps ≡ ticked 0 t.turns))
     ⊎ ((mid : S) × sees s t.call (Ok tt) mid × Shows sees mid calls turns (Err why) s' steps)
-
--- the showing of a reading: its calls and its turns are those of its items
-abbrev pub ShowsReading : {S E : Type 0} → (S → Call → Result (Unit {0}) E → S → Type 0) → Read → S
-    → Result (Unit {0}) (ShowFault E) → S → (steps : ℕ) → Type 0
-ShowsReading sees r s result s' steps =
-    (values : Values) → IsReading (course_of r) r.source values r.bits
-    → Shows sees s (calls_of r values) (turns_shown r values) result s' steps
 
 -- ---- The model of the view of an item.
 

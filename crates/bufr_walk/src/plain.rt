@@ -1,7 +1,7 @@
 //! Data that are not compressed: fields, reading, and showing.
 ghost use Rattle.std.specs.Prelude.{◌≡◌, ◌≤◌, ◌<◌, ◌+◌, ◌-◌, ◌*◌, ◌^◌, length, take, drop, if◌then◌else◌, ◌==◌, pos, neg_ℤ, false, List, IfOk, IfErr, ◌/◌, Bool, Result, Some, Ok, Err, MatchResult};
 ghost use Rattle.bufr_bits.specs.Prelude.{number_of, bits_at, bits_of, are_all_ones, octets_of};
-ghost use Rattle.bufr_walk.specs.Prelude.{IsFor, answer_of, content_in, signed_by, octets_in, Content, shown, next_item, bits_before, data_in, IsFault, Item, plain, ReadsPass, ReadsSubsets, turns_in, IsReadAndPaid, rest_of, ItemsGo, item_call, view_of, subset_calls, seen_value, Shows, PlainTakes, past};
+ghost use Rattle.bufr_walk.specs.Prelude.{IsFor, answer_of, content_in, signed_by, octets_in, Content, shown, next_item, bits_before, data_in, ReadsData, Item, plain, ReadsPass, ReadsSubsets, turns_in, IsReadAndPaid, rest_of, ItemsGo, item_call, view_of, subset_calls, seen_value, Shows, PlainTakes, past};
 ghost use Rattle.bufr_tables.specs.Prelude.{places};
 ghost use Rattle.std.proofs.Common.{arith, ap};
 ghost use Rattle.bufr_walk.specs.Readers.{ShowingTakes, refusal_keeps, stage};
@@ -249,10 +249,10 @@ pub(crate) fn read_plain(
 ) -> Result<u64, WalkFault>
     requires { steps.old ≡ 0 }
     ensures same { cache.new ≡ cache.old }
-    ensures reading { IfOk result (λ used. IsReadAndPaid (next_item cache.old template.now)
-        (data_in false subsets (octets_of bits.entry)) used steps.new) }
-    ensures fault { IfErr result (λ why. IsFault (next_item cache.old template.now)
-        (data_in false subsets (octets_of bits.entry)) why steps.new) }
+    ensures reads { ReadsData (next_item cache.old template.now)
+        (data_in false subsets (octets_of bits.entry)) result steps.new }
+    ensures paid { IfOk result (λ used. IsReadAndPaid (next_item cache.old template.now)
+        (data_in false subsets (octets_of bits.entry)) used) }
     ensures accepted { IfOk result (λ used. steps.new ≤ places template.now * used) }
     ensures refused { IfErr result (λ why. steps.new
         ≤ places template.now * (bits_before why (length (bits_of (octets_of bits.entry))) + 1)) }

@@ -1,7 +1,7 @@
 //! The reading of a message's data.
 ghost use Rattle.std.specs.Prelude.{◌≡◌, ◌≤◌, ◌+◌, ◌*◌, length, IfOk, IfErr, false};
 ghost use Rattle.bufr_tables.specs.Prelude.{places};
-ghost use Rattle.bufr_walk.specs.Prelude.{next_item, bits_before, data_of, IsFault, IsReadingOf, calls_of, items_called, ShowsReading, course_of, Values, IsReading, items_kept, max_values};
+ghost use Rattle.bufr_walk.specs.Prelude.{next_item, bits_before, data_of, AnswersReading, calls_of, turns_shown, items_called, Shows, values_read, items_kept, max_values};
 
 use crate::compressed::{PackedData, PackedIn, show_packed};
 use crate::fault::{ShowFault, WalkFault, fault_at};
@@ -84,10 +84,7 @@ pub fn read_message<'a>(
     table: &'a TableB,
     steps: &mut Steps,
 ) -> Result<Reading<'a>, WalkFault>
-    ensures reading { IfOk result
-        (λ r. IsReadingOf table.now template.now (data_of message.now) r steps.new) }
-    ensures fault { IfErr result
-        (λ why. IsFault (next_item table.now template.now) (data_of message.now) why steps.new) }
+    ensures reads { AnswersReading table.now template.now (data_of message.now) result steps.new }
     ensures accepted { IfOk result (λ r. steps.new ≤ places template.now * r.bits) }
     ensures refused { IfErr result (λ why. steps.new
         ≤ places template.now * (bits_before why (length (data_of message.now).bits) + 1)) }
@@ -109,10 +106,7 @@ pub fn read_by<'a, 't: 'a>(
     steps: &mut Steps,
 ) -> Result<Reading<'a>, WalkFault>
     ensures same { cache.new ≡ cache.old }
-    ensures reading { IfOk result
-        (λ r. IsReadingOf cache.old template.now (data_of message.now) r steps.new) }
-    ensures fault { IfErr result
-        (λ why. IsFault (next_item cache.old template.now) (data_of message.now) why steps.new) }
+    ensures reads { AnswersReading cache.old template.now (data_of message.now) result steps.new }
     ensures accepted { IfOk result (λ r. steps.new ≤ places template.now * r.bits) }
     ensures refused { IfErr result (λ why. steps.new
         ≤ places template.now * (bits_before why (length (data_of message.now).bits) + 1)) }
@@ -186,8 +180,7 @@ impl<'a> Reading<'a> {
     /// subsets. They are at most one for seven bits.
     pub fn held(&self) -> u64
         ensures value { result ≡ self.now.held }
-        ensures items { (values : Values) → IsReading (course_of self.now) self.now.source values
-            self.now.bits → result ≡ items_kept values }
+        ensures items { result ≡ items_kept (values_read self.now) }
         ensures few { 7 * result ≤ self.now.bits }
         ensures none { self.now.source.compressed ≡ false → result ≡ 0 }
     {
@@ -212,9 +205,9 @@ impl<'a> Reading<'a> {
         visitor: &mut V,
         steps: &mut Steps,
     ) -> Result<(), ShowFault<V::Fault>>
-        ensures shown { ShowsReading V.sees self.now visitor.old result visitor.new steps.new }
-        ensures few { (values : Values) → IsReading (course_of self.now) self.now.source values
-            self.now.bits → items_called (calls_of self.now values) ≤ max_values }
+        ensures shown { Shows V.sees visitor.old (calls_of self.now) (turns_shown self.now) result
+            visitor.new steps.new }
+        ensures few { items_called (calls_of self.now) ≤ max_values }
         ensures bounded { steps.new ≤ places self.now.template * self.now.bits }
     {
         let mut cache = SpecCache::new(alloc, self.table);
@@ -227,7 +220,7 @@ impl<'a> Reading<'a> {
     /// # Errors
     ///
     /// Those of [`Reading::show`].
-    #[tactic(auto, using(crate::proofs::PlainLemmas::readable_of, crate::proofs::PackedShowing::entries_fit, crate::proofs::PackedShowing::packed_shown))]
+    #[tactic(auto, using(crate::proofs::PlainLemmas::readable_of, crate::proofs::PackedShowing::entries_fit, crate::proofs::PackedShowing::packed_shown, crate::proofs::ShownLemmas::apart_shown))]
     pub fn show_by<V: Visitor>(
         &self,
         cache: &mut SpecCache<'_>,
@@ -236,9 +229,9 @@ impl<'a> Reading<'a> {
     ) -> Result<(), ShowFault<V::Fault>>
         requires { cache.old ≡ self.now.table }
         ensures same { cache.new ≡ cache.old }
-        ensures shown { ShowsReading V.sees self.now visitor.old result visitor.new steps.new }
-        ensures few { (values : Values) → IsReading (course_of self.now) self.now.source values
-            self.now.bits → items_called (calls_of self.now values) ≤ max_values }
+        ensures shown { Shows V.sees visitor.old (calls_of self.now) (turns_shown self.now) result
+            visitor.new steps.new }
+        ensures few { items_called (calls_of self.now) ≤ max_values }
         ensures bounded { steps.new ≤ places self.now.template * self.now.bits }
     {
         // For the proof alone: what a template ensures of its groups bounds the steps.

@@ -1,8 +1,5 @@
-use Rattle.std.proofs.Common.{subst, sym}
-use Rattle.bufr_frame.specs.Prelude.{StreamEvent}
-use Rattle.bufr_walk.specs.Prelude.{Lists}
-use Rattle.bufr_cli.specs.Prelude.{GivesPieces, IsDump, IsDumpPiece, Piece, input_of, writers_of}
-use Rattle.bufr_cli.proofs.RunLemmas.{each-gives, leaves-devices}
+use Rattle.bufr_cli.specs.Prelude.{event_pieces, dump_piece, input_of, writers_of}
+use Rattle.bufr_cli.proofs.RunLemmas.{leaves-devices}
 use Rattle.bufr_cli.proofs.dump.run_dump.Goals as goal
 
 pub returns : goal.returns
@@ -12,8 +9,5 @@ returns g c =
     let before = writers_of g.W.Sink c.args.w.now g.E.Sink c.args.e.now in
     let after = writers_of g.W.Sink c.run_events.new.w g.E.Sink c.run_events.new.e in
     let run = c.run_events.ensures in
-    let gives : (StreamEvent → Piece) → Type 0 = GivesPieces (IsDumpPiece c.args.table_b.now c.args.table_d.now) in
-    leaves-devices (IsDump c.args.table_b.now c.args.table_d.now) from to before after c.run_events.result
-    (each-gives gives from to before after c.run_events.result
-    (run.run.0, λ (piece : StreamEvent → Piece) (is : gives piece). run.run.1 piece (subst (λ (both : Lists). GivesPieces (IsDumpPiece both.table_b both.table_d) piece) (sym c.new.ensures) is)))
+    leaves-devices (event_pieces (dump_piece c.args.table_b.now c.args.table_d.now)) from to before after c.run_events.result (rw c.new.ensures at run.run)
     run.order run.flushed (run.reader, run.reads) run.writers

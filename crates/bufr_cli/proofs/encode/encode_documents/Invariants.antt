@@ -12,8 +12,8 @@ invariant-loop-reader g l = record {
   table_b : l.run.templates.table_b ≡ l.fn.run.templates.table_b;
   table_d : l.run.templates.table_d ≡ l.fn.run.templates.table_d;
   reader : g.R.Source.failures l.r ≡ g.R.Source.failures l.fn.r;
-  output_flushes : g.W.Sink.flushes l.w ≡ g.W.Sink.flushes l.fn.w;
-  errors_flushes : g.E.Sink.flushes l.e ≡ g.E.Sink.flushes l.fn.e;
+  output_flushes : g.W.Sink.failed_flushes l.w ≡ g.W.Sink.failed_flushes l.fn.w;
+  errors_flushes : g.E.Sink.failed_flushes l.e ≡ g.E.Sink.failed_flushes l.fn.e;
   output : Stays (g.W.Sink.failures l.fn.w) (g.W.Sink.failures l.w) (g.W.Sink.empty_writes l.fn.w) (g.W.Sink.empty_writes l.w);
   errors : Stays (g.E.Sink.failures l.fn.e) (g.E.Sink.failures l.e) (g.E.Sink.empty_writes l.fn.e) (g.E.Sink.empty_writes l.e);
 }

@@ -1,9 +1,9 @@
-use Rattle.std.proofs.Common.{◌≡◌, ◌∙◌, ◌∷◌, [], Ok, Err, ap, inr, refl, rules, true}
+use Rattle.std.proofs.Common.{◌≡◌, ◌∙◌, ◌∷◌, [], Ok, Err, ap, sym, inr, refl, rules, true}
 use Rattle.std.proofs.lemmas.Result.{err_from_is_err_and}
 use Rattle.bufr_frame.specs.declared.fault.RunFault.{RunFault}
 use Rattle.bufr_text.specs.Prelude.{Complete, parse_results}
 use Rattle.bufr_text.specs.declared.fault.ReadFault.TheVariants.{Run}
-use Rattle.bufr_frame.specs.declared.fault.RunFault.TheVariants.{Memory}
+use Rattle.bufr_frame.specs.declared.fault.RunFault.TheVariants.{Memory, Read}
 use Rattle.bufr_cli.specs.Prelude.{LeavesPieces, OnErrors, StopsPiece, encoded, refusal_line, result_piece}
 use Rattle.bufr_cli.specs.declared.outcome.Verdict.TheVariants.{Accepted}
 use Rattle.bufr_cli.proofs.EncodeLemmas.{is-reported, line-cut, line-written, next-stopped}
@@ -66,13 +66,15 @@ pub returns-in_err-write_read_fault-in-Err : goal.returns-in_err-write_read_faul
 returns-in_err-write_read_fault-in-Err g c =
     let p = err_from_is_err_and c.from_residual-in_err-write_read_fault-in-Err.result c.from_residual-in_err-write_read_fault-in-Err.ensures.1 in
     let some : (run : RunFault) → c.in-Err.fault ≡ Run run → ⊥ = λ run is. search rules in
+    let reports = line-cut _ _ _ _ _ _ c.args.next c.in-Err.fault c.write_read_fault.result _ c.from_residual-in_err-write_read_fault-in-Err.result c.in-Err.is some c.write_read_fault.ensures.writes
+    c.in_err-write_read_fault-in-Err.was (p.1 ∙ ap Err p.2) in
     record {
       reader = search rules;
       form = search rules;
       table_b = search rules;
       table_d = search rules;
-      reports = line-cut _ _ _ _ _ _ c.args.next c.in-Err.fault c.write_read_fault.result _ c.from_residual-in_err-write_read_fault-in-Err.result c.in-Err.is some c.write_read_fault.ensures.writes
-          c.in_err-write_read_fault-in-Err.was (p.1 ∙ ap Err p.2);
+      reports = reports;
+      unwritten = λ read. absurd (some Read (let next = sym c.in-Err.is ∙ (rw read at reports).0 in cc));
       counts = search rules;
       output_flushes = search rules;
       errors_flushes = search rules;
@@ -87,6 +89,7 @@ returns-in_ok-write_read_fault-in-Err g c =
       table_b = search rules;
       table_d = search rules;
       reports = line-written _ _ _ _ _ _ c.args.next c.in-Err.fault c.in-Err.is some c.in_ok-write_read_fault-in-Err.ensures.writes;
+      unwritten = λ read. cc;
       counts = search rules;
       output_flushes = search rules;
       errors_flushes = search rules;

@@ -1,8 +1,7 @@
-use Rattle.std.proofs.Common.{refl, rules}
-use Rattle.bufr_cli.specs.Prelude.{event_pieces}
+use Rattle.std.proofs.Common.{rules}
 use Rattle.bufr_cli.proofs.laws.dump_octets.Goals as goal
 
 pub returns : goal.returns
-returns c piece gives =
-    let whole = c.run_dump.ensures.whole (event_pieces piece) (piece, gives, refl) in
+returns c =
+    let whole = c.run_dump.ensures.whole in
     search rules

@@ -1,6 +1,5 @@
-use Rattle.std.proofs.Common.{◌≡◌, refl}
 use Rattle.bufr_cli.specs.Prelude.{event_pieces, input_of, ls_piece, writers_of}
-use Rattle.bufr_cli.proofs.RunLemmas.{each-is, leaves-devices}
+use Rattle.bufr_cli.proofs.RunLemmas.{leaves-devices}
 use Rattle.bufr_cli.proofs.ls.run_ls.Goals as goal
 
 pub returns-clause-leaves : goal.returns-clause-leaves
@@ -11,5 +10,5 @@ returns-clause-leaves g c =
     let after = writers_of g.W.Sink c.run_events.new.w g.E.Sink c.run_events.new.e in
     let run = c.run_events.ensures in
     let reads = run.reads in
-    leaves-devices (λ pieces. pieces ≡ event_pieces ls_piece) from to before after c.run_events.result (each-is (event_pieces ls_piece) from to before after c.run_events.result (run.run.0, run.run.1 ls_piece (λ here. refl)))
+    leaves-devices (event_pieces ls_piece) from to before after c.run_events.result run.run
     run.order run.flushed (run.reader, (reads.0, reads.1, reads.2, reads.3)) run.writers

@@ -3,7 +3,6 @@ use Rattle.bufr_cli.specs.Prelude.{Writers, ByTables, CommandOutcome, Known, NoT
 use Rattle.bufr_cli.specs.declared.job.Job.{Job}
 use Rattle.bufr_cli.specs.declared.job.Subcommand.{Subcommand}
 use Rattle.bufr_cli.specs.declared.outcome.Outcome.{Outcome}
-use Rattle.bufr_cli.proofs.DumpLemmas.{some-pieces}
 use Rattle.bufr_cli.proofs.program.run_job.Goals as goal
 
 -- what comes of the command that a job has
@@ -18,8 +17,7 @@ pub returns-in-Ok : goal.returns-in-Ok
 returns-in-Ok g c =
     let b = c.in-Ok.tables.table_b in
     let d = c.in-Ok.tables.table_d in
-    let rows = c.in-Ok.ensures.rows in
-    job-runs _ c.args.job _ _ _ _ c.in-Dump.is (ByTables b d c.in-Ok.ensures.tables (some-pieces rows.0 b d rows.1, c.run_input-in-Ok.ensures))
+    job-runs _ c.args.job _ _ _ _ c.in-Dump.is (ByTables b d c.in-Ok.ensures.tables c.run_input-in-Ok.ensures)
 
 pub returns-in-Err : goal.returns-in-Err
 returns-in-Err g c = job-runs _ c.args.job _ _ _ _ c.in-Dump.is (NoTables refl c.in-Err.ensures.unread)

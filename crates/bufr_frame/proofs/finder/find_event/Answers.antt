@@ -1,7 +1,7 @@
 use Rattle.std.proofs.Common.{◌≡◌, ◌∙◌, ℕ, ◌-◌, ◌<◌, ◌≤◌, ◌^◌, take, List, length, drop, arith, ap, sym, subst, lit≤}
 use Rattle.std.proofs.lemmas.List.{take_rest}
-use Rattle.bufr_frame.specs.Prelude.{IsIncomplete, IsStatedLength, length_here, stated_length}
-use Rattle.bufr_frame.proofs.ScanLemmas.{none-so, none-stated, end-so, found-at-end, found-whole, length-eight, open-so, short-here}
+use Rattle.bufr_frame.specs.Prelude.{IsIncomplete, IsStatedLength, length_here, stated_length, StartsWithBufr}
+use Rattle.bufr_frame.proofs.ScanLemmas.{none-so, none-stated, end-so, found-at-end, found-whole, holds-there, length-eight, open-so, short-here}
 use Rattle.bufr_frame.proofs.finder.find_event.Goals.{then-m-lt-SECTION_0, else-m-lt-SECTION_0, else-not-ended-via-then-not-ended+else-m-max, else-not-ended-via-else-not-ended}
 use Rattle.bufr_frame.proofs.finder.find_event.Goals as goal
 
@@ -11,6 +11,10 @@ short s place size few is = (is ∙ sym (short-here (drop place s) (omega (arith
 
 long : (s : List ℕ) (place size : ℕ) → 8 ≤ length (take (length s - place) (drop place s)) → size ≡ stated_length (take (length s - place) (drop place s)) → size < 2 ^ 24 → IsStatedLength (drop place s) size
 long s place size enough is most = (is ∙ ap stated_length (take_rest s place) ∙ sym (length-eight (drop place s) (omega (arith, enough, ap length (take_rest s place)))), most)
+
+pub classify-requires : goal.classify-requires
+classify-requires c =
+    subst StartsWithBufr (sym (take_rest c.args.rest.now c.in-Some.place)) (holds-there c.args.rest.now c.in-Some.place c.in-Some.ensures.1)
 
 pub returns-then-ended : goal.returns-then-ended
 returns-then-ended c = (c.if-ended.true, end-so c.args.rest.now c.in_default.ensures)
@@ -38,8 +42,8 @@ returns c =
     ] in
     let same = take_rest c.args.rest.now c.in-Some.place in (
       elim c.else-not-ended.branch [
-        | else-not-ended-via-then-not-ended+else-m-max w ↦ found-whole _ _ _ _ _ _ c.in-Some.ensures (is.0 ∙ ap length_here (sym same)) (omega (arith, w.if-m-max.false, w.max.ensures)) (omega (arith, w.if-m-max.false, w.max.ensures)) same c.classify.ensures
-        | else-not-ended-via-else-not-ended w ↦ found-at-end _ _ _ _ _ c.in-Some.ensures w.if-not-ended.false same c.classify.ensures
+        | else-not-ended-via-then-not-ended+else-m-max w ↦ found-whole _ _ _ _ _ _ c.in-Some.ensures (is.0 ∙ ap length_here (sym same)) (omega (arith, w.if-m-max.false, w.max.ensures)) (omega (arith, w.if-m-max.false, w.max.ensures)) same (sym c.classify.ensures)
+        | else-not-ended-via-else-not-ended w ↦ found-at-end _ _ _ _ _ c.in-Some.ensures w.if-not-ended.false same (sym c.classify.ensures)
       ],
       is,
     )

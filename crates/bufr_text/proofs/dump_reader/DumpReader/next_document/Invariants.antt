@@ -5,8 +5,8 @@ use Rattle.bufr_text.proofs.dump_reader.DumpReader.next_document.Given as goal
 
 -- what was done so far in this call: octets were read and report nothing yet, each time that no
 -- line was held
-abbrev pub invariant-loop-document : goal.invariant-loop-document
-invariant-loop-document g l = record {
+abbrev pub invariant-loop-next : goal.invariant-loop-next
+invariant-loop-next g l = record {
   octets : List ℕ;
   call : ReadsLines (g.R.Source.left l.fn.r) (g.R.Source.left l.r) l.fn.self l.self [] octets;
   waits : (l.self.reads ≡ l.fn.self.reads) ⊎ ReadsOnlyIfNoLine (g.R.Source.left l.fn.r) l.fn.self l.self.reads octets;
@@ -15,5 +15,5 @@ invariant-loop-document g l = record {
   sound : l.self.fault ≡ None;
 }
 
-abbrev pub decreases-loop-document : goal.decreases-loop-document
-decreases-loop-document g l = max_reads - l.self.reads
+abbrev pub decreases-loop-next : goal.decreases-loop-next
+decreases-loop-next g l = max_reads - l.self.reads

@@ -1,21 +1,37 @@
 #!/usr/bin/env python3
-"""Prints what one has to believe of `run`: each definition that its contract reaches, in reading order.
+"""Prints what one has to believe of `run`: its contract, and each definition that the contract reaches, in reading order.
 
-    bench/reached.py [--text] [CALL]        CALL is a public function of bufr_cli, `run` by default
+    docs/believed.py [CALL..]        CALL is a public function or a law of a crate, `run` by default
 
-A line is FILE:LINE NAME and how many lines the definition has, its comment among them. With --text it is the definitions
-themselves. The last line counts definitions, lines and files. A definition stands before those that it uses. A name of
-std, or of another crate of the kit, is not followed.
+The contracts come first. The definitions follow under headings, mostly after those that they use, each file in its own
+order, without imports, tags and derives. A name of std, or of another crate of the kit, is not followed. What it counts
+goes to standard error. A file without a heading is named, and the status is 1.
 """
 import pathlib
 import re
 import sys
 
 TOP = pathlib.Path(__file__).resolve().parent.parent
+HEADINGS = {
+    "Bits, decimals and devices": "bits: Bits decimal Decimal device Device script Script",
+    "Messages in a stream": "frame: fault Octets finder Input Scan",
+    "The sections of a message": "frame: section1 Section1 Sections Numbers",
+    "Tables B and D": "tables: Fxy fault Records table_b TableB TableD FaultNumber",
+    "A list of descriptors, expanded": "tables: Tree Expansion",
+    "Fields and operators": "walk: spec Content Rules",
+    "The data of a message, read": "walk: fault Course Reading",
+    "The lines of a text": "fill: Draft; text: Line",
+    "The text of a listing and of a dump": "fill: RoundTrip; text: Dump",
+    "A message built of a text": "text: Documents; fill: Encoding; frame: Layout; text: encode Encoding",
+    "Fault lines and runs": "text: Writing; cli: outcome FaultLine Pieces Running",
+    "Round trips": "text: Spelling RoundTrip; cli: RoundTrip laws",
+    "The program": "cli: job Line Ending Program program",
+}
 HEAD = re.compile(r"^ {0,2}(?:abbrev |unfoldable |rec )*(?:pub )?(?:record |data )?([^\s:(){}]+) *(?:\([^:]*|\{[^:]*)?:(?: |$)")
 USE = re.compile(r"^use Rattle\.(bufr_\w+)\.specs\.([\w.]+?)(?:\.\{([^}]*)\}| as ([\w-]+))$")
 PASSED = re.compile(r"^(?:unfoldable )?pub use Rattle\.(bufr_\w+)\.specs\.([\w.]+)\.\{([^}]*)\}$")
 GHOST = re.compile(r"ghost use Rattle\.(bufr_\w+)\.specs\.([\w.]+?)(?:\.\{([^}]*)\}| as ([\w-]+));")
+BESIDE = re.compile(r"\s*(?:(?:--|//) rule: |#\[derive|ghost use )")
 TOKEN = re.compile(r"[^\s()\[\]{};,:]+")
 
 
@@ -141,18 +157,17 @@ class House:
         return item
 
 
-def contract(call):
-    """The clauses of a function of bufr_cli, as an item."""
-    for path in sorted((TOP / "crates/bufr_cli/src").glob("*.rt")):
+def contract(call, house):
+    """The clauses of a function or law, as an item."""
+    for path in sorted((TOP / "crates").glob("*/src/*.rt")):
         lines = read(path)
         at = next((n for n, one in enumerate(lines) if re.match(rf"pub fn {call}\b", one)), None)
         if at is None:
             continue
-        end = next(n for n in range(at, len(lines)) if lines[n] == "{" or lines[n].endswith("{}"))
-        house = House()
+        end = next(n for n in range(at, len(lines)) if lines[n].startswith("{"))
         scope = house.imported(GHOST.match(one) for one in lines if one.startswith("ghost use"))
         return Item(path, at + 1, call, lines[comment_before(lines, at) : end], scope)
-    sys.exit(f"{sys.argv[0]}: bufr_cli has no public function {call}")
+    sys.exit(f"{sys.argv[0]}: no crate has a public function {call}")
 
 
 def reach(item, seen):
@@ -164,18 +179,49 @@ def reach(item, seen):
         reach(used, seen)
 
 
+def headed():
+    """The number of each file's heading and of the file below it."""
+    order = {}
+    for number, files in enumerate(HEADINGS.values()):
+        for part in files.split("; "):
+            crate, names = part.split(": ")
+            for name in names.split():
+                folder, ending = ("specs", "antt") if name[0].isupper() else ("src", "rt")
+                order[TOP / f"crates/bufr_{crate}/{folder}/{name}.{ending}"] = number, len(order)
+    return order
+
+
+def text(item):
+    """The lines of a definition, without what is beside its meaning."""
+    return "\n".join(line for line in item.lines if not BESIDE.match(line))
+
+
 def main():
-    words = [word for word in sys.argv[1:] if word != "--text"]
+    house = House()
+    calls = [contract(call, house) for call in sys.argv[1:] or ["run"]]
     seen = []
     sys.setrecursionlimit(10_000)
-    reach(contract(words[0] if words else "run"), seen)
-    for item in seen:
-        if "--text" in sys.argv:
-            print("\n".join(item.lines), end="\n\n")
-        else:
-            print(f"{item.path.relative_to(TOP)}:{item.line} {item.name} {len(item.lines)}")
-    files = {item.path for item in seen}
-    print(f"{len(seen)} definitions, {sum(len(item.lines) for item in seen)} lines, {len(files)} files")
+    for call in calls:
+        reach(call, seen)
+    definitions = [item for item in seen if item not in calls]
+    order = headed()
+    lost = sorted({str(item.path.relative_to(TOP)) for item in definitions if item.path not in order})
+    if lost:
+        sys.exit("\n".join(f"{sys.argv[0]}: HEADINGS has no place for {path}" for path in lost))
+    for call in calls:
+        print(f"== The contract of {call.name}\n\n{text(call)}\n")
+    titles, number, path, count = list(HEADINGS), -1, None, 0
+    for item in sorted(definitions, key=lambda item: (order[item.path], item.line)):
+        if order[item.path][0] != number:
+            number = order[item.path][0]
+            count += 1
+            print(f"\n== {count}. {titles[number]}")
+        if item.path != path:
+            path = item.path
+            print(f"\n-- {path.relative_to(TOP)}")
+        print(f"\n{text(item)}")
+    lines = sum(text(item).count("\n") + 1 for item in seen)
+    print(f"{len(seen)} definitions, {lines} lines, {len({item.path for item in seen})} files", file=sys.stderr)
 
 
 if __name__ == "__main__":

@@ -1,17 +1,16 @@
--- Data have a reading or a refusal.
+-- What comes next in a legal template takes bits of the data, and its counts match its factors.
 use Rattle.std.proofs.lemmas.Grind.{common_steps}
-use Rattle.std.proofs.Common.{◌≡◌, ℕ, zero, suc, ◌*◌, ◌≤◌, Bool, true, false, List, [], ◌∷◌, Option, Some, None, Result, Ok, Err, refl, sym, ◌∙◌, ap, subst, arith, ◌+◌, ◌<◌, ◌-◌, length, drop, take, ◌⊎◌, inl, inr, map, ◌==◌, nat_le, nat_lt, if◌then◌else◌, replicate, ◌||◌}
+use Rattle.std.proofs.Common.{◌≡◌, ℕ, zero, suc, ◌*◌, ◌≤◌, Bool, true, false, List, [], ◌∷◌, Option, Some, None, Result, Ok, Err, refl, sym, ◌∙◌, ap, subst, arith, ◌+◌, ◌-◌, length, drop, take, map, ◌==◌, nat_le, nat_lt, if◌then◌else◌, replicate, ◌||◌}
 use Rattle.std.proofs.lemmas.Bool.{leb-true, ltb-false}
 use Rattle.std.proofs.lemmas.Bool.Decides.{nat_tests}
 use Rattle.bufr_bits.proofs.DecimalLemmas.{and_first}
-use Rattle.bufr_tables.specs.Prelude.{y_of, IsLegal, is_legal_operator, Tree, bare, element, operator, fixed, delayed, is_inserted_text, Row, entry_of, allows_width, AreRows, row_of, Record}
-use Rattle.bufr_walk.specs.Prelude.{Role, TurnRefusal, Taken, FieldSpec, IsFor, IsForRole, Content, content_in, answer_by_role, FieldFault, data_end, FieldRead, found, plain_field, increments, increment_bits_of, kind_step, content_from, are_increments_valid, equal_in, contents_of, packed_field, answer_first, Course, Next, take_next, astray, refused, at_end, NextTurn, asked, operated, ahead, counts_of, next_item, finish, open_end, group, pass_end, operator_turn, Rest, passes, unroll, if_valid_width, numeric_spec, coded_spec, text_spec, text_width, spec_by_kind, defined_field, new_reference_spec, unsigned_field, begin, element_spec, factor_field, factor_by, factor_spec, inserted_spec, OperatorModel, is_defining, after_operator, after_field, Item, DataCoding, plain, packed, next_after, after, ReadsItems, ReadsPass, ReadsSubsets, turns_after, turns_in, max_values, Data, Values, apart, together, IsReading, walk_stop, too_many, field_stop, field_stop_of, walk_fault_of, IsRefused, Stop, stop_at, would_be_many, WalkFault, Kind}
+use Rattle.bufr_tables.specs.Prelude.{y_of, IsLegal, is_legal_operator, Tree, bare, element, operator, fixed, delayed, is_inserted_text, Row, entry_of, allows_width, row_of, Record}
+use Rattle.bufr_walk.specs.Prelude.{Role, TurnRefusal, Taken, FieldSpec, IsFor, IsForRole, Content, content_in, answer_by_role, FieldFault, data_end, FieldRead, found, plain_field, increments, increment_bits_of, kind_step, content_from, are_increments_valid, equal_in, contents_of, packed_field, answer_first, Course, Next, take_next, astray, refused, at_end, NextTurn, asked, operated, ahead, counts_of, next_item, finish, open_end, group, pass_end, operator_turn, Rest, passes, unroll, if_valid_width, numeric_spec, coded_spec, text_spec, text_width, spec_by_kind, defined_field, new_reference_spec, unsigned_field, begin, element_spec, factor_field, factor_by, factor_spec, inserted_spec, OperatorModel, is_defining, after_operator, after_field, DataCoding, plain, packed, Kind}
 use Rattle.bufr_walk.proofs.SpecLemmas.{inserted_width}
 use Rattle.bufr_walk.proofs.WalkLemmas.{no_count, element_cases}
 use Rattle.bufr_walk.proofs.PackedLemmas.{item_ok, neither}
 use Rattle.std.proofs.lemmas.List.{length-drop, drop-drop}
 use Rattle.bufr_bits.specs.Prelude.{number_of}
-use Rattle.bufr_walk.proofs.OneReading.{Outcome, ended, stopped, stopped_by, outcome_of, HasOutcome, same_found}
 use Rattle.bufr_tables.proofs.TableBLemmas.{row-limits}
 use Rattle.bufr_tables.specs.declared.table_b.Kind.TheVariants as kind
 use Rattle.bufr_walk.specs.declared.spec.Role.TheVariants as role
@@ -185,7 +184,7 @@ module _ (table : List Row) (rows : (fxy : ℕ) (row : Row) → entry_of table f
   unfolding next_item
   template_sane tree legal n = unroll_goes tree (λ c. finish) legal (λ m z. sane_end m (λ answers. ahead table finish z answers) at_end refl (λ q. absurd cc) (λ spec q. absurd cc)) n begin
 
--- ---- A pass over data has an outcome.
+-- ---- A field that is read takes bits of the data.
 
 -- a field that was found takes bits, and its answer fits its role
 pub record Forth {C : Type 0} (form : DataCoding C) (spec : FieldSpec) (bits : List Bool) (c : C) (mid : List Bool) : Type 0 where
@@ -195,65 +194,8 @@ pub record Forth {C : Type 0} (form : DataCoding C) (spec : FieldSpec) (bits : L
   pub within : size ≤ length bits
   pub left_is : mid ≡ drop size bits
 
--- an outcome, and how many bits are before it
-pub record SomeOutcome {C : Type 0} (form : DataCoding C) (many : ℕ → Bool) (course : Course) (from : ℕ) (bits : List Bool) : Type 0 where
-  pub items : List (Item C)
-  pub left : List Bool
-  pub outcome : Outcome
-  pub has : HasOutcome form many course from bits items left outcome
-  pub used : ℕ
-  pub within : used ≤ length bits
-  pub left_is : left ≡ drop used bits
-
-module _ {C : Type 0} (form : DataCoding C) (many : ℕ → Bool) (forth : (spec : FieldSpec) (bits : List Bool) (c : C) (mid : List Bool) → 1 ≤ spec.width → form.field spec bits ≡ Ok (found c mid) → Forth form spec bits c mid) where
-  at_once : (course : Course) (from : ℕ) (bits : List Bool) (o : Outcome) → outcome_of form (many (from + 0)) (course []).next bits ≡ Some o → SomeOutcome form many course from bits
-  at_once course from bits o e = record { items = []; left = bits; outcome = o; has = record { reads = refl; few = λ j lt. absurd (omega (arith, lt)); ends = e }; used = 0; within = omega arith; left_is = refl }
-
-  one_more : (course : Course) (from : ℕ) (bits mid : List Bool) (spec : FieldSpec) (c : C) → many (from + 0) ≡ false → (course []).next ≡ take_next spec → form.field spec bits ≡ Ok (found c mid) → Forth form spec bits c mid
-      → SomeOutcome form many (after form course (record { spec = spec; content = c })) (from + 1) mid → SomeOutcome form many course from bits
-  one_more course from bits mid spec c few next read f r = record {
-    items = record { spec = spec; content = c } ∷ r.items;
-    left = r.left;
-    outcome = r.outcome;
-    has = record {
-      reads = (mid, next, read, r.has.reads);
-      few = all_few;
-      ends = subst (λ k. outcome_of form (many k) (next_after form (after form course (record { spec = spec; content = c })) r.items) r.left ≡ Some r.outcome) (counted from (length r.items)) r.has.ends;
-    };
-    used = f.size + r.used;
-    within = omega (arith, f.within, r.within, length-drop f.size bits, ap length f.left_is);
-    left_is = r.left_is ∙ ap (drop r.used) f.left_is ∙ drops f.size r.used bits;
-  }
-    where
-      counted : (a b : ℕ) → a + 1 + b ≡ a + suc b
-      counted a b = omega arith
-
-      drops : (a b : ℕ) (xs : List Bool) → drop b (drop a xs) ≡ drop (a + b) xs
-      drops a b xs = drop-drop b a xs
-
-      all_few : (j : ℕ) → j < suc (length r.items) → many (from + j) ≡ false
-      all_few zero lt = few
-      all_few (suc j) lt = ap many (sym (counted from j)) ∙ r.has.few j (omega (arith, lt))
-
-  pub some_outcome : (n : ℕ) (course : Course) (from : ℕ) (bits : List Bool) → IsSane n course → length bits < n → SomeOutcome form many course from bits
-  some_outcome zero course from bits sane lt = absurd (omega (arith, lt))
-  some_outcome (suc n) course from bits sane lt = by (course []).next refl (λ c bs h l. some_outcome n c (from + 1) bs h l)
-    where
-      at_field : (spec : FieldSpec) → (course []).next ≡ take_next spec → (b : Bool) → many (from + 0) ≡ b → (r : Result (FieldRead C) FieldFault) → form.field spec bits ≡ r
-          → ((c : Course) (bs : List Bool) → IsSane n c → length bs < n → SomeOutcome form many c (from + 1) bs) → SomeOutcome form many course from bits
-      at_field spec e true m r q go = at_once course from bits (stopped (too_many spec.fxy)) (ap (λ x. outcome_of form (many (from + 0)) x bits) e ∙ ap (λ b. outcome_of form b (take_next spec) bits) m)
-      at_field spec e false m (Err why) q go =
-          at_once course from bits (stopped (field_stop spec.fxy why)) (ap (λ x. outcome_of form (many (from + 0)) x bits) e ∙ ap (λ b. outcome_of form b (take_next spec) bits) m ∙ ap (λ r. stopped_by (field_stop_of spec.fxy r)) q)
-      at_field spec e false m (Ok f) q go =
-          let k = sane.1 spec e in
-          let w = forth spec bits f.content f.suffix k.0 q in
-          one_more course from bits f.suffix spec f.content m e q w (go (after form course (record { spec = spec; content = f.content })) f.suffix (k.1 (form.gives spec f.content) w.gives) (omega (arith, lt, w.some, w.within, length-drop w.size bits, ap length w.left_is)))
-
-      by : (next : Next) → (course []).next ≡ next → ((c : Course) (bs : List Bool) → IsSane n c → length bs < n → SomeOutcome form many c (from + 1) bs) → SomeOutcome form many course from bits
-      by at_end e go = at_once course from bits ended (ap (λ x. outcome_of form (many (from + 0)) x bits) e)
-      by astray e go = absurd (sane.0 e)
-      by (refused why) e go = at_once course from bits (stopped (walk_stop why)) (ap (λ x. outcome_of form (many (from + 0)) x bits) e)
-      by (take_next spec) e go = at_field spec e (many (from + 0)) refl (form.field spec bits) refl go
+same_found : {C : Type 0} (a b : FieldRead C) → ◌≡◌ {A = Result (FieldRead C) FieldFault} (Ok a) (Ok b) → a ≡ b
+same_found a b e = cc
 
 answer_for : (r : Role) (c : Content) → IsForRole r (answer_by_role r c)
 answer_for role.Element c = tt
@@ -305,200 +247,8 @@ packed_forth n spec bits cs mid some e =
     within : (w x all left : ℕ) → w ≤ all → x ≤ left → left ≡ all - w → w + x ≤ all
     within w x all left h g e = omega arith
 
-no_end : (s : Option Stop) → stopped_by s ≡ Some ended → ⊥
-no_end None e = cc
-no_end (Some s) e = cc
-
-is_stop : (s : Option Stop) (stop : Stop) → stopped_by s ≡ Some (stopped stop) → s ≡ Some stop
-is_stop None stop e = absurd cc
-is_stop (Some s) stop e = grind (arith, common_steps, Outcome, stopped)
-
-end_of : {C : Type 0} (form : DataCoding C) (b : Bool) (next : Next) (left : List Bool) → outcome_of form b next left ≡ Some ended → next ≡ at_end
-end_of form b (take_next spec) left e = absurd (no_end (stop_at form b (take_next spec) left) e)
-end_of form b (refused why) left e = absurd (no_end (stop_at form b (refused why) left) e)
-end_of form b at_end left e = refl
-end_of form b astray left e = absurd cc
-
-stop_of : {C : Type 0} (form : DataCoding C) (b : Bool) (next : Next) (left : List Bool) (stop : Stop) → outcome_of form b next left ≡ Some (stopped stop) → stop_at form b next left ≡ Some stop
-stop_of form b (take_next spec) left stop e = is_stop (stop_at form b (take_next spec) left) stop e
-stop_of form b (refused why) left stop e = is_stop (stop_at form b (refused why) left) stop e
-stop_of form b at_end left stop e = absurd cc
-stop_of form b astray left stop e = absurd cc
-
--- subsets that were read up to their end
-record AllRead (course : Course) (bits : List Bool) (n : ℕ) : Type 0 where
-  pub subsets : List (List (Item Content))
-  pub used : ℕ
-  pub within : used ≤ length bits
-  pub whole : ReadsSubsets course subsets bits (drop used bits)
-  pub count : length subsets ≡ n
-
--- subsets that were read up to what stops
-record SomeRead (course : Course) (bits : List Bool) (n : ℕ) : Type 0 where
-  pub done : List (List (Item Content))
-  pub items : List (Item Content)
-  pub mid : List Bool
-  pub used : ℕ
-  pub within : used ≤ length bits
-  pub whole : ReadsSubsets course done bits mid
-  pub reads : ReadsItems plain course items mid (drop used bits)
-  pub stop : Stop
-  pub stops : stop_at plain false (next_after plain course items) (drop used bits) ≡ Some stop
-  pub count : length done + 1 ≤ n
-
-drop_both : (a b : ℕ) (xs ys : List Bool) → ys ≡ drop a xs → drop b ys ≡ drop (a + b) xs
-drop_both a b xs ys e = ap (drop b) e ∙ drop-drop b a xs
-
-module _ (course : Course) where
-  one_all : (n : ℕ) (bits mid : List Bool) (items : List (Item Content)) (used : ℕ) → used ≤ length bits → mid ≡ drop used bits → ReadsPass plain course items bits mid → AllRead course mid n → AllRead course bits (suc n)
-  one_all n bits mid items used within e h r = record {
-    subsets = items ∷ r.subsets;
-    used = used + r.used;
-    within = omega (arith, within, r.within, length-drop used bits, ap length e);
-    whole = (mid, h, subst (λ z. ReadsSubsets course r.subsets mid z) (drop_both used r.used bits mid e) r.whole);
-    count = ap suc r.count;
-  }
-
-  one_some : (n : ℕ) (bits mid : List Bool) (items : List (Item Content)) (used : ℕ) → used ≤ length bits → mid ≡ drop used bits → ReadsPass plain course items bits mid → SomeRead course mid n → SomeRead course bits (suc n)
-  one_some n bits mid items used within e h r =
-      let same : drop r.used mid ≡ drop (used + r.used) bits = drop_both used r.used bits mid e in
-      record {
-        done = items ∷ r.done;
-        items = r.items;
-        mid = r.mid;
-        used = used + r.used;
-        within = omega (arith, within, r.within, length-drop used bits, ap length e);
-        whole = (mid, h, r.whole);
-        reads = subst (λ z. ReadsItems plain course r.items r.mid z) same r.reads;
-        stop = r.stop;
-        stops = subst (λ z. stop_at plain false (next_after plain course r.items) z ≡ Some r.stop) same r.stops;
-        count = omega (arith, r.count);
-      }
-
-  some_subsets : (n : ℕ) (bits : List Bool) → ((m : ℕ) → IsSane m course) → AllRead course bits n ⊎ SomeRead course bits n
-  some_subsets zero bits sane = inl (record { subsets = []; used = 0; within = omega arith; whole = refl; count = refl })
-  some_subsets (suc n) bits sane =
-      let o = some_outcome plain (λ k. false) plain_forth (suc (length bits)) course 0 bits (sane (suc (length bits))) (omega arith) in
-      by o o.outcome refl (λ b. some_subsets n b sane)
-    where
-      by : (o : SomeOutcome plain (λ k. false) course 0 bits) (end : Outcome) → o.outcome ≡ end → ((b : List Bool) → AllRead course b n ⊎ SomeRead course b n) → AllRead course bits (suc n) ⊎ SomeRead course bits (suc n)
-      by o ended e go =
-          let whole : ReadsPass plain course o.items bits o.left = (o.has.reads, end_of plain false (next_after plain course o.items) o.left (o.has.ends ∙ ap Some e)) in
-          more (go o.left) whole
-        where
-          more : AllRead course o.left n ⊎ SomeRead course o.left n → ReadsPass plain course o.items bits o.left → AllRead course bits (suc n) ⊎ SomeRead course bits (suc n)
-          more (inl r) h = inl (one_all n bits o.left o.items o.used o.within o.left_is h r)
-          more (inr r) h = inr (one_some n bits o.left o.items o.used o.within o.left_is h r)
-      by o (stopped s) e go = inr (record {
-        done = [];
-        items = o.items;
-        mid = bits;
-        used = o.used;
-        within = o.within;
-        whole = refl;
-        reads = subst (λ z. ReadsItems plain course o.items bits z) o.left_is o.has.reads;
-        stop = s;
-        stops = subst (λ z. stop_at plain false (next_after plain course o.items) z ≡ Some s) o.left_is (stop_of plain false (next_after plain course o.items) o.left s (o.has.ends ∙ ap Some e));
-        count = omega arith;
-      })
-
-abbrev Decided : Course → Data → Type 0
-Decided course d = ((v : Values) × (used : ℕ) × IsReading course d v used) ⊎ ((why : WalkFault) × (turns : ℕ) × IsRefused course d why turns)
-
-length_left : (used : ℕ) (bits : List Bool) → used ≤ length bits → used + length (drop used bits) ≡ length bits
-length_left used bits h = omega (arith, h, length-drop used bits)
-
-plain_decided : (course : Course) (n : ℕ) (bits : List Bool) → ((m : ℕ) → IsSane m course) → Decided course (record { compressed = false; subsets = n; bits = bits })
-plain_decided course n bits sane = by (some_subsets course n bits sane)
-  where
-    by : AllRead course bits n ⊎ SomeRead course bits n → Decided course (record { compressed = false; subsets = n; bits = bits })
-    by (inl r) = inl (apart r.subsets, r.used, (refl, r.within, (r.whole, r.count)))
-    by (inr r) = inr (
-      walk_fault_of r.stop (length r.done + 1) r.used,
-      turns_in course r.done + turns_after plain course r.items,
-      record {
-        stop = r.stop;
-        subset = length r.done + 1;
-        before = r.used;
-        is = refl;
-        stopped = (
-          next_after plain course r.items,
-          drop r.used bits,
-          record { done = r.done; items = r.items; mid = r.mid; whole = r.whole; reads = r.reads; next_is = refl; number = refl; within = r.count; place = length_left r.used bits r.within; turns_are = refl },
-          r.stops,
-        );
-      },
-    )
-
--- at none of these items one more is too many
-few_items : (n items : ℕ) → ((j : ℕ) → j < items → would_be_many n (0 + j) ≡ false) → items * n ≤ max_values
-few_items n zero h = omega arith
-few_items n (suc k) h = at_most (h k (omega arith))
-  where
-    at_most : would_be_many n (0 + k) ≡ false → suc k * n ≤ max_values
-    at_most e = subst (λ z. z * n ≤ max_values) (counted k) (ltb-false max_values ((0 + k + 1) * n) e)
-      where
-        counted : (a : ℕ) → 0 + a + 1 ≡ suc a
-        counted a = omega arith
-
-packed_decided : (course : Course) (n : ℕ) (bits : List Bool) → ((m : ℕ) → IsSane m course) → Decided course (record { compressed = true; subsets = n; bits = bits })
-packed_decided course zero bits sane = inl (together [], 0, (refl, omega arith, (refl, refl)))
-packed_decided course (suc n) bits sane =
-    let o = some_outcome (packed (suc n)) (would_be_many (suc n)) (packed_forth n) (suc (length bits)) course 0 bits (sane (suc (length bits))) (omega arith) in by o o.outcome refl
-  where
-    from_zero : (a : ℕ) → 0 + a ≡ a
-    from_zero a = omega arith
-
-    by : (o : SomeOutcome (packed (suc n)) (would_be_many (suc n)) course 0 bits) (end : Outcome) → o.outcome ≡ end → Decided course (record { compressed = true; subsets = suc n; bits = bits })
-    by o ended e = inl (
-      together o.items,
-      o.used,
-      (
-        refl,
-        o.within,
-        (
-          (subst (λ z. ReadsItems (packed (suc n)) course o.items bits z) o.left_is o.has.reads, end_of (packed (suc n)) (would_be_many (suc n) (0 + length o.items)) (next_after (packed (suc n)) course o.items) o.left (o.has.ends ∙ ap Some e)),
-          few_items (suc n) (length o.items) o.has.few,
-        ),
-      ),
-    )
-    by o (stopped s) e = inr (
-      walk_fault_of s 0 o.used,
-      turns_after (packed (suc n)) course o.items,
-      record {
-        stop = s;
-        subset = 0;
-        before = o.used;
-        is = refl;
-        stopped = (
-          refl,
-          (
-            length o.items,
-            next_after (packed (suc n)) course o.items,
-            o.left,
-            record {
-              items = o.items;
-              some = omega arith;
-              reads = o.has.reads;
-              few = few_items (suc n) (length o.items) o.has.few;
-              count = refl;
-              next_is = refl;
-              place = ap (λ z. o.used + length z) o.left_is ∙ length_left o.used bits o.within;
-              turns_are = refl;
-            },
-            subst (λ k. stop_at (packed (suc n)) (would_be_many (suc n) k) (next_after (packed (suc n)) course o.items) o.left ≡ Some s) (from_zero (length o.items))
-                (stop_of (packed (suc n)) (would_be_many (suc n) (0 + length o.items)) (next_after (packed (suc n)) course o.items) o.left s (o.has.ends ∙ ap Some e)),
-          ),
-        );
-      },
-    )
-
-decided : (course : Course) (compressed : Bool) (n : ℕ) (bits : List Bool) → ((m : ℕ) → IsSane m course) → Decided course (record { compressed = compressed; subsets = n; bits = bits })
-decided course false n bits sane = plain_decided course n bits sane
-decided course true n bits sane = packed_decided course n bits sane
-
 -- the widths of the rows of the records
-rows_within : (records : List Record) (table : List Row) → map row_of records ≡ map Some table → (fxy : ℕ) (row : Row) → entry_of table fxy ≡ Some row → allows_width row.kind row.width ≡ true
+pub rows_within : (records : List Record) (table : List Row) → map row_of records ≡ map Some table → (fxy : ℕ) (row : Row) → entry_of table fxy ≡ Some row → allows_width row.kind row.width ≡ true
 rows_within records [] e fxy row q = absurd cc
 rows_within [] (first ∷ table) e fxy row q = absurd cc
 rows_within (r ∷ records) (first ∷ table) e fxy row q =
@@ -516,8 +266,3 @@ rows_within (r ∷ records) (first ∷ table) e fxy row q =
     by : (b : Bool) → allows_width first.kind first.width ≡ true → (entry_of table fxy ≡ Some row → allows_width row.kind row.width ≡ true) → (if b then Some first else entry_of table fxy) ≡ Some row → allows_width row.kind row.width ≡ true
     by true h go z = subst (λ (x : Row). allows_width x.kind x.width ≡ true) (same_row first row z) h
     by false h go z = go z
-
-pub read_or_refused : (records : List Record) (table : List Row) (template : Tree) (d : Data) → AreRows records table → IsLegal template
-    → ((v : Values) × (used : ℕ) × IsReading (next_item table template) d v used) ⊎ ((why : WalkFault) × (turns : ℕ) × IsRefused (next_item table template) d why turns)
-read_or_refused records table template d h legal =
-    decided (next_item table template) d.compressed d.subsets d.bits (λ m. template_sane table (λ fxy row e. rows_within h.rest table h.rows fxy row e) template legal m)

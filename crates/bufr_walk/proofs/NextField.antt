@@ -1,11 +1,12 @@
--- Each specification of a reading is within the limits of a field.
+-- Each field that comes next in a template is a specification, with a descriptor of 16 bits.
 use Rattle.std.proofs.lemmas.Grind.{common_steps}
-use Rattle.bufr_walk.proofs.SpecLemmas.{text_good, product_small}
+use Rattle.bufr_walk.proofs.SpecLemmas.{text_good, product_small, inserted_width}
+use Rattle.bufr_tables.proofs.TableBLemmas.{row-limits}
 use Rattle.std.proofs.lemmas.Bool.{eqb-true, leb-true, ltb-true}
-use Rattle.bufr_tables.specs.Prelude.{Row, allows_width, entry_of, kind_of, AreRows, element_of, plain_of, row_of, scale_of, width_of, is_legal_operator, has_legal_operand, Tree, bare, element, operator, fixed, delayed, is_inserted_text, x_of, y_of, IsLegal, i64_of, fits_i64, if_i64, integer_of, Record, field_of, only_if}
+use Rattle.bufr_tables.specs.Prelude.{f_of, fxy_of, is_factor, IsRow, Row, allows_width, entry_of, kind_of, AreRows, element_of, plain_of, row_of, scale_of, width_of, is_legal_operator, has_legal_operand, Tree, bare, element, operator, fixed, delayed, is_inserted_text, x_of, y_of, IsLegal, i64_of, fits_i64, if_i64, integer_of, Record, field_of, only_if}
 use Rattle.bufr_walk.specs.declared.spec.Taken.{Taken}
-use Rattle.bufr_walk.specs.Prelude.{OperatorModel, Redefined, current_reference, is_defining, if_valid_width, scale_change_of, numeric_spec, coded_spec, text_spec, text_width, spec_by_kind, defined_field, new_reference_spec, unsigned_field, begin, local_width_spec, listed_by, element_spec, factor_field, factor_by, factor_spec, with_references, with_operator, after_operator, after_field, with_reference, inserted_spec, Turns, finish, open_end, group, pass_end, factor_turn, element_turn, operator_turn, Rest, passes, unroll, turns_of, take_next, NextTurn, asked, operated, ahead, next_item, counts_of, FieldSpec, IsSpec, HasWidth}
-use Rattle.std.proofs.Common.{ℕ, suc, ◌+◌, ◌*◌, ◌%◌, ◌&&◌, eqb, Bool, false, Option, Some, None, Result, Ok, Err, refl, ◌∙◌, ap, subst, arith, ℤ, pos, negsuc, ◌+ℤ◌, zero, ◌||◌, not, sym, map, ◌≡◌, ◌≤◌, ◌^◌, true, List, [], ◌∷◌, unsigned_abs, ◌==◌, nat_le, nat_lt, if◌then◌else◌}
+use Rattle.bufr_walk.specs.Prelude.{OperatorModel, Redefined, current_reference, is_defining, if_valid_width, scale_change_of, numeric_spec, coded_spec, text_spec, text_width, spec_by_kind, defined_field, new_reference_spec, unsigned_field, begin, local_width_spec, listed_by, element_spec, factor_field, factor_by, factor_spec, with_references, with_operator, after_operator, after_field, with_reference, inserted_spec, Turns, finish, open_end, group, pass_end, factor_turn, element_turn, operator_turn, Rest, passes, unroll, turns_of, take_next, NextTurn, asked, operated, ahead, next_item, counts_of, FieldSpec, IsSpec, HasWidth, Course, IsField, IsWithin, AreWithin}
+use Rattle.std.proofs.Common.{ℕ, suc, ◌+◌, ◌*◌, ◌%◌, ◌&&◌, eqb, Bool, false, Option, Some, None, Result, Ok, Err, refl, ◌∙◌, ap, subst, arith, ℤ, pos, negsuc, ◌+ℤ◌, zero, ◌||◌, not, sym, map, ◌≡◌, ◌≤◌, ◌<◌, ◌/◌, ◌^◌, true, List, [], ◌∷◌, unsigned_abs, ◌==◌, nat_le, nat_lt, if◌then◌else◌}
 use Rattle.std.specs.List.{find, AllByRecursion}
 use Rattle.std.proofs.lemmas.Bool.Decides.{nat_tests}
 use Rattle.bufr_bits.proofs.DecimalLemmas.{and_first, and_second}
@@ -17,23 +18,19 @@ use Rattle.bufr_tables.specs.declared.table_b.Kind.TheVariants as kind
 use Rattle.bufr_walk.specs.declared.spec.Role.TheVariants as role
 use Rattle.bufr_walk.specs.declared.spec.TurnRefusal.TheVariants as refusal
 
--- a width of its kind, a scale up to 127 and a reference of 64 bits
-pub record IsRow (row : Row) : Type 0 where
-  pub width : allows_width row.kind row.width ≡ true
+-- a row within the limits of its table, and of the numbers that are computed with it
+pub record IsRead (row : Row) : Type 0 where
+  pub listed : IsRow row
   pub scale : unsigned_abs row.scale ≤ 127
   pub reference : unsigned_abs row.reference ≤ 2 ^ 63
+  pub element : row.fxy < 16384
 
-abbrev pub AreGoodRows : List Row → Type 0
-AreGoodRows rows = AllByRecursion (λ (row : Row). IsRow row) rows
+abbrev pub AreRead : List Row → Type 0
+AreRead rows = AllByRecursion (λ (row : Row). IsRead row) rows
 
--- references that were defined are of 64 bits
-abbrev pub IsWithin : Taken → Type 0
-IsWithin taken.Plain = Unit {0}
-IsWithin (taken.Count n) = Unit {0}
-IsWithin (taken.Reference r) = unsigned_abs r ≤ 2 ^ 63
-
-abbrev pub AreWithin : List Taken → Type 0
-AreWithin answers = AllByRecursion (λ (t : Taken). IsWithin t) answers
+-- a descriptor of 16 bits
+abbrev IsWord : ℕ → Type 0
+IsWord fxy = fxy < 65536
 
 abbrev pub AreRedefined : List Redefined → Type 0
 AreRedefined more = AllByRecursion (λ (r : Redefined). unsigned_abs r.reference ≤ 2 ^ 63) more
@@ -48,15 +45,15 @@ pub record IsSettings (s : OperatorModel) : Type 0 where
   pub local_width : s.local_width ≤ 255
   pub new_references : AreRedefined s.new_references
 
--- each operator is one that a template may hold
+-- each descriptor is one that a template may hold
 abbrev pub AreLegal : Turns → Type 0
 AreLegal finish = Unit {0}
 AreLegal open_end = Unit {0}
 AreLegal (group next) = AreLegal next
 AreLegal (pass_end next) = AreLegal next
-AreLegal (factor_turn fxy next) = AreLegal next
-AreLegal (element_turn fxy next) = AreLegal next
-AreLegal (operator_turn fxy next) = (is_legal_operator fxy ≡ true) × AreLegal next
+AreLegal (factor_turn fxy next) = IsWord fxy × AreLegal next
+AreLegal (element_turn fxy next) = IsWord fxy × AreLegal next
+AreLegal (operator_turn fxy next) = IsWord fxy × (is_legal_operator fxy ≡ true) × AreLegal next
 
 -- ---- Each specification of the rules is one.
 
@@ -82,20 +79,23 @@ reference_small (r ∷ rs) fxy listed h g = by (r.fxy == fxy) h.0 (reference_sma
     by false x y = y
 
 -- a row that was found is one of the table
-row_found : (table : List Row) (fxy : ℕ) (row : Row) → AreGoodRows table → entry_of table fxy ≡ Some row → IsRow row
+pub row_found : (table : List Row) (fxy : ℕ) (row : Row) → AreRead table → entry_of table fxy ≡ Some row → IsRead row
 row_found [] fxy row h e = absurd cc
 row_found (r ∷ rows) fxy row h e = by (r.fxy == fxy) (λ q. row_found rows fxy row h.1 q) e
   where
-    by : (b : Bool) → (find (λ x. x.fxy == fxy) rows ≡ Some row → IsRow row) → (if b then Some r else find (λ x. x.fxy == fxy) rows) ≡ Some row → IsRow row
-    by true g q = let is : r ≡ row = cc in subst IsRow is h.0
+    by : (b : Bool) → (find (λ x. x.fxy == fxy) rows ≡ Some row → IsRead row) → (if b then Some r else find (λ x. x.fxy == fxy) rows) ≡ Some row → IsRead row
+    by true g q = let is : r ≡ row = cc in subst IsRead is h.0
     by false g q = g q
 
+as_field : (a : FieldSpec) → IsWord a.fxy → IsSpec a → IsField a
+as_field a word spec = record { spec = spec; word = word }
+
 -- a width that fits
-fitted : (a : FieldSpec) (b : FieldSpec) → if_valid_width a ≡ Ok b → ((1 ≤ a.width) × (a.width ≤ 63) → IsSpec a) → IsSpec b
-fitted a b e h = by (nat_le 1 a.width && nat_le a.width 63) refl e
+fitted : (a : FieldSpec) (b : FieldSpec) → if_valid_width a ≡ Ok b → IsWord a.fxy → ((1 ≤ a.width) × (a.width ≤ 63) → IsSpec a) → IsField b
+fitted a b e word h = by (nat_le 1 a.width && nat_le a.width 63) refl e
   where
-    by : (t : Bool) → (nat_le 1 a.width && nat_le a.width 63) ≡ t → (if t then Ok a else Err (refusal.Width a.fxy)) ≡ Ok b → IsSpec b
-    by true p q = let is : a ≡ b = cc in subst IsSpec is (h (leb-true 1 a.width (and_first (nat_le 1 a.width) (nat_le a.width 63) p), leb-true a.width 63 (and_second (nat_le 1 a.width) (nat_le a.width 63) p)))
+    by : (t : Bool) → (nat_le 1 a.width && nat_le a.width 63) ≡ t → (if t then Ok a else Err (refusal.Width a.fxy)) ≡ Ok b → IsField b
+    by true p q = let is : a ≡ b = cc in subst IsField is (as_field a word (h (leb-true 1 a.width (and_first (nat_le 1 a.width) (nat_le a.width 63) p), leb-true a.width 63 (and_second (nat_le 1 a.width) (nat_le a.width 63) p))))
     by false p q = absurd cc
 
 character_width : (w : ℕ) → allows_width kind.Character w ≡ true → HasWidth kind.Character w
@@ -112,7 +112,7 @@ letters_width y w h g = by (y == 0) refl
         positive y e = grind (arith, nat_tests)
 
 module _ (s : OperatorModel) (set : IsSettings s) where
-  quantity_good : (row : Row) → IsRow row → (1 ≤ (numeric_spec s row).width) × ((numeric_spec s row).width ≤ 63) → IsSpec (numeric_spec s row)
+  quantity_good : (row : Row) → IsRead row → (1 ≤ (numeric_spec s row).width) × ((numeric_spec s row).width ≤ 63) → IsSpec (numeric_spec s row)
   quantity_good row good w = record {
     width = w;
     role = tt;
@@ -121,7 +121,7 @@ module _ (s : OperatorModel) (set : IsSettings s) where
     reference = product_small (current_reference s.new_references row.fxy row.reference) s.precision_increase (reference_small s.new_references row.fxy row.reference set.new_references good.reference) set.precision_increase;
   }
 
-  figure_good : (row : Row) → IsRow row → (1 ≤ (coded_spec s row).width) × ((coded_spec s row).width ≤ 63) → IsSpec (coded_spec s row)
+  figure_good : (row : Row) → IsRead row → (1 ≤ (coded_spec s row).width) × ((coded_spec s row).width ≤ 63) → IsSpec (coded_spec s row)
   figure_good row good w = record {
     width = w;
     role = tt;
@@ -130,57 +130,54 @@ module _ (s : OperatorModel) (set : IsSettings s) where
     reference = omega (arith, reference_small s.new_references row.fxy row.reference set.new_references good.reference);
   }
 
-  kind_good : (kd : Kind) (row : Row) (spec : FieldSpec) → kd ≡ row.kind → IsRow row → spec_by_kind kd s row ≡ Ok spec → IsSpec spec
-  kind_good kind.Numeric row spec q good e = fitted (numeric_spec s row) spec e (quantity_good row good)
-  kind_good kind.Coded row spec q good e = fitted (coded_spec s row) spec e (figure_good row good)
+  kind_good : (kd : Kind) (row : Row) (spec : FieldSpec) → kd ≡ row.kind → IsRead row → spec_by_kind kd s row ≡ Ok spec → IsField spec
+  kind_good kind.Numeric row spec q good e = fitted (numeric_spec s row) spec e (omega (arith, good.element)) (quantity_good row good)
+  kind_good kind.Coded row spec q good e = fitted (coded_spec s row) spec e (omega (arith, good.element)) (figure_good row good)
   kind_good kind.Character row spec q good e =
-      subst IsSpec (same_ok _ spec e) (text_good role.Element row.fxy (text_width s row.width) true (letters_width s.character_octets row.width set.character_octets (character_width row.width (ap (λ k. allows_width k row.width) q ∙ good.width))) tt)
+      subst IsField (same_ok _ spec e) (as_field (text_spec role.Element row.fxy (text_width s row.width) true) (omega (arith, good.element)) (text_good role.Element row.fxy (text_width s row.width) true (letters_width s.character_octets row.width set.character_octets (character_width row.width (ap (λ k. allows_width k row.width) q ∙ good.listed.width))) tt))
 
-  defined_good : (kd : Kind) (fxy : ℕ) (spec : FieldSpec) → new_reference_spec kd s fxy ≡ Ok spec → IsSpec spec
-  defined_good kind.Character fxy spec e = absurd cc
-  defined_good kind.Coded fxy spec e = fitted (defined_field s fxy) spec e (λ w. record { width = w; role = (refl, refl); missing = tt; scale = omega arith; reference = omega arith })
-  defined_good kind.Numeric fxy spec e = fitted (defined_field s fxy) spec e (λ w. record { width = w; role = (refl, refl); missing = tt; scale = omega arith; reference = omega arith })
+  defined_good : (kd : Kind) (fxy : ℕ) (spec : FieldSpec) → IsWord fxy → new_reference_spec kd s fxy ≡ Ok spec → IsField spec
+  defined_good kind.Character fxy spec word e = absurd cc
+  defined_good kind.Coded fxy spec word e = fitted (defined_field s fxy) spec e word (λ w. record { width = w; role = (refl, refl); missing = tt; scale = omega arith; reference = omega arith })
+  defined_good kind.Numeric fxy spec word e = fitted (defined_field s fxy) spec e word (λ w. record { width = w; role = (refl, refl); missing = tt; scale = omega arith; reference = omega arith })
 
-  unsigned_good : (fxy w : ℕ) (spec : FieldSpec) → if_valid_width (unsigned_field fxy w) ≡ Ok spec → IsSpec spec
-  unsigned_good fxy w spec e = fitted (unsigned_field fxy w) spec e (λ h. record { width = h; role = tt; missing = tt; scale = omega arith; reference = omega arith })
+  unsigned_good : (fxy w : ℕ) (spec : FieldSpec) → IsWord fxy → if_valid_width (unsigned_field fxy w) ≡ Ok spec → IsField spec
+  unsigned_good fxy w spec word e = fitted (unsigned_field fxy w) spec e word (λ h. record { width = h; role = tt; missing = tt; scale = omega arith; reference = omega arith })
 
-pub untouched_good : (s : OperatorModel) → IsSettings begin
-untouched_good s = record { width_change = omega arith; scale_change = omega arith; new_reference_width = omega arith; precision_increase = omega arith; character_octets = omega arith; local_width = omega arith; new_references = tt }
+begin_good : IsSettings begin
+begin_good = record { width_change = omega arith; scale_change = omega arith; new_reference_width = omega arith; precision_increase = omega arith; character_octets = omega arith; local_width = omega arith; new_references = tt }
 
-module _ (table : List Row) (rows : AreGoodRows table) (s : OperatorModel) (set : IsSettings s) where
-  pub element_good : (fxy : ℕ) (spec : FieldSpec) → element_spec table s fxy ≡ Ok spec → IsSpec spec
-  element_good fxy spec e = by_given (nat_lt 0 s.local_width) (entry_of table fxy) refl e
+module _ (table : List Row) (rows : AreRead table) (s : OperatorModel) (set : IsSettings s) where
+  element_good : (fxy : ℕ) (spec : FieldSpec) → IsWord fxy → element_spec table s fxy ≡ Ok spec → IsField spec
+  element_good fxy spec word e = by_given (nat_lt 0 s.local_width) (entry_of table fxy) refl e
     where
-      by_defining : (b : Bool) (row : Row) → IsRow row → (if b then new_reference_spec row.kind s fxy else spec_by_kind row.kind s row) ≡ Ok spec → IsSpec spec
-      by_defining true row good q = defined_good s set row.kind fxy spec q
+      by_defining : (b : Bool) (row : Row) → IsRead row → (if b then new_reference_spec row.kind s fxy else spec_by_kind row.kind s row) ≡ Ok spec → IsField spec
+      by_defining true row good q = defined_good s set row.kind fxy spec word q
       by_defining false row good q = kind_good s set row.kind row spec refl good q
 
-      by_width : (b : Bool) (row : Row) → IsRow row → (if b then spec_by_kind row.kind begin row else if_valid_width (unsigned_field fxy s.local_width)) ≡ Ok spec → IsSpec spec
-      by_width true row good q = kind_good begin (untouched_good s) row.kind row spec refl good q
-      by_width false row good q = unsigned_good s set fxy s.local_width spec q
+      by_width : (b : Bool) (row : Row) → IsRead row → (if b then spec_by_kind row.kind begin row else if_valid_width (unsigned_field fxy s.local_width)) ≡ Ok spec → IsField spec
+      by_width true row good q = kind_good begin begin_good row.kind row spec refl good q
+      by_width false row good q = unsigned_good s set fxy s.local_width spec word q
 
-      by_given : (b : Bool) (o : Option Row) → entry_of table fxy ≡ o → (if b then local_width_spec o s fxy else listed_by o s fxy) ≡ Ok spec → IsSpec spec
-      by_given true None p q = unsigned_good s set fxy s.local_width spec q
+      by_given : (b : Bool) (o : Option Row) → entry_of table fxy ≡ o → (if b then local_width_spec o s fxy else listed_by o s fxy) ≡ Ok spec → IsField spec
+      by_given true None p q = unsigned_good s set fxy s.local_width spec word q
       by_given false None p q = absurd cc
       by_given true (Some row) p q = by_width (row.width == s.local_width) row (row_found table fxy row rows p) q
       by_given false (Some row) p q = by_defining (is_defining s) row (row_found table fxy row rows p) q
 
-  pub factor_good : (fxy : ℕ) (spec : FieldSpec) → factor_spec table s fxy ≡ Ok spec → IsSpec spec
-  factor_good fxy spec e = by (is_defining s) (entry_of table fxy) refl e
+  factor_good : (fxy : ℕ) (spec : FieldSpec) → IsWord fxy → factor_spec table s fxy ≡ Ok spec → IsField spec
+  factor_good fxy spec word e = by (is_defining s) (entry_of table fxy) refl e
     where
-      by : (b : Bool) (o : Option Row) → entry_of table fxy ≡ o → (if b then Err (refusal.Defining fxy) else factor_by o fxy) ≡ Ok spec → IsSpec spec
+      by : (b : Bool) (o : Option Row) → entry_of table fxy ≡ o → (if b then Err (refusal.Defining fxy) else factor_by o fxy) ≡ Ok spec → IsField spec
       by true o p q = absurd cc
       by false None p q = absurd cc
       by false (Some row) p q =
           let good = row_found table fxy row rows p in
-          fitted (factor_field row fxy) spec q (λ w. record { width = w; role = (refl, refl); missing = tt; scale = omega (arith, good.scale); reference = omega (arith, good.reference) })
+          fitted (factor_field row fxy) spec q word (λ w. record { width = w; role = (refl, refl); missing = tt; scale = omega (arith, good.scale); reference = omega (arith, good.reference) })
 
 -- ---- What comes next in a template is a specification.
 
 -- operands of legal operators
-operand_five : (x y : ℕ) → (x == 5) ≡ true → has_legal_operand x y ≡ true → 1 ≤ y
-operand_five x y e h = grind (arith, common_steps, eqb-true, leb-true)
-
 operand_three : (x y : ℕ) → (x == 3) ≡ true → has_legal_operand x y ≡ true → (y == 255) ≡ false → y ≤ 63
 operand_three x y e h g = by (subst (λ z. has_legal_operand z y ≡ true) (eqb-true x 3 e) h)
   where
@@ -197,16 +194,14 @@ operand_seven x y e h = leb-true y 18 (subst (λ z. has_legal_operand z y ≡ tr
 operand_most : (fxy : ℕ) → y_of fxy ≤ 255
 operand_most fxy = omega arith
 
-inserted_good : (s : OperatorModel) (fxy : ℕ) (spec : FieldSpec) → is_inserted_text fxy ≡ true → is_legal_operator fxy ≡ true → inserted_spec s fxy ≡ Ok spec → IsSpec spec
-inserted_good s fxy spec x legal e = by (is_defining s) e
+inserted_good : (s : OperatorModel) (fxy : ℕ) (spec : FieldSpec) → is_inserted_text fxy ≡ true → is_legal_operator fxy ≡ true → IsWord fxy → inserted_spec s fxy ≡ Ok spec → IsField spec
+inserted_good s fxy spec x legal word e = by (is_defining s) e
   where
-    by : (b : Bool) → (if b then Err (refusal.Defining fxy) else Ok (text_spec role.Inserted fxy (8 * y_of fxy) false)) ≡ Ok spec → IsSpec spec
+    by : (b : Bool) → (if b then Err (refusal.Defining fxy) else Ok (text_spec role.Inserted fxy (8 * y_of fxy) false)) ≡ Ok spec → IsField spec
     by true q = absurd cc
     by false q =
         let is : text_spec role.Inserted fxy (8 * y_of fxy) false ≡ spec = cc in
-        let some : 1 ≤ y_of fxy = operand_five (x_of fxy) (y_of fxy) x legal in
-        let most : y_of fxy ≤ 255 = operand_most fxy in
-        subst IsSpec is (record { width = (omega arith, omega arith, omega arith); role = refl; missing = refl; scale = omega arith; reference = omega arith })
+        subst IsField is (as_field (text_spec role.Inserted fxy (8 * y_of fxy) false) word (text_good role.Inserted fxy (8 * y_of fxy) false (inserted_width fxy legal x) refl))
 
 -- the operators in force after an operator, and after a field
 references_good : (s : OperatorModel) (y : ℕ) → IsSettings s → ((y == 255) ≡ false → y ≤ 63) → IsSettings (with_references y s)
@@ -246,13 +241,20 @@ field_good s fxy taken.Plain set h = record { width_change = set.width_change; s
 field_good s fxy (taken.Count n) set h = record { width_change = set.width_change; scale_change = set.scale_change; new_reference_width = set.new_reference_width; precision_increase = set.precision_increase; character_octets = set.character_octets; local_width = omega arith; new_references = set.new_references }
 field_good s fxy (taken.Reference r) set h = record { width_change = set.width_change; scale_change = set.scale_change; new_reference_width = set.new_reference_width; precision_increase = set.precision_increase; character_octets = set.character_octets; local_width = omega arith; new_references = references_kept fxy r s.new_references h set.new_references }
 
-module _ (table : List Row) (rows : AreGoodRows table) where
-  asked_good : (r : Result FieldSpec TurnRefusal) (go : Taken → List Taken → NextTurn) (answers : List Taken) (spec : FieldSpec) → AreWithin answers → ((x : FieldSpec) → r ≡ Ok x → IsSpec x) → ((t : Taken) (more : List Taken) → IsWithin t → AreWithin more → (go t more).next ≡ take_next spec → IsSpec spec) → (asked r go answers).next ≡ take_next spec → IsSpec spec
+-- the descriptors of a legal template
+class_word : (fxy k : ℕ) → f_of fxy ≡ k → k < 4 → IsWord fxy
+class_word fxy k e h = omega (arith, e, h)
+
+factor_class : (fxy : ℕ) → is_factor fxy ≡ true → IsWord fxy
+factor_class fxy h1 = grind (arith, nat_tests, common_steps)
+
+module _ (table : List Row) (rows : AreRead table) where
+  asked_good : (r : Result FieldSpec TurnRefusal) (go : Taken → List Taken → NextTurn) (answers : List Taken) (spec : FieldSpec) → AreWithin answers → ((x : FieldSpec) → r ≡ Ok x → IsField x) → ((t : Taken) (more : List Taken) → IsWithin t → AreWithin more → (go t more).next ≡ take_next spec → IsField spec) → (asked r go answers).next ≡ take_next spec → IsField spec
   asked_good (Err why) go answers spec w h g e = absurd cc
-  asked_good (Ok x) go [] spec w h g e = let is : x ≡ spec = cc in subst IsSpec is (h x refl)
+  asked_good (Ok x) go [] spec w h g e = let is : x ≡ spec = cc in subst IsField is (h x refl)
   asked_good (Ok x) go (t ∷ answers) spec w h g e = g t answers w.0 w.1 e
 
-  operated_good : (r : Result OperatorModel TurnRefusal) (go : OperatorModel → NextTurn) (spec : FieldSpec) → ((s : OperatorModel) → r ≡ Ok s → (go s).next ≡ take_next spec → IsSpec spec) → (operated r go).next ≡ take_next spec → IsSpec spec
+  operated_good : (r : Result OperatorModel TurnRefusal) (go : OperatorModel → NextTurn) (spec : FieldSpec) → ((s : OperatorModel) → r ≡ Ok s → (go s).next ≡ take_next spec → IsField spec) → (operated r go).next ≡ take_next spec → IsField spec
   operated_good (Err why) go spec g e = absurd cc
   operated_good (Ok s) go spec g e = g s refl e
 
@@ -263,22 +265,22 @@ module _ (table : List Row) (rows : AreGoodRows table) where
       by true q = absurd cc
       by false q = let is : with_operator (x_of fxy) (y_of fxy) s ≡ s' = cc in subst IsSettings is (operator_good s (x_of fxy) (y_of fxy) set (operand_most fxy) legal)
 
-  ahead_good : (turns : Turns) (s : OperatorModel) (answers : List Taken) (spec : FieldSpec) → AreLegal turns → IsSettings s → AreWithin answers → (ahead table turns s answers).next ≡ take_next spec → IsSpec spec
+  ahead_good : (turns : Turns) (s : OperatorModel) (answers : List Taken) (spec : FieldSpec) → AreLegal turns → IsSettings s → AreWithin answers → (ahead table turns s answers).next ≡ take_next spec → IsField spec
   ahead_good finish s answers spec legal set w e = absurd cc
   ahead_good open_end s answers spec legal set w e = absurd cc
   ahead_good (group next) s answers spec legal set w e = ahead_good next s answers spec legal set w e
   ahead_good (pass_end next) s answers spec legal set w e = ahead_good next s answers spec legal set w e
   ahead_good (factor_turn fxy next) s answers spec legal set w e =
-      asked_good (factor_spec table s fxy) (λ t more. ahead table next (after_field s fxy t) more) answers spec w (λ x q. factor_good table rows s set fxy x q) (λ t more h g q. ahead_good next (after_field s fxy t) more spec legal (field_good s fxy t set h) g q) e
+      asked_good (factor_spec table s fxy) (λ t more. ahead table next (after_field s fxy t) more) answers spec w (λ x q. factor_good table rows s set fxy x legal.0 q) (λ t more h g q. ahead_good next (after_field s fxy t) more spec legal.1 (field_good s fxy t set h) g q) e
   ahead_good (element_turn fxy next) s answers spec legal set w e =
-      asked_good (element_spec table s fxy) (λ t more. ahead table next (after_field s fxy t) more) answers spec w (λ x q. element_good table rows s set fxy x q) (λ t more h g q. ahead_good next (after_field s fxy t) more spec legal (field_good s fxy t set h) g q) e
+      asked_good (element_spec table s fxy) (λ t more. ahead table next (after_field s fxy t) more) answers spec w (λ x q. element_good table rows s set fxy x legal.0 q) (λ t more h g q. ahead_good next (after_field s fxy t) more spec legal.1 (field_good s fxy t set h) g q) e
   ahead_good (operator_turn fxy next) s answers spec legal set w e =
-      by (is_inserted_text fxy) refl e (λ t more h g q. ahead_good next (after_field s fxy t) more spec legal.1 (field_good s fxy t set h) g q) (λ s' p q. ahead_good next s' answers spec legal.1 (after_good s fxy s' set legal.0 p) w q)
+      by (is_inserted_text fxy) refl e (λ t more h g q. ahead_good next (after_field s fxy t) more spec legal.2 (field_good s fxy t set h) g q) (λ s' p q. ahead_good next s' answers spec legal.2 (after_good s fxy s' set legal.1 p) w q)
     where
       by : (b : Bool) → is_inserted_text fxy ≡ b → (if b then asked (inserted_spec s fxy) (λ t more. ahead table next (after_field s fxy t) more) answers else operated (after_operator s fxy) (λ s'. ahead table next s' answers)).next ≡ take_next spec
-          → ((t : Taken) (more : List Taken) → IsWithin t → AreWithin more → (ahead table next (after_field s fxy t) more).next ≡ take_next spec → IsSpec spec)
-          → ((s' : OperatorModel) → after_operator s fxy ≡ Ok s' → (ahead table next s' answers).next ≡ take_next spec → IsSpec spec) → IsSpec spec
-      by true p q f g = asked_good (inserted_spec s fxy) (λ t more. ahead table next (after_field s fxy t) more) answers spec w (λ x r. inserted_good s fxy x p legal.0 r) f q
+          → ((t : Taken) (more : List Taken) → IsWithin t → AreWithin more → (ahead table next (after_field s fxy t) more).next ≡ take_next spec → IsField spec)
+          → ((s' : OperatorModel) → after_operator s fxy ≡ Ok s' → (ahead table next s' answers).next ≡ take_next spec → IsField spec) → IsField spec
+      by true p q f g = asked_good (inserted_spec s fxy) (λ t more. ahead table next (after_field s fxy t) more) answers spec w (λ x r. inserted_good s fxy x p legal.1 legal.0 r) f q
       by false p q f g = operated_good (after_operator s fxy) (λ s'. ahead table next s' answers) spec g q
 
   passes_legal : (n : ℕ) (body : Rest → Rest) (rest : Rest) → ((r : Rest) → ((counts : List ℕ) → AreLegal (r counts)) → (counts : List ℕ) → AreLegal (body r counts)) → ((counts : List ℕ) → AreLegal (rest counts)) → (counts : List ℕ) → AreLegal (passes n body rest counts)
@@ -287,18 +289,19 @@ module _ (table : List Row) (rows : AreGoodRows table) where
 
   unroll_legal : (tree : Tree) (rest : Rest) → IsLegal tree → ((counts : List ℕ) → AreLegal (rest counts)) → (counts : List ℕ) → AreLegal (unroll tree rest counts)
   unroll_legal bare rest legal g counts = g counts
-  unroll_legal (element fxy more) rest legal g counts = unroll_legal more rest legal.1 g counts
-  unroll_legal (operator fxy more) rest legal g counts = (legal.1.0, unroll_legal more rest legal.1.1.1 g counts)
+  unroll_legal (element fxy more) rest legal g counts = (class_word fxy 0 legal.0 (omega arith), unroll_legal more rest legal.1 g counts)
+  unroll_legal (operator fxy more) rest legal g counts = (class_word fxy 2 legal.0 (omega arith), legal.1.0, unroll_legal more rest legal.1.1.1 g counts)
   unroll_legal (fixed n body more) rest legal g counts = passes_legal n (unroll body) (unroll more rest) (λ r h c. unroll_legal body r legal.0 h c) (unroll_legal more rest legal.1 g) counts
-  unroll_legal (delayed fxy body more) rest legal g [] = tt
-  unroll_legal (delayed fxy body more) rest legal g (n ∷ counts) = passes_legal n (unroll body) (unroll more rest) (λ r h c. unroll_legal body r legal.1.0 h c) (unroll_legal more rest legal.1.1 g) counts
+  unroll_legal (delayed fxy body more) rest legal g [] = (factor_class fxy legal.0, tt)
+  unroll_legal (delayed fxy body more) rest legal g (n ∷ counts) = (factor_class fxy legal.0, passes_legal n (unroll body) (unroll more rest) (λ r h c. unroll_legal body r legal.1.0 h c) (unroll_legal more rest legal.1.1 g) counts)
 
-  begin_good : IsSettings begin
-  begin_good = record { width_change = omega arith; scale_change = omega arith; new_reference_width = omega arith; precision_increase = omega arith; character_octets = omega arith; local_width = omega arith; new_references = tt }
+-- what comes next on a course is a field
+abbrev pub IsGoodCourse : Course → Type 0
+IsGoodCourse course = (answers : List Taken) (spec : FieldSpec) → AreWithin answers → (course answers).next ≡ take_next spec → IsField spec
 
-  pub next_good : (tree : Tree) (answers : List Taken) (spec : FieldSpec) → IsLegal tree → AreWithin answers → (next_item table tree answers).next ≡ take_next spec → IsSpec spec
-  unfolding next_item
-  next_good tree answers spec legal w e = ahead_good (turns_of tree (counts_of answers)) begin answers spec (unroll_legal tree (λ _. finish) legal (λ c. tt) (counts_of answers)) begin_good w e
+pub next_field : (table : List Row) (tree : Tree) → AreRead table → IsLegal tree → IsGoodCourse (next_item table tree)
+unfolding next_item
+next_field table tree rows legal answers spec w e = ahead_good table rows (turns_of tree (counts_of answers)) begin answers spec (unroll_legal table rows tree (λ _. finish) legal (λ c. tt) (counts_of answers)) begin_good w e
 
 -- ---- The rows of the records of a table are within the limits of a field.
 
@@ -322,29 +325,36 @@ scale_within : (text : List ℕ) (scale : ℤ) → scale_of text ≡ Some scale 
 unfolding scale_of
 scale_within text scale is = grind (arith, common_steps, option_and_then_some, passed, unsigned_abs, leb-true)
 
-width_allowed : (kind : Kind) (text : List ℕ) (width : ℕ) → width_of kind text ≡ Some width → allows_width kind width ≡ true
-unfolding width_of
-width_allowed kind text width is = grind (arith, common_steps, option_and_then_some, passed)
+element_below : (cell : List ℕ) (fxy : ℕ) → element_of cell ≡ Some fxy → fxy < 16384
+unfolding element_of
+element_below cell fxy is =
+    option_and_then_some _ (fxy_of cell) fxy is (λ z read is. passed _ z fxy is (λ test same. subst (λ n. n < 16384) same (first z test)))
+  where
+    first : (z : ℕ) → (z / 16384 == 0) ≡ true → z < 16384
+    first z test = let e : z / 16384 ≡ 0 = grind (arith, nat_tests) in omega (arith, e)
 
-written_row : (r : Record) (row : Row) → row_of r ≡ Some row → IsRow row
+written_row : (r : Record) (row : Row) → row_of r ≡ Some row → IsRow row → IsRead row
 unfolding row_of
-written_row r row is =
+written_row r row is listed =
     option_and_then_some _ (element_of (field_of r 0)) row is (λ fxy fxy_is is.
     option_and_then_some _ (plain_of (field_of r 1)) row is (λ name name_is is.
     option_and_then_some _ (plain_of (field_of r 2)) row is (λ unit unit_is is.
     option_and_then_some _ (scale_of (field_of r 3)) row is (λ scale scale_is is.
     option_and_then_some _ (i64_of (field_of r 4)) row is (λ reference reference_is is.
     option_and_then_some _ (width_of (kind_of unit) (field_of r 5)) row is (λ width width_is is.
-    passed _ _ row is (λ test same. subst IsRow same (record {
-      width = width_allowed (kind_of unit) (field_of r 5) width width_is;
+    passed _ _ row is (λ test same. subst (λ z. IsRow z → IsRead z) same (λ limits. record {
+      listed = limits;
       scale = scale_within (field_of r 3) scale scale_is;
       reference = reference_within (field_of r 4) reference reference_is;
-    }))))))))
+      element = element_below (field_of r 0) fxy fxy_is;
+    }) listed)))))))
 
-rows_good : (records : List Record) (table : List Row) → map row_of records ≡ map Some table → AreGoodRows table
-rows_good records [] e = tt
-rows_good [] (first ∷ table) e = absurd cc
-rows_good (r ∷ records) (first ∷ table) e = (written_row r first (prefix (row_of r) (map row_of records) first (map Some table) e), rows_good records table (others (row_of r) (map row_of records) first (map Some table) e))
+rows_read : (records : List Record) (table : List Row) → map row_of records ≡ map Some table → AreRead table
+rows_read records [] e = tt
+rows_read [] (first ∷ table) e = absurd cc
+rows_read (r ∷ records) (first ∷ table) e =
+    let here = prefix (row_of r) (map row_of records) first (map Some table) e in
+    (written_row r first here (row-limits r first here), rows_read records table (others (row_of r) (map row_of records) first (map Some table) e))
   where
     prefix : (o : Option Row) (os : List (Option Row)) (x : Row) (xs : List (Option Row)) → ◌≡◌ {A = List (Option Row)} (o ∷ os) (Some x ∷ xs) → o ≡ Some x
     prefix o os x xs e = cc
@@ -352,5 +362,6 @@ rows_good (r ∷ records) (first ∷ table) e = (written_row r first (prefix (ro
     others : (o : Option Row) (os : List (Option Row)) (x : Row) (xs : List (Option Row)) → ◌≡◌ {A = List (Option Row)} (o ∷ os) (Some x ∷ xs) → os ≡ xs
     others o os x xs e = cc
 
-pub table_good : (records : List Record) (table : List Row) → AreRows records table → AreGoodRows table
-table_good records table h = rows_good h.rest table h.rows
+-- the rows of a table that was read
+pub table_read : (records : List Record) (table : List Row) → AreRows records table → AreRead table
+table_read records table h = rows_read h.rest table h.rows

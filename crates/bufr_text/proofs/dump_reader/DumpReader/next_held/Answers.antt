@@ -1,0 +1,75 @@
+use Rattle.std.proofs.Common.{◌≡◌, ◌∙◌, ◌<◌, [], ◌∷◌, length, refl, ap, sym, subst, arith, Ok, Err, None}
+use Rattle.bufr_frame.proofs.FinderLemmas.{none-unless}
+use Rattle.bufr_text.specs.Prelude.{ParserState, ReadFault, reported_at_end, Refused, NotAllowed, ReaderModel, TakesHeldLines, has_no_feed, place_now, place_with, stopped}
+use Rattle.bufr_text.specs.declared.fault.ReadFault.TheVariants as fault
+use Rattle.bufr_text.proofs.CallLemmas.{waits-same, call-takes, went-document, went-fault, end-next}
+use Rattle.bufr_text.proofs.dump_reader.DumpReader.next_held.Goals as goal
+use Rattle.bufr_text.proofs.ReaderLemmas.{Reads, ends-none, done-between, long-reports, reads-place, reported-inside, end-inside, place-sound, state, HandlesEnd}
+
+pub returns-in-Err-clause-gives : goal.returns-in-Err-clause-gives
+returns-in-Err-clause-gives c = λ sound left mid first bs call waits.
+    went-fault left mid first c.args.self.now c.take_held.new.self bs call waits c.take_held.ensures.ended c.take_held.ensures.reads _ (rw c.in-Err.is at c.take_held.ensures.went)
+
+pub returns-in-Ok-Some-clause-gives : goal.returns-in-Ok-Some-clause-gives
+returns-in-Ok-Some-clause-gives c = λ sound left mid first bs call waits.
+    went-document left mid first c.args.self.now c.take_held.new.self bs call waits c.take_held.ensures.ended c.take_held.ensures.reads c.in-Ok-Some.document
+    (rw (c.in-Ok-Some.is, c.in-Ok-Some.field-0-is) at c.take_held.ensures.went)
+
+pub returns-in-Between-clause-gives : goal.returns-in-Between-clause-gives
+returns-in-Between-clause-gives c = λ sound left mid first bs before waited.
+    let v = c.self-2.inside in
+    let s = c.take_held.new.self in
+    let is = c.self-2.view_is in
+    let went = rw (c.in-Ok-None.is, c.in-Ok-None.field-0-is) at c.take_held.ensures.went in
+    let call = call-takes left mid first c.args.self.now s bs [] before went.0 c.take_held.ensures.ended c.take_held.ensures.reads in
+    let waits = waits-same left first c.args.self.now s bs bs waited c.take_held.ensures.reads refl in
+    let ended = sym c.ended.ensures ∙ c.if-ended.true in
+    let held = ends-none v.input.held (c.self-2.invariant.2 ended) (ap (λ x. has_no_feed x.held) is ∙ went.2) in
+    let R : ReaderModel → Type 0 = λ s. HandlesEnd s s (Ok None) in
+    let end = subst R is (refl, held, done-between (state v.progress.at (place_now v.fault v.progress) v.input.held v.input.ended v.fault v.input.reads) (place-sound v.fault v.progress (ap (λ x. x.fault) is ∙ went.1) ∙ ap (λ p. place_with p v.progress.parts) c.in-Between.is) held) in
+    end-next left mid first s s bs call waits went.1 (sym (ap (λ x. x.ended) is) ∙ ended) (Ok None) end
+
+pub returns-then-ended : goal.returns-then-ended
+returns-then-ended c =
+    let v = c.self-2.inside in
+    let s = c.take_held.new.self in
+    let is = c.self-2.view_is in
+    let went = rw (c.in-Ok-None.is, c.in-Ok-None.field-0-is) at c.take_held.ensures.went in
+    let ended = sym c.ended.ensures ∙ c.if-ended.true in
+    let held = ends-none v.input.held (c.self-2.invariant.2 ended) (ap (λ x. has_no_feed x.held) is ∙ went.2) in
+    let none = sym (ap (λ s. s.fault) c.self.view_is) ∙ none-unless c.self.inside.fault c.in_default.not-Some in
+    let R : ReaderModel → Type 0 = λ x. reported_at_end x.at x.place ≡ Refused x.at NotAllowed ∷ [] in
+    let reports = subst R is (rw (place-sound v.fault v.progress (ap (λ x. x.fault) is ∙ went.1)) (reported-inside v.progress.place v.progress.parts v.progress.at c.in_default-place.not-Between)) in
+    let end = end-inside s c.stop.new.self v.progress.at c.stop.result (sym (ap (λ x. x.ended) is) ∙ ended) (sym (ap (λ x. x.held) is) ∙ held) reports (ap (λ x. x.at) is) c.stop.ensures.new c.stop.ensures.value in
+    record {
+      gives = λ sound left mid first bs before waited.
+          let call = call-takes left mid first c.args.self.now s bs [] before went.0 c.take_held.ensures.ended c.take_held.ensures.reads in
+          let waits = waits-same left first c.args.self.now s bs bs waited c.take_held.ensures.reads refl in
+          end-next left mid first s c.stop.new.self bs call waits went.1 (sym (ap (λ x. x.ended) is) ∙ ended) (Err c.stop.result) end;
+      proper = tt;
+      reads = ap (λ x. x.reads) c.stop.ensures.new ∙ c.take_held.ensures.reads;
+      unread = λ sound is. let line = c.stop.ensures.value in cc;
+      held = c.stop.ensures.bound;
+      again = rw none tt;
+      same_self = rw none tt;
+    }
+
+pub returns-then-held-gt-MAX_LINE-clause-gives : goal.returns-then-held-gt-MAX_LINE-clause-gives
+returns-then-held-gt-MAX_LINE-clause-gives c = λ sound left mid first bs before waited.
+    let v = c.self-2.inside in
+    let s = c.take_held.new.self in
+    let is = c.self-2.view_is in
+    let went = rw (c.in-Ok-None.is, c.in-Ok-None.field-0-is) at c.take_held.ensures.went in
+    let call = call-takes left mid first c.args.self.now s bs [] before went.0 c.take_held.ensures.ended c.take_held.ensures.reads in
+    let waits = waits-same left first c.args.self.now s bs bs waited c.take_held.ensures.reads refl in
+    let place = ap (λ s. s.place) (sym is) ∙ place-sound v.fault v.progress (ap (λ x. x.fault) is ∙ went.1) in
+    let R : ParserState → Type 0 = λ p. Reads p in
+    let long : 4096 < length s.held = omega (arith, c.if-held-gt-MAX_LINE.true, ap length c.held.ensures, ap (λ s. length s.held) is) in
+    let reports = long-reports s (subst R (sym place) (reads-place v.progress.place v.progress.parts)) went.2 long in
+    let stop = c.stop-then-held-gt-MAX_LINE in
+    let F : ReadFault → Type 0 = λ f. TakesHeldLines s stop.new.self (Err f) in
+    let same = stop.ensures.new ∙ ap (λ n. stopped s (fault.Line n)) (ap (λ s. s.at) is) in
+    let line = stop.ensures.value ∙ ap (λ n. fault.Line n) (ap (λ s. s.at) is) in
+    let N : ReaderModel → Type 0 = λ n. TakesHeldLines s n (Err (fault.Line s.at)) in
+    let took = subst F (sym line) (subst N (sym same) (reports, refl)) in
+    went-fault left mid first s stop.new.self bs call waits (ap (λ x. x.ended) same) (ap (λ x. x.reads) same) stop.result took

@@ -1,0 +1,288 @@
+-- One pass over a template: at each field a step is made, up to the end or to what stops the pass;
+-- and the reading of data, which is made of passes. (WMO-No. 306, Volume I.2, FM 94: sections 3 and
+-- 4; the order of the faults at one item is a choice of this project)
+-- Cited by public contracts.
+use Rattle.std.specs.Prelude.{ℕ, zero, suc, ◌+◌, ◌-◌, Bool, true, false, List, [], ◌∷◌, length, Result, Ok, Err, Option, Some, None, option_map, map, if◌then◌else◌, ◌≡◌, ◌<◌, ◌++◌, ◌%◌, ◌⊎◌}
+use Rattle.bufr_walk.specs.Content.{Taken, FieldSpec, Content, FieldFault, FieldRead}
+use Rattle.bufr_walk.specs.Rules.{TurnRefusal}
+use Rattle.bufr_walk.specs.Course.{Course, Next, take_next, at_end, astray, refused, ticked, next_item}
+use Rattle.bufr_walk.specs.declared.fault.WalkFault.TheVariants as fault
+use Rattle.bufr_walk.specs.Reading.{DataCoding, plain, packed, would_be_many, Data, Stop, walk_stop, too_many, field_stop, WalkFault, walk_fault_of, Item, Values, apart, together, Read, course_of, Timed, calls_by, turns_by, next_after, turns_after, items_at_once, stop_at, ReadsItems}
+use Rattle.bufr_walk.specs.declared.spec.Role.TheVariants as role
+use Rattle.bufr_tables.specs.Prelude.{Row, Tree}
+
+-- ---- A pass, whatever is done with the fields.
+
+-- what a step makes of a field: its content, what it returns to the walk, and the state after it
+pub record Step (S C : Type 0) : Type 0 where
+  pub content : C
+  pub returned : Taken
+  pub state : S
+
+-- how a pass is made: the step at a field, why a refused turn stops it, and whether it may end
+pub record Passing (S C E : Type 0) : Type 0 where
+  pub step : FieldSpec → S → Result (Step S C) E
+  pub refuses : TurnRefusal → S → E
+  pub ends : S → Option E
+
+-- a pass: its items, how many turns it took, the state after them, and what stopped it, if anything
+pub record Pass (S C E : Type 0) : Type 0 where
+  pub items : List (Item C)
+  pub turns : ℕ
+  pub state : S
+  pub stop : Option E
+
+-- the last turn of a pass
+abbrev pub last_turn : {S C E : Type 0} → ℕ → S → Option E → Pass S C E
+last_turn turn state stop = record { items = []; turns = turn; state = state; stop = stop }
+
+-- an item, and the pass after it
+abbrev pub item_then : {S C E : Type 0} → FieldSpec → C → Pass S C E → Pass S C E
+item_then spec content p =
+    record {
+      items = record { spec = spec; content = content } ∷ p.items;
+      turns = p.turns;
+      state = p.state;
+      stop = p.stop;
+    }
+
+module _ {S C E : Type 0} (how : Passing S C E) where
+  -- a field: its step stops the pass, or the rest of the pass follows it
+  abbrev pub pass_field : (turn : ℕ) → FieldSpec → S → Result (Step S C) E
+      → (Step S C → Pass S C E) → Pass S C E
+  pass_field turn spec s (Err why) rest = last_turn turn s (Some why)
+  pass_field turn spec s (Ok f) rest = item_then spec f.content (rest f)
+
+  -- what comes next: a field, the end, or a refusal
+  abbrev pub pass_next : (turn : ℕ) → Next → S → (Step S C → Pass S C E) → Pass S C E
+  pass_next turn (take_next spec) s rest = pass_field turn spec s (how.step spec s) rest
+  pass_next turn at_end s rest = last_turn turn s (how.ends s)
+  pass_next turn (refused why) s rest = last_turn turn s (Some (how.refuses why s))
+  -- never, since each factor returns its count
+  pass_next turn astray s rest = last_turn turn s None
+
+  -- A pass: each item by what comes next after those before it. No pass over data reaches `most`,
+  -- which is more than they have bits.
+  abbrev pub pass : (most : ℕ) → Course → S → Pass S C E
+  pass zero course s = last_turn (course []).turns s None
+  pass (suc more) course s = pass_next (course []).turns (course []).next s
+      (λ f. pass more (λ answers. course (f.returned ∷ answers)) f.state)
+
+-- ---- A pass that reads data.
+
+-- how far data were read: the number of items before, and the bits that are left
+pub record Place : Type 0 where
+  pub items : ℕ
+  pub left : List Bool
+
+-- a place from its parts
+abbrev pub place_at : ℕ → List Bool → Place
+place_at items left = record { items = items; left = left }
+
+-- an item that was read, or the fault of its field
+abbrev pub read_field : {C : Type 0} → DataCoding C → FieldSpec → (items : ℕ)
+    → Result (FieldRead C) FieldFault → Result (Step Place C) Stop
+read_field form spec items (Err why) = Err (field_stop spec.fxy why)
+read_field form spec items (Ok f) = Ok (record {
+  content = f.content;
+  returned = form.gives spec f.content;
+  state = place_at (items + 1) f.suffix;
+})
+
+-- How data are read: at each field its item, unless there are too many values.
+-- rule: compressed-fault-order
+abbrev pub reading : {C : Type 0} → DataCoding C → (many : ℕ → Bool) → Passing Place C Stop
+reading form many = record {
+  step = λ spec p. if many p.items then Err (too_many spec.fxy)
+      else read_field form spec p.items (form.field spec p.left);
+  refuses = λ why p. walk_stop why;
+  ends = λ p. None;
+}
+
+-- one pass over bits, from the beginning of the template; each item takes a bit at least
+abbrev pub read_pass : {C : Type 0} → DataCoding C → (many : ℕ → Bool) → Course → List Bool
+    → Pass Place C Stop
+read_pass form many course bits =
+    pass (reading form many) (suc (length bits)) course (place_at 0 bits)
+
+-- ---- The reading of data: a pass for each subset, or one for all where they are compressed.
+
+-- a pass over data
+abbrev pub DataPass : Type 0 → Type 0
+DataPass C = Pass Place C Stop
+
+-- what follows a pass, unless that is stopped
+abbrev pub unless_stopped : {C : Type 0} → Option Stop → List (DataPass C) → List (DataPass C)
+unless_stopped None rest = rest
+unless_stopped (Some why) rest = []
+
+-- a pass for each of n subsets, from the beginning of the template, up to one that is stopped
+-- rule: operators-end-with-subset, subsets-without-padding
+abbrev pub passes_apart : Course → (n : ℕ) → List Bool → List (DataPass Content)
+passes_apart course zero bits = []
+passes_apart course (suc n) bits =
+    let p = read_pass plain (λ items. false) course bits in
+    p ∷ unless_stopped p.stop (passes_apart course n p.state.left)
+
+-- one pass for n compressed subsets; with no subset there is none
+-- rule: no-subsets
+abbrev pub passes_together : Course → (n : ℕ) → List Bool → List (DataPass (List Content))
+passes_together course zero bits = []
+passes_together course (suc n) bits =
+    read_pass (packed (suc n)) (would_be_many (suc n)) course bits ∷ []
+
+-- what stops passes, if anything
+abbrev pub first_stop : Option Stop → Option Stop → Option Stop
+first_stop None later = later
+first_stop (Some why) later = Some why
+
+abbrev pub stop_of : {C : Type 0} → List (DataPass C) → Option Stop
+stop_of [] = None
+stop_of (p ∷ passes) = first_stop p.stop (stop_of passes)
+
+-- the bits that are left after passes over bits
+abbrev pub left_after : {C : Type 0} → List Bool → List (DataPass C) → List Bool
+left_after bits [] = bits
+left_after bits (p ∷ passes) = left_after p.state.left passes
+
+-- the turns of passes
+abbrev pub turns_in_all : {C : Type 0} → List (DataPass C) → ℕ
+turns_in_all [] = 0
+turns_in_all (p ∷ passes) = p.turns + turns_in_all passes
+
+-- the passes of a reading, one for each subset or one for all
+pub data Passes : Type 0 where
+  each : (passes : List (DataPass Content)) → Passes
+  all : (passes : List (DataPass (List Content))) → Passes
+
+-- A reading: its passes, what stopped the last, if anything, and in which subset, from 1 (0 where
+-- all are read together), the bits after its items, and its turns.
+pub record DataReading : Type 0 where
+  pub passes : Passes
+  pub stop : Option Stop
+  pub subset : ℕ
+  pub left : List Bool
+  pub turns : ℕ
+
+-- the reading that has these passes over bits
+abbrev pub reading_by : {C : Type 0} → (List (DataPass C) → Passes) → (subset : ℕ) → List Bool
+    → List (DataPass C) → DataReading
+reading_by form subset bits passes = record {
+  passes = form passes;
+  stop = stop_of passes;
+  subset = subset;
+  left = left_after bits passes;
+  turns = turns_in_all passes;
+}
+
+-- the reading of data
+abbrev pub reading_in : Course → (compressed : Bool) → (subsets : ℕ) → List Bool → DataReading
+reading_in course false n bits =
+    let passes = passes_apart course n bits in reading_by each (length passes) bits passes
+reading_in course true n bits = reading_by all 0 bits (passes_together course n bits)
+
+abbrev pub reading_of : Course → Data → DataReading
+reading_of course d = reading_in course d.compressed d.subsets d.bits
+
+-- the fault of a reading, where it was stopped
+-- rule: stream-fault-place
+abbrev pub fault_of : Data → DataReading → Option WalkFault
+fault_of d r =
+    option_map (λ why. walk_fault_of why r.subset (length d.bits - length r.left)) r.stop
+
+-- ---- What was read.
+
+-- the items of each pass
+abbrev pub items_by_pass : {C : Type 0} → List (DataPass C) → List (List (Item C))
+items_by_pass passes = map (λ p. p.items) passes
+
+-- the items of the one pass for all; none where there is no pass
+abbrev pub first_items : {C : Type 0} → List (List (Item C)) → List (Item C)
+first_items [] = []
+first_items (items ∷ more) = items
+
+-- the items of a reading
+abbrev pub values_of : Passes → Values
+values_of (each passes) = apart (items_by_pass passes)
+values_of (all passes) = together (first_items (items_by_pass passes))
+
+-- the items that were read
+abbrev pub values_read : Read → Values
+values_read r = values_of (reading_of (course_of r) r.source).passes
+
+-- the calls that show a reading, and the turns of the showing
+abbrev pub calls_of : Read → List Timed
+calls_of r = calls_by r (values_read r)
+
+abbrev pub turns_shown : Read → ℕ
+turns_shown r = turns_by r (values_read r)
+
+-- ---- The same item by item, for a reader: each is what comes next, read where the one before ended.
+
+-- what comes next ends a pass, or stops it
+abbrev pub EndsPass : {C : Type 0} → DataCoding C → (many : Bool) → Next → List Bool → Option Stop
+    → Type 0
+EndsPass form many next bits None = next ≡ at_end
+EndsPass form many next bits (Some stop) = stop_at form many next bits ≡ Some stop
+
+-- items are read from bits, with so many items before them, and then the pass ends
+pub record ReadsTo {C : Type 0} (form : DataCoding C) (many : ℕ → Bool) (course : Course)
+    (before : ℕ) (bits : List Bool) (items : List (Item C)) (left : List Bool)
+    (stop : Option Stop) : Type 0 where
+  pub reads : ReadsItems form course items bits left
+  pub few : (j : ℕ) → j < length items → many (before + j) ≡ false
+  pub ends : EndsPass form (many (before + length items)) (next_after form course items) left stop
+
+-- ---- Where memory may run out.
+
+-- memory is wanted before a reference that must be kept, and in compressed data for each 64th item
+abbrev pub WantsMemory : (compressed : Bool) → (items : ℕ) → FieldSpec → Type 0
+WantsMemory false items spec = spec.role ≡ role.Reference
+WantsMemory true items spec = (items % items_at_once ≡ 0) ⊎ (spec.role ≡ role.Reference)
+
+-- it may run out in a pass, before the field that comes next after some of its items
+pub record RunsShort {C : Type 0} (form : DataCoding C) (compressed : Bool) (course : Course)
+    (p : DataPass C) (turns : ℕ) : Type 0 where
+  pub items : List (Item C)
+  pub more : List (Item C)
+  pub are : p.items ≡ items ++ more
+  pub spec : FieldSpec
+  pub next : next_after form course items ≡ take_next spec
+  pub wants : WantsMemory compressed (length items) spec
+  pub turns_are : turns ≡ turns_after form course items
+
+-- in one of some passes
+abbrev pub OneRunsShort : {C : Type 0} → DataCoding C → (compressed : Bool) → Course
+    → List (DataPass C) → (turns : ℕ) → Type 0
+OneRunsShort form compressed course [] turns = ⊥
+OneRunsShort form compressed course (p ∷ passes) turns =
+    RunsShort form compressed course p turns
+    ⊎ ((later : ℕ) × OneRunsShort form compressed course passes later × (turns ≡ p.turns + later))
+
+-- in one of the passes of a reading
+abbrev pub MayRunShort : Course → (subsets : ℕ) → Passes → (turns : ℕ) → Type 0
+MayRunShort course n (each passes) turns = OneRunsShort plain false course passes turns
+MayRunShort course n (all passes) turns = OneRunsShort (packed n) true course passes turns
+
+-- ---- What a call that reads answers.
+
+-- How many bits the items take, or the fault of what stopped the reading; each with the steps of
+-- its turns. Or memory ran out where it is wanted.
+-- rule: bits-left-over
+abbrev pub ReadsData : Course → Data → Result ℕ WalkFault → (steps : ℕ) → Type 0
+ReadsData course d (Ok used) steps =
+    let r = reading_of course d in
+    (r.stop ≡ None) × (used + length r.left ≡ length d.bits) × (steps ≡ ticked 0 r.turns)
+ReadsData course d (Err fault.Memory) steps =
+    (turns : ℕ) × MayRunShort course d.subsets (reading_of course d).passes turns
+    × (steps ≡ ticked 0 turns)
+ReadsData course d (Err why) steps =
+    let r = reading_of course d in (fault_of d r ≡ Some why) × (steps ≡ ticked 0 r.turns)
+
+-- a reading by this table, this template and these data, or a fault
+abbrev pub AnswersReading : List Row → Tree → Data → Result Read WalkFault → (steps : ℕ) → Type 0
+AnswersReading table template d (Ok r) steps =
+    (r.table ≡ table) × (r.template ≡ template) × (r.source ≡ d)
+    × ReadsData (next_item table template) d (Ok r.bits) steps
+AnswersReading table template d (Err why) steps =
+    ReadsData (next_item table template) d (Err why) steps
