@@ -19,7 +19,7 @@ HEADINGS = {
     "Tables B and D": "tables: Fxy fault Records table_b TableB TableD FaultNumber",
     "A list of descriptors, expanded": "tables: Tree Expansion",
     "Fields and operators": "walk: spec Content Rules",
-    "The data of a message, read": "walk: fault Course Reading",
+    "The data of a message, read": "walk: fault Course Reading Pass",
     "The lines of a text": "fill: Draft; text: Line",
     "The text of a listing and of a dump": "fill: RoundTrip; text: Dump",
     "A message built of a text": "text: Documents; fill: Encoding; frame: Layout; text: encode Encoding",

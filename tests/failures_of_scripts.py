@@ -149,6 +149,9 @@ def room(trial: Trial) -> None:
     """No file can grow past 4 KB, as in a full folder of temporary files."""
     octets = SYNOP.read_bytes() * 100
     whole = trial.run(input=octets)
+    done = trial.run(input=octets, environment={"TMPDIR": "/nosuch"})
+    is_same = (done.returncode, done.stdout, done.stderr) == (whole.returncode, whole.stdout, whole.stderr)
+    holds(f"{trial.name} with a TMPDIR that is not there", is_same and not done.returncode, done.stderr)
     done = trial.run(input=octets, limits={resource.RLIMIT_FSIZE: 4096})
     if done.returncode == 0:
         # It needs no such file.

@@ -15,7 +15,7 @@ import sys
 from lib import TOP, finish
 
 MOST, OF_PROOFS = 100, 200
-PROOFS_ARE_HELD = False  # true once all proofs are broken
+PROOFS_ARE_HELD = True  # true once all proofs are broken
 ONE_LINE = re.compile(r"\s*((unfoldable )?(pub )?use |ghost use |#\[|--)")
 TOKEN = re.compile(r"\s+|[()\[\]{}]|[,;]|[^\s()\[\]{},;]+")
 # What a line may begin with, the best first, and what may not be parted from what is before or after it.

@@ -173,7 +173,7 @@ def house() -> None:
 def words_of_code() -> set:
     files = (file for folder in ("src", "specs", "proofs") for file in (TOP / "crates").glob(f"*/{folder}/**/*"))
     words = {word for file in files for word in (*file.parts, file.stem, *re.findall(r"\w+", read(file)))}
-    return words | {file.stem for file in (TOP / "tests").glob("*.*")}
+    return words | {file.stem for folder in ("tests", "scripts") for file in (TOP / folder).iterdir()}
 
 
 def pages() -> None:

@@ -84,6 +84,7 @@ MISTAKES = [
     (24, b"012101 282.55 \n", "a space at its end"),
     (2, b"edition 4 # NOTE\n", "a comment, which items alone may have"),
     (24, b'001015 "\\xc4"\n', "\\x without two digits in upper case"),
+    (24, b'001015 "\\xC"\n', "\\x without two digits in upper case"),
     (24, b'001015 "B\xc3\x96BLINGEN"\n', "an octet in a text that is written \\xHH"),
     (24, b'001015 "a"b"\n', 'a " or \\ in a text without \\ before it, or no " at its end'),
     (24, b'001015 "a\n', 'a " or \\ in a text without \\ before it, or no " at its end'),
@@ -303,6 +304,11 @@ class Tables(unittest.TestCase):
         rows = bufr_text.rows(TOP / "examples/synop.bufr", ["001015", "001002", "012101", "010009"], ["offset", "year"])
         self.assertEqual(next(rows), (0, 2023, "SODANKYLA", 836, 259.35, None))
         self.assertIsInstance(next(rows)[3], int)
+        with warnings.catch_warnings():
+            warnings.simplefilter("ignore")
+            with contextlib.redirect_stderr(io.StringIO()):
+                rows = list(bufr_text.rows(TOP / "examples/bulletins.bufr", [], ["offset", "length", "subset"]))
+        self.assertEqual(rows[-3:], [(139, 50, 1), (139, 50, 2), (238, 56, 1)])
         for columns, header in [(["1015"], []), ([""], []), (["064001"], []), (["012101:0"], []), (["012101"], ["place"])]:
             with self.assertRaises(ValueError):
                 bufr_text.rows([], columns, header)
@@ -315,7 +321,10 @@ class Tables(unittest.TestCase):
         texts = [(TOP / f"examples/{name}.txt").read_bytes() for name in ("sounding", "synop", "buoys")]
         chance = random.Random(1)
         texts += [document(chance) for _ in range(60)]
-        lists = [("001015", "007004,012101,012103"), ("001001", "007004"), ("007004", "012101,007004"), ("", "020012,020011")]
+        # passes that begin and end with the same descriptor, two and three of them
+        enclosed = b"031001 %d\n" + b"008002 1\n020011 2\n008002 MISSING\n" * 3
+        texts += [with_line(24, enclosed % passes) for passes in (2, 3)]
+        lists = [("001015", "007004,012101,012103"), ("001001", "007004"), ("007004", "012101,007004"), ("", "020012,020011"), ("", "008002")]
         unclear, count = 0, 0
         for keep, columns in lists:
             words = ["awk", "-v", f"keep=year,{keep}".strip(","), "-v", f"columns={columns}", "-f"]

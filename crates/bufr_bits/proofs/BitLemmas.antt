@@ -52,7 +52,8 @@ bit_of_test n = grind arith
 halved : (n h : ℕ) → h ≡ n / 2 → n ≡ 2 * h + bit (n % 2 == 1)
 halved n h e = let t = bit_of_test n in omega (arith, t)
 
-eight_halves : (x q1 q2 q3 q4 q5 q6 q7 b0 b1 b2 b3 b4 b5 b6 b7 : ℕ) → x ≡ 2 * q1 + b0 → q1 ≡ 2 * q2 + b1 → q2 ≡ 2 * q3 + b2 → q3 ≡ 2 * q4 + b3 → q4 ≡ 2 * q5 + b4 → q5 ≡ 2 * q6 + b5 → q6 ≡ 2 * q7 + b6 → q7 ≡ 2 * 0 + b7 → 2 * (2 * (2 * (2 * (2 * (2 * (2 * (0 + b7) + b6) + b5) + b4) + b3) + b2) + b1) + b0 ≡ x
+eight_halves : (x q1 q2 q3 q4 q5 q6 q7 b0 b1 b2 b3 b4 b5 b6 b7 : ℕ) → x ≡ 2 * q1 + b0 → q1 ≡ 2 * q2 + b1 → q2 ≡ 2 * q3 + b2 → q3 ≡ 2 * q4 + b3 → q4 ≡ 2 * q5 + b4 → q5 ≡ 2 * q6 + b5 → q6 ≡ 2 * q7 + b6
+    → q7 ≡ 2 * 0 + b7 → 2 * (2 * (2 * (2 * (2 * (2 * (2 * (0 + b7) + b6) + b5) + b4) + b3) + b2) + b1) + b0 ≡ x
 eight_halves x q1 q2 q3 q4 q5 q6 q7 b0 b1 b2 b3 b4 b5 b6 b7 e0 e1 e2 e3 e4 e5 e6 e7 = omega arith
 
 -- the eight bits of an octet write the octet
@@ -80,7 +81,8 @@ number_of_middle xs n from width l h =
     let below_back : number_of back < 2 ^ k = subst (λ (m : ℕ). number_of back < 2 ^ m) length_back (number_of-below back) in
     let rest : length (drop from xs) ≡ width + k = omega (arith, length-drop from xs) in
     let after : number_of (drop from xs) ≡ number_of mid * 2 ^ k + number_of back = halves ∙ ap (λ (m : ℕ). number_of mid * 2 ^ m + number_of back) length_back in
-    let all : number_of xs ≡ number_of prefix * 2 ^ (width + k) + (number_of mid * 2 ^ k + number_of back) = thirds ∙ ap (λ (m : ℕ). number_of prefix * 2 ^ m + number_of (drop from xs)) rest ∙ ap (λ (m : ℕ). number_of prefix * 2 ^ (width + k) + m) after in
+    let all : number_of xs ≡ number_of prefix * 2 ^ (width + k) + (number_of mid * 2 ^ k + number_of back) =
+    thirds ∙ ap (λ (m : ℕ). number_of prefix * 2 ^ m + number_of (drop from xs)) rest ∙ ap (λ (m : ℕ). number_of prefix * 2 ^ (width + k) + m) after in
     sym (middle_of (number_of prefix) (number_of mid) (number_of back) (number_of xs) width k below_mid below_back all)
 
 -- the bits of octets, by octets
@@ -106,7 +108,8 @@ take-bits_of (suc i) (x ∷ xs) =
     rw (e, take-add 8 (8 * i) (bits_of (x ∷ xs))) (ap (λ (ys : List Bool). bits_of_octet x ++ ys) (take-bits_of i xs))
 
 -- some bits within one octet write a part of the octet
-pub number_of_part : (xs : List ℕ) (i from width : ℕ) → i < length xs → get_or xs i 0 < 256 → from + width ≤ 8 → number_of (bits_at xs (8 * i + from) width) ≡ get_or xs i 0 / 2 ^ (8 - from - width) % 2 ^ width
+pub number_of_part : (xs : List ℕ) (i from width : ℕ) → i < length xs → get_or xs i 0 < 256 → from + width ≤ 8
+    → number_of (bits_at xs (8 * i + from) width) ≡ get_or xs i 0 / 2 ^ (8 - from - width) % 2 ^ width
 unfolding bits_of
 number_of_part xs i from width h small fits =
     let octet = get_or xs i 0 in
@@ -115,14 +118,16 @@ number_of_part xs i from width h small fits =
     let first : drop from (bits_of (drop i xs)) ≡ drop from (bits ++ bits_of (drop (i + 1) xs)) = ap (λ (ys : List ℕ). drop from (bits_of ys)) (drop_more xs i 0 h) in
     let within : drop from (bits ++ bits_of (drop (i + 1) xs)) ≡ drop from bits ++ bits_of (drop (i + 1) xs) = drop-append-le from bits _ (omega arith) in
     let prefix : take width (drop from bits ++ bits_of (drop (i + 1) xs)) ≡ take width (drop from bits) = take-append-le width (drop from bits) _ (omega (arith, length-drop from bits)) in
-    ap (λ (ys : List Bool). number_of (take width ys)) (there ∙ first ∙ within) ∙ ap number_of prefix ∙ number_of_middle bits 8 from width refl fits ∙ ap (λ (m : ℕ). m / 2 ^ (8 - from - width) % 2 ^ width) (number-bits_of_octet octet small)
+    ap (λ (ys : List Bool). number_of (take width ys)) (there ∙ first ∙ within) ∙ ap number_of prefix ∙ number_of_middle bits 8 from width refl fits
+    ∙ ap (λ (m : ℕ). m / 2 ^ (8 - from - width) % 2 ^ width) (number-bits_of_octet octet small)
 
 -- so many bits are there, within the octets
 pub length-bits_at : (xs : List ℕ) (at width : ℕ) → at + width ≤ 8 * length xs → length (bits_at xs at width) ≡ width
 length-bits_at xs at width h = length-take-le width (drop at (bits_of xs)) (omega (arith, length-drop at (bits_of xs), length-bits_of xs))
 
 -- more bits, from where the others end
-pub number_of_more : (xs : List ℕ) (at done more : ℕ) → at + done + more ≤ 8 * length xs → number_of (bits_at xs at (done + more)) ≡ number_of (bits_at xs at done) * 2 ^ more + number_of (bits_at xs (at + done) more)
+pub number_of_more : (xs : List ℕ) (at done more : ℕ) → at + done + more ≤ 8 * length xs
+    → number_of (bits_at xs at (done + more)) ≡ number_of (bits_at xs at done) * 2 ^ more + number_of (bits_at xs (at + done) more)
 number_of_more xs at done more h = grind (arith, common_steps, take-add, drop-drop, length-bits_at, number_of-append)
 
 -- a number that bits write within the octets is below its power of two
@@ -130,7 +135,9 @@ pub bits_at-below : (xs : List ℕ) (at width : ℕ) → at + width ≤ 8 * leng
 bits_at-below xs at width h = subst (λ (m : ℕ). number_of (bits_at xs at width) < 2 ^ m) (length-bits_at xs at width h) (number_of-below (bits_at xs at width))
 
 -- bits and then some of one octet
-pub next_part : (xs : List ℕ) (at width done taken value part : ℕ) → at + width ≤ 8 * length xs → width ≤ 63 → done < width → taken ≡ min (8 - (at + done) % 8) (width - done) → value ≡ number_of (bits_at xs at done) → get_or xs ((at + done) / 8) 0 < 256 → part ≡ get_or xs ((at + done) / 8) 0 / 2 ^ (8 - (at + done) % 8 - taken) % 2 ^ taken → value * 2 ^ taken % 18446744073709551616 + part ≡ number_of (bits_at xs at (done + taken))
+pub next_part : (xs : List ℕ) (at width done taken value part : ℕ) → at + width ≤ 8 * length xs → width ≤ 63 → done < width → taken ≡ min (8 - (at + done) % 8) (width - done)
+    → value ≡ number_of (bits_at xs at done) → get_or xs ((at + done) / 8) 0 < 256 → part ≡ get_or xs ((at + done) / 8) 0 / 2 ^ (8 - (at + done) % 8 - taken) % 2 ^ taken
+    → value * 2 ^ taken % 18446744073709551616 + part ≡ number_of (bits_at xs at (done + taken))
 next_part xs at width done taken value part inside short more taken_is value_is small part_is =
     let i = (at + done) / 8 in
     let from = (at + done) % 8 in
@@ -138,7 +145,8 @@ next_part xs at width done taken value part inside short more taken_is value_is 
     let below : number_of (bits_at xs at done) < 2 ^ done = bits_at-below xs at done (omega arith) in
     let value_below : value < 2 ^ done = subst (λ (m : ℕ). m < 2 ^ done) (sym value_is) below in
     let shifted : value * 2 ^ taken % 18446744073709551616 ≡ value * 2 ^ taken = shl_whole value done taken 64 value_below (omega arith) in
-    let part_there : part ≡ number_of (bits_at xs (at + done) taken) = part_is ∙ sym (number_of_part xs i from taken (omega arith) small (omega arith)) ∙ ap (λ (p : ℕ). number_of (bits_at xs p taken)) place in
+    let part_there : part ≡ number_of (bits_at xs (at + done) taken) =
+    part_is ∙ sym (number_of_part xs i from taken (omega arith) small (omega arith)) ∙ ap (λ (p : ℕ). number_of (bits_at xs p taken)) place in
     let more_bits = number_of_more xs at done taken (omega arith) in
     ap (λ (m : ℕ). m + part) (shifted ∙ ap (λ (m : ℕ). m * 2 ^ taken) value_is) ∙ ap (λ (m : ℕ). number_of (bits_at xs at done) * 2 ^ taken + m) part_there ∙ sym more_bits
 
@@ -170,7 +178,8 @@ greatest_not n p h = grind arith
 pub are_all_ones-number : (xs : List Bool) → eqb (number_of xs) (2 ^ length xs - 1) ≡ are_all_ones xs
 are_all_ones-number [] = refl
 are_all_ones-number (true ∷ xs) =
-    ap (λ (m : ℕ). eqb m (2 ^ suc (length xs) - 1)) (number_after_bits-is 1 xs) ∙ ap (λ (m : ℕ). eqb (1 * 2 ^ length xs + number_of xs) (m - 1)) (pow-suc 2 (length xs)) ∙ greatest_ahead (number_of xs) (2 ^ length xs) (number_of-below xs) ∙ are_all_ones-number xs
+    ap (λ (m : ℕ). eqb m (2 ^ suc (length xs) - 1)) (number_after_bits-is 1 xs) ∙ ap (λ (m : ℕ). eqb (1 * 2 ^ length xs + number_of xs) (m - 1)) (pow-suc 2 (length xs))
+    ∙ greatest_ahead (number_of xs) (2 ^ length xs) (number_of-below xs) ∙ are_all_ones-number xs
 are_all_ones-number (false ∷ xs) = grind (arith, common_steps, eqb, number_after_bits-is, pow-suc, greatest_not, number_of-below)
 
 -- octets are all ones where each is 255
@@ -180,7 +189,8 @@ are_all_ones-bits_of [] h = refl
 are_all_ones-bits_of (x ∷ xs) h =
     let here : eqb x 255 ≡ are_all_ones (bits_of_octet x) = ap (λ (m : ℕ). eqb m 255) (sym (number-bits_of_octet x (h 0))) ∙ are_all_ones-number (bits_of_octet x) in
     let rest : list_all (λ octet. octet == 255) xs ≡ are_all_ones (bits_of xs) = are_all_ones-bits_of xs (λ k. h (suc k)) in
-    ap (λ (b : Bool). b && list_all (λ octet. octet == 255) xs) here ∙ ap (λ (b : Bool). are_all_ones (bits_of_octet x) && b) rest ∙ sym (list_all-append (λ (b : Bool). b) (bits_of_octet x) (bits_of xs))
+    ap (λ (b : Bool). b && list_all (λ octet. octet == 255) xs) here ∙ ap (λ (b : Bool). are_all_ones (bits_of_octet x) && b) rest
+    ∙ sym (list_all-append (λ (b : Bool). b) (bits_of_octet x) (bits_of xs))
 
 -- all of some bits, in parts
 pub are_all_ones-more : (xs : List ℕ) (at leading rest : ℕ) → are_all_ones (bits_at xs at (leading + rest)) ≡ (are_all_ones (bits_at xs at leading) && are_all_ones (bits_at xs (at + leading) rest))
@@ -191,11 +201,13 @@ pub ones_in_number : (xs : List ℕ) (at width n most : ℕ) → at + width ≤ 
 ones_in_number xs at width n most h e m = grind (arith, common_steps, eqb, length-bits_at, are_all_ones-number)
 
 -- the first bits decide, or the others
-pub ones_by_first : (xs : List ℕ) (at first width n : ℕ) → first ≡ min width 56 → at + width ≤ 8 * length xs → n ≡ number_of (bits_at xs at first) → are_all_ones (bits_at xs at width) ≡ (eqb n (1 * 2 ^ first % 18446744073709551616 - 1) && are_all_ones (bits_at xs (at + first) (width - first)))
+pub ones_by_first : (xs : List ℕ) (at first width n : ℕ) → first ≡ min width 56 → at + width ≤ 8 * length xs → n ≡ number_of (bits_at xs at first)
+    → are_all_ones (bits_at xs at width) ≡ (eqb n (1 * 2 ^ first % 18446744073709551616 - 1) && are_all_ones (bits_at xs (at + first) (width - first)))
 ones_by_first xs at first width n few inside e =
     let parts : width ≡ first + (width - first) = omega arith in
     let most : 1 * 2 ^ first % 18446744073709551616 - 1 ≡ 2 ^ first - 1 = omega (arith, shl_whole 1 1 first 64 (omega arith) (omega arith)) in
-    ap (λ (k : ℕ). are_all_ones (bits_at xs at k)) parts ∙ are_all_ones-more xs at first (width - first) ∙ ap (λ (b : Bool). b && are_all_ones (bits_at xs (at + first) (width - first))) (sym (ones_in_number xs at first n _ (omega arith) e most))
+    ap (λ (k : ℕ). are_all_ones (bits_at xs at k)) parts ∙ are_all_ones-more xs at first (width - first)
+    ∙ ap (λ (b : Bool). b && are_all_ones (bits_at xs (at + first) (width - first))) (sym (ones_in_number xs at first n _ (omega arith) e most))
 
 pub and_false : (a : Bool) → (a && false) ≡ false
 and_false true = refl
@@ -293,9 +305,11 @@ unfolding bits_in
 number_of-bits_in v zero = omega arith
 number_of-bits_in v (suc w) =
     let first = v / 2 ^ w % 2 in
-    let after : number_of (bits_in v (suc w)) ≡ bit (first == 1) * 2 ^ length (bits_in v w) + number_of (bits_in v w) = number_after_bits-is (0 + bit (first == 1)) (bits_in v w) ∙ ap (λ (m : ℕ). m * 2 ^ length (bits_in v w) + number_of (bits_in v w)) (omega arith) in
+    let after : number_of (bits_in v (suc w)) ≡ bit (first == 1) * 2 ^ length (bits_in v w) + number_of (bits_in v w) =
+    number_after_bits-is (0 + bit (first == 1)) (bits_in v w) ∙ ap (λ (m : ℕ). m * 2 ^ length (bits_in v w) + number_of (bits_in v w)) (omega arith) in
     let one : suc w ≡ 1 + w = omega arith in
-    after ∙ ap (λ (m : ℕ). m * 2 ^ length (bits_in v w) + number_of (bits_in v w)) (bit_of_test (v / 2 ^ w)) ∙ ap (λ (m : ℕ). first * 2 ^ m + number_of (bits_in v w)) (length-bits_in v w) ∙ ap (λ (m : ℕ). first * 2 ^ w + m) (number_of-bits_in v w) ∙ sym (mod-pow-add v 1 w) ∙ ap (λ (m : ℕ). v % 2 ^ m) (sym one)
+    after ∙ ap (λ (m : ℕ). m * 2 ^ length (bits_in v w) + number_of (bits_in v w)) (bit_of_test (v / 2 ^ w)) ∙ ap (λ (m : ℕ). first * 2 ^ m + number_of (bits_in v w)) (length-bits_in v w)
+    ∙ ap (λ (m : ℕ). first * 2 ^ w + m) (number_of-bits_in v w) ∙ sym (mod-pow-add v 1 w) ∙ ap (λ (m : ℕ). v % 2 ^ m) (sym one)
 
 -- bits among others are found at their place
 pub found_between : (before after : List Bool) (octets : List ℕ) (v w : ℕ) → v < 2 ^ w → bits_of octets ≡ before ++ bits_in v w ++ after → number_of (bits_at octets (length before) w) ≡ v
@@ -315,14 +329,16 @@ module _ (before after : List Bool) (among xs : List ℕ) (e : bits_of among ≡
   unfolding bits_of
   octet_between k h small =
       let past : drop (length before + 8 * k) (bits_of among) ≡ drop (8 * k) (bits_of xs ++ after) = sym (drop-drop (8 * k) (length before) (bits_of among)) ∙ ap (drop (8 * k)) there in
-      let inside : drop (8 * k) (bits_of xs ++ after) ≡ bits_of (drop k xs) ++ after = drop-append-le (8 * k) (bits_of xs) after (omega (arith, length-bits_of xs)) ∙ ap (λ (ys : List Bool). ys ++ after) (drop-bits_of k xs) in
+      let inside : drop (8 * k) (bits_of xs ++ after) ≡ bits_of (drop k xs) ++ after =
+      drop-append-le (8 * k) (bits_of xs) after (omega (arith, length-bits_of xs)) ∙ ap (λ (ys : List Bool). ys ++ after) (drop-bits_of k xs) in
       let first : bits_of (drop k xs) ≡ bits_of_octet (get_or xs k 0) ++ bits_of (drop (k + 1) xs) = ap bits_of (drop_more xs k 0 h) in
       ap (λ (ys : List Bool). number_of (take 8 ys)) (past ∙ inside ∙ ap (λ (ys : List Bool). ys ++ after) first) ∙ number-bits_of_octet (get_or xs k 0) small
 
 -- ---- The bits of a writer after each of its calls.
 
 pub length-written : (xs : List ℕ) (last count : ℕ) → length (bits_of xs ++ bits_in last count) ≡ 8 * length xs + count
-length-written xs last count = length-append (bits_of xs) (bits_in last count) ∙ ap (λ (m : ℕ). m + length (bits_in last count)) (length-bits_of xs) ∙ ap (λ (m : ℕ). 8 * length xs + m) (length-bits_in last count)
+length-written xs last count = length-append (bits_of xs) (bits_in last count) ∙ ap (λ (m : ℕ). m + length (bits_in last count)) (length-bits_of xs)
+    ∙ ap (λ (m : ℕ). 8 * length xs + m) (length-bits_in last count)
 
 pub nothing_written : (xs : List ℕ) → xs ≡ [] → bits_of xs ++ bits_in 0 0 ≡ []
 unfolding bits_of bits_in
@@ -345,12 +361,18 @@ zeros_after last count pad rest =
     let free = pad + rest in
     let sum : last * 2 ^ free ≡ last * 2 ^ free + 0 = omega arith in
     let none : 0 / 2 ^ rest ≡ 0 = omega (arith, shr_le 0 rest) in
-    let zeros : bits_in 0 free ≡ replicate pad false ++ bits_in 0 rest = bits_in-split 0 pad rest ∙ ap (λ (n : ℕ). bits_in n pad ++ bits_in 0 rest) none ∙ ap (λ (bs : List Bool). bs ++ bits_in 0 rest) (bits_in-zero pad) in
-    let parts : bits_in (last * 2 ^ free) (count + free) ≡ bits_in last count ++ replicate pad false ++ bits_in 0 rest = ap (λ (n : ℕ). bits_in n (count + free)) sum ∙ sym (bits_in-join last 0 count free (pow_pos free)) ∙ ap (λ (bs : List Bool). bits_in last count ++ bs) zeros ∙ sym (append_assoc (bits_in last count) (replicate pad false) (bits_in 0 rest)) in
-    let long : length (bits_in last count ++ replicate pad false) ≡ count + pad = length-append (bits_in last count) (replicate pad false) ∙ ap (λ (m : ℕ). m + length (replicate pad false)) (length-bits_in last count) ∙ ap (λ (m : ℕ). count + m) (length-replicate pad false) in
+    let zeros : bits_in 0 free ≡ replicate pad false ++ bits_in 0 rest =
+    bits_in-split 0 pad rest ∙ ap (λ (n : ℕ). bits_in n pad ++ bits_in 0 rest) none ∙ ap (λ (bs : List Bool). bs ++ bits_in 0 rest) (bits_in-zero pad) in
+    let parts : bits_in (last * 2 ^ free) (count + free) ≡ bits_in last count ++ replicate pad false ++ bits_in 0 rest =
+    ap (λ (n : ℕ). bits_in n (count + free)) sum ∙ sym (bits_in-join last 0 count free (pow_pos free)) ∙ ap (λ (bs : List Bool). bits_in last count ++ bs) zeros
+    ∙ sym (append_assoc (bits_in last count) (replicate pad false) (bits_in 0 rest)) in
+    let long : length (bits_in last count ++ replicate pad false) ≡ count + pad =
+    length-append (bits_in last count) (replicate pad false) ∙ ap (λ (m : ℕ). m + length (replicate pad false)) (length-bits_in last count)
+    ∙ ap (λ (m : ℕ). count + m) (length-replicate pad false) in
     ap (take (count + pad)) parts ∙ take_at (bits_in last count ++ replicate pad false) (bits_in 0 rest) (count + pad) long
 
-pub last_octets : (xs ys bytes : List ℕ) (last count : ℕ) → 0 < count → count < 64 → last < 2 ^ count → bytes ≡ bytes_high_first 8 (last * 2 ^ (64 - count) % 18446744073709551616) → ys ≡ xs ++ take ((count + 7) / 8) bytes → bits_of ys ≡ bits_of xs ++ (bits_in last count ++ padding count)
+pub last_octets : (xs ys bytes : List ℕ) (last count : ℕ) → 0 < count → count < 64 → last < 2 ^ count → bytes ≡ bytes_high_first 8 (last * 2 ^ (64 - count) % 18446744073709551616)
+    → ys ≡ xs ++ take ((count + 7) / 8) bytes → bits_of ys ≡ bits_of xs ++ (bits_in last count ++ padding count)
 last_octets xs ys bytes last count some few low b e =
     let whole = (count + 7) / 8 in
     let pad = (8 - count % 8) % 8 in
@@ -360,19 +382,23 @@ last_octets xs ys bytes last count some few low b e =
     let filled : 8 * whole ≡ count + pad = omega arith in
     let all : 64 ≡ count + (pad + rest) = omega arith in
     let same : number ≡ last * 2 ^ (pad + rest) = shl_whole last count (64 - count) 64 low (omega arith) ∙ ap (λ (k : ℕ). last * 2 ^ k) parts in
-    let bits : bits_of bytes ≡ bits_in (last * 2 ^ (pad + rest)) (count + (pad + rest)) = ap bits_of b ∙ bits_of-bytes 8 number ∙ ap (λ (n : ℕ). bits_in n 64) same ∙ ap (bits_in (last * 2 ^ (pad + rest))) all in
-    let first : bits_of (take whole bytes) ≡ bits_in last count ++ padding count = sym (take-bits_of whole bytes) ∙ ap (λ (k : ℕ). take k (bits_of bytes)) filled ∙ ap (take (count + pad)) bits ∙ zeros_after last count pad rest in
+    let bits : bits_of bytes ≡ bits_in (last * 2 ^ (pad + rest)) (count + (pad + rest)) =
+    ap bits_of b ∙ bits_of-bytes 8 number ∙ ap (λ (n : ℕ). bits_in n 64) same ∙ ap (bits_in (last * 2 ^ (pad + rest))) all in
+    let first : bits_of (take whole bytes) ≡ bits_in last count ++ padding count =
+    sym (take-bits_of whole bytes) ∙ ap (λ (k : ℕ). take k (bits_of bytes)) filled ∙ ap (take (count + pad)) bits ∙ zeros_after last count pad rest in
     ap bits_of e ∙ bits_of-append xs (take whole bytes) ∙ ap (λ (bs : List Bool). bits_of xs ++ bs) first
 
 -- where there are no last bits there is nothing to write
 pub no_octets : (xs : List ℕ) (last count : ℕ) → count ≤ 0 → bits_of xs ≡ bits_of xs ++ (bits_in last count ++ padding count)
 no_octets xs last count none = grind (arith, common_steps, bits_in-none, append-nil)
 
-pub padded : (xs ys : List ℕ) (last count : ℕ) (bits : List Bool) → bits_of ys ≡ bits_of xs ++ (bits_in last count ++ padding count) → bits_of xs ++ bits_in last count ≡ bits → bits_of ys ≡ bits ++ padding (length bits)
+pub padded : (xs ys : List ℕ) (last count : ℕ) (bits : List Bool) → bits_of ys ≡ bits_of xs ++ (bits_in last count ++ padding count) → bits_of xs ++ bits_in last count ≡ bits
+    → bits_of ys ≡ bits ++ padding (length bits)
 padded xs ys last count bits e v = grind (arith, common_steps, length-written, append_assoc)
 
 -- octets after whole octets
-pub appended_whole : (xs ys zs octets : List ℕ) (last count : ℕ) (bits : List Bool) → count % 8 ≡ 0 → bits_of xs ++ bits_in last count ≡ bits → bits_of ys ≡ bits_of xs ++ (bits_in last count ++ padding count) → zs ≡ ys ++ octets → bits_of zs ++ bits_in 0 0 ≡ bits ++ bits_of octets
+pub appended_whole : (xs ys zs octets : List ℕ) (last count : ℕ) (bits : List Bool) → count % 8 ≡ 0 → bits_of xs ++ bits_in last count ≡ bits
+    → bits_of ys ≡ bits_of xs ++ (bits_in last count ++ padding count) → zs ≡ ys ++ octets → bits_of zs ++ bits_in 0 0 ≡ bits ++ bits_of octets
 appended_whole xs ys zs octets last count bits whole v y z = grind (arith, common_steps, append-nil, bits_in-none, bits_of-append)
 
 -- ---- the number of the last bits and the new ones
@@ -392,9 +418,11 @@ both_fit last count value width few hl hv =
     let most : 2 ^ (count + width) ≤ 2 ^ 63 = pow_mono {i = count + width} {j = 63} (omega arith) in
     omega arith
 
-pub both_bits : (xs : List ℕ) (last count value width : ℕ) → count + width < 64 → last < 2 ^ count → value < 2 ^ width → bits_of xs ++ bits_in (last * 2 ^ width % 18446744073709551616 + value) (count + width) ≡ bits_of xs ++ bits_in last count ++ bits_in value width
+pub both_bits : (xs : List ℕ) (last count value width : ℕ) → count + width < 64 → last < 2 ^ count → value < 2 ^ width
+    → bits_of xs ++ bits_in (last * 2 ^ width % 18446744073709551616 + value) (count + width) ≡ bits_of xs ++ bits_in last count ++ bits_in value width
 both_bits xs last count value width few hl hv =
-    ap (λ (m : ℕ). bits_of xs ++ bits_in m (count + width)) (both_are last count value width few hl) ∙ ap (λ (bs : List Bool). bits_of xs ++ bs) (sym (bits_in-join last value count width hv)) ∙ sym (append_assoc (bits_of xs) (bits_in last count) (bits_in value width))
+    ap (λ (m : ℕ). bits_of xs ++ bits_in m (count + width)) (both_are last count value width few hl) ∙ ap (λ (bs : List Bool). bits_of xs ++ bs) (sym (bits_in-join last value count width hv))
+    ∙ sym (append_assoc (bits_of xs) (bits_in last count) (bits_in value width))
 
 -- many bits: the first 64, and the bits after them
 two_powers : (last width shift kept value : ℕ) → width ≡ shift + kept → last * 2 ^ width + value ≡ last * 2 ^ shift * 2 ^ kept + value
@@ -403,7 +431,8 @@ two_powers last width shift kept value e = ap (λ (k : ℕ). last * 2 ^ k + valu
 full_is : (last count value shift kept : ℕ) → count + shift ≡ 64 → last < 2 ^ count → last * 2 ^ shift % 18446744073709551616 + value / 2 ^ kept ≡ last * 2 ^ shift + value / 2 ^ kept
 full_is last count value shift kept all hl = ap (λ (m : ℕ). m + value / 2 ^ kept) (shl_whole last count shift 64 hl (omega arith))
 
-pub full_fits : (last count value width shift kept : ℕ) → count + shift ≡ 64 → width ≡ shift + kept → last < 2 ^ count → value < 2 ^ width → last * 2 ^ shift % 18446744073709551616 + value / 2 ^ kept < 2 ^ 64
+pub full_fits : (last count value width shift kept : ℕ) → count + shift ≡ 64 → width ≡ shift + kept → last < 2 ^ count → value < 2 ^ width
+    → last * 2 ^ shift % 18446744073709551616 + value / 2 ^ kept < 2 ^ 64
 full_fits last count value width shift kept all parts hl hv =
     let high : value / 2 ^ kept < 2 ^ shift = shr_below value shift kept (subst (λ (k : ℕ). value < 2 ^ k) parts hv) in
     let below : last * 2 ^ shift + value / 2 ^ kept < 2 ^ 64 = subst (λ (k : ℕ). last * 2 ^ shift + value / 2 ^ kept < 2 ^ k) all (small_sum last count (value / 2 ^ kept) shift hl high) in
@@ -422,26 +451,35 @@ power_fits k few = shl_whole 1 1 k 64 (omega arith) (omega arith) ∙ omega arit
 pub bits_in-rest : (n k : ℕ) → bits_in (n % 2 ^ k) k ≡ bits_in n k
 bits_in-rest n k = sym (ap (λ (m : ℕ). bits_in m k) (sym (shr_split n k)) ∙ bits_in-above (n / 2 ^ k) (n % 2 ^ k) k)
 
-pub written : (xs ys bytes : List ℕ) (last count value width head tail whole kept : ℕ) (bits : List Bool) → bits_of xs ++ bits_in last count ≡ bits → value < 2 ^ width → count + width ≡ 8 * whole + kept → head ≡ (last * 2 ^ width + value) / 2 ^ kept → tail ≡ (last * 2 ^ width + value) % 2 ^ kept → bytes ≡ bytes_high_first whole head → ys ≡ xs ++ bytes → bits_of ys ++ bits_in tail kept ≡ bits ++ bits_in value width
-written xs ys bytes last count value width head tail whole kept bits v hv total h t b e = grind (arith, common_steps, bits_of-bytes, bits_in-rest, bits_in-split, bits_in-join, bits_of-append, append_assoc)
+pub written : (xs ys bytes : List ℕ) (last count value width head tail whole kept : ℕ) (bits : List Bool) → bits_of xs ++ bits_in last count ≡ bits → value < 2 ^ width
+    → count + width ≡ 8 * whole + kept → head ≡ (last * 2 ^ width + value) / 2 ^ kept → tail ≡ (last * 2 ^ width + value) % 2 ^ kept → bytes ≡ bytes_high_first whole head → ys ≡ xs ++ bytes
+    → bits_of ys ++ bits_in tail kept ≡ bits ++ bits_in value width
+written xs ys bytes last count value width head tail whole kept bits v hv total h t b e =
+    grind (arith, common_steps, bits_of-bytes, bits_in-rest, bits_in-split, bits_in-join, bits_of-append, append_assoc)
 
 -- eight octets go out
-pub full_bits : (xs ys bytes : List ℕ) (last count value width shift kept : ℕ) → count + shift ≡ 64 → width ≡ shift + kept → kept < 63 → last < 2 ^ count → value < 2 ^ width → bytes ≡ bytes_high_first 8 (last * 2 ^ shift % 18446744073709551616 + value / 2 ^ kept) → ys ≡ xs ++ bytes → bits_of ys ++ bits_in (value % (1 * 2 ^ kept % 18446744073709551616)) kept ≡ bits_of xs ++ bits_in last count ++ bits_in value width
+pub full_bits : (xs ys bytes : List ℕ) (last count value width shift kept : ℕ) → count + shift ≡ 64 → width ≡ shift + kept → kept < 63 → last < 2 ^ count → value < 2 ^ width
+    → bytes ≡ bytes_high_first 8 (last * 2 ^ shift % 18446744073709551616 + value / 2 ^ kept) → ys ≡ xs ++ bytes
+    → bits_of ys ++ bits_in (value % (1 * 2 ^ kept % 18446744073709551616)) kept ≡ bits_of xs ++ bits_in last count ++ bits_in value width
 full_bits xs ys bytes last count value width shift kept all parts few hl hv b e =
     let n = last * 2 ^ width + value in
     let split : n ≡ last * 2 ^ shift * 2 ^ kept + value = two_powers last width shift kept value parts in
-    let head : last * 2 ^ shift % 18446744073709551616 + value / 2 ^ kept ≡ n / 2 ^ kept = full_is last count value shift kept all hl ∙ sym (ap (λ (m : ℕ). m / 2 ^ kept) split ∙ quotient-above (last * 2 ^ shift) value kept) in
-    let tail : value % (1 * 2 ^ kept % 18446744073709551616) ≡ n % 2 ^ kept = ap (λ (m : ℕ). value % m) (power_fits kept (omega arith)) ∙ sym (ap (λ (m : ℕ). m % 2 ^ kept) split ∙ rest_above (last * 2 ^ shift) value kept) in
+    let head : last * 2 ^ shift % 18446744073709551616 + value / 2 ^ kept ≡ n / 2 ^ kept =
+    full_is last count value shift kept all hl ∙ sym (ap (λ (m : ℕ). m / 2 ^ kept) split ∙ quotient-above (last * 2 ^ shift) value kept) in
+    let tail : value % (1 * 2 ^ kept % 18446744073709551616) ≡ n % 2 ^ kept =
+    ap (λ (m : ℕ). value % m) (power_fits kept (omega arith)) ∙ sym (ap (λ (m : ℕ). m % 2 ^ kept) split ∙ rest_above (last * 2 ^ shift) value kept) in
     written xs ys bytes last count value width _ _ 8 kept (bits_of xs ++ bits_in last count) refl hv (omega arith) head tail b e
 
 -- ---- octets after bits, one after another
-pub octet_after : (octets : List ℕ) (before bits more : List Bool) (i : ℕ) → i < length octets → get_or octets i 0 < 256 → bits ≡ before ++ bits_of (take i octets) → more ≡ bits ++ bits_in (get_or octets i 0) 8 → more ≡ before ++ bits_of (take (i + 1) octets)
+pub octet_after : (octets : List ℕ) (before bits more : List Bool) (i : ℕ) → i < length octets → get_or octets i 0 < 256 → bits ≡ before ++ bits_of (take i octets)
+    → more ≡ bits ++ bits_in (get_or octets i 0) 8 → more ≡ before ++ bits_of (take (i + 1) octets)
 octet_after octets before bits more i inside small so_far e =
     let octet = get_or octets i 0 in
     let same : octet ≡ octet % 256 = omega arith in
     let one : bits_in octet 8 ≡ bits_of (octet ∷ []) = sym (ap (λ (m : ℕ). bits_of (m ∷ [])) same ∙ bits_of-one octet) in
     let whole : bits_of (take (i + 1) octets) ≡ bits_of (take i octets) ++ bits_of (octet ∷ []) = ap bits_of (take_more octets i 0 inside) ∙ bits_of-append (take i octets) (octet ∷ []) in
-    e ∙ ap (λ (bs : List Bool). bits ++ bs) one ∙ ap (λ (bs : List Bool). bs ++ bits_of (octet ∷ [])) so_far ∙ append_assoc before (bits_of (take i octets)) (bits_of (octet ∷ [])) ∙ ap (λ (bs : List Bool). before ++ bs) (sym whole)
+    e ∙ ap (λ (bs : List Bool). bits ++ bs) one ∙ ap (λ (bs : List Bool). bs ++ bits_of (octet ∷ [])) so_far ∙ append_assoc before (bits_of (take i octets)) (bits_of (octet ∷ []))
+    ∙ ap (λ (bs : List Bool). before ++ bs) (sym whole)
 
 pub no_octet_after : (before : List Bool) → before ≡ before ++ bits_of []
 unfolding bits_of
@@ -490,7 +528,8 @@ window_from xs first n w =
 bits_in_window : (xs : List ℕ) (first from n : ℕ) → IsWindow n first xs → drop (8 * first + from) (bits_of xs) ≡ drop from (bits_in n 64 ++ bits_of (drop 8 (drop first xs)))
 bits_in_window xs first from n h =
     let ys = drop first xs in
-    let parts : bits_of ys ≡ bits_in n 64 ++ bits_of (drop 8 ys) = ap bits_of (sym (take-append-drop 8 ys)) ∙ bits_of-append (take 8 ys) (drop 8 ys) ∙ ap (λ (bs : List Bool). bs ++ bits_of (drop 8 ys)) h.bits in
+    let parts : bits_of ys ≡ bits_in n 64 ++ bits_of (drop 8 ys) =
+    ap bits_of (sym (take-append-drop 8 ys)) ∙ bits_of-append (take 8 ys) (drop 8 ys) ∙ ap (λ (bs : List Bool). bs ++ bits_of (drop 8 ys)) h.bits in
     sym (drop-drop from (8 * first) (bits_of xs)) ∙ ap (drop from) (drop-bits_of first xs ∙ parts)
 
 -- the number of bits within a window
@@ -502,12 +541,15 @@ number_of_window xs first from width n h fits =
     let dropped : drop from (word ++ rest) ≡ drop from word ++ rest = drop-append-le from word rest (omega arith) in
     let taken : take width (drop from word ++ rest) ≡ take width (drop from word) = take-append-le width (drop from word) rest (omega (arith, length-drop from word)) in
     let value : number_of word ≡ n = number_of-bits_in n 64 ∙ mod-eq_of_lt h.small in
-    ap (λ (bs : List Bool). number_of (take width bs)) (bits_in_window xs first from n h ∙ dropped) ∙ ap number_of taken ∙ number_of_middle word 64 from width long fits ∙ ap (λ (m : ℕ). m / 2 ^ (64 - from - width) % 2 ^ width) value
+    ap (λ (bs : List Bool). number_of (take width bs)) (bits_in_window xs first from n h ∙ dropped) ∙ ap number_of taken ∙ number_of_middle word 64 from width long fits
+    ∙ ap (λ (m : ℕ). m / 2 ^ (64 - from - width) % 2 ^ width) value
 
 -- a field that lies in a window, which begins before it
-pub field_in : (xs : List ℕ) (at first from width n : ℕ) → IsWindow n first xs → 8 * first + from ≡ at → from + width ≤ 64 → width ≤ 63 → n / 2 ^ (64 - from - width) % (1 * 2 ^ width % 18446744073709551616) ≡ number_of (bits_at xs at width)
+pub field_in : (xs : List ℕ) (at first from width n : ℕ) → IsWindow n first xs → 8 * first + from ≡ at → from + width ≤ 64 → width ≤ 63
+    → n / 2 ^ (64 - from - width) % (1 * 2 ^ width % 18446744073709551616) ≡ number_of (bits_at xs at width)
 field_in xs at first from width n h place fits few = grind (arith, common_steps, shl_whole, number_of_window)
 
 -- a field that lies in the window of its first octet
-pub field_within : (xs : List ℕ) (at width n : ℕ) → IsWindow n (at / 8) xs → at % 8 + width ≤ 64 → width ≤ 63 → n / 2 ^ (64 - at % 8 - width) % (1 * 2 ^ width % 18446744073709551616) ≡ number_of (bits_at xs at width)
+pub field_within : (xs : List ℕ) (at width n : ℕ) → IsWindow n (at / 8) xs → at % 8 + width ≤ 64 → width ≤ 63
+    → n / 2 ^ (64 - at % 8 - width) % (1 * 2 ^ width % 18446744073709551616) ≡ number_of (bits_at xs at width)
 field_within xs at width n h fits few = field_in xs at (at / 8) (at % 8) width n h (omega arith) fits few

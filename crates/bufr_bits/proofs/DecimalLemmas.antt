@@ -27,7 +27,8 @@ pub value_after-is : (n : ℕ) (ds : List ℕ) → digits_value_after 10 n ds �
 value_after-is n [] = omega arith
 value_after-is n (d ∷ ds) =
     let q = 10 ^ suc (length ds) in
-    value_after-is (n * 10 + digit_value d) ds ∙ move_up n (digit_value d) (10 ^ length ds) q (digits_value 10 ds) (pow-suc 10 (length ds)) ∙ ap (λ (m : ℕ). n * q + m) (sym (value_after-is (0 * 10 + digit_value d) ds))
+    value_after-is (n * 10 + digit_value d) ds ∙ move_up n (digit_value d) (10 ^ length ds) q (digits_value 10 ds) (pow-suc 10 (length ds))
+    ∙ ap (λ (m : ℕ). n * q + m) (sym (value_after-is (0 * 10 + digit_value d) ds))
 
 pub value_after-append : (n : ℕ) (xs ys : List ℕ) → digits_value_after 10 n (xs ++ ys) ≡ digits_value_after 10 (digits_value_after 10 n xs) ys
 value_after-append n [] ys = refl
@@ -89,7 +90,8 @@ left_small d f k up e h =
     omega (arith, most, some, whole))
     (cases_lt f up)
 
-pub exact_up : (a c d f k up : ℕ) → k ≡ min up f → d < 10 ^ (f - k) → whole_quotient ((a * 10 ^ f + (c * 10 ^ (f - k) + d)) * 10 ^ up) (10 ^ (f + 0)) ≡ (if d == 0 then Ok ((a * 10 ^ k + c) * 10 ^ (up - k)) else Err Inexact)
+pub exact_up : (a c d f k up : ℕ) → k ≡ min up f → d < 10 ^ (f - k)
+    → whole_quotient ((a * 10 ^ f + (c * 10 ^ (f - k) + d)) * 10 ^ up) (10 ^ (f + 0)) ≡ (if d == 0 then Ok ((a * 10 ^ k + c) * 10 ^ (up - k)) else Err Inexact)
 exact_up a c d f k up e h =
     let p = 10 ^ (f - k) in
     let q = 10 ^ k in
@@ -99,7 +101,8 @@ exact_up a c d f k up e h =
     let ten_up : 10 ^ up ≡ u * q = ten_split up (up - k) k (omega arith) in
     let small : d * (u * q) < p * q = subst (λ (m : ℕ). d * m < p * q) ten_up (subst (λ (m : ℕ). d * 10 ^ up < m) ten_f (left_small d f k up e h)) in
     let product : (a * 10 ^ f + (c * p + d)) * 10 ^ up ≡ (a * q + c) * u * (p * q) + d * (u * q) = rw (ten_f, ten_up) (up_product a c d p q u) in
-    ap (λ (m : ℕ). whole_quotient m (10 ^ (f + 0))) product ∙ ap (whole_quotient ((a * q + c) * u * (p * q) + d * (u * q))) ten_f0 ∙ quotient_is _ (p * q) ((a * q + c) * u) (d * (u * q)) refl small ∙ ap (λ (b : Bool). if b then Ok ((a * q + c) * u) else Err Inexact) (product_zero d (u * q) (subst (λ (m : ℕ). 0 < m) ten_up (ten_pos up)))
+    ap (λ (m : ℕ). whole_quotient m (10 ^ (f + 0))) product ∙ ap (whole_quotient ((a * q + c) * u * (p * q) + d * (u * q))) ten_f0 ∙ quotient_is _ (p * q) ((a * q + c) * u) (d * (u * q)) refl small
+    ∙ ap (λ (b : Bool). if b then Ok ((a * q + c) * u) else Err Inexact) (product_zero d (u * q) (subst (λ (m : ℕ). 0 < m) ten_up (ten_pos up)))
 
 down_whole : (a b d w m f : ℕ) → (0 < m → a ≡ 0) → ((a * 10 ^ w + b) * 10 ^ f + d) * 1 ≡ a * 10 ^ (f + (w + m)) + (b * 10 ^ f + d)
 down_whole a b d w zero f h =
@@ -107,7 +110,8 @@ down_whole a b d w zero f h =
     rw split (omega arith)
 down_whole a b d w (suc m) f h = let none : a ≡ 0 = h (omega arith) in rw none (omega arith)
 
-pub exact_down : (a b d w m f : ℕ) → b < 10 ^ w → d < 10 ^ f → (0 < m → a ≡ 0) → whole_quotient (((a * 10 ^ w + b) * 10 ^ f + d) * 1) (10 ^ (f + (w + m))) ≡ (if (b == 0) && (d == 0) then Ok a else Err Inexact)
+pub exact_down : (a b d w m f : ℕ) → b < 10 ^ w → d < 10 ^ f → (0 < m → a ≡ 0)
+    → whole_quotient (((a * 10 ^ w + b) * 10 ^ f + d) * 1) (10 ^ (f + (w + m))) ≡ (if (b == 0) && (d == 0) then Ok a else Err Inexact)
 exact_down a b d w m f hb hd ha =
     let rest = b * 10 ^ f + d in
     let product : ((a * 10 ^ w + b) * 10 ^ f + d) * 1 ≡ a * 10 ^ (f + (w + m)) + rest = down_whole a b d w m f ha in
@@ -115,7 +119,8 @@ exact_down a b d w m f hb hd ha =
     let split : 10 ^ (f + w) ≡ 10 ^ w * 10 ^ f = ten_split (f + w) w f (omega arith) in
     let more : 10 ^ (f + w) ≤ 10 ^ (f + (w + m)) = pow-le-pow_right (omega arith) (omega arith) in
     let small : rest < 10 ^ (f + (w + m)) = omega (arith, most, split, more) in
-    ap (λ (n : ℕ). whole_quotient n (10 ^ (f + (w + m)))) product ∙ quotient_is _ (10 ^ (f + (w + m))) a rest refl small ∙ ap (λ (t : Bool). if t then Ok a else Err Inexact) (sum_zero b (10 ^ f) d (ten_pos f))
+    ap (λ (n : ℕ). whole_quotient n (10 ^ (f + (w + m)))) product ∙ quotient_is _ (10 ^ (f + (w + m))) a rest refl small
+    ∙ ap (λ (t : Bool). if t then Ok a else Err Inexact) (sum_zero b (10 ^ f) d (ten_pos f))
 
 -- digits that write 0 are zeros
 pub zero_value : (ds : List ℕ) → all_digits ds ≡ true → (digits_value 10 ds == 0) ≡ list_all (λ d. d == 48) ds
@@ -125,9 +130,11 @@ zero_value (d ∷ ds) h =
     let digit = digit_value_digit d parts.0 in
     let here : (0 * 10 + digit_value d == 0) ≡ (d == 48) = grind (arith, nat_tests, digit) in
     let moved = value_after-is (0 * 10 + digit_value d) ds in
-    ap (λ (m : ℕ). m == 0) moved ∙ sum_zero (0 * 10 + digit_value d) (10 ^ length ds) (digits_value 10 ds) (ten_pos (length ds)) ∙ ap (λ (b : Bool). b && (digits_value 10 ds == 0)) here ∙ ap (λ (b : Bool). (d == 48) && b) (zero_value ds parts.1)
+    ap (λ (m : ℕ). m == 0) moved ∙ sum_zero (0 * 10 + digit_value d) (10 ^ length ds) (digits_value 10 ds) (ten_pos (length ds)) ∙ ap (λ (b : Bool). b && (digits_value 10 ds == 0)) here
+    ∙ ap (λ (b : Bool). (d == 48) && b) (zero_value ds parts.1)
 
-pub value_after-more : (n : ℕ) (ds : List ℕ) (i : ℕ) → all_digits ds ≡ true → i < length ds → digits_value_after 10 n (take (i + 1) ds) ≡ digits_value_after 10 n (take i ds) * 10 + (get_or ds i 0 - 48)
+pub value_after-more : (n : ℕ) (ds : List ℕ) (i : ℕ) → all_digits ds ≡ true → i < length ds
+    → digits_value_after 10 n (take (i + 1) ds) ≡ digits_value_after 10 n (take i ds) * 10 + (get_or ds i 0 - 48)
 value_after-more n ds i h lt = grind (arith, common_steps, digit_at, own, digit_value_digit, take_more, value_after-append)
 
 pub capped_step : (a b value product sum d : ℕ) → value ≡ capped a → product ≡ min (value * 10) (2 ^ 128 - 1) → sum ≡ min (product + d) (2 ^ 128 - 1) → b ≡ a * 10 + d → sum ≡ capped b
@@ -158,7 +165,8 @@ all_digits-drop n ds h = and_second (all_digits (take n ds)) (all_digits (drop n
 
 -- digits cut in two, as numbers
 pub value_cut : (n : ℕ) (ds : List ℕ) → digits_value 10 ds ≡ digits_value 10 (take n ds) * 10 ^ (length ds - n) + digits_value 10 (drop n ds)
-value_cut n ds = ap (digits_value 10) (sym (take-append-drop n ds)) ∙ value-append (take n ds) (drop n ds) ∙ ap (λ (k : ℕ). digits_value 10 (take n ds) * 10 ^ k + digits_value 10 (drop n ds)) (length-drop n ds)
+value_cut n ds = ap (digits_value 10) (sym (take-append-drop n ds)) ∙ value-append (take n ds) (drop n ds)
+    ∙ ap (λ (k : ℕ). digits_value 10 (take n ds) * 10 ^ k + digits_value 10 (drop n ds)) (length-drop n ds)
 
 below_cut : (n : ℕ) (ds : List ℕ) → all_digits ds ≡ true → digits_value 10 (drop n ds) < 10 ^ (length ds - n)
 below_cut n ds h = subst (λ (k : ℕ). digits_value 10 (drop n ds) < 10 ^ k) (length-drop n ds) (value-below (drop n ds) (all_digits-drop n ds h))
@@ -170,9 +178,11 @@ kept_or_inexact kept cut moved left zeros =
 
 -- the same of a text and the powers of ten
 abbrev pub kept_of : (whole fraction : List ℕ) (up down : ℕ) → Result ℕ NumberFault
-kept_of whole fraction up down = kept_or_inexact (take (length whole - down) whole) (drop (length whole - down) whole) (take (min up (length fraction)) fraction) (drop (min up (length fraction)) fraction) (up - min up (length fraction))
+kept_of whole fraction up down = kept_or_inexact (take (length whole - down) whole) (drop (length whole - down) whole) (take (min up (length fraction)) fraction)
+    (drop (min up (length fraction)) fraction) (up - min up (length fraction))
 
-scaled_up : (whole fraction : List ℕ) (up : ℕ) → all_digits whole ≡ true → all_digits fraction ≡ true → whole_quotient (digits_value 10 (whole ++ fraction) * 10 ^ up) (10 ^ (length fraction + 0)) ≡ kept_of whole fraction up 0
+scaled_up : (whole fraction : List ℕ) (up : ℕ) → all_digits whole ≡ true → all_digits fraction ≡ true
+    → whole_quotient (digits_value 10 (whole ++ fraction) * 10 ^ up) (10 ^ (length fraction + 0)) ≡ kept_of whole fraction up 0
 scaled_up whole fraction up hw hf =
     let f = length fraction in
     let k = min up f in
@@ -187,9 +197,13 @@ scaled_up whole fraction up hw hf =
     let zeros : (d == 0) ≡ list_all (λ d. d == 48) left = zero_value left (all_digits-drop k fraction hf) in
     let none_cut : drop (length whole - 0) whole ≡ [] = drop_all (length whole - 0) whole (omega arith) in
     let all_kept : take (length whole - 0) whole ≡ whole = take_all (length whole - 0) whole (omega arith) in
-    ap (λ (m : ℕ). whole_quotient (m * 10 ^ up) (10 ^ (f + 0))) all ∙ exact_up a c d f k up refl (below_cut k fraction hf) ∙ ap (λ (t : Bool). if t then Ok ((a * 10 ^ k + c) * 10 ^ (up - k)) else Err Inexact) zeros ∙ ap (λ (v : ℕ). if list_all (λ d. d == 48) left then Ok (v * 10 ^ (up - k)) else Err Inexact) after ∙ ap (λ (ds : List ℕ). kept_or_inexact ds [] moved left (up - k)) (sym all_kept) ∙ ap (λ (ds : List ℕ). kept_or_inexact (take (length whole - 0) whole) ds moved left (up - k)) (sym none_cut)
+    ap (λ (m : ℕ). whole_quotient (m * 10 ^ up) (10 ^ (f + 0))) all ∙ exact_up a c d f k up refl (below_cut k fraction hf)
+    ∙ ap (λ (t : Bool). if t then Ok ((a * 10 ^ k + c) * 10 ^ (up - k)) else Err Inexact) zeros
+    ∙ ap (λ (v : ℕ). if list_all (λ d. d == 48) left then Ok (v * 10 ^ (up - k)) else Err Inexact) after ∙ ap (λ (ds : List ℕ). kept_or_inexact ds [] moved left (up - k)) (sym all_kept)
+    ∙ ap (λ (ds : List ℕ). kept_or_inexact (take (length whole - 0) whole) ds moved left (up - k)) (sym none_cut)
 
-scaled_down : (whole fraction : List ℕ) (down : ℕ) → all_digits whole ≡ true → all_digits fraction ≡ true → whole_quotient (digits_value 10 (whole ++ fraction) * 10 ^ 0) (10 ^ (length fraction + down)) ≡ kept_of whole fraction 0 down
+scaled_down : (whole fraction : List ℕ) (down : ℕ) → all_digits whole ≡ true → all_digits fraction ≡ true
+    → whole_quotient (digits_value 10 (whole ++ fraction) * 10 ^ 0) (10 ^ (length fraction + down)) ≡ kept_of whole fraction 0 down
 scaled_down whole fraction down hw hf =
     let f = length fraction in
     let n = length whole - down in
@@ -207,11 +221,17 @@ scaled_down whole fraction down hw hf =
     let value : a ≡ a * 1 = omega arith in
     let no_zeros : 0 - min 0 f ≡ 0 = omega arith in
     let none_moved : min 0 f ≡ 0 = omega arith in
-    ap (λ (m : ℕ). whole_quotient (m * 1) (10 ^ (f + down))) all ∙ ap (λ (m : ℕ). whole_quotient (((a * 10 ^ w + b) * 10 ^ f + d) * 1) (10 ^ m)) split ∙ exact_down a b d w (down - w) f (below_cut n whole hw) (value-below fraction hf) none_kept ∙ ap (λ (t : Bool). if t && (d == 0) then Ok a else Err Inexact) zeros_cut ∙ ap (λ (t : Bool). if list_all (λ d. d == 48) cut && t then Ok a else Err Inexact) zeros_left ∙ ap (λ (v : ℕ). if list_all (λ d. d == 48) cut && list_all (λ d. d == 48) fraction then Ok v else Err Inexact) value ∙ ap (λ (m : ℕ). kept_or_inexact kept cut (take m fraction) (drop m fraction) (0 - m)) (sym none_moved)
+    ap (λ (m : ℕ). whole_quotient (m * 1) (10 ^ (f + down))) all ∙ ap (λ (m : ℕ). whole_quotient (((a * 10 ^ w + b) * 10 ^ f + d) * 1) (10 ^ m)) split
+    ∙ exact_down a b d w (down - w) f (below_cut n whole hw) (value-below fraction hf) none_kept ∙ ap (λ (t : Bool). if t && (d == 0) then Ok a else Err Inexact) zeros_cut
+    ∙ ap (λ (t : Bool). if list_all (λ d. d == 48) cut && t then Ok a else Err Inexact) zeros_left
+    ∙ ap (λ (v : ℕ). if list_all (λ d. d == 48) cut && list_all (λ d. d == 48) fraction then Ok v else Err Inexact) value
+    ∙ ap (λ (m : ℕ). kept_or_inexact kept cut (take m fraction) (drop m fraction) (0 - m)) (sym none_moved)
 
-pub scaled_by_parts : (whole fraction : List ℕ) (up down : ℕ) → all_digits whole ≡ true → all_digits fraction ≡ true → (0 < down → up ≡ 0) → whole_quotient (digits_value 10 (whole ++ fraction) * 10 ^ up) (10 ^ (length fraction + down)) ≡ kept_of whole fraction up down
+pub scaled_by_parts : (whole fraction : List ℕ) (up down : ℕ) → all_digits whole ≡ true → all_digits fraction ≡ true → (0 < down → up ≡ 0)
+    → whole_quotient (digits_value 10 (whole ++ fraction) * 10 ^ up) (10 ^ (length fraction + down)) ≡ kept_of whole fraction up down
 scaled_by_parts whole fraction up zero hw hf h = scaled_up whole fraction up hw hf
-scaled_by_parts whole fraction up (suc less) hw hf h = subst (λ (m : ℕ). whole_quotient (digits_value 10 (whole ++ fraction) * 10 ^ m) (10 ^ (length fraction + suc less)) ≡ kept_of whole fraction m (suc less)) (sym (h (omega arith))) (scaled_down whole fraction (suc less) hw hf)
+scaled_by_parts whole fraction up (suc less) hw hf h = subst (λ (m : ℕ). whole_quotient (digits_value 10 (whole ++ fraction) * 10 ^ m) (10 ^ (length fraction + suc less))
+    ≡ kept_of whole fraction m (suc less)) (sym (h (omega arith))) (scaled_down whole fraction (suc less) hw hf)
 
 -- the parts of a text as the code has them
 pub record AreKept (whole fraction : List ℕ) (up down : ℕ) (kept cut moved left : List ℕ) : Type 0 where
@@ -220,23 +240,30 @@ pub record AreKept (whole fraction : List ℕ) (up down : ℕ) (kept cut moved l
   pub moved_is : moved ≡ take (min up (length fraction)) fraction
   pub left_is : left ≡ drop (min up (length fraction)) fraction
 
-pub answer_by_parts : (whole fraction : List ℕ) (up down : ℕ) (kept cut moved left : List ℕ) → all_digits whole ≡ true → all_digits fraction ≡ true → (0 < down → up ≡ 0) → AreKept whole fraction up down kept cut moved left → whole_quotient (digits_value 10 (whole ++ fraction) * 10 ^ up) (10 ^ (length fraction + down)) ≡ kept_or_inexact kept cut moved left (up - min up (length fraction))
+pub answer_by_parts : (whole fraction : List ℕ) (up down : ℕ) (kept cut moved left : List ℕ) → all_digits whole ≡ true → all_digits fraction ≡ true → (0 < down → up ≡ 0)
+    → AreKept whole fraction up down kept cut moved left → whole_quotient (digits_value 10 (whole ++ fraction) * 10 ^ up) (10 ^ (length fraction + down))
+    ≡ kept_or_inexact kept cut moved left (up - min up (length fraction))
 answer_by_parts whole fraction up down kept cut moved left hw hf one h = grind (arith, common_steps, scaled_by_parts)
 
-pub answer_ok : (whole fraction : List ℕ) (up down : ℕ) (kept cut moved left : List ℕ) (times r : ℕ) → all_digits whole ≡ true → all_digits fraction ≡ true → (0 < down → up ≡ 0) → AreKept whole fraction up down kept cut moved left → list_all (λ d. d == 48) cut ≡ true → list_all (λ d. d == 48) left ≡ true → times ≡ up - min up (length fraction) → r ≡ capped (digits_value_after 10 (digits_value 10 kept) moved * 10 ^ times) → Ok r ≡ capped_ok (whole_quotient (digits_value 10 (whole ++ fraction) * 10 ^ up) (10 ^ (length fraction + down)))
+pub answer_ok : (whole fraction : List ℕ) (up down : ℕ) (kept cut moved left : List ℕ) (times r : ℕ) → all_digits whole ≡ true → all_digits fraction ≡ true → (0 < down → up ≡ 0)
+    → AreKept whole fraction up down kept cut moved left → list_all (λ d. d == 48) cut ≡ true → list_all (λ d. d == 48) left ≡ true → times ≡ up - min up (length fraction)
+    → r ≡ capped (digits_value_after 10 (digits_value 10 kept) moved * 10 ^ times) → Ok r ≡ capped_ok (whole_quotient (digits_value 10 (whole ++ fraction) * 10 ^ up) (10 ^ (length fraction + down)))
 answer_ok whole fraction up down kept cut moved left times r hw hf one h zero_cut zero_left t e =
     let answer = answer_by_parts whole fraction up down kept cut moved left hw hf one h in
     let value = digits_value_after 10 (digits_value 10 kept) moved in
     let found : kept_or_inexact kept cut moved left (up - min up (length fraction)) ≡ Ok (value * 10 ^ (up - min up (length fraction))) = rw (zero_cut, zero_left) refl in
     rw (answer, found, ← t, e) refl
 
-pub answer_inexact : (whole fraction : List ℕ) (up down : ℕ) (kept cut moved left : List ℕ) → all_digits whole ≡ true → all_digits fraction ≡ true → (0 < down → up ≡ 0) → AreKept whole fraction up down kept cut moved left → (list_all (λ d. d == 48) cut && list_all (λ d. d == 48) left) ≡ false → Err Inexact ≡ capped_ok (whole_quotient (digits_value 10 (whole ++ fraction) * 10 ^ up) (10 ^ (length fraction + down)))
+pub answer_inexact : (whole fraction : List ℕ) (up down : ℕ) (kept cut moved left : List ℕ) → all_digits whole ≡ true → all_digits fraction ≡ true → (0 < down → up ≡ 0)
+    → AreKept whole fraction up down kept cut moved left → (list_all (λ d. d == 48) cut && list_all (λ d. d == 48) left) ≡ false
+    → Err Inexact ≡ capped_ok (whole_quotient (digits_value 10 (whole ++ fraction) * 10 ^ up) (10 ^ (length fraction + down)))
 answer_inexact whole fraction up down kept cut moved left hw hf one h none =
     let answer = answer_by_parts whole fraction up down kept cut moved left hw hf one h in
     let found : kept_or_inexact kept cut moved left (up - min up (length fraction)) ≡ Err Inexact = rw none refl in
     rw (answer, found) refl
 
-pub are_kept : (whole fraction : List ℕ) (up down n m : ℕ) (kept cut moved left : List ℕ) → n ≡ length whole - down → m ≡ min up (length fraction) → kept ≡ take n whole → cut ≡ drop n whole → moved ≡ take m fraction → left ≡ drop m fraction → AreKept whole fraction up down kept cut moved left
+pub are_kept : (whole fraction : List ℕ) (up down n m : ℕ) (kept cut moved left : List ℕ) → n ≡ length whole - down → m ≡ min up (length fraction) → kept ≡ take n whole → cut ≡ drop n whole
+    → moved ≡ take m fraction → left ≡ drop m fraction → AreKept whole fraction up down kept cut moved left
 are_kept whole fraction up down n m kept cut moved left hn hm a b c d = record {
   kept_is = a ∙ ap (λ (k : ℕ). take k whole) hn;
   cut_is = b ∙ ap (λ (k : ℕ). drop k whole) hn;
@@ -257,7 +284,8 @@ pub read_syntax : (text body : List ℕ) (scale : ℤ) → body ≡ unsigned_par
 unfolding decimal_value_of
 read_syntax text body scale b h = grind (arith, common_steps)
 
-value_by_parts : (text body whole fraction : List ℕ) (scale : ℤ) → body ≡ unsigned_part text → IsParts body whole fraction → decimal_value_of text scale ≡ ((scaled (whole ++ fraction) (length fraction) scale) >>= (signed (starts_with_minus text)))
+value_by_parts : (text body whole fraction : List ℕ) (scale : ℤ) → body ≡ unsigned_part text → IsParts body whole fraction
+    → decimal_value_of text scale ≡ ((scaled (whole ++ fraction) (length fraction) scale) >>= (signed (starts_with_minus text)))
 unfolding decimal_value_of
 value_by_parts text body whole fraction scale b h = grind (arith, common_steps)
 
@@ -265,16 +293,22 @@ value_by_parts text body whole fraction scale b h = grind (arith, common_steps)
 abbrev quotient_of : (whole fraction : List ℕ) (up down : ℕ) → Result ℕ NumberFault
 quotient_of whole fraction up down = whole_quotient (digits_value 10 (whole ++ fraction) * 10 ^ up) (10 ^ (length fraction + down))
 
-value_by_powers : (text body whole fraction : List ℕ) (scale : ℤ) (up down : ℕ) → body ≡ unsigned_part text → IsParts body whole fraction → up ≡ positive_scale scale → down ≡ negative_scale scale → decimal_value_of text scale ≡ ((quotient_of whole fraction up down) >>= (signed (starts_with_minus text)))
+value_by_powers : (text body whole fraction : List ℕ) (scale : ℤ) (up down : ℕ) → body ≡ unsigned_part text → IsParts body whole fraction → up ≡ positive_scale scale → down ≡ negative_scale scale
+    → decimal_value_of text scale ≡ ((quotient_of whole fraction up down) >>= (signed (starts_with_minus text)))
 value_by_powers text body whole fraction scale up down b h hu hd = grind (arith, common_steps, value_by_parts)
 
-pub read_fault : (text body whole fraction : List ℕ) (scale : ℤ) (up down : ℕ) (fault : NumberFault) (r : Result ℤ NumberFault) → body ≡ unsigned_part text → IsParts body whole fraction → up ≡ positive_scale scale → down ≡ negative_scale scale → Err fault ≡ capped_ok (whole_quotient (digits_value 10 (whole ++ fraction) * 10 ^ up) (10 ^ (length fraction + down))) → r ≡ Err fault → r ≡ decimal_value_of text scale
+pub read_fault : (text body whole fraction : List ℕ) (scale : ℤ) (up down : ℕ) (fault : NumberFault) (r : Result ℤ NumberFault) → body ≡ unsigned_part text → IsParts body whole fraction
+    → up ≡ positive_scale scale → down ≡ negative_scale scale → Err fault ≡ capped_ok (whole_quotient (digits_value 10 (whole ++ fraction) * 10 ^ up) (10 ^ (length fraction + down))) → r ≡ Err fault
+    → r ≡ decimal_value_of text scale
 read_fault text body whole fraction scale up down fault r b h hu hd e result =
     let quotient = capped_err (quotient_of whole fraction up down) fault e in
     let value = value_by_powers text body whole fraction scale up down b h hu hd in
     result ∙ sym (value ∙ ap (λ (q : Result ℕ NumberFault). (q >>= (signed (starts_with_minus text)))) quotient)
 
-pub read_found : (text body whole fraction : List ℕ) (scale : ℤ) (up down n : ℕ) (negative : Bool) (r : Result ℤ NumberFault) → body ≡ unsigned_part text → IsParts body whole fraction → up ≡ positive_scale scale → down ≡ negative_scale scale → negative ≡ starts_with_minus text → Ok n ≡ capped_ok (whole_quotient (digits_value 10 (whole ++ fraction) * 10 ^ up) (10 ^ (length fraction + down))) → ((m : ℕ) → n ≡ capped m → r ≡ signed negative m) → r ≡ decimal_value_of text scale
+pub read_found : (text body whole fraction : List ℕ) (scale : ℤ) (up down n : ℕ) (negative : Bool) (r : Result ℤ NumberFault) → body ≡ unsigned_part text → IsParts body whole fraction
+    → up ≡ positive_scale scale → down ≡ negative_scale scale → negative ≡ starts_with_minus text
+    → Ok n ≡ capped_ok (whole_quotient (digits_value 10 (whole ++ fraction) * 10 ^ up) (10 ^ (length fraction + down))) → ((m : ℕ) → n ≡ capped m → r ≡ signed negative m)
+    → r ≡ decimal_value_of text scale
 read_found text body whole fraction scale up down n negative r b h hu hd hn e result =
     let found = capped_found (quotient_of whole fraction up down) n e in
     let value = value_by_powers text body whole fraction scale up down b h hu hd in
@@ -320,7 +354,8 @@ whole_with_point whole fraction h = ap (λ (k : ℕ). take k (whole ++ 46 ∷ fr
 
 pub fraction_with_point : (whole fraction : List ℕ) → all_digits whole ≡ true → fraction_part (whole ++ 46 ∷ fraction) ≡ fraction
 fraction_with_point whole fraction h =
-    ap (λ (k : ℕ). drop (k + 1) (whole ++ 46 ∷ fraction)) (point_after whole fraction h) ∙ sym (drop-drop 1 (length whole) (whole ++ 46 ∷ fraction)) ∙ ap (drop 1) (drop_at whole (46 ∷ fraction) (length whole) refl)
+    ap (λ (k : ℕ). drop (k + 1) (whole ++ 46 ∷ fraction)) (point_after whole fraction h) ∙ sym (drop-drop 1 (length whole) (whole ++ 46 ∷ fraction))
+    ∙ ap (drop 1) (drop_at whole (46 ∷ fraction) (length whole) refl)
 
 -- the parts of digits alone
 pub whole_alone : (whole : List ℕ) → all_digits whole ≡ true → whole_part whole ≡ whole
@@ -360,7 +395,8 @@ pub record IsDecimalOf (text : List ℕ) (n places : ℕ) : Type 0 where
   pub after : length (fraction_part text) ≡ places
   pub first : is_ascii_digit (get_or text 0 0) ≡ true
 
-decimal_with_point : (whole fraction : List ℕ) (n places : ℕ) → 0 < length whole → 0 < length fraction → all_digits whole ≡ true → all_digits fraction ≡ true → length fraction ≡ places → digits_value 10 (whole ++ fraction) ≡ n → IsDecimalOf (whole ++ 46 ∷ fraction) n places
+decimal_with_point : (whole fraction : List ℕ) (n places : ℕ) → 0 < length whole → 0 < length fraction → all_digits whole ≡ true → all_digits fraction ≡ true → length fraction ≡ places
+    → digits_value 10 (whole ++ fraction) ≡ n → IsDecimalOf (whole ++ 46 ∷ fraction) n places
 decimal_with_point whole fraction n places sw sf hw hf len e =
     let f = fraction_with_point whole fraction hw in
     record {
@@ -406,7 +442,8 @@ pointed_is_decimal n places h =
     let all : all_digits padded ≡ true = list_all-append is_ascii_digit (replicate count 48) d ∙ ap (λ (t : Bool). t && all_digits d) (zeros_digits count) ∙ decimal_digits n h in
     let value : digits_value 10 padded ≡ n = padded_value count d n (decimal_value n h) in
     let both : digits_value 10 (take w padded ++ drop w padded) ≡ n = ap (digits_value 10) (take-append-drop w padded) ∙ value in
-    decimal_with_point (take w padded) (drop w padded) n (suc places) (omega (arith, length-take w padded)) (omega (arith, length-drop w padded)) (all_digits-take w padded all) (all_digits-drop w padded all) (omega (arith, length-drop w padded)) both
+    decimal_with_point (take w padded) (drop w padded) n (suc places) (omega (arith, length-take w padded)) (omega (arith, length-drop w padded)) (all_digits-take w padded all)
+    (all_digits-drop w padded all) (omega (arith, length-drop w padded)) both
 
 -- the text of a number, read at the scale that it has
 pub unsigned_is_decimal : (n places : ℕ) → n < 10 ^ 64 → IsDecimalOf (unsigned_text n (pos places)) n places
@@ -420,7 +457,9 @@ zeros_are_decimal zero less h = decimal_alone (decimal 0) (0 * 10 ^ suc less) (d
 zeros_are_decimal (suc n) less h =
     let d = decimal (suc n) in
     let zeros = replicate {A = ℕ} (suc less) 48 in
-    decimal_alone (d ++ zeros) (suc n * 10 ^ suc less) (omega (arith, decimal_some (suc n) h, length-append d zeros)) (list_all-append is_ascii_digit d zeros ∙ ap (λ (t : Bool). t && all_digits zeros) (decimal_digits (suc n) h) ∙ zeros_digits (suc less)) (zeros_after_value (suc less) d (suc n) (decimal_value (suc n) h))
+    decimal_alone (d ++ zeros) (suc n * 10 ^ suc less) (omega (arith, decimal_some (suc n) h, length-append d zeros))
+    (list_all-append is_ascii_digit d zeros ∙ ap (λ (t : Bool). t && all_digits zeros) (decimal_digits (suc n) h) ∙ zeros_digits (suc less))
+    (zeros_after_value (suc less) d (suc n) (decimal_value (suc n) h))
 
 no_sign : (text : List ℕ) → is_ascii_digit (get_or text 0 0) ≡ true → starts_with_minus text ≡ false
 no_sign text h = digit_no_minus (get_or text 0 0) h
@@ -445,7 +484,8 @@ number_at_own negative n places = ap (λ (r : Result ℕ NumberFault). (r >>= (s
 number_at_zeros : (negative : Bool) (n less : ℕ) → number_at negative (n * 10 ^ suc less) 0 (negsuc less) ≡ signed negative n
 number_at_zeros negative n less =
     let whole : n * 10 ^ suc less * 1 ≡ n * 10 ^ suc less = omega arith in
-    ap (λ (m : ℕ). ((whole_quotient m (10 ^ (0 + (less + 1)))) >>= (signed negative))) whole ∙ ap (λ (r : Result ℕ NumberFault). (r >>= (signed negative))) (exact_quotient n (suc less) (0 + (less + 1)) (omega arith))
+    ap (λ (m : ℕ). ((whole_quotient m (10 ^ (0 + (less + 1)))) >>= (signed negative))) whole
+    ∙ ap (λ (r : Result ℕ NumberFault). (r >>= (signed negative))) (exact_quotient n (suc less) (0 + (less + 1)) (omega arith))
 
 fits_signed : (n : ℕ) → n < 2 ^ 127 → signed false n ≡ Ok (pos n)
 fits_signed n h = let small : nat_lt n (2 ^ 127) ≡ true = lt-ltb n (2 ^ 127) h in rw small refl
@@ -457,9 +497,12 @@ fits_minus n h = let small : nat_le (suc n) (2 ^ 127) ≡ true = le-leb (suc n) 
 pub reads_back : (v scale : ℤ) → mag v < 2 ^ 127 → decimal_value_of (decimal_text_of v scale) scale ≡ Ok v
 unfolding decimal_text_of
 reads_back (pos n) (pos places) h = read_alone (unsigned_text n (pos places)) n places (pos places) (unsigned_is_decimal n places (omega arith)) ∙ number_at_own false n places ∙ fits_signed n h
-reads_back (pos n) (negsuc less) h = read_alone (unsigned_text n (negsuc less)) (n * 10 ^ suc less) 0 (negsuc less) (zeros_are_decimal n less (omega arith)) ∙ number_at_zeros false n less ∙ fits_signed n h
-reads_back (negsuc n) (pos places) h = read_after_minus (unsigned_text (suc n) (pos places)) (suc n) places (pos places) (unsigned_is_decimal (suc n) places (omega arith)) ∙ number_at_own true (suc n) places ∙ fits_minus n h
-reads_back (negsuc n) (negsuc less) h = read_after_minus (unsigned_text (suc n) (negsuc less)) (suc n * 10 ^ suc less) 0 (negsuc less) (zeros_are_decimal (suc n) less (omega arith)) ∙ number_at_zeros true (suc n) less ∙ fits_minus n h
+reads_back (pos n) (negsuc less) h = read_alone (unsigned_text n (negsuc less)) (n * 10 ^ suc less) 0 (negsuc less) (zeros_are_decimal n less (omega arith)) ∙ number_at_zeros false n less
+    ∙ fits_signed n h
+reads_back (negsuc n) (pos places) h = read_after_minus (unsigned_text (suc n) (pos places)) (suc n) places (pos places) (unsigned_is_decimal (suc n) places (omega arith))
+    ∙ number_at_own true (suc n) places ∙ fits_minus n h
+reads_back (negsuc n) (negsuc less) h = read_after_minus (unsigned_text (suc n) (negsuc less)) (suc n * 10 ^ suc less) 0 (negsuc less) (zeros_are_decimal (suc n) less (omega arith))
+    ∙ number_at_zeros true (suc n) less ∙ fits_minus n h
 
 -- ---- Decimal text by its parts.
 
@@ -483,7 +526,8 @@ no_zeros zero power h = refl
 no_zeros (suc n) power h = absurd (omega arith)
 
 -- after a sign, with zeros
-unsigned_plain : (n : ℕ) (scale : ℤ) (places power count : ℕ) → places ≤ 0 → places ≡ positive_scale scale → power ≡ negative_scale scale → count ≡ (if n == 0 then 0 else power) → decimal n ++ replicate count 48 ≡ unsigned_text n scale
+unsigned_plain : (n : ℕ) (scale : ℤ) (places power count : ℕ) → places ≤ 0 → places ≡ positive_scale scale → power ≡ negative_scale scale → count ≡ (if n == 0 then 0 else power)
+    → decimal n ++ replicate count 48 ≡ unsigned_text n scale
 unfolding unsigned_text
 unsigned_plain zero (pos zero) places power count h u d z = rw z (append-nil (decimal 0))
 unsigned_plain (suc n) (pos zero) places power count h u d z = rw (z, not_zero n, d) (append-nil (decimal (suc n)))
@@ -491,10 +535,13 @@ unsigned_plain n (pos (suc m)) places power count h u d z = absurd (omega arith)
 unsigned_plain zero (negsuc m) places power count h u d z = rw z (append-nil (decimal 0))
 unsigned_plain (suc n) (negsuc m) places power count h u d z = grind (arith, common_steps)
 
-pub text_pointed : (old kept after new digits : List ℕ) (v scale : ℤ) (size places : ℕ) → 0 < places → places ≡ positive_scale scale → size ≡ unsigned_abs v → digits ≡ decimal size → after ≡ kept ++ sign_of v → kept ≡ old → new ≡ after ++ pointed places digits → new ≡ old ++ decimal_text_of v scale
+pub text_pointed : (old kept after new digits : List ℕ) (v scale : ℤ) (size places : ℕ) → 0 < places → places ≡ positive_scale scale → size ≡ unsigned_abs v → digits ≡ decimal size
+    → after ≡ kept ++ sign_of v → kept ≡ old → new ≡ after ++ pointed places digits → new ≡ old ++ decimal_text_of v scale
 unfolding decimal_text_of
 text_pointed old kept after new digits v scale size places h u s d a k e = grind (arith, common_steps, unsigned_pointed, append_assoc)
 
-pub text_plain : (old kept after before new digits : List ℕ) (v scale : ℤ) (size places power count : ℕ) → places ≤ 0 → places ≡ positive_scale scale → power ≡ negative_scale scale → size ≡ unsigned_abs v → digits ≡ decimal size → count ≡ (if size == 0 then 0 else power) → after ≡ kept ++ sign_of v → kept ≡ old → before ≡ after ++ digits → new ≡ before ++ replicate count 48 → new ≡ old ++ decimal_text_of v scale
+pub text_plain : (old kept after before new digits : List ℕ) (v scale : ℤ) (size places power count : ℕ) → places ≤ 0 → places ≡ positive_scale scale → power ≡ negative_scale scale
+    → size ≡ unsigned_abs v → digits ≡ decimal size → count ≡ (if size == 0 then 0 else power) → after ≡ kept ++ sign_of v → kept ≡ old → before ≡ after ++ digits → new ≡ before ++ replicate count 48
+    → new ≡ old ++ decimal_text_of v scale
 unfolding decimal_text_of
 text_plain old kept after before new digits v scale size places power count h u p s d z a k b e = grind (arith, common_steps, unsigned_plain, append_assoc)

@@ -25,7 +25,8 @@ digit_range c h = (grind (arith, nat_tests), grind (arith, nat_tests))
 pub digits_more : (ds : List ℕ) (i : ℕ) → all_digits (take i ds) ≡ true → i < length ds → is_ascii_digit (get_or ds i 0) ≡ true → all_digits (take (i + 1) ds) ≡ true
 digits_more ds i h lt d = grind (arith, common_steps)
 
-pub prefix_more : (n : ℕ) (ds : List ℕ) (i : ℕ) → i < length ds → is_ascii_digit (get_or ds i 0) ≡ true → digits_value_after 10 n (take (i + 1) ds) ≡ digits_value_after 10 n (take i ds) * 10 + (get_or ds i 0 - 48)
+pub prefix_more : (n : ℕ) (ds : List ℕ) (i : ℕ) → i < length ds → is_ascii_digit (get_or ds i 0) ≡ true
+    → digits_value_after 10 n (take (i + 1) ds) ≡ digits_value_after 10 n (take i ds) * 10 + (get_or ds i 0 - 48)
 prefix_more n ds i lt d = grind (arith, common_steps, digit_value_digit, digit_range, take_more, value_after-append)
 
 -- a number with digits after it stays below the next one with as many places
@@ -41,7 +42,8 @@ digit_fits n value i len d most below lt fits few =
     let more : 10 ^ suc i ≤ 10 ^ len = pow-le-pow_right (omega arith) (omega arith) in
     digit_fits_product n value (10 ^ i) (10 ^ len) (10 ^ suc i) d most (pow-suc 10 i) (mul-le-mul_right (n + 1) more) below fits few
 
-pub prefix_fits : (n value i d : ℕ) (ds : List ℕ) → all_digits (take i ds) ≡ true → value ≡ digits_value_after 10 n (take i ds) → i < length ds → (n + 1) * 10 ^ length ds ≤ 2 ^ 64 → d ≤ 9 → value * 10 + d < 2 ^ 64
+pub prefix_fits : (n value i d : ℕ) (ds : List ℕ) → all_digits (take i ds) ≡ true → value ≡ digits_value_after 10 n (take i ds) → i < length ds → (n + 1) * 10 ^ length ds ≤ 2 ^ 64 → d ≤ 9
+    → value * 10 + d < 2 ^ 64
 prefix_fits n value i d ds h e lt fits few =
     let prefix : length (take i ds) ≡ i = length-take-le i ds (omega arith) in
     let below : value < (n + 1) * 10 ^ i = subst (λ (k : ℕ). value < (n + 1) * 10 ^ k) prefix (subst (λ (k : ℕ). k < (n + 1) * 10 ^ length (take i ds)) (sym e) (value_after-below n (take i ds) h)) in
@@ -70,7 +72,8 @@ quotient_more n k =
     let less : m % p < p = mod_below m p (ten_pos k) in
     let parts = more_parts n (m / p) p (10 ^ suc k) (m % p) m r ten (div-add-mod' n 10) (div-add-mod' m p) in
     let small : m % p * 10 + r < 10 ^ suc k = omega (arith, ten, few, less) in
-    quotient_is n (10 ^ suc k) (m / p) (m % p * 10 + r) parts small ∙ ap (λ (b : Bool). if b then Ok (m / p) else Err Inexact) (sum_zero (m % p) 10 r (omega arith)) ∙ if_both (m % p == 0) (r == 0) (Ok (m / p)) (Err Inexact)
+    quotient_is n (10 ^ suc k) (m / p) (m % p * 10 + r) parts small ∙ ap (λ (b : Bool). if b then Ok (m / p) else Err Inexact) (sum_zero (m % p) 10 r (omega arith))
+    ∙ if_both (m % p == 0) (r == 0) (Ok (m / p)) (Err Inexact)
 
 quotient_next : (v i times : ℕ) → i < times → whole_quotient v (10 ^ (times - i)) ≡ (if v % 10 == 0 then whole_quotient (v / 10) (10 ^ (times - (i + 1))) else Err Inexact)
 quotient_next v i times lt =
@@ -108,11 +111,13 @@ scaled_by_quotient n up less lt =
     sym (quotient_is (n * u) (10 ^ less) q (r * u) parts small ∙ ap (λ (b : Bool). if b then Ok q else Err Inexact) (product_zero r u some))
 
 -- what is read after the point fits, and what ten multiplies
-pub fraction_fits : (text fraction : List ℕ) (count m : ℕ) → length text ≤ 19 → count < length text → fraction ≡ drop (count + 1) text → all_digits (take count text) ≡ true → m ≡ digits_value_after 10 0 (take count text) → (m + 1) * 10 ^ length fraction ≤ 2 ^ 64
+pub fraction_fits : (text fraction : List ℕ) (count m : ℕ) → length text ≤ 19 → count < length text → fraction ≡ drop (count + 1) text → all_digits (take count text) ≡ true
+    → m ≡ digits_value_after 10 0 (take count text) → (m + 1) * 10 ^ length fraction ≤ 2 ^ 64
 fraction_fits text fraction count m few lt f h e =
     let whole : length (take count text) ≡ count = length-take-le count text (omega arith) in
     let after : length fraction ≡ length text - (count + 1) = ap length f ∙ length-drop (count + 1) text in
-    let below : m < (0 + 1) * 10 ^ count = subst (λ (k : ℕ). m < (0 + 1) * 10 ^ k) whole (subst (λ (k : ℕ). k < (0 + 1) * 10 ^ length (take count text)) (sym e) (value_after-below 0 (take count text) h)) in
+    let below : m < (0 + 1) * 10 ^ count = subst (λ (k : ℕ). m < (0 + 1) * 10 ^ k) whole
+    (subst (λ (k : ℕ). k < (0 + 1) * 10 ^ length (take count text)) (sym e) (value_after-below 0 (take count text) h)) in
     let upto : m + 1 ≤ 10 ^ count = omega (arith, below) in
     let product = mul-le-mul_right (10 ^ length fraction) upto in
     let split : 10 ^ (count + length fraction) ≡ 10 ^ count * 10 ^ length fraction = ten_split (count + length fraction) count (length fraction) refl in
@@ -162,7 +167,8 @@ padded_back (d ∷ e ∷ more) h some small = by (padded_back (e ∷ more) (and_
     ds : List ℕ
     ds = d ∷ e ∷ more
 
-    by : (digits_value 10 (e ∷ more) < 2 ^ 64 → replicate (length (e ∷ more) - length (decimal (digits_value 10 (e ∷ more)))) 48 ++ decimal (digits_value 10 (e ∷ more)) ≡ e ∷ more) → (b : Bool) → (d == 48) ≡ b → replicate (length ds - length (decimal (digits_value 10 ds))) 48 ++ decimal (digits_value 10 ds) ≡ ds
+    by : (digits_value 10 (e ∷ more) < 2 ^ 64 → replicate (length (e ∷ more) - length (decimal (digits_value 10 (e ∷ more)))) 48 ++ decimal (digits_value 10 (e ∷ more)) ≡ e ∷ more) → (b : Bool)
+        → (d == 48) ≡ b → replicate (length ds - length (decimal (digits_value 10 ds))) 48 ++ decimal (digits_value 10 ds) ≡ ds
     by next true q =
         let is = same_first d q in
         let value = zero_first d (e ∷ more) is in
@@ -176,7 +182,8 @@ padded_back (d ∷ e ∷ more) h some small = by (padded_back (e ∷ more) (and_
         let none : length ds - length ds ≡ 0 = omega arith in
         rw same (rw none refl)
 
-padded_is : (ds : List ℕ) (k : ℕ) → all_digits ds ≡ true → 0 < k → k ≤ length ds → (get_or ds 0 0 ≡ 48 → length ds ≡ k) → digits_value 10 ds < 2 ^ 64 → replicate (k - length (decimal (digits_value 10 ds))) 48 ++ decimal (digits_value 10 ds) ≡ ds
+padded_is : (ds : List ℕ) (k : ℕ) → all_digits ds ≡ true → 0 < k → k ≤ length ds → (get_or ds 0 0 ≡ 48 → length ds ≡ k) → digits_value 10 ds < 2 ^ 64
+    → replicate (k - length (decimal (digits_value 10 ds))) 48 ++ decimal (digits_value 10 ds) ≡ ds
 padded_is ds k h some le first small = by (get_or ds 0 0 == 48) refl
   where
     n : ℕ
@@ -202,14 +209,16 @@ plain_alone ds n h some first value small =
     }
 
 -- digits with a point
-pointed_is : (ds whole fraction : List ℕ) (places : ℕ) (digits : List ℕ) → replicate (places + 1 - length digits) 48 ++ digits ≡ ds → ds ≡ whole ++ fraction → length fraction ≡ places → whole ++ 46 ∷ fraction ≡ pointed places digits
+pointed_is : (ds whole fraction : List ℕ) (places : ℕ) (digits : List ℕ) → replicate (places + 1 - length digits) 48 ++ digits ≡ ds → ds ≡ whole ++ fraction → length fraction ≡ places
+    → whole ++ 46 ∷ fraction ≡ pointed places digits
 pointed_is ds whole fraction places digits padded e len = grind (arith, common_steps)
 
 first_of : (whole fraction : List ℕ) → 0 < length whole → get_or (whole ++ fraction) 0 0 ≡ get_or whole 0 0
 first_of [] fraction h = absurd (omega arith)
 first_of (d ∷ whole) fraction h = refl
 
-pub plain_pointed : (whole fraction : List ℕ) (m n places : ℕ) → all_digits whole ≡ true → all_digits fraction ≡ true → 0 < length whole → 0 < places → places ≡ length fraction → (get_or whole 0 0 ≡ 48 → length whole ≡ 1) → m ≡ digits_value_after 10 0 whole → n ≡ digits_value_after 10 m fraction → n < 2 ^ 64 → IsPlainDecimal (whole ++ 46 ∷ fraction) n places
+pub plain_pointed : (whole fraction : List ℕ) (m n places : ℕ) → all_digits whole ≡ true → all_digits fraction ≡ true → 0 < length whole → 0 < places → places ≡ length fraction
+    → (get_or whole 0 0 ≡ 48 → length whole ≡ 1) → m ≡ digits_value_after 10 0 whole → n ≡ digits_value_after 10 m fraction → n < 2 ^ 64 → IsPlainDecimal (whole ++ 46 ∷ fraction) n places
 unfolding unsigned_text
 plain_pointed whole fraction m n zero hw hf sw sf len first hm hn small = absurd (omega arith)
 plain_pointed whole fraction m n (suc p) hw hf sw sf len first hm hn small =
@@ -245,11 +254,13 @@ module _ (negative : Bool) (n places : ℕ) (scale : ℤ) (small : n < 2 ^ 128) 
   value_own e =
       value_is ∙ ap (number_at negative n places) e ∙ number_at_own negative n places
 
-  pub value_up : (up down : ℕ) (r : Result ℤ NumberFault) → up ≡ positive_scale scale → down ≡ negative_scale scale → places + down ≤ up → r ≡ signed negative (n * 10 ^ (up - (places + down))) → r ≡ value_at negative n places scale
+  pub value_up : (up down : ℕ) (r : Result ℤ NumberFault) → up ≡ positive_scale scale → down ≡ negative_scale scale → places + down ≤ up → r ≡ signed negative (n * 10 ^ (up - (places + down)))
+      → r ≡ value_at negative n places scale
   value_up up down r u d le e =
       e ∙ ap (λ (q : Result ℕ NumberFault). (q >>= (signed negative))) (scaled_by_times n up (places + down) le) ∙ rw (u, d) (sym value_is)
 
-  pub value_down : (up down : ℕ) (q : Result ℕ NumberFault) → up ≡ positive_scale scale → down ≡ negative_scale scale → up < places + down → q ≡ whole_quotient n (10 ^ (places + down - up)) → (q >>= (signed negative)) ≡ value_at negative n places scale
+  pub value_down : (up down : ℕ) (q : Result ℕ NumberFault) → up ≡ positive_scale scale → down ≡ negative_scale scale → up < places + down → q ≡ whole_quotient n (10 ^ (places + down - up))
+      → (q >>= (signed negative)) ≡ value_at negative n places scale
   value_down up down q u d lt e =
       ap (λ (r : Result ℕ NumberFault). (r >>= (signed negative))) (e ∙ scaled_by_quotient n up (places + down) lt) ∙ rw (u, d) (sym value_is)
 
@@ -270,7 +281,8 @@ first_taken (c ∷ text) (suc count) h = refl
 small_value : (n : ℕ) (ds : List ℕ) → all_digits ds ≡ true → n ≡ digits_value_after 10 0 ds → length ds ≤ 19 → n < 2 ^ 64
 small_value n ds h e few = grind (arith, common_steps, value-below, pow-le-pow_right)
 
-pub prefix_alone : (text : List ℕ) (most count n : ℕ) → most ≤ 19 → count ≤ length (take most text) → 0 < count → (get_or (take most text) 0 0 ≡ 48 → count ≤ 1) → all_digits (take count (take most text)) ≡ true → n ≡ digits_value_after 10 0 (take count (take most text)) → IsPlainDecimal (take count text) n 0
+pub prefix_alone : (text : List ℕ) (most count n : ℕ) → most ≤ 19 → count ≤ length (take most text) → 0 < count → (get_or (take most text) 0 0 ≡ 48 → count ≤ 1)
+    → all_digits (take count (take most text)) ≡ true → n ≡ digits_value_after 10 0 (take count (take most text)) → IsPlainDecimal (take count text) n 0
 prefix_alone text most count n few le some first h e =
     let window = take most text in
     let within : count ≤ most = omega (arith, length-take most text) in
@@ -279,7 +291,10 @@ prefix_alone text most count n few le some first h e =
     subst (λ (t : List ℕ). IsPlainDecimal t n 0) (take_window text most count within)
     (plain_alone ds n h (omega arith) (λ z. omega (arith, size, first (sym (first_taken window count some) ∙ z))) e (small_value n ds h e (omega arith)))
 
-pub prefix_pointed : (text fraction : List ℕ) (most count places m n : ℕ) → most ≤ 19 → count < length (take most text) → 0 < count → (get_or (take most text) 0 0 ≡ 48 → count ≤ 1) → get_or (take most text) count 0 ≡ 46 → fraction ≡ drop (count + 1) (take most text) → 0 < places → places ≤ length fraction → all_digits (take count (take most text)) ≡ true → m ≡ digits_value_after 10 0 (take count (take most text)) → all_digits (take places fraction) ≡ true → n ≡ digits_value_after 10 m (take places fraction) → IsPlainDecimal (take (count + 1 + places) text) n places
+pub prefix_pointed : (text fraction : List ℕ) (most count places m n : ℕ) → most ≤ 19 → count < length (take most text) → 0 < count → (get_or (take most text) 0 0 ≡ 48 → count ≤ 1)
+    → get_or (take most text) count 0 ≡ 46 → fraction ≡ drop (count + 1) (take most text) → 0 < places → places ≤ length fraction → all_digits (take count (take most text)) ≡ true
+    → m ≡ digits_value_after 10 0 (take count (take most text)) → all_digits (take places fraction) ≡ true → n ≡ digits_value_after 10 m (take places fraction)
+    → IsPlainDecimal (take (count + 1 + places) text) n places
 prefix_pointed text fraction most count places m n few lt some first point f sf le hw hm hf hn =
     let window = take most text in
     let whole = take count window in
@@ -310,11 +325,13 @@ minus_then : (text body : List ℕ) (count : ℕ) → true ≡ starts_with_minus
 minus_then [] body count h e = absurd cc
 minus_then (c ∷ text) body count h e = grind (arith, common_steps)
 
-pub minus_text : (text body : List ℕ) (count n places : ℕ) → true ≡ starts_with_minus text → body ≡ unsigned_part text → IsPlainDecimal (take count body) n places → 0 < n → take (count + 1) text ≡ decimal_text_of (signed_number true n) (pos places)
+pub minus_text : (text body : List ℕ) (count n places : ℕ) → true ≡ starts_with_minus text → body ≡ unsigned_part text → IsPlainDecimal (take count body) n places → 0 < n
+    → take (count + 1) text ≡ decimal_text_of (signed_number true n) (pos places)
 unfolding decimal_text_of
 minus_text text body count zero places h e d some = absurd (omega arith)
 minus_text text body count (suc n) places h e d some = minus_then text body count h e ∙ ap (λ (t : List ℕ). 45 ∷ t) d.is
 
-pub plain_text : (text body : List ℕ) (count n places : ℕ) → false ≡ starts_with_minus text → body ≡ unsigned_part text → IsPlainDecimal (take count body) n places → take count text ≡ decimal_text_of (signed_number false n) (pos places)
+pub plain_text : (text body : List ℕ) (count n places : ℕ) → false ≡ starts_with_minus text → body ≡ unsigned_part text → IsPlainDecimal (take count body) n places
+    → take count text ≡ decimal_text_of (signed_number false n) (pos places)
 unfolding decimal_text_of
 plain_text text body count n places h e d = grind (arith, common_steps)

@@ -39,8 +39,10 @@ is-reported (document.Walk line why) some = (_, refl)
 is-reported document.Memory some = absurd (some refl)
 
 -- the encoding of a document was stopped
-pub next-stopped : (w w' e e' : Option (List ℕ)) (piece : ParseResult → Piece) (next : Result (Option Document) ReadFault) (document : Document) (write_event : Result Verdict RunFault) (f : RunFault) (r : Result (Option Verdict) RunFault)
-    → next ≡ Ok (Some document) → LeavesPieces w w' e e' (piece (Complete document) ∷ []) write_event → StopsPiece true write_event → write_event ≡ Err f → r ≡ Err f → LeavesNext w w' e e' piece next r
+pub next-stopped : (w w' e e' : Option (List ℕ)) (piece : ParseResult → Piece) (next : Result (Option Document) ReadFault) (document : Document) (write_event : Result Verdict RunFault) (f : RunFault)
+    (r : Result (Option Verdict) RunFault)
+    → next ≡ Ok (Some document) → LeavesPieces w w' e e' (piece (Complete document) ∷ []) write_event → StopsPiece true write_event → write_event ≡ Err f → r ≡ Err f
+    → LeavesNext w w' e e' piece next r
 next-stopped w w' e e' piece next document write_event f r is reports stops fails same =
     rw same (by f (rw fails at reports) (rw fails at stops))
   where
@@ -58,7 +60,8 @@ read-refusal (HeaderRange line) some = (line, documents.HeaderRange, refl)
 read-refusal (Run run) some = absurd (some run refl)
 
 -- the line of a fault of the text was stopped
-pub line-cut : {X : Type 0} (w e e' : Option (List ℕ)) (form : Form) (b : List Row) (d : List Sequence) (next : Result (Option Document) ReadFault) (fault : ReadFault) (first : Result X RunFault) (f : RunFault) (r : Result (Option Verdict) RunFault)
+pub line-cut : {X : Type 0} (w e e' : Option (List ℕ)) (form : Form) (b : List Row) (d : List Sequence) (next : Result (Option Document) ReadFault) (fault : ReadFault) (first : Result X RunFault)
+    (f : RunFault) (r : Result (Option Verdict) RunFault)
     → next ≡ Err fault → ((run : RunFault) → fault ≡ Run run → ⊥) → ((line : ℕ) (why : TextLineFault) → parse_results (Err fault) ≡ Refused line why ∷ [] → Writes e e' (refused_line line why) first)
     → first ≡ Err f → r ≡ Err f → LeavesNext w w e e' (result_piece form b d) next r
 line-cut {X = X} w e e' form b d next fault first f r is some writes fails same =
@@ -210,7 +213,8 @@ ran-fresh form b d left reads w e s tally is accepted refused =
     })
 
 -- what a call reported that reported something
-reported-call : (left left' : Option (List ℕ)) (old new : ReaderModel) (next : Result (Option Document) ReadFault) (x : ParseResult) → (so : ReturnsNextDocument left left' old new next) → parse_results next ≡ x ∷ [] → ReadsLines left left' old new (x ∷ []) so.octets
+reported-call : (left left' : Option (List ℕ)) (old new : ReaderModel) (next : Result (Option Document) ReadFault) (x : ParseResult) → (so : ReturnsNextDocument left left' old new next)
+    → parse_results next ≡ x ∷ [] → ReadsLines left left' old new (x ∷ []) so.octets
 reported-call left left' old new (Ok None) x so is = absurd (omega (arith, ap length is))
 reported-call left left' old new (Ok (Some document)) x so is = let C : List ParseResult → Type 0 = λ t. ReadsLines left left' old new t so.octets in subst C is so.reads.0
 reported-call left left' old new (Err (Line line)) x so is = let C : List ParseResult → Type 0 = λ t. ReadsLines left left' old new t so.octets in subst C is so.reads
@@ -218,11 +222,13 @@ reported-call left left' old new (Err (SubsetCount line)) x so is = let C : List
 reported-call left left' old new (Err (HeaderRange line)) x so is = let C : List ParseResult → Type 0 = λ t. ReadsLines left left' old new t so.octets in subst C is so.reads
 reported-call left left' old new (Err (Run run)) x so is = absurd (omega (arith, ap length is))
 
-refused-one : (form : Form) (b : List Row) (d : List Sequence) (line : ℕ) (why : TextLineFault) (x : ParseResult) → Refused line why ∷ [] ≡ x ∷ [] → counted_accepted verdict.Accepted ≡ count_by is_accepted (result_piece form b d x ∷ []) → ⊥
+refused-one : (form : Form) (b : List Row) (d : List Sequence) (line : ℕ) (why : TextLineFault) (x : ParseResult) → Refused line why ∷ [] ≡ x ∷ []
+    → counted_accepted verdict.Accepted ≡ count_by is_accepted (result_piece form b d x ∷ []) → ⊥
 refused-one form b d line why x is one = grind (arith, common_steps, count_by, map)
 
 -- a document that was accepted leaves the reader without a fault
-accepted-sound : (form : Form) (b : List Row) (d : List Sequence) (left left' : Option (List ℕ)) (old new : ReaderModel) (next : Result (Option Document) ReadFault) (x : ParseResult) → ReturnsNextDocument left left' old new next → parse_results next ≡ x ∷ []
+accepted-sound : (form : Form) (b : List Row) (d : List Sequence) (left left' : Option (List ℕ)) (old new : ReaderModel) (next : Result (Option Document) ReadFault) (x : ParseResult)
+    → ReturnsNextDocument left left' old new next → parse_results next ≡ x ∷ []
     → counted_accepted verdict.Accepted ≡ count_by is_accepted (result_piece form b d x ∷ []) → new.fault ≡ None
 accepted-sound form b d left left' old new (Ok None) x so is one = absurd (omega (arith, ap length is))
 accepted-sound form b d left left' old new (Ok (Some document)) x so is one = so.ends
@@ -245,7 +251,8 @@ no-whole : {X : Type 0} → true ≡ false → X
 no-whole stops = absurd (false≢true (sym stops))
 
 -- what was reported is the first of what was read
-read-prefix : (left left' : Option (List ℕ)) (s : ReaderModel) (results : List ParseResult) (bs : List ℕ) → ReadsLines left left' new_reader s results bs → (more : List ParseResult) × (read_documents s.ended bs ≡ results ++ more)
+read-prefix : (left left' : Option (List ℕ)) (s : ReaderModel) (results : List ParseResult) (bs : List ℕ) → ReadsLines left left' new_reader s results bs
+    → (more : List ParseResult) × (read_documents s.ended bs ≡ results ++ more)
 read-prefix left left' s results bs call = by s.ended refl
   where
     by : (ended : Bool) → s.ended ≡ ended → (more : List ParseResult) × (read_documents ended bs ≡ results ++ more)
@@ -304,7 +311,8 @@ counted-all (OnErrors text ∷ more) =
 pub ran-few : (form : Form) (b : List Row) (d : List Sequence) (left mid : Option (List ℕ)) (reads reads' : ℕ) (w w' e e' : Option (List ℕ)) (s : ReaderModel) (tally : Tally)
     → EncodedSoFar form b d left mid reads reads' w w' e e' s tally → tally.accepted + tally.refused < 2 ^ 63
 ran-few form b d left mid reads reads' w w' e e' s tally ran =
-    let all : documents_of ran.octets ≡ ran.results ++ parse (position_of s) [] = ap documents_of (sym (append-nil ran.octets)) ∙ reported-first left mid s ran.results ran.octets [] ran.call (λ ended. refl) in
+    let all : documents_of ran.octets ≡ ran.results ++ parse (position_of s) [] =
+    ap documents_of (sym (append-nil ran.octets)) ∙ reported-first left mid s ran.results ran.octets [] ran.call (λ ended. refl) in
     omega (
       arith,
       ran.tallies.accepted,
@@ -318,7 +326,8 @@ ran-few form b d left mid reads reads' w w' e e' s tally ran =
       ran.counts.most,
     )
 
-module _ (form : Form) (b : List Row) (d : List Sequence) (left mid left' : Option (List ℕ)) (reads reads1 reads2 : ℕ) (w w1 e e1 : Option (List ℕ)) (s s' : ReaderModel) (tally : Tally) (next : Result (Option Document) ReadFault)
+module _ (form : Form) (b : List Row) (d : List Sequence) (left mid left' : Option (List ℕ)) (reads reads1 reads2 : ℕ) (w w1 e e1 : Option (List ℕ)) (s s' : ReaderModel) (tally : Tally)
+    (next : Result (Option Document) ReadFault)
     (ran : EncodedSoFar form b d left mid reads reads1 w w1 e e1 s tally) (so : ReturnsNextDocument mid left' s s' next) (counts : AddsReads reads1 reads2 s.reads s'.reads) where
   -- one more document
   pub turn : (w2 e2 : Option (List ℕ)) (tally' : Tally) → LeavesNext w1 w2 e1 e2 (result_piece form b d) next (Ok (Some verdict.Accepted)) → tally' ≡ tally_after tally verdict.Accepted
@@ -344,7 +353,8 @@ module _ (form : Form) (b : List Row) (d : List Sequence) (left mid left' : Opti
       let call = call-then left mid left' new_reader s s' ran.results [] ran.octets so.octets ran.call (rw is at so.reads) in
       let done = (rw is at so.ends).1 in
       let all : documents_of bs ≡ ran.results = reported-at-end left left' s' (ran.results ++ []) bs call done ∙ append-nil ran.results in
-      let pieces : encode_pieces form b d (documents_of bs) ≡ map (result_piece form b d) ran.results = ap (encode_pieces form b d) all ∙ open-all (map (result_piece form b d) ran.results) ran.open' in
+      let pieces : encode_pieces form b d (documents_of bs) ≡ map (result_piece form b d) ran.results =
+      ap (encode_pieces form b d) all ∙ open-all (map (result_piece form b d) ran.results) ran.open' in
       let W : List Piece → Type 0 = λ l. WritesPieces w w1 e e1 l in
       let T : List Piece → Type 0 = λ l. Tallies tally l in
       record {
@@ -368,12 +378,14 @@ module _ (form : Form) (b : List Row) (d : List Sequence) (left mid left' : Opti
       let closed = refused-closed before p accepted ran.open' in
       let pieces : (t : List ℕ) → (s'.ended ≡ true → t ≡ []) → encode_pieces form b d (documents_of (bs ++ t)) ≡ before ++ p ∷ [] = λ t none.
       ap (encode_pieces form b d) (reported-first left left' s' (ran.results ++ x ∷ []) bs t call none)
-      ∙ ap up_to_refused (map-append (result_piece form b d) (ran.results ++ x ∷ []) (parse (position_of s') t) ∙ ap (λ l. l ++ map (result_piece form b d) (parse (position_of s') t)) (map-append (result_piece form b d) ran.results (x ∷ [])))
+      ∙ ap up_to_refused (map-append (result_piece form b d) (ran.results ++ x ∷ []) (parse (position_of s') t)
+      ∙ ap (λ l. l ++ map (result_piece form b d) (parse (position_of s') t)) (map-append (result_piece form b d) ran.results (x ∷ [])))
       ∙ closed (map (result_piece form b d) (parse (position_of s') t)) in
       let prefix = read-prefix left left' s' (ran.results ++ x ∷ []) bs call in
       let known : read_pieces (document_pieces form b d) s'.ended bs ≡ before ++ p ∷ [] =
       read-pieces form b d s'.ended bs ∙ ap (encode_pieces form b d) prefix.1
-      ∙ ap up_to_refused (map-append (result_piece form b d) (ran.results ++ x ∷ []) prefix.0 ∙ ap (λ l. l ++ map (result_piece form b d) prefix.0) (map-append (result_piece form b d) ran.results (x ∷ [])))
+      ∙ ap up_to_refused (map-append (result_piece form b d) (ran.results ++ x ∷ []) prefix.0
+      ∙ ap (λ l. l ++ map (result_piece form b d) prefix.0) (map-append (result_piece form b d) ran.results (x ∷ [])))
       ∙ closed (map (result_piece form b d) prefix.0) in
       let W : List Piece → Type 0 = λ l. WritesPieces w w2 e e2 l in
       let all = Written-then w w1 w2 e e1 e2 before (p ∷ []) ran.written written in
@@ -395,23 +407,27 @@ module _ (form : Form) (b : List Row) (d : List Sequence) (left mid left' : Opti
       (ran.octets ++ so.octets, rw end.2 (rw end.1 (done-end end.0)))
 
   -- a document was refused, reported by an answer
-  pub done-at-refused : (w2 e2 : Option (List ℕ)) (write_event : Result (Option Verdict) RunFault) (v : Verdict) (tally' : Tally) → LeavesNext w1 w2 e1 e2 (result_piece form b d) next write_event → write_event ≡ Ok (Some v) → v ≡ verdict.Refused
+  pub done-at-refused : (w2 e2 : Option (List ℕ)) (write_event : Result (Option Verdict) RunFault) (v : Verdict) (tally' : Tally) → LeavesNext w1 w2 e1 e2 (result_piece form b d) next write_event
+      → write_event ≡ Ok (Some v) → v ≡ verdict.Refused
       → tally' ≡ tally_after tally v → (bs : List ℕ) × RunDone (document_pieces form b d) left left' w w2 e e2 bs tally'
   done-at-refused w2 e2 write_event v tally' reports is refused after =
       (ran.octets ++ so.octets, done-refused w2 e2 tally' (rw (is ∙ ap (λ (x : Verdict). Ok (Some x)) refused) at reports) (after ∙ ap (tally_after tally) refused))
 
   -- one more document, reported by an answer
-  pub turn-on : (w2 e2 : Option (List ℕ)) (write_event : Result (Option Verdict) RunFault) (v : Verdict) (tally' : Tally) → LeavesNext w1 w2 e1 e2 (result_piece form b d) next write_event → write_event ≡ Ok (Some v) → (v ≡ verdict.Refused → ⊥)
+  pub turn-on : (w2 e2 : Option (List ℕ)) (write_event : Result (Option Verdict) RunFault) (v : Verdict) (tally' : Tally) → LeavesNext w1 w2 e1 e2 (result_piece form b d) next write_event
+      → write_event ≡ Ok (Some v) → (v ≡ verdict.Refused → ⊥)
       → tally' ≡ tally_after tally v → EncodedSoFar form b d left left' reads reads2 w w2 e e2 s' tally'
   turn-on w2 e2 write_event v tally' reports is some after =
       let accepted = accepted-else v some in
       turn w2 e2 tally' (rw (is ∙ ap (λ (x : Verdict). Ok (Some x)) accepted) at reports) (after ∙ ap (tally_after tally) accepted)
 
-  stops-read : (w2 e2 : Option (List ℕ)) → (w2 ≡ w1) → (e2 ≡ e1) → ReadsLines left left' new_reader s' (ran.results ++ []) (ran.octets ++ so.octets) → HasNoWholeLine s' → RunStopped (document_pieces form b d) left left' w w2 e e2 (ran.octets ++ so.octets)
+  stops-read : (w2 e2 : Option (List ℕ)) → (w2 ≡ w1) → (e2 ≡ e1) → ReadsLines left left' new_reader s' (ran.results ++ []) (ran.octets ++ so.octets) → HasNoWholeLine s'
+      → RunStopped (document_pieces form b d) left left' w w2 e e2 (ran.octets ++ so.octets)
   stops-read w2 e2 same_w same_e call open' =
       let bs = ran.octets ++ so.octets in
       let all : open_documents_of bs ≡ ran.results = reported-at-fault left left' s' (ran.results ++ []) bs call open' ∙ append-nil ran.results in
-      let pieces : encode_pieces form b d (open_documents_of bs) ≡ map (result_piece form b d) ran.results = ap (encode_pieces form b d) all ∙ open-all (map (result_piece form b d) ran.results) ran.open' in
+      let pieces : encode_pieces form b d (open_documents_of bs) ≡ map (result_piece form b d) ran.results =
+      ap (encode_pieces form b d) all ∙ open-all (map (result_piece form b d) ran.results) ran.open' in
       let V : Option (List ℕ) → Option (List ℕ) → List Piece → Type 0 = λ x y l. WritesPieces w x e y l in
       record {
         read = call.read;
@@ -421,7 +437,8 @@ module _ (form : Form) (b : List Row) (d : List Sequence) (left mid left' : Opti
 
   -- a run that is cut among the pieces of what was read, after no refusal
   memory-cut : (w2 e2 : Option (List ℕ)) (bs : List ℕ) (ended : Bool) → Consumes left left' bs → (ended ≡ true → IfSome left (λ s. bs ≡ s))
-      → (part : WrittenInPart w w2 e e2 (read_pieces (document_pieces form b d) ended bs)) × (count_by is_refused part.given ≡ 0) → LeavesRun (document_pieces form b d) left left' w w2 e e2 (Unit {0}) (ReadsFewer reads reads2) bs (Err Memory)
+      → (part : WrittenInPart w w2 e e2 (read_pieces (document_pieces form b d) ended bs)) × (count_by is_refused part.given ≡ 0)
+      → LeavesRun (document_pieces form b d) left left' w w2 e e2 (Unit {0}) (ReadsFewer reads reads2) bs (Err Memory)
   memory-cut w2 e2 bs ended read end part = (record { read = read; ended = ended; all = no-whole; end = end; written = part.0; flushed = λ not. absurd (not tt) }, no-whole, λ _. part.1)
 
   -- a writer failed, or memory was refused, in the piece of what was reported
@@ -441,7 +458,8 @@ module _ (form : Form) (b : List Row) (d : List Sequence) (left mid left' : Opti
           next = Some p;
           rest = following.0;
           parts = read-pieces form b d s'.ended bs ∙ ap (encode_pieces form b d) prefix.1
-              ∙ ap up_to_refused (map-append (result_piece form b d) (ran.results ++ x ∷ []) prefix.0 ∙ ap (λ l. l ++ tail) (map-append (result_piece form b d) ran.results (x ∷ [])) ∙ append_assoc before (p ∷ []) tail)
+              ∙ ap up_to_refused (map-append (result_piece form b d) (ran.results ++ x ∷ []) prefix.0 ∙ ap (λ l. l ++ tail) (map-append (result_piece form b d) ran.results (x ∷ []))
+              ∙ append_assoc before (p ∷ []) tail)
               ∙ ran.open' (p ∷ tail) ∙ ap (λ l. before ++ l) following.1;
           between_output = w1;
           between_errors = e1;
@@ -473,7 +491,8 @@ module _ (form : Form) (b : List Row) (d : List Sequence) (left mid left' : Opti
             let end = ran.call.end (λ start. absurd (false≢true start)) ended in (
               ran.octets,
               memory-cut w2 e2 ran.octets true (end-stays left mid left' ran.octets so.octets ran.call.read end again) (λ _. all-read left mid ran.octets ran.call.read end)
-                  (reported-part (documents_of ran.octets) (parse (position_of s) []) (ap documents_of (sym (append-nil ran.octets)) ∙ reported-first left mid s ran.results ran.octets [] ran.call (λ _. refl))),
+                  (reported-part (documents_of ran.octets) (parse (position_of s) [])
+                  (ap documents_of (sym (append-nil ran.octets)) ∙ reported-first left mid s ran.results ran.octets [] ran.call (λ _. refl))),
             )
         by false unended = (
           ran.octets ++ so.octets,
@@ -482,7 +501,8 @@ module _ (form : Form) (b : List Row) (d : List Sequence) (left mid left' : Opti
         )
 
   -- the run was stopped
-  pub stops : (w2 e2 : Option (List ℕ)) (write_event : Result (Option Verdict) RunFault) (f : RunFault) (r : Result Tally RunFault) → LeavesNext w1 w2 e1 e2 (result_piece form b d) next write_event → write_event ≡ Err f → r ≡ Err f
+  pub stops : (w2 e2 : Option (List ℕ)) (write_event : Result (Option Verdict) RunFault) (f : RunFault) (r : Result Tally RunFault) → LeavesNext w1 w2 e1 e2 (result_piece form b d) next write_event
+      → write_event ≡ Err f → r ≡ Err f
       → (bs : List ℕ) × LeavesRun (document_pieces form b d) left left' w w2 e e2 (Unit {0}) (ReadsFewer reads reads2) bs r
   stops w2 e2 write_event f r reports fails same =
       rw same (by f (rw fails at reports))
@@ -493,7 +513,8 @@ module _ (form : Form) (b : List Row) (d : List Sequence) (left mid left' : Opti
       ends-so : (g : RunFault) → next ≡ Err (Run g) → LeavesReader s' (Err (Run g))
       ends-so g is = let E : Result (Option Document) ReadFault → Type 0 = λ x. LeavesReader s' x in subst E is so.ends
 
-      by : (g : RunFault) → LeavesNext w1 w2 e1 e2 (result_piece form b d) next (Err g) → (bs : List ℕ) × LeavesRun (document_pieces form b d) left left' w w2 e e2 (Unit {0}) (ReadsFewer reads reads2) bs (Err g)
+      by : (g : RunFault) → LeavesNext w1 w2 e1 e2 (result_piece form b d) next (Err g)
+          → (bs : List ℕ) × LeavesRun (document_pieces form b d) left left' w w2 e e2 (Unit {0}) (ReadsFewer reads reads2) bs (Err g)
       by Read (is, same_w, same_e) = (
         ran.octets ++ so.octets,
         stops-read w2 e2 same_w same_e (call-then left mid left' new_reader s s' ran.results [] ran.octets so.octets ran.call (reads-so Read is)) (ends-so Read is).1,
@@ -507,7 +528,8 @@ module _ (form : Form) (b : List Row) (d : List Sequence) (left mid left' : Opti
       by Memory (inr (x, is, reports')) = (ran.octets ++ so.octets, stops-piece w2 e2 Memory x is reports')
 
 -- a flush failed before a read: all that is certain of what was read was written
-pub stop-encode-read : (form : Form) (b : List Row) (d : List Sequence) (left mid left' : Option (List ℕ)) (reads reads1 : ℕ) (w w1 w2 e e1 e2 : Option (List ℕ)) (s s' : ReaderModel) (tally : Tally) (unflushed early : Type 0) (f : RunFault) (r : Result Tally RunFault)
+pub stop-encode-read : (form : Form) (b : List Row) (d : List Sequence) (left mid left' : Option (List ℕ)) (reads reads1 : ℕ) (w w1 w2 e e1 e2 : Option (List ℕ)) (s s' : ReaderModel) (tally : Tally)
+    (unflushed early : Type 0) (f : RunFault) (r : Result Tally RunFault)
     → EncodedSoFar form b d left mid reads reads1 w w1 e e1 s tally → Keeps w1 w2 → Keeps e1 e2 → (bs : List ℕ) × ReadsLines mid left' s s' [] bs × HasNoWholeLine s' → f ≡ Write → r ≡ Err f
     → (bs : List ℕ) × LeavesRun (document_pieces form b d) left left' w w2 e e2 unflushed early bs r
 stop-encode-read form b d left mid left' reads reads1 w w1 w2 e e1 e2 s s' tally unflushed early f r ran kept_w kept_e (bs, more, open') write same =
@@ -528,13 +550,15 @@ stop-encode-read form b d left mid left' reads reads1 w w1 w2 e e1 e2 s s' tally
     (octets, rw (same ∙ ap Err write) cut)
 
 -- the reads of a run
-pub reads-made : {X : Type 0} (reads reads' : ℕ) (s : ReaderModel) (r : Result X RunFault) → AddsReads reads reads' new_reader.reads s.reads → (r ≡ Err InputTooLong → s.reads ≡ max_reads) → ReadsAtMost reads reads' r
+pub reads-made : {X : Type 0} (reads reads' : ℕ) (s : ReaderModel) (r : Result X RunFault) → AddsReads reads reads' new_reader.reads s.reads → (r ≡ Err InputTooLong → s.reads ≡ max_reads)
+    → ReadsAtMost reads reads' r
 reads-made reads reads' s r counts long =
     let e : s.reads - 0 ≡ s.reads = omega arith in
     (s.reads, counts.most, counts.made ∙ ap (counted reads) e, long)
 
 -- a run that is stopped because its input is too long made all reads
-pub stop-reads : (left left' : Option (List ℕ)) (s s' : ReaderModel) (w w' e e' : Option (List ℕ)) (piece : ParseResult → Piece) (next : Result (Option Document) ReadFault) (write_event : Result (Option Verdict) RunFault) (f : RunFault) (r : Result Tally RunFault)
+pub stop-reads : (left left' : Option (List ℕ)) (s s' : ReaderModel) (w w' e e' : Option (List ℕ)) (piece : ParseResult → Piece) (next : Result (Option Document) ReadFault)
+    (write_event : Result (Option Verdict) RunFault) (f : RunFault) (r : Result Tally RunFault)
     → ReturnsNextDocument left left' s s' next → LeavesNext w w' e e' piece next write_event → write_event ≡ Err f → r ≡ Err f → r ≡ Err InputTooLong → s'.reads ≡ max_reads
 stop-reads left left' s s' w w' e e' piece next write_event f r so reports fails same long = grind (arith, common_steps)
 
@@ -553,10 +577,12 @@ pub verdict-keeps : (w w' e e' : Option (List ℕ)) (piece : ParseResult → Pie
 verdict-keeps w w' e e' piece count next write_event v reports is = grind (arith, common_steps, reported-keeps)
 
 -- a fault before the failed_flushes
-abbrev unflushed-cut : (pieces : RunPieces) (left left' w w' e e' : Option (List ℕ)) (unflushed : Type 0) (bs : List ℕ) → unflushed → RunCut pieces left left' w w' e e' (Unit {0}) bs → RunCut pieces left left' w w' e e' unflushed bs
+abbrev unflushed-cut : (pieces : RunPieces) (left left' w w' e e' : Option (List ℕ)) (unflushed : Type 0) (bs : List ℕ) → unflushed → RunCut pieces left left' w w' e e' (Unit {0}) bs
+    → RunCut pieces left left' w w' e e' unflushed bs
 unflushed-cut pieces left left' w w' e e' unflushed bs kept cut = record { read = cut.read; ended = cut.ended; all = cut.all; end = cut.end; written = cut.written; flushed = λ not. absurd (not kept) }
 
-pub stays-unflushed : (pieces : RunPieces) (left left' w w' e e' : Option (List ℕ)) (unflushed early : Type 0) → unflushed → (first : Result Tally RunFault) (f : RunFault) (r : Result Tally RunFault) → first ≡ Err f → r ≡ Err f
+pub stays-unflushed : (pieces : RunPieces) (left left' w w' e e' : Option (List ℕ)) (unflushed early : Type 0) → unflushed → (first : Result Tally RunFault) (f : RunFault) (r : Result Tally RunFault)
+    → first ≡ Err f → r ≡ Err f
     → ((bs : List ℕ) × LeavesRun pieces left left' w w' e e' (Unit {0}) early bs first) → (bs : List ℕ) × LeavesRun pieces left left' w w' e e' unflushed early bs r
 stays-unflushed pieces left left' w w' e e' unflushed early kept first f r fails same (bs, so) =
     (bs, rw same (by f (rw fails at so)))
@@ -568,7 +594,8 @@ stays-unflushed pieces left left' w w' e e' unflushed early kept first f r fails
     by Write cut = unflushed-cut pieces left left' w w' e e' unflushed bs kept cut
 
 -- all was written, and then flushed
-module _ (pieces : RunPieces) (left left' w w1 w2 e e1 e2 : Option (List ℕ)) (kept early : Type 0) (first : Result Tally RunFault) (tally : Tally) (is : first ≡ Ok tally) (kept_w : Keeps w1 w2) (kept_e : Keeps e1 e2)
+module _ (pieces : RunPieces) (left left' w w1 w2 e e1 e2 : Option (List ℕ)) (kept early : Type 0) (first : Result Tally RunFault) (tally : Tally) (is : first ≡ Ok tally) (kept_w : Keeps w1 w2)
+    (kept_e : Keeps e1 e2)
     (before : (bs : List ℕ) × LeavesRun pieces left left' w w1 e e1 kept early bs first) where
   pub encode-flushed : (bs : List ℕ) × RunDone pieces left left' w w2 e e2 bs tally
   encode-flushed =

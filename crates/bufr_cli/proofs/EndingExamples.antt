@@ -34,7 +34,8 @@ closed-line name is = (ap (λ octets. joined (codes "bufr: cannot open " ∷ oct
 
 -- a table at fault
 -- rule: status-of-table, fault-73, table-not-read
-table-lines : map last_line (TableB table.Header ∷ TableB (table.Row 2) ∷ TableB (table.Duplicate 257) ∷ TableD (table.Cycle 49153) ∷ TableD table.TableSize ∷ TableB table.Csv ∷ TableD table.Memory ∷ [])
+table-lines : map last_line (TableB table.Header ∷ TableB (table.Row 2) ∷ TableB (table.Duplicate 257) ∷ TableD (table.Cycle 49153) ∷ TableD table.TableSize ∷ TableB table.Csv ∷ TableD table.Memory
+    ∷ [])
     ≡ codes "table B: 40 header\n"
     ∷ codes "table B: 41 row 2\n"
     ∷ codes "table B: 42 duplicate 001001\n"

@@ -48,7 +48,9 @@ section-lines = refl
 
 -- of templates
 -- rule: fault-20, fault-21, fault-22, fault-23, fault-24, fault-25, fault-26, fault-27, fault-28
-template-lines : map (λ fault. fault_line 48 (template_report fault)) (template.UnknownElement 16383 ∷ template.UnknownSequence 64705 ∷ template.Operator 33800 ∷ template.GroupShape 16386 ∷ template.NoFactor 16640 ∷ template.EmptyGroup 0 ∷ template.Depth 16641 ∷ template.TemplateSize 257 ∷ template.LocalShape 34312 ∷ [])
+template-lines : map (λ fault. fault_line 48 (template_report fault))
+    (template.UnknownElement 16383 ∷ template.UnknownSequence 64705 ∷ template.Operator 33800 ∷ template.GroupShape 16386 ∷ template.NoFactor 16640 ∷ template.EmptyGroup 0 ∷ template.Depth 16641
+    ∷ template.TemplateSize 257 ∷ template.LocalShape 34312 ∷ [])
     ≡ codes "offset 48: 20 unknown element 063255\n"
     ∷ codes "offset 48: 21 unknown sequence 360193\n"
     ∷ codes "offset 48: 22 operator 204008\n"
@@ -64,7 +66,8 @@ template-lines = refl
 
 -- of the data: the subset, the descriptor and the bits before the item, each in its place
 -- rule: stream-fault-place, fault-30, fault-31, fault-32, fault-33, fault-34, fault-35
-data-lines : map (λ fault. fault_line 0 (data_report fault)) (walk.DataEnd (spot 1 257 22) ∷ walk.Width (spot 2 257 0) ∷ walk.Defining (spot 1 271 0) ∷ walk.UnequalFactor (spot 0 7937 0) ∷ walk.Increment (spot 0 257 0) ∷ walk.TooManyValues (spot 0 257 14336) ∷ [])
+data-lines : map (λ fault. fault_line 0 (data_report fault)) (walk.DataEnd (spot 1 257 22) ∷ walk.Width (spot 2 257 0) ∷ walk.Defining (spot 1 271 0) ∷ walk.UnequalFactor (spot 0 7937 0)
+    ∷ walk.Increment (spot 0 257 0) ∷ walk.TooManyValues (spot 0 257 14336) ∷ [])
     ≡ codes "offset 0: 30 data end at subset 1 descriptor 001001 bit 22\n"
     ∷ codes "offset 0: 31 width at subset 2 descriptor 001001 bit 0\n"
     ∷ codes "offset 0: 32 defining at subset 1 descriptor 001015 bit 0\n"
@@ -91,7 +94,8 @@ document-lines = refl
 
 -- of their items
 -- rule: fault-lines-of-encoding
-item-lines : map (item_fault_line 24) (wrong_descriptor 0x0101 false ∷ wrong_descriptor 0x0C65 true ∷ item_too_many ∷ wrong_number ∷ out_of_range ∷ text_long ∷ missing_forbidden ∷ unequal_factors ∷ uneven_increment ∷ walk_refused (turn.Width 0x0101) ∷ walk_refused (turn.Defining 0x010F) ∷ too_many_values 0x0101 ∷ [])
+item-lines : map (item_fault_line 24) (wrong_descriptor 0x0101 false ∷ wrong_descriptor 0x0C65 true ∷ item_too_many ∷ wrong_number ∷ out_of_range ∷ text_long ∷ missing_forbidden ∷ unequal_factors
+    ∷ uneven_increment ∷ walk_refused (turn.Width 0x0101) ∷ walk_refused (turn.Defining 0x010F) ∷ too_many_values 0x0101 ∷ [])
     ≡ codes "line 24: 51 expected 001001\n"
     ∷ codes "line 24: 51 expected R 012101\n"
     ∷ codes "line 24: 51 expected end of subset\n"

@@ -45,7 +45,8 @@ module _ {X : Type 0} (old new : Option (List ℕ)) (r : Result X RunFault) wher
   where_refused None writes = tt
 
   -- the line of a line that is refused
-  pub as_read : (fault : ReadFault) (line : ℕ) (why : TextLineFault) → parse_results (Err fault) ≡ Refused line why ∷ [] → Writes old new (line_of_read_fault fault) r → Writes old new (refused_line line why) r
+  pub as_read : (fault : ReadFault) (line : ℕ) (why : TextLineFault) → parse_results (Err fault) ≡ Refused line why ∷ [] → Writes old new (line_of_read_fault fault) r
+      → Writes old new (refused_line line why) r
   as_read fault line why is writes =
       let P : List ℕ → Type 0 = λ text. Writes old new text r in
       subst P (line_of_parsed fault ∙ ap first_line is) writes

@@ -21,7 +21,8 @@ blocks = record { fxy = 257; name = codes "WMO BLOCK NUMBER"; unit = codes "Nume
 
 -- what is at fault is no accepted message, and the others are in the order of the stream
 accepted-among : accepted_messages blocks [] stream ≡ one_block_number ∷ slice_set one_block_number 13 99 ∷ []
-unfolding scan_from sections_of section_end head_by_edition head_size tree_of inner_of level part_of next_item bits_of header_lines subset_lines runs_after hex_text descriptors_text keys leasts mosts decimal_text_of unsigned_text digits
+unfolding scan_from sections_of section_end head_by_edition head_size tree_of inner_of level part_of next_item bits_of header_lines subset_lines runs_after hex_text descriptors_text keys leasts mosts
+    decimal_text_of unsigned_text digits
 accepted-among = refl
 
 -- A message of edition 3 whose section 3 is odd, and one whose section 4 is, may grow by two octets
@@ -36,12 +37,15 @@ text = codes "message\nedition 4\nmaster 0\ncentre 98\nsubcentre 0\nupdate 0\nca
 
 -- the output has nothing of the errors
 output-alone : dumped blocks [] (codes "BUFR" ++ 0 ∷ 0 ∷ 64 ∷ 4 ∷ (one_block_number ++ slice_set one_block_number 7 2)) ≡ text
-unfolding scan_from sections_of section_end head_by_edition head_size tree_of inner_of level part_of next_item bits_of header_lines subset_lines runs_after hex_text descriptors_text keys leasts mosts decimal_text_of unsigned_text digits
+unfolding scan_from sections_of section_end head_by_edition head_size tree_of inner_of level part_of next_item bits_of header_lines subset_lines runs_after hex_text descriptors_text keys leasts mosts
+    decimal_text_of unsigned_text digits
 output-alone = refl
 
 -- a message is built again of its text
 built-of-its-text : rebuilt blocks [] one_block_number ≡ one_block_number
-unfolding scan_from sections_of section_end head_by_edition head_size tree_of inner_of level part_of next_item bits_of header_lines subset_lines runs_after hex_text descriptors_text keys leasts mosts decimal_text_of unsigned_text digits up_to_refused parse_lines lines_of turn line_of worded prefix_while suffix_while place_from without_prefix descriptors_read fxy_read value_read quoted_read hex_read is_hashed encoding_in decimal_value_of bits_in
+unfolding scan_from sections_of section_end head_by_edition head_size tree_of inner_of level part_of next_item bits_of header_lines subset_lines runs_after hex_text descriptors_text keys leasts mosts
+    decimal_text_of unsigned_text digits up_to_refused parse_lines lines_of turn line_of worded prefix_while suffix_while place_from without_prefix descriptors_read fxy_read value_read quoted_read
+    hex_read is_hashed encoding_in decimal_value_of bits_in
 built-of-its-text = refl
 
 -- ---- Texts that were written by hand, in the one spelling that a dump has, on worked examples.
@@ -57,10 +61,12 @@ by_hand edition rest =
 -- `end` is refused
 one-before-a-refused-line : normal_texts AsWritten blocks [] (documents_of (codes "# by hand\n" ++ by_hand (codes "04") (codes "\nsubset 01\n001001 010.0  # changed\nend\nend\n")))
     ≡ by_hand (codes "4") (codes "subset 1\n001001 10  # WMO BLOCK NUMBER [Numeric]\nend\n") ∷ []
-unfolding normal_texts parse_lines lines_of turn line_of worded prefix_while suffix_while place_from keys leasts mosts without_prefix descriptors_read fxy_read value_read quoted_read hex_read is_hashed encoding_in head_size tree_of level part_of inner_of next_item decimal_value_of bits_of bits_in header_lines runs_after hex_text descriptors_text digits decimal_text_of unsigned_text
+unfolding normal_texts parse_lines lines_of turn line_of worded prefix_while suffix_while place_from keys leasts mosts without_prefix descriptors_read fxy_read value_read quoted_read hex_read
+    is_hashed encoding_in head_size tree_of level part_of inner_of next_item decimal_value_of bits_of bits_in header_lines runs_after hex_text descriptors_text digits decimal_text_of unsigned_text
 one-before-a-refused-line = refl
 
 -- seven bits hold no 200: the document is refused, and it has no text
 none-of-a-refused-document : normal_texts AsWritten blocks [] (documents_of (by_hand (codes "4") (codes "subset 1\n001001 200\nend\n"))) ≡ []
-unfolding normal_texts parse_lines lines_of turn line_of worded prefix_while suffix_while place_from keys leasts mosts without_prefix descriptors_read fxy_read value_read quoted_read hex_read is_hashed encoding_in head_size tree_of level part_of inner_of next_item decimal_value_of
+unfolding normal_texts parse_lines lines_of turn line_of worded prefix_while suffix_while place_from keys leasts mosts without_prefix descriptors_read fxy_read value_read quoted_read hex_read
+    is_hashed encoding_in head_size tree_of level part_of inner_of next_item decimal_value_of
 none-of-a-refused-document = refl

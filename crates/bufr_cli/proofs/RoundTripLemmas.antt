@@ -8,7 +8,7 @@ use Rattle.bufr_tables.proofs.SoundLemmas.{tree_fine}
 use Rattle.bufr_frame.specs.Prelude.{max_octets, StreamEvent, FrameAt, StrayAt, scan, scan_from, Sections, sections_of}
 use Rattle.bufr_frame.specs.declared.fault.SectionFault.{SectionFault}
 use Rattle.bufr_frame.proofs.ScanLemmas.{IsSmall, framed_octets, frames-within, small-frames, scan_from-nil}
-use Rattle.bufr_walk.specs.Prelude.{Values, View, next_item, data_of, reading_of, values_of, walk_fault_of, Stop}
+use Rattle.bufr_walk.specs.Prelude.{Values, View, next_item, data_of, reading_of, values_in, walk_fault_of, Stop}
 use Rattle.bufr_walk.proofs.PassLemmas.{legal_sane, reading_is, reads_so}
 use Rattle.bufr_walk.proofs.CourseLemmas.{IsSane}
 use Rattle.bufr_text.specs.Prelude.{Between, lines_of, parse_lines, Document, ParseResult, Complete, Refused, documents_of, dump_lines, dump_text_of, IsOctet, IsAccepted, HasSameReading, dump_items, IsReadAs, RefusedAt, encoding_in, IsProper, AreProper}
@@ -108,7 +108,8 @@ module _ (records : List Record) (b : List Row) (d : List Sequence) (rows : AreR
       ∙ ap (λ v. OnOutput (dump_text_of s (dump_items b s.subsets v))) is.items
 
   module _ (offset : ℕ) (m : List ℕ) (small : AllByRecursion IsOctet m × (length m ≤ max_octets)) where
-    data-kind : (s : Sections) (template : Tree) → sections_of m ≡ Ok s → tree_of (tables_of b d) s.descriptors ≡ Ok template → IsFault (data_piece b offset s template) ⊎ IsDumped b d (FrameAt offset m) (data_piece b offset s template)
+    data-kind : (s : Sections) (template : Tree) → sections_of m ≡ Ok s → tree_of (tables_of b d) s.descriptors ≡ Ok template
+        → IsFault (data_piece b offset s template) ⊎ IsDumped b d (FrameAt offset m) (data_piece b offset s template)
     data-kind s template sections expands = by (reading_of (next_item b template) (data_of s)).stop refl
       where
         by : (o : Option Stop) → (reading_of (next_item b template) (data_of s)).stop ≡ o → IsFault (data_piece b offset s template) ⊎ IsDumped b d (FrameAt offset m) (data_piece b offset s template)
@@ -119,7 +120,7 @@ module _ (records : List Record) (b : List Row) (d : List Sequence) (rows : AreR
               octets = m;
               sections = s;
               template = template;
-              values = values_of (reading_of (next_item b template) (data_of s)).passes;
+              values = values_in (reading_of (next_item b template) (data_of s)).passes;
               used = reads.0;
               is = refl;
               accepted = record { octets = small.0; few = small.1; sections = sections; expands = expands; read = reads.1 };
@@ -127,9 +128,14 @@ module _ (records : List Record) (b : List Row) (d : List Sequence) (rows : AreR
             })
         by (Some why) stops =
             let r = reading_of (next_item b template) (data_of s) in
-            inl (_, ap (λ o. text_or_fault offset (option_map (λ why. walk_fault_of why r.subset (length (data_of s).bits - length r.left)) o) (dump_text_of s (dump_items b s.subsets (values_of r.passes)))) stops)
+            inl (
+              _,
+              ap (λ o. text_or_fault offset (option_map (λ why. walk_fault_of why r.subset (length (data_of s).bits - length r.left)) o)
+                  (dump_text_of s (dump_items b s.subsets (values_in r.passes)))) stops,
+            )
 
-    template-kind : (s : Sections) (made : Result Tree TemplateFault) → sections_of m ≡ Ok s → tree_of (tables_of b d) s.descriptors ≡ made → IsFault (template_piece b offset s made) ⊎ IsDumped b d (FrameAt offset m) (template_piece b offset s made)
+    template-kind : (s : Sections) (made : Result Tree TemplateFault) → sections_of m ≡ Ok s → tree_of (tables_of b d) s.descriptors ≡ made
+        → IsFault (template_piece b offset s made) ⊎ IsDumped b d (FrameAt offset m) (template_piece b offset s made)
     template-kind s (Ok template) sections expands = data-kind s template sections expands
     template-kind s (Err fault) sections expands = inl (_, refl)
 
@@ -183,14 +189,16 @@ module _ (b : List Row) (d : List Sequence) where
   piece = dump_piece b d
 
   -- the piece of a message that was built again is the text of the first one
-  same-piece : (records : List Record) → AreRows records b → (m : List ℕ) (s : Sections) (template : Tree) (values : Values) (used at : ℕ) (octets : List ℕ) → IsAccepted b d m s template values used → HasSameReading b m s template values octets
+  same-piece : (records : List Record) → AreRows records b → (m : List ℕ) (s : Sections) (template : Tree) (values : Values) (used at : ℕ) (octets : List ℕ) → IsAccepted b d m s template values used
+      → HasSameReading b m s template values octets
       → piece (FrameAt at octets) ≡ OnOutput (dump_text_of s (dump_items b s.subsets values))
   same-piece records rows m s template values used at octets a same =
       accepted-piece records b d rows octets same.sections template values same.used at (accepted_again b d m s template values used octets a same)
       ∙ ap OnOutput (same_text b m s template values octets same)
 
   -- an event at fault leaves nothing
-  built-fault : (here : StreamEvent) (text' : List ℕ) (text : List ℕ) (accepted : List (List ℕ)) (pieces : List Piece) (most more line : ℕ) → most ≤ more → Built b d piece text accepted pieces most line
+  built-fault : (here : StreamEvent) (text' : List ℕ) (text : List ℕ) (accepted : List (List ℕ)) (pieces : List Piece) (most more line : ℕ) → most ≤ more
+      → Built b d piece text accepted pieces most line
       → Built b d piece text accepted (OnErrors text' ∷ pieces) more line
   built-fault here text' text accepted pieces most more line le r = record {
     messages = r.messages;
@@ -222,7 +230,8 @@ module _ (b : List Row) (d : List Sequence) where
         no_longer = omega (arith, length-append w.octets (concat r.messages), w.same.no_longer, r.no_longer);
         scanned = λ at. w.same.framed at (concat r.messages) ∙ ap (λ l. FrameAt at w.octets ∷ l) (r.scanned (at + length w.octets));
         again = λ at. ap (λ p. p ∷ map piece (placed (at + length w.octets) r.messages)) (here at) ∙ ap (λ l. OnOutput (dump_text_of s items) ∷ l) (r.again (at + length w.octets));
-        listed = λ at. ap (λ p. accepted_in (FrameAt at w.octets) p ++ accepted_of piece (placed (at + length w.octets) r.messages)) (here at) ∙ ap (λ l. w.octets ∷ l) (r.listed (at + length w.octets));
+        listed = λ at. ap (λ p. accepted_in (FrameAt at w.octets) p ++ accepted_of piece (placed (at + length w.octets) r.messages)) (here at)
+            ∙ ap (λ l. w.octets ∷ l) (r.listed (at + length w.octets));
         kept = λ all.
             let same : w.octets ≡ m = ap octets_or_none (sym w.is ∙ canonical_encoded b d m s template values used line read legal a (all.0 s template values used a)) in
             ap (λ l. l ∷ r.messages) same ∙ ap (λ l. m ∷ l) (r.kept all.1);
@@ -231,7 +240,8 @@ module _ (b : List Row) (d : List Sequence) where
   abbrev BuiltOf : List StreamEvent → (line : ℕ) → Type 0
   BuiltOf es line = Built b d piece (flat_map output_of (map piece es)) (accepted_of piece es) (map piece es) (framed_octets es) line
 
-  built-more : (records : List Record) (here : StreamEvent) (es : List StreamEvent) (line : ℕ) → AreRows records b → IsFault (piece here) ⊎ IsDumped b d here (piece here) → ((at : ℕ) → BuiltOf es at) → BuiltOf (here ∷ es) line
+  built-more : (records : List Record) (here : StreamEvent) (es : List StreamEvent) (line : ℕ) → AreRows records b → IsFault (piece here) ⊎ IsDumped b d here (piece here) → ((at : ℕ) → BuiltOf es at)
+      → BuiltOf (here ∷ es) line
   built-more records here es line rows (inl (text, is)) rest =
       rw is (built-fault here text (flat_map output_of (map piece es)) (accepted_of piece es) (map piece es) (framed_octets es) (framed_octets (here ∷ es)) line (framed-more here es) (rest line))
   built-more records here es line rows (inr x) rest =
@@ -291,7 +301,8 @@ module _ (b : List Row) (d : List Sequence) where
   -- second wrote
   pub whole-round : (records : List Record) (stream : List ℕ) (text messages again : Written) → AreRows records b → AllByRecursion IsOctet stream
       → text.output ≡ dumped b d stream → Tallies text.tally (dump_pieces b d stream)
-      → messages.output ≡ flat_map output_of (form_pieces AsWritten b d text.output) → messages.errors ≡ flat_map errors_of (form_pieces AsWritten b d text.output) → Tallies messages.tally (form_pieces AsWritten b d text.output)
+      → messages.output ≡ flat_map output_of (form_pieces AsWritten b d text.output) → messages.errors ≡ flat_map errors_of (form_pieces AsWritten b d text.output)
+      → Tallies messages.tally (form_pieces AsWritten b d text.output)
       → again.output ≡ dumped b d messages.output → again.errors ≡ flat_map errors_of (dump_pieces b d messages.output) → Tallies again.tally (dump_pieces b d messages.output)
       → IsWholeRound b d stream text messages again
   whole-round records stream text messages again rows octets is_text first_counts is_messages is_lines second_counts is_again is_faults third_counts =
@@ -313,8 +324,11 @@ module _ (b : List Row) (d : List Sequence) where
       }
 
 -- three runs of the program
-pub three-runs : (records : List Record) (b : List Row) (d : List Sequence) (stream : List ℕ) (text messages again : Written) (e e' : Option (List ℕ)) → AreRows records b → AllByRecursion IsOctet stream
-    → Dumps b d (holding (Some []) e) (holding (Some text.output) e') text.tally stream → Encodes AsWritten b d (holding (Some []) (Some [])) (holding (Some messages.output) (Some messages.errors)) messages.tally text.output → Dumps b d (holding (Some []) (Some [])) (holding (Some again.output) (Some again.errors)) again.tally messages.output
+pub three-runs : (records : List Record) (b : List Row) (d : List Sequence) (stream : List ℕ) (text messages again : Written) (e e' : Option (List ℕ)) → AreRows records b
+    → AllByRecursion IsOctet stream
+    → Dumps b d (holding (Some []) e) (holding (Some text.output) e') text.tally stream
+    → Encodes AsWritten b d (holding (Some []) (Some [])) (holding (Some messages.output) (Some messages.errors)) messages.tally text.output
+    → Dumps b d (holding (Some []) (Some [])) (holding (Some again.output) (Some again.errors)) again.tally messages.output
     → IsWholeRound b d stream text messages again
 three-runs records b d stream text messages again e e' rows octets (wrote, counts) (encodes, counted) (dumps, counts') =
     whole-round b d records stream text messages again rows octets wrote.output counts encodes.output encodes.errors counted dumps.output dumps.errors counts'
@@ -332,7 +346,8 @@ record AreBuilt (b : List Row) (d : List Sequence) (piece : StreamEvent → Piec
   again : (line : ℕ) → map (result_piece AsWritten b d) (parse_lines line Between (lines_of (concat texts))) ≡ map OnOutput messages
 
 -- nothing is built of pieces of which none is written before the first refusal
-none-built : (b : List Row) (d : List Sequence) (piece : StreamEvent → Piece) (pieces : List Piece) → flat_map output_of (up_to_refused pieces) ≡ [] → filter is_accepted (up_to_refused pieces) ≡ [] → AreBuilt b d piece pieces []
+none-built : (b : List Row) (d : List Sequence) (piece : StreamEvent → Piece) (pieces : List Piece) → flat_map output_of (up_to_refused pieces) ≡ [] → filter is_accepted (up_to_refused pieces) ≡ []
+    → AreBuilt b d piece pieces []
 none-built b d piece pieces silent none = record {
   messages = [];
   written = silent;
@@ -369,7 +384,8 @@ module _ (form : Form) (records : List Record) (b : List Row) (d : List Sequence
     spells line more =
         let legal = (tree_fine (tables_of b d) read.sections.descriptors read.template read.accepted.expands).legal in
         ap (λ t. map (result_piece AsWritten b d) (parse_lines line Between (lines_of (t ++ more)))) (sym text-is)
-        ∙ ap (map (result_piece AsWritten b d)) (text-spells read.sections items line more (dumpable b d octets read.sections read.template read.values read.used (table_read records b rows) legal read.accepted))
+        ∙ ap (map (result_piece AsWritten b d)) (text-spells read.sections items line more
+        (dumpable b d octets read.sections read.template read.values read.used (table_read records b rows) legal read.accepted))
         ∙ ap (λ x. encoded x ∷ map (result_piece AsWritten b d) (parse_lines (line + length (dump_lines read.sections items)) Between (lines_of more)))
         (encoded_again_same form records b d rows document octets read line proper is)
 
@@ -385,7 +401,8 @@ module _ (form : Form) (records : List Record) (b : List Row) (d : List Sequence
     }
 
   -- a document is encoded, or refused
-  document-more : (document : Document) (made : Result (List ℕ) RefusedAt) (pieces : List Piece) (texts : List (List ℕ)) → IsProper document → encoding_in form b d document ≡ made → AreBuilt b d piece_of pieces texts
+  document-more : (document : Document) (made : Result (List ℕ) RefusedAt) (pieces : List Piece) (texts : List (List ℕ)) → IsProper document → encoding_in form b d document ≡ made
+      → AreBuilt b d piece_of pieces texts
       → AreBuilt b d piece_of (encoded made ∷ pieces) (before_refused made (normal_text form b d document) texts)
   unfolding up_to_refused
   document-more document (Ok octets) pieces texts proper is r = one-more document octets proper is (encoded_read form records b d rows document proper octets is) pieces texts r

@@ -137,7 +137,8 @@ written-kept w w1 w2 e e1 e2 pieces kept_w kept_e before = record {
 }
 
 -- these pieces were written whole, and of the next one nothing
-abbrev pub whole-part : (w w1 w2 e e1 e2 : Option (List ℕ)) (given rest pieces : List Piece) → w2 ≡ w1 → e2 ≡ e1 → pieces ≡ given ++ rest → WritesPieces w w1 e e1 given → WrittenInPart w w2 e e2 pieces
+abbrev pub whole-part : (w w1 w2 e e1 e2 : Option (List ℕ)) (given rest pieces : List Piece) → w2 ≡ w1 → e2 ≡ e1 → pieces ≡ given ++ rest → WritesPieces w w1 e e1 given
+    → WrittenInPart w w2 e e2 pieces
 whole-part w w1 w2 e e1 e2 given rest pieces same_w same_e parts whole = record {
   given = given;
   next = None;
@@ -151,7 +152,8 @@ whole-part w w1 w2 e e1 e2 given rest pieces same_w same_e parts whole = record 
 }
 
 -- all was written, and then a flush failed
-pub done-cut : (pieces : RunPieces) (left left' w w' e e' : Option (List ℕ)) (unflushed : Type 0) (bs : List ℕ) (tally : Tally) → RunDone pieces left left' w w' e e' bs tally → RunCut pieces left left' w w' e e' unflushed bs
+pub done-cut : (pieces : RunPieces) (left left' w w' e e' : Option (List ℕ)) (unflushed : Type 0) (bs : List ℕ) (tally : Tally) → RunDone pieces left left' w w' e e' bs tally
+    → RunCut pieces left left' w w' e e' unflushed bs
 done-cut pieces left left' w w' e e' unflushed bs tally done =
     let all = read_pieces pieces done.ended bs in
     record {
@@ -195,7 +197,8 @@ module _ (piece : StreamEvent → Piece) (left mid left' : Option (List ℕ)) (r
       }
 
   -- the telling of an event was stopped
-  pub stop-report : (unflushed : Type 0) → unflushed → (w2 e2 : Option (List ℕ)) (event : Event) (takes : Bool) (write_event : Result Verdict RunFault) (f : RunFault) (r : Result Tally RunFault) → result ≡ Ok event → IsEvent event
+  pub stop-report : (unflushed : Type 0) → unflushed → (w2 e2 : Option (List ℕ)) (event : Event) (takes : Bool) (write_event : Result Verdict RunFault) (f : RunFault) (r : Result Tally RunFault)
+      → result ≡ Ok event → IsEvent event
       → (LeavesPieces w1 w2 e1 e2 (map piece (events_of event)) write_event) → StopsPiece takes write_event → write_event ≡ Err f → r ≡ Err f
       → (bs : List ℕ) × (LeavesRun (event_pieces piece) left left' w w2 e e2 unflushed (ReadsFewer reads reads2) bs r)
   stop-report unflushed kept w2 e2 event takes write_event f r is some reports stops fails same =
@@ -238,7 +241,8 @@ module _ (piece : StreamEvent → Piece) (left mid left' : Option (List ℕ)) (r
         let done = (rw is at next.ends).1 in
         let bs = ran.octets ++ steps.0 in
         let step = ReadsAndPasses-then left mid left' s s' ran.octets steps.0 ran.events [] ran.step steps.1 in
-        let all : scan bs ≡ ran.events = whole-scan s'.ended bs s'.rest (ran.events ++ []) s'.at step.advances ∙ ap (λ l. (ran.events ++ []) ++ l) (done.1 s'.at) ∙ append-nil (ran.events ++ []) ∙ append-nil ran.events in (
+        let all : scan bs ≡ ran.events = whole-scan s'.ended bs s'.rest (ran.events ++ []) s'.at step.advances ∙ ap (λ l. (ran.events ++ []) ++ l) (done.1 s'.at) ∙ append-nil (ran.events ++ [])
+        ∙ append-nil ran.events in (
           bs,
           let before = ran.wrote in
               let W : List StreamEvent → Type 0 = λ l. WritesPieces w w2 e e2 (map piece l) in
@@ -296,7 +300,8 @@ module _ (piece : StreamEvent → Piece) (left mid : Option (List ℕ)) (reads r
         flushed = λ _. rw (ap (map piece) certain) so;
       }
 
-  module _ (left' : Option (List ℕ)) (reads2 : ℕ) (s2 : FinderModel) (result : Result (Unit {0}) RunFault) (bs : List ℕ) (more : ReadsMore mid left' s1 s2 result bs) (made : AddsReads reads1 reads2 s1.reads s2.reads) where
+  module _ (left' : Option (List ℕ)) (reads2 : ℕ) (s2 : FinderModel) (result : Result (Unit {0}) RunFault) (bs : List ℕ) (more : ReadsMore mid left' s1 s2 result bs)
+      (made : AddsReads reads1 reads2 s1.reads s2.reads) where
     on : ReadsAndPasses left left' new_finder s2 (ran.octets ++ bs) ran.events
     on = read-step left mid new_finder s1 s2 ran.octets ran.events left' result bs step needs.going (record { fills = more.fills; at = more.at; fault = more.fault; longest = more.longest })
 
@@ -363,12 +368,14 @@ all-known pieces (Some s) (Some t) w w' e e' unflushed early (Ok tally) (bs, don
     rw done.read (done.written t none, done.tallies t none)
 
 -- the reads of a run, whose texts take memory or not
-pub run-reads : {X : Type 0} (takes : Bool) (reads reads' : ℕ) (s : FinderModel) (r : Result X RunFault) → AddsReads reads reads' new_finder.reads s.reads → (r ≡ Err InputTooLong → s.reads ≡ max_reads) → (takes ≡ false → r ≡ Err Memory → s.reads < max_reads) → RunReads takes reads reads' r
+pub run-reads : {X : Type 0} (takes : Bool) (reads reads' : ℕ) (s : FinderModel) (r : Result X RunFault) → AddsReads reads reads' new_finder.reads s.reads
+    → (r ≡ Err InputTooLong → s.reads ≡ max_reads) → (takes ≡ false → r ≡ Err Memory → s.reads < max_reads) → RunReads takes reads reads' r
 run-reads false reads reads' s r counts long wanted = let e : s.reads - 0 ≡ s.reads = omega arith in (s.reads, counts.most, counts.made ∙ ap (counted reads) e, long, wanted refl)
 run-reads true reads reads' s r counts long wanted = let e : s.reads - 0 ≡ s.reads = omega arith in (s.reads, counts.most, counts.made ∙ ap (counted reads) e, long)
 
 -- where a read failed, or was not made
-pub run-reads-stop : (takes : Bool) (reads reads' : ℕ) (mid left' : Option (List ℕ)) (s1 s2 : FinderModel) (result : Result (Unit {0}) RunFault) (bs : List ℕ) (f : RunFault) (r : Result Tally RunFault)
+pub run-reads-stop : (takes : Bool) (reads reads' : ℕ) (mid left' : Option (List ℕ)) (s1 s2 : FinderModel) (result : Result (Unit {0}) RunFault) (bs : List ℕ) (f : RunFault)
+    (r : Result Tally RunFault)
     → AddsReads reads reads' new_finder.reads s2.reads → ReadsMore mid left' s1 s2 result bs → result ≡ Err f → r ≡ Err f → RunReads takes reads reads' r
 run-reads-stop takes reads reads' mid left' s1 s2 result bs f r counts more is same =
     run-reads takes reads reads' s2 r counts
@@ -382,7 +389,8 @@ run-reads-stop takes reads reads' mid left' s1 s2 result bs f r counts more is s
     ends.2.1)
 
 -- where the telling of an event was stopped
-pub run-reads-report : (takes : Bool) (reads reads' : ℕ) (s : FinderModel) (f : RunFault) (r : Result Tally RunFault) → AddsReads reads reads' new_finder.reads s.reads → StopsPiece takes (Err f) → r ≡ Err f → RunReads takes reads reads' r
+pub run-reads-report : (takes : Bool) (reads reads' : ℕ) (s : FinderModel) (f : RunFault) (r : Result Tally RunFault) → AddsReads reads reads' new_finder.reads s.reads → StopsPiece takes (Err f)
+    → r ≡ Err f → RunReads takes reads reads' r
 run-reads-report takes reads reads' s Read r counts stops same = absurd stops
 run-reads-report takes reads reads' s Write r counts stops same = run-reads takes reads reads' s r counts (λ long. cc) (λ none wanted. cc)
 run-reads-report takes reads reads' s InputTooLong r counts stops same = absurd stops
@@ -431,7 +439,8 @@ pub leaves-devices : (pieces : RunPieces) (from to : Input) (before after : Writ
 leaves-devices pieces from to before after ran run order flushed input writers = record {
   octets = run.0;
   run = run.1;
-  whole = all-known pieces from.left to.left before.output.taken after.output.taken before.errors.taken after.errors.taken ((after.output.failed_flushes ≡ before.output.failed_flushes) × (after.errors.failed_flushes ≡ before.errors.failed_flushes)) (ReadsFewer from.reads to.reads) ran run;
+  whole = all-known pieces from.left to.left before.output.taken after.output.taken before.errors.taken after.errors.taken
+      ((after.output.failed_flushes ≡ before.output.failed_flushes) × (after.errors.failed_flushes ≡ before.errors.failed_flushes)) (ReadsFewer from.reads to.reads) ran run;
   order = order;
   flushed = flushed;
   failures = input.0;
@@ -441,7 +450,8 @@ leaves-devices pieces from to before after ran run order flushed input writers =
 
 -- a run over the octets of its input, and then the flush of the rest
 pub ends-run : (pieces : RunPieces) (octets : Option (List ℕ)) (from to : Input) (before between after : Writers) (ran ran' : Result Tally RunFault)
-    → LeavesDevices pieces from to before between ran → ran' ≡ ran → FlushesRest between.output after.output ran → after.errors ≡ between.errors → from.left ≡ octets → EndsRun pieces octets before after ran'
+    → LeavesDevices pieces from to before between ran → ran' ≡ ran → FlushesRest between.output after.output ran → after.errors ≡ between.errors → from.left ≡ octets
+    → EndsRun pieces octets before after ran'
 ends-run pieces octets from to before between after ran ran' leaves same rest errors known = rw same (Ended from to known between leaves rest errors)
 
 -- a fault of reading an input whole
@@ -449,7 +459,8 @@ pub read-fault : (left left' : Option (List ℕ)) (fault : RunFault) (bs : List 
 read-fault left left' fault bs so is = subst (λ f. ReadsAll left left' (Err f) bs) is so
 
 -- help that was written in part ends with the line of a fault of a write
-pub help-in-part : (text : List ℕ) (before after : Writers) (status : ℕ) (fault : RunFault) → Writes {X = Unit {0}} before.output.taken after.output.taken text (Err fault) → CountsCalls {X = Unit {0}} before.output after.output (Err fault)
+pub help-in-part : (text : List ℕ) (before after : Writers) (status : ℕ) (fault : RunFault) → Writes {X = Unit {0}} before.output.taken after.output.taken text (Err fault)
+    → CountsCalls {X = Unit {0}} before.output after.output (Err fault)
     → WritesLine before.errors after.errors (run_line fault) → status ≡ 2 → WritesHelp text before after status
 help-in-part text before after status fault writes counts line is =
     InPart writes.1 counts (rw writes.0 at line) is
@@ -457,7 +468,8 @@ help-in-part text before after status fault writes counts line is =
 -- ---- The other clauses of a run, at each way to stop.
 
 -- a count of failures goes by the fault, whatever else the answer might have been
-pub failures-as : {X Y : Type 0} (a b c : ℕ) (r : Result X RunFault) (r' : Result Y RunFault) (f : RunFault) → r ≡ Err f → r' ≡ Err f → a ≡ read_failures_after b r → b ≡ c → a ≡ read_failures_after c r'
+pub failures-as : {X Y : Type 0} (a b c : ℕ) (r : Result X RunFault) (r' : Result Y RunFault) (f : RunFault) → r ≡ Err f → r' ≡ Err f → a ≡ read_failures_after b r → b ≡ c
+    → a ≡ read_failures_after c r'
 failures-as {X} {Y} a b c r r' f is is' e same = rw is' (subst (λ n. a ≡ read_failures_after {X = Y} n (Err f)) same (by f (rw is at e)))
   where
     by : (g : RunFault) → a ≡ read_failures_after {X = X} b (Err g) → a ≡ read_failures_after {X = Y} b (Err g)
@@ -467,7 +479,8 @@ failures-as {X} {Y} a b c r r' f is is' e same = rw is' (subst (λ n. a ≡ read
     by Memory e = e
 
 -- a read stops a run by no fault of a write
-pub not-write : (mid left' : Option (List ℕ)) (s1 s2 : FinderModel) (result : Result (Unit {0}) RunFault) (bs : List ℕ) (f : RunFault) → ReadsMore mid left' s1 s2 result bs → result ≡ Err f → f ≢ Write
+pub not-write : (mid left' : Option (List ℕ)) (s1 s2 : FinderModel) (result : Result (Unit {0}) RunFault) (bs : List ℕ) (f : RunFault) → ReadsMore mid left' s1 s2 result bs → result ≡ Err f
+    → f ≢ Write
 not-write mid left' s1 s2 result bs f more is write =
     let ends = rw (is, write) at more.fills.ends in
     ends.2

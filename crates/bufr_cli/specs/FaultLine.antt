@@ -21,7 +21,7 @@ stream_report (stream.Section fault) = section_report fault
 stream_report (stream.Template fault) = template_report fault.now
 stream_report (stream.Data fault) = data_report fault.now
 
--- it is not want of memory, which has no line
+-- a message's fault has a line of its own: each but want of memory
 abbrev pub HasLine : StreamFault → Type 0
 HasLine (stream.Section fault) = Unit {0}
 HasLine (stream.Template fault) = fault.now ≢ template.Memory

@@ -52,7 +52,7 @@ name_of Ls = codes "ls"
 name_of (Dump tables) = codes "dump"
 name_of (Encode tables form) = codes "encode"
 
--- these are the values of -B and -D
+-- the names of the tables are the values of -B and -D
 abbrev pub AreNamed : List Row → TableNames → Type 0
 AreNamed rows tables =
     (Some tables.table_b.now ≡ first_of (codes "B") rows)

@@ -7,7 +7,7 @@ use Rattle.bufr_text.specs.Prelude.{ls_line, dump_text_of, ParseResult, Complete
 use Rattle.bufr_cli.specs.FaultLine.{fault_line, refused_line, refusal_line}
 use Rattle.bufr_tables.specs.Prelude.{tree_of, tables_of, template_report, Row, Sequence, Tree}
 use Rattle.bufr_tables.specs.declared.fault.TemplateFault.{TemplateFault}
-use Rattle.bufr_walk.specs.Prelude.{next_item, data_report, data_of, reading_of, values_of, fault_of}
+use Rattle.bufr_walk.specs.Prelude.{next_item, data_report, data_of, reading_of, values_in, fault_of}
 use Rattle.bufr_walk.specs.declared.fault.WalkFault.{WalkFault}
 use Rattle.bufr_text.specs.declared.encode.Form.{Form}
 
@@ -26,12 +26,12 @@ abbrev pub errors_of : Piece → List ℕ
 errors_of (OnOutput text) = []
 errors_of (OnErrors text) = text
 
--- it goes to the output
+-- whether a piece goes to the output: its event was accepted
 abbrev pub is_accepted : Piece → Bool
 is_accepted (OnOutput text) = true
 is_accepted (OnErrors text) = false
 
--- it goes to the errors
+-- whether a piece goes to the errors: its event was refused
 abbrev pub is_refused : Piece → Bool
 is_refused (OnOutput text) = false
 is_refused (OnErrors text) = true
@@ -58,7 +58,7 @@ abbrev pub data_piece : List Row → ℕ → Sections → Tree → Piece
 data_piece table offset s template =
     let r = reading_of (next_item table template) (data_of s) in
     text_or_fault offset (fault_of (data_of s) r)
-    (dump_text_of s (dump_items table s.subsets (values_of r.passes)))
+    (dump_text_of s (dump_items table s.subsets (values_in r.passes)))
 
 -- what is written for a message, by the template of its descriptors, or by the fault of these
 -- rule: list-before-data

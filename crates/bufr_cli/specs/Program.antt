@@ -74,7 +74,7 @@ TableOutcome reads says named name outcome =
     ⊎ ((fault : TableFault) × (outcome ≡ says fault)
     × IfSome (named name.now) (λ text. reads (records_of text) (Err fault)))
 
--- these are the tables of the files of these names
+-- Tables B and D are those of the files of these names
 pub record AreTables (named : List ℕ → Option (List ℕ)) (tables : TableNames) (b : List Row)
     (d : List Sequence) : Type 0 where
   pub table_b : IfSome (named tables.table_b.now) (λ text. table_b_of (records_of text) ≡ Ok b)

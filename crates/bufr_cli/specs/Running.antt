@@ -89,7 +89,7 @@ abbrev pub CountsCalls : {X : Type 0} → (before after : Writer) → Result X R
 CountsCalls before after result =
     CountsWrites before.failures after.failures before.empty_writes after.empty_writes result
 
--- the same, and nothing is flushed
+-- a write fault comes only from a call that the writer counts, and no flush failed
 abbrev pub OnlyWrites : {X : Type 0} → (before after : Writer) → Result X RunFault → Type 0
 OnlyWrites before after result =
     CountsCalls before after result × (after.failed_flushes ≡ before.failed_flushes)

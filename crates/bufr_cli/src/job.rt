@@ -72,13 +72,13 @@ Examples:
 
 /// The notes under the help of `ls`.
 const LS_NOTES: &str = "\
-A line for each message goes to standard output, and a line for each fault to
-standard error, with its offset in octets and its number:
+Each message is a line on standard output. Each fault is a line on standard
+error, with its offset in octets and its number:
   1-3    a BUFR that begins no message: cut, a length under 12, no 7777
-  10     another edition than 3 or 4
+  10     an edition other than 3 and 4
   11-13  sections that do not fit the message
-  14     a message of edition 3 that is too long for its sections to be even
-  70-73  reading, writing, an endless input, memory
+  14     a message of edition 3 that is too long to be written again
+  70-73  reading, writing, endless input, memory
 
 Exit status:
   0  nothing was refused
@@ -90,26 +90,26 @@ Example:
 
 /// The notes under the help of `dump`.
 const DUMP_NOTES: &str = "\
-The text of each message goes to standard output, and a line for each fault to
+Each message is written as text to standard output. Each fault is a line on
 standard error, with its offset in octets and its number:
   1-3    a BUFR that begins no message: cut, a length under 12, no 7777
-  10     another edition than 3 or 4
+  10     an edition other than 3 and 4
   11-13  sections that do not fit the message
-  14     a message of edition 3 that is too long for its sections to be even
+  14     a message of edition 3 that is too long to be written again
   20-28  descriptors that the tables do not know, or that make no template
   30-35  data that do not fit the template
-  70-73  reading, writing, an endless input, memory
-Of a message that is refused nothing goes to standard output. A table at fault
-is told before the input is opened:
+  70-73  reading, writing, endless input, memory
+A refused message writes nothing to standard output. A faulty table is reported
+before the input is opened:
   40-45  header, row, duplicate, cycle, size, number of fields
 
 The tables are CSV files whose first line names these columns:
   B  fxy,name,unit,scale,reference,width
   D  fxy,member
-Sets of WMO's are in share/bufr/tables, below the folder bufr was installed to.
-They have to be those of the message's version, which bufr ls shows: with
-tables=0/24/0 it is 24, which wmo-37 serves. Those of another can give wrong
-values and no fault. bufr-auto FILE dumps each message by the set it asks for.
+The sets of WMO are in share/bufr/tables, below the folder that bufr was
+installed to. Take the set for the version that bufr ls shows: tables=0/24/0
+asks for version 24, which wmo-37 serves. Tables of another version can give
+wrong values without a fault. bufr-auto chooses the set for each message.
 
 Exit status:
   0  nothing was refused
@@ -121,32 +121,32 @@ Example:
 
 /// The notes under the help of `encode`.
 const ENCODE_NOTES: &str = "\
-The message of each document goes to standard output, when its end line was
-read. The first document that is refused ends the run, with a line on standard
-error that tells the line of the text, from 1, and the fault's number:
-  50     a line that may not stand there, is too long, or is missing at the end
-  51     another item, or none, where one is expected, or one too many
-  52-55  a value: number, out of range, text long, missing forbidden
+Each document becomes a message on standard output, once its end line is read.
+The first document that is refused ends the run, with a line on standard error:
+the line of the text, counted from 1, and the fault's number:
+  50     a line that is not allowed there, is too long, or is missing at the end
+  51     an item other than the expected one, a missing one, or one too many
+  52-55  a value: no number, out of range, text too long, missing not allowed
   56     descriptors that the tables do not know, or that make no template
   57     the number of a subset, or of subsets
-  58-59  compressed data: unequal factor, increment
-  60-61  a message too long, a header value out of its range
+  58-59  data that cannot be compressed
+  60-61  a message that is too long, a header value out of range
   62     data that the template cannot hold
-  70-73  reading, writing, an endless input, memory
-Of a document that is refused nothing goes to standard output. A table at fault
-is told before the input is opened:
+  70-73  reading, writing, endless input, memory
+A refused document writes nothing to standard output. A faulty table is reported
+before the input is opened:
   40-45  header, row, duplicate, cycle, size, number of fields
 
 The tables are CSV files whose first line names these columns:
   B  fxy,name,unit,scale,reference,width
   D  fxy,member
-They have to be those that the text was dumped by.
+Take the tables that the text was dumped with.
 
 With --form plain or --form compressed each message is written in that form,
-whatever its document says. Compressed, 58 tells a replication factor that
-differs between subsets, 59 texts that differ where one has more than 63 octets
-without the spaces at its end, or reference values that differ: such data can
-be written plain alone. Plain data may be too long (60).
+whatever its document says. Data cannot be compressed where replication factors
+differ between subsets (58), where texts differ and one has more than 63 octets
+without the spaces at its end, or where reference values differ (59). Plain data
+may be too long (60).
 
 Exit status:
   0  nothing was refused
@@ -225,11 +225,12 @@ fn encode_command<'a>(alloc: Global) -> Result<clap::Command<'a>, AllocError>
     ensures local { IfOk result (λ c. (out-Command c).has_globals ≡ false) }
 {
     let about = "Writes the BUFR message of each document";
-    let file = "The text to encode; standard input without it";
+    let file = "The text to encode (default: standard input)";
     let command = command_with_tables(alloc, "encode", about, ENCODE_NOTES, file)?;
-    let form = Arg::new(alloc, "form").long("form").value_name("WORD").help(
-        "plain or compressed; without it the form that each document says",
-    );
+    let form = Arg::new(alloc, "form")
+        .long("form")
+        .value_name("WORD")
+        .help("plain or compressed (default: as each document says)");
     command.arg(form)
 }
 
@@ -241,7 +242,7 @@ fn top_command<'a>(alloc: Global) -> Result<clap::Command<'a>, AllocError>
     let about = "Lists, dumps and encodes messages of FM 94 BUFR";
     let command = named_command(alloc, "bufr", about, PROGRAM_NOTES).bin_name("bufr")?;
     let command = command.version(VERSION).subcommand_required(true);
-    let file = file_argument(alloc, "The file to list; standard input without it");
+    let file = file_argument(alloc, "The file to list (default: standard input)");
     let ls = named_command(alloc, "ls", "Lists each BUFR message on a line", LS_NOTES).arg(file)?;
     command.subcommand(ls)
 }
@@ -253,7 +254,7 @@ fn command_line<'a>(alloc: Global) -> Result<clap::Command<'a>, AllocError>
 {
     let command = top_command(alloc)?;
     let about = "Writes each BUFR message as text";
-    let file = "The file to dump; standard input without it";
+    let file = "The file to dump (default: standard input)";
     let dump = command_with_tables(alloc, "dump", about, DUMP_NOTES, file)?;
     let command = command.subcommand(dump)?;
     command.subcommand(encode_command(alloc)?)

@@ -37,7 +37,8 @@ module _ {C D E : Type 0} (form : DataCoding C) (filler : Filler D C E) (of_item
 
   module _ (course : Course) (d : D) (ds : List D) (out : List Bool) (good : IsGoodCourse course) (text : HasText d)
       (others : (next : Course) (rest : List Bool) → IsGoodCourse next → fill filler next ds ≡ Ok rest → IsBack form of_item next ds rest) where
-    back_rest : (spec : FieldSpec) (w : WrittenItem C) → (course []).next ≡ take_next spec → IsOneBack form of_item spec d w → (r : Result (List Bool) E) → fill filler (λ answers. course (form.gives spec w.content ∷ answers)) ds ≡ r → with_bits_before filler w.bits r ≡ Ok out → IsBack form of_item course (d ∷ ds) out
+    back_rest : (spec : FieldSpec) (w : WrittenItem C) → (course []).next ≡ take_next spec → IsOneBack form of_item spec d w → (r : Result (List Bool) E)
+        → fill filler (λ answers. course (form.gives spec w.content ∷ answers)) ds ≡ r → with_bits_before filler w.bits r ≡ Ok out → IsBack form of_item course (d ∷ ds) out
     back_rest spec w q here (Err why) p e = cc
     back_rest spec w q here (Ok rest) p e =
         let suffix = others (λ answers. course (form.gives spec w.content ∷ answers)) rest (λ answers asked ws n. good (form.gives spec w.content ∷ answers) asked (here.within, ws) n) p in
@@ -51,7 +52,8 @@ module _ {C D E : Type 0} (form : DataCoding C) (filler : Filler D C E) (of_item
               ((rest ++ more, q, subst (λ bits. form.field spec bits ≡ Ok (found w.content (rest ++ more))) turned (here.read (rest ++ more)), r.0), r.1);
         }
 
-    back_fill : (spec : FieldSpec) → (course []).next ≡ take_next spec → (r : Result (WrittenItem C) E) → filler.fills spec d ≡ r → filled filler spec r (λ t. fill filler (λ answers. course (t ∷ answers)) ds) ≡ Ok out → IsBack form of_item course (d ∷ ds) out
+    back_fill : (spec : FieldSpec) → (course []).next ≡ take_next spec → (r : Result (WrittenItem C) E) → filler.fills spec d ≡ r
+        → filled filler spec r (λ t. fill filler (λ answers. course (t ∷ answers)) ds) ≡ Ok out → IsBack form of_item course (d ∷ ds) out
     back_fill spec q (Err why) p e = cc
     back_fill spec q (Ok w) p e =
         let here = one spec d w (good [] spec tt q).spec text p in
@@ -81,8 +83,10 @@ plain_one end_line spec d w good text e = by_content (content_of spec d) refl e
         subst (λ v. IsOneBack plain IsSaid spec d v) is (record { said = p; within = answer_within spec.role spec c good good.role fits; read = plain_again spec good c fits })
 
 module _ (course : Course) (good : IsGoodCourse course) where
-  plain_join : (s : Subset) (ss : List Subset) (out : List Bool) → AllByRecursion (λ (d : Draft). HasOctets d.form) s.items → ((rest : List Bool) → plain_data course ss ≡ Ok rest → IsReadBack course ss rest)
-      → (a b : Result (List Bool) FaultAt) → fill (plain_filler s.end_line) course s.items ≡ a → plain_data course ss ≡ b → (a >>= λ x. b >>= λ y. Ok (x ++ y)) ≡ Ok out → IsReadBack course (s ∷ ss) out
+  plain_join : (s : Subset) (ss : List Subset) (out : List Bool) → AllByRecursion (λ (d : Draft). HasOctets d.form) s.items
+      → ((rest : List Bool) → plain_data course ss ≡ Ok rest → IsReadBack course ss rest)
+      → (a b : Result (List Bool) FaultAt) → fill (plain_filler s.end_line) course s.items ≡ a → plain_data course ss ≡ b → (a >>= λ x. b >>= λ y. Ok (x ++ y)) ≡ Ok out
+      → IsReadBack course (s ∷ ss) out
   plain_join s ss out text others (Err why) b p q e = cc
   plain_join s ss out text others (Ok x) (Err why) p q e = cc
   plain_join s ss out text others (Ok x) (Ok y) p q e =
@@ -134,18 +138,23 @@ record AreCellsSaid (spec : FieldSpec) (cells : List RowCell) (cs : List Content
   fits : AllFit spec cs
   count : length cs ≡ length cells
 
-cells_join : (spec : FieldSpec) (cell : RowCell) (cells : List RowCell) (cs : List Content) → OctetsIn cell.draft → ((rest : List Content) → contents_here spec cells ≡ Ok rest → AreCellsSaid spec cells rest)
-    → (a : Result Content FaultAt) (b : Result (List Content) FaultAt) → content_here spec cell.draft cell.end_line ≡ a → contents_here spec cells ≡ b → (a >>= λ first. b >>= λ rest. Ok (first ∷ rest)) ≡ Ok cs → AreCellsSaid spec (cell ∷ cells) cs
+cells_join : (spec : FieldSpec) (cell : RowCell) (cells : List RowCell) (cs : List Content) → OctetsIn cell.draft
+    → ((rest : List Content) → contents_here spec cells ≡ Ok rest → AreCellsSaid spec cells rest)
+    → (a : Result Content FaultAt) (b : Result (List Content) FaultAt) → content_here spec cell.draft cell.end_line ≡ a → contents_here spec cells ≡ b
+    → (a >>= λ first. b >>= λ rest. Ok (first ∷ rest)) ≡ Ok cs → AreCellsSaid spec (cell ∷ cells) cs
 cells_join spec cell cells cs text others (Err why) b p q e = cc
 cells_join spec cell cells cs text others (Ok c) (Err why) p q e = cc
 cells_join spec cell cells cs text others (Ok c) (Ok rest) p q e =
     let here = cell_said spec cell.draft cell.end_line c text p in
     let suffix = others rest q in
-    subst (AreCellsSaid spec (cell ∷ cells)) (same_ok (c ∷ rest) cs e) (record { said = (here.0, said_shift 0 spec c rest cells suffix.said); fits = (here.1, suffix.fits); count = ap suc suffix.count })
+    subst (AreCellsSaid spec (cell ∷ cells)) (same_ok (c ∷ rest) cs e)
+    (record { said = (here.0, said_shift 0 spec c rest cells suffix.said); fits = (here.1, suffix.fits); count = ap suc suffix.count })
 
-cells_said : (spec : FieldSpec) (cells : List RowCell) (cs : List Content) → AllByRecursion (λ (cell : RowCell). OctetsIn cell.draft) cells → contents_here spec cells ≡ Ok cs → AreCellsSaid spec cells cs
+cells_said : (spec : FieldSpec) (cells : List RowCell) (cs : List Content) → AllByRecursion (λ (cell : RowCell). OctetsIn cell.draft) cells → contents_here spec cells ≡ Ok cs
+    → AreCellsSaid spec cells cs
 cells_said spec [] cs text e = subst (AreCellsSaid spec []) (same_ok [] cs e) (record { said = tt; fits = tt; count = refl })
-cells_said spec (cell ∷ cells) cs text e = cells_join spec cell cells cs text.0 (λ rest q. cells_said spec cells rest text.1 q) (content_here spec cell.draft cell.end_line) (contents_here spec cells) refl refl e
+cells_said spec (cell ∷ cells) cs text e = cells_join spec cell cells cs text.0 (λ rest q. cells_said spec cells rest text.1 q) (content_here spec cell.draft cell.end_line) (contents_here spec cells)
+    refl refl e
 
 -- an item of all subsets
 abbrev IsSaidAcross : ℕ → Item (List Content) → ItemRow → Type 0
@@ -157,10 +166,12 @@ IsRowOf n a = (length a.cells ≡ n) × AllByRecursion (λ (cell : RowCell). Oct
 few_of : (place n : ℕ) → are_many place n ≡ false → (place + 1) * n ≤ max_values
 few_of place n h = ltb-false max_values ((place + 1) * n) h
 
-packed_one : (n : ℕ) → 1 ≤ n → (spec : FieldSpec) (a : ItemRow) (w : WrittenItem (List Content)) → IsSpec spec → IsRowOf n a → pack_across spec a ≡ Ok w → IsOneBack (packed n) (IsSaidAcross n) spec a w
+packed_one : (n : ℕ) → 1 ≤ n → (spec : FieldSpec) (a : ItemRow) (w : WrittenItem (List Content)) → IsSpec spec → IsRowOf n a → pack_across spec a ≡ Ok w
+    → IsOneBack (packed n) (IsSaidAcross n) spec a w
 packed_one n some spec a w good row e = by_many (are_many a.place (length a.cells)) refl e
   where
-    by_list : (cs : List Content) (bits : List Bool) → (a.place + 1) * n ≤ max_values → AreCellsSaid spec a.cells cs → packing spec cs ≡ Ok bits → IsOneBack (packed n) (IsSaidAcross n) spec a (written_item cs bits)
+    by_list : (cs : List Content) (bits : List Bool) → (a.place + 1) * n ≤ max_values → AreCellsSaid spec a.cells cs → packing spec cs ≡ Ok bits
+        → IsOneBack (packed n) (IsSaidAcross n) spec a (written_item cs bits)
     by_list [] bits few are q = absurd (omega (arith, some, are.count, row.0))
     by_list (c ∷ cs) bits few are q = record {
       said = (are.said, few);
@@ -168,15 +179,18 @@ packed_one n some spec a w good row e = by_many (are_many a.place (length a.cell
       read = λ more. fitting_again n spec good c cs bits more are.fits (are.count ∙ row.0) q;
     }
 
-    by_packing : (cs : List Content) → (a.place + 1) * n ≤ max_values → AreCellsSaid spec a.cells cs → (r : Result (List Bool) FieldFault) → packing spec cs ≡ r → packed_to cs a.cells r ≡ Ok w → IsOneBack (packed n) (IsSaidAcross n) spec a w
+    by_packing : (cs : List Content) → (a.place + 1) * n ≤ max_values → AreCellsSaid spec a.cells cs → (r : Result (List Bool) FieldFault) → packing spec cs ≡ r → packed_to cs a.cells r ≡ Ok w
+        → IsOneBack (packed n) (IsSaidAcross n) spec a w
     by_packing cs few are (Ok bits) q r = subst (IsOneBack (packed n) (IsSaidAcross n) spec a) (same_ok (written_item cs bits) w r) (by_list cs bits few are q)
     by_packing cs few are (Err why) q r = cc
 
-    by_contents : (a.place + 1) * n ≤ max_values → (r : Result (List Content) FaultAt) → contents_here spec a.cells ≡ r → (r >>= λ cs. packed_to cs a.cells (packing spec cs)) ≡ Ok w → IsOneBack (packed n) (IsSaidAcross n) spec a w
+    by_contents : (a.place + 1) * n ≤ max_values → (r : Result (List Content) FaultAt) → contents_here spec a.cells ≡ r → (r >>= λ cs. packed_to cs a.cells (packing spec cs)) ≡ Ok w
+        → IsOneBack (packed n) (IsSaidAcross n) spec a w
     by_contents few (Err why) p q = cc
     by_contents few (Ok cs) p q = by_packing cs few (cells_said spec a.cells cs row.1 p) (packing spec cs) refl q
 
-    by_many : (b : Bool) → are_many a.place (length a.cells) ≡ b → (if b then Err (at_line (first_line a.cells) (too_many_values spec.fxy)) else (contents_here spec a.cells >>= λ cs. packed_to cs a.cells (packing spec cs))) ≡ Ok w → IsOneBack (packed n) (IsSaidAcross n) spec a w
+    by_many : (b : Bool) → are_many a.place (length a.cells) ≡ b → (if b then Err (at_line (first_line a.cells) (too_many_values spec.fxy)) else
+        (contents_here spec a.cells >>= λ cs. packed_to cs a.cells (packing spec cs))) ≡ Ok w → IsOneBack (packed n) (IsSaidAcross n) spec a w
     by_many true p q = cc
     by_many false p q = by_contents (subst (λ k. (a.place + 1) * k ≤ max_values) row.0 (few_of a.place (length a.cells) p)) (contents_here spec a.cells) refl q
 
@@ -224,7 +238,8 @@ rows_said n [] (a ∷ more) h = absurd h
 rows_said n (i ∷ items) [] h = absurd h
 rows_said n (i ∷ items) (a ∷ more) h = (h.0.0, rows_said n items more h.1)
 
-first_subset : (j count from : ℕ) (s : Subset) (ss : List Subset) (items : List (Item (List Content))) → RowsSaid j items (rows count from (s ∷ ss)) → length s.items ≤ from + count → AreDrafts IsSaid (items_of_subset j items) (drop from s.items)
+first_subset : (j count from : ℕ) (s : Subset) (ss : List Subset) (items : List (Item (List Content))) → RowsSaid j items (rows count from (s ∷ ss)) → length s.items ≤ from + count
+    → AreDrafts IsSaid (items_of_subset j items) (drop from s.items)
 first_subset j zero from s ss [] h l = subst (AreDrafts IsSaid []) (sym (drop_none from s.items (omega (arith, l)))) tt
 first_subset j zero from s ss (i ∷ items) h l = absurd h
 first_subset j (suc count) from s ss [] h l = absurd h
@@ -242,7 +257,8 @@ all_subsets : (j count : ℕ) (ss : List Subset) (items : List (Item (List Conte
 all_subsets j count [] items h l = tt
 all_subsets j count (s ∷ ss) items h l = (first_subset j count 0 s ss items h (omega (arith, l)), all_subsets (suc j) count ss items (other_subsets j count 0 s ss items h) (omega (arith, l)))
 
-few_rows : (n count from : ℕ) (ss : List Subset) (items : List (Item (List Content))) → from * n ≤ max_values → AreDrafts (IsSaidAcross n) items (rows count from ss) → (from + length items) * n ≤ max_values
+few_rows : (n count from : ℕ) (ss : List Subset) (items : List (Item (List Content))) → from * n ≤ max_values → AreDrafts (IsSaidAcross n) items (rows count from ss)
+    → (from + length items) * n ≤ max_values
 few_rows n zero from ss [] few h = let q : from ≡ from + 0 = omega arith in subst (λ k. k * n ≤ max_values) q few
 few_rows n zero from ss (i ∷ items) few h = absurd h
 few_rows n (suc count) from ss [] few h = absurd h
@@ -255,7 +271,8 @@ packed_back course good [] out text e = record { items = []; said = tt; read = �
 packed_back course good (s ∷ ss) out text e =
     let n = length (s ∷ ss) in
     let most = longest (s ∷ ss) in
-    let b = back (packed n) (packed_filler s.end_line (are_many most n)) (IsSaidAcross n) (IsRowOf n) (λ spec cs. refl) (packed_one n (omega arith)) course (rows most 0 (s ∷ ss)) out good (rows_octets n most 0 (s ∷ ss) refl text) e in
+    let b = back (packed n) (packed_filler s.end_line (are_many most n)) (IsSaidAcross n) (IsRowOf n) (λ spec cs. refl) (packed_one n (omega arith)) course (rows most 0 (s ∷ ss)) out good
+    (rows_octets n most 0 (s ∷ ss) refl text) e in
     let zero_more : 0 + length b.items ≡ length b.items = omega arith in
     record {
       items = b.items;
@@ -263,8 +280,10 @@ packed_back course good (s ∷ ss) out text e =
       read = λ more. (b.read more, subst (λ k. k * n ≤ max_values) zero_more (few_rows n most 0 (s ∷ ss) b.items (omega arith) b.said));
     }
 
-pub plain_template_back : (records : List Record) (table : List Row) (template : Tree) (drafts : List Subset) (bits : List Bool) → AreRows records table → IsLegal template → AllHaveOctets drafts → plain_data (next_item table template) drafts ≡ Ok bits → IsReadBack (next_item table template) drafts bits
+pub plain_template_back : (records : List Record) (table : List Row) (template : Tree) (drafts : List Subset) (bits : List Bool) → AreRows records table → IsLegal template → AllHaveOctets drafts
+    → plain_data (next_item table template) drafts ≡ Ok bits → IsReadBack (next_item table template) drafts bits
 plain_template_back records table template drafts bits rows legal text e = plain_back (next_item table template) (next_field table template (table_read records table rows) legal) drafts bits text e
 
-pub packed_template_back : (records : List Record) (table : List Row) (template : Tree) (drafts : List Subset) (bits : List Bool) → AreRows records table → IsLegal template → AllHaveOctets drafts → packed_data (next_item table template) drafts ≡ Ok bits → IsPackedReadBack (next_item table template) drafts bits
+pub packed_template_back : (records : List Record) (table : List Row) (template : Tree) (drafts : List Subset) (bits : List Bool) → AreRows records table → IsLegal template → AllHaveOctets drafts
+    → packed_data (next_item table template) drafts ≡ Ok bits → IsPackedReadBack (next_item table template) drafts bits
 packed_template_back records table template drafts bits rows legal text e = packed_back (next_item table template) (next_field table template (table_read records table rows) legal) drafts bits text e

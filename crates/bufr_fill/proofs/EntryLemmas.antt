@@ -110,7 +110,8 @@ module _ (place : ℕ) (e : ℕ) (c : RowCell) where
   some_same : (a b : RowCell) → ◌≡◌ {A = Option RowCell} (Some a) (Some b) → a ≡ b
   some_same a b e = cc
 
-  at_first : (from : ℕ) (xs : List DraftEntry) (x : ℕ) (rest : List ℕ) → Cut from xs x rest → Some x ≡ Some e → slice_get (cells_at place (subsets_of xs)) 0 ≡ Some c → IsSubsetEnd place 0 from xs (x ∷ rest) e c
+  at_first : (from : ℕ) (xs : List DraftEntry) (x : ℕ) (rest : List ℕ) → Cut from xs x rest → Some x ≡ Some e → slice_get (cells_at place (subsets_of xs)) 0 ≡ Some c
+      → IsSubsetEnd place 0 from xs (x ∷ rest) e c
   at_first from xs x rest k p q =
       let same : x ≡ e = cc in
       let cell : ◌≡◌ {A = Option RowCell} (Some (record { draft = slice_get k.items place; end_line = k.line })) (Some c) = sym (ap (λ ss. slice_get (cells_at place ss) 0) k.subsets) ∙ q in
@@ -122,7 +123,8 @@ module _ (place : ℕ) (e : ℕ) (c : RowCell) where
         there = ap (slice_get xs) m ∙ k.there place ∙ ap (λ (z : RowCell). Some (entry_or_end z.draft z.end_line)) is;
       }
 
-  further : (from : ℕ) (xs : List DraftEntry) (s x : ℕ) (rest : List ℕ) (k : Cut from xs x rest) → IsSubsetEnd place s (suc x) (drop (suc (length k.items)) xs) rest e c → IsSubsetEnd place (suc s) from xs (x ∷ rest) e c
+  further : (from : ℕ) (xs : List DraftEntry) (s x : ℕ) (rest : List ℕ) (k : Cut from xs x rest) → IsSubsetEnd place s (suc x) (drop (suc (length k.items)) xs) rest e c
+      → IsSubsetEnd place (suc s) from xs (x ∷ rest) e c
   further from xs s x rest k r =
       let m : suc (length k.items) + (min e (begin_of (suc x) rest s + place) - suc x) ≡ min e (begin_of (suc x) rest s + place) - from = omega (arith, k.place, r.begins, r.ends_at) in
       record {
@@ -131,7 +133,8 @@ module _ (place : ℕ) (e : ℕ) (c : RowCell) where
         there = ap (slice_get xs) (sym m) ∙ sym (slice_get-drop (suc (length k.items)) xs (min e (begin_of (suc x) rest s + place) - suc x)) ∙ r.there;
       }
 
-  subset_end_at : (s from : ℕ) (xs : List DraftEntry) (ends : List ℕ) → ends_of from xs ≡ ends → slice_get ends s ≡ Some e → slice_get (cells_at place (subsets_of xs)) s ≡ Some c → IsSubsetEnd place s from xs ends e c
+  subset_end_at : (s from : ℕ) (xs : List DraftEntry) (ends : List ℕ) → ends_of from xs ≡ ends → slice_get ends s ≡ Some e → slice_get (cells_at place (subsets_of xs)) s ≡ Some c
+      → IsSubsetEnd place s from xs ends e c
   subset_end_at s from xs [] p q r = absurd cc
   subset_end_at zero from xs (x ∷ rest) p q r = at_first from xs x rest (cut from xs x rest p) q r
   subset_end_at (suc s) from xs (x ∷ rest) p q r =
@@ -139,7 +142,8 @@ module _ (place : ℕ) (e : ℕ) (c : RowCell) where
       further from xs s x rest k (subset_end_at s (suc x) (drop (suc (length k.items)) xs) rest (sym k.rest_is) q (sym (ap (λ ss. slice_get (cells_at place ss) (suc s)) k.subsets) ∙ r))
 
 -- the entry that the code reads
-pub entry_there : (place s : ℕ) (xs : List DraftEntry) (e : ℕ) (c : RowCell) → slice_get (ends_of 0 xs) s ≡ Some e → slice_get (cells_at place (subsets_of xs)) s ≡ Some c → slice_get xs (min e (begin_of 0 (ends_of 0 xs) s + place)) ≡ Some (entry_or_end c.draft c.end_line)
+pub entry_there : (place s : ℕ) (xs : List DraftEntry) (e : ℕ) (c : RowCell) → slice_get (ends_of 0 xs) s ≡ Some e → slice_get (cells_at place (subsets_of xs)) s ≡ Some c
+    → slice_get xs (min e (begin_of 0 (ends_of 0 xs) s + place)) ≡ Some (entry_or_end c.draft c.end_line)
 entry_there place s xs e c h g =
     let m : min e (begin_of 0 (ends_of 0 xs) s + place) - 0 ≡ min e (begin_of 0 (ends_of 0 xs) s + place) = omega arith in
     sym (ap (slice_get xs) m) ∙ (subset_end_at place e c s 0 xs (ends_of 0 xs) refl h g).there
@@ -181,7 +185,8 @@ pub end_within : (xs : List DraftEntry) (ends : List ℕ) (s : ℕ) → ends ≡
 end_within xs ends s e h = omega (arith, ap (λ l. get_or l s 0) e, end_small 0 xs s 0 (omega (arith, h, ap length e)))
 
 -- the entry that the code finds
-pub found_entry : (place s : ℕ) (xs : List DraftEntry) (ends : List ℕ) (z : ℕ) (begin : ℕ) (e : DraftEntry) → ends ≡ ends_of 0 xs → s < length ends → begin ≡ begin_of 0 ends s → slice_get xs (min (get_or ends s z) (begin + place)) ≡ Some e
+pub found_entry : (place s : ℕ) (xs : List DraftEntry) (ends : List ℕ) (z : ℕ) (begin : ℕ) (e : DraftEntry) → ends ≡ ends_of 0 xs → s < length ends → begin ≡ begin_of 0 ends s
+    → slice_get xs (min (get_or ends s z) (begin + place)) ≡ Some e
     → (c : RowCell) → slice_get (cells_at place (subsets_of xs)) s ≡ Some c → e ≡ entry_or_end c.draft c.end_line
 found_entry place s xs ends z begin e is h b found c cell = grind (arith, common_steps, slice_get, get_there, entry_there)
 
@@ -224,7 +229,8 @@ ends_done xs ends all place past before = sym (append-nil ends) ∙ ap (λ ys. e
 range-after : (xs ys : List ℕ) (j : ℕ) → j ≡ length xs + length ys → slice_range (xs ++ ys) (length xs) j ≡ ys
 range-after xs ys j e = rw (drop-append_seam xs ys) (take_all (j - length xs) ys (omega arith))
 
-placed-append : (k : EntryKind) (line fxy : ℕ) (octets more : List ℕ) (start end : ℕ) → IsPlaced k (length octets) start end → entry_by k line fxy start (slice_range (octets ++ more) start end) ≡ entry_by k line fxy start (slice_range octets start end)
+placed-append : (k : EntryKind) (line fxy : ℕ) (octets more : List ℕ) (start end : ℕ) → IsPlaced k (length octets) start end
+    → entry_by k line fxy start (slice_range (octets ++ more) start end) ≡ entry_by k line fxy start (slice_range octets start end)
 placed-append (kind.Decimal places negative) line fxy octets more start end h = refl
 placed-append kind.Number line fxy octets more start end h = ap (λ (t : List ℕ). entry_by kind.Number line fxy start t) (range-append octets more start end h.0 h.1)
 placed-append kind.Text line fxy octets more start end h = ap (λ (t : List ℕ). entry_by kind.Text line fxy start t) (range-append octets more start end h.0 h.1)
@@ -240,12 +246,14 @@ entries-append octets more [] all = refl
 entries-append octets more (one ∷ cells) (here, all) = rw (entry-append octets more one here, entries-append octets more cells all) refl
 
 -- one more entry, with its octets after the block
-pub entries-push : (octets more new : List ℕ) (cells : List StoredEntry) (one : StoredEntry) (e : DraftEntry) → AreInside (length octets) cells → new ≡ octets ++ more → one.start ≡ length octets → one.end ≡ length new → entry_by one.kind one.line one.fxy one.start more ≡ e
+pub entries-push : (octets more new : List ℕ) (cells : List StoredEntry) (one : StoredEntry) (e : DraftEntry) → AreInside (length octets) cells → new ≡ octets ++ more → one.start ≡ length octets
+    → one.end ≡ length new → entry_by one.kind one.line one.fxy one.start more ≡ e
     → entries_stored new (cells ++ one ∷ []) ≡ entries_stored octets cells ++ e ∷ []
 entries-push octets more new cells one e all is from at said = grind (arith, common_steps, length-append, slice_range, range-after, map-append, map, entries-append)
 
 -- no more entry, though octets were put after the block
-pub entries-same : (octets more new : List ℕ) (cells same : List StoredEntry) → AreInside (length octets) cells → new ≡ octets ++ more → same ≡ cells → entries_stored new same ≡ entries_stored octets cells
+pub entries-same : (octets more new : List ℕ) (cells same : List StoredEntry) → AreInside (length octets) cells → new ≡ octets ++ more → same ≡ cells
+    → entries_stored new same ≡ entries_stored octets cells
 entries-same octets more new cells same all is kept = grind (arith, common_steps, entries-append)
 
 -- the line of an entry is the one that is stored
@@ -261,7 +269,8 @@ line-with k octets more = grind (arith, common_steps, line-is)
 -- the entries that are left, at an index
 pub next_there : (entries : List DraftEntry) (place : ℕ) (e : DraftEntry) → slice_get entries place ≡ Some e → drop place entries ≡ e ∷ drop (place + 1) entries
 next_there entries place e here =
-    drop-cons entries place e (slice_get_within entries place e here) ∙ ap (λ x. x ∷ drop (suc place) entries) (get_or_from_slice_get entries place e e here) ∙ ap (λ j. e ∷ drop j entries) (sym (add-one place))
+    drop-cons entries place e (slice_get_within entries place e here) ∙ ap (λ x. x ∷ drop (suc place) entries) (get_or_from_slice_get entries place e e here)
+    ∙ ap (λ j. e ∷ drop j entries) (sym (add-one place))
 
 pub filled_here : (entries : List DraftEntry) (place : ℕ) (e : DraftEntry) (spec : FieldSpec) (d : FieldContent) (t : Taken) (old new : List Bool) (s : PlainOutModel)
     → plain_out_model (drop place entries) old ≡ s → slice_get entries place ≡ Some e
@@ -285,35 +294,41 @@ filled_here entries place (Holds item) spec d t old new s view here drawn gives 
     by (Err why) h = absurd cc
 
 -- what a writer has left, by the entry that the code found
-pub left_there : (entries : List DraftEntry) (place : ℕ) (old : List Bool) (s : PlainOutModel) (e : DraftEntry) → plain_out_model (drop place entries) old ≡ s → Some e ≡ slice_get entries place → s.left ≡ e ∷ drop (place + 1) entries
+pub left_there : (entries : List DraftEntry) (place : ℕ) (old : List Bool) (s : PlainOutModel) (e : DraftEntry) → plain_out_model (drop place entries) old ≡ s → Some e ≡ slice_get entries place
+    → s.left ≡ e ∷ drop (place + 1) entries
 left_there entries place old s e view here = grind (arith, common_steps, next_there)
 
 pub left_none : (entries : List DraftEntry) (place : ℕ) (old : List Bool) (s : PlainOutModel) → plain_out_model (drop place entries) old ≡ s → None ≡ slice_get entries place → s.left ≡ []
 left_none entries place old s view here = sym (ap (λ (p : PlainOutModel). p.left) view) ∙ drop_all place entries (none_there entries place here)
 
 -- the fault at the next entry
-pub item_fault : (spec : FieldSpec) (more : List DraftEntry) (fault : Option FaultAt) (e : DraftEntry) → option_map Err fault ≡ Some (entry_here spec e) → IfDraftFault fault (IsFaultOf spec (e ∷ more))
+pub item_fault : (spec : FieldSpec) (more : List DraftEntry) (fault : Option FaultAt) (e : DraftEntry) → option_map Err fault ≡ Some (entry_here spec e)
+    → IfDraftFault fault (IsFaultOf spec (e ∷ more))
 item_fault spec more None e is = tt
 item_fault spec more (Some f) (Ends line) is = cc
 item_fault spec more (Some f) (Holds d) is = by (content_of spec d) refl is
   where
-    by : (r : Result Content DraftFaultKind) → content_of spec d ≡ r → Some (Err f) ≡ Some (at_line_if_fault d.line r) → (why : DraftFaultKind) × (content_of spec d ≡ Err why) × (f ≡ at_line d.line why)
+    by : (r : Result Content DraftFaultKind) → content_of spec d ≡ r → Some (Err f) ≡ Some (at_line_if_fault d.line r)
+        → (why : DraftFaultKind) × (content_of spec d ≡ Err why) × (f ≡ at_line d.line why)
     by (Ok c) e h = absurd cc
     by (Err why) e h = (why, e, cc)
 
 -- the end of a subset is next
-pub end_next : (entries : List DraftEntry) (place : ℕ) (old : List Bool) (s : PlainOutModel) (e : DraftEntry) → plain_out_model (drop place entries) old ≡ s → Some e ≡ slice_get entries place → is_end e ≡ true → after_end s.left ≡ Ok (drop (place + 1) entries)
+pub end_next : (entries : List DraftEntry) (place : ℕ) (old : List Bool) (s : PlainOutModel) (e : DraftEntry) → plain_out_model (drop place entries) old ≡ s → Some e ≡ slice_get entries place
+    → is_end e ≡ true → after_end s.left ≡ Ok (drop (place + 1) entries)
 end_next entries place old s (Ends line) view here is = ap after_end (left_there entries place old s (Ends line) view here)
 end_next entries place old s (Holds d) view here is = absurd cc
 
 -- one more item is next, or nothing
-pub item_next : (entries : List DraftEntry) (place : ℕ) (old : List Bool) (s : PlainOutModel) (e : DraftEntry) → plain_out_model (drop place entries) old ≡ s → Some e ≡ slice_get entries place → is_end e ≡ false → after_end s.left ≡ Err (at_line (line_at s.left) item_too_many)
+pub item_next : (entries : List DraftEntry) (place : ℕ) (old : List Bool) (s : PlainOutModel) (e : DraftEntry) → plain_out_model (drop place entries) old ≡ s → Some e ≡ slice_get entries place
+    → is_end e ≡ false → after_end s.left ≡ Err (at_line (line_at s.left) item_too_many)
 item_next entries place old s (Ends line) view here is = absurd cc
 item_next entries place old s (Holds d) view here is =
     let left = left_there entries place old s (Holds d) view here in
     ap after_end left ∙ ap (λ l. Err (at_line (line_at l) item_too_many)) (sym left)
 
-pub none_next : (entries : List DraftEntry) (place : ℕ) (old : List Bool) (s : PlainOutModel) → plain_out_model (drop place entries) old ≡ s → None ≡ slice_get entries place → after_end s.left ≡ Err (at_line (line_at s.left) item_too_many)
+pub none_next : (entries : List DraftEntry) (place : ℕ) (old : List Bool) (s : PlainOutModel) → plain_out_model (drop place entries) old ≡ s → None ≡ slice_get entries place
+    → after_end s.left ≡ Err (at_line (line_at s.left) item_too_many)
 none_next entries place old s view here =
     let left = left_none entries place old s view here in
     ap after_end left ∙ ap (λ l. Err (at_line (line_at l) item_too_many)) (sym left)

@@ -120,7 +120,8 @@ octet_bits_again (suc n) bits h =
 
 module _ (w : ℕ) where
   pub number_back : (m : Bool) (raw : ℕ) → raw < raw_limit m w → (are_all_ones (bits_in raw w) && m) ≡ false
-  number_back m raw h = not_missing m w raw (are_all_ones (bits_in raw w)) h (λ e. sym (ones_test (bits_in raw w) w (length-bits_in raw w)) ∙ ap (λ n. eqb n (2 ^ w - 1)) (number_again raw w (top_below m w raw h)))
+  number_back m raw h = not_missing m w raw (are_all_ones (bits_in raw w)) h
+      (λ e. sym (ones_test (bits_in raw w) w (length-bits_in raw w)) ∙ ap (λ n. eqb n (2 ^ w - 1)) (number_again raw w (top_below m w raw h)))
 
   -- a text
   text_back : (m : Bool) (octets : List ℕ) → AreOctets octets → list_all (λ octet. octet == 255) octets ≡ false → (are_all_ones (bits_of octets) && m) ≡ false
@@ -145,12 +146,15 @@ module _ (w : ℕ) where
   kind_back kind.Character m (reference v) hw hm h = absurd h
   kind_back kind.Character m missing hw hm h = chosen_yes (are_all_ones (replicate w true) && m) _ (missing_back m hm)
   kind_back kind.Character m (text octets) hw hm h =
-      chosen_no (are_all_ones (bits_of octets) && m) (text (octets_in (w / 8) (bits_of octets))) (text octets) (text_back m octets h.1 h.2) (ap (λ n. text (octets_in n (bits_of octets))) (sym h.0) ∙ ap text (octets_again octets h.1))
-  kind_back kind.Coded m (number raw) hw hm h = chosen_no (are_all_ones (bits_in raw w) && m) (number (number_of (bits_in raw w))) (number raw) (number_back m raw h) (ap number (number_again raw w (top_below m w raw h)))
+      chosen_no (are_all_ones (bits_of octets) && m) (text (octets_in (w / 8) (bits_of octets))) (text octets) (text_back m octets h.1 h.2)
+      (ap (λ n. text (octets_in n (bits_of octets))) (sym h.0) ∙ ap text (octets_again octets h.1))
+  kind_back kind.Coded m (number raw) hw hm h = chosen_no (are_all_ones (bits_in raw w) && m) (number (number_of (bits_in raw w))) (number raw) (number_back m raw h)
+      (ap number (number_again raw w (top_below m w raw h)))
   kind_back kind.Coded m (reference v) hw hm h = absurd h
   kind_back kind.Coded m missing hw hm h = chosen_yes (are_all_ones (replicate w true) && m) _ (missing_back m h)
   kind_back kind.Coded m (text octets) hw hm h = absurd h
-  kind_back kind.Numeric m (number raw) hw hm h = chosen_no (are_all_ones (bits_in raw w) && m) (number (number_of (bits_in raw w))) (number raw) (number_back m raw h) (ap number (number_again raw w (top_below m w raw h)))
+  kind_back kind.Numeric m (number raw) hw hm h = chosen_no (are_all_ones (bits_in raw w) && m) (number (number_of (bits_in raw w))) (number raw) (number_back m raw h)
+      (ap number (number_again raw w (top_below m w raw h)))
   kind_back kind.Numeric m (reference v) hw hm h = absurd h
   kind_back kind.Numeric m missing hw hm h = chosen_yes (are_all_ones (replicate w true) && m) _ (missing_back m h)
   kind_back kind.Numeric m (text octets) hw hm h = absurd h
@@ -172,7 +176,8 @@ module _ (w : ℕ) where
   kind_length kind.Numeric m missing hw h = length-replicate w true
   kind_length kind.Numeric m (text octets) hw h = absurd h
 
-  fits_said : (b : Bool) (k : Kind) (m : Bool) (bits : List Bool) → length bits ≡ w → HasWidth k w → HasMissing k m → (are_all_ones bits && m) ≡ b → FitsKind k m w (if b then missing else said_by k w bits)
+  fits_said : (b : Bool) (k : Kind) (m : Bool) (bits : List Bool) → length bits ≡ w → HasWidth k w → HasMissing k m → (are_all_ones bits && m) ≡ b
+      → FitsKind k m w (if b then missing else said_by k w bits)
   fits_said true kind.Character m bits l hw hm e = tt
   fits_said true kind.Coded m bits l hw hm e = and_second (are_all_ones bits) m e
   fits_said true kind.Numeric m bits l hw hm e = and_second (are_all_ones bits) m e
@@ -245,7 +250,8 @@ signed_in b k size h = ap (λ x. x ∷ bits_in (bit b * 2 ^ k + size) k) (first_
 at_width : (b : Bool) (w size : ℕ) → 1 ≤ w → size < 2 ^ (w - 1) → bits_in (bit b * 2 ^ (w - 1) + size) w ≡ b ∷ bits_in size (w - 1)
 at_width b w size some h = let e : w ≡ suc (w - 1) = omega arith in ap (λ n. bits_in (bit b * 2 ^ (w - 1) + size) n) e ∙ signed_in b (w - 1) size h
 
-pub negative_bits : (v : ℤ) (w size : ℕ) → v <ℤ pos 0 → 1 ≤ w → w ≤ 63 → size ≡ unsigned_abs v → unsigned_abs v < 2 ^ (w - 1) → bits_in (1 * 2 ^ (w - 1) % 18446744073709551616 + size) w ≡ sign_bit v ∷ bits_in (unsigned_abs v) (w - 1)
+pub negative_bits : (v : ℤ) (w size : ℕ) → v <ℤ pos 0 → 1 ≤ w → w ≤ 63 → size ≡ unsigned_abs v → unsigned_abs v < 2 ^ (w - 1)
+    → bits_in (1 * 2 ^ (w - 1) % 18446744073709551616 + size) w ≡ sign_bit v ∷ bits_in (unsigned_abs v) (w - 1)
 negative_bits (pos n) w size neg some narrow e h = absurd (omega (arith, ints, neg))
 negative_bits (negsuc n) w size neg some narrow e h =
     let short : w - 1 ≤ 62 = omega arith in
@@ -258,7 +264,8 @@ positive_bits (pos n) w size pos_v some e h = ap (λ x. bits_in x w) (let q : si
 positive_bits (negsuc n) w size pos_v some e h = absurd (omega (arith, ints, pos_v))
 
 -- a text followed by spaces is all 255 where it is full and its octets are
-pub all_of_spaced : (octets : List ℕ) (count : ℕ) (full : Bool) → length octets ≤ count → full ≡ list_all (λ octet. octet == 255) octets → ((length octets == count) && full) ≡ list_all (λ octet. octet == 255) (octets ++ replicate (count - length octets) 32)
+pub all_of_spaced : (octets : List ℕ) (count : ℕ) (full : Bool) → length octets ≤ count → full ≡ list_all (λ octet. octet == 255) octets
+    → ((length octets == count) && full) ≡ list_all (λ octet. octet == 255) (octets ++ replicate (count - length octets) 32)
 all_of_spaced octets count full h e = by (count - length octets) (length octets == count) refl refl
   where
     none : (os : List ℕ) (n : ℕ) → list_all (λ octet. octet == 255) (os ++ replicate (suc n) 32) ≡ false
@@ -275,7 +282,8 @@ all_of_spaced octets count full h e = by (count - length octets) (length octets 
 all_ones : (n : ℕ) → bits_of (replicate n 255) ≡ replicate (8 * n) true
 unfolding bits_of
 all_ones zero = refl
-all_ones (suc n) = ap (λ bs. true ∷ true ∷ true ∷ true ∷ true ∷ true ∷ true ∷ true ∷ bs) (all_ones n) ∙ (let q : suc (suc (suc (suc (suc (suc (suc (suc (8 * n)))))))) ≡ 8 * suc n = omega arith in ap (λ k. replicate k true) q)
+all_ones (suc n) = ap (λ bs. true ∷ true ∷ true ∷ true ∷ true ∷ true ∷ true ∷ true ∷ bs) (all_ones n)
+    ∙ (let q : suc (suc (suc (suc (suc (suc (suc (suc (8 * n)))))))) ≡ 8 * suc n = omega arith in ap (λ k. replicate k true) q)
 
 pub full_bits : (count : ℕ) → count ≤ 255 → bits_of (take count (replicate 255 255)) ≡ replicate (8 * count) true
 full_bits count h = let full : ℕ = 255 in ap bits_of (take-replicate {X = ℕ} count 255 full h) ∙ all_ones count
@@ -294,7 +302,8 @@ content_there : (spec : FieldSpec) (d : Draft) → is_of spec d ≡ true → con
 content_there spec d h = ap (λ b. if b then content_by_form d.form spec else Err (wrong_for spec)) h
 
 -- the same of an entry, by its kind
-pub marks_at : (spec : FieldSpec) (k : EntryKind) (line fxy digits : ℕ) (octets : List ℕ) → is_entry_of spec (entry_by k line fxy digits octets) ≡ true → is_reference spec.role ≡ is_marked (value_by k digits octets)
+pub marks_at : (spec : FieldSpec) (k : EntryKind) (line fxy digits : ℕ) (octets : List ℕ) → is_entry_of spec (entry_by k line fxy digits octets) ≡ true
+    → is_reference spec.role ≡ is_marked (value_by k digits octets)
 marks_at spec (entry_kind.Decimal places negative) line fxy digits octets h = marks spec (draft line fxy (value_by (entry_kind.Decimal places negative) digits octets)) h
 marks_at spec entry_kind.Number line fxy digits octets h = marks spec (draft line fxy (number_token octets)) h
 marks_at spec entry_kind.Text line fxy digits octets h = marks spec (draft line fxy (text_form octets)) h
@@ -308,7 +317,8 @@ no_end spec (Ends line) h = absurd cc
 
 pub content_at : (spec : FieldSpec) (k : EntryKind) (line fxy digits : ℕ) (octets : List ℕ) → is_entry_of spec (entry_by k line fxy digits octets) ≡ true
     → at_line_if_fault line (content_by_form (value_by k digits octets) spec) ≡ entry_here spec (entry_by k line fxy digits octets)
-content_at spec (entry_kind.Decimal places negative) line fxy digits octets h = sym (ap (at_line_if_fault line) (content_there spec (draft line fxy (value_by (entry_kind.Decimal places negative) digits octets)) h))
+content_at spec (entry_kind.Decimal places negative) line fxy digits octets h =
+    sym (ap (at_line_if_fault line) (content_there spec (draft line fxy (value_by (entry_kind.Decimal places negative) digits octets)) h))
 content_at spec entry_kind.Number line fxy digits octets h = sym (ap (at_line_if_fault line) (content_there spec (draft line fxy (number_token octets)) h))
 content_at spec entry_kind.Text line fxy digits octets h = sym (ap (at_line_if_fault line) (content_there spec (draft line fxy (text_form octets)) h))
 content_at spec entry_kind.Missing line fxy digits octets h = sym (ap (at_line_if_fault line) (content_there spec (draft line fxy missing_form) h))

@@ -23,11 +23,13 @@ all_here spec good (c ∷ cs) (cell ∷ cells) fits h =
     ap (λ r. r >>= λ first. contents_here spec cells >>= λ rest. Ok (first ∷ rest)) (one_here spec good c cell.draft cell.end_line fits.0 h.0)
     ∙ ap (λ r. r >>= λ rest. Ok (c ∷ rest)) (all_here spec good cs cells fits.1 h.1)
 
-across_again : (n : ℕ) (spec : FieldSpec) → IsSpec spec → (cs : List Content) (a : ItemRow) (out : List Bool) → AllFit spec cs → AreCellsOf spec cs a.cells → length a.cells ≡ n → (a.place + 1) * n ≤ max_values → packing spec cs ≡ Ok out → pack_across spec a ≡ Ok (written_item cs out)
+across_again : (n : ℕ) (spec : FieldSpec) → IsSpec spec → (cs : List Content) (a : ItemRow) (out : List Bool) → AllFit spec cs → AreCellsOf spec cs a.cells → length a.cells ≡ n
+    → (a.place + 1) * n ≤ max_values → packing spec cs ≡ Ok out → pack_across spec a ≡ Ok (written_item cs out)
 across_again n spec good cs a out fits cells total few e = grind (arith, common_steps, le-ltb, all_here)
 
 -- the field law of compressed data
-pub packed_rewritten : (n : ℕ) (end_line : ℕ) (many : Bool) → 1 ≤ n → (i : Item (List Content)) (a : ItemRow) (bits mid : List Bool) → IsSpec i.spec → IsDumpedAcross n i a → packed_field n i.spec bits ≡ Ok (found i.content mid) → IsRewritten (packed n) (packed_filler end_line many) i a bits mid
+pub packed_rewritten : (n : ℕ) (end_line : ℕ) (many : Bool) → 1 ≤ n → (i : Item (List Content)) (a : ItemRow) (bits mid : List Bool) → IsSpec i.spec → IsDumpedAcross n i a
+    → packed_field n i.spec bits ≡ Ok (found i.content mid) → IsRewritten (packed n) (packed_filler end_line many) i a bits mid
 packed_rewritten n end_line many some i a bits mid good dumped e = by_content i.content refl
   where
     no_cells : (cells : List RowCell) → AreCellsOf i.spec [] cells → length cells ≡ 0
@@ -40,7 +42,8 @@ packed_rewritten n end_line many some i a bits mid good dumped e = by_content i.
         let p = packed_again n i.spec good c cs bits mid (e ∙ ap (λ xs. Ok (found xs mid)) q) in
         record {
           out = p.2.out;
-          fills = across_again n i.spec good (c ∷ cs) a p.2.out p.2.fits (subst (λ xs. AreCellsOf i.spec xs a.cells) q dumped.cells) dumped.total dumped.few p.2.is ∙ ap (λ xs. Ok (written_item xs p.2.out)) (sym q);
+          fills = across_again n i.spec good (c ∷ cs) a p.2.out p.2.fits (subst (λ xs. AreCellsOf i.spec xs a.cells) q dumped.cells) dumped.total dumped.few p.2.is
+              ∙ ap (λ xs. Ok (written_item xs p.2.out)) (sym q);
           again = λ more. p.2.again more ∙ ap (λ xs. Ok (found xs more)) (sym q);
           short = omega (arith, p.1, p.2.short);
         }
@@ -61,7 +64,8 @@ pub record IsPlainSubset (end_line : ℕ) (course : Course) (items : List (Item 
   pub again : (more : List Bool) → ReadsPass plain course items (out ++ more) more
 
 -- the bits of the first item, and those of the rest
-join : (end_line : ℕ) (course : Course) (i : Item Content) (d : Draft) (ds : List Draft) (w out : List Bool) → (course []).next ≡ take_next i.spec → content_of i.spec d ≡ Ok i.content → bits_for i.spec.width i.content ≡ w
+join : (end_line : ℕ) (course : Course) (i : Item Content) (d : Draft) (ds : List Draft) (w out : List Bool) → (course []).next ≡ take_next i.spec → content_of i.spec d ≡ Ok i.content
+    → bits_for i.spec.width i.content ≡ w
     → fill (plain_filler end_line) (after plain course i) ds ≡ Ok out → fill (plain_filler end_line) course (d ∷ ds) ≡ Ok (w ++ out)
 join end_line course i d ds w out next fills bits rest = grind (arith, common_steps)
 
@@ -129,7 +133,8 @@ same_at c (d ∷ cs) (suc j) e h = same_at c cs j (and_second (same c d) (are_sa
 abbrev packed_or : Bool → Role → FieldSpec → Content → List Content → Result (List Bool) FieldFault
 packed_or b r spec c cs = if b then Ok (packed_bits (bits_for spec.width c) 0 []) else packed_unlike r spec (c ∷ cs)
 
-alike : (b : Bool) (r : Role) (spec : FieldSpec) (c : Content) (cs : List Content) (out : List Bool) (j : ℕ) → are_same c cs ≡ b → packed_or b r spec c cs ≡ Ok out → j < length cs → answer_by_role r (content_at j cs) ≡ answer_by_role r c
+alike : (b : Bool) (r : Role) (spec : FieldSpec) (c : Content) (cs : List Content) (out : List Bool) (j : ℕ) → are_same c cs ≡ b → packed_or b r spec c cs ≡ Ok out → j < length cs
+    → answer_by_role r (content_at j cs) ≡ answer_by_role r c
 alike b role.Element spec c cs out j q e h = refl
 alike b role.Inserted spec c cs out j q e h = refl
 alike true role.Factor spec c cs out j q e h = ap (answer_by_role role.Factor) (same_at c cs j q h)
@@ -137,7 +142,8 @@ alike true role.Reference spec c cs out j q e h = ap (answer_by_role role.Refere
 alike false role.Factor spec c cs out j q e h = absurd cc
 alike false role.Reference spec c cs out j q e h = absurd cc
 
-pub packed_alike : (spec : FieldSpec) (c : Content) (cs : List Content) (out : List Bool) (j : ℕ) → packing spec (c ∷ cs) ≡ Ok out → j < length (c ∷ cs) → answer_of spec (content_at j (c ∷ cs)) ≡ answer_of spec c
+pub packed_alike : (spec : FieldSpec) (c : Content) (cs : List Content) (out : List Bool) (j : ℕ) → packing spec (c ∷ cs) ≡ Ok out → j < length (c ∷ cs)
+    → answer_of spec (content_at j (c ∷ cs)) ≡ answer_of spec c
 packed_alike spec c cs out zero e h = refl
 packed_alike spec c cs out (suc j) e h = alike (are_same c cs) spec.role spec c cs out j refl e (omega (arith, h))
 
@@ -159,14 +165,16 @@ one_of n spec (c ∷ cs) j bits mid good h e =
     record { fits = fit_at spec (c ∷ cs) j p.2.fits within; gives = packed_alike spec c cs p.2.out j p.2.is within }
 
 -- the items of one subset follow one another
-follows_packed : (n j : ℕ) (course : Course) (items : List (Item (List Content))) (bits suffix : List Bool) → j < n → AllSpecs items → ReadsPass (packed n) course items bits suffix → Follows course (items_of_subset j items)
+follows_packed : (n j : ℕ) (course : Course) (items : List (Item (List Content))) (bits suffix : List Bool) → j < n → AllSpecs items → ReadsPass (packed n) course items bits suffix
+    → Follows course (items_of_subset j items)
 follows_packed n j course [] bits suffix h specs r = r.1
 follows_packed n j course (i ∷ items) bits suffix h specs r =
     let one = one_of n i.spec i.content j bits r.0.0 specs.0 h r.0.2 in
     let rest = follows_packed n j (after (packed n) course i) items r.0.0 suffix h specs.1 (r.0.3, r.1) in
     (r.0.1, specs.0, one.fits, subst (λ (t : Taken). Follows (λ answer_of. course (t ∷ answer_of)) (items_of_subset j items)) (sym one.gives) rest)
 
-all_follow : (n j left : ℕ) (course : Course) (items : List (Item (List Content))) (bits suffix : List Bool) → j + left ≤ n → AllSpecs items → ReadsPass (packed n) course items bits suffix → AllFollow course (subsets_from left j items)
+all_follow : (n j left : ℕ) (course : Course) (items : List (Item (List Content))) (bits suffix : List Bool) → j + left ≤ n → AllSpecs items → ReadsPass (packed n) course items bits suffix
+    → AllFollow course (subsets_from left j items)
 all_follow n j zero course items bits suffix h specs r = tt
 all_follow n j (suc left) course items bits suffix h specs r =
     (follows_packed n j course items bits suffix (omega (arith, h)) specs r, all_follow n (suc j) left course items bits suffix (omega (arith, h)) specs r)
@@ -181,12 +189,14 @@ length-subsets_from : (n j : ℕ) (items : List (Item (List Content))) → lengt
 length-subsets_from zero j items = refl
 length-subsets_from (suc n) j items = ap suc (length-subsets_from n (suc j) items)
 
-pub follow_reading : (n : ℕ) (course : Course) (items : List (Item (List Content))) (bits suffix : List Bool) → AllSpecs items → IsPackedReading n course items bits suffix → AllFollow course (subsets_from n 0 items)
+pub follow_reading : (n : ℕ) (course : Course) (items : List (Item (List Content))) (bits suffix : List Bool) → AllSpecs items → IsPackedReading n course items bits suffix
+    → AllFollow course (subsets_from n 0 items)
 follow_reading zero course items bits suffix specs r = tt
 follow_reading (suc n) course items bits suffix specs r = all_follow (suc n) 0 (suc n) course items bits suffix (omega arith) specs r.0
 
 -- compressed data are written subset after subset
-pub apart : (n : ℕ) (course : Course) (items : List (Item (List Content))) (drafts : List Subset) (bits suffix : List Bool) → length drafts ≡ n → AllSpecs items → AreDumpedFrom 0 items drafts → IsPackedReading n course items bits suffix → IsWrittenApart n course items drafts
+pub apart : (n : ℕ) (course : Course) (items : List (Item (List Content))) (drafts : List Subset) (bits suffix : List Bool) → length drafts ≡ n → AllSpecs items → AreDumpedFrom 0 items drafts
+    → IsPackedReading n course items bits suffix → IsWrittenApart n course items drafts
 apart n course items drafts bits suffix count specs dumped r =
     let w = plain_subsets course (subsets_from n 0 items) drafts (follow_reading n course items bits suffix specs r) (dumped_from 0 n items drafts count dumped) in
     record { out = w.out; is = w.is; again = λ more. (w.again more, length-subsets_from n 0 items) }
@@ -307,7 +317,8 @@ across_gives : (spec : FieldSpec) → IsSpec spec → (p : ℕ) (rs : List (List
 across_gives spec good p rs ss h d few =
     let cells = cells_at p ss in
     let within : (p + 1) * length cells ≤ max_values = subst (λ n. (p + 1) * n ≤ max_values) (sym (length-dumped p rs ss d)) few in
-    ap (λ b. if b then Err (at_line (first_line cells) (too_many_values spec.fxy)) else (contents_here spec cells >>= λ xs. packed_to xs cells (packing spec xs))) (le-ltb max_values ((p + 1) * length cells) within)
+    ap (λ b. if b then Err (at_line (first_line cells) (too_many_values spec.fxy)) else (contents_here spec cells >>= λ xs. packed_to xs cells (packing spec xs)))
+    (le-ltb max_values ((p + 1) * length cells) within)
     ∙ ap (λ r. r >>= λ xs. packed_to xs cells (packing spec xs)) (all_here spec good (firsts rs) cells (all_fit spec rs h) (cells_there spec p rs ss h d))
 
 -- ---- the course continues the same for all
@@ -319,7 +330,8 @@ all_answer : (spec : FieldSpec) (t : Taken) (cs : List Content) → ((j : ℕ) �
 all_answer spec t [] h = tt
 all_answer spec t (c ∷ cs) h = (h 0 (omega arith), all_answer spec t cs (λ j l. h (suc j) (omega (arith, l))))
 
-follow_next : (course : Course) (spec : FieldSpec) (t : Taken) (rs : List (List (Item Content))) → AreHeaded spec rs → AllAnswer spec t (firsts rs) → AllFollow course rs → AllFollow (λ answer_of. course (t ∷ answer_of)) (tails rs)
+follow_next : (course : Course) (spec : FieldSpec) (t : Taken) (rs : List (List (Item Content))) → AreHeaded spec rs → AllAnswer spec t (firsts rs) → AllFollow course rs
+    → AllFollow (λ answer_of. course (t ∷ answer_of)) (tails rs)
 follow_next course spec t [] h a f = tt
 follow_next course spec t ([] ∷ rs) h a f = absurd h.0
 follow_next course spec t ((i ∷ items) ∷ rs) h a f =
@@ -347,7 +359,8 @@ no_parts course j [] e f = (tt, refl)
 no_parts course j ([] ∷ rs) e f = let rest = no_parts course (suc j) rs e f.1 in ((refl, rest.0), omega (arith, rest.1))
 no_parts course j ((i ∷ items) ∷ rs) e f = let x : take_next i.spec ≡ at_end = sym f.0.0 ∙ e in absurd cc
 
-more_parts : (j : ℕ) (spec : FieldSpec) (cs : List Content) (items : List (Item (List Content))) (rs : List (List (Item Content))) → drop j cs ≡ firsts rs → AreHeaded spec rs → AreParts j items (tails rs) → AreParts j (record { spec = spec; content = cs } ∷ items) rs
+more_parts : (j : ℕ) (spec : FieldSpec) (cs : List Content) (items : List (Item (List Content))) (rs : List (List (Item Content))) → drop j cs ≡ firsts rs → AreHeaded spec rs
+    → AreParts j items (tails rs) → AreParts j (record { spec = spec; content = cs } ∷ items) rs
 more_parts j spec cs items [] e h a = tt
 more_parts j spec cs items ([] ∷ rs) e h a = absurd h.0
 more_parts j spec cs items ((i ∷ r) ∷ rs) e h a =
@@ -374,8 +387,10 @@ abbrev Either : (n : ℕ) → Course → List (List (Item Content)) → List Ite
 Either n course rests drafts end_line many = IsTogether n course rests drafts end_line many ⊎ IsNot course drafts end_line many
 
 module _ (end_line : ℕ) (many : Bool) where
-  fill_first : (course : Course) (spec : FieldSpec) (a : ItemRow) (more : List ItemRow) (r : Result (List Bool) FieldFault) (cs : List Content) → (course []).next ≡ take_next spec → pack_across spec a ≡ packed_to cs a.cells r
-      → fill (packed_filler end_line many) course (a ∷ more) ≡ filled (packed_filler end_line many) spec (packed_to cs a.cells r) (λ t. fill (packed_filler end_line many) (λ answer_of. course (t ∷ answer_of)) more)
+  fill_first : (course : Course) (spec : FieldSpec) (a : ItemRow) (more : List ItemRow) (r : Result (List Bool) FieldFault) (cs : List Content) → (course []).next ≡ take_next spec
+      → pack_across spec a ≡ packed_to cs a.cells r
+      → fill (packed_filler end_line many) course (a ∷ more) ≡ filled (packed_filler end_line many) spec (packed_to cs a.cells r)
+      (λ t. fill (packed_filler end_line many) (λ answer_of. course (t ∷ answer_of)) more)
   fill_first course spec a more r cs next gives =
       let filler = packed_filler end_line many in
       ap (λ n. fill_one filler n a (λ t. fill filler (λ answer_of. course (t ∷ answer_of)) more)) next
@@ -387,7 +402,8 @@ module _ (end_line : ℕ) (many : Bool) where
   fault_unlike cs cells unequal_factor = tt
 
   -- the first row, and those after it
-  onto : (n : ℕ) (course : Course) (spec : FieldSpec) (c : Content) (cs : List Content) (rs : List (List (Item Content))) (a : ItemRow) (more : List ItemRow) → IsSpec spec → (course []).next ≡ take_next spec → AreHeaded spec rs → firsts rs ≡ c ∷ cs → length rs ≡ n
+  onto : (n : ℕ) (course : Course) (spec : FieldSpec) (c : Content) (cs : List Content) (rs : List (List (Item Content))) (a : ItemRow) (more : List ItemRow) → IsSpec spec
+      → (course []).next ≡ take_next spec → AreHeaded spec rs → firsts rs ≡ c ∷ cs → length rs ≡ n
       → (r : Result (List Bool) FieldFault) → packing spec (c ∷ cs) ≡ r → pack_across spec a ≡ packed_to (c ∷ cs) a.cells r
       → ((out : List Bool) → packing spec (c ∷ cs) ≡ Ok out → Either n (λ answer_so. course (answer_of spec c ∷ answer_so)) (tails rs) more end_line many)
       → Either n course rs (a ∷ more) end_line many
@@ -422,7 +438,8 @@ module _ (end_line : ℕ) (many : Bool) where
           })
 
   -- all rows from an index on
-  from_place : (course : Course) (r : List (Item Content)) (rs : List (List (Item Content))) (ss : List Subset) (p : ℕ) → AllFollow course (r ∷ rs) → DumpedAt p (r ∷ rs) ss → p * suc (length rs) + total (r ∷ rs) ≤ max_values
+  from_place : (course : Course) (r : List (Item Content)) (rs : List (List (Item Content))) (ss : List Subset) (p : ℕ) → AllFollow course (r ∷ rs) → DumpedAt p (r ∷ rs) ss
+      → p * suc (length rs) + total (r ∷ rs) ≤ max_values
       → Either (suc (length rs)) course (r ∷ rs) (rows (longest_left (r ∷ rs)) p ss) end_line many
   from_place course [] rs ss p f d few =
       let none = no_parts course 0 ([] ∷ rs) f.0 f in
@@ -459,14 +476,16 @@ module _ (end_line : ℕ) (many : Bool) where
 
 -- ---- from a reading
 
-follows_plain : (course : Course) (items : List (Item Content)) (bits suffix : List Bool) → AllSpecs items → ReadsPass plain course items bits suffix → Follows course items × (length items + length suffix ≤ length bits)
+follows_plain : (course : Course) (items : List (Item Content)) (bits suffix : List Bool) → AllSpecs items → ReadsPass plain course items bits suffix
+    → Follows course items × (length items + length suffix ≤ length bits)
 follows_plain course [] bits suffix specs r = (r.1, omega (arith, ap length r.0))
 follows_plain course (i ∷ items) bits suffix specs r =
     let rest = follows_plain (after plain course i) items r.0.0 suffix specs.1 (r.0.3, r.1) in
     let read = plain_read i.spec specs.0 bits r.0.0 i.content r.0.2 in
     ((r.0.1, specs.0, read.0, rest.0), omega (arith, rest.1, read.1, width_least i.spec.kind i.spec.width (specs.0).width))
 
-pub all_plain : (course : Course) (subsets : List (List (Item Content))) (bits suffix : List Bool) → EachSpecs subsets → ReadsSubsets course subsets bits suffix → AllFollow course subsets × (total subsets + length suffix ≤ length bits)
+pub all_plain : (course : Course) (subsets : List (List (Item Content))) (bits suffix : List Bool) → EachSpecs subsets → ReadsSubsets course subsets bits suffix
+    → AllFollow course subsets × (total subsets + length suffix ≤ length bits)
 all_plain course [] bits suffix specs r = (tt, omega (arith, ap length r))
 all_plain course (items ∷ subsets) bits suffix specs r =
     let first = follows_plain course items bits r.0 specs.0 r.1 in
@@ -488,7 +507,8 @@ dumped_at (items ∷ subsets) (s ∷ ss) h =
     ((h.0, rest.0), omega (arith, rest.1, drafts_length IsDumped items s.items h.0))
 
 -- data that were read subset after subset are written together, where their contents can be
-pub together : (course : Course) (subsets : List (List (Item Content))) (drafts : List Subset) (bits suffix : List Bool) → length bits ≤ max_values → EachSpecs subsets → AreDumped subsets drafts → ReadsSubsets course subsets bits suffix → IsTogetherOrNot course subsets drafts
+pub together : (course : Course) (subsets : List (List (Item Content))) (drafts : List Subset) (bits suffix : List Bool) → length bits ≤ max_values → EachSpecs subsets → AreDumped subsets drafts
+    → ReadsSubsets course subsets bits suffix → IsTogetherOrNot course subsets drafts
 together course [] [] bits suffix few specs dumped r = inl (record { items = []; same = refl; out = []; is = refl; again = λ more. (refl, refl) })
 together course [] (s ∷ ss) bits suffix few specs dumped r = absurd dumped
 together course (items ∷ subsets) [] bits suffix few specs dumped r = absurd dumped

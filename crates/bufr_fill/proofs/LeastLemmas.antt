@@ -189,7 +189,8 @@ least_most m s w some most h = first_least (λ k. nat_lt s (raw_limit m k)) (64 
 
 pub least_fits : (m : Bool) (s w : ℕ) → 1 ≤ w → w ≤ 63 → s < raw_limit m w → s < raw_limit m (least_from m s 1)
 unfolding least_from
-least_fits m s w some most h = ltb-true s (raw_limit m (first_from (λ k. nat_lt s (raw_limit m k)) (64 - 1) 1)) (first_passes (λ k. nat_lt s (raw_limit m k)) (64 - 1) 1 w some (omega (arith, most)) (lt-ltb s (raw_limit m w) h))
+least_fits m s w some most h = ltb-true s (raw_limit m (first_from (λ k. nat_lt s (raw_limit m k)) (64 - 1) 1))
+    (first_passes (λ k. nat_lt s (raw_limit m k)) (64 - 1) 1 w some (omega (arith, most)) (lt-ltb s (raw_limit m w) h))
 
 pub all_short : (m : Bool) (base k : ℕ) (ds : List FieldContent) → spread base ds < raw_limit m k → AreShort base k ds
 all_short m base k [] h = tt
@@ -222,12 +223,20 @@ unfolding least_from
 least_is m base count ds = first_same (λ k. list_all (has_bits m base k) (contents_drawn count ds)) (λ k. nat_lt (spread base ds) (raw_limit m k)) (64 - 1) 1 (λ k h. all_have m base k count ds h)
 
 -- the least k of numbers has at most 63 bits, and writes each increment
-pub k_narrow : (spec : FieldSpec) → is_character spec.kind ≡ false → is_reference spec.role ≡ false → (base : ℕ) (ds : List FieldContent) (k : ℕ) → 1 ≤ spec.width → spec.width ≤ 63 → AllDrawn spec ds → k ≡ least_from spec.may_be_missing (spread base ds) 1 → k ≤ 63
-k_narrow spec numeric element base ds k some narrow all e = omega (arith, e, narrow, least_most spec.may_be_missing (spread base ds) spec.width some narrow (spread_under spec numeric element base ds some all))
+pub k_narrow : (spec : FieldSpec) → is_character spec.kind ≡ false → is_reference spec.role ≡ false → (base : ℕ) (ds : List FieldContent) (k : ℕ) → 1 ≤ spec.width → spec.width ≤ 63 → AllDrawn spec ds
+    → k ≡ least_from spec.may_be_missing (spread base ds) 1 → k ≤ 63
+k_narrow spec numeric element base ds k some narrow all e = omega (
+  arith,
+  e,
+  narrow,
+  least_most spec.may_be_missing (spread base ds) spec.width some narrow (spread_under spec numeric element base ds some all),
+)
 
-pub k_short : (spec : FieldSpec) → is_character spec.kind ≡ false → is_reference spec.role ≡ false → (base : ℕ) (ds : List FieldContent) (k : ℕ) → 1 ≤ spec.width → spec.width ≤ 63 → AllDrawn spec ds → k ≡ least_from spec.may_be_missing (spread base ds) 1 → AreShort base k ds
+pub k_short : (spec : FieldSpec) → is_character spec.kind ≡ false → is_reference spec.role ≡ false → (base : ℕ) (ds : List FieldContent) (k : ℕ) → 1 ≤ spec.width → spec.width ≤ 63 → AllDrawn spec ds
+    → k ≡ least_from spec.may_be_missing (spread base ds) 1 → AreShort base k ds
 k_short spec numeric element base ds k some narrow all e =
-    subst (λ n. AreShort base n ds) (sym e) (all_short spec.may_be_missing base (least_from spec.may_be_missing (spread base ds) 1) ds (least_fits spec.may_be_missing (spread base ds) spec.width some narrow (spread_under spec numeric element base ds some all)))
+    subst (λ n. AreShort base n ds) (sym e) (all_short spec.may_be_missing base (least_from spec.may_be_missing (spread base ds) 1) ds
+    (least_fits spec.may_be_missing (spread base ds) spec.width some narrow (spread_under spec numeric element base ds some all)))
 
 kind_packed : (kd : Kind) (spec : FieldSpec) (cs : List Content) → is_character kd ≡ false → packed_by kd spec cs ≡ Ok (numbers_over spec.may_be_missing spec.width (unwrap_or (lowest cs) 0) cs)
 kind_packed kind.Character spec cs h = absurd cc
@@ -235,7 +244,8 @@ kind_packed kind.Coded spec cs h = refl
 kind_packed kind.Numeric spec cs h = refl
 
 -- the bits of numbers
-pub numbers_packed : (spec : FieldSpec) (count : ℕ) (ds : List FieldContent) (base k : ℕ) → is_character spec.kind ≡ false → base ≡ unwrap_or (lowest (contents_drawn count ds)) 0 → k ≡ least_from spec.may_be_missing (spread base ds) 1
+pub numbers_packed : (spec : FieldSpec) (count : ℕ) (ds : List FieldContent) (base k : ℕ) → is_character spec.kind ≡ false → base ≡ unwrap_or (lowest (contents_drawn count ds)) 0
+    → k ≡ least_from spec.may_be_missing (spread base ds) 1
     → packed_by spec.kind spec (contents_drawn count ds) ≡ Ok (packed_bits (bits_in base spec.width) k (flat_map (increment_bits base k) (contents_drawn count ds)))
 numbers_packed spec count ds base k numeric b l =
     kind_packed spec.kind spec (contents_drawn count ds) numeric
@@ -261,7 +271,8 @@ again k os = bytes_eq (take k os ++ replicate (length os - k) 32) os
 suc_le : (a b : ℕ) → nat_le (suc a) (suc b) ≡ nat_le a b
 suc_le a b = le_same (suc a) (suc b) a b (λ h. omega (arith, h)) (λ h. omega (arith, h))
 
-again_more : (t : Bool) (o k : ℕ) (os : List ℕ) → ((trimmed os == 0) && (o == 32)) ≡ t → again k os ≡ nat_le (trimmed os) k → again (suc k) (o ∷ os) ≡ nat_le (if t then 0 else suc (trimmed os)) (suc k)
+again_more : (t : Bool) (o k : ℕ) (os : List ℕ) → ((trimmed os == 0) && (o == 32)) ≡ t → again k os ≡ nat_le (trimmed os) k
+    → again (suc k) (o ∷ os) ≡ nat_le (if t then 0 else suc (trimmed os)) (suc k)
 again_more true o k os e h = grind (arith, common_steps, eq-eqb, le-leb, eqb-true, and_first)
 again_more false o k os e h = grind (arith, common_steps, eq-eqb, suc_le)
 
@@ -306,14 +317,16 @@ full os = list_all (λ octet. octet == 255) os
 not_full_none : (o : ℕ) (os : List ℕ) → trimmed (o ∷ os) ≤ 0 → false ≡ nat_le (need (o ∷ os)) 0
 not_full_none o os h = grind (arith, common_steps, lt-leb, nat_le)
 
-not_full_other : (o k : ℕ) (os : List ℕ) (t : Bool) → (o == 255) ≡ false → ((trimmed os == 0) && (o == 32)) ≡ t → trimmed (o ∷ os) ≤ suc k → not (full (take (suc k) (o ∷ os))) ≡ nat_le (need (o ∷ os)) (suc k)
+not_full_other : (o k : ℕ) (os : List ℕ) (t : Bool) → (o == 255) ≡ false → ((trimmed os == 0) && (o == 32)) ≡ t → trimmed (o ∷ os) ≤ suc k
+    → not (full (take (suc k) (o ∷ os))) ≡ nat_le (need (o ∷ os)) (suc k)
 not_full_other o k os t e s h = grind (arith, common_steps, not, nat_le, le-leb)
 
 need_suc : (b : Bool) (n k : ℕ) → nat_le (if b then suc n else n) k ≡ nat_le (if b then suc (suc n) else suc n) (suc k)
 need_suc true n k = sym (suc_le (suc n) k)
 need_suc false n k = sym (suc_le n k)
 
-not_full_one : (o k : ℕ) (os : List ℕ) → (o == 255) ≡ true → trimmed (o ∷ os) ≤ suc k → (trimmed os ≤ k → not (full (take k os)) ≡ nat_le (need os) k) → not (full (take (suc k) (o ∷ os))) ≡ nat_le (need (o ∷ os)) (suc k)
+not_full_one : (o k : ℕ) (os : List ℕ) → (o == 255) ≡ true → trimmed (o ∷ os) ≤ suc k → (trimmed os ≤ k → not (full (take k os)) ≡ nat_le (need os) k)
+    → not (full (take (suc k) (o ∷ os))) ≡ nat_le (need (o ∷ os)) (suc k)
 not_full_one o k os e h go = grind (arith, common_steps, eqb-true, not, need_suc, nat_le)
 
 not_full : (os : List ℕ) (k : ℕ) → full os ≡ false → trimmed os ≤ k → not (full (take k os)) ≡ nat_le (need os) k
@@ -321,7 +334,8 @@ not_full [] k f h = absurd cc
 not_full (o ∷ os) zero f h = not_full_none o os h
 not_full (o ∷ os) (suc k) f h = by (o == 255) refl f (λ g l. not_full os k g l)
   where
-    by : (b : Bool) → (o == 255) ≡ b → (b && full os) ≡ false → (full os ≡ false → trimmed os ≤ k → not (full (take k os)) ≡ nat_le (need os) k) → not (full (take (suc k) (o ∷ os))) ≡ nat_le (need (o ∷ os)) (suc k)
+    by : (b : Bool) → (o == 255) ≡ b → (b && full os) ≡ false → (full os ≡ false → trimmed os ≤ k → not (full (take k os)) ≡ nat_le (need os) k)
+        → not (full (take (suc k) (o ∷ os))) ≡ nat_le (need (o ∷ os)) (suc k)
     by true e f go = not_full_one o k os e h (go f)
     by false e f go = not_full_other o k os ((trimmed os == 0) && (o == 32)) e refl h
 
@@ -414,16 +428,19 @@ first_at : (m fuel from : ℕ) → from ≤ m → first_from (λ k. nat_le m k) 
 first_at m zero from h = let e : from ≡ min m (from + 0) = omega (arith, h) in e
 first_at m (suc fuel) from h = by (nat_le m from) refl (λ g. first_at m fuel (from + 1) g)
   where
-    by : (b : Bool) → nat_le m from ≡ b → (from + 1 ≤ m → first_from (λ k. nat_le m k) fuel (from + 1) ≡ min m (from + 1 + fuel)) → (if nat_le m from then from else first_from (λ k. nat_le m k) fuel (from + 1)) ≡ min m (from + suc fuel)
+    by : (b : Bool) → nat_le m from ≡ b → (from + 1 ≤ m → first_from (λ k. nat_le m k) fuel (from + 1) ≡ min m (from + 1 + fuel))
+        → (if nat_le m from then from else first_from (λ k. nat_le m k) fuel (from + 1)) ≡ min m (from + suc fuel)
     by true e go = ap (λ b. if b then from else first_from (λ k. nat_le m k) fuel (from + 1)) e ∙ (let q : from ≡ min m (from + suc fuel) = omega (arith, h, leb-true m from e) in q)
-    by false e go = ap (λ b. if b then from else first_from (λ k. nat_le m k) fuel (from + 1)) e ∙ go (omega (arith, leb-false m from e)) ∙ (let q : min m (from + 1 + fuel) ≡ min m (from + suc fuel) = omega arith in q)
+    by false e go = ap (λ b. if b then from else first_from (λ k. nat_le m k) fuel (from + 1)) e ∙ go (omega (arith, leb-false m from e))
+        ∙ (let q : min m (from + 1 + fuel) ≡ min m (from + suc fuel) = omega arith in q)
 
 least_of : (p q : ℕ → Bool) (fuel m : ℕ) → ((k : ℕ) → 1 ≤ k → p k ≡ q k) → (first_from q fuel 1 ≡ min m (1 + fuel)) → first_from p fuel 1 ≡ min m (1 + fuel)
 least_of p q fuel m h e = first_same p q fuel 1 h ∙ e
 
 pub texts_least : (spec : FieldSpec) (ds : List FieldContent) → 1 ≤ most_need ds → AllDrawn spec ds → least_k has_octets (contents_drawn (spec.width / 8) ds) ≡ min (most_need ds) 64
 texts_least spec ds some all =
-    least_of (λ k. list_all (has_octets k) (contents_drawn (spec.width / 8) ds)) (λ k. nat_le (most_need ds) k) 63 (most_need ds) (λ k h. texts_pass spec ds k h all) (first_at (most_need ds) 63 1 some)
+    least_of (λ k. list_all (has_octets k) (contents_drawn (spec.width / 8) ds)) (λ k. nat_le (most_need ds) k) 63 (most_need ds) (λ k h. texts_pass spec ds k h all)
+    (first_at (most_need ds) 63 1 some)
 
 kind_texts : (kd : Kind) (spec : FieldSpec) (cs : List Content) → is_character kd ≡ true → packed_by kd spec cs ≡ packed_texts spec.width (least_k has_octets cs) cs
 kind_texts kind.Character spec cs h = refl
@@ -440,7 +457,8 @@ texts_packed spec ds k char some all is few =
     kind_texts spec.kind spec (contents_drawn (spec.width / 8) ds) char ∙ ap (λ n. packed_texts spec.width n (contents_drawn (spec.width / 8) ds)) least
     ∙ texts_by spec.width k (contents_drawn (spec.width / 8) ds) true (le-leb k 63 few)
 
-pub texts_apart : (spec : FieldSpec) (ds : List FieldContent) (k : ℕ) → is_character spec.kind ≡ true → 1 ≤ most_need ds → AllDrawn spec ds → k ≡ most_need ds → 63 < k → packed_by spec.kind spec (contents_drawn (spec.width / 8) ds) ≡ Err increment
+pub texts_apart : (spec : FieldSpec) (ds : List FieldContent) (k : ℕ) → is_character spec.kind ≡ true → 1 ≤ most_need ds → AllDrawn spec ds → k ≡ most_need ds → 63 < k
+    → packed_by spec.kind spec (contents_drawn (spec.width / 8) ds) ≡ Err increment
 texts_apart spec ds k char some all is many = grind (arith, common_steps, texts_least, kind_texts, texts_by, lt-leb)
 
 -- ---- The least and the greatest number of an item, gathered content after content.
@@ -526,12 +544,15 @@ all_one count a (drawn.Missing ∷ ds) h = absurd cc
 all_one count a (drawn.Reference v ∷ ds) h = absurd cc
 
 -- contents that are all the same, and no number
-all_none : (count : ℕ) (c : Content) (ds : List FieldContent) → ((n : ℕ) → same c (number n) ≡ false) → are_same c (contents_drawn count ds) ≡ true → (lowest (contents_drawn count ds) ≡ None) × (spread 0 ds ≡ 0)
+all_none : (count : ℕ) (c : Content) (ds : List FieldContent) → ((n : ℕ) → same c (number n) ≡ false) → are_same c (contents_drawn count ds) ≡ true
+    → (lowest (contents_drawn count ds) ≡ None) × (spread 0 ds ≡ 0)
 all_none count c [] differs h = (refl, refl)
 all_none count c (drawn.Number n ∷ ds) differs h = absurd (true_false (same c (number n)) (and_first (same c (number n)) (are_same c (contents_drawn count ds)) h) (differs n))
-all_none count c (drawn.Text t ∷ ds) differs h = let rest = all_none count c ds differs (and_second (same c (content_drawn count (drawn.Text t))) (are_same c (contents_drawn count ds)) h) in (rest.0, omega (arith, rest.1))
+all_none count c (drawn.Text t ∷ ds) differs h = let rest = all_none count c ds differs (and_second (same c (content_drawn count (drawn.Text t))) (are_same c (contents_drawn count ds)) h) in
+    (rest.0, omega (arith, rest.1))
 all_none count c (drawn.Missing ∷ ds) differs h = let rest = all_none count c ds differs (and_second (same c missing) (are_same c (contents_drawn count ds)) h) in (rest.0, omega (arith, rest.1))
-all_none count c (drawn.Reference v ∷ ds) differs h = let rest = all_none count c ds differs (and_second (same c (reference v)) (are_same c (contents_drawn count ds)) h) in (rest.0, omega (arith, rest.1))
+all_none count c (drawn.Reference v ∷ ds) differs h = let rest = all_none count c ds differs (and_second (same c (reference v)) (are_same c (contents_drawn count ds)) h) in
+    (rest.0, omega (arith, rest.1))
 
 no_range : (count : ℕ) (ds : List FieldContent) → (lowest (contents_drawn count ds) ≡ None) × (spread 0 ds ≡ 0) → unwrap_or (lowest (contents_drawn count ds)) 0 ≡ spread 0 ds
 no_range count ds h = ap (λ o. unwrap_or o 0) h.0 ∙ sym h.1

@@ -120,8 +120,10 @@ module _ (count k : ℕ) (short : k ≤ count) where
       let prefix = take k os in
       let l : length prefix ≡ k = length-take-le k os (omega (arith, h.0)) in
       let are : AreOctets prefix = AreOctets-take k os h.1 in
-      let some : are_all_ones (bits_of prefix) ≡ false = full_test prefix are ∙ not_true (list_all (λ octet. octet == 255) prefix) (and_second (bytes_eq (prefix ++ replicate (length os - k) 32) os) (not (list_all (λ octet. octet == 255) prefix)) p) in
-      let whole : prefix ++ replicate (length os - k) 32 ≡ os = octets_same (prefix ++ replicate (length os - k) 32) os (and_first (bytes_eq (prefix ++ replicate (length os - k) 32) os) (not (list_all (λ octet. octet == 255) prefix)) p) in
+      let some : are_all_ones (bits_of prefix) ≡ false = full_test prefix are
+      ∙ not_true (list_all (λ octet. octet == 255) prefix) (and_second (bytes_eq (prefix ++ replicate (length os - k) 32) os) (not (list_all (λ octet. octet == 255) prefix)) p) in
+      let whole : prefix ++ replicate (length os - k) 32 ≡ os = octets_same (prefix ++ replicate (length os - k) 32) os
+      (and_first (bytes_eq (prefix ++ replicate (length os - k) 32) os) (not (list_all (λ octet. octet == 255) prefix)) p) in
       ap (λ b. if b then missing else text (octets_in k (bits_of prefix) ++ replicate (count - k) 32)) some
       ∙ ap (λ n. text (octets_in n (bits_of prefix) ++ replicate (count - k) 32)) (sym l)
       ∙ ap (λ x. text (x ++ replicate (count - k) 32)) (octets_again prefix are)
@@ -197,11 +199,13 @@ pub record AreIncreased (m : Bool) (w base k : ℕ) (cs : List Content) : Type 0
   pub increment_over : AreOver base cs
   pub short : AreShort m base k cs
 
-pub numbers_read : (m : Bool) (w base k : ℕ) (is : List (List Bool)) → AllLong k is → list_all (λ i. stays_within m w base k (number_of i)) is ≡ true → AreIncreased m w base k (map (λ i. increased_to m w base k (number_of i)) is)
+pub numbers_read : (m : Bool) (w base k : ℕ) (is : List (List Bool)) → AllLong k is → list_all (λ i. stays_within m w base k (number_of i)) is ≡ true
+    → AreIncreased m w base k (map (λ i. increased_to m w base k (number_of i)) is)
 numbers_read m w base k [] long h = record { fits = tt; increment_over = tt; short = tt }
 numbers_read m w base k (i ∷ is) long h =
     let v = number_of i in
-    let a = read_by_tests m (m && (v == ones k)) (nat_lt (ones w) (base + v)) (m && (base + v == ones w)) w base k v (subst (λ n. v < 2 ^ n) long.0 (number_of-below i)) refl refl refl (and_first (stays_within m w base k v) (list_all (λ i. stays_within m w base k (number_of i)) is) h) in
+    let a = read_by_tests m (m && (v == ones k)) (nat_lt (ones w) (base + v)) (m && (base + v == ones w)) w base k v (subst (λ n. v < 2 ^ n) long.0 (number_of-below i)) refl refl refl
+    (and_first (stays_within m w base k v) (list_all (λ i. stays_within m w base k (number_of i)) is) h) in
     let b = numbers_read m w base k is long.1 (and_second (stays_within m w base k v) (list_all (λ i. stays_within m w base k (number_of i)) is) h) in
     record { fits = (a.fits, b.fits); increment_over = (a.increment_over, b.increment_over); short = (a.short, b.short) }
 
@@ -233,7 +237,8 @@ pub record IsFromOctets (count k : ℕ) (c : Content) : Type 0 where
   pub fits : FitsText count c
   pub again : has_octets k c ≡ true
 
-text_read : (count k : ℕ) (i : List Bool) (b : Bool) → k ≤ count → length i ≡ 8 * k → are_all_ones i ≡ b → IsFromOctets count k (if b then missing else text (octets_in k i ++ replicate (count - k) 32))
+text_read : (count k : ℕ) (i : List Bool) (b : Bool) → k ≤ count → length i ≡ 8 * k → are_all_ones i ≡ b
+    → IsFromOctets count k (if b then missing else text (octets_in k i ++ replicate (count - k) 32))
 text_read count k i true short long e = record { fits = tt; again = refl }
 text_read count k i false short long e =
     let prefix = octets_in k i in
@@ -247,7 +252,8 @@ text_read count k i false short long e =
       fits = (
         size,
         AreOctets-append prefix (replicate (count - k) 32) are (AreOctets-spaces (count - k)),
-        list_all-append (λ octet. octet == 255) prefix (replicate (count - k) 32) ∙ and_false (list_all (λ octet. octet == 255) prefix) (list_all (λ octet. octet == 255) (replicate (count - k) 32)) some,
+        list_all-append (λ octet. octet == 255) prefix (replicate (count - k) 32)
+            ∙ and_false (list_all (λ octet. octet == 255) prefix) (list_all (λ octet. octet == 255) (replicate (count - k) 32)) some,
       );
       again =
           ap (λ xs. bytes_eq (xs ++ replicate (length whole - k) 32) whole && not (list_all (λ octet. octet == 255) xs)) first

@@ -69,7 +69,8 @@ unfolding packed_to_bits letters bits_in bits_of
 texts_of_63 = refl
 
 -- rule: fault-59
-texts_too_long_apart : packed_to_bits (operator 34112 bare) (subset (draft 24 34112 (text_form (letters 63 65)) ∷ []) 25 ∷ subset (draft 26 34112 (text_form (letters 63 66)) ∷ []) 27 ∷ []) ≡ Err (at_line 24 uneven_increment)
+texts_too_long_apart : packed_to_bits (operator 34112 bare) (subset (draft 24 34112 (text_form (letters 63 65)) ∷ []) 25 ∷ subset (draft 26 34112 (text_form (letters 63 66)) ∷ []) 27 ∷ [])
+    ≡ Err (at_line 24 uneven_increment)
 unfolding packed_to_bits letters bits_in
 texts_too_long_apart = refl
 

@@ -44,7 +44,8 @@ module _ (n : ℕ) (spec : FieldSpec) where
       let k = number_of (take 6 (drop spec.width bits)) in
       let suffix = drop (spec.width + 6) bits in
       let used = n * increment_bits_of spec.role spec.kind k in
-      let t = item_ok (nat_lt (length bits) (spec.width + 6) || nat_lt (length suffix) used) (k == 0 || are_increments_valid spec.role spec k n (take spec.width bits) suffix) (k == 0 || equal_in spec.role k n suffix) (contents_of spec k n (take spec.width bits) suffix) (drop used suffix) cs mid e in
+      let t = item_ok (nat_lt (length bits) (spec.width + 6) || nat_lt (length suffix) used) (k == 0 || are_increments_valid spec.role spec k n (take spec.width bits) suffix)
+      (k == 0 || equal_in spec.role k n suffix) (contents_of spec k n (take spec.width bits) suffix) (drop used suffix) cs mid e in
       let ends = neither (nat_lt (length bits) (spec.width + 6)) (nat_lt (length suffix) used) t.0 in
       let long : spec.width + 6 ≤ length bits = ltb-false (length bits) (spec.width + 6) ends.0 in
       let enough : used ≤ length suffix = ltb-false (length suffix) used ends.1 in
@@ -60,7 +61,9 @@ module _ (n : ℕ) (spec : FieldSpec) where
 
   -- ---- bits that are packed are read by their parts
   abbrev tested : (bits : List Bool) (k : ℕ) (base suffix : List Bool) → Result (FieldRead (List Content)) FieldFault
-  tested bits k base suffix = item_tested (nat_lt (length bits) (spec.width + 6) || nat_lt (length suffix) (n * increment_bits_of spec.role spec.kind k)) (k == 0 || are_increments_valid spec.role spec k n base suffix) (k == 0 || equal_in spec.role k n suffix) (contents_of spec k n base suffix) (drop (n * increment_bits_of spec.role spec.kind k) suffix)
+  tested bits k base suffix = item_tested (nat_lt (length bits) (spec.width + 6) || nat_lt (length suffix) (n * increment_bits_of spec.role spec.kind k))
+      (k == 0 || are_increments_valid spec.role spec k n base suffix) (k == 0 || equal_in spec.role k n suffix) (contents_of spec k n base suffix)
+      (drop (n * increment_bits_of spec.role spec.kind k) suffix)
 
   pub packed_reads : (base : List Bool) (k : ℕ) (pieces more : List Bool) (cs : List Content) → length base ≡ spec.width → k ≤ 63 → length pieces ≡ n * increment_bits_of spec.role spec.kind k
       → (k == 0 || are_increments_valid spec.role spec k n base (pieces ++ more)) ≡ true → (k == 0 || equal_in spec.role k n (pieces ++ more)) ≡ true → contents_of spec k n base (pieces ++ more) ≡ cs
@@ -75,7 +78,8 @@ module _ (n : ℕ) (spec : FieldSpec) where
       let six : take 6 (drop w all) ≡ bits_in k 6 = ap (take 6) rest ∙ take_at (bits_in k 6) (pieces ++ more) 6 (length-bits_in k 6) in
       let is_k : number_of (take 6 (drop w all)) ≡ k = ap number_of six ∙ number_again k 6 (omega arith) in
       let suffix : drop (w + 6) all ≡ pieces ++ more = sym (drop-drop 6 w all) ∙ ap (drop 6) rest ∙ drop_at (bits_in k 6) (pieces ++ more) 6 (length-bits_in k 6) in
-      let size : length all ≡ w + 6 + (length pieces + length more) = omega (arith, ap length turned, length-append base (bits_in k 6 ++ (pieces ++ more)), length-append (bits_in k 6) (pieces ++ more), length-append pieces more, lb, length-bits_in k 6) in
+      let size : length all ≡ w + 6 + (length pieces + length more) =
+      omega (arith, ap length turned, length-append base (bits_in k 6 ++ (pieces ++ more)), length-append (bits_in k 6) (pieces ++ more), length-append pieces more, lb, length-bits_in k 6) in
       let none : nat_lt (length all) (w + 6) ≡ false = le-ltb (length all) (w + 6) (omega (arith, size)) in
       let enough : nat_lt (length (pieces ++ more)) (n * step) ≡ false = le-ltb (length (pieces ++ more)) (n * step) (omega (arith, length-append pieces more, lp)) in
       ap (λ j. tested all j (take w all) (drop (w + 6) all)) is_k ∙ ap (λ x. tested all k x (drop (w + 6) all)) first ∙ ap (λ x. tested all k base x) suffix
@@ -101,13 +105,17 @@ missing_has m low k (i ∷ is) = missing_has m low k is
 module _ (spec : FieldSpec) (k n : ℕ) (base suffix : List Bool) where
   numbers_varied : (b : Bool) → AllLong k (increments n k suffix) → is_missing spec base ≡ b → (b || all_within spec.may_be_missing spec.width (number_of base) k n suffix) ≡ true
       → IsVaried kind.Numeric spec.may_be_missing spec.width k (map (λ i. if b then missing else increased_to spec.may_be_missing spec.width (number_of base) k (number_of i)) (increments n k suffix))
-  numbers_varied true long p h = (missing_numbers spec.may_be_missing spec.width (increments n k suffix) (and_second (are_all_ones base) spec.may_be_missing p), λ low q. missing_has spec.may_be_missing low k (increments n k suffix))
+  numbers_varied true long p h = (
+    missing_numbers spec.may_be_missing spec.width (increments n k suffix) (and_second (are_all_ones base) spec.may_be_missing p),
+    λ low q. missing_has spec.may_be_missing low k (increments n k suffix),
+  )
   numbers_varied false long p h =
       let r = numbers_read spec.may_be_missing spec.width (number_of base) k (increments n k suffix) long h in
       let cs = map (λ i. increased_to spec.may_be_missing spec.width (number_of base) k (number_of i)) (increments n k suffix) in
       (r.fits, λ low q. all_over spec.may_be_missing (number_of base) low k cs (under_lowest cs (number_of base) low r.increment_over q) r.short)
 
-  spec_by_kind : (kd : Kind) → AllLong (kind_step kd k) (increments n (kind_step kd k) suffix) → are_increments_valid_by kd spec k n base suffix ≡ true → IsVaried kd spec.may_be_missing spec.width k (map (content_from kd spec k base) (increments n (kind_step kd k) suffix))
+  spec_by_kind : (kd : Kind) → AllLong (kind_step kd k) (increments n (kind_step kd k) suffix) → are_increments_valid_by kd spec k n base suffix ≡ true
+      → IsVaried kd spec.may_be_missing spec.width k (map (content_from kd spec k base) (increments n (kind_step kd k) suffix))
   spec_by_kind kind.Character long h =
       let short : k ≤ spec.width / 8 = ltb-false (spec.width / 8) k (not_true (nat_lt (spec.width / 8) k) h) in
       (texts_fit (spec.width / 8) k (increments n (8 * k) suffix) short long, texts_again (spec.width / 8) k (increments n (8 * k) suffix) short long, short)
@@ -150,9 +158,11 @@ module _ (spec : FieldSpec) (cs : List Content) (most : ℕ) (some : 1 ≤ most)
     least_passes = first_passes (λ k. list_all (passes k) cs) 63 1 most some (omega arith) pass
 
   -- numbers over a base that none is under
-  numbers_written : (base : ℕ) → base < raw_limit spec.may_be_missing spec.width → AreNumbers spec.may_be_missing spec.width cs → AreOver base cs → (pass : list_all (has_bits spec.may_be_missing base most) cs ≡ true)
+  numbers_written : (base : ℕ) → base < raw_limit spec.may_be_missing spec.width → AreNumbers spec.may_be_missing spec.width cs → AreOver base cs
+      → (pass : list_all (has_bits spec.may_be_missing base most) cs ≡ true)
       → (k : ℕ) → k ≡ least_k (has_bits spec.may_be_missing base) cs → (more : List Bool)
-      → (are_number_increments_valid spec k (length cs) (bits_in base spec.width) (flat_map (increment_bits base k) cs ++ more) ≡ true) × (map (number_from spec k (bits_in base spec.width)) (increments (length cs) k (flat_map (increment_bits base k) cs ++ more)) ≡ cs)
+      → (are_number_increments_valid spec k (length cs) (bits_in base spec.width) (flat_map (increment_bits base k) cs ++ more) ≡ true)
+      × (map (number_from spec k (bits_in base spec.width)) (increments (length cs) k (flat_map (increment_bits base k) cs ++ more)) ≡ cs)
   numbers_written base fits are increment_over pass k e more =
       let m = spec.may_be_missing in
       let w = spec.width in
@@ -171,7 +181,8 @@ module _ (spec : FieldSpec) (cs : List Content) (most : ℕ) (some : 1 ≤ most)
             ∙ ap (λ v. map (λ i. increased_to m w v k (number_of i)) (map f cs)) again ∙ b.1,
       )
 
-  number_item : (base : ℕ) → base < raw_limit spec.may_be_missing spec.width → AreNumbers spec.may_be_missing spec.width cs → AreOver base cs → (pass : list_all (has_bits spec.may_be_missing base most) cs ≡ true)
+  number_item : (base : ℕ) → base < raw_limit spec.may_be_missing spec.width → AreNumbers spec.may_be_missing spec.width cs → AreOver base cs
+      → (pass : list_all (has_bits spec.may_be_missing base most) cs ≡ true)
       → unwrap_or (lowest cs) 0 ≡ base → IsWritten kind.Numeric spec cs most
   number_item base fits are increment_over pass e =
       let m = spec.may_be_missing in
@@ -285,8 +296,10 @@ equal_numbers : (spec : FieldSpec) (k first : ℕ) (base : List Bool) (is : List
     → map (number_from spec k base) is ≡ replicate (length is) (if is_missing spec base then missing else increased_to spec.may_be_missing spec.width (number_of base) k first)
 equal_numbers spec k first base [] h = refl
 equal_numbers spec k first base (i ∷ is) h =
-    ap (λ v. (if is_missing spec base then missing else increased_to spec.may_be_missing spec.width (number_of base) k v) ∷ map (number_from spec k base) is) (eqb-true (number_of i) first (and_first (number_of i == first) (list_all (λ i. number_of i == first) is) h))
-    ∙ ap (λ xs. (if is_missing spec base then missing else increased_to spec.may_be_missing spec.width (number_of base) k first) ∷ xs) (equal_numbers spec k first base is (and_second (number_of i == first) (list_all (λ i. number_of i == first) is) h))
+    ap (λ v. (if is_missing spec base then missing else increased_to spec.may_be_missing spec.width (number_of base) k v) ∷ map (number_from spec k base) is)
+    (eqb-true (number_of i) first (and_first (number_of i == first) (list_all (λ i. number_of i == first) is) h))
+    ∙ ap (λ xs. (if is_missing spec base then missing else increased_to spec.may_be_missing spec.width (number_of base) k first) ∷ xs)
+    (equal_numbers spec k first base is (and_second (number_of i == first) (list_all (λ i. number_of i == first) is) h))
 
 increments_count : (n k : ℕ) (bits : List Bool) → length (increments n k bits) ≡ n
 increments_count zero k bits = refl
@@ -339,7 +352,8 @@ module _ (n : ℕ) (spec : FieldSpec) (good : IsSpec spec) where
       }
 
   -- contents that differ, of an element
-  differing : IsOpen spec → (c : Content) (cs : List Content) (k most : ℕ) → 1 ≤ k → k ≤ 63 → IsVaried spec.kind spec.may_be_missing spec.width k (c ∷ cs) → are_same c cs ≡ false → length (c ∷ cs) ≡ n → spec.width + 6 + n * kind_step spec.kind k ≤ most → PacksWithin n spec (c ∷ cs) most
+  differing : IsOpen spec → (c : Content) (cs : List Content) (k most : ℕ) → 1 ≤ k → k ≤ 63 → IsVaried spec.kind spec.may_be_missing spec.width k (c ∷ cs) → are_same c cs ≡ false
+      → length (c ∷ cs) ≡ n → spec.width + 6 + n * kind_step spec.kind k ≤ most → PacksWithin n spec (c ∷ cs) most
   differing o c cs k most some small varies unlike count room =
       let w = item_written spec (c ∷ cs) k some small spec.kind good.width varies in
       let size : length w.pieces ≡ n * kind_step spec.kind w.k = w.size ∙ ap (λ l. l * kind_step spec.kind w.k) count in
@@ -371,24 +385,29 @@ module _ (n : ℕ) (spec : FieldSpec) (good : IsSpec spec) where
   first_fits_kind kind.Numeric k c cs v = v.0.0
 
   -- either all the same, or not
-  of_element : IsOpen spec → (c : Content) (cs : List Content) (k most : ℕ) (b : Bool) → are_same c cs ≡ b → 1 ≤ k → k ≤ 63 → IsVaried spec.kind spec.may_be_missing spec.width k (c ∷ cs) → length (c ∷ cs) ≡ n → spec.width + 6 + n * kind_step spec.kind k ≤ most → PacksWithin n spec (c ∷ cs) most
+  of_element : IsOpen spec → (c : Content) (cs : List Content) (k most : ℕ) (b : Bool) → are_same c cs ≡ b → 1 ≤ k → k ≤ 63 → IsVaried spec.kind spec.may_be_missing spec.width k (c ∷ cs)
+      → length (c ∷ cs) ≡ n → spec.width + 6 + n * kind_step spec.kind k ≤ most → PacksWithin n spec (c ∷ cs) most
   of_element o c cs k most true e some small varies count room = uniform c cs most (o.fit c (first_fits_kind spec.kind k c cs varies)) e count (omega (arith, room))
   of_element o c cs k most false e some small varies count room = differing o c cs k most some small varies e count room
 
-  module _ (c : Content) (cs : List Content) (k : ℕ) (base suffix : List Bool) (some : 1 ≤ k) (small : k ≤ 63) (are : map (content_from spec.kind spec k base) (increments n (kind_step spec.kind k) suffix) ≡ c ∷ cs) where
+  module _ (c : Content) (cs : List Content) (k : ℕ) (base suffix : List Bool) (some : 1 ≤ k) (small : k ≤ 63)
+      (are : map (content_from spec.kind spec k base) (increments n (kind_step spec.kind k) suffix) ≡ c ∷ cs) where
     count_is : length (c ∷ cs) ≡ n
     count_is = ap length (sym are) ∙ length-map (increments n (kind_step spec.kind k) suffix) (content_from spec.kind spec k base) ∙ increments_count n (kind_step spec.kind k) suffix
 
     varies_so : n * kind_step spec.kind k ≤ length suffix → are_increments_valid_by spec.kind spec k n base suffix ≡ true → IsVaried spec.kind spec.may_be_missing spec.width k (c ∷ cs)
     varies_so enough h = subst (IsVaried spec.kind spec.may_be_missing spec.width k) are (spec_by_kind spec k n base suffix spec.kind (increments_all n (kind_step spec.kind k) suffix enough).0 h)
 
-    of_open : IsOpen spec → n * increment_bits_of spec.role spec.kind k ≤ length suffix → are_increments_valid spec.role spec k n base suffix ≡ true → PacksWithin n spec (c ∷ cs) (spec.width + 6 + n * increment_bits_of spec.role spec.kind k)
+    of_open : IsOpen spec → n * increment_bits_of spec.role spec.kind k ≤ length suffix → are_increments_valid spec.role spec k n base suffix ≡ true
+        → PacksWithin n spec (c ∷ cs) (spec.width + 6 + n * increment_bits_of spec.role spec.kind k)
     of_open o enough h =
         let same_step = ap (λ s. n * s) (o.steps k) in
-        of_element o c cs k (spec.width + 6 + n * increment_bits_of spec.role spec.kind k) (are_same c cs) refl some small (varies_so (omega (arith, enough, same_step)) (sym (o.holds k n base suffix) ∙ h)) count_is (omega (arith, same_step))
+        of_element o c cs k (spec.width + 6 + n * increment_bits_of spec.role spec.kind k) (are_same c cs) refl some small
+        (varies_so (omega (arith, enough, same_step)) (sym (o.holds k n base suffix) ∙ h)) count_is (omega (arith, same_step))
 
     -- what was read with k above 0, for each role
-    by_role : (r : Role) → spec.role ≡ r → n * increment_bits_of spec.role spec.kind k ≤ length suffix → are_increments_valid spec.role spec k n base suffix ≡ true → equal_in spec.role k n suffix ≡ true → PacksWithin n spec (c ∷ cs) (spec.width + 6 + n * increment_bits_of spec.role spec.kind k)
+    by_role : (r : Role) → spec.role ≡ r → n * increment_bits_of spec.role spec.kind k ≤ length suffix → are_increments_valid spec.role spec k n base suffix ≡ true
+        → equal_in spec.role k n suffix ≡ true → PacksWithin n spec (c ∷ cs) (spec.width + 6 + n * increment_bits_of spec.role spec.kind k)
     by_role role.Element er enough h q = of_open (open_element spec er) enough h
     by_role role.Inserted er enough h q = of_open (open_inserted spec er) enough h
     by_role role.Reference er enough h q = let no : false ≡ true = ap (λ r. are_increments_valid r spec k n base suffix) (sym er) ∙ h in absurd cc
@@ -397,19 +416,23 @@ module _ (n : ℕ) (spec : FieldSpec) (good : IsSpec spec) where
         let same_step = ap (λ r. n * increment_bits_of r spec.kind k) er in
         let v = varies_so (omega (arith, enough, same_step)) (ap (λ r. are_increments_valid r spec k n base suffix) (sym er) ∙ h) in
         let equal : all_equal k n (number_of (take k suffix)) suffix ≡ true = ap (λ r. equal_in r k n suffix) (sym er) ∙ q in
-        let copies = sym (equal_numbers spec k (number_of (take k suffix)) base (increments n k suffix) equal) ∙ ap (λ kd. map (content_from kd spec k base) (increments n (kind_step kd k) suffix)) (sym as_number) ∙ are in
+        let copies = sym (equal_numbers spec k (number_of (take k suffix)) base (increments n k suffix) equal)
+        ∙ ap (λ kd. map (content_from kd spec k base) (increments n (kind_step kd k) suffix)) (sym as_number) ∙ are in
         uniform c cs _ (subst (λ r. FitsRole r spec c) (sym er) (first_fits_kind spec.kind k c cs v)) (copies_are (length (increments n k suffix)) _ c cs copies).1 count_is (omega arith)
 
   -- what was read with any k
-  by_k : (b : Bool) (k : ℕ) → (k == 0) ≡ b → (c : Content) (cs : List Content) (base suffix : List Bool) → length base ≡ spec.width → k ≤ 63 → n * increment_bits_of spec.role spec.kind k ≤ length suffix → (b || are_increments_valid spec.role spec k n base suffix) ≡ true → (b || equal_in spec.role k n suffix) ≡ true
-      → (if b then replicate n (content_in spec base) else map (content_from spec.kind spec k base) (increments n (kind_step spec.kind k) suffix)) ≡ c ∷ cs → PacksWithin n spec (c ∷ cs) (spec.width + 6 + n * increment_bits_of spec.role spec.kind k)
+  by_k : (b : Bool) (k : ℕ) → (k == 0) ≡ b → (c : Content) (cs : List Content) (base suffix : List Bool) → length base ≡ spec.width → k ≤ 63
+      → n * increment_bits_of spec.role spec.kind k ≤ length suffix → (b || are_increments_valid spec.role spec k n base suffix) ≡ true → (b || equal_in spec.role k n suffix) ≡ true
+      → (if b then replicate n (content_in spec base) else map (content_from spec.kind spec k base) (increments n (kind_step spec.kind k) suffix)) ≡ c ∷ cs
+      → PacksWithin n spec (c ∷ cs) (spec.width + 6 + n * increment_bits_of spec.role spec.kind k)
   by_k true k p c cs base suffix lb small enough h q e =
       let f = copies_are n (content_in spec base) c cs e in
       uniform c cs _ (subst (Fits spec) f.0 (content_fits spec good base lb)) f.1 (ap length (sym e) ∙ length-replicate n (content_in spec base)) (omega arith)
   by_k false k p c cs base suffix lb small enough h q e = by_role c cs k base suffix (zero_or_some k false p refl) small e spec.role refl enough h q
 
   -- an item that was read is packed so that it is read again, in no more bits
-  pub packed_again : (c : Content) (cs : List Content) (bits mid : List Bool) → packed_field n spec bits ≡ Ok (found (c ∷ cs) mid) → (most : ℕ) × (most + length mid ≤ length bits) × PacksWithin n spec (c ∷ cs) most
+  pub packed_again : (c : Content) (cs : List Content) (bits mid : List Bool) → packed_field n spec bits ≡ Ok (found (c ∷ cs) mid)
+      → (most : ℕ) × (most + length mid ≤ length bits) × PacksWithin n spec (c ∷ cs) most
   packed_again c cs bits mid e =
       let k = number_of (take 6 (drop spec.width bits)) in
       let u = unpacked n spec bits (c ∷ cs) mid e in (
@@ -425,7 +448,8 @@ module _ (n : ℕ) (spec : FieldSpec) (good : IsSpec spec) where
       let u = unpacked n spec bits cs mid e in
       ap length (sym u.contents) ∙ by (k == 0) k (take spec.width bits) (drop (spec.width + 6) bits)
     where
-      by : (b : Bool) (k : ℕ) (base suffix : List Bool) → length (if b then replicate n (content_in spec base) else map (content_from spec.kind spec k base) (increments n (kind_step spec.kind k) suffix)) ≡ n
+      by : (b : Bool) (k : ℕ) (base suffix : List Bool) → length (if b then replicate n (content_in spec base) else map (content_from spec.kind spec k base)
+          (increments n (kind_step spec.kind k) suffix)) ≡ n
       by true k base suffix = length-replicate n (content_in spec base)
       by false k base suffix = length-map (increments n (kind_step spec.kind k) suffix) (content_from spec.kind spec k base) ∙ increments_count n (kind_step spec.kind k) suffix
 
@@ -441,7 +465,8 @@ lesser_step kind.Numeric k j g = g
 
 module _ (n : ℕ) (spec : FieldSpec) (some : 1 ≤ n) where
   -- a reference has no k but 0
-  lesser_k : (r : Role) (b : Bool) (k j : ℕ) (base suffix : List Bool) → (k == 0) ≡ b → (b || are_increments_valid r spec k n base suffix) ≡ true → n * increment_bits_of r spec.kind k ≤ n * increment_bits_of r spec.kind j → k ≤ j
+  lesser_k : (r : Role) (b : Bool) (k j : ℕ) (base suffix : List Bool) → (k == 0) ≡ b → (b || are_increments_valid r spec k n base suffix) ≡ true
+      → n * increment_bits_of r spec.kind k ≤ n * increment_bits_of r spec.kind j → k ≤ j
   lesser_k r true k j base suffix p e h = omega (arith, eqb-true k 0 p)
   lesser_k role.Element false k j base suffix p e h = lesser_step spec.kind k j (le_of_mul-le-mul_left h some)
   lesser_k role.Inserted false k j base suffix p e h = lesser_step spec.kind k j (le_of_mul-le-mul_left h some)
@@ -449,7 +474,8 @@ module _ (n : ℕ) (spec : FieldSpec) (some : 1 ≤ n) where
   lesser_k role.Reference false k j base suffix p e h = absurd cc
 
   -- of two items with the same contents the one that is no longer has no greater k
-  shorter : (out bits : List Bool) (cs : List Content) (suffix : List Bool) → packed_field n spec out ≡ Ok (found cs []) → packed_field n spec bits ≡ Ok (found cs suffix) → length out + length suffix ≤ length bits → k_of spec out ≤ k_of spec bits
+  shorter : (out bits : List Bool) (cs : List Content) (suffix : List Bool) → packed_field n spec out ≡ Ok (found cs []) → packed_field n spec bits ≡ Ok (found cs suffix)
+      → length out + length suffix ≤ length bits → k_of spec out ≤ k_of spec bits
   shorter out bits cs suffix e f h =
       let a = unpacked n spec out cs [] e in
       let b = unpacked n spec bits cs suffix f in
@@ -457,7 +483,8 @@ module _ (n : ℕ) (spec : FieldSpec) (some : 1 ≤ n) where
 
   module _ (good : IsSpec spec) where
     -- the same bits are packed, whatever the contents were read from
-    no_longer : (c : Content) (cs : List Content) (out bits suffix : List Bool) → packing spec (c ∷ cs) ≡ Ok out → packed_field n spec bits ≡ Ok (found (c ∷ cs) suffix) → length out + length suffix ≤ length bits
+    no_longer : (c : Content) (cs : List Content) (out bits suffix : List Bool) → packing spec (c ∷ cs) ≡ Ok out → packed_field n spec bits ≡ Ok (found (c ∷ cs) suffix)
+        → length out + length suffix ≤ length bits
     no_longer c cs out bits suffix is e =
         let p = packed_again n spec good c cs bits suffix e in
         omega (arith, p.1, p.2.short, ap length (same_ok _ _ (sym is ∙ p.2.is)))
@@ -475,7 +502,8 @@ module _ (n : ℕ) (spec : FieldSpec) (some : 1 ≤ n) where
           short = λ bs mid f. no_longer c cs p.out bs mid p.is f;
         }
 
-pub least_k_packed : (n : ℕ) (spec : FieldSpec) (contents : List Content) (bits suffix : List Bool) → 1 ≤ n → IsSpec spec → packed_field n spec bits ≡ Ok (found contents suffix) → HasLeastK n spec contents
+pub least_k_packed : (n : ℕ) (spec : FieldSpec) (contents : List Content) (bits suffix : List Bool) → 1 ≤ n → IsSpec spec → packed_field n spec bits ≡ Ok (found contents suffix)
+    → HasLeastK n spec contents
 least_k_packed n spec contents bits suffix some good e = by_contents n spec some good contents bits suffix e
 
 -- ---- Contents that fit a field and can be packed are read again from their bits.
@@ -539,7 +567,8 @@ text_varies true m w cs out wide are q e =
     let least : k ≤ w / 8 = first_least (λ k. list_all (has_octets k) cs) 63 1 (w / 8) some (texts_have (w / 8) cs are) in
     (k, first_from_start (λ k. list_all (has_octets k) cs) 63 1, few, (are, passes, least))
 
-kind_varies : (kd : Kind) (spec : FieldSpec) (cs : List Content) (out : List Bool) → HasWidth kd spec.width → AllKind kd spec.may_be_missing spec.width cs → packed_by kd spec cs ≡ Ok out → Varies kd spec.may_be_missing spec.width cs
+kind_varies : (kd : Kind) (spec : FieldSpec) (cs : List Content) (out : List Bool) → HasWidth kd spec.width → AllKind kd spec.may_be_missing spec.width cs → packed_by kd spec cs ≡ Ok out
+    → Varies kd spec.may_be_missing spec.width cs
 kind_varies kind.Character spec cs out hw h e = text_varies (nat_le (least_k has_octets cs) 63) spec.may_be_missing spec.width cs out hw.0 h refl e
 kind_varies kind.Coded spec cs out hw h e =
     (spec.width, hw.0, hw.1, (h, λ low q. numbers_have spec.may_be_missing spec.width low cs h))
@@ -549,34 +578,42 @@ kind_varies kind.Numeric spec cs out hw h e =
 -- ---- the item
 
 module _ (n : ℕ) (spec : FieldSpec) (good : IsSpec spec) where
-  kinds_of : (r : Role) → spec.role ≡ r → ((x : Content) → FitsRole r spec x → FitsKind spec.kind spec.may_be_missing spec.width x) → (cs : List Content) → AllFit spec cs → AllKind spec.kind spec.may_be_missing spec.width cs
+  kinds_of : (r : Role) → spec.role ≡ r → ((x : Content) → FitsRole r spec x → FitsKind spec.kind spec.may_be_missing spec.width x) → (cs : List Content) → AllFit spec cs
+      → AllKind spec.kind spec.may_be_missing spec.width cs
   kinds_of r er f cs h = all_map cs (λ x g. f x (subst (λ r. FitsRole r spec x) er g)) h
 
-  unlike_open : IsOpen spec → (c : Content) (cs : List Content) (out : List Bool) → AllKind spec.kind spec.may_be_missing spec.width (c ∷ cs) → length (c ∷ cs) ≡ n → are_same c cs ≡ false → packed_unlike spec.role spec (c ∷ cs) ≡ Ok out → (most : ℕ) × PacksWithin n spec (c ∷ cs) most
+  unlike_open : IsOpen spec → (c : Content) (cs : List Content) (out : List Bool) → AllKind spec.kind spec.may_be_missing spec.width (c ∷ cs) → length (c ∷ cs) ≡ n → are_same c cs ≡ false
+      → packed_unlike spec.role spec (c ∷ cs) ≡ Ok out → (most : ℕ) × PacksWithin n spec (c ∷ cs) most
   unlike_open o c cs out fits count unlike e =
       let v = kind_varies spec.kind spec (c ∷ cs) out good.width fits (sym (o.packings (c ∷ cs)) ∙ e) in
       let most = spec.width + 6 + n * kind_step spec.kind v.0 in
       (most, differing n spec good o c cs v.0 most v.1 v.2 v.3 unlike count (omega arith))
 
-  unlike_by_role : (r : Role) → spec.role ≡ r → (c : Content) (cs : List Content) (out : List Bool) → AllFit spec (c ∷ cs) → length (c ∷ cs) ≡ n → are_same c cs ≡ false → packed_unlike r spec (c ∷ cs) ≡ Ok out → (most : ℕ) × PacksWithin n spec (c ∷ cs) most
+  unlike_by_role : (r : Role) → spec.role ≡ r → (c : Content) (cs : List Content) (out : List Bool) → AllFit spec (c ∷ cs) → length (c ∷ cs) ≡ n → are_same c cs ≡ false
+      → packed_unlike r spec (c ∷ cs) ≡ Ok out → (most : ℕ) × PacksWithin n spec (c ∷ cs) most
   unlike_by_role role.Factor er c cs out fits count unlike e = absurd cc
   unlike_by_role role.Reference er c cs out fits count unlike e = absurd cc
-  unlike_by_role role.Element er c cs out fits count unlike e = unlike_open (open_element spec er) c cs out (kinds_of role.Element er (λ x f. f) (c ∷ cs) fits) count unlike (ap (λ r. packed_unlike r spec (c ∷ cs)) er ∙ e)
-  unlike_by_role role.Inserted er c cs out fits count unlike e = unlike_open (open_inserted spec er) c cs out (kinds_of role.Inserted er (λ x f. f) (c ∷ cs) fits) count unlike (ap (λ r. packed_unlike r spec (c ∷ cs)) er ∙ e)
+  unlike_by_role role.Element er c cs out fits count unlike e = unlike_open (open_element spec er) c cs out (kinds_of role.Element er (λ x f. f) (c ∷ cs) fits) count unlike
+      (ap (λ r. packed_unlike r spec (c ∷ cs)) er ∙ e)
+  unlike_by_role role.Inserted er c cs out fits count unlike e = unlike_open (open_inserted spec er) c cs out (kinds_of role.Inserted er (λ x f. f) (c ∷ cs) fits) count unlike
+      (ap (λ r. packed_unlike r spec (c ∷ cs)) er ∙ e)
 
-  by_same : (b : Bool) (c : Content) (cs : List Content) (out : List Bool) → AllFit spec (c ∷ cs) → length (c ∷ cs) ≡ n → are_same c cs ≡ b → (if b then Ok (packed_bits (bits_for spec.width c) 0 []) else packed_unlike spec.role spec (c ∷ cs)) ≡ Ok out
+  by_same : (b : Bool) (c : Content) (cs : List Content) (out : List Bool) → AllFit spec (c ∷ cs) → length (c ∷ cs) ≡ n → are_same c cs ≡ b
+      → (if b then Ok (packed_bits (bits_for spec.width c) 0 []) else packed_unlike spec.role spec (c ∷ cs)) ≡ Ok out
       → (most : ℕ) × PacksWithin n spec (c ∷ cs) most
   by_same true c cs out fits count q e = (spec.width + 6, uniform n spec good c cs (spec.width + 6) fits.0 q count (omega arith))
   by_same false c cs out fits count q e = unlike_by_role spec.role refl c cs out fits count q e
 
   -- contents that fit, where they can be packed, are read again
-  pub fitting_again : (c : Content) (cs : List Content) (out more : List Bool) → AllFit spec (c ∷ cs) → length (c ∷ cs) ≡ n → packing spec (c ∷ cs) ≡ Ok out → packed_field n spec (out ++ more) ≡ Ok (found (c ∷ cs) more)
+  pub fitting_again : (c : Content) (cs : List Content) (out more : List Bool) → AllFit spec (c ∷ cs) → length (c ∷ cs) ≡ n → packing spec (c ∷ cs) ≡ Ok out
+      → packed_field n spec (out ++ more) ≡ Ok (found (c ∷ cs) more)
   fitting_again c cs out more fits count e =
       let p = by_same (are_same c cs) c cs out fits count refl e in
       let is : out ≡ p.1.out = same_ok out p.1.out (sym e ∙ p.1.is) in
       ap (λ bits. packed_field n spec (bits ++ more)) is ∙ p.1.again more
 
 -- and with the least k
-pub fitting_least_k : (n : ℕ) (spec : FieldSpec) (contents : List Content) (out : List Bool) → 1 ≤ n → IsSpec spec → AllFit spec contents → length contents ≡ n → packing spec contents ≡ Ok out → HasLeastK n spec contents
+pub fitting_least_k : (n : ℕ) (spec : FieldSpec) (contents : List Content) (out : List Bool) → 1 ≤ n → IsSpec spec → AllFit spec contents → length contents ≡ n → packing spec contents ≡ Ok out
+    → HasLeastK n spec contents
 fitting_least_k n spec [] out some good fits count e = absurd (omega (arith, some, count))
 fitting_least_k n spec (c ∷ cs) out some good fits count e = least_k_packed n spec (c ∷ cs) (out ++ []) [] some good (fitting_again n spec good c cs out [] fits count e)

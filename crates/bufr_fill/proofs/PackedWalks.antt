@@ -38,18 +38,21 @@ within s s' spec t h = by s.subsets refl
 pub row_first : (n place : ℕ) (ss : List Subset) → place < n → rows (n - place) place ss ≡ item_row place ss ∷ rows (n - (place + 1)) (place + 1) ss
 row_first n place ss h = let e : n - place ≡ suc (n - (place + 1)) = omega (arith, h) in ap (λ k. rows k place ss) e
 
-pub fills : (end : ℕ) (many : Bool) (s : PackedOutModel) (spec : FieldSpec) (t : Taken) (s' : PackedOutModel) → oks PackedFills s spec t s' → HasFilled (packed_filler end many) (rows_left s) s.bits spec t (rows_left s') s'.bits
+pub fills : (end : ℕ) (many : Bool) (s : PackedOutModel) (spec : FieldSpec) (t : Taken) (s' : PackedOutModel) → oks PackedFills s spec t s'
+    → HasFilled (packed_filler end many) (rows_left s) s.bits spec t (rows_left s') s'.bits
 fills end many s spec t s' h = record {
   draft = item_row s.place s.subsets;
   item = written_item h.put.contents h.put.item;
-  here = row_first (longest s.subsets) s.place s.subsets (within s s' spec t h) ∙ ap (λ k. item_row s.place s.subsets ∷ rows (longest s.subsets - k) k s.subsets) (sym h.place) ∙ ap (λ ss. item_row s.place s.subsets ∷ rows (longest ss - s'.place) s'.place ss) (sym h.subsets);
+  here = row_first (longest s.subsets) s.place s.subsets (within s s' spec t h) ∙ ap (λ k. item_row s.place s.subsets ∷ rows (longest s.subsets - k) k s.subsets) (sym h.place)
+      ∙ ap (λ ss. item_row s.place s.subsets ∷ rows (longest ss - s'.place) s'.place ss) (sym h.subsets);
   fills = h.put.is;
   gives = h.put.gives;
   bits = h.put.bits;
 }
 
 pub walk_of_rows : (end : ℕ) (many : Bool) (course : Course) (s : PackedOutModel) (items : List TakenField) (s' : PackedOutModel) → Takes (oks PackedFills) course s items s'
-    → (bits : List Bool) × (s'.bits ≡ s.bits ++ bits) × (fill (packed_filler end many) course (rows_left s) ≡ with_bits_before (packed_filler end many) bits (fill (packed_filler end many) (course_after course items) (rows_left s')))
+    → (bits : List Bool) × (s'.bits ≡ s.bits ++ bits) × (fill (packed_filler end many) course (rows_left s)
+    ≡ with_bits_before (packed_filler end many) bits (fill (packed_filler end many) (course_after course items) (rows_left s')))
 walk_of_rows end many course s items s' h = walk_fills (packed_filler end many) rows_left (λ (p : PackedOutModel). p.bits) (oks PackedFills) (fills end many) course s items s' h
 
 -- ---- Where a walk over the items of all subsets stops, its fault is that of their data.
@@ -74,7 +77,8 @@ ends_past : (place : ℕ) (ss : List Subset) → all_at_end (cells_at place ss) 
 ends_past place [] e = omega arith
 ends_past place (s ∷ ss) e = by (slice_get s.items place) refl e (λ e. ends_past place ss e)
   where
-    by : (o : Option Draft) → slice_get s.items place ≡ o → and_end o (all_at_end (cells_at place ss)) ≡ Ok tt → (all_at_end (cells_at place ss) ≡ Ok tt → longest ss ≤ place) → max (length s.items) (longest ss) ≤ place
+    by : (o : Option Draft) → slice_get s.items place ≡ o → and_end o (all_at_end (cells_at place ss)) ≡ Ok tt → (all_at_end (cells_at place ss) ≡ Ok tt → longest ss ≤ place)
+        → max (length s.items) (longest ss) ≤ place
     by None is e g = omega (arith, past_none s.items place is, g e)
     by (Some d) is e g = absurd cc e
 
@@ -83,9 +87,12 @@ ends_before : (place : ℕ) (ss : List Subset) (f : FaultAt) → all_at_end (cel
 ends_before place [] f e = absurd cc e
 ends_before place (s ∷ ss) f e = by (slice_get s.items place) refl e (λ e. ends_before place ss f e)
   where
-    by : (o : Option Draft) → slice_get s.items place ≡ o → and_end o (all_at_end (cells_at place ss)) ≡ Err f → (all_at_end (cells_at place ss) ≡ Err f → (place < longest ss) × (f ≡ at_line (first_there (cells_at place ss)) item_too_many)) → (place < longest (s ∷ ss)) × (f ≡ at_line (first_there (cells_at place (s ∷ ss))) item_too_many)
+    by : (o : Option Draft) → slice_get s.items place ≡ o → and_end o (all_at_end (cells_at place ss)) ≡ Err f
+        → (all_at_end (cells_at place ss) ≡ Err f → (place < longest ss) × (f ≡ at_line (first_there (cells_at place ss)) item_too_many))
+        → (place < longest (s ∷ ss)) × (f ≡ at_line (first_there (cells_at place (s ∷ ss))) item_too_many)
     by None is e g = let r = g e in (omega (arith, r.0), r.1 ∙ ap (λ o. at_line (line_in o (first_there (cells_at place ss))) item_too_many) (sym is))
-    by (Some d) is e g = let same : at_line d.line item_too_many ≡ f = cc in (omega (arith, some_there s.items place d is), sym same ∙ ap (λ o. at_line (line_in o (first_there (cells_at place ss))) item_too_many) (sym is))
+    by (Some d) is e g = let same : at_line d.line item_too_many ≡ f =
+        cc in (omega (arith, some_there s.items place d is), sym same ∙ ap (λ o. at_line (line_in o (first_there (cells_at place ss))) item_too_many) (sym is))
 
 -- ---- the walk
 
@@ -95,7 +102,10 @@ pub record Stays (s s' : PackedOutModel) : Type 0 where
   pub within : s'.place ≤ longest s'.subsets
 
 pub stays : (course : Course) (s : PackedOutModel) (items : List TakenField) (s' : PackedOutModel) → Takes (oks PackedFills) course s items s' → s.place ≤ longest s.subsets → Stays s s'
-stays course s [] s' h p = record { subsets = ap (λ (x : PackedOutModel). x.subsets) h; within = omega (arith, p, ap (λ (x : PackedOutModel). x.place) h, ap (λ (x : PackedOutModel). longest x.subsets) h) }
+stays course s [] s' h p = record {
+  subsets = ap (λ (x : PackedOutModel). x.subsets) h;
+  within = omega (arith, p, ap (λ (x : PackedOutModel). x.place) h, ap (λ (x : PackedOutModel). longest x.subsets) h);
+}
 stays course s (i ∷ items) s' h p =
     let near = within s h.0 i.spec i.taken h.2 in
     let rest = stays (λ answers. course (i.taken ∷ answers)) h.0 items s' h.3 (omega (arith, near, h.2.place, ap longest h.2.subsets)) in
@@ -120,18 +130,21 @@ module _ (course : Course) (s : Subset) (more : List Subset) where
   came : (items : List TakenField) (mid : PackedOutModel) → Takes (oks PackedFills) course (new_packed_out (s ∷ more)) items mid → Came items mid
   came items mid h =
       let w = stays course (new_packed_out (s ∷ more)) items mid h (omega arith) in
-      let f = walk_fills filler rows_left (λ (p : PackedOutModel). p.bits) (oks PackedFills) (fills s.end_line (are_many (longest (s ∷ more)) (length (s ∷ more)))) course (new_packed_out (s ∷ more)) items mid h in
+      let f = walk_fills filler rows_left (λ (p : PackedOutModel). p.bits) (oks PackedFills) (fills s.end_line (are_many (longest (s ∷ more)) (length (s ∷ more)))) course (new_packed_out (s ∷ more))
+      items mid h in
       let e : longest (s ∷ more) - 0 ≡ longest (s ∷ more) = omega arith in
       record {
         bits = f.0;
         are = f.1;
-        is = ap (λ k. fill filler course (rows k 0 (s ∷ more))) (sym e) ∙ f.2 ∙ ap (λ ss. with_bits_before filler f.0 (fill filler (course_after course items) (rows (longest ss - mid.place) mid.place ss))) w.subsets;
+        is = ap (λ k. fill filler course (rows k 0 (s ∷ more))) (sym e) ∙ f.2
+            ∙ ap (λ ss. with_bits_before filler f.0 (fill filler (course_after course items) (rows (longest ss - mid.place) mid.place ss))) w.subsets;
         subsets = w.subsets;
         near = omega (arith, w.within, ap longest w.subsets);
       }
 
   -- where the walk is refused
-  refused_here : (c : Course) (place : ℕ) (why : refusal.the_data) → (c []).next ≡ refused why → place ≤ longest (s ∷ more) → fill_from c place ≡ Err (at_line (first_line_at place (s ∷ more)) (walk_refused why))
+  refused_here : (c : Course) (place : ℕ) (why : refusal.the_data) → (c []).next ≡ refused why → place ≤ longest (s ∷ more)
+      → fill_from c place ≡ Err (at_line (first_line_at place (s ∷ more)) (walk_refused why))
   refused_here c place why e h = by (longest (s ∷ more) - place) refl
     where
       by : (left : ℕ) → longest (s ∷ more) - place ≡ left → fill_from c place ≡ Err (at_line (first_line_at place (s ∷ more)) (walk_refused why))
@@ -144,11 +157,14 @@ module _ (course : Course) (s : Subset) (more : List Subset) where
           ∙ ap (λ x. fill_one filler x (item_row place (s ∷ more)) (λ t. fill filler (λ answers. c (t ∷ answers)) (rows k (place + 1) (s ∷ more)))) e
 
   -- where an item is at fault
-  fault_here : (c : Course) (place : ℕ) (spec : FieldSpec) (f : FaultAt) → (c []).next ≡ take_next spec → place ≤ longest (s ∷ more) → pack_across spec (item_row place (s ∷ more)) ≡ Err f → fill_from c place ≡ Err f
+  fault_here : (c : Course) (place : ℕ) (spec : FieldSpec) (f : FaultAt) → (c []).next ≡ take_next spec → place ≤ longest (s ∷ more) → pack_across spec (item_row place (s ∷ more)) ≡ Err f
+      → fill_from c place ≡ Err f
   fault_here c place spec f e h p = by (longest (s ∷ more) - place) refl
     where
       past : (many many' : Bool) (o : Option Draft) → many ≡ many' → o ≡ None
-          → (if many then Err (at_line (line_in o s.end_line) (too_many_values spec.fxy)) else ((content_here spec o s.end_line >>= λ first. contents_here spec (cells_at place more) >>= λ rest. Ok (first ∷ rest)) >>= λ cs. packed_to cs (cells_at place (s ∷ more)) (packing spec cs))) ≡ Err f
+          → (if many then Err (at_line (line_in o s.end_line) (too_many_values spec.fxy)) else
+          ((content_here spec o s.end_line >>= λ first. contents_here spec (cells_at place more) >>= λ rest. Ok (first ∷ rest)) >>= λ cs. packed_to cs (cells_at place (s ∷ more))
+          (packing spec cs))) ≡ Err f
           → (packed_filler s.end_line many').none_left spec ≡ f
       past true true None a b p = cc
       past false false None a b p = cc
@@ -161,10 +177,12 @@ module _ (course : Course) (s : Subset) (more : List Subset) where
           let at : place ≡ longest (s ∷ more) = omega (arith, l, h) in
           ap (λ k. fill filler c (rows k place (s ∷ more))) l
           ∙ ap (fill_none filler) e
-          ∙ ap Err (past (are_many place (length (cells_at place (s ∷ more)))) (are_many (longest (s ∷ more)) (length (s ∷ more))) (slice_get s.items place) (ap (are_many place) (length-cells place (s ∷ more)) ∙ ap (λ x. are_many x (length (s ∷ more))) at) (none_past s.items place (omega (arith, l, h))) p)
+          ∙ ap Err (past (are_many place (length (cells_at place (s ∷ more)))) (are_many (longest (s ∷ more)) (length (s ∷ more))) (slice_get s.items place)
+          (ap (are_many place) (length-cells place (s ∷ more)) ∙ ap (λ x. are_many x (length (s ∷ more))) at) (none_past s.items place (omega (arith, l, h))) p)
       by (suc k) l =
           ap (λ k. fill filler c (rows k place (s ∷ more))) l
-          ∙ unfilled filler rows_left (λ (p : PackedOutModel). p.bits) (oks PackedFills) (fills s.end_line (are_many (longest (s ∷ more)) (length (s ∷ more)))) c (item_row place (s ∷ more) ∷ rows k (place + 1) (s ∷ more)) spec f e p
+          ∙ unfilled filler rows_left (λ (p : PackedOutModel). p.bits) (oks PackedFills) (fills s.end_line (are_many (longest (s ∷ more)) (length (s ∷ more)))) c
+          (item_row place (s ∷ more) ∷ rows k (place + 1) (s ∷ more)) spec f e p
 
   -- where an item is left over
   over_here : (c : Course) (place : ℕ) (f : FaultAt) → (c []).next ≡ at_end → all_at_end (cells_at place (s ∷ more)) ≡ Err f → fill_from c place ≡ Err f
@@ -177,7 +195,8 @@ module _ (course : Course) (s : Subset) (more : List Subset) where
   later : (items : List TakenField) (mid : PackedOutModel) → Came items mid → (f : FaultAt) → fill_from (course_after course items) mid.place ≡ Err f → packed_data course (s ∷ more) ≡ Err f
   later items mid h f e = h.is ∙ ap (with_bits_before filler h.bits) e
 
-  stops : (items : List TakenField) (mid : PackedOutModel) (f : FaultAt) → Takes (oks PackedFills) course (new_packed_out (s ∷ more)) items mid → IsFaultHere (course (answers_of items)).next mid f → packed_data course (s ∷ more) ≡ Err f
+  stops : (items : List TakenField) (mid : PackedOutModel) (f : FaultAt) → Takes (oks PackedFills) course (new_packed_out (s ∷ more)) items mid → IsFaultHere (course (answers_of items)).next mid f
+      → packed_data course (s ∷ more) ≡ Err f
   stops items mid f h x = later items mid k f (by (course (answers_of items)).next (ap (λ a. a.next) (after_answers course items)) x)
     where
       k : Came items mid
@@ -189,7 +208,8 @@ module _ (course : Course) (s : Subset) (more : List Subset) where
       by at_end e x = over_here (course_after course items) mid.place f e (ap (λ ss. all_at_end (cells_at mid.place ss)) (sym k.subsets) ∙ x)
       by astray e x = absurd x
 
-  ends : (items : List TakenField) (mid : PackedOutModel) → Takes (oks PackedFills) course (new_packed_out (s ∷ more)) items mid → (course (answers_of items)).next ≡ at_end → all_at_end (cells_at mid.place mid.subsets) ≡ Ok tt → packed_data course (s ∷ more) ≡ Ok mid.bits
+  ends : (items : List TakenField) (mid : PackedOutModel) → Takes (oks PackedFills) course (new_packed_out (s ∷ more)) items mid → (course (answers_of items)).next ≡ at_end
+      → all_at_end (cells_at mid.place mid.subsets) ≡ Ok tt → packed_data course (s ∷ more) ≡ Ok mid.bits
   ends items mid h e x =
       let k = came items mid h in
       let past = ends_past mid.place (s ∷ more) (ap (λ ss. all_at_end (cells_at mid.place ss)) (sym k.subsets) ∙ x) in
@@ -197,10 +217,13 @@ module _ (course : Course) (s : Subset) (more : List Subset) where
       ap (fill filler (course_after course items)) (no_row mid.place (s ∷ more) past) ∙ ap (fill_none filler) (ap (λ a. a.next) (after_answers course items) ∙ e) in
       k.is ∙ ap (with_bits_before filler k.bits) none ∙ ap Ok (append-nil k.bits ∙ sym k.are)
 
-pub fault_as_defined : (course : Course) (subsets : List Subset) (items : List TakenField) (s : PackedOutModel) (f : FaultAt) → 1 ≤ length subsets → Takes (oks PackedFills) course (new_packed_out subsets) items s → IsFaultHere (course (answers_of items)).next s f → packed_data course subsets ≡ Err f
+pub fault_as_defined : (course : Course) (subsets : List Subset) (items : List TakenField) (s : PackedOutModel) (f : FaultAt) → 1 ≤ length subsets
+    → Takes (oks PackedFills) course (new_packed_out subsets) items s → IsFaultHere (course (answers_of items)).next s f → packed_data course subsets ≡ Err f
 fault_as_defined course [] items s f some h x = absurd (omega (arith, some))
 fault_as_defined course (first ∷ more) items s f some h x = stops course first more items s f h x
 
-pub written_as_defined : (course : Course) (subsets : List Subset) (items : List TakenField) (s : PackedOutModel) → 1 ≤ length subsets → Takes (oks PackedFills) course (new_packed_out subsets) items s → (course (answers_of items)).next ≡ at_end → all_at_end (cells_at s.place s.subsets) ≡ Ok tt → packed_data course subsets ≡ Ok s.bits
+pub written_as_defined : (course : Course) (subsets : List Subset) (items : List TakenField) (s : PackedOutModel) → 1 ≤ length subsets
+    → Takes (oks PackedFills) course (new_packed_out subsets) items s → (course (answers_of items)).next ≡ at_end → all_at_end (cells_at s.place s.subsets) ≡ Ok tt
+    → packed_data course subsets ≡ Ok s.bits
 written_as_defined course [] items s some h e x = absurd (omega (arith, some))
 written_as_defined course (first ∷ more) items s some h e x = ends course first more items s h e x

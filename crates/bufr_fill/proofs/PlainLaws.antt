@@ -64,7 +64,8 @@ pub record AreRewritten {C D E : Type 0} (form : DataCoding C) (filler : Filler 
 
 module _ {C D E : Type 0} (form : DataCoding C) (filler : Filler D C E) (same_answer : (spec : FieldSpec) (c : C) → filler.gives spec c ≡ form.gives spec c) where
   -- the bits of the first item, and those of the rest
-  pub join : (course : Course) (i : Item C) (d : D) (ds : List D) (w out : List Bool) → (course []).next ≡ take_next i.spec → filler.fills i.spec d ≡ Ok (written_item i.content w) → fill filler (after form course i) ds ≡ Ok out → fill filler course (d ∷ ds) ≡ Ok (w ++ out)
+  pub join : (course : Course) (i : Item C) (d : D) (ds : List D) (w out : List Bool) → (course []).next ≡ take_next i.spec → filler.fills i.spec d ≡ Ok (written_item i.content w)
+      → fill filler (after form course i) ds ≡ Ok out → fill filler course (d ∷ ds) ≡ Ok (w ++ out)
   join course i d ds w out next fills rest =
       ap (λ n. fill_one filler n d (λ t. fill filler (λ answers. course (t ∷ answers)) ds)) next
       ∙ ap (λ r. filled filler i.spec r (λ t. fill filler (λ answers. course (t ∷ answers)) ds)) fills
@@ -77,7 +78,8 @@ module _ {C D E : Type 0} (form : DataCoding C) (filler : Filler D C E) (of_item
   fill_end : (n : Next) → n ≡ at_end → fill_none filler n ≡ Ok []
   fill_end n e = ap (fill_none filler) e
 
-  pub rewritten : (course : Course) (items : List (Item C)) (ds : List D) (bits suffix : List Bool) → AllSpecs items → AreDrafts of_item items ds → ReadsPass form course items bits suffix → AreRewritten form filler course items ds bits suffix
+  pub rewritten : (course : Course) (items : List (Item C)) (ds : List D) (bits suffix : List Bool) → AllSpecs items → AreDrafts of_item items ds → ReadsPass form course items bits suffix
+      → AreRewritten form filler course items ds bits suffix
   rewritten course [] [] bits suffix specs drafts h = record {
     out = [];
     fills = fill_end (course []).next h.1;
@@ -93,7 +95,13 @@ module _ {C D E : Type 0} (form : DataCoding C) (filler : Filler D C E) (of_item
       record {
         out = here.out ++ rest.out;
         fills = join form filler same_answer course i d ds here.out rest.out h.0.1 here.fills rest.fills;
-        again = λ more. (rest.out ++ more, h.0.1, subst (λ bits'. form.field i.spec bits' ≡ Ok (found i.content (rest.out ++ more))) (sym (append_assoc here.out rest.out more)) (here.again (rest.out ++ more)), rest.again more);
+        again = λ more. (
+          rest.out ++ more,
+          h.0.1,
+          subst (λ bits'. form.field i.spec bits' ≡ Ok (found i.content (rest.out ++ more))) (sym (append_assoc here.out rest.out more))
+              (here.again (rest.out ++ more)),
+          rest.again more,
+        );
         short = omega (arith, here.short, rest.short, length-append here.out rest.out);
       }
 
@@ -112,7 +120,8 @@ top_most false w raw h g = let p : 2 ^ w ≤ 2 ^ 63 = pow_mono h in omega arith
 
 module _ (spec : FieldSpec) (good : IsSpec spec) where
   -- a number
-  raw_again : (raw : ℕ) → spec.width ≤ 63 → raw < raw_limit spec.may_be_missing spec.width → raw_of spec (decimal_value_of (decimal_text_of (pos raw +ℤ spec.reference) spec.scale) spec.scale) ≡ Ok (number raw)
+  raw_again : (raw : ℕ) → spec.width ≤ 63 → raw < raw_limit spec.may_be_missing spec.width
+      → raw_of spec (decimal_value_of (decimal_text_of (pos raw +ℤ spec.reference) spec.scale) spec.scale) ≡ Ok (number raw)
   raw_again raw narrow h =
       ap (raw_of spec) (reads_back (pos raw +ℤ spec.reference) spec.scale (sum_within raw spec.reference (top_most spec.may_be_missing spec.width raw narrow h) good.reference))
       ∙ ap (raw_within spec.may_be_missing spec.width) (minus_back raw spec.reference)
@@ -123,17 +132,20 @@ module _ (spec : FieldSpec) (good : IsSpec spec) where
   text_again count octets h =
       let none : count - length octets ≡ 0 = omega (arith, h.0) in
       let whole : octets ++ replicate (count - length octets) 32 ≡ octets = ap (λ n. octets ++ replicate n 32) none ∙ append-nil octets in
-      ap (λ b. if b then Err text_long else (if list_all (λ octet. octet == 255) (octets ++ replicate (count - length octets) 32) then Err out_of_range else Ok (text (octets ++ replicate (count - length octets) 32)))) (le-ltb count (length octets) (omega (arith, h.0)))
+      ap (λ b. if b then Err text_long else (if list_all (λ octet. octet == 255) (octets ++ replicate (count - length octets) 32) then Err out_of_range else Ok
+      (text (octets ++ replicate (count - length octets) 32)))) (le-ltb count (length octets) (omega (arith, h.0)))
       ∙ ap (λ os. if list_all (λ octet. octet == 255) os then Err out_of_range else Ok (text os)) whole
       ∙ ap (λ b. if b then Err out_of_range else Ok (text octets)) h.2
 
-  as_number : (raw : ℕ) → is_character spec.kind ≡ false → content_by_form (draft_value_of spec (number raw)) spec ≡ raw_of spec (decimal_value_of (decimal_text_of (pos raw +ℤ spec.reference) spec.scale) spec.scale)
+  as_number : (raw : ℕ) → is_character spec.kind ≡ false → content_by_form (draft_value_of spec (number raw)) spec
+      ≡ raw_of spec (decimal_value_of (decimal_text_of (pos raw +ℤ spec.reference) spec.scale) spec.scale)
   as_number raw e = ap (λ b. if b then Err wrong_number else raw_of spec (decimal_value_of (decimal_text_of (pos raw +ℤ spec.reference) spec.scale) spec.scale)) e
 
   missing_again : (m : Bool) → m ≡ true → (if m then Ok missing else Err missing_forbidden) ≡ Ok missing
   missing_again m e = ap (λ b. let r : Result Content DraftFaultKind = if b then Ok missing else Err missing_forbidden in r) e
 
-  kind_again : (k : Kind) (c : Content) → HasWidth k spec.width → HasMissing k spec.may_be_missing → FitsKind k spec.may_be_missing spec.width c → k ≡ spec.kind → content_by_form (draft_value_of spec c) spec ≡ Ok c
+  kind_again : (k : Kind) (c : Content) → HasWidth k spec.width → HasMissing k spec.may_be_missing → FitsKind k spec.may_be_missing spec.width c → k ≡ spec.kind
+      → content_by_form (draft_value_of spec c) spec ≡ Ok c
   kind_again kind.Character (number raw) hw hm h q = absurd h
   kind_again kind.Character (text octets) hw hm h q = ap (λ k. if is_character k then text_within (spec.width / 8) octets else Err wrong_number) (sym q) ∙ text_again (spec.width / 8) octets h
   kind_again kind.Character missing hw hm h q = missing_again spec.may_be_missing hm
@@ -192,7 +204,8 @@ module _ (spec : FieldSpec) (good : IsSpec spec) where
   -- on any line
   pub draft_again : (line : ℕ) (c : Content) → Fits spec c → content_of spec (record { line = line; fxy = spec.fxy; form = draft_value_of spec c }) ≡ Ok c
   draft_again line c h =
-      ap (λ b. if b && (if is_reference spec.role then is_marked (draft_value_of spec c) else not (is_marked (draft_value_of spec c))) then content_by_form (draft_value_of spec c) spec else Err (wrong_for spec)) (eq-eqb spec.fxy spec.fxy refl)
+      ap (λ b. if b && (if is_reference spec.role then is_marked (draft_value_of spec c) else not (is_marked (draft_value_of spec c))) then content_by_form (draft_value_of spec c) spec else Err
+      (wrong_for spec)) (eq-eqb spec.fxy spec.fxy refl)
       ∙ ap (λ b. if b then content_by_form (draft_value_of spec c) spec else Err (wrong_for spec)) (marked spec.role c h)
       ∙ role_again spec.role c good.role h
 
@@ -242,12 +255,14 @@ module _ (spec : FieldSpec) (good : IsSpec spec) where
   plain_again c h more =
       let bits = bits_for spec.width c in
       let l : length bits ≡ spec.width = content_length c h in
-      ap (λ b. if b then Err data_end else Ok (found (content_in spec (take spec.width (bits ++ more))) (drop spec.width (bits ++ more)))) (le-ltb (length (bits ++ more)) spec.width (omega (arith, l, length-append bits more)))
+      ap (λ b. if b then Err data_end else Ok (found (content_in spec (take spec.width (bits ++ more))) (drop spec.width (bits ++ more))))
+      (le-ltb (length (bits ++ more)) spec.width (omega (arith, l, length-append bits more)))
       ∙ ap (λ x. Ok (found (content_in spec x) (drop spec.width (bits ++ more)))) (take_at bits more spec.width l)
       ∙ ap (λ x. Ok (found (content_in spec bits) x)) (drop_at bits more spec.width l)
       ∙ ap (λ x. Ok (found x more)) (content_back c h)
 
-  by_end : (b : Bool) (bits mid : List Bool) (c : Content) → b ≡ nat_lt (length bits) spec.width → (if b then Err data_end else Ok (found (content_in spec (take spec.width bits)) (drop spec.width bits))) ≡ Ok (found c mid) → Fits spec c × (spec.width + length mid ≤ length bits)
+  by_end : (b : Bool) (bits mid : List Bool) (c : Content) → b ≡ nat_lt (length bits) spec.width
+      → (if b then Err data_end else Ok (found (content_in spec (take spec.width bits)) (drop spec.width bits))) ≡ Ok (found c mid) → Fits spec c × (spec.width + length mid ≤ length bits)
   by_end true bits mid c t e = cc
   by_end false bits mid c t e =
       let f = same_ok _ _ e in
@@ -265,7 +280,8 @@ pub same_draft : (spec : FieldSpec) (c : Content) (d : Draft) → (d.fxy ≡ spe
 same_draft spec c d h = λ j. record { line = d.line; fxy = h.0 j; form = h.1 j }
 
 -- the field law of data that are not compressed
-pub plain_rewritten : (end_line : ℕ) (i : Item Content) (d : Draft) (bits mid : List Bool) → IsSpec i.spec → IsDumped i d → plain_field i.spec bits ≡ Ok (found i.content mid) → IsRewritten plain (plain_filler end_line) i d bits mid
+pub plain_rewritten : (end_line : ℕ) (i : Item Content) (d : Draft) (bits mid : List Bool) → IsSpec i.spec → IsDumped i d → plain_field i.spec bits ≡ Ok (found i.content mid)
+    → IsRewritten plain (plain_filler end_line) i d bits mid
 plain_rewritten end_line i d bits mid good dumped e =
     let read = plain_read i.spec good bits mid i.content e in
     record {
@@ -293,11 +309,13 @@ kind_same false m kind.Numeric w bits l h e = number_same w bits l
 zeros_are : (bits : List Bool) → number_of bits ≡ 0 → bits ≡ replicate (length bits) false
 zeros_are bits e = sym (bits_again bits) ∙ ap (λ n. bits_in n (length bits)) e ∙ bits_in-zero (length bits)
 
-negative_same : (n : ℕ) (bits : List Bool) (w : ℕ) → number_of bits ≡ n → length bits ≡ w - 1 → (true ∷ bits ≡ true ∷ replicate (length bits) false → ⊥) → sign_bit (neg_ℤ (pos n)) ∷ bits_in (nat_abs (neg_ℤ (pos n))) (w - 1) ≡ true ∷ bits
+negative_same : (n : ℕ) (bits : List Bool) (w : ℕ) → number_of bits ≡ n → length bits ≡ w - 1 → (true ∷ bits ≡ true ∷ replicate (length bits) false → ⊥)
+    → sign_bit (neg_ℤ (pos n)) ∷ bits_in (nat_abs (neg_ℤ (pos n))) (w - 1) ≡ true ∷ bits
 negative_same zero bits w e l h = absurd (h (ap (λ xs. true ∷ xs) (zeros_are bits e)))
 negative_same (suc n) bits w e l h = ap (λ k. true ∷ bits_in k (w - 1)) (sym e) ∙ ap (λ xs. true ∷ xs) (number_same (w - 1) bits l)
 
-signed_same : (bits : List Bool) (w : ℕ) → length bits ≡ w → 1 ≤ w → (bits ≡ true ∷ replicate (length bits - 1) false → ⊥) → sign_bit (signed_by bits) ∷ bits_in (nat_abs (signed_by bits)) (w - 1) ≡ bits
+signed_same : (bits : List Bool) (w : ℕ) → length bits ≡ w → 1 ≤ w → (bits ≡ true ∷ replicate (length bits - 1) false → ⊥)
+    → sign_bit (signed_by bits) ∷ bits_in (nat_abs (signed_by bits)) (w - 1) ≡ bits
 signed_same [] w l h g = absurd (omega (arith, l))
 signed_same (false ∷ bits) w l h g = ap (λ xs. false ∷ xs) (number_same (w - 1) bits (omega (arith, l)))
 signed_same (true ∷ bits) w l h g = grind (arith, common_steps, negative_same)
@@ -329,7 +347,8 @@ module _ (spec : FieldSpec) (c : Content) where
   number_normal digits (Ok v) e = raw_normal v (v -ℤ spec.reference) refl e
   number_normal digits (Err why) e = cc
 
-  number_kind : (b : Bool) (digits : List ℕ) (r : Result ℤ NumberFault) → (if b then Err wrong_number else raw_of spec r) ≡ Ok c → number_token (decimal_again digits spec.scale r) ≡ draft_value_of spec c
+  number_kind : (b : Bool) (digits : List ℕ) (r : Result ℤ NumberFault) → (if b then Err wrong_number else raw_of spec r) ≡ Ok c
+      → number_token (decimal_again digits spec.scale r) ≡ draft_value_of spec c
   number_kind true digits r e = cc
   number_kind false digits r e = number_normal digits r e
 
@@ -341,7 +360,8 @@ module _ (spec : FieldSpec) (c : Content) where
       by_test false p = cc
   reference_normal digits (Err why) e = cc
 
-  text_normal : (a b k : Bool) (whole : List ℕ) → (if k then (if a then Err text_long else if b then Err out_of_range else Ok (text whole)) else Err wrong_number) ≡ Ok c → text_form whole ≡ draft_value_of spec c
+  text_normal : (a b k : Bool) (whole : List ℕ) → (if k then (if a then Err text_long else if b then Err out_of_range else Ok (text whole)) else Err wrong_number) ≡ Ok c
+      → text_form whole ≡ draft_value_of spec c
   text_normal a b false whole e = cc
   text_normal true b true whole e = cc
   text_normal false true true whole e = cc

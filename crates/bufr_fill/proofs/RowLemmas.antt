@@ -55,7 +55,8 @@ drop_all (x ∷ xs) zero h = absurd (omega (arith, h))
 drop_all (x ∷ xs) (suc n) h = drop_all xs n (omega (arith, h))
 
 -- the octets needed so far, and by those that are left
-pub need_more : (ds : List FieldContent) (i : ℕ) (d : FieldContent) (most one : ℕ) → i < length ds → d ≡ get_or ds i d → max most (most_need (drop i ds)) ≡ most_need ds → one ≡ need_of d → max (max one most) (most_need (drop (i + 1) ds)) ≡ most_need ds
+pub need_more : (ds : List FieldContent) (i : ℕ) (d : FieldContent) (most one : ℕ) → i < length ds → d ≡ get_or ds i d → max most (most_need (drop i ds)) ≡ most_need ds → one ≡ need_of d
+    → max (max one most) (most_need (drop (i + 1) ds)) ≡ most_need ds
 need_more ds i d most one h e inv is = omega (arith, ap most_need (at_place ds i d h e), inv, is)
 
 pub need_done : (ds : List FieldContent) (i most : ℕ) → 1 ≤ most → length ds ≤ i → max most (most_need (drop i ds)) ≡ most_need ds → most ≡ most_need ds
@@ -126,15 +127,18 @@ pub few_bits : (n k most : ℕ) → k ≤ most → n * k ≤ most * n
 few_bits n k most h = let most = mul-le-mul_right n h in omega (arith, most)
 
 -- whether those that are left are the same as one
-pub alike_more : (count : ℕ) (c : Content) (ds : List FieldContent) (i : ℕ) (d : FieldContent) (b : Bool) → i < length ds → d ≡ get_or ds i d → are_same c (contents_drawn count ds) ≡ are_same c (contents_drawn count (drop i ds)) → same c (content_drawn count d) ≡ true
+pub alike_more : (count : ℕ) (c : Content) (ds : List FieldContent) (i : ℕ) (d : FieldContent) (b : Bool) → i < length ds → d ≡ get_or ds i d
+    → are_same c (contents_drawn count ds) ≡ are_same c (contents_drawn count (drop i ds)) → same c (content_drawn count d) ≡ true
     → are_same c (contents_drawn count ds) ≡ are_same c (contents_drawn count (drop (i + 1) ds))
 alike_more count c ds i d b h e inv is = inv ∙ ap (λ xs. are_same c (contents_drawn count xs)) (at_place ds i d h e) ∙ ap (λ t. t && are_same c (contents_drawn count (drop (i + 1) ds))) is
 
-pub alike_not : (count : ℕ) (c : Content) (ds : List FieldContent) (i : ℕ) (d : FieldContent) → i < length ds → d ≡ get_or ds i d → are_same c (contents_drawn count ds) ≡ are_same c (contents_drawn count (drop i ds)) → same c (content_drawn count d) ≡ false
+pub alike_not : (count : ℕ) (c : Content) (ds : List FieldContent) (i : ℕ) (d : FieldContent) → i < length ds → d ≡ get_or ds i d
+    → are_same c (contents_drawn count ds) ≡ are_same c (contents_drawn count (drop i ds)) → same c (content_drawn count d) ≡ false
     → are_same c (contents_drawn count ds) ≡ false
 alike_not count c ds i d h e inv is = inv ∙ ap (λ xs. are_same c (contents_drawn count xs)) (at_place ds i d h e) ∙ ap (λ t. t && are_same c (contents_drawn count (drop (i + 1) ds))) is
 
-pub alike_done : (count : ℕ) (c : Content) (ds : List FieldContent) (i : ℕ) → length ds ≤ i → are_same c (contents_drawn count ds) ≡ are_same c (contents_drawn count (drop i ds)) → are_same c (contents_drawn count ds) ≡ true
+pub alike_done : (count : ℕ) (c : Content) (ds : List FieldContent) (i : ℕ) → length ds ≤ i → are_same c (contents_drawn count ds) ≡ are_same c (contents_drawn count (drop i ds))
+    → are_same c (contents_drawn count ds) ≡ true
 alike_done count c ds i h inv = inv ∙ ap (λ xs. are_same c (contents_drawn count xs)) (drop_all ds i h)
 
 -- octets of zeros
@@ -195,10 +199,12 @@ is_some h = cc
 module _ (count : ℕ) (spec : FieldSpec) (cells : List RowCell) (j : ℕ) (ds : List FieldContent) (e : DraftEntry) (inv : IsGathering count spec cells j ds) (within : j < length cells)
     (here : (c : RowCell) → slice_get cells j ≡ Some c → e ≡ entry_or_end c.draft c.end_line) where
   -- the contents of the row, by the next cell
-  next_is : (k : CellAt cells j) → contents_here spec cells ≡ with_contents_before (contents_drawn count ds) (entry_here spec e >>= λ first. contents_here spec (drop (j + 1) cells) >>= λ rest. Ok (first ∷ rest))
+  next_is : (k : CellAt cells j) → contents_here spec cells ≡ with_contents_before (contents_drawn count ds)
+      (entry_here spec e >>= λ first. contents_here spec (drop (j + 1) cells) >>= λ rest. Ok (first ∷ rest))
   next_is k =
       inv.so ∙ ap (λ cs. with_contents_before (contents_drawn count ds) (contents_here spec cs)) k.left
-      ∙ ap (λ r. with_contents_before (contents_drawn count ds) (r >>= λ first. contents_here spec (drop (j + 1) cells) >>= λ rest. Ok (first ∷ rest))) (sym (entry_same spec k.cell.draft k.cell.end_line) ∙ ap (entry_here spec) (sym (here k.cell k.is)))
+      ∙ ap (λ r. with_contents_before (contents_drawn count ds) (r >>= λ first. contents_here spec (drop (j + 1) cells) >>= λ rest. Ok (first ∷ rest)))
+      (sym (entry_same spec k.cell.draft k.cell.end_line) ∙ ap (entry_here spec) (sym (here k.cell k.is)))
 
   pub gather_fault : (o : Option FaultAt) → option_map Err o ≡ Some (entry_here spec e) → IfDraftFault o (λ f. contents_here spec cells ≡ Err f)
   gather_fault None h = tt
@@ -208,16 +214,19 @@ module _ (count : ℕ) (spec : FieldSpec) (cells : List RowCell) (j : ℕ) (ds :
   pub gather_more : (d : FieldContent) → Some (Ok (content_drawn count d)) ≡ Some (entry_here spec e) → IsDrawn spec d → IsGathering count spec cells (j + 1) (ds ++ d ∷ [])
   gather_more d h g = record {
     so = next_is (cell_at cells j within) ∙ ap (λ r. with_contents_before (contents_drawn count ds) (r >>= λ first. contents_here spec (drop (j + 1) cells) >>= λ rest. Ok (first ∷ rest))) (is_some h)
-        ∙ contents_before_more (contents_drawn count ds) (content_drawn count d) (contents_here spec (drop (j + 1) cells)) ∙ ap (λ cs. with_contents_before cs (contents_here spec (drop (j + 1) cells))) (sym (contents_more count ds d));
+        ∙ contents_before_more (contents_drawn count ds) (content_drawn count d) (contents_here spec (drop (j + 1) cells))
+        ∙ ap (λ cs. with_contents_before cs (contents_here spec (drop (j + 1) cells))) (sym (contents_more count ds d));
     all = all_more spec ds d inv.all g;
     many = omega (arith, length-append ds (d ∷ []), inv.many);
   }
 
-pub gathered : (count : ℕ) (spec : FieldSpec) (cells : List RowCell) (j : ℕ) (ds : List FieldContent) → IsGathering count spec cells j ds → length cells ≤ j → contents_here spec cells ≡ Ok (contents_drawn count ds)
+pub gathered : (count : ℕ) (spec : FieldSpec) (cells : List RowCell) (j : ℕ) (ds : List FieldContent) → IsGathering count spec cells j ds → length cells ≤ j
+    → contents_here spec cells ≡ Ok (contents_drawn count ds)
 gathered count spec cells j ds inv h = inv.so ∙ ap (λ cs. with_contents_before (contents_drawn count ds) (contents_here spec cs)) (drop_all cells j h) ∙ ap Ok (append-nil (contents_drawn count ds))
 
 -- whether all subsets end
-pub end_item : (cells : List RowCell) (j : ℕ) (e : DraftEntry) → j < length cells → ((c : RowCell) → slice_get cells j ≡ Some c → e ≡ entry_or_end c.draft c.end_line) → is_end e ≡ false → all_at_end cells ≡ all_at_end (drop j cells) → all_at_end cells ≡ Err (at_line (entry_line e) item_too_many)
+pub end_item : (cells : List RowCell) (j : ℕ) (e : DraftEntry) → j < length cells → ((c : RowCell) → slice_get cells j ≡ Some c → e ≡ entry_or_end c.draft c.end_line) → is_end e ≡ false
+    → all_at_end cells ≡ all_at_end (drop j cells) → all_at_end cells ≡ Err (at_line (entry_line e) item_too_many)
 end_item cells j (Ends line) h here is inv = absurd cc
 end_item cells j (Holds d) h here is inv = by (cell_at cells j h)
   where
@@ -228,7 +237,8 @@ end_item cells j (Holds d) h here is inv = by (cell_at cells j h)
     by : CellAt cells j → all_at_end cells ≡ Err (at_line d.line item_too_many)
     by k = inv ∙ ap all_at_end k.left ∙ item k.cell.draft k.cell.end_line (sym (here k.cell k.is)) (all_at_end (drop (j + 1) cells))
 
-pub end_more : (cells : List RowCell) (j : ℕ) (e : DraftEntry) → j < length cells → ((c : RowCell) → slice_get cells j ≡ Some c → e ≡ entry_or_end c.draft c.end_line) → is_end e ≡ true → all_at_end cells ≡ all_at_end (drop j cells) → all_at_end cells ≡ all_at_end (drop (j + 1) cells)
+pub end_more : (cells : List RowCell) (j : ℕ) (e : DraftEntry) → j < length cells → ((c : RowCell) → slice_get cells j ≡ Some c → e ≡ entry_or_end c.draft c.end_line) → is_end e ≡ true
+    → all_at_end cells ≡ all_at_end (drop j cells) → all_at_end cells ≡ all_at_end (drop (j + 1) cells)
 end_more cells j (Holds d) h here is inv = absurd cc
 end_more cells j (Ends line) h here is inv = by (cell_at cells j h)
   where
@@ -248,7 +258,8 @@ first_is [] n h here = absurd (omega (arith, h))
 first_is (c ∷ cells) n h here = here c refl
 
 -- the line of the first that differs
-unlike_left : (c : Content) (cs : List Content) (d : Content) (ds : List Content) (k : RowCell) (ks : List RowCell) (b : Bool) → same c d ≡ b → unlike_from (c ∷ cs) (d ∷ ds) (k ∷ ks) ≡ (if b then unlike_from (c ∷ cs) ds ks else cell_line k)
+unlike_left : (c : Content) (cs : List Content) (d : Content) (ds : List Content) (k : RowCell) (ks : List RowCell) (b : Bool) → same c d ≡ b
+    → unlike_from (c ∷ cs) (d ∷ ds) (k ∷ ks) ≡ (if b then unlike_from (c ∷ cs) ds ks else cell_line k)
 unlike_left c cs d ds k ks b e = ap (λ t. if t then first_unlike c ds ks else cell_line k) e
 
 first_drawn : (count : ℕ) (ds : List FieldContent) (z : FieldContent) → 0 < length ds → contents_drawn count ds ≡ content_drawn count (get_or ds 0 z) ∷ contents_drawn count (drop 1 ds)
@@ -265,14 +276,16 @@ module _ (count : ℕ) (ds : List FieldContent) (cells : List RowCell) (j : ℕ)
       inv ∙ ap (λ xs. unlike_from (contents_drawn count ds) (contents_drawn count xs) (drop j cells)) (at_index ds j z within)
       ∙ ap (λ ks. unlike_from (contents_drawn count ds) (content_drawn count (get_or ds j z) ∷ contents_drawn count (drop (j + 1) ds)) ks) k.left
       ∙ ap (λ cs. unlike_from cs (content_drawn count (get_or ds j z) ∷ contents_drawn count (drop (j + 1) ds)) (k.cell ∷ drop (j + 1) cells)) all
-      ∙ unlike_left (content_drawn count (get_or ds 0 z)) (contents_drawn count (drop 1 ds)) (content_drawn count (get_or ds j z)) (contents_drawn count (drop (j + 1) ds)) k.cell (drop (j + 1) cells) b e
+      ∙ unlike_left (content_drawn count (get_or ds 0 z)) (contents_drawn count (drop 1 ds)) (content_drawn count (get_or ds j z)) (contents_drawn count (drop (j + 1) ds)) k.cell (drop (j + 1) cells)
+      b e
       ∙ ap (λ cs. if b then unlike_from cs (contents_drawn count (drop (j + 1) ds)) (drop (j + 1) cells) else cell_line k.cell) (sym all)
 
   pub unlike_more : same (content_drawn count (get_or ds 0 z)) (content_drawn count (get_or ds j z)) ≡ true
       → unlike_line (contents_drawn count ds) cells ≡ unlike_from (contents_drawn count ds) (contents_drawn count (drop (j + 1) ds)) (drop (j + 1) cells)
   unlike_more e = unlike_next true e (cell_at cells j (omega (arith, within, many)))
 
-  pub unlike_here : same (content_drawn count (get_or ds 0 z)) (content_drawn count (get_or ds j z)) ≡ false → (n : ℕ) → ((c : RowCell) → slice_get cells j ≡ Some c → n ≡ cell_line c) → n ≡ unlike_line (contents_drawn count ds) cells
+  pub unlike_here : same (content_drawn count (get_or ds 0 z)) (content_drawn count (get_or ds j z)) ≡ false → (n : ℕ) → ((c : RowCell) → slice_get cells j ≡ Some c → n ≡ cell_line c)
+      → n ≡ unlike_line (contents_drawn count ds) cells
   unlike_here s n here =
       let k = cell_at cells j (omega (arith, within, many)) in
       here k.cell k.is ∙ sym (unlike_next false s k)
@@ -281,15 +294,18 @@ module _ (count : ℕ) (ds : List FieldContent) (cells : List RowCell) (j : ℕ)
 
 module _ (spec : FieldSpec) (place : ℕ) (subsets : List Subset) where
   -- with too many values
-  pub many_fault : max_values < (place + 1) * length (cells_at place subsets) → pack_across spec (item_row place subsets) ≡ Err (at_line (first_line (cells_at place subsets)) (too_many_values spec.fxy))
+  pub many_fault : max_values < (place + 1) * length (cells_at place subsets)
+      → pack_across spec (item_row place subsets) ≡ Err (at_line (first_line (cells_at place subsets)) (too_many_values spec.fxy))
   many_fault h =
-      ap (λ b. if b then Err (at_line (first_line (cells_at place subsets)) (too_many_values spec.fxy)) else (contents_here spec (cells_at place subsets) >>= λ cs. packed_to cs (cells_at place subsets) (packing spec cs)))
+      ap (λ b. if b then Err (at_line (first_line (cells_at place subsets)) (too_many_values spec.fxy)) else
+      (contents_here spec (cells_at place subsets) >>= λ cs. packed_to cs (cells_at place subsets) (packing spec cs)))
       (lt-ltb max_values ((place + 1) * length (cells_at place subsets)) h)
 
   module _ (few : (place + 1) * length (cells_at place subsets) ≤ max_values) where
     across_is : pack_across spec (item_row place subsets) ≡ (contents_here spec (cells_at place subsets) >>= λ cs. packed_to cs (cells_at place subsets) (packing spec cs))
     across_is =
-        ap (λ b. if b then Err (at_line (first_line (cells_at place subsets)) (too_many_values spec.fxy)) else (contents_here spec (cells_at place subsets) >>= λ cs. packed_to cs (cells_at place subsets) (packing spec cs)))
+        ap (λ b. if b then Err (at_line (first_line (cells_at place subsets)) (too_many_values spec.fxy)) else
+        (contents_here spec (cells_at place subsets) >>= λ cs. packed_to cs (cells_at place subsets) (packing spec cs)))
         (le-ltb max_values ((place + 1) * length (cells_at place subsets)) few)
 
     pub put_fault : (o : Option FaultAt) → IfDraftFault o (λ f. contents_here spec (cells_at place subsets) ≡ Err f) → IfDraftFault o (λ f. pack_across spec (item_row place subsets) ≡ Err f)
@@ -299,17 +315,21 @@ module _ (spec : FieldSpec) (place : ℕ) (subsets : List Subset) where
     given : (cs : List Content) → contents_here spec (cells_at place subsets) ≡ Ok cs → pack_across spec (item_row place subsets) ≡ packed_to cs (cells_at place subsets) (packing spec cs)
     given cs h = across_is ∙ ap (λ r. r >>= λ cs. packed_to cs (cells_at place subsets) (packing spec cs)) h
 
-    pub put_ok : (cs : List Content) (bits : List Bool) → contents_here spec (cells_at place subsets) ≡ Ok cs → packing spec cs ≡ Ok bits → pack_across spec (item_row place subsets) ≡ Ok (written_item cs bits)
+    pub put_ok : (cs : List Content) (bits : List Bool) → contents_here spec (cells_at place subsets) ≡ Ok cs → packing spec cs ≡ Ok bits
+        → pack_across spec (item_row place subsets) ≡ Ok (written_item cs bits)
     put_ok cs bits h e = given cs h ∙ ap (packed_to cs (cells_at place subsets)) e
 
-    pub put_unequal : (cs : List Content) → contents_here spec (cells_at place subsets) ≡ Ok cs → packing spec cs ≡ Err unequal_factor → pack_across spec (item_row place subsets) ≡ Err (at_line (unlike_line cs (cells_at place subsets)) unequal_factors)
+    pub put_unequal : (cs : List Content) → contents_here spec (cells_at place subsets) ≡ Ok cs → packing spec cs ≡ Err unequal_factor
+        → pack_across spec (item_row place subsets) ≡ Err (at_line (unlike_line cs (cells_at place subsets)) unequal_factors)
     put_unequal cs h e = given cs h ∙ ap (packed_to cs (cells_at place subsets)) e
 
-    pub put_uneven : (cs : List Content) → contents_here spec (cells_at place subsets) ≡ Ok cs → packing spec cs ≡ Err increment → pack_across spec (item_row place subsets) ≡ Err (at_line (first_line (cells_at place subsets)) uneven_increment)
+    pub put_uneven : (cs : List Content) → contents_here spec (cells_at place subsets) ≡ Ok cs → packing spec cs ≡ Err increment
+        → pack_across spec (item_row place subsets) ≡ Err (at_line (first_line (cells_at place subsets)) uneven_increment)
     put_uneven cs h e = given cs h ∙ ap (packed_to cs (cells_at place subsets)) e
 
 -- what the first subset's content returns to the walk
-pub answers_first : (spec : FieldSpec) (count : ℕ) (ds : List FieldContent) (z : FieldContent) (t : Taken) → 0 < length ds → t ≡ answer_of spec (content_drawn count (get_or ds 0 z)) → t ≡ answer_first spec (contents_drawn count ds)
+pub answers_first : (spec : FieldSpec) (count : ℕ) (ds : List FieldContent) (z : FieldContent) (t : Taken) → 0 < length ds → t ≡ answer_of spec (content_drawn count (get_or ds 0 z))
+    → t ≡ answer_first spec (contents_drawn count ds)
 answers_first spec count [] z t h e = absurd (omega (arith, h))
 answers_first spec count (d ∷ ds) z t h e = e
 
@@ -330,7 +350,8 @@ apart_by spec cs r is (inl e) = ap (λ a. packed_unlike a spec cs) (sym is ∙ e
 apart_by spec cs r is (inr e) = ap (λ a. packed_unlike a spec cs) (sym is ∙ e)
 
 -- the item was put, by its bits
-pub put_within : (spec : FieldSpec) (place : ℕ) (subsets : List Subset) (ds : List FieldContent) (z : FieldContent) (t : Taken) (old new bits : List Bool) (most : ℕ) → (place + 1) * length (cells_at place subsets) ≤ max_values
+pub put_within : (spec : FieldSpec) (place : ℕ) (subsets : List Subset) (ds : List FieldContent) (z : FieldContent) (t : Taken) (old new bits : List Bool) (most : ℕ)
+    → (place + 1) * length (cells_at place subsets) ≤ max_values
     → contents_here spec (cells_at place subsets) ≡ Ok (contents_drawn (spec.width / 8) ds) → 0 < length ds → t ≡ answer_of spec (content_drawn (spec.width / 8) (get_or ds 0 z))
     → packing spec (contents_drawn (spec.width / 8) ds) ≡ Ok bits → new ≡ old ++ bits → length bits ≤ most → length old < length new → IsPutWithin old new spec (item_row place subsets) most t
 put_within spec place subsets ds z t old new bits most few given some gives packed is fits forth = record {
@@ -346,7 +367,8 @@ put_within spec place subsets ds z t old new bits most few given some gives pack
 }
 
 -- the same by what packed it, where the contents differ
-pub put_packed : (spec : FieldSpec) (place : ℕ) (subsets : List Subset) (ds : List FieldContent) (z : FieldContent) (t : Taken) (old new : List Bool) (few most : ℕ) → (place + 1) * length (cells_at place subsets) ≤ max_values
+pub put_packed : (spec : FieldSpec) (place : ℕ) (subsets : List Subset) (ds : List FieldContent) (z : FieldContent) (t : Taken) (old new : List Bool) (few most : ℕ)
+    → (place + 1) * length (cells_at place subsets) ≤ max_values
     → contents_here spec (cells_at place subsets) ≡ Ok (contents_drawn (spec.width / 8) ds) → 0 < length ds → t ≡ answer_of spec (content_drawn (spec.width / 8) (get_or ds 0 z))
     → packing spec (contents_drawn (spec.width / 8) ds) ≡ packed_by spec.kind spec (contents_drawn (spec.width / 8) ds) → few ≤ most
     → (bits : List Bool) × (packed_by spec.kind spec (contents_drawn (spec.width / 8) ds) ≡ Ok bits) × (new ≡ old ++ bits) × (length bits ≤ few) × (length old < length new)
@@ -374,7 +396,8 @@ trimmed_space b (o ∷ os) n e = ap (λ t. if (t == 0) && (o == 32) then 0 else 
 trimmed_other : (os : List ℕ) (x : ℕ) → (x ≡ 32 → ⊥) → trimmed (os ++ x ∷ []) ≡ suc (length os)
 trimmed_other [] x h = ap (λ b. if b then 0 else 1) (ne_eqb x 32 h)
 trimmed_other (o ∷ os) x h =
-    ap (λ t. if (t == 0) && (o == 32) then 0 else suc t) (trimmed_other os x h) ∙ ap (λ b. if b && (o == 32) then 0 else suc (suc (length os))) (ne_eqb (suc (length os)) 0 (λ q. absurd (omega (arith, q))))
+    ap (λ t. if (t == 0) && (o == 32) then 0 else suc t) (trimmed_other os x h)
+    ∙ ap (λ b. if b && (o == 32) then 0 else suc (suc (length os))) (ne_eqb (suc (length os)) 0 (λ q. absurd (omega (arith, q))))
 
 take_one : (os : List ℕ) (n x z : ℕ) → n < length os → x ≡ get_or os n z → take (suc n) os ≡ take n os ++ x ∷ []
 take_one [] n x z h e = absurd (omega (arith, h))
@@ -386,10 +409,12 @@ length-take_one os zero h = refl
 length-take_one [] (suc n) h = absurd (omega (arith, h))
 length-take_one (o ∷ os) (suc n) h = ap suc (length-take_one os n (omega (arith, h)))
 
-pub trimmed_here : (os : List ℕ) (spaces x z : ℕ) → spaces < length os → x ≡ get_or os (length os - 1 - spaces) z → (x ≡ 32 → ⊥) → trimmed (take (length os - spaces) os) ≡ trimmed os → length os - spaces ≡ trimmed os
+pub trimmed_here : (os : List ℕ) (spaces x z : ℕ) → spaces < length os → x ≡ get_or os (length os - 1 - spaces) z → (x ≡ 32 → ⊥) → trimmed (take (length os - spaces) os) ≡ trimmed os
+    → length os - spaces ≡ trimmed os
 trimmed_here os spaces x z h e other inv = grind (arith, common_steps, length-take_one, trimmed_other, take_one)
 
-pub trimmed_later : (os : List ℕ) (spaces x z : ℕ) → spaces < length os → x ≡ get_or os (length os - 1 - spaces) z → x ≡ 32 → trimmed (take (length os - spaces) os) ≡ trimmed os → trimmed (take (length os - (spaces + 1)) os) ≡ trimmed os
+pub trimmed_later : (os : List ℕ) (spaces x z : ℕ) → spaces < length os → x ≡ get_or os (length os - 1 - spaces) z → x ≡ 32 → trimmed (take (length os - spaces) os) ≡ trimmed os
+    → trimmed (take (length os - (spaces + 1)) os) ≡ trimmed os
 trimmed_later os spaces x z h e is inv = grind (arith, common_steps, trimmed_space, take_one)
 
 pub trimmed_all : (os : List ℕ) (spaces : ℕ) → length os ≤ spaces → trimmed (take (length os - spaces) os) ≡ trimmed os → 0 ≡ trimmed os

@@ -28,7 +28,8 @@ after_answers course (i ∷ items) = after_answers (λ answers. course (i.taken 
 
 module _ {D C E S : Type 0} (filler : Filler D C E) (left : S → List D) (out : S → List Bool) (takes : S → FieldSpec → Taken → S → Type 0)
     (fills : (s : S) (spec : FieldSpec) (t : Taken) (s' : S) → takes s spec t s' → HasFilled filler (left s) (out s) spec t (left s') (out s')) where
-  one : (course : Course) (s : S) (spec : FieldSpec) (t : Taken) (mid : S) → (course []).next ≡ take_next spec → (h : HasFilled filler (left s) (out s) spec t (left mid) (out mid)) → fill filler course (left s) ≡ with_bits_before filler h.item.bits (fill filler (λ answers. course (t ∷ answers)) (left mid))
+  one : (course : Course) (s : S) (spec : FieldSpec) (t : Taken) (mid : S) → (course []).next ≡ take_next spec → (h : HasFilled filler (left s) (out s) spec t (left mid) (out mid))
+      → fill filler course (left s) ≡ with_bits_before filler h.item.bits (fill filler (λ answers. course (t ∷ answers)) (left mid))
   one course s spec t mid next h =
       ap (fill filler course) h.here
       ∙ ap (λ n. fill_one filler n h.draft (λ x. fill filler (λ answers. course (x ∷ answers)) (left mid))) next
@@ -45,14 +46,16 @@ module _ {D C E S : Type 0} (filler : Filler D C E) (left : S → List D) (out :
 
   -- the definition writes of the drafts what the walk wrote, and then what it writes of those that
   -- are left
-  pub walk_fills : (course : Course) (s : S) (items : List TakenField) (s' : S) → Takes takes course s items s' → (bits : List Bool) × (out s' ≡ out s ++ bits) × (fill filler course (left s) ≡ with_bits_before filler bits (fill filler (course_after course items) (left s')))
+  pub walk_fills : (course : Course) (s : S) (items : List TakenField) (s' : S) → Takes takes course s items s'
+      → (bits : List Bool) × (out s' ≡ out s ++ bits) × (fill filler course (left s) ≡ with_bits_before filler bits (fill filler (course_after course items) (left s')))
   walk_fills course s [] s' h = ([], ap out h ∙ sym (append-nil (out s)), none (fill filler course (left s)) ∙ ap (λ x. with_bits_before filler [] (fill filler course (left x))) (sym h))
   walk_fills course s (i ∷ items) s' h =
       let f = fills s i.spec i.taken h.0 h.2 in
       let rest = walk_fills (λ answers. course (i.taken ∷ answers)) h.0 items s' h.3 in (
         f.item.bits ++ rest.0,
         rest.1 ∙ ap (λ x. x ++ rest.0) f.bits ∙ append_assoc (out s) f.item.bits rest.0,
-        one course s i.spec i.taken h.0 h.1 f ∙ ap (with_bits_before filler f.item.bits) rest.2 ∙ twice f.item.bits rest.0 (fill filler (course_after (λ answers. course (i.taken ∷ answers)) items) (left s')),
+        one course s i.spec i.taken h.0 h.1 f ∙ ap (with_bits_before filler f.item.bits) rest.2
+            ∙ twice f.item.bits rest.0 (fill filler (course_after (λ answers. course (i.taken ∷ answers)) items) (left s')),
       )
 
   -- the fault of a field that could not be written is that of the definition
@@ -64,7 +67,8 @@ module _ {D C E S : Type 0} (filler : Filler D C E) (left : S → List D) (out :
 
 -- ---- A walk over the items of one subset writes what the definition makes of them.
 
-pub fills : (end : ℕ) (s : PlainOutModel) (spec : FieldSpec) (t : Taken) (s' : PlainOutModel) → oks PlainFills s spec t s' → HasFilled (plain_filler end) (items_left s.left) s.bits spec t (items_left s'.left) s'.bits
+pub fills : (end : ℕ) (s : PlainOutModel) (spec : FieldSpec) (t : Taken) (s' : PlainOutModel) → oks PlainFills s spec t s'
+    → HasFilled (plain_filler end) (items_left s.left) s.bits spec t (items_left s'.left) s'.bits
 fills end s spec t s' h = record {
   draft = h.draft;
   item = written_item h.content (bits_for spec.width h.content);
@@ -75,12 +79,15 @@ fills end s spec t s' h = record {
 }
 
 pub walk_of_items : (end : ℕ) (course : Course) (s : PlainOutModel) (items : List TakenField) (s' : PlainOutModel) → Takes (oks PlainFills) course s items s'
-    → (bits : List Bool) × (s'.bits ≡ s.bits ++ bits) × (fill (plain_filler end) course (items_left s.left) ≡ with_bits_before (plain_filler end) bits (fill (plain_filler end) (course_after course items) (items_left s'.left)))
+    → (bits : List Bool) × (s'.bits ≡ s.bits ++ bits) × (fill (plain_filler end) course (items_left s.left)
+    ≡ with_bits_before (plain_filler end) bits (fill (plain_filler end) (course_after course items) (items_left s'.left)))
 walk_of_items end course s items s' h = walk_fills (plain_filler end) (λ (p : PlainOutModel). items_left p.left) (λ (p : PlainOutModel). p.bits) (oks PlainFills) (fills end) course s items s' h
 
 -- the fault of the next item is that of the definition
-pub fault_of_items : (course : Course) (left : List DraftEntry) (spec : FieldSpec) (f : FaultAt) → (course []).next ≡ take_next spec → IsFaultOf spec left f → fill (plain_filler (end_left left)) course (items_left left) ≡ Err f
-fault_of_items course left spec f next h = unfilled (plain_filler (end_left left)) (λ (p : PlainOutModel). items_left p.left) (λ (p : PlainOutModel). p.bits) (oks PlainFills) (fills (end_left left)) course (items_left left) spec f next (by left h)
+pub fault_of_items : (course : Course) (left : List DraftEntry) (spec : FieldSpec) (f : FaultAt) → (course []).next ≡ take_next spec → IsFaultOf spec left f
+    → fill (plain_filler (end_left left)) course (items_left left) ≡ Err f
+fault_of_items course left spec f next h = unfilled (plain_filler (end_left left)) (λ (p : PlainOutModel). items_left p.left) (λ (p : PlainOutModel). p.bits) (oks PlainFills) (fills (end_left left))
+    course (items_left left) spec f next (by left h)
   where
     by : (left : List DraftEntry) → IsFaultOf spec left f → IsUnfilled (plain_filler (end_left left)) (items_left left) spec f
     by [] h = h
@@ -88,12 +95,14 @@ fault_of_items course left spec f next h = unfilled (plain_filler (end_left left
     by (Holds d ∷ more) h = ap (plainly d.line spec) h.1 ∙ ap Err (sym h.2)
 
 -- and so is each other fault where a walk stops
-pub at_refused : (course : Course) (left : List DraftEntry) (why : refusal.the_data) → (course []).next ≡ refused why → fill (plain_filler (end_left left)) course (items_left left) ≡ Err (at_line (line_at left) (walk_refused why))
+pub at_refused : (course : Course) (left : List DraftEntry) (why : refusal.the_data) → (course []).next ≡ refused why
+    → fill (plain_filler (end_left left)) course (items_left left) ≡ Err (at_line (line_at left) (walk_refused why))
 at_refused course [] why h = ap (fill_none (plain_filler 0)) h
 at_refused course (Ends line ∷ left) why h = ap (fill_none (plain_filler line)) h
 at_refused course (Holds d ∷ left) why h = ap (λ n. fill_one (plain_filler (end_left left)) n d (λ t. fill (plain_filler (end_left left)) (λ answers. course (t ∷ answers)) (items_left left))) h
 
-left_over : (course : Course) (left : List DraftEntry) (f : FaultAt) → (course []).next ≡ at_end → 1 ≤ length left → after_end left ≡ Err f → fill (plain_filler (end_left left)) course (items_left left) ≡ Err f
+left_over : (course : Course) (left : List DraftEntry) (f : FaultAt) → (course []).next ≡ at_end → 1 ≤ length left → after_end left ≡ Err f
+    → fill (plain_filler (end_left left)) course (items_left left) ≡ Err f
 left_over course [] f h some e = absurd (omega (arith, some))
 left_over course (Ends line ∷ left) f h some e = absurd cc e
 left_over course (Holds d ∷ left) f h some e =

@@ -302,7 +302,7 @@ IsPlaced _ size start end = (start ≤ end) × (end ≤ size)
 abbrev pub IsEntryInside : ℕ → StoredEntry → Type 0
 IsEntryInside size k = IsPlaced k.kind size k.start k.end
 
--- the same of all entries
+-- the octets of all stored entries are inside a block of this size
 abbrev pub AreInside : ℕ → List StoredEntry → Type 0
 AreInside size kept = AllByRecursion (IsEntryInside size) kept
 

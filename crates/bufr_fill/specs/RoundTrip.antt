@@ -71,7 +71,7 @@ pub record IsWrittenAgain (course : Course) (subsets : List (List (Item Content)
   pub again : (more : List Bool) → ReadsSubsets course subsets (out ++ more) more
   pub short : length out + length suffix ≤ length bits
 
--- the same of compressed data
+-- compressed items are written again from the drafts of their dump, in no more bits
 pub record IsPackedAgain (n : ℕ) (course : Course) (items : List (Item (List Content)))
     (drafts : List Subset) (bits suffix : List Bool) : Type 0 where
   pub out : List Bool
@@ -135,7 +135,7 @@ HasOctets (text_form octets) = AreOctets octets
 HasOctets missing_form = Unit {0}
 HasOctets (reference_token digits) = Unit {0}
 
--- the same of each draft of each subset
+-- the text of each draft of each subset is of octets
 abbrev pub AllHaveOctets : List Subset → Type 0
 AllHaveOctets ss =
     AllByRecursion (λ (s : Subset). AllByRecursion (λ (d : Draft). HasOctets d.form) s.items) ss
@@ -148,7 +148,7 @@ IsSaid i d = content_of i.spec d ≡ Ok i.content
 abbrev pub AreSaid : List (List (Item Content)) → List Subset → Type 0
 AreSaid = AllZip (λ (items : List (Item Content)) (s : Subset). AreDrafts IsSaid items s.items)
 
--- the same of the subsets of compressed data, from one on
+-- each subset's items of compressed data have the contents of its drafts, from one subset on
 abbrev pub AreSaidFrom : (subset : ℕ) → List (Item (List Content)) → List Subset → Type 0
 AreSaidFrom j items [] = Unit {0}
 AreSaidFrom j items (s ∷ ss) =
@@ -160,7 +160,7 @@ pub record IsReadBack (course : Course) (drafts : List Subset) (bits : List Bool
   pub said : AreSaid subsets drafts
   pub read : (suffix : List Bool) → ReadsSubsets course subsets (bits ++ suffix) suffix
 
--- the same of compressed data
+-- the bits of compressed data read as the contents of the drafts, whatever follows them
 pub record IsPackedReadBack (course : Course) (drafts : List Subset)
     (bits : List Bool) : Type 0 where
   pub items : List (Item (List Content))

@@ -235,7 +235,7 @@ abbrev pub FitsIncrement : (base k : ℕ) → FieldContent → Type 0
 FitsIncrement base k (drawn.Number raw) = raw - base < 2 ^ k
 FitsIncrement base k _ = Unit {0}
 
--- the same of all contents
+-- the increment of each content over a base fits k bits
 abbrev pub AreShort : (base k : ℕ) → List FieldContent → Type 0
 AreShort base k ds = AllByRecursion (λ (d : FieldContent). FitsIncrement base k d) ds
 
@@ -245,7 +245,7 @@ pub record IsPutWithin (old new : List Bool) (spec : FieldSpec) (a : ItemRow) (m
   pub put : IsPutAcross old new spec a t
   pub few : length put.item ≤ most
 
--- such an item was written, or it is at fault, or memory ran out; a fault changes nothing
+-- the item of all subsets was written, or is at fault, or memory ran out; a fault changes nothing
 abbrev pub PutAcross : (old new : List Bool) → FieldSpec → ItemRow → (most : ℕ)
     → Result Taken DraftFault → Type 0
 PutAcross old new spec a most (Ok t) = IsPutWithin old new spec a most t

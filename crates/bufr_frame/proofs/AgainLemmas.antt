@@ -372,9 +372,12 @@ module _ (m : List ℕ) (small : All (λ octet. octet < 256) m) where
       let lx = slice-long m (p + 7) q within in
       let n : 7 + length content ≡ u24_at m p = omega (arith, lx, long, ap length is) in
       let f = flags-back (nat_le 128 (get_or m (p + 6) 0)) (nat_le 64 (get_or m (p + 6) 0 % 128)) (get_or m (p + 6) 0) refl refl (small (p + 6) 0 (omega arith)) flags in
-      ap (λ l. l ++ 0 ∷ two_octets (u16_at m (p + 4)) ++ data_flags (nat_le 128 (get_or m (p + 6) 0)) (nat_le 64 (get_or m (p + 6) 0 % 128)) ∷ content) (length-back p (7 + length content) (omega arith) n)
-      ∙ ap (λ r. get_or m p 0 ∷ get_or m (p + 1) 0 ∷ get_or m (p + 2) 0 ∷ r ∷ two_octets (u16_at m (p + 4)) ++ data_flags (nat_le 128 (get_or m (p + 6) 0)) (nat_le 64 (get_or m (p + 6) 0 % 128)) ∷ content) (sym reserved)
-      ∙ ap (λ l. get_or m p 0 ∷ get_or m (p + 1) 0 ∷ get_or m (p + 2) 0 ∷ get_or m (p + 3) 0 ∷ l ++ data_flags (nat_le 128 (get_or m (p + 6) 0)) (nat_le 64 (get_or m (p + 6) 0 % 128)) ∷ content) (word-back (p + 4) (omega arith))
+      ap (λ l. l ++ 0 ∷ two_octets (u16_at m (p + 4)) ++ data_flags (nat_le 128 (get_or m (p + 6) 0)) (nat_le 64 (get_or m (p + 6) 0 % 128)) ∷ content)
+      (length-back p (7 + length content) (omega arith) n)
+      ∙ ap (λ r. get_or m p 0 ∷ get_or m (p + 1) 0 ∷ get_or m (p + 2) 0 ∷ r ∷ two_octets (u16_at m (p + 4)) ++ data_flags (nat_le 128 (get_or m (p + 6) 0)) (nat_le 64 (get_or m (p + 6) 0 % 128))
+      ∷ content) (sym reserved)
+      ∙ ap (λ l. get_or m p 0 ∷ get_or m (p + 1) 0 ∷ get_or m (p + 2) 0 ∷ get_or m (p + 3) 0 ∷ l ++ data_flags (nat_le 128 (get_or m (p + 6) 0)) (nat_le 64 (get_or m (p + 6) 0 % 128)) ∷ content)
+      (word-back (p + 4) (omega arith))
       ∙ ap (λ r. get_or m p 0 ∷ get_or m (p + 1) 0 ∷ get_or m (p + 2) 0 ∷ get_or m (p + 3) 0 ∷ get_or m (p + 4) 0 ∷ get_or m (p + 4 + 1) 0 ∷ r ∷ content) f
       ∙ ap (λ l. get_or m p 0 ∷ get_or m (p + 1) 0 ∷ get_or m (p + 2) 0 ∷ get_or m (p + 3) 0 ∷ get_or m (p + 4) 0 ∷ get_or m (p + 4 + 1) 0 ∷ get_or m (p + 6) 0 ∷ l) is
       ∙ ap (λ l. l ++ x) (sym (seven-at m p)) ∙ sym (slice-begins 7 m p q fits within)
@@ -479,7 +482,8 @@ module _ (m : List ℕ) (plain : IsPlain m) (s : Sections) (e : Ended m s) where
       ∙ ap (λ l. take 8 m ++ l) back ∙ take-append-drop 8 m
 
 -- where sections 3 and 4 are even, it is no longer in edition 3 either
-pub least-when-even : (m : List ℕ) (s : Sections) → sections_of m ≡ Ok s → edition_of m ≡ 3 → u24_at m (section3_begins m) % 2 ≡ 0 → u24_at m (section4_begins m) % 2 ≡ 0 → message_size s.head.edition (parts_in s) ≤ length m
+pub least-when-even : (m : List ℕ) (s : Sections) → sections_of m ≡ Ok s → edition_of m ≡ 3 → u24_at m (section3_begins m) % 2 ≡ 0 → u24_at m (section4_begins m) % 2 ≡ 0
+    → message_size s.head.edition (parts_in s) ≤ length m
 least-when-even m s is edition even3 even4 =
     let e = sections-ended m s is in
     let third : u24_at m e.p2 % 2 ≡ 0 = ap (λ p. u24_at m p % 2) (begins3 m s e) ∙ even3 in
@@ -509,7 +513,8 @@ writable-3 h e c s y l z = grind (arith, common_steps)
 
 pub fitting-writable : (h : Head) → IsFitting h → is_writable h ≡ true
 fitting-writable h fits =
-    let bound : (i : ℕ) → h.edition ≡ 3 → slice_index (values_of h) i ≤ slice_index (greatest_values 3) i = λ i is. subst (λ n. slice_index (values_of h) i ≤ slice_index (greatest_values n) i) is (fits.fits i) in
+    let bound : (i : ℕ) → h.edition ≡ 3 → slice_index (values_of h) i ≤ slice_index (greatest_values 3) i =
+    λ i is. subst (λ n. slice_index (values_of h) i ≤ slice_index (greatest_values n) i) is (fits.fits i) in
     edition-cases h.edition fits.edition
     (λ is. writable-3 h is (bound 1 is) (bound 2 is) (bound 9 is) (bound 6 is) (bound 14 is))
     (λ is. writable-4 h is)
@@ -518,7 +523,8 @@ fitting-writable h fits =
 pub by-third : (P : List ℕ → Type 0) (e : ℕ) → P (greatest_values 3) → P (greatest_values 4) → P (greatest_values e)
 by-third P e of_3 of_4 = by (e == 3)
   where
-    by : (third : Bool) → P (let wide = if third then 255 else 65535 in let late = if third then 0 else 255 in 255 ∷ wide ∷ wide ∷ 255 ∷ 255 ∷ 255 ∷ late ∷ 255 ∷ 255 ∷ wide ∷ 255 ∷ 255 ∷ 255 ∷ 255 ∷ late ∷ [])
+    by : (third : Bool) → P (let wide = if third then 255 else 65535 in let late = if third then 0 else 255 in 255 ∷ wide ∷ wide ∷ 255 ∷ 255 ∷ 255 ∷ late ∷ 255 ∷ 255 ∷ wide ∷ 255 ∷ 255 ∷ 255 ∷ 255
+        ∷ late ∷ [])
     by true = of_3
     by false = of_4
 
@@ -554,9 +560,17 @@ module _ (m : List ℕ) (small : (i : ℕ) → slice_index m i < 256) where
   head-of-fits known =
       edition-cases (edition_of m) known
       (λ e. let h : head_of m ≡ head_3 m = ap (λ n. record (if n == 3 then head_3 m else head_4 m) { edition = edition_of m }) e in
-      subst IsFitting (sym h) (record { edition = known; fits = λ i. subst (λ n. slice_index (values_of (head_3 m)) i ≤ slice_index (greatest_values n) i) (sym e) (at-most (values_of (head_3 m)) (greatest_values 3) head-3-fits i) }))
+      subst IsFitting (sym h) (record {
+        edition = known;
+        fits = λ i. subst (λ n. slice_index (values_of (head_3 m)) i ≤ slice_index (greatest_values n) i) (sym e)
+            (at-most (values_of (head_3 m)) (greatest_values 3) head-3-fits i);
+      }))
       (λ e. let h : head_of m ≡ head_4 m = ap (λ n. record (if n == 3 then head_3 m else head_4 m) { edition = edition_of m }) e in
-      subst IsFitting (sym h) (record { edition = known; fits = λ i. subst (λ n. slice_index (values_of (head_4 m)) i ≤ slice_index (greatest_values n) i) (sym e) (at-most (values_of (head_4 m)) (greatest_values 4) head-4-fits i) }))
+      subst IsFitting (sym h) (record {
+        edition = known;
+        fits = λ i. subst (λ n. slice_index (values_of (head_4 m)) i ≤ slice_index (greatest_values n) i) (sym e)
+            (at-most (values_of (head_4 m)) (greatest_values 4) head-4-fits i);
+      }))
 
 pub heads-fit : (m : List ℕ) (s : Sections) → ((i : ℕ) → slice_index m i < 256) → sections_of m ≡ Ok s → IsFitting s.head
 heads-fit m s small is = let e = sections-ended m s is in subst (λ (x : Sections). IsFitting x.head) (sym e.is) (head-of-fits m small e.edition)
@@ -569,16 +583,19 @@ flag-small false = omega arith
 
 head-3 : (h : Head) (b : Bool) → ((i : ℕ) → slice_index (values_of h) i ≤ slice_index (greatest_values 3) i) → AllByRecursion (λ octet. octet < 256) (octets_3 h (if b then 128 else 0))
 head-3 h b fits =
-    let f0 = fits 0 in let f1 = fits 1 in let f2 = fits 2 in let f3 = fits 3 in let f4 = fits 4 in let f5 = fits 5 in let f6 = fits 7 in let f7 = fits 8 in let f8 = fits 9 in let f9 = fits 10 in let f10 = fits 11 in let f11 = fits 12 in let f12 = fits 13 in let f13 = flag-small b in
+    let f0 = fits 0 in let f1 = fits 1 in let f2 = fits 2 in let f3 = fits 3 in let f4 = fits 4 in let f5 = fits 5 in let f6 = fits 7 in let f7 = fits 8 in let f8 = fits 9 in let f9 =
+    fits 10 in let f10 = fits 11 in let f11 = fits 12 in let f12 = fits 13 in let f13 = flag-small b in
     grind (arith, common_steps)
 
 head-4 : (h : Head) (b : Bool) → ((i : ℕ) → slice_index (values_of h) i ≤ slice_index (greatest_values 4) i) → AllByRecursion (λ octet. octet < 256) (octets_4 h (if b then 128 else 0))
 head-4 h b fits =
-    let f0 = fits 0 in let f1 = fits 1 in let f2 = fits 2 in let f3 = fits 3 in let f4 = fits 4 in let f5 = fits 5 in let f6 = fits 6 in let f7 = fits 7 in let f8 = fits 8 in let f9 = fits 9 in let f10 = fits 10 in let f11 = fits 11 in let f12 = fits 12 in let f13 = fits 13 in let f14 = fits 14 in let f15 = flag-small b in
+    let f0 = fits 0 in let f1 = fits 1 in let f2 = fits 2 in let f3 = fits 3 in let f4 = fits 4 in let f5 = fits 5 in let f6 = fits 6 in let f7 = fits 7 in let f8 = fits 8 in let f9 =
+    fits 9 in let f10 = fits 10 in let f11 = fits 11 in let f12 = fits 12 in let f13 = fits 13 in let f14 = fits 14 in let f15 = flag-small b in
     grind (arith, common_steps)
 
 pub head-small : (h : Head) (b : Bool) → IsFitting h → AllByRecursion (λ octet. octet < 256) (head_octets h b)
 head-small h b g =
     let flags = if b then 128 else 0 in
-    let P : ℕ → Type 0 = λ n. ((i : ℕ) → slice_index (values_of h) i ≤ slice_index (greatest_values n) i) → AllByRecursion (λ octet. octet < 256) (if n == 3 then octets_3 h flags else octets_4 h flags) in
+    let P : ℕ → Type 0 = λ n. ((i : ℕ) → slice_index (values_of h) i ≤ slice_index (greatest_values n) i)
+    → AllByRecursion (λ octet. octet < 256) (if n == 3 then octets_3 h flags else octets_4 h flags) in
     edition-cases h.edition g.edition (λ e. subst P (sym e) (head-3 h b) g.fits) (λ e. subst P (sym e) (head-4 h b) g.fits)

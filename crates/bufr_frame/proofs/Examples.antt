@@ -38,19 +38,73 @@ edition_3_odd = 0x42 ∷ 0x55 ∷ 0x46 ∷ 0x52 ∷ 0x00 ∷ 0x00 ∷ 0x2C ∷ 0
     0x37 ∷ 0x37 ∷ 0x37 ∷ 0x37 ∷ []
 
 abbrev head_of_edition_3 : Head
-head_of_edition_3 = record { edition = 3; master = 0; centre = 98; subcentre = 0; update = 0; category = 0; subcategory = 0; local_subcategory = 0; master_version = 14; local_version = 0; year = 24; month = 1; day = 2; hour = 3; minute = 4; second = 0 }
+head_of_edition_3 = record {
+  edition = 3;
+  master = 0;
+  centre = 98;
+  subcentre = 0;
+  update = 0;
+  category = 0;
+  subcategory = 0;
+  local_subcategory = 0;
+  master_version = 14;
+  local_version = 0;
+  year = 24;
+  month = 1;
+  day = 2;
+  hour = 3;
+  minute = 4;
+  second = 0;
+}
 
 abbrev sections_of_edition_3 : (payload : List ℕ) → ℕ → Sections
-sections_of_edition_3 payload size = record { head = head_of_edition_3; local1 = 0 ∷ []; section2 = None; descriptors = 257 ∷ []; subsets = 1; observed = true; compressed = false; payload = payload; size = size }
+sections_of_edition_3 payload size = record {
+  head = head_of_edition_3;
+  local1 = 0 ∷ [];
+  section2 = None;
+  descriptors = 257 ∷ [];
+  subsets = 1;
+  observed = true;
+  compressed = false;
+  payload = payload;
+  size = size;
+}
 
 abbrev the_head : Head
-the_head = record { edition = 4; master = 0; centre = 98; subcentre = 0; update = 0; category = 0; subcategory = 0; local_subcategory = 0; master_version = 14; local_version = 0; year = 2024; month = 1; day = 2; hour = 3; minute = 4; second = 5 }
+the_head = record {
+  edition = 4;
+  master = 0;
+  centre = 98;
+  subcentre = 0;
+  update = 0;
+  category = 0;
+  subcategory = 0;
+  local_subcategory = 0;
+  master_version = 14;
+  local_version = 0;
+  year = 2024;
+  month = 1;
+  day = 2;
+  hour = 3;
+  minute = 4;
+  second = 5;
+}
 
 abbrev the_parts : List ℕ → Option (List ℕ) → MessageParts
 the_parts local1 section2 = parts_of local1 section2 (257 ∷ []) 1 true false (0x14 ∷ [])
 
 abbrev the_sections : List ℕ → Option (List ℕ) → ℕ → Sections
-the_sections local1 section2 size = record { head = the_head; local1 = local1; section2 = section2; descriptors = 257 ∷ []; subsets = 1; observed = true; compressed = false; payload = 0x14 ∷ []; size = size }
+the_sections local1 section2 size = record {
+  head = the_head;
+  local1 = local1;
+  section2 = section2;
+  descriptors = 257 ∷ [];
+  subsets = 1;
+  observed = true;
+  compressed = false;
+  payload = 0x14 ∷ [];
+  size = size;
+}
 
 -- rule: section-0, section-5, reserved-zero, writes-no-pad-octet, sections-1-and-2-as-given
 -- rule: least-lengths, becomes-canonical
@@ -79,10 +133,37 @@ sections = (refl, refl, refl, refl, refl)
 
 -- octets of edition 4 read as edition 3: other values, and five octets of local use
 abbrev head_by_edition_3 : Head
-head_by_edition_3 = record { edition = 3; master = 0; centre = 98; subcentre = 0; update = 0; category = 0; subcategory = 0; local_subcategory = 0; master_version = 0; local_version = 0; year = 0; month = 14; day = 0; hour = 7; minute = 232; second = 0 }
+head_by_edition_3 = record {
+  edition = 3;
+  master = 0;
+  centre = 98;
+  subcentre = 0;
+  update = 0;
+  category = 0;
+  subcategory = 0;
+  local_subcategory = 0;
+  master_version = 0;
+  local_version = 0;
+  year = 0;
+  month = 14;
+  day = 0;
+  hour = 7;
+  minute = 232;
+  second = 0;
+}
 
 -- rule: odd-values-kept
-by-edition-3 : sections_of (slice_set one_block_number 7 3) ≡ Ok (record { head = head_by_edition_3; local1 = 1 ∷ 2 ∷ 3 ∷ 4 ∷ 5 ∷ []; section2 = None; descriptors = 257 ∷ []; subsets = 1; observed = true; compressed = false; payload = 0x14 ∷ []; size = 48 })
+by-edition-3 : sections_of (slice_set one_block_number 7 3) ≡ Ok (record {
+  head = head_by_edition_3;
+  local1 = 1 ∷ 2 ∷ 3 ∷ 4 ∷ 5 ∷ [];
+  section2 = None;
+  descriptors = 257 ∷ [];
+  subsets = 1;
+  observed = true;
+  compressed = false;
+  payload = 0x14 ∷ [];
+  size = 48;
+})
 unfolding sections_of section_end head_by_edition head_size
 by-edition-3 = refl
 

@@ -142,18 +142,21 @@ step-none left s =
 
 module _ (left mid : Option (List ℕ)) (old s s' : FinderModel) (bs : List ℕ) (es : List StreamEvent) where
   -- events are passed, and nothing is read
-  pub pass-step : (es' : List StreamEvent) → ReadsAndPasses left mid old s bs es → s'.ended ≡ s.ended → s'.reads ≡ s.reads → Advances s'.ended s.at s.rest es' s'.at s'.rest → Follows s.at s.rest s'.at s'.rest → ReadsAndPasses left mid old s' bs (es ++ es')
+  pub pass-step : (es' : List StreamEvent) → ReadsAndPasses left mid old s bs es → s'.ended ≡ s.ended → s'.reads ≡ s.reads → Advances s'.ended s.at s.rest es' s'.at s'.rest
+      → Follows s.at s.rest s'.at s'.rest → ReadsAndPasses left mid old s' bs (es ++ es')
   pass-step es' step same reads goes suffix =
       record {
         read = step.read;
-        advances = rw same (rw (append-nil (old.rest ++ bs)) at (Advances-then s.ended s.ended old.at s.at s'.at (old.rest ++ bs) s.rest s'.rest [] es es' (λ end. (end, refl)) step.advances (rw (append-nil s.rest) (rw same at goes))));
+        advances = rw same (rw (append-nil (old.rest ++ bs)) at (Advances-then s.ended s.ended old.at s.at s'.at (old.rest ++ bs) s.rest s'.rest [] es es' (λ end. (end, refl)) step.advances
+            (rw (append-nil s.rest) (rw same at goes))));
         follows = rw (append-nil (old.rest ++ bs)) at (Follows-then old.at s.at s'.at (old.rest ++ bs) s.rest s'.rest [] step.follows (rw (append-nil s.rest) suffix));
         kept = λ end. (same ∙ (step.kept end).0, (step.kept end).1, reads ∙ (step.kept end).2);
         end = λ before ended. step.end before (sym same ∙ ended);
       }
 
   -- octets are read, and no event is passed
-  pub read-step : (left' : Option (List ℕ)) (result : Result (Unit {0}) RunFault) (bs' : List ℕ) → ReadsAndPasses left mid old s bs es → s.ended ≡ false → ReadsMore mid left' s s' result bs' → ReadsAndPasses left left' old s' (bs ++ bs') es
+  pub read-step : (left' : Option (List ℕ)) (result : Result (Unit {0}) RunFault) (bs' : List ℕ) → ReadsAndPasses left mid old s bs es → s.ended ≡ false → ReadsMore mid left' s s' result bs'
+      → ReadsAndPasses left left' old s' (bs ++ bs') es
   read-step left' result bs' step going next =
       let whole : old.rest ++ (bs ++ bs') ≡ (old.rest ++ bs) ++ bs' = sym (append_assoc old.rest bs bs') in
       let same : Follows s.at (s.rest ++ bs') s'.at s'.rest = record { passed = 0; within = omega arith; offset = omega (arith, next.at); left = next.fills.held } in
@@ -181,7 +184,8 @@ pub shows : (ended ended' : Bool) (rest rest' : List ℕ) (result : SearchResult
 shows ended ended' rest rest' result end same is = rw (sym end) (rw (sym same) is)
 
 -- the octets that an event takes, as the code has them
-takes-len : (ended : Bool) (rest : List ℕ) (place n : ℕ) (here : Candidate) → IsNextEvent ended rest place (Some here) → IsStatedLength (drop place rest) n → len_at here n ≡ candidate_len (drop place rest) (Some here)
+takes-len : (ended : Bool) (rest : List ℕ) (place n : ℕ) (here : Candidate) → IsNextEvent ended rest place (Some here) → IsStatedLength (drop place rest) n
+    → len_at here n ≡ candidate_len (drop place rest) (Some here)
 takes-len ended rest place n (Stray cause) found stated = refl
 takes-len ended rest place n Frame found stated =
     stated.0 ∙ length-eight (drop place rest) (omega (arith, found.frame refl, found.within, length-drop place rest))
@@ -212,7 +216,8 @@ steps-compose left mid left' old s s' bs bs' events es one u16_at =
     let whole : (old.rest ++ bs) ++ bs' ≡ old.rest ++ (bs ++ bs') = append_assoc old.rest bs bs' in
     record {
       read = Consumes-trans left mid left' bs bs' one.read u16_at.read;
-      advances = rw whole at (Advances-then s.ended s'.ended old.at s.at s'.at (old.rest ++ bs) s.rest s'.rest bs' events es (λ end. ((u16_at.kept end).0, (u16_at.kept end).1)) one.advances u16_at.advances);
+      advances = rw whole at (Advances-then s.ended s'.ended old.at s.at s'.at (old.rest ++ bs) s.rest s'.rest bs' events es (λ end. ((u16_at.kept end).0, (u16_at.kept end).1)) one.advances
+          u16_at.advances);
       follows = rw whole at (Follows-then old.at s.at s'.at (old.rest ++ bs) s.rest s'.rest bs' one.follows u16_at.follows);
       kept = λ end.
           let a = one.kept end in
@@ -315,12 +320,14 @@ scan-placed (suc n) at (x ∷ m) within =
     let s = x ∷ m in
     let P : List StreamEvent → Type 0 = λ l. AllPlaced at s l in
     elim (cases_Bool (has_word_at (codes "BUFR") 0 s)) [
-      | inr absent ↦ subst P (sym (scan_from-nothing at x m (verdict-nothing s absent))) (placed-wider at (at + 1) s m (scan_from 0 (at + 1) m) (omega arith) (omega arith) (scan-placed n (at + 1) m (omega arith)))
+      | inr absent ↦ subst P (sym (scan_from-nothing at x m (verdict-nothing s absent)))
+          (placed-wider at (at + 1) s m (scan_from 0 (at + 1) m) (omega arith) (omega arith) (scan-placed n (at + 1) m (omega arith)))
       | inl here ↦
           let k = candidate_len s (classify s) in
           let bounds = taken-bounds s here in
           let more : AllPlaced at s (scan_from 0 (at + k) (drop k s)) =
-          placed-wider at (at + k) s (drop k s) (scan_from 0 (at + k) (drop k s)) (omega arith) (omega (arith, length-drop k s, bounds.1)) (scan-placed n (at + k) (drop k s) (omega (arith, length-drop k s, bounds.0))) in
+          placed-wider at (at + k) s (drop k s) (scan_from 0 (at + k) (drop k s)) (omega arith) (omega (arith, length-drop k s, bounds.1))
+          (scan-placed n (at + k) (drop k s) (omega (arith, length-drop k s, bounds.0))) in
           let first : AllPlaced at s (stream_event at s (classify s)) = elim (cases_lt (length s) 8) [
             | inl short ↦ placed-cut at s (classify s) (cut-so s here (inl short))
             | inr long ↦ placed-here at s (classify s) long
@@ -355,12 +362,15 @@ longest-back s at t (e ∷ es) all is =
     ap (λ n. max n (longest_of at t es)) one ∙ ap (max (length_here (drop (o - 0) s))) (longest-back s at t es all.1 is)
 
 -- the greatest length after more calls
-more-longest : (s s' : FinderModel) (bs bs' : List ℕ) (events seen : List StreamEvent) (left mid : Option (List ℕ)) → ReadsAndPasses left mid new_finder s bs events → s.longest ≡ longest_of 0 bs events
+more-longest : (s s' : FinderModel) (bs bs' : List ℕ) (events seen : List StreamEvent) (left mid : Option (List ℕ)) → ReadsAndPasses left mid new_finder s bs events
+    → s.longest ≡ longest_of 0 bs events
     → (s.ended ≡ true → bs' ≡ []) → AllPlaced s.at (s.rest ++ bs') seen → RaisesLongest s s' bs' seen → s'.longest ≡ longest_of 0 (bs ++ bs') (events ++ seen)
-more-longest s s' bs bs' events seen left mid one known kept placed grown = grind (arith, common_steps, drop-append-le, cases_Bool, inl, append-nil, inr, whole-scan, scan-placed, longest-prefix, placed-prefix, longest-back, longest-append)
+more-longest s s' bs bs' events seen left mid one known kept placed grown =
+    grind (arith, common_steps, drop-append-le, cases_Bool, inl, append-nil, inr, whole-scan, scan-placed, longest-prefix, placed-prefix, longest-back, longest-append)
 
 pub longest-events : (left mid left' : Option (List ℕ)) (s s' : FinderModel) (bs bs' : List ℕ) (events es : List StreamEvent)
-    → ReadsAndPasses left mid new_finder s bs events → s.longest ≡ longest_of 0 bs events → ReadsAndPasses mid left' s s' bs' es → RaisesLongest s s' bs' es → s'.longest ≡ longest_of 0 (bs ++ bs') (events ++ es)
+    → ReadsAndPasses left mid new_finder s bs events → s.longest ≡ longest_of 0 bs events → ReadsAndPasses mid left' s s' bs' es → RaisesLongest s s' bs' es
+    → s'.longest ≡ longest_of 0 (bs ++ bs') (events ++ es)
 longest-events left mid left' s s' bs bs' events es one known u16_at grown =
     let whole = scan-on s'.ended s.at s'.at (s.rest ++ bs') s'.rest es u16_at.advances in
     more-longest s s' bs bs' events es left mid one known (λ end. (u16_at.kept end).1)
@@ -399,7 +409,8 @@ wider : (most most' at : ℕ) (left : List ℕ) (given : List (List ℕ)) → mo
 wider most most' at left [] more all = tt
 wider most most' at left (octets ∷ given) more all = (all.0, omega (arith, all.1, more), wider most most' at (left ++ octets) given more all.2)
 
-one-more : (most at : ℕ) (left : List ℕ) (given : List (List ℕ)) (last : List ℕ) → EachReadIsNeeded most at left given → NoEventCertain at (left ++ concat given) → length last ≤ most → EachReadIsNeeded most at left (given ++ last ∷ [])
+one-more : (most at : ℕ) (left : List ℕ) (given : List (List ℕ)) (last : List ℕ) → EachReadIsNeeded most at left given → NoEventCertain at (left ++ concat given) → length last ≤ most
+    → EachReadIsNeeded most at left (given ++ last ∷ [])
 one-more most at left [] last all none few = let N : List ℕ → Type 0 = λ l. NoEventCertain at l in (subst N (append-nil left) none, few, tt)
 one-more most at left (octets ∷ given) last all none few =
     (all.0, all.1, one-more most at (left ++ octets) given last all.2 (rw (append_assoc left octets (concat given)) none) few)
@@ -418,11 +429,14 @@ waits-still old s s' bs each reads longer = record {
 }
 
 -- if what is left now decides nothing, neither does what was left at first with all that was read
-none-in-all : (left mid : Option (List ℕ)) (old s : FinderModel) (bs : List ℕ) (place size : ℕ) → ReadsAndPasses left mid old s bs [] → s.ended ≡ false → IsIncomplete s.rest place size → NoEventCertain old.at (old.rest ++ bs)
+none-in-all : (left mid : Option (List ℕ)) (old s : FinderModel) (bs : List ℕ) (place size : ℕ) → ReadsAndPasses left mid old s bs [] → s.ended ≡ false → IsIncomplete s.rest place size
+    → NoEventCertain old.at (old.rest ++ bs)
 none-in-all left mid old s bs place size step going open' =
-    ap (take_while is_decided) (scan-on s.ended old.at s.at (old.rest ++ bs) s.rest [] step.advances ∙ scan-on false s.at (s.at + place) s.rest (drop place s.rest) [] (open'.advances s.at)) ∙ open'.none (s.at + place)
+    ap (take_while is_decided) (scan-on s.ended old.at s.at (old.rest ++ bs) s.rest [] step.advances ∙ scan-on false s.at (s.at + place) s.rest (drop place s.rest) [] (open'.advances s.at))
+    ∙ open'.none (s.at + place)
 
-module _ (left mid : Option (List ℕ)) (old s s1 s2 : FinderModel) (place size : ℕ) (bs : List ℕ) (each : CallReadsAreNeeded old s bs) (step : ReadsAndPasses left mid old s bs []) (going : s.ended ≡ false) (open' : IsIncomplete s.rest place size) (is : s1 ≡ gone_to s place size) (bound : held s2 ≤ max 4096 s2.longest)
+module _ (left mid : Option (List ℕ)) (old s s1 s2 : FinderModel) (place size : ℕ) (bs : List ℕ) (each : CallReadsAreNeeded old s bs) (step : ReadsAndPasses left mid old s bs [])
+    (going : s.ended ≡ false) (open' : IsIncomplete s.rest place size) (is : s1 ≡ gone_to s place size) (bound : held s2 ≤ max 4096 s2.longest)
     (left' : Option (List ℕ)) (result : Result (Unit {0}) RunFault) (bs' : List ℕ) (read : ReadsMore mid left' s1 s2 result bs') where
   longer : s.longest ≤ s2.longest
   longer = omega (arith, ap (λ x. x.longest) is, read.longest)
@@ -469,7 +483,8 @@ module _ (given new : InputModel) (passed at longest room : ℕ) (fault fault' :
   abbrev pub after-fill : FinderModel
   after-fill = record { before = take 0 new.held; rest = drop 0 new.held; at = at; ended = new.ended; fault = fault'; reads = new.reads; longest = longest; room = new.room }
 
-  ends-so : (r : Result (Unit {0}) RunFault) → FillEnds (given.room < room) (record given { held = drop passed given.held }) new bs r → FillEnds (given.room < 2 * max 4096 longest) (input_left before-read) (input_left after-fill) bs r
+  ends-so : (r : Result (Unit {0}) RunFault) → FillEnds (given.room < room) (record given { held = drop passed given.held }) new bs r
+      → FillEnds (given.room < 2 * max 4096 longest) (input_left before-read) (input_left after-fill) bs r
   ends-so (Ok u) e = e
   ends-so (Err Read) e = e
   ends-so (Err Write) e = e
@@ -506,11 +521,13 @@ module _ (old s' : FinderModel) (offset place len size : ℕ) (here : Option Can
   found-octets whole =
       let m = drop place old.rest in
       let size_is : len ≡ stated_length m = takes ∙ ap (candidate_len m) whole in
-      let before : s'.before ≡ old.before ++ take place old.rest ++ take len m = ap (λ x. x.before) is ∙ ap (λ l. old.before ++ l) (take-add place len old.rest) ∙ sym (append_assoc old.before (take place old.rest) (take len m)) in
+      let before : s'.before ≡ old.before ++ take place old.rest ++ take len m =
+      ap (λ x. x.before) is ∙ ap (λ l. old.before ++ l) (take-add place len old.rest) ∙ sym (append_assoc old.before (take place old.rest) (take len m)) in
       rw before (event-octets (old.before ++ take place old.rest) m len (omega (arith, found.within, takes, length-drop place old.rest)) ∙ ap (λ n. take n m) size_is)
 
   -- the reads of a call that passes it
-  pub found-reads : here ≢ None → (left left' : Option (List ℕ)) (first : FinderModel) (bs : List ℕ) → ReadsAndPasses left left' first old bs [] → CallReadsAreNeeded first old bs → Raised first.longest old.longest old.rest → size ≡ length_here (drop place old.rest)
+  pub found-reads : here ≢ None → (left left' : Option (List ℕ)) (first : FinderModel) (bs : List ℕ) → ReadsAndPasses left left' first old bs [] → CallReadsAreNeeded first old bs
+      → Raised first.longest old.longest old.rest → size ≡ length_here (drop place old.rest)
       → ReadsOn left left' first s' (stream_event offset (drop place old.rest) here) (stream_event offset (drop place old.rest) here)
   found-reads some left left' first bs steps each raised stated = (
     bs,
@@ -526,14 +543,16 @@ waits-only old s s' (inr none) reads differ = none
 
 -- a call that passed its reads on, without a fault before
 pub returns-next : (left left' : Option (List ℕ)) (reads reads' : ℕ) (old new : FinderModel) (result : Result Event RunFault) → old.fault ≡ None
-    → ReadsOn left left' old new (events_returned [] result) (events_returned (first_left new) result) → LeavesFinder old new result → AddsReads reads reads' old.reads new.reads → (old.reads ≢ new.reads → NoEventCertain old.at old.rest)
+    → ReadsOn left left' old new (events_returned [] result) (events_returned (first_left new) result) → LeavesFinder old new result → AddsReads reads reads' old.reads new.reads
+    → (old.reads ≢ new.reads → NoEventCertain old.at old.rest)
     → new.at < 2 ^ 63 → held new ≤ max 4096 new.longest → ReturnsNextEvent left left' reads reads' old new result
 returns-next left left' reads reads' old new result sound steps ends counts waits near bound =
     let A : Option RunFault → Type 0 = λ o. IfSome o (λ _. new ≡ old) in
     record { steps = steps; ends = ends; counts = counts; waits = waits; near = near; bound = bound; again = subst A (sym sound) tt }
 
 -- a call after a fault
-pub returns-again : (left : Option (List ℕ)) (reads : ℕ) (s : FinderModel) (fault : RunFault) → s.fault ≡ Some fault → s.ended ≡ false → s.reads ≤ max_reads → s.at < 2 ^ 63 → held s ≤ max 4096 s.longest
+pub returns-again : (left : Option (List ℕ)) (reads : ℕ) (s : FinderModel) (fault : RunFault) → s.fault ≡ Some fault → s.ended ≡ false → s.reads ≤ max_reads → s.at < 2 ^ 63
+    → held s ≤ max 4096 s.longest
     → ReturnsNextEvent left left reads reads s s (Err fault)
 returns-again left reads s fault is open' most near bound =
     let A : Option RunFault → Type 0 = λ o. IfSome o (λ _. s ≡ s) in
@@ -578,13 +597,16 @@ module _ (left mid : Option (List ℕ)) (reads reads' : ℕ) (first s : FinderMo
   -- the end was reached
   pub reading-done : (looks : (s.ended ≡ true) × HasNoFurtherEvent s.rest) → s.at < 2 ^ 63 → held s ≤ max 4096 s.longest → ReturnsNextEvent left mid reads reads' first s (Ok event.Done)
   reading-done looks near bound =
-      returns-next left mid reads reads' first s (Ok event.Done) sound (on.steps.0, on.steps.1, (λ _. raises-none first s on.steps.0 on.raised looks.1.word), on.each) (on.sound, (looks.0, looks.1.scan)) on.counts (waits-only first s s on.waits refl) near bound
+      returns-next left mid reads reads' first s (Ok event.Done) sound (on.steps.0, on.steps.1, (λ _. raises-none first s on.steps.0 on.raised looks.1.word), on.each)
+      (on.sound, (looks.0, looks.1.scan)) on.counts (waits-only first s s on.waits refl) near bound
 
   -- the same by an equal finder
-  pub reading-ends : (s' : FinderModel) (looks : (s.ended ≡ true) × HasNoFurtherEvent s.rest) → s' ≡ s → s'.at < 2 ^ 63 → held s' ≤ max 4096 s'.longest → ReturnsNextEvent left mid reads reads' first s' (Ok event.Done)
+  pub reading-ends : (s' : FinderModel) (looks : (s.ended ≡ true) × HasNoFurtherEvent s.rest) → s' ≡ s → s'.at < 2 ^ 63 → held s' ≤ max 4096 s'.longest
+      → ReturnsNextEvent left mid reads reads' first s' (Ok event.Done)
   reading-ends s' looks same near bound = rw same (reading-done looks (rw same at near) (rw same at bound))
 
-  module _ (s' : FinderModel) (place n : ℕ) (here : Candidate) (looks : IsNextEvent s.ended s.rest place (Some here) × IsStatedLength (drop place s.rest) n) (gone : s' ≡ gone_to s (place + len_at here n) n)
+  module _ (s' : FinderModel) (place n : ℕ) (here : Candidate) (looks : IsNextEvent s.ended s.rest place (Some here) × IsStatedLength (drop place s.rest) n)
+      (gone : s' ≡ gone_to s (place + len_at here n) n)
       (near : s'.at < 2 ^ 63) (bound : held s' ≤ max 4096 s'.longest) where
     abbrev m : List ℕ
     m = drop place s.rest
@@ -618,7 +640,8 @@ module _ (left mid : Option (List ℕ)) (reads reads' : ℕ) (first s : FinderMo
             let o_is : o ≡ offset = omega (arith, at.0, takes, four, ap (λ x. x.at) gone) in
             let E : List StreamEvent → Type 0 = λ es. ReadsOn left mid first s' es es in
             let steps' = subst E (ap (λ h. stream_event offset m (Some h)) is ∙ ap (λ k. StrayAt k cause ∷ []) (sym o_is) ∙ ap (λ w. StrayAt o w ∷ []) (sym at.1)) steps in
-            returns-next left mid reads reads' first s' (Ok (event.Stray o why)) sound steps' (ap (λ x. x.fault) gone ∙ on.sound, omega (arith, on.steps.1.follows.offset, looks.0.moves, takes, ap (λ x. x.at) gone), omega (arith, at.0)) counts waits near bound
+            returns-next left mid reads reads' first s' (Ok (event.Stray o why)) sound steps'
+            (ap (λ x. x.fault) gone ∙ on.sound, omega (arith, on.steps.1.follows.offset, looks.0.moves, takes, ap (λ x. x.at) gone), omega (arith, at.0)) counts waits near bound
         by Frame (event.Frame o octets) is at =
             let whole = ap (λ h. candidate_len m (Some h)) is in
             let long = ap (λ h. len_at h n) is in
@@ -635,11 +658,23 @@ module _ (left mid : Option (List ℕ)) (reads reads' : ℕ) (first s : FinderMo
               omega (arith, on.steps.1.follows.offset, looks.0.moves, takes, ap (λ x. x.at) gone),
               omega (arith, size, short, takes, whole, looks.0.within, rest, looks.0.frame (ap Some is)),
               omega (arith, size, short, takes, whole, looks.0.within, rest, at.0, long),
-              omega (arith, size, short, takes, whole, looks.0.within, rest, ap (λ x. length x.before) gone, length-append s.before (take (place + len_at here n) s.rest), length-take (place + len_at here n) s.rest),
+              omega (
+                arith,
+                size,
+                short,
+                takes,
+                whole,
+                looks.0.within,
+                rest,
+                ap (λ x. length x.before) gone,
+                length-append s.before (take (place + len_at here n) s.rest),
+                length-take (place + len_at here n) s.rest,
+              ),
             ) counts waits near bound
 
   module _ (s1 : FinderModel) (place n : ℕ) (looks : (s.ended ≡ false) × IsIncomplete s.rest place n × IsStatedLength (drop place s.rest) n) (is : s1 ≡ gone_to s place n) where
-    module _ (left' : Option (List ℕ)) (reads2 : ℕ) (s2 : FinderModel) (result : Result (Unit {0}) RunFault) (bs : List ℕ) (more : ReadsMore mid left' s1 s2 result bs) (made : AddsReads reads' reads2 s1.reads s2.reads)
+    module _ (left' : Option (List ℕ)) (reads2 : ℕ) (s2 : FinderModel) (result : Result (Unit {0}) RunFault) (bs : List ℕ) (more : ReadsMore mid left' s1 s2 result bs)
+        (made : AddsReads reads' reads2 s1.reads s2.reads)
         (bound : held s2 ≤ max 4096 s2.longest) where
       adds : AddsReads reads reads2 first.reads s2.reads
       adds = adds-then _ _ _ _ _ _ (adds-same _ _ _ _ _ on.counts (ap (λ x. x.reads) is)) made
@@ -687,7 +722,8 @@ module _ (left mid : Option (List ℕ)) (reads reads' : ℕ) (first s : FinderMo
             ) (open-before, λ _. stops) adds (λ _. waits-open first s place n on.waits looks.1) near bound
 
 -- a count of failures goes by the fault, whatever else the answer might have been
-pub failures-as : {X Y : Type 0} (a b c : ℕ) (r : Result X RunFault) (r' : Result Y RunFault) (f : RunFault) → r ≡ Err f → r' ≡ Err f → a ≡ read_failures_after b r → b ≡ c → a ≡ read_failures_after c r'
+pub failures-as : {X Y : Type 0} (a b c : ℕ) (r : Result X RunFault) (r' : Result Y RunFault) (f : RunFault) → r ≡ Err f → r' ≡ Err f → a ≡ read_failures_after b r → b ≡ c
+    → a ≡ read_failures_after c r'
 failures-as {X} {Y} a b c r r' f is is' e same = rw is' (subst (λ n. a ≡ read_failures_after {X = Y} n (Err f)) same (by f (rw is at e)))
   where
     by : (g : RunFault) → a ≡ read_failures_after {X = X} b (Err g) → a ≡ read_failures_after {X = Y} b (Err g)
@@ -698,14 +734,16 @@ failures-as {X} {Y} a b c r r' f is is' e same = rw is' (subst (λ n. a ≡ read
 
 -- ---- What octets that are held give, without a read.
 
-pub held-done : (old new : FinderModel) → old.fault ≡ None → (old.ended ≡ true) × HasNoFurtherEvent old.rest → new ≡ old → new.at < 2 ^ 63 → held new ≤ max 4096 new.longest → old.reads ≤ max_reads → GivesHeldEvent old new (Some (Ok event.Done))
+pub held-done : (old new : FinderModel) → old.fault ≡ None → (old.ended ≡ true) × HasNoFurtherEvent old.rest → new ≡ old → new.at < 2 ^ 63 → held new ≤ max 4096 new.longest → old.reads ≤ max_reads
+    → GivesHeldEvent old new (Some (Ok event.Done))
 held-done old new sound looks same near bound most = (
   sound,
   λ left reads.
       reading-ends left left reads reads old old sound (reading-fresh left reads old sound most) new looks same near bound,
 )
 
-pub held-found : (old new : FinderModel) (place n : ℕ) (here : Candidate) (e : Event) → old.fault ≡ None → IsNextEvent old.ended old.rest place (Some here) × IsStatedLength (drop place old.rest) n → new ≡ gone_to old (place + len_at here n) n
+pub held-found : (old new : FinderModel) (place n : ℕ) (here : Candidate) (e : Event) → old.fault ≡ None → IsNextEvent old.ended old.rest place (Some here) × IsStatedLength (drop place old.rest) n
+    → new ≡ gone_to old (place + len_at here n) n
     → new.at < 2 ^ 63 → held new ≤ max 4096 new.longest → old.reads ≤ max_reads → IsEventAt new here n e → GivesHeldEvent old new (Some (Ok e))
 held-found old new place n here e sound looks gone near bound most is = (
   sound,
@@ -713,7 +751,8 @@ held-found old new place n here e sound looks gone near bound most is = (
       reading-found left left reads reads old old sound (reading-fresh left reads old sound most) new place n here looks gone near bound e is,
 )
 
-pub held-needs : (old new : FinderModel) (place n : ℕ) → old.fault ≡ None → (old.ended ≡ false) × IsIncomplete old.rest place n × IsStatedLength (drop place old.rest) n → new ≡ gone_to old place n → new.at < 2 ^ 63 → NeedsRead old new
+pub held-needs : (old new : FinderModel) (place n : ℕ) → old.fault ≡ None → (old.ended ≡ false) × IsIncomplete old.rest place n × IsStatedLength (drop place old.rest) n → new ≡ gone_to old place n
+    → new.at < 2 ^ 63 → NeedsRead old new
 held-needs old new place n sound looks is near = record {
   sound = sound;
   passes = λ left. turn-pass left left old old new [] (step-none left old) place n looks.0 looks.1 is;

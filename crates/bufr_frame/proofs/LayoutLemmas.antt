@@ -8,7 +8,8 @@ use Rattle.bufr_bits.specs.Prelude.{bits_of, bits_of_octet}
 -- ---- The sections of a message, one after another.
 
 -- where the steps go well, these are the sections
-pub sections-are : (m : List ℕ) (p1 p2 p3 p4 : ℕ) → is_edition (edition_of m) ≡ true → section_end m 1 (first_least (edition_of m)) 8 ≡ Ok p1 → (if has_section2 m then section_end m 2 4 p1 else Ok p1) ≡ Ok p2
+pub sections-are : (m : List ℕ) (p1 p2 p3 p4 : ℕ) → is_edition (edition_of m) ≡ true → section_end m 1 (first_least (edition_of m)) 8 ≡ Ok p1
+    → (if has_section2 m then section_end m 2 4 p1 else Ok p1) ≡ Ok p2
     → section_end m 3 7 p2 ≡ Ok p3 → section_end m 4 4 p3 ≡ Ok p4 → p4 ≡ length m - 4 → is_long_edition_3 m p2 p3 p4 ≡ false → sections_of m ≡ Ok (parts m p1 p2 p3 p4)
 unfolding sections_of
 sections-are m p1 p2 p3 p4 edition a b c d last short = grind (arith, common_steps, eq-eqb)
@@ -149,7 +150,8 @@ first-split : (n : ℕ) (head local1 rest : List ℕ) → ((three_octets n ++ he
 first-split n head local1 rest = refl
 
 -- section 2 read back
-second-part : (m prefix rest : List ℕ) (optional : Option (List ℕ)) (p q : ℕ) → m ≡ prefix ++ (section2_octets optional ++ rest) → p ≡ length prefix → q ≡ p + section2_size optional → has_section2 m ≡ is_some optional
+second-part : (m prefix rest : List ℕ) (optional : Option (List ℕ)) (p q : ℕ) → m ≡ prefix ++ (section2_octets optional ++ rest) → p ≡ length prefix → q ≡ p + section2_size optional
+    → has_section2 m ≡ is_some optional
     → (if has_section2 m then Some (slice_range m (p + 4) q) else None) ≡ optional
 second-part m prefix rest None p q is at to has = rw has refl
 second-part m prefix rest (Some octets) p q is at to has =
@@ -204,12 +206,14 @@ make-same : (h h' : Head) (l l' : List ℕ) (o o' : Option (List ℕ)) (d d' : L
     → h ≡ h' → l ≡ l' → o ≡ o' → d ≡ d' → n ≡ n' → b ≡ b' → c ≡ c' → p ≡ p' → s ≡ s' → make h l o d n b c p s ≡ make h' l' o' d' n' b' c' p' s'
 make-same h h' l l' o o' d d' n n' b b' c c' p p' s s' e1 e2 e3 e4 e5 e6 e7 e8 e9 = cc
 
-parts-make : (m : List ℕ) (p1 p2 p3 p4 : ℕ) → parts m p1 p2 p3 p4 ≡ make (head_of m) (slice_range m (8 + first_least (edition_of m)) p1) (if has_section2 m then Some (slice_range m (p1 + 4) p2) else None)
+parts-make : (m : List ℕ) (p1 p2 p3 p4 : ℕ) → parts m p1 p2 p3 p4 ≡ make (head_of m) (slice_range m (8 + first_least (edition_of m)) p1)
+    (if has_section2 m then Some (slice_range m (p1 + 4) p2) else None)
     (words (slice_range m (p2 + 7) p3)) (u16_at m (p2 + 4)) (nat_le 128 (get_or m (p2 + 6) 0)) (nat_le 64 (get_or m (p2 + 6) 0 % 128)) (slice_range m (p3 + 4) p4) (length m)
 unfolding make
 parts-make m p1 p2 p3 p4 = refl
 
-made-sections : (h : Head) (p : MessageParts) → make h p.local1 p.section2 p.descriptors p.subsets p.observed p.compressed (with_even_length h.edition 4 p.payload) (message_size h.edition p) ≡ sections_from h p
+made-sections : (h : Head) (p : MessageParts) → make h p.local1 p.section2 p.descriptors p.subsets p.observed p.compressed (with_even_length h.edition 4 p.payload) (message_size h.edition p)
+    ≡ sections_from h p
 unfolding make
 made-sections h p = refl
 
@@ -259,13 +263,17 @@ read-back h p writable =
     let p3 = p2 + n3 in
     let p4 = p3 + n4 in
     let known : is_edition (edition_of m) ≡ true = writable-edition h writable in
-    let has : has_section2 m ≡ is_some p.section2 = ap (nat_le 128) (flags-back h (is_some p.section2) (message_size edition p) n1 p.local1 (s2 ++ (s3 ++ (s4 ++ end))) writable) ∙ flag-test (is_some p.section2) in
-    let e1 : section_end m 1 (first_least (edition_of m)) 8 ≡ Ok p1 = section-at m s0 ((ho ++ p.local1) ++ (s2 ++ (s3 ++ (s4 ++ end)))) 1 least 8 n1 (ap (λ l. s0 ++ l) (first-split n1 ho p.local1 (s2 ++ (s3 ++ (s4 ++ end))))) refl (omega arith) (omega arith) (omega (arith, lm)) in
+    let has : has_section2 m ≡ is_some p.section2 = ap (nat_le 128) (flags-back h (is_some p.section2) (message_size edition p) n1 p.local1 (s2 ++ (s3 ++ (s4 ++ end))) writable)
+    ∙ flag-test (is_some p.section2) in
+    let e1 : section_end m 1 (first_least (edition_of m)) 8 ≡ Ok p1 =
+    section-at m s0 ((ho ++ p.local1) ++ (s2 ++ (s3 ++ (s4 ++ end)))) 1 least 8 n1 (ap (λ l. s0 ++ l) (first-split n1 ho p.local1 (s2 ++ (s3 ++ (s4 ++ end))))) refl (omega arith) (omega arith)
+    (omega (arith, lm)) in
     let e2 = second-at m f2 (s3 ++ (s4 ++ end)) p.section2 p1 at2 k2 has (omega (arith, lm)) in
     let e3 : section_end m 3 7 p2 ≡ Ok p3 = section-at m f3 ((0 ∷ two_octets p.subsets ++ flags ∷ c3) ++ (s4 ++ end)) 3 7 p2 n3 at3 k3 (omega arith) (omega arith) (omega (arith, lm)) in
     let e4 : section_end m 4 4 p3 ≡ Ok p4 = section-at m f4 ((0 ∷ c4) ++ end) 4 4 p3 n4 at4 k4 (omega arith) (omega arith) (omega (arith, lm)) in
     let last : p4 ≡ length m - 4 = omega (arith, lm) in
-    let size3 : n3 ≡ even_size edition (7 + 2 * length p.descriptors) = length-evened edition 7 (octets_of_words p.descriptors) ∙ ap (λ n. even_size edition (7 + n)) (length-octets_of_words p.descriptors) in
+    let size3 : n3 ≡ even_size edition (7 + 2 * length p.descriptors) =
+    length-evened edition 7 (octets_of_words p.descriptors) ∙ ap (λ n. even_size edition (7 + n)) (length-octets_of_words p.descriptors) in
     let size4 : n4 ≡ even_size edition (4 + length p.payload) = length-evened edition 4 p.payload in
     let third : p3 - p2 ≡ n3 = omega arith in
     let fourth : p4 - p3 ≡ n4 = omega arith in
@@ -291,7 +299,8 @@ read-back h p writable =
     let size : length m ≡ message_size edition p = omega (arith, lm, size3, size4) in
     sections-are m p1 p2 p3 p4 known e1 e2 e3 e4 last short
     ∙ ap Ok (parts-make m p1 p2 p3 p4
-    ∙ make-same (head_of m) h (slice_range m (8 + least) p1) p.local1 _ p.section2 (words (slice_range m (p2 + 7) p3)) p.descriptors (u16_at m (p2 + 4)) p.subsets _ p.observed _ p.compressed (slice_range m (p3 + 4) p4) c4 (length m) (message_size edition p)
+    ∙ make-same (head_of m) h (slice_range m (8 + least) p1) p.local1 _ p.section2 (words (slice_range m (p2 + 7) p3)) p.descriptors (u16_at m (p2 + 4)) p.subsets _ p.observed _ p.compressed
+    (slice_range m (p3 + 4) p4) c4 (length m) (message_size edition p)
     (head-back h (is_some p.section2) (message_size edition p) n1 p.local1 (s2 ++ (s3 ++ (s4 ++ end))) writable) local1 (second-part m f2 (s3 ++ (s4 ++ end)) p.section2 p1 p2 at2 k2 refl has)
     (ap words descriptors ∙ words-evened edition 7 p.descriptors) subsets (ap (nat_le 128) (behind3 6) ∙ observed-test p.observed p.compressed)
     (ap (λ n. nat_le 64 (n % 128)) (behind3 6) ∙ compressed-test p.observed p.compressed) payload size
@@ -335,14 +344,16 @@ pub even-mono : (edition n k : ℕ) → n ≤ k → even_size edition n ≤ even
 even-mono edition n k h = grind (arith, common_steps)
 
 -- a shorter payload makes no longer message
-pub size-least : (edition : ℕ) (local1 : ℕ) (section2 : Option (List ℕ)) (descriptors n k most : ℕ) → n ≤ k → size_from edition local1 section2 descriptors k ≤ most → size_from edition local1 section2 descriptors n ≤ most
+pub size-least : (edition : ℕ) (local1 : ℕ) (section2 : Option (List ℕ)) (descriptors n k most : ℕ) → n ≤ k → size_from edition local1 section2 descriptors k ≤ most
+    → size_from edition local1 section2 descriptors n ≤ most
 size-least edition local1 section2 descriptors n k most h g = omega (arith, even-mono edition (4 + n) (4 + k) (omega (arith, h)), g)
 
 -- ---- octets
 
 -- a payload that is even already is written as the payload that it was made from
 pub written-even : (h : Head) (local1 : List ℕ) (section2 : Option (List ℕ)) (descriptors : List ℕ) (subsets : ℕ) (observed compressed : Bool) (payload : List ℕ)
-    → message_octets h (parts_of local1 section2 descriptors subsets observed compressed (with_even_length h.edition 4 payload)) ≡ message_octets h (parts_of local1 section2 descriptors subsets observed compressed payload)
+    → message_octets h (parts_of local1 section2 descriptors subsets observed compressed (with_even_length h.edition 4 payload))
+    ≡ message_octets h (parts_of local1 section2 descriptors subsets observed compressed payload)
 written-even h local1 section2 descriptors subsets observed compressed payload = grind (arith, common_steps)
 
 bits-append : (xs ys : List ℕ) → bits_of (xs ++ ys) ≡ bits_of xs ++ bits_of ys

@@ -30,7 +30,8 @@ one-on zero at x m goes = absurd (omega arith)
 one-on (suc k) at x m goes = let e : suc k - 1 ≡ k = omega arith in rw e (ap (λ n. scan_from 0 n (drop k m)) (omega arith))
 
 -- the first event, and the rest
-pub scan_from-here : (at : ℕ) (m : List ℕ) → 0 < length m → 0 < candidate_len m (classify m) → scan_from 0 at m ≡ stream_event at m (classify m) ++ scan_from 0 (at + candidate_len m (classify m)) (drop (candidate_len m (classify m)) m)
+pub scan_from-here : (at : ℕ) (m : List ℕ) → 0 < length m → 0 < candidate_len m (classify m)
+    → scan_from 0 at m ≡ stream_event at m (classify m) ++ scan_from 0 (at + candidate_len m (classify m)) (drop (candidate_len m (classify m)) m)
 unfolding scan_from
 scan_from-here at [] some _ = absurd (omega arith)
 scan_from-here at (x ∷ m) some goes = grind (arith, common_steps, scan_from-skip, one-on)
@@ -249,7 +250,8 @@ first-prefix s (suc k) found here = absurd (found.0.before 0 (omega arith) (omeg
 
 -- the first `BUFR` has the next event, by what the scan does there
 next-so : (ended : Bool) (s : List ℕ) (place : ℕ) → FindsNeedle s (codes "BUFR") 0 (Some place)
-    → ((at : ℕ) → Advances ended at s (stream_event (at + place) (drop place s) (classify (drop place s))) (at + place + candidate_len (drop place s) (classify (drop place s))) (drop (place + candidate_len (drop place s) (classify (drop place s))) s))
+    → ((at : ℕ) → Advances ended at s (stream_event (at + place) (drop place s) (classify (drop place s))) (at + place + candidate_len (drop place s) (classify (drop place s)))
+    (drop (place + candidate_len (drop place s) (classify (drop place s))) s))
     → IsNextEvent ended s place (classify (drop place s))
 next-so ended s place found advances =
     let here = holds-there s place found.1 in
@@ -281,7 +283,8 @@ found-so-end s place found =
     next-so true s place found (λ at. record {
       whole = λ t none.
           let e : t ≡ [] = none refl in
-          rw e (rw (append-nil, append-nil) (scan_from-found s (Some place) found at ∙ scan_from-prefix s (at + place) place (candidate_len (drop place s) (classify (drop place s))) (omega (arith, found.1.fits)) refl (omega (arith, bounds.0))));
+          rw e (rw (append-nil, append-nil) (scan_from-found s (Some place) found at ∙ scan_from-prefix s (at + place) place (candidate_len (drop place s) (classify (drop place s)))
+          (omega (arith, found.1.fits)) refl (omega (arith, bounds.0))));
       decided = λ going. absurd (true≢false going);
     })
 
@@ -319,7 +322,8 @@ open-so s place size found is few =
 pub none-so : (s : List ℕ) → FindsNeedle s (codes "BUFR") 0 None → IsIncomplete s (length s - min (length s) 3) 0
 none-so s found =
     let k = length s - min (length s) 3 in
-    let moved : (t : List ℕ) (at : ℕ) → scan_from 0 at (s ++ t) ≡ scan_from 0 (at + k) (drop k s ++ t) = λ t at. past-prefix k s t (λ j below. omega arith) (omega arith) (λ j below. found j (omega arith) (omega arith)) at in
+    let moved : (t : List ℕ) (at : ℕ) → scan_from 0 at (s ++ t) ≡ scan_from 0 (at + k) (drop k s ++ t) =
+    λ t at. past-prefix k s t (λ j below. omega arith) (omega arith) (λ j below. found j (omega arith) (omega arith)) at in
     let short : length (drop k s) < 4 = omega (arith, length-drop k s) in
     record {
       within = omega arith;
@@ -395,10 +399,12 @@ certain-within (suc n) at (x ∷ m) within =
           | inl short ↦ stays at (x ∷ m) (none-cut at (x ∷ m) (omega arith) (cut-so (x ∷ m) here (inl short)))
           | inr eight ↦ elim (cases_lt (length (x ∷ m)) (stated_length (x ∷ m))) [
             | inl short ↦ stays at (x ∷ m) (none-cut at (x ∷ m) (omega arith) (cut-so (x ∷ m) here (inr short)))
-            | inr whole ↦ after at (at + candidate_len (x ∷ m) (classify (x ∷ m))) (x ∷ m) (drop (candidate_len (x ∷ m) (classify (x ∷ m))) (x ∷ m)) (stream_event at (x ∷ m) (classify (x ∷ m))) (record {
-              whole = λ t _. found-prefix (x ∷ m) t at here eight whole;
-              decided = λ _. certain (x ∷ m) at here eight whole;
-            }) (certain-within n (at + candidate_len (x ∷ m) (classify (x ∷ m))) (drop (candidate_len (x ∷ m) (classify (x ∷ m))) (x ∷ m)) (omega (arith, length-drop (candidate_len (x ∷ m) (classify (x ∷ m))) (x ∷ m), (taken-bounds (x ∷ m) here).0)))
+            | inr whole ↦ after at (at + candidate_len (x ∷ m) (classify (x ∷ m))) (x ∷ m) (drop (candidate_len (x ∷ m) (classify (x ∷ m))) (x ∷ m)) (stream_event at (x ∷ m) (classify (x ∷ m)))
+                (record {
+                  whole = λ t _. found-prefix (x ∷ m) t at here eight whole;
+                  decided = λ _. certain (x ∷ m) at here eight whole;
+                }) (certain-within n (at + candidate_len (x ∷ m) (classify (x ∷ m))) (drop (candidate_len (x ∷ m) (classify (x ∷ m))) (x ∷ m))
+                (omega (arith, length-drop (candidate_len (x ∷ m) (classify (x ∷ m))) (x ∷ m), (taken-bounds (x ∷ m) here).0)))
           ]
         ]
       ]
@@ -420,7 +426,8 @@ pub open-prefix : (s t : List ℕ) → (more : List StreamEvent) × (scan (s ++ 
 open-prefix s t =
     let c = certain-within (length s) 0 s (omega arith) in
     let whole : scan s ≡ c.events ++ scan_from 0 c.at' c.rest = scan-on false 0 c.at' s c.rest c.events c.advances in
-    let open' : open_scan s ≡ c.events = ap (take_while is_decided) whole ∙ take_while-all c.events (scan_from 0 c.at' c.rest) (c.advances.decided refl) ∙ ap (λ l. c.events ++ l) c.none ∙ append-nil c.events in
+    let open' : open_scan s ≡ c.events = ap (take_while is_decided) whole ∙ take_while-all c.events (scan_from 0 c.at' c.rest) (c.advances.decided refl) ∙ ap (λ l. c.events ++ l) c.none
+    ∙ append-nil c.events in
     (scan_from 0 c.at' (c.rest ++ t), c.advances.whole t (λ end. absurd (true≢false (sym end))) ∙ ap (λ l. l ++ scan_from 0 c.at' (c.rest ++ t)) (sym open'))
 
 -- ---- The greatest length that was stated.
@@ -473,11 +480,14 @@ place-in : (at at' place offset : ℕ) (s rest : List ℕ) → Follows at s at' 
 place-in at at' place offset s rest follows is = grind (arith, common_steps, drop-twice)
 
 -- an event is passed
-pub found-sees : (old s s' : FinderModel) (bs : List ℕ) (offset place size : ℕ) (here : Option Candidate) → here ≢ None → Follows old.at (old.rest ++ bs) s.at s.rest → Raised old.longest s.longest s.rest
-    → IsNextEvent s.ended s.rest place here → size ≡ length_here (drop place s.rest) → offset ≡ s.at + place → s'.longest ≡ max s.longest size → RaisesLongest old s' bs (stream_event offset (drop place s.rest) here)
+pub found-sees : (old s s' : FinderModel) (bs : List ℕ) (offset place size : ℕ) (here : Option Candidate) → here ≢ None → Follows old.at (old.rest ++ bs) s.at s.rest
+    → Raised old.longest s.longest s.rest
+    → IsNextEvent s.ended s.rest place here → size ≡ length_here (drop place s.rest) → offset ≡ s.at + place → s'.longest ≡ max s.longest size
+    → RaisesLongest old s' bs (stream_event offset (drop place s.rest) here)
 found-sees old s s' bs offset place size here some follows raised found is at grown =
     grown ∙ raise old.longest s.longest place size s.rest raised found.first is
-    ∙ ap (max old.longest) (is ∙ ap length_here (sym (place-in old.at s.at place offset (old.rest ++ bs) s.rest follows at)) ∙ sym (longest-event old.at (old.rest ++ bs) (drop place s.rest) offset here some))
+    ∙ ap (max old.longest) (is ∙ ap length_here (sym (place-in old.at s.at place offset (old.rest ++ bs) s.rest follows at))
+    ∙ sym (longest-event old.at (old.rest ++ bs) (drop place s.rest) offset here some))
 
 -- the first event that is left is not certain
 first-open : (at old_at size : ℕ) (m s : List ℕ) → drop (at - old_at) s ≡ m → ((length m < 4) ⊎ StartsWithBufr m) → size ≡ length_here m → length m < max 8 size

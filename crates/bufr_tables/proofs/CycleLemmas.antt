@@ -92,7 +92,8 @@ falls-none table ranks fxy falls above (more l rest) = absurd (omega (arith, abo
 abbrev pub IsAboveFirst : List Sequence → List ℕ → List ℕ → ℕ → ℕ → Type 0
 IsAboveFirst table ranks members limit count = (k : ℕ) → k < count → k < length members → IsSome (members_of table (slice_index members k)) → rank_of ranks (slice_index members k) < limit
 
-pub above-all : (table : List Sequence) (ranks : List ℕ) (fxy rank count : ℕ) (members : List ℕ) → members ≡ members_or_none table fxy → IsAboveFirst table ranks members rank count → length members ≤ count → IsAbove table ranks fxy rank
+pub above-all : (table : List Sequence) (ranks : List ℕ) (fxy rank count : ℕ) (members : List ℕ) → members ≡ members_or_none table fxy → IsAboveFirst table ranks members rank count
+    → length members ≤ count → IsAbove table ranks fxy rank
 above-all table ranks fxy rank count members same above all to l =
     let listed = listed-leads table fxy to l in
     let inside : listed.place < length members = rw same listed.inside in

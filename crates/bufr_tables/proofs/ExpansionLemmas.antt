@@ -56,7 +56,8 @@ pub prefixed-bare : (rest : Result Tree TemplateFault) → prefixed bare rest �
 prefixed-bare (Ok more) = refl
 prefixed-bare (Err why) = refl
 
-pub level-skip : (tables : Tables) (inner : Option Expansion) (given : Bool) (skip places : ℕ) (list : List ℕ) → level tables inner given skip places list ≡ level tables inner given 0 places (drop skip list)
+pub level-skip : (tables : Tables) (inner : Option Expansion) (given : Bool) (skip places : ℕ) (list : List ℕ)
+    → level tables inner given skip places list ≡ level tables inner given 0 places (drop skip list)
 unfolding level
 level-skip tables inner given zero places [] = refl
 level-skip tables inner given (suc skip) places [] = refl
@@ -64,11 +65,14 @@ level-skip tables inner given zero places (d ∷ after) = refl
 level-skip tables inner given (suc skip) places (d ∷ after) = level-skip tables inner given skip places after
 
 -- one part, and what follows it
-pub level-part : (tables : Tables) (inner : Option Expansion) (given : Bool) (places d : ℕ) (after : List ℕ) (tree : Tree) (taken : ℕ) → part_of tables inner given places d after ≡ Ok (part tree taken) → level tables inner given 0 places (d ∷ after) ≡ prefixed tree (level tables inner (gives_width d) 0 (places + size tree) (drop taken after))
+pub level-part : (tables : Tables) (inner : Option Expansion) (given : Bool) (places d : ℕ) (after : List ℕ) (tree : Tree) (taken : ℕ)
+    → part_of tables inner given places d after ≡ Ok (part tree taken)
+    → level tables inner given 0 places (d ∷ after) ≡ prefixed tree (level tables inner (gives_width d) 0 (places + size tree) (drop taken after))
 unfolding level
 level-part tables inner given places d after tree taken h = grind (arith, common_steps, level-skip)
 
-pub level-fault : (tables : Tables) (inner : Option Expansion) (given : Bool) (places d : ℕ) (after : List ℕ) (why : TemplateFault) → part_of tables inner given places d after ≡ Err why → level tables inner given 0 places (d ∷ after) ≡ Err why
+pub level-fault : (tables : Tables) (inner : Option Expansion) (given : Bool) (places d : ℕ) (after : List ℕ) (why : TemplateFault) → part_of tables inner given places d after ≡ Err why
+    → level tables inner given 0 places (d ∷ after) ≡ Err why
 unfolding level
 level-fault tables inner given places d after why h = grind (arith, common_steps)
 
@@ -90,11 +94,13 @@ read_flattened (element fxy more) at tail x xs h = ap (prepend_cell (cell.Elemen
 read_flattened (operator fxy more) at tail x xs h = ap (prepend_cell (cell.Operator fxy) (factor_first (cells_of more (at + 1) tail))) (read_flattened more (at + 1) tail x xs h)
 read_flattened (fixed n body more) at tail x xs h =
     let suffix : List Cell = cell.PassEnd ∷ cells_of more (at + 2 + size body) tail in
-    ap (prepend_cell (cell.Fixed n (at + 2 + size body)) (factor_first (cells_of body (at + 1) suffix))) (read_flattened body (at + 1) suffix bare (join more x ∷ xs) (ap (λ ts. bare ∷ ts) (read_flattened more (at + 2 + size body) tail x xs h)))
+    ap (prepend_cell (cell.Fixed n (at + 2 + size body)) (factor_first (cells_of body (at + 1) suffix)))
+    (read_flattened body (at + 1) suffix bare (join more x ∷ xs) (ap (λ ts. bare ∷ ts) (read_flattened more (at + 2 + size body) tail x xs h)))
     ∙ ap (λ b. fixed n b (join more x) ∷ xs) (join-bare body)
 read_flattened (delayed fxy body more) at tail x xs h =
     let suffix : List Cell = cell.PassEnd ∷ cells_of more (at + 3 + size body) tail in
-    ap (prepend_cell (cell.Delayed (at + 3 + size body)) fxy) (read_flattened body (at + 2) suffix bare (join more x ∷ xs) (ap (λ ts. bare ∷ ts) (read_flattened more (at + 3 + size body) tail x xs h)))
+    ap (prepend_cell (cell.Delayed (at + 3 + size body)) fxy) (read_flattened body (at + 2) suffix bare (join more x ∷ xs)
+    (ap (λ ts. bare ∷ ts) (read_flattened more (at + 3 + size body) tail x xs h)))
     ∙ ap (λ b. delayed fxy b (join more x) ∷ xs) (join-bare body)
 
 pub raised_cells : (t : Tree) → trees_of_cells (cells_of t 0 (cell.Finish ∷ [])) ≡ t
@@ -122,7 +128,8 @@ pub length-kept : (cells : List Cell) (depth_reported : ℕ) (t : Tree) → IsTe
 length-kept cells depth_reported t h = length-flattened cells t h.is_flattened
 
 -- a body, then the rest, then the tail
-cells_group : (body : Tree) (at : ℕ) (rest tail suffix : List Cell) → ((t : List Cell) → cells_of body at t ≡ cells_of body at [] ++ t) → suffix ≡ rest ++ tail → cells_of body at (cell.PassEnd ∷ suffix) ≡ cells_of body at (cell.PassEnd ∷ rest) ++ tail
+cells_group : (body : Tree) (at : ℕ) (rest tail suffix : List Cell) → ((t : List Cell) → cells_of body at t ≡ cells_of body at [] ++ t) → suffix ≡ rest ++ tail
+    → cells_of body at (cell.PassEnd ∷ suffix) ≡ cells_of body at (cell.PassEnd ∷ rest) ++ tail
 cells_group body at rest tail suffix h e = grind (arith, common_steps)
 
 pub cells-tail : (t : Tree) (at : ℕ) (tail : List Cell) → cells_of t at tail ≡ cells_of t at [] ++ tail
@@ -174,7 +181,8 @@ grow-grow g a b = grind (arith, common_steps, same_growth, append_assoc, length-
 
 -- the cells of a group, from those that exist when its body is flattened
 group_cells : (cells : List Cell) (p : Passes) (body : Tree) (place : ℕ) → place ≡ length cells
-    → set (((cells ++ first_cell p 0 ∷ factor_cells p) ++ cells_of body (length (cells ++ first_cell p 0 ∷ factor_cells p)) []) ++ cell.PassEnd ∷ []) place (first_cell p (length cells + own_places p + size body))
+    → set (((cells ++ first_cell p 0 ∷ factor_cells p) ++ cells_of body (length (cells ++ first_cell p 0 ∷ factor_cells p)) []) ++ cell.PassEnd ∷ []) place
+    (first_cell p (length cells + own_places p + size body))
     ≡ cells ++ cells_of (group_of p body) (length cells) []
 group_cells cells (passes.Fixed count) body place e = grind (arith, common_steps, length-append, set, append_assoc, set-append_seam, cells-tail)
 group_cells cells (passes.Delayed factor) body place e = grind (arith, common_steps, length-append, set, append_assoc, set-append_seam, cells-tail)
@@ -192,10 +200,14 @@ group_consumes (passes.Fixed count) body h = sym h ∙ or_false (consumes body)
 group_consumes (passes.Delayed factor) body h = refl
 
 -- a group that was begun, given a body that takes bits, and ended
-pub ended-begun : (g : BuilderModel) (p : Passes) (body : Tree) (place : ℕ) → place ≡ length g.cells → consumes body ≡ true → with_closed_group (push_tree (with_open_group g p) body) place p ≡ push_tree g (group_of p body)
+pub ended-begun : (g : BuilderModel) (p : Passes) (body : Tree) (place : ℕ) → place ≡ length g.cells → consumes body ≡ true
+    → with_closed_group (push_tree (with_open_group g p) body) place p ≡ push_tree g (group_of p body)
 ended-begun g p body place e full =
-    same_growth (with_closed_group (push_tree (with_open_group g p) body) place p).cells (push_tree g (group_of p body)).cells (with_closed_group (push_tree (with_open_group g p) body) place p).groups g.groups (with_closed_group (push_tree (with_open_group g p) body) place p).deep (push_tree g (group_of p body)).deep (with_closed_group (push_tree (with_open_group g p) body) place p).full (push_tree g (group_of p body)).full
-    (ap (λ k. set ((push_tree (with_open_group g p) body).cells ++ cell.PassEnd ∷ []) place (first_cell p k)) (let n : length (push_tree (with_open_group g p) body).cells + 1 ≡ length g.cells + own_places p + size body = omega (arith, length-grow (with_open_group g p) body, length-begun g p) in n)
+    same_growth (with_closed_group (push_tree (with_open_group g p) body) place p).cells (push_tree g (group_of p body)).cells
+    (with_closed_group (push_tree (with_open_group g p) body) place p).groups g.groups (with_closed_group (push_tree (with_open_group g p) body) place p).deep (push_tree g (group_of p body)).deep
+    (with_closed_group (push_tree (with_open_group g p) body) place p).full (push_tree g (group_of p body)).full
+    (ap (λ k. set ((push_tree (with_open_group g p) body).cells ++ cell.PassEnd ∷ []) place (first_cell p k))
+    (let n : length (push_tree (with_open_group g p) body).cells + 1 ≡ length g.cells + own_places p + size body = omega (arith, length-grow (with_open_group g p) body, length-begun g p) in n)
     ∙ group_cells g.cells p body place e)
     (omega arith)
     (omega (arith, group_depth p body))
@@ -210,25 +222,30 @@ gives_same g a b answer new e = subst (λ z. GivesPart g z answer new) e
 pub puts_same : (old : BuilderModel) (a b : Result ExpandedPart TemplateFault) (taken : ℕ) (new : BuilderModel) → a ≡ b → PushesPart old a taken new → PushesPart old b taken new
 puts_same old a b taken new e = subst (λ z. PushesPart old z taken new) e
 
-pub part-element : (tables : Tables) (inner : Option Expansion) (given : Bool) (places d : ℕ) (after : List ℕ) (f : ℕ) → f ≡ f_of d → f ≡ 0 → element_part tables given places d ≡ part_of tables inner given places d after
+pub part-element : (tables : Tables) (inner : Option Expansion) (given : Bool) (places d : ℕ) (after : List ℕ) (f : ℕ) → f ≡ f_of d → f ≡ 0
+    → element_part tables given places d ≡ part_of tables inner given places d after
 unfolding part_of
 part-element tables inner given places d after f e h = ap (λ z. part_by z tables inner given places d after) (sym h ∙ e)
 
-pub part-group : (tables : Tables) (inner : Option Expansion) (given : Bool) (places d : ℕ) (after : List ℕ) (f : ℕ) → f ≡ f_of d → f ≡ 1 → group_part tables inner places d after ≡ part_of tables inner given places d after
+pub part-group : (tables : Tables) (inner : Option Expansion) (given : Bool) (places d : ℕ) (after : List ℕ) (f : ℕ) → f ≡ f_of d → f ≡ 1
+    → group_part tables inner places d after ≡ part_of tables inner given places d after
 unfolding part_of
 part-group tables inner given places d after f e h = ap (λ z. part_by z tables inner given places d after) (sym h ∙ e)
 
-pub part-operator : (tables : Tables) (inner : Option Expansion) (given : Bool) (places d : ℕ) (after : List ℕ) (f : ℕ) → f ≡ f_of d → f ≡ 2 → operator_part places d after ≡ part_of tables inner given places d after
+pub part-operator : (tables : Tables) (inner : Option Expansion) (given : Bool) (places d : ℕ) (after : List ℕ) (f : ℕ) → f ≡ f_of d → f ≡ 2
+    → operator_part places d after ≡ part_of tables inner given places d after
 unfolding part_of
 part-operator tables inner given places d after f e h = ap (λ z. part_by z tables inner given places d after) (sym h ∙ e)
 
-other_part : (tables : Tables) (inner : Option Expansion) (given : Bool) (places d : ℕ) (after : List ℕ) (f : ℕ) → f ≢ 0 → f ≢ 1 → f ≢ 2 → sequence_part tables inner places d ≡ part_by f tables inner given places d after
+other_part : (tables : Tables) (inner : Option Expansion) (given : Bool) (places d : ℕ) (after : List ℕ) (f : ℕ) → f ≢ 0 → f ≢ 1 → f ≢ 2
+    → sequence_part tables inner places d ≡ part_by f tables inner given places d after
 other_part tables inner given places d after zero h0 h1 h2 = absurd (h0 refl)
 other_part tables inner given places d after (suc zero) h0 h1 h2 = absurd (h1 refl)
 other_part tables inner given places d after (suc (suc zero)) h0 h1 h2 = absurd (h2 refl)
 other_part tables inner given places d after (suc (suc (suc f))) h0 h1 h2 = refl
 
-pub part-sequence : (tables : Tables) (inner : Option Expansion) (given : Bool) (places d : ℕ) (after : List ℕ) (f : ℕ) → f ≡ f_of d → f ≢ 0 → f ≢ 1 → f ≢ 2 → sequence_part tables inner places d ≡ part_of tables inner given places d after
+pub part-sequence : (tables : Tables) (inner : Option Expansion) (given : Bool) (places d : ℕ) (after : List ℕ) (f : ℕ) → f ≡ f_of d → f ≢ 0 → f ≢ 1 → f ≢ 2
+    → sequence_part tables inner places d ≡ part_of tables inner given places d after
 unfolding part_of
 part-sequence tables inner given places d after f e h0 h1 h2 = other_part tables inner given places d after f h0 h1 h2 ∙ ap (λ z. part_by z tables inner given places d after) e
 
@@ -237,48 +254,59 @@ abbrev pub opened_body : Expansion → (places own d : ℕ) → List ℕ → Res
 opened_body expand places own d after =
     with_places places own d >>= λ _. expand (places + own) (take (x_of d) after) >>= λ body. unless (consumes body) (fault.EmptyGroup d) >>= λ _. Ok body
 
-body_fits : (inner : Option Expansion) (places own d : ℕ) (after : List ℕ) → x_of d ≤ length after → body_of inner places own d after ≡ (opened inner d >>= λ expand. opened_body expand places own d after)
+body_fits : (inner : Option Expansion) (places own d : ℕ) (after : List ℕ) → x_of d ≤ length after
+    → body_of inner places own d after ≡ (opened inner d >>= λ expand. opened_body expand places own d after)
 body_fits inner places own d after h = grind (arith, common_steps)
 
 -- the expansion within, where there is room
 abbrev pub within : Tables → ℕ → Expansion
 within tables room = level tables (inner_of tables (room - 1)) false 0
 
-body_open : (tables : Tables) (room places own d : ℕ) (after : List ℕ) → 0 < room → x_of d ≤ length after → body_of (inner_of tables room) places own d after ≡ opened_body (within tables room) places own d after
+body_open : (tables : Tables) (room places own d : ℕ) (after : List ℕ) → 0 < room → x_of d ≤ length after
+    → body_of (inner_of tables room) places own d after ≡ opened_body (within tables room) places own d after
 body_open tables room places own d after r h = grind (arith, common_steps, body_fits, inner_of-room)
 
 pub body-depth : (tables : Tables) (room places own d : ℕ) (after : List ℕ) → room ≡ 0 → x_of d ≤ length after → body_of (inner_of tables room) places own d after ≡ Err (fault.Depth d)
 body-depth tables room places own d after r h = grind (arith, common_steps, body_fits, inner_of-none)
 
-pub body-places : (tables : Tables) (room places own d : ℕ) (after : List ℕ) (why : TemplateFault) → 0 < room → x_of d ≤ length after → with_places places own d ≡ Err why → body_of (inner_of tables room) places own d after ≡ Err why
+pub body-places : (tables : Tables) (room places own d : ℕ) (after : List ℕ) (why : TemplateFault) → 0 < room → x_of d ≤ length after → with_places places own d ≡ Err why
+    → body_of (inner_of tables room) places own d after ≡ Err why
 body-places tables room places own d after why r h e = grind (arith, common_steps, body_open)
 
-body_room : (tables : Tables) (room places own d : ℕ) (after : List ℕ) → 0 < room → x_of d ≤ length after → with_places places own d ≡ Ok tt → body_of (inner_of tables room) places own d after ≡ (within tables room (places + own) (take (x_of d) after) >>= λ body. unless (consumes body) (fault.EmptyGroup d) >>= λ _. Ok body)
+body_room : (tables : Tables) (room places own d : ℕ) (after : List ℕ) → 0 < room → x_of d ≤ length after → with_places places own d ≡ Ok tt
+    → body_of (inner_of tables room) places own d after ≡ (within tables room (places + own) (take (x_of d) after) >>= λ body. unless (consumes body) (fault.EmptyGroup d) >>= λ _. Ok body)
 body_room tables room places own d after r h e = grind (arith, common_steps, body_open)
 
-pub body-fault : (tables : Tables) (room places own d : ℕ) (after : List ℕ) (why : TemplateFault) → 0 < room → x_of d ≤ length after → with_places places own d ≡ Ok tt → within tables room (places + own) (take (x_of d) after) ≡ Err why → body_of (inner_of tables room) places own d after ≡ Err why
+pub body-fault : (tables : Tables) (room places own d : ℕ) (after : List ℕ) (why : TemplateFault) → 0 < room → x_of d ≤ length after → with_places places own d ≡ Ok tt
+    → within tables room (places + own) (take (x_of d) after) ≡ Err why → body_of (inner_of tables room) places own d after ≡ Err why
 body-fault tables room places own d after why r h e f = grind (arith, common_steps, body_room)
 
-pub body-empty : (tables : Tables) (room places own d : ℕ) (after : List ℕ) (tree : Tree) → 0 < room → x_of d ≤ length after → with_places places own d ≡ Ok tt → within tables room (places + own) (take (x_of d) after) ≡ Ok tree → consumes tree ≡ false → body_of (inner_of tables room) places own d after ≡ Err (fault.EmptyGroup d)
+pub body-empty : (tables : Tables) (room places own d : ℕ) (after : List ℕ) (tree : Tree) → 0 < room → x_of d ≤ length after → with_places places own d ≡ Ok tt
+    → within tables room (places + own) (take (x_of d) after) ≡ Ok tree → consumes tree ≡ false → body_of (inner_of tables room) places own d after ≡ Err (fault.EmptyGroup d)
 body-empty tables room places own d after tree r h e f empty = grind (arith, common_steps, body_room)
 
-pub body-ok : (tables : Tables) (room places own d : ℕ) (after : List ℕ) (tree : Tree) → 0 < room → x_of d ≤ length after → with_places places own d ≡ Ok tt → within tables room (places + own) (take (x_of d) after) ≡ Ok tree → consumes tree ≡ true → body_of (inner_of tables room) places own d after ≡ Ok tree
+pub body-ok : (tables : Tables) (room places own d : ℕ) (after : List ℕ) (tree : Tree) → 0 < room → x_of d ≤ length after → with_places places own d ≡ Ok tt
+    → within tables room (places + own) (take (x_of d) after) ≡ Ok tree → consumes tree ≡ true → body_of (inner_of tables room) places own d after ≡ Ok tree
 body-ok tables room places own d after tree r h e f full = grind (arith, common_steps, body_room)
 
-sequence_listed : (tables : Tables) (inner : Option Expansion) (places d : ℕ) (members : List ℕ) → tables.members d ≡ Some members → sequence_part tables inner places d ≡ (opened inner d >>= λ expand. expand places members >>= λ tree. Ok (part tree 0))
+sequence_listed : (tables : Tables) (inner : Option Expansion) (places d : ℕ) (members : List ℕ) → tables.members d ≡ Some members
+    → sequence_part tables inner places d ≡ (opened inner d >>= λ expand. expand places members >>= λ tree. Ok (part tree 0))
 sequence_listed tables inner places d members e = grind (arith, common_steps)
 
 pub sequence-depth : (tables : Tables) (room places d : ℕ) (members : List ℕ) → room ≡ 0 → tables.members d ≡ Some members → sequence_part tables (inner_of tables room) places d ≡ Err (fault.Depth d)
 sequence-depth tables room places d members r e = grind (arith, common_steps, sequence_listed, inner_of-none)
 
-sequence_open : (tables : Tables) (room places d : ℕ) (members : List ℕ) → 0 < room → tables.members d ≡ Some members → sequence_part tables (inner_of tables room) places d ≡ (within tables room places members >>= λ tree. Ok (part tree 0))
+sequence_open : (tables : Tables) (room places d : ℕ) (members : List ℕ) → 0 < room → tables.members d ≡ Some members
+    → sequence_part tables (inner_of tables room) places d ≡ (within tables room places members >>= λ tree. Ok (part tree 0))
 sequence_open tables room places d members r e = grind (arith, common_steps, sequence_listed, inner_of-room)
 
-pub sequence-fault : (tables : Tables) (room places d : ℕ) (members : List ℕ) (why : TemplateFault) → 0 < room → tables.members d ≡ Some members → IsFaultOrMemory (within tables room places members) why → IsFaultOrMemory (sequence_part tables (inner_of tables room) places d) why
+pub sequence-fault : (tables : Tables) (room places d : ℕ) (members : List ℕ) (why : TemplateFault) → 0 < room → tables.members d ≡ Some members
+    → IsFaultOrMemory (within tables room places members) why → IsFaultOrMemory (sequence_part tables (inner_of tables room) places d) why
 sequence-fault tables room places d members why r e refuses other =
     sequence_open tables room places d members r e ∙ ap (λ z. z >>= λ tree. Ok (part tree 0)) (refuses other)
 
-pub sequence-ok : (tables : Tables) (room d : ℕ) (members : List ℕ) (old new : BuilderModel) → 0 < room → tables.members d ≡ Some members → PushesTree old (within tables room (places_so_far old) members) new → PushesPart old (sequence_part tables (inner_of tables room) (places_so_far old) d) 0 new
+pub sequence-ok : (tables : Tables) (room d : ℕ) (members : List ℕ) (old new : BuilderModel) → 0 < room → tables.members d ≡ Some members
+    → PushesTree old (within tables room (places_so_far old) members) new → PushesPart old (sequence_part tables (inner_of tables room) (places_so_far old) d) 0 new
 sequence-ok tables room d members old new r e puts = record {
   tree = puts.tree;
   is_defined = sequence_open tables room (places_so_far old) d members r e ∙ ap (λ z. z >>= λ tree. Ok (part tree 0)) puts.is_defined;
@@ -292,15 +320,20 @@ grouped tables room p places d after = body_of (inner_of tables room) places (ow
 pub group-depth : (tables : Tables) (room : ℕ) (p : Passes) (places d : ℕ) (after : List ℕ) → room ≡ 0 → x_of d ≤ length after → grouped tables room p places d after ≡ Err (fault.Depth d)
 group-depth tables room p places d after r h = ap (λ z. z >>= λ body. Ok (group_of p body)) (body-depth tables room places (own_places p) d after r h)
 
-pub group-places : (tables : Tables) (room : ℕ) (p : Passes) (places d : ℕ) (after : List ℕ) (why : TemplateFault) → 0 < room → x_of d ≤ length after → IsFaultOrMemory (with_places places (own_places p) d) why → IsFaultOrMemory (grouped tables room p places d after) why
+pub group-places : (tables : Tables) (room : ℕ) (p : Passes) (places d : ℕ) (after : List ℕ) (why : TemplateFault) → 0 < room → x_of d ≤ length after
+    → IsFaultOrMemory (with_places places (own_places p) d) why → IsFaultOrMemory (grouped tables room p places d after) why
 group-places tables room p places d after why r h refuses other =
     ap (λ z. z >>= λ body. Ok (group_of p body)) (body-places tables room places (own_places p) d after why r h (refuses other))
 
 -- the body's list, as the code has it
-same_list : (tables : Tables) (room : ℕ) (p : Passes) (d place : ℕ) (after : List ℕ) (old begun_one : BuilderModel) (count x : ℕ) (list : List ℕ) → OpensGroup old p d place begun_one → list ≡ take count after → count ≡ x → x ≡ x_of d → level tables (inner_of tables (room - 1)) false 0 (places_so_far begun_one) list ≡ within tables room (places_so_far old + own_places p) (take (x_of d) after)
+same_list : (tables : Tables) (room : ℕ) (p : Passes) (d place : ℕ) (after : List ℕ) (old begun_one : BuilderModel) (count x : ℕ) (list : List ℕ) → OpensGroup old p d place begun_one
+    → list ≡ take count after → count ≡ x → x ≡ x_of d → level tables (inner_of tables (room - 1)) false 0 (places_so_far begun_one) list
+    ≡ within tables room (places_so_far old + own_places p) (take (x_of d) after)
 same_list tables room p d place after old begun_one count x list begins el ec ex = grind (arith, common_steps)
 
-pub group-list-fault : (tables : Tables) (room : ℕ) (p : Passes) (d place : ℕ) (after : List ℕ) (old begun_one : BuilderModel) (why : TemplateFault) (count x : ℕ) (list : List ℕ) → 0 < room → x_of d ≤ length after → OpensGroup old p d place begun_one → list ≡ take count after → count ≡ x → x ≡ x_of d → IsFaultOrMemory (level tables (inner_of tables (room - 1)) false 0 (places_so_far begun_one) list) why → IsFaultOrMemory (grouped tables room p (places_so_far old) d after) why
+pub group-list-fault : (tables : Tables) (room : ℕ) (p : Passes) (d place : ℕ) (after : List ℕ) (old begun_one : BuilderModel) (why : TemplateFault) (count x : ℕ) (list : List ℕ) → 0 < room
+    → x_of d ≤ length after → OpensGroup old p d place begun_one → list ≡ take count after → count ≡ x → x ≡ x_of d
+    → IsFaultOrMemory (level tables (inner_of tables (room - 1)) false 0 (places_so_far begun_one) list) why → IsFaultOrMemory (grouped tables room p (places_so_far old) d after) why
 group-list-fault tables room p d place after old begun_one why count x list r h begins el ec ex refuses other =
     ap (λ z. z >>= λ body. Ok (group_of p body))
     (body-fault tables room (places_so_far old) (own_places p) d after why r h begins.is_left (sym (same_list tables room p d place after old begun_one count x list begins el ec ex) ∙ refuses other))
@@ -309,29 +342,41 @@ group-list-fault tables room p d place after old begun_one why count x list r h 
 same_full : (old begun_one new : BuilderModel) (p : Passes) (d place : ℕ) (tree : Tree) → OpensGroup old p d place begun_one → new ≡ push_tree begun_one tree → new.full ≡ consumes tree
 same_full old begun_one new p d place tree begins e = ap (λ (g : BuilderModel). g.full) e ∙ ap (λ (g : BuilderModel). (push_tree g tree).full) begins.is_begun
 
-pub group-list-empty : (tables : Tables) (room : ℕ) (p : Passes) (d place : ℕ) (after : List ℕ) (old begun_one new : BuilderModel) (count x : ℕ) (list : List ℕ) → 0 < room → x_of d ≤ length after → OpensGroup old p d place begun_one → list ≡ take count after → count ≡ x → x ≡ x_of d → PushesTree begun_one (level tables (inner_of tables (room - 1)) false 0 (places_so_far begun_one) list) new → new.full ≡ false → grouped tables room p (places_so_far old) d after ≡ Err (fault.EmptyGroup d)
+pub group-list-empty : (tables : Tables) (room : ℕ) (p : Passes) (d place : ℕ) (after : List ℕ) (old begun_one new : BuilderModel) (count x : ℕ) (list : List ℕ) → 0 < room → x_of d ≤ length after
+    → OpensGroup old p d place begun_one → list ≡ take count after → count ≡ x → x ≡ x_of d
+    → PushesTree begun_one (level tables (inner_of tables (room - 1)) false 0 (places_so_far begun_one) list) new → new.full ≡ false
+    → grouped tables room p (places_so_far old) d after ≡ Err (fault.EmptyGroup d)
 group-list-empty tables room p d place after old begun_one new count x list r h begins el ec ex puts empty = grind (arith, common_steps, body-empty, same_list, same_full)
 
 same_ok : (a b : BuilderModel) → ◌≡◌ {A = Result BuilderModel TemplateFault} (Ok a) (Ok b) → a ≡ b
 same_ok a b h = cc
 
-group-list-ok : (tables : Tables) (room : ℕ) (p : Passes) (d place : ℕ) (after : List ℕ) (old begun_one new last : BuilderModel) (count x : ℕ) (list : List ℕ) → 0 < room → x_of d ≤ length after → OpensGroup old p d place begun_one → list ≡ take count after → count ≡ x → x ≡ x_of d → PushesTree begun_one (level tables (inner_of tables (room - 1)) false 0 (places_so_far begun_one) list) new → new.full ≡ true → with_closed_group new place p ≡ last → PushesTree old (grouped tables room p (places_so_far old) d after) last
+group-list-ok : (tables : Tables) (room : ℕ) (p : Passes) (d place : ℕ) (after : List ℕ) (old begun_one new last : BuilderModel) (count x : ℕ) (list : List ℕ) → 0 < room → x_of d ≤ length after
+    → OpensGroup old p d place begun_one → list ≡ take count after → count ≡ x → x ≡ x_of d
+    → PushesTree begun_one (level tables (inner_of tables (room - 1)) false 0 (places_so_far begun_one) list) new → new.full ≡ true → with_closed_group new place p ≡ last
+    → PushesTree old (grouped tables room p (places_so_far old) d after) last
 group-list-ok tables room p d place after old begun_one new last count x list r h begins el ec ex puts full is_ended =
     let takes_bits = sym (same_full old begun_one new p d place puts.tree begins puts.is_put) ∙ full in
     record {
       tree = group_of p puts.tree;
-      is_defined = ap (λ z. z >>= λ body. Ok (group_of p body)) (body-ok tables room (places_so_far old) (own_places p) d after puts.tree r h begins.is_left (sym (same_list tables room p d place after old begun_one count x list begins el ec ex) ∙ puts.is_defined) takes_bits);
-      is_put = sym is_ended ∙ ap (λ (g : BuilderModel). with_closed_group g place p) puts.is_put ∙ ap (λ (g : BuilderModel). with_closed_group (push_tree g puts.tree) place p) begins.is_begun ∙ ended-begun old p puts.tree place begins.is_at takes_bits;
+      is_defined = ap (λ z. z >>= λ body. Ok (group_of p body)) (body-ok tables room (places_so_far old) (own_places p) d after puts.tree r h begins.is_left
+          (sym (same_list tables room p d place after old begun_one count x list begins el ec ex) ∙ puts.is_defined) takes_bits);
+      is_put = sym is_ended ∙ ap (λ (g : BuilderModel). with_closed_group g place p) puts.is_put ∙ ap (λ (g : BuilderModel). with_closed_group (push_tree g puts.tree) place p) begins.is_begun
+          ∙ ended-begun old p puts.tree place begins.is_at takes_bits;
     }
 
 -- the answer of a group is that of its last step
-pub group-closed : (tables : Tables) (room : ℕ) (p : Passes) (d place : ℕ) (after : List ℕ) (old begun_one new last : BuilderModel) (count x : ℕ) (list : List ℕ) (answer : Result (Unit {0}) TemplateFault) → 0 < room → x_of d ≤ length after → OpensGroup old p d place begun_one → list ≡ take count after → count ≡ x → x ≡ x_of d → PushesTree begun_one (level tables (inner_of tables (room - 1)) false 0 (places_so_far begun_one) list) new → new.full ≡ true → GivesGrowth (Ok (with_closed_group new place p)) answer last → PushesTreeUnlessMemory old (grouped tables room p (places_so_far old) d after) answer last
+pub group-closed : (tables : Tables) (room : ℕ) (p : Passes) (d place : ℕ) (after : List ℕ) (old begun_one new last : BuilderModel) (count x : ℕ) (list : List ℕ)
+    (answer : Result (Unit {0}) TemplateFault) → 0 < room → x_of d ≤ length after → OpensGroup old p d place begun_one → list ≡ take count after → count ≡ x → x ≡ x_of d
+    → PushesTree begun_one (level tables (inner_of tables (room - 1)) false 0 (places_so_far begun_one) list) new → new.full ≡ true → GivesGrowth (Ok (with_closed_group new place p)) answer last
+    → PushesTreeUnlessMemory old (grouped tables room p (places_so_far old) d after) answer last
 group-closed tables room p d place after old begun_one new last count x list (Ok done) r h begins el ec ex puts full is_ended =
     group-list-ok tables room p d place after old begun_one new last count x list r h begins el ec ex puts full (same_ok (with_closed_group new place p) last is_ended)
 group-closed tables room p d place after old begun_one new last count x list (Err why) r h begins el ec ex puts full refuses = λ other. absurd (let e = refuses other in cc)
 
 -- a replication of no passes takes a factor
-pub group-delayed : (tables : Tables) (inner : Option Expansion) (places d x y : ℕ) (after : List ℕ) → x ≡ x_of d → 0 < x → y ≡ y_of d → y ≤ 0 → delayed_part tables inner places d after ≡ group_part tables inner places d after
+pub group-delayed : (tables : Tables) (inner : Option Expansion) (places d x y : ℕ) (after : List ℕ) → x ≡ x_of d → 0 < x → y ≡ y_of d → y ≤ 0
+    → delayed_part tables inner places d after ≡ group_part tables inner places d after
 group-delayed tables inner places d x y after ex some ey none = let zero_passes : y_of d ≡ 0 = omega arith in let more : 0 < x_of d = omega arith in grind (arith, common_steps, nat_tests)
 
 pub group-fixed-fault : (tables : Tables) (inner : Option Expansion) (places d y : ℕ) (after : List ℕ) (why : TemplateFault) → 0 < x_of d → 0 < y_of d
@@ -349,14 +394,21 @@ pub record Came (tables : Tables) (inner : Option Expansion) (list : List ℕ) (
 pub came_none : (tables : Tables) (inner : Option Expansion) (list : List ℕ) (start : BuilderModel) → start.groups ≤ start.deep → Came tables inner list start false list start
 came_none tables inner list start h = record { tree = bare; is_put = grow-bare start h; leads = sym (prefixed-bare _) }
 
-pub came_part : (tables : Tables) (inner : Option Expansion) (list : List ℕ) (start : BuilderModel) (given : Bool) (d : ℕ) (after : List ℕ) (now : BuilderModel) (taken : ℕ) (next : BuilderModel) → Came tables inner list start given (d ∷ after) now → PushesPart now (part_of tables inner given (places_so_far now) d after) taken next → Came tables inner list start (gives_width d) (drop taken after) next
+pub came_part : (tables : Tables) (inner : Option Expansion) (list : List ℕ) (start : BuilderModel) (given : Bool) (d : ℕ) (after : List ℕ) (now : BuilderModel) (taken : ℕ) (next : BuilderModel)
+    → Came tables inner list start given (d ∷ after) now → PushesPart now (part_of tables inner given (places_so_far now) d after) taken next
+    → Came tables inner list start (gives_width d) (drop taken after) next
 came_part tables inner list start given d after now taken next came puts = record {
   tree = join came.tree puts.tree;
   is_put = puts.is_put ∙ ap (λ g. push_tree g puts.tree) came.is_put ∙ grow-grow start came.tree puts.tree;
-  leads = came.leads ∙ ap (prefixed came.tree) (level-part tables inner given (places_so_far now) d after puts.tree taken puts.is_defined) ∙ prefixed-prefixed came.tree puts.tree (level tables inner (gives_width d) 0 (places_so_far now + size puts.tree) (drop taken after)) ∙ ap (λ k. prefixed (join came.tree puts.tree) (level tables inner (gives_width d) 0 k (drop taken after))) (sym (ap (λ (g : BuilderModel). places_so_far g) puts.is_put ∙ places_of-grow now puts.tree));
+  leads = came.leads ∙ ap (prefixed came.tree) (level-part tables inner given (places_so_far now) d after puts.tree taken puts.is_defined)
+      ∙ prefixed-prefixed came.tree puts.tree (level tables inner (gives_width d) 0 (places_so_far now + size puts.tree) (drop taken after))
+      ∙ ap (λ k. prefixed (join came.tree puts.tree) (level tables inner (gives_width d) 0 k (drop taken after)))
+      (sym (ap (λ (g : BuilderModel). places_so_far g) puts.is_put ∙ places_of-grow now puts.tree));
 }
 
-pub came_fault : (tables : Tables) (inner : Option Expansion) (list : List ℕ) (start : BuilderModel) (given : Bool) (d : ℕ) (after : List ℕ) (now : BuilderModel) (why : TemplateFault) → Came tables inner list start given (d ∷ after) now → IsFaultOrMemory (part_of tables inner given (places_so_far now) d after) why → IsFaultOrMemory (level tables inner false 0 (places_so_far start) list) why
+pub came_fault : (tables : Tables) (inner : Option Expansion) (list : List ℕ) (start : BuilderModel) (given : Bool) (d : ℕ) (after : List ℕ) (now : BuilderModel) (why : TemplateFault)
+    → Came tables inner list start given (d ∷ after) now → IsFaultOrMemory (part_of tables inner given (places_so_far now) d after) why
+    → IsFaultOrMemory (level tables inner false 0 (places_so_far start) list) why
 came_fault tables inner list start given d after now why came refuses other =
     came.leads ∙ ap (prefixed came.tree) (level-fault tables inner given (places_so_far now) d after why (refuses other))
 
@@ -368,7 +420,8 @@ end_level : (tables : Tables) (inner : Option Expansion) (given : Bool) (places 
 unfolding level
 end_level tables inner given places rest h = ap (level tables inner given 0 places) (no_rest rest h)
 
-pub came_end : (tables : Tables) (inner : Option Expansion) (list : List ℕ) (start : BuilderModel) (given : Bool) (rest : List ℕ) (now : BuilderModel) → length rest ≡ 0 → Came tables inner list start given rest now → PushesTree start (level tables inner false 0 (places_so_far start) list) now
+pub came_end : (tables : Tables) (inner : Option Expansion) (list : List ℕ) (start : BuilderModel) (given : Bool) (rest : List ℕ) (now : BuilderModel) → length rest ≡ 0
+    → Came tables inner list start given rest now → PushesTree start (level tables inner false 0 (places_so_far start) list) now
 came_end tables inner list start given rest now h came = record {
   tree = came.tree;
   is_defined = came.leads ∙ ap (prefixed came.tree) (end_level tables inner given (places_so_far now) rest h) ∙ ap Ok (join-bare came.tree);

@@ -72,7 +72,8 @@ next_record-leaves cfg s fields field (c ∷ xs) read is =
     by (is_end (step cfg s c).1) refl is (next_record-leaves cfg (step cfg s c).0 (fields_after (step cfg s c).1 fields field) (field_after (step cfg s c).1 c field) xs read)
   where
     by : (b : Bool) → is_end (step cfg s c).1 ≡ b
-        → (if b then Some (fields_after (step cfg s c).1 fields field, (step cfg s c).0, xs) else next_record cfg (step cfg s c).0 (fields_after (step cfg s c).1 fields field) (field_after (step cfg s c).1 c field) xs) ≡ Some read
+        → (if b then Some (fields_after (step cfg s c).1 fields field, (step cfg s c).0, xs) else next_record cfg (step cfg s c).0 (fields_after (step cfg s c).1 fields field)
+        (field_after (step cfg s c).1 c field) xs) ≡ Some read
         → (next_record cfg (step cfg s c).0 (fields_after (step cfg s c).1 fields field) (field_after (step cfg s c).1 c field) xs ≡ Some read → Leaves (step cfg s c).0 xs read)
         → Leaves s (c ∷ xs) read
     by true e is more = let same = same_Some _ _ is in rw (← same) (record { between = step-between cfg s c e; most = omega arith; fewer = λ _. omega arith })
@@ -277,7 +278,8 @@ table-no_cycle [] fxy e = cc e
 table-no_cycle (first ∷ rest) fxy e = grind (arith, common_steps, rows-no_cycle)
 
 -- the same of a read of Table D, which comes to the cycles only after all records
-pub reads-fault : (records : List Record) (answer : Result (List Sequence) TableFault) (fault : TableFault) → answer ≡ Err fault → (fault ≢ Memory → table_d_of records ≡ Err fault) → ReadsTableD records answer
+pub reads-fault : (records : List Record) (answer : Result (List Sequence) TableFault) (fault : TableFault) → answer ≡ Err fault → (fault ≢ Memory → table_d_of records ≡ Err fault)
+    → ReadsTableD records answer
 reads-fault records answer Header is given = rw is given
 reads-fault records answer (Row n) is given = rw is given
 reads-fault records answer (Duplicate fxy) is given = rw is given

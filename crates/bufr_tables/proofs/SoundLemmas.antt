@@ -100,7 +100,8 @@ pub part_is : (a b : ExpandedPart) → ◌≡◌ {A = Result ExpandedPart Templa
 part_is a b h = cc
 
 -- an element, and the rest after it
-element_joins : (tables : Tables) (room : ℕ) (given : Bool) (places d : ℕ) (first : ExpandedPart) (rest : Tree) → f_of d ≡ 0 → element_part tables given places d ≡ Ok first → IsFine tables.known room (gives_width d) rest → IsFine tables.known room given (join first.tree rest)
+element_joins : (tables : Tables) (room : ℕ) (given : Bool) (places d : ℕ) (first : ExpandedPart) (rest : Tree) → f_of d ≡ 0 → element_part tables given places d ≡ Ok first
+    → IsFine tables.known room (gives_width d) rest → IsFine tables.known room given (join first.tree rest)
 element_joins tables room given places d first rest f h fine =
     let known = tested (given || tables.known d) (fault.UnknownElement d) (with_places places 1 d >>= λ _. Ok (part (element d bare) 0)) first h in
     let sized = tested (nat_le (places + 1) 65535) (fault.TemplateSize d) (Ok (part (element d bare) 0)) first known.then_is in
@@ -114,13 +115,16 @@ or_met true begins h e = h
 or_met false begins h e = absurd cc
 
 -- an operator, and the rest after it
-operator_joins : (known : ℕ → Bool) (room : ℕ) (given : Bool) (places d : ℕ) (after : List ℕ) (first : ExpandedPart) (rest : Tree) → f_of d ≡ 2 → operator_part places d after ≡ Ok first → (begins_with_element after ≡ true → first.taken ≡ 0 → is_element_first rest ≡ true) → IsFine known room (gives_width d) rest → IsFine known room given (join first.tree rest)
+operator_joins : (known : ℕ → Bool) (room : ℕ) (given : Bool) (places d : ℕ) (after : List ℕ) (first : ExpandedPart) (rest : Tree) → f_of d ≡ 2 → operator_part places d after ≡ Ok first
+    → (begins_with_element after ≡ true → first.taken ≡ 0 → is_element_first rest ≡ true) → IsFine known room (gives_width d) rest → IsFine known room given (join first.tree rest)
 operator_joins known room given places d after first rest f h begins fine =
-    let legal = tested (is_legal_operator d) (fault.Operator d) (unless (not (gives_width d) || begins_with_element after) (fault.LocalShape d) >>= λ _. with_places places 1 d >>= λ _. Ok (part (operator d bare) 0)) first h in
+    let legal = tested (is_legal_operator d) (fault.Operator d) (unless (not (gives_width d) || begins_with_element after) (fault.LocalShape d) >>= λ _. with_places places 1 d >>= λ _. Ok
+    (part (operator d bare) 0)) first h in
     let shaped = tested (not (gives_width d) || begins_with_element after) (fault.LocalShape d) (with_places places 1 d >>= λ _. Ok (part (operator d bare) 0)) first legal.then_is in
     let sized = tested (nat_le (places + 1) 65535) (fault.TemplateSize d) (Ok (part (operator d bare) 0)) first shaped.then_is in
     let e = part_is (part (operator d bare) 0) first sized.then_is in
-    let begin : gives_width d ≡ true → is_element_first rest ≡ true = λ gives. begins (or_met (gives_width d) (begins_with_element after) shaped.met gives) (ap (λ (p : ExpandedPart). p.taken) (sym e)) in
+    let begin : gives_width d ≡ true → is_element_first rest ≡ true =
+    λ gives. begins (or_met (gives_width d) (begins_with_element after) shaped.met gives) (ap (λ (p : ExpandedPart). p.taken) (sym e)) in
     subst (λ (p : ExpandedPart). IsFine known room given (join p.tree rest)) e
     (record { groups = fine.groups; is_known = fine.is_known; legal = (f, (legal.met, (begin, fine.legal))); shallow = fine.shallow })
 
@@ -133,7 +137,8 @@ pub record IsFineBody (known : ℕ → Bool) (room : ℕ) (body : Tree) : Type 0
 pub tree_is : (a b : Tree) → ◌≡◌ {A = Result Tree TemplateFault} (Ok a) (Ok b) → a ≡ b
 tree_is a b h = cc
 
-body_fine : (known : ℕ → Bool) (room : ℕ) (inner : Option Expansion) → IsInnerFine known room inner → (places own d : ℕ) (after : List ℕ) (body : Tree) → body_of inner places own d after ≡ Ok body → IsFineBody known room body
+body_fine : (known : ℕ → Bool) (room : ℕ) (inner : Option Expansion) → IsInnerFine known room inner → (places own d : ℕ) (after : List ℕ) (body : Tree) → body_of inner places own d after ≡ Ok body
+    → IsFineBody known room body
 body_fine known room None fine places own d after body h = absurd (let t = (tested (nat_le (x_of d) (length after)) (fault.GroupShape d) (Err (fault.Depth d)) body h) in cc)
 body_fine known room (Some expand) fine places own d after body h =
     let k : Tree → Result Tree TemplateFault = λ body. unless (consumes body) (fault.EmptyGroup d) >>= λ _. Ok body in
@@ -151,16 +156,23 @@ body_fine known room (Some expand) fine places own d after body h =
     })
 
 -- a group of a fixed count, and the rest after it
-fixed_joins : (known : ℕ → Bool) (room : ℕ) (inner : Option Expansion) → IsInnerFine known room inner → (given : Bool) (places d : ℕ) (after : List ℕ) (first : ExpandedPart) (rest : Tree) → 0 < y_of d → fixed_part inner places d after ≡ Ok first → IsFine known room false rest → IsFine known room given (join first.tree rest)
+fixed_joins : (known : ℕ → Bool) (room : ℕ) (inner : Option Expansion) → IsInnerFine known room inner → (given : Bool) (places d : ℕ) (after : List ℕ) (first : ExpandedPart) (rest : Tree)
+    → 0 < y_of d → fixed_part inner places d after ≡ Ok first → IsFine known room false rest → IsFine known room given (join first.tree rest)
 fixed_joins known room inner fine given places d after first rest y h plain =
     let two = steps (body_of inner places 2 d after) (λ body. Ok (part (fixed (y_of d) body bare) (x_of d))) first h in
     let body = body_fine known room inner fine places 2 d after two.middle two.first_is in
     let e = part_is (part (fixed (y_of d) two.middle bare) (x_of d)) first two.then_is in
     subst (λ (p : ExpandedPart). IsFine known room given (join p.tree rest)) e
-    (record { groups = (y, (body.full, (body.fine.groups, plain.groups))); is_known = (body.fine.is_known, plain.is_known); legal = (body.fine.legal, plain.legal); shallow = omega (arith, body.deeper, plain.shallow) })
+    (record {
+      groups = (y, (body.full, (body.fine.groups, plain.groups)));
+      is_known = (body.fine.is_known, plain.is_known);
+      legal = (body.fine.legal, plain.legal);
+      shallow = omega (arith, body.deeper, plain.shallow);
+    })
 
 -- a delayed group, and the rest after it
-delayed_joins : (tables : Tables) (room : ℕ) (inner : Option Expansion) → IsInnerFine tables.known room inner → (given : Bool) (places d : ℕ) (after : List ℕ) (first : ExpandedPart) (rest : Tree) → delayed_part tables inner places d after ≡ Ok first → IsFine tables.known room false rest → IsFine tables.known room given (join first.tree rest)
+delayed_joins : (tables : Tables) (room : ℕ) (inner : Option Expansion) → IsInnerFine tables.known room inner → (given : Bool) (places d : ℕ) (after : List ℕ) (first : ExpandedPart) (rest : Tree)
+    → delayed_part tables inner places d after ≡ Ok first → IsFine tables.known room false rest → IsFine tables.known room given (join first.tree rest)
 delayed_joins tables room inner fine given places d [] first rest h plain = absurd cc
 delayed_joins tables room inner fine given places d (factor ∷ after) first rest h plain =
     let k : Tree → Result ExpandedPart TemplateFault = λ body. Ok (part (delayed factor body bare) (1 + x_of d)) in
@@ -170,20 +182,30 @@ delayed_joins tables room inner fine given places d (factor ∷ after) first res
     let body = body_fine tables.known room inner fine places 3 d after two.middle two.first_is in
     let e = part_is (part (delayed factor two.middle bare) (1 + x_of d)) first two.then_is in
     subst (λ (p : ExpandedPart). IsFine tables.known room given (join p.tree rest)) e
-    (record { groups = (body.full, (body.fine.groups, plain.groups)); is_known = (known.met, (body.fine.is_known, plain.is_known)); legal = (factored.met, (body.fine.legal, plain.legal)); shallow = omega (arith, body.deeper, plain.shallow) })
+    (record {
+      groups = (body.full, (body.fine.groups, plain.groups));
+      is_known = (known.met, (body.fine.is_known, plain.is_known));
+      legal = (factored.met, (body.fine.legal, plain.legal));
+      shallow = omega (arith, body.deeper, plain.shallow);
+    })
 
-group_by_joins : (y : ℕ) (tables : Tables) (room : ℕ) (inner : Option Expansion) → IsInnerFine tables.known room inner → (given : Bool) (places d : ℕ) (after : List ℕ) (first : ExpandedPart) (rest : Tree) → y ≡ y_of d → group_by y tables inner places d after ≡ Ok first → IsFine tables.known room false rest → IsFine tables.known room given (join first.tree rest)
+group_by_joins : (y : ℕ) (tables : Tables) (room : ℕ) (inner : Option Expansion) → IsInnerFine tables.known room inner
+    → (given : Bool) (places d : ℕ) (after : List ℕ) (first : ExpandedPart) (rest : Tree) → y ≡ y_of d → group_by y tables inner places d after ≡ Ok first → IsFine tables.known room false rest
+    → IsFine tables.known room given (join first.tree rest)
 group_by_joins zero tables room inner fine given places d after first rest e h plain = delayed_joins tables room inner fine given places d after first rest h plain
-group_by_joins (suc count) tables room inner fine given places d after first rest e h plain = fixed_joins tables.known room inner fine given places d after first rest (subst (λ n. 0 < n) e (omega arith)) h plain
+group_by_joins (suc count) tables room inner fine given places d after first rest e h plain =
+    fixed_joins tables.known room inner fine given places d after first rest (subst (λ n. 0 < n) e (omega arith)) h plain
 
 -- a group, and the rest after it
-group_joins : (tables : Tables) (room : ℕ) (inner : Option Expansion) → IsInnerFine tables.known room inner → (given : Bool) (places d : ℕ) (after : List ℕ) (first : ExpandedPart) (rest : Tree) → group_part tables inner places d after ≡ Ok first → IsFine tables.known room false rest → IsFine tables.known room given (join first.tree rest)
+group_joins : (tables : Tables) (room : ℕ) (inner : Option Expansion) → IsInnerFine tables.known room inner → (given : Bool) (places d : ℕ) (after : List ℕ) (first : ExpandedPart) (rest : Tree)
+    → group_part tables inner places d after ≡ Ok first → IsFine tables.known room false rest → IsFine tables.known room given (join first.tree rest)
 group_joins tables room inner fine given places d after first rest h plain =
     let shaped = tested (nat_lt 0 (x_of d)) (fault.GroupShape d) (group_by (y_of d) tables inner places d after) first h in
     group_by_joins (y_of d) tables room inner fine given places d after first rest refl shaped.then_is plain
 
 -- a sequence, and the rest after it
-sequence_joins : (tables : Tables) (room : ℕ) (inner : Option Expansion) → IsInnerFine tables.known room inner → (given : Bool) (places d : ℕ) (first : ExpandedPart) (rest : Tree) → sequence_part tables inner places d ≡ Ok first → IsFine tables.known room false rest → IsFine tables.known room given (join first.tree rest)
+sequence_joins : (tables : Tables) (room : ℕ) (inner : Option Expansion) → IsInnerFine tables.known room inner → (given : Bool) (places d : ℕ) (first : ExpandedPart) (rest : Tree)
+    → sequence_part tables inner places d ≡ Ok first → IsFine tables.known room false rest → IsFine tables.known room given (join first.tree rest)
 sequence_joins tables room None fine given places d first rest h plain =
     let two = steps (ok_or (tables.members d) (fault.UnknownSequence d)) (λ members. Err (fault.Depth d)) first h in
     absurd (let t = two.then_is in cc)
@@ -193,23 +215,34 @@ sequence_joins tables room (Some expand) fine given places d first rest h plain 
     let two = steps (expand places members_or_none.middle) k first members_or_none.then_is in
     let e = part_is (part two.middle 0) first two.then_is in
     let inside = fine.2 places members_or_none.middle two.middle two.first_is in
-    let own : IsFine tables.known room given two.middle = record { groups = inside.groups; is_known = known_given tables.known given two.middle inside.is_known; legal = inside.legal; shallow = omega (arith, inside.shallow, fine.1) } in
+    let own : IsFine tables.known room given two.middle = record {
+      groups = inside.groups;
+      is_known = known_given tables.known given two.middle inside.is_known;
+      legal = inside.legal;
+      shallow = omega (arith, inside.shallow, fine.1);
+    } in
     subst (λ (p : ExpandedPart). IsFine tables.known room given (join p.tree rest)) e (fine-join tables.known room given two.middle rest own plain)
 
-part_by_joins : (f : ℕ) (tables : Tables) (room : ℕ) (inner : Option Expansion) → IsInnerFine tables.known room inner → (given : Bool) (places d : ℕ) (after : List ℕ) (first : ExpandedPart) (rest : Tree) → f ≡ f_of d → part_by f tables inner given places d after ≡ Ok first → (begins_with_element after ≡ true → first.taken ≡ 0 → is_element_first rest ≡ true) → IsFine tables.known room (gives_width d) rest → IsFine tables.known room given (join first.tree rest)
+part_by_joins : (f : ℕ) (tables : Tables) (room : ℕ) (inner : Option Expansion) → IsInnerFine tables.known room inner
+    → (given : Bool) (places d : ℕ) (after : List ℕ) (first : ExpandedPart) (rest : Tree) → f ≡ f_of d → part_by f tables inner given places d after ≡ Ok first
+    → (begins_with_element after ≡ true → first.taken ≡ 0 → is_element_first rest ≡ true) → IsFine tables.known room (gives_width d) rest → IsFine tables.known room given (join first.tree rest)
 part_by_joins zero tables room inner fine given places d after first rest e h begins more = element_joins tables room given places d first rest (sym e) h more
-part_by_joins (suc zero) tables room inner fine given places d after first rest e h begins more = group_joins tables room inner fine given places d after first rest h (fine_plainly tables.known room (gives_width d) rest (no_width d 1 e (omega arith)) more)
+part_by_joins (suc zero) tables room inner fine given places d after first rest e h begins more =
+    group_joins tables room inner fine given places d after first rest h (fine_plainly tables.known room (gives_width d) rest (no_width d 1 e (omega arith)) more)
 part_by_joins (suc (suc zero)) tables room inner fine given places d after first rest e h begins more = operator_joins tables.known room given places d after first rest (sym e) h begins more
-part_by_joins (suc (suc (suc f))) tables room inner fine given places d after first rest e h begins more = sequence_joins tables room inner fine given places d first rest h (fine_plainly tables.known room (gives_width d) rest (no_width d (suc (suc (suc f))) e (omega arith)) more)
+part_by_joins (suc (suc (suc f))) tables room inner fine given places d after first rest e h begins more =
+    sequence_joins tables room inner fine given places d first rest h (fine_plainly tables.known room (gives_width d) rest (no_width d (suc (suc (suc f))) e (omega arith)) more)
 
 -- a list that begins with an element gives a tree that does
-level_begins : (tables : Tables) (inner : Option Expansion) (given : Bool) (places : ℕ) (after : List ℕ) (rest : Tree) → begins_with_element after ≡ true → level tables inner given 0 places after ≡ Ok rest → is_element_first rest ≡ true
+level_begins : (tables : Tables) (inner : Option Expansion) (given : Bool) (places : ℕ) (after : List ℕ) (rest : Tree) → begins_with_element after ≡ true
+    → level tables inner given 0 places after ≡ Ok rest → is_element_first rest ≡ true
 unfolding level
 level_begins tables inner given places [] rest b h = absurd cc
 level_begins tables inner given places (d ∷ after) rest b h = grind (arith, common_steps, steps, part-element, eqb-true, tested, part_is, tree_is)
 
 -- what a list gives is fine
-level_fine : (tables : Tables) (room : ℕ) (inner : Option Expansion) → IsInnerFine tables.known room inner → (given : Bool) (skip places : ℕ) (list : List ℕ) (tree : Tree) → level tables inner given skip places list ≡ Ok tree → IsFine tables.known room given tree
+level_fine : (tables : Tables) (room : ℕ) (inner : Option Expansion) → IsInnerFine tables.known room inner → (given : Bool) (skip places : ℕ) (list : List ℕ) (tree : Tree)
+    → level tables inner given skip places list ≡ Ok tree → IsFine tables.known room given tree
 unfolding level part_of
 level_fine tables room inner fine given skip places [] tree h = subst (IsFine tables.known room given) (tree_is bare tree h) (fine-bare tables.known room given)
 level_fine tables room inner fine given (suc skip) places (d ∷ after) tree h = level_fine tables room inner fine given skip places after tree h
@@ -219,7 +252,8 @@ level_fine tables room inner fine given zero places (d ∷ after) tree h =
     let two = steps (level tables inner (gives_width d) one.middle.taken (places + size one.middle.tree) after) (λ rest. Ok (join one.middle.tree rest)) tree one.then_is in
     let more = level_fine tables room inner fine (gives_width d) one.middle.taken (places + size one.middle.tree) after two.middle two.first_is in
     let begins : begins_with_element after ≡ true → one.middle.taken ≡ 0 → is_element_first two.middle ≡ true =
-    λ b none. level_begins tables inner (gives_width d) (places + size one.middle.tree) after two.middle b (ap (λ k. level tables inner (gives_width d) k (places + size one.middle.tree) after) (sym none) ∙ two.first_is) in
+    λ b none. level_begins tables inner (gives_width d) (places + size one.middle.tree) after two.middle b
+    (ap (λ k. level tables inner (gives_width d) k (places + size one.middle.tree) after) (sym none) ∙ two.first_is) in
     subst (IsFine tables.known room given) (tree_is (join one.middle.tree two.middle) tree two.then_is)
     (part_by_joins (f_of d) tables room inner fine given places d after one.middle two.middle refl one.first_is begins more)
 
@@ -272,7 +306,8 @@ InnerSays members (Some expand) = (places : ℕ) (list : List ℕ) (tree : Tree)
 abbrev PartSays : (ℕ → Option (List ℕ)) → ℕ → List ℕ → ExpandedPart → Type 0
 PartSays members d after p = ListsLeaves members (d ∷ take p.taken after) (leaves p.tree)
 
-element_says : (tables : Tables) (given : Bool) (places d : ℕ) (after : List ℕ) (first : ExpandedPart) → f_of d ≡ 0 → element_part tables given places d ≡ Ok first → PartSays tables.members d after first
+element_says : (tables : Tables) (given : Bool) (places d : ℕ) (after : List ℕ) (first : ExpandedPart) → f_of d ≡ 0 → element_part tables given places d ≡ Ok first
+    → PartSays tables.members d after first
 element_says tables given places d after first f h =
     let known = tested (given || tables.known d) (fault.UnknownElement d) (with_places places 1 d >>= λ _. Ok (part (element d bare) 0)) first h in
     let sized = tested (nat_le (places + 1) 65535) (fault.TemplateSize d) (Ok (part (element d bare) 0)) first known.then_is in
@@ -280,12 +315,14 @@ element_says tables given places d after first f h =
 
 operator_says : (members : ℕ → Option (List ℕ)) (places d : ℕ) (after : List ℕ) (first : ExpandedPart) → f_of d ≡ 2 → operator_part places d after ≡ Ok first → PartSays members d after first
 operator_says members places d after first f h =
-    let legal = tested (is_legal_operator d) (fault.Operator d) (unless (not (gives_width d) || begins_with_element after) (fault.LocalShape d) >>= λ _. with_places places 1 d >>= λ _. Ok (part (operator d bare) 0)) first h in
+    let legal = tested (is_legal_operator d) (fault.Operator d) (unless (not (gives_width d) || begins_with_element after) (fault.LocalShape d) >>= λ _. with_places places 1 d >>= λ _. Ok
+    (part (operator d bare) 0)) first h in
     let shaped = tested (not (gives_width d) || begins_with_element after) (fault.LocalShape d) (with_places places 1 d >>= λ _. Ok (part (operator d bare) 0)) first legal.then_is in
     let sized = tested (nat_le (places + 1) 65535) (fault.TemplateSize d) (Ok (part (operator d bare) 0)) first shaped.then_is in
     subst (PartSays members d after) (part_is (part (operator d bare) 0) first sized.then_is) (says_itself d [] [] (inr f) says_nothing)
 
-body_says : (members : ℕ → Option (List ℕ)) (inner : Option Expansion) → InnerSays members inner → (places own d : ℕ) (after : List ℕ) (body : Tree) → body_of inner places own d after ≡ Ok body → ListsLeaves members (take (x_of d) after) (leaves body)
+body_says : (members : ℕ → Option (List ℕ)) (inner : Option Expansion) → InnerSays members inner → (places own d : ℕ) (after : List ℕ) (body : Tree) → body_of inner places own d after ≡ Ok body
+    → ListsLeaves members (take (x_of d) after) (leaves body)
 body_says members None says places own d after body h = absurd (let t = (tested (nat_le (x_of d) (length after)) (fault.GroupShape d) (Err (fault.Depth d)) body h) in cc)
 body_says members (Some expand) says places own d after body h =
     let k : Tree → Result Tree TemplateFault = λ body. unless (consumes body) (fault.EmptyGroup d) >>= λ _. Ok body in
@@ -295,7 +332,8 @@ body_says members (Some expand) says places own d after body h =
     let full = tested (consumes two.middle) (fault.EmptyGroup d) (Ok two.middle) body two.then_is in
     subst (λ t. ListsLeaves members (take (x_of d) after) (leaves t)) (tree_is two.middle body full.then_is) (says (places + own) (take (x_of d) after) two.middle two.first_is)
 
-fixed_says : (members : ℕ → Option (List ℕ)) (inner : Option Expansion) → InnerSays members inner → (places d : ℕ) (after : List ℕ) (first : ExpandedPart) → f_of d ≡ 1 → fixed_part inner places d after ≡ Ok first → PartSays members d after first
+fixed_says : (members : ℕ → Option (List ℕ)) (inner : Option Expansion) → InnerSays members inner → (places d : ℕ) (after : List ℕ) (first : ExpandedPart) → f_of d ≡ 1
+    → fixed_part inner places d after ≡ Ok first → PartSays members d after first
 fixed_says members inner says places d after first f h =
     let two = steps (body_of inner places 2 d after) (λ body. Ok (part (fixed (y_of d) body bare) (x_of d))) first h in
     subst (PartSays members d after) (part_is (part (fixed (y_of d) two.middle bare) (x_of d)) first two.then_is)
@@ -309,7 +347,8 @@ first_of_and false b h = h
 take_factor : (factor n : ℕ) (after : List ℕ) → take (1 + n) (factor ∷ after) ≡ factor ∷ take n after
 take_factor factor n after = let e : 1 + n ≡ suc n = omega arith in ap (λ k. take k (factor ∷ after)) e
 
-delayed_says : (tables : Tables) (inner : Option Expansion) → InnerSays tables.members inner → (places d : ℕ) (after : List ℕ) (first : ExpandedPart) → f_of d ≡ 1 → delayed_part tables inner places d after ≡ Ok first → PartSays tables.members d after first
+delayed_says : (tables : Tables) (inner : Option Expansion) → InnerSays tables.members inner → (places d : ℕ) (after : List ℕ) (first : ExpandedPart) → f_of d ≡ 1
+    → delayed_part tables inner places d after ≡ Ok first → PartSays tables.members d after first
 delayed_says tables inner says places d [] first f h = absurd cc
 delayed_says tables inner says places d (factor ∷ after) first f h =
     let k : Tree → Result ExpandedPart TemplateFault = λ body. Ok (part (delayed factor body bare) (1 + x_of d)) in
@@ -323,11 +362,13 @@ delayed_says tables inner says places d (factor ∷ after) first f h =
     (subst (λ l. ListsLeaves tables.members (d ∷ (factor ∷ take (x_of d) after)) (factor ∷ l)) (sym (append-nil (leaves two.middle)))
     (says_replication d (factor ∷ take (x_of d) after) (factor ∷ leaves two.middle) f own)))
 
-group_by_says : (y : ℕ) (tables : Tables) (inner : Option Expansion) → InnerSays tables.members inner → (places d : ℕ) (after : List ℕ) (first : ExpandedPart) → f_of d ≡ 1 → group_by y tables inner places d after ≡ Ok first → PartSays tables.members d after first
+group_by_says : (y : ℕ) (tables : Tables) (inner : Option Expansion) → InnerSays tables.members inner → (places d : ℕ) (after : List ℕ) (first : ExpandedPart) → f_of d ≡ 1
+    → group_by y tables inner places d after ≡ Ok first → PartSays tables.members d after first
 group_by_says zero tables inner says places d after first f h = delayed_says tables inner says places d after first f h
 group_by_says (suc count) tables inner says places d after first f h = fixed_says tables.members inner says places d after first f h
 
-group_says : (tables : Tables) (inner : Option Expansion) → InnerSays tables.members inner → (places d : ℕ) (after : List ℕ) (first : ExpandedPart) → f_of d ≡ 1 → group_part tables inner places d after ≡ Ok first → PartSays tables.members d after first
+group_says : (tables : Tables) (inner : Option Expansion) → InnerSays tables.members inner → (places d : ℕ) (after : List ℕ) (first : ExpandedPart) → f_of d ≡ 1
+    → group_part tables inner places d after ≡ Ok first → PartSays tables.members d after first
 group_says tables inner says places d after first f h =
     let shaped = tested (nat_lt 0 (x_of d)) (fault.GroupShape d) (group_by (y_of d) tables inner places d after) first h in
     group_by_says (y_of d) tables inner says places d after first f shaped.then_is
@@ -336,7 +377,8 @@ listed_is : (o : Option (List ℕ)) (d : ℕ) (members : List ℕ) → ok_or o (
 listed_is (Some list) d members h = cc
 listed_is None d members h = absurd cc
 
-sequence_says : (tables : Tables) (inner : Option Expansion) → InnerSays tables.members inner → (places d : ℕ) (after : List ℕ) (first : ExpandedPart) → 3 ≤ f_of d → sequence_part tables inner places d ≡ Ok first → PartSays tables.members d after first
+sequence_says : (tables : Tables) (inner : Option Expansion) → InnerSays tables.members inner → (places d : ℕ) (after : List ℕ) (first : ExpandedPart) → 3 ≤ f_of d
+    → sequence_part tables inner places d ≡ Ok first → PartSays tables.members d after first
 sequence_says tables None says places d after first f h =
     let two = steps (ok_or (tables.members d) (fault.UnknownSequence d)) (λ members. Err (fault.Depth d)) first h in
     absurd (let t = two.then_is in cc)
@@ -346,15 +388,18 @@ sequence_says tables (Some expand) says places d after first f h =
     let two = steps (expand places members_or_none.middle) k first members_or_none.then_is in
     subst (PartSays tables.members d after) (part_is (part two.middle 0) first two.then_is)
     (subst (ListsLeaves tables.members (d ∷ [])) (append-nil (leaves two.middle))
-    (says_sequence d members_or_none.middle [] (leaves two.middle) [] f (listed_is (tables.members d) d members_or_none.middle members_or_none.first_is) (says places members_or_none.middle two.middle two.first_is) says_nothing))
+    (says_sequence d members_or_none.middle [] (leaves two.middle) [] f (listed_is (tables.members d) d members_or_none.middle members_or_none.first_is)
+    (says places members_or_none.middle two.middle two.first_is) says_nothing))
 
-part_by_says : (f : ℕ) (tables : Tables) (inner : Option Expansion) → InnerSays tables.members inner → (given : Bool) (places d : ℕ) (after : List ℕ) (first : ExpandedPart) → f ≡ f_of d → part_by f tables inner given places d after ≡ Ok first → PartSays tables.members d after first
+part_by_says : (f : ℕ) (tables : Tables) (inner : Option Expansion) → InnerSays tables.members inner → (given : Bool) (places d : ℕ) (after : List ℕ) (first : ExpandedPart) → f ≡ f_of d
+    → part_by f tables inner given places d after ≡ Ok first → PartSays tables.members d after first
 part_by_says zero tables inner says given places d after first e h = element_says tables given places d after first (sym e) h
 part_by_says (suc zero) tables inner says given places d after first e h = group_says tables inner says places d after first (sym e) h
 part_by_says (suc (suc zero)) tables inner says given places d after first e h = operator_says tables.members places d after first (sym e) h
 part_by_says (suc (suc (suc f))) tables inner says given places d after first e h = sequence_says tables inner says places d after first (subst (λ n. 3 ≤ n) e (omega arith)) h
 
-level_says : (tables : Tables) (inner : Option Expansion) → InnerSays tables.members inner → (given : Bool) (skip places : ℕ) (list : List ℕ) (tree : Tree) → level tables inner given skip places list ≡ Ok tree → ListsLeaves tables.members (drop skip list) (leaves tree)
+level_says : (tables : Tables) (inner : Option Expansion) → InnerSays tables.members inner → (given : Bool) (skip places : ℕ) (list : List ℕ) (tree : Tree)
+    → level tables inner given skip places list ≡ Ok tree → ListsLeaves tables.members (drop skip list) (leaves tree)
 unfolding level part_of
 level_says tables inner says given zero places [] tree h = subst (λ t. ListsLeaves tables.members [] (leaves t)) (tree_is bare tree h) says_nothing
 level_says tables inner says given (suc skip) places [] tree h = subst (λ t. ListsLeaves tables.members [] (leaves t)) (tree_is bare tree h) says_nothing
@@ -413,10 +458,12 @@ after_list : List ℕ → Result Tree TemplateFault → Result Tree TemplateFaul
 after_list list expanded = expanded >>= λ tree. unless (consumes tree) (fault.EmptyGroup (first_of list)) >>= λ _. Ok tree
 
 -- the list, as the code begins it
-same_start : (tables : Tables) (list : List ℕ) (start : BuilderModel) → start ≡ growth [] 0 0 false → level tables (inner_of tables max_open) false 0 1 list ≡ level tables (inner_of tables max_open) false 0 (places_so_far start) list
+same_start : (tables : Tables) (list : List ℕ) (start : BuilderModel) → start ≡ growth [] 0 0 false
+    → level tables (inner_of tables max_open) false 0 1 list ≡ level tables (inner_of tables max_open) false 0 (places_so_far start) list
 same_start tables list start e = ap (λ (g : BuilderModel). level tables (inner_of tables max_open) false 0 (places_so_far g) list) (sym e)
 
-pub whole-fault : (tables : Tables) (list : List ℕ) (start : BuilderModel) (why : TemplateFault) → start ≡ growth [] 0 0 false → IsFaultOrMemory (level tables (inner_of tables max_open) false 0 (places_so_far start) list) why → IsFaultOrMemory (tree_of tables list) why
+pub whole-fault : (tables : Tables) (list : List ℕ) (start : BuilderModel) (why : TemplateFault) → start ≡ growth [] 0 0 false
+    → IsFaultOrMemory (level tables (inner_of tables max_open) false 0 (places_so_far start) list) why → IsFaultOrMemory (tree_of tables list) why
 unfolding tree_of after_list
 whole-fault tables list start why e refuses other = ap (after_list list) (same_start tables list start e ∙ refuses other)
 
@@ -424,7 +471,8 @@ whole-fault tables list start why e refuses other = ap (after_list list) (same_s
 put_tree : (start new : BuilderModel) (tree : Tree) → start ≡ growth [] 0 0 false → new ≡ push_tree start tree → new ≡ growth (cells_of tree 0 []) 0 (depth tree) (consumes tree)
 put_tree start new tree es e = grind (arith, common_steps)
 
-pub whole-empty : (tables : Tables) (list : List ℕ) (start new : BuilderModel) (first : ℕ) → start ≡ growth [] 0 0 false → PushesTree start (level tables (inner_of tables max_open) false 0 (places_so_far start) list) new → new.full ≡ false → first ≡ first_of list → tree_of tables list ≡ Err (fault.EmptyGroup first)
+pub whole-empty : (tables : Tables) (list : List ℕ) (start new : BuilderModel) (first : ℕ) → start ≡ growth [] 0 0 false
+    → PushesTree start (level tables (inner_of tables max_open) false 0 (places_so_far start) list) new → new.full ≡ false → first ≡ first_of list → tree_of tables list ≡ Err (fault.EmptyGroup first)
 unfolding tree_of after_list
 whole-empty tables list start new first es puts empty ef = grind (arith, common_steps)
 
@@ -436,19 +484,22 @@ pub record IsWhole (tables : Tables) (list : List ℕ) (new : BuilderModel) : Ty
   pub groups_are : new.groups ≡ 0
   pub depth_is : new.deep ≡ depth tree
 
-pub whole-ok : (tables : Tables) (list : List ℕ) (start new : BuilderModel) → start ≡ growth [] 0 0 false → PushesTree start (level tables (inner_of tables max_open) false 0 (places_so_far start) list) new → new.full ≡ true → IsWhole tables list new
+pub whole-ok : (tables : Tables) (list : List ℕ) (start new : BuilderModel) → start ≡ growth [] 0 0 false
+    → PushesTree start (level tables (inner_of tables max_open) false 0 (places_so_far start) list) new → new.full ≡ true → IsWhole tables list new
 unfolding tree_of after_list
 whole-ok tables list start new es puts full =
     let tree_is = put_tree start new puts.tree es puts.is_put in
     record {
       tree = puts.tree;
-      is_defined = ap (after_list list) (same_start tables list start es ∙ puts.is_defined) ∙ ap (λ b. unless b (fault.EmptyGroup (first_of list)) >>= λ _. Ok puts.tree) (ap (λ (g : BuilderModel). g.full) (sym tree_is) ∙ full);
+      is_defined = ap (after_list list) (same_start tables list start es ∙ puts.is_defined)
+          ∙ ap (λ b. unless b (fault.EmptyGroup (first_of list)) >>= λ _. Ok puts.tree) (ap (λ (g : BuilderModel). g.full) (sym tree_is) ∙ full);
       cells_are = ap (λ (g : BuilderModel). g.cells) tree_is;
       groups_are = ap (λ (g : BuilderModel). g.groups) tree_is;
       depth_is = ap (λ (g : BuilderModel). g.deep) tree_is;
     }
 
-whole-flattened : (tables : Tables) (list : List ℕ) (new : BuilderModel) (cells : List Cell) (whole : IsWhole tables list new) → cells ≡ new.cells ++ cell.Finish ∷ [] → length new.cells + new.groups < 65535 → AreCellsOf cells whole.tree
+whole-flattened : (tables : Tables) (list : List ℕ) (new : BuilderModel) (cells : List Cell) (whole : IsWhole tables list new) → cells ≡ new.cells ++ cell.Finish ∷ []
+    → length new.cells + new.groups < 65535 → AreCellsOf cells whole.tree
 whole-flattened tables list new cells whole e within =
     let fine = tree_fine tables list whole.tree whole.is_defined in
     record {
@@ -465,7 +516,8 @@ pub record IsBuilt (tables : Tables) (list : List ℕ) (cells : List Cell) (dept
   pub is_defined : tree_of tables list ≡ Ok (trees_of_cells cells)
 
 -- with the end of the template after the cells
-pub whole-built : (tables : Tables) (list : List ℕ) (new : BuilderModel) (cells : List Cell) → IsWhole tables list new → cells ≡ new.cells ++ cell.Finish ∷ [] → length new.cells + new.groups < 65535 → IsBuilt tables list cells new.deep
+pub whole-built : (tables : Tables) (list : List ℕ) (new : BuilderModel) (cells : List Cell) → IsWhole tables list new → cells ≡ new.cells ++ cell.Finish ∷ [] → length new.cells + new.groups < 65535
+    → IsBuilt tables list cells new.deep
 whole-built tables list new cells whole e within =
     let flattened = whole-flattened tables list new cells whole e within in
     record {

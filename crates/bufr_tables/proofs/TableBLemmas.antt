@@ -351,7 +351,8 @@ rows-push [] row all here = (here, tt)
 rows-push (first ∷ rows) row all here = (all.0, rows-push rows row all.1 here)
 
 -- octets after the block leave the rows within the limits
-pub limits-grown : (old new : List ℕ) (stored : List Stored) → AllByRecursion (IsRowKept old) stored → ExtendsBlock old new → AllByRecursion IsRow (rows_kept old stored) → AllByRecursion IsRow (rows_kept new stored)
+pub limits-grown : (old new : List ℕ) (stored : List Stored) → AllByRecursion (IsRowKept old) stored → ExtendsBlock old new → AllByRecursion IsRow (rows_kept old stored)
+    → AllByRecursion IsRow (rows_kept new stored)
 limits-grown old new stored kept grows all = rw (grows.1, rows_kept-append old grows.0 stored kept) all
 
 -- the row that is found is one of them

@@ -57,7 +57,8 @@ members-other members [] fxy all other = refl
 members-other members (run ∷ runs) fxy all other = rw (unlike run.fxy fxy all.0.0 all.0.1 other) (members-other members runs fxy all.1 other)
 
 -- the last sequence
-pub is_last-at : (members : List ℕ) (runs : List MemberRange) (i fxy : ℕ) (run : MemberRange) → i + 1 ≡ length runs → run ≡ get_or runs i run → is_last (sequences_kept members runs) fxy ≡ (run.fxy == fxy)
+pub is_last-at : (members : List ℕ) (runs : List MemberRange) (i fxy : ℕ) (run : MemberRange) → i + 1 ≡ length runs → run ≡ get_or runs i run
+    → is_last (sequences_kept members runs) fxy ≡ (run.fxy == fxy)
 is_last-at members [] i fxy run last at = absurd (omega arith)
 is_last-at members (r ∷ []) zero fxy run last at = rw at refl
 is_last-at members (r ∷ []) (suc i) fxy run last at = absurd (omega arith)
@@ -75,7 +76,8 @@ abbrev pub alone : ℕ → List ℕ → List Sequence
 alone fxy ms = record { fxy = fxy; members = ms } ∷ []
 
 module _ (members : List ℕ) (member : ℕ) where
-  pub sequences_kept-extended : (runs : List MemberRange) (i : ℕ) (run : MemberRange) → i + 1 ≡ length runs → run ≡ get_or runs i run → AllByRecursion (IsMemberRange (length members)) runs → LastEnds (length members) runs
+  pub sequences_kept-extended : (runs : List MemberRange) (i : ℕ) (run : MemberRange) → i + 1 ≡ length runs → run ≡ get_or runs i run → AllByRecursion (IsMemberRange (length members)) runs
+      → LastEnds (length members) runs
       → sequences_kept (members ++ member ∷ []) (set runs i (longer run)) ≡ extended (sequences_kept members runs) member
   sequences_kept-extended [] i run last at inside end = absurd (omega arith)
   sequences_kept-extended (r ∷ []) zero run last at inside end =
@@ -88,7 +90,8 @@ module _ (members : List ℕ) (member : ℕ) where
       let rest = sequences_kept-extended (t ∷ runs) i run (omega arith) at inside.1 end in
       cc
 
-pub sequences_kept-append : (members more : List ℕ) (runs : List MemberRange) → AllByRecursion (IsMemberRange (length members)) runs → sequences_kept (members ++ more) runs ≡ sequences_kept members runs
+pub sequences_kept-append : (members more : List ℕ) (runs : List MemberRange) → AllByRecursion (IsMemberRange (length members)) runs
+    → sequences_kept (members ++ more) runs ≡ sequences_kept members runs
 sequences_kept-append members more [] inside = refl
 sequences_kept-append members more (r ∷ runs) inside =
     let here = range-append members more r.start r.end (omega (arith, inside.0.0)) inside.0.1 in

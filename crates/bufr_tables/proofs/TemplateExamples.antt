@@ -92,8 +92,10 @@ cells :
     (flattened (given (fxy 0 1 1 ∷ [])) ≡ Ok (cell.Element (fxy 0 1 1) ∷ cell.Finish ∷ []))
     × (flattened (given (fxy 1 1 0 ∷ fxy 0 31 1 ∷ fxy 0 1 1 ∷ [])) ≡ Ok (cell.Delayed 4 ∷ cell.Factor (fxy 0 31 1) ∷ cell.Element (fxy 0 1 1) ∷ cell.PassEnd ∷ cell.Finish ∷ []))
     × (trees_of_cells (cell.Delayed 4 ∷ cell.Factor (fxy 0 31 1) ∷ cell.Element (fxy 0 1 1) ∷ cell.PassEnd ∷ cell.Finish ∷ []) ≡ delayed (fxy 0 31 1) (element (fxy 0 1 1) bare) bare)
-    × (flattened (given (fxy 1 3 0 ∷ fxy 0 31 1 ∷ fxy 1 1 0 ∷ fxy 0 31 1 ∷ fxy 0 1 1 ∷ [])) ≡ Ok (cell.Delayed 7 ∷ cell.Factor (fxy 0 31 1) ∷ cell.Delayed 6 ∷ cell.Factor (fxy 0 31 1) ∷ cell.Element (fxy 0 1 1) ∷ cell.PassEnd ∷ cell.PassEnd ∷ cell.Finish ∷ []))
-    × (flattened (given (fxy 1 1 2 ∷ fxy 3 60 192 ∷ fxy 0 20 3 ∷ [])) ≡ Ok (cell.Fixed 2 4 ∷ cell.Element (fxy 0 1 1) ∷ cell.Element (fxy 0 12 101) ∷ cell.PassEnd ∷ cell.Element (fxy 0 20 3) ∷ cell.Finish ∷ []))
+    × (flattened (given (fxy 1 3 0 ∷ fxy 0 31 1 ∷ fxy 1 1 0 ∷ fxy 0 31 1 ∷ fxy 0 1 1 ∷ []))
+    ≡ Ok (cell.Delayed 7 ∷ cell.Factor (fxy 0 31 1) ∷ cell.Delayed 6 ∷ cell.Factor (fxy 0 31 1) ∷ cell.Element (fxy 0 1 1) ∷ cell.PassEnd ∷ cell.PassEnd ∷ cell.Finish ∷ []))
+    × (flattened (given (fxy 1 1 2 ∷ fxy 3 60 192 ∷ fxy 0 20 3 ∷ []))
+    ≡ Ok (cell.Fixed 2 4 ∷ cell.Element (fxy 0 1 1) ∷ cell.Element (fxy 0 12 101) ∷ cell.PassEnd ∷ cell.Element (fxy 0 20 3) ∷ cell.Finish ∷ []))
     × (flattened (given (fxy 2 6 12 ∷ fxy 0 63 255 ∷ [])) ≡ Ok (cell.Operator (fxy 2 6 12) ∷ cell.Element (fxy 0 63 255) ∷ cell.Finish ∷ []))
 unfolding given flattened
 cells = (refl, refl, refl, refl, refl, refl)

@@ -26,7 +26,24 @@ the_table =
     ∷ []
 
 the_head : Head
-the_head = record { edition = 4; master = 0; centre = 98; subcentre = 0; update = 0; category = 0; subcategory = 0; local_subcategory = 0; master_version = 14; local_version = 0; year = 2024; month = 1; day = 2; hour = 3; minute = 4; second = 5 }
+the_head = record {
+  edition = 4;
+  master = 0;
+  centre = 98;
+  subcentre = 0;
+  update = 0;
+  category = 0;
+  subcategory = 0;
+  local_subcategory = 0;
+  master_version = 14;
+  local_version = 0;
+  year = 2024;
+  month = 1;
+  day = 2;
+  hour = 3;
+  minute = 4;
+  second = 5;
+}
 
 -- a message of so many octets, from section 3 on
 message : (size : ℕ) → List ℕ → List ℕ
@@ -44,7 +61,10 @@ unfolding the_head head_size
 its_sections payload = record { head = the_head; local1 = []; section2 = None; descriptors = 257 ∷ []; subsets = 1; observed = true; compressed = false; payload = payload ∷ []; size = 48 }
 
 block_number : Values
-block_number = apart ((record { spec = record { fxy = 257; role = role.Element; kind = kind.Numeric; width = 7; scale = pos 0; reference = pos 0; may_be_missing = true; listed = true }; content = number 10 } ∷ []) ∷ [])
+block_number = apart ((record {
+  spec = record { fxy = 257; role = role.Element; kind = kind.Numeric; width = 7; scale = pos 0; reference = pos 0; may_be_missing = true; listed = true };
+  content = number 10;
+} ∷ []) ∷ [])
 
 -- Seven bits are a reading, whatever the eighth is.
 block_accepted : IsAccepted the_table [] (one_block_number 0x14) (its_sections 0x14) (element 257 bare) block_number 7
@@ -108,7 +128,10 @@ unfolding the_head head_size
 their_sections = record { head = the_head; local1 = []; section2 = None; descriptors = 3173 ∷ []; subsets = 2; observed = true; compressed = true; payload = 0x70 ∷ 0x8F ∷ 5 ∷ []; size = 50 }
 
 temperatures : Values
-temperatures = together (record { spec = record { fxy = 3173; role = role.Element; kind = kind.Numeric; width = 16; scale = pos 2; reference = pos 0; may_be_missing = true; listed = true }; content = number 28815 ∷ missing ∷ [] } ∷ [])
+temperatures = together (record {
+  spec = record { fxy = 3173; role = role.Element; kind = kind.Numeric; width = 16; scale = pos 2; reference = pos 0; may_be_missing = true; listed = true };
+  content = number 28815 ∷ missing ∷ [];
+} ∷ [])
 
 temperatures_accepted : IsAccepted the_table [] two_temperatures their_sections (element 3173 bare) temperatures 24
 unfolding the_table the_head message two_temperatures their_sections temperatures sections_of section_end head_by_edition head_size tree_of level part_of inner_of next_item bits_of bits_in
@@ -155,7 +178,24 @@ edition_3 left_over last = codes "BUFR" ++ 0 ∷ 0 ∷ 46 ∷ 3
 
 sections_of_3 : (last : ℕ) → Sections
 sections_of_3 last = record {
-  head = record { edition = 3; master = 0; centre = 98; subcentre = 0; update = 0; category = 0; subcategory = 0; local_subcategory = 0; master_version = 14; local_version = 0; year = 24; month = 1; day = 2; hour = 3; minute = 4; second = 0 };
+  head = record {
+    edition = 3;
+    master = 0;
+    centre = 98;
+    subcentre = 0;
+    update = 0;
+    category = 0;
+    subcategory = 0;
+    local_subcategory = 0;
+    master_version = 14;
+    local_version = 0;
+    year = 24;
+    month = 1;
+    day = 2;
+    hour = 3;
+    minute = 4;
+    second = 0;
+  };
   local1 = 0 ∷ [];
   section2 = None;
   descriptors = 257 ∷ [];
@@ -234,7 +274,8 @@ greatest_written = refl
 -- rule: edition-3-length
 long_refused : (m : List ℕ) → edition_of m ≡ 3 → length m ≡ 16777214 → parts_if_end_matches m 26 26 35 16777210 ≡ Err Edition3Long
 long_refused m of_3 long =
-    ap (λ n. if not (16777210 == (n - 4)) then Err SectionsEnd else if nat_lt 16777213 n && (is_padded (edition_of m) 9 || is_padded (edition_of m) 16777175) then Err Edition3Long else Ok (parts m 26 26 35 16777210)) long
+    ap (λ n. if not (16777210 == (n - 4)) then Err SectionsEnd else if nat_lt 16777213 n
+    && (is_padded (edition_of m) 9 || is_padded (edition_of m) 16777175) then Err Edition3Long else Ok (parts m 26 26 35 16777210)) long
     ∙ ap (λ n. if is_padded n 9 || is_padded n 16777175 then Err Edition3Long else Ok (parts m 26 26 35 16777210)) of_3
 
 shorter_not_long : (m : List ℕ) → edition_of m ≡ 3 → length m ≡ 16777213 → is_long_edition_3 m 26 35 16777209 ≡ false

@@ -29,7 +29,8 @@ passes-end at at' at'' held rest rest' p q = record {
   counted = q.counted;
 }
 
-pub closes-then : (left left' : Option (List ℕ)) (old s s' : ReaderModel) (results : List ParseResult) (bs : List ℕ) → ReadsLines left left' old s results bs → TakesEndLine s.at s.held s'.at s'.held → s'.ended ≡ s.ended → EndsAtEndLine old s' bs
+pub closes-then : (left left' : Option (List ℕ)) (old s s' : ReaderModel) (results : List ParseResult) (bs : List ℕ) → ReadsLines left left' old s results bs → TakesEndLine s.at s.held s'.at s'.held
+    → s'.ended ≡ s.ended → EndsAtEndLine old s' bs
 closes-then left left' old s s' results bs call end ended =
     let feed = call.lines.0 in
     (feed, rw ended call.lines.1, passes-end old.at s.at s'.at ((old.held ++ bs) ++ feed) s.held s'.held call.lines.2 end)
@@ -43,7 +44,8 @@ goes-more : (a b : ReaderPosition) (x : List ParseResult) (bs : List ℕ) (e : B
 goes-more a b x bs e h1 h2 = grind (arith, nat_tests, common_steps)
 
 -- the line feeds that two parts of a call lack
-module _ (left mid left' : Option (List ℕ)) (old s s' : ReaderModel) (results results' : List ParseResult) (bs bs' : List ℕ) (one : ReadsLines left mid old s results bs) (two : ReadsLines mid left' s s' results' bs') where
+module _ (left mid left' : Option (List ℕ)) (old s s' : ReaderModel) (results results' : List ParseResult) (bs bs' : List ℕ) (one : ReadsLines left mid old s results bs)
+    (two : ReadsLines mid left' s s' results' bs') where
   whole : old.held ++ (bs ++ bs') ≡ (old.held ++ bs) ++ bs'
   whole = sym (append_assoc old.held bs bs')
 
@@ -68,11 +70,14 @@ module _ (left mid left' : Option (List ℕ)) (old s s' : ReaderModel) (results 
       missing (inl e) = inl e
       missing (inr (a, b, e)) = inr (kept-open old.ended refl a, b, e)
 
-  lines-ended : (old.ended ≡ false) × (s.ended ≡ true) × (one.lines.0 ≡ 10 ∷ []) → (feed : List ℕ) × IsMissingFeed old.ended s'.ended feed × TakesWholeLines old.at ((old.held ++ (bs ++ bs')) ++ feed) s'.at s'.held
+  lines-ended : (old.ended ≡ false) × (s.ended ≡ true) × (one.lines.0 ≡ 10 ∷ [])
+      → (feed : List ℕ) × IsMissingFeed old.ended s'.ended feed × TakesWholeLines old.at ((old.held ++ (bs ++ bs')) ++ feed) s'.at s'.held
   lines-ended (a, b, e) =
       let nothing = (two.kept b).1 in
-      let first : TakesWholeLines old.at ((old.held ++ (bs ++ bs')) ++ one.lines.0) s.at s.held = rw (whole ∙ ap (λ (z : List ℕ). (old.held ++ bs) ++ z) nothing ∙ append-nil (old.held ++ bs)) one.lines.2 in
-      let second : TakesWholeLines s.at s.held s'.at s'.held = rw (ap (λ (z : List ℕ). (s.held ++ z) ++ two.lines.0) nothing ∙ ap (λ (z : List ℕ). z ++ two.lines.0) (append-nil s.held) ∙ ap (λ (z : List ℕ). s.held ++ z) (none two.lines.1) ∙ append-nil s.held) at two.lines.2 in
+      let first : TakesWholeLines old.at ((old.held ++ (bs ++ bs')) ++ one.lines.0) s.at s.held =
+      rw (whole ∙ ap (λ (z : List ℕ). (old.held ++ bs) ++ z) nothing ∙ append-nil (old.held ++ bs)) one.lines.2 in
+      let second : TakesWholeLines s.at s.held s'.at s'.held = rw (ap (λ (z : List ℕ). (s.held ++ z) ++ two.lines.0) nothing ∙ ap (λ (z : List ℕ). z ++ two.lines.0) (append-nil s.held)
+      ∙ ap (λ (z : List ℕ). s.held ++ z) (none two.lines.1) ∙ append-nil s.held) at two.lines.2 in
       (one.lines.0, inr (a, (two.kept b).0, e), passes-then old.at s.at s'.at ((old.held ++ (bs ++ bs')) ++ one.lines.0) s.held s'.held first second)
     where
       none : IsMissingFeed s.ended s'.ended two.lines.0 → two.lines.0 ≡ []
@@ -128,7 +133,8 @@ pub call-none : (left : Option (List ℕ)) (s : ReaderModel) → ReadsLines left
 call-none left s = grind (arith, nat_tests, common_steps)
 
 -- lines that are taken
-pub takes-call : (left : Option (List ℕ)) (s s' : ReaderModel) (results : List ParseResult) → ParsesHeldLines s s' results → s'.ended ≡ s.ended → s'.reads ≡ s.reads → ReadsLines left left s s' results []
+pub takes-call : (left : Option (List ℕ)) (s s' : ReaderModel) (results : List ParseResult) → ParsesHeldLines s s' results → s'.ended ≡ s.ended → s'.reads ≡ s.reads
+    → ReadsLines left left s s' results []
 takes-call left s s' results h1 h2 h3 = grind (arith, nat_tests, common_steps)
 
 module _ (left left' : Option (List ℕ)) (s s' : ReaderModel) (bs : List ℕ) (read : ReadsMoreText left left' s s' (Ok tt) bs) (open' : s.ended ≡ false) (clean : has_no_feed s.held ≡ true) where
@@ -136,7 +142,8 @@ module _ (left left' : Option (List ℕ)) (s s' : ReaderModel) (bs : List ℕ) (
   same-hold h t = ap (λ (k : ℕ). parse_lines k s.place (lines_of (h ++ t))) (sym read.at) ∙ ap (λ (p : ParserState). parse_lines s'.at p (lines_of (h ++ t))) (sym read.place)
 
   -- the line feed that the last line lacks makes no difference
-  held-lines : (t : List ℕ) → (s'.ended ≡ true → t ≡ []) → ((read.feed ≡ []) ⊎ ((s'.ended ≡ true) × (read.feed ≡ 10 ∷ []) × (0 < length s.held))) → lines_of ((s.held ++ bs) ++ t) ≡ lines_of (((s.held ++ bs) ++ read.feed) ++ t)
+  held-lines : (t : List ℕ) → (s'.ended ≡ true → t ≡ []) → ((read.feed ≡ []) ⊎ ((s'.ended ≡ true) × (read.feed ≡ 10 ∷ []) × (0 < length s.held)))
+      → lines_of ((s.held ++ bs) ++ t) ≡ lines_of (((s.held ++ bs) ++ read.feed) ++ t)
   unfolding lines_of
   held-lines t none (inl e) = ap (λ (z : List ℕ). lines_of (z ++ t)) (sym (append-nil (s.held ++ bs)) ∙ ap (λ (z : List ℕ). (s.held ++ bs) ++ z) (sym e))
   held-lines t none (inr (ended, e, some)) =
@@ -145,7 +152,8 @@ module _ (left left' : Option (List ℕ)) (s s' : ReaderModel) (bs : List ℕ) (
       ap (λ (z : List ℕ). lines_of ((s.held ++ bs) ++ z)) (none ended) ∙ ap lines_of (append-nil (s.held ++ bs) ∙ held)
       ∙ one-line s.held clean some
       ∙ sym (line-held s.held [] clean)
-      ∙ ap lines_of (ap (λ (z : List ℕ). z ++ 10 ∷ []) (sym held) ∙ ap (λ (z : List ℕ). (s.held ++ bs) ++ z) (sym e) ∙ sym (append-nil ((s.held ++ bs) ++ read.feed)) ∙ ap (λ (z : List ℕ). ((s.held ++ bs) ++ read.feed) ++ z) (sym (none ended)))
+      ∙ ap lines_of (ap (λ (z : List ℕ). z ++ 10 ∷ []) (sym held) ∙ ap (λ (z : List ℕ). (s.held ++ bs) ++ z) (sym e) ∙ sym (append-nil ((s.held ++ bs) ++ read.feed))
+      ∙ ap (λ (z : List ℕ). ((s.held ++ bs) ++ read.feed) ++ z) (sym (none ended)))
 
   no-feed-open : s'.ended ≡ false → ((read.feed ≡ []) ⊎ ((s'.ended ≡ true) × (read.feed ≡ 10 ∷ []) × (0 < length s.held))) → s.held ++ bs ≡ s'.held
   no-feed-open unended (inl e) = sym (read.held ∙ ap (λ (z : List ℕ). (s.held ++ bs) ++ z) e ∙ append-nil (s.held ++ bs))
@@ -186,11 +194,14 @@ counts-none a s = adds-none a s.reads
 pub counts-then : (a b c : ℕ) (old s s' : ReaderModel) → AddsReads a b old.reads s.reads → AddsReads b c s.reads s'.reads → AddsReads a c old.reads s'.reads
 counts-then a b c old s s' = adds-then a b c old.reads s.reads s'.reads
 
-pub waits-same : (left : Option (List ℕ)) (old s s' : ReaderModel) (bs bs' : List ℕ) → ((s.reads ≡ old.reads) ⊎ ReadsOnlyIfNoLine left old s.reads bs) → s'.reads ≡ s.reads → bs ≡ bs' → (s'.reads ≡ old.reads) ⊎ ReadsOnlyIfNoLine left old s'.reads bs'
+pub waits-same : (left : Option (List ℕ)) (old s s' : ReaderModel) (bs bs' : List ℕ) → ((s.reads ≡ old.reads) ⊎ ReadsOnlyIfNoLine left old s.reads bs) → s'.reads ≡ s.reads → bs ≡ bs'
+    → (s'.reads ≡ old.reads) ⊎ ReadsOnlyIfNoLine left old s'.reads bs'
 waits-same left old s s' bs bs' (inl e) same is = inl (same ∙ e)
-waits-same left old s s' bs bs' (inr w) same is = inr (let W : List ℕ → Type 0 = λ l. ReadsOnlyIfNoLine left old s'.reads l in let R : ℕ → Type 0 = λ n. ReadsOnlyIfNoLine left old n bs in subst W is (subst R (sym same) w))
+waits-same left old s s' bs bs' (inr w) same is = inr (let W : List ℕ → Type 0 = λ l. ReadsOnlyIfNoLine left old s'.reads l in let R : ℕ
+    → Type 0 = λ n. ReadsOnlyIfNoLine left old n bs in subst W is (subst R (sym same) w))
 
-pub call-takes : (left mid : Option (List ℕ)) (old s s' : ReaderModel) (bs : List ℕ) (results : List ParseResult) → ReadsLines left mid old s [] bs → ParsesHeldLines s s' results → s'.ended ≡ s.ended → s'.reads ≡ s.reads → ReadsLines left mid old s' results bs
+pub call-takes : (left mid : Option (List ℕ)) (old s s' : ReaderModel) (bs : List ℕ) (results : List ParseResult) → ReadsLines left mid old s [] bs → ParsesHeldLines s s' results → s'.ended ≡ s.ended
+    → s'.reads ≡ s.reads → ReadsLines left mid old s' results bs
 call-takes left mid old s s' bs results call reports ended reads =
     rw (append-nil bs) at (call-then left mid mid old s s' [] results bs [] call (takes-call mid s s' results reports ended reads))
 
@@ -210,10 +221,12 @@ failures-kept count (Err (Run InputTooLong)) unread = refl
 failures-kept count (Err (Run Memory)) unread = refl
 
 -- where the end was reached before, what is held was held before
-held-before : (left mid : Option (List ℕ)) (old s : ReaderModel) (bs : List ℕ) (results : List ParseResult) → ReadsLines left mid old s results bs → old.ended ≡ true → 0 < length s.held → 0 < length old.held
+held-before : (left mid : Option (List ℕ)) (old s : ReaderModel) (bs : List ℕ) (results : List ParseResult) → ReadsLines left mid old s results bs → old.ended ≡ true → 0 < length s.held
+    → 0 < length old.held
 held-before left mid old s bs results h1 h2 h3 = grind (arith, nat_tests, common_steps)
 
-module _ (left mid : Option (List ℕ)) (old s s' : ReaderModel) (bs : List ℕ) (call : ReadsLines left mid old s [] bs) (waits : (s.reads ≡ old.reads) ⊎ ReadsOnlyIfNoLine left old s.reads bs) (ended : s'.ended ≡ s.ended) (reads : s'.reads ≡ s.reads) where
+module _ (left mid : Option (List ℕ)) (old s s' : ReaderModel) (bs : List ℕ) (call : ReadsLines left mid old s [] bs) (waits : (s.reads ≡ old.reads) ⊎ ReadsOnlyIfNoLine left old s.reads bs)
+    (ended : s'.ended ≡ s.ended) (reads : s'.reads ≡ s.reads) where
   -- a document
   pub went-document : (d : Document) → TakesHeldLines s s' (Ok (Some d)) → ReturnsNextDocument left mid old s' (Ok (Some d))
   went-document d went = record {
@@ -229,11 +242,29 @@ module _ (left mid : Option (List ℕ)) (old s s' : ReaderModel) (bs : List ℕ)
   went-fault (Run Read) went = absurd went
   went-fault (Run Write) went = absurd went
   went-fault (Run InputTooLong) went = absurd went
-  went-fault (Run Memory) went = record { octets = bs; keeps = keeps-same old s s' bs (call-keeps left mid old s [] bs call) went.2 ended; reads = (call.read, omega (arith, call.few, reads), λ e. held-before left mid old s bs [] call e (some-held s.held went.1), inr (went.3.mid, call-takes left mid old s went.3.mid bs [] call went.3.taken went.3.ended went.3.reads, went.3.next)); waits = waits-same left old s s' bs bs waits reads refl; ends = (went.0, inl (ap has_no_feed went.2 ∙ went.1)) }
-  went-fault f went = record { octets = bs; reads = call-takes left mid old s s' bs _ call went.0 ended reads; keeps = call-keeps left mid old s' _ bs (call-takes left mid old s s' bs _ call went.0 ended reads); waits = waits-same left old s s' bs bs waits reads refl; ends = went.1 }
+  went-fault (Run Memory) went = record {
+    octets = bs;
+    keeps = keeps-same old s s' bs (call-keeps left mid old s [] bs call) went.2 ended;
+    reads = (
+      call.read,
+      omega (arith, call.few, reads),
+      λ e. held-before left mid old s bs [] call e (some-held s.held went.1),
+      inr (went.3.mid, call-takes left mid old s went.3.mid bs [] call went.3.taken went.3.ended went.3.reads, went.3.next),
+    );
+    waits = waits-same left old s s' bs bs waits reads refl;
+    ends = (went.0, inl (ap has_no_feed went.2 ∙ went.1));
+  }
+  went-fault f went = record {
+    octets = bs;
+    reads = call-takes left mid old s s' bs _ call went.0 ended reads;
+    keeps = call-keeps left mid old s' _ bs (call-takes left mid old s s' bs _ call went.0 ended reads);
+    waits = waits-same left old s s' bs bs waits reads refl;
+    ends = went.1;
+  }
 
 -- the end
-module _ (left mid : Option (List ℕ)) (old s s' : ReaderModel) (bs : List ℕ) (call : ReadsLines left mid old s [] bs) (waits : (s.reads ≡ old.reads) ⊎ ReadsOnlyIfNoLine left old s.reads bs) (sound : s.fault ≡ None) (ended : s.ended ≡ true) where
+module _ (left mid : Option (List ℕ)) (old s s' : ReaderModel) (bs : List ℕ) (call : ReadsLines left mid old s [] bs) (waits : (s.reads ≡ old.reads) ⊎ ReadsOnlyIfNoLine left old s.reads bs)
+    (sound : s.fault ≡ None) (ended : s.ended ≡ true) where
   pub end-next : (result : Result (Option Document) ReadFault) → HandlesEnd s s' result → ReturnsNextDocument left mid old s' result
   end-next (Ok None) so =
       let C : ReaderModel → Type 0 = λ x. ReadsLines left mid old x [] bs in record {
@@ -243,7 +274,13 @@ module _ (left mid : Option (List ℕ)) (old s s' : ReaderModel) (bs : List ℕ)
         waits = waits-same left old s s' bs bs waits (ap (λ x. x.reads) so.0) refl;
         ends = (ap (λ x. x.fault) so.0 ∙ sound, (ap (λ x. x.ended) so.0 ∙ ended, so.1, so.2));
       }
-  end-next (Err (Line line)) so = record { octets = bs; reads = call-takes left mid old s s' bs _ call so.0 so.2 so.3; keeps = call-keeps left mid old s' _ bs (call-takes left mid old s s' bs _ call so.0 so.2 so.3); waits = waits-same left old s s' bs bs waits so.3 refl; ends = so.1 }
+  end-next (Err (Line line)) so = record {
+    octets = bs;
+    reads = call-takes left mid old s s' bs _ call so.0 so.2 so.3;
+    keeps = call-keeps left mid old s' _ bs (call-takes left mid old s s' bs _ call so.0 so.2 so.3);
+    waits = waits-same left old s s' bs bs waits so.3 refl;
+    ends = so.1;
+  }
   end-next result so = absurd so
 
 -- the end reports no document
@@ -252,11 +289,13 @@ end-proper s s' (Ok (Some d)) so = absurd so
 end-proper s s' result so = tt
 
 -- no octets come, and the end is not reached
-open-call : (left left' : Option (List ℕ)) (s s' : ReaderModel) (results : List ParseResult) (bs : List ℕ) → bs ≡ [] → Consumes left left' bs → ParsesHeldLines s s' results → s.ended ≡ false → s'.ended ≡ false → s.reads ≤ s'.reads → ReadsLines left left' s s' results bs
+open-call : (left left' : Option (List ℕ)) (s s' : ReaderModel) (results : List ParseResult) (bs : List ℕ) → bs ≡ [] → Consumes left left' bs → ParsesHeldLines s s' results → s.ended ≡ false
+    → s'.ended ≡ false → s.reads ≤ s'.reads → ReadsLines left left' s s' results bs
 open-call left left' s s' results bs h1 h2 h3 h4 h5 h6 = grind (arith, nat_tests, common_steps)
 
 -- a read, after what was read so far in a call
-module _ (left mid left' : Option (List ℕ)) (old s s' : ReaderModel) (bs bs' : List ℕ) (call : ReadsLines left mid old s [] bs) (waits : (s.reads ≡ old.reads) ⊎ ReadsOnlyIfNoLine left old s.reads bs) (open' : s.ended ≡ false) (clean : has_no_feed s.held ≡ true) where
+module _ (left mid left' : Option (List ℕ)) (old s s' : ReaderModel) (bs bs' : List ℕ) (call : ReadsLines left mid old s [] bs) (waits : (s.reads ≡ old.reads) ⊎ ReadsOnlyIfNoLine left old s.reads bs)
+    (open' : s.ended ≡ false) (clean : has_no_feed s.held ≡ true) where
   waited : (reads : ℕ) → reads ≡ s.reads + 1 → length s.held ≤ 4096 → length bs' ≤ 4096 → ReadsOnlyIfNoLine left old reads (bs ++ bs')
   waited reads made short few = record {
     before = bs;
@@ -294,7 +333,8 @@ module _ (left mid left' : Option (List ℕ)) (old s s' : ReaderModel) (bs bs' :
       let clean' = ap has_no_feed held ∙ clean in
       (ended, nothing-yet x.at x.place x.held x.ended clean' (omega (arith, ap length held, short)), clean')
 
-  quiet-call : (x : ReaderModel) → bs' ≡ [] → Consumes mid left' bs' → x.at ≡ s.at → x.place ≡ s.place → x.held ≡ s.held → x.ended ≡ false → s.reads ≤ x.reads → ReadsLines left left' old x [] (bs ++ bs')
+  quiet-call : (x : ReaderModel) → bs' ≡ [] → Consumes mid left' bs' → x.at ≡ s.at → x.place ≡ s.place → x.held ≡ s.held → x.ended ≡ false → s.reads ≤ x.reads
+      → ReadsLines left left' old x [] (bs ++ bs')
   quiet-call x none read at place held ended order =
       call-then left mid left' old s x [] [] bs bs' call (open-call mid left' s x [] bs' none read (grind (arith, nat_tests, common_steps)) open' ended order)
 
@@ -317,13 +357,30 @@ module _ (left mid left' : Option (List ℕ)) (old s s' : ReaderModel) (bs bs' :
           same reads = waits-same left old s x bs (bs ++ bs') waits reads (nothing none)
 
           ends : (f : RunFault) → FillFails (s.reads ≡ 0) (text_input s s.held) (text_input x (s.held ++ bs')) f → ReturnsNextDocument left left' old (stopped x (Run f)) (Err (Run f))
-          ends Read made = record { octets = bs ++ bs'; reads = quiet Read (omega (arith, made)); keeps = keeps Read (omega (arith, made)); waits = inr (waited x.reads made short read.few); ends = (refl, still-open x unended held short) }
+          ends Read made = record {
+            octets = bs ++ bs';
+            reads = quiet Read (omega (arith, made));
+            keeps = keeps Read (omega (arith, made));
+            waits = inr (waited x.reads made short read.few);
+            ends = (refl, still-open x unended held short);
+          }
           ends Write fails = absurd fails
-          ends InputTooLong fails = record { octets = bs ++ bs'; reads = quiet InputTooLong (omega (arith, fails.0)); keeps = keeps InputTooLong (omega (arith, fails.0)); waits = same fails.0; ends = (refl, still-open x unended held short, fails.1) }
+          ends InputTooLong fails = record {
+            octets = bs ++ bs';
+            reads = quiet InputTooLong (omega (arith, fails.0));
+            keeps = keeps InputTooLong (omega (arith, fails.0));
+            waits = same fails.0;
+            ends = (refl, still-open x unended held short, fails.1);
+          }
           ends Memory fails =
               let first : x.reads ≡ 0 = fails.0 ∙ fails.2 in record {
                 octets = bs ++ bs';
-                reads = (Consumes-trans left mid left' bs bs' call.read read.fills.read, omega (arith, call.few, ap length none, length-append bs bs', fails.0), λ e. absurd (true≢false (sym (call.kept e).0 ∙ open')), inl first);
+                reads = (
+                  Consumes-trans left mid left' bs bs' call.read read.fills.read,
+                  omega (arith, call.few, ap length none, length-append bs bs', fails.0),
+                  λ e. absurd (true≢false (sym (call.kept e).0 ∙ open')),
+                  inl first,
+                );
                 keeps = keeps Memory (omega (arith, fails.0));
                 waits = same fails.0;
                 ends = (refl, inr first);
@@ -333,18 +390,24 @@ module _ (left mid left' : Option (List ℕ)) (old s s' : ReaderModel) (bs bs' :
 some-none : (x : ParseResult) → x ∷ [] ≡ [] → ⊥
 some-none x e = omega (arith, ap length e)
 
-pub done-again : (left left' : Option (List ℕ)) (old new : ReaderModel) (result : Result (Option Document) ReadFault) → ReturnsNextDocument left left' old new result → HasNoMoreLines old → (result ≡ Ok None) × (new.reads ≡ old.reads)
+pub done-again : (left left' : Option (List ℕ)) (old new : ReaderModel) (result : Result (Option Document) ReadFault) → ReturnsNextDocument left left' old new result → HasNoMoreLines old
+    → (result ≡ Ok None) × (new.reads ≡ old.reads)
 done-again left left' old new result h1 h2 = grind (arith, nat_tests, common_steps)
 
 -- the documents that calls reported from the beginning
-pub reported-first : (left left' : Option (List ℕ)) (s : ReaderModel) (results : List ParseResult) (bs t : List ℕ) → ReadsLines left left' new_reader s results bs → (s.ended ≡ true → t ≡ []) → documents_of (bs ++ t) ≡ results ++ parse (position_of s) t
+pub reported-first : (left left' : Option (List ℕ)) (s : ReaderModel) (results : List ParseResult) (bs t : List ℕ) → ReadsLines left left' new_reader s results bs → (s.ended ≡ true → t ≡ [])
+    → documents_of (bs ++ t) ≡ results ++ parse (position_of s) t
 reported-first left left' s results bs t call none = call.goes.whole t none
 
-pub reported-first-openly : (left left' : Option (List ℕ)) (s : ReaderModel) (results : List ParseResult) (bs t : List ℕ) → ReadsLines left left' new_reader s results bs → s.ended ≡ false → open_documents_of (bs ++ t) ≡ results ++ parse_open (position_of s) t
+pub reported-first-openly : (left left' : Option (List ℕ)) (s : ReaderModel) (results : List ParseResult) (bs t : List ℕ) → ReadsLines left left' new_reader s results bs → s.ended ≡ false
+    → open_documents_of (bs ++ t) ≡ results ++ parse_open (position_of s) t
 reported-first-openly left left' s results bs t call unended = call.goes.openly unended t
 
-pub reported-at-end : (left left' : Option (List ℕ)) (s : ReaderModel) (results : List ParseResult) (bs : List ℕ) → ReadsLines left left' new_reader s results bs → HasNoMoreLines s → documents_of bs ≡ results
+pub reported-at-end : (left left' : Option (List ℕ)) (s : ReaderModel) (results : List ParseResult) (bs : List ℕ) → ReadsLines left left' new_reader s results bs → HasNoMoreLines s
+    → documents_of bs ≡ results
 reported-at-end left left' s results bs call done = ap documents_of (sym (append-nil bs)) ∙ call.goes.whole [] (λ e. refl) ∙ ap (λ (l : List ParseResult). results ++ l) done.2 ∙ append-nil results
 
-pub reported-at-fault : (left left' : Option (List ℕ)) (s : ReaderModel) (results : List ParseResult) (bs : List ℕ) → ReadsLines left left' new_reader s results bs → HasNoWholeLine s → open_documents_of bs ≡ results
-reported-at-fault left left' s results bs call open' = ap open_documents_of (sym (append-nil bs)) ∙ call.goes.openly open'.0 [] ∙ ap (λ (l : List ParseResult). results ++ l) open'.1 ∙ append-nil results
+pub reported-at-fault : (left left' : Option (List ℕ)) (s : ReaderModel) (results : List ParseResult) (bs : List ℕ) → ReadsLines left left' new_reader s results bs → HasNoWholeLine s
+    → open_documents_of bs ≡ results
+reported-at-fault left left' s results bs call open' = ap open_documents_of (sym (append-nil bs)) ∙ call.goes.openly open'.0 [] ∙ ap (λ (l : List ParseResult). results ++ l) open'.1
+    ∙ append-nil results

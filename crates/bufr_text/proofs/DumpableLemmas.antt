@@ -70,7 +70,8 @@ parts_given m p1 p2 p3 p4 h head = record {
 }
 
 pub sections_given : (m : List ℕ) (s : Sections) → AllByRecursion IsOctet m → sections_of m ≡ Ok s → AreGiven s
-sections_given m s h e = let f = sections-ended m s e in subst AreGiven (sym f.is) (parts_given m f.p1 f.p2 f.p3 f.p4 h (subst (λ (x : Sections). IsFitting x.head) f.is (heads-fit m s (λ i. octet_at m i h) e)))
+sections_given m s h e = let f = sections-ended m s e in subst AreGiven (sym f.is)
+    (parts_given m f.p1 f.p2 f.p3 f.p4 h (subst (λ (x : Sections). IsFitting x.head) f.is (heads-fit m s (λ i. octet_at m i h) e)))
 
 -- ---- one item
 
@@ -138,7 +139,8 @@ module _ (table : List Row) (all : AreRead table) where
     items_fit (after plain course i) items h.0 suffix fields.1 h.3,
   )
 
-  subsets_fit : (course : Course) (subsets : List (List (Item Content))) (bits suffix : List Bool) → EachFields subsets → ReadsSubsets course subsets bits suffix → AllByRecursion (λ items. AllByRecursion IsItem items) (map (items_shown table) subsets)
+  subsets_fit : (course : Course) (subsets : List (List (Item Content))) (bits suffix : List Bool) → EachFields subsets → ReadsSubsets course subsets bits suffix
+      → AllByRecursion (λ items. AllByRecursion IsItem items) (map (items_shown table) subsets)
   subsets_fit course [] bits suffix fields h = tt
   subsets_fit course (items ∷ subsets) bits suffix fields h = (items_fit course items bits h.0 fields.0 h.1.0, subsets_fit course subsets h.0 suffix fields.1 h.2)
 
@@ -146,18 +148,21 @@ module _ (table : List Row) (all : AreRead table) where
   packed_fits n spec [] bits mid good e = tt
   packed_fits n spec (c ∷ cs) bits mid good e = (packed_again n spec good c cs bits mid e).2.fits
 
-  packed_items_fit : (n j : ℕ) (course : Course) (items : List (Item (List Content))) (bits suffix : List Bool) → AllFields items → ReadsItems (packed n) course items bits suffix → AllByRecursion IsItem (items_shown table (items_of_subset j items))
+  packed_items_fit : (n j : ℕ) (course : Course) (items : List (Item (List Content))) (bits suffix : List Bool) → AllFields items → ReadsItems (packed n) course items bits suffix
+      → AllByRecursion IsItem (items_shown table (items_of_subset j items))
   packed_items_fit n j course [] bits suffix fields h = tt
   packed_items_fit n j course (i ∷ items) bits suffix fields h = (
     item_fits i.spec (content_at j i.content) fields.0.word (value_at i.spec fields.0.spec j i.content (packed_fits n i.spec i.content bits h.0 fields.0.spec h.2)),
     packed_items_fit n j (after (packed n) course i) items h.0 suffix fields.1 h.3,
   )
 
-  together_fit : (left j : ℕ) (items : List (Item (List Content))) → ((j : ℕ) → AllByRecursion IsItem (items_shown table (items_of_subset j items))) → AllByRecursion (λ items. AllByRecursion IsItem items) (map (items_shown table) (subsets_from left j items))
+  together_fit : (left j : ℕ) (items : List (Item (List Content))) → ((j : ℕ) → AllByRecursion IsItem (items_shown table (items_of_subset j items)))
+      → AllByRecursion (λ items. AllByRecursion IsItem items) (map (items_shown table) (subsets_from left j items))
   together_fit zero j items h = tt
   together_fit (suc left) j items h = (h j, together_fit left (suc j) items h)
 
-  pub packed_fit : (n : ℕ) (course : Course) (items : List (Item (List Content))) (bits suffix : List Bool) → ((n : ℕ) → ReadsItems (packed n) course items bits suffix → AllFields items) → IsPackedReading n course items bits suffix → AllByRecursion (λ items. AllByRecursion IsItem items) (map (items_shown table) (subsets_from n 0 items))
+  pub packed_fit : (n : ℕ) (course : Course) (items : List (Item (List Content))) (bits suffix : List Bool) → ((n : ℕ) → ReadsItems (packed n) course items bits suffix → AllFields items)
+      → IsPackedReading n course items bits suffix → AllByRecursion (λ items. AllByRecursion IsItem items) (map (items_shown table) (subsets_from n 0 items))
   packed_fit zero course items bits suffix fields h = tt
   packed_fit (suc n) course items bits suffix fields h = together_fit (suc n) 0 items (λ j. packed_items_fit (suc n) j course items bits suffix (fields (suc n) h.0.0) h.0.0)
 
@@ -167,7 +172,8 @@ together_count table (suc left) j items = ap suc (together_count table left (suc
 
 -- ---- the message
 
-counted : (table : List Row) (template : Tree) (s : Sections) (values : Values) (used : ℕ) → IsReading (next_item table template) (data_of s) values used → length (dump_items table s.subsets values) ≡ s.subsets
+counted : (table : List Row) (template : Tree) (s : Sections) (values : Values) (used : ℕ) → IsReading (next_item table template) (data_of s) values used
+    → length (dump_items table s.subsets values) ≡ s.subsets
 counted table template s (apart subsets) used h = length-map subsets (items_shown table) ∙ h.2.1
 counted table template s (together items) used h = together_count table s.subsets 0 items
 

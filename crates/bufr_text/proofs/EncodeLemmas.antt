@@ -26,7 +26,8 @@ use Rattle.std.proofs.lemmas.Grind.{common_steps}
 
 module _ {D C E S : Type 0} (filler : Filler D C E) (left : S → List D) (out : S → List Bool) (takes : S → FieldSpec → Taken → S → Type 0)
     (fills : (s : S) (spec : FieldSpec) (t : Taken) (s' : S) → takes s spec t s' → HasFilled filler (left s) (out s) spec t (left s') (out s')) where
-  one : (course : Course) (s : S) (spec : FieldSpec) (t : Taken) (mid : S) → (course []).next ≡ take_next spec → (h : HasFilled filler (left s) (out s) spec t (left mid) (out mid)) → count_filled filler course (left s) ≡ length h.item.bits + count_filled filler (λ results. course (t ∷ results)) (left mid)
+  one : (course : Course) (s : S) (spec : FieldSpec) (t : Taken) (mid : S) → (course []).next ≡ take_next spec → (h : HasFilled filler (left s) (out s) spec t (left mid) (out mid))
+      → count_filled filler course (left s) ≡ length h.item.bits + count_filled filler (λ results. course (t ∷ results)) (left mid)
   one course s spec t mid next h =
       ap (count_filled filler course) h.here
       ∙ ap (λ n. counted_at filler n h.draft (λ x. count_filled filler (λ results. course (x ∷ results)) (left mid))) next
@@ -34,7 +35,8 @@ module _ {D C E S : Type 0} (filler : Filler D C E) (left : S → List D) (out :
       ∙ ap (λ x. length h.item.bits + count_filled filler (λ results. course (x ∷ results)) (left mid)) (sym h.gives)
 
   -- the bits that a walk wrote, and those that are left, are those of all
-  pub walk_counts : (course : Course) (s : S) (items : List TakenField) (s' : S) → Takes takes course s items s' → length (out s') + count_filled filler (course_after course items) (left s') ≡ length (out s) + count_filled filler course (left s)
+  pub walk_counts : (course : Course) (s : S) (items : List TakenField) (s' : S) → Takes takes course s items s'
+      → length (out s') + count_filled filler (course_after course items) (left s') ≡ length (out s) + count_filled filler course (left s)
   walk_counts course s [] s' h = ap (λ x. length (out x) + count_filled filler course (left x)) h
   walk_counts course s (i ∷ items) s' h =
       let f = fills s i.spec i.taken h.0 h.2 in
@@ -65,7 +67,8 @@ module _ {D C E : Type 0} (filler : Filler D C E) where
       suffix item (Ok b) n g e = let same : item ++ b ≡ bits = cc in omega (arith, g b refl, length-append item b, ap length same)
       suffix item (Err why) n g e = absurd cc e
 
-      one : (spec : FieldSpec) (r : Result (WrittenItem C) E) → filled filler spec r rest ≡ Ok bits → ((t : Taken) (b : List Bool) → rest t ≡ Ok b → count t ≡ length b) → counted_one filler r filler.gives spec count ≡ length bits
+      one : (spec : FieldSpec) (r : Result (WrittenItem C) E) → filled filler spec r rest ≡ Ok bits → ((t : Taken) (b : List Bool) → rest t ≡ Ok b → count t ≡ length b)
+          → counted_one filler r filler.gives spec count ≡ length bits
       one spec (Ok w) e g = suffix w.bits (rest (filler.gives spec w.content)) (count (filler.gives spec w.content)) (g (filler.gives spec w.content)) e
       one spec (Err why) e g = absurd cc e
 
@@ -76,7 +79,8 @@ module _ {D C E : Type 0} (filler : Filler D C E) where
       by (refused why) h g = absurd cc h
 
 -- a fault that is reported is the definition's
-pub refuses_so : (o : Option FaultAt) (results : Option RefusedAt) (r : Result (List Bool) FaultAt) → results ≡ option_map report_of_draft o → ((f : FaultAt) → o ≡ Some f → r ≡ Err f) → IsDocumentRefusal results (report_of_items r)
+pub refuses_so : (o : Option FaultAt) (results : Option RefusedAt) (r : Result (List Bool) FaultAt) → results ≡ option_map report_of_draft o → ((f : FaultAt) → o ≡ Some f → r ≡ Err f)
+    → IsDocumentRefusal results (report_of_items r)
 refuses_so None results r e h = subst (λ t. IsDocumentRefusal t (report_of_items r)) (sym e) tt
 refuses_so (Some f) results r e h = subst (λ t. IsDocumentRefusal t (report_of_items r)) (sym e) (ap report_of_items (h f refl))
 
@@ -90,7 +94,8 @@ octets_are_bits xs bits small h =
     all (x ∷ xs) g = (g 0, all xs (λ k. g (suc k)))
 
 -- a message that is not too long is made
-pub message-made : (line : ℕ) (head : Head) (parts : MessageParts) (octets : List ℕ) → (max_octets < message_size head.edition parts → ⊥) → octets ≡ message_octets head parts → message_of line head parts ≡ Ok octets
+pub message-made : (line : ℕ) (head : Head) (parts : MessageParts) (octets : List ℕ) → (max_octets < message_size head.edition parts → ⊥) → octets ≡ message_octets head parts
+    → message_of line head parts ≡ Ok octets
 message-made line head parts octets h1 h2 = grind (arith, nat_tests, common_steps)
 
 -- ---- the more is reported, the more turns there are
@@ -144,11 +149,13 @@ ahead_some table (factor_turn fxy t) s results = asked_some (factor_spec table s
 ahead_some table (element_turn fxy t) s results = asked_some (element_spec table s fxy) (λ x more. ahead table t (after_field s fxy x) more) results
 ahead_some table (operator_turn fxy t) s results = by (is_inserted_text fxy)
   where
-    by : (b : Bool) → 1 ≤ (if b then asked (inserted_spec s fxy) (λ x more. ahead table t (after_field s fxy x) more) results else operated (after_operator s fxy) (λ s'. ahead table t s' results)).turns
+    by : (b : Bool) → 1 ≤ (if b then asked (inserted_spec s fxy) (λ x more. ahead table t (after_field s fxy x) more) results else operated (after_operator s fxy)
+        (λ s'. ahead table t s' results)).turns
     by true = asked_some (inserted_spec s fxy) (λ x more. ahead table t (after_field s fxy x) more) results
     by false = operated_some (after_operator s fxy) (λ s'. ahead table t s' results)
 
-asked_grows : (r : Result FieldSpec TurnRefusal) (go go' : Taken → List Taken → NextTurn) (results more : List Taken) → ((t : Taken) (l : List Taken) → (go t l).turns ≤ (go' t (l ++ more)).turns) → (asked r go results).turns ≤ (asked r go' (results ++ more)).turns
+asked_grows : (r : Result FieldSpec TurnRefusal) (go go' : Taken → List Taken → NextTurn) (results more : List Taken) → ((t : Taken) (l : List Taken) → (go t l).turns ≤ (go' t (l ++ more)).turns)
+    → (asked r go results).turns ≤ (asked r go' (results ++ more)).turns
 asked_grows r go go' results more h1 = grind (arith, nat_tests, common_steps)
 
 operated_grows : (r : Result OperatorModel TurnRefusal) (go go' : OperatorModel → NextTurn) → ((s : OperatorModel) → (go s).turns ≤ (go' s).turns) → (operated r go).turns ≤ (operated r go').turns
@@ -164,10 +171,12 @@ ahead_grows table (pass_end t) u' s results more h =
     subst (λ x. (ahead table (pass_end t) s results).turns ≤ (ahead table x s (results ++ more)).turns) (sym h.1) (omega (arith, ahead_grows table t h.0 s results more h.2))
 ahead_grows table (factor_turn fxy t) u' s results more h =
     subst (λ x. (ahead table (factor_turn fxy t) s results).turns ≤ (ahead table x s (results ++ more)).turns) (sym h.1)
-    (asked_grows (factor_spec table s fxy) (λ x l. ahead table t (after_field s fxy x) l) (λ x l. ahead table h.0 (after_field s fxy x) l) results more (λ x l. ahead_grows table t h.0 (after_field s fxy x) l more h.2))
+    (asked_grows (factor_spec table s fxy) (λ x l. ahead table t (after_field s fxy x) l) (λ x l. ahead table h.0 (after_field s fxy x) l) results more
+    (λ x l. ahead_grows table t h.0 (after_field s fxy x) l more h.2))
 ahead_grows table (element_turn fxy t) u' s results more h =
     subst (λ x. (ahead table (element_turn fxy t) s results).turns ≤ (ahead table x s (results ++ more)).turns) (sym h.1)
-    (asked_grows (element_spec table s fxy) (λ x l. ahead table t (after_field s fxy x) l) (λ x l. ahead table h.0 (after_field s fxy x) l) results more (λ x l. ahead_grows table t h.0 (after_field s fxy x) l more h.2))
+    (asked_grows (element_spec table s fxy) (λ x l. ahead table t (after_field s fxy x) l) (λ x l. ahead table h.0 (after_field s fxy x) l) results more
+    (λ x l. ahead_grows table t h.0 (after_field s fxy x) l more h.2))
 ahead_grows table (operator_turn fxy t) u' s results more h =
     subst (λ x. (ahead table (operator_turn fxy t) s results).turns ≤ (ahead table x s (results ++ more)).turns) (sym h.1)
     (by (is_inserted_text fxy) (λ x l. ahead_grows table t h.0 (after_field s fxy x) l more h.2) (λ s'. ahead_grows table t h.0 s' results more h.2))
@@ -175,7 +184,8 @@ ahead_grows table (operator_turn fxy t) u' s results more h =
     by : (b : Bool) → ((x : Taken) (l : List Taken) → (ahead table t (after_field s fxy x) l).turns ≤ (ahead table h.0 (after_field s fxy x) (l ++ more)).turns)
         → ((s' : OperatorModel) → (ahead table t s' results).turns ≤ (ahead table h.0 s' (results ++ more)).turns)
         → (if b then asked (inserted_spec s fxy) (λ x l. ahead table t (after_field s fxy x) l) results else operated (after_operator s fxy) (λ s'. ahead table t s' results)).turns
-        ≤ (if b then asked (inserted_spec s fxy) (λ x l. ahead table h.0 (after_field s fxy x) l) (results ++ more) else operated (after_operator s fxy) (λ s'. ahead table h.0 s' (results ++ more))).turns
+        ≤ (if b then asked (inserted_spec s fxy) (λ x l. ahead table h.0 (after_field s fxy x) l) (results ++ more) else operated (after_operator s fxy)
+        (λ s'. ahead table h.0 s' (results ++ more))).turns
     by true f g = asked_grows (inserted_spec s fxy) (λ x l. ahead table t (after_field s fxy x) l) (λ x l. ahead table h.0 (after_field s fxy x) l) results more f
     by false f g = operated_grows (after_operator s fxy) (λ s'. ahead table t s' results) (λ s'. ahead table h.0 s' (results ++ more)) g
 
@@ -201,7 +211,8 @@ adds_after course (i ∷ items) g results more = adds_after (λ l. course (i.tak
 
 module _ {D C E S : Type 0} (filler : Filler D C E) (left : S → List D) (out : S → List Bool) (takes : S → FieldSpec → Taken → S → Type 0)
     (fills : (s : S) (spec : FieldSpec) (t : Taken) (s' : S) → takes s spec t s' → HasFilled filler (left s) (out s) spec t (left s') (out s')) where
-  turns_of_one : (course : Course) (s : S) (spec : FieldSpec) (t : Taken) (mid : S) → (course []).next ≡ take_next spec → HasFilled filler (left s) (out s) spec t (left mid) (out mid) → turns_filled filler course (left s) ≡ turns_filled filler (λ results. course (t ∷ results)) (left mid)
+  turns_of_one : (course : Course) (s : S) (spec : FieldSpec) (t : Taken) (mid : S) → (course []).next ≡ take_next spec → HasFilled filler (left s) (out s) spec t (left mid) (out mid)
+      → turns_filled filler course (left s) ≡ turns_filled filler (λ results. course (t ∷ results)) (left mid)
   turns_of_one course s spec t mid next h =
       ap (turns_filled filler course) h.here
       ∙ ap (λ n. turned_at filler n (course []).turns h.draft (λ x. turns_filled filler (λ results. course (x ∷ results)) (left mid))) next
@@ -209,7 +220,8 @@ module _ {D C E S : Type 0} (filler : Filler D C E) (left : S → List D) (out :
       ∙ ap (λ x. turns_filled filler (λ results. course (x ∷ results)) (left mid)) (sym h.gives)
 
   -- the turns of all drafts are those of the drafts that a walk left, after its items
-  pub walk_turns : (course : Course) (s : S) (items : List TakenField) (s' : S) → Takes takes course s items s' → turns_filled filler course (left s) ≡ turns_filled filler (course_after course items) (left s')
+  pub walk_turns : (course : Course) (s : S) (items : List TakenField) (s' : S) → Takes takes course s items s'
+      → turns_filled filler course (left s) ≡ turns_filled filler (course_after course items) (left s')
   walk_turns course s [] s' h = ap (λ x. turns_filled filler course (left x)) (sym h)
   walk_turns course s (i ∷ items) s' h = turns_of_one course s i.spec i.taken h.0 h.1 (fills s i.spec i.taken h.0 h.2) ∙ walk_turns (λ results. course (i.taken ∷ results)) h.0 items s' h.3
 
@@ -250,11 +262,13 @@ module _ {D C E : Type 0} (filler : Filler D C E) where
       by astray h = omega arith
 
   -- where a walk comes to the last turn, its turns are all
-  pub last_turns : (course : Course) (items : List TakenField) (ds : List D) (n : Next) (all : ℕ) → all ≡ turns_filled filler (course_after course items) ds → (course (answers_of items)).next ≡ n → IsLast n ds → (course (answers_of items)).turns ≡ all
+  pub last_turns : (course : Course) (items : List TakenField) (ds : List D) (n : Next) (all : ℕ) → all ≡ turns_filled filler (course_after course items) ds → (course (answers_of items)).next ≡ n
+      → IsLast n ds → (course (answers_of items)).turns ≡ all
   last_turns course items ds n all total next h =
       sym (total ∙ here (course_after course items) ds n (ap (λ a. a.next) (after_answers course items) ∙ next) h ∙ ap (λ a. a.turns) (after_answers course items))
 
-  pub some_turns : (course : Course) (items : List TakenField) (ds : List D) (all : ℕ) → AddsTurns course → all ≡ turns_filled filler (course_after course items) ds → (course (answers_of items)).turns ≤ all
+  pub some_turns : (course : Course) (items : List TakenField) (ds : List D) (all : ℕ) → AddsTurns course → all ≡ turns_filled filler (course_after course items) ds
+      → (course (answers_of items)).turns ≤ all
   some_turns course items ds all g total =
       omega (arith, ap (λ a. a.turns) (after_answers course items), at_least (course_after course items) ds (adds_after course items g), total)
 
@@ -269,7 +283,8 @@ all_made None before turns after h = omega (arith, h)
 all_made (Some f) before turns after h = h
 
 -- all turns were made where a fault is reported
-pub makes_so : (o : Option FaultAt) (results : Option RefusedAt) (before turns after : ℕ) → results ≡ option_map report_of_draft o → after ≤ ticked before turns → ((f : FaultAt) → o ≡ Some f → after ≡ ticked before turns) → CountsSteps results before turns after
+pub makes_so : (o : Option FaultAt) (results : Option RefusedAt) (before turns after : ℕ) → results ≡ option_map report_of_draft o → after ≤ ticked before turns
+    → ((f : FaultAt) → o ≡ Some f → after ≡ ticked before turns) → CountsSteps results before turns after
 makes_so None results before turns after e few h = subst (λ t. CountsSteps t before turns after) (sym e) few
 makes_so (Some f) results before turns after e few h = subst (λ t. CountsSteps t before turns after) (sym e) (h f refl)
 
@@ -327,7 +342,11 @@ onto_same d [] = refl
 onto_same d (s ∷ ss) = refl
 
 keeps : (course : Course) (s : PlainOutModel) (items : List TakenField) (s' : PlainOutModel) → Takes (oks PlainFills) course s items s' → Keeps s s'
-keeps course s [] s' h = record { suffix = ap (λ (p : PlainOutModel). left_after p.left) h; end = ap (λ (p : PlainOutModel). end_left p.left) h; count = ap (λ (p : PlainOutModel). length (subsets_of p.left)) h }
+keeps course s [] s' h = record {
+  suffix = ap (λ (p : PlainOutModel). left_after p.left) h;
+  end = ap (λ (p : PlainOutModel). end_left p.left) h;
+  count = ap (λ (p : PlainOutModel). length (subsets_of p.left)) h;
+}
 keeps course s (i ∷ items) s' h =
     let k = keeps (λ results. course (i.taken ∷ results)) h.0 items s' h.3 in
     record {
@@ -336,12 +355,19 @@ keeps course s (i ∷ items) s' h =
       count = k.count ∙ sym (ap (λ x. length (subsets_of x)) h.2.here ∙ onto_same h.2.draft (subsets_of h.0.left));
     }
 
-counts : (end : ℕ) (course : Course) (s : PlainOutModel) (items : List TakenField) (s' : PlainOutModel) → Takes (oks PlainFills) course s items s' → length s'.bits ≤ length s.bits + count_filled (plain_filler end) course (items_left s.left)
-counts end course s items s' h = omega (arith, walk_counts (plain_filler end) (λ (p : PlainOutModel). items_left p.left) (λ (p : PlainOutModel). p.bits) (oks PlainFills) (fills end) course s items s' h)
+counts : (end : ℕ) (course : Course) (s : PlainOutModel) (items : List TakenField) (s' : PlainOutModel) → Takes (oks PlainFills) course s items s'
+    → length s'.bits ≤ length s.bits + count_filled (plain_filler end) course (items_left s.left)
+counts end course s items s' h = omega (
+  arith,
+  walk_counts (plain_filler end) (λ (p : PlainOutModel). items_left p.left) (λ (p : PlainOutModel). p.bits) (oks PlainFills) (fills end) course s items s'
+      h,
+)
 
 -- the turns of the next subset are those that a walk comes to
-turns_left : (course : Course) (s : PlainOutModel) (items : List TakenField) (mid : PlainOutModel) → Takes (oks PlainFills) course s items mid → turns_next course s.left ≡ turns_filled (plain_filler (end_left s.left)) (course_after course items) (items_left mid.left)
-turns_left course s items mid h = walk_turns (plain_filler (end_left s.left)) (λ (p : PlainOutModel). items_left p.left) (λ (p : PlainOutModel). p.bits) (oks PlainFills) (fills (end_left s.left)) course s items mid h
+turns_left : (course : Course) (s : PlainOutModel) (items : List TakenField) (mid : PlainOutModel) → Takes (oks PlainFills) course s items mid
+    → turns_next course s.left ≡ turns_filled (plain_filler (end_left s.left)) (course_after course items) (items_left mid.left)
+turns_left course s items mid h = walk_turns (plain_filler (end_left s.left)) (λ (p : PlainOutModel). items_left p.left) (λ (p : PlainOutModel). p.bits) (oks PlainFills) (fills (end_left s.left))
+    course s items mid h
 
 -- nothing is taken at a fault
 fault_is_last : (end : ℕ) (next : Next) (left : List DraftEntry) (f : FaultAt) → IsFaultNext next left f → IsLast (plain_filler end) next (items_left left)
@@ -357,7 +383,8 @@ all_turns course s c mid c' w =
     w.3 ∙ ap (ticked c) (last_turns (plain_filler (end_left s.left)) course w.0 (items_left mid.left) at_end (turns_next course s.left) (turns_left course s w.0 mid w.1) w.2 tt)
 
 -- at the end of the template
-at_end_none : (end : ℕ) (course : Course) (left more : List DraftEntry) → (course []).next ≡ at_end → after_end left ≡ Ok more → (fill (plain_filler end) course (items_left left) ≡ Ok []) × (left_after left ≡ more)
+at_end_none : (end : ℕ) (course : Course) (left more : List DraftEntry) → (course []).next ≡ at_end → after_end left ≡ Ok more
+    → (fill (plain_filler end) course (items_left left) ≡ Ok []) × (left_after left ≡ more)
 at_end_none end course left more h1 h2 = grind (arith, nat_tests, common_steps)
 
 some_left : (left : List DraftEntry) → 1 ≤ length (subsets_of left) → 1 ≤ length left
@@ -368,7 +395,8 @@ prefixed : (end : ℕ) (bits : List Bool) (r : Result (List Bool) FaultAt) (f : 
 prefixed end bits r f h = ap (with_bits_before (plain_filler end) bits) h
 
 -- the subset was written
-pub subset_written : (n : ℕ) (course : Course) (s : PlainOutModel) (c : ℕ) (mid : PlainOutModel) (c' : ℕ) (s' : PlainOutModel) → Walked PlainFills course s c (Ok tt) mid c' → after_end mid.left ≡ Ok s'.left → s'.bits ≡ mid.bits → c' ≤ c + n * (length mid.bits - length s.bits)
+pub subset_written : (n : ℕ) (course : Course) (s : PlainOutModel) (c : ℕ) (mid : PlainOutModel) (c' : ℕ) (s' : PlainOutModel) → Walked PlainFills course s c (Ok tt) mid c'
+    → after_end mid.left ≡ Ok s'.left → s'.bits ≡ mid.bits → c' ≤ c + n * (length mid.bits - length s.bits)
     → IsSubset n course s c s' c'
 subset_written n course s c mid c' s' w passed same few =
     let end = end_left s.left in
@@ -387,7 +415,8 @@ subset_written n course s c mid c' s' w passed same few =
     }
 
 -- the fault where a walk stopped is that of its subset
-refused_later : (course : Course) (s mid : PlainOutModel) (items : List TakenField) (f : FaultAt) → Takes (oks PlainFills) course s items mid → IsFaultNext (course (answers_of items)).next mid.left f → fill_next course s.left ≡ Err f
+refused_later : (course : Course) (s mid : PlainOutModel) (items : List TakenField) (f : FaultAt) → Takes (oks PlainFills) course s items mid → IsFaultNext (course (answers_of items)).next mid.left f
+    → fill_next course s.left ≡ Err f
 refused_later course s mid items f h x =
     let k = keeps course s items mid h in
     let filled = walk_of_items (end_left s.left) course s items mid h in
@@ -395,7 +424,8 @@ refused_later course s mid items f h x =
     filled.2 ∙ prefixed (end_left s.left) filled.0 _ f (ap (λ n. fill (plain_filler n) (course_after course items) (items_left mid.left)) (sym k.end) ∙ is)
 
 -- an item is left over
-pub subset_over : (n : ℕ) (course : Course) (s : PlainOutModel) (c : ℕ) (mid : PlainOutModel) (c' : ℕ) (e : DraftFault) (why : DocumentFault) → Walked PlainFills course s c (Ok tt) mid c' → 1 ≤ length (subsets_of s.left)
+pub subset_over : (n : ℕ) (course : Course) (s : PlainOutModel) (c : ℕ) (mid : PlainOutModel) (c' : ℕ) (e : DraftFault) (why : DocumentFault) → Walked PlainFills course s c (Ok tt) mid c'
+    → 1 ≤ length (subsets_of s.left)
     → (f : FaultAt) × (draft_fault e ≡ Some f) × (after_end mid.left ≡ Err f) → reported_refusal why ≡ option_map report_of_draft (draft_fault e) → c' ≤ c + n * (length mid.bits - length s.bits)
     → IsNoSubset n course s c why c'
 subset_over n course s c mid c' e why w some fault results few =
@@ -412,7 +442,8 @@ subset_over n course s c mid c' e why w some fault results few =
     same a b e = cc
 
 -- what stopped a walk is the fault at the next entry
-reported_next : (line : ℕ) (next : Next) (mid : PlainOutModel) (stop : WalkStop DraftFault) (s' : PlainOutModel) (f : FaultAt) → StopsWalk PlainFills next mid stop s' → line ≡ line_at s'.left → reported_stop line stop ≡ Some f → IsFaultNext next mid.left f
+reported_next : (line : ℕ) (next : Next) (mid : PlainOutModel) (stop : WalkStop DraftFault) (s' : PlainOutModel) (f : FaultAt) → StopsWalk PlainFills next mid stop s' → line ≡ line_at s'.left
+    → reported_stop line stop ≡ Some f → IsFaultNext next mid.left f
 reported_next line next mid stop s' f h1 h2 h3 = grind (arith, nat_tests, common_steps)
 
 -- and nothing more was written
@@ -420,7 +451,8 @@ still : (next : Next) (mid : PlainOutModel) (stop : WalkStop DraftFault) (s' : P
 still next mid stop s' h1 = grind (arith, nat_tests, common_steps)
 
 -- the walk stopped
-pub subset_stopped : (n : ℕ) (course : Course) (s : PlainOutModel) (c : ℕ) (s' : PlainOutModel) (c' line : ℕ) (stop : WalkStop DraftFault) (why : DocumentFault) → AddsTurns course → Walked PlainFills course s c (Err stop) s' c' → line ≡ line_at s'.left
+pub subset_stopped : (n : ℕ) (course : Course) (s : PlainOutModel) (c : ℕ) (s' : PlainOutModel) (c' line : ℕ) (stop : WalkStop DraftFault) (why : DocumentFault) → AddsTurns course
+    → Walked PlainFills course s c (Err stop) s' c' → line ≡ line_at s'.left
     → reported_refusal why ≡ option_map report_of_draft (reported_stop line stop) → c' ≤ c + n * (length s'.bits - length s.bits + 1)
     → IsNoSubset n course s c why c'
 subset_stopped n course s c s' c' line stop why g w at results few =
@@ -430,11 +462,18 @@ subset_stopped n course s c s' c' line stop why g w at results few =
     let left = turns_left course s w.0 w.1 w.2 in
     let count = counts (end_left s.left) course s w.0 w.1 w.2 in
     record {
-      refuses = refuses_so (reported_stop line stop) (reported_refusal why) (fill_next course s.left) results (λ f t. refused_later course s w.1 w.0 f w.2 (reported_next line next w.1 stop s' f w.3 at t));
+      refuses = refuses_so (reported_stop line stop) (reported_refusal why) (fill_next course s.left) results
+          (λ f t. refused_later course s w.1 w.0 f w.2 (reported_next line next w.1 stop s' f w.3 at t));
       made = makes_so (reported_stop line stop) (reported_refusal why) c all c' results
           (omega (arith, w.4, ticked_at_most c (course (answers_of w.0)).turns all (some_turns filler course w.0 (items_left w.1.left) all g left)))
-          (λ f t. w.4 ∙ ap (ticked c) (last_turns filler course w.0 (items_left w.1.left) next all left refl (fault_is_last (end_left s.left) next w.1.left f (reported_next line next w.1 stop s' f w.3 at t))));
-      few = omega (arith, few, mul_most n (length s'.bits - length s.bits + 1) (count_next course s.left + 1) (omega (arith, count, ap (λ (p : PlainOutModel). length p.bits) (still next w.1 stop s' w.3))));
+          (λ f t. w.4 ∙ ap (ticked c) (last_turns filler course w.0 (items_left w.1.left) next all left refl
+          (fault_is_last (end_left s.left) next w.1.left f (reported_next line next w.1 stop s' f w.3 at t))));
+      few = omega (
+        arith,
+        few,
+        mul_most n (length s'.bits - length s.bits + 1) (count_next course s.left + 1)
+            (omega (arith, count, ap (λ (p : PlainOutModel). length p.bits) (still next w.1 stop s' w.3))),
+      );
     }
 
 -- ---- all subsets
@@ -457,11 +496,13 @@ cut [] h = absurd (omega (arith, h))
 cut (Ends line ∷ more) h = refl
 cut (Holds d ∷ more) h = ap (prepend_to_subset d) (cut more (omega (arith, h, onto_same d (subsets_of more))))
 
-pub none_written : (n : ℕ) (course : Course) (all : List DraftEntry) (s : PlainOutModel) (steps : ℕ) → s.left ≡ all → s.bits ≡ [] → steps ≡ 0 → PlainSoFar n course (subsets_of all) 0 s.left s.bits steps
+pub none_written : (n : ℕ) (course : Course) (all : List DraftEntry) (s : PlainOutModel) (steps : ℕ) → s.left ≡ all → s.bits ≡ [] → steps ≡ 0
+    → PlainSoFar n course (subsets_of all) 0 s.left s.bits steps
 unfolding put_before
 none_written n course all s steps h1 h2 h3 = grind (arith, nat_tests, common_steps)
 
-pub one_more : (n : ℕ) (course : Course) (all : List Subset) (done : ℕ) (s : PlainOutModel) (steps : ℕ) (s' : PlainOutModel) (steps' : ℕ) → PlainSoFar n course all done s.left s.bits steps → 1 ≤ length (subsets_of s.left) → IsSubset n course s steps s' steps'
+pub one_more : (n : ℕ) (course : Course) (all : List Subset) (done : ℕ) (s : PlainOutModel) (steps : ℕ) (s' : PlainOutModel) (steps' : ℕ) → PlainSoFar n course all done s.left s.bits steps
+    → 1 ≤ length (subsets_of s.left) → IsSubset n course s steps s' steps'
     → PlainSoFar n course all (done + 1) s'.left s'.bits steps'
 unfolding put_before
 one_more n course all done s steps s' steps' h some p =
@@ -496,18 +537,21 @@ one_more n course all done s steps s' steps' h some p =
     twice a b (Ok x) = ap Ok (sym (append_assoc a b x))
     twice a b (Err why) = refl
 
-    then_rest : (r : Result (List Bool) FaultAt) → fill_next course s.left ≡ Ok p.bits → (ss : List Subset) → plain_data course (subset (items_left s.left) (end_left s.left) ∷ ss) ≡ put_before p.bits (plain_data course ss)
+    then_rest : (r : Result (List Bool) FaultAt) → fill_next course s.left ≡ Ok p.bits → (ss : List Subset)
+        → plain_data course (subset (items_left s.left) (end_left s.left) ∷ ss) ≡ put_before p.bits (plain_data course ss)
     then_rest r e ss = ap (λ x. x >>= λ first. plain_data course ss >>= λ rest. Ok (first ++ rest)) e ∙ by (plain_data course ss)
       where
         by : (r : Result (List Bool) FaultAt) → (r >>= λ rest. Ok (p.bits ++ rest)) ≡ put_before p.bits r
         by (Ok x) = refl
         by (Err why) = refl
 
-pub all_written : (n : ℕ) (course : Course) (all : List Subset) (done : ℕ) (s : PlainOutModel) (steps : ℕ) (octets : List ℕ) → PlainSoFar n course all done s.left s.bits steps → done ≡ length all → AreOctetsOf octets s.bits → IsData n false course all octets steps
+pub all_written : (n : ℕ) (course : Course) (all : List Subset) (done : ℕ) (s : PlainOutModel) (steps : ℕ) (octets : List ℕ) → PlainSoFar n course all done s.left s.bits steps → done ≡ length all
+    → AreOctetsOf octets s.bits → IsData n false course all octets steps
 unfolding put_before
 all_written n course all done s steps octets h1 h2 h3 = grind (arith, nat_tests, common_steps)
 
-pub stopped : (n : ℕ) (course : Course) (all : List Subset) (done : ℕ) (s : PlainOutModel) (steps : ℕ) (why : DocumentFault) (steps' : ℕ) → PlainSoFar n course all done s.left s.bits steps → 1 ≤ length (subsets_of s.left) → IsNoSubset n course s steps why steps'
+pub stopped : (n : ℕ) (course : Course) (all : List Subset) (done : ℕ) (s : PlainOutModel) (steps : ℕ) (why : DocumentFault) (steps' : ℕ) → PlainSoFar n course all done s.left s.bits steps
+    → 1 ≤ length (subsets_of s.left) → IsNoSubset n course s steps why steps'
     → IsNoData n false course all why steps'
 unfolding put_before
 stopped n course all done s steps why steps' h some p =
@@ -516,13 +560,20 @@ stopped n course all done s steps why steps' h some p =
     record {
       refuses = by (reported_refusal why) p.refuses;
       made = made_so (reported_refusal why) p.refuses p.made;
-      few = omega (arith, h.few, p.few, split n (length s.bits) (count_next course s.left + 1), mul_most n (length s.bits + (count_next course s.left + 1)) (count_plain course all + 1) (omega (arith, h.count, a)));
+      few = omega (
+        arith,
+        h.few,
+        p.few,
+        split n (length s.bits) (count_next course s.left + 1),
+        mul_most n (length s.bits + (count_next course s.left + 1)) (count_plain course all + 1) (omega (arith, h.count, a)),
+      );
     }
   where
     later : (r : Result (List Bool) FaultAt) (f : RefusedAt) → report_of_items r ≡ Err f → fill_next course s.left ≡ r → report_of_items (plain_data course all) ≡ Err f
     later (Ok bits) f t e = absurd cc t
     later (Err g) f t e =
-        ap report_of_items (h.is ∙ ap (λ x. put_before s.bits (plain_data course x)) (cut s.left some) ∙ ap (λ x. put_before s.bits (x >>= λ first. plain_data course (subsets_of (left_after s.left)) >>= λ rest. Ok (first ++ rest))) e) ∙ t
+        ap report_of_items (h.is ∙ ap (λ x. put_before s.bits (plain_data course x)) (cut s.left some)
+        ∙ ap (λ x. put_before s.bits (x >>= λ first. plain_data course (subsets_of (left_after s.left)) >>= λ rest. Ok (first ++ rest))) e) ∙ t
 
     by : (o : Option RefusedAt) → IsDocumentRefusal o (report_of_items (fill_next course s.left)) → IsDocumentRefusal o (report_of_items (plain_data course all))
     by None h = tt
@@ -532,18 +583,22 @@ stopped n course all done s steps why steps' h some p =
     none_more (Ok bits) f more t = absurd cc t
     none_more (Err g) f more t = refl
 
-    made_so : (o : Option RefusedAt) → IsDocumentRefusal o (report_of_items (fill_next course s.left)) → CountsSteps o steps (turns_next course s.left) steps' → CountsSteps o 0 (turns_plain course all) steps'
+    made_so : (o : Option RefusedAt) → IsDocumentRefusal o (report_of_items (fill_next course s.left)) → CountsSteps o steps (turns_next course s.left) steps'
+        → CountsSteps o 0 (turns_plain course all) steps'
     made_so None r m =
-        let e : ticked steps (turns_next course s.left) ≡ ticked 0 (h.made + turns_next course s.left) = ap (λ x. ticked x (turns_next course s.left)) h.ticks ∙ ticked_more h.made (turns_next course s.left) in
+        let e : ticked steps (turns_next course s.left) ≡ ticked 0 (h.made + turns_next course s.left) =
+        ap (λ x. ticked x (turns_next course s.left)) h.ticks ∙ ticked_more h.made (turns_next course s.left) in
         omega (arith, m, e, ticked_at_most 0 (h.made + turns_next course s.left) (turns_plain course all) (omega (arith, h.turns, ap (turns_plain course) (cut s.left some))))
     made_so (Some f) r m =
         let none = none_more (fill_next course s.left) f (turns_plain course (subsets_of (left_after s.left))) r in
-        m ∙ ap (λ x. ticked x (turns_next course s.left)) h.ticks ∙ ticked_more h.made (turns_next course s.left) ∙ ap (ticked 0) (omega (arith, h.turns, ap (turns_plain course) (cut s.left some), none))
+        m ∙ ap (λ x. ticked x (turns_next course s.left)) h.ticks ∙ ticked_more h.made (turns_next course s.left)
+        ∙ ap (ticked 0) (omega (arith, h.turns, ap (turns_plain course) (cut s.left some), none))
 
 -- ---- The subsets of a document, written together.
 
 -- the bits that a walk wrote are among those that count
-packed_counts : (course : Course) (ss : List Subset) (items : List TakenField) (mid : PackedOutModel) → 1 ≤ length ss → Takes (oks PackedFills) course (new_packed_out ss) items mid → length mid.bits ≤ count_packed course ss
+packed_counts : (course : Course) (ss : List Subset) (items : List TakenField) (mid : PackedOutModel) → 1 ≤ length ss → Takes (oks PackedFills) course (new_packed_out ss) items mid
+    → length mid.bits ≤ count_packed course ss
 packed_counts course [] items mid some h = absurd (omega (arith, some))
 packed_counts course (s ∷ more) items mid some h =
     let many = are_many (longest (s ∷ more)) (length (s ∷ more)) in
@@ -563,10 +618,12 @@ packed_turns_left course s more items mid h =
     ∙ walk_turns (packed_filler s.end_line many) rows_left (λ (p : PackedOutModel). p.bits) (oks PackedFills) (packed_fills s.end_line many) course (new_packed_out (s ∷ more)) items mid h
 
 -- at most so many were made
-turns_at_most : (course : Course) (ss : List Subset) (items : List TakenField) (mid : PackedOutModel) → AddsTurns course → 1 ≤ length ss → Takes (oks PackedFills) course (new_packed_out ss) items mid → (course (answers_of items)).turns ≤ turns_packed course ss
+turns_at_most : (course : Course) (ss : List Subset) (items : List TakenField) (mid : PackedOutModel) → AddsTurns course → 1 ≤ length ss → Takes (oks PackedFills) course (new_packed_out ss) items mid
+    → (course (answers_of items)).turns ≤ turns_packed course ss
 turns_at_most course [] items mid g some h = absurd (omega (arith, some))
 turns_at_most course (s ∷ more) items mid g some h =
-    some_turns (packed_filler s.end_line (are_many (longest (s ∷ more)) (length (s ∷ more)))) course items (rows_left mid) (turns_packed course (s ∷ more)) g (packed_turns_left course s more items mid h)
+    some_turns (packed_filler s.end_line (are_many (longest (s ∷ more)) (length (s ∷ more)))) course items (rows_left mid) (turns_packed course (s ∷ more)) g
+    (packed_turns_left course s more items mid h)
 
 -- where nothing more is taken, whatever the filler, all were made
 packed_all_turns : (course : Course) (ss : List Subset) (items : List TakenField) (mid : PackedOutModel) → 1 ≤ length ss → Takes (oks PackedFills) course (new_packed_out ss) items mid
@@ -574,7 +631,8 @@ packed_all_turns : (course : Course) (ss : List Subset) (items : List TakenField
 packed_all_turns course [] items mid some h l = absurd (omega (arith, some))
 packed_all_turns course (s ∷ more) items mid some h l =
     let many = are_many (longest (s ∷ more)) (length (s ∷ more)) in
-    last_turns (packed_filler s.end_line many) course items (rows_left mid) (course (answers_of items)).next (turns_packed course (s ∷ more)) (packed_turns_left course s more items mid h) refl (l s.end_line many)
+    last_turns (packed_filler s.end_line many) course items (rows_left mid) (course (answers_of items)).next (turns_packed course (s ∷ more)) (packed_turns_left course s more items mid h) refl
+    (l s.end_line many)
 
 -- at the end of the template nothing more is taken
 end_is_last : (end : ℕ) (many : Bool) (next : Next) (mid : PackedOutModel) → next ≡ at_end → IsLast (packed_filler end many) next (rows_left mid)
@@ -592,13 +650,15 @@ packed_fault_is_last end many (refused r) mid f h = tt
 packed_fault_is_last end many astray mid f h = tt
 
 -- a walk to the end makes all turns
-walk_makes_all : (course : Course) (ss : List Subset) (start : PackedOutModel) (c : ℕ) (mid : PackedOutModel) (c' : ℕ) → start ≡ new_packed_out ss → 1 ≤ length ss → c ≡ 0 → Walked PackedFills course start c (Ok tt) mid c' → c' ≡ ticked 0 (turns_packed course ss)
+walk_makes_all : (course : Course) (ss : List Subset) (start : PackedOutModel) (c : ℕ) (mid : PackedOutModel) (c' : ℕ) → start ≡ new_packed_out ss → 1 ≤ length ss → c ≡ 0
+    → Walked PackedFills course start c (Ok tt) mid c' → c' ≡ ticked 0 (turns_packed course ss)
 walk_makes_all course ss start c mid c' h1 h2 h3 h4 = grind (arith, nat_tests, common_steps, packed_all_turns, end_is_last)
 
 -- ---- the data
 
 -- the data were written
-pub packed_written : (n : ℕ) (course : Course) (ss : List Subset) (start : PackedOutModel) (c : ℕ) (mid : PackedOutModel) (c' : ℕ) (octets : List ℕ) → start ≡ new_packed_out ss → 1 ≤ length ss → c ≡ 0 → Walked PackedFills course start c (Ok tt) mid c'
+pub packed_written : (n : ℕ) (course : Course) (ss : List Subset) (start : PackedOutModel) (c : ℕ) (mid : PackedOutModel) (c' : ℕ) (octets : List ℕ) → start ≡ new_packed_out ss → 1 ≤ length ss
+    → c ≡ 0 → Walked PackedFills course start c (Ok tt) mid c'
     → all_at_end (cells_at mid.place mid.subsets) ≡ Ok tt → c' ≤ c + n * (length mid.bits - length start.bits) → AreOctetsOf octets mid.bits → IsData n true course ss octets c'
 packed_written n course ss start c mid c' octets at some z w e few o =
     let h = subst (λ x. Takes (oks PackedFills) course x w.0 mid) at w.1 in
@@ -611,8 +671,10 @@ packed_written n course ss start c mid c' octets at some z w e few o =
     }
 
 -- an item is left over
-pub packed_over : (n : ℕ) (course : Course) (ss : List Subset) (start : PackedOutModel) (c : ℕ) (mid : PackedOutModel) (c' : ℕ) (e : DraftFault) (why : DocumentFault) → start ≡ new_packed_out ss → 1 ≤ length ss → c ≡ 0 → Walked PackedFills course start c (Ok tt) mid c'
-    → (f : FaultAt) × (draft_fault e ≡ Some f) × (all_at_end (cells_at mid.place mid.subsets) ≡ Err f) → reported_refusal why ≡ option_map report_of_draft (draft_fault e) → c' ≤ c + n * (length mid.bits - length start.bits) → IsNoData n true course ss why c'
+pub packed_over : (n : ℕ) (course : Course) (ss : List Subset) (start : PackedOutModel) (c : ℕ) (mid : PackedOutModel) (c' : ℕ) (e : DraftFault) (why : DocumentFault) → start ≡ new_packed_out ss
+    → 1 ≤ length ss → c ≡ 0 → Walked PackedFills course start c (Ok tt) mid c'
+    → (f : FaultAt) × (draft_fault e ≡ Some f) × (all_at_end (cells_at mid.place mid.subsets) ≡ Err f) → reported_refusal why ≡ option_map report_of_draft (draft_fault e)
+    → c' ≤ c + n * (length mid.bits - length start.bits) → IsNoData n true course ss why c'
 packed_over n course ss start c mid c' e why at some z w fault results few =
     let h = subst (λ x. Takes (oks PackedFills) course x w.0 mid) at w.1 in
     let is = packed_fault_as_defined course ss w.0 mid fault.0 some h (subst (λ next. IsFaultHere next mid fault.0) (sym w.2) fault.2) in
@@ -626,25 +688,35 @@ packed_over n course ss start c mid c' e why at some z w fault results few =
     same a b e = cc
 
 -- what stopped a walk is the fault where it is, and leaves it there
-reported_here : (line : ℕ) (next : Next) (mid : PackedOutModel) (stop : WalkStop DraftFault) (s' : PackedOutModel) (f : FaultAt) → StopsWalk PackedFills next mid stop s' → line ≡ first_line_at s'.place s'.subsets → reported_stop line stop ≡ Some f → IsFaultHere next mid f
+reported_here : (line : ℕ) (next : Next) (mid : PackedOutModel) (stop : WalkStop DraftFault) (s' : PackedOutModel) (f : FaultAt) → StopsWalk PackedFills next mid stop s'
+    → line ≡ first_line_at s'.place s'.subsets → reported_stop line stop ≡ Some f → IsFaultHere next mid f
 reported_here line next mid stop s' f h1 h2 h3 = grind (arith, nat_tests, common_steps)
 
 packed_still : (next : Next) (mid : PackedOutModel) (stop : WalkStop DraftFault) (s' : PackedOutModel) → StopsWalk PackedFills next mid stop s' → s' ≡ mid
 packed_still next mid stop s' h1 = grind (arith, nat_tests, common_steps)
 
 -- the walk stopped
-pub packed_stopped : (n : ℕ) (course : Course) (ss : List Subset) (start : PackedOutModel) (c : ℕ) (s' : PackedOutModel) (c' line : ℕ) (stop : WalkStop DraftFault) (why : DocumentFault) → AddsTurns course → start ≡ new_packed_out ss → 1 ≤ length ss → c ≡ 0 → Walked PackedFills course start c (Err stop) s' c'
-    → line ≡ first_line_at s'.place s'.subsets → reported_refusal why ≡ option_map report_of_draft (reported_stop line stop) → c' ≤ c + n * (length s'.bits - length start.bits + 1) → IsNoData n true course ss why c'
+pub packed_stopped : (n : ℕ) (course : Course) (ss : List Subset) (start : PackedOutModel) (c : ℕ) (s' : PackedOutModel) (c' line : ℕ) (stop : WalkStop DraftFault) (why : DocumentFault)
+    → AddsTurns course → start ≡ new_packed_out ss → 1 ≤ length ss → c ≡ 0 → Walked PackedFills course start c (Err stop) s' c'
+    → line ≡ first_line_at s'.place s'.subsets → reported_refusal why ≡ option_map report_of_draft (reported_stop line stop) → c' ≤ c + n * (length s'.bits - length start.bits + 1)
+    → IsNoData n true course ss why c'
 packed_stopped n course ss start c s' c' line stop why g at some z w l results few =
     let h = subst (λ x. Takes (oks PackedFills) course x w.0 w.1) at w.2 in
     let next = (course (answers_of w.0)).next in
     let ticks : c' ≡ ticked 0 (course (answers_of w.0)).turns = w.4 ∙ ap (λ x. ticked x (course (answers_of w.0)).turns) z in
     record {
-      refuses = refuses_so (reported_stop line stop) (reported_refusal why) (packed_data course ss) results (λ f t. packed_fault_as_defined course ss w.0 w.1 f some h (reported_here line next w.1 stop s' f w.3 l t));
+      refuses = refuses_so (reported_stop line stop) (reported_refusal why) (packed_data course ss) results
+          (λ f t. packed_fault_as_defined course ss w.0 w.1 f some h (reported_here line next w.1 stop s' f w.3 l t));
       made = makes_so (reported_stop line stop) (reported_refusal why) 0 (turns_packed course ss) c' results
           (omega (arith, ticks, ticked_at_most 0 (course (answers_of w.0)).turns (turns_packed course ss) (turns_at_most course ss w.0 w.1 g some h)))
           (λ f t. ticks ∙ ap (ticked 0) (packed_all_turns course ss w.0 w.1 some h (λ end many. packed_fault_is_last end many next w.1 f (reported_here line next w.1 stop s' f w.3 l t))));
-      few = omega (arith, z, few, mul_most n (length s'.bits - length start.bits + 1) (count_packed course ss + 1) (omega (arith, packed_counts course ss w.0 w.1 some h, ap (λ (p : PackedOutModel). length p.bits) (packed_still next w.1 stop s' w.3))));
+      few = omega (
+        arith,
+        z,
+        few,
+        mul_most n (length s'.bits - length start.bits + 1) (count_packed course ss + 1)
+            (omega (arith, packed_counts course ss w.0 w.1 some h, ap (λ (p : PackedOutModel). length p.bits) (packed_still next w.1 stop s' w.3))),
+      );
     }
 
 -- without subsets there are no data
@@ -653,7 +725,8 @@ unfolding bits_of
 none_packed n course ss steps octets h1 h2 h3 = grind (arith, nat_tests, common_steps)
 
 -- a walk stays with its subsets
-pub some_before : (course : Course) (ss : List Subset) (start : PackedOutModel) (c : ℕ) (r : Result (Unit {0}) (WalkStop DraftFault)) (s' : PackedOutModel) (c' : ℕ) → Walked PackedFills course start c r s' c' → start ≡ new_packed_out ss → 1 ≤ length s'.subsets → 1 ≤ length ss
+pub some_before : (course : Course) (ss : List Subset) (start : PackedOutModel) (c : ℕ) (r : Result (Unit {0}) (WalkStop DraftFault)) (s' : PackedOutModel) (c' : ℕ)
+    → Walked PackedFills course start c r s' c' → start ≡ new_packed_out ss → 1 ≤ length s'.subsets → 1 ≤ length ss
 some_before course ss start c r s' c' h1 h2 h3 = grind (arith, nat_tests, common_steps, stays, packed_still)
 
 pub some_ends : (xs : List DraftEntry) (ends : List ℕ) (n : ℕ) → ends ≡ ends_of 0 xs → 1 ≤ length ends → n ≡ length (subsets_of xs) → 1 ≤ n

@@ -17,7 +17,8 @@ listed fxy k s r w = record { fxy = fxy; name = []; unit = []; kind = k; scale =
 
 -- a block number, a name, a temperature, and a factor
 unfoldable pub table : List Row
-table = listed 0x0101 kind.Numeric (pos 0) (pos 0) 7 ∷ listed 0x010F kind.Character (pos 0) (pos 0) 160 ∷ listed 0x0C65 kind.Numeric (pos 2) (pos 0) 16 ∷ listed 0x1F01 kind.Numeric (pos 0) (pos 0) 8 ∷ []
+table = listed 0x0101 kind.Numeric (pos 0) (pos 0) 7 ∷ listed 0x010F kind.Character (pos 0) (pos 0) 160 ∷ listed 0x0C65 kind.Numeric (pos 2) (pos 0) 16 ∷ listed 0x1F01 kind.Numeric (pos 0) (pos 0) 8
+    ∷ []
 
 -- a document at line 1 without local use, whose data are observed
 unfoldable pub document : (compressed subsets : ℕ) → List ℕ → List DraftEntry → Document

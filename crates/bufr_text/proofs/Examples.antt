@@ -98,14 +98,33 @@ lines_read :
     × (none_with (codes "subset 1" ∷ []) ≡ Refused 22 SubsetCount ∷ [])
     -- lines are counted on over documents; a comment between them is counted
     × (documents_of (document_with (codes "centre 98") (codes "optional 1") (codes "subsets 0") (codes "end" ∷ codes "# x" ∷ []) ++ document_with (codes "centre 98") (codes "optional 1") (codes "subsets 0") (codes "end" ∷ []))
-    ≡ Complete (record { line = 1; header = header_written; local1 = []; section2 = []; descriptors = []; entries = [] }) ∷ Complete (record { line = 24; header = header_written; local1 = []; section2 = []; descriptors = []; entries = [] }) ∷ [])
-unfolding quoted line_of worded prefix_while suffix_while without_prefix fxy_read value_read quoted_read is_hashed place_from keys leasts mosts hex_read descriptors_read hex_text descriptors_text ten parse_lines lines_of turn
+    ≡ Complete (record { line = 1; header = header_written; local1 = []; section2 = []; descriptors = []; entries = [] })
+    ∷ Complete (record { line = 24; header = header_written; local1 = []; section2 = []; descriptors = []; entries = [] }) ∷ [])
+unfolding quoted line_of worded prefix_while suffix_while without_prefix fxy_read value_read quoted_read is_hashed place_from keys leasts mosts hex_read descriptors_read hex_text descriptors_text ten
+    parse_lines lines_of turn
 lines_read = (refl, refl, refl, refl, refl, refl, refl, refl, refl, refl, refl, refl, refl, refl, refl, refl, refl, refl, refl, refl, refl, refl, refl)
 
 -- ---- The definitions computed on worked examples.
 
 abbrev the_head : Head
-the_head = record { edition = 4; master = 0; centre = 98; subcentre = 0; update = 0; category = 0; subcategory = 0; local_subcategory = 0; master_version = 14; local_version = 0; year = 2024; month = 1; day = 2; hour = 3; minute = 4; second = 5 }
+the_head = record {
+  edition = 4;
+  master = 0;
+  centre = 98;
+  subcentre = 0;
+  update = 0;
+  category = 0;
+  subcategory = 0;
+  local_subcategory = 0;
+  master_version = 14;
+  local_version = 0;
+  year = 2024;
+  month = 1;
+  day = 2;
+  hour = 3;
+  minute = 4;
+  second = 5;
+}
 
 abbrev one_block_number : Sections
 one_block_number = record { head = the_head; local1 = []; section2 = None; descriptors = 257 ∷ []; subsets = 1; observed = true; compressed = false; payload = 0x14 ∷ []; size = 48 }
@@ -170,7 +189,22 @@ document_3 = record {
 
 -- the head of edition 4 fits its octets
 the_head_fits : IsFitting the_head
-the_head_fits = record { edition = refl; fits = at-most (values_of the_head) (greatest_values 4) ((omega arith), ((omega arith), ((omega arith), ((omega arith), ((omega arith), ((omega arith), ((omega arith), ((omega arith), ((omega arith), ((omega arith), ((omega arith), ((omega arith), ((omega arith), ((omega arith), ((omega arith), tt))))))))))))))) }
+the_head_fits = record {
+  edition = refl;
+  fits = at-most (values_of the_head) (greatest_values 4) (
+    (omega arith),
+    (
+      (omega arith),
+      (
+        (omega arith),
+        (
+          (omega arith),
+          ((omega arith), ((omega arith), ((omega arith), ((omega arith), ((omega arith), ((omega arith), ((omega arith), ((omega arith), ((omega arith), ((omega arith), ((omega arith), tt))))))))))),
+        ),
+      ),
+    ),
+  );
+}
 
 -- the message and its reading give what the law asks for
 one_is_dumpable : IsDumpable one_block_number block_number
@@ -210,7 +244,8 @@ documents_read :
     × (documents_of (text_of_lines (lines_3 (codes "edition 5") (codes "centre 98") (codes "second 0") ++ item_lines)) ≡ Refused 2 HeaderRange ∷ [])
     -- a document of edition 4 that says edition 3 is refused at its year
     × (documents_of (text_of_lines (codes "message" ∷ codes "edition 3" ∷ drop 2 head_lines ++ item_lines)) ≡ Refused 12 HeaderRange ∷ [])
-unfolding header_lines subset_lines item_entries subset_entries keys leasts mosts digits runs_after hex_text descriptors_text quoted decimal_text_of unsigned_text parse_lines lines_of turn line_of worded prefix_while suffix_while place_from without_prefix descriptors_read fxy_read value_read quoted_read hex_read is_hashed parse_open_lines split_of
+unfolding header_lines subset_lines item_entries subset_entries keys leasts mosts digits runs_after hex_text descriptors_text quoted decimal_text_of unsigned_text parse_lines lines_of turn line_of
+    worded prefix_while suffix_while place_from without_prefix descriptors_read fxy_read value_read quoted_read hex_read is_hashed parse_open_lines split_of
 documents_read = (refl, refl, refl, refl, refl, refl, refl, refl, refl, refl, refl, refl, refl, refl, refl, refl, refl, refl, refl)
 
 -- ---- The listing line computed on a message.
@@ -218,7 +253,24 @@ documents_read = (refl, refl, refl, refl, refl, refl, refl, refl, refl, refl, re
 -- a message whose values all differ, so that each is in its place
 abbrev all_different : Sections
 all_different = record {
-  head = record { edition = 4; master = 11; centre = 1234; subcentre = 56; update = 7; category = 8; subcategory = 9; local_subcategory = 10; master_version = 12; local_version = 13; year = 987; month = 14; day = 15; hour = 232; minute = 6; second = 0 };
+  head = record {
+    edition = 4;
+    master = 11;
+    centre = 1234;
+    subcentre = 56;
+    update = 7;
+    category = 8;
+    subcategory = 9;
+    local_subcategory = 10;
+    master_version = 12;
+    local_version = 13;
+    year = 987;
+    month = 14;
+    day = 15;
+    hour = 232;
+    minute = 6;
+    second = 0;
+  };
   local1 = [];
   section2 = Some [];
   descriptors = 1 ∷ 2 ∷ 3 ∷ [];

@@ -39,7 +39,8 @@ record IsTaken (spec : FieldSpec) (bits mid : List Bool) (c : Content) : Type 0 
 field_taken : (spec : FieldSpec) (bits mid : List Bool) (c : Content) → plain_field spec bits ≡ Ok (found c mid) → IsTaken spec bits mid c
 field_taken spec bits mid c h1 = grind (arith, nat_tests, common_steps)
 
-field_bits : (spec : FieldSpec) → IsSpec spec → (bits mid : List Bool) (c : Content) → IsTaken spec bits mid c → (IsMinusZero spec.role (take spec.width bits) → ⊥) → bits ≡ bits_for spec.width c ++ mid
+field_bits : (spec : FieldSpec) → IsSpec spec → (bits mid : List Bool) (c : Content) → IsTaken spec bits mid c → (IsMinusZero spec.role (take spec.width bits) → ⊥)
+    → bits ≡ bits_for spec.width c ++ mid
 field_bits spec h1 bits mid c h2 h3 = grind (arith, nat_tests, common_steps, take-append-drop, same_bits, enough, suffix)
 
 -- ---- the items of one subset
@@ -50,7 +51,8 @@ record AreFilled {C D E : Type 0} (filler : Filler D C E) (course : Course) (ds 
   fills : fill filler course ds ≡ Ok out
   splits : bits ≡ out ++ suffix
 
-items_filled : (line : ℕ) (course : Course) (items : List (Item Content)) (ds : List Draft) (bits suffix : List Bool) → AllSpecs items → AreDrafts IsDumped items ds → ReadsPass plain course items bits suffix → HaveNoMinusZero items bits → AreFilled (plain_filler line) course ds bits suffix
+items_filled : (line : ℕ) (course : Course) (items : List (Item Content)) (ds : List Draft) (bits suffix : List Bool) → AllSpecs items → AreDrafts IsDumped items ds
+    → ReadsPass plain course items bits suffix → HaveNoMinusZero items bits → AreFilled (plain_filler line) course ds bits suffix
 items_filled line course [] [] bits suffix specs drafts h plus = record { out = []; fills = ap (fill_none (plain_filler line)) h.1; splits = h.0 }
 items_filled line course [] (d ∷ ds) bits suffix specs drafts h plus = absurd drafts
 items_filled line course (i ∷ items) [] bits suffix specs drafts h plus = absurd drafts
@@ -59,7 +61,8 @@ items_filled line course (i ∷ items) (d ∷ ds) bits suffix specs drafts h plu
     let t = field_taken i.spec bits mid i.content h.0.2 in
     let w = bits_for i.spec.width i.content in
     let fits = (plain_read i.spec specs.0 bits mid i.content h.0.2).0 in
-    let here : (plain_filler line).fills i.spec d ≡ Ok (written_item i.content w) = ap (plainly d.line i.spec) (ap (content_of i.spec) (same_draft i.spec i.content d drafts.0) ∙ draft_again i.spec specs.0 d.line i.content fits) in
+    let here : (plain_filler line).fills i.spec d ≡ Ok (written_item i.content w) =
+    ap (plainly d.line i.spec) (ap (content_of i.spec) (same_draft i.spec i.content d drafts.0) ∙ draft_again i.spec specs.0 d.line i.content fits) in
     let rest = items_filled line (after plain course i) items ds mid suffix specs.1 drafts.1 (h.0.3, h.1) (subst (HaveNoMinusZero items) t.suffix plus.1) in
     record {
       out = w ++ rest.out;
@@ -81,7 +84,8 @@ record AreAllFilled (r : Result (List Bool) FaultAt) (bits suffix : List Bool) :
   fills : r ≡ Ok out
   splits : bits ≡ out ++ suffix
 
-subsets_filled : (course : Course) (subsets : List (List (Item Content))) (drafts : List Subset) (bits suffix : List Bool) → EachSpecs subsets → AreDumped subsets drafts → ReadsSubsets course subsets bits suffix → HaveNoMinusZero (flat_map (λ x. x) subsets) bits → AreAllFilled (plain_data course drafts) bits suffix
+subsets_filled : (course : Course) (subsets : List (List (Item Content))) (drafts : List Subset) (bits suffix : List Bool) → EachSpecs subsets → AreDumped subsets drafts
+    → ReadsSubsets course subsets bits suffix → HaveNoMinusZero (flat_map (λ x. x) subsets) bits → AreAllFilled (plain_data course drafts) bits suffix
 subsets_filled course [] [] bits suffix specs dumped h plus = record { out = []; fills = refl; splits = h }
 subsets_filled course [] (s ∷ ss) bits suffix specs dumped h plus = absurd dumped
 subsets_filled course (items ∷ subsets) [] bits suffix specs dumped h plus = absurd dumped
@@ -99,18 +103,21 @@ subsets_filled course (items ∷ subsets) (s ∷ ss) bits suffix specs dumped h 
 -- ---- compressed data
 
 -- what is packed is the packing of its contents
-packs_as : (spec : FieldSpec) (cs : List Content) (cells : List RowCell) (xs : List Content) (out : List Bool) (p : Result (List Bool) FieldFault) → packing spec xs ≡ p → packed_to xs cells p ≡ Ok (written_item cs out) → packing spec cs ≡ Ok out
+packs_as : (spec : FieldSpec) (cs : List Content) (cells : List RowCell) (xs : List Content) (out : List Bool) (p : Result (List Bool) FieldFault) → packing spec xs ≡ p
+    → packed_to xs cells p ≡ Ok (written_item cs out) → packing spec cs ≡ Ok out
 packs_as spec cs cells xs out p h1 h2 = grind (arith, nat_tests, common_steps)
 
 packed_as : (spec : FieldSpec) (cs : List Content) (a : ItemRow) (out : List Bool) → pack_across spec a ≡ Ok (written_item cs out) → packing spec cs ≡ Ok out
 packed_as spec cs a out e = by (are_many a.place (length a.cells)) (contents_here spec a.cells) e
   where
-    by : (b : Bool) (r : Result (List Content) FaultAt) → (if b then Err (at_line (first_line a.cells) (too_many_values spec.fxy)) else (r >>= λ xs. packed_to xs a.cells (packing spec xs))) ≡ Ok (written_item cs out) → packing spec cs ≡ Ok out
+    by : (b : Bool) (r : Result (List Content) FaultAt) → (if b then Err (at_line (first_line a.cells) (too_many_values spec.fxy)) else (r >>= λ xs. packed_to xs a.cells (packing spec xs)))
+        ≡ Ok (written_item cs out) → packing spec cs ≡ Ok out
     by true r q = absurd cc
     by false (Err why) q = absurd cc
     by false (Ok xs) q = packs_as spec cs a.cells xs out (packing spec xs) refl q
 
-packed_filled : (n line : ℕ) (many : Bool) → 1 ≤ n → (course : Course) (items : List (Item (List Content))) (ds : List ItemRow) (bits suffix read left : List Bool) → AllSpecs items → AreDrafts (IsDumpedAcross n) items ds
+packed_filled : (n line : ℕ) (many : Bool) → 1 ≤ n → (course : Course) (items : List (Item (List Content))) (ds : List ItemRow) (bits suffix read left : List Bool) → AllSpecs items
+    → AreDrafts (IsDumpedAcross n) items ds
     → ReadsPass (packed n) course items read left → ArePacked items bits suffix → AreFilled (packed_filler line many) course ds bits suffix
 packed_filled n line many some course [] [] bits suffix read left specs drafts h c = record { out = []; fills = ap (fill_none (packed_filler line many)) h.1; splits = c }
 packed_filled n line many some course [] (d ∷ ds) bits suffix read left specs drafts h c = absurd drafts
@@ -130,7 +137,8 @@ have_contents : (n : ℕ) (course : Course) (items : List (Item (List Content)))
 have_contents n course [] bits suffix specs h = tt
 have_contents n course (i ∷ items) bits suffix specs h = (packed_count n i.spec specs.0 i.content bits h.0 h.2, have_contents n (after (packed n) course i) items h.0 suffix specs.1 h.3)
 
-all_packed : (n : ℕ) (course : Course) (items : List (Item (List Content))) (drafts : List Subset) (bits suffix : List Bool) → length drafts ≡ n → ((n : ℕ) → ReadsItems (packed n) course items bits suffix → AllSpecs items) → AreDumpedFrom 0 items drafts → IsPackedReading n course items bits suffix → ArePacked items bits suffix
+all_packed : (n : ℕ) (course : Course) (items : List (Item (List Content))) (drafts : List Subset) (bits suffix : List Bool) → length drafts ≡ n
+    → ((n : ℕ) → ReadsItems (packed n) course items bits suffix → AllSpecs items) → AreDumpedFrom 0 items drafts → IsPackedReading n course items bits suffix → ArePacked items bits suffix
     → AreAllFilled (packed_data course drafts) bits suffix
 all_packed zero course items [] bits suffix count specs dumped h c = record { out = []; fills = refl; splits = h.1 }
 all_packed zero course items (s ∷ ss) bits suffix count specs dumped h c = absurd (omega (arith, count))
@@ -151,14 +159,16 @@ data_filled table template s (apart subsets) used at rows legal read writes =
     let course = next_item table template in
     let bits = bits_of s.payload in
     let drafts = subsets_of (subset_entries at (map (items_shown table) subsets)) in
-    let f = subsets_filled course subsets drafts bits (drop used bits) (plain_specs course subsets bits (drop used bits) (next_field table template rows legal) read.2.0) (all_apart table at subsets) read.2.0 writes in
+    let f = subsets_filled course subsets drafts bits (drop used bits) (plain_specs course subsets bits (drop used bits) (next_field table template rows legal) read.2.0) (all_apart table at subsets)
+    read.2.0 writes in
     record { out = f.out; fills = fills_as s.compressed false course drafts f.out read.0 f.fills; splits = f.splits }
 data_filled table template s (together items) used at rows legal read writes =
     let course = next_item table template in
     let bits = bits_of s.payload in
     let drafts = subsets_of (subset_entries at (map (items_shown table) (subsets_from s.subsets 0 items))) in
     let dumped = all_together table at s.subsets 0 items in
-    let f = all_packed s.subsets course items drafts bits (drop used bits) dumped.1 (λ n r. packed_specs n course items bits (drop used bits) (next_field table template rows legal) r) dumped.0 read.2 writes in
+    let f = all_packed s.subsets course items drafts bits (drop used bits) dumped.1 (λ n r. packed_specs n course items bits (drop used bits) (next_field table template rows legal) r) dumped.0 read.2
+    writes in
     record { out = f.out; fills = fills_as s.compressed true course drafts f.out read.0 f.fills; splits = f.splits }
 
 within_data : (table : List Row) (template : Tree) (s : Sections) (values : Values) (used : ℕ) → IsReading (next_item table template) (data_of s) values used → used ≤ length (bits_of s.payload)
@@ -179,7 +189,8 @@ canonical_encoded table sequences m s template values used at rows legal a c =
     let f = data_filled table template s values used (at + lines_before s) rows legal a.read c.bits in
     let edition = s.head.edition in
     let made = octets_of_bits f.out in
-    let payload : s.payload ≡ with_even_length edition 4 made = c.least ∙ ap (λ (b : List Bool). with_even_length edition 4 (octets_of_bits b)) (sym (prefix_is bits f.out used (within_data table template s values used a.read) f.splits)) in
+    let payload : s.payload ≡ with_even_length edition 4 made = c.least
+    ∙ ap (λ (b : List Bool). with_even_length edition 4 (octets_of_bits b)) (sym (prefix_is bits f.out used (within_data table template s values used a.read) f.splits)) in
     let same : parts_of_document d made ≡ parts_with s made = parts_back at s items made in
     let short : length made ≤ length s.payload = omega (arith, ap length payload, length-evened edition 4 made, even-least edition (4 + length made)) in
     let most : message_size edition (parts_with s made) ≤ max_octets = size_least s made max_octets short (not-too-long m s a.sections a.few) in
@@ -194,11 +205,13 @@ canonical_encoded table sequences m s template values used at rows legal a c =
 -- ---- the data
 
 -- how the bits that are written are read
-pub plain_reading : (course : Course) (subsets : List (List (reading.Item Content))) (n : ℕ) (out : List Bool) → ((more : List Bool) → IsPlainReading n course subsets (out ++ more) more) → (octets : List ℕ) (more : List Bool) → bits_of octets ≡ out ++ more
+pub plain_reading : (course : Course) (subsets : List (List (reading.Item Content))) (n : ℕ) (out : List Bool) → ((more : List Bool) → IsPlainReading n course subsets (out ++ more) more)
+    → (octets : List ℕ) (more : List Bool) → bits_of octets ≡ out ++ more
     → IsReading course (record { compressed = false; subsets = n; bits = bits_of octets }) (apart subsets) (length out)
 plain_reading course subsets n out h1 octets more h2 = grind (arith, nat_tests, common_steps)
 
-pub packed_reading : (course : Course) (items : List (reading.Item (List Content))) (n : ℕ) (out : List Bool) → ((more : List Bool) → IsPackedReading n course items (out ++ more) more) → (octets : List ℕ) (more : List Bool) → bits_of octets ≡ out ++ more
+pub packed_reading : (course : Course) (items : List (reading.Item (List Content))) (n : ℕ) (out : List Bool) → ((more : List Bool) → IsPackedReading n course items (out ++ more) more)
+    → (octets : List ℕ) (more : List Bool) → bits_of octets ≡ out ++ more
     → IsReading course (record { compressed = true; subsets = n; bits = bits_of octets }) (together items) (length out)
 packed_reading course items n out h1 octets more h2 = grind (arith, nat_tests, common_steps)
 
@@ -207,7 +220,8 @@ record IsFilled (b : Bool) (table : List Row) (template : Tree) (s : Sections) (
   found : Values
   out : List Bool
   fills : data_bits b (next_item table template) (subsets_of entries) ≡ Ok out
-  read : (octets : List ℕ) (more : List Bool) → bits_of octets ≡ out ++ more → IsReading (next_item table template) (record { compressed = b; subsets = s.subsets; bits = bits_of octets }) found (length out)
+  read : (octets : List ℕ) (more : List Bool) → bits_of octets ≡ out ++ more
+      → IsReading (next_item table template) (record { compressed = b; subsets = s.subsets; bits = bits_of octets }) found (length out)
   each : each_subset s.subsets found ≡ each_subset s.subsets values
 
 record IsUnfilled (table : List Row) (template : Tree) (entries : List DraftEntry) : Type 0 where
@@ -252,7 +266,8 @@ module _ (table : List Row) (template : Tree) (s : Sections) (used at : ℕ) (ro
         read = packed_reading (next_item table template) items s.subsets w.out w.again;
         each = refl;
       })
-  packedly (apart subsets) few read = by (template_together table template subsets (subsets_of entries) (bits_of s.payload) (drop used (bits_of s.payload)) few rows legal (all_apart table at subsets) read.2.0)
+  packedly (apart subsets) few read = by (template_together table template subsets (subsets_of entries) (bits_of s.payload) (drop used (bits_of s.payload)) few rows legal (all_apart table at subsets)
+      read.2.0)
     where
       entries : List DraftEntry
       entries = subset_entries at (map (items_shown table) subsets)
@@ -263,7 +278,8 @@ module _ (table : List Row) (template : Tree) (s : Sections) (used at : ℕ) (ro
         found = together x.items;
         out = x.out;
         fills = x.is;
-        read = packed_reading (next_item table template) x.items s.subsets x.out (λ more. subst (λ n. IsPackedReading n (next_item table template) x.items (x.out ++ more) more) read.2.1 (x.again more));
+        read = packed_reading (next_item table template) x.items s.subsets x.out
+            (λ more. subst (λ n. IsPackedReading n (next_item table template) x.items (x.out ++ more) more) read.2.1 (x.again more));
         each = ap (λ n. subsets_from n 0 x.items) (sym read.2.1) ∙ x.same;
       })
 
@@ -272,7 +288,8 @@ module _ (table : List Row) (template : Tree) (s : Sections) (used at : ℕ) (ro
 unfoldable parts_for : Bool → Sections → List ℕ → MessageParts
 parts_for b s payload = parts_of s.local1 s.section2 s.descriptors s.subsets s.observed b payload
 
-parts_back_as : (form : Form) (at : ℕ) (s : Sections) (items : List (List View)) (payload : List ℕ) → parts_as (compressed_as form (document_of at s items)) (document_of at s items) payload ≡ parts_for (compressed_by form s.compressed) s payload
+parts_back_as : (form : Form) (at : ℕ) (s : Sections) (items : List (List View)) (payload : List ℕ)
+    → parts_as (compressed_as form (document_of at s items)) (document_of at s items) payload ≡ parts_for (compressed_by form s.compressed) s payload
 unfolding parts_for
 parts_back_as form at s items payload = λ j. parts_of s.local1 (section2_back s.section2 j) s.descriptors s.subsets (bit_back s.observed j) (compressed_by form (bit_back s.compressed j)) payload
 
@@ -284,7 +301,8 @@ bits_few m s e few =
     let edition = s.head.edition in
     omega (arith, not-too-long m s e few, length-bits_of s.payload, even-least edition (4 + length s.payload), even-least edition (7 + 2 * length s.descriptors))
 
-module _ (form : Form) (table : List Row) (sequences : List Sequence) (m : List ℕ) (s : Sections) (template : Tree) (values : Values) (used at : ℕ) (a : IsAccepted table sequences m s template values used) where
+module _ (form : Form) (table : List Row) (sequences : List Sequence) (m : List ℕ) (s : Sections) (template : Tree) (values : Values) (used at : ℕ)
+    (a : IsAccepted table sequences m s template values used) where
   -- a message that is not too long has the reading
   has_reading : (f : IsFilled (compressed_by form s.compressed) table template s values (subset_entries (at + lines_before s) (dump_items table s.subsets values)))
       → message_size s.head.edition (parts_for (compressed_by form s.compressed) s (octets_of_bits f.out)) ≤ max_octets
@@ -299,10 +317,12 @@ module _ (form : Form) (table : List Row) (sequences : List Sequence) (m : List 
       let back = read-back s.head parts (fitting-writable s.head given.head) in
       let long : length octets ≡ message_size edition parts = sym (size_is octets (sections_from s.head parts) back) in
       let padded_bits = evened-bits edition 4 payload in
-      let written : bits_of (with_even_length edition 4 payload) ≡ f.out ++ (padding (length f.out) ++ padded_bits.0) = padded_bits.1 ∙ ap (λ (b : List Bool). b ++ padded_bits.0) (payload_bits f.out) ∙ append_assoc f.out (padding (length f.out)) padded_bits.0 in
+      let written : bits_of (with_even_length edition 4 payload) ≡ f.out ++ (padding (length f.out) ++ padded_bits.0) =
+      padded_bits.1 ∙ ap (λ (b : List Bool). b ++ padded_bits.0) (payload_bits f.out) ∙ append_assoc f.out (padding (length f.out)) padded_bits.0 in
       record {
         few = omega (arith, few, long);
-        octets = octets_small s.head parts given.head given.local1 given.section2 given.descriptors given.few (octets_are payload (octets_in-are ((length f.out + 7) / 8) (f.out ++ padding (length f.out)) (padded f.out))) few;
+        octets = octets_small s.head parts given.head given.local1 given.section2 given.descriptors given.few
+            (octets_are payload (octets_in-are ((length f.out + 7) / 8) (f.out ++ padding (length f.out)) (padded f.out))) few;
         framed = λ at suffix. framed s.head parts at suffix long;
         sections = sections_from s.head parts;
         are = back;
@@ -318,7 +338,8 @@ module _ (form : Form) (table : List Row) (sequences : List Sequence) (m : List 
   encoded = encoding_in form table sequences (document_of at s (dump_items table s.subsets values))
 
   -- the data are written: nothing is at fault but the length
-  written : IsForForm form too_long → IsFilled (compressed_by form s.compressed) table template s values (subset_entries (at + lines_before s) (dump_items table s.subsets values)) → IsFormed form table s template values encoded
+  written : IsForForm form too_long → IsFilled (compressed_by form s.compressed) table template s values (subset_entries (at + lines_before s) (dump_items table s.subsets values))
+      → IsFormed form table s template values encoded
   written long f = subst (IsFormed form table s template values) (sym is) (by (nat_lt max_octets (message_size s.head.edition parts)) refl)
     where
       d : Document
@@ -331,7 +352,8 @@ module _ (form : Form) (table : List Row) (sequences : List Sequence) (m : List 
       fills = ap (λ b. data_bits (compressed_by form b) (next_item table template) (subsets_of d.entries)) (bit_back s.compressed) ∙ f.fills
 
       is : encoded ≡ (if nat_lt max_octets (message_size s.head.edition parts) then Err (refused_at at too_long) else Ok (message_octets s.head parts))
-      is = as_written form table sequences d template f.out (octets_of_bits f.out) a.expands fills refl ∙ ap (message_of at s.head) (parts_back_as form at s (dump_items table s.subsets values) (octets_of_bits f.out))
+      is = as_written form table sequences d template f.out (octets_of_bits f.out) a.expands fills refl
+          ∙ ap (message_of at s.head) (parts_back_as form at s (dump_items table s.subsets values) (octets_of_bits f.out))
 
       by : (b : Bool) → nat_lt max_octets (message_size s.head.edition parts) ≡ b → IsFormed form table s template values (if b then Err (refused_at at too_long) else Ok (message_octets s.head parts))
       by true e = long
@@ -339,19 +361,22 @@ module _ (form : Form) (table : List Row) (sequences : List Sequence) (m : List 
 
 -- an item is at fault
 not_written : (table : List Row) (sequences : List Sequence) (m : List ℕ) (s : Sections) (template : Tree) (values : Values) (used at : ℕ) → IsAccepted table sequences m s template values used
-    → IsUnfilled table template (subset_entries (at + lines_before s) (dump_items table s.subsets values)) → IsFormed form.Compressed table s template values (encoding_in form.Compressed table sequences (document_of at s (dump_items table s.subsets values)))
+    → IsUnfilled table template (subset_entries (at + lines_before s) (dump_items table s.subsets values))
+    → IsFormed form.Compressed table s template values (encoding_in form.Compressed table sequences (document_of at s (dump_items table s.subsets values)))
 not_written table sequences m s template values used at a f =
     let d = document_of at s (dump_items table s.subsets values) in
     let refused = refused_at f.why.line (by_item f.why.fault) in
     let is : encoding_in form.Compressed table sequences d ≡ Err refused = no_data form.Compressed table sequences d template (Some refused) a.expands (ap report_of_items f.is) in
     subst (IsFormed form.Compressed table s template values) (sym is) f.unlike
 
-as_it_is : (table : List Row) (m : List ℕ) (s : Sections) (template : Tree) (values : Values) (used at : ℕ) (sequences : List Sequence) → length m ≤ max_octets → IsEncodedAgain table sequences m s template values (document_of at s (dump_items table s.subsets values))
+as_it_is : (table : List Row) (m : List ℕ) (s : Sections) (template : Tree) (values : Values) (used at : ℕ) (sequences : List Sequence) → length m ≤ max_octets
+    → IsEncodedAgain table sequences m s template values (document_of at s (dump_items table s.subsets values))
     → IsFormed form.AsWritten table s template values (encoding_in form.AsWritten table sequences (document_of at s (dump_items table s.subsets values)))
 as_it_is table m s template values used at sequences h1 h2 = grind (arith, nat_tests, common_steps)
 
 -- the document of an accepted message, in each form
-pub formed : (form : Form) (table : List Row) (sequences : List Sequence) (m : List ℕ) (s : Sections) (template : Tree) (values : Values) (used at : ℕ) → AreRead table → IsLegal template → IsAccepted table sequences m s template values used
+pub formed : (form : Form) (table : List Row) (sequences : List Sequence) (m : List ℕ) (s : Sections) (template : Tree) (values : Values) (used at : ℕ) → AreRead table → IsLegal template
+    → IsAccepted table sequences m s template values used
     → IsFormed form table s template values (encoding_in form table sequences (document_of at s (dump_items table s.subsets values)))
 formed form.AsWritten table sequences m s template values used at rows legal a =
     as_it_is table m s template values used at sequences a.few (encoded_again table sequences m s template values used at rows legal a)
@@ -359,7 +384,8 @@ formed form.Plain table sequences m s template values used at rows legal a =
     written form.Plain table sequences m s template values used at a tt (filled_plainly table template s used (at + lines_before s) rows legal values a.read)
 formed form.Compressed table sequences m s template values used at rows legal a = by (packedly table template s used (at + lines_before s) rows legal values (bits_few m s a.sections a.few) a.read)
   where
-    by : IsFilled true table template s values (subset_entries (at + lines_before s) (dump_items table s.subsets values)) ⊎ IsUnfilled table template (subset_entries (at + lines_before s) (dump_items table s.subsets values))
+    by : IsFilled true table template s values (subset_entries (at + lines_before s) (dump_items table s.subsets values))
+        ⊎ IsUnfilled table template (subset_entries (at + lines_before s) (dump_items table s.subsets values))
         → IsFormed form.Compressed table s template values (encoding_in form.Compressed table sequences (document_of at s (dump_items table s.subsets values)))
     by (inl f) = written form.Compressed table sequences m s template values used at a tt f
     by (inr f) = not_written table sequences m s template values used at a f
@@ -367,17 +393,20 @@ formed form.Compressed table sequences m s template values used at rows legal a 
 -- ---- the faults that are answered
 
 -- what is answered is what the definition says
-pub answered : (form : Form) (table : List Row) (s : Sections) (template : Tree) (values : Values) (defined : Result (List ℕ) RefusedAt) (why : DocumentFault) → IsFormed form table s template values defined → IsDocumentRefusal (reported_refusal why) defined → IsFaultIn form why
+pub answered : (form : Form) (table : List Row) (s : Sections) (template : Tree) (values : Values) (defined : Result (List ℕ) RefusedAt) (why : DocumentFault)
+    → IsFormed form table s template values defined → IsDocumentRefusal (reported_refusal why) defined → IsFaultIn form why
 answered form table s template values defined why h1 h2 = grind (arith, nat_tests, common_steps)
 
 -- the document of a message that a table of records accepts
-pub formed_of : (form : Form) (records : List Record) (table : List Row) (sequences : List Sequence) (m : List ℕ) (s : Sections) (template : Tree) (values : Values) (used at : ℕ) (d : Document) → AreRows records table → IsAccepted table sequences m s template values used
+pub formed_of : (form : Form) (records : List Record) (table : List Row) (sequences : List Sequence) (m : List ℕ) (s : Sections) (template : Tree) (values : Values) (used at : ℕ) (d : Document)
+    → AreRows records table → IsAccepted table sequences m s template values used
     → d ≡ document_of at s (dump_items table s.subsets values) → IsFormed form table s template values (encoding_in form table sequences d)
 formed_of form records table sequences m s template values used at d rows a same =
     subst (λ (x : Document). IsFormed form table s template values (encoding_in form table sequences x)) (sym same)
     (formed form table sequences m s template values used at (table_read records table rows) (tree_fine (tables_of table sequences) s.descriptors template a.expands).legal a)
 
-pub form_so : (form : Form) (table : List Row) (s : Sections) (template : Tree) (values : Values) (defined : Result (List ℕ) RefusedAt) (r : Result (Vec ℕ Global) DocumentFault) → IfOk r (λ octets. defined ≡ Ok octets.items) → IfErr r (λ why. IsDocumentRefusal (reported_refusal why) defined)
+pub form_so : (form : Form) (table : List Row) (s : Sections) (template : Tree) (values : Values) (defined : Result (List ℕ) RefusedAt) (r : Result (Vec ℕ Global) DocumentFault)
+    → IfOk r (λ octets. defined ≡ Ok octets.items) → IfErr r (λ why. IsDocumentRefusal (reported_refusal why) defined)
     → IsFormed form table s template values defined → EncodesForm form table s template values r
 form_so form table s template values defined (Ok octets) ok err h = subst (IsFormed form table s template values) ok h
 form_so form table s template values defined (Err why) ok err h = answered form table s template values defined why h err
@@ -392,7 +421,8 @@ unfolding encoding_in
 in_the_form table sequences at s said true items = refl
 in_the_form table sequences at s said false items = refl
 
-pub canonical_back : (form : Form) (table : List Row) (sequences : List Sequence) (m : List ℕ) (s : Sections) (template : Tree) (values : Values) (used at : ℕ) (octets : List ℕ) → AreRead table → IsLegal template
+pub canonical_back : (form : Form) (table : List Row) (sequences : List Sequence) (m : List ℕ) (s : Sections) (template : Tree) (values : Values) (used at : ℕ) (octets : List ℕ) → AreRead table
+    → IsLegal template
     → IsAccepted table sequences m s template values used → IsCanonical m s values used → (again : HasReadingIn form table s template values octets)
     → encoding_in (form_of_flag s.compressed) table sequences (document_of at again.sections (dump_items table again.sections.subsets again.found)) ≡ Ok m
 canonical_back form table sequences m s template values used at octets rows legal a canonical again =

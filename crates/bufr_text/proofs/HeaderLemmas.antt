@@ -86,7 +86,8 @@ if-some P true x y p q = p refl
 if-some P false x y p q = q refl
 
 either-digit : (c : ℕ) → IfSome (either_value c) (λ n. n < 16)
-either-digit c = if-some (λ n. n < 16) (nat_le 97 c && nat_le c 102) (Some (c - 87)) (upper_value c) (λ h. let le : nat_le c 102 ≡ true = and_second (nat_le 97 c) (nat_le c 102) h in grind (arith, nat_tests, le)) (λ _. grind (arith, nat_tests, common_steps))
+either-digit c = if-some (λ n. n < 16) (nat_le 97 c && nat_le c 102) (Some (c - 87)) (upper_value c)
+    (λ h. let le : nat_le c 102 ≡ true = and_second (nat_le 97 c) (nat_le c 102) h in grind (arith, nat_tests, le)) (λ _. grind (arith, nat_tests, common_steps))
 
 pair-octet : (high low : Option ℕ) → IfSome high (λ n. n < 16) → IfSome low (λ n. n < 16) → IfSome (pair_value high low) IsOctet
 pair-octet high low h1 h2 = grind (arith, nat_tests, common_steps)
@@ -96,7 +97,8 @@ onto-all P x xs h1 h2 = grind (arith, nat_tests, common_steps)
 
 hex-octets : (text : List ℕ) → IfSome (hex_read text) (λ l. AllByRecursion IsOctet l)
 unfolding hex_read
-hex-octets (high ∷ low ∷ more) = onto-all IsOctet (pair_value (either_value high) (either_value low)) (hex_read more) (pair-octet (either_value high) (either_value low) (either-digit high) (either-digit low)) (hex-octets more)
+hex-octets (high ∷ low ∷ more) = onto-all IsOctet (pair_value (either_value high) (either_value low)) (hex_read more)
+    (pair-octet (either_value high) (either_value low) (either-digit high) (either-digit low)) (hex-octets more)
 hex-octets text = tt
 
 -- descriptors
@@ -108,7 +110,8 @@ unfolding descriptors_read
 descriptors-words (s ∷ a ∷ b ∷ c ∷ d ∷ e ∷ g ∷ more) =
     let word = a ∷ b ∷ c ∷ d ∷ e ∷ g ∷ [] in
     if-some (λ l. AllByRecursion IsDescriptorWord l) (s == 32) (onto_read (fxy_of word) (descriptors_read more)) None
-    (λ _. onto-all IsDescriptorWord (fxy_of word) (descriptors_read more) (if-some IsDescriptorWord (is_fxy word) (Some (16384 * f_in word + 256 * x_in word + y_in word)) None (fxy-fits word) (λ _. tt)) (descriptors-words more)) (λ _. tt)
+    (λ _. onto-all IsDescriptorWord (fxy_of word) (descriptors_read more)
+    (if-some IsDescriptorWord (is_fxy word) (Some (16384 * f_in word + 256 * x_in word + y_in word)) None (fxy-fits word) (λ _. tt)) (descriptors-words more)) (λ _. tt)
 descriptors-words text = tt
 
 -- texts
@@ -119,7 +122,8 @@ SaysOctet other = Unit {0}
 quoting-says : (text : List ℕ) → SaysOctet (quoting_of text)
 quoting-says text = grind (arith, nat_tests, common_steps)
 
-quoted-on : (q : QuotedToken) (closed : List ℕ) (more : ℕ → Option (List ℕ × List ℕ)) → SaysOctet q → ((skip : ℕ) → IfSome (more skip) (λ r. AreOctets (r.0))) → IfSome (quoted_on q closed more) (λ r. AreOctets (r.0))
+quoted-on : (q : QuotedToken) (closed : List ℕ) (more : ℕ → Option (List ℕ × List ℕ)) → SaysOctet q → ((skip : ℕ) → IfSome (more skip) (λ r. AreOctets (r.0)))
+    → IfSome (quoted_on q closed more) (λ r. AreOctets (r.0))
 quoted-on q closed more h1 h2 = grind (arith, nat_tests, common_steps)
 
 quoted-octets : (skip : ℕ) (text : List ℕ) → IfSome (quoted_read skip text) (λ r. AreOctets (r.0))
@@ -139,11 +143,13 @@ missing-sound None = tt
 
 number-sound : (text : List ℕ) → IfSome (number_value number_token text) (λ r. HasOctets (r.0))
 number-sound [] = tt
-number-sound (c ∷ more) = if-some (λ r. HasOctets (r.0)) (is_number_octet c) (Some (number_token (prefix_while is_number_octet (c ∷ more)), suffix_while is_number_octet (c ∷ more))) None (λ _. tt) (λ _. tt)
+number-sound (c ∷ more) = if-some (λ r. HasOctets (r.0)) (is_number_octet c) (Some (number_token (prefix_while is_number_octet (c ∷ more)), suffix_while is_number_octet (c ∷ more))) None (λ _. tt)
+    (λ _. tt)
 
 reference-sound : (text : List ℕ) → IfSome (number_value reference_token text) (λ r. HasOctets (r.0))
 reference-sound [] = tt
-reference-sound (c ∷ more) = if-some (λ r. HasOctets (r.0)) (is_number_octet c) (Some (reference_token (prefix_while is_number_octet (c ∷ more)), suffix_while is_number_octet (c ∷ more))) None (λ _. tt) (λ _. tt)
+reference-sound (c ∷ more) = if-some (λ r. HasOctets (r.0)) (is_number_octet c) (Some (reference_token (prefix_while is_number_octet (c ∷ more)), suffix_while is_number_octet (c ∷ more))) None
+    (λ _. tt) (λ _. tt)
 
 value-sound : (text : List ℕ) → IfSome (value_read text) (λ r. HasOctets (r.0))
 unfolding value_read
@@ -266,8 +272,28 @@ pub headed-fits : (d : Document) → IsHeaded d → IsFitting (head_from_values 
 unfolding leasts mosts
 headed-fits d h = record {
   edition = known (edition_in d) (value-least (edition_in d) d.header (omega (arith, h.whole)) h.ranges);
-  fits = at-most (values_of (head_from_values d)) (greatest_values (edition_in d))
-      (header-most d 1 h, (header-most d 2 h, (header-most d 3 h, (header-most d 4 h, (header-most d 5 h, (header-most d 6 h, (header-most d 7 h, (header-most d 8 h, (header-most d 9 h, (header-most d 10 h, (header-most d 11 h, (header-most d 12 h, (header-most d 13 h, (header-most d 14 h, (header-most d 15 h, tt)))))))))))))));
+  fits = at-most (values_of (head_from_values d)) (greatest_values (edition_in d)) (
+    header-most d 1 h,
+    (
+      header-most d 2 h,
+      (
+        header-most d 3 h,
+        (
+          header-most d 4 h,
+          (
+            header-most d 5 h,
+            (
+              header-most d 6 h,
+              (
+                header-most d 7 h,
+                (header-most d 8 h, (header-most d 9 h, (header-most d 10 h, (header-most d 11 h, (header-most d 12 h, (header-most d 13 h, (header-most d 14 h, (header-most d 15 h, tt)))))))),
+              ),
+            ),
+          ),
+        ),
+      ),
+    ),
+  );
 }
 
 -- one more value in its range
@@ -285,7 +311,8 @@ pub any-edition : (a b v : ℕ) → in_range a 0 v ≡ in_range b 0 v
 unfolding mosts
 any-edition a b v = refl
 
-ranges-again : (xs : List ℕ) (v : ℕ) → are_in_range (slice_index xs 0) 0 xs ≡ true → in_range (slice_index xs 0) (length xs) v ≡ true → are_in_range (slice_index (xs ++ v ∷ []) 0) 0 (xs ++ v ∷ []) ≡ true
+ranges-again : (xs : List ℕ) (v : ℕ) → are_in_range (slice_index xs 0) 0 xs ≡ true → in_range (slice_index xs 0) (length xs) v ≡ true
+    → are_in_range (slice_index (xs ++ v ∷ []) 0) 0 (xs ++ v ∷ []) ≡ true
 ranges-again [] v h g = both (in_range v 0 v) true (any-edition v 0 v ∙ g) refl
 ranges-again (x ∷ xs) v h g =
     let same : length (x ∷ xs) ≡ 0 + length (x ∷ xs) = omega arith in
@@ -308,7 +335,8 @@ not-false false e = absurd cc
 still-bare : (d : Document) (value : ℕ) → IsBare d → IsBare (with_value d value)
 still-bare d value bare = record { local1 = bare.local1; section2 = bare.section2; descriptors = bare.descriptors; entries = bare.entries }
 
-value-so : (at key value : ℕ) (d : Document) (b : Bool) → (key == 19) ≡ b → length d.header < 20 → are_in_range (edition_in d) 0 d.header ≡ true → length d.entries < at → key ≡ length d.header → in_range (edition_in d) key value ≡ true → IsBare d
+value-so : (at key value : ℕ) (d : Document) (b : Bool) → (key == 19) ≡ b → length d.header < 20 → are_in_range (edition_in d) 0 d.header ≡ true → length d.entries < at → key ≡ length d.header
+    → in_range (edition_in d) key value ≡ true → IsBare d
     → IsParserState (at + 1) (if b then BeforeSubsets 0 (with_value d value) else Heading (with_value d value))
 value-so at key value d b h1 h2 h3 h4 h5 h6 h7 = grind (arith, nat_tests, common_steps, length-append, ranges-again, written-bare, still-bare)
 
@@ -349,9 +377,11 @@ one-more at ended d h1 = grind (arith, nat_tests, common_steps, all-more, end-en
 by-number : (subset ended : ℕ) (d : Document) → subset ≡ ended + 1 → HasSubsets (ended + 1) d → HasSubsets subset d
 by-number subset ended d is has = subst (λ (n : ℕ). HasSubsets n d) (sym is) has
 
-filling-so : (at subset : ℕ) (d : Document) (line : Line) → IsSound line → IsHeaded d → length d.entries < at → subset < 65536 → HasLineGroups d → ((ended : ℕ) × (subset ≡ ended + 1) × HasSubsets ended d) → HoldsAfter at (filling at subset d line)
+filling-so : (at subset : ℕ) (d : Document) (line : Line) → IsSound line → IsHeaded d → length d.entries < at → subset < 65536 → HasLineGroups d
+    → ((ended : ℕ) × (subset ≡ ended + 1) × HasSubsets ended d) → HoldsAfter at (filling at subset d line)
 filling-so at subset d (Begins next) sound h lines few written (ended, is, has) =
-    beginning-so at subset next (with_entry d (Ends at)) (still-headed d (Ends at) h) (omega (arith, lines, one-entry d (Ends at))) (still-written d (Ends at) written) (by-number subset ended (with_entry d (Ends at)) is (one-more at ended d has))
+    beginning-so at subset next (with_entry d (Ends at)) (still-headed d (Ends at) h) (omega (arith, lines, one-entry d (Ends at))) (still-written d (Ends at) written)
+    (by-number subset ended (with_entry d (Ends at)) is (one-more at ended d has))
 filling-so at subset d (Item fxy form) sound h lines few written (ended, is, has) = (
   still-headed d (Holds (draft at fxy form)) h,
   omega (arith, lines, one-entry d (Holds (draft at fxy form))),
@@ -367,7 +397,8 @@ filling-so at subset d (Item fxy form) sound h lines few written (ended, is, has
   ),
 )
 filling-so at subset d Closes sound h lines few written (ended, is, has) =
-    closing-so at subset (with_entry d (Ends at)) (still-headed d (Ends at) h) (omega (arith, lines, one-entry d (Ends at))) (still-written d (Ends at) written) (by-number subset ended (with_entry d (Ends at)) is (one-more at ended d has)) (ends-last d.entries at)
+    closing-so at subset (with_entry d (Ends at)) (still-headed d (Ends at) h) (omega (arith, lines, one-entry d (Ends at))) (still-written d (Ends at) written)
+    (by-number subset ended (with_entry d (Ends at)) is (one-more at ended d has)) (ends-last d.entries at)
 filling-so at subset d line sound h lines few written has = tt
 
 -- what holds of a place holds of the place after the line

@@ -95,7 +95,8 @@ stop-first : (c : ℕ) (more : List ℕ) → is_number_octet c ≡ false → (pr
 unfolding prefix_while suffix_while
 stop-first c more e = (rw e refl, rw e refl)
 
-pub token-stop : (text : List ℕ) (at : ℕ) → IsTokenTo text at → at < length text → is_number_octet (slice_index text at) ≡ false → (take at text ≡ prefix_while is_number_octet text) × (drop at text ≡ suffix_while is_number_octet text)
+pub token-stop : (text : List ℕ) (at : ℕ) → IsTokenTo text at → at < length text → is_number_octet (slice_index text at) ≡ false
+    → (take at text ≡ prefix_while is_number_octet text) × (drop at text ≡ suffix_while is_number_octet text)
 token-stop text at h1 h2 h3 = grind (arith, nat_tests, common_steps, stop-first, one-on, append-nil)
 
 pub token-end : (text : List ℕ) (at : ℕ) → IsTokenTo text at → length text ≤ at → (take at text ≡ prefix_while is_number_octet text) × (drop at text ≡ suffix_while is_number_octet text)
@@ -122,12 +123,14 @@ pub value-word : (text : List ℕ) → (slice_index text 0 ≡ 34 → ⊥) → i
 unfolding value_read without_prefix
 value-word text h1 h2 = grind (arith, nat_tests, common_steps)
 
-pub word-is : (word text : List ℕ) (r : Option (Bor (List ℕ))) → MatchOption r (bytes_eq (take (length word) text) word ≡ false) (λ x. (bytes_eq (take (length word) text) word ≡ true) × (x.now ≡ drop (length word) text) × (length x.now + length word ≡ length text)) → option_map (λ s. s.now) r ≡ without_prefix word text
+pub word-is : (word text : List ℕ) (r : Option (Bor (List ℕ))) → MatchOption r (bytes_eq (take (length word) text) word ≡ false)
+    (λ x. (bytes_eq (take (length word) text) word ≡ true) × (x.now ≡ drop (length word) text) × (length x.now + length word ≡ length text)) → option_map (λ s. s.now) r ≡ without_prefix word text
 word-is word text None h = sym (word-absent word text h)
 word-is word text (Some x) h = ap Some h.1 ∙ sym (word-there word text h.0)
 
 -- a token of number octets that no further one follows
-octets-while : (text : List ℕ) (count : ℕ) → count ≤ length text → list_all is_number_octet (take count text) ≡ true → is_number_octet (slice_index (drop count text) 0) ≡ false → (prefix_while is_number_octet text ≡ take count text) × (suffix_while is_number_octet text ≡ drop count text)
+octets-while : (text : List ℕ) (count : ℕ) → count ≤ length text → list_all is_number_octet (take count text) ≡ true → is_number_octet (slice_index (drop count text) 0) ≡ false
+    → (prefix_while is_number_octet text ≡ take count text) × (suffix_while is_number_octet text ≡ drop count text)
 unfolding prefix_while suffix_while
 octets-while [] zero le all stop = (refl, refl)
 octets-while [] (suc count) le all stop = absurd (omega arith)
@@ -140,7 +143,8 @@ octets-while (c ∷ text) (suc count) le all stop =
 octet-first : (text : List ℕ) (count : ℕ) → 0 < count → count ≤ length text → list_all is_number_octet (take count text) ≡ true → is_number_octet (slice_index text 0) ≡ true
 octet-first text count h1 h2 h3 = grind (arith, nat_tests, common_steps)
 
-pub value-decimal : (text token : List ℕ) (count : ℕ) → 0 < count → count ≤ length text → take count text ≡ token → list_all is_number_octet (take count text) ≡ true → is_number_octet (slice_index (drop count text) 0) ≡ false → value_read text ≡ Some (number_token token, drop count text)
+pub value-decimal : (text token : List ℕ) (count : ℕ) → 0 < count → count ≤ length text → take count text ≡ token → list_all is_number_octet (take count text) ≡ true
+    → is_number_octet (slice_index (drop count text) 0) ≡ false → value_read text ≡ Some (number_token token, drop count text)
 value-decimal text token count some le is all stop =
     let parts = octets-while text count le all stop in
     value-token text (octet-first text count some le all) ∙ rw (parts.0, parts.1, is) refl
@@ -203,7 +207,8 @@ passed-comment text h1 h2 h3 h4 = grind (arith, nat_tests, common_steps)
 pub ruleset hash_steps = (hashed-space, hashed-other, hashed-end, passed-space, passed-other, passed-none, passed-comment)
 
 -- references
-pub reference-some : (text : List ℕ) → is_number_octet (slice_index text 0) ≡ true → number_value reference_token text ≡ Some (reference_token (prefix_while is_number_octet text), suffix_while is_number_octet text)
+pub reference-some : (text : List ℕ) → is_number_octet (slice_index text 0) ≡ true
+    → number_value reference_token text ≡ Some (reference_token (prefix_while is_number_octet text), suffix_while is_number_octet text)
 reference-some [] e = absurd cc
 reference-some (c ∷ more) e = rw e refl
 
@@ -221,7 +226,8 @@ no-space c h1 = grind (arith, nat_tests, common_steps)
 a-space : (c : ℕ) → (c == 32) ≡ true → is_no_space c ≡ false
 a-space c h = ap not h
 
-pub word-whole : (line : List ℕ) → ((k : ℕ) → 0 ≤ k → k < length line → (slice_index line k == 32) ≡ true → ⊥) → (take (length line) line ≡ prefix_while is_no_space line) × (drop (length line) line ≡ suffix_while is_no_space line)
+pub word-whole : (line : List ℕ) → ((k : ℕ) → 0 ≤ k → k < length line → (slice_index line k == 32) ≡ true → ⊥)
+    → (take (length line) line ≡ prefix_while is_no_space line) × (drop (length line) line ≡ suffix_while is_no_space line)
 unfolding prefix_while suffix_while
 word-whole [] none = (refl, refl)
 word-whole (c ∷ line) none =
@@ -229,7 +235,8 @@ word-whole (c ∷ line) none =
     let rest = word-whole line (λ k low below. none (suc k) (omega arith) (omega arith)) in
     (rw here (ap (λ (t : List ℕ). c ∷ t) rest.0), rw here rest.1)
 
-pub word-to : (line : List ℕ) (n : ℕ) → n < length line → ((k : ℕ) → 0 ≤ k → k < n → (slice_index line k == 32) ≡ true → ⊥) → (slice_index line n == 32) ≡ true → (take n line ≡ prefix_while is_no_space line) × (drop n line ≡ suffix_while is_no_space line)
+pub word-to : (line : List ℕ) (n : ℕ) → n < length line → ((k : ℕ) → 0 ≤ k → k < n → (slice_index line k == 32) ≡ true → ⊥) → (slice_index line n == 32) ≡ true
+    → (take n line ≡ prefix_while is_no_space line) × (drop n line ≡ suffix_while is_no_space line)
 unfolding prefix_while suffix_while
 word-to [] n h none e = absurd (omega arith)
 word-to (c ∷ line) zero h none e = (rw (a-space c e) refl, rw (a-space c e) refl)
@@ -238,7 +245,8 @@ word-to (c ∷ line) (suc n) h none e =
     let rest = word-to line n (omega arith) (λ k low below. none (suc k) (omega arith) (omega arith)) e in
     (rw here (ap (λ (t : List ℕ). c ∷ t) rest.0), rw here rest.1)
 
-pub word-at : (line : List ℕ) (r : Option ℕ) (n : ℕ) → IsFirstByte (is_byte 32) line r → n ≡ unwrap_or r (length line) → (take n line ≡ prefix_while is_no_space line) × (drop n line ≡ suffix_while is_no_space line)
+pub word-at : (line : List ℕ) (r : Option ℕ) (n : ℕ) → IsFirstByte (is_byte 32) line r → n ≡ unwrap_or r (length line)
+    → (take n line ≡ prefix_while is_no_space line) × (drop n line ≡ suffix_while is_no_space line)
 word-at line None n h is = rw is (word-whole line h)
 word-at line (Some m) n h is = rw is (word-to line m h.0.high h.0.before h.1)
 
@@ -258,7 +266,8 @@ unfolding line_of
 line-item [] e d = absurd cc
 line-item (c ∷ line) e d = let q : (c == 35) ≡ false = grind (arith, nat_tests, e) in rw (q, d) refl
 
-pub line-word : (line : List ℕ) → 0 < length line → (slice_index line 0 ≡ 35 → ⊥) → is_ascii_digit (slice_index line 0) ≡ false → line_of line ≡ worded (prefix_while is_no_space line) (suffix_while is_no_space line)
+pub line-word : (line : List ℕ) → 0 < length line → (slice_index line 0 ≡ 35 → ⊥) → is_ascii_digit (slice_index line 0) ≡ false
+    → line_of line ≡ worded (prefix_while is_no_space line) (suffix_while is_no_space line)
 unfolding line_of
 line-word [] some e d = absurd (omega (arith, some))
 line-word (c ∷ line) some e d = let q : (c == 35) ≡ false = grind (arith, nat_tests, e) in rw (q, d) refl
@@ -275,7 +284,8 @@ begins-by-digit : (line : List ℕ) (fxy : ℕ) → 6 ≤ length line → Some f
 begins-by-digit [] fxy h is = absurd (omega arith)
 begins-by-digit (c ∷ more) fxy h is = grind (arith, nat_tests, is-fxy (take 6 (c ∷ more)) fxy is)
 
-pub decimal-line : (line text rest : List ℕ) (fxy : ℕ) (form : DraftValue) → 6 ≤ length line → Some text ≡ without_space (drop 6 line) → value_read text ≡ Some (form, rest) → is_passed_after rest ≡ true → Some fxy ≡ fxy_of (take 6 line) → line_of line ≡ Item fxy form
+pub decimal-line : (line text rest : List ℕ) (fxy : ℕ) (form : DraftValue) → 6 ≤ length line → Some text ≡ without_space (drop 6 line) → value_read text ≡ Some (form, rest)
+    → is_passed_after rest ≡ true → Some fxy ≡ fxy_of (take 6 line) → line_of line ≡ Item fxy form
 decimal-line line text rest fxy form h space value passed is =
     let digit = begins-by-digit line fxy h is in
     line-item line (λ (e : slice_index line 0 ≡ 35). absurd (grind (arith, nat_tests, e, digit))) digit
@@ -341,7 +351,8 @@ module _ (text out : List ℕ) (count : ℕ) (is : IsDescribing text out count) 
   pub describing-no-fxy : 7 ≤ length (drop (7 * count) text) → slice_index (drop (7 * count) text) 0 ≡ 32 → fxy_of (take 6 (drop 1 (drop (7 * count) text))) ≡ None → Describes text out None
   describing-no-fxy long e f = none-after (no-fxy-on (drop (7 * count) text) long e f)
 
-  pub describing-on : (word : ℕ) → 7 ≤ length (drop (7 * count) text) → slice_index (drop (7 * count) text) 0 ≡ 32 → fxy_of (take 6 (drop 1 (drop (7 * count) text))) ≡ Some word → IsDescribing text (slice_set out count word) (count + 1)
+  pub describing-on : (word : ℕ) → 7 ≤ length (drop (7 * count) text) → slice_index (drop (7 * count) text) 0 ≡ 32 → fxy_of (take 6 (drop 1 (drop (7 * count) text))) ≡ Some word
+      → IsDescribing text (slice_set out count word) (count + 1)
   describing-on word long e f =
       let t = drop (7 * count) text in
       let long' = length-drop (7 * count) text in
@@ -365,7 +376,8 @@ module _ (text out : List ℕ) (count : ℕ) (is : IsDescribing text out count) 
       let some : 0 < count = omega (arith, is.some, done) in
       let few : count ≤ 8 = omega (arith, is.within, is.short) in
       let long : length (take count out) ≡ count = omega (arith, length-take count out, is.room, few) in
-      let read : descriptors_read text ≡ Some (take count out) = is.read ∙ ap (λ (t : List ℕ). option_map (λ more. take count out ++ more) (descriptors_read t)) (drop_all (7 * count) text done) ∙ ap Some (append-nil (take count out)) in
+      let read : descriptors_read text ≡ Some (take count out) = is.read ∙ ap (λ (t : List ℕ). option_map (λ more. take count out ++ more) (descriptors_read t)) (drop_all (7 * count) text done)
+      ∙ ap Some (append-nil (take count out)) in
       let bounds : (nat_lt 0 (length (take count out)) && nat_le (length (take count out)) 8) ≡ true = grind (arith, nat_tests, long, some, few) in
       (omega (arith, is.room, few), ap (made (with_one_to 8 Descriptors)) read ∙ rw bounds refl)
 
@@ -401,7 +413,8 @@ hex-two : (a b : ℕ) (more : List ℕ) → hex_read (a ∷ b ∷ more) ≡ onto
 unfolding hex_read
 hex-two a b more = refl
 
-pub unhexing-on : (text out : List ℕ) (count high low : ℕ) → IsUnhexing text out count → 2 * count + 1 < length text → Some high ≡ either_value (slice_index text (2 * count)) → Some low ≡ either_value (slice_index text (2 * count + 1))
+pub unhexing-on : (text out : List ℕ) (count high low : ℕ) → IsUnhexing text out count → 2 * count + 1 < length text → Some high ≡ either_value (slice_index text (2 * count))
+    → Some low ≡ either_value (slice_index text (2 * count + 1))
     → IsUnhexing text (slice_set out count (16 * high + low)) (count + 1)
 unhexing-on text out count high low h1 h2 h3 h4 = grind (arith, nat_tests, common_steps, length-set, two-on, hex-two, onto-more, one-set)
 
@@ -412,19 +425,26 @@ none-left None = refl
 none-read : (read : Option (List ℕ)) (v : Option ℕ) → v ≡ None → onto_read v read ≡ None
 none-read read v e = ap (λ (t : Option ℕ). onto_read t read) e
 
-pub unhexing-wrong : (text out : List ℕ) (count : ℕ) → IsUnhexing text out count → 2 * count + 1 < length text → pair_value (either_value (slice_index text (2 * count))) (either_value (slice_index text (2 * count + 1))) ≡ None → hex_read text ≡ None
+pub unhexing-wrong : (text out : List ℕ) (count : ℕ) → IsUnhexing text out count → 2 * count + 1 < length text
+    → pair_value (either_value (slice_index text (2 * count))) (either_value (slice_index text (2 * count + 1))) ≡ None → hex_read text ≡ None
 unhexing-wrong text out count h1 h2 h3 = grind (arith, nat_tests, common_steps, two-on, hex-two, none-read)
 
-pub high-wrong : (text : List ℕ) (count : ℕ) → None ≡ either_value (slice_index text (2 * count)) → pair_value (either_value (slice_index text (2 * count))) (either_value (slice_index text (2 * count + 1))) ≡ None
+pub high-wrong : (text : List ℕ) (count : ℕ) → None ≡ either_value (slice_index text (2 * count))
+    → pair_value (either_value (slice_index text (2 * count))) (either_value (slice_index text (2 * count + 1))) ≡ None
 high-wrong text count e = ap (λ (t : Option ℕ). pair_value t (either_value (slice_index text (2 * count + 1)))) (sym e)
 
-pub low-wrong : (text : List ℕ) (count : ℕ) → None ≡ either_value (slice_index text (2 * count + 1)) → pair_value (either_value (slice_index text (2 * count))) (either_value (slice_index text (2 * count + 1))) ≡ None
+pub low-wrong : (text : List ℕ) (count : ℕ) → None ≡ either_value (slice_index text (2 * count + 1))
+    → pair_value (either_value (slice_index text (2 * count))) (either_value (slice_index text (2 * count + 1))) ≡ None
 low-wrong text count e = ap (pair_value (either_value (slice_index text (2 * count)))) (sym e) ∙ none-left (either_value (slice_index text (2 * count)))
 
 pub unhexing-whole : (text out : List ℕ) (count : ℕ) → IsUnhexing text out count → 2 * count ≡ length text → Unhexes text out (Some count)
 unfolding hex_read
-unhexing-whole text out count is h =
-    (h, omega (arith, is.room), is.read ∙ ap (λ (t : List ℕ). option_map (λ more. take count out ++ more) (hex_read t)) (drop_all (2 * count) text (omega arith)) ∙ ap Some (append-nil (take count out)))
+unhexing-whole text out count is h = (
+  h,
+  omega (arith, is.room),
+  is.read ∙ ap (λ (t : List ℕ). option_map (λ more. take count out ++ more) (hex_read t)) (drop_all (2 * count) text (omega arith))
+      ∙ ap Some (append-nil (take count out)),
+)
 
 odd : (rest : List ℕ) → length rest ≡ 1 → hex_read rest ≡ None
 unfolding hex_read
@@ -517,7 +537,8 @@ unquoting-says text out count at octet written is h e =
       few = omega (arith, is.few, w.0);
       within = w.1;
       room = omega (arith, is.room, length-set out count octet);
-      read = is.read ∙ ap (octets_onto (take count out)) (says-on (drop at text) octet written e (left-some text at h) ∙ ap (λ (t : List ℕ). octet_onto octet (quoted_read 0 t)) (drop-on written at text))
+      read = is.read ∙ ap (octets_onto (take count out)) (says-on (drop at text) octet written e (left-some text at h)
+          ∙ ap (λ (t : List ℕ). octet_onto octet (quoted_read 0 t)) (drop-on written at text))
           ∙ onto-one-more (take count out) octet (quoted_read 0 (drop (at + written) text))
           ∙ ap (λ (t : List ℕ). octets_onto t (quoted_read 0 (drop (at + written) text))) (sym (one-set out count octet (omega (arith, is.few, is.room, h))));
     }

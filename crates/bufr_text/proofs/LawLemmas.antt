@@ -55,7 +55,9 @@ bare_subset at = record { at = at; items = [] }
 
 item-more : (k : ℕ) (done : List SubsetHeard) (last : SubsetHeard) (i : Element) → subsets_heard k (done ++ with_item last i ∷ []) ≡ subsets_heard k (done ++ last ∷ []) ++ item_line i ∷ []
 item-more k [] last i =
-    ap (λ (t : List NumberedLine). numbered_line last.at (Begins k) ∷ t) (append-nil (map item_line (last.items ++ i ∷ [])) ∙ map-append item_line last.items (i ∷ []) ∙ ap (λ (t : List NumberedLine). t ++ item_line i ∷ []) (sym (append-nil (map item_line last.items))))
+    ap (λ (t : List NumberedLine). numbered_line last.at (Begins k) ∷ t)
+    (append-nil (map item_line (last.items ++ i ∷ [])) ∙ map-append item_line last.items (i ∷ [])
+    ∙ ap (λ (t : List NumberedLine). t ++ item_line i ∷ []) (sym (append-nil (map item_line last.items))))
 item-more k (part ∷ done) last i =
     ap (λ (t : List NumberedLine). numbered_line part.at (Begins k) ∷ t) (ap (λ (t : List NumberedLine). map item_line part.items ++ t) (item-more (k + 1) done last i)
     ∙ sym (append_assoc (map item_line part.items) (subsets_heard (k + 1) (done ++ last ∷ [])) (item_line i ∷ [])))
@@ -64,7 +66,8 @@ part-more : (k : ℕ) (done : List SubsetHeard) (at : ℕ) → subsets_heard k (
 part-more k [] at = let e : k ≡ k + 0 = omega arith in ap (λ (n : ℕ). numbered_line at (Begins n) ∷ []) e
 part-more k (part ∷ done) at =
     let e : k + 1 + length done ≡ k + length (part ∷ done) = omega arith in
-    ap (λ (t : List NumberedLine). numbered_line part.at (Begins k) ∷ t) (ap (λ (t : List NumberedLine). map item_line part.items ++ t) (part-more (k + 1) done at ∙ ap (λ (n : ℕ). subsets_heard (k + 1) done ++ numbered_line at (Begins n) ∷ []) e)
+    ap (λ (t : List NumberedLine). numbered_line part.at (Begins k) ∷ t)
+    (ap (λ (t : List NumberedLine). map item_line part.items ++ t) (part-more (k + 1) done at ∙ ap (λ (n : ℕ). subsets_heard (k + 1) done ++ numbered_line at (Begins n) ∷ []) e)
     ∙ sym (append_assoc (map item_line part.items) (subsets_heard (k + 1) done) (numbered_line at (Begins (k + length (part ∷ done))) ∷ [])))
 
 first-more : (done : List SubsetHeard) (last : SubsetHeard) (end : ℕ) → first_at (done ++ last ∷ []) end ≡ first_at done last.at
@@ -151,7 +154,8 @@ passed : (place : ParserState) (own : List NumberedLine) → IsOpen place own �
 passed place own is = subst (λ (t : List NumberedLine). IsOpen place t) (sym (append-nil own)) is
 
 -- a header line
-in-order : (d : Document) (at key value : ℕ) (header : List NumberedLine) → key ≡ length d.header → says header ≡ header_says 0 d.header → says (header ++ numbered_line at (Header key value) ∷ []) ≡ header_says 0 (d.header ++ value ∷ [])
+in-order : (d : Document) (at key value : ℕ) (header : List NumberedLine) → key ≡ length d.header → says header ≡ header_says 0 d.header
+    → says (header ++ numbered_line at (Header key value) ∷ []) ≡ header_says 0 (d.header ++ value ∷ [])
 in-order d at key value header h1 h2 = grind (arith, nat_tests, common_steps, map-append, headers-more)
 
 heading-open : (at key value : ℕ) (d : Document) (own : List NumberedLine) → IsHeading d own → IsOpenAfter (heading d (Header key value)) (own ++ numbered_line at (Header key value) ∷ [])
@@ -171,7 +175,8 @@ heading-open at key value d own is =
         local1 = [];
         section2 = [];
         descriptors = [];
-        are = ap (λ (t : List NumberedLine). t ++ numbered_line at (Header key value) ∷ []) is.are ∙ sym (append-nil (numbered_line d.line Opens ∷ is.header ++ numbered_line at (Header key value) ∷ []));
+        are = ap (λ (t : List NumberedLine). t ++ numbered_line at (Header key value) ∷ []) is.are
+            ∙ sym (append-nil (numbered_line d.line Opens ∷ is.header ++ numbered_line at (Header key value) ∷ []));
         in_order = in-order d at key value is.header same is.in_order;
         parts = refl;
         local1_is = is.bare.local1;
@@ -202,7 +207,8 @@ local1-open at d octets own is =
     let b = is.with_open_group in
     let none2 = is.before_section2 refl in
     let none3 = is.before_descriptors (omega arith) in
-    let before : says b.written ≡ map Local1 b.local1 = b.parts ∙ ap (λ (t : List (List ℕ)). map Local1 b.local1 ++ (map Section2 t ++ map Descriptors b.descriptors)) none2 ∙ ap (λ (t : List (List ℕ)). map Local1 b.local1 ++ map Descriptors t) none3 ∙ append-nil (map Local1 b.local1) in
+    let before : says b.written ≡ map Local1 b.local1 = b.parts ∙ ap (λ (t : List (List ℕ)). map Local1 b.local1 ++ (map Section2 t ++ map Descriptors b.descriptors)) none2
+    ∙ ap (λ (t : List (List ℕ)). map Local1 b.local1 ++ map Descriptors t) none3 ∙ append-nil (map Local1 b.local1) in
     record {
       with_open_group = record {
         header = b.header;
@@ -212,7 +218,8 @@ local1-open at d octets own is =
         descriptors = [];
         are = written-more d own b (numbered_line at (Local1 octets));
         in_order = b.in_order;
-        parts = says-more b.written (numbered_line at (Local1 octets)) (map Local1 b.local1) before ∙ sym (map-append Local1 b.local1 (octets ∷ [])) ∙ sym (append-nil (map Local1 (b.local1 ++ octets ∷ [])));
+        parts = says-more b.written (numbered_line at (Local1 octets)) (map Local1 b.local1) before ∙ sym (map-append Local1 b.local1 (octets ∷ []))
+            ∙ sym (append-nil (map Local1 (b.local1 ++ octets ∷ [])));
         local1_is = ap (λ (t : List ℕ). t ++ octets) b.local1_is ∙ sym (concat-more b.local1 octets);
         section2_is = b.section2_is ∙ ap (λ (t : List (List ℕ)). concat t) none2;
         descriptors_are = b.descriptors_are ∙ ap (λ (t : List (List ℕ)). concat t) none3;
@@ -223,12 +230,14 @@ local1-open at d octets own is =
       none = is.none;
     }
 
-section2-open : (at part : ℕ) (d : Document) (octets : List ℕ) (own : List NumberedLine) → part ≤ 1 → optional_in d ≡ 1 → IsBeforeSubsets part d own → IsBeforeSubsets 1 (with_section2 d octets) (own ++ numbered_line at (Section2 octets) ∷ [])
+section2-open : (at part : ℕ) (d : Document) (octets : List ℕ) (own : List NumberedLine) → part ≤ 1 → optional_in d ≡ 1 → IsBeforeSubsets part d own
+    → IsBeforeSubsets 1 (with_section2 d octets) (own ++ numbered_line at (Section2 octets) ∷ [])
 section2-open at part d octets own early flag is =
     let b = is.with_open_group in
     let none3 = is.before_descriptors early in
     let first = map Local1 b.local1 in
-    let before : says b.written ≡ first ++ map Section2 b.section2 = b.parts ∙ ap (λ (t : List (List ℕ)). first ++ (map Section2 b.section2 ++ map Descriptors t)) none3 ∙ ap (λ (t : List Line). first ++ t) (append-nil (map Section2 b.section2)) in
+    let before : says b.written ≡ first ++ map Section2 b.section2 =
+    b.parts ∙ ap (λ (t : List (List ℕ)). first ++ (map Section2 b.section2 ++ map Descriptors t)) none3 ∙ ap (λ (t : List Line). first ++ t) (append-nil (map Section2 b.section2)) in
     record {
       with_open_group = record {
         header = b.header;
@@ -250,7 +259,8 @@ section2-open at part d octets own early flag is =
       none = is.none;
     }
 
-descriptors-open : (at part : ℕ) (d : Document) (words : List ℕ) (own : List NumberedLine) → IsBeforeSubsets part d own → IsBeforeSubsets 2 (with_descriptors d words) (own ++ numbered_line at (Descriptors words) ∷ [])
+descriptors-open : (at part : ℕ) (d : Document) (words : List ℕ) (own : List NumberedLine) → IsBeforeSubsets part d own
+    → IsBeforeSubsets 2 (with_descriptors d words) (own ++ numbered_line at (Descriptors words) ∷ [])
 descriptors-open at part d words own is =
     let b = is.with_open_group in
     let first = map Local1 b.local1 in
@@ -264,8 +274,10 @@ descriptors-open at part d words own is =
         descriptors = b.descriptors ++ words ∷ [];
         are = written-more d own b (numbered_line at (Descriptors words));
         in_order = b.in_order;
-        parts = says-more b.written (numbered_line at (Descriptors words)) (first ++ (second ++ map Descriptors b.descriptors)) b.parts ∙ append_assoc first (second ++ map Descriptors b.descriptors) (Descriptors words ∷ [])
-            ∙ ap (λ (t : List Line). first ++ t) (append_assoc second (map Descriptors b.descriptors) (Descriptors words ∷ []) ∙ ap (λ (t : List Line). second ++ t) (sym (map-append Descriptors b.descriptors (words ∷ []))));
+        parts = says-more b.written (numbered_line at (Descriptors words)) (first ++ (second ++ map Descriptors b.descriptors)) b.parts
+            ∙ append_assoc first (second ++ map Descriptors b.descriptors) (Descriptors words ∷ [])
+            ∙ ap (λ (t : List Line). first ++ t) (append_assoc second (map Descriptors b.descriptors) (Descriptors words ∷ [])
+            ∙ ap (λ (t : List Line). second ++ t) (sym (map-append Descriptors b.descriptors (words ∷ []))));
         local1_is = b.local1_is;
         section2_is = b.section2_is;
         descriptors_are = ap (λ (t : List ℕ). t ++ words) b.descriptors_are ∙ sym (concat-more b.descriptors words);
@@ -322,7 +334,8 @@ begun-still d entry own h1 = grind (arith, nat_tests, common_steps)
 ended-entries : (at subset : ℕ) (d : Document) (own : List NumberedLine) (is : IsFilling subset d own) → d.entries ++ Ends at ∷ [] ≡ entries_heard (is.done ++ is.last ∷ []) at
 ended-entries at subset d own is = ap (λ (t : List DraftEntry). t ++ Ends at ∷ []) is.entries ∙ sym (entries-more is.done is.last at)
 
-next-open : (at subset next : ℕ) (d : Document) (own : List NumberedLine) → IsFilling subset d own → IsOpenAfter (beginning subset (with_entry d (Ends at)) next) (own ++ numbered_line at (Begins next) ∷ [])
+next-open : (at subset next : ℕ) (d : Document) (own : List NumberedLine) → IsFilling subset d own
+    → IsOpenAfter (beginning subset (with_entry d (Ends at)) next) (own ++ numbered_line at (Begins next) ∷ [])
 next-open at subset next d own is =
     let parts = is.done ++ is.last ∷ [] in
     if-open (own ++ numbered_line at (Begins next) ∷ []) ((next == subset + 1) && nat_le next (subsets_in d)) (WalkGoes (Filling next (with_entry d (Ends at)))) (Faults SubsetCount) (λ e.
@@ -343,7 +356,8 @@ item-open at subset d own i here is = record {
   with_open_group = begun-still d (item_entry i) is.prefix is.with_open_group;
   done = is.done;
   last = with_item is.last i;
-  are = ap (λ (t : List NumberedLine). t ++ item_line i ∷ []) is.are ∙ append_assoc is.prefix (subsets_heard 1 (is.done ++ is.last ∷ [])) (item_line i ∷ []) ∙ ap (λ (t : List NumberedLine). is.prefix ++ t) (sym (item-more 1 is.done is.last i));
+  are = ap (λ (t : List NumberedLine). t ++ item_line i ∷ []) is.are ∙ append_assoc is.prefix (subsets_heard 1 (is.done ++ is.last ∷ [])) (item_line i ∷ [])
+      ∙ ap (λ (t : List NumberedLine). is.prefix ++ t) (sym (item-more 1 is.done is.last i));
   counted = is.counted;
   entries = ap (λ (t : List DraftEntry). t ++ item_entry i ∷ []) is.entries ∙ append_assoc (entries_heard is.done is.last.at) (map item_entry is.last.items) (item_entry i ∷ [])
       ∙ ap (λ (t : List DraftEntry). entries_heard is.done is.last.at ++ t) (sym (map-append item_entry is.last.items (i ∷ [])));
@@ -361,7 +375,8 @@ end-open at subset d own is =
       written = b.written;
       subsets = parts;
       end = at;
-      are = ap (λ (t : List NumberedLine). t ++ numbered_line at Closes ∷ []) (is.are ∙ ap (λ (t : List NumberedLine). t ++ subsets_heard 1 parts) b.are ∙ append_assoc (numbered_line d.line Opens ∷ b.header) b.written (subsets_heard 1 parts))
+      are = ap (λ (t : List NumberedLine). t ++ numbered_line at Closes ∷ [])
+          (is.are ∙ ap (λ (t : List NumberedLine). t ++ subsets_heard 1 parts) b.are ∙ append_assoc (numbered_line d.line Opens ∷ b.header) b.written (subsets_heard 1 parts))
           ∙ append_assoc (numbered_line d.line Opens ∷ b.header) (b.written ++ subsets_heard 1 parts) (numbered_line at Closes ∷ [])
           ∙ ap (λ (t : List NumberedLine). (numbered_line d.line Opens ∷ b.header) ++ t) (append_assoc b.written (subsets_heard 1 parts) (numbered_line at Closes ∷ []));
       in_order = b.in_order;
@@ -374,11 +389,13 @@ end-open at subset d own is =
       entries = ended-entries at subset d own is;
     }) (λ e. tt)
 
-by-part : (at part : ℕ) (d : Document) (octets : List ℕ) (own : List NumberedLine) (b : Bool) → (part == 0) ≡ b → IsBeforeSubsets part d own → IsOpenAfter (if b then WalkGoes (BeforeSubsets 0 (with_local1 d octets)) else Faults NotAllowed) (own ++ numbered_line at (Local1 octets) ∷ [])
+by-part : (at part : ℕ) (d : Document) (octets : List ℕ) (own : List NumberedLine) (b : Bool) → (part == 0) ≡ b → IsBeforeSubsets part d own
+    → IsOpenAfter (if b then WalkGoes (BeforeSubsets 0 (with_local1 d octets)) else Faults NotAllowed) (own ++ numbered_line at (Local1 octets) ∷ [])
 by-part at part d octets own true e is = local1-open at d octets own (subst (λ (n : ℕ). IsBeforeSubsets n d own) (equal part 0 e) is)
 by-part at part d octets own false e is = tt
 
-by-flag : (at part : ℕ) (d : Document) (octets : List ℕ) (own : List NumberedLine) → IsBeforeSubsets part d own → IsOpenAfter (if nat_le part 1 && (optional_in d == 1) then WalkGoes (BeforeSubsets 1 (with_section2 d octets)) else Faults NotAllowed) (own ++ numbered_line at (Section2 octets) ∷ [])
+by-flag : (at part : ℕ) (d : Document) (octets : List ℕ) (own : List NumberedLine) → IsBeforeSubsets part d own
+    → IsOpenAfter (if nat_le part 1 && (optional_in d == 1) then WalkGoes (BeforeSubsets 1 (with_section2 d octets)) else Faults NotAllowed) (own ++ numbered_line at (Section2 octets) ∷ [])
 by-flag at part d octets own is =
     if-open (own ++ numbered_line at (Section2 octets) ∷ []) (nat_le part 1 && (optional_in d == 1)) (WalkGoes (BeforeSubsets 1 (with_section2 d octets))) (Faults NotAllowed) (λ e.
     let early : nat_le part 1 ≡ true = and_first (nat_le part 1) (optional_in d == 1) e in
@@ -389,7 +406,12 @@ by-flag at part d octets own is =
 turn-opens : (at : ℕ) (place : ParserState) (line : Line) (own : List NumberedLine) → IsOpen place own → IsOpenAfter (turn at place line) (own ++ one at line)
 unfolding turn
 turn-opens at Between Passed own is = passed Between own is
-turn-opens at Between Opens own is = record { header = []; are = ap (λ (t : List NumberedLine). t ++ numbered_line at Opens ∷ []) is; in_order = refl; bare = record { local1 = refl; section2 = refl; descriptors = refl; entries = refl } }
+turn-opens at Between Opens own is = record {
+  header = [];
+  are = ap (λ (t : List NumberedLine). t ++ numbered_line at Opens ∷ []) is;
+  in_order = refl;
+  bare = record { local1 = refl; section2 = refl; descriptors = refl; entries = refl };
+}
 turn-opens at (Heading d) Passed own is = passed (Heading d) own is
 turn-opens at (Heading d) (Header key value) own is = heading-open at key value d own is
 turn-opens at (BeforeSubsets part d) Passed own is = passed (BeforeSubsets part d) own is
@@ -407,7 +429,8 @@ turn-opens at place line own is = tt
 
 on : (at : ℕ) (line : List ℕ) (more : List (List ℕ)) (own : List NumberedLine) → (own ++ one at (line_within_limit line)) ++ numbered_lines (at + 1) more ≡ own ++ numbered_lines at (line ∷ more)
 unfolding numbered_lines
-on at line more own = append_assoc own (one at (line_within_limit line)) (numbered_lines (at + 1) more) ∙ ap (λ (t : List NumberedLine). own ++ t) (sym (onto-one at (line_within_limit line) (numbered_lines (at + 1) more)))
+on at line more own = append_assoc own (one at (line_within_limit line)) (numbered_lines (at + 1) more)
+    ∙ ap (λ (t : List NumberedLine). own ++ t) (sym (onto-one at (line_within_limit line) (numbered_lines (at + 1) more)))
 
 end-reported : (at : ℕ) (place : ParserState) (own : List NumberedLine) → IsOpen place own → AreReported (own ++ []) (reported_at_end at place)
 end-reported at place own h1 = grind (arith, nat_tests, common_steps)
@@ -415,14 +438,16 @@ end-reported at place own h1 = grind (arith, nat_tests, common_steps)
 reported-on : (at : ℕ) (line : List ℕ) (more : List (List ℕ)) (own : List NumberedLine) (here : LineEffect) → IsOpenAfter here (own ++ one at (line_within_limit line))
     → ((next : ParserState) (own' : List NumberedLine) → IsOpen next own' → AreReported (own' ++ numbered_lines (at + 1) more) (parse_lines (at + 1) next more))
     → AreReported (own ++ numbered_lines at (line ∷ more)) (reported_at at here ++ parse_lines (at + 1) (place_after here) more)
-reported-on at line more own (WalkGoes next) opens rest = subst (λ (t : List NumberedLine). AreReported t (parse_lines (at + 1) next more)) (on at line more own) (rest next (own ++ one at (line_within_limit line)) opens)
+reported-on at line more own (WalkGoes next) opens rest = subst (λ (t : List NumberedLine). AreReported t (parse_lines (at + 1) next more)) (on at line more own)
+    (rest next (own ++ one at (line_within_limit line)) opens)
 reported-on at line more own (Gives d) is rest = (own ++ one at (line_within_limit line), numbered_lines (at + 1) more, sym (on at line more own), is, rest Between [] refl)
 reported-on at line more own (Faults fault) is rest = stopped-reports (at + 1) more
 
 lines-reported : (at : ℕ) (place : ParserState) (lines : List (List ℕ)) (own : List NumberedLine) → IsOpen place own → AreReported (own ++ numbered_lines at lines) (parse_lines at place lines)
 unfolding parse_lines numbered_lines
 lines-reported at place [] own is = end-reported at place own is
-lines-reported at place (line ∷ more) own is = reported-on at line more own (turn at place (line_within_limit line)) (turn-opens at place (line_within_limit line) own is) (λ next own' opens. lines-reported (at + 1) next more own' opens)
+lines-reported at place (line ∷ more) own is = reported-on at line more own (turn at place (line_within_limit line)) (turn-opens at place (line_within_limit line) own is)
+    (λ next own' opens. lines-reported (at + 1) next more own' opens)
 
 pub text-reported : (text : List ℕ) → AreReported (numbered_lines 1 (lines_of text)) (documents_of text)
 text-reported text = lines-reported 1 Between (lines_of text) [] refl
@@ -445,7 +470,8 @@ spelled-proper at place [] some holds = end-proper at place
 spelled-proper at place (line ∷ more) some holds =
     let here = turn at place (line_within_limit line) in
     let after = turn-holds at place (line_within_limit line) some (said-sound line) holds in
-    all-more IsProperlyReported (reported_at at here) (parse_lines (at + 1) (place_after here) more) (reported-proper at here after) (spelled-proper (at + 1) (place_after here) more (omega arith) (holds-on at here after))
+    all-more IsProperlyReported (reported_at at here) (parse_lines (at + 1) (place_after here) more) (reported-proper at here after)
+    (spelled-proper (at + 1) (place_after here) more (omega arith) (holds-on at here after))
 
 -- ---- A dump text spells the document of its message, and nothing else.
 
@@ -488,17 +514,21 @@ first-stays (x ∷ xs) ys some = refl
 ranged : (edition k value : ℕ) (d : Document) → edition_in d ≡ edition → in_range edition k value ≡ true → in_range (edition_in d) k value ≡ true
 ranged edition k value d same range = ap (λ (n : ℕ). in_range n k value) same ∙ range
 
-run-on : (edition k : ℕ) (value : ℕ) (values : List ℕ) (d : Document) (at : ℕ) (more : List (List ℕ)) → 0 < k → k + length values ≡ 19 → k ≡ length d.header → edition_in d ≡ edition → InRange edition k (value ∷ values)
+run-on : (edition k : ℕ) (value : ℕ) (values : List ℕ) (d : Document) (at : ℕ) (more : List (List ℕ)) → 0 < k → k + length values ≡ 19 → k ≡ length d.header → edition_in d ≡ edition
+    → InRange edition k (value ∷ values)
     → parse_lines at (Heading d) (header_lines k (value ∷ values) ++ more) ≡ parse_lines (at + 1 + length values) (BeforeSubsets 0 (with_header d (d.header ++ value ∷ values))) more
 unfolding header_lines turn
 run-on edition k value [] d at more suffix count is same (range, small, rest) =
     let last : k ≡ 19 = omega (arith, count) in
     let is_last : (k == 19) ≡ true = grind (arith, nat_tests, last) in
-    goes at (Heading d) (BeforeSubsets 0 (with_value d value)) _ (Header k value) more (header-line k value (omega (arith, last)) small) (rw (same-key k d is, ranged edition k value d same range, is_last) refl)
+    goes at (Heading d) (BeforeSubsets 0 (with_value d value)) _ (Header k value) more (header-line k value (omega (arith, last)) small)
+    (rw (same-key k d is, ranged edition k value d same range, is_last) refl)
     ∙ ap (λ n. parse_lines n (BeforeSubsets 0 (with_value d value)) more) (omega arith)
 run-on edition k value (v ∷ values) d at more suffix count is same (range, small, rest) =
-    goes at (Heading d) (Heading (with_value d value)) _ (Header k value) (header_lines (k + 1) (v ∷ values) ++ more) (header-line k value (omega (arith, count)) small) (rw (same-key k d is, ranged edition k value d same range, not-last k (omega (arith, count))) refl)
-    ∙ run-on edition (k + 1) v values (with_value d value) (at + 1) more (omega arith) (omega (arith, count)) (omega (arith, length-append d.header (value ∷ []), is)) (first-stays d.header (value ∷ []) (omega (arith, suffix, is)) ∙ same) rest
+    goes at (Heading d) (Heading (with_value d value)) _ (Header k value) (header_lines (k + 1) (v ∷ values) ++ more) (header-line k value (omega (arith, count)) small)
+    (rw (same-key k d is, ranged edition k value d same range, not-last k (omega (arith, count))) refl)
+    ∙ run-on edition (k + 1) v values (with_value d value) (at + 1) more (omega arith) (omega (arith, count)) (omega (arith, length-append d.header (value ∷ []), is))
+    (first-stays d.header (value ∷ []) (omega (arith, suffix, is)) ∙ same) rest
     ∙ ap (λ (t : List ℕ). parse_lines (at + 1 + 1 + length values) (BeforeSubsets 0 (with_header d t)) more) (append_assoc d.header (value ∷ []) (v ∷ values))
     ∙ ap (λ n. parse_lines n (BeforeSubsets 0 (with_header d (d.header ++ value ∷ v ∷ values))) more) (omega arith)
 
@@ -539,7 +569,8 @@ pub section2-run : (runs : List (List ℕ)) (part : ℕ) (d : Document) (at : �
     → parse_lines at (BeforeSubsets part d) (map section2_line runs ++ more) ≡ parse_lines (at + length runs) (BeforeSubsets (written part runs 1) (with_section2 d (concat runs))) more
 unfolding turn written
 section2-run [] part d at more early optional all =
-    ap (λ (t : List ℕ). parse_lines at (BeforeSubsets part (record d { section2 = t })) more) (sym (append-nil d.section2)) ∙ ap (λ n. parse_lines n (BeforeSubsets part (with_section2 d [])) more) (omega arith)
+    ap (λ (t : List ℕ). parse_lines at (BeforeSubsets part (record d { section2 = t })) more) (sym (append-nil d.section2))
+    ∙ ap (λ n. parse_lines n (BeforeSubsets part (with_section2 d [])) more) (omega arith)
 section2-run (run ∷ runs) part d at more early optional (here, all) =
     let first : nat_le part 1 ≡ true = grind (arith, nat_tests, early) in
     let there : (optional_in d == 1) ≡ true = grind (arith, nat_tests, optional (omega arith)) in
@@ -553,7 +584,8 @@ pub descriptors-run : (runs : List (List ℕ)) (part : ℕ) (d : Document) (at :
     → parse_lines at (BeforeSubsets part d) (map descriptors_line runs ++ more) ≡ parse_lines (at + length runs) (BeforeSubsets (written part runs 2) (with_descriptors d (concat runs))) more
 unfolding turn written
 descriptors-run [] part d at more all =
-    ap (λ (t : List ℕ). parse_lines at (BeforeSubsets part (record d { descriptors = t })) more) (sym (append-nil d.descriptors)) ∙ ap (λ n. parse_lines n (BeforeSubsets part (with_descriptors d [])) more) (omega arith)
+    ap (λ (t : List ℕ). parse_lines at (BeforeSubsets part (record d { descriptors = t })) more) (sym (append-nil d.descriptors))
+    ∙ ap (λ n. parse_lines n (BeforeSubsets part (with_descriptors d [])) more) (omega arith)
 descriptors-run (run ∷ runs) part d at more (here, all) =
     goes at (BeforeSubsets part d) (BeforeSubsets 2 (with_descriptors d run)) _ (Descriptors run) (map descriptors_line runs ++ more) (descriptors-line run here.all here.some here.few) refl
     ∙ descriptors-run runs 2 (with_descriptors d run) (at + 1) more all
@@ -569,7 +601,8 @@ items-run : (items : List View) (subset : ℕ) (d : Document) (at : ℕ) (more :
     → parse_lines at (Filling subset d) (map item_text items ++ more) ≡ parse_lines (at + length items) (Filling subset (with_entries d (item_entries at items))) more
 unfolding turn item_entries
 items-run [] subset d at more all =
-    ap (λ (t : List DraftEntry). parse_lines at (Filling subset (record d { entries = t })) more) (sym (append-nil d.entries)) ∙ ap (λ n. parse_lines n (Filling subset (with_entries d [])) more) (omega arith)
+    ap (λ (t : List DraftEntry). parse_lines at (Filling subset (record d { entries = t })) more) (sym (append-nil d.entries))
+    ∙ ap (λ n. parse_lines n (Filling subset (with_entries d [])) more) (omega arith)
 items-run (item ∷ items) subset d at more (here, all) =
     let one : DraftEntry = Holds (draft at item.fxy (dump_value_of item.value)) in
     goes at (Filling subset d) (Filling subset (with_entry d one)) _ (Item item.fxy (dump_value_of item.value)) (map item_text items ++ more) (item-line item here) refl
@@ -582,14 +615,17 @@ unfolding subset_lines
 subset-lines-count n items subsets = omega (arith, length-append (map item_text items) (subset_lines (n + 1) subsets), length-map items item_text)
 
 -- a subset begins and its items follow
-subset-run : (items : List View) (subset : ℕ) (d : Document) (at : ℕ) (place : ParserState) (tail more : List (List ℕ)) → subset < 65536 → AllByRecursion IsItem items → turn at place (Begins subset) ≡ WalkGoes (Filling subset d)
-    → parse_lines at place ((subset_line subset ∷ (map item_text items ++ tail)) ++ more) ≡ parse_lines (at + 1 + length items) (Filling subset (with_entries d (item_entries (at + 1) items))) (tail ++ more)
+subset-run : (items : List View) (subset : ℕ) (d : Document) (at : ℕ) (place : ParserState) (tail more : List (List ℕ)) → subset < 65536 → AllByRecursion IsItem items
+    → turn at place (Begins subset) ≡ WalkGoes (Filling subset d)
+    → parse_lines at place ((subset_line subset ∷ (map item_text items ++ tail)) ++ more)
+    ≡ parse_lines (at + 1 + length items) (Filling subset (with_entries d (item_entries (at + 1) items))) (tail ++ more)
 subset-run items subset d at place tail more few all begins =
     goes at place (Filling subset d) _ (Begins subset) ((map item_text items ++ tail) ++ more) (subset-line subset few) begins
     ∙ ap (parse_lines (at + 1) (Filling subset d)) (append_assoc (map item_text items) tail more)
     ∙ items-run items subset d (at + 1) (tail ++ more) all
 
-subsets-run : (subsets : List (List View)) (n : ℕ) (d : Document) (at : ℕ) (more : List (List ℕ)) → n + length subsets ≡ subsets_in d → subsets_in d < 65536 → AllByRecursion (λ items. AllByRecursion IsItem items) subsets
+subsets-run : (subsets : List (List View)) (n : ℕ) (d : Document) (at : ℕ) (more : List (List ℕ)) → n + length subsets ≡ subsets_in d → subsets_in d < 65536
+    → AllByRecursion (λ items. AllByRecursion IsItem items) subsets
     → parse_lines at (Filling n d) (subset_lines (n + 1) subsets ++ codes "end" ∷ more)
     ≡ Complete (with_entries d (Ends at ∷ subset_entries at subsets)) ∷ parse_lines (at + length (subset_lines (n + 1) subsets) + 1) Between more
 unfolding turn subset_entries subset_lines
@@ -611,7 +647,8 @@ subsets-run (items ∷ subsets) n d at more stated few (here, all) =
     ∙ ap (λ k. Complete (with_entries d (Ends at ∷ subset_entries at (items ∷ subsets))) ∷ parse_lines k Between more) (omega (arith, subset-lines-count (n + 1) items subsets))
 
 -- the subsets and the end, where they are after the parts before them
-pub subsets-written : (subsets : List (List View)) (part : ℕ) (d : Document) (at : ℕ) (more : List (List ℕ)) → d.entries ≡ [] → length subsets ≡ subsets_in d → subsets_in d < 65536 → AllByRecursion (λ items. AllByRecursion IsItem items) subsets
+pub subsets-written : (subsets : List (List View)) (part : ℕ) (d : Document) (at : ℕ) (more : List (List ℕ)) → d.entries ≡ [] → length subsets ≡ subsets_in d → subsets_in d < 65536
+    → AllByRecursion (λ items. AllByRecursion IsItem items) subsets
     → parse_lines at (BeforeSubsets part d) (subset_lines 1 subsets ++ codes "end" ∷ more)
     ≡ Complete (with_entries d (subset_entries at subsets)) ∷ parse_lines (at + length (subset_lines 1 subsets) + 1) Between more
 unfolding turn subset_entries subset_lines
@@ -627,7 +664,8 @@ subsets-written (items ∷ subsets) part d at more none stated few (here, all) =
     let tail = subset_lines 2 subsets in
     subset-run items 1 d at (BeforeSubsets part d) tail (codes "end" ∷ more) (omega arith) here (rw allowed refl)
     ∙ subsets-run subsets 1 (with_entries d own) (at + 1 + length items) more (omega (arith, stated)) few all
-    ∙ ap (λ (t : List DraftEntry). Complete (record d { entries = t }) ∷ parse_lines (at + 1 + length items + length tail + 1) Between more) (append_assoc d.entries own (Ends (at + 1 + length items) ∷ later))
+    ∙ ap (λ (t : List DraftEntry). Complete (record d { entries = t }) ∷ parse_lines (at + 1 + length items + length tail + 1) Between more)
+    (append_assoc d.entries own (Ends (at + 1 + length items) ∷ later))
     ∙ ap (λ k. Complete (with_entries d (subset_entries at (items ∷ subsets))) ∷ parse_lines k Between more) (omega (arith, subset-lines-count 1 items subsets))
 
 -- the header's values are within their ranges
@@ -652,10 +690,88 @@ header-fits s h few =
     let vs = values_of s.head in
     let ms = greatest_values s.head.edition in
     let held : (i : ℕ) → (((nat_le 0 (slice_index vs i) && nat_le (slice_index vs i) (slice_index ms i)) ≡ true) × (slice_index vs i < 65536)) =
-    λ i. (up_to 0 (slice_index ms i) (slice_index vs i) (omega arith) (h.fits i), omega (arith, h.fits i, by-third (λ l. slice_index l i ≤ 65535) s.head.edition (all-few (greatest_values 3) i refl) (all-few (greatest_values 4) i refl))) in
+    λ i. (
+      up_to 0 (slice_index ms i) (slice_index vs i) (omega arith) (h.fits i),
+      omega (arith, h.fits i, by-third (λ l. slice_index l i ≤ 65535) s.head.edition (all-few (greatest_values 3) i refl) (all-few (greatest_values 4) i refl)),
+    ) in
     let flag : (v : ℕ) → v ≤ 1 → (((nat_le 0 v && nat_le v 1) ≡ true) × (v < 65536)) = λ v b. (up_to 0 1 v (omega arith) (omega arith), omega arith) in
-    let edition = edition-few s.head.edition h.edition in
-    (edition.0, edition.1, ((held 0).0, (held 0).1, ((held 1).0, (held 1).1, ((held 2).0, (held 2).1, ((held 3).0, (held 3).1, ((held 4).0, (held 4).1, ((held 5).0, (held 5).1, ((held 6).0, (held 6).1, ((held 7).0, (held 7).1, ((held 8).0, (held 8).1, ((held 9).0, (held 9).1, ((held 10).0, (held 10).1, ((held 11).0, (held 11).1, ((held 12).0, (held 12).1, ((held 13).0, (held 13).1, ((held 14).0, (held 14).1, ((flag (bit s.observed) (bit-few s.observed)).0, (flag (bit s.observed) (bit-few s.observed)).1, ((flag (bit s.compressed) (bit-few s.compressed)).0, (flag (bit s.compressed) (bit-few s.compressed)).1, ((flag (bit (is_some s.section2)) (bit-few (is_some s.section2))).0, (flag (bit (is_some s.section2)) (bit-few (is_some s.section2))).1, (up_to 0 65535 s.subsets (omega arith) (omega (arith, few)), few, tt))))))))))))))))))))
+    let edition = edition-few s.head.edition h.edition in (
+      edition.0,
+      edition.1,
+      (
+        (held 0).0,
+        (held 0).1,
+        (
+          (held 1).0,
+          (held 1).1,
+          (
+            (held 2).0,
+            (held 2).1,
+            (
+              (held 3).0,
+              (held 3).1,
+              (
+                (held 4).0,
+                (held 4).1,
+                (
+                  (held 5).0,
+                  (held 5).1,
+                  (
+                    (held 6).0,
+                    (held 6).1,
+                    (
+                      (held 7).0,
+                      (held 7).1,
+                      (
+                        (held 8).0,
+                        (held 8).1,
+                        (
+                          (held 9).0,
+                          (held 9).1,
+                          (
+                            (held 10).0,
+                            (held 10).1,
+                            (
+                              (held 11).0,
+                              (held 11).1,
+                              (
+                                (held 12).0,
+                                (held 12).1,
+                                (
+                                  (held 13).0,
+                                  (held 13).1,
+                                  (
+                                    (held 14).0,
+                                    (held 14).1,
+                                    (
+                                      (flag (bit s.observed) (bit-few s.observed)).0,
+                                      (flag (bit s.observed) (bit-few s.observed)).1,
+                                      (
+                                        (flag (bit s.compressed) (bit-few s.compressed)).0,
+                                        (flag (bit s.compressed) (bit-few s.compressed)).1,
+                                        (
+                                          (flag (bit (is_some s.section2)) (bit-few (is_some s.section2))).0,
+                                          (flag (bit (is_some s.section2)) (bit-few (is_some s.section2))).1,
+                                          (up_to 0 65535 s.subsets (omega arith) (omega (arith, few)), few, tt),
+                                        ),
+                                      ),
+                                    ),
+                                  ),
+                                ),
+                              ),
+                            ),
+                          ),
+                        ),
+                      ),
+                    ),
+                  ),
+                ),
+              ),
+            ),
+          ),
+        ),
+      ),
+    )
 
 -- section 2 has lines only where it is there
 optional-there : (section2 : Option (List ℕ)) → 0 < length (runs_of 32 (unwrap_or section2 [])) → bit (is_some section2) ≡ 1
@@ -742,7 +858,8 @@ unfolding header_lines
 above-header e k [] few fits = tt
 above-header e k (v ∷ values) few (range, small, fits) = ((header-line k v (omega (arith, few)) small).clean, above-header e (k + 1) values (omega (arith, few)) fits)
 
-above-runs : (P : ℕ → Type 0) (most : ℕ) (line : List ℕ → List ℕ) (meaning : List ℕ → Line) (is : (xs : List ℕ) → AllByRecursion P xs → 0 < length xs → length xs ≤ most → IsLineOf (line xs) (meaning xs))
+above-runs : (P : ℕ → Type 0) (most : ℕ) (line : List ℕ → List ℕ) (meaning : List ℕ → Line)
+    (is : (xs : List ℕ) → AllByRecursion P xs → 0 < length xs → length xs ≤ most → IsLineOf (line xs) (meaning xs))
     (runs : List (List ℕ)) → AllByRecursion (IsRun P most) runs → AllByRecursion IsAbove (map line runs)
 above-runs P most line meaning is [] all = tt
 above-runs P most line meaning is (run ∷ runs) (here, all) = ((is run here.all here.some here.few).clean, above-runs P most line meaning is runs all)

@@ -34,7 +34,14 @@ fits-y : (w : ℕ) → w < 65536 → nat_le (y_in (fxy_text w)) 255 ≡ true
 fits-y w h = grind (arith, nat_tests)
 
 all-digits : (w : ℕ) → w < 65536 → list_all is_ascii_digit (fxy_text w) ≡ true
-all-digits w h = rw (digit (f_of w) (omega arith), digit (x_of w / 10) (omega arith), digit (x_of w % 10) (omega arith), digit (y_of w / 100) (omega arith), digit (y_of w / 10 % 10) (omega arith), digit (y_of w % 10) (omega arith)) refl
+all-digits w h = rw (
+  digit (f_of w) (omega arith),
+  digit (x_of w / 10) (omega arith),
+  digit (x_of w % 10) (omega arith),
+  digit (y_of w / 100) (omega arith),
+  digit (y_of w / 10 % 10) (omega arith),
+  digit (y_of w % 10) (omega arith),
+) refl
 
 word-back : (w : ℕ) → w < 65536 → 16384 * f_in (fxy_text w) + 256 * x_in (fxy_text w) + y_in (fxy_text w) ≡ w
 word-back w h = omega arith
@@ -179,7 +186,11 @@ zeros-token n less h few =
     }
 
 zeros-none : (n : ℕ) → n < 10 ^ 39 → IsToken (decimal n) 399
-zeros-none n h = record { octets = digits-are (decimal n) (decimal-digits n (omega arith)); some = decimal-some n (omega arith); short = omega (arith, length-decimal-le_wide 39 n (omega arith) h (omega arith)) }
+zeros-none n h = record {
+  octets = digits-are (decimal n) (decimal-digits n (omega arith));
+  some = decimal-some n (omega arith);
+  short = omega (arith, length-decimal-le_wide 39 n (omega arith) h (omega arith));
+}
 
 unsigned-token : (n : ℕ) (scale : ℤ) → n < 10 ^ 39 → unsigned_abs scale ≤ 300 → IsToken (unsigned_text n scale) 399
 unfolding unsigned_text
@@ -323,7 +334,10 @@ weaker p q implies [] h = refl
 weaker p q implies (c ∷ xs) h = both _ _ (implies c (and_first (p c) (list_all p xs) h)) (weaker p q implies xs (and_second (p c) (list_all p xs) h))
 
 decimal-clean : (n k : ℕ) → 0 < k → n < 10 ^ k → n < 10 ^ 64 → IsClean (decimal n) k
-decimal-clean n k some h wide = record { clean = weaker is_ascii_digit is_above (λ c h. grind (arith, nat_tests)) (decimal n) (own.from (decimal n) (decimal_is_IsNumeral_wide n wide).0.1); short = length-decimal-le_wide k n some h wide }
+decimal-clean n k some h wide = record {
+  clean = weaker is_ascii_digit is_above (λ c h. grind (arith, nat_tests)) (decimal n) (own.from (decimal n) (decimal_is_IsNumeral_wide n wide).0.1);
+  short = length-decimal-le_wide k n some h wide;
+}
 
 token-clean : (token : List ℕ) (most : ℕ) → IsToken token most → IsClean token most
 token-clean token most t = record { clean = weaker is_number_octet is_above (λ c h. grind (arith, nat_tests)) token t.octets; short = t.short }
@@ -338,7 +352,17 @@ digit-of-above : (n : ℕ) → is_above (48 + n) ≡ true
 digit-of-above n = grind (arith, nat_tests)
 
 fxy-clean : (w : ℕ) → IsClean (fxy_text w) 6
-fxy-clean w = record { clean = rw (digit-of-above (f_of w), digit-of-above (x_of w / 10), digit-of-above (x_of w % 10), digit-of-above (y_of w / 100), digit-of-above (y_of w / 10 % 10), digit-of-above (y_of w % 10)) refl; short = omega arith }
+fxy-clean w = record {
+  clean = rw (
+    digit-of-above (f_of w),
+    digit-of-above (x_of w / 10),
+    digit-of-above (x_of w % 10),
+    digit-of-above (y_of w / 100),
+    digit-of-above (y_of w / 10 % 10),
+    digit-of-above (y_of w % 10),
+  ) refl;
+  short = omega arith;
+}
 
 -- hexadecimal digits
 hex-above : (n : ℕ) → is_above (hex_digit n) ≡ true
@@ -352,7 +376,8 @@ hex-clean (c ∷ xs) = let rest = hex-clean xs in record { clean = rw (hex-above
 descriptors-clean : (ws : List ℕ) → IsClean (descriptors_text ws) (7 * length ws)
 unfolding descriptors_text
 descriptors-clean [] = record { clean = refl; short = omega arith }
-descriptors-clean (w ∷ ws) = one-more 32 (fxy_text w ++ descriptors_text ws) (6 + 7 * length ws) (7 * suc (length ws)) (omega arith) (joined-two (fxy_text w) (descriptors_text ws) 6 (7 * length ws) (6 + 7 * length ws) (fxy-clean w) (descriptors-clean ws) (omega arith)) (omega arith)
+descriptors-clean (w ∷ ws) = one-more 32 (fxy_text w ++ descriptors_text ws) (6 + 7 * length ws) (7 * suc (length ws)) (omega arith)
+    (joined-two (fxy_text w) (descriptors_text ws) 6 (7 * length ws) (6 + 7 * length ws) (fxy-clean w) (descriptors-clean ws) (omega arith)) (omega arith)
 
 -- texts
 plain-clean : (c : ℕ) → is_unescaped c ≡ true → IsClean (c ∷ []) 4
@@ -424,28 +449,36 @@ pub header-line : (k v : ℕ) → k < 20 → v < 65536 → IsLineOf (key_at k ++
 header-line k v h n =
     let name = key-clean (key_at k) (key-passes-at keys k keys-pass (omega (arith, keys-length))) in
     line-from (key_at k ++ 32 ∷ decimal v) (Header k v) 22 (key-says k (decimal v) h ∙ ap (made (Header k)) (number_back v (omega arith)))
-    (joined-two (key_at k) (32 ∷ decimal v) 16 6 22 name (one-more 32 (decimal v) 5 6 (omega arith) (decimal-clean v 5 (omega arith) (omega arith) (omega arith)) (omega arith)) (omega arith)) (omega arith)
+    (joined-two (key_at k) (32 ∷ decimal v) 16 6 22 name (one-more 32 (decimal v) 5 6 (omega arith) (decimal-clean v 5 (omega arith) (omega arith) (omega arith)) (omega arith)) (omega arith))
+    (omega arith)
 
 -- items
-form-line : (fxy : ℕ) (text : List ℕ) (form : DraftValue) (comment : Option Row) (most : ℕ) → fxy < 65536 → IsComment comment → value_read (text ++ comment_text comment) ≡ Some (form, comment_text comment) → IsClean text most → most ≤ 2000
+form-line : (fxy : ℕ) (text : List ℕ) (form : DraftValue) (comment : Option Row) (most : ℕ) → fxy < 65536 → IsComment comment
+    → value_read (text ++ comment_text comment) ≡ Some (form, comment_text comment) → IsClean text most → most ≤ 2000
     → IsLineOf ((fxy_text fxy ++ 32 ∷ text) ++ comment_text comment) (Item fxy form)
 form-line fxy text form comment most word given read c h =
     line-from ((fxy_text fxy ++ 32 ∷ text) ++ comment_text comment) (Item fxy form) 3047 (item-of fxy (text ++ comment_text comment) (comment_text comment) form word read (comment-passed comment))
-    (joined-two (fxy_text fxy ++ 32 ∷ text) (comment_text comment) 2007 1040 3047 (joined-two (fxy_text fxy) (32 ∷ text) 6 2001 2007 (fxy-clean fxy) (one-more 32 text most 2001 (omega arith) c (omega arith)) (omega arith)) (comment-clean comment given) (omega arith)) (omega arith)
+    (joined-two (fxy_text fxy ++ 32 ∷ text) (comment_text comment) 2007 1040 3047
+    (joined-two (fxy_text fxy) (32 ∷ text) 6 2001 2007 (fxy-clean fxy) (one-more 32 text most 2001 (omega arith) c (omega arith)) (omega arith)) (comment-clean comment given) (omega arith))
+    (omega arith)
 
-by-value : (fxy : ℕ) (comment : Option Row) (value : ShownValue) → fxy < 65536 → IsComment comment → IsValue value → IsLineOf (form_text fxy (dump_value_of value) ++ comment_text comment) (Item fxy (dump_value_of value))
+by-value : (fxy : ℕ) (comment : Option Row) (value : ShownValue) → fxy < 65536 → IsComment comment → IsValue value
+    → IsLineOf (form_text fxy (dump_value_of value) ++ comment_text comment) (Item fxy (dump_value_of value))
 by-value fxy comment (shown_number v scale) word c (small, few) =
     let token = number-token v scale small few in
-    form-line fxy (decimal_text_of v scale) (number_token (decimal_text_of v scale)) comment 400 word c (value-number (decimal_text_of v scale) (comment_text comment) 400 token (comment-stops comment)) (token-clean (decimal_text_of v scale) 400 token) (omega arith)
+    form-line fxy (decimal_text_of v scale) (number_token (decimal_text_of v scale)) comment 400 word c
+    (value-number (decimal_text_of v scale) (comment_text comment) 400 token (comment-stops comment)) (token-clean (decimal_text_of v scale) 400 token) (omega arith)
 by-value fxy comment (shown_text octets) word c (all, few) =
-    form-line fxy (34 ∷ quoted octets) (text_form octets) comment 1022 word c (value-text octets (comment_text comment) all) (one-more 34 (quoted octets) (4 * length octets + 1) 1022 (omega arith) (quoted-clean octets) (omega arith)) (omega arith)
+    form-line fxy (34 ∷ quoted octets) (text_form octets) comment 1022 word c (value-text octets (comment_text comment) all)
+    (one-more 34 (quoted octets) (4 * length octets + 1) 1022 (omega arith) (quoted-clean octets) (omega arith)) (omega arith)
 by-value fxy comment shown_missing word c given =
     form-line fxy (codes "MISSING") missing_form comment 7 word c (value-missing (comment_text comment)) (literal (codes "MISSING") 7 refl (omega arith)) (omega arith)
 by-value fxy comment (shown_reference v) word c small =
     let token = number-token v (pos 0) small (omega arith) in
     let text = decimal_text_of v (pos 0) in
     line-from ((codes "R " ++ fxy_text fxy ++ 32 ∷ text) ++ comment_text comment) (Item fxy (reference_token text)) 1449
-    (reference-of fxy (text ++ comment_text comment) (comment_text comment) (reference_token text) word (reference-value text (comment_text comment) 400 token (comment-stops comment)) (comment-passed comment))
+    (reference-of fxy (text ++ comment_text comment) (comment_text comment) (reference_token text) word (reference-value text (comment_text comment) 400 token (comment-stops comment))
+    (comment-passed comment))
     (joined-two (codes "R " ++ fxy_text fxy ++ 32 ∷ text) (comment_text comment) 409 1040 1449 (joined-two (codes "R " ++ fxy_text fxy) (32 ∷ text) 8 401 409 (joined-two (codes "R ") (fxy_text fxy) 2 6 8 (literal (codes "R ") 2 refl (omega arith)) (fxy-clean fxy) (omega arith)) (one-more 32 text 400 401 (omega arith) (token-clean text 400 token) (omega arith)) (omega arith)) (comment-clean comment c) (omega arith)) (omega arith)
 
 pub item-line : (item : View) → IsItem item → IsLineOf (item_text item) (Item item.fxy (dump_value_of item.value))

@@ -43,12 +43,14 @@ section2_octets : (b : Bool) (octets : List ℕ) → AllByRecursion IsOctet octe
 section2_octets true octets h = h
 section2_octets false octets h = tt
 
-module _ (records : List Record) (table : List Row) (template : Tree) (rows : AreRows records table) (legal : IsLegal template) (drafts : List Subset) (out : List Bool) (texts : AllHaveOctets drafts) where
+module _ (records : List Record) (table : List Row) (template : Tree) (rows : AreRows records table) (legal : IsLegal template) (drafts : List Subset) (out : List Bool)
+    (texts : AllHaveOctets drafts) where
   -- the bits of the data, whatever is after them, have a reading that says what the drafts say
   record IsFilled (compressed : Bool) : Type 0 where
     values : Values
     said : AreValuesOf values drafts
-    read : (octets : List ℕ) (more : List Bool) → bits_of octets ≡ out ++ more → IsReading (next_item table template) (record { compressed = compressed; subsets = length drafts; bits = bits_of octets }) values (length out)
+    read : (octets : List ℕ) (more : List Bool) → bits_of octets ≡ out ++ more
+        → IsReading (next_item table template) (record { compressed = compressed; subsets = length drafts; bits = bits_of octets }) values (length out)
 
   filled : (compressed : Bool) → data_bits compressed (next_item table template) drafts ≡ Ok out → IsFilled compressed
   filled true e =
@@ -63,7 +65,8 @@ module _ (form : Form) (records : List Record) (table : List Row) (sequences : L
   data_in template = data_bits (compressed_as form d) (next_item table template) (subsets_of d.entries)
 
   made : (template : Tree) (bits : List Bool) → tree_of (tables_of table sequences) d.descriptors ≡ Ok template → data_in template ≡ Ok bits
-      → message_size (head_from_values d).edition (parts_as (compressed_as form d) d (octets_of_bits bits)) ≤ max_octets → IsReadAs form table sequences d (message_octets (head_from_values d) (parts_as (compressed_as form d) d (octets_of_bits bits)))
+      → message_size (head_from_values d).edition (parts_as (compressed_as form d) d (octets_of_bits bits)) ≤ max_octets
+      → IsReadAs form table sequences d (message_octets (head_from_values d) (parts_as (compressed_as form d) d (octets_of_bits bits)))
   made template bits expands fills few =
       let head = head_from_values d in
       let payload = octets_of_bits bits in
@@ -75,18 +78,21 @@ module _ (form : Form) (records : List Record) (table : List Row) (sequences : L
       let back = read-back head parts (fitting-writable head fits) in
       let long : length message ≡ message_size head.edition parts = sym (size_is message (sections_from head parts) back) in
       let padded_bits = evened-bits head.edition 4 payload in
-      let written : bits_of (with_even_length head.edition 4 payload) ≡ bits ++ (padding (length bits) ++ padded_bits.0) = padded_bits.1 ∙ ap (λ (b : List Bool). b ++ padded_bits.0) (payload_bits bits) ∙ append_assoc bits (padding (length bits)) padded_bits.0 in
+      let written : bits_of (with_even_length head.edition 4 payload) ≡ bits ++ (padding (length bits) ++ padded_bits.0) =
+      padded_bits.1 ∙ ap (λ (b : List Bool). b ++ padded_bits.0) (payload_bits bits) ∙ append_assoc bits (padding (length bits)) padded_bits.0 in
       record {
         sections = sections_from head parts;
         template = template;
         values = f.values;
         used = length bits;
         accepted = record {
-          octets = octets_small head parts fits proper.local1 (section2_octets (optional_in d == 1) d.section2 proper.section2) proper.descriptors (subsets-few d proper.headed) (octets_are payload (octets_in-are ((length bits + 7) / 8) (bits ++ padding (length bits)) (padded bits))) few;
+          octets = octets_small head parts fits proper.local1 (section2_octets (optional_in d == 1) d.section2 proper.section2) proper.descriptors (subsets-few d proper.headed)
+              (octets_are payload (octets_in-are ((length bits + 7) / 8) (bits ++ padding (length bits)) (padded bits))) few;
           few = omega (arith, few, long);
           sections = back;
           expands = expands;
-          read = subst (λ n. IsReading (next_item table template) (record { compressed = compressed_as form d; subsets = n; bits = bits_of (with_even_length head.edition 4 payload) }) f.values (length bits)) proper.counted (f.read (with_even_length head.edition 4 payload) (padding (length bits) ++ padded_bits.0) written);
+          read = subst (λ n. IsReading (next_item table template) (record { compressed = compressed_as form d; subsets = n; bits = bits_of (with_even_length head.edition 4 payload) }) f.values
+              (length bits)) proper.counted (f.read (with_even_length head.edition 4 payload) (padding (length bits) ++ padded_bits.0) written);
         };
         framed = λ at suffix. framed head parts at suffix long;
         head = refl;
@@ -102,8 +108,10 @@ module _ (form : Form) (records : List Record) (table : List Row) (sequences : L
   at_most : (a b : ℕ) → nat_lt a b ≡ false → b ≤ a
   at_most a b h = grind (arith, nat_tests)
 
-  by_size : (template : Tree) (bits : List Bool) → tree_of (tables_of table sequences) d.descriptors ≡ Ok template → data_in template ≡ Ok bits → (b : Bool) → nat_lt max_octets (message_size (head_from_values d).edition (parts_as (compressed_as form d) d (octets_of_bits bits))) ≡ b
-      → (if b then Err (refused_at d.line too_long) else Ok (message_octets (head_from_values d) (parts_as (compressed_as form d) d (octets_of_bits bits)))) ≡ Ok octets → IsReadAs form table sequences d octets
+  by_size : (template : Tree) (bits : List Bool) → tree_of (tables_of table sequences) d.descriptors ≡ Ok template → data_in template ≡ Ok bits → (b : Bool)
+      → nat_lt max_octets (message_size (head_from_values d).edition (parts_as (compressed_as form d) d (octets_of_bits bits))) ≡ b
+      → (if b then Err (refused_at d.line too_long) else Ok (message_octets (head_from_values d) (parts_as (compressed_as form d) d (octets_of_bits bits)))) ≡ Ok octets
+      → IsReadAs form table sequences d octets
   by_size template bits expands fills true p e = absurd cc
   by_size template bits expands fills false p e =
       subst (IsReadAs form table sequences d) (same_ok (message_octets (head_from_values d) (parts_as (compressed_as form d) d (octets_of_bits bits))) octets e)
@@ -112,10 +120,12 @@ module _ (form : Form) (records : List Record) (table : List Row) (sequences : L
   by_bits : (template : Tree) → tree_of (tables_of table sequences) d.descriptors ≡ Ok template → (r : Result (List Bool) FaultAt) → data_in template ≡ r
       → (report_of_items r >>= λ b. message_of d.line (head_from_values d) (parts_as (compressed_as form d) d (octets_of_bits b))) ≡ Ok octets → IsReadAs form table sequences d octets
   by_bits template expands (Err why) p e = absurd cc
-  by_bits template expands (Ok bits) p e = by_size template bits expands p (nat_lt max_octets (message_size (head_from_values d).edition (parts_as (compressed_as form d) d (octets_of_bits bits)))) refl e
+  by_bits template expands (Ok bits) p e = by_size template bits expands p (nat_lt max_octets (message_size (head_from_values d).edition (parts_as (compressed_as form d) d (octets_of_bits bits))))
+      refl e
 
   by_template : (r : Result Tree TemplateFault) → tree_of (tables_of table sequences) d.descriptors ≡ r
-      → (report_of_template d.line r >>= λ t. report_of_items (data_in t) >>= λ b. message_of d.line (head_from_values d) (parts_as (compressed_as form d) d (octets_of_bits b))) ≡ Ok octets → IsReadAs form table sequences d octets
+      → (report_of_template d.line r >>= λ t. report_of_items (data_in t) >>= λ b. message_of d.line (head_from_values d) (parts_as (compressed_as form d) d (octets_of_bits b))) ≡ Ok octets
+      → IsReadAs form table sequences d octets
   by_template (Err why) p e = absurd cc
   by_template (Ok template) p e = by_bits template p (data_in template) refl e
 
@@ -129,7 +139,8 @@ module _ (form : Form) (records : List Record) (table : List Row) (sequences : L
 line_is : (table : List Row) (spec : FieldSpec) (d : Draft) (c : Content) → content_of spec d ≡ Ok c → normal_line table spec d ≡ item_text (view_of table spec c)
 line_is table spec d c h1 = grind (arith, nat_tests, common_steps, said_fxy, normal_dumped, same_form)
 
-items_are : (table : List Row) (course : Course) (items : List (reading.Item Content)) (ds : List Draft) → Follows course items → AreDrafts IsSaid items ds → normal_items table course ds ≡ map item_text (items_shown table items)
+items_are : (table : List Row) (course : Course) (items : List (reading.Item Content)) (ds : List Draft) → Follows course items → AreDrafts IsSaid items ds
+    → normal_items table course ds ≡ map item_text (items_shown table items)
 items_are table course [] [] f said = refl
 items_are table course [] (d ∷ ds) f said = absurd said
 items_are table course (i ∷ items) [] f said = absurd said
@@ -139,7 +150,8 @@ items_are table course (i ∷ items) (d ∷ ds) f said =
     ∙ ap (λ x. x ∷ normal_items table (after plain course i) ds) (line_is table i.spec d i.content said.0)
     ∙ ap (λ xs. item_text (view_of table i.spec i.content) ∷ xs) (items_are table (after plain course i) items ds f.3 said.1)
 
-pub subsets_are : (table : List Row) (course : Course) (n : ℕ) (subsets : List (List (reading.Item Content))) (drafts : List Subset) → AllFollow course subsets → AreSaid subsets drafts → normal_subsets table course n drafts ≡ subset_lines n (map (items_shown table) subsets)
+pub subsets_are : (table : List Row) (course : Course) (n : ℕ) (subsets : List (List (reading.Item Content))) (drafts : List Subset) → AllFollow course subsets → AreSaid subsets drafts
+    → normal_subsets table course n drafts ≡ subset_lines n (map (items_shown table) subsets)
 unfolding subset_lines
 subsets_are table course n [] [] f said = refl
 subsets_are table course n [] (s ∷ ss) f said = absurd said
@@ -228,7 +240,8 @@ module _ (form : Form) (d : Document) (proper : IsProper d) where
 
 -- ---- the text
 
-module _ (form : Form) (records : List Record) (table : List Row) (sequences : List Sequence) (rows : AreRows records table) (d : Document) (octets : List ℕ) (h : IsReadAs form table sequences d octets) where
+module _ (form : Form) (records : List Record) (table : List Row) (sequences : List Sequence) (rows : AreRows records table) (d : Document) (octets : List ℕ)
+    (h : IsReadAs form table sequences d octets) where
   legal : IsLegal h.template
   legal = (tree_fine (tables_of table sequences) h.sections.descriptors h.template h.accepted.expands).legal
 
@@ -277,7 +290,8 @@ module _ (form : Form) (records : List Record) (table : List Row) (sequences : L
     by_flag : (b c : Bool) (xs ys : List Subset) → b ≡ c → data_bits c course xs ≡ data_bits c course ys → data_bits b course xs ≡ data_bits b course ys
     by_flag b c xs ys e g = subst (λ x. data_bits x course xs ≡ data_bits x course ys) (sym e) g
 
-    are_again : (values : Values) (used place : ℕ) → IsReading course (data_of h.sections) values used → AreAgain values (subsets_of (subset_entries place (dump_items table h.sections.subsets values)))
+    are_again : (values : Values) (used place : ℕ) → IsReading course (data_of h.sections) values used
+        → AreAgain values (subsets_of (subset_entries place (dump_items table h.sections.subsets values)))
     are_again (apart subsets) used place read =
         let drafts = subsets_of (subset_entries place (map (items_shown table) subsets)) in
         let dumped = all_apart table place subsets in
@@ -285,16 +299,19 @@ module _ (form : Form) (records : List Record) (table : List Row) (sequences : L
         record {
           count = sym (said_length subsets drafts said) ∙ read.2.1;
           said = said;
-          alike = λ others count is. by_flag h.sections.compressed false others drafts read.0 (plain_said_alike records table h.template subsets others drafts bits (drop used bits) rows legal read.2.0 is said);
+          alike = λ others count is. by_flag h.sections.compressed false others drafts read.0
+              (plain_said_alike records table h.template subsets others drafts bits (drop used bits) rows legal read.2.0 is said);
         }
     are_again (together items) used place read =
         let drafts = subsets_of (subset_entries place (map (items_shown table) (subsets_from h.sections.subsets 0 items))) in
         let dumped = all_together table place h.sections.subsets 0 items in
-        let said = together_said course h.sections.subsets 0 items drafts dumped.1 (packed_follows records table h.template rows legal h.sections.subsets items bits (drop used bits) read.2) dumped.0 in
+        let said = together_said course h.sections.subsets 0 items drafts dumped.1 (packed_follows records table h.template rows legal h.sections.subsets items bits (drop used bits) read.2)
+        dumped.0 in
         record {
           count = dumped.1;
           said = said;
-          alike = λ others count is. by_flag h.sections.compressed true others drafts read.0 (packed_said_alike h.sections.subsets records table h.template items others drafts bits (drop used bits) rows legal read.2 count is dumped.1 said);
+          alike = λ others count is. by_flag h.sections.compressed true others drafts read.0
+              (packed_said_alike h.sections.subsets records table h.template items others drafts bits (drop used bits) rows legal read.2 count is dumped.1 said);
         }
 
     drafts_are : AreAgain h.values drafts_again
@@ -313,7 +330,8 @@ module _ (form : Form) (records : List Record) (table : List Row) (sequences : L
     other_line line head parts (Err why) e = absurd cc
     other_line line head parts (Ok b) e = by (nat_lt max_octets (message_size head.edition (parts (octets_of_bits b)))) e
       where
-        by : (x : Bool) → (if x then Err (refused_at line too_long) else Ok (message_octets head (parts (octets_of_bits b)))) ≡ Ok octets → (if x then Err (refused_at at too_long) else Ok (message_octets head (parts (octets_of_bits b)))) ≡ Ok octets
+        by : (x : Bool) → (if x then Err (refused_at line too_long) else Ok (message_octets head (parts (octets_of_bits b)))) ≡ Ok octets
+            → (if x then Err (refused_at at too_long) else Ok (message_octets head (parts (octets_of_bits b)))) ≡ Ok octets
         by true q = absurd cc
         by false q = q
 
@@ -339,7 +357,8 @@ module _ (form : Form) (records : List Record) (table : List Row) (sequences : L
 
     again_from : encoding_of table sequences again ≡ message_with at h.sections.head (parts_of_document again) (data_bits (compressed_in again) course drafts_again)
     unfolding encoding_in
-    again_from = ap (λ r. report_of_template at r >>= λ t. message_with at h.sections.head (parts_of_document again) (data_bits (compressed_in again) (next_item table t) drafts_again)) h.accepted.expands
+    again_from = ap (λ r. report_of_template at r >>= λ t. message_with at h.sections.head (parts_of_document again) (data_bits (compressed_in again) (next_item table t) drafts_again))
+        h.accepted.expands
 
     -- and it is encoded to the same octets
     pub encoded_again_same : IsProper d → encoding_in form table sequences d ≡ Ok octets → encoding_of table sequences again ≡ Ok octets

@@ -12,7 +12,7 @@ use Rattle.bufr_frame.specs.Prelude.{Sections}
 use Rattle.bufr_frame.specs.declared.fault.RunFault.TheVariants.{Write, Memory}
 use Rattle.bufr_tables.specs.Prelude.{Row, fxy_text, places, row_comment, row_line_start}
 use Rattle.bufr_walk.specs.declared.fault.ShowFault.{ShowFault}
-use Rattle.bufr_walk.specs.Prelude.{item_call, Timed, View, shown_number, view_of, content_at, item_calls, subset_calls, compressed_item_calls, compressed_subset_calls, calls_by, turns_by, calls_of, turns_shown, values_read, Shows, EndsAt, Content, Course, ticked, Item, Values, apart, together, plain, after, turns_after}
+use Rattle.bufr_walk.specs.Prelude.{item_call, Timed, View, shown_number, view_of, content_at, item_calls, subset_calls, compressed_item_calls, compressed_subset_calls, calls_for, turns_for, calls_of, turns_shown, values_read, Shows, EndsAt, Content, Course, ticked, Item, Values, apart, together, plain, after, turns_after}
 use Rattle.std.specs.Int.{from_bool}
 use Rattle.std.proofs.lemmas.Bool.{cases_lt}
 use lib.Ieee.Fits.{and_l, and_r}
@@ -52,7 +52,8 @@ parts_then held s t p q held1 held2 first second =
     sym (append_assoc held s t) ∙ ap (λ l. l ++ t) first ∙ append_assoc p held1 t ∙ ap (λ l. p ++ l) second ∙ sym (append_assoc p q held2)
 
 module _ (a b c : LineModel) (s t : List ℕ) where
-  moves_then : {X : Type 0} (r : Result X RunFault) → MovesPrefix a.taken b.taken (a.held ++ s) b.held → Moves b.taken c.taken (b.held ++ t) c.held r → Moves a.taken c.taken (a.held ++ (s ++ t)) c.held r
+  moves_then : {X : Type 0} (r : Result X RunFault) → MovesPrefix a.taken b.taken (a.held ++ s) b.held → Moves b.taken c.taken (b.held ++ t) c.held r
+      → Moves a.taken c.taken (a.held ++ (s ++ t)) c.held r
   moves_then (Ok y) first second = record {
     prefix = first.prefix ++ second.prefix;
     parts = parts_then a.held s t first.prefix second.prefix b.held c.held first.parts second.parts;
@@ -115,7 +116,8 @@ pub ◌⨾◌ : {a b c : LineModel} {s t : List ℕ} → Pushes a s b → Pushes
   sink = second.sink ∙ first.sink;
 }
 
-pub holds_pushes : {a b : LineModel} {text : List ℕ} → b.status ≡ a.status → b.taken ≡ a.taken → b.failures ≡ a.failures → b.empty_writes ≡ a.empty_writes → b.failed_flushes ≡ a.failed_flushes → b.sink ≡ a.sink
+pub holds_pushes : {a b : LineModel} {text : List ℕ} → b.status ≡ a.status → b.taken ≡ a.taken → b.failures ≡ a.failures → b.empty_writes ≡ a.empty_writes → b.failed_flushes ≡ a.failed_flushes
+    → b.sink ≡ a.sink
     → b.held ≡ a.held ++ text → Pushes a text b
 holds_pushes h1 h2 h3 h4 h5 h6 h7 = grind (arith, nat_tests, common_steps)
 
@@ -152,7 +154,8 @@ held_filled octets free text len n k within fits is =
     let rest = post_of len k octets in
     let filled : length (take n free) ≡ n = length-take-le n free fits in
     let split : put_mid len k octets free ≡ (take len octets ++ take n free) ++ (drop n free ++ rest) =
-    ap (λ l. take len octets ++ (l ++ rest)) (sym (take-append-drop n free)) ∙ ap (λ l. take len octets ++ l) (append_assoc (take n free) (drop n free) rest) ∙ sym (append_assoc (take len octets) (take n free) (drop n free ++ rest)) in
+    ap (λ l. take len octets ++ (l ++ rest)) (sym (take-append-drop n free)) ∙ ap (λ l. take len octets ++ l) (append_assoc (take n free) (drop n free) rest)
+    ∙ sym (append_assoc (take len octets) (take n free) (drop n free ++ rest)) in
     let long : len + n ≡ length (take len octets ++ take n free) = omega (arith, length-append (take len octets) (take n free), ahead, filled) in
     ap (take (len + n)) split ∙ ap (λ m. take m ((take len octets ++ take n free) ++ (drop n free ++ rest))) long ∙ take-append_seam (take len octets ++ take n free) (drop n free ++ rest)
     ∙ ap (λ l. take len octets ++ l) is
@@ -209,12 +212,14 @@ abbrev pub calls_text : List Timed → List ℕ
 calls_text calls = flat_map (λ t. call_line t.call ++ 10 ∷ []) calls
 
 -- the items of a subset
-items-text : (table : List Row) (before : ℕ) (course : Course) (items : List (Item Content)) → calls_text (item_calls table before course items) ≡ text_of_lines (map item_text (items_shown table items))
+items-text : (table : List Row) (before : ℕ) (course : Course) (items : List (Item Content))
+    → calls_text (item_calls table before course items) ≡ text_of_lines (map item_text (items_shown table items))
 items-text table before course [] = refl
 items-text table before course (i ∷ items) =
     ap (λ l. (call_line (item_call (view_of table i.spec i.content)) ++ 10 ∷ []) ++ l) (items-text table before (after plain course i) items)
 
-together-text : (table : List Row) (j : ℕ) (items : List (Item (List Content))) → calls_text (compressed_item_calls table j items) ≡ text_of_lines (map item_text (items_shown table (items_of_subset j items)))
+together-text : (table : List Row) (j : ℕ) (items : List (Item (List Content)))
+    → calls_text (compressed_item_calls table j items) ≡ text_of_lines (map item_text (items_shown table (items_of_subset j items)))
 together-text table j [] = refl
 together-text table j (i ∷ items) =
     ap (λ l. (call_line (item_call (view_of table i.spec (content_at j i.content))) ++ 10 ∷ []) ++ l) (together-text table j items)
@@ -224,7 +229,8 @@ subset-text : (number : ℕ) (calls more : List Timed) (lines suffix : List (Lis
     → (subset_line number ++ 10 ∷ []) ++ calls_text (calls ++ more) ≡ text_of_lines (subset_line number ∷ (lines ++ suffix))
 subset-text number calls more lines suffix h1 h2 = grind (arith, nat_tests, common_steps)
 
-subsets-text : (table : List Row) (course : Course) (before number : ℕ) (subsets : List (List (Item Content))) → calls_text (subset_calls table course before number subsets) ≡ text_of_lines (subset_lines number (map (items_shown table) subsets))
+subsets-text : (table : List Row) (course : Course) (before number : ℕ) (subsets : List (List (Item Content)))
+    → calls_text (subset_calls table course before number subsets) ≡ text_of_lines (subset_lines number (map (items_shown table) subsets))
 unfolding subset_lines
 subsets-text table course before number [] = refl
 subsets-text table course before number (items ∷ subsets) =
@@ -232,7 +238,8 @@ subsets-text table course before number (items ∷ subsets) =
     (map item_text (items_shown table items)) (subset_lines (number + 1) (map (items_shown table) subsets))
     (items-text table before course items) (subsets-text table course (before + turns_after plain course items) (number + 1) subsets)
 
-all-together-text : (table : List Row) (left j : ℕ) (items : List (Item (List Content))) → calls_text (compressed_subset_calls table left j items) ≡ text_of_lines (subset_lines (j + 1) (map (items_shown table) (subsets_from left j items)))
+all-together-text : (table : List Row) (left j : ℕ) (items : List (Item (List Content)))
+    → calls_text (compressed_subset_calls table left j items) ≡ text_of_lines (subset_lines (j + 1) (map (items_shown table) (subsets_from left j items)))
 unfolding subset_lines
 all-together-text table zero j items = refl
 all-together-text table (suc left) j items =
@@ -240,10 +247,11 @@ all-together-text table (suc left) j items =
     subset-text (j + 1) (compressed_item_calls table j items) (compressed_subset_calls table left (j + 1) items)
     (map item_text (items_shown table (items_of_subset j items))) (subset_lines (j + 1 + 1) (map (items_shown table) (subsets_from left (suc j) items)))
     (together-text table j items)
-    (subst (λ k. calls_text (compressed_subset_calls table left (j + 1) items) ≡ text_of_lines (subset_lines (j + 1 + 1) (map (items_shown table) (subsets_from left k items)))) next (all-together-text table left (j + 1) items))
+    (subst (λ k. calls_text (compressed_subset_calls table left (j + 1) items) ≡ text_of_lines (subset_lines (j + 1 + 1) (map (items_shown table) (subsets_from left k items)))) next
+    (all-together-text table left (j + 1) items))
 
 -- the calls of a reading write its subsets
-pub reading-text : (r : outcome.Read) (values : Values) → calls_text (calls_by r values) ≡ text_of_lines (subset_lines 1 (dump_items r.table r.source.subsets values))
+pub reading-text : (r : outcome.Read) (values : Values) → calls_text (calls_for r values) ≡ text_of_lines (subset_lines 1 (dump_items r.table r.source.subsets values))
 reading-text r (apart subsets) = subsets-text r.table (outcome.course_of r) 0 1 subsets
 reading-text r (together items) = all-together-text r.table r.source.subsets 0 items
 
@@ -252,14 +260,16 @@ moved : (r : Result Unit RunFault) (old new : Option (List ℕ)) (octets held he
 moved (Ok x) old new octets held held' e f writes = rw (e, f) (record { prefix = octets; parts = sym (append-nil octets); gains = writes })
 moved (Err why) old new octets held held' e f writes = rw e writes
 
-written_through : {b c : LineModel} {octets : List ℕ} → b.status ≡ Ok tt → b.held ≡ [] → c.held ≡ [] → Writes b.taken c.taken octets c.status → CountsWrites b.failures c.failures b.empty_writes c.empty_writes c.status → c.failed_flushes ≡ b.failed_flushes → c.sink ≡ b.sink → Pushes b octets c
+written_through : {b c : LineModel} {octets : List ℕ} → b.status ≡ Ok tt → b.held ≡ [] → c.held ≡ [] → Writes b.taken c.taken octets c.status
+    → CountsWrites b.failures c.failures b.empty_writes c.empty_writes c.status → c.failed_flushes ≡ b.failed_flushes → c.sink ≡ b.sink → Pushes b octets c
 written_through {b = b} {c = c} {octets = octets} ok none none' writes counts failed_flushes sink = record {
   from = rw ok (record { moves = moved c.status b.taken c.taken octets b.held c.held none none' writes; counts = counts });
   failed_flushes = failed_flushes;
   sink = sink;
 }
 
-pub pushed_through : {a b mid c : LineModel} {octets : List ℕ} → Pushes a [] mid → b ≡ mid → mid.held ≡ [] → b.status ≡ Ok tt → Writes b.taken c.taken octets c.status → CountsWrites b.failures c.failures b.empty_writes c.empty_writes c.status → c.held ≡ [] → c.failed_flushes ≡ b.failed_flushes → c.sink ≡ b.sink → Pushes a octets c
+pub pushed_through : {a b mid c : LineModel} {octets : List ℕ} → Pushes a [] mid → b ≡ mid → mid.held ≡ [] → b.status ≡ Ok tt → Writes b.taken c.taken octets c.status
+    → CountsWrites b.failures c.failures b.empty_writes c.empty_writes c.status → c.held ≡ [] → c.failed_flushes ≡ b.failed_flushes → c.sink ≡ b.sink → Pushes a octets c
 pushed_through {b = b} {c = c} {octets = octets} first is none ok writes counts none' failed_flushes sink =
     let B : LineModel → Type 0 = λ b. Pushes b octets c in
     first ⨾ subst B is (written_through ok (ap (λ x. x.held) is ∙ none) none' writes counts failed_flushes sink)
@@ -301,16 +311,20 @@ calls-end : (a b : LineModel) (t : Timed) (text : List ℕ) (why : ShowFault Run
 calls-end a b t text (show.Visitor f) here = (fails_pushes text f here.pushes (sym here.status), sym here.status)
 calls-end a b t text show.Memory here = rw here.0 (record { prefix = []; suffix = (call_line t.call ++ 10 ∷ []) ++ text; parts = refl; pushes = nothing_pushed })
 
-pub calls-pushed : (a : LineModel) (calls : List Timed) (turns : ℕ) (r : Result (Unit {0}) (ShowFault RunFault)) (b : LineModel) (steps : ℕ) → Shows PushesCall a calls turns r b steps → PushesCalls a (calls_text calls) r b
+pub calls-pushed : (a : LineModel) (calls : List Timed) (turns : ℕ) (r : Result (Unit {0}) (ShowFault RunFault)) (b : LineModel) (steps : ℕ) → Shows PushesCall a calls turns r b steps
+    → PushesCalls a (calls_text calls) r b
 calls-pushed a [] turns (Ok x) b steps (same, made) =
     rw same nothing_pushed
 calls-pushed a [] turns (Err why) b steps none = absurd none
-calls-pushed a (t ∷ calls) turns (Ok x) b steps (mid, one, more) = calls-on a mid b (call_line t.call ++ 10 ∷ []) (calls_text calls) (Ok x) one.pushes (calls-pushed mid calls turns (Ok x) b steps more)
+calls-pushed a (t ∷ calls) turns (Ok x) b steps (mid, one, more) =
+    calls-on a mid b (call_line t.call ++ 10 ∷ []) (calls_text calls) (Ok x) one.pushes (calls-pushed mid calls turns (Ok x) b steps more)
 calls-pushed a (t ∷ calls) turns (Err why) b steps (inl (here, made)) = calls-end a b t (calls_text calls) why here
-calls-pushed a (t ∷ calls) turns (Err why) b steps (inr (mid, one, more)) = calls-on a mid b (call_line t.call ++ 10 ∷ []) (calls_text calls) (Err why) one.pushes (calls-pushed mid calls turns (Err why) b steps more)
+calls-pushed a (t ∷ calls) turns (Err why) b steps (inr (mid, one, more)) =
+    calls-on a mid b (call_line t.call ++ 10 ∷ []) (calls_text calls) (Err why) one.pushes (calls-pushed mid calls turns (Err why) b steps more)
 
 -- the steps of the calls of a showing
-pub calls-steps : (a : LineModel) (calls : List Timed) (turns : ℕ) (r : Result (Unit {0}) (ShowFault RunFault)) (b : LineModel) (steps : ℕ) → Shows PushesCall a calls turns r b steps → MakesSteps calls turns r steps
+pub calls-steps : (a : LineModel) (calls : List Timed) (turns : ℕ) (r : Result (Unit {0}) (ShowFault RunFault)) (b : LineModel) (steps : ℕ) → Shows PushesCall a calls turns r b steps
+    → MakesSteps calls turns r steps
 calls-steps a [] turns (Ok x) b steps (same, made) = made
 calls-steps a [] turns (Err why) b steps none = absurd none
 calls-steps a (t ∷ calls) turns (Ok x) b steps (mid, one, more) = calls-steps mid calls turns (Ok x) b steps more
@@ -334,7 +348,7 @@ compressed-none table (suc n) items = inl refl
 pub no-steps : (r : outcome.Read) → StepsWithin (calls_of r) (turns_shown r) 0
 no-steps r = by (values_read r)
   where
-    by : (values : Values) → StepsWithin (calls_by r values) (turns_by r values) 0
+    by : (values : Values) → StepsWithin (calls_for r values) (turns_for r values) 0
     by (apart []) = refl
     by (apart (items ∷ subsets)) = inl refl
     by (together items) = compressed-none r.table r.source.subsets items
@@ -358,7 +372,8 @@ pub record LeavesSink {X : Type 0} (a : LineModel) (text : List ℕ) (r : Result
   pub failed_flushes : c.failed_flushes ≡ a.failed_flushes
   pub sink : c.sink ≡ a.sink
 
-counts-fault : (f f' e e' : ℕ) (status : Result Unit RunFault) (fault : RunFault) → IsFirstFault status fault → ((g : RunFault) → status ≡ Err g → g ≡ Write) → CountsWrites f f' e e' status → CountsFaults {X = Unit} f f' e e' (Err fault)
+counts-fault : (f f' e e' : ℕ) (status : Result Unit RunFault) (fault : RunFault) → IsFirstFault status fault → ((g : RunFault) → status ≡ Err g → g ≡ Write) → CountsWrites f f' e e' status
+    → CountsFaults {X = Unit} f f' e e' (Err fault)
 counts-fault f f' e e' (Ok x) fault is only counts = rw is counts
 counts-fault f f' e e' (Err g) fault is only counts = rw (is, only g refl) counts
 
@@ -426,7 +441,8 @@ module _ {a b c : LineModel} (s : Sections) (r : outcome.Read) (steps : ℕ) (ok
         calls-steps b calls (turns_shown r) (Err (show.Visitor fault)) c steps here,
       )
 
-  pub left-first : (first : RunFault) (q : Result Unit RunFault) (why : ShowFault RunFault) → q ≡ Err first → why ≡ show.Memory → Shown r b (Err why) c steps → IsFirstFault c.status first → Left s r a q c steps
+  pub left-first : (first : RunFault) (q : Result Unit RunFault) (why : ShowFault RunFault) → q ≡ Err first → why ≡ show.Memory → Shown r b (Err why) c steps → IsFirstFault c.status first
+      → Left s r a q c steps
   left-first first q why fails is shown of =
       let calls = calls_of r in
       let here = rw is at shown in
@@ -435,7 +451,8 @@ module _ {a b c : LineModel} (s : Sections) (r : outcome.Read) (steps : ℕ) (ok
         calls-steps b calls (turns_shown r) (Err show.Memory) c steps here,
       )
 
-pub all-counted-of : {a c : LineModel} {text : List ℕ} {f f' e e' : ℕ} (r : Result Unit RunFault) → LeavesSink a text r c → a.failures ≡ f → f' ≡ c.failures → a.empty_writes ≡ e → e' ≡ c.empty_writes → CountsFaults f f' e e' r
+pub all-counted-of : {a c : LineModel} {text : List ℕ} {f f' e e' : ℕ} (r : Result Unit RunFault) → LeavesSink a text r c → a.failures ≡ f → f' ≡ c.failures → a.empty_writes ≡ e → e' ≡ c.empty_writes
+    → CountsFaults f f' e e' r
 all-counted-of r h h1 h2 h3 h4 = rw (sym h1, h2, sym h3, h4) h.counts
 
 -- the dump text of a message, by a writer of lines over a sink
@@ -518,7 +535,8 @@ unfolding runs_after
 runs-next less xs h1 = grind (arith, nat_tests, common_steps, runs-skip)
 
 -- the lines of runs: the first and the others
-pub lines-next : (f : List ℕ → List ℕ) (less : ℕ) (xs : List ℕ) → 0 < length xs → text_of_lines (map f (runs_of (suc less) xs)) ≡ (f (take (suc less) xs) ++ 10 ∷ []) ++ text_of_lines (map f (runs_of (suc less) (drop (suc less) xs)))
+pub lines-next : (f : List ℕ → List ℕ) (less : ℕ) (xs : List ℕ) → 0 < length xs
+    → text_of_lines (map f (runs_of (suc less) xs)) ≡ (f (take (suc less) xs) ++ 10 ∷ []) ++ text_of_lines (map f (runs_of (suc less) (drop (suc less) xs)))
 lines-next f less xs some = ap (λ (l : List (List ℕ)). text_of_lines (map f l)) (runs-next less xs some)
 
 pub lines-none : (f : List ℕ → List ℕ) (most : ℕ) (xs : List ℕ) → length xs ≤ 0 → text_of_lines (map f (runs_of most xs)) ≡ []
@@ -661,7 +679,8 @@ pointed_pair p n fits =
     append_assoc (take k short) (46 ∷ drop k short) pair ∙ point_before (take k short) (drop k short ++ pair) (zero_padded (p + 2 + 1) n) (p + 2) whole more
 
 -- five digits after the point
-pub five_places : (n : ℕ) → n < 2 ^ 64 → decimal (n / 100000) ++ 46 ∷ (48 + n / 10000 % 10) ∷ (48 + n / 100 % 100 / 10) ∷ (48 + n / 100 % 100 % 10) ∷ (48 + n % 100 / 10) ∷ (48 + n % 100 % 10) ∷ [] ≡ pointed 5 (decimal n)
+pub five_places : (n : ℕ) → n < 2 ^ 64 → decimal (n / 100000) ++ 46 ∷ (48 + n / 10000 % 10) ∷ (48 + n / 100 % 100 / 10) ∷ (48 + n / 100 % 100 % 10) ∷ (48 + n % 100 / 10) ∷ (48 + n % 100 % 10) ∷ []
+    ≡ pointed 5 (decimal n)
 five_places n fits =
     let whole : n / 100000 ≡ n / 10000 / 10 = omega arith in
     let same : n / 10000 ≡ n / 100 / 100 = omega arith in
@@ -681,7 +700,8 @@ unsigned_pointed n (pos (suc m)) places h e = ap (λ (k : ℕ). pointed k (decim
 unsigned_pointed n scale places h e = absurd cc
 
 -- and at one of 0 or below
-pub unsigned_plain : (n : ℕ) (scale : ℤ) (places count : ℕ) → int_lt (pos 0) scale ≡ false → places ≡ unsigned_abs scale → count ≡ (if n == 0 then 0 else places) → decimal n ++ replicate count 48 ≡ unsigned_text n scale
+pub unsigned_plain : (n : ℕ) (scale : ℤ) (places count : ℕ) → int_lt (pos 0) scale ≡ false → places ≡ unsigned_abs scale → count ≡ (if n == 0 then 0 else places)
+    → decimal n ++ replicate count 48 ≡ unsigned_text n scale
 unfolding unsigned_text
 unsigned_plain n scale places count h1 h2 h3 = grind (arith, nat_tests, common_steps)
 
@@ -698,10 +718,12 @@ unfolding decimal_text_of
 signed_text v scale size e = ap (λ k. sign_of v ++ unsigned_text k scale) e
 
 -- digits with a point before the last of them, where these are few or many
-pub pointed_few : (digits zeros : List ℕ) (places count : ℕ) → length digits ≤ places → count ≡ places - length digits → zeros ≡ replicate count 48 → 48 ∷ 46 ∷ (zeros ++ digits) ≡ pointed places digits
+pub pointed_few : (digits zeros : List ℕ) (places count : ℕ) → length digits ≤ places → count ≡ places - length digits → zeros ≡ replicate count 48
+    → 48 ∷ 46 ∷ (zeros ++ digits) ≡ pointed places digits
 pointed_few digits zeros places count h1 h2 h3 = grind (arith, nat_tests, common_steps)
 
-pub pointed_many : (digits whole fraction : List ℕ) (places : ℕ) → places < length digits → whole ≡ take (length digits - places) digits → fraction ≡ drop (length digits - places) digits → whole ++ 46 ∷ fraction ≡ pointed places digits
+pub pointed_many : (digits whole fraction : List ℕ) (places : ℕ) → places < length digits → whole ≡ take (length digits - places) digits → fraction ≡ drop (length digits - places) digits
+    → whole ++ 46 ∷ fraction ≡ pointed places digits
 pointed_many digits whole fraction places h1 h2 h3 = grind (arith, nat_tests, common_steps)
 
 -- a number at scale 0, and at -1
@@ -727,10 +749,12 @@ digit-of c h = grind (arith, nat_tests)
 one-taken : (text : List ℕ) (at : ℕ) → at < length text → take (at + 1) text ≡ take at text ++ slice_index text at ∷ []
 one-taken text at h = grind (arith, common_steps)
 
-value-on : (text : List ℕ) (at : ℕ) → at < length text → is_ascii_digit (slice_index text at) ≡ true → digits_value 10 (take (at + 1) text) ≡ digits_value 10 (take at text) * 10 + (slice_index text at - 48)
+value-on : (text : List ℕ) (at : ℕ) → at < length text → is_ascii_digit (slice_index text at) ≡ true
+    → digits_value 10 (take (at + 1) text) ≡ digits_value 10 (take at text) * 10 + (slice_index text at - 48)
 value-on text at h e = ap (digits_value 10) (one-taken text at h) ∙ value-append (take at text) (slice_index text at ∷ []) ∙ omega (arith, digit-of (slice_index text at) e)
 
-pub number-on : (text : List ℕ) (at n m : ℕ) → IsNumberTo text at n → at < length text → is_ascii_digit (slice_index text at) ≡ true → m ≡ min (10 * n + (slice_index text at - 48)) 65536 → IsNumberTo text (at + 1) m
+pub number-on : (text : List ℕ) (at n m : ℕ) → IsNumberTo text at n → at < length text → is_ascii_digit (slice_index text at) ≡ true → m ≡ min (10 * n + (slice_index text at - 48)) 65536
+    → IsNumberTo text (at + 1) m
 number-on text at n m h1 h2 h3 h4 = grind (arith, nat_tests, common_steps, list_all_more, value-on)
 
 -- ---- Octets as hexadecimal digits and as a text in quotes, octet by octet.
@@ -758,7 +782,8 @@ quoted_end [] none = refl
 quoted_end (octet ∷ more) none = absurd (omega arith)
 
 -- one more octet that needs no escape
-pub quoted_more : (octets : List ℕ) (i : ℕ) → i < length octets → is_unescaped (get_or octets i 0) ≡ true → quoted octets ≡ take i octets ++ quoted (drop i octets) → quoted octets ≡ take (i + 1) octets ++ quoted (drop (i + 1) octets)
+pub quoted_more : (octets : List ℕ) (i : ℕ) → i < length octets → is_unescaped (get_or octets i 0) ≡ true → quoted octets ≡ take i octets ++ quoted (drop i octets)
+    → quoted octets ≡ take (i + 1) octets ++ quoted (drop (i + 1) octets)
 quoted_more octets i h1 h2 h3 = grind (arith, nat_tests, common_steps, quoted_next, append_assoc, take_more)
 
 -- a flag is the digit of its number
@@ -797,4 +822,23 @@ pub ruleset run_steps = (length-set, take_more_set, take_more, quoted_more)
 
 pub ruleset write_steps = (more-written, empty_writes_after-some, take_rest)
 
-pub ruleset number_steps = (puts_then, puts_retold, puts_first, decimal_hundreds, decimal_pair, decimal_digit, decimal_two, signed_text, unsigned_whole, unsigned_places, unsigned_ten, five_places, hundredths_put, tenths_put, pairs_below, append_assoc, take_all, length-drop)
+pub ruleset number_steps = (
+  puts_then,
+  puts_retold,
+  puts_first,
+  decimal_hundreds,
+  decimal_pair,
+  decimal_digit,
+  decimal_two,
+  signed_text,
+  unsigned_whole,
+  unsigned_places,
+  unsigned_ten,
+  five_places,
+  hundredths_put,
+  tenths_put,
+  pairs_below,
+  append_assoc,
+  take_all,
+  length-drop,
+)

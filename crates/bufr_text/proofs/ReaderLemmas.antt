@@ -74,7 +74,8 @@ pub line-split : (line t : List ℕ) → has_no_feed line ≡ true → split_of 
 unfolding split_of
 line-split [] t h = refl
 line-split (c ∷ line) t h =
-    split-octet c (line ++ 10 ∷ t) (record { whole = line ∷ (split_of t).whole; rest = (split_of t).rest }) (no-feed-first c (and_first (not (c == 10)) (has_no_feed line) h)) (line-split line t (and_second (not (c == 10)) (has_no_feed line) h))
+    split-octet c (line ++ 10 ∷ t) (record { whole = line ∷ (split_of t).whole; rest = (split_of t).rest }) (no-feed-first c (and_first (not (c == 10)) (has_no_feed line) h))
+    (line-split line t (and_second (not (c == 10)) (has_no_feed line) h))
 
 abbrev openly-from : ℕ → ParserState → Split → List ParseResult
 openly-from at place s = parse_open_lines at place s.whole s.rest
@@ -147,7 +148,8 @@ long-split (c ∷ []) t h some =
     subst (LongSplit (c ∷ [])) (sym (split-octet c t (split_of t) (no-feed-first c (and_first (not (c == 10)) true h)) refl)) (onto-long c (split_of t))
 long-split (c ∷ d ∷ held) t h some =
     let rest = long-split (d ∷ held) t (and_second (not (c == 10)) (has_no_feed (d ∷ held)) h) (omega arith) in
-    subst (LongSplit (c ∷ d ∷ held)) (sym (split-octet c ((d ∷ held) ++ t) (split_of ((d ∷ held) ++ t)) (no-feed-first c (and_first (not (c == 10)) (has_no_feed (d ∷ held)) h)) refl)) (long-onto c (d ∷ held) (split_of ((d ∷ held) ++ t)) rest)
+    subst (LongSplit (c ∷ d ∷ held)) (sym (split-octet c ((d ∷ held) ++ t) (split_of ((d ∷ held) ++ t)) (no-feed-first c (and_first (not (c == 10)) (has_no_feed (d ∷ held)) h)) refl))
+    (long-onto c (d ∷ held) (split_of ((d ∷ held) ++ t)) rest)
 
 openly-long : (at : ℕ) (place : ParserState) (held : List ℕ) (s : Split) → Reads place → 4096 < length held → LongSplit held s → openly-from at place s ≡ Refused at NotAllowed ∷ []
 unfolding LongSplit parse_open_lines
@@ -183,9 +185,11 @@ ends-inside at place = grind (arith, nat_tests, common_steps)
 rest-alone : (held : List ℕ) → has_no_feed held ≡ true → split_of held ≡ record { whole = []; rest = held }
 unfolding split_of
 rest-alone [] h = refl
-rest-alone (c ∷ held) h = split-octet c held (record { whole = []; rest = held }) (no-feed-first c (and_first (not (c == 10)) (has_no_feed held) h)) (rest-alone held (and_second (not (c == 10)) (has_no_feed held) h))
+rest-alone (c ∷ held) h = split-octet c held (record { whole = []; rest = held }) (no-feed-first c (and_first (not (c == 10)) (has_no_feed held) h))
+    (rest-alone held (and_second (not (c == 10)) (has_no_feed held) h))
 
-pub nothing-yet : (at : ℕ) (place : ParserState) (held : List ℕ) (ended : Bool) → has_no_feed held ≡ true → length held ≤ 4096 → parse_open (record { at = at; place = place; held = held; ended = ended }) [] ≡ []
+pub nothing-yet : (at : ℕ) (place : ParserState) (held : List ℕ) (ended : Bool) → has_no_feed held ≡ true → length held ≤ 4096
+    → parse_open (record { at = at; place = place; held = held; ended = ended }) [] ≡ []
 unfolding parse_open_lines
 nothing-yet at place held ended h1 h2 = grind (arith, nat_tests, common_steps, append-nil, rest-alone)
 
@@ -204,7 +208,8 @@ nowhere (c ∷ held) h = both (not (c == 10)) (has_no_feed held) (no-feed c (h 0
 before : (held : List ℕ) (n : ℕ) → n < length held → ((k : ℕ) → 0 ≤ k → k < n → (slice_index held k == 10) ≡ true → ⊥) → has_no_feed (take n held) ≡ true
 before held zero h none = refl
 before [] (suc n) h none = absurd (omega arith)
-before (c ∷ held) (suc n) h none = both (not (c == 10)) (has_no_feed (take n held)) (no-feed c (none 0 (omega arith) (omega arith))) (before held n (omega arith) (λ k low below. none (suc k) (omega arith) (omega arith)))
+before (c ∷ held) (suc n) h none = both (not (c == 10)) (has_no_feed (take n held)) (no-feed c (none 0 (omega arith) (omega arith)))
+    (before held n (omega arith) (λ k low below. none (suc k) (omega arith) (omega arith)))
 
 at-feed : (held : List ℕ) (n : ℕ) → n < length held → (slice_index held n == 10) ≡ true → held ≡ take n held ++ 10 ∷ drop (n + 1) held
 at-feed [] n h e = absurd (omega arith)
@@ -282,7 +287,8 @@ prefix-more : (x results all : List ParseResult) → IsPrefix results all → Is
 prefix-more x results all (more, e) = (more, ap (λ (z : List ParseResult). x ++ z) e ∙ sym (append_assoc x results more))
 
 -- a rest that is short reports nothing yet, one that is long is refused either way
-rest-prefix : (at : ℕ) (place : ParserState) (rest t : List ℕ) (b : Bool) → nat_lt 4096 (length rest) ≡ b → Reads place → has_no_feed rest ≡ true → IsPrefix (parse_open_lines at place [] rest) (parse_lines at place (lines_of (rest ++ t)))
+rest-prefix : (at : ℕ) (place : ParserState) (rest t : List ℕ) (b : Bool) → nat_lt 4096 (length rest) ≡ b → Reads place → has_no_feed rest ≡ true
+    → IsPrefix (parse_open_lines at place [] rest) (parse_lines at place (lines_of (rest ++ t)))
 unfolding parse_open_lines
 rest-prefix at place rest t true h r clean =
     let long : 4096 < length rest = grind (arith, nat_tests, h) in
@@ -294,9 +300,13 @@ any-prefix at Between rest t clean = rest-prefix at Between rest t (nat_lt 4096 
 any-prefix at (Heading d) rest t clean = rest-prefix at (Heading d) rest t (nat_lt 4096 (length rest)) refl tt clean
 any-prefix at (BeforeSubsets part d) rest t clean = rest-prefix at (BeforeSubsets part d) rest t (nat_lt 4096 (length rest)) refl tt clean
 any-prefix at (Filling subset d) rest t clean = rest-prefix at (Filling subset d) rest t (nat_lt 4096 (length rest)) refl tt clean
-any-prefix at Stopped rest t clean = (parse_lines at Stopped (lines_of (rest ++ t)), ap (λ (z : List ParseResult). z ++ parse_lines at Stopped (lines_of (rest ++ t))) (sym (stopped-reports-openly at [] rest)))
+any-prefix at Stopped rest t clean = (
+  parse_lines at Stopped (lines_of (rest ++ t)),
+  ap (λ (z : List ParseResult). z ++ parse_lines at Stopped (lines_of (rest ++ t))) (sym (stopped-reports-openly at [] rest)),
+)
 
-lines-prefix : (lines : List (List ℕ)) (at : ℕ) (place : ParserState) (rest t : List ℕ) → has_no_feed rest ≡ true → IsPrefix (parse_open_lines at place lines rest) (parse_lines at place (lines ++ lines_of (rest ++ t)))
+lines-prefix : (lines : List (List ℕ)) (at : ℕ) (place : ParserState) (rest t : List ℕ) → has_no_feed rest ≡ true
+    → IsPrefix (parse_open_lines at place lines rest) (parse_lines at place (lines ++ lines_of (rest ++ t)))
 unfolding parse_lines parse_open_lines
 lines-prefix [] at place rest t clean = any-prefix at place rest t clean
 lines-prefix (line ∷ lines) at place rest t clean =
@@ -327,7 +337,10 @@ none-kept false = refl
 -- what is cut off is the line feed that was lacking
 keeps-by : (a b : Bool) (h bs feed t k : List ℕ) → IsMissingFeed a b feed → (a ≡ true → (b ≡ true) × (bs ≡ [])) → (a ≡ false → b ≡ true → feed ≡ [] → k ≡ []) → (h ++ bs) ++ feed ≡ t ++ k
     → (taken : List ℕ) × ((if a then cut h else h) ++ bs ≡ taken ++ (if b then cut k else k))
-keeps-by a b h bs feed t [] missing kept fed same = ((if a then cut h else h) ++ bs, sym (ap (λ (z : List ℕ). ((if a then cut h else h) ++ bs) ++ z) (none-kept b) ∙ append-nil ((if a then cut h else h) ++ bs)))
+keeps-by a b h bs feed t [] missing kept fed same = (
+  (if a then cut h else h) ++ bs,
+  sym (ap (λ (z : List ℕ). ((if a then cut h else h) ++ bs) ++ z) (none-kept b) ∙ append-nil ((if a then cut h else h) ++ bs)),
+)
 keeps-by true b h bs feed t (k ∷ more) (inr (open', ended, e)) kept fed same = absurd (true≢false open')
 keeps-by true false h bs feed t (k ∷ more) (inl none) kept fed same = absurd (true≢false (sym (kept refl).0))
 keeps-by true true h bs feed t (k ∷ more) (inl none) kept fed same =
@@ -337,8 +350,11 @@ keeps-by true true h bs feed t (k ∷ more) (inl none) kept fed same =
 keeps-by false false h bs feed t (k ∷ more) (inl none) kept fed same = (t, sym (ap (λ (z : List ℕ). (h ++ bs) ++ z) none ∙ append-nil (h ++ bs)) ∙ same)
 keeps-by false false h bs feed t (k ∷ more) (inr (open', ended, e)) kept fed same = absurd (true≢false (sym ended))
 keeps-by false true h bs feed t (k ∷ more) (inl none) kept fed same = absurd (omega (arith, ap length (fed refl refl none)))
-keeps-by false true h bs feed t (k ∷ more) (inr (open', ended, e)) kept fed same =
-    (t, sym (take_at (h ++ bs) (10 ∷ []) (length ((h ++ bs) ++ 10 ∷ []) - 1) (omega (arith, length-append (h ++ bs) (10 ∷ [])))) ∙ ap (λ (z : List ℕ). cut ((h ++ bs) ++ z)) (sym e) ∙ ap (λ (z : List ℕ). cut z) same ∙ cut-prefix t k more)
+keeps-by false true h bs feed t (k ∷ more) (inr (open', ended, e)) kept fed same = (
+  t,
+  sym (take_at (h ++ bs) (10 ∷ []) (length ((h ++ bs) ++ 10 ∷ []) - 1) (omega (arith, length-append (h ++ bs) (10 ∷ [])))) ∙ ap (λ (z : List ℕ). cut ((h ++ bs) ++ z)) (sym e)
+      ∙ ap (λ (z : List ℕ). cut z) same ∙ cut-prefix t k more,
+)
 
 pub call-keeps : (left left' : Option (List ℕ)) (old new : ReaderModel) (results : List ParseResult) (bs : List ℕ) → ReadsLines left left' old new results bs → KeepsUnread old new bs
 call-keeps left left' old new results bs call =
@@ -346,7 +362,11 @@ call-keeps left left' old new results bs call =
 
 -- the same is held
 pub keeps-same : (old s new : ReaderModel) (bs : List ℕ) → KeepsUnread old s bs → new.held ≡ s.held → new.ended ≡ s.ended → KeepsUnread old new bs
-keeps-same old s new bs (taken, same) held ended = (taken, same ∙ ap (λ (z : List ℕ). taken ++ z) (ap (λ (b : Bool). if b then cut s.held else s.held) (sym ended) ∙ ap (λ (h : List ℕ). if new.ended then cut h else h) (sym held)))
+keeps-same old s new bs (taken, same) held ended = (
+  taken,
+  same ∙ ap (λ (z : List ℕ). taken ++ z)
+      (ap (λ (b : Bool). if b then cut s.held else s.held) (sym ended) ∙ ap (λ (h : List ℕ). if new.ended then cut h else h) (sym held)),
+)
 
 -- ---- Only an `end` line makes a document whole.
 
@@ -365,17 +385,20 @@ gives-end at place line d e = subst (IsByEnd line) (sym e) (turn-end at place li
 -- ---- Lines that are taken one after another.
 
 -- a line with an item, in a subset
-item-turn : (at subset : ℕ) (line : List ℕ) (d new : documents.Document) (fxy : ℕ) (form : DraftValue) → length line ≤ 4096 → line_of line ≡ Item fxy form → new ≡ with_entry d (Holds (draft at fxy form))
+item-turn : (at subset : ℕ) (line : List ℕ) (d new : documents.Document) (fxy : ℕ) (form : DraftValue) → length line ≤ 4096 → line_of line ≡ Item fxy form
+    → new ≡ with_entry d (Holds (draft at fxy form))
     → documents.WalkGoes (documents.Filling subset new) ≡ documents.turn at (documents.Filling subset d) (line_within_limit line)
 unfolding documents.turn
 item-turn at subset line d new fxy form h1 h2 h3 = grind (arith, nat_tests, common_steps)
 
-pub item-taken : (old p : Progress) (line : List ℕ) (entries : List DraftEntry) (subset fxy : ℕ) (form : DraftValue) → p ≡ old → p.place ≡ place.Filling subset → length line ≤ 4096 → line_of line ≡ Item fxy form → entries ≡ p.parts.entries ++ Holds (draft p.at fxy form) ∷ []
+pub item-taken : (old p : Progress) (line : List ℕ) (entries : List DraftEntry) (subset fxy : ℕ) (form : DraftValue) → p ≡ old → p.place ≡ place.Filling subset → length line ≤ 4096
+    → line_of line ≡ Item fxy form → entries ≡ p.parts.entries ++ Holds (draft p.at fxy form) ∷ []
     → documents.WalkGoes (place_with p.place (record p.parts { entries = entries })) ≡ documents.turn old.at (place_with old.place old.parts) (line_within_limit line)
 item-taken old p line entries subset fxy form same inside short says more =
     let T : Progress → Type 0 = λ x. documents.WalkGoes (place_with x.place (record x.parts { entries = entries })) ≡ documents.turn old.at (place_with old.place old.parts) (line_within_limit line) in
     let E : Progress → Type 0 = λ x. entries ≡ x.parts.entries ++ Holds (draft x.at fxy form) ∷ [] in
-    let here : T old = rw (sym (ap (λ x. x.place) same) ∙ inside) (item-turn old.at subset line old.parts (record old.parts { entries = entries }) fxy form short says (ap (λ es. record old.parts { entries = es }) (subst E same more))) in
+    let here : T old = rw (sym (ap (λ x. x.place) same) ∙ inside) (item-turn old.at subset line old.parts (record old.parts { entries = entries }) fxy form short says
+    (ap (λ es. record old.parts { entries = es }) (subst E same more))) in
     subst T (sym same) here
 
 drop-on : (a b : ℕ) (s : List ℕ) → drop a (drop b s) ≡ drop (b + a) s
@@ -408,11 +431,13 @@ passes-line at at' held rest line more p clean e = record {
     one-line : (line : List ℕ) → line ++ 10 ∷ [] ≡ text_of_lines (line ∷ [])
     one-line line = sym (append-nil (line ++ 10 ∷ []))
 
-passes-feed : (at at' : ℕ) (held : List ℕ) (from n : ℕ) → TakesWholeLines at held at' (drop from held) → FeedAt (drop from held) (Some n) → TakesWholeLines at held (at' + 1) (drop (from + (n + 1)) held)
+passes-feed : (at at' : ℕ) (held : List ℕ) (from n : ℕ) → TakesWholeLines at held at' (drop from held) → FeedAt (drop from held) (Some n)
+    → TakesWholeLines at held (at' + 1) (drop (from + (n + 1)) held)
 passes-feed at at' held from n h1 h2 = grind (arith, nat_tests, common_steps, drop-on, passes-line)
 
 -- what holds after a turn
-holds-after : (new : Progress) (t : documents.LineEffect) (line : List ℕ) → IsParserState new.at (place_with new.place new.parts) → 0 < new.at → t ≡ documents.turn new.at (place_with new.place new.parts) (line_within_limit line) → HoldsAfter new.at t
+holds-after : (new : Progress) (t : documents.LineEffect) (line : List ℕ) → IsParserState new.at (place_with new.place new.parts) → 0 < new.at
+    → t ≡ documents.turn new.at (place_with new.place new.parts) (line_within_limit line) → HoldsAfter new.at t
 holds-after new t line s some e = subst (HoldsAfter new.at) (sym e) (turn-holds new.at (place_with new.place new.parts) (line_within_limit line) some (said-sound line) s)
 
 further : (a b c : ReaderPosition) (x : List documents.ParseResult) → b.ended ≡ c.ended → ContinuesParse a b [] → ContinuesParse b c x → ContinuesParse a c x
@@ -422,7 +447,9 @@ pub taking-goes : (old new : Progress) (held : List ℕ) (from n : ℕ) (place :
     → turned (turn.WalkGoes place) d ≡ documents.turn new.at (place_with new.place new.parts) (line_within_limit (take n (drop from held)))
     → IsTaking old (record { place = place; at = new.at + 1; parts = d }) held (from + (n + 1))
 taking-goes old new held from n place d is feed e = record {
-  goes = λ ended. further (position_with old held ended) (position_with new (drop from held) ended) (position_with (record { place = place; at = new.at + 1; parts = d }) (drop (from + (n + 1)) held) ended) [] refl (is.goes ended) (line-taken new held from n (turned (turn.WalkGoes place) d) ended feed e);
+  goes = λ ended. further (position_with old held ended) (position_with new (drop from held) ended)
+      (position_with (record { place = place; at = new.at + 1; parts = d }) (drop (from + (n + 1)) held) ended) [] refl (is.goes ended)
+      (line-taken new held from n (turned (turn.WalkGoes place) d) ended feed e);
   within = omega (arith, feed.0, length-drop from held);
   holds = holds-after new (turned (turn.WalkGoes place) d) (take n (drop from held)) is.holds is.some e;
   some = omega arith;
@@ -434,8 +461,10 @@ pub taking-gives : (old new : Progress) (held : List ℕ) (from n : ℕ) (last :
     → turned turn.Gives last.parts ≡ documents.turn new.at (place_with new.place new.parts) (line_within_limit (take n (drop from held)))
     → TakesLines old last held (from + (n + 1)) taken.Gives
 taking-gives old new held from n last is feed at e = record {
-  goes = λ ended. further (position_with old held ended) (position_with new (drop from held) ended) (position_after_take taken.Gives last (drop (from + (n + 1)) held) ended) (step_results taken.Gives last.parts) refl (is.goes ended)
-      (subst (λ (k : ℕ). ContinuesParse (position_with new (drop from held) ended) (record { at = k; place = documents.Between; held = drop (from + (n + 1)) held; ended = ended }) (step_results taken.Gives last.parts)) (sym at) (line-taken new held from n (turned turn.Gives last.parts) ended feed e));
+  goes = λ ended. further (position_with old held ended) (position_with new (drop from held) ended) (position_after_take taken.Gives last (drop (from + (n + 1)) held) ended)
+      (step_results taken.Gives last.parts) refl (is.goes ended)
+      (subst (λ (k : ℕ). ContinuesParse (position_with new (drop from held) ended) (record { at = k; place = documents.Between; held = drop (from + (n + 1)) held; ended = ended })
+      (step_results taken.Gives last.parts)) (sym at) (line-taken new held from n (turned turn.Gives last.parts) ended feed e));
   all = λ more. absurd cc;
   within = omega (arith, feed.0, length-drop from held);
   near = omega (arith, is.near, at);
@@ -444,20 +473,25 @@ taking-gives old new held from n last is feed at e = record {
   closes = λ gives. record {
     line = new.at;
     last = take n (drop from held);
-    prefix = (let P : List ℕ → Type 0 = λ t. TakesWholeLines old.at held new.at (take n (drop from held) ++ 10 ∷ t) in let Q : List ℕ → Type 0 = λ t. TakesWholeLines old.at held new.at t in subst P (drop-on (n + 1) from held) (subst Q feed.2 is.passes));
+    prefix = (let P : List ℕ → Type 0 = λ t. TakesWholeLines old.at held new.at (take n (drop from held) ++ 10 ∷ t) in let Q : List ℕ
+        → Type 0 = λ t. TakesWholeLines old.at held new.at t in subst P (drop-on (n + 1) from held) (subst Q feed.2 is.passes));
     single = feed.1;
     closes = gives-end new.at (place_with new.place new.parts) (line_within_limit (take n (drop from held))) last.parts e;
     counted = at;
   };
 }
 
-pub taking-refuses : (old new : Progress) (held : List ℕ) (from n line : ℕ) (refusal : LineRefusal) (last : Progress) → IsTaking old new held from → FeedAt (drop from held) (Some n) → last.at ≡ new.at + 1 → line ≡ new.at
+pub taking-refuses : (old new : Progress) (held : List ℕ) (from n line : ℕ) (refusal : LineRefusal) (last : Progress) → IsTaking old new held from → FeedAt (drop from held) (Some n)
+    → last.at ≡ new.at + 1 → line ≡ new.at
     → turned (turn.Refuses refusal) last.parts ≡ documents.turn new.at (place_with new.place new.parts) (line_within_limit (take n (drop from held)))
     → TakesLines old last held (from + (n + 1)) (taken.Refuses line refusal)
 taking-refuses old new held from n line refusal last is feed at here e = record {
-  goes = λ ended. further (position_with old held ended) (position_with new (drop from held) ended) (position_after_take (taken.Refuses line refusal) last (drop (from + (n + 1)) held) ended) (step_results (taken.Refuses line refusal) last.parts) refl (is.goes ended)
-      (subst (λ (k : ℕ). ContinuesParse (position_with new (drop from held) ended) (record { at = last.at; place = documents.Stopped; held = drop (from + (n + 1)) held; ended = ended }) (documents.Refused k (line_fault_of refusal) ∷ [])) (sym here)
-      (subst (λ (k : ℕ). ContinuesParse (position_with new (drop from held) ended) (record { at = k; place = documents.Stopped; held = drop (from + (n + 1)) held; ended = ended }) (documents.Refused new.at (line_fault_of refusal) ∷ [])) (sym at) (line-taken new held from n (turned (turn.Refuses refusal) last.parts) ended feed e)));
+  goes = λ ended. further (position_with old held ended) (position_with new (drop from held) ended) (position_after_take (taken.Refuses line refusal) last (drop (from + (n + 1)) held) ended)
+      (step_results (taken.Refuses line refusal) last.parts) refl (is.goes ended)
+      (subst (λ (k : ℕ). ContinuesParse (position_with new (drop from held) ended) (record { at = last.at; place = documents.Stopped; held = drop (from + (n + 1)) held; ended = ended })
+      (documents.Refused k (line_fault_of refusal) ∷ [])) (sym here)
+      (subst (λ (k : ℕ). ContinuesParse (position_with new (drop from held) ended) (record { at = k; place = documents.Stopped; held = drop (from + (n + 1)) held; ended = ended })
+      (documents.Refused new.at (line_fault_of refusal) ∷ [])) (sym at) (line-taken new held from n (turned (turn.Refuses refusal) last.parts) ended feed e)));
   all = λ more. absurd cc;
   within = omega (arith, feed.0, length-drop from held);
   near = omega (arith, is.near, at);
@@ -467,7 +501,8 @@ taking-refuses old new held from n line refusal last is feed at here e = record 
 }
 
 -- the next line adds to the document, and memory is wanted
-pub wants-at : (old new : Progress) (held : List ℕ) (from n : ℕ) → IsTaking old new held from → FeedAt (drop from held) (Some n) → adds (place_with new.place new.parts) (line_within_limit (take n (drop from held))) ≡ true → WantsAt old held
+pub wants-at : (old new : Progress) (held : List ℕ) (from n : ℕ) → IsTaking old new held from → FeedAt (drop from held) (Some n)
+    → adds (place_with new.place new.parts) (line_within_limit (take n (drop from held))) ≡ true → WantsAt old held
 wants-at old new held from n is feed more = record {
   progress = new;
   place = from;
@@ -510,14 +545,16 @@ wants-here old f held ended reads w none =
     }
 
 -- a reader that skips octets
-pub reader-skips : (f f' : Option ReadFault) (old new : Progress) (input : InputModel) (len : ℕ) → (f' ≡ None → IsProgress new (length (drop len input.held)) input.reads) → IsReader f old input → IsReader f' new (record input { held = drop len input.held })
+pub reader-skips : (f f' : Option ReadFault) (old new : Progress) (input : InputModel) (len : ℕ) → (f' ≡ None → IsProgress new (length (drop len input.held)) input.reads) → IsReader f old input
+    → IsReader f' new (record input { held = drop len input.held })
 reader-skips f f' old new input len progress is = (omega (arith, is.0, length-drop len input.held), is.1, λ ended. ends-drop len input.held (is.2 ended), progress, is.4)
 
 -- the progress of a reader that goes on
 pub progress-more : (old new : Progress) (held : List ℕ) (len reads : ℕ) → TakesLines old new held len taken.More → IsProgress old (length held) reads → IsProgress new (length (drop len held)) reads
 progress-more old new held len reads h1 h2 = grind (arith, nat_tests, common_steps)
 
-pub progress-between : (old new d : Progress) (held : List ℕ) (len reads : ℕ) (step : TakeResult) → TakesLines old new held len step → IsProgress old (length held) reads → d.at ≡ new.at → d.place ≡ place.Between → IsProgress d (length (drop len held)) reads
+pub progress-between : (old new d : Progress) (held : List ℕ) (len reads : ℕ) (step : TakeResult) → TakesLines old new held len step → IsProgress old (length held) reads → d.at ≡ new.at
+    → d.place ≡ place.Between → IsProgress d (length (drop len held)) reads
 progress-between old new d held len reads step h1 h2 h3 h4 = grind (arith, nat_tests, common_steps)
 
 -- the end
@@ -530,11 +567,13 @@ unfolding parse_lines lines_of
 done-between s place held =
     ap (λ (z : List ℕ). parse_lines s.at s.place (lines_of (z ++ []))) held ∙ ap (λ (p : documents.ParserState). parse_lines s.at p []) place
 
-pub end-reports : (s : ReaderModel) → s.ended ≡ true → s.held ≡ [] → reported_at_end s.at s.place ≡ Refused s.at NotAllowed ∷ [] → ParsesHeldLines s (stopped s (fault.Line s.at)) (Refused s.at NotAllowed ∷ [])
+pub end-reports : (s : ReaderModel) → s.ended ≡ true → s.held ≡ [] → reported_at_end s.at s.place ≡ Refused s.at NotAllowed ∷ []
+    → ParsesHeldLines s (stopped s (fault.Line s.at)) (Refused s.at NotAllowed ∷ [])
 end-reports s h1 h2 h3 = grind (arith, nat_tests, common_steps, ends-inside, passes-none)
 
 -- the end inside of a document stops the reading
-pub end-inside : (s s' : ReaderModel) (line : ℕ) (f : ReadFault) → s.ended ≡ true → s.held ≡ [] → reported_at_end s.at s.place ≡ Refused s.at NotAllowed ∷ [] → line ≡ s.at → s' ≡ stopped s (fault.Line line) → f ≡ fault.Line line → HandlesEnd s s' (Err f)
+pub end-inside : (s s' : ReaderModel) (line : ℕ) (f : ReadFault) → s.ended ≡ true → s.held ≡ [] → reported_at_end s.at s.place ≡ Refused s.at NotAllowed ∷ [] → line ≡ s.at
+    → s' ≡ stopped s (fault.Line line) → f ≡ fault.Line line → HandlesEnd s s' (Err f)
 end-inside s s' line f ended held reports at new is =
     let F : ReadFault → Type 0 = λ f. HandlesEnd s s' (Err f) in
     let N : ReaderModel → Type 0 = λ n. HandlesEnd s n (Err (fault.Line line)) in
@@ -550,13 +589,15 @@ pub long-reports : (s : ReaderModel) → Reads s.place → has_no_feed s.held �
 long-reports s reads clean long = record { goes = refuses-long s.at s.place s.held s.ended reads clean long; passes = passes-none s.at s.held }
 
 -- a line that is refused
-by-fault : (now : ReaderModel) (at line : ℕ) (progress : Progress) (held : List ℕ) (ended : Bool) (reads : ℕ) (refusal : LineRefusal) → ((f : Option ReadFault) → ParsesHeldLines now (state at Stopped held ended f reads) (Refused line (line_fault_of refusal) ∷ []))
+by-fault : (now : ReaderModel) (at line : ℕ) (progress : Progress) (held : List ℕ) (ended : Bool) (reads : ℕ) (refusal : LineRefusal)
+    → ((f : Option ReadFault) → ParsesHeldLines now (state at Stopped held ended f reads) (Refused line (line_fault_of refusal) ∷ []))
     → TakesHeldLines now (state at (place_now (Some (read_fault_at line refusal)) progress) held ended (Some (read_fault_at line refusal)) reads) (Err (read_fault_at line refusal))
 by-fault now at line progress held ended reads refusal.NotAllowed reports = (reports (Some (fault.Line line)), refl)
 by-fault now at line progress held ended reads refusal.SubsetCount reports = (reports (Some (fault.SubsetCount line)), refl)
 by-fault now at line progress held ended reads refusal.HeaderRange reports = (reports (Some (fault.HeaderRange line)), refl)
 
-pub refuses-went : (now : ReaderModel) (at line : ℕ) (progress : Progress) (held : List ℕ) (ended : Bool) (reads : ℕ) (refusal : LineRefusal) (f : ReadFault) → f ≡ read_fault_at line refusal → ((f : Option ReadFault) → ParsesHeldLines now (state at Stopped held ended f reads) (Refused line (line_fault_of refusal) ∷ []))
+pub refuses-went : (now : ReaderModel) (at line : ℕ) (progress : Progress) (held : List ℕ) (ended : Bool) (reads : ℕ) (refusal : LineRefusal) (f : ReadFault) → f ≡ read_fault_at line refusal
+    → ((f : Option ReadFault) → ParsesHeldLines now (state at Stopped held ended f reads) (Refused line (line_fault_of refusal) ∷ []))
     → TakesHeldLines now (state at (place_now (Some f) progress) held ended (Some f) reads) (Err f)
 refuses-went now at line progress held ended reads refusal f is reports =
     let W : ReadFault → Type 0 = λ f. TakesHeldLines now (state at (place_now (Some f) progress) held ended (Some f) reads) (Err f) in

@@ -62,14 +62,16 @@ evened_small edition prefix octets h1 = grind (arith, nat_tests, common_steps)
 plain_small : (octets : List ℕ) → 4 + length octets < 2 ^ 24 → AllByRecursion IsOctet octets → AllByRecursion IsOctet (section4_octets octets)
 plain_small octets h g = both (three_octets (4 + length octets)) (0 ∷ octets) (three_small (4 + length octets) h) (omega arith, g)
 
-section2_small : (section2 : Option (List ℕ)) (n : ℕ) → n < 2 ^ 24 → length (section2_octets section2) ≤ n → AllByRecursion IsOctet (unwrap_or section2 []) → AllByRecursion IsOctet (section2_octets section2)
+section2_small : (section2 : Option (List ℕ)) (n : ℕ) → n < 2 ^ 24 → length (section2_octets section2) ≤ n → AllByRecursion IsOctet (unwrap_or section2 [])
+    → AllByRecursion IsOctet (section2_octets section2)
 section2_small None n few h g = tt
 section2_small (Some octets) n few h g = plain_small octets (omega (arith, few, h)) g
 
 section2_least : (edition : ℕ) (p : MessageParts) → length (section2_octets p.section2) ≤ message_size edition p
 section2_least edition p = grind (arith, nat_tests, common_steps)
 
-pub octets_small : (h : Head) (p : MessageParts) → IsFitting h → AllByRecursion IsOctet p.local1 → AllByRecursion IsOctet (unwrap_or p.section2 []) → AllByRecursion IsDescriptorWord p.descriptors → p.subsets < 65536 → AllByRecursion IsOctet p.payload → message_size h.edition p ≤ max_octets
+pub octets_small : (h : Head) (p : MessageParts) → IsFitting h → AllByRecursion IsOctet p.local1 → AllByRecursion IsOctet (unwrap_or p.section2 []) → AllByRecursion IsDescriptorWord p.descriptors
+    → p.subsets < 65536 → AllByRecursion IsOctet p.payload → message_size h.edition p ≤ max_octets
     → AllByRecursion IsOctet (message_octets h p)
 octets_small h p head local1 section2 descriptors subsets payload few =
     let e = h.edition in
@@ -88,15 +90,18 @@ octets_small h p head local1 section2 descriptors subsets payload few =
     let long3 : 7 + length third ≡ even_size e (7 + 2 * length p.descriptors) = length-evened e 7 words ∙ ap (λ (k : ℕ). even_size e (7 + k)) (length-octets_of_words p.descriptors) in
     let long4 : 4 + length fourth ≡ even_size e (4 + length p.payload) = length-evened e 4 p.payload in
     let edition_small : e < 256 = edition-cases e head.edition (λ is. omega (arith, is)) (λ is. omega (arith, is)) in
-    both s0 (s1 ++ (s2 ++ (s3 ++ (s4 ++ end)))) (let t = three_small n (omega (arith, few)) in (omega arith, (omega arith, (omega arith, (omega arith, (t.0, (t.1.0, (t.1.1.0, (edition_small, tt)))))))))
+    both s0 (s1 ++ (s2 ++ (s3 ++ (s4 ++ end)))) (let t = three_small n (omega (arith, few)) in
+    (omega arith, (omega arith, (omega arith, (omega arith, (t.0, (t.1.0, (t.1.1.0, (edition_small, tt)))))))))
     (both s1 (s2 ++ (s3 ++ (s4 ++ end)))
     (both (three_octets (least + length p.local1) ++ head_octets h (is_some p.section2)) p.local1
     (both (three_octets (least + length p.local1)) (head_octets h (is_some p.section2)) (three_small (least + length p.local1) (omega (arith, few))) (head-small h (is_some p.section2) head)) local1)
     (both s2 (s3 ++ (s4 ++ end)) (section2_small p.section2 n (omega (arith, few)) (section2_least e p) section2)
-    (both s3 (s4 ++ end) (section3_small third p.subsets flags (omega (arith, few, long3)) subsets (flags_small p.observed p.compressed) (evened_small e 7 words (words_small p.descriptors descriptors)))
+    (both s3 (s4 ++ end) (section3_small third p.subsets flags (omega (arith, few, long3)) subsets (flags_small p.observed p.compressed)
+    (evened_small e 7 words (words_small p.descriptors descriptors)))
     (both s4 end (plain_small fourth (omega (arith, few, long4)) (evened_small e 4 p.payload payload)) (omega arith, (omega arith, (omega arith, (omega arith, tt))))))))
   where
-    section3_small : (content : List ℕ) (subsets flags : ℕ) → 7 + length content < 2 ^ 24 → subsets < 65536 → flags < 256 → AllByRecursion IsOctet content → AllByRecursion IsOctet (section3_octets content subsets flags)
+    section3_small : (content : List ℕ) (subsets flags : ℕ) → 7 + length content < 2 ^ 24 → subsets < 65536 → flags < 256 → AllByRecursion IsOctet content
+        → AllByRecursion IsOctet (section3_octets content subsets flags)
     section3_small content subsets flags h g f w =
         let t = three_small (7 + length content) h in
         (t.0, (t.1.0, (t.1.1.0, (omega arith, (high_small subsets g, (low_small subsets, (f, w)))))))
@@ -131,7 +136,8 @@ module _ (m t : List ℕ) (n : ℕ) (is : stated_length (m ++ t) ≡ n) (long : 
 ends_with : (prefix t : List ℕ) (k : ℕ) → length prefix ≡ k → has_word_at (codes "7777") k ((prefix ++ codes "7777") ++ t) ≡ true
 ends_with prefix t k h1 = grind (arith, nat_tests, common_steps)
 
-pub framed : (h : Head) (p : MessageParts) (at : ℕ) (t : List ℕ) → length (message_octets h p) ≡ message_size h.edition p → scan_from 0 at (message_octets h p ++ t) ≡ FrameAt at (message_octets h p) ∷ scan_from 0 (at + length (message_octets h p)) t
+pub framed : (h : Head) (p : MessageParts) (at : ℕ) (t : List ℕ) → length (message_octets h p) ≡ message_size h.edition p
+    → scan_from 0 at (message_octets h p ++ t) ≡ FrameAt at (message_octets h p) ∷ scan_from 0 (at + length (message_octets h p)) t
 framed h p at t long =
     let n = message_size h.edition p in
     let m = message_octets h p in
@@ -149,7 +155,8 @@ framed h p at t long =
     let least : 12 ≤ n = omega arith in
     let at_end : length prefix ≡ n - 4 = omega (arith, long, ap length split, length-append prefix end) in
     let whole : length (m ++ t) ≡ n + length t = length-append m t ∙ ap (λ k. k + length t) long in
-    let last : has_word_at end (stated_length (m ++ t) - 4) (m ++ t) ≡ true = ap (λ k. has_word_at end (k - 4) (m ++ t)) is ∙ ap (λ x. has_word_at end (n - 4) (x ++ t)) split ∙ ends_with prefix t (n - 4) at_end in
+    let last : has_word_at end (stated_length (m ++ t) - 4) (m ++ t) ≡ true =
+    ap (λ k. has_word_at end (k - 4) (m ++ t)) is ∙ ap (λ x. has_word_at end (n - 4) (x ++ t)) split ∙ ends_with prefix t (n - 4) at_end in
     framed_by m t n is long at (omega (arith, least)) (verdict_frame (m ++ t) refl
     (at_least (length (m ++ t)) 8 (omega (arith, whole, least)))
     (at_least (length (m ++ t)) (stated_length (m ++ t)) (omega (arith, whole, is)))
@@ -162,7 +169,8 @@ text_same a b items items' h1 h2 = grind (arith, nat_tests, common_steps)
 
 pub same_text : (table : List Row) (m : List ℕ) (s : Sections) (template : Tree) (values : Values) (octets : List ℕ) → (h : HasSameReading table m s template values octets)
     → dump_text_of h.sections (dump_items table h.sections.subsets values) ≡ dump_text_of s (dump_items table s.subsets values)
-same_text table m s template values octets h = text_same s h.sections (dump_items table s.subsets values) (dump_items table h.sections.subsets values) h.same (ap (λ n. dump_items table n values) h.same.subsets)
+same_text table m s template values octets h = text_same s h.sections (dump_items table s.subsets values) (dump_items table h.sections.subsets values) h.same
+    (ap (λ n. dump_items table n values) h.same.subsets)
 
 -- ---- the drafts of a dump
 
@@ -182,7 +190,8 @@ apart_drafted : (table : List Row) (at : ℕ) (items : List (reading.Item Conten
 apart_drafted table at [] = tt
 apart_drafted table at (i ∷ items) = ((refl, same_form i.spec i.content), apart_drafted table (at + 1) items)
 
-together_drafted : (table : List Row) (at j : ℕ) (items : List (reading.Item (List Content))) → AreDrafts IsDumped (items_of_subset j items) (drafts_from at (items_shown table (items_of_subset j items)))
+together_drafted : (table : List Row) (at j : ℕ) (items : List (reading.Item (List Content)))
+    → AreDrafts IsDumped (items_of_subset j items) (drafts_from at (items_shown table (items_of_subset j items)))
 together_drafted table at j [] = tt
 together_drafted table at j (i ∷ items) = ((refl, same_form i.spec (content_at j i.content)), together_drafted table (at + 1) j items)
 
@@ -192,9 +201,12 @@ all_apart table at [] = tt
 all_apart table at (items ∷ subsets) =
     let here = items_shown table items in
     let line = at + 1 + length here in
-    subst (AreDumped (items ∷ subsets)) (sym (items_drafted (at + 1) line here (subset_entries line (map (items_shown table) subsets)))) (apart_drafted table (at + 1) items, all_apart table line subsets)
+    subst (AreDumped (items ∷ subsets)) (sym (items_drafted (at + 1) line here (subset_entries line (map (items_shown table) subsets))))
+    (apart_drafted table (at + 1) items, all_apart table line subsets)
 
-pub all_together : (table : List Row) (at n j : ℕ) (items : List (reading.Item (List Content))) → AreDumpedFrom j items (subsets_of (subset_entries at (map (items_shown table) (subsets_from n j items)))) × (length (subsets_of (subset_entries at (map (items_shown table) (subsets_from n j items)))) ≡ n)
+pub all_together : (table : List Row) (at n j : ℕ) (items : List (reading.Item (List Content)))
+    → AreDumpedFrom j items (subsets_of (subset_entries at (map (items_shown table) (subsets_from n j items))))
+    × (length (subsets_of (subset_entries at (map (items_shown table) (subsets_from n j items)))) ≡ n)
 unfolding subset_entries
 all_together table at zero j items = (tt, refl)
 all_together table at (suc n) j items =
@@ -220,7 +232,8 @@ within a b h = grind (arith, nat_tests)
 
 pub encoded_to : (table : List Row) (sequences : List Sequence) (d : Document) (template : Tree) (bits : List Bool)
     → tree_of (tables_of table sequences) d.descriptors ≡ Ok template → data_bits (compressed_in d) (next_item table template) (subsets_of d.entries) ≡ Ok bits
-    → message_size (head_from_values d).edition (parts_of_document d (octets_of_bits bits)) ≤ max_octets → encoding_of table sequences d ≡ Ok (message_octets (head_from_values d) (parts_of_document d (octets_of_bits bits)))
+    → message_size (head_from_values d).edition (parts_of_document d (octets_of_bits bits)) ≤ max_octets
+    → encoding_of table sequences d ≡ Ok (message_octets (head_from_values d) (parts_of_document d (octets_of_bits bits)))
 unfolding encoding_in
 encoded_to table sequences d template bits h1 h2 h3 = grind (arith, nat_tests, common_steps)
 
@@ -240,7 +253,8 @@ pub parts_back : (at : ℕ) (s : Sections) (items : List (List View)) (payload :
 unfolding parts_with
 parts_back at s items payload = λ j. parts_of s.local1 (section2_back s.section2 j) s.descriptors s.subsets (bit_back s.observed j) (bit_back s.compressed j) payload
 
-pub size_least : (s : Sections) (payload : List ℕ) (n : ℕ) → length payload ≤ length s.payload → message_size s.head.edition (layout.parts_in s) ≤ n → message_size s.head.edition (parts_with s payload) ≤ n
+pub size_least : (s : Sections) (payload : List ℕ) (n : ℕ) → length payload ≤ length s.payload → message_size s.head.edition (layout.parts_in s) ≤ n
+    → message_size s.head.edition (parts_with s payload) ≤ n
 unfolding parts_with
 size_least s payload n h g = size-least s.head.edition (length s.local1) s.section2 (length s.descriptors) (length payload) (length s.payload) n h g
 
@@ -252,7 +266,8 @@ record IsFilled (table : List Row) (template : Tree) (s : Sections) (values : Va
   out : List Bool
   fills : data_bits s.compressed (next_item table template) (subsets_of entries) ≡ Ok out
   short : length out ≤ length (bits_of s.payload)
-  read : (octets : List ℕ) (tail : List Bool) → bits_of octets ≡ out ++ tail → IsReading (next_item table template) (record { compressed = s.compressed; subsets = s.subsets; bits = bits_of octets }) values (length out)
+  read : (octets : List ℕ) (tail : List Bool) → bits_of octets ≡ out ++ tail
+      → IsReading (next_item table template) (record { compressed = s.compressed; subsets = s.subsets; bits = bits_of octets }) values (length out)
 
 pub enough : (out octets : List Bool) (bits : List Bool) → bits ≡ out ++ octets → length out ≤ length bits
 enough out octets bits e = omega (arith, ap length e, length-append out octets)
@@ -342,20 +357,23 @@ encoded_again table sequences m s template values used at rows legal a =
     let least : message_size edition parts ≤ length m + extra_octets m = size_least s payload (length m + extra_octets m) short (at-most-even m s a.sections) in
     let most : message_size edition parts ≤ max_octets = size_least s payload max_octets short (not-too-long m s a.sections a.few) in
     let few : message_size edition (parts_of_document d payload) ≤ max_octets = subst (λ (p : MessageParts). message_size edition p ≤ max_octets) (sym same) most in
-    let fills : data_bits (compressed_in d) (next_item table template) (subsets_of d.entries) ≡ Ok f.out = fills_as (compressed_in d) s.compressed (next_item table template) (subsets_of d.entries) f.out (bit_back s.compressed) f.fills in
+    let fills : data_bits (compressed_in d) (next_item table template) (subsets_of d.entries) ≡ Ok f.out =
+    fills_as (compressed_in d) s.compressed (next_item table template) (subsets_of d.entries) f.out (bit_back s.compressed) f.fills in
     let octets = message_octets s.head parts in
     let given = sections_given m s a.octets a.sections in
     let back = read-back s.head parts (fitting-writable s.head given.head) in
     let long : length octets ≡ message_size edition parts = sym (size_is octets (sections_from s.head parts) back) in
     let padded_bits = evened-bits edition 4 payload in
-    let written : bits_of (with_even_length edition 4 payload) ≡ f.out ++ (padding (length f.out) ++ padded_bits.0) = padded_bits.1 ∙ ap (λ (b : List Bool). b ++ padded_bits.0) (payload_bits f.out) ∙ append_assoc f.out (padding (length f.out)) padded_bits.0 in
+    let written : bits_of (with_even_length edition 4 payload) ≡ f.out ++ (padding (length f.out) ++ padded_bits.0) =
+    padded_bits.1 ∙ ap (λ (b : List Bool). b ++ padded_bits.0) (payload_bits f.out) ∙ append_assoc f.out (padding (length f.out)) padded_bits.0 in
     record {
       octets = octets;
       is = encoded_to table sequences d template f.out a.expands fills few ∙ ap (λ (p : MessageParts). Ok (message_octets s.head p)) same;
       same = record {
         no_longer = omega (arith, least, long);
         few = omega (arith, most, long);
-        octets = octets_small s.head parts given.head given.local1 given.section2 given.descriptors given.few (octets_are payload (octets_in-are ((length f.out + 7) / 8) (f.out ++ padding (length f.out)) (padded f.out))) most;
+        octets = octets_small s.head parts given.head given.local1 given.section2 given.descriptors given.few
+            (octets_are payload (octets_in-are ((length f.out + 7) / 8) (f.out ++ padding (length f.out)) (padded f.out))) most;
         framed = λ at suffix. framed s.head parts at suffix long;
         sections = sections_from s.head parts;
         are = back;
@@ -386,7 +404,8 @@ module _ (form : Form) (table : List Row) (sequences : List Sequence) (d : Docum
       → encoding_in form table sequences d ≡ message_of d.line (head_from_values d) (parts_as (compressed_as form d) d payload)
   unfolding encoding_in
   as_written template bits payload e f p =
-      ap (λ r. report_of_template d.line r >>= λ t. report_of_items (data_bits (compressed_as form d) (next_item table t) (subsets_of d.entries)) >>= λ b. message_of d.line (head_from_values d) (parts_as (compressed_as form d) d (octets_of_bits b))) e
+      ap (λ r. report_of_template d.line r >>= λ t. report_of_items (data_bits (compressed_as form d) (next_item table t) (subsets_of d.entries)) >>= λ b. message_of d.line (head_from_values d)
+      (parts_as (compressed_as form d) d (octets_of_bits b))) e
       ∙ ap (λ r. report_of_items r >>= λ b. message_of d.line (head_from_values d) (parts_as (compressed_as form d) d (octets_of_bits b))) f
       ∙ ap (λ o. message_of d.line (head_from_values d) (parts_as (compressed_as form d) d o)) (sym p)
 
@@ -405,16 +424,20 @@ module _ (form : Form) (table : List Row) (sequences : List Sequence) (d : Docum
   unfolding encoding_in
   no_data template None e h = tt
   no_data template (Some f) e h =
-      ap (λ r. report_of_template d.line r >>= λ t. report_of_items (data_bits (compressed_as form d) (next_item table t) (subsets_of d.entries)) >>= λ b. message_of d.line (head_from_values d) (parts_as (compressed_as form d) d (octets_of_bits b))) e
+      ap (λ r. report_of_template d.line r >>= λ t. report_of_items (data_bits (compressed_as form d) (next_item table t) (subsets_of d.entries)) >>= λ b. message_of d.line (head_from_values d)
+      (parts_as (compressed_as form d) d (octets_of_bits b))) e
       ∙ ap (λ r. r >>= λ b. message_of d.line (head_from_values d) (parts_as (compressed_as form d) d (octets_of_bits b))) h
 
-  pub no_template : (o : Option RefusedAt) → IsDocumentRefusal o (report_of_template d.line (tree_of (tables_of table sequences) d.descriptors)) → IsDocumentRefusal o (encoding_in form table sequences d)
+  pub no_template : (o : Option RefusedAt) → IsDocumentRefusal o (report_of_template d.line (tree_of (tables_of table sequences) d.descriptors))
+      → IsDocumentRefusal o (encoding_in form table sequences d)
   unfolding encoding_in
   no_template None h = tt
-  no_template (Some f) h = ap (λ r. r >>= λ t. report_of_items (data_bits (compressed_as form d) (next_item table t) (subsets_of d.entries)) >>= λ b. message_of d.line (head_from_values d) (parts_as (compressed_as form d) d (octets_of_bits b))) h
+  no_template (Some f) h = ap (λ r. r >>= λ t. report_of_items (data_bits (compressed_as form d) (next_item table t) (subsets_of d.entries)) >>= λ b. message_of d.line (head_from_values d)
+      (parts_as (compressed_as form d) d (octets_of_bits b))) h
 
   -- a document whose data are not written is refused
-  pub refused_form : (made : Result Tree TemplateFault) (why : DocumentFault) (steps : ℕ) → tree_of (tables_of table sequences) d.descriptors ≡ made → WritesForm form table d made (Err why) steps → IsDocumentRefusal (reported_refusal why) (encoding_in form table sequences d)
+  pub refused_form : (made : Result Tree TemplateFault) (why : DocumentFault) (steps : ℕ) → tree_of (tables_of table sequences) d.descriptors ≡ made → WritesForm form table d made (Err why) steps
+      → IsDocumentRefusal (reported_refusal why) (encoding_in form table sequences d)
   refused_form (Ok template) why steps e h = no_data template (reported_refusal why) e h.refuses
   refused_form (Err why) w steps e h =
       let R : DocumentFault → Type 0 = λ w. IsDocumentRefusal (reported_refusal w) (encoding_in form table sequences d) in
@@ -429,6 +452,7 @@ module _ (form : Form) (table : List Row) (sequences : List Sequence) (d : Docum
     pub is : tree_of (tables_of table sequences) d.descriptors ≡ Ok template
     pub written : IsData (places template) (compressed_as form d) (next_item table template) (subsets_of d.entries) octets steps
 
-  pub written_form : (made : Result Tree TemplateFault) (octets : Vec ℕ Global) (steps : ℕ) → tree_of (tables_of table sequences) d.descriptors ≡ made → WritesForm form table d made (Ok octets) steps → IsWrittenForm octets.items steps
+  pub written_form : (made : Result Tree TemplateFault) (octets : Vec ℕ Global) (steps : ℕ) → tree_of (tables_of table sequences) d.descriptors ≡ made → WritesForm form table d made (Ok octets) steps
+      → IsWrittenForm octets.items steps
   written_form (Ok template) octets steps e h = record { template = template; is = e; written = h }
   written_form (Err why) octets steps e h = absurd (cc h.0)

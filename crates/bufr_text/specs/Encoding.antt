@@ -100,7 +100,7 @@ encoding_in form table sequences d = do
       (data_bits (compressed_as form d) (next_item table template) (subsets_of d.entries))
   message_of d.line (head_from_values d) (parts_as (compressed_as form d) d (octets_of_bits bits))
 
--- the same in the form that the document says
+-- a document's message, or its first fault, in the form that the document says
 abbrev pub encoding_of : List Row → List Sequence → Document → Result (List ℕ) RefusedAt
 encoding_of = encoding_in AsWritten
 
@@ -173,7 +173,7 @@ module _ {D C E : Type 0} (filler : Filler D C E) where
   count_filled course (d ∷ ds) =
       counted_at (course []).next d (λ t. count_filled (λ results. course (t ∷ results)) ds)
 
--- those after one subset count where it is not refused
+-- the bits of the subsets after one, which count where this one is not refused
 abbrev pub count_after : Result (List Bool) FaultAt → (more : ℕ) → ℕ
 count_after (Ok bits) more = more
 count_after (Err why) more = 0
@@ -272,7 +272,7 @@ reported_stop line stops.Memory = None
 
 -- ---- what the writing of data answers
 
--- these octets are those bits, with zero bits to the next octet
+-- octets are the bits of data, with zero bits to the next octet
 pub record AreOctetsOf (octets : List ℕ) (bits : List Bool) : Type 0 where
   pub same : bits_of octets ≡ bits ++ padding (length bits)
   pub count : length octets ≡ (length bits + 7) / 8
@@ -301,7 +301,7 @@ WritesData places compressed course subsets (Ok octets) steps =
 WritesData places compressed course subsets (Err why) steps =
     IsNoData places compressed course subsets why steps
 
--- the same by the template, or why there is none
+-- what the writing of data answers by a template, or by why there is none
 abbrev pub WritesForm : Form → List Row → Document → Result Tree TemplateFault
     → Result (Vec ℕ Global) DocumentFault → (steps : ℕ) → Type 0
 WritesForm form table d (Ok template) result steps = WritesData (places template)

@@ -38,7 +38,7 @@ pub record ReaderPosition : Type 0 where
 abbrev pub parse : ReaderPosition → List ℕ → List ParseResult
 parse s t = parse_lines s.at s.place (lines_of (s.held ++ t))
 
--- the same, where more may come after these
+-- what the held octets and these spell, where more may come after them
 abbrev pub parse_open : ReaderPosition → List ℕ → List ParseResult
 parse_open s t =
     parse_open_lines s.at s.place (split_of (s.held ++ t)).whole (split_of (s.held ++ t)).rest
@@ -89,7 +89,7 @@ new_reader = record { at = 1; place = Between; held = []; ended = false; fault =
 abbrev pub position_of : ReaderModel → ReaderPosition
 position_of s = record { at = s.at; place = s.place; held = s.held; ended = s.ended }
 
--- the same with octets after those that are held
+-- the position of a reader with more octets after those that it holds
 abbrev pub position_after : ReaderModel → List ℕ → ReaderPosition
 position_after s bs = record { at = s.at; place = s.place; held = s.held ++ bs; ended = s.ended }
 

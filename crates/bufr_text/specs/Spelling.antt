@@ -22,8 +22,8 @@ AreEnded (Holds item ∷ []) = ⊥
 AreEnded (entry ∷ next ∷ more) = AreEnded (next ∷ more)
 AreEnded entries = Unit {0}
 
--- its values are within their ranges, its octets are octets and its descriptors words; it has
--- octets of section 2 only where it says that there is one; it has as many subsets as it says
+-- a document's values are within their ranges, its octets are octets and its descriptors words; it
+-- has octets of section 2 only where it says that there is one, and as many subsets as it says
 pub record IsProper (d : Document) : Type 0 where
   pub headed : IsHeaded d
   pub local1 : AllByRecursion IsOctet d.local1

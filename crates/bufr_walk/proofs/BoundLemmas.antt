@@ -2,7 +2,7 @@
 use Rattle.std.proofs.Common.{◌≡◌, ℕ, zero, suc, ◌+◌, ◌-◌, ◌*◌, ◌<◌, ◌≤◌, List, [], ◌∷◌, length, Bool, true, false, ◌||◌, Result, Ok, Err, refl, ap, subst, arith, ◌++◌, inl, inr, drop, sym, ◌∙◌, if◌then◌else◌}
 use Rattle.std.proofs.Math.Nat.{mul-le-mul_left}
 use Rattle.bufr_tables.specs.Prelude.{Tree, bare, element, operator, fixed, delayed, size, places, consumes, is_inserted_text, Row, EveryGroupConsumes, IsSound}
-use Rattle.bufr_walk.specs.Prelude.{Taken, TurnRefusal, FieldSpec, Content, OperatorModel, begin, after_operator, after_field, element_spec, factor_spec, inserted_spec, Turns, finish, operator_turn, Rest, unroll, passes, pass_end, at_end, astray, NextTurn, ahead, asked, operated, stop, Course, next_item, counts_of, TakenField, Takes, oks, answers_of, Walked, ticked, WalkStop, ShowFault, Call, Timed, item_calls, subset_calls, compressed_item_calls, compressed_subset_calls, calls_by, items_called, turns_by, Shows, IsStoredReading, PaysBits, items_in, Read, course_of, Item, plain, item_answer, after, next_after, turns_after, turns_in, ReadsSubsets, Values, apart, together, IsReading, IsPackedReading, max_values}
+use Rattle.bufr_walk.specs.Prelude.{Taken, TurnRefusal, FieldSpec, Content, OperatorModel, begin, after_operator, after_field, element_spec, factor_spec, inserted_spec, Turns, finish, operator_turn, Rest, unroll, passes, pass_end, at_end, astray, NextTurn, ahead, asked, operated, stop, Course, next_item, counts_of, TakenField, Takes, oks, answers_of, Walked, ticked, WalkStop, ShowFault, Call, Timed, item_calls, subset_calls, compressed_item_calls, compressed_subset_calls, calls_for, items_called, turns_for, Shows, IsStoredReading, PaysBits, items_in, Read, course_of, Item, plain, item_answer, after, next_after, turns_after, turns_in, ReadsSubsets, Values, apart, together, IsReading, IsPackedReading, max_values}
 use Rattle.bufr_walk.specs.declared.reading.StoredItems.{StoredItems}
 use Rattle.bufr_walk.specs.Pass.{values_read, calls_of, turns_shown}
 use Rattle.bufr_walk.proofs.WalkLemmas.{stop_cases}
@@ -12,28 +12,35 @@ module _ (table : List Row) (n : ℕ) where
   abbrev pub Bounded : ℕ → Rest → Type 0
   Bounded a rest = (counts : List ℕ) (s : OperatorModel) (items : List Taken) → (ahead table (rest counts) s items).turns ≤ a + n * length items
 
-  asked_turns : (r : Result FieldSpec TurnRefusal) (go : Taken → List Taken → NextTurn) (items : List Taken) (a : ℕ) → ((t : Taken) (more : List Taken) → (go t more).turns ≤ a + n * length more) → (asked r go items).turns ≤ 1 + (a - n) + n * length items
+  asked_turns : (r : Result FieldSpec TurnRefusal) (go : Taken → List Taken → NextTurn) (items : List Taken) (a : ℕ) → ((t : Taken) (more : List Taken) → (go t more).turns ≤ a + n * length more)
+      → (asked r go items).turns ≤ 1 + (a - n) + n * length items
   asked_turns (Err why) go items a h = omega arith
   asked_turns (Ok spec) go [] a h = omega arith
   asked_turns (Ok spec) go (t ∷ items) a h = omega (arith, h t items)
 
-  operated_turns : (r : Result OperatorModel TurnRefusal) (go : OperatorModel → NextTurn) (items : List Taken) (a : ℕ) → ((s : OperatorModel) → (go s).turns ≤ a + n * length items) → (operated r go).turns ≤ 1 + a + n * length items
+  operated_turns : (r : Result OperatorModel TurnRefusal) (go : OperatorModel → NextTurn) (items : List Taken) (a : ℕ) → ((s : OperatorModel) → (go s).turns ≤ a + n * length items)
+      → (operated r go).turns ≤ 1 + a + n * length items
   operated_turns (Err why) go items a h = omega arith
   operated_turns (Ok s) go items a h = omega (arith, h s)
 
   -- an operator, or a text of the template
-  operator_turns : (fxy : ℕ) (s : OperatorModel) (next : Turns) (items : List Taken) (a : ℕ) → ((s' : OperatorModel) (more : List Taken) → (ahead table next s' more).turns ≤ a + n * length more) → (ahead table (operator_turn fxy next) s items).turns ≤ 1 + a + n * length items
+  operator_turns : (fxy : ℕ) (s : OperatorModel) (next : Turns) (items : List Taken) (a : ℕ) → ((s' : OperatorModel) (more : List Taken) → (ahead table next s' more).turns ≤ a + n * length more)
+      → (ahead table (operator_turn fxy next) s items).turns ≤ 1 + a + n * length items
   operator_turns fxy s next items a h = by (is_inserted_text fxy)
     where
-      by : (b : Bool) → (if b then asked (inserted_spec s fxy) (λ t more. ahead table next (after_field s fxy t) more) items else operated (after_operator s fxy) (λ s'. ahead table next s' items)).turns ≤ 1 + a + n * length items
+      by : (b : Bool) → (if b then asked (inserted_spec s fxy) (λ t more. ahead table next (after_field s fxy t) more) items else operated (after_operator s fxy)
+          (λ s'. ahead table next s' items)).turns ≤ 1 + a + n * length items
       by true = omega (arith, asked_turns (inserted_spec s fxy) (λ t more. ahead table next (after_field s fxy t) more) items a (λ t more. h (after_field s fxy t) more))
       by false = operated_turns (after_operator s fxy) (λ s'. ahead table next s' items) items a (λ s'. h s' items)
 
-  operator_pays : (fxy : ℕ) (suffix : Bool) (s : OperatorModel) (next : Turns) (items : List Taken) (a z : ℕ) → a - n ≤ z → ((s' : OperatorModel) (more : List Taken) → (ahead table next s' more).turns ≤ a + n * length more) → (suffix ≡ true → (s' : OperatorModel) → (ahead table next s' items).turns ≤ z + n * length items) → (is_inserted_text fxy || suffix) ≡ true
+  operator_pays : (fxy : ℕ) (suffix : Bool) (s : OperatorModel) (next : Turns) (items : List Taken) (a z : ℕ) → a - n ≤ z
+      → ((s' : OperatorModel) (more : List Taken) → (ahead table next s' more).turns ≤ a + n * length more)
+      → (suffix ≡ true → (s' : OperatorModel) → (ahead table next s' items).turns ≤ z + n * length items) → (is_inserted_text fxy || suffix) ≡ true
       → (ahead table (operator_turn fxy next) s items).turns ≤ 1 + z + n * length items
   operator_pays fxy suffix s next items a z near h g c = by (is_inserted_text fxy) c
     where
-      by : (b : Bool) → (b || suffix) ≡ true → (if b then asked (inserted_spec s fxy) (λ t more. ahead table next (after_field s fxy t) more) items else operated (after_operator s fxy) (λ s'. ahead table next s' items)).turns ≤ 1 + z + n * length items
+      by : (b : Bool) → (b || suffix) ≡ true → (if b then asked (inserted_spec s fxy) (λ t more. ahead table next (after_field s fxy t) more) items else operated (after_operator s fxy)
+          (λ s'. ahead table next s' items)).turns ≤ 1 + z + n * length items
       by true q = omega (arith, near, asked_turns (inserted_spec s fxy) (λ t more. ahead table next (after_field s fxy t) more) items a (λ t more. h (after_field s fxy t) more))
       by false q = operated_turns (after_operator s fxy) (λ s'. ahead table next s' items) items z (λ s'. g q s')
 
@@ -44,69 +51,110 @@ module _ (table : List Row) (n : ℕ) where
   passes_some : (body : Tree) → 1 + size body ≤ n → Pays body → (k a : ℕ) (rest : Rest) → Bounded a rest → Bounded (size body + ((1 + a) - n)) (passes (suc k) (unroll body) rest)
   passes_some body h pays zero a rest b = pays (1 + a) (λ later_counts. pass_end (rest later_counts)) (λ counts s items. omega (arith, b counts s items))
   passes_some body h pays (suc k) a rest b = λ counts s items.
-      omega (arith, pays (1 + (size body + ((1 + a) - n))) (λ later_counts. pass_end (passes (suc k) (unroll body) rest later_counts)) (λ counts' s' items'. omega (arith, passes_some body h pays k a rest b counts' s' items')) counts s items)
+      omega (
+        arith,
+        pays (1 + (size body + ((1 + a) - n))) (λ later_counts. pass_end (passes (suc k) (unroll body) rest later_counts))
+            (λ counts' s' items'. omega (arith, passes_some body h pays k a rest b counts' s' items')) counts s items,
+      )
 
   passes_any : (body : Tree) → 1 + size body ≤ n → Pays body → (k a : ℕ) (rest : Rest) → Bounded a rest → Bounded (size body + a) (passes k (unroll body) rest)
   passes_any body h pays zero a rest b = λ counts s items. omega (arith, b counts s items)
   passes_any body h pays (suc k) a rest b = λ counts s items. omega (arith, passes_some body h pays k a rest b counts s items)
 
-  delayed_turns : (fxy : ℕ) (body more : Tree) (rest : Rest) (a : ℕ) → ((c : ℕ) → Bounded (size body + (size more + a)) (passes c (unroll body) (unroll more rest))) → (counts : List ℕ) (s : OperatorModel) (items : List Taken) → (ahead table (unroll (delayed fxy body more) rest counts) s items).turns ≤ 3 + size body + size more + (a - n) + n * length items
+  delayed_turns : (fxy : ℕ) (body more : Tree) (rest : Rest) (a : ℕ) → ((c : ℕ) → Bounded (size body + (size more + a)) (passes c (unroll body) (unroll more rest)))
+      → (counts : List ℕ) (s : OperatorModel) (items : List Taken) → (ahead table (unroll (delayed fxy body more) rest counts) s items).turns ≤ 3 + size body + size more + (a - n) + n * length items
   delayed_turns fxy body more rest a h [] s items =
       omega (arith, asked_turns (factor_spec table s fxy) (λ t more_items. stop astray) items 1 (λ t more_items. omega arith))
   delayed_turns fxy body more rest a h (c ∷ counts) s items =
-      omega (arith, asked_turns (factor_spec table s fxy) (λ t more_items. ahead table (passes c (unroll body) (unroll more rest) counts) (after_field s fxy t) more_items) items (size body + (size more + a)) (λ t more_items. h c counts (after_field s fxy t) more_items))
+      omega (
+        arith,
+        asked_turns (factor_spec table s fxy) (λ t more_items. ahead table (passes c (unroll body) (unroll more rest) counts) (after_field s fxy t) more_items) items
+            (size body + (size more + a)) (λ t more_items. h c counts (after_field s fxy t) more_items),
+      )
 
   mutual
     pub bounded : (t : Tree) → size t < n → EveryGroupConsumes t → (a : ℕ) (rest : Rest) → Bounded a rest → Bounded (size t + a) (unroll t rest)
     bounded bare h g a rest b = λ counts s items. omega (arith, b counts s items)
     bounded (element fxy more) h g a rest b = λ counts s items.
-        omega (arith, asked_turns (element_spec table s fxy) (λ t more_items. ahead table (unroll more rest counts) (after_field s fxy t) more_items) items (size more + a) (λ t more_items. bounded more (omega arith) g a rest b counts (after_field s fxy t) more_items))
+        omega (
+          arith,
+          asked_turns (element_spec table s fxy) (λ t more_items. ahead table (unroll more rest counts) (after_field s fxy t) more_items) items (size more + a)
+              (λ t more_items. bounded more (omega arith) g a rest b counts (after_field s fxy t) more_items),
+        )
     bounded (operator fxy more) h g a rest b = λ counts s items.
         omega (arith, operator_turns fxy s (unroll more rest counts) items (size more + a) (λ s' answers. bounded more (omega arith) g a rest b counts s' answers))
     bounded (fixed count body more) h g a rest b = λ counts s items.
         omega (arith, passes_any body (omega arith) (pays body (omega arith) g.1.1.0 g.1.0) count (size more + a) (unroll more rest) (bounded more (omega arith) g.1.1.1 a rest b) counts s items)
     bounded (delayed fxy body more) h g a rest b = λ counts s items.
-        omega (arith, delayed_turns fxy body more rest a (λ c. passes_any body (omega arith) (pays body (omega arith) g.1.0 g.0) c (size more + a) (unroll more rest) (bounded more (omega arith) g.1.1 a rest b)) counts s items)
+        omega (
+          arith,
+          delayed_turns fxy body more rest a (λ c. passes_any body (omega arith) (pays body (omega arith) g.1.0 g.0) c (size more + a) (unroll more rest)
+              (bounded more (omega arith) g.1.1 a rest b)) counts s items,
+        )
 
     pub pays : (t : Tree) → size t < n → EveryGroupConsumes t → consumes t ≡ true → Pays t
     pays bare h g c a rest b = cc
     pays (element fxy more) h g c a rest b = λ counts s items.
-        omega (arith, asked_turns (element_spec table s fxy) (λ t more_items. ahead table (unroll more rest counts) (after_field s fxy t) more_items) items (size more + a) (λ t more_items. bounded more (omega arith) g a rest b counts (after_field s fxy t) more_items))
+        omega (
+          arith,
+          asked_turns (element_spec table s fxy) (λ t more_items. ahead table (unroll more rest counts) (after_field s fxy t) more_items) items (size more + a)
+              (λ t more_items. bounded more (omega arith) g a rest b counts (after_field s fxy t) more_items),
+        )
     pays (operator fxy more) h g c a rest b = λ counts s items.
-        omega (arith, operator_pays fxy (consumes more) s (unroll more rest counts) items (size more + a) (size more + (a - n)) (omega arith) (λ s' answers. bounded more (omega arith) g a rest b counts s' answers) (λ c' s'. pays more (omega arith) g c' a rest b counts s' items) c)
+        omega (
+          arith,
+          operator_pays fxy (consumes more) s (unroll more rest counts) items (size more + a) (size more + (a - n)) (omega arith)
+              (λ s' answers. bounded more (omega arith) g a rest b counts s' answers) (λ c' s'. pays more (omega arith) g c' a rest b counts s' items) c,
+        )
     pays (fixed zero body more) h g c a rest b = absurd (omega arith)
     pays (fixed (suc k) body more) h g c a rest b = λ counts s items.
         omega (arith, passes_some body (omega arith) (pays body (omega arith) g.1.1.0 g.1.0) k (size more + a) (unroll more rest) (bounded more (omega arith) g.1.1.1 a rest b) counts s items)
     pays (delayed fxy body more) h g c a rest b = λ counts s items.
-        omega (arith, delayed_turns fxy body more rest a (λ j. passes_any body (omega arith) (pays body (omega arith) g.1.0 g.0) j (size more + a) (unroll more rest) (bounded more (omega arith) g.1.1 a rest b)) counts s items)
+        omega (
+          arith,
+          delayed_turns fxy body more rest a (λ j. passes_any body (omega arith) (pays body (omega arith) g.1.0 g.0) j (size more + a) (unroll more rest)
+              (bounded more (omega arith) g.1.1 a rest b)) counts s items,
+        )
 
   -- the same where the walk comes to its end, with `d` turns to spare
   abbrev pub Ends : ℕ → ℕ → Rest → Type 0
   Ends d a rest = (counts : List ℕ) (s : OperatorModel) (items : List Taken) → (ahead table (rest counts) s items).next ≡ at_end → (ahead table (rest counts) s items).turns + d ≤ a + n * length items
 
-  asked_end : (r : Result FieldSpec TurnRefusal) (go : Taken → List Taken → NextTurn) (items : List Taken) (d a : ℕ) → ((t : Taken) (more : List Taken) → (go t more).next ≡ at_end → (go t more).turns + d ≤ a + n * length more) → (asked r go items).next ≡ at_end → (asked r go items).turns + d + n ≤ 1 + a + n * length items
+  asked_end : (r : Result FieldSpec TurnRefusal) (go : Taken → List Taken → NextTurn) (items : List Taken) (d a : ℕ)
+      → ((t : Taken) (more : List Taken) → (go t more).next ≡ at_end → (go t more).turns + d ≤ a + n * length more) → (asked r go items).next ≡ at_end
+      → (asked r go items).turns + d + n ≤ 1 + a + n * length items
   asked_end (Err why) go items d a h e = cc
   asked_end (Ok spec) go [] d a h e = cc
   asked_end (Ok spec) go (t ∷ items) d a h e = omega (arith, h t items e)
 
-  operated_end : (r : Result OperatorModel TurnRefusal) (go : OperatorModel → NextTurn) (items : List Taken) (d a : ℕ) → ((s : OperatorModel) → (go s).next ≡ at_end → (go s).turns + d ≤ a + n * length items) → (operated r go).next ≡ at_end → (operated r go).turns + d ≤ 1 + a + n * length items
+  operated_end : (r : Result OperatorModel TurnRefusal) (go : OperatorModel → NextTurn) (items : List Taken) (d a : ℕ)
+      → ((s : OperatorModel) → (go s).next ≡ at_end → (go s).turns + d ≤ a + n * length items) → (operated r go).next ≡ at_end → (operated r go).turns + d ≤ 1 + a + n * length items
   operated_end (Err why) go items d a h e = cc
   operated_end (Ok s) go items d a h e = omega (arith, h s e)
 
-  operator_end : (fxy : ℕ) (s : OperatorModel) (next : Turns) (items : List Taken) (d a : ℕ) → ((s' : OperatorModel) (more : List Taken) → (ahead table next s' more).next ≡ at_end → (ahead table next s' more).turns + d ≤ a + n * length more) → (ahead table (operator_turn fxy next) s items).next ≡ at_end → (ahead table (operator_turn fxy next) s items).turns + d ≤ 1 + a + n * length items
+  operator_end : (fxy : ℕ) (s : OperatorModel) (next : Turns) (items : List Taken) (d a : ℕ)
+      → ((s' : OperatorModel) (more : List Taken) → (ahead table next s' more).next ≡ at_end → (ahead table next s' more).turns + d ≤ a + n * length more)
+      → (ahead table (operator_turn fxy next) s items).next ≡ at_end → (ahead table (operator_turn fxy next) s items).turns + d ≤ 1 + a + n * length items
   operator_end fxy s next items d a h e = by (is_inserted_text fxy) e
     where
-      by : (b : Bool) → (if b then asked (inserted_spec s fxy) (λ t more. ahead table next (after_field s fxy t) more) items else operated (after_operator s fxy) (λ s'. ahead table next s' items)).next ≡ at_end
-          → (if b then asked (inserted_spec s fxy) (λ t more. ahead table next (after_field s fxy t) more) items else operated (after_operator s fxy) (λ s'. ahead table next s' items)).turns + d ≤ 1 + a + n * length items
+      by : (b : Bool) → (if b then asked (inserted_spec s fxy) (λ t more. ahead table next (after_field s fxy t) more) items else operated (after_operator s fxy)
+          (λ s'. ahead table next s' items)).next ≡ at_end
+          → (if b then asked (inserted_spec s fxy) (λ t more. ahead table next (after_field s fxy t) more) items else operated (after_operator s fxy) (λ s'. ahead table next s' items)).turns + d
+          ≤ 1 + a + n * length items
       by true q = omega (arith, asked_end (inserted_spec s fxy) (λ t more. ahead table next (after_field s fxy t) more) items d a (λ t more w. h (after_field s fxy t) more w) q)
       by false q = operated_end (after_operator s fxy) (λ s'. ahead table next s' items) items d a (λ s' w. h s' items w) q
 
-  operator_pays_end : (fxy : ℕ) (suffix : Bool) (s : OperatorModel) (next : Turns) (items : List Taken) (d a : ℕ) → ((s' : OperatorModel) (more : List Taken) → (ahead table next s' more).next ≡ at_end → (ahead table next s' more).turns + d ≤ a + n * length more) → (suffix ≡ true → (s' : OperatorModel) → (ahead table next s' items).next ≡ at_end → (ahead table next s' items).turns + (n + d) ≤ a + n * length items)
-      → (is_inserted_text fxy || suffix) ≡ true → (ahead table (operator_turn fxy next) s items).next ≡ at_end → (ahead table (operator_turn fxy next) s items).turns + (n + d) ≤ 1 + a + n * length items
+  operator_pays_end : (fxy : ℕ) (suffix : Bool) (s : OperatorModel) (next : Turns) (items : List Taken) (d a : ℕ)
+      → ((s' : OperatorModel) (more : List Taken) → (ahead table next s' more).next ≡ at_end → (ahead table next s' more).turns + d ≤ a + n * length more)
+      → (suffix ≡ true → (s' : OperatorModel) → (ahead table next s' items).next ≡ at_end → (ahead table next s' items).turns + (n + d) ≤ a + n * length items)
+      → (is_inserted_text fxy || suffix) ≡ true → (ahead table (operator_turn fxy next) s items).next ≡ at_end
+      → (ahead table (operator_turn fxy next) s items).turns + (n + d) ≤ 1 + a + n * length items
   operator_pays_end fxy suffix s next items d a h g c e = by (is_inserted_text fxy) c e
     where
-      by : (b : Bool) → (b || suffix) ≡ true → (if b then asked (inserted_spec s fxy) (λ t more. ahead table next (after_field s fxy t) more) items else operated (after_operator s fxy) (λ s'. ahead table next s' items)).next ≡ at_end
-          → (if b then asked (inserted_spec s fxy) (λ t more. ahead table next (after_field s fxy t) more) items else operated (after_operator s fxy) (λ s'. ahead table next s' items)).turns + (n + d) ≤ 1 + a + n * length items
+      by : (b : Bool) → (b || suffix) ≡ true → (if b then asked (inserted_spec s fxy) (λ t more. ahead table next (after_field s fxy t) more) items else operated (after_operator s fxy)
+          (λ s'. ahead table next s' items)).next ≡ at_end
+          → (if b then asked (inserted_spec s fxy) (λ t more. ahead table next (after_field s fxy t) more) items else operated (after_operator s fxy) (λ s'. ahead table next s' items)).turns +
+          (n + d) ≤ 1 + a + n * length items
       by true p q = omega (arith, asked_end (inserted_spec s fxy) (λ t more. ahead table next (after_field s fxy t) more) items d a (λ t more w. h (after_field s fxy t) more w) q)
       by false p q = operated_end (after_operator s fxy) (λ s'. ahead table next s' items) items (n + d) a (λ s' w. g p s' w) q
 
@@ -116,41 +164,70 @@ module _ (table : List Row) (n : ℕ) where
   some_end : (body : Tree) → 1 + size body ≤ n → PaysAtEnd body → (k d a : ℕ) (rest : Rest) → Ends d a rest → Ends (n + d) (size body + (1 + a)) (passes (suc k) (unroll body) rest)
   some_end body h pays zero d a rest b = pays d (1 + a) (λ later_counts. pass_end (rest later_counts)) (λ counts s items e. omega (arith, b counts s items e))
   some_end body h pays (suc k) d a rest b = λ counts s items e.
-      omega (arith, pays (n + d) (1 + (size body + (1 + a))) (λ later_counts. pass_end (passes (suc k) (unroll body) rest later_counts)) (λ counts' s' items' e'. omega (arith, some_end body h pays k d a rest b counts' s' items' e')) counts s items e)
+      omega (
+        arith,
+        pays (n + d) (1 + (size body + (1 + a))) (λ later_counts. pass_end (passes (suc k) (unroll body) rest later_counts))
+            (λ counts' s' items' e'. omega (arith, some_end body h pays k d a rest b counts' s' items' e')) counts s items e,
+      )
 
   any_end : (body : Tree) → 1 + size body ≤ n → PaysAtEnd body → (k d a : ℕ) (rest : Rest) → Ends d a rest → Ends d (size body + a) (passes k (unroll body) rest)
   any_end body h pays zero d a rest b = λ counts s items e. omega (arith, b counts s items e)
   any_end body h pays (suc k) d a rest b = λ counts s items e. omega (arith, some_end body h pays k d a rest b counts s items e)
 
-  delayed_end : (fxy : ℕ) (body more : Tree) (rest : Rest) (d a : ℕ) → ((c : ℕ) → Ends d (size body + (size more + a)) (passes c (unroll body) (unroll more rest))) → Ends (n + d) (3 + size body + size more + a) (unroll (delayed fxy body more) rest)
+  delayed_end : (fxy : ℕ) (body more : Tree) (rest : Rest) (d a : ℕ) → ((c : ℕ) → Ends d (size body + (size more + a)) (passes c (unroll body) (unroll more rest)))
+      → Ends (n + d) (3 + size body + size more + a) (unroll (delayed fxy body more) rest)
   delayed_end fxy body more rest d a h [] s items e =
       omega (arith, asked_end (factor_spec table s fxy) (λ t more_items. stop astray) items d 1 (λ t more_items w. cc) e)
   delayed_end fxy body more rest d a h (c ∷ counts) s items e =
-      omega (arith, asked_end (factor_spec table s fxy) (λ t more_items. ahead table (passes c (unroll body) (unroll more rest) counts) (after_field s fxy t) more_items) items d (size body + (size more + a)) (λ t more_items w. h c counts (after_field s fxy t) more_items w) e)
+      omega (
+        arith,
+        asked_end (factor_spec table s fxy) (λ t more_items. ahead table (passes c (unroll body) (unroll more rest) counts) (after_field s fxy t) more_items) items d
+            (size body + (size more + a)) (λ t more_items w. h c counts (after_field s fxy t) more_items w) e,
+      )
 
   mutual
     pub ended : (t : Tree) → size t < n → EveryGroupConsumes t → (d a : ℕ) (rest : Rest) → Ends d a rest → Ends d (size t + a) (unroll t rest)
     ended bare h g d a rest b = λ counts s items e. omega (arith, b counts s items e)
     ended (element fxy more) h g d a rest b = λ counts s items e.
-        omega (arith, asked_end (element_spec table s fxy) (λ t more_items. ahead table (unroll more rest counts) (after_field s fxy t) more_items) items d (size more + a) (λ t more_items w. ended more (omega arith) g d a rest b counts (after_field s fxy t) more_items w) e)
+        omega (
+          arith,
+          asked_end (element_spec table s fxy) (λ t more_items. ahead table (unroll more rest counts) (after_field s fxy t) more_items) items d (size more + a)
+              (λ t more_items w. ended more (omega arith) g d a rest b counts (after_field s fxy t) more_items w) e,
+        )
     ended (operator fxy more) h g d a rest b = λ counts s items e.
         omega (arith, operator_end fxy s (unroll more rest counts) items d (size more + a) (λ s' answers w. ended more (omega arith) g d a rest b counts s' answers w) e)
     ended (fixed count body more) h g d a rest b = λ counts s items e.
         omega (arith, any_end body (omega arith) (pays_end body (omega arith) g.1.1.0 g.1.0) count d (size more + a) (unroll more rest) (ended more (omega arith) g.1.1.1 d a rest b) counts s items e)
     ended (delayed fxy body more) h g d a rest b = λ counts s items e.
-        omega (arith, delayed_end fxy body more rest d a (λ c. any_end body (omega arith) (pays_end body (omega arith) g.1.0 g.0) c d (size more + a) (unroll more rest) (ended more (omega arith) g.1.1 d a rest b)) counts s items e)
+        omega (
+          arith,
+          delayed_end fxy body more rest d a (λ c. any_end body (omega arith) (pays_end body (omega arith) g.1.0 g.0) c d (size more + a) (unroll more rest)
+              (ended more (omega arith) g.1.1 d a rest b)) counts s items e,
+        )
 
     pub pays_end : (t : Tree) → size t < n → EveryGroupConsumes t → consumes t ≡ true → PaysAtEnd t
     pays_end bare h g c d a rest b = cc
     pays_end (element fxy more) h g c d a rest b = λ counts s items e.
-        omega (arith, asked_end (element_spec table s fxy) (λ t more_items. ahead table (unroll more rest counts) (after_field s fxy t) more_items) items d (size more + a) (λ t more_items w. ended more (omega arith) g d a rest b counts (after_field s fxy t) more_items w) e)
+        omega (
+          arith,
+          asked_end (element_spec table s fxy) (λ t more_items. ahead table (unroll more rest counts) (after_field s fxy t) more_items) items d (size more + a)
+              (λ t more_items w. ended more (omega arith) g d a rest b counts (after_field s fxy t) more_items w) e,
+        )
     pays_end (operator fxy more) h g c d a rest b = λ counts s items e.
-        omega (arith, operator_pays_end fxy (consumes more) s (unroll more rest counts) items d (size more + a) (λ s' answers w. ended more (omega arith) g d a rest b counts s' answers w) (λ c' s' w. pays_end more (omega arith) g c' d a rest b counts s' items w) c e)
+        omega (
+          arith,
+          operator_pays_end fxy (consumes more) s (unroll more rest counts) items d (size more + a) (λ s' answers w. ended more (omega arith) g d a rest b counts s' answers w)
+              (λ c' s' w. pays_end more (omega arith) g c' d a rest b counts s' items w) c e,
+        )
     pays_end (fixed zero body more) h g c d a rest b = absurd (omega arith)
     pays_end (fixed (suc k) body more) h g c d a rest b = λ counts s items e.
         omega (arith, some_end body (omega arith) (pays_end body (omega arith) g.1.1.0 g.1.0) k d (size more + a) (unroll more rest) (ended more (omega arith) g.1.1.1 d a rest b) counts s items e)
     pays_end (delayed fxy body more) h g c d a rest b = λ counts s items e.
-        omega (arith, delayed_end fxy body more rest d a (λ j. any_end body (omega arith) (pays_end body (omega arith) g.1.0 g.0) j d (size more + a) (unroll more rest) (ended more (omega arith) g.1.1 d a rest b)) counts s items e)
+        omega (
+          arith,
+          delayed_end fxy body more rest d a (λ j. any_end body (omega arith) (pays_end body (omega arith) g.1.0 g.0) j d (size more + a) (unroll more rest)
+              (ended more (omega arith) g.1.1 d a rest b)) counts s items e,
+        )
 
 -- up to any next: at most n turns for each item, and n more
 pub turns_before : (table : List Row) (t : Tree) (answers : List Taken) → IsSound t → (next_item table t answers).turns ≤ places t * (length answers + 1)
@@ -183,15 +260,19 @@ module _ {S E : Type 0} (takes : S → FieldSpec → Result Taken E → S → Ty
   pub steps_ok : (table : List Row) (t : Tree) (s : S) (c : ℕ) (s' : S) (c' : ℕ) → IsSound t → Walked takes (next_item table t) s c (Ok tt) s' c' → c' ≤ c + places t * (used s' - used s)
   steps_ok table t s c s' c' sound w =
       let paid : used s + length w.0 ≤ used s' = items_used (next_item table t) s w.0 s' w.1 in
-      let turns : (next_item table t (answers_of w.0)).turns ≤ places t * length w.0 = subst (λ k. (next_item table t (answers_of w.0)).turns ≤ places t * k) (answer_length w.0) (turns_in_all table t (answers_of w.0) sound w.2) in
+      let turns : (next_item table t (answers_of w.0)).turns ≤ places t * length w.0 =
+      subst (λ k. (next_item table t (answers_of w.0)).turns ≤ places t * k) (answer_length w.0) (turns_in_all table t (answers_of w.0) sound w.2) in
       let bits : places t * length w.0 ≤ places t * (used s' - used s) = by_bits (places t) (used s) (used s') (length w.0) paid in
       ticks_at_most c (next_item table t (answers_of w.0)).turns c' _ w.3 (omega (arith, turns, bits))
 
-  pub steps_err : (table : List Row) (t : Tree) (s : S) (c : ℕ) (why : WalkStop E) (s' : S) (c' : ℕ) → IsSound t → Walked takes (next_item table t) s c (Err why) s' c' → c' ≤ c + places t * (used s' - used s + 1)
+  pub steps_err : (table : List Row) (t : Tree) (s : S) (c : ℕ) (why : WalkStop E) (s' : S) (c' : ℕ) → IsSound t → Walked takes (next_item table t) s c (Err why) s' c'
+      → c' ≤ c + places t * (used s' - used s + 1)
   steps_err table t s c why s' c' sound w =
-      let same : used w.1 ≤ used s' = stop_cases takes (λ next y. used w.1 ≤ used s') w.1 s' (λ spec e h. omega (arith, refuses w.1 spec e s' h)) (λ spec r h. omega (arith, ap used h)) (λ x h. omega (arith, ap used h)) (next_item table t (answers_of w.0)).next why w.3 in
+      let same : used w.1 ≤ used s' = stop_cases takes (λ next y. used w.1 ≤ used s') w.1 s' (λ spec e h. omega (arith, refuses w.1 spec e s' h)) (λ spec r h. omega (arith, ap used h))
+      (λ x h. omega (arith, ap used h)) (next_item table t (answers_of w.0)).next why w.3 in
       let paid : used s + length w.0 ≤ used w.1 = items_used (next_item table t) s w.0 w.1 w.2 in
-      let turns : (next_item table t (answers_of w.0)).turns ≤ places t * (length w.0 + 1) = subst (λ k. (next_item table t (answers_of w.0)).turns ≤ places t * (k + 1)) (answer_length w.0) (turns_before table t (answers_of w.0) sound) in
+      let turns : (next_item table t (answers_of w.0)).turns ≤ places t * (length w.0 + 1) =
+      subst (λ k. (next_item table t (answers_of w.0)).turns ≤ places t * (k + 1)) (answer_length w.0) (turns_before table t (answers_of w.0) sound) in
       let bits : places t * (length w.0 + 1) ≤ places t * (used s' - used s + 1) = mul-le-mul_left (places t) (let h : length w.0 + 1 ≤ used s' - used s + 1 = omega (arith, same, paid) in h) in
       ticks_at_most c (next_item table t (answers_of w.0)).turns c' _ w.4 (omega (arith, turns, bits))
 
@@ -210,7 +291,12 @@ called_subsets : (table : List Row) (course : Course) (before number : ℕ) (sub
 called_subsets table course before number [] = refl
 called_subsets table course before number (items ∷ subsets) =
     let suffix : List Timed = subset_calls table course (before + turns_after plain course items) (number + 1) subsets in
-    omega (arith, called_more (item_calls table before course items) suffix, called_items table before course items, called_subsets table course (before + turns_after plain course items) (number + 1) subsets)
+    omega (
+      arith,
+      called_more (item_calls table before course items) suffix,
+      called_items table before course items,
+      called_subsets table course (before + turns_after plain course items) (number + 1) subsets,
+    )
 
 called_together : (table : List Row) (j : ℕ) (items : List (Item (List Content))) → items_called (compressed_item_calls table j items) ≡ length items
 called_together table j [] = refl
@@ -223,7 +309,8 @@ called_all table (suc n) j items =
     let more : length items * suc n ≡ length items + length items * n = grind arith in
     omega (arith, more, called_more (compressed_item_calls table j items) suffix, called_together table j items, called_all table n (j + 1) items)
 
-packed_few : (table : List Row) (n used : ℕ) (course : Course) (items : List (Item (List Content))) (bits suffix : List Bool) → IsPackedReading n course items bits suffix → length items * n ≤ max_values
+packed_few : (table : List Row) (n used : ℕ) (course : Course) (items : List (Item (List Content))) (bits suffix : List Bool) → IsPackedReading n course items bits suffix
+    → length items * n ≤ max_values
 packed_few table zero used course items bits suffix h = omega arith
 packed_few table (suc n) used course items bits suffix h = h.1
 
@@ -231,7 +318,7 @@ packed_few table (suc n) used course items bits suffix h = h.1
 pub few_items : (r : Read) (k : StoredItems) → IsStoredReading r k → items_called (calls_of r) ≤ max_values
 few_items r k h = by (values_read r) h.reading h.pays
   where
-    by : (v : Values) → IsReading (course_of r) r.source v r.bits → PaysBits v r.bits → items_called (calls_by r v) ≤ max_values
+    by : (v : Values) → IsReading (course_of r) r.source v r.bits → PaysBits v r.bits → items_called (calls_for r v) ≤ max_values
     by (apart xs) g p = omega (arith, called_subsets r.table (course_of r) 0 1 xs, p, h.short)
     by (together xs) g p = omega (arith, called_all r.table r.source.subsets 0 xs, packed_few r.table r.source.subsets r.bits (course_of r) xs r.source.bits (drop r.bits r.source.bits) g.2)
 
@@ -247,7 +334,8 @@ within_more most (t ∷ a) b h g = (h.0, within_more most a b h.1 g)
 ticked_most : (t most steps : ℕ) → steps ≡ ticked 0 t → t ≤ most → steps ≤ most
 ticked_most t most steps e h = omega (arith, e, h)
 
-shows_within : {S E : Type 0} (sees : S → Call → Result (Unit {0}) E → S → Type 0) (most : ℕ) (s : S) (calls : List Timed) (turns : ℕ) (r : Result (Unit {0}) (ShowFault E)) (s' : S) (steps : ℕ) → Shows sees s calls turns r s' steps → turns ≤ most → AllWithin most calls → steps ≤ most
+shows_within : {S E : Type 0} (sees : S → Call → Result (Unit {0}) E → S → Type 0) (most : ℕ) (s : S) (calls : List Timed) (turns : ℕ) (r : Result (Unit {0}) (ShowFault E)) (s' : S) (steps : ℕ)
+    → Shows sees s calls turns r s' steps → turns ≤ most → AllWithin most calls → steps ≤ most
 shows_within sees most s [] turns (Ok u) s' steps h t g = ticked_most turns most steps h.1 t
 shows_within sees most s [] turns (Err why) s' steps h t g = absurd h
 shows_within sees most s (c ∷ calls) turns (Ok u) s' steps h t g = shows_within sees most h.0 calls turns (Ok tt) s' steps h.2 t g.1
@@ -281,11 +369,14 @@ split n a b = grind arith
 mono : (n a b : ℕ) → a ≤ b → n * a ≤ n * b
 mono n a b h = mul-le-mul_left n h
 
-items_within : (n most : ℕ) (table : List Row) (before paid done : ℕ) (course : Course) (items : List (Item Content)) → TurnsWithin n done course → before ≤ n * paid → n * (paid + (done + length items)) ≤ most → AllWithin most (item_calls table before course items)
+items_within : (n most : ℕ) (table : List Row) (before paid done : ℕ) (course : Course) (items : List (Item Content)) → TurnsWithin n done course → before ≤ n * paid
+    → n * (paid + (done + length items)) ≤ most → AllWithin most (item_calls table before course items)
 items_within n most table before paid done course [] h b m = tt
 items_within n most table before paid done course (i ∷ items) h b m = (
   omega (arith, h [], b, m, split n paid (done + 0 + 1), mono n (paid + (done + 0 + 1)) (paid + (done + suc (length items))) (omega arith)),
-  items_within n most table before paid (done + 1) (after plain course i) items (λ answers. subst (λ k. (course (item_answer plain i ∷ answers)).turns ≤ n * k) (counted done (length answers)) (h (item_answer plain i ∷ answers))) b (subst (λ k. n * (paid + k) ≤ most) (moved done (length items)) m),
+  items_within n most table before paid (done + 1) (after plain course i) items
+      (λ answers. subst (λ k. (course (item_answer plain i ∷ answers)).turns ≤ n * k) (counted done (length answers)) (h (item_answer plain i ∷ answers))) b
+      (subst (λ k. n * (paid + k) ≤ most) (moved done (length items)) m),
 )
   where
     counted : (d l : ℕ) → d + suc l + 1 ≡ d + 1 + l + 1
@@ -294,18 +385,24 @@ items_within n most table before paid done course (i ∷ items) h b m = (
     moved : (d l : ℕ) → d + suc l ≡ d + 1 + l
     moved d l = omega arith
 
-subsets_within : (most : ℕ) (table : List Row) (template : Tree) (before paid number : ℕ) (subsets : List (List (Item Content))) (bits suffix : List Bool) → IsSound template → ReadsSubsets (next_item table template) subsets bits suffix → before ≤ places template * paid → places template * (paid + items_in subsets) ≤ most → AllWithin most (subset_calls table (next_item table template) before number subsets) × (before + turns_in (next_item table template) subsets ≤ most)
+subsets_within : (most : ℕ) (table : List Row) (template : Tree) (before paid number : ℕ) (subsets : List (List (Item Content))) (bits suffix : List Bool) → IsSound template
+    → ReadsSubsets (next_item table template) subsets bits suffix → before ≤ places template * paid → places template * (paid + items_in subsets) ≤ most
+    → AllWithin most (subset_calls table (next_item table template) before number subsets) × (before + turns_in (next_item table template) subsets ≤ most)
 subsets_within most table template before paid number [] bits suffix sound h b m = (tt, omega (arith, b, m, mono (places template) paid (paid + 0) (omega arith)))
 subsets_within most table template before paid number (items ∷ subsets) bits suffix sound h b m =
     let n : ℕ = places template in
     let course : Course = next_item table template in
-    let turns : turns_after plain course items ≤ n * length items = subst (λ k. turns_after plain course items ≤ n * k) (gives_length items) (subst (λ k. k ≤ n * length (answers_all items)) (sym (turns_are course items)) (turns_in_all table template (answers_all items) sound (sym (next_is course items) ∙ h.1.1))) in
+    let turns : turns_after plain course items ≤ n * length items =
+    subst (λ k. turns_after plain course items ≤ n * k) (gives_length items)
+    (subst (λ k. k ≤ n * length (answers_all items)) (sym (turns_are course items)) (turns_in_all table template (answers_all items) sound (sym (next_is course items) ∙ h.1.1))) in
     let more : before + turns_after plain course items ≤ n * (paid + length items) = omega (arith, b, turns, split n paid (length items)) in
-    let rest = subsets_within most table template (before + turns_after plain course items) (paid + length items) (number + 1) subsets h.0 suffix sound h.2 more (subst (λ k. n * k ≤ most) (moved paid (length items) (items_in subsets)) m) in (
+    let rest = subsets_within most table template (before + turns_after plain course items) (paid + length items) (number + 1) subsets h.0 suffix sound h.2 more
+    (subst (λ k. n * k ≤ most) (moved paid (length items) (items_in subsets)) m) in (
       (
         omega (arith, b, m, mono n paid (paid + (length items + items_in subsets)) (omega arith)),
         within_more most (item_calls table before course items) (subset_calls table course (before + turns_after plain course items) (number + 1) subsets)
-            (items_within n most table before paid 0 course items (λ answers. subst (λ k. (course answers).turns ≤ n * k) (zeroed (length answers)) (turns_before table template answers sound)) b (omega (arith, m, mono n (paid + (0 + length items)) (paid + (length items + items_in subsets)) (omega arith)))) rest.0,
+            (items_within n most table before paid 0 course items (λ answers. subst (λ k. (course answers).turns ≤ n * k) (zeroed (length answers)) (turns_before table template answers sound)) b
+            (omega (arith, m, mono n (paid + (0 + length items)) (paid + (length items + items_in subsets)) (omega arith)))) rest.0,
       ),
       omega (arith, rest.1),
     )
@@ -318,19 +415,27 @@ subsets_within most table template before paid number (items ∷ subsets) bits s
 
 together_within : (most : ℕ) (table : List Row) (n j : ℕ) (items : List (Item (List Content))) → AllWithin most (compressed_subset_calls table n j items)
 together_within most table zero j items = tt
-together_within most table (suc n) j items = (omega arith, within_more most (compressed_item_calls table j items) (compressed_subset_calls table n (j + 1) items) (one items) (together_within most table n (j + 1) items))
+together_within most table (suc n) j items = (
+  omega arith,
+  within_more most (compressed_item_calls table j items) (compressed_subset_calls table n (j + 1) items) (one items)
+      (together_within most table n (j + 1) items),
+)
   where
     one : (items : List (Item (List Content))) → AllWithin most (compressed_item_calls table j items)
     one [] = tt
     one (i ∷ items) = (omega arith, one items)
 
 -- the steps of a showing
-pub steps_within : {S E : Type 0} (sees : S → Call → Result (Unit {0}) E → S → Type 0) (r : Read) (k : StoredItems) (s s' : S) (result : Result (Unit {0}) (ShowFault E)) (steps : ℕ) → IsSound r.template → IsStoredReading r k
+pub steps_within : {S E : Type 0} (sees : S → Call → Result (Unit {0}) E → S → Type 0) (r : Read) (k : StoredItems) (s s' : S) (result : Result (Unit {0}) (ShowFault E)) (steps : ℕ)
+    → IsSound r.template → IsStoredReading r k
     → Shows sees s (calls_of r) (turns_shown r) result s' steps → steps ≤ places r.template * r.bits
 steps_within sees r k s s' result steps sound h shows = by (values_read r) h.reading h.pays shows
   where
-    by : (values : Values) → IsReading (course_of r) r.source values r.bits → PaysBits values r.bits → Shows sees s (calls_by r values) (turns_by r values) result s' steps → steps ≤ places r.template * r.bits
+    by : (values : Values) → IsReading (course_of r) r.source values r.bits → PaysBits values r.bits → Shows sees s (calls_for r values) (turns_for r values) result s' steps
+        → steps ≤ places r.template * r.bits
     by (apart subsets) g p w =
-        let all = subsets_within (places r.template * r.bits) r.table r.template 0 0 1 subsets r.source.bits (drop r.bits r.source.bits) sound g.2.0 (omega arith) (mono (places r.template) (0 + items_in subsets) r.bits (omega (arith, p))) in
-        shows_within sees (places r.template * r.bits) s (calls_by r (apart subsets)) (turns_by r (apart subsets)) result s' steps w (omega (arith, all.1)) all.0
-    by (together items) g p w = shows_within sees (places r.template * r.bits) s (calls_by r (together items)) (turns_by r (together items)) result s' steps w (omega arith) (together_within (places r.template * r.bits) r.table r.source.subsets 0 items)
+        let all = subsets_within (places r.template * r.bits) r.table r.template 0 0 1 subsets r.source.bits (drop r.bits r.source.bits) sound g.2.0 (omega arith)
+        (mono (places r.template) (0 + items_in subsets) r.bits (omega (arith, p))) in
+        shows_within sees (places r.template * r.bits) s (calls_for r (apart subsets)) (turns_for r (apart subsets)) result s' steps w (omega (arith, all.1)) all.0
+    by (together items) g p w = shows_within sees (places r.template * r.bits) s (calls_for r (together items)) (turns_for r (together items)) result s' steps w (omega arith)
+        (together_within (places r.template * r.bits) r.table r.source.subsets 0 items)

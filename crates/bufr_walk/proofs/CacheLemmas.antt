@@ -60,7 +60,8 @@ none_defining n h = grind (arith, nat_tests)
 element_plain : (table : List Row) (s : OperatorModel) (fxy : ℕ) (spec : FieldSpec) → s.new_reference_width ≡ 0 → element_spec table s fxy ≡ Ok spec → is_reference spec.role ≡ false
 element_plain table s fxy spec none e =
     let none_is : is_defining s ≡ false = none_defining s.new_reference_width none in
-    element_cases (is_reference spec.role ≡ false) table s fxy spec (λ z row p q. ap is_reference (sym (kind_role row.kind z row spec q))) (λ q. ap is_reference (sym (fitted_role (unsigned_field fxy s.local_width) spec q))) (λ row d q. absurd cc) e
+    element_cases (is_reference spec.role ≡ false) table s fxy spec (λ z row p q. ap is_reference (sym (kind_role row.kind z row spec q)))
+    (λ q. ap is_reference (sym (fitted_role (unsigned_field fxy s.local_width) spec q))) (λ row d q. absurd cc) e
 
 -- no factor is one
 factor_plain : (table : List Row) (s : OperatorModel) (fxy : ℕ) (spec : FieldSpec) → factor_spec table s fxy ≡ Ok spec → is_reference spec.role ≡ false

@@ -47,7 +47,8 @@ asked_first : (r : Result FieldSpec TurnRefusal) (go : Taken → List Taken → 
 asked_first (Ok spec) go = refl
 asked_first (Err why) go = refl
 
-asked_next : (r : Result FieldSpec TurnRefusal) (go : Taken → List Taken → NextTurn) (spec : FieldSpec) (t : Taken) (answers : List Taken) → r ≡ Ok spec → (asked r go (t ∷ answers)).next ≡ (go t answers).next
+asked_next : (r : Result FieldSpec TurnRefusal) (go : Taken → List Taken → NextTurn) (spec : FieldSpec) (t : Taken) (answers : List Taken) → r ≡ Ok spec
+    → (asked r go (t ∷ answers)).next ≡ (go t answers).next
 asked_next (Ok s) go spec t answers e = refl
 asked_next (Err why) go spec t answers e = absurd cc
 
@@ -121,7 +122,8 @@ inserted_steps s fxy spec legal x e = by (is_defining s) e
 module _ (table : List Row) (rows : (fxy : ℕ) (row : Row) → entry_of table fxy ≡ Some row → allows_width row.kind row.width ≡ true) where
   element_steps : (s : OperatorModel) (fxy : ℕ) (spec : FieldSpec) → element_spec table s fxy ≡ Ok spec → IsUncounted spec
   element_steps s fxy spec e =
-      element_cases (IsUncounted spec) table s fxy spec (λ z row p q. kind_steps z row.kind row spec refl (rows fxy row p) q) (λ q. fitted_uncounted (unsigned_field fxy s.local_width) spec refl q) (λ row d q. defined_steps s row.kind fxy spec q) e
+      element_cases (IsUncounted spec) table s fxy spec (λ z row p q. kind_steps z row.kind row spec refl (rows fxy row p) q) (λ q. fitted_uncounted (unsigned_field fxy s.local_width) spec refl q)
+      (λ row d q. defined_steps s row.kind fxy spec q) e
 
   factor_steps : (s : OperatorModel) (fxy : ℕ) (spec : FieldSpec) → factor_spec table s fxy ≡ Ok spec → (1 ≤ spec.width) × (role.Factor ≡ spec.role)
   factor_steps s fxy spec e = by (is_defining s) (entry_of table fxy) e
@@ -132,53 +134,72 @@ module _ (table : List Row) (rows : (fxy : ℕ) (row : Row) → entry_of table f
       by false (Some row) q = let f = fitted (factor_field row fxy) spec q in (f.1, ap (λ z. z.role) f.0)
 
   -- a field that returns no count
-  uncounted_goes : (r : Result FieldSpec TurnRefusal) (s : OperatorModel) (fxy : ℕ) (rest : Rest) → ((spec : FieldSpec) → r ≡ Ok spec → IsUncounted spec) → ((n : ℕ) (s : OperatorModel) → IsSane n (λ answers. ahead table (rest (counts_of answers)) s answers))
+  uncounted_goes : (r : Result FieldSpec TurnRefusal) (s : OperatorModel) (fxy : ℕ) (rest : Rest) → ((spec : FieldSpec) → r ≡ Ok spec → IsUncounted spec)
+      → ((n : ℕ) (s : OperatorModel) → IsSane n (λ answers. ahead table (rest (counts_of answers)) s answers))
       → (n : ℕ) → IsSane n (λ answers. asked r (λ t more. ahead table (rest (counts_of answers)) (after_field s fxy t) more) answers)
   uncounted_goes r s fxy rest good h n =
       field_sane n r (λ answers. asked r (λ t more. ahead table (rest (counts_of answers)) (after_field s fxy t) more) answers) (asked_first r _) (λ spec e. (good spec e).0)
-      (λ spec e t f m. sane_same m (λ answers. ahead table (rest (counts_of answers)) (after_field s fxy t) answers) (λ answers. asked r (λ u more. ahead table (rest (counts_of (t ∷ answers))) (after_field s fxy u) more) (t ∷ answers))
-      (λ answers. sym (asked_next r (λ u more. ahead table (rest (counts_of (t ∷ answers))) (after_field s fxy u) more) spec t answers e ∙ ap (λ cs. (ahead table (rest cs) (after_field s fxy t) answers).next) (no_count spec.role t (counts_of answers) (λ q. absurd (let c : is_counting role.Factor ≡ false = subst (λ z. is_counting z ≡ false) q (good spec e).1 in cc)) f)))
+      (λ spec e t f m. sane_same m (λ answers. ahead table (rest (counts_of answers)) (after_field s fxy t) answers)
+      (λ answers. asked r (λ u more. ahead table (rest (counts_of (t ∷ answers))) (after_field s fxy u) more) (t ∷ answers))
+      (λ answers. sym (asked_next r (λ u more. ahead table (rest (counts_of (t ∷ answers))) (after_field s fxy u) more) spec t answers e
+      ∙ ap (λ cs. (ahead table (rest cs) (after_field s fxy t) answers).next)
+      (no_count spec.role t (counts_of answers) (λ q. absurd (let c : is_counting role.Factor ≡ false = subst (λ z. is_counting z ≡ false) q (good spec e).1 in cc)) f)))
       (h m (after_field s fxy t)))
 
-  operated_goes : (r : Result OperatorModel TurnRefusal) (rest : Rest) → ((n : ℕ) (s : OperatorModel) → IsSane n (λ answers. ahead table (rest (counts_of answers)) s answers)) → (n : ℕ) → IsSane n (λ answers. operated r (λ s'. ahead table (rest (counts_of answers)) s' answers))
+  operated_goes : (r : Result OperatorModel TurnRefusal) (rest : Rest) → ((n : ℕ) (s : OperatorModel) → IsSane n (λ answers. ahead table (rest (counts_of answers)) s answers)) → (n : ℕ)
+      → IsSane n (λ answers. operated r (λ s'. ahead table (rest (counts_of answers)) s' answers))
   operated_goes (Err why) rest h n = sane_end n (λ answers. operated (Err why) (λ s'. ahead table (rest (counts_of answers)) s' answers)) (refused why) refl (λ q. absurd cc) (λ spec q. absurd cc)
-  operated_goes (Ok s') rest h n = sane_same n (λ answers. ahead table (rest (counts_of answers)) s' answers) (λ answers. operated (Ok s') (λ s'. ahead table (rest (counts_of answers)) s' answers)) (λ answers. refl) (h n s')
+  operated_goes (Ok s') rest h n = sane_same n (λ answers. ahead table (rest (counts_of answers)) s' answers) (λ answers. operated (Ok s') (λ s'. ahead table (rest (counts_of answers)) s' answers))
+      (λ answers. refl) (h n s')
 
-  operator_goes : (fxy : ℕ) (rest : Rest) → is_legal_operator fxy ≡ true → ((n : ℕ) (s : OperatorModel) → IsSane n (λ answers. ahead table (rest (counts_of answers)) s answers)) → (n : ℕ) (s : OperatorModel) → IsSane n (λ answers. ahead table (operator_turn fxy (rest (counts_of answers))) s answers)
+  operator_goes : (fxy : ℕ) (rest : Rest) → is_legal_operator fxy ≡ true → ((n : ℕ) (s : OperatorModel) → IsSane n (λ answers. ahead table (rest (counts_of answers)) s answers))
+      → (n : ℕ) (s : OperatorModel) → IsSane n (λ answers. ahead table (operator_turn fxy (rest (counts_of answers))) s answers)
   operator_goes fxy rest legal h n s = by (is_inserted_text fxy) refl
     where
-      by : (b : Bool) → is_inserted_text fxy ≡ b → IsSane n (λ answers. if b then asked (inserted_spec s fxy) (λ t more. ahead table (rest (counts_of answers)) (after_field s fxy t) more) answers else operated (after_operator s fxy) (λ s'. ahead table (rest (counts_of answers)) s' answers))
+      by : (b : Bool) → is_inserted_text fxy ≡ b → IsSane n (λ answers. if b then asked (inserted_spec s fxy) (λ t more. ahead table (rest (counts_of answers)) (after_field s fxy t) more) answers
+          else operated (after_operator s fxy) (λ s'. ahead table (rest (counts_of answers)) s' answers))
       by true p = uncounted_goes (inserted_spec s fxy) s fxy rest (λ spec e. inserted_steps s fxy spec legal p e) h n
       by false p = operated_goes (after_operator s fxy) rest h n
 
-  passes_go : (k : ℕ) (body : Rest → Rest) (rest : Rest) → ((r : Rest) → ((n : ℕ) (s : OperatorModel) → IsSane n (λ answers. ahead table (r (counts_of answers)) s answers)) → (n : ℕ) (s : OperatorModel) → IsSane n (λ answers. ahead table (body r (counts_of answers)) s answers))
-      → ((n : ℕ) (s : OperatorModel) → IsSane n (λ answers. ahead table (rest (counts_of answers)) s answers)) → (n : ℕ) (s : OperatorModel) → IsSane n (λ answers. ahead table (passes k body rest (counts_of answers)) s answers)
+  passes_go : (k : ℕ) (body : Rest → Rest) (rest : Rest) → ((r : Rest) → ((n : ℕ) (s : OperatorModel) → IsSane n (λ answers. ahead table (r (counts_of answers)) s answers))
+      → (n : ℕ) (s : OperatorModel) → IsSane n (λ answers. ahead table (body r (counts_of answers)) s answers))
+      → ((n : ℕ) (s : OperatorModel) → IsSane n (λ answers. ahead table (rest (counts_of answers)) s answers)) → (n : ℕ) (s : OperatorModel)
+      → IsSane n (λ answers. ahead table (passes k body rest (counts_of answers)) s answers)
   passes_go zero body rest f h n s = h n s
-  passes_go (suc k) body rest f h n s = f (λ later. pass_end (passes k body rest later)) (λ m z. sane_same m (λ answers. ahead table (passes k body rest (counts_of answers)) z answers) (λ answers. ahead table (pass_end (passes k body rest (counts_of answers))) z answers) (λ answers. refl) (passes_go k body rest f h m z)) n s
+  passes_go (suc k) body rest f h n s = f (λ later. pass_end (passes k body rest later))
+      (λ m z. sane_same m (λ answers. ahead table (passes k body rest (counts_of answers)) z answers) (λ answers. ahead table (pass_end (passes k body rest (counts_of answers))) z answers)
+      (λ answers. refl) (passes_go k body rest f h m z)) n s
 
   counted_goes : (fxy : ℕ) (body more : Rest → Rest) (rest : Rest) (s : OperatorModel) (spec : FieldSpec) (t : Taken) (c : Course)
       → ((k : ℕ) (n : ℕ) (z : OperatorModel) → IsSane n (λ answers. ahead table (passes k body (more rest) (counts_of answers)) z answers))
-      → role.Factor ≡ spec.role → IsFor spec t → ((k : ℕ) (answers : List Taken) → (c (taken.Count k ∷ answers)).next ≡ (ahead table (passes k body (more rest) (counts_of answers)) (after_field s fxy (taken.Count k)) answers).next)
+      → role.Factor ≡ spec.role → IsFor spec t → ((k : ℕ) (answers : List Taken)
+      → (c (taken.Count k ∷ answers)).next ≡ (ahead table (passes k body (more rest) (counts_of answers)) (after_field s fxy (taken.Count k)) answers).next)
       → (m : ℕ) → IsSane m (λ answers. c (t ∷ answers))
   counted_goes fxy body more rest s spec t c h r f e m = by t (subst (λ x. IsForRole x t) (sym r) f)
     where
       by : (t : Taken) → IsForRole role.Factor t → IsSane m (λ answers. c (t ∷ answers))
       by taken.Plain g = absurd g
       by (taken.Reference z) g = absurd g
-      by (taken.Count k) g = sane_same m (λ answers. ahead table (passes k body (more rest) (counts_of answers)) (after_field s fxy (taken.Count k)) answers) (λ answers. c (taken.Count k ∷ answers)) (λ answers. sym (e k answers)) (h k m (after_field s fxy (taken.Count k)))
+      by (taken.Count k) g = sane_same m (λ answers. ahead table (passes k body (more rest) (counts_of answers)) (after_field s fxy (taken.Count k)) answers) (λ answers. c (taken.Count k ∷ answers))
+          (λ answers. sym (e k answers)) (h k m (after_field s fxy (taken.Count k)))
 
-  unroll_goes : (tree : Tree) (rest : Rest) → IsLegal tree → ((n : ℕ) (s : OperatorModel) → IsSane n (λ answers. ahead table (rest (counts_of answers)) s answers)) → (n : ℕ) (s : OperatorModel) → IsSane n (λ answers. ahead table (unroll tree rest (counts_of answers)) s answers)
+  unroll_goes : (tree : Tree) (rest : Rest) → IsLegal tree → ((n : ℕ) (s : OperatorModel) → IsSane n (λ answers. ahead table (rest (counts_of answers)) s answers)) → (n : ℕ) (s : OperatorModel)
+      → IsSane n (λ answers. ahead table (unroll tree rest (counts_of answers)) s answers)
   unroll_goes bare rest legal h n s = h n s
-  unroll_goes (element fxy more) rest legal h n s = uncounted_goes (element_spec table s fxy) s fxy (unroll more rest) (λ spec e. element_steps s fxy spec e) (λ m z. unroll_goes more rest legal.1 h m z) n
+  unroll_goes (element fxy more) rest legal h n s = uncounted_goes (element_spec table s fxy) s fxy (unroll more rest) (λ spec e. element_steps s fxy spec e)
+      (λ m z. unroll_goes more rest legal.1 h m z) n
   unroll_goes (operator fxy more) rest legal h n s = operator_goes fxy (unroll more rest) legal.1.0 (λ m z. unroll_goes more rest legal.1.1.1 h m z) n s
   unroll_goes (fixed k body more) rest legal h n s =
-      sane_same n (λ answers. ahead table (passes k (unroll body) (unroll more rest) (counts_of answers)) s answers) (λ answers. ahead table (group (passes k (unroll body) (unroll more rest) (counts_of answers))) s answers) (λ answers. refl)
+      sane_same n (λ answers. ahead table (passes k (unroll body) (unroll more rest) (counts_of answers)) s answers)
+      (λ answers. ahead table (group (passes k (unroll body) (unroll more rest) (counts_of answers))) s answers) (λ answers. refl)
       (passes_go k (unroll body) (unroll more rest) (λ r g i y. unroll_goes body r legal.0 g i y) (λ i y. unroll_goes more rest legal.1 h i y) n s)
   unroll_goes (delayed fxy body more) rest legal h n s =
-      field_sane n (factor_spec table s fxy) (λ answers. ahead table (unroll (delayed fxy body more) rest (counts_of answers)) s answers) (asked_first (factor_spec table s fxy) (λ t more. ahead table open_end (after_field s fxy t) more)) (λ spec e. (factor_steps s fxy spec e).0)
+      field_sane n (factor_spec table s fxy) (λ answers. ahead table (unroll (delayed fxy body more) rest (counts_of answers)) s answers)
+      (asked_first (factor_spec table s fxy) (λ t more. ahead table open_end (after_field s fxy t) more)) (λ spec e. (factor_steps s fxy spec e).0)
       (λ spec e t f m. counted_goes fxy (unroll body) (unroll more) rest s spec t (λ answers. ahead table (unroll (delayed fxy body more) rest (counts_of answers)) s answers)
       (λ k i z. passes_go k (unroll body) (unroll more rest) (λ r g j y. unroll_goes body r legal.1.0 g j y) (λ j y. unroll_goes more rest legal.1.1 h j y) i z) (factor_steps s fxy spec e).1 f
-      (λ k answers. asked_next (factor_spec table s fxy) (λ u later. ahead table (passes k (unroll body) (unroll more rest) (counts_of answers)) (after_field s fxy u) later) spec (taken.Count k) answers e) m)
+      (λ k answers. asked_next (factor_spec table s fxy) (λ u later. ahead table (passes k (unroll body) (unroll more rest) (counts_of answers)) (after_field s fxy u) later) spec (taken.Count k)
+      answers e) m)
 
   pub template_sane : (tree : Tree) → IsLegal tree → (n : ℕ) → IsSane n (next_item table tree)
   unfolding next_item
@@ -209,9 +230,16 @@ suffix_is {C} a b l m e = sym (ap (λ (z : FieldRead C). z.suffix) (same_found (
 pub plain_forth : (spec : FieldSpec) (bits : List Bool) (c : Content) (mid : List Bool) → 1 ≤ spec.width → plain_field spec bits ≡ Ok (found c mid) → Forth plain spec bits c mid
 plain_forth spec bits c mid some e = by (nat_lt (length bits) spec.width) refl e
   where
-    by : (b : Bool) → nat_lt (length bits) spec.width ≡ b → (if b then Err data_end else Ok (found (content_in spec (take spec.width bits)) (drop spec.width bits))) ≡ Ok (found c mid) → Forth plain spec bits c mid
+    by : (b : Bool) → nat_lt (length bits) spec.width ≡ b → (if b then Err data_end else Ok (found (content_in spec (take spec.width bits)) (drop spec.width bits))) ≡ Ok (found c mid)
+        → Forth plain spec bits c mid
     by true p q = absurd cc
-    by false p q = record { gives = answer_for spec.role c; size = spec.width; some = some; within = ltb-false (length bits) spec.width p; left_is = suffix_is (content_in spec (take spec.width bits)) c (drop spec.width bits) mid q }
+    by false p q = record {
+      gives = answer_for spec.role c;
+      size = spec.width;
+      some = some;
+      within = ltb-false (length bits) spec.width p;
+      left_is = suffix_is (content_in spec (take spec.width bits)) c (drop spec.width bits) mid q;
+    }
 
 -- some subsets have some contents
 some_contents : (spec : FieldSpec) (k n : ℕ) (base suffix : List Bool) → contents_of spec k (suc n) base suffix ≡ [] → ⊥
@@ -225,13 +253,15 @@ first_for : (spec : FieldSpec) (cs : List Content) → (cs ≡ [] → ⊥) → I
 first_for spec [] h = absurd (h refl)
 first_for spec (c ∷ cs) h = answer_for spec.role c
 
-pub packed_forth : (n : ℕ) (spec : FieldSpec) (bits : List Bool) (cs : List Content) (mid : List Bool) → 1 ≤ spec.width → packed_field (suc n) spec bits ≡ Ok (found cs mid) → Forth (packed (suc n)) spec bits cs mid
+pub packed_forth : (n : ℕ) (spec : FieldSpec) (bits : List Bool) (cs : List Content) (mid : List Bool) → 1 ≤ spec.width → packed_field (suc n) spec bits ≡ Ok (found cs mid)
+    → Forth (packed (suc n)) spec bits cs mid
 packed_forth n spec bits cs mid some e =
     let k = number_of (take 6 (drop spec.width bits)) in
     let base = take spec.width bits in
     let suffix = drop (spec.width + 6) bits in
     let used = suc n * increment_bits_of spec.role spec.kind k in
-    let t = item_ok (nat_lt (length bits) (spec.width + 6) || nat_lt (length suffix) used) (k == 0 || are_increments_valid spec.role spec k (suc n) base suffix) (k == 0 || equal_in spec.role k (suc n) suffix) (contents_of spec k (suc n) base suffix) (drop used suffix) cs mid e in
+    let t = item_ok (nat_lt (length bits) (spec.width + 6) || nat_lt (length suffix) used) (k == 0 || are_increments_valid spec.role spec k (suc n) base suffix)
+    (k == 0 || equal_in spec.role k (suc n) suffix) (contents_of spec k (suc n) base suffix) (drop used suffix) cs mid e in
     let ends = neither (nat_lt (length bits) (spec.width + 6)) (nat_lt (length suffix) used) t.0 in
     record {
       gives = first_for spec cs (λ none. some_contents spec k n base suffix (t.3 ∙ none));
@@ -252,7 +282,8 @@ pub rows_within : (records : List Record) (table : List Row) → map row_of reco
 rows_within records [] e fxy row q = absurd cc
 rows_within [] (first ∷ table) e fxy row q = absurd cc
 rows_within (r ∷ records) (first ∷ table) e fxy row q =
-    by (first.fxy == fxy) (row-limits r first (prefix (row_of r) (map row_of records) first (map Some table) e)).width (λ z. rows_within records table (others (row_of r) (map row_of records) first (map Some table) e) fxy row z) q
+    by (first.fxy == fxy) (row-limits r first (prefix (row_of r) (map row_of records) first (map Some table) e)).width
+    (λ z. rows_within records table (others (row_of r) (map row_of records) first (map Some table) e) fxy row z) q
   where
     prefix : (o : Option Row) (os : List (Option Row)) (x : Row) (xs : List (Option Row)) → ◌≡◌ {A = List (Option Row)} (o ∷ os) (Some x ∷ xs) → o ≡ Some x
     prefix o os x xs e = cc
@@ -263,6 +294,7 @@ rows_within (r ∷ records) (first ∷ table) e fxy row q =
     same_row : (a b : Row) → ◌≡◌ {A = Option Row} (Some a) (Some b) → a ≡ b
     same_row a b e = cc
 
-    by : (b : Bool) → allows_width first.kind first.width ≡ true → (entry_of table fxy ≡ Some row → allows_width row.kind row.width ≡ true) → (if b then Some first else entry_of table fxy) ≡ Some row → allows_width row.kind row.width ≡ true
+    by : (b : Bool) → allows_width first.kind first.width ≡ true → (entry_of table fxy ≡ Some row → allows_width row.kind row.width ≡ true) → (if b then Some first else entry_of table fxy) ≡ Some row
+        → allows_width row.kind row.width ≡ true
     by true h go z = subst (λ (x : Row). allows_width x.kind x.width ≡ true) (same_row first row z) h
     by false h go z = go z

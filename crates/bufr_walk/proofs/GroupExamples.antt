@@ -20,7 +20,8 @@ fixed_group = refl
 -- one count serves all passes.
 group_in_a_group :
     (one (delayed (fxy 0 31 1) (delayed (fxy 0 31 1) (element (fxy 0 1 1) bare) bare) bare) (2 ∷ 1 ∷ 20 ∷ 4 ∷ 44 ∷ 96 ∷ [])
-    ≡ gives ((7937, shown_number (pos 2) (pos 0)) ∷ (7937, shown_number (pos 1) (pos 0)) ∷ (257, shown_number (pos 10) (pos 0)) ∷ (7937, shown_number (pos 2) (pos 0)) ∷ (257, shown_number (pos 11) (pos 0)) ∷ (257, shown_number (pos 12) (pos 0)) ∷ []) (done 3 15))
+    ≡ gives ((7937, shown_number (pos 2) (pos 0)) ∷ (7937, shown_number (pos 1) (pos 0)) ∷ (257, shown_number (pos 10) (pos 0)) ∷ (7937, shown_number (pos 2) (pos 0))
+    ∷ (257, shown_number (pos 11) (pos 0)) ∷ (257, shown_number (pos 12) (pos 0)) ∷ []) (done 3 15))
     × (one (delayed (fxy 0 31 1) (element (fxy 0 1 1) bare) (delayed (fxy 0 31 0) (element (fxy 0 12 101) bare) bare)) (1 ∷ 21 ∷ 112 ∷ 143 ∷ [])
     ≡ gives ((7937, shown_number (pos 1) (pos 0)) ∷ (257, shown_number (pos 10) (pos 0)) ∷ (7936, shown_number (pos 1) (pos 0)) ∷ (3173, shown_number (pos 28815) (pos 2)) ∷ []) (done 0 9))
     × (one (delayed (fxy 0 31 1) (delayed (fxy 0 31 1) (element (fxy 0 1 1) bare) bare) (element (fxy 0 1 1) bare)) (0 ∷ 20 ∷ [])
@@ -33,7 +34,8 @@ group_in_a_group = (refl, refl, refl)
 data_end_at_a_factor :
     (one (delayed (fxy 0 31 1) (element (fxy 0 1 1) bare) bare) [] ≡ gives [] (field_fault 7937 data_end 0 2))
     × (one (delayed (fxy 0 31 1) (element (fxy 0 1 1) bare) bare) (2 ∷ []) ≡ gives ((7937, shown_number (pos 2) (pos 0)) ∷ []) (field_fault 257 data_end 0 3))
-    × (one (delayed (fxy 0 31 1) (element (fxy 0 1 1) bare) bare) (2 ∷ 20 ∷ []) ≡ gives ((7937, shown_number (pos 2) (pos 0)) ∷ (257, shown_number (pos 10) (pos 0)) ∷ []) (field_fault 257 data_end 1 5))
+    × (one (delayed (fxy 0 31 1) (element (fxy 0 1 1) bare) bare) (2 ∷ 20 ∷ [])
+    ≡ gives ((7937, shown_number (pos 2) (pos 0)) ∷ (257, shown_number (pos 10) (pos 0)) ∷ []) (field_fault 257 data_end 1 5))
 unfolding one gives fxy
 data_end_at_a_factor = (refl, refl, refl)
 

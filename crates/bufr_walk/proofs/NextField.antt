@@ -95,11 +95,16 @@ fitted : (a : FieldSpec) (b : FieldSpec) → if_valid_width a ≡ Ok b → IsWor
 fitted a b e word h = by (nat_le 1 a.width && nat_le a.width 63) refl e
   where
     by : (t : Bool) → (nat_le 1 a.width && nat_le a.width 63) ≡ t → (if t then Ok a else Err (refusal.Width a.fxy)) ≡ Ok b → IsField b
-    by true p q = let is : a ≡ b = cc in subst IsField is (as_field a word (h (leb-true 1 a.width (and_first (nat_le 1 a.width) (nat_le a.width 63) p), leb-true a.width 63 (and_second (nat_le 1 a.width) (nat_le a.width 63) p))))
+    by true p q = let is : a ≡ b = cc in subst IsField is (as_field a word
+        (h (leb-true 1 a.width (and_first (nat_le 1 a.width) (nat_le a.width 63) p), leb-true a.width 63 (and_second (nat_le 1 a.width) (nat_le a.width 63) p))))
     by false p q = absurd cc
 
 character_width : (w : ℕ) → allows_width kind.Character w ≡ true → HasWidth kind.Character w
-character_width w h = (leb-true 8 w (and_first (nat_le 8 w) (nat_le w 2040) (and_first (nat_le 8 w && nat_le w 2040) (w % 8 == 0) h)), leb-true w 2040 (and_second (nat_le 8 w) (nat_le w 2040) (and_first (nat_le 8 w && nat_le w 2040) (w % 8 == 0) h)), eqb-true (w % 8) 0 (and_second (nat_le 8 w && nat_le w 2040) (w % 8 == 0) h))
+character_width w h = (
+  leb-true 8 w (and_first (nat_le 8 w) (nat_le w 2040) (and_first (nat_le 8 w && nat_le w 2040) (w % 8 == 0) h)),
+  leb-true w 2040 (and_second (nat_le 8 w) (nat_le w 2040) (and_first (nat_le 8 w && nat_le w 2040) (w % 8 == 0) h)),
+  eqb-true (w % 8) 0 (and_second (nat_le 8 w && nat_le w 2040) (w % 8 == 0) h),
+)
 
 letters_width : (y w : ℕ) → y ≤ 255 → HasWidth kind.Character w → HasWidth kind.Character (if y == 0 then w else 8 * y)
 letters_width y w h g = by (y == 0) refl
@@ -117,8 +122,16 @@ module _ (s : OperatorModel) (set : IsSettings s) where
     width = w;
     role = tt;
     missing = tt;
-    scale = omega (arith, abs_sum (row.scale +ℤ scale_change_of s.scale_change) (pos s.precision_increase), abs_sum row.scale (scale_change_of s.scale_change), change_small s.scale_change set.scale_change, good.scale, set.precision_increase);
-    reference = product_small (current_reference s.new_references row.fxy row.reference) s.precision_increase (reference_small s.new_references row.fxy row.reference set.new_references good.reference) set.precision_increase;
+    scale = omega (
+      arith,
+      abs_sum (row.scale +ℤ scale_change_of s.scale_change) (pos s.precision_increase),
+      abs_sum row.scale (scale_change_of s.scale_change),
+      change_small s.scale_change set.scale_change,
+      good.scale,
+      set.precision_increase,
+    );
+    reference = product_small (current_reference s.new_references row.fxy row.reference) s.precision_increase
+        (reference_small s.new_references row.fxy row.reference set.new_references good.reference) set.precision_increase;
   }
 
   figure_good : (row : Row) → IsRead row → (1 ≤ (coded_spec s row).width) × ((coded_spec s row).width ≤ 63) → IsSpec (coded_spec s row)
@@ -134,7 +147,9 @@ module _ (s : OperatorModel) (set : IsSettings s) where
   kind_good kind.Numeric row spec q good e = fitted (numeric_spec s row) spec e (omega (arith, good.element)) (quantity_good row good)
   kind_good kind.Coded row spec q good e = fitted (coded_spec s row) spec e (omega (arith, good.element)) (figure_good row good)
   kind_good kind.Character row spec q good e =
-      subst IsField (same_ok _ spec e) (as_field (text_spec role.Element row.fxy (text_width s row.width) true) (omega (arith, good.element)) (text_good role.Element row.fxy (text_width s row.width) true (letters_width s.character_octets row.width set.character_octets (character_width row.width (ap (λ k. allows_width k row.width) q ∙ good.listed.width))) tt))
+      subst IsField (same_ok _ spec e) (as_field (text_spec role.Element row.fxy (text_width s row.width) true) (omega (arith, good.element))
+      (text_good role.Element row.fxy (text_width s row.width) true
+      (letters_width s.character_octets row.width set.character_octets (character_width row.width (ap (λ k. allows_width k row.width) q ∙ good.listed.width))) tt))
 
   defined_good : (kd : Kind) (fxy : ℕ) (spec : FieldSpec) → IsWord fxy → new_reference_spec kd s fxy ≡ Ok spec → IsField spec
   defined_good kind.Character fxy spec word e = absurd cc
@@ -145,7 +160,15 @@ module _ (s : OperatorModel) (set : IsSettings s) where
   unsigned_good fxy w spec word e = fitted (unsigned_field fxy w) spec e word (λ h. record { width = h; role = tt; missing = tt; scale = omega arith; reference = omega arith })
 
 begin_good : IsSettings begin
-begin_good = record { width_change = omega arith; scale_change = omega arith; new_reference_width = omega arith; precision_increase = omega arith; character_octets = omega arith; local_width = omega arith; new_references = tt }
+begin_good = record {
+  width_change = omega arith;
+  scale_change = omega arith;
+  new_reference_width = omega arith;
+  precision_increase = omega arith;
+  character_octets = omega arith;
+  local_width = omega arith;
+  new_references = tt;
+}
 
 module _ (table : List Row) (rows : AreRead table) (s : OperatorModel) (set : IsSettings s) where
   element_good : (fxy : ℕ) (spec : FieldSpec) → IsWord fxy → element_spec table s fxy ≡ Ok spec → IsField spec
@@ -208,21 +231,86 @@ references_good : (s : OperatorModel) (y : ℕ) → IsSettings s → ((y == 255)
 references_good s y set h = by (y == 255) (y == 0) refl
   where
     by : (a b : Bool) → (y == 255) ≡ a → IsSettings (if a then record s { new_reference_width = 0 } else if b then record s { new_references = [] } else record s { new_reference_width = y })
-    by true b q = record { width_change = set.width_change; scale_change = set.scale_change; new_reference_width = omega arith; precision_increase = set.precision_increase; character_octets = set.character_octets; local_width = set.local_width; new_references = set.new_references }
-    by false true q = record { width_change = set.width_change; scale_change = set.scale_change; new_reference_width = set.new_reference_width; precision_increase = set.precision_increase; character_octets = set.character_octets; local_width = set.local_width; new_references = tt }
-    by false false q = record { width_change = set.width_change; scale_change = set.scale_change; new_reference_width = h q; precision_increase = set.precision_increase; character_octets = set.character_octets; local_width = set.local_width; new_references = set.new_references }
+    by true b q = record {
+      width_change = set.width_change;
+      scale_change = set.scale_change;
+      new_reference_width = omega arith;
+      precision_increase = set.precision_increase;
+      character_octets = set.character_octets;
+      local_width = set.local_width;
+      new_references = set.new_references;
+    }
+    by false true q = record {
+      width_change = set.width_change;
+      scale_change = set.scale_change;
+      new_reference_width = set.new_reference_width;
+      precision_increase = set.precision_increase;
+      character_octets = set.character_octets;
+      local_width = set.local_width;
+      new_references = tt;
+    }
+    by false false q = record {
+      width_change = set.width_change;
+      scale_change = set.scale_change;
+      new_reference_width = h q;
+      precision_increase = set.precision_increase;
+      character_octets = set.character_octets;
+      local_width = set.local_width;
+      new_references = set.new_references;
+    }
 
 operator_good : (s : OperatorModel) (x y : ℕ) → IsSettings s → y ≤ 255 → has_legal_operand x y ≡ true → IsSettings (with_operator x y s)
 operator_good s x y set most legal = by (x == 1) (x == 2) (x == 3) (x == 6) (x == 7) (x == 8) refl refl
   where
     by : (a b c d e f : Bool) → (x == 3) ≡ c → (x == 7) ≡ e
-        → IsSettings (if a then record s { width_change = y } else if b then record s { scale_change = y } else if c then with_references y s else if d then record s { local_width = y } else if e then record s { precision_increase = y } else if f then record s { character_octets = y } else s)
-    by true b c d e f p q = record { width_change = most; scale_change = set.scale_change; new_reference_width = set.new_reference_width; precision_increase = set.precision_increase; character_octets = set.character_octets; local_width = set.local_width; new_references = set.new_references }
-    by false true c d e f p q = record { width_change = set.width_change; scale_change = most; new_reference_width = set.new_reference_width; precision_increase = set.precision_increase; character_octets = set.character_octets; local_width = set.local_width; new_references = set.new_references }
+        → IsSettings (if a then record s { width_change = y } else if b then record s { scale_change = y } else if c then with_references y s else if d then record s { local_width = y } else if e
+        then record s { precision_increase = y } else if f then record s { character_octets = y } else s)
+    by true b c d e f p q = record {
+      width_change = most;
+      scale_change = set.scale_change;
+      new_reference_width = set.new_reference_width;
+      precision_increase = set.precision_increase;
+      character_octets = set.character_octets;
+      local_width = set.local_width;
+      new_references = set.new_references;
+    }
+    by false true c d e f p q = record {
+      width_change = set.width_change;
+      scale_change = most;
+      new_reference_width = set.new_reference_width;
+      precision_increase = set.precision_increase;
+      character_octets = set.character_octets;
+      local_width = set.local_width;
+      new_references = set.new_references;
+    }
     by false false true d e f p q = references_good s y set (λ r. operand_three x y p legal r)
-    by false false false true e f p q = record { width_change = set.width_change; scale_change = set.scale_change; new_reference_width = set.new_reference_width; precision_increase = set.precision_increase; character_octets = set.character_octets; local_width = most; new_references = set.new_references }
-    by false false false false true f p q = record { width_change = set.width_change; scale_change = set.scale_change; new_reference_width = set.new_reference_width; precision_increase = operand_seven x y q legal; character_octets = set.character_octets; local_width = set.local_width; new_references = set.new_references }
-    by false false false false false true p q = record { width_change = set.width_change; scale_change = set.scale_change; new_reference_width = set.new_reference_width; precision_increase = set.precision_increase; character_octets = most; local_width = set.local_width; new_references = set.new_references }
+    by false false false true e f p q = record {
+      width_change = set.width_change;
+      scale_change = set.scale_change;
+      new_reference_width = set.new_reference_width;
+      precision_increase = set.precision_increase;
+      character_octets = set.character_octets;
+      local_width = most;
+      new_references = set.new_references;
+    }
+    by false false false false true f p q = record {
+      width_change = set.width_change;
+      scale_change = set.scale_change;
+      new_reference_width = set.new_reference_width;
+      precision_increase = operand_seven x y q legal;
+      character_octets = set.character_octets;
+      local_width = set.local_width;
+      new_references = set.new_references;
+    }
+    by false false false false false true p q = record {
+      width_change = set.width_change;
+      scale_change = set.scale_change;
+      new_reference_width = set.new_reference_width;
+      precision_increase = set.precision_increase;
+      character_octets = most;
+      local_width = set.local_width;
+      new_references = set.new_references;
+    }
     by false false false false false false p q = set
 
 -- the references with one more that was defined
@@ -237,9 +325,33 @@ references_kept fxy reference (r ∷ more) answers h = by (nat_lt fxy r.fxy) (fx
     by false false others = (h.0, others)
 
 field_good : (s : OperatorModel) (fxy : ℕ) (t : Taken) → IsSettings s → IsWithin t → IsSettings (after_field s fxy t)
-field_good s fxy taken.Plain set h = record { width_change = set.width_change; scale_change = set.scale_change; new_reference_width = set.new_reference_width; precision_increase = set.precision_increase; character_octets = set.character_octets; local_width = omega arith; new_references = set.new_references }
-field_good s fxy (taken.Count n) set h = record { width_change = set.width_change; scale_change = set.scale_change; new_reference_width = set.new_reference_width; precision_increase = set.precision_increase; character_octets = set.character_octets; local_width = omega arith; new_references = set.new_references }
-field_good s fxy (taken.Reference r) set h = record { width_change = set.width_change; scale_change = set.scale_change; new_reference_width = set.new_reference_width; precision_increase = set.precision_increase; character_octets = set.character_octets; local_width = omega arith; new_references = references_kept fxy r s.new_references h set.new_references }
+field_good s fxy taken.Plain set h = record {
+  width_change = set.width_change;
+  scale_change = set.scale_change;
+  new_reference_width = set.new_reference_width;
+  precision_increase = set.precision_increase;
+  character_octets = set.character_octets;
+  local_width = omega arith;
+  new_references = set.new_references;
+}
+field_good s fxy (taken.Count n) set h = record {
+  width_change = set.width_change;
+  scale_change = set.scale_change;
+  new_reference_width = set.new_reference_width;
+  precision_increase = set.precision_increase;
+  character_octets = set.character_octets;
+  local_width = omega arith;
+  new_references = set.new_references;
+}
+field_good s fxy (taken.Reference r) set h = record {
+  width_change = set.width_change;
+  scale_change = set.scale_change;
+  new_reference_width = set.new_reference_width;
+  precision_increase = set.precision_increase;
+  character_octets = set.character_octets;
+  local_width = omega arith;
+  new_references = references_kept fxy r s.new_references h set.new_references;
+}
 
 -- the descriptors of a legal template
 class_word : (fxy k : ℕ) → f_of fxy ≡ k → k < 4 → IsWord fxy
@@ -249,12 +361,14 @@ factor_class : (fxy : ℕ) → is_factor fxy ≡ true → IsWord fxy
 factor_class fxy h1 = grind (arith, nat_tests, common_steps)
 
 module _ (table : List Row) (rows : AreRead table) where
-  asked_good : (r : Result FieldSpec TurnRefusal) (go : Taken → List Taken → NextTurn) (answers : List Taken) (spec : FieldSpec) → AreWithin answers → ((x : FieldSpec) → r ≡ Ok x → IsField x) → ((t : Taken) (more : List Taken) → IsWithin t → AreWithin more → (go t more).next ≡ take_next spec → IsField spec) → (asked r go answers).next ≡ take_next spec → IsField spec
+  asked_good : (r : Result FieldSpec TurnRefusal) (go : Taken → List Taken → NextTurn) (answers : List Taken) (spec : FieldSpec) → AreWithin answers → ((x : FieldSpec) → r ≡ Ok x → IsField x)
+      → ((t : Taken) (more : List Taken) → IsWithin t → AreWithin more → (go t more).next ≡ take_next spec → IsField spec) → (asked r go answers).next ≡ take_next spec → IsField spec
   asked_good (Err why) go answers spec w h g e = absurd cc
   asked_good (Ok x) go [] spec w h g e = let is : x ≡ spec = cc in subst IsField is (h x refl)
   asked_good (Ok x) go (t ∷ answers) spec w h g e = g t answers w.0 w.1 e
 
-  operated_good : (r : Result OperatorModel TurnRefusal) (go : OperatorModel → NextTurn) (spec : FieldSpec) → ((s : OperatorModel) → r ≡ Ok s → (go s).next ≡ take_next spec → IsField spec) → (operated r go).next ≡ take_next spec → IsField spec
+  operated_good : (r : Result OperatorModel TurnRefusal) (go : OperatorModel → NextTurn) (spec : FieldSpec) → ((s : OperatorModel) → r ≡ Ok s → (go s).next ≡ take_next spec → IsField spec)
+      → (operated r go).next ≡ take_next spec → IsField spec
   operated_good (Err why) go spec g e = absurd cc
   operated_good (Ok s) go spec g e = g s refl e
 
@@ -265,25 +379,31 @@ module _ (table : List Row) (rows : AreRead table) where
       by true q = absurd cc
       by false q = let is : with_operator (x_of fxy) (y_of fxy) s ≡ s' = cc in subst IsSettings is (operator_good s (x_of fxy) (y_of fxy) set (operand_most fxy) legal)
 
-  ahead_good : (turns : Turns) (s : OperatorModel) (answers : List Taken) (spec : FieldSpec) → AreLegal turns → IsSettings s → AreWithin answers → (ahead table turns s answers).next ≡ take_next spec → IsField spec
+  ahead_good : (turns : Turns) (s : OperatorModel) (answers : List Taken) (spec : FieldSpec) → AreLegal turns → IsSettings s → AreWithin answers → (ahead table turns s answers).next ≡ take_next spec
+      → IsField spec
   ahead_good finish s answers spec legal set w e = absurd cc
   ahead_good open_end s answers spec legal set w e = absurd cc
   ahead_good (group next) s answers spec legal set w e = ahead_good next s answers spec legal set w e
   ahead_good (pass_end next) s answers spec legal set w e = ahead_good next s answers spec legal set w e
   ahead_good (factor_turn fxy next) s answers spec legal set w e =
-      asked_good (factor_spec table s fxy) (λ t more. ahead table next (after_field s fxy t) more) answers spec w (λ x q. factor_good table rows s set fxy x legal.0 q) (λ t more h g q. ahead_good next (after_field s fxy t) more spec legal.1 (field_good s fxy t set h) g q) e
+      asked_good (factor_spec table s fxy) (λ t more. ahead table next (after_field s fxy t) more) answers spec w (λ x q. factor_good table rows s set fxy x legal.0 q)
+      (λ t more h g q. ahead_good next (after_field s fxy t) more spec legal.1 (field_good s fxy t set h) g q) e
   ahead_good (element_turn fxy next) s answers spec legal set w e =
-      asked_good (element_spec table s fxy) (λ t more. ahead table next (after_field s fxy t) more) answers spec w (λ x q. element_good table rows s set fxy x legal.0 q) (λ t more h g q. ahead_good next (after_field s fxy t) more spec legal.1 (field_good s fxy t set h) g q) e
+      asked_good (element_spec table s fxy) (λ t more. ahead table next (after_field s fxy t) more) answers spec w (λ x q. element_good table rows s set fxy x legal.0 q)
+      (λ t more h g q. ahead_good next (after_field s fxy t) more spec legal.1 (field_good s fxy t set h) g q) e
   ahead_good (operator_turn fxy next) s answers spec legal set w e =
-      by (is_inserted_text fxy) refl e (λ t more h g q. ahead_good next (after_field s fxy t) more spec legal.2 (field_good s fxy t set h) g q) (λ s' p q. ahead_good next s' answers spec legal.2 (after_good s fxy s' set legal.1 p) w q)
+      by (is_inserted_text fxy) refl e (λ t more h g q. ahead_good next (after_field s fxy t) more spec legal.2 (field_good s fxy t set h) g q)
+      (λ s' p q. ahead_good next s' answers spec legal.2 (after_good s fxy s' set legal.1 p) w q)
     where
-      by : (b : Bool) → is_inserted_text fxy ≡ b → (if b then asked (inserted_spec s fxy) (λ t more. ahead table next (after_field s fxy t) more) answers else operated (after_operator s fxy) (λ s'. ahead table next s' answers)).next ≡ take_next spec
+      by : (b : Bool) → is_inserted_text fxy ≡ b → (if b then asked (inserted_spec s fxy) (λ t more. ahead table next (after_field s fxy t) more) answers else operated (after_operator s fxy)
+          (λ s'. ahead table next s' answers)).next ≡ take_next spec
           → ((t : Taken) (more : List Taken) → IsWithin t → AreWithin more → (ahead table next (after_field s fxy t) more).next ≡ take_next spec → IsField spec)
           → ((s' : OperatorModel) → after_operator s fxy ≡ Ok s' → (ahead table next s' answers).next ≡ take_next spec → IsField spec) → IsField spec
       by true p q f g = asked_good (inserted_spec s fxy) (λ t more. ahead table next (after_field s fxy t) more) answers spec w (λ x r. inserted_good s fxy x p legal.1 legal.0 r) f q
       by false p q f g = operated_good (after_operator s fxy) (λ s'. ahead table next s' answers) spec g q
 
-  passes_legal : (n : ℕ) (body : Rest → Rest) (rest : Rest) → ((r : Rest) → ((counts : List ℕ) → AreLegal (r counts)) → (counts : List ℕ) → AreLegal (body r counts)) → ((counts : List ℕ) → AreLegal (rest counts)) → (counts : List ℕ) → AreLegal (passes n body rest counts)
+  passes_legal : (n : ℕ) (body : Rest → Rest) (rest : Rest) → ((r : Rest) → ((counts : List ℕ) → AreLegal (r counts)) → (counts : List ℕ) → AreLegal (body r counts))
+      → ((counts : List ℕ) → AreLegal (rest counts)) → (counts : List ℕ) → AreLegal (passes n body rest counts)
   passes_legal zero body rest h g counts = g counts
   passes_legal (suc n) body rest h g counts = h (λ later. pass_end (passes n body rest later)) (λ later. passes_legal n body rest h g later) counts
 
@@ -293,7 +413,8 @@ module _ (table : List Row) (rows : AreRead table) where
   unroll_legal (operator fxy more) rest legal g counts = (class_word fxy 2 legal.0 (omega arith), legal.1.0, unroll_legal more rest legal.1.1.1 g counts)
   unroll_legal (fixed n body more) rest legal g counts = passes_legal n (unroll body) (unroll more rest) (λ r h c. unroll_legal body r legal.0 h c) (unroll_legal more rest legal.1 g) counts
   unroll_legal (delayed fxy body more) rest legal g [] = (factor_class fxy legal.0, tt)
-  unroll_legal (delayed fxy body more) rest legal g (n ∷ counts) = (factor_class fxy legal.0, passes_legal n (unroll body) (unroll more rest) (λ r h c. unroll_legal body r legal.1.0 h c) (unroll_legal more rest legal.1.1 g) counts)
+  unroll_legal (delayed fxy body more) rest legal g (n ∷ counts) =
+      (factor_class fxy legal.0, passes_legal n (unroll body) (unroll more rest) (λ r h c. unroll_legal body r legal.1.0 h c) (unroll_legal more rest legal.1.1 g) counts)
 
 -- what comes next on a course is a field
 abbrev pub IsGoodCourse : Course → Type 0
@@ -301,7 +422,8 @@ IsGoodCourse course = (answers : List Taken) (spec : FieldSpec) → AreWithin an
 
 pub next_field : (table : List Row) (tree : Tree) → AreRead table → IsLegal tree → IsGoodCourse (next_item table tree)
 unfolding next_item
-next_field table tree rows legal answers spec w e = ahead_good table rows (turns_of tree (counts_of answers)) begin answers spec (unroll_legal table rows tree (λ _. finish) legal (λ c. tt) (counts_of answers)) begin_good w e
+next_field table tree rows legal answers spec w e = ahead_good table rows (turns_of tree (counts_of answers)) begin answers spec
+    (unroll_legal table rows tree (λ _. finish) legal (λ c. tt) (counts_of answers)) begin_good w e
 
 -- ---- The rows of the records of a table are within the limits of a field.
 

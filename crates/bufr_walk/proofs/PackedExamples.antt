@@ -47,7 +47,8 @@ increment_data_end = refl
 -- rule: compressed-class-31
 class_31_together :
     (together 2 (element (fxy 0 31 1) (element (fxy 0 31 1) (element (fxy 0 31 1) (element (fxy 0 31 21) bare)))) (255 ∷ 4 ∷ 250 ∷ 11 ∷ 127 ∷ 129 ∷ 127 ∷ 0 ∷ [])
-    ≡ gives ((7937, shown_number (pos 255) (pos 0) ∷ shown_number (pos 255) (pos 0) ∷ []) ∷ (7937, shown_number (pos 253) (pos 0) ∷ shown_number (pos 251) (pos 0) ∷ []) ∷ (7937, shown_number (pos 254) (pos 0) ∷ shown_number (pos 255) (pos 0) ∷ []) ∷ (7957, shown_number (pos 63) (pos 0) ∷ shown_number (pos 63) (pos 0) ∷ []) ∷ []) (done 2 5))
+    ≡ gives ((7937, shown_number (pos 255) (pos 0) ∷ shown_number (pos 255) (pos 0) ∷ []) ∷ (7937, shown_number (pos 253) (pos 0) ∷ shown_number (pos 251) (pos 0) ∷ [])
+    ∷ (7937, shown_number (pos 254) (pos 0) ∷ shown_number (pos 255) (pos 0) ∷ []) ∷ (7957, shown_number (pos 63) (pos 0) ∷ shown_number (pos 63) (pos 0) ∷ []) ∷ []) (done 2 5))
     × (together 2 (element (fxy 0 31 1) bare) (255 ∷ 5 ∷ [])
     ≡ gives [] (field_fault 7937 increment 16 1))
 unfolding together gives fxy
@@ -62,7 +63,8 @@ one_subset_together = refl
 -- The operators in force act as on data that are not compressed. Fails where the changes are not in
 -- force, or where a text in a definition is read.
 changes_together :
-    (together 2 (operator (fxy 2 3 10) (element (fxy 0 5 2) (operator (fxy 2 3 255) (operator (fxy 2 1 130) (operator (fxy 2 2 129) (operator (fxy 2 7 1) (element (fxy 0 5 2) bare))))))) (228 ∷ 0 ∷ 0 ∷ 125 ∷ 0 ∷ 76 ∷ [])
+    (together 2 (operator (fxy 2 3 10) (element (fxy 0 5 2) (operator (fxy 2 3 255) (operator (fxy 2 1 130) (operator (fxy 2 2 129) (operator (fxy 2 7 1) (element (fxy 0 5 2) bare)))))))
+    (228 ∷ 0 ∷ 0 ∷ 125 ∷ 0 ∷ 76 ∷ [])
     ≡ gives ((1282, shown_reference (negsuc 399) ∷ shown_reference (negsuc 399) ∷ []) ∷ (1282, shown_number (pos 1) (pos 4) ∷ shown_number (pos 2) (pos 4) ∷ []) ∷ []) (done 1 8))
     × (together 2 (operator (fxy 2 3 10) (element (fxy 0 1 15) bare)) []
     ≡ gives [] (walk_fault (refusal.Defining 271) 0 2))
@@ -116,7 +118,8 @@ text_octets_past_the_data = refl
 -- rule: compressed-factors
 factor_with_increments :
     (together 2 (delayed (fxy 0 31 1) (element (fxy 0 1 1) bare) bare) (1 ∷ 12 ∷ 145 ∷ 64 ∷ 11 ∷ 0 ∷ [])
-    ≡ gives ((7937, shown_number (pos 2) (pos 0) ∷ shown_number (pos 2) (pos 0) ∷ []) ∷ (257, shown_number (pos 10) (pos 0) ∷ shown_number (pos 10) (pos 0) ∷ []) ∷ (257, shown_number (pos 11) (pos 0) ∷ shown_number (pos 11) (pos 0) ∷ []) ∷ []) (done 2 7))
+    ≡ gives ((7937, shown_number (pos 2) (pos 0) ∷ shown_number (pos 2) (pos 0) ∷ []) ∷ (257, shown_number (pos 10) (pos 0) ∷ shown_number (pos 10) (pos 0) ∷ [])
+    ∷ (257, shown_number (pos 11) (pos 0) ∷ shown_number (pos 11) (pos 0) ∷ []) ∷ []) (done 2 7))
     × (together 2 (delayed (fxy 0 31 0) (element (fxy 0 1 1) bare) bare) (3 ∷ 138 ∷ 0 ∷ [])
     ≡ gives ((7936, shown_number (pos 1) (pos 0) ∷ shown_number (pos 1) (pos 0) ∷ []) ∷ (257, shown_number (pos 10) (pos 0) ∷ shown_number (pos 10) (pos 0) ∷ []) ∷ []) (done 2 5))
     × (together 2 (delayed (fxy 0 31 0) (element (fxy 0 1 1) bare) bare) (128 ∷ 40 ∷ 0 ∷ [])

@@ -24,13 +24,13 @@ use Rattle.bufr_walk.specs.declared.walker.WalkStop.TheVariants as stops
 use Rattle.bufr_walk.specs.declared.fault.WalkFault.TheVariants as fault
 use Rattle.bufr_walk.specs.declared.reading.StoredItems.TheVariants as kept
 use Rattle.bufr_walk.proofs.WalkLemmas.{stop_cases}
-use Rattle.bufr_walk.specs.Pass.{DataPass, passes_together, stop_of, left_after, turns_in_all, reading_of, values_of, fault_of, OneRunsShort, ReadsData, AnswersReading}
+use Rattle.bufr_walk.specs.Pass.{DataPass, passes_together, stop_of, left_after, turns_in_all, reading_of, values_in, fault_of, RunsShort, ReadsData, AnswersReading}
 use Rattle.bufr_walk.proofs.PassLemmas.{together_read, together_stops, together_begins}
 
 -- compressed data were read, and each item is kept
 abbrev pub IsReadAndKept : Course → Data → List IndexedItem → (used steps : ℕ) → Type 0
 IsReadAndKept course d entries used steps =
-    let values = values_of (reading_of course d).passes in
+    let values = values_in (reading_of course d).passes in
     IsReading course d values used × ReadsData course d (Ok used) steps × KeepsValues (kept.Together entries) d values
 
 -- with no subset nothing is read
@@ -45,7 +45,9 @@ module _ (bits : List Bool) (at n : ℕ) (a : FieldSpec) where
   -- an item by its tests, with a k that is known
   abbrev tested : (k : ℕ) (suffix : List Bool) → Result (FieldRead (List Content)) FieldFault
   tested k suffix =
-      item_tested (nat_lt (length (drop at bits)) (a.width + 6) || nat_lt (length suffix) (n * increment_bits_of a.role a.kind k)) (k == 0 || are_increments_valid a.role a k n (take a.width (drop at bits)) suffix) (k == 0 || equal_in a.role k n suffix) (contents_of a k n (take a.width (drop at bits)) suffix) (drop (n * increment_bits_of a.role a.kind k) suffix)
+      item_tested (nat_lt (length (drop at bits)) (a.width + 6) || nat_lt (length suffix) (n * increment_bits_of a.role a.kind k))
+      (k == 0 || are_increments_valid a.role a k n (take a.width (drop at bits)) suffix) (k == 0 || equal_in a.role k n suffix) (contents_of a k n (take a.width (drop at bits)) suffix)
+      (drop (n * increment_bits_of a.role a.kind k) suffix)
 
   field_is : (k : ℕ) → k ≡ number_of (take 6 (drop (at + a.width) bits)) → packed_field n a (drop at bits) ≡ tested k (drop (at + (a.width + 6)) bits)
   field_is k is = ap (λ x. tested x (drop (a.width + 6) (drop at bits))) (k_here k is) ∙ ap (tested k) (drop-drop (a.width + 6) at bits)
@@ -58,19 +60,24 @@ module _ (bits : List Bool) (at n : ℕ) (a : FieldSpec) where
     fault = ap wrong.DataEnd g;
   }
 
-  pub ends_after : (k size f : ℕ) → f ≡ a.fxy → at + (a.width + 6) ≤ length bits → length bits < at + size → k ≡ number_of (take 6 (drop (at + a.width) bits)) → size ≡ a.width + 6 + n * increment_bits_of a.role a.kind k → IsUnseen bits at n a (wrong.DataEnd f)
+  pub ends_after : (k size f : ℕ) → f ≡ a.fxy → at + (a.width + 6) ≤ length bits → length bits < at + size → k ≡ number_of (take 6 (drop (at + a.width) bits))
+      → size ≡ a.width + 6 + n * increment_bits_of a.role a.kind k → IsUnseen bits at n a (wrong.DataEnd f)
   ends_after k size f g within short is size_is =
       let suffix = drop (at + (a.width + 6)) bits in
       let s = increment_bits_of a.role a.kind k in
       record {
         why = data_end;
-        field = field_is k is ∙ rw (le-ltb (length (drop at bits)) (a.width + 6) (omega (arith, length-drop at bits)), lt-ltb (length suffix) (n * s) (omega (arith, length-drop (at + (a.width + 6)) bits))) refl;
+        field = field_is k is ∙ rw (
+          le-ltb (length (drop at bits)) (a.width + 6) (omega (arith, length-drop at bits)),
+          lt-ltb (length suffix) (n * s) (omega (arith, length-drop (at + (a.width + 6)) bits)),
+        ) refl;
         fault = ap wrong.DataEnd g;
       }
 
   -- an item that is there whole
   whole : (k size : ℕ) → at + size ≤ length bits → k ≡ number_of (take 6 (drop (at + a.width) bits)) → size ≡ a.width + 6 + n * increment_bits_of a.role a.kind k
-      → packed_field n a (drop at bits) ≡ item_tested false (k == 0 || are_increments_valid a.role a k n (take a.width (drop at bits)) (drop (at + (a.width + 6)) bits)) (k == 0 || equal_in a.role k n (drop (at + (a.width + 6)) bits)) (contents_of a k n (take a.width (drop at bits)) (drop (at + (a.width + 6)) bits)) (drop (at + size) bits)
+      → packed_field n a (drop at bits) ≡ item_tested false (k == 0 || are_increments_valid a.role a k n (take a.width (drop at bits)) (drop (at + (a.width + 6)) bits))
+      (k == 0 || equal_in a.role k n (drop (at + (a.width + 6)) bits)) (contents_of a k n (take a.width (drop at bits)) (drop (at + (a.width + 6)) bits)) (drop (at + size) bits)
   whole k size within is size_is =
       let suffix = drop (at + (a.width + 6)) bits in
       let s = increment_bits_of a.role a.kind k in
@@ -79,7 +86,12 @@ module _ (bits : List Bool) (at n : ℕ) (a : FieldSpec) where
       let ends : at + (a.width + 6) + n * s ≡ at + size = omega arith in
       field_is k is ∙ rw (there, enough, drop-drop (n * s) (at + (a.width + 6)) bits ∙ ap (λ j. drop j bits) ends) refl
 
-  pub seen_here : (seen : ItemBits) (size : ℕ) → 1 ≤ a.width → seen.end ≡ at + size → at + size ≤ length bits → seen.step ≡ number_of (take 6 (drop (at + a.width) bits)) → size ≡ a.width + 6 + n * increment_bits_of a.role a.kind seen.step → (seen.step == 0 || are_increments_valid a.role a seen.step n (take a.width (drop at bits)) (drop (at + (a.width + 6)) bits)) ≡ true → (seen.step == 0 || equal_in a.role seen.step n (drop (at + (a.width + 6)) bits)) ≡ true → seen.answer ≡ answer_first a (contents_of a seen.step n (take a.width (drop at bits)) (drop (at + (a.width + 6)) bits)) → (is_character a.kind ≡ false → seen.base ≡ number_of (take a.width (drop at bits))) → IsSeen bits at n a seen
+  pub seen_here : (seen : ItemBits) (size : ℕ) → 1 ≤ a.width → seen.end ≡ at + size → at + size ≤ length bits → seen.step ≡ number_of (take 6 (drop (at + a.width) bits))
+      → size ≡ a.width + 6 + n * increment_bits_of a.role a.kind seen.step
+      → (seen.step == 0 || are_increments_valid a.role a seen.step n (take a.width (drop at bits)) (drop (at + (a.width + 6)) bits)) ≡ true
+      → (seen.step == 0 || equal_in a.role seen.step n (drop (at + (a.width + 6)) bits)) ≡ true
+      → seen.answer ≡ answer_first a (contents_of a seen.step n (take a.width (drop at bits)) (drop (at + (a.width + 6)) bits))
+      → (is_character a.kind ≡ false → seen.base ≡ number_of (take a.width (drop at bits))) → IsSeen bits at n a seen
   seen_here seen size some end_is within is size_is holds equal gives based = record {
     contents = contents_of a seen.step n (take a.width (drop at bits)) (drop (at + (a.width + 6)) bits);
     field = whole seen.step size within is size_is ∙ rw (holds, equal, end_is) refl;
@@ -90,10 +102,13 @@ module _ (bits : List Bool) (at n : ℕ) (a : FieldSpec) where
     least = omega arith;
   }
 
-  pub invalid_here : (k size f : ℕ) → f ≡ a.fxy → at + size ≤ length bits → k ≡ number_of (take 6 (drop (at + a.width) bits)) → size ≡ a.width + 6 + n * increment_bits_of a.role a.kind k → (k == 0 || are_increments_valid a.role a k n (take a.width (drop at bits)) (drop (at + (a.width + 6)) bits)) ≡ false → IsUnseen bits at n a (wrong.Increment f)
+  pub invalid_here : (k size f : ℕ) → f ≡ a.fxy → at + size ≤ length bits → k ≡ number_of (take 6 (drop (at + a.width) bits)) → size ≡ a.width + 6 + n * increment_bits_of a.role a.kind k
+      → (k == 0 || are_increments_valid a.role a k n (take a.width (drop at bits)) (drop (at + (a.width + 6)) bits)) ≡ false → IsUnseen bits at n a (wrong.Increment f)
   invalid_here k size f g within is size_is h = record { why = increment; field = whole k size within is size_is ∙ rw h refl; fault = ap wrong.Increment g }
 
-  pub unequal_here : (k size f : ℕ) → f ≡ a.fxy → at + size ≤ length bits → k ≡ number_of (take 6 (drop (at + a.width) bits)) → size ≡ a.width + 6 + n * increment_bits_of a.role a.kind k → (k == 0 || are_increments_valid a.role a k n (take a.width (drop at bits)) (drop (at + (a.width + 6)) bits)) ≡ true → (k == 0 || equal_in a.role k n (drop (at + (a.width + 6)) bits)) ≡ false → IsUnseen bits at n a (wrong.UnequalFactor f)
+  pub unequal_here : (k size f : ℕ) → f ≡ a.fxy → at + size ≤ length bits → k ≡ number_of (take 6 (drop (at + a.width) bits)) → size ≡ a.width + 6 + n * increment_bits_of a.role a.kind k
+      → (k == 0 || are_increments_valid a.role a k n (take a.width (drop at bits)) (drop (at + (a.width + 6)) bits)) ≡ true → (k == 0 || equal_in a.role k n (drop (at + (a.width + 6)) bits)) ≡ false
+      → IsUnseen bits at n a (wrong.UnequalFactor f)
   unequal_here k size f g within is size_is h e = record { why = unequal_factor; field = whole k size within is size_is ∙ rw (h, e) refl; fault = ap wrong.UnequalFactor g }
 
 -- the bits of an item, part by part
@@ -108,7 +123,8 @@ both false b h = let e : true ≡ false = sym h in absurd cc
 
 -- two fields with the same parts
 pub same_field : (a b : FieldSpec) (r k p : Bool) → (r ≡ true → a.role ≡ b.role) → (k ≡ true → a.kind ≡ b.kind)
-    → (int_eq a.reference b.reference && (eqb a.width b.width && (eqb a.fxy b.fxy && (int_eq a.scale b.scale && (r && (k && (beq a.may_be_missing b.may_be_missing && (beq a.listed b.listed && p)))))))) ≡ true → a ≡ b
+    → (int_eq a.reference b.reference && (eqb a.width b.width && (eqb a.fxy b.fxy
+    && (int_eq a.scale b.scale && (r && (k && (beq a.may_be_missing b.may_be_missing && (beq a.listed b.listed && p)))))))) ≡ true → a ≡ b
 same_field a b r k p by_role spec_by_kind h = grind (arith, common_steps, both, eqb, beq, Decides-int_eq, Decides-eqb)
 
 -- a field that was found at a place
@@ -128,7 +144,8 @@ same_items specs more (p ∷ places) have =
     ∙ ap (λ xs. item_at_location specs p ∷ xs) rest
 
 -- one item more
-pub one_more : (now : List IndexedItem) (specs specs1 specs2 : List FieldSpec) (places places1 places2 : List ItemLocation) (item : IndexedItem) (place : ℕ) → indexed_items specs places ≡ now → All (λ p. p.spec < length specs) places → specs1 ≡ specs → places1 ≡ places → IsPut specs1 item.spec place specs2
+pub one_more : (now : List IndexedItem) (specs specs1 specs2 : List FieldSpec) (places places1 places2 : List ItemLocation) (item : IndexedItem) (place : ℕ) → indexed_items specs places ≡ now
+    → All (λ p. p.spec < length specs) places → specs1 ≡ specs → places1 ≡ places → IsPut specs1 item.spec place specs2
     → places2 ≡ places1 ++ record { at = item.at; base = item.base; spec = place; step = item.step } ∷ [] → indexed_items specs2 places2 ≡ now ++ item ∷ []
 one_more now specs specs1 specs2 places places1 places2 item place view have same_specs same_places put is =
     let last : ItemLocation = record { at = item.at; base = item.base; spec = place; step = item.step } in
@@ -149,7 +166,8 @@ items_at-append : (bits : List Bool) (n : ℕ) (kept : List IndexedItem) (e : In
 items_at-append bits n [] e = refl
 items_at-append bits n (x ∷ kept) e = ap (λ xs. item_at bits n x ∷ xs) (items_at-append bits n kept e)
 
-pub takes_one : (bits : List Bool) (at n : ℕ) (kept kept' : List IndexedItem) (e : IndexedItem) (seen : ItemBits) → e.at ≡ at → (length (items_at bits n kept) + 1) * n ≤ max_values → IsSeen bits at n e.spec seen → kept' ≡ kept ++ e ∷ []
+pub takes_one : (bits : List Bool) (at n : ℕ) (kept kept' : List IndexedItem) (e : IndexedItem) (seen : ItemBits) → e.at ≡ at → (length (items_at bits n kept) + 1) * n ≤ max_values
+    → IsSeen bits at n e.spec seen → kept' ≡ kept ++ e ∷ []
     → IsPackedTaken (packed_view bits at n kept) e.spec seen.answer (packed_view bits seen.end n kept')
 takes_one bits at n kept kept' e seen here few look is = record {
   contents = look.contents;
@@ -158,23 +176,28 @@ takes_one bits at n kept kept' e seen here few look is = record {
   gives = look.gives;
   bits = refl;
   subsets = refl;
-  items = ap (items_at bits n) is ∙ items_at-append bits n kept e ∙ ap (λ x. items_at bits n kept ++ (let i : Item (List Content) = record { spec = e.spec; content = x } in i) ∷ []) (ap (λ j. contents_found (packed_field n e.spec (drop j bits))) here ∙ ap contents_found look.field);
+  items = ap (items_at bits n) is ∙ items_at-append bits n kept e ∙ ap (λ x. items_at bits n kept ++ (let i : Item (List Content) = record { spec = e.spec; content = x } in i) ∷ [])
+      (ap (λ j. contents_found (packed_field n e.spec (drop j bits))) here ∙ ap contents_found look.field);
   forth = look.least;
 }
 
 -- the reader of a contract, and what it keeps
-too_many_kept : (s : PackedCursor) (bits : List Bool) (at n : ℕ) (kept : List IndexedItem) (len from : ℕ) → s ≡ packed_view bits at n kept → len ≡ length kept → from ≡ n → max_values < (len + 1) * from → max_values < (length s.items + 1) * s.subsets
+too_many_kept : (s : PackedCursor) (bits : List Bool) (at n : ℕ) (kept : List IndexedItem) (len from : ℕ) → s ≡ packed_view bits at n kept → len ≡ length kept → from ≡ n
+    → max_values < (len + 1) * from → max_values < (length s.items + 1) * s.subsets
 too_many_kept s bits at n kept len from e f g h = grind (arith, common_steps, length-items_at)
 
-pub too_many_here : (s : PackedCursor) (a : FieldSpec) (bits : List Bool) (at n : ℕ) (kept : List IndexedItem) (len from fxy : ℕ) → fxy ≡ a.fxy → s ≡ packed_view bits at n kept → len ≡ length kept → from ≡ n → max_values < (len + 1) * from → PackedTakes s a (Err (wrong.TooManyValues fxy)) s
+pub too_many_here : (s : PackedCursor) (a : FieldSpec) (bits : List Bool) (at n : ℕ) (kept : List IndexedItem) (len from fxy : ℕ) → fxy ≡ a.fxy → s ≡ packed_view bits at n kept → len ≡ length kept
+    → from ≡ n → max_values < (len + 1) * from → PackedTakes s a (Err (wrong.TooManyValues fxy)) s
 too_many_here s a bits at n kept len from fxy d e f g h = (d, too_many_kept s bits at n kept len from e f g h, refl)
 
 pub few_here : (bits : List Bool) (n : ℕ) (kept : List IndexedItem) (len from : ℕ) → len ≡ length kept → from ≡ n → (len + 1) * from ≤ max_values → (length (items_at bits n kept) + 1) * n ≤ max_values
 few_here bits n kept len from f g few = subst (λ z. z ≤ max_values) (ap (λ l. (l + 1) * from) (f ∙ sym (length-items_at bits n kept)) ∙ ap (λ m. (length (items_at bits n kept) + 1) * m) g) few
 
 -- a fault of the item
-pub fault_here : (s : PackedCursor) (a : FieldSpec) (bits : List Bool) (at n : ℕ) (kept : List IndexedItem) (e : DataFault) → s ≡ packed_view bits at n kept → (length (items_at bits n kept) + 1) * n ≤ max_values → IsUnseen bits at n a e → PackedTakes s a (Err e) s
-fault_here s a bits at n kept e view few h = subst (λ x. PackedTakes x a (Err e) x) (sym view) (subst (λ w. PackedTakes (packed_view bits at n kept) a (Err w) (packed_view bits at n kept)) (sym h.fault) (by h.why h.field))
+pub fault_here : (s : PackedCursor) (a : FieldSpec) (bits : List Bool) (at n : ℕ) (kept : List IndexedItem) (e : DataFault) → s ≡ packed_view bits at n kept
+    → (length (items_at bits n kept) + 1) * n ≤ max_values → IsUnseen bits at n a e → PackedTakes s a (Err e) s
+fault_here s a bits at n kept e view few h = subst (λ x. PackedTakes x a (Err e) x) (sym view)
+    (subst (λ w. PackedTakes (packed_view bits at n kept) a (Err w) (packed_view bits at n kept)) (sym h.fault) (by h.why h.field))
   where
     by : (why : FieldFault) → packed_field n a (drop at bits) ≡ Err why → PackedTakes (packed_view bits at n kept) a (Err (wrong_of a.fxy why)) (packed_view bits at n kept)
     by data_end f = (record { why = data_end; field = f; fault = refl }, refl, few)
@@ -186,7 +209,8 @@ pub few_values : (s : PackedCursor) (bits : List Bool) (at n : ℕ) (kept : List
 few_values s bits at n kept e h = subst (λ x. length x.items * x.subsets ≤ max_values) e (subst (λ l. l * n ≤ max_values) (sym (length-items_at bits n kept)) h)
 
 -- no room could be made
-pub no_room : (s : PackedCursor) (a : FieldSpec) (bits : List Bool) (at n : ℕ) (kept kept' : List IndexedItem) (e : DataFault) → packed_view bits at n kept ≡ s → kept' ≡ kept → e ≡ wrong.Memory → length kept % items_at_once ≡ 0 → PackedTakes s a (Err e) (packed_view bits at n kept')
+pub no_room : (s : PackedCursor) (a : FieldSpec) (bits : List Bool) (at n : ℕ) (kept kept' : List IndexedItem) (e : DataFault) → packed_view bits at n kept ≡ s → kept' ≡ kept → e ≡ wrong.Memory
+    → length kept % items_at_once ≡ 0 → PackedTakes s a (Err e) (packed_view bits at n kept')
 no_room s a bits at n kept kept' e view same is full =
     subst (λ w. PackedTakes s a (Err w) (packed_view bits at n kept')) (sym is)
     (ap (packed_view bits at n) same ∙ view, subst (λ x. length x.items % items_at_once ≡ 0) view (subst (λ l. l % items_at_once ≡ 0) (sym (length-items_at bits n kept)) full))
@@ -235,7 +259,8 @@ passes n course s (i ∷ turns) s' e h =
     }
 
 -- with a subset at least
-reads_some : (n : ℕ) (course : Course) (items : List (Item (List Content))) (bits suffix : List Bool) → 1 ≤ n → ReadsPass (packed n) course items bits suffix → length items * n ≤ max_values → IsPackedReading n course items bits suffix
+reads_some : (n : ℕ) (course : Course) (items : List (Item (List Content))) (bits suffix : List Bool) → 1 ≤ n → ReadsPass (packed n) course items bits suffix → length items * n ≤ max_values
+    → IsPackedReading n course items bits suffix
 reads_some zero course items bits suffix some h few = absurd (omega arith)
 reads_some (suc n) course items bits suffix some h few = (h, few)
 
@@ -264,31 +289,39 @@ module _ (n : ℕ) (course : Course) (bits : List Bool) (s : PackedCursor) (firs
   from_first turns s' p = subst (λ here. ReadsItems (packed n) course p.read here (remaining_bits s')) (ap remaining_bits first) p.reads
 
   -- an accepted walk
-  pub walk_reads : (s' : PackedCursor) (c c' : ℕ) → c ≡ 0 → Walked PackedTakes course s c (Ok tt) s' c' → s'.at ≤ length s'.bits → length s'.items * s'.subsets ≤ max_values → IsReading course (packed_data n bits) (together s'.items) s'.at × (c' ≡ ticked 0 (turns_together n course s'.items))
+  pub walk_reads : (s' : PackedCursor) (c c' : ℕ) → c ≡ 0 → Walked PackedTakes course s c (Ok tt) s' c' → s'.at ≤ length s'.bits → length s'.items * s'.subsets ≤ max_values
+      → IsReading course (packed_data n bits) (together s'.items) s'.at × (c' ≡ ticked 0 (turns_together n course s'.items))
   walk_reads s' c c' zero_first w within few =
       let p = passes n course s w.0 s' begins w.1 in
       let are = all_items w.0 s' p in
       let whole : ReadsPass (packed n) course p.read bits (drop s'.at bits) = (subst (λ b. ReadsItems (packed n) course p.read bits b) (rest_is w.0 s' p) (from_first w.0 s' p), p.next_is ∙ w.2) in
       let bound : length s'.items * n ≤ max_values = subst (λ m. length s'.items * m ≤ max_values) p.subsets few in (
-        (refl, subst (λ b. s'.at ≤ length b) (all_bits w.0 s' p) within, reads_some n course s'.items bits (drop s'.at bits) some (subst (λ xs. ReadsPass (packed n) course xs bits (drop s'.at bits)) (sym are) whole) bound),
-        w.3 ∙ ap (λ t. ticked c t) (sym p.turns_are) ∙ ap (λ xs. ticked c (turns_after (packed n) course xs)) (sym are) ∙ ap (λ t. ticked c t) (sym (turns_are_those n course s'.items some)) ∙ ap (λ b. ticked b (turns_together n course s'.items)) zero_first,
+        (
+          refl,
+          subst (λ b. s'.at ≤ length b) (all_bits w.0 s' p) within,
+          reads_some n course s'.items bits (drop s'.at bits) some (subst (λ xs. ReadsPass (packed n) course xs bits (drop s'.at bits)) (sym are) whole) bound,
+        ),
+        w.3 ∙ ap (λ t. ticked c t) (sym p.turns_are) ∙ ap (λ xs. ticked c (turns_after (packed n) course xs)) (sym are) ∙ ap (λ t. ticked c t) (sym (turns_are_those n course s'.items some))
+            ∙ ap (λ b. ticked b (turns_together n course s'.items)) zero_first,
       )
 
   -- with the entries that were kept
-  pub whole_read : (s' : PackedCursor) (c c' : ℕ) (held : List Bool) (at m : ℕ) (entries : List IndexedItem) → packed_view held at m entries ≡ s' → c ≡ 0 → Walked PackedTakes course s c (Ok tt) s' c' → at ≤ length held → length entries * m ≤ max_values → list_all (fits_at held m) entries ≡ true
+  pub whole_read : (s' : PackedCursor) (c c' : ℕ) (held : List Bool) (at m : ℕ) (entries : List IndexedItem) → packed_view held at m entries ≡ s' → c ≡ 0 → Walked PackedTakes course s c (Ok tt) s' c'
+      → at ≤ length held → length entries * m ≤ max_values → list_all (fits_at held m) entries ≡ true
       → IsReadAndKept course (packed_data n bits) entries at c'
   whole_read s' c c' held at m entries view zero_first w within few fit =
       let p = passes n course s w.0 s' begins w.1 in
       let d = packed_data n bits in
       let r = walk_reads s' c c' zero_first w (subst (λ x. x.at ≤ length x.bits) view within) (few_values s' held at m entries view few) in
       let f = together_read n course s'.items bits (drop s'.at bits) r.0.2 in
-      let items : together s'.items ≡ values_of (reading_of course (packed_data n bits)).passes = ap together (sym f.1) in
+      let items : together s'.items ≡ values_in (reading_of course (packed_data n bits)).passes = ap together (sym f.1) in
       let used : s'.at ≡ at = sym (ap (λ x. x.at) view) in (
-        subst (λ u. IsReading course d (values_of (reading_of course d).passes) u) used (subst (λ v. IsReading course d v s'.at) items r.0),
+        subst (λ u. IsReading course d (values_in (reading_of course d).passes) u) used (subst (λ v. IsReading course d v s'.at) items r.0),
         subst (λ u. ReadsData course d (Ok u) c') used (f.0, omega (arith, r.0.1, ap length f.2, length-drop s'.at bits), r.1 ∙ ap (ticked 0) (sym f.3)),
         subst (λ v. KeepsValues (kept.Together entries) d v) items (
           ap (λ b. items_at b n entries) (sym (all_bits w.0 s' p)) ∙ ap (λ k. items_at s'.bits k entries) (sym p.subsets) ∙ subst (λ x. items_at x.bits x.subsets entries ≡ x.items) view refl,
-          ap (λ b. list_all (fits_at b n) entries) (sym (all_bits w.0 s' p)) ∙ ap (λ k. list_all (fits_at s'.bits k) entries) (sym p.subsets) ∙ subst (λ x. list_all (fits_at x.bits x.subsets) entries ≡ true) view fit,
+          ap (λ b. list_all (fits_at b n) entries) (sym (all_bits w.0 s' p)) ∙ ap (λ k. list_all (fits_at s'.bits k) entries) (sym p.subsets)
+              ∙ subst (λ x. list_all (fits_at x.bits x.subsets) entries ≡ true) view fit,
         ),
       )
 
@@ -296,7 +329,8 @@ module _ (n : ℕ) (course : Course) (bits : List Bool) (s : PackedCursor) (firs
   few_read turns mid p few = subst (λ xs. length xs * n ≤ max_values) (all_items turns mid p) few
 
   -- it was refused there
-  refused_so : (turns : List TakenField) (mid : PackedCursor) (p : Passed n course s turns mid) (next : Next) (stop : Stop) (at c' : ℕ) → (course (answers_of turns)).next ≡ next → mid.at ≤ length bits → length mid.items * n ≤ max_values → at ≡ mid.at → c' ≡ ticked 0 (course (answers_of turns)).turns
+  refused_so : (turns : List TakenField) (mid : PackedCursor) (p : Passed n course s turns mid) (next : Next) (stop : Stop) (at c' : ℕ) → (course (answers_of turns)).next ≡ next
+      → mid.at ≤ length bits → length mid.items * n ≤ max_values → at ≡ mid.at → c' ≡ ticked 0 (course (answers_of turns)).turns
       → stop_at (packed n) (would_be_many n (length p.read)) next (remaining_bits mid) ≡ Some stop
       → (fault_of (packed_data n bits) (reading_of course (packed_data n bits)) ≡ Some (walk_fault_of stop 0 at)) × (c' ≡ ticked 0 (reading_of course (packed_data n bits)).turns)
   refused_so turns mid p next stop at c' e within few here ticks h =
@@ -312,29 +346,40 @@ module _ (n : ℕ) (course : Course) (bits : List Bool) (s : PackedCursor) (firs
       none_more : (t : ℕ) → t + 0 ≡ t
       none_more t = omega arith
 
-  short_so : (turns : List TakenField) (mid : PackedCursor) (p : Passed n course s turns mid) (spec : FieldSpec) → (course (answers_of turns)).next ≡ take_next spec → length mid.items * n ≤ max_values → (length mid.items % items_at_once ≡ 0) ⊎ (spec.role ≡ role.Reference)
-      → OneRunsShort (packed n) true course (passes_together course n bits) (course (answers_of turns)).turns
+  short_so : (turns : List TakenField) (mid : PackedCursor) (p : Passed n course s turns mid) (spec : FieldSpec) → (course (answers_of turns)).next ≡ take_next spec
+      → length mid.items * n ≤ max_values → (length mid.items % items_at_once ≡ 0) ⊎ (spec.role ≡ role.Reference)
+      → RunsShort (packed n) true course (passes_together course n bits) (course (answers_of turns)).turns
   short_so turns mid p spec e few why =
       let begins = together_begins n course p.read bits (remaining_bits mid) some (from_first turns mid p) (few_read turns mid p few) in
-      subst (λ ps. OneRunsShort (packed n) true course ps (course (answers_of turns)).turns) (sym begins.1) (inl (record {
+      record {
+        done = [];
+        here = begins.0;
+        later = [];
+        among = begins.1;
         items = p.read;
         more = begins.2;
         are = begins.3;
         spec = spec;
         next = p.next_is ∙ e;
         wants = subst (λ l. (l % items_at_once ≡ 0) ⊎ (spec.role ≡ role.Reference)) (ap length (all_items turns mid p)) why;
-        turns_are = sym p.turns_are;
-      }))
+        turns_are = sym p.turns_are ∙ zero_plus (turns_after (packed n) course p.read);
+      }
+    where
+      zero_plus : (t : ℕ) → t ≡ 0 + t
+      zero_plus t = omega arith
 
   -- a fault of the field
-  field_so : (turns : List TakenField) (mid : PackedCursor) (p : Passed n course s turns mid) (spec : FieldSpec) (at c' : ℕ) (why : FieldFault) → (course (answers_of turns)).next ≡ take_next spec → mid.at ≤ length bits → length mid.items * n ≤ max_values → at ≡ mid.at
-      → (length mid.items + 1) * mid.subsets ≤ max_values → packed_field mid.subsets spec (remaining_bits mid) ≡ Err why → c' ≡ ticked 0 (course (answers_of turns)).turns → ReadsData course (packed_data n bits) (Err (fault_at (stops.Field (wrong_of spec.fxy why)) 0 at)) c'
+  field_so : (turns : List TakenField) (mid : PackedCursor) (p : Passed n course s turns mid) (spec : FieldSpec) (at c' : ℕ) (why : FieldFault) → (course (answers_of turns)).next ≡ take_next spec
+      → mid.at ≤ length bits → length mid.items * n ≤ max_values → at ≡ mid.at
+      → (length mid.items + 1) * mid.subsets ≤ max_values → packed_field mid.subsets spec (remaining_bits mid) ≡ Err why → c' ≡ ticked 0 (course (answers_of turns)).turns
+      → ReadsData course (packed_data n bits) (Err (fault_at (stops.Field (wrong_of spec.fxy why)) 0 at)) c'
   field_so turns mid p spec at c' why e within few here room field ticks = by why field
     where
       many : would_be_many n (length p.read) ≡ false
       many = le-ltb max_values ((length p.read + 1) * n) (subst (λ xs. (length xs + 1) * n ≤ max_values) (all_items turns mid p) (subst (λ m. (length mid.items + 1) * m ≤ max_values) p.subsets room))
 
-      ends : (why : FieldFault) → packed_field mid.subsets spec (remaining_bits mid) ≡ Err why → stop_at (packed n) (would_be_many n (length p.read)) (take_next spec) (remaining_bits mid) ≡ Some (field_stop spec.fxy why)
+      ends : (why : FieldFault) → packed_field mid.subsets spec (remaining_bits mid) ≡ Err why
+          → stop_at (packed n) (would_be_many n (length p.read)) (take_next spec) (remaining_bits mid) ≡ Some (field_stop spec.fxy why)
       ends why f = ap (λ b. stop_at (packed n) b (take_next spec) (remaining_bits mid)) many ∙ ap (field_stop_of spec.fxy) (ap (λ m. packed_field m spec (remaining_bits mid)) (sym p.subsets) ∙ f)
 
       by : (why : FieldFault) → packed_field mid.subsets spec (remaining_bits mid) ≡ Err why → ReadsData course (packed_data n bits) (Err (fault_at (stops.Field (wrong_of spec.fxy why)) 0 at)) c'
@@ -343,9 +388,11 @@ module _ (n : ℕ) (course : Course) (bits : List Bool) (s : PackedCursor) (firs
       by unequal_factor f = refused_so turns mid p (take_next spec) (field_stop spec.fxy unequal_factor) at c' e within few here ticks (ends unequal_factor f)
 
   -- a refused walk
-  pub walk_stops : (s' : PackedCursor) (c c' at : ℕ) (why : WalkStop DataFault) → c ≡ 0 → Walked PackedTakes course s c (Err why) s' c' → s'.at ≤ length s'.bits → length s'.items * s'.subsets ≤ max_values → at ≡ s'.at → ReadsData course (packed_data n bits) (Err (fault_at why 0 at)) c'
+  pub walk_stops : (s' : PackedCursor) (c c' at : ℕ) (why : WalkStop DataFault) → c ≡ 0 → Walked PackedTakes course s c (Err why) s' c' → s'.at ≤ length s'.bits
+      → length s'.items * s'.subsets ≤ max_values → at ≡ s'.at → ReadsData course (packed_data n bits) (Err (fault_at why 0 at)) c'
   walk_stops s' c c' at why zero_first w within few here =
-      stop_cases PackedTakes (λ next y. (course (answers_of w.0)).next ≡ next → ReadsData course (packed_data n bits) (Err (fault_at y 0 at)) c') w.1 s' field (λ spec r e q. ((course (answers_of w.0)).turns, short_so w.0 w.1 p spec q (room e) (inr r), ticks)) refuses (course (answers_of w.0)).next why w.3 refl
+      stop_cases PackedTakes (λ next y. (course (answers_of w.0)).next ≡ next → ReadsData course (packed_data n bits) (Err (fault_at y 0 at)) c') w.1 s' field
+      (λ spec r e q. ((course (answers_of w.0)).turns, short_so w.0 w.1 p spec q (room e) (inr r), ticks)) refuses (course (answers_of w.0)).next why w.3 refl
     where
       p : Passed n course s w.0 w.1
       p = passes n course s w.0 w.1 begins w.2
@@ -363,16 +410,22 @@ module _ (n : ℕ) (course : Course) (bits : List Bool) (s : PackedCursor) (firs
       place : s' ≡ w.1 → at ≡ w.1.at
       place e = here ∙ ap (λ x. x.at) e
 
-      wrong_so : (spec : FieldSpec) (e : DataFault) → (course (answers_of w.0)).next ≡ take_next spec → IsUnseen w.1.bits w.1.at w.1.subsets spec e → s' ≡ w.1 → (length w.1.items + 1) * w.1.subsets ≤ max_values → ReadsData course (packed_data n bits) (Err (fault_at (stops.Field e) 0 at)) c'
+      wrong_so : (spec : FieldSpec) (e : DataFault) → (course (answers_of w.0)).next ≡ take_next spec → IsUnseen w.1.bits w.1.at w.1.subsets spec e → s' ≡ w.1
+          → (length w.1.items + 1) * w.1.subsets ≤ max_values → ReadsData course (packed_data n bits) (Err (fault_at (stops.Field e) 0 at)) c'
       wrong_so spec e q h same room_for =
-          subst (λ x. ReadsData course (packed_data n bits) (Err (fault_at (stops.Field x) 0 at)) c') (sym h.fault) (field_so w.0 w.1 p spec at c' h.why q (inside same) (room same) (place same) room_for h.field ticks)
+          subst (λ x. ReadsData course (packed_data n bits) (Err (fault_at (stops.Field x) 0 at)) c') (sym h.fault)
+          (field_so w.0 w.1 p spec at c' h.why q (inside same) (room same) (place same) room_for h.field ticks)
 
       many_so : (spec : FieldSpec) → max_values < (length w.1.items + 1) * w.1.subsets → would_be_many n (length p.read) ≡ true
-      many_so spec h = lt-ltb max_values ((length p.read + 1) * n) (subst (λ xs. max_values < (length xs + 1) * n) (all_items w.0 w.1 p) (subst (λ m. max_values < (length w.1.items + 1) * m) p.subsets h))
+      many_so spec h = lt-ltb max_values ((length p.read + 1) * n)
+          (subst (λ xs. max_values < (length xs + 1) * n) (all_items w.0 w.1 p) (subst (λ m. max_values < (length w.1.items + 1) * m) p.subsets h))
 
-      field : (spec : FieldSpec) (e : DataFault) → PackedTakes w.1 spec (Err e) s' → (course (answers_of w.0)).next ≡ take_next spec → ReadsData course (packed_data n bits) (Err (fault_at (stops.Field e) 0 at)) c'
+      field : (spec : FieldSpec) (e : DataFault) → PackedTakes w.1 spec (Err e) s' → (course (answers_of w.0)).next ≡ take_next spec
+          → ReadsData course (packed_data n bits) (Err (fault_at (stops.Field e) 0 at)) c'
       field spec (wrong.TooManyValues fxy) h q =
-          subst (λ f. ReadsData course (packed_data n bits) (Err (fault.TooManyValues (spot 0 f at))) c') (sym h.0) (refused_so w.0 w.1 p (take_next spec) (too_many spec.fxy) at c' q (inside h.2) (room h.2) (place h.2) ticks (ap (λ b. stop_at (packed n) b (take_next spec) (remaining_bits w.1)) (many_so spec h.1)))
+          subst (λ f. ReadsData course (packed_data n bits) (Err (fault.TooManyValues (spot 0 f at))) c') (sym h.0)
+          (refused_so w.0 w.1 p (take_next spec) (too_many spec.fxy) at c' q (inside h.2) (room h.2) (place h.2) ticks
+          (ap (λ b. stop_at (packed n) b (take_next spec) (remaining_bits w.1)) (many_so spec h.1)))
       field spec wrong.Memory h q = ((course (answers_of w.0)).turns, short_so w.0 w.1 p spec q (room h.0) (inl h.1), ticks)
       field spec (wrong.DataEnd fxy) h q = wrong_so spec (wrong.DataEnd fxy) q h.0 h.1 h.2
       field spec (wrong.Increment fxy) h q = wrong_so spec (wrong.Increment fxy) q h.0 h.1 h.2
@@ -382,18 +435,22 @@ module _ (n : ℕ) (course : Course) (bits : List Bool) (s : PackedCursor) (firs
       refuses (refusal.Width f) e q = refused_so w.0 w.1 p (refused (refusal.Width f)) (walk_stop (refusal.Width f)) at c' q (inside e) (room e) (place e) ticks refl
       refuses (refusal.Defining f) e q = refused_so w.0 w.1 p (refused (refusal.Defining f)) (walk_stop (refusal.Defining f)) at c' q (inside e) (room e) (place e) ticks refl
 
-pub stopped_within : (course : Course) (bits : List Bool) (n : ℕ) (s s' : PackedCursor) (c c' : ℕ) (why : WalkStop DataFault) → s ≡ new_packed_in bits n → Walked PackedTakes course s c (Err why) s' c' → s'.at ≤ length s'.bits → s'.at ≤ length bits
+pub stopped_within : (course : Course) (bits : List Bool) (n : ℕ) (s s' : PackedCursor) (c c' : ℕ) (why : WalkStop DataFault) → s ≡ new_packed_in bits n
+    → Walked PackedTakes course s c (Err why) s' c' → s'.at ≤ length s'.bits → s'.at ≤ length bits
 stopped_within course bits n s s' c c' why first w h =
     let p = passes n course s w.0 w.1 (ap (λ x. x.subsets) first) w.2 in
-    subst (λ b. s'.at ≤ length b) (stop_cases PackedTakes (λ next y. s'.bits ≡ w.1.bits) w.1 s' (λ spec e g. ap (λ x. x.bits) (refuses_packed w.1 spec e s' g)) (λ spec r g. ap (λ x. x.bits) g) (λ x g. ap (λ z. z.bits) g) (course (answers_of w.0)).next why w.3 ∙ p.bits ∙ ap (λ x. x.bits) first) h
+    subst (λ b. s'.at ≤ length b) (stop_cases PackedTakes (λ next y. s'.bits ≡ w.1.bits) w.1 s' (λ spec e g. ap (λ x. x.bits) (refuses_packed w.1 spec e s' g)) (λ spec r g. ap (λ x. x.bits) g)
+    (λ x g. ap (λ z. z.bits) g) (course (answers_of w.0)).next why w.3 ∙ p.bits ∙ ap (λ x. x.bits) first) h
 
 -- the bound of steps
-pub few_stopped : (k steps steps' at here all : ℕ) (s : PackedCursor) (bits : List Bool) (n : ℕ) (why : WalkStop DataFault) → s ≡ new_packed_in bits n → steps ≡ 0 → steps' ≤ steps + k * (at - s.at + 1) → here ≡ at → at ≤ all → steps' ≤ k * (bits_before (fault_at why 0 here) all + 1)
+pub few_stopped : (k steps steps' at here all : ℕ) (s : PackedCursor) (bits : List Bool) (n : ℕ) (why : WalkStop DataFault) → s ≡ new_packed_in bits n → steps ≡ 0
+    → steps' ≤ steps + k * (at - s.at + 1) → here ≡ at → at ≤ all → steps' ≤ k * (bits_before (fault_at why 0 here) all + 1)
 few_stopped k steps steps' at here all s bits n why first e h u within = grind (arith, common_steps, mul-le-mul_left)
 
 -- ---- The parts of a reading of compressed data.
 
-pub packed_held : (table : List Row) (template : Tree) (subsets : ℕ) (octets : List ℕ) (used steps : ℕ) (entries : List IndexedItem) → IsReadAndKept (next_item table template) (data_in true subsets octets) entries used steps → 7 * length entries ≤ used → length octets < 2 ^ 24
+pub packed_held : (table : List Row) (template : Tree) (subsets : ℕ) (octets : List ℕ) (used steps : ℕ) (entries : List IndexedItem)
+    → IsReadAndKept (next_item table template) (data_in true subsets octets) entries used steps → 7 * length entries ≤ used → length octets < 2 ^ 24
     → IsStoredReading (read_by table template (data_in true subsets octets) used (length entries)) (kept.Together entries)
 packed_held table template subsets octets used steps entries h few short = record { reading = h.0; keeps = h.2; few = few; pays = tt; short = used_most octets used short h.0.1 }
 
@@ -401,6 +458,7 @@ packed_held table template subsets octets used steps entries h few short = recor
 pub packed_data_same : (m : Sections) (subsets : ℕ) (octets : List ℕ) → m.compressed ≡ true → subsets ≡ m.subsets → octets ≡ m.payload → data_in true subsets octets ≡ data_of m
 packed_data_same m subsets octets packed e f = grind (arith, common_steps)
 
-pub packed_is : (table : List Row) (template : Tree) (m : Sections) (subsets : ℕ) (octets : List ℕ) (used held steps : ℕ) (entries : List IndexedItem) → data_in true subsets octets ≡ data_of m → IsReadAndKept (next_item table template) (data_in true subsets octets) entries used steps
+pub packed_is : (table : List Row) (template : Tree) (m : Sections) (subsets : ℕ) (octets : List ℕ) (used held steps : ℕ) (entries : List IndexedItem) → data_in true subsets octets ≡ data_of m
+    → IsReadAndKept (next_item table template) (data_in true subsets octets) entries used steps
     → AnswersReading table template (data_of m) (Ok (read_by table template (data_in true subsets octets) used held)) steps
 packed_is table template m subsets octets used held steps entries e h = (refl, refl, e, subst (λ d. ReadsData (next_item table template) d (Ok used) steps) e h.1)

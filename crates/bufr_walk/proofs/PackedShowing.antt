@@ -4,7 +4,7 @@ use Rattle.std.proofs.Common.{◌≡◌, ℕ, ◌+◌, ◌-◌, ◌*◌, ◌<◌
 use Rattle.std.proofs.lemmas.List.{drop-drop, append-nil, take_more_set, replicate-append-replicate}
 use Rattle.bufr_bits.specs.Prelude.{bits_of, are_all_ones}
 use Rattle.bufr_tables.specs.Prelude.{is_character, Row}
-use Rattle.bufr_walk.specs.Prelude.{IndexedItem, octets_in, text, missing, shown_text, shown_missing, shown, Content, padded_text, FieldSpec, content_kept, call_kept, IsStoredReading, KeepsValues, held_of, fits_at, items_at, ShowFault, Sofar, Call, Timed, timed, compressed_item_calls, Shows, subset_call, compressed_subset_calls, calls_by, turns_by, Item, Values, apart, together, items_kept, Read}
+use Rattle.bufr_walk.specs.Prelude.{IndexedItem, octets_in, text, missing, shown_text, shown_missing, shown, Content, padded_text, FieldSpec, content_kept, call_kept, IsStoredReading, KeepsValues, held_of, fits_at, items_at, ShowFault, Sofar, Call, Timed, timed, compressed_item_calls, Shows, subset_call, compressed_subset_calls, calls_for, turns_for, Item, Values, apart, together, items_kept, Read}
 use Rattle.bufr_walk.proofs.PackedLemmas.{kept_parts, text_content, text_within}
 use Rattle.bufr_walk.proofs.PlainLemmas.{bits_length, octets_prefix}
 use Rattle.std.specs.List.{list_all}
@@ -22,17 +22,20 @@ use Rattle.bufr_walk.specs.declared.reading.StoredItems.TheVariants as kept
 pub missing_text : (spec : FieldSpec) (count k : ℕ) (bits : List Bool) → are_all_ones (take (8 * k) bits) ≡ true → shown_missing ≡ shown spec (padded_text count k (take (8 * k) bits))
 missing_text spec count k bits e = sym (ap (λ b. shown spec (if b then missing else text (octets_in k (take (8 * k) bits) ++ replicate (count - k) 32))) e)
 
-pub whole_text : (spec : FieldSpec) (count k : ℕ) (bits : List Bool) (octets : List ℕ) → are_all_ones (take (8 * k) bits) ≡ false → octets ≡ octets_in k bits ++ replicate (count - k) 32 → shown_text octets ≡ shown spec (padded_text count k (take (8 * k) bits))
+pub whole_text : (spec : FieldSpec) (count k : ℕ) (bits : List Bool) (octets : List ℕ) → are_all_ones (take (8 * k) bits) ≡ false → octets ≡ octets_in k bits ++ replicate (count - k) 32
+    → shown_text octets ≡ shown spec (padded_text count k (take (8 * k) bits))
 whole_text spec count k bits octets e is = grind (arith, common_steps, octets_prefix)
 
 -- the text at its place
-pub span_text : (bits : List Bool) (n : ℕ) (e : IndexedItem) (j place : ℕ) → fits_at bits n e ≡ true → 1 ≤ e.step → j < n → is_character e.spec.kind ≡ true → place ≡ e.at + (e.spec.width + 6) + j * (8 * e.step)
+pub span_text : (bits : List Bool) (n : ℕ) (e : IndexedItem) (j place : ℕ) → fits_at bits n e ≡ true → 1 ≤ e.step → j < n → is_character e.spec.kind ≡ true
+    → place ≡ e.at + (e.spec.width + 6) + j * (8 * e.step)
     → padded_text (e.spec.width / 8) e.step (take (8 * e.step) (drop place bits)) ≡ content_kept bits n e j
 span_text bits n e j place h some below c is =
     ap (λ bs. padded_text (e.spec.width / 8) e.step (take (8 * e.step) bs)) (ap (λ p. drop p bits) is ∙ sym (drop-drop (j * (8 * e.step)) (e.at + (e.spec.width + 6)) bits))
     ∙ text_content bits n e j h some below c
 
-pub span_within : (octets : List ℕ) (n : ℕ) (e : IndexedItem) (j : ℕ) → fits_at (bits_of octets) n e ≡ true → 1 ≤ e.step → j < n → is_character e.spec.kind ≡ true → e.at + (e.spec.width + 6) + (j + 1) * (8 * e.step) ≤ 8 * length octets
+pub span_within : (octets : List ℕ) (n : ℕ) (e : IndexedItem) (j : ℕ) → fits_at (bits_of octets) n e ≡ true → 1 ≤ e.step → j < n → is_character e.spec.kind ≡ true
+    → e.at + (e.spec.width + 6) + (j + 1) * (8 * e.step) ≤ 8 * length octets
 span_within octets n e j h some below c = omega (arith, text_within (bits_of octets) n e j h some below c, bits_length octets)
 
 -- an item is within the bits
@@ -42,7 +45,8 @@ base_within octets n e h = let p = kept_parts (bits_of octets) n e h in omega (a
 -- ---- Calls that show compressed data, joined.
 
 module _ {S E : Type 0} (sees : S → Call → Result (Unit {0}) E → S → Type 0) where
-  all_on : (s : S) (a b : List Timed) (s1 : S) (turns : ℕ) (r : Result (Unit {0}) (ShowFault E)) (s' : S) (steps : ℕ) → Shows sees s a 0 (Ok tt) s1 0 → Shows sees s1 b turns r s' steps → Shows sees s (a ++ b) turns r s' steps
+  all_on : (s : S) (a b : List Timed) (s1 : S) (turns : ℕ) (r : Result (Unit {0}) (ShowFault E)) (s' : S) (steps : ℕ) → Shows sees s a 0 (Ok tt) s1 0 → Shows sees s1 b turns r s' steps
+      → Shows sees s (a ++ b) turns r s' steps
   all_on s [] b s1 turns r s' steps h w = subst (λ x. Shows sees x b turns r s' steps) h.0 w
   all_on s (t ∷ a) b s1 turns (Ok u) s' steps h w = (h.0, h.1, all_on h.0 a b s1 turns (Ok u) s' steps h.2 w)
   all_on s (t ∷ a) b s1 turns (Err e) s' steps h w = inr (h.0, h.1, all_on h.0 a b s1 turns (Err e) s' steps h.2 w)
@@ -64,7 +68,8 @@ pub next_call : (table : List Row) (bits : List Bool) (n j : ℕ) (kept : List I
     → compressed_item_calls table j (items_at bits n (drop i kept)) ≡ timed 0 (call_kept table bits n k j) ∷ compressed_item_calls table j (items_at bits n (drop (i + 1) kept))
 next_call table bits n j kept i k h e = ap (λ ks. compressed_item_calls table j (items_at bits n ks)) (next_entry kept i k h (sym e))
 
-pub fit_here : (bits : List Bool) (n : ℕ) (kept : List IndexedItem) (i : ℕ) (k : IndexedItem) → i < length kept → k ≡ get_or kept i k → list_all (fits_at bits n) (drop i kept) ≡ true → fits_at bits n k ≡ true
+pub fit_here : (bits : List Bool) (n : ℕ) (kept : List IndexedItem) (i : ℕ) (k : IndexedItem) → i < length kept → k ≡ get_or kept i k → list_all (fits_at bits n) (drop i kept) ≡ true
+    → fits_at bits n k ≡ true
 fit_here bits n kept i k h e w = and_first (fits_at bits n k) (list_all (fits_at bits n) (drop (i + 1) kept)) (subst (λ ks. list_all (fits_at bits n) ks ≡ true) (next_entry kept i k h (sym e)) w)
 
 -- there is an item at an index, and one only
@@ -73,14 +78,16 @@ item_there [] i h = absurd (omega (arith, h))
 item_there (k ∷ kept) zero h = (k, refl)
 item_there (k ∷ kept) (suc i) h = item_there kept i (omega (arith, h))
 
-pub fit_after : (bits : List Bool) (n : ℕ) (kept : List IndexedItem) (i : ℕ) (k : IndexedItem) → i < length kept → k ≡ get_or kept i k → list_all (fits_at bits n) (drop i kept) ≡ true → list_all (fits_at bits n) (drop (i + 1) kept) ≡ true
+pub fit_after : (bits : List Bool) (n : ℕ) (kept : List IndexedItem) (i : ℕ) (k : IndexedItem) → i < length kept → k ≡ get_or kept i k → list_all (fits_at bits n) (drop i kept) ≡ true
+    → list_all (fits_at bits n) (drop (i + 1) kept) ≡ true
 fit_after bits n kept i k h e w = and_second (fits_at bits n k) (list_all (fits_at bits n) (drop (i + 1) kept)) (subst (λ ks. list_all (fits_at bits n) ks ≡ true) (next_entry kept i k h (sym e)) w)
 
 -- spaces after a text
 pub pad_none : (xs : List ℕ) (n : ℕ) → xs ≡ xs ++ replicate (n - n) 32
 pad_none xs n = let none : 0 ≡ n - n = omega arith in sym (append-nil xs) ∙ ap (λ k. xs ++ replicate k 32) none
 
-pub pad_more : (octets prefix : List ℕ) (place from : ℕ) → place < length octets → from ≤ place → take place octets ≡ prefix ++ replicate (place - from) 32 → take (place + 1) (set octets place 32) ≡ prefix ++ replicate (place + 1 - from) 32
+pub pad_more : (octets prefix : List ℕ) (place from : ℕ) → place < length octets → from ≤ place → take place octets ≡ prefix ++ replicate (place - from) 32
+    → take (place + 1) (set octets place 32) ≡ prefix ++ replicate (place + 1 - from) 32
 pad_more octets prefix place from h order e =
     let space : ℕ = 32 in
     let more : place - from + 1 ≡ place + 1 - from = omega arith in
@@ -99,13 +106,15 @@ module _ {S E : Type 0} (sees : S → Call → Result (Unit {0}) E → S → Typ
   calls_from i = compressed_item_calls table j (items_at bits n (drop i kept))
 
   -- one entry more
-  pub items_go : (s s1 s2 : S) (i : ℕ) (k : IndexedItem) → i < length kept → k ≡ get_or kept i k → Sofar sees s (calls_from 0) s1 (calls_from i) → sees s1 (call_at k) (Ok tt) s2 → Sofar sees s (calls_from 0) s2 (calls_from (i + 1))
+  pub items_go : (s s1 s2 : S) (i : ℕ) (k : IndexedItem) → i < length kept → k ≡ get_or kept i k → Sofar sees s (calls_from 0) s1 (calls_from i) → sees s1 (call_at k) (Ok tt) s2
+      → Sofar sees s (calls_from 0) s2 (calls_from (i + 1))
   items_go s s1 s2 i k h e so call =
       let so_far : Sofar sees s (calls_from 0) s1 (timed 0 (call_at k) ∷ calls_from (i + 1)) = subst (Sofar sees s (calls_from 0) s1) (next_call table bits n j kept i k h e) so in
       sofar_then sees s s1 s2 _ _ _ so_far (sofar_call sees s1 s2 (timed 0 (call_at k)) (calls_from (i + 1)) call)
 
   -- an entry whose call is refused
-  pub items_end : (s s1 s2 : S) (i : ℕ) (k : IndexedItem) (f : E) → i < length kept → k ≡ get_or kept i k → Sofar sees s (calls_from 0) s1 (calls_from i) → sees s1 (call_at k) (Err f) s2 → Shows sees s (calls_from 0) 0 (Err (fault.Visitor f)) s2 0
+  pub items_end : (s s1 s2 : S) (i : ℕ) (k : IndexedItem) (f : E) → i < length kept → k ≡ get_or kept i k → Sofar sees s (calls_from 0) s1 (calls_from i) → sees s1 (call_at k) (Err f) s2
+      → Shows sees s (calls_from 0) 0 (Err (fault.Visitor f)) s2 0
   items_end s s1 s2 i k f h e so call =
       let so_far : Sofar sees s (calls_from 0) s1 (timed 0 (call_at k) ∷ calls_from (i + 1)) = subst (Sofar sees s (calls_from 0) s1) (next_call table bits n j kept i k h e) so in
       so_far.on 0 (Err (fault.Visitor f)) s2 0 (inl (call, refl))
@@ -154,12 +163,13 @@ entries_fit r entries h = by (values_read r) h.keeps
     by (apart xs) k = absurd k
     by (together xs) k = k.1
 
-pub packed_shown : {V E : Type 0} (sees : V → Call → Result (Unit {0}) E → V → Type 0) (r : Read) (entries : List IndexedItem) (items : List IndexedItem) (v v' : V) (result : Result (Unit {0}) (ShowFault E)) (steps : ℕ) → IsStoredReading r (kept.Together entries) → items ≡ entries → steps ≡ 0
+pub packed_shown : {V E : Type 0} (sees : V → Call → Result (Unit {0}) E → V → Type 0) (r : Read) (entries : List IndexedItem) (items : List IndexedItem) (v v' : V)
+    (result : Result (Unit {0}) (ShowFault E)) (steps : ℕ) → IsStoredReading r (kept.Together entries) → items ≡ entries → steps ≡ 0
     → Shows sees v (compressed_subset_calls r.table r.source.subsets 0 (items_at r.source.bits r.source.subsets items)) 0 result v' 0
     → Shows sees v (calls_of r) (turns_shown r) result v' steps
 packed_shown sees r entries items v v' result steps h are none shows = subst (λ n. Shows sees v (calls_of r) (turns_shown r) result v' n) (sym none) (by (values_read r) h.keeps)
   where
-    by : (held : Values) → KeepsValues (kept.Together entries) r.source held → Shows sees v (calls_by r held) (turns_by r held) result v' 0
+    by : (held : Values) → KeepsValues (kept.Together entries) r.source held → Shows sees v (calls_for r held) (turns_for r held) result v' 0
     by (apart all) k = absurd k
     by (together held) k = subst (λ is. Shows sees v (compressed_subset_calls r.table r.source.subsets 0 is) 0 result v' 0) (ap (items_at r.source.bits r.source.subsets) are ∙ k.0) shows
 

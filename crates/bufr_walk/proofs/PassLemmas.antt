@@ -5,7 +5,7 @@ use Rattle.bufr_walk.proofs.PackedLemmas.{item_ok, neither}
 use Rattle.std.proofs.Common.{◌≡◌, ℕ, zero, suc, ◌+◌, ◌-◌, ◌<◌, ◌≤◌, Bool, true, false, List, [], ◌∷◌, ◌++◌, length, Option, Some, None, Result, Ok, Err, ◌==◌, ◌||◌, ◌*◌, nat_lt, take, refl, sym, ◌∙◌, ap, subst, arith, drop, length-drop, if◌then◌else◌}
 use Rattle.bufr_tables.specs.Prelude.{Row, Tree, IsLegal, Record, AreRows}
 use Rattle.bufr_walk.specs.Prelude.{packed_field, increment_bits_of, are_increments_valid, equal_in, contents_of, FieldSpec, Content, FieldFault, FieldRead, found, Course, Next, take_next, at_end, astray, refused, next_item, Item, DataCoding, plain, packed, item_answer, after, ReadsItems, ReadsPass, next_after, turns_after, ReadsSubsets, IsPackedReading, turns_together, Data, Values, apart, together, IsReading, Stop, walk_stop, too_many, field_stop, field_stop_of, stop_at, would_be_many, max_values}
-use Rattle.bufr_walk.specs.Pass.{Step, Pass, last_turn, item_then, pass_field, pass_next, pass, Place, place_at, read_field, reading, read_pass, DataPass, unless_stopped, passes_apart, passes_together, first_stop, stop_of, left_after, turns_in_all, DataReading, reading_in, reading_of, items_by_pass, first_items, values_of, EndsPass, ReadsTo}
+use Rattle.bufr_walk.specs.Pass.{Step, Pass, last_turn, item_then, pass_field, pass_next, pass, Place, place_at, read_field, reading, read_pass, DataPass, unless_stopped, passes_apart, passes_together, first_stop, stop_of, left_after, turns_in_all, DataReading, reading_in, reading_of, items_by_pass, first_items, values_in, EndsPass, ReadsTo}
 use Rattle.std.proofs.lemmas.Grind.{common_steps}
 use Rattle.std.proofs.lemmas.List.{drop-drop}
 use Rattle.bufr_walk.proofs.CourseLemmas.{IsSane, Forth, plain_forth, packed_forth, rows_within, template_sane}
@@ -65,25 +65,32 @@ module _ {C : Type 0} (form : DataCoding C) (many : ℕ → Bool) where
       ∙ ap (λ r. pass_field (reading form many) (course []).turns x.spec (place_at from bits) (read_field form x.spec from r) go) h.2
 
   -- a pass with these items and this end is what the function gives
-  pub pass_is : (most : ℕ) (course : Course) (from : ℕ) (bits : List Bool) (items : List (Item C)) (left : List Bool) (o : Option Stop) → ReadsTo form many course from bits items left o → length items < most
+  pub pass_is : (most : ℕ) (course : Course) (from : ℕ) (bits : List Bool) (items : List (Item C)) (left : List Bool) (o : Option Stop) → ReadsTo form many course from bits items left o
+      → length items < most
       → pass (reading form many) most course (place_at from bits) ≡ passed form course (from + length items) items left o
   pass_is zero course from bits items left o h lt = absurd (omega (arith, lt))
   pass_is (suc more) course from bits [] left o h lt =
-      let ends : EndsPass form (many from) (course []).next bits o = subst (λ b. EndsPass form (many from) (course []).next b o) (sym h.reads) (subst (λ k. EndsPass form (many k) (course []).next left o) (none_more from) h.ends) in
+      let ends : EndsPass form (many from) (course []).next bits o =
+      subst (λ b. EndsPass form (many from) (course []).next b o) (sym h.reads) (subst (λ k. EndsPass form (many k) (course []).next left o) (none_more from) h.ends) in
       at_last (course []).turns (course []).next from bits o (λ f. pass (reading form many) more (λ answers. course (f.returned ∷ answers)) f.state) ends
       ∙ ap (λ b. last_turn (course []).turns (place_at from b) o) h.reads
       ∙ ap (λ k. last_turn (course []).turns (place_at k left) o) (sym (none_more from))
   pass_is (suc more) course from bits (x ∷ xs) left o h lt =
       let few : many from ≡ false = subst (λ k. many k ≡ false) (none_more from) (h.few 0 (omega arith)) in
       let rest = pass_is more (after form course x) (from + 1) h.reads.0 xs left o
-      (record { reads = h.reads.3; few = λ j l. ap many (one_more from j) ∙ h.few (suc j) (omega (arith, l)); ends = subst (λ k. EndsPass form (many k) (next_after form (after form course x) xs) left o) (sym (one_more from (length xs))) h.ends })
+      (record {
+        reads = h.reads.3;
+        few = λ j l. ap many (one_more from j) ∙ h.few (suc j) (omega (arith, l));
+        ends = subst (λ k. EndsPass form (many k) (next_after form (after form course x) xs) left o) (sym (one_more from (length xs))) h.ends;
+      })
       (omega (arith, lt)) in
       item_first more course from bits x xs left h.reads few
       ∙ ap (item_then x.spec x.content) rest
       ∙ ap (λ k. passed form course k (x ∷ xs) left o) (one_more from (length xs))
 
   -- a pass begins with the items that are read
-  pub pass_prefix : (most : ℕ) (course : Course) (from : ℕ) (bits : List Bool) (items : List (Item C)) (left : List Bool) → ReadsItems form course items bits left → ((j : ℕ) → j < length items → many (from + j) ≡ false) → length items < most
+  pub pass_prefix : (most : ℕ) (course : Course) (from : ℕ) (bits : List Bool) (items : List (Item C)) (left : List Bool) → ReadsItems form course items bits left
+      → ((j : ℕ) → j < length items → many (from + j) ≡ false) → length items < most
       → (more : List (Item C)) × ((pass (reading form many) most course (place_at from bits)).items ≡ items ++ more)
   pass_prefix most course from bits [] left h few lt = ((pass (reading form many) most course (place_at from bits)).items, refl)
   pass_prefix zero course from bits (x ∷ xs) left h few lt = absurd (omega (arith, lt))
@@ -116,10 +123,16 @@ module _ {C : Type 0} (form : DataCoding C) (many : ℕ → Bool) where
       here : (b : Bool) → many from ≡ b → many (from + 0) ≡ b
       here b m = ap many (none_more from) ∙ m
 
-      one_item : (x : Item C) (mid : List Bool) (p : Pass Place C Stop) → many from ≡ false → (course []).next ≡ take_next x.spec → form.field x.spec bits ≡ Ok (found x.content mid) → Forth form x.spec bits x.content mid → ReadsSo (after form course x) (from + 1) mid p
+      one_item : (x : Item C) (mid : List Bool) (p : Pass Place C Stop) → many from ≡ false → (course []).next ≡ take_next x.spec → form.field x.spec bits ≡ Ok (found x.content mid)
+          → Forth form x.spec bits x.content mid → ReadsSo (after form course x) (from + 1) mid p
           → ReadsSo course from bits (item_then x.spec x.content p)
       one_item x mid p m e q w r = (
-        record { reads = (mid, e, q, r.0.reads); few = few; ends = subst (λ k. EndsPass form (many k) (next_after form (after form course x) p.items) p.state.left p.stop) (one_more from (length p.items)) r.0.ends },
+        record {
+          reads = (mid, e, q, r.0.reads);
+          few = few;
+          ends = subst (λ k. EndsPass form (many k) (next_after form (after form course x) p.items) p.state.left p.stop)
+              (one_more from (length p.items)) r.0.ends;
+        },
         r.1,
         suffix_then w.size bits mid p.state.left w.within w.left_is r.2,
       )
@@ -130,15 +143,18 @@ module _ {C : Type 0} (form : DataCoding C) (many : ℕ → Bool) where
 
       at_field : (spec : FieldSpec) → (course []).next ≡ take_next spec → (b : Bool) → many from ≡ b → (r : Result (FieldRead C) FieldFault) → form.field spec bits ≡ r
           → ((c : Course) (bs : List Bool) → IsSane n c → length bs < n → ReadsSo c (from + 1) bs (pass (reading form many) n c (place_at (from + 1) bs)))
-          → ReadsSo course from bits (pass_field (reading form many) (course []).turns spec (place_at from bits) (if b then Err (too_many spec.fxy) else read_field form spec from r) (λ f. pass (reading form many) n (λ answers. course (f.returned ∷ answers)) f.state))
+          → ReadsSo course from bits (pass_field (reading form many) (course []).turns spec (place_at from bits) (if b then Err (too_many spec.fxy) else read_field form spec from r)
+          (λ f. pass (reading form many) n (λ answers. course (f.returned ∷ answers)) f.state))
       at_field spec e true m r q go = at_once (Some (too_many spec.fxy)) (ap (λ x. stop_at form (many (from + 0)) x bits) e ∙ ap (λ b. stop_at form b (take_next spec) bits) (here true m))
       at_field spec e false m (Err why) q go =
           at_once (Some (field_stop spec.fxy why)) (ap (λ x. stop_at form (many (from + 0)) x bits) e ∙ ap (λ b. stop_at form b (take_next spec) bits) (here false m) ∙ ap (field_stop_of spec.fxy) q)
       at_field spec e false m (Ok f) q go =
           let k = sane.1 spec e in
           let w = forth spec bits f.content f.suffix k.0 q in
-          one_item (record { spec = spec; content = f.content }) f.suffix (pass (reading form many) n (after form course (record { spec = spec; content = f.content })) (place_at (from + 1) f.suffix)) m e q w
-          (go (after form course (record { spec = spec; content = f.content })) f.suffix (k.1 (form.gives spec f.content) w.gives) (omega (arith, lt, w.some, w.within, length-drop w.size bits, ap length w.left_is)))
+          one_item (record { spec = spec; content = f.content }) f.suffix (pass (reading form many) n (after form course (record { spec = spec; content = f.content })) (place_at (from + 1) f.suffix))
+          m e q w
+          (go (after form course (record { spec = spec; content = f.content })) f.suffix (k.1 (form.gives spec f.content) w.gives)
+          (omega (arith, lt, w.some, w.within, length-drop w.size bits, ap length w.left_is)))
 
       by : (next : Next) → (course []).next ≡ next
           → ((c : Course) (bs : List Bool) → IsSane n c → length bs < n → ReadsSo c (from + 1) bs (pass (reading form many) n c (place_at (from + 1) bs)))
@@ -155,7 +171,8 @@ few_values n items j h lt = grind (arith, common_steps, le-ltb)
 -- and back
 few_all : (n items : ℕ) → ((j : ℕ) → j < items → would_be_many n (0 + j) ≡ false) → items * n ≤ max_values
 few_all n zero h = omega arith
-few_all n (suc k) h = let few : (k + 1) * n ≤ max_values = ltb-false max_values ((k + 1) * n) (subst (λ j. would_be_many n j ≡ false) (none_before k) (h k (omega arith))) in subst (λ m. m * n ≤ max_values) (one_on k) few
+few_all n (suc k) h = let few : (k + 1) * n ≤ max_values = ltb-false max_values ((k + 1) * n) (subst (λ j. would_be_many n j ≡ false) (none_before k) (h k (omega arith))) in subst
+    (λ m. m * n ≤ max_values) (one_on k) few
   where
     none_before : (k : ℕ) → 0 + k ≡ k
     none_before k = omega arith
@@ -171,9 +188,11 @@ packed_less n spec bits cs mid e =
     let base = take spec.width bits in
     let suffix = drop (spec.width + 6) bits in
     let used = n * increment_bits_of spec.role spec.kind k in
-    let t = item_ok (nat_lt (length bits) (spec.width + 6) || nat_lt (length suffix) used) (k == 0 || are_increments_valid spec.role spec k n base suffix) (k == 0 || equal_in spec.role k n suffix) (contents_of spec k n base suffix) (drop used suffix) cs mid e in
+    let t = item_ok (nat_lt (length bits) (spec.width + 6) || nat_lt (length suffix) used) (k == 0 || are_increments_valid spec.role spec k n base suffix) (k == 0 || equal_in spec.role k n suffix)
+    (contents_of spec k n base suffix) (drop used suffix) cs mid e in
     let ends = neither (nat_lt (length bits) (spec.width + 6)) (nat_lt (length suffix) used) t.0 in
-    less spec.width used (length bits) (length suffix) (length mid) (ltb-false (length bits) (spec.width + 6) ends.0) (length-drop (spec.width + 6) bits) (ap length (sym t.4) ∙ length-drop used suffix)
+    less spec.width used (length bits) (length suffix) (length mid) (ltb-false (length bits) (spec.width + 6) ends.0) (length-drop (spec.width + 6) bits)
+    (ap length (sym t.4) ∙ length-drop used suffix)
   where
     less : (w used bits suffix mid : ℕ) → w + 6 ≤ bits → suffix ≡ bits - (w + 6) → mid ≡ suffix - used → suc mid ≤ bits
     less w used bits suffix mid h g f = omega (arith, h, g, f)
@@ -195,12 +214,18 @@ together_is (suc n) course xs bits left h =
     (record { reads = h.0.0; few = λ j lt. few_values (suc n) (length xs) j h.1 lt; ends = h.0.1 }) (omega (arith, packed_fits (suc n) course xs bits left h.0.0)))
 
 -- the one pass, where it is stopped
-pub together_stops : (n : ℕ) (course : Course) (items : List (Item (List Content))) (bits left : List Bool) (next : Next) (stop : Stop) → 1 ≤ n → ReadsItems (packed n) course items bits left → length items * n ≤ max_values → next ≡ next_after (packed n) course items
+pub together_stops : (n : ℕ) (course : Course) (items : List (Item (List Content))) (bits left : List Bool) (next : Next) (stop : Stop) → 1 ≤ n → ReadsItems (packed n) course items bits left
+    → length items * n ≤ max_values → next ≡ next_after (packed n) course items
     → stop_at (packed n) (would_be_many n (length items)) next left ≡ Some stop → passes_together course n bits ≡ passed (packed n) course (0 + length items) items left (Some stop) ∷ []
 together_stops zero course items bits left next stop some h few is e = absurd (omega (arith, some))
 together_stops (suc n) course items bits left next stop some h few is e =
     ap (λ (p : DataPass (List Content)). p ∷ []) (pass_is (packed (suc n)) (would_be_many (suc n)) (suc (length bits)) course 0 bits items left (Some stop)
-    (record { reads = h; few = λ j lt. few_values (suc n) (length items) j few lt; ends = subst (λ x. stop_at (packed (suc n)) (would_be_many (suc n) (0 + length items)) x left ≡ Some stop) is (subst (λ k. stop_at (packed (suc n)) (would_be_many (suc n) k) next left ≡ Some stop) (zero_plus (length items)) e) }) (omega (arith, packed_fits (suc n) course items bits left h)))
+    (record {
+      reads = h;
+      few = λ j lt. few_values (suc n) (length items) j few lt;
+      ends = subst (λ x. stop_at (packed (suc n)) (would_be_many (suc n) (0 + length items)) x left ≡ Some stop) is
+          (subst (λ k. stop_at (packed (suc n)) (would_be_many (suc n) k) next left ≡ Some stop) (zero_plus (length items)) e);
+    }) (omega (arith, packed_fits (suc n) course items bits left h)))
   where
     zero_plus : (k : ℕ) → k ≡ 0 + k
     zero_plus k = omega arith
@@ -210,11 +235,13 @@ pub together_begins : (n : ℕ) (course : Course) (items : List (Item (List Cont
     → (p : DataPass (List Content)) × (passes_together course n bits ≡ p ∷ []) × (more : List (Item (List Content))) × (p.items ≡ items ++ more)
 together_begins zero course items bits left some h few = absurd (omega (arith, some))
 together_begins (suc n) course items bits left some h few =
-    let begins = pass_prefix (packed (suc n)) (would_be_many (suc n)) (suc (length bits)) course 0 bits items left h (λ j lt. few_values (suc n) (length items) j few lt) (omega (arith, packed_fits (suc n) course items bits left h)) in
+    let begins = pass_prefix (packed (suc n)) (would_be_many (suc n)) (suc (length bits)) course 0 bits items left h (λ j lt. few_values (suc n) (length items) j few lt)
+    (omega (arith, packed_fits (suc n) course items bits left h)) in
     (read_pass (packed (suc n)) (would_be_many (suc n)) course bits, refl, begins.0, begins.1)
 
 pub together_read : (n : ℕ) (course : Course) (xs : List (Item (List Content))) (bits left : List Bool) → IsPackedReading n course xs bits left
-    → (stop_of (passes_together course n bits) ≡ None) × (first_items (items_by_pass (passes_together course n bits)) ≡ xs) × (left_after bits (passes_together course n bits) ≡ left) × (turns_in_all (passes_together course n bits) ≡ turns_together n course xs)
+    → (stop_of (passes_together course n bits) ≡ None) × (first_items (items_by_pass (passes_together course n bits)) ≡ xs) × (left_after bits (passes_together course n bits) ≡ left)
+    × (turns_in_all (passes_together course n bits) ≡ turns_together n course xs)
 together_read zero course xs bits left h = (refl, sym h.0, h.1, refl)
 together_read (suc n) course xs bits left h =
     let e = together_is (suc n) course xs bits left h in
@@ -235,12 +262,13 @@ module _ (course : Course) (sane : (m : ℕ) → IsSane m course) where
 
   subset_ends : (x : List (Item Content)) (bits left : List Bool) → ReadsPass plain course x bits left → read_pass plain (λ items. false) course bits ≡ passed plain course (0 + length x) x left None
   subset_ends x bits left h =
-      pass_is plain (λ items. false) (suc (length bits)) course 0 bits x left None (record { reads = h.0; few = λ j lt. refl; ends = h.1 }) (omega (arith, fits plain plain_forth (length x) course x bits left (sane (length x)) (omega arith) h.0))
+      pass_is plain (λ items. false) (suc (length bits)) course 0 bits x left None (record { reads = h.0; few = λ j lt. refl; ends = h.1 })
+      (omega (arith, fits plain plain_forth (length x) course x bits left (sane (length x)) (omega arith) h.0))
 
   -- the items that a reading has
   pub record IsRead (d : Data) (r : DataReading) (v : Values) (used : ℕ) : Type 0 where
     pub none : r.stop ≡ None
-    pub items : values_of r.passes ≡ v
+    pub items : values_in r.passes ≡ v
     pub left : r.left ≡ drop used d.bits
 
   subsets_are : (xs : List (List (Item Content))) (n : ℕ) (bits left : List Bool) → ReadsSubsets course xs bits left → length xs ≡ n
@@ -250,7 +278,8 @@ module _ (course : Course) (sane : (m : ℕ) → IsSane m course) where
   subsets_are (x ∷ xs) zero bits left h e = absurd (omega (arith, e))
   subsets_are (x ∷ xs) (suc n) bits left h e =
       let more = subsets_are xs n h.0 left h.2 (omega (arith, e)) in
-      subst (λ (p : DataPass Content). let ps = p ∷ unless_stopped p.stop (passes_apart course n p.state.left) in (stop_of ps ≡ None) × (items_by_pass ps ≡ x ∷ xs) × (left_after bits ps ≡ left)) (sym (subset_ends x bits h.0 h.1))
+      subst (λ (p : DataPass Content). let ps = p ∷ unless_stopped p.stop (passes_apart course n p.state.left) in (stop_of ps ≡ None) × (items_by_pass ps ≡ x ∷ xs) × (left_after bits ps ≡ left))
+      (sym (subset_ends x bits h.0 h.1))
       (more.0, ap (λ ys. x ∷ ys) more.1, more.2)
 
   -- a reading by the items is the reading
@@ -264,7 +293,8 @@ module _ (course : Course) (sane : (m : ℕ) → IsSane m course) where
 
   -- passes that are not stopped read the subsets
   subsets_so : (n : ℕ) (bits : List Bool) → stop_of (passes_apart course n bits) ≡ None
-      → ReadsSubsets course (items_by_pass (passes_apart course n bits)) bits (left_after bits (passes_apart course n bits)) × (length (items_by_pass (passes_apart course n bits)) ≡ n) × IsSuffix bits (left_after bits (passes_apart course n bits))
+      → ReadsSubsets course (items_by_pass (passes_apart course n bits)) bits (left_after bits (passes_apart course n bits)) × (length (items_by_pass (passes_apart course n bits)) ≡ n)
+      × IsSuffix bits (left_after bits (passes_apart course n bits))
   subsets_so zero bits h = (refl, refl, (0, omega arith, refl))
   subsets_so (suc n) bits h =
       let p = read_pass plain (λ items. false) course bits in
@@ -275,8 +305,11 @@ module _ (course : Course) (sane : (m : ℕ) → IsSane m course) where
           → first_stop o (stop_of (unless_stopped o (passes_apart course n (read_pass plain (λ items. false) course bits).state.left))) ≡ None
           → ReadsSo plain (λ items. false) course 0 bits (read_pass plain (λ items. false) course bits)
           → (stop_of (passes_apart course n (read_pass plain (λ items. false) course bits).state.left) ≡ None
-          → ReadsSubsets course (items_by_pass (passes_apart course n (read_pass plain (λ items. false) course bits).state.left)) (read_pass plain (λ items. false) course bits).state.left (left_after (read_pass plain (λ items. false) course bits).state.left (passes_apart course n (read_pass plain (λ items. false) course bits).state.left))
-          × (length (items_by_pass (passes_apart course n (read_pass plain (λ items. false) course bits).state.left)) ≡ n) × IsSuffix (read_pass plain (λ items. false) course bits).state.left (left_after (read_pass plain (λ items. false) course bits).state.left (passes_apart course n (read_pass plain (λ items. false) course bits).state.left)))
+          → ReadsSubsets course (items_by_pass (passes_apart course n (read_pass plain (λ items. false) course bits).state.left)) (read_pass plain (λ items. false) course bits).state.left
+          (left_after (read_pass plain (λ items. false) course bits).state.left (passes_apart course n (read_pass plain (λ items. false) course bits).state.left))
+          × (length (items_by_pass (passes_apart course n (read_pass plain (λ items. false) course bits).state.left)) ≡ n)
+          × IsSuffix (read_pass plain (λ items. false) course bits).state.left
+          (left_after (read_pass plain (λ items. false) course bits).state.left (passes_apart course n (read_pass plain (λ items. false) course bits).state.left)))
           → let ps = read_pass plain (λ items. false) course bits ∷ unless_stopped o (passes_apart course n (read_pass plain (λ items. false) course bits).state.left) in
           ReadsSubsets course (items_by_pass ps) bits (left_after bits ps) × (length (items_by_pass ps) ≡ suc n) × IsSuffix bits (left_after bits ps)
       by None e h so more =
@@ -287,12 +320,14 @@ module _ (course : Course) (sane : (m : ℕ) → IsSane m course) where
       by (Some why) e h so more = absurd cc
 
   together_so : (n : ℕ) (bits : List Bool) → stop_of (passes_together course n bits) ≡ None
-      → IsPackedReading n course (first_items (items_by_pass (passes_together course n bits))) bits (left_after bits (passes_together course n bits)) × IsSuffix bits (left_after bits (passes_together course n bits))
+      → IsPackedReading n course (first_items (items_by_pass (passes_together course n bits))) bits (left_after bits (passes_together course n bits))
+      × IsSuffix bits (left_after bits (passes_together course n bits))
   together_so zero bits h = ((refl, refl), (0, omega arith, refl))
   together_so (suc n) bits h =
       let p = read_pass (packed (suc n)) (would_be_many (suc n)) course bits in
       let so = pass_so (packed (suc n)) (would_be_many (suc n)) (packed_forth n) (suc (length bits)) course 0 bits (sane (suc (length bits))) (omega arith) in
-      let ends : next_after (packed (suc n)) course p.items ≡ at_end = subst (λ o. EndsPass (packed (suc n)) (would_be_many (suc n) (0 + length p.items)) (next_after (packed (suc n)) course p.items) p.state.left o) (only p.stop h) so.0.ends in
+      let ends : next_after (packed (suc n)) course p.items ≡ at_end =
+      subst (λ o. EndsPass (packed (suc n)) (would_be_many (suc n) (0 + length p.items)) (next_after (packed (suc n)) course p.items) p.state.left o) (only p.stop h) so.0.ends in
       (((so.0.reads, ends), few_all (suc n) (length p.items) so.0.few), so.2)
     where
       only : (o : Option Stop) → first_stop o None ≡ None → o ≡ None
@@ -300,10 +335,11 @@ module _ (course : Course) (sane : (m : ℕ) → IsSane m course) where
       only (Some why) e = absurd cc
 
   -- a reading that is not stopped is a reading by the items
-  pub reads_so : (d : Data) → (reading_of course d).stop ≡ None → (used : ℕ) × IsReading course d (values_of (reading_of course d).passes) used × ((reading_of course d).left ≡ drop used d.bits)
+  pub reads_so : (d : Data) → (reading_of course d).stop ≡ None → (used : ℕ) × IsReading course d (values_in (reading_of course d).passes) used × ((reading_of course d).left ≡ drop used d.bits)
   reads_so d none = by d.compressed refl none
     where
-      by : (b : Bool) → d.compressed ≡ b → (reading_in course b d.subsets d.bits).stop ≡ None → (used : ℕ) × IsReading course d (values_of (reading_in course b d.subsets d.bits).passes) used × ((reading_in course b d.subsets d.bits).left ≡ drop used d.bits)
+      by : (b : Bool) → d.compressed ≡ b → (reading_in course b d.subsets d.bits).stop ≡ None
+          → (used : ℕ) × IsReading course d (values_in (reading_in course b d.subsets d.bits).passes) used × ((reading_in course b d.subsets d.bits).left ≡ drop used d.bits)
       by false e h =
           let s = subsets_so d.subsets d.bits h in
           (s.2.0, (e, s.2.1, (subst (λ l. ReadsSubsets course (items_by_pass (passes_apart course d.subsets d.bits)) d.bits l) s.2.2 s.0, s.1)), s.2.2)

@@ -89,14 +89,16 @@ pub answer_reference : (a : FieldSpec) (bits : List Bool) (z : ℤ) → a.role �
 answer_reference a bits z e is = ap taken.Reference is ∙ sym (ap (λ x. answer_by_role x (content_by x a bits)) e)
 
 -- a sign and a size
-pub signed_parts : (octets : List ℕ) (at width k sign size : ℕ) → width ≡ suc k → at + width ≤ 8 * length octets → sign ≡ number_of (bits_at octets at 1) → size ≡ number_of (bits_at octets (at + 1) k) → (if sign == 1 then neg_ℤ (pos size) else pos size) ≡ signed_by (bits_at octets at width)
+pub signed_parts : (octets : List ℕ) (at width k sign size : ℕ) → width ≡ suc k → at + width ≤ 8 * length octets → sign ≡ number_of (bits_at octets at 1)
+    → size ≡ number_of (bits_at octets (at + 1) k) → (if sign == 1 then neg_ℤ (pos size) else pos size) ≡ signed_by (bits_at octets at width)
 signed_parts octets at width k sign size w within s z =
     ap (λ n. if n == 1 then neg_ℤ (pos size) else pos size) s
     ∙ ap (λ n. if number_of (take 1 (drop at (bits_of octets))) == 1 then neg_ℤ (pos n) else pos n) (z ∙ ap (λ bs. number_of (take k bs)) (sym (drop-drop 1 at (bits_of octets))))
     ∙ by (drop at (bits_of octets)) (omega (arith, length-drop at (bits_of octets), length-bits_of octets))
     ∙ ap (λ j. signed_by (take j (drop at (bits_of octets)))) (sym w)
   where
-    by : (bits : List Bool) → 1 ≤ length bits → (if number_of (take 1 bits) == 1 then neg_ℤ (pos (number_of (take k (drop 1 bits)))) else pos (number_of (take k (drop 1 bits)))) ≡ signed_by (take (suc k) bits)
+    by : (bits : List Bool) → 1 ≤ length bits → (if number_of (take 1 bits) == 1 then neg_ℤ (pos (number_of (take k (drop 1 bits)))) else pos (number_of (take k (drop 1 bits))))
+        ≡ signed_by (take (suc k) bits)
     by [] h = absurd (omega arith)
     by (true ∷ bits) h = refl
     by (false ∷ bits) h = refl
@@ -105,7 +107,8 @@ pub small_power : (k n : ℕ) → k ≤ 62 → n < 2 ^ k → n < 2 ^ 62
 small_power k n h g = let p : 2 ^ k ≤ 2 ^ 62 = pow-le-pow_right {n = 2} (omega arith) h in omega (arith, p, g)
 
 -- a field that is there
-pub taken_here : (s : Cursor) (octets : List ℕ) (spec : FieldSpec) (t : Taken) → s.bits ≡ bits_of octets → IsSpec spec → s.at + spec.width ≤ 8 * length octets → t ≡ answer_of spec (content_in spec (bits_at octets s.at spec.width)) → IsTaken s spec t (past s spec)
+pub taken_here : (s : Cursor) (octets : List ℕ) (spec : FieldSpec) (t : Taken) → s.bits ≡ bits_of octets → IsSpec spec → s.at + spec.width ≤ 8 * length octets
+    → t ≡ answer_of spec (content_in spec (bits_at octets s.at spec.width)) → IsTaken s spec t (past s spec)
 taken_here s octets spec t e h within is = record {
   content = content_in spec (take spec.width (rest_of s));
   some = some_width spec h;
@@ -114,11 +117,13 @@ taken_here s octets spec t e h within is = record {
   next = refl;
 }
   where
-    there : (b : Bool) → b ≡ false → (if b then Err data_end else Ok (found (content_in spec (take spec.width (rest_of s))) (drop spec.width (rest_of s)))) ≡ Ok (found (content_in spec (take spec.width (rest_of s))) (rest_of (past s spec)))
+    there : (b : Bool) → b ≡ false → (if b then Err data_end else Ok (found (content_in spec (take spec.width (rest_of s))) (drop spec.width (rest_of s))))
+        ≡ Ok (found (content_in spec (take spec.width (rest_of s))) (rest_of (past s spec)))
     there true q = absurd cc
     there false q = ap (λ bs. Ok (found (content_in spec (take spec.width (rest_of s))) bs)) (drop-drop spec.width s.at s.bits)
 
-pub ends_here : (s : Cursor) (octets : List ℕ) (spec : FieldSpec) → s.bits ≡ bits_of octets → 8 * length octets < s.at + spec.width → s.at ≤ 8 * length octets → plain_field spec (rest_of s) ≡ Err data_end
+pub ends_here : (s : Cursor) (octets : List ℕ) (spec : FieldSpec) → s.bits ≡ bits_of octets → 8 * length octets < s.at + spec.width → s.at ≤ 8 * length octets
+    → plain_field spec (rest_of s) ≡ Err data_end
 ends_here s octets spec e short within = grind (arith, common_steps, nat_lt, lt-ltb, length-drop, length-bits_of)
 
 pub bits_length : (octets : List ℕ) → length (bits_of octets) ≡ 8 * length octets
@@ -134,7 +139,8 @@ ones_by_number octets at width raw within is = grind (arith, common_steps, lengt
 octets_next : (n : ℕ) (bits : List Bool) → octets_in (suc n) bits ≡ octets_in n bits ++ number_of (take 8 (drop (8 * n) bits)) ∷ []
 octets_next zero bits = refl
 octets_next (suc n) bits =
-    ap (λ os. number_of (take 8 bits) ∷ os) (octets_next n (drop 8 bits) ∙ ap (λ bs. octets_in n (drop 8 bits) ++ number_of (take 8 bs) ∷ []) (drop-drop (8 * n) 8 bits ∙ ap (λ k. drop k bits) (eight n)))
+    ap (λ os. number_of (take 8 bits) ∷ os) (octets_next n (drop 8 bits)
+    ∙ ap (λ bs. octets_in n (drop 8 bits) ++ number_of (take 8 bs) ∷ []) (drop-drop (8 * n) 8 bits ∙ ap (λ k. drop k bits) (eight n)))
   where
     eight : (n : ℕ) → 8 + 8 * n ≡ 8 * suc n
     eight n = omega arith
@@ -142,11 +148,13 @@ octets_next (suc n) bits =
 octets_more : (n : ℕ) (bits : List Bool) → octets_in (n + 1) bits ≡ octets_in n bits ++ number_of (take 8 (drop (8 * n) bits)) ∷ []
 octets_more n bits = ap (λ k. octets_in k bits) (add-one n) ∙ octets_next n bits
 
-pub octet_put : (bits : List Bool) (at i octet : ℕ) (kept : List ℕ) → i < length kept → take i kept ≡ octets_in i (drop at bits) → octet ≡ number_of (take 8 (drop (at + 8 * i) bits)) → take (i + 1) (set kept i octet) ≡ octets_in (i + 1) (drop at bits)
+pub octet_put : (bits : List Bool) (at i octet : ℕ) (kept : List ℕ) → i < length kept → take i kept ≡ octets_in i (drop at bits) → octet ≡ number_of (take 8 (drop (at + 8 * i) bits))
+    → take (i + 1) (set kept i octet) ≡ octets_in (i + 1) (drop at bits)
 octet_put bits at i octet kept h so is = grind (arith, common_steps, take_more_set, drop-drop, octets_more)
 
 -- an octet of a word of 32 bits
-pub octet_of_word : (bits : List Bool) (at i j word octet : ℕ) → at + 8 * (i + 4) ≤ length bits → j ≤ 3 → word ≡ number_of (take 32 (drop (at + 8 * i) bits)) → octet ≡ word / 2 ^ (24 - 8 * j) % 2 ^ 8 → octet ≡ number_of (take 8 (drop (at + 8 * (i + j)) bits))
+pub octet_of_word : (bits : List Bool) (at i j word octet : ℕ) → at + 8 * (i + 4) ≤ length bits → j ≤ 3 → word ≡ number_of (take 32 (drop (at + 8 * i) bits)) → octet ≡ word / 2 ^ (24 - 8 * j) % 2 ^ 8
+    → octet ≡ number_of (take 8 (drop (at + 8 * (i + j)) bits))
 octet_of_word bits at i j word octet h few e is =
     let from = at + 8 * i in
     let rest = drop from bits in
@@ -165,7 +173,9 @@ octet_of_word bits at i j word octet h few e is =
     ∙ ap (λ ys. number_of (take 8 ys)) (drop-drop (8 * j) from bits ∙ ap (λ k. drop k bits) there)
 
 -- the four octets of a word
-pub four_put : (bits : List Bool) (at i word a b c d : ℕ) (kept : List ℕ) → i + 4 ≤ length kept → at + 8 * (i + 4) ≤ length bits → take i kept ≡ octets_in i (drop at bits) → word ≡ number_of (take 32 (drop (at + 8 * i) bits)) → a ≡ word / 2 ^ 24 % 2 ^ 8 → b ≡ word / 2 ^ 16 % 2 ^ 8 → c ≡ word / 2 ^ 8 % 2 ^ 8 → d ≡ word / 2 ^ 0 % 2 ^ 8 → take (i + 4) (set (set (set (set kept i a) (i + 1) b) (i + 2) c) (i + 3) d) ≡ octets_in (i + 4) (drop at bits)
+pub four_put : (bits : List Bool) (at i word a b c d : ℕ) (kept : List ℕ) → i + 4 ≤ length kept → at + 8 * (i + 4) ≤ length bits → take i kept ≡ octets_in i (drop at bits)
+    → word ≡ number_of (take 32 (drop (at + 8 * i) bits)) → a ≡ word / 2 ^ 24 % 2 ^ 8 → b ≡ word / 2 ^ 16 % 2 ^ 8 → c ≡ word / 2 ^ 8 % 2 ^ 8 → d ≡ word / 2 ^ 0 % 2 ^ 8
+    → take (i + 4) (set (set (set (set kept i a) (i + 1) b) (i + 2) c) (i + 3) d) ≡ octets_in (i + 4) (drop at bits)
 four_put bits at i word a b c d kept h within so e ea eb ec ed =
     let one = set kept i a in
     let second = set one (i + 1) b in
@@ -176,7 +186,8 @@ four_put bits at i word a b c d kept h within so e ea eb ec ed =
     let first : a ≡ number_of (take 8 (drop (at + 8 * i) bits)) = octet_of_word bits at i 0 word a within (omega arith) e ea ∙ ap (λ k. number_of (take 8 (drop (at + 8 * k) bits))) (zero_more i) in
     let s1 : take (i + 1) one ≡ octets_in (i + 1) (drop at bits) = octet_put bits at i a kept (omega arith) so first in
     let s2 : take (i + 1 + 1) second ≡ octets_in (i + 1 + 1) (drop at bits) = octet_put bits at (i + 1) b one (omega arith) s1 (octet_of_word bits at i 1 word b within (omega arith) e eb) in
-    let s3 : take (i + 2 + 1) third ≡ octets_in (i + 2 + 1) (drop at bits) = octet_put bits at (i + 2) c second (omega arith) (step (i + 1) (i + 2) second (omega arith) s2) (octet_of_word bits at i 2 word c within (omega arith) e ec) in
+    let s3 : take (i + 2 + 1) third ≡ octets_in (i + 2 + 1) (drop at bits) =
+    octet_put bits at (i + 2) c second (omega arith) (step (i + 1) (i + 2) second (omega arith) s2) (octet_of_word bits at i 2 word c within (omega arith) e ec) in
     let s4 = octet_put bits at (i + 3) d third (omega arith) (step (i + 2) (i + 3) third (omega arith) s3) (octet_of_word bits at i 3 word d within (omega arith) e ed) in
     step (i + 3) (i + 4) (set third (i + 3) d) (omega arith) s4
   where
@@ -212,24 +223,30 @@ octets_of_bits [] h = refl
 octets_of_bits (x ∷ xs) h = two _ _ _ _ (number-bits_of_octet x (h 0)) (octets_of_bits xs (λ k. h (suc k)))
 
 -- octets that begin with an octet's first bit are those octets
-pub borrowed : (octets : List ℕ) (at count : ℕ) (xs : List ℕ) → at % 8 ≡ 0 → at + 8 * count ≤ 8 * length octets → xs ≡ slice_range octets (at / 8) (at / 8 + count) → ((k : ℕ) → slice_index xs k < 256) → xs ≡ octets_in count (drop at (bits_of octets))
+pub borrowed : (octets : List ℕ) (at count : ℕ) (xs : List ℕ) → at % 8 ≡ 0 → at + 8 * count ≤ 8 * length octets → xs ≡ slice_range octets (at / 8) (at / 8 + count)
+    → ((k : ℕ) → slice_index xs k < 256) → xs ≡ octets_in count (drop at (bits_of octets))
 borrowed octets at count xs whole within is small =
     let first = at / 8 in
     let place : 8 * first ≡ at = omega (arith, whole) in
     let size : first + count - first ≡ count = omega arith in
     let same : xs ≡ take count (drop first octets) = is ∙ ap (λ n. take n (drop first octets)) size in
     let long : length xs ≡ count = ap length same ∙ length-take-le count (drop first octets) (omega (arith, length-drop first octets, within)) in
-    let bits : bits_of xs ≡ take (8 * count) (drop at (bits_of octets)) = ap bits_of same ∙ sym (take-bits_of count (drop first octets)) ∙ ap (take (8 * count)) (sym (drop-bits_of first octets) ∙ ap (λ p. drop p (bits_of octets)) place) in
+    let bits : bits_of xs ≡ take (8 * count) (drop at (bits_of octets)) =
+    ap bits_of same ∙ sym (take-bits_of count (drop first octets)) ∙ ap (take (8 * count)) (sym (drop-bits_of first octets) ∙ ap (λ p. drop p (bits_of octets)) place) in
     sym (octets_of_bits xs small) ∙ ap (λ n. octets_in n (bits_of xs)) long ∙ ap (octets_in count) bits ∙ octets_prefix count (drop at (bits_of octets))
 
-pub borrowed_some : {S : Type 0} (now : S → List ℕ) (r : Option S) (octets want : List ℕ) (at count : ℕ) → SomeIff (option_map now r) ((at % 8 ≡ 0) × (at + 8 * count ≤ 8 * length octets)) (slice_range octets (at / 8) (at / 8 + count)) → IfSome r (λ s. (k : ℕ) → slice_index (now s) k < 256) → octets_in count (drop at (bits_of octets)) ≡ want → IfSome r (λ s. now s ≡ want)
+pub borrowed_some : {S : Type 0} (now : S → List ℕ) (r : Option S) (octets want : List ℕ) (at count : ℕ)
+    → SomeIff (option_map now r) ((at % 8 ≡ 0) × (at + 8 * count ≤ 8 * length octets)) (slice_range octets (at / 8) (at / 8 + count)) → IfSome r (λ s. (k : ℕ) → slice_index (now s) k < 256)
+    → octets_in count (drop at (bits_of octets)) ≡ want → IfSome r (λ s. now s ≡ want)
 borrowed_some now None octets want at count h small e = tt
 borrowed_some now (Some s) octets want at count h small e = borrowed octets at count (now s) h.0.0 h.0.1 h.1 small ∙ e
 
 -- ---- A walk over bits reads them as the definition does.
 
 -- items that were taken are read, and what comes after them is the same, in as many turns
-pub reads : (course : Course) (s : Cursor) (items : List TakenField) (s' : Cursor) → Takes (oks PlainTakes) course s items s' → (read : List (Item Content)) × ReadsItems plain course read (rest_of s) (rest_of s') × (next_after plain course read ≡ (course (answers_of items)).next) × (turns_after plain course read ≡ (course (answers_of items)).turns)
+pub reads : (course : Course) (s : Cursor) (items : List TakenField) (s' : Cursor) → Takes (oks PlainTakes) course s items s'
+    → (read : List (Item Content)) × ReadsItems plain course read (rest_of s) (rest_of s') × (next_after plain course read ≡ (course (answers_of items)).next)
+    × (turns_after plain course read ≡ (course (answers_of items)).turns)
 reads course s [] s' h = ([], ap rest_of (sym h), refl, refl)
 reads course s (i ∷ items) s' h =
     let step = h.2 in
@@ -259,17 +276,26 @@ pass_reads course s s' c c' w =
     record { items = r.0; reads = r.1; next_is = sym (r.2 ∙ w.2); ticks = w.3 ∙ ap (ticked c) (sym r.3); same = same_bits course s w.0 s' w.1; pays = reads_paid course s w.0 s' w.1 }
 
 -- a refused walk stops a reading
-pub pass_stops : (course : Course) (s s' : Cursor) (c c' subset at : ℕ) (why : WalkStop DataFault) → at ≡ s'.at → Walked PlainTakes course s c (Err why) s' c' → PassStops course s c subset (fault_at why subset at) s' c'
+pub pass_stops : (course : Course) (s s' : Cursor) (c c' subset at : ℕ) (why : WalkStop DataFault) → at ≡ s'.at → Walked PlainTakes course s c (Err why) s' c'
+    → PassStops course s c subset (fault_at why subset at) s' c'
 pass_stops course s s' c c' subset at why here w =
     let r = reads course s w.0 w.1 w.2 in
-    stop_cases PlainTakes (λ next y. PassComes course s c next w.1 c' → PassStops course s c subset (fault_at y subset at) s' c') w.1 s' field (λ spec h e p. inl (spec, moved (take_next spec) w.1 e p, h, refl)) refuses (course (answers_of w.0)).next why w.3 (record { items = r.0; reads = r.1; next_is = sym r.2; ticks = w.4 ∙ ap (ticked c) (sym r.3); same = same_bits course s w.0 w.1 w.2; pays = reads_paid course s w.0 w.1 w.2 })
+    stop_cases PlainTakes (λ next y. PassComes course s c next w.1 c' → PassStops course s c subset (fault_at y subset at) s' c') w.1 s' field
+    (λ spec h e p. inl (spec, moved (take_next spec) w.1 e p, h, refl)) refuses (course (answers_of w.0)).next why w.3
+    (record { items = r.0; reads = r.1; next_is = sym r.2; ticks = w.4 ∙ ap (ticked c) (sym r.3); same = same_bits course s w.0 w.1 w.2; pays = reads_paid course s w.0 w.1 w.2 })
   where
     moved : (next : Next) (mid : Cursor) → s' ≡ mid → PassComes course s c next mid c' → PassComes course s c next s' c'
     moved next mid e p = subst (λ x. PassComes course s c next x c') (sym e) p
 
     field : (spec : FieldSpec) (e : DataFault) → PlainTakes w.1 spec (Err e) s' → PassComes course s c (take_next spec) w.1 c' → PassStops course s c subset (fault_at (stops.Field e) subset at) s' c'
     field spec (wrong.DataEnd f) h p =
-        inr (take_next spec, field_stop spec.fxy data_end, moved (take_next spec) w.1 h.2 p, ap (field_stop_of spec.fxy) (ap (λ x. plain_field spec (rest_of x)) h.2 ∙ h.0), ap (λ e. fault_at (stops.Field e) subset at) h.1 ∙ ap (λ b. fault.DataEnd (spot subset spec.fxy b)) here)
+        inr (
+          take_next spec,
+          field_stop spec.fxy data_end,
+          moved (take_next spec) w.1 h.2 p,
+          ap (field_stop_of spec.fxy) (ap (λ x. plain_field spec (rest_of x)) h.2 ∙ h.0),
+          ap (λ e. fault_at (stops.Field e) subset at) h.1 ∙ ap (λ b. fault.DataEnd (spot subset spec.fxy b)) here,
+        )
     field spec (wrong.Increment f) h p = absurd cc h.1
     field spec (wrong.UnequalFactor f) h p = absurd cc h.1
     field spec (wrong.TooManyValues f) h p = absurd cc h.1
@@ -277,7 +303,13 @@ pass_stops course s s' c c' subset at why here w =
 
     refuses : (x : TurnRefusal) → s' ≡ w.1 → PassComes course s c (refused x) w.1 c' → PassStops course s c subset (fault_at (stop_by x) subset at) s' c'
     refuses (refusal.Width f) e p = inr (refused (refusal.Width f), walk_stop (refusal.Width f), moved (refused (refusal.Width f)) w.1 e p, refl, ap (λ b. fault.Width (spot subset f b)) here)
-    refuses (refusal.Defining f) e p = inr (refused (refusal.Defining f), walk_stop (refusal.Defining f), moved (refused (refusal.Defining f)) w.1 e p, refl, ap (λ b. fault.Defining (spot subset f b)) here)
+    refuses (refusal.Defining f) e p = inr (
+      refused (refusal.Defining f),
+      walk_stop (refusal.Defining f),
+      moved (refused (refusal.Defining f)) w.1 e p,
+      refl,
+      ap (λ b. fault.Defining (spot subset f b)) here,
+    )
 
 -- a walk does not move back
 takes_forth : (course : Course) (s : Cursor) (items : List TakenField) (s' : Cursor) → Takes (oks PlainTakes) course s items s' → s.at ≤ s'.at
@@ -286,7 +318,12 @@ takes_forth course s (i ∷ items) s' h = omega (arith, takes_forth (λ answers.
 
 pub walk_forth : (course : Course) (s s' : Cursor) (c c' : ℕ) (r : Result (Unit {0}) (WalkStop DataFault)) → Walked PlainTakes course s c r s' c' → s.at ≤ s'.at
 walk_forth course s s' c c' (Ok u) w = takes_forth course s w.0 s' w.1
-walk_forth course s s' c c' (Err why) w = omega (arith, takes_forth course s w.0 w.1 w.2, stop_cases PlainTakes (λ next y. w.1.at ≤ s'.at) w.1 s' (λ spec e h. omega (arith, ap (λ x. x.at) h.2)) (λ spec r h. omega (arith, ap (λ x. x.at) h)) (λ r h. omega (arith, ap (λ x. x.at) h)) (course (answers_of w.0)).next why w.3)
+walk_forth course s s' c c' (Err why) w = omega (
+  arith,
+  takes_forth course s w.0 w.1 w.2,
+  stop_cases PlainTakes (λ next y. w.1.at ≤ s'.at) w.1 s' (λ spec e h. omega (arith, ap (λ x. x.at) h.2)) (λ spec r h. omega (arith, ap (λ x. x.at) h)) (λ r h. omega (arith, ap (λ x. x.at) h))
+      (course (answers_of w.0)).next why w.3,
+)
 
 -- ---- The parts of a reading.
 
@@ -294,20 +331,25 @@ walk_forth course s s' c c' (Err why) w = omega (arith, takes_forth course s w.0
 pub used_most : (octets : List ℕ) (used : ℕ) → length octets < 2 ^ 24 → used ≤ length (bits_of octets) → used ≤ max_values
 used_most octets used h w = omega (arith, h, w, bits_length octets)
 
-pub plain_held : (table : List Row) (template : Tree) (subsets : ℕ) (octets : List ℕ) (used : ℕ) → length octets < 2 ^ 24 → IsReadAndPaid (next_item table template) (data_in false subsets octets) used → IsStoredReading (read_by table template (data_in false subsets octets) used 0) kept.Apart
+pub plain_held : (table : List Row) (template : Tree) (subsets : ℕ) (octets : List ℕ) (used : ℕ) → length octets < 2 ^ 24
+    → IsReadAndPaid (next_item table template) (data_in false subsets octets) used → IsStoredReading (read_by table template (data_in false subsets octets) used 0) kept.Apart
 plain_held table template subsets octets used short h = record { reading = h.0; keeps = tt; few = omega arith; pays = h.1; short = used_most octets used short h.0.1 }
 
 -- the data of a message that are not compressed
 pub same_data : (m : Sections) (subsets : ℕ) (octets : List ℕ) → m.compressed ≡ false → subsets ≡ m.subsets → octets ≡ m.payload → data_in false subsets octets ≡ data_of m
 same_data m subsets octets plain e f = grind (arith, common_steps)
 
-pub plain_is : (table : List Row) (template : Tree) (m : Sections) (subsets : ℕ) (octets : List ℕ) (used steps : ℕ) → data_in false subsets octets ≡ data_of m → ReadsData (next_item table template) (data_in false subsets octets) (Ok used) steps → AnswersReading table template (data_of m) (Ok (read_by table template (data_in false subsets octets) used 0)) steps
+pub plain_is : (table : List Row) (template : Tree) (m : Sections) (subsets : ℕ) (octets : List ℕ) (used steps : ℕ) → data_in false subsets octets ≡ data_of m
+    → ReadsData (next_item table template) (data_in false subsets octets) (Ok used) steps
+    → AnswersReading table template (data_of m) (Ok (read_by table template (data_in false subsets octets) used 0)) steps
 plain_is table template m subsets octets used steps e h = (refl, refl, e, subst (λ d. ReadsData (next_item table template) d (Ok used) steps) e h)
 
 -- data that are not compressed were read before, and can be shown
-pub readable_of : (r : Read) → IsStoredReading r kept.Apart → (all : List (List (Item Content))) × (left : List Bool) × ReadsSubsets (course_of r) all r.source.bits left × (length all ≡ r.source.subsets)
+pub readable_of : (r : Read) → IsStoredReading r kept.Apart → (all : List (List (Item Content))) × (left : List Bool) × ReadsSubsets (course_of r) all r.source.bits left
+    × (length all ≡ r.source.subsets)
 readable_of r h = by (values_read r) h.reading h.keeps
   where
-    by : (v : Values) → IsReading (course_of r) r.source v r.bits → KeepsValues kept.Apart r.source v → (all : List (List (Item Content))) × (left : List Bool) × ReadsSubsets (course_of r) all r.source.bits left × (length all ≡ r.source.subsets)
+    by : (v : Values) → IsReading (course_of r) r.source v r.bits → KeepsValues kept.Apart r.source v
+        → (all : List (List (Item Content))) × (left : List Bool) × ReadsSubsets (course_of r) all r.source.bits left × (length all ≡ r.source.subsets)
     by (apart xs) g k = (xs, drop r.bits r.source.bits, g.2.0, g.2.1)
     by (together xs) g k = absurd k

@@ -30,7 +30,8 @@ delayed_twice = (refl, refl)
 
 -- the data end at bit 22 of 24
 -- rule: field-past-end
-delayed_past_the_end : one delayed_blocks (255 ∷ 20 ∷ 44 ∷ []) ≡ gives ((7937, shown_number (pos 255) (pos 0)) ∷ (257, shown_number (pos 10) (pos 0)) ∷ (257, shown_number (pos 11) (pos 0)) ∷ []) (field_fault 257 data_end 2 7)
+delayed_past_the_end : one delayed_blocks (255 ∷ 20 ∷ 44 ∷ []) ≡ gives ((7937, shown_number (pos 255) (pos 0)) ∷ (257, shown_number (pos 10) (pos 0)) ∷ (257, shown_number (pos 11) (pos 0)) ∷ [])
+    (field_fault 257 data_end 2 7)
 unfolding one gives delayed_blocks
 delayed_past_the_end = refl
 
@@ -247,7 +248,8 @@ text_of_class_31 = refl
 
 -- Texts keep their width: fails where a change of width or precision reaches a text of Table B, of
 -- the template, or of a changed text width.
-texts_unchanged : one (operator (fxy 2 1 136) (operator (fxy 2 2 129) (operator (fxy 2 7 1) (element (fxy 0 31 250) (operator (fxy 2 5 1) (operator (fxy 2 8 1) (element (fxy 0 1 15) bare))))))) (65 ∷ 66 ∷ 67 ∷ [])
+texts_unchanged : one (operator (fxy 2 1 136) (operator (fxy 2 2 129) (operator (fxy 2 7 1) (element (fxy 0 31 250) (operator (fxy 2 5 1) (operator (fxy 2 8 1) (element (fxy 0 1 15) bare)))))))
+    (65 ∷ 66 ∷ 67 ∷ [])
     ≡ gives ((8186, shown_text (65 ∷ [])) ∷ (34049, shown_text (66 ∷ [])) ∷ (271, shown_text (67 ∷ [])) ∷ []) (done 0 8)
 unfolding one gives fxy
 texts_unchanged = refl
@@ -261,7 +263,8 @@ inserted_width_alone = refl
 -- A later text width replaces the earlier one, and zero ends it: fails where the widths add up, or
 -- where 2 08 000 is ignored.
 -- rule: cancel-2-07-and-2-08
-text_width_cancelled : one (operator (fxy 2 8 5) (operator (fxy 2 8 3) (element (fxy 0 1 15) (operator (fxy 2 8 0) (element (fxy 0 1 15) bare))))) (88 ∷ 89 ∷ 90 ∷ 48 ∷ 49 ∷ 50 ∷ 51 ∷ 52 ∷ 53 ∷ 54 ∷ 55 ∷ 56 ∷ 57 ∷ 65 ∷ 66 ∷ 67 ∷ 68 ∷ 69 ∷ 70 ∷ 71 ∷ 72 ∷ 73 ∷ 74 ∷ [])
+text_width_cancelled : one (operator (fxy 2 8 5) (operator (fxy 2 8 3) (element (fxy 0 1 15) (operator (fxy 2 8 0) (element (fxy 0 1 15) bare)))))
+    (88 ∷ 89 ∷ 90 ∷ 48 ∷ 49 ∷ 50 ∷ 51 ∷ 52 ∷ 53 ∷ 54 ∷ 55 ∷ 56 ∷ 57 ∷ 65 ∷ 66 ∷ 67 ∷ 68 ∷ 69 ∷ 70 ∷ 71 ∷ 72 ∷ 73 ∷ 74 ∷ [])
     ≡ gives ((271, shown_text (88 ∷ 89 ∷ 90 ∷ [])) ∷ (271, shown_text (48 ∷ 49 ∷ 50 ∷ 51 ∷ 52 ∷ 53 ∷ 54 ∷ 55 ∷ 56 ∷ 57 ∷ 65 ∷ 66 ∷ 67 ∷ 68 ∷ 69 ∷ 70 ∷ 71 ∷ 72 ∷ 73 ∷ 74 ∷ [])) ∷ []) (done 0 6)
 unfolding one gives fxy
 text_width_cancelled = refl

@@ -3,7 +3,7 @@ use Rattle.std.proofs.lemmas.Grind.{common_steps}
 use Rattle.std.proofs.Common.{suc, None, Option, option_map, append_assoc, ◌≡◌, ℕ, ◌+◌, ◌-◌, ◌*◌, ◌^◌, ◌<◌, ◌≤◌, false, Bool, List, [], ◌∷◌, ◌++◌, length, drop, Some, refl, sym, ◌∙◌, ap, subst, arith, length-append, length-drop, ◌/◌, ◌&&◌, true, ◌⊎◌, inl, inr, take, Result, Ok, Err, ℤ, pos, ◌+ℤ◌, ◌==◌, ◌||◌, nat_lt, if◌then◌else◌, nat_le, not, unsigned_abs}
 use Rattle.std.proofs.lemmas.Bool.{eqb-true, ltb-true, ne_eqb}
 use Rattle.bufr_bits.specs.Prelude.{bits_of, number_of, are_all_ones, bits_at}
-use Rattle.bufr_walk.specs.Prelude.{number_from, Kind, WalkFault, Content, data_end, increment, unequal_factor, answer_of, number, text, missing, content_in, content_by, said_by, octets_in, signed_by, shown_number, shown_text, shown_missing, shown_reference, shown, FieldFault, FieldRead, found, plain_field, FieldSpec, IsSpec, HasRole, is_reference, IsFor, IsForRole, is_plain_number, is_plain, IsPlainNumber, ones, Course, Next, take_next, at_end, refused, ticked, TakenField, Takes, oks, answers_of, Walked, walk_fault_of, bits_before, data_in, stop_at, Stop, walk_stop, too_many, field_stop, Item, plain, ReadsPass, ReadsSubsets, turns_after, turns_in, after, items_in, IsReading, apart, together, Values, Read, course_of, IsReadAndPaid, PaysBits, IsStoredReading, KeepsValues, calls_by, turns_by, content_kept, is_missing, stays_within, fits_at, Cursor, rest_of, past, IsTaken, Stage, stage, IsShown, IsUnshown, ShowingTakes, Sofar, ItemsShown, ItemsEnded, ItemsGo, ShowFault, TurnRefusal, Role, Taken, WalkStop, Call, item_call, view_of, Timed, timed, item_calls, Shows, EndsAt, IsReferenceValue, subset_call, subset_calls, IndexedItem, stop_by}
+use Rattle.bufr_walk.specs.Prelude.{number_from, Kind, WalkFault, Content, data_end, increment, unequal_factor, answer_of, number, text, missing, content_in, content_by, said_by, octets_in, signed_by, shown_number, shown_text, shown_missing, shown_reference, shown, FieldFault, FieldRead, found, plain_field, FieldSpec, IsSpec, HasRole, is_reference, IsFor, IsForRole, is_plain_number, is_plain, IsPlainNumber, ones, Course, Next, take_next, at_end, refused, ticked, TakenField, Takes, oks, answers_of, Walked, walk_fault_of, bits_before, data_in, stop_at, Stop, walk_stop, too_many, field_stop, Item, plain, ReadsPass, ReadsSubsets, turns_after, turns_in, after, items_in, IsReading, apart, together, Values, Read, course_of, IsReadAndPaid, PaysBits, IsStoredReading, KeepsValues, calls_for, turns_for, content_kept, is_missing, stays_within, fits_at, Cursor, rest_of, past, IsTaken, Stage, stage, IsShown, IsUnshown, ShowingTakes, Sofar, ItemsShown, ItemsEnded, ItemsGo, ShowFault, TurnRefusal, Role, Taken, WalkStop, Call, item_call, view_of, Timed, timed, item_calls, Shows, EndsAt, IsReferenceValue, subset_call, subset_calls, IndexedItem, stop_by}
 use Rattle.bufr_tables.specs.Prelude.{Row, is_character}
 use Rattle.bufr_walk.specs.declared.plain.ShowStop.{ShowStop}
 use Rattle.std.proofs.lemmas.Bool.Decides.{nat_tests}
@@ -19,7 +19,7 @@ use Rattle.bufr_walk.specs.declared.walker.WalkStop.TheVariants as stops
 use Rattle.bufr_walk.specs.declared.spec.Taken.TheVariants as taken
 use Rattle.bufr_walk.proofs.WalkLemmas.{stop_cases}
 use Rattle.std.proofs.lemmas.List.{map-append, append-nil, length-map}
-use Rattle.bufr_walk.specs.Pass.{DataPass, read_pass, passes_apart, unless_stopped, stop_of, first_stop, left_after, turns_in_all, items_by_pass, values_read, calls_of, turns_shown, reading_of, fault_of, OneRunsShort, ReadsData, ReadsTo}
+use Rattle.bufr_walk.specs.Pass.{DataPass, read_pass, passes_apart, unless_stopped, stop_of, first_stop, left_after, turns_in_all, items_by_pass, values_read, calls_of, turns_shown, reading_of, fault_of, ReadsData, ReadsTo}
 use Rattle.bufr_walk.proofs.PassLemmas.{passed, pass_is, pass_prefix}
 use Rattle.bufr_walk.specs.declared.reading.StoredItems.TheVariants as kept
 
@@ -28,7 +28,8 @@ use Rattle.bufr_walk.specs.declared.reading.StoredItems.TheVariants as kept
 pub ticked_more : (a b : ℕ) → ticked (ticked 0 a) b ≡ ticked 0 (a + b)
 ticked_more a b = grind (arith, common_steps)
 
-pub reads_more : (course : Course) (xs : List (List (Item Content))) (x : List (Item Content)) (bits mid suffix : List Bool) → ReadsSubsets course xs bits mid → ReadsPass plain course x mid suffix → ReadsSubsets course (xs ++ x ∷ []) bits suffix
+pub reads_more : (course : Course) (xs : List (List (Item Content))) (x : List (Item Content)) (bits mid suffix : List Bool) → ReadsSubsets course xs bits mid → ReadsPass plain course x mid suffix
+    → ReadsSubsets course (xs ++ x ∷ []) bits suffix
 reads_more course [] x bits mid suffix h r = (suffix, subst (λ z. ReadsPass plain course x z suffix) (sym h) r, refl)
 reads_more course (y ∷ xs) x bits mid suffix h r = (h.0, h.1, reads_more course xs x h.0 mid suffix h.2 r)
 
@@ -57,21 +58,12 @@ turns_append : (a b : List (DataPass Content)) → turns_in_all (a ++ b) ≡ tur
 turns_append [] b = omega arith
 turns_append (p ∷ a) b = omega (arith, turns_append a b)
 
-short_append : (course : Course) (a b : List (DataPass Content)) (turns : ℕ) → OneRunsShort plain false course b turns → OneRunsShort plain false course (a ++ b) (turns_in_all a + turns)
-short_append course [] b turns h = subst (λ t. OneRunsShort plain false course b t) (zero_plus turns) h
-  where
-    zero_plus : (t : ℕ) → t ≡ 0 + t
-    zero_plus t = omega arith
-short_append course (p ∷ a) b turns h = inr (turns_in_all a + turns, short_append course a b turns h, assoc p.turns (turns_in_all a) turns)
-  where
-    assoc : (a b c : ℕ) → a + b + c ≡ a + (b + c)
-    assoc a b c = omega arith
-
 -- what a pass over the bits that are left gives
 fuel : (course : Course) (s s' : Cursor) (c c' : ℕ) (next : Next) (p : PassComes course s c next s' c') → s'.at ≤ length s'.bits → length p.items < suc (length (rest_of s))
 fuel course s s' c c' next p within = omega (arith, p.pays, within, ap length p.same, length-drop s.at s.bits)
 
-came : (course : Course) (s s' : Cursor) (c c' : ℕ) (next : Next) (o : Option Stop) (p : PassComes course s c next s' c') → s'.at ≤ length s'.bits → ReadsTo plain (λ n. false) course 0 (rest_of s) p.items (rest_of s') o
+came : (course : Course) (s s' : Cursor) (c c' : ℕ) (next : Next) (o : Option Stop) (p : PassComes course s c next s' c') → s'.at ≤ length s'.bits
+    → ReadsTo plain (λ n. false) course 0 (rest_of s) p.items (rest_of s') o
     → read_pass plain (λ items. false) course (rest_of s) ≡ passed plain course (0 + length p.items) p.items (rest_of s') o
 came course s s' c c' next o p within h = pass_is plain (λ n. false) (suc (length (rest_of s))) course 0 (rest_of s) p.items (rest_of s') o h (fuel course s s' c c' next p within)
 
@@ -103,14 +95,16 @@ none_yet n course bits s steps e z = record {
     ticked_none : 0 ≡ ticked 0 0
     ticked_none = grind (arith, common_steps)
 
-pub one_more : (n : ℕ) (course : Course) (bits : List Bool) (i : ℕ) (s s' : Cursor) (c c' : ℕ) → SubsetsRead n course bits i s c → PassComes course s c at_end s' c' → c' ≤ c + n * (s'.at - s.at) → s'.at ≤ length s'.bits → s.at ≤ s'.at → SubsetsRead n course bits (i + 1) s' c'
+pub one_more : (n : ℕ) (course : Course) (bits : List Bool) (i : ℕ) (s s' : Cursor) (c c' : ℕ) → SubsetsRead n course bits i s c → PassComes course s c at_end s' c' → c' ≤ c + n * (s'.at - s.at)
+    → s'.at ≤ length s'.bits → s.at ≤ s'.at → SubsetsRead n course bits (i + 1) s' c'
 one_more n course bits i s s' c c' h p few within forth =
     let same : s'.bits ≡ bits = p.same ∙ h.same in
     record {
       subsets = h.subsets ++ p.items ∷ [];
       whole = reads_more course h.subsets p.items bits (rest_of s) (rest_of s') h.whole (p.reads, sym p.next_is);
       count_is = omega (arith, length-append h.subsets (p.items ∷ []), h.count_is);
-      ticks = p.ticks ∙ ap (λ x. ticked x (turns_after plain course p.items)) h.ticks ∙ ticked_more (turns_in course h.subsets) (turns_after plain course p.items) ∙ ap (ticked 0) (sym (turns_more course h.subsets p.items));
+      ticks = p.ticks ∙ ap (λ x. ticked x (turns_after plain course p.items)) h.ticks ∙ ticked_more (turns_in course h.subsets) (turns_after plain course p.items)
+          ∙ ap (ticked 0) (sym (turns_more course h.subsets p.items));
       same = same;
       few = sums n s.at s'.at c c' h.few few forth;
       pays = omega (arith, items_more h.subsets p.items, h.pays, p.pays);
@@ -143,7 +137,8 @@ one_more n course bits i s s' c c' h p few within forth =
         split : (n a d b : ℕ) → b ≡ a + d → n * b ≡ n * a + n * d
         split n a d b e = ap (λ x. n * x) e ∙ grind arith
 
-ticks_of : (n : ℕ) (course : Course) (bits : List Bool) (i : ℕ) (s s' : Cursor) (c c' : ℕ) (next : Next) (h : SubsetsRead n course bits i s c) (p : PassComes course s c next s' c') → c' ≡ ticked 0 (turns_in_all h.passes + turns_after plain course p.items)
+ticks_of : (n : ℕ) (course : Course) (bits : List Bool) (i : ℕ) (s s' : Cursor) (c c' : ℕ) (next : Next) (h : SubsetsRead n course bits i s c) (p : PassComes course s c next s' c')
+    → c' ≡ ticked 0 (turns_in_all h.passes + turns_after plain course p.items)
 ticks_of n course bits i s s' c c' next h p =
     p.ticks ∙ ap (λ x. ticked x (turns_after plain course p.items)) h.ticks ∙ ticked_more (turns_in course h.subsets) (turns_after plain course p.items)
     ∙ ap (λ t. ticked 0 (t + turns_after plain course p.items)) (sym h.turns)
@@ -158,7 +153,8 @@ all_passes n course bits total i s c h e = ap (λ k. passes_apart course k bits)
     plus_none : (a : ℕ) → a ≡ a + 0
     plus_none a = omega arith
 
-pub all_read : (n : ℕ) (course : Course) (octets : List ℕ) (total i : ℕ) (s : Cursor) (c : ℕ) → SubsetsRead n course (bits_of octets) i s c → i ≡ total → ReadsData course (data_in false total octets) (Ok s.at) c
+pub all_read : (n : ℕ) (course : Course) (octets : List ℕ) (total i : ℕ) (s : Cursor) (c : ℕ) → SubsetsRead n course (bits_of octets) i s c → i ≡ total
+    → ReadsData course (data_in false total octets) (Ok s.at) c
 all_read n course octets total i s c h e =
     let is = all_passes n course (bits_of octets) total i s c h e in (
       ap stop_of is ∙ h.none,
@@ -166,23 +162,28 @@ all_read n course octets total i s c h e =
       h.ticks ∙ ap (ticked 0) (sym h.turns ∙ ap turns_in_all (sym is)),
     )
 
-pub all_paid : (n : ℕ) (course : Course) (octets : List ℕ) (total i : ℕ) (s : Cursor) (c : ℕ) → SubsetsRead n course (bits_of octets) i s c → i ≡ total → IsReadAndPaid course (data_in false total octets) s.at
+pub all_paid : (n : ℕ) (course : Course) (octets : List ℕ) (total i : ℕ) (s : Cursor) (c : ℕ) → SubsetsRead n course (bits_of octets) i s c → i ≡ total
+    → IsReadAndPaid course (data_in false total octets) s.at
 all_paid n course octets total i s c h e =
     let items : h.subsets ≡ items_by_pass (passes_apart course total (bits_of octets)) = sym h.items ∙ ap items_by_pass (sym (all_passes n course (bits_of octets) total i s c h e)) in
     subst (λ xs. IsReading course (data_in false total octets) (apart xs) s.at × PaysBits (apart xs) s.at) items
     ((refl, h.within, (subst (λ b. ReadsSubsets course h.subsets (bits_of octets) (drop s.at b)) h.same h.whole, h.count_is ∙ e)), h.pays)
 
 -- a walk that stopped in one subset
-pub stopped_there : (n : ℕ) (course : Course) (octets : List ℕ) (total i : ℕ) (s s' : Cursor) (c c' : ℕ) (why : WalkFault) → SubsetsRead n course (bits_of octets) i s c → i < total → PassStops course s c (i + 1) why s' c' → s'.at ≤ length s'.bits → ReadsData course (data_in false total octets) (Err why) c'
+pub stopped_there : (n : ℕ) (course : Course) (octets : List ℕ) (total i : ℕ) (s s' : Cursor) (c c' : ℕ) (why : WalkFault) → SubsetsRead n course (bits_of octets) i s c → i < total
+    → PassStops course s c (i + 1) why s' c' → s'.at ≤ length s'.bits → ReadsData course (data_in false total octets) (Err why) c'
 stopped_there n course octets total i s s' c c' why h more p within = by p
   where
-    goes : passes_apart course total (bits_of octets) ≡ h.passes ++ (read_pass plain (λ items. false) course (rest_of s) ∷ unless_stopped (read_pass plain (λ items. false) course (rest_of s)).stop (passes_apart course (total - (i + 1)) (read_pass plain (λ items. false) course (rest_of s)).state.left))
+    goes : passes_apart course total (bits_of octets) ≡ h.passes ++
+        (read_pass plain (λ items. false) course (rest_of s) ∷ unless_stopped (read_pass plain (λ items. false) course (rest_of s)).stop
+        (passes_apart course (total - (i + 1)) (read_pass plain (λ items. false) course (rest_of s)).state.left))
     goes = ap (λ k. passes_apart course k (bits_of octets)) (others total i more) ∙ h.goes (suc (total - (i + 1)))
       where
         others : (total i : ℕ) → i < total → total ≡ i + suc (total - (i + 1))
         others total i h = omega (arith, h)
 
-    fault_so : (stop : Stop) → ((fault_of (data_in false total octets) (reading_of course (data_in false total octets)) ≡ Some (walk_fault_of stop (i + 1) s'.at)) × (c' ≡ ticked 0 (reading_of course (data_in false total octets)).turns))
+    fault_so : (stop : Stop) → ((fault_of (data_in false total octets) (reading_of course (data_in false total octets)) ≡ Some (walk_fault_of stop (i + 1) s'.at))
+        × (c' ≡ ticked 0 (reading_of course (data_in false total octets)).turns))
         → ReadsData course (data_in false total octets) (Err (walk_fault_of stop (i + 1) s'.at)) c'
     fault_so (walk_stop (refusal.Width f)) r = r
     fault_so (walk_stop (refusal.Defining f)) r = r
@@ -203,28 +204,44 @@ stopped_there n course octets total i s s' c c' why h more p within = by p
         let begins = pass_prefix plain (λ n. false) (suc (length (rest_of s))) course 0 (rest_of s) m.items (rest_of s') m.reads (λ j lt. refl) (fuel course s s' c c' (take_next q.0) m within) in
         rw q.3 (
           turns_in_all h.passes + turns_after plain course m.items,
-          subst (λ ps. OneRunsShort plain false course ps (turns_in_all h.passes + turns_after plain course m.items)) (sym goes)
-              (short_append course h.passes _ (turns_after plain course m.items) (inl (record { items = m.items; more = begins.0; are = begins.1; spec = q.0; next = sym m.next_is; wants = q.2; turns_are = refl }))),
+          record {
+            done = h.passes;
+            here = read_pass plain (λ items. false) course (rest_of s);
+            later = unless_stopped (read_pass plain (λ items. false) course (rest_of s)).stop (passes_apart course (total - (i + 1)) (read_pass plain (λ items. false) course (rest_of s)).state.left);
+            among = goes;
+            items = m.items;
+            more = begins.0;
+            are = begins.1;
+            spec = q.0;
+            next = sym m.next_is;
+            wants = q.2;
+            turns_are = refl;
+          },
           ticks_of n course (bits_of octets) i s s' c c' (take_next q.0) h m,
         )
     by (inr q) =
         let m = q.2 in
         let pass : DataPass Content = passed plain course (0 + length m.items) m.items (rest_of s') (Some q.1) in
         let is = came course s s' c c' q.0 (Some q.1) m within (record { reads = m.reads; few = λ j lt. refl; ends = subst (λ x. stop_at plain false x (rest_of s') ≡ Some q.1) m.next_is q.3 }) in
-        let all : passes_apart course total (bits_of octets) ≡ h.passes ++ pass ∷ [] = goes ∙ ap (λ (z : DataPass Content). h.passes ++ (z ∷ unless_stopped z.stop (passes_apart course (total - (i + 1)) z.state.left))) is in
+        let all : passes_apart course total (bits_of octets) ≡ h.passes ++ pass ∷ [] =
+        goes ∙ ap (λ (z : DataPass Content). h.passes ++ (z ∷ unless_stopped z.stop (passes_apart course (total - (i + 1)) z.state.left))) is in
         let at : s'.at + length (rest_of s') ≡ length (bits_of octets) = here s' (bits_of octets) (m.same ∙ h.same) (omega (arith, within, ap length (m.same ∙ h.same))) in
-        let count : length (h.passes ++ pass ∷ []) ≡ i + 1 = omega (arith, length-append h.passes (pass ∷ []), h.count_is, ap length h.items, length-map h.passes (λ (z : DataPass Content). z.items)) in
+        let count : length (h.passes ++ pass ∷ []) ≡ i + 1 = omega
+        (arith, length-append h.passes (pass ∷ []), h.count_is, ap length h.items, length-map h.passes (λ (z : DataPass Content). z.items)) in
         subst (λ x. ReadsData course (data_in false total octets) (Err x) c') (sym q.4) (fault_so q.1 (
           ap (λ (ps : List (DataPass Content)). option_map (λ w. walk_fault_of w (length ps) (length (bits_of octets) - length (left_after (bits_of octets) ps))) (stop_of ps)) all
-              ∙ ap (λ o. option_map (λ w. walk_fault_of w (length (h.passes ++ pass ∷ [])) (length (bits_of octets) - length (left_after (bits_of octets) (h.passes ++ pass ∷ [])))) o) (stop_append h.passes (pass ∷ []) h.none)
+              ∙ ap (λ o. option_map (λ w. walk_fault_of w (length (h.passes ++ pass ∷ [])) (length (bits_of octets) - length (left_after (bits_of octets) (h.passes ++ pass ∷ [])))) o)
+              (stop_append h.passes (pass ∷ []) h.none)
               ∙ ap (λ k. Some (walk_fault_of q.1 k (length (bits_of octets) - length (left_after (bits_of octets) (h.passes ++ pass ∷ []))))) count
               ∙ ap (λ l. Some (walk_fault_of q.1 (i + 1) (length (bits_of octets) - length l))) (left_append (bits_of octets) h.passes (pass ∷ []))
               ∙ ap (λ b. Some (walk_fault_of q.1 (i + 1) b)) (place_is s'.at (length (rest_of s')) (length (bits_of octets)) at),
-          ticks_of n course (bits_of octets) i s s' c c' q.0 h m ∙ ap (ticked 0) (sym (ap turns_in_all all ∙ turns_append h.passes (pass ∷ []) ∙ sums_to (turns_in_all h.passes) (turns_after plain course m.items))),
+          ticks_of n course (bits_of octets) i s s' c c' q.0 h m ∙ ap (ticked 0)
+              (sym (ap turns_in_all all ∙ turns_append h.passes (pass ∷ []) ∙ sums_to (turns_in_all h.passes) (turns_after plain course m.items))),
         ))
 
 -- the turns up to a fault
-pub few_stopped : (n : ℕ) (course : Course) (bits : List Bool) (i : ℕ) (s s' : Cursor) (c c' subset : ℕ) (why : WalkFault) → SubsetsRead n course bits i s c → PassStops course s c subset why s' c' → c' ≤ c + n * (s'.at - s.at + 1) → s'.at ≤ length s'.bits → s.at ≤ s'.at → c' ≤ n * (bits_before why (length bits) + 1)
+pub few_stopped : (n : ℕ) (course : Course) (bits : List Bool) (i : ℕ) (s s' : Cursor) (c c' subset : ℕ) (why : WalkFault) → SubsetsRead n course bits i s c → PassStops course s c subset why s' c'
+    → c' ≤ c + n * (s'.at - s.at + 1) → s'.at ≤ length s'.bits → s.at ≤ s'.at → c' ≤ n * (bits_before why (length bits) + 1)
 few_stopped n course bits i s s' c c' subset why h p few within forth = most (bits_before why (length bits)) (by p)
   where
     split : (n a d b : ℕ) → b ≡ a + d → n * b ≡ n * a + n * d
@@ -259,7 +276,8 @@ pub content_is : (spec : FieldSpec) (bits suffix : List Bool) (c : Content) → 
 content_is spec bits suffix c h = grind (arith, common_steps, nat_lt, same_found)
 
 -- a number, and a reference, by their kind and role
-pub value_by : (r : Role) (spec : FieldSpec) (bits : List Bool) → is_reference r ≡ false → content_by r spec bits ≡ (if are_all_ones bits && spec.may_be_missing then missing else said_by spec.kind spec.width bits)
+pub value_by : (r : Role) (spec : FieldSpec) (bits : List Bool) → is_reference r ≡ false
+    → content_by r spec bits ≡ (if are_all_ones bits && spec.may_be_missing then missing else said_by spec.kind spec.width bits)
 value_by role.Element spec bits e = refl
 value_by role.Inserted spec bits e = refl
 value_by role.Factor spec bits e = refl
@@ -276,7 +294,8 @@ said_number kind.Character width bits e = absurd cc
 said_number kind.Coded width bits e = refl
 said_number kind.Numeric width bits e = refl
 
-pub number_shown : (spec : FieldSpec) (bits : List Bool) (raw : ℕ) → is_character spec.kind ≡ false → is_reference spec.role ≡ false → (are_all_ones bits && spec.may_be_missing) ≡ false → raw ≡ number_of bits → shown_number (pos raw +ℤ spec.reference) spec.scale ≡ shown spec (content_in spec bits)
+pub number_shown : (spec : FieldSpec) (bits : List Bool) (raw : ℕ) → is_character spec.kind ≡ false → is_reference spec.role ≡ false → (are_all_ones bits && spec.may_be_missing) ≡ false
+    → raw ≡ number_of bits → shown_number (pos raw +ℤ spec.reference) spec.scale ≡ shown spec (content_in spec bits)
 number_shown spec bits raw k e m is = grind (arith, common_steps, pos, value_by, said_number)
 
 said_text : (k : Kind) (width : ℕ) (bits : List Bool) → is_character k ≡ true → said_by k width bits ≡ text (octets_in (width / 8) bits)
@@ -294,7 +313,8 @@ and_false : (b m : Bool) → b ≡ false → (b && m) ≡ false
 and_false true m e = absurd cc
 and_false false m e = refl
 
-pub text_shown : (spec : FieldSpec) (bits : List Bool) (octets : List ℕ) → IsSpec spec → is_character spec.kind ≡ true → are_all_ones bits ≡ false → octets ≡ octets_in (spec.width / 8) bits → shown_text octets ≡ shown spec (content_in spec bits)
+pub text_shown : (spec : FieldSpec) (bits : List Bool) (octets : List ℕ) → IsSpec spec → is_character spec.kind ≡ true → are_all_ones bits ≡ false → octets ≡ octets_in (spec.width / 8) bits
+    → shown_text octets ≡ shown spec (content_in spec bits)
 text_shown spec bits octets h k e is = grind (arith, common_steps, value_by, text_role, and_false, said_text)
 
 -- a reference that was found is shown as one
@@ -305,13 +325,15 @@ abbrev item_of : FieldSpec → Content → Item Content
 item_of spec content = record { spec = spec; content = content }
 
 -- what comes next is one item
-same_item : (course : Course) (spec : FieldSpec) (a : Item Content) (c : Content) (bits mid mid' : List Bool) → (course []).next ≡ take_next spec → (course []).next ≡ take_next a.spec → plain_field spec bits ≡ Ok (found c mid) → plain_field a.spec bits ≡ Ok (found a.content mid') → (item_of spec c ≡ a) × (mid' ≡ mid)
+same_item : (course : Course) (spec : FieldSpec) (a : Item Content) (c : Content) (bits mid mid' : List Bool) → (course []).next ≡ take_next spec → (course []).next ≡ take_next a.spec
+    → plain_field spec bits ≡ Ok (found c mid) → plain_field a.spec bits ≡ Ok (found a.content mid') → (item_of spec c ≡ a) × (mid' ≡ mid)
 same_item course spec a c bits mid mid' e e' f f' = grind (arith, common_steps, same_found)
 
 course_is : (course : Course) (i : TakenField) (a : Item Content) (c : Content) → i.taken ≡ answer_of i.spec c → item_of i.spec c ≡ a → (λ more. course (i.taken ∷ more)) ≡ after plain course a
 course_is course i a c e is = ap (λ t more. course (t ∷ more)) e ∙ ap (after plain course) is
 
-suffix_of : (course : Course) (i : TakenField) (a : Item Content) (others : List (Item Content)) (mid' mid left : List Bool) → (λ more. course (i.taken ∷ more)) ≡ after plain course a → mid' ≡ mid → ReadsPass plain (after plain course a) others mid' left → ReadsPass plain (λ more. course (i.taken ∷ more)) others mid left
+suffix_of : (course : Course) (i : TakenField) (a : Item Content) (others : List (Item Content)) (mid' mid left : List Bool) → (λ more. course (i.taken ∷ more)) ≡ after plain course a → mid' ≡ mid
+    → ReadsPass plain (after plain course a) others mid' left → ReadsPass plain (λ more. course (i.taken ∷ more)) others mid left
 suffix_of course i a others mid' mid left go e r = subst (λ c. ReadsPass plain c others mid left) (sym go) (subst (λ b. ReadsPass plain (after plain course a) others b left) e r)
 
 -- the end of a walk over data that were read before: the visitor refuses, or memory runs out
@@ -328,7 +350,8 @@ MayEnd _ = ⊥
 
 module _ {V E : Type 0} (sees : V → Call → Result (Unit {0}) E → V → Type 0) where
   -- a field that was peeked at, shown and passed
-  pub shown_here : (c c' : Cursor) (v v' : V) (table : List Row) (a b : ℕ) (spec : FieldSpec) (t : Taken) → c' ≡ past c spec → IsTaken c spec t (past c spec) → sees v (item_call (view_of table spec (content_in spec (take spec.width (rest_of c))))) (Ok tt) v' → IsShown sees (stage c v table a b) spec t (stage c' v' table a b)
+  pub shown_here : (c c' : Cursor) (v v' : V) (table : List Row) (a b : ℕ) (spec : FieldSpec) (t : Taken) → c' ≡ past c spec → IsTaken c spec t (past c spec)
+      → sees v (item_call (view_of table spec (content_in spec (take spec.width (rest_of c))))) (Ok tt) v' → IsShown sees (stage c v table a b) spec t (stage c' v' table a b)
   shown_here c c' v v' table a b spec t e h w = record {
     is_taken = subst (λ x. IsTaken c spec t x) (sym e) h;
     call = call_at c' (sym e);
@@ -337,9 +360,11 @@ module _ {V E : Type 0} (sees : V → Call → Result (Unit {0}) E → V → Typ
   }
     where
       call_at : (c' : Cursor) (e : past c spec ≡ c') → sees v (item_call (view_of table spec (subst (λ x. IsTaken c spec t x) e h).content)) (Ok tt) v'
-      call_at c' e = subst (λ x. sees v (item_call (view_of table spec x)) (Ok tt) v') (content_is spec (rest_of c) (rest_of c') (subst (λ x. IsTaken c spec t x) e h).content (subst (λ x. IsTaken c spec t x) e h).field) w
+      call_at c' e = subst (λ x. sees v (item_call (view_of table spec x)) (Ok tt) v')
+          (content_is spec (rest_of c) (rest_of c') (subst (λ x. IsTaken c spec t x) e h).content (subst (λ x. IsTaken c spec t x) e h).field) w
 
-  pub unshown_here : (c c' : Cursor) (v v' : V) (table : List Row) (a b : ℕ) (spec : FieldSpec) (t : Taken) (e : E) → c' ≡ c → IsTaken c spec t (past c spec) → sees v (item_call (view_of table spec (content_in spec (take spec.width (rest_of c))))) (Err e) v' → IsUnshown sees (stage c v table a b) spec e (stage c' v' table a b)
+  pub unshown_here : (c c' : Cursor) (v v' : V) (table : List Row) (a b : ℕ) (spec : FieldSpec) (t : Taken) (e : E) → c' ≡ c → IsTaken c spec t (past c spec)
+      → sees v (item_call (view_of table spec (content_in spec (take spec.width (rest_of c))))) (Err e) v' → IsUnshown sees (stage c v table a b) spec e (stage c' v' table a b)
   unshown_here c c' v v' table a b spec t e same h w = record {
     answer = t;
     is_taken = h;
@@ -354,7 +379,8 @@ module _ {V E : Type 0} (sees : V → Call → Result (Unit {0}) E → V → Typ
   pub sofar_then : (s s1 s2 : V) (a b c : List Timed) → Sofar sees s a s1 b → Sofar sees s1 b s2 c → Sofar sees s a s2 c
   sofar_then s s1 s2 a b c x y = record { on = λ turns r s' steps h. x.on turns r s' steps (y.on turns r s' steps h) }
 
-  call_on : (s s1 : V) (t : Timed) (rest : List Timed) (turns : ℕ) (r : Result (Unit {0}) (ShowFault E)) (s' : V) (steps : ℕ) → sees s t.call (Ok tt) s1 → Shows sees s1 rest turns r s' steps → Shows sees s (t ∷ rest) turns r s' steps
+  call_on : (s s1 : V) (t : Timed) (rest : List Timed) (turns : ℕ) (r : Result (Unit {0}) (ShowFault E)) (s' : V) (steps : ℕ) → sees s t.call (Ok tt) s1 → Shows sees s1 rest turns r s' steps
+      → Shows sees s (t ∷ rest) turns r s' steps
   call_on s s1 t rest turns (Ok u) s' steps h w = (s1, h, w)
   call_on s s1 t rest turns (Err e) s' steps h w = inr (s1, h, w)
 
@@ -393,30 +419,38 @@ module _ {V E : Type 0} (sees : V → Call → Result (Unit {0}) E → V → Typ
 
     pub same_names : (course : Course) (s : S) (c : ℕ) (r : Result (Unit {0}) (WalkStop (ShowStop E))) (s' : S) (c' : ℕ) → Walked took course s c r s' c' → ((on s').names ≡ (on s).names)
     same_names course s c (Ok u) s' c' w = names_so course s w.0 s' w.1
-    same_names course s c (Err why) s' c' w = stop_cases took (λ next y. (on s').names ≡ (on w.1).names) w.1 s' (λ spec e h. field_names w.1 spec e s' h) (λ spec r h. ap (λ x. (on x).names) h) (λ x h. ap (λ z. (on z).names) h) (course (answers_of w.0)).next why w.3 ∙ names_so course s w.0 w.1 w.2
+    same_names course s c (Err why) s' c' w = stop_cases took (λ next y. (on s').names ≡ (on w.1).names) w.1 s' (λ spec e h. field_names w.1 spec e s' h) (λ spec r h. ap (λ x. (on x).names) h)
+        (λ x h. ap (λ z. (on z).names) h) (course (answers_of w.0)).next why w.3 ∙ names_so course s w.0 w.1 w.2
 
-    shown_so : (table : List Row) (before : ℕ) (course : Course) (s : S) (items : List TakenField) (s' : S) → Takes (oks took) course s items s' → (on s).table ≡ table → (all : List (Item Content)) (left : List Bool) (more : List Timed) → ReadsPass plain course all (rest_of (on s).cursor) left → Left table course before all left more (answers_of items) (on s).visitor (on s')
+    shown_so : (table : List Row) (before : ℕ) (course : Course) (s : S) (items : List TakenField) (s' : S) → Takes (oks took) course s items s' → (on s).table ≡ table
+        → (all : List (Item Content)) (left : List Bool) (more : List Timed) → ReadsPass plain course all (rest_of (on s).cursor) left
+        → Left table course before all left more (answers_of items) (on s).visitor (on s')
     shown_so table before course s [] s' h t all left more r = record {
       rest = all;
       further = course;
       reads = subst (λ x. ReadsPass plain course all (rest_of (on x).cursor) left) (sym h) r;
       here = refl;
-      so_far = subst (λ x. Sofar sees (on s).visitor (item_calls table before course all ++ more) (on x).visitor (item_calls table before course all ++ more)) (sym h) (sofar_self (on s).visitor (item_calls table before course all ++ more));
+      so_far = subst (λ x. Sofar sees (on s).visitor (item_calls table before course all ++ more) (on x).visitor (item_calls table before course all ++ more)) (sym h)
+          (sofar_self (on s).visitor (item_calls table before course all ++ more));
       turns = refl;
     }
     shown_so table before course s (i ∷ items) s' h t [] left more r = absurd (no_item course i.spec h.1 r.1)
     shown_so table before course s (i ∷ items) s' h t (a ∷ others) left more r =
         let is = same_item course i.spec a h.2.is_taken.content (rest_of (on s).cursor) (rest_of (on h.0).cursor) r.0.0 h.1 r.0.1 h.2.is_taken.field r.0.2 in
         let go = course_is course i a h.2.is_taken.content h.2.is_taken.gives is.0 in
-        let l = shown_so table before (λ answer_of. course (i.taken ∷ answer_of)) h.0 items s' h.3 (h.2.table ∙ t) others left more (suffix_of course i a others r.0.0 (rest_of (on h.0).cursor) left go is.1 (r.0.3, r.1)) in
+        let l = shown_so table before (λ answer_of. course (i.taken ∷ answer_of)) h.0 items s' h.3 (h.2.table ∙ t) others left more
+        (suffix_of course i a others r.0.0 (rest_of (on h.0).cursor) left go is.1 (r.0.3, r.1)) in
         record {
           rest = l.rest;
           further = l.further;
           reads = l.reads;
           here = l.here;
-          so_far = sofar_then (on s).visitor (on h.0).visitor (on s').visitor (item_calls table before course (a ∷ others) ++ more) (item_calls table before (after plain course a) others ++ more) (item_calls table before l.further l.rest ++ more)
-              (sofar_call (on s).visitor (on h.0).visitor (timed (before + (course []).turns) (item_call (view_of table a.spec a.content))) (item_calls table before (after plain course a) others ++ more)
-              (subst (λ (z : Item Content). sees (on s).visitor (item_call (view_of table z.spec z.content)) (Ok tt) (on h.0).visitor) is.0 (subst (λ rows. sees (on s).visitor (item_call (view_of rows i.spec h.2.is_taken.content)) (Ok tt) (on h.0).visitor) t h.2.call)))
+          so_far = sofar_then (on s).visitor (on h.0).visitor (on s').visitor (item_calls table before course (a ∷ others) ++ more) (item_calls table before (after plain course a) others ++ more)
+              (item_calls table before l.further l.rest ++ more)
+              (sofar_call (on s).visitor (on h.0).visitor (timed (before + (course []).turns) (item_call (view_of table a.spec a.content)))
+              (item_calls table before (after plain course a) others ++ more)
+              (subst (λ (z : Item Content). sees (on s).visitor (item_call (view_of table z.spec z.content)) (Ok tt) (on h.0).visitor) is.0
+              (subst (λ rows. sees (on s).visitor (item_call (view_of rows i.spec h.2.is_taken.content)) (Ok tt) (on h.0).visitor) t h.2.call)))
               (subst (λ c. Sofar sees (on h.0).visitor (item_calls table before c others ++ more) (on s').visitor (item_calls table before l.further l.rest ++ more)) go l.so_far);
           turns = ap (λ c. turns_after plain c others) (sym go) ∙ l.turns;
         }
@@ -426,7 +460,8 @@ module _ {V E : Type 0} (sees : V → Call → Result (Unit {0}) E → V → Typ
     table_so course s (i ∷ items) s' h = table_so (λ answer_of. course (i.taken ∷ answer_of)) h.0 items s' h.3 ∙ h.2.table
 
     -- the whole of a subset
-    pub all_shown : (table : List Row) (course : Course) (s : S) (c : ℕ) (s' : S) (c' : ℕ) → (on s).table ≡ table → Walked took course s c (Ok tt) s' c' → ItemsShown sees table course (on s).cursor (on s).visitor c (on s').cursor (on s').visitor c'
+    pub all_shown : (table : List Row) (course : Course) (s : S) (c : ℕ) (s' : S) (c' : ℕ) → (on s).table ≡ table → Walked took course s c (Ok tt) s' c'
+        → ItemsShown sees table course (on s).cursor (on s).visitor c (on s').cursor (on s').visitor c'
     all_shown table course s c s' c' t w = record {
       shown = λ before all left more r.
           let l = shown_so table before course s w.0 s' w.1 t all left more r in
@@ -439,7 +474,10 @@ module _ {V E : Type 0} (sees : V → Call → Result (Unit {0}) E → V → Typ
     }
 
     -- the item at which a showing ends
-    ends_here : (table : List Row) (course further : Course) (answer_of : List Taken) (before c c' turns : ℕ) (rest : List (Item Content)) (left : List Bool) (more : List Timed) (spec : FieldSpec) (content : Content) (suffix : List Bool) (why : ShowFault E) (mid : S) (v' : V) → further [] ≡ course answer_of → (course answer_of).next ≡ take_next spec → ReadsPass plain further rest (rest_of (on mid).cursor) left → plain_field spec (rest_of (on mid).cursor) ≡ Ok (found content suffix) → EndsAt sees (on mid).visitor (item_call (view_of table spec content)) why v'
+    ends_here : (table : List Row) (course further : Course) (answer_of : List Taken) (before c c' turns : ℕ) (rest : List (Item Content)) (left : List Bool) (more : List Timed) (spec : FieldSpec)
+        (content : Content) (suffix : List Bool) (why : ShowFault E) (mid : S) (v' : V) → further [] ≡ course answer_of → (course answer_of).next ≡ take_next spec
+        → ReadsPass plain further rest (rest_of (on mid).cursor) left → plain_field spec (rest_of (on mid).cursor) ≡ Ok (found content suffix)
+        → EndsAt sees (on mid).visitor (item_call (view_of table spec content)) why v'
         → c ≡ ticked 0 before → c' ≡ ticked c (course answer_of).turns → Shows sees (on mid).visitor (item_calls table before further rest ++ more) turns (Err why) v' c'
     ends_here table course further answer_of before c c' turns [] left more spec content suffix why mid v' e n r f ends now ticks_are = absurd (no_item further spec (ap (λ a. a.next) e ∙ n) r.1)
     ends_here table course further answer_of before c c' turns (x ∷ xs) left more spec content suffix why mid v' e n r f ends now ticks_are =
@@ -447,12 +485,15 @@ module _ {V E : Type 0} (sees : V → Call → Result (Unit {0}) E → V → Typ
         let same_spec : spec ≡ x.spec = cc in
         let g : found content suffix ≡ found x.content r.0.0 = same_found _ _ (sym f ∙ ap (λ z. plain_field z (rest_of (on mid).cursor)) same_spec ∙ r.0.2) in
         inl (
-          subst (λ z. EndsAt sees (on mid).visitor (item_call (view_of table z x.content)) why v') same_spec (subst (λ z. EndsAt sees (on mid).visitor (item_call (view_of table spec z)) why v') (ap (λ (z : FieldRead Content). z.content) g) ends),
+          subst (λ z. EndsAt sees (on mid).visitor (item_call (view_of table z x.content)) why v') same_spec
+              (subst (λ z. EndsAt sees (on mid).visitor (item_call (view_of table spec z)) why v') (ap (λ (z : FieldRead Content). z.content) g) ends),
           ticks_are ∙ ap (λ k. ticked k (course answer_of).turns) now ∙ ticked_more before (course answer_of).turns ∙ ap (λ a. ticked 0 (before + a.turns)) (sym e),
         )
 
     -- a reference before which memory ran out
-    memory_here : (table : List Row) (course further : Course) (answer_of : List Taken) (before c c' turns : ℕ) (rest : List (Item Content)) (left : List Bool) (more : List Timed) (spec : FieldSpec) (why : ShowFault E) (mid s' : S) → further [] ≡ course answer_of → (course answer_of).next ≡ take_next spec → ReadsPass plain further rest (rest_of (on mid).cursor) left → why ≡ show_fault.Memory → spec.role ≡ role.Reference → s' ≡ mid
+    memory_here : (table : List Row) (course further : Course) (answer_of : List Taken) (before c c' turns : ℕ) (rest : List (Item Content)) (left : List Bool) (more : List Timed) (spec : FieldSpec)
+        (why : ShowFault E) (mid s' : S) → further [] ≡ course answer_of → (course answer_of).next ≡ take_next spec → ReadsPass plain further rest (rest_of (on mid).cursor) left
+        → why ≡ show_fault.Memory → spec.role ≡ role.Reference → s' ≡ mid
         → c ≡ ticked 0 before → c' ≡ ticked c (course answer_of).turns → Shows sees (on mid).visitor (item_calls table before further rest ++ more) turns (Err why) (on s').visitor c'
     memory_here table course further answer_of before c c' turns [] left more spec why mid s' e n r is kept same now ticks_are = absurd (no_item further spec (ap (λ a. a.next) e ∙ n) r.1)
     memory_here table course further answer_of before c c' turns (x ∷ xs) left more spec why mid s' e n r is kept same now ticks_are =
@@ -460,25 +501,35 @@ module _ {V E : Type 0} (sees : V → Call → Result (Unit {0}) E → V → Typ
         let same_spec : spec ≡ x.spec = cc in
         let there : plain_field spec (rest_of (on mid).cursor) ≡ Ok (found x.content r.0.0) = ap (λ z. plain_field z (rest_of (on mid).cursor)) same_spec ∙ r.0.2 in
         ends_here table course further answer_of before c c' turns (x ∷ xs) left more spec x.content r.0.0 why mid (on s').visitor e n r there
-        (subst (λ f. EndsAt sees (on mid).visitor (item_call (view_of table spec x.content)) f (on s').visitor) (sym is)
-        (ap (λ z. (on z).visitor) same, subst (λ z. IsReferenceValue (shown spec z)) (content_is spec (rest_of (on mid).cursor) r.0.0 x.content there) (reference_kept spec (take spec.width (rest_of (on mid).cursor)) kept))) now ticks_are
+        (subst (λ f. EndsAt sees (on mid).visitor (item_call (view_of table spec x.content)) f (on s').visitor) (sym is) (
+          ap (λ z. (on z).visitor) same,
+          subst (λ z. IsReferenceValue (shown spec z)) (content_is spec (rest_of (on mid).cursor) r.0.0 x.content there)
+              (reference_kept spec (take spec.width (rest_of (on mid).cursor)) kept),
+        )) now ticks_are
 
-    pub all_ended : (table : List Row) (course : Course) (s : S) (c : ℕ) (why : WalkStop (ShowStop E)) (end : ShowFault E) (s' : S) (c' : ℕ) → (on s).table ≡ table → Walked took course s c (Err why) s' c' → IsEnd why end → ItemsEnded sees table course (on s).cursor (on s).visitor c end (on s').visitor c'
+    pub all_ended : (table : List Row) (course : Course) (s : S) (c : ℕ) (why : WalkStop (ShowStop E)) (end : ShowFault E) (s' : S) (c' : ℕ) → (on s).table ≡ table
+        → Walked took course s c (Err why) s' c' → IsEnd why end → ItemsEnded sees table course (on s).cursor (on s).visitor c end (on s').visitor c'
     all_ended table course s c why end s' c' t w is = record {
       ended = λ before all left more turns r now.
           let l = shown_so table before course s w.0 w.1 w.2 t all left more r in
-          l.so_far.on turns (Err end) (on s').visitor c' (stop_cases took (λ next y. (course (answers_of w.0)).next ≡ next → IsEnd y end → Shows sees (on w.1).visitor (item_calls table before l.further l.rest ++ more) turns (Err end) (on s').visitor c') w.1 s'
-          (field before left more turns now l.rest l.further l.here l.reads) (λ spec h e n is. memory_here table course l.further (answers_of w.0) before c c' turns l.rest left more spec end w.1 s' l.here n l.reads is h e now w.4)
+          l.so_far.on turns (Err end) (on s').visitor c' (stop_cases took
+          (λ next y. (course (answers_of w.0)).next ≡ next → IsEnd y end → Shows sees (on w.1).visitor (item_calls table before l.further l.rest ++ more) turns (Err end) (on s').visitor c') w.1 s'
+          (field before left more turns now l.rest l.further l.here l.reads)
+          (λ spec h e n is. memory_here table course l.further (answers_of w.0) before c c' turns l.rest left more spec end w.1 s' l.here n l.reads is h e now w.4)
           (λ x e n is. absurd (refuses x is)) (course (answers_of w.0)).next why w.3 refl is);
     }
       where
         rows : (on w.1).table ≡ table
         rows = table_so course s w.0 w.1 w.2 ∙ t
 
-        field : (before : ℕ) (left : List Bool) (more : List Timed) (turns : ℕ) → c ≡ ticked 0 before → (rest : List (Item Content)) (further : Course) → further [] ≡ course (answers_of w.0) → ReadsPass plain further rest (rest_of (on w.1).cursor) left → (spec : FieldSpec) (e : ShowStop E) → took w.1 spec (Err e) s' → (course (answers_of w.0)).next ≡ take_next spec → IsEnd (stops.Field e) end → Shows sees (on w.1).visitor (item_calls table before further rest ++ more) turns (Err end) (on s').visitor c'
+        field : (before : ℕ) (left : List Bool) (more : List Timed) (turns : ℕ) → c ≡ ticked 0 before → (rest : List (Item Content)) (further : Course) → further [] ≡ course (answers_of w.0)
+            → ReadsPass plain further rest (rest_of (on w.1).cursor) left → (spec : FieldSpec) (e : ShowStop E) → took w.1 spec (Err e) s' → (course (answers_of w.0)).next ≡ take_next spec
+            → IsEnd (stops.Field e) end → Shows sees (on w.1).visitor (item_calls table before further rest ++ more) turns (Err end) (on s').visitor c'
         field before left more turns now rest further e r spec (stop.Visitor fault_is) h n is =
-            ends_here table course further (answers_of w.0) before c c' turns rest left more spec h.is_taken.content (rest_of (past (on w.1).cursor spec)) end w.1 (on s').visitor e n r h.is_taken.field
-            (subst (λ f. EndsAt sees (on w.1).visitor (item_call (view_of table spec h.is_taken.content)) f (on s').visitor) (sym is) (subst (λ rows. sees (on w.1).visitor (item_call (view_of rows spec h.is_taken.content)) (Err fault_is) (on s').visitor) rows h.call)) now w.4
+            ends_here table course further (answers_of w.0) before c c' turns rest left more spec h.is_taken.content (rest_of (past (on w.1).cursor spec)) end w.1 (on s').visitor e n r
+            h.is_taken.field
+            (subst (λ f. EndsAt sees (on w.1).visitor (item_call (view_of table spec h.is_taken.content)) f (on s').visitor) (sym is)
+            (subst (λ rows. sees (on w.1).visitor (item_call (view_of rows spec h.is_taken.content)) (Err fault_is) (on s').visitor) rows h.call)) now w.4
         field before left more turns now rest further e r spec stop.DataEnd h n is = absurd is
 
         refuses : (x : TurnRefusal) → IsEnd (stop_by x) end → ⊥
@@ -486,30 +537,42 @@ module _ {V E : Type 0} (sees : V → Call → Result (Unit {0}) E → V → Typ
         refuses (refusal.Defining f) is = is
 
     -- data that were read before can be shown to their end
-    pub may_end : (table : List Row) (course : Course) (s : S) (c : ℕ) (why : WalkStop (ShowStop E)) (s' : S) (c' : ℕ) (all : List (Item Content)) (left : List Bool) → (on s).table ≡ table → ReadsPass plain course all (rest_of (on s).cursor) left → Walked took course s c (Err why) s' c' → MayEnd why
+    pub may_end : (table : List Row) (course : Course) (s : S) (c : ℕ) (why : WalkStop (ShowStop E)) (s' : S) (c' : ℕ) (all : List (Item Content)) (left : List Bool) → (on s).table ≡ table
+        → ReadsPass plain course all (rest_of (on s).cursor) left → Walked took course s c (Err why) s' c' → MayEnd why
     may_end table course s c why s' c' all left t r w =
         let l = shown_so table 0 course s w.0 w.1 w.2 t all left [] r in
-        stop_cases took (λ next y. (l.further []).next ≡ next → MayEnd y) w.1 s' (λ spec e h n. field l.rest l.further spec e n h l.reads) (λ spec r h n. tt) (λ x h n. absurd (no_refusal l.rest l.further x n l.reads)) (course (answers_of w.0)).next why w.3 (ap (λ a. a.next) l.here)
+        stop_cases took (λ next y. (l.further []).next ≡ next → MayEnd y) w.1 s' (λ spec e h n. field l.rest l.further spec e n h l.reads) (λ spec r h n. tt)
+        (λ x h n. absurd (no_refusal l.rest l.further x n l.reads)) (course (answers_of w.0)).next why w.3 (ap (λ a. a.next) l.here)
       where
         -- a walk is not refused where a reading goes on
-        goes_on : (rest : List (Item Content)) (further : Course) (next : Next) → (further []).next ≡ next → ReadsPass plain further rest (rest_of (on w.1).cursor) left → (next ≡ at_end) ⊎ ((x : Item Content) × (mid : List Bool) × (next ≡ take_next x.spec) × (plain_field x.spec (rest_of (on w.1).cursor) ≡ Ok (found x.content mid)))
+        goes_on : (rest : List (Item Content)) (further : Course) (next : Next) → (further []).next ≡ next → ReadsPass plain further rest (rest_of (on w.1).cursor) left
+            → (next ≡ at_end) ⊎ ((x : Item Content) × (mid : List Bool) × (next ≡ take_next x.spec) × (plain_field x.spec (rest_of (on w.1).cursor) ≡ Ok (found x.content mid)))
         goes_on [] further next e r = inl (sym e ∙ r.1)
         goes_on (x ∷ xs) further next e r = inr (x, r.0.0, sym e ∙ r.0.1, r.0.2)
 
         no_refusal : (rest : List (Item Content)) (further : Course) (why : TurnRefusal) → (further []).next ≡ refused why → ReadsPass plain further rest (rest_of (on w.1).cursor) left → ⊥
         no_refusal rest further why e r = elim (goes_on rest further (refused why) e r) as (λ _. ⊥) [ inl f ↦ absurd cc | inr g ↦ (let f : refused why ≡ take_next g.0.spec = g.2 in cc) ]
 
-        no_end : (rest : List (Item Content)) (further : Course) (spec : FieldSpec) → (further []).next ≡ take_next spec → plain_field spec (rest_of (on w.1).cursor) ≡ Err data_end → ReadsPass plain further rest (rest_of (on w.1).cursor) left → ⊥
-        no_end rest further spec e short r = elim (goes_on rest further (take_next spec) e r) as (λ _. ⊥) [ inl f ↦ absurd cc | inr g ↦ (let f : take_next spec ≡ take_next g.0.spec = g.2 in let same : spec ≡ g.0.spec = cc in let b : ◌≡◌ {A = Result (FieldRead Content) FieldFault} (Err data_end) (Ok (found g.0.content g.1)) = sym short ∙ ap (λ z. plain_field z (rest_of (on w.1).cursor)) same ∙ g.3 in cc) ]
+        no_end : (rest : List (Item Content)) (further : Course) (spec : FieldSpec) → (further []).next ≡ take_next spec → plain_field spec (rest_of (on w.1).cursor) ≡ Err data_end
+            → ReadsPass plain further rest (rest_of (on w.1).cursor) left → ⊥
+        no_end rest further spec e short r = elim (goes_on rest further (take_next spec) e r) as
+            (λ _. ⊥) [
+              | inl f ↦ absurd cc
+              | inr g ↦ (let f : take_next spec ≡ take_next g.0.spec = g.2 in let same : spec
+                  ≡ g.0.spec = cc in let b : ◌≡◌ {A = Result (FieldRead Content) FieldFault} (Err data_end) (Ok (found g.0.content g.1)) =
+                  sym short ∙ ap (λ z. plain_field z (rest_of (on w.1).cursor)) same ∙ g.3 in cc)
+            ]
 
-        field : (rest : List (Item Content)) (further : Course) (spec : FieldSpec) (e : ShowStop E) → (further []).next ≡ take_next spec → took w.1 spec (Err e) s' → ReadsPass plain further rest (rest_of (on w.1).cursor) left → MayEnd (stops.Field e)
+        field : (rest : List (Item Content)) (further : Course) (spec : FieldSpec) (e : ShowStop E) → (further []).next ≡ take_next spec → took w.1 spec (Err e) s'
+            → ReadsPass plain further rest (rest_of (on w.1).cursor) left → MayEnd (stops.Field e)
         field rest further spec (stop.Visitor x) n h r = tt
         field rest further spec stop.DataEnd n h r = absurd (no_end rest further spec n h.0 r)
 
 -- ---- Subsets that are shown one after another.
 
 -- some subsets of the data were shown
-pub record SubsetsShown {S E : Type 0} (sees : S → Call → Result (Unit {0}) E → S → Type 0) (table : List Row) (course : Course) (all : List (List (Item Content))) (done : ℕ) (left : List Bool) (s : S) (c : Cursor) (s' : S) (steps : ℕ) : Type 0 where
+pub record SubsetsShown {S E : Type 0} (sees : S → Call → Result (Unit {0}) E → S → Type 0) (table : List Row) (course : Course) (all : List (List (Item Content))) (done : ℕ) (left : List Bool)
+    (s : S) (c : Cursor) (s' : S) (steps : ℕ) : Type 0 where
   pub before : ℕ
   pub more : List (List (Item Content))
   pub whole : ReadsSubsets course more (rest_of c) left
@@ -519,13 +582,17 @@ pub record SubsetsShown {S E : Type 0} (sees : S → Call → Result (Unit {0}) 
   pub shown : Sofar sees s (subset_calls table course 0 1 all) s' (subset_calls table course before (done + 1) more)
 
 -- the items of a subset were shown, after its own call
-pub record SubsetShown {S E : Type 0} (sees : S → Call → Result (Unit {0}) E → S → Type 0) (table : List Row) (course : Course) (number : ℕ) (c : Cursor) (s : S) (steps : ℕ) (c' : Cursor) (s' : S) (steps' : ℕ) : Type 0 where
-  pub shown : (before : ℕ) (items : List (Item Content)) (subsets : List (List (Item Content))) (left : List Bool) → ReadsPass plain course items (rest_of c) left → steps ≡ ticked 0 before → Sofar sees s (subset_calls table course before number (items ∷ subsets)) s' (subset_calls table course (before + turns_after plain course items) (number + 1) subsets)
+pub record SubsetShown {S E : Type 0} (sees : S → Call → Result (Unit {0}) E → S → Type 0) (table : List Row) (course : Course) (number : ℕ) (c : Cursor) (s : S) (steps : ℕ) (c' : Cursor) (s' : S)
+    (steps' : ℕ) : Type 0 where
+  pub shown : (before : ℕ) (items : List (Item Content)) (subsets : List (List (Item Content))) (left : List Bool) → ReadsPass plain course items (rest_of c) left → steps ≡ ticked 0 before
+      → Sofar sees s (subset_calls table course before number (items ∷ subsets)) s' (subset_calls table course (before + turns_after plain course items) (number + 1) subsets)
   pub left_is : (items : List (Item Content)) (left : List Bool) → ReadsPass plain course items (rest_of c) left → (rest_of c' ≡ left) × (steps' ≡ ticked steps (turns_after plain course items))
 
 -- a subset was shown up to a call that ended the showing
-pub record SubsetEnded {S E : Type 0} (sees : S → Call → Result (Unit {0}) E → S → Type 0) (table : List Row) (course : Course) (number : ℕ) (c : Cursor) (s : S) (steps : ℕ) (why : ShowFault E) (s' : S) (steps' : ℕ) : Type 0 where
-  pub ended : (before : ℕ) (items : List (Item Content)) (subsets : List (List (Item Content))) (left : List Bool) (turns : ℕ) → ReadsPass plain course items (rest_of c) left → steps ≡ ticked 0 before → Shows sees s (subset_calls table course before number (items ∷ subsets)) turns (Err why) s' steps'
+pub record SubsetEnded {S E : Type 0} (sees : S → Call → Result (Unit {0}) E → S → Type 0) (table : List Row) (course : Course) (number : ℕ) (c : Cursor) (s : S) (steps : ℕ) (why : ShowFault E)
+    (s' : S) (steps' : ℕ) : Type 0 where
+  pub ended : (before : ℕ) (items : List (Item Content)) (subsets : List (List (Item Content))) (left : List Bool) (turns : ℕ) → ReadsPass plain course items (rest_of c) left
+      → steps ≡ ticked 0 before → Shows sees s (subset_calls table course before number (items ∷ subsets)) turns (Err why) s' steps'
 
 -- a subset was shown, or a call ended the showing
 abbrev pub SubsetGoes : {S E : Type 0} → (S → Call → Result (Unit {0}) E → S → Type 0) → List Row → Course → ℕ → Cursor → S → ℕ → Result (Unit {0}) (ShowFault E) → Cursor → S → ℕ → Type 0
@@ -534,7 +601,8 @@ SubsetGoes sees table course index c s steps (Err why) c' s' steps' = SubsetEnde
 
 module _ {V E : Type 0} (sees : V → Call → Result (Unit {0}) E → V → Type 0) (table : List Row) (course : Course) where
   -- a subset's call, and its items
-  pub subset_goes : (index : ℕ) (c c' : Cursor) (s s1 s' : V) (steps steps' : ℕ) (r : Result (Unit {0}) (ShowFault E)) → sees s (subset_call index) (Ok tt) s1 → ItemsGo sees table course c s1 steps r c' s' steps' → SubsetGoes sees table course index c s steps r c' s' steps'
+  pub subset_goes : (index : ℕ) (c c' : Cursor) (s s1 s' : V) (steps steps' : ℕ) (r : Result (Unit {0}) (ShowFault E)) → sees s (subset_call index) (Ok tt) s1
+      → ItemsGo sees table course c s1 steps r c' s' steps' → SubsetGoes sees table course index c s steps r c' s' steps'
   subset_goes index c c' s s1 s' steps steps' (Ok u) h g = record {
     shown = λ before items subsets left r e.
         let suffix : List Timed = subset_calls table course (before + turns_after plain course items) (index + 1) subsets in
@@ -546,19 +614,23 @@ module _ {V E : Type 0} (sees : V → Call → Result (Unit {0}) E → V → Typ
     ended = λ before items subsets left turns r e. inr (s1, h, g.ended before items left (subset_calls table course (before + turns_after plain course items) (index + 1) subsets) turns r e);
   }
 
-  pub subset_refused : (index : ℕ) (c c' : Cursor) (s s' : V) (steps steps' : ℕ) (e : E) → sees s (subset_call index) (Err e) s' → steps' ≡ steps → SubsetGoes sees table course index c s steps (Err (show_fault.Visitor e)) c' s' steps'
+  pub subset_refused : (index : ℕ) (c c' : Cursor) (s s' : V) (steps steps' : ℕ) (e : E) → sees s (subset_call index) (Err e) s' → steps' ≡ steps
+      → SubsetGoes sees table course index c s steps (Err (show_fault.Visitor e)) c' s' steps'
   subset_refused index c c' s s' steps steps' e h same = record { ended = λ before items subsets left turns r now. inl (h, same ∙ now) }
 
   -- the next subset is there
-  pub next_there : (all more : List (List (Item Content))) (done : ℕ) (bits left : List Bool) → ReadsSubsets course more bits left → done + length more ≡ length all → done < length all → (items : List (Item Content)) × (mid : List Bool) × ReadsPass plain course items bits mid
+  pub next_there : (all more : List (List (Item Content))) (done : ℕ) (bits left : List Bool) → ReadsSubsets course more bits left → done + length more ≡ length all → done < length all
+      → (items : List (Item Content)) × (mid : List Bool) × ReadsPass plain course items bits mid
   next_there all [] done bits left h e lt = absurd (omega (arith, e, lt))
   next_there all (items ∷ more) done bits left h e lt = (items, h.0, h.1)
 
   -- one subset more
-  pub one_shown : (all : List (List (Item Content))) (done index : ℕ) (left : List Bool) (s s1 s2 : V) (c c' : Cursor) (steps steps' : ℕ) → index ≡ done + 1 → done < length all → SubsetsShown sees table course all done left s c s1 steps → SubsetShown sees table course index c s1 steps c' s2 steps' → SubsetsShown sees table course all (done + 1) left s c' s2 steps'
+  pub one_shown : (all : List (List (Item Content))) (done index : ℕ) (left : List Bool) (s s1 s2 : V) (c c' : Cursor) (steps steps' : ℕ) → index ≡ done + 1 → done < length all
+      → SubsetsShown sees table course all done left s c s1 steps → SubsetShown sees table course index c s1 steps c' s2 steps' → SubsetsShown sees table course all (done + 1) left s c' s2 steps'
   one_shown all done index left s s1 s2 c c' steps steps' n lt h r = by h.more h.whole h.count h.total h.shown
     where
-      by : (more : List (List (Item Content))) → ReadsSubsets course more (rest_of c) left → done + length more ≡ length all → h.before + turns_in course more ≡ turns_in course all → Sofar sees s (subset_calls table course 0 1 all) s1 (subset_calls table course h.before (done + 1) more) → SubsetsShown sees table course all (done + 1) left s c' s2 steps'
+      by : (more : List (List (Item Content))) → ReadsSubsets course more (rest_of c) left → done + length more ≡ length all → h.before + turns_in course more ≡ turns_in course all
+          → Sofar sees s (subset_calls table course 0 1 all) s1 (subset_calls table course h.before (done + 1) more) → SubsetsShown sees table course all (done + 1) left s c' s2 steps'
       by [] whole count total so_far = absurd (omega (arith, count, lt))
       by (items ∷ more) whole count total so_far =
           let l = r.left_is items whole.0 whole.1 in
@@ -569,40 +641,54 @@ module _ {V E : Type 0} (sees : V → Call → Result (Unit {0}) E → V → Typ
             count = omega (arith, count);
             ticks = l.1 ∙ ap (λ k. ticked k (turns_after plain course items)) h.ticks ∙ ticked_more h.before (turns_after plain course items);
             total = omega (arith, total);
-            shown = sofar_then sees s s1 s2 (subset_calls table course 0 1 all) (subset_calls table course h.before (done + 1) (items ∷ more)) (subset_calls table course (h.before + turns_after plain course items) (done + 1 + 1) more) so_far
-                (subst (λ k. Sofar sees s1 (subset_calls table course h.before k (items ∷ more)) s2 (subset_calls table course (h.before + turns_after plain course items) (k + 1) more)) n (r.shown h.before items more whole.0 whole.1 h.ticks));
+            shown = sofar_then sees s s1 s2 (subset_calls table course 0 1 all) (subset_calls table course h.before (done + 1) (items ∷ more))
+                (subset_calls table course (h.before + turns_after plain course items) (done + 1 + 1) more) so_far
+                (subst (λ k. Sofar sees s1 (subset_calls table course h.before k (items ∷ more)) s2 (subset_calls table course (h.before + turns_after plain course items) (k + 1) more)) n
+                (r.shown h.before items more whole.0 whole.1 h.ticks));
           }
 
-  pub all_subsets : (all : List (List (Item Content))) (done : ℕ) (left : List Bool) (s s1 : V) (c : Cursor) (steps : ℕ) → length all ≤ done → SubsetsShown sees table course all done left s c s1 steps → Shows sees s (subset_calls table course 0 1 all) (turns_in course all) (Ok tt) s1 steps
+  pub all_subsets : (all : List (List (Item Content))) (done : ℕ) (left : List Bool) (s s1 : V) (c : Cursor) (steps : ℕ) → length all ≤ done
+      → SubsetsShown sees table course all done left s c s1 steps → Shows sees s (subset_calls table course 0 1 all) (turns_in course all) (Ok tt) s1 steps
   all_subsets all done left s s1 c steps ge h = by h.more h.count h.total h.shown
     where
-      by : (more : List (List (Item Content))) → done + length more ≡ length all → h.before + turns_in course more ≡ turns_in course all → Sofar sees s (subset_calls table course 0 1 all) s1 (subset_calls table course h.before (done + 1) more) → Shows sees s (subset_calls table course 0 1 all) (turns_in course all) (Ok tt) s1 steps
+      by : (more : List (List (Item Content))) → done + length more ≡ length all → h.before + turns_in course more ≡ turns_in course all
+          → Sofar sees s (subset_calls table course 0 1 all) s1 (subset_calls table course h.before (done + 1) more)
+          → Shows sees s (subset_calls table course 0 1 all) (turns_in course all) (Ok tt) s1 steps
       by [] count total so_far = so_far.on (turns_in course all) (Ok tt) s1 steps (refl, h.ticks ∙ ap (ticked 0) (omega (arith, total)))
       by (items ∷ more) count total so_far = absurd (omega (arith, count, ge))
 
-  pub ended_so : (all : List (List (Item Content))) (done index : ℕ) (left : List Bool) (s s1 s2 : V) (c c' : Cursor) (steps steps' : ℕ) (why : ShowFault E) → index ≡ done + 1 → done < length all → SubsetsShown sees table course all done left s c s1 steps → SubsetEnded sees table course index c s1 steps why s2 steps' → Shows sees s (subset_calls table course 0 1 all) (turns_in course all) (Err why) s2 steps'
+  pub ended_so : (all : List (List (Item Content))) (done index : ℕ) (left : List Bool) (s s1 s2 : V) (c c' : Cursor) (steps steps' : ℕ) (why : ShowFault E) → index ≡ done + 1 → done < length all
+      → SubsetsShown sees table course all done left s c s1 steps → SubsetEnded sees table course index c s1 steps why s2 steps'
+      → Shows sees s (subset_calls table course 0 1 all) (turns_in course all) (Err why) s2 steps'
   ended_so all done index left s s1 s2 c c' steps steps' why n lt h r = by h.more h.whole h.count h.shown
     where
-      by : (more : List (List (Item Content))) → ReadsSubsets course more (rest_of c) left → done + length more ≡ length all → Sofar sees s (subset_calls table course 0 1 all) s1 (subset_calls table course h.before (done + 1) more) → Shows sees s (subset_calls table course 0 1 all) (turns_in course all) (Err why) s2 steps'
+      by : (more : List (List (Item Content))) → ReadsSubsets course more (rest_of c) left → done + length more ≡ length all
+          → Sofar sees s (subset_calls table course 0 1 all) s1 (subset_calls table course h.before (done + 1) more)
+          → Shows sees s (subset_calls table course 0 1 all) (turns_in course all) (Err why) s2 steps'
       by [] whole count so_far = absurd (omega (arith, count, lt))
-      by (items ∷ more) whole count so_far = so_far.on (turns_in course all) (Err why) s2 steps' (subst (λ k. Shows sees s1 (subset_calls table course h.before k (items ∷ more)) (turns_in course all) (Err why) s2 steps') n (r.ended h.before items more whole.0 (turns_in course all) whole.1 h.ticks))
+      by (items ∷ more) whole count so_far = so_far.on (turns_in course all) (Err why) s2 steps'
+          (subst (λ k. Shows sees s1 (subset_calls table course h.before k (items ∷ more)) (turns_in course all) (Err why) s2 steps') n
+          (r.ended h.before items more whole.0 (turns_in course all) whole.1 h.ticks))
 
 -- ---- The number of one subset of compressed data.
 
 -- with no increments it is the base
-base_content_is : (octets : List ℕ) (n : ℕ) (e : IndexedItem) (j : ℕ) → fits_at (bits_of octets) n e ≡ true → e.step ≡ 0 → j < n → is_character e.spec.kind ≡ false → is_reference e.spec.role ≡ false → (b : Bool) → (e.base == 2 ^ e.spec.width - 1) ≡ b → (if b && e.spec.may_be_missing then missing else number e.base) ≡ content_kept (bits_of octets) n e j
+base_content_is : (octets : List ℕ) (n : ℕ) (e : IndexedItem) (j : ℕ) → fits_at (bits_of octets) n e ≡ true → e.step ≡ 0 → j < n → is_character e.spec.kind ≡ false → is_reference e.spec.role ≡ false
+    → (b : Bool) → (e.base == 2 ^ e.spec.width - 1) ≡ b → (if b && e.spec.may_be_missing then missing else number e.base) ≡ content_kept (bits_of octets) n e j
 base_content_is octets n e j h none below k r b is =
     let base = bits_at octets e.at e.spec.width in
     ap (λ x. if x && e.spec.may_be_missing then missing else number e.base) (sym is ∙ kept_ones octets n e h k)
     ∙ ap (λ x. if are_all_ones base && e.spec.may_be_missing then missing else x) (ap number (kept_base (bits_of octets) n e h k) ∙ sym (said_number e.spec.kind e.spec.width base k))
     ∙ sym (value_by e.spec.role e.spec base r) ∙ sym (base_content (bits_of octets) n e j h none below)
 
-pub base_missing : (octets : List ℕ) (n : ℕ) (e : IndexedItem) (j : ℕ) → fits_at (bits_of octets) n e ≡ true → e.step ≡ 0 → j < n → is_character e.spec.kind ≡ false → is_reference e.spec.role ≡ false → e.spec.may_be_missing ≡ true → e.base ≡ 2 ^ e.spec.width - 1 → missing ≡ content_kept (bits_of octets) n e j
+pub base_missing : (octets : List ℕ) (n : ℕ) (e : IndexedItem) (j : ℕ) → fits_at (bits_of octets) n e ≡ true → e.step ≡ 0 → j < n → is_character e.spec.kind ≡ false → is_reference e.spec.role ≡ false
+    → e.spec.may_be_missing ≡ true → e.base ≡ 2 ^ e.spec.width - 1 → missing ≡ content_kept (bits_of octets) n e j
 base_missing octets n e j h none below k r m full =
     let is : (e.base == 2 ^ e.spec.width - 1) ≡ true = grind (arith, nat_tests, full) in
     sym (ap (λ x. if true && x then missing else number e.base) m) ∙ base_content_is octets n e j h none below k r true is
 
-pub base_number : (octets : List ℕ) (n : ℕ) (e : IndexedItem) (j : ℕ) → fits_at (bits_of octets) n e ≡ true → e.step ≡ 0 → j < n → is_character e.spec.kind ≡ false → is_reference e.spec.role ≡ false → (e.spec.may_be_missing ≡ true → e.base ≡ 2 ^ e.spec.width - 1 → ⊥) → number e.base ≡ content_kept (bits_of octets) n e j
+pub base_number : (octets : List ℕ) (n : ℕ) (e : IndexedItem) (j : ℕ) → fits_at (bits_of octets) n e ≡ true → e.step ≡ 0 → j < n → is_character e.spec.kind ≡ false → is_reference e.spec.role ≡ false
+    → (e.spec.may_be_missing ≡ true → e.base ≡ 2 ^ e.spec.width - 1 → ⊥) → number e.base ≡ content_kept (bits_of octets) n e j
 base_number octets n e j h none below k r not = by e.spec.may_be_missing refl (e.base == 2 ^ e.spec.width - 1) refl
   where
     whole : (b : Bool) → (e.base == 2 ^ e.spec.width - 1) ≡ b → (if b && e.spec.may_be_missing then missing else number e.base) ≡ content_kept (bits_of octets) n e j
@@ -638,7 +724,8 @@ never_past true last true h = absurd cc
 never_past false last true h = absurd cc
 never_past full last false h = refl
 
-module _ (a : FieldSpec) (k b i : ℕ) (base incr : List Bool) (low : b ≡ number_of base) (more : i ≡ number_of incr) (full : (b == 2 ^ a.width - 1) ≡ are_all_ones base) (valid : (is_missing a base || stays_within a.may_be_missing a.width (number_of base) k (number_of incr)) ≡ true) where
+module _ (a : FieldSpec) (k b i : ℕ) (base incr : List Bool) (low : b ≡ number_of base) (more : i ≡ number_of incr) (full : (b == 2 ^ a.width - 1) ≡ are_all_ones base)
+    (valid : (is_missing a base || stays_within a.may_be_missing a.width (number_of base) k (number_of incr)) ≡ true) where
   pub sum_last : a.may_be_missing ≡ true → i ≡ ones k → missing ≡ number_from a k base incr
   sum_last m last =
       let is : (number_of incr == ones k) ≡ true = grind (arith, nat_tests, sym more ∙ last) in
@@ -647,7 +734,8 @@ module _ (a : FieldSpec) (k b i : ℕ) (base incr : List Bool) (low : b ≡ numb
   pub sum_whole : a.may_be_missing ≡ true → ones a.width ≤ b + i → missing ≡ number_from a k base incr
   sum_whole m far =
       let reached : ones a.width ≤ number_of base + number_of incr = omega (arith, far, low, more) in
-      rw m (whole_is (are_all_ones base) (number_of incr == ones k) (nat_lt (ones a.width) (number_of base + number_of incr)) (number_of base + number_of incr == ones a.width) (number (number_of base + number_of incr)) (rw m at valid) (either (ones a.width) (number_of base + number_of incr) reached))
+      rw m (whole_is (are_all_ones base) (number_of incr == ones k) (nat_lt (ones a.width) (number_of base + number_of incr)) (number_of base + number_of incr == ones a.width)
+      (number (number_of base + number_of incr)) (rw m at valid) (either (ones a.width) (number_of base + number_of incr) reached))
     where
       either : (x y : ℕ) → x ≤ y → (nat_lt x y || (y == x)) ≡ true
       either x y h = grind (arith, nat_tests)
@@ -655,8 +743,10 @@ module _ (a : FieldSpec) (k b i : ℕ) (base incr : List Bool) (low : b ≡ numb
   pub sum_never : a.may_be_missing ≡ false → (number (b + i) ≡ number_from a k base incr) × (b + i ≤ ones a.width)
   sum_never m =
       let past = never_past (are_all_ones base) (number_of incr == ones k) (nat_lt (ones a.width) (number_of base + number_of incr)) (rw m at valid) in
-      let most : number_of base + number_of incr ≤ ones a.width = at_most (number_of base + number_of incr) (ones a.width) past in
-      (ap number sum_same ∙ rw m (never_is (are_all_ones base) (number_of incr == ones k) (number_of base + number_of incr == ones a.width) (number (number_of base + number_of incr))), omega (arith, most, low, more))
+      let most : number_of base + number_of incr ≤ ones a.width = at_most (number_of base + number_of incr) (ones a.width) past in (
+        ap number sum_same ∙ rw m (never_is (are_all_ones base) (number_of incr == ones k) (number_of base + number_of incr == ones a.width) (number (number_of base + number_of incr))),
+        omega (arith, most, low, more),
+      )
     where
       sum_same : b + i ≡ number_of base + number_of incr
       sum_same = omega (arith, low, more)
@@ -681,23 +771,30 @@ module _ (a : FieldSpec) (k b i : ℕ) (base incr : List Bool) (low : b ≡ numb
       by false x = refl
 
 -- the same of a kept item
-module _ (octets : List ℕ) (n : ℕ) (e : IndexedItem) (j i : ℕ) (h : fits_at (bits_of octets) n e ≡ true) (some : 1 ≤ e.step) (below : j < n) (c : is_character e.spec.kind ≡ false) (more : i ≡ number_of (take e.step (drop (j * e.step) (drop (e.at + (e.spec.width + 6)) (bits_of octets))))) where
-  kept_valid : (is_missing e.spec (bits_at octets e.at e.spec.width) || stays_within e.spec.may_be_missing e.spec.width (number_of (bits_at octets e.at e.spec.width)) e.step (number_of (take e.step (drop (j * e.step) (drop (e.at + (e.spec.width + 6)) (bits_of octets)))))) ≡ true
+module _ (octets : List ℕ) (n : ℕ) (e : IndexedItem) (j i : ℕ) (h : fits_at (bits_of octets) n e ≡ true) (some : 1 ≤ e.step) (below : j < n) (c : is_character e.spec.kind ≡ false)
+    (more : i ≡ number_of (take e.step (drop (j * e.step) (drop (e.at + (e.spec.width + 6)) (bits_of octets))))) where
+  kept_valid : (is_missing e.spec (bits_at octets e.at e.spec.width)
+      || stays_within e.spec.may_be_missing e.spec.width (number_of (bits_at octets e.at e.spec.width)) e.step
+      (number_of (take e.step (drop (j * e.step) (drop (e.at + (e.spec.width + 6)) (bits_of octets)))))) ≡ true
   kept_valid =
       let p = kept_parts (bits_of octets) n e h in
       number_holds e.spec.kind e.spec e.step n j _ _ c below (varied_parts e.spec e.step n _ _ _ some p.holds p.are).holds
 
   pub kept_last : e.spec.may_be_missing ≡ true → i ≡ ones e.step → missing ≡ content_kept (bits_of octets) n e j
-  kept_last m last = sum_last e.spec e.step e.base i (bits_at octets e.at e.spec.width) (take e.step (drop (j * e.step) (drop (e.at + (e.spec.width + 6)) (bits_of octets)))) (kept_base (bits_of octets) n e h c) more (kept_ones octets n e h c) kept_valid m last ∙ number_content (bits_of octets) n e j h some below c
+  kept_last m last = sum_last e.spec e.step e.base i (bits_at octets e.at e.spec.width) (take e.step (drop (j * e.step) (drop (e.at + (e.spec.width + 6)) (bits_of octets))))
+      (kept_base (bits_of octets) n e h c) more (kept_ones octets n e h c) kept_valid m last ∙ number_content (bits_of octets) n e j h some below c
 
   pub kept_whole : e.spec.may_be_missing ≡ true → ones e.spec.width ≤ e.base + i → missing ≡ content_kept (bits_of octets) n e j
-  kept_whole m far = sum_whole e.spec e.step e.base i (bits_at octets e.at e.spec.width) (take e.step (drop (j * e.step) (drop (e.at + (e.spec.width + 6)) (bits_of octets)))) (kept_base (bits_of octets) n e h c) more (kept_ones octets n e h c) kept_valid m far ∙ number_content (bits_of octets) n e j h some below c
+  kept_whole m far = sum_whole e.spec e.step e.base i (bits_at octets e.at e.spec.width) (take e.step (drop (j * e.step) (drop (e.at + (e.spec.width + 6)) (bits_of octets))))
+      (kept_base (bits_of octets) n e h c) more (kept_ones octets n e h c) kept_valid m far ∙ number_content (bits_of octets) n e j h some below c
 
   pub kept_never : e.spec.may_be_missing ≡ false → (number (e.base + i) ≡ content_kept (bits_of octets) n e j) × (e.base + i ≤ ones e.spec.width)
-  kept_never m = let s = sum_never e.spec e.step e.base i (bits_at octets e.at e.spec.width) (take e.step (drop (j * e.step) (drop (e.at + (e.spec.width + 6)) (bits_of octets)))) (kept_base (bits_of octets) n e h c) more (kept_ones octets n e h c) kept_valid m in (s.0 ∙ number_content (bits_of octets) n e j h some below c, s.1)
+  kept_never m = let s = sum_never e.spec e.step e.base i (bits_at octets e.at e.spec.width) (take e.step (drop (j * e.step) (drop (e.at + (e.spec.width + 6)) (bits_of octets))))
+      (kept_base (bits_of octets) n e h c) more (kept_ones octets n e h c) kept_valid m in (s.0 ∙ number_content (bits_of octets) n e j h some below c, s.1)
 
   pub kept_some : (i ≡ ones e.step → ⊥) → e.base + i < ones e.spec.width → number (e.base + i) ≡ content_kept (bits_of octets) n e j
-  kept_some last far = sum_some e.spec e.step e.base i (bits_at octets e.at e.spec.width) (take e.step (drop (j * e.step) (drop (e.at + (e.spec.width + 6)) (bits_of octets)))) (kept_base (bits_of octets) n e h c) more (kept_ones octets n e h c) kept_valid last far ∙ number_content (bits_of octets) n e j h some below c
+  kept_some last far = sum_some e.spec e.step e.base i (bits_at octets e.at e.spec.width) (take e.step (drop (j * e.step) (drop (e.at + (e.spec.width + 6)) (bits_of octets))))
+      (kept_base (bits_of octets) n e h c) more (kept_ones octets n e h c) kept_valid last far ∙ number_content (bits_of octets) n e j h some below c
 
 -- ---- Plain numbers: those of elements, which stay below 2 ^ 63.
 
@@ -733,7 +830,8 @@ plain_is a h =
 pub plain_missing : (a : FieldSpec) (bits : List Bool) → IsPlainNumber a → (are_all_ones bits && a.may_be_missing) ≡ true → shown_missing ≡ shown a (content_in a bits)
 plain_missing a bits p m = missing_shown a bits (ap is_reference p.role) m
 
-pub plain_shown : (a : FieldSpec) (bits : List Bool) (raw : ℕ) → IsPlainNumber a → (are_all_ones bits && a.may_be_missing) ≡ false → raw ≡ number_of bits → shown_number (pos raw +ℤ a.reference) a.scale ≡ shown a (content_in a bits)
+pub plain_shown : (a : FieldSpec) (bits : List Bool) (raw : ℕ) → IsPlainNumber a → (are_all_ones bits && a.may_be_missing) ≡ false → raw ≡ number_of bits
+    → shown_number (pos raw +ℤ a.reference) a.scale ≡ shown a (content_in a bits)
 plain_shown a bits raw p m is = number_shown a bits raw p.kind (ap is_reference p.role) m is
 
 -- what it returns to the walk
@@ -745,10 +843,11 @@ plain_for a p = subst (λ r. IsForRole r taken.Plain) (sym p.role) tt
 
 -- a reading of data that are not compressed was shown
 pub apart_shown : {V E : Type 0} (sees : V → Call → Result (Unit {0}) E → V → Type 0) (r : Read) (v v' : V) (result : Result (Unit {0}) (ShowFault E)) (steps : ℕ) → IsStoredReading r kept.Apart
-    → ((all : List (List (Item Content))) (left : List Bool) → ReadsSubsets (course_of r) all r.source.bits left → length all ≡ r.source.subsets → Shows sees v (subset_calls r.table (course_of r) 0 1 all) (turns_in (course_of r) all) result v' steps)
+    → ((all : List (List (Item Content))) (left : List Bool) → ReadsSubsets (course_of r) all r.source.bits left → length all ≡ r.source.subsets
+    → Shows sees v (subset_calls r.table (course_of r) 0 1 all) (turns_in (course_of r) all) result v' steps)
     → Shows sees v (calls_of r) (turns_shown r) result v' steps
 apart_shown sees r v v' result steps h shows = by (values_read r) h.reading h.keeps
   where
-    by : (values : Values) → IsReading (course_of r) r.source values r.bits → KeepsValues kept.Apart r.source values → Shows sees v (calls_by r values) (turns_by r values) result v' steps
+    by : (values : Values) → IsReading (course_of r) r.source values r.bits → KeepsValues kept.Apart r.source values → Shows sees v (calls_for r values) (turns_for r values) result v' steps
     by (apart xs) g k = shows xs (drop r.bits r.source.bits) g.2.0 g.2.1
     by (together xs) g k = absurd k

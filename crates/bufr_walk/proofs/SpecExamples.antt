@@ -18,7 +18,8 @@ changes_add = refl
 
 -- A later change replaces the earlier one: fails where two changes by the same operator add up.
 -- rule: later-operator-replaces
-later_change_replaces : one (operator (fxy 2 1 130) (operator (fxy 2 2 130) (operator (fxy 2 7 2) (operator (fxy 2 1 132) (operator (fxy 2 2 129) (operator (fxy 2 7 1) (element (fxy 0 12 101) bare))))))) (43 ∷ 247 ∷ 250 ∷ [])
+later_change_replaces : one (operator (fxy 2 1 130) (operator (fxy 2 2 130)
+    (operator (fxy 2 7 2) (operator (fxy 2 1 132) (operator (fxy 2 2 129) (operator (fxy 2 7 1) (element (fxy 0 12 101) bare))))))) (43 ∷ 247 ∷ 250 ∷ [])
     ≡ gives ((3173, shown_number (pos 2881530) (pos 4)) ∷ []) (done 0 8)
 unfolding one gives fxy
 later_change_replaces = refl
@@ -73,8 +74,12 @@ class_31_all_ones = refl
 -- change, a precision or a redefined reference reaches a factor. Fails where 2 01, 2 02 and 2 07 do
 -- not add up, or where their zero is ignored. Fails where 001001 takes the reference of 031001.
 -- rule: factor-by-entry
-factor_by_its_row : one (operator (fxy 2 3 10) (element (fxy 0 31 1) (operator (fxy 2 3 255) (operator (fxy 2 1 130) (operator (fxy 2 2 129) (operator (fxy 2 7 1) (element (fxy 0 31 1) (delayed (fxy 0 31 1) (operator (fxy 2 1 0) (operator (fxy 2 2 0) (operator (fxy 2 7 0) (element (fxy 0 1 1) bare)))) bare)))))))) (128 ∷ 128 ∷ 70 ∷ 2 ∷ 20 ∷ 44 ∷ [])
-    ≡ gives ((7937, shown_reference (negsuc 1)) ∷ (7937, shown_number (pos 50) (pos 2)) ∷ (7937, shown_number (pos 2) (pos 0)) ∷ (257, shown_number (pos 10) (pos 0)) ∷ (257, shown_number (pos 11) (pos 0)) ∷ []) (done 2 20)
+factor_by_its_row : one (operator (fxy 2 3 10) (element (fxy 0 31 1)
+    (operator (fxy 2 3 255) (operator (fxy 2 1 130) (operator (fxy 2 2 129)
+    (operator (fxy 2 7 1) (element (fxy 0 31 1) (delayed (fxy 0 31 1) (operator (fxy 2 1 0) (operator (fxy 2 2 0) (operator (fxy 2 7 0) (element (fxy 0 1 1) bare)))) bare))))))))
+    (128 ∷ 128 ∷ 70 ∷ 2 ∷ 20 ∷ 44 ∷ [])
+    ≡ gives ((7937, shown_reference (negsuc 1)) ∷ (7937, shown_number (pos 50) (pos 2)) ∷ (7937, shown_number (pos 2) (pos 0)) ∷ (257, shown_number (pos 10) (pos 0))
+    ∷ (257, shown_number (pos 11) (pos 0)) ∷ []) (done 2 20)
 unfolding one gives fxy
 factor_by_its_row = refl
 
@@ -83,7 +88,8 @@ factor_by_its_row = refl
 
 -- Precision multiplies a redefined reference too: fails where it is added as it was given.
 -- rule: 2-07-y-of-a-new-reference
-precision_of_a_reference : one (operator (fxy 2 1 132) (operator (fxy 2 7 1) (operator (fxy 2 3 10) (element (fxy 0 12 101) (operator (fxy 2 3 255) (element (fxy 0 12 101) bare)))))) (228 ∷ 1 ∷ 29 ∷ 78 ∷ 64 ∷ [])
+precision_of_a_reference : one (operator (fxy 2 1 132) (operator (fxy 2 7 1) (operator (fxy 2 3 10) (element (fxy 0 12 101) (operator (fxy 2 3 255) (element (fxy 0 12 101) bare))))))
+    (228 ∷ 1 ∷ 29 ∷ 78 ∷ 64 ∷ [])
     ≡ gives ((3173, shown_reference (negsuc 399)) ∷ (3173, shown_number (pos 288153) (pos 3)) ∷ []) (done 6 7)
 unfolding one gives fxy
 precision_of_a_reference = refl
@@ -111,7 +117,8 @@ reference_of_all_ones = (refl, refl, refl)
 
 -- 2 03 000 drops all references, those of quantities too: fails where one of them stays.
 -- rule: 2-03-000
-references_dropped : one (operator (fxy 2 3 10) (element (fxy 0 12 101) (element (fxy 0 1 1) (operator (fxy 2 3 255) (operator (fxy 2 3 0) (element (fxy 0 12 101) (element (fxy 0 1 1) bare))))))) (228 ∷ 0 ∷ 87 ∷ 8 ∷ 241 ∷ 64 ∷ [])
+references_dropped : one (operator (fxy 2 3 10) (element (fxy 0 12 101) (element (fxy 0 1 1) (operator (fxy 2 3 255) (operator (fxy 2 3 0) (element (fxy 0 12 101) (element (fxy 0 1 1) bare)))))))
+    (228 ∷ 0 ∷ 87 ∷ 8 ∷ 241 ∷ 64 ∷ [])
     ≡ gives ((3173, shown_reference (negsuc 399)) ∷ (257, shown_reference (pos 5)) ∷ (3173, shown_number (pos 28815) (pos 2)) ∷ (257, shown_number (pos 10) (pos 0)) ∷ []) (done 5 8)
 unfolding one gives fxy
 references_dropped = refl
@@ -119,7 +126,8 @@ references_dropped = refl
 -- A second definition keeps the references of the first, each for its own element. Fails where 2 03
 -- 008 begins anew, or where one reference goes to every element.
 -- rule: 2-03-y-again
-references_kept : one (operator (fxy 2 3 10) (element (fxy 0 12 101) (operator (fxy 2 3 255) (operator (fxy 2 3 8) (element (fxy 0 1 1) (operator (fxy 2 3 255) (element (fxy 0 12 101) (element (fxy 0 1 1) bare)))))))) (228 ∷ 1 ∷ 92 ∷ 35 ∷ 197 ∷ 0 ∷ [])
+references_kept : one (operator (fxy 2 3 10) (element (fxy 0 12 101)
+    (operator (fxy 2 3 255) (operator (fxy 2 3 8) (element (fxy 0 1 1) (operator (fxy 2 3 255) (element (fxy 0 12 101) (element (fxy 0 1 1) bare)))))))) (228 ∷ 1 ∷ 92 ∷ 35 ∷ 197 ∷ 0 ∷ [])
     ≡ gives ((3173, shown_reference (negsuc 399)) ∷ (257, shown_reference (pos 5)) ∷ (3173, shown_number (pos 28415) (pos 2)) ∷ (257, shown_number (pos 15) (pos 0)) ∷ []) (done 7 9)
 unfolding one gives fxy
 references_kept = refl
@@ -147,7 +155,8 @@ no_definitions_to_end = (refl, refl)
 -- rule: defining-fixed-groups
 defining_passes_a_group :
     (one (operator (fxy 2 3 10) (fixed 2 (element (fxy 0 12 101) (element (fxy 0 20 3) bare)) (operator (fxy 2 3 255) (element (fxy 0 12 101) bare)))) (228 ∷ 0 ∷ 25 ∷ 146 ∷ 2 ∷ 112 ∷ 143 ∷ [])
-    ≡ gives ((3173, shown_reference (negsuc 399)) ∷ (5123, shown_reference (pos 1)) ∷ (3173, shown_reference (negsuc 99)) ∷ (5123, shown_reference (negsuc 1)) ∷ (3173, shown_number (pos 28715) (pos 2)) ∷ []) (done 0 11))
+    ≡ gives ((3173, shown_reference (negsuc 399)) ∷ (5123, shown_reference (pos 1)) ∷ (3173, shown_reference (negsuc 99)) ∷ (5123, shown_reference (negsuc 1))
+    ∷ (3173, shown_number (pos 28715) (pos 2)) ∷ []) (done 0 11))
     × (one (operator (fxy 2 3 10) (fixed 2 (element (fxy 0 12 101) (operator (fxy 2 3 255) bare)) bare)) (228 ∷ 28 ∷ 35 ∷ 192 ∷ [])
     ≡ gives ((3173, shown_reference (negsuc 399)) ∷ (3173, shown_number (pos 28415) (pos 2)) ∷ []) (done 6 9))
 unfolding one gives fxy
@@ -209,11 +218,14 @@ defining_delayed = refl
 -- is read by its row alone too.
 -- rule: 2-06-y-width-of-table-b
 given_table_width :
-    (one (operator (fxy 2 3 10) (element (fxy 0 12 101) (operator (fxy 2 3 255) (operator (fxy 2 1 132) (operator (fxy 2 2 129) (operator (fxy 2 7 1) (operator (fxy 2 6 16) (element (fxy 0 12 101) (element (fxy 0 12 101) bare))))))))) (228 ∷ 28 ∷ 35 ∷ 203 ∷ 1 ∷ 223 ∷ 0 ∷ [])
+    (one (operator (fxy 2 3 10) (element (fxy 0 12 101) (operator (fxy 2 3 255)
+    (operator (fxy 2 1 132) (operator (fxy 2 2 129) (operator (fxy 2 7 1) (operator (fxy 2 6 16) (element (fxy 0 12 101) (element (fxy 0 12 101) bare)))))))))
+    (228 ∷ 28 ∷ 35 ∷ 203 ∷ 1 ∷ 223 ∷ 0 ∷ [])
     ≡ gives ((3173, shown_reference (negsuc 399)) ∷ (3173, shown_number (pos 28815) (pos 2)) ∷ (3173, shown_number (pos 2881500) (pos 4)) ∷ []) (done 6 10))
     × (one (operator (fxy 2 3 10) (element (fxy 0 20 3) (operator (fxy 2 3 255) (operator (fxy 2 6 9) (element (fxy 0 20 3) (element (fxy 0 20 3) bare)))))) (228 ∷ 0 ∷ 160 ∷ 80 ∷ [])
     ≡ gives ((5123, shown_reference (negsuc 399)) ∷ (5123, shown_number (pos 5) (pos 0)) ∷ (5123, shown_number (negsuc 394) (pos 0)) ∷ []) (done 4 7))
-    × (one (operator (fxy 2 8 3) (operator (fxy 2 6 160) (element (fxy 0 1 15) (element (fxy 0 1 15) bare)))) (48 ∷ 49 ∷ 50 ∷ 51 ∷ 52 ∷ 53 ∷ 54 ∷ 55 ∷ 56 ∷ 57 ∷ 65 ∷ 66 ∷ 67 ∷ 68 ∷ 69 ∷ 70 ∷ 71 ∷ 72 ∷ 73 ∷ 74 ∷ 88 ∷ 89 ∷ 90 ∷ [])
+    × (one (operator (fxy 2 8 3) (operator (fxy 2 6 160) (element (fxy 0 1 15) (element (fxy 0 1 15) bare))))
+    (48 ∷ 49 ∷ 50 ∷ 51 ∷ 52 ∷ 53 ∷ 54 ∷ 55 ∷ 56 ∷ 57 ∷ 65 ∷ 66 ∷ 67 ∷ 68 ∷ 69 ∷ 70 ∷ 71 ∷ 72 ∷ 73 ∷ 74 ∷ 88 ∷ 89 ∷ 90 ∷ [])
     ≡ gives ((271, shown_text (48 ∷ 49 ∷ 50 ∷ 51 ∷ 52 ∷ 53 ∷ 54 ∷ 55 ∷ 56 ∷ 57 ∷ 65 ∷ 66 ∷ 67 ∷ 68 ∷ 69 ∷ 70 ∷ 71 ∷ 72 ∷ 73 ∷ 74 ∷ [])) ∷ (271, shown_text (88 ∷ 89 ∷ 90 ∷ [])) ∷ []) (done 0 5))
 unfolding one gives fxy
 given_table_width = (refl, refl, refl)
@@ -223,7 +235,8 @@ given_table_width = (refl, refl, refl)
 -- text is read as a text.
 -- rule: 2-06-y-other-width
 given_other_width :
-    (one (operator (fxy 2 3 10) (element (fxy 0 5 2) (operator (fxy 2 3 255) (operator (fxy 2 1 132) (operator (fxy 2 2 129) (operator (fxy 2 7 1) (operator (fxy 2 6 12) (element (fxy 0 5 2) bare)))))))) (228 ∷ 3 ∷ 212 ∷ [])
+    (one (operator (fxy 2 3 10) (element (fxy 0 5 2) (operator (fxy 2 3 255)
+    (operator (fxy 2 1 132) (operator (fxy 2 2 129) (operator (fxy 2 7 1) (operator (fxy 2 6 12) (element (fxy 0 5 2) bare)))))))) (228 ∷ 3 ∷ 212 ∷ [])
     ≡ gives ((1282, shown_reference (negsuc 399)) ∷ (1282, shown_number (pos 245) (pos 0)) ∷ []) (done 2 9))
     × (one (operator (fxy 2 6 16) (element (fxy 0 1 15) bare)) (65 ∷ 66 ∷ [])
     ≡ gives ((271, shown_number (pos 16706) (pos 0)) ∷ []) (done 0 3))
@@ -268,17 +281,22 @@ asks tree answers spec = (next_item table tree answers).next ≡ take_next spec
 -- A quantity and a figure of Table B may be commented and may be missing; the changes in force show
 -- in a quantity alone: fails where a figure loses its kind, scale or reference.
 quantity_asked :
-    (asks (operator (fxy 2 1 132) (operator (fxy 2 2 129) (operator (fxy 2 7 1) (element (fxy 0 5 2) bare)))) [] (record { fxy = 1282; role = role.Element; kind = kind.Numeric; width = 23; scale = pos 4; reference = negsuc 89999; may_be_missing = true; listed = true }))
-    × (asks (operator (fxy 2 1 130) (operator (fxy 2 2 129) (operator (fxy 2 7 2) (element (fxy 0 20 4) bare)))) [] (record { fxy = 5124; role = role.Element; kind = kind.Coded; width = 6; scale = pos 1; reference = negsuc 2; may_be_missing = true; listed = true }))
-    × (asks (operator (fxy 2 3 10) (element (fxy 0 5 2) (operator (fxy 2 3 255) (operator (fxy 2 7 2) (element (fxy 0 5 2) bare))))) (taken.Reference (negsuc 399) ∷ []) (record { fxy = 1282; role = role.Element; kind = kind.Numeric; width = 22; scale = pos 4; reference = negsuc 39999; may_be_missing = true; listed = true }))
+    (asks (operator (fxy 2 1 132) (operator (fxy 2 2 129) (operator (fxy 2 7 1) (element (fxy 0 5 2) bare)))) []
+    (record { fxy = 1282; role = role.Element; kind = kind.Numeric; width = 23; scale = pos 4; reference = negsuc 89999; may_be_missing = true; listed = true }))
+    × (asks (operator (fxy 2 1 130) (operator (fxy 2 2 129) (operator (fxy 2 7 2) (element (fxy 0 20 4) bare)))) []
+    (record { fxy = 5124; role = role.Element; kind = kind.Coded; width = 6; scale = pos 1; reference = negsuc 2; may_be_missing = true; listed = true }))
+    × (asks (operator (fxy 2 3 10) (element (fxy 0 5 2) (operator (fxy 2 3 255) (operator (fxy 2 7 2) (element (fxy 0 5 2) bare))))) (taken.Reference (negsuc 399) ∷ [])
+    (record { fxy = 1282; role = role.Element; kind = kind.Numeric; width = 22; scale = pos 4; reference = negsuc 39999; may_be_missing = true; listed = true }))
 unfolding table next_item fxy
 quantity_asked = (refl, refl, refl)
 
 -- Figures and quantities of class 31 are never missing, its texts may be: fails where the class
 -- makes the difference for a text, or where it makes none for the others.
 figure_of_class_31_asked :
-    (asks (operator (fxy 2 1 132) (operator (fxy 2 2 129) (operator (fxy 2 7 1) (element (fxy 0 31 21) bare)))) [] (record { fxy = 7957; role = role.Element; kind = kind.Coded; width = 6; scale = pos 0; reference = pos 0; may_be_missing = false; listed = true }))
-    × (asks (operator (fxy 2 1 130) (element (fxy 0 31 1) bare)) [] (record { fxy = 7937; role = role.Element; kind = kind.Numeric; width = 10; scale = pos 0; reference = pos 0; may_be_missing = false; listed = true }))
+    (asks (operator (fxy 2 1 132) (operator (fxy 2 2 129) (operator (fxy 2 7 1) (element (fxy 0 31 21) bare)))) []
+    (record { fxy = 7957; role = role.Element; kind = kind.Coded; width = 6; scale = pos 0; reference = pos 0; may_be_missing = false; listed = true }))
+    × (asks (operator (fxy 2 1 130) (element (fxy 0 31 1) bare)) []
+    (record { fxy = 7937; role = role.Element; kind = kind.Numeric; width = 10; scale = pos 0; reference = pos 0; may_be_missing = false; listed = true }))
     × (asks (element (fxy 0 31 250) bare) [] (record { fxy = 8186; role = role.Element; kind = kind.Character; width = 8; scale = pos 0; reference = pos 0; may_be_missing = true; listed = true }))
 unfolding table next_item fxy
 figure_of_class_31_asked = (refl, refl, refl)
@@ -286,42 +304,80 @@ figure_of_class_31_asked = (refl, refl, refl)
 -- A given width that is that of Table B leaves an element to be commented, as its row has it. Fails
 -- where the number is a bare one, or where an operator in force shows.
 given_table_width_asked :
-    (asks (operator (fxy 2 1 132) (operator (fxy 2 2 129) (operator (fxy 2 7 1) (operator (fxy 2 6 16) (element (fxy 0 12 101) bare))))) [] (record { fxy = 3173; role = role.Element; kind = kind.Numeric; width = 16; scale = pos 2; reference = pos 0; may_be_missing = true; listed = true }))
-    × (asks (operator (fxy 2 1 132) (operator (fxy 2 6 9) (element (fxy 0 20 3) bare))) [] (record { fxy = 5123; role = role.Element; kind = kind.Coded; width = 9; scale = pos 0; reference = pos 0; may_be_missing = true; listed = true }))
-    × (asks (operator (fxy 2 8 3) (operator (fxy 2 6 160) (element (fxy 0 1 15) bare))) [] (record { fxy = 271; role = role.Element; kind = kind.Character; width = 160; scale = pos 0; reference = pos 0; may_be_missing = true; listed = true }))
+    (asks (operator (fxy 2 1 132) (operator (fxy 2 2 129) (operator (fxy 2 7 1) (operator (fxy 2 6 16) (element (fxy 0 12 101) bare))))) []
+    (record { fxy = 3173; role = role.Element; kind = kind.Numeric; width = 16; scale = pos 2; reference = pos 0; may_be_missing = true; listed = true }))
+    × (asks (operator (fxy 2 1 132) (operator (fxy 2 6 9) (element (fxy 0 20 3) bare))) []
+    (record { fxy = 5123; role = role.Element; kind = kind.Coded; width = 9; scale = pos 0; reference = pos 0; may_be_missing = true; listed = true }))
+    × (asks (operator (fxy 2 8 3) (operator (fxy 2 6 160) (element (fxy 0 1 15) bare))) []
+    (record { fxy = 271; role = role.Element; kind = kind.Character; width = 160; scale = pos 0; reference = pos 0; may_be_missing = true; listed = true }))
 unfolding table next_item fxy
 given_table_width_asked = (refl, refl, refl)
 
 -- Another width gives a bare number with no comment, never missing in class 31: fails where it
 -- takes the unit of its row.
 given_other_width_asked :
-    (asks (operator (fxy 2 6 12) (element (fxy 0 5 2) bare)) [] (record { fxy = 1282; role = role.Element; kind = kind.Numeric; width = 12; scale = pos 0; reference = pos 0; may_be_missing = true; listed = false }))
-    × (asks (operator (fxy 2 6 12) (element (fxy 0 63 255) bare)) [] (record { fxy = 16383; role = role.Element; kind = kind.Numeric; width = 12; scale = pos 0; reference = pos 0; may_be_missing = true; listed = false }))
-    × (asks (operator (fxy 2 6 12) (element (fxy 0 20 3) bare)) [] (record { fxy = 5123; role = role.Element; kind = kind.Numeric; width = 12; scale = pos 0; reference = pos 0; may_be_missing = true; listed = false }))
-    × (asks (operator (fxy 2 6 16) (element (fxy 0 1 15) bare)) [] (record { fxy = 271; role = role.Element; kind = kind.Numeric; width = 16; scale = pos 0; reference = pos 0; may_be_missing = true; listed = false }))
-    × (asks (operator (fxy 2 6 12) (element (fxy 0 31 21) bare)) [] (record { fxy = 7957; role = role.Element; kind = kind.Numeric; width = 12; scale = pos 0; reference = pos 0; may_be_missing = false; listed = false }))
+    (asks (operator (fxy 2 6 12) (element (fxy 0 5 2) bare)) [] (record {
+      fxy = 1282;
+      role = role.Element;
+      kind = kind.Numeric;
+      width = 12;
+      scale = pos 0;
+      reference = pos 0;
+      may_be_missing = true;
+      listed = false;
+    }))
+    × (asks (operator (fxy 2 6 12) (element (fxy 0 63 255) bare)) []
+    (record { fxy = 16383; role = role.Element; kind = kind.Numeric; width = 12; scale = pos 0; reference = pos 0; may_be_missing = true; listed = false }))
+    × (asks (operator (fxy 2 6 12) (element (fxy 0 20 3) bare)) []
+    (record { fxy = 5123; role = role.Element; kind = kind.Numeric; width = 12; scale = pos 0; reference = pos 0; may_be_missing = true; listed = false }))
+    × (asks (operator (fxy 2 6 16) (element (fxy 0 1 15) bare)) []
+    (record { fxy = 271; role = role.Element; kind = kind.Numeric; width = 16; scale = pos 0; reference = pos 0; may_be_missing = true; listed = false }))
+    × (asks (operator (fxy 2 6 12) (element (fxy 0 31 21) bare)) []
+    (record { fxy = 7957; role = role.Element; kind = kind.Numeric; width = 12; scale = pos 0; reference = pos 0; may_be_missing = false; listed = false }))
 unfolding table next_item fxy
 given_other_width_asked = (refl, refl, refl, refl, refl)
 
 -- A factor is a count with its own comment, by its row alone, and is never missing. So is a factor
 -- in a group and after one. Fails where a change of width reaches it, or where it is an element.
 factor_asked :
-    (asks (operator (fxy 2 1 132) (delayed (fxy 0 31 1) (element (fxy 0 1 1) bare) bare)) [] (record { fxy = 7937; role = role.Factor; kind = kind.Numeric; width = 8; scale = pos 0; reference = pos 0; may_be_missing = false; listed = true }))
-    × (asks (delayed (fxy 0 31 1) (delayed (fxy 0 31 0) (element (fxy 0 1 1) bare) bare) bare) (taken.Count 1 ∷ []) (record { fxy = 7936; role = role.Factor; kind = kind.Numeric; width = 1; scale = pos 0; reference = pos 0; may_be_missing = false; listed = true }))
-    × (asks (delayed (fxy 0 31 1) (element (fxy 0 1 1) bare) (delayed (fxy 0 31 2) bare bare)) (taken.Count 1 ∷ taken.Plain ∷ []) (record { fxy = 7938; role = role.Factor; kind = kind.Numeric; width = 16; scale = pos 0; reference = pos 0; may_be_missing = false; listed = true }))
+    (asks (operator (fxy 2 1 132) (delayed (fxy 0 31 1) (element (fxy 0 1 1) bare) bare)) []
+    (record { fxy = 7937; role = role.Factor; kind = kind.Numeric; width = 8; scale = pos 0; reference = pos 0; may_be_missing = false; listed = true }))
+    × (asks (delayed (fxy 0 31 1) (delayed (fxy 0 31 0) (element (fxy 0 1 1) bare) bare) bare) (taken.Count 1 ∷ [])
+    (record { fxy = 7936; role = role.Factor; kind = kind.Numeric; width = 1; scale = pos 0; reference = pos 0; may_be_missing = false; listed = true }))
+    × (asks (delayed (fxy 0 31 1) (element (fxy 0 1 1) bare) (delayed (fxy 0 31 2) bare bare)) (taken.Count 1 ∷ taken.Plain ∷ [])
+    (record { fxy = 7938; role = role.Factor; kind = kind.Numeric; width = 16; scale = pos 0; reference = pos 0; may_be_missing = false; listed = true }))
 unfolding table next_item fxy
 factor_asked = (refl, refl, refl)
 
 -- A reference has the width of its definition, no comment, and is never missing: fails where a
 -- change reaches it, or where it may be missing.
-reference_asked : asks (operator (fxy 2 1 132) (operator (fxy 2 7 1) (operator (fxy 2 3 10) (element (fxy 0 20 3) bare)))) [] (record { fxy = 5123; role = role.Reference; kind = kind.Numeric; width = 10; scale = pos 0; reference = pos 0; may_be_missing = false; listed = false })
+reference_asked : asks (operator (fxy 2 1 132) (operator (fxy 2 7 1) (operator (fxy 2 3 10) (element (fxy 0 20 3) bare)))) []
+    (record { fxy = 5123; role = role.Reference; kind = kind.Numeric; width = 10; scale = pos 0; reference = pos 0; may_be_missing = false; listed = false })
 unfolding table next_item fxy
 reference_asked = refl
 
 -- A text of Table B has its comment and the text width in force; a text of the template has
 -- neither. Fails where either is taken for the other.
 text_asked :
-    (asks (operator (fxy 2 8 3) (element (fxy 0 1 15) bare)) [] (record { fxy = 271; role = role.Element; kind = kind.Character; width = 24; scale = pos 0; reference = pos 0; may_be_missing = true; listed = true }))
-    × (asks (operator (fxy 2 8 3) (operator (fxy 2 5 4) bare)) [] (record { fxy = 34052; role = role.Inserted; kind = kind.Character; width = 32; scale = pos 0; reference = pos 0; may_be_missing = true; listed = false }))
+    (asks (operator (fxy 2 8 3) (element (fxy 0 1 15) bare)) [] (record {
+      fxy = 271;
+      role = role.Element;
+      kind = kind.Character;
+      width = 24;
+      scale = pos 0;
+      reference = pos 0;
+      may_be_missing = true;
+      listed = true;
+    }))
+    × (asks (operator (fxy 2 8 3) (operator (fxy 2 5 4) bare)) [] (record {
+      fxy = 34052;
+      role = role.Inserted;
+      kind = kind.Character;
+      width = 32;
+      scale = pos 0;
+      reference = pos 0;
+      may_be_missing = true;
+      listed = false;
+    }))
 unfolding table next_item fxy
 text_asked = (refl, refl)

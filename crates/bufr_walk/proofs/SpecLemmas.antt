@@ -28,7 +28,8 @@ number_missing kind.Character m e = absurd cc
 number_missing kind.Coded m e = tt
 number_missing kind.Numeric m e = tt
 
-pub number_good : (fxy : ℕ) (r : Role) (n : NumberParts) → is_character n.kind ≡ false → HasRole r n.kind n.may_be_missing → unsigned_abs n.scale ≤ 300 → unsigned_abs n.reference ≤ 2 ^ 125 → 1 ≤ n.width → n.width ≤ 63 → IsSpec (number_field fxy r n)
+pub number_good : (fxy : ℕ) (r : Role) (n : NumberParts) → is_character n.kind ≡ false → HasRole r n.kind n.may_be_missing → unsigned_abs n.scale ≤ 300 → unsigned_abs n.reference ≤ 2 ^ 125
+    → 1 ≤ n.width → n.width ≤ 63 → IsSpec (number_field fxy r n)
 number_good fxy r n e role small near some most =
     record { width = number_width n.kind n.width e some most; role = role; missing = number_missing n.kind n.may_be_missing e; scale = small; reference = near }
 
@@ -52,7 +53,8 @@ known_more (e ∷ kept) fxy reference = by (nat_lt fxy e.0) (fxy == e.0) (known_
   where
     by : (below same : Bool) → known_by (insert_entry nat_cmp kept fxy reference) ≡ with_reference fxy reference (known_by kept)
         → known_by (match_ordering (cond below Less (cond same Equal Greater)) ((fxy, reference) ∷ e ∷ kept) ((e.0, reference) ∷ kept) (e ∷ insert_entry nat_cmp kept fxy reference))
-        ≡ (if below then record { fxy = fxy; reference = reference } ∷ known_by (e ∷ kept) else if same then record { fxy = e.0; reference = reference } ∷ known_by kept else record { fxy = e.0; reference = e.1 } ∷ with_reference fxy reference (known_by kept))
+        ≡ (if below then record { fxy = fxy; reference = reference } ∷ known_by (e ∷ kept) else if same then record { fxy = e.0; reference = reference }
+        ∷ known_by kept else record { fxy = e.0; reference = e.1 } ∷ with_reference fxy reference (known_by kept))
     by true same more = refl
     by false true more = refl
     by false false more = let r : Redefined = record { fxy = e.0; reference = e.1 } in ap (λ known. r ∷ known) more
@@ -121,4 +123,5 @@ pub whole_width : (a : FieldSpec) → IsSpec a → is_character a.kind ≡ true 
 whole_width a h e = grind (arith, common_steps)
 
 pub reference_width : (a : FieldSpec) → IsSpec a → is_reference a.role ≡ true → a.width ≤ 63
-reference_width a h e = let r : HasRole role.Reference a.kind a.may_be_missing = subst (λ x. HasRole x a.kind a.may_be_missing) (is_reference_role a.role e) h.role in numeric_width a.kind a.width r.0 h.width
+reference_width a h e = let r : HasRole role.Reference a.kind a.may_be_missing =
+    subst (λ x. HasRole x a.kind a.may_be_missing) (is_reference_role a.role e) h.role in numeric_width a.kind a.width r.0 h.width

@@ -43,7 +43,8 @@ module _ {S : Type 0} (takes : S → FieldSpec → Taken → S → Type 0) where
       (w.0, sym (h []) ∙ w.1, w.2, takes_same (λ more. n (i.taken ∷ more)) (λ more. m (i.taken ∷ more)) w.0 items s' (λ more. h (i.taken ∷ more)) w.3)
 
   -- items, and items after them
-  pub takes_then : (n m : Course) (s : S) (a : List TakenField) (mid : S) (b : List TakenField) (s' : S) → Takes takes n s a mid → ((more : List Taken) → (n (answers_of a ++ more)).next ≡ (m more).next) → Takes takes m mid b s' → Takes takes n s (a ++ b) s'
+  pub takes_then : (n m : Course) (s : S) (a : List TakenField) (mid : S) (b : List TakenField) (s' : S) → Takes takes n s a mid
+      → ((more : List Taken) → (n (answers_of a ++ more)).next ≡ (m more).next) → Takes takes m mid b s' → Takes takes n s (a ++ b) s'
   takes_then n m s [] mid b s' w h v = takes_same m n s b s' (λ more. sym (h more)) (subst (λ x. Takes takes m x b s') w v)
   takes_then n m s (i ∷ a) mid b s' w h v = (w.0, w.1, w.2, takes_then (λ more. n (i.taken ∷ more)) m w.0 a mid b s' w.3 h v)
 
@@ -77,20 +78,34 @@ module _ {S E : Type 0} (takes : S → FieldSpec → Result Taken E → S → Ty
   pub came_none : (over left : Rest → Rest) (s : OperatorModel) (f : S) (c : ℕ) → ((rest : Rest) (counts : List ℕ) → over rest counts ≡ left rest counts) → HasWalked takes table over left s f c s f c
   came_none over left s f c e = record { turns = 0; ticks = sym (ticked_none c); way = λ rest. goes_none takes _ _ f (λ more. ap (λ ts. ahead table ts s more) (e rest (counts_of more))) }
 
-  pub came_then : {a b d : Rest → Rest} {s s1 s2 : OperatorModel} {f f1 f2 : S} {c c1 c2 : ℕ} → HasWalked takes table a b s f c s1 f1 c1 → HasWalked takes table b d s1 f1 c1 s2 f2 c2 → HasWalked takes table a d s f c s2 f2 c2
-  came_then {c = c} x y = record { turns = x.turns + y.turns; ticks = y.ticks ∙ ap (λ k. ticked k y.turns) x.ticks ∙ ticked_twice c x.turns y.turns; way = λ rest. goes_then takes (x.way rest) (y.way rest) }
+  pub came_then : {a b d : Rest → Rest} {s s1 s2 : OperatorModel} {f f1 f2 : S} {c c1 c2 : ℕ} → HasWalked takes table a b s f c s1 f1 c1 → HasWalked takes table b d s1 f1 c1 s2 f2 c2
+      → HasWalked takes table a d s f c s2 f2 c2
+  came_then {c = c} x y = record {
+    turns = x.turns + y.turns;
+    ticks = y.ticks ∙ ap (λ k. ticked k y.turns) x.ticks ∙ ticked_twice c x.turns y.turns;
+    way = λ rest. goes_then takes (x.way rest) (y.way rest);
+  }
 
-  pub came_stops : {a b : Rest → Rest} {s s1 : OperatorModel} {f f1 f2 : S} {c c1 c2 : ℕ} (why : WalkStop E) → HasWalked takes table a b s f c s1 f1 c1 → StopsIn takes table b s1 f1 c1 why f2 c2 → StopsIn takes table a s f c why f2 c2
-  came_stops {c = c} why x w = record { turns = x.turns + w.turns; ticks = w.ticks ∙ ap (λ k. ticked k w.turns) x.ticks ∙ ticked_twice c x.turns w.turns; way = λ rest. goes_stops takes (x.way rest) (w.way rest) }
+  pub came_stops : {a b : Rest → Rest} {s s1 : OperatorModel} {f f1 f2 : S} {c c1 c2 : ℕ} (why : WalkStop E) → HasWalked takes table a b s f c s1 f1 c1 → StopsIn takes table b s1 f1 c1 why f2 c2
+      → StopsIn takes table a s f c why f2 c2
+  came_stops {c = c} why x w = record {
+    turns = x.turns + w.turns;
+    ticks = w.ticks ∙ ap (λ k. ticked k w.turns) x.ticks ∙ ticked_twice c x.turns w.turns;
+    way = λ rest. goes_stops takes (x.way rest) (w.way rest);
+  }
 
   -- one turn with no field
-  pub came_turn : (over left : Rest → Rest) (s : OperatorModel) (f : S) (c c' : ℕ) → c' ≡ ticked c 1 → ((rest : Rest) (counts : List ℕ) (answers : List Taken) → ahead table (over rest counts) s answers ≡ later 1 (ahead table (left rest counts) s answers)) → HasWalked takes table over left s f c s f c'
+  pub came_turn : (over left : Rest → Rest) (s : OperatorModel) (f : S) (c c' : ℕ) → c' ≡ ticked c 1
+      → ((rest : Rest) (counts : List ℕ) (answers : List Taken) → ahead table (over rest counts) s answers ≡ later 1 (ahead table (left rest counts) s answers))
+      → HasWalked takes table over left s f c s f c'
   came_turn over left s f c c' tick e = record { turns = 1; ticks = tick; way = λ rest. goes_turn takes _ _ f (λ more. e rest (counts_of more) more) }
 
 -- ---- Walks over one field, and over an operator.
 
 -- by what a walk stops: a field, memory for its reference, or a refusal of the template
-pub stop_cases : {S E : Type 0} (takes : S → FieldSpec → Result Taken E → S → Type 0) (P : Next → WalkStop E → Type 0) (s s' : S) → ((spec : FieldSpec) (e : E) → takes s spec (Err e) s' → P (take_next spec) (stops.Field e)) → ((spec : FieldSpec) → spec.role ≡ role.Reference → s' ≡ s → P (take_next spec) stops.Memory) → ((why : TurnRefusal) → s' ≡ s → P (refused why) (stop_by why))
+pub stop_cases : {S E : Type 0} (takes : S → FieldSpec → Result Taken E → S → Type 0) (P : Next → WalkStop E → Type 0) (s s' : S)
+    → ((spec : FieldSpec) (e : E) → takes s spec (Err e) s' → P (take_next spec) (stops.Field e)) → ((spec : FieldSpec) → spec.role ≡ role.Reference → s' ≡ s → P (take_next spec) stops.Memory)
+    → ((why : TurnRefusal) → s' ≡ s → P (refused why) (stop_by why))
     → (next : Next) (why : WalkStop E) → StopsWalk takes next s why s' → P next why
 stop_cases takes P s s' field short refusal (take_next spec) (stops.Field e) h = field spec e h
 stop_cases takes P s s' field short refusal (take_next spec) stops.Memory h = short spec h.0 h.1
@@ -127,7 +142,9 @@ defined_role kind.Coded s fxy spec e h = let q : role.Reference ≡ role.Factor 
 defined_role kind.Numeric s fxy spec e h = let q : role.Reference ≡ role.Factor = fitted_role (defined_field s fxy) spec e ∙ h in cc
 
 -- the ways in which an element has its spec
-pub element_cases : (P : Type 0) (table : List Row) (s : OperatorModel) (fxy : ℕ) (spec : FieldSpec) → ((z : OperatorModel) (row : Row) → entry_of table fxy ≡ Some row → spec_by_kind row.kind z row ≡ Ok spec → P) → (if_valid_width (unsigned_field fxy s.local_width) ≡ Ok spec → P) → ((row : Row) → is_defining s ≡ true → new_reference_spec row.kind s fxy ≡ Ok spec → P)
+pub element_cases : (P : Type 0) (table : List Row) (s : OperatorModel) (fxy : ℕ) (spec : FieldSpec)
+    → ((z : OperatorModel) (row : Row) → entry_of table fxy ≡ Some row → spec_by_kind row.kind z row ≡ Ok spec → P) → (if_valid_width (unsigned_field fxy s.local_width) ≡ Ok spec → P)
+    → ((row : Row) → is_defining s ≡ true → new_reference_spec row.kind s fxy ≡ Ok spec → P)
     → element_spec table s fxy ≡ Ok spec → P
 element_cases P table s fxy spec listed local defined e = by_given (nat_lt 0 s.local_width) (entry_of table fxy) refl e
   where
@@ -148,7 +165,8 @@ element_cases P table s fxy spec listed local defined e = by_given (nat_lt 0 s.l
 element_role : (table : List Row) (s : OperatorModel) (fxy : ℕ) (spec : FieldSpec) → element_spec table s fxy ≡ Ok spec → spec.role ≡ role.Factor → ⊥
 element_role table s fxy spec e h =
     let none : role.Element ≡ spec.role → ⊥ = λ is. let q : role.Element ≡ role.Factor = is ∙ h in cc in
-    element_cases ⊥ table s fxy spec (λ z row p q. none (kind_role row.kind z row spec q)) (λ q. none (fitted_role (unsigned_field fxy s.local_width) spec q)) (λ row d q. defined_role row.kind s fxy spec q h) e
+    element_cases ⊥ table s fxy spec (λ z row p q. none (kind_role row.kind z row spec q)) (λ q. none (fitted_role (unsigned_field fxy s.local_width) spec q))
+    (λ row d q. defined_role row.kind s fxy spec q h) e
 
 pub inserted_role : (s : OperatorModel) (fxy : ℕ) (spec : FieldSpec) → inserted_spec s fxy ≡ Ok spec → spec.role ≡ role.Factor → ⊥
 inserted_role s fxy spec e h = grind (arith, common_steps)
@@ -189,8 +207,10 @@ module _ {S E : Type 0} (takes : S → FieldSpec → Result Taken E → S → Ty
       }
 
   -- the replication and the factor of a delayed group, whose count was taken
-  pub came_factor : (fxy : ℕ) (body more : Tree) (s : OperatorModel) (f : S) (c : ℕ) (r : Result FieldSpec TurnRefusal) (n : ℕ) (f' : S) (c' : ℕ) → r ≡ factor_spec table s fxy → TakesField takes r f (Ok (taken.Count n)) f' → c' ≡ ticked (ticked c 1) 1
-      → (k : Rest → Rest) → HasWalked takes table (λ rest. unroll (delayed fxy body more) (k rest)) (λ rest. passes n (unroll body) (unroll more (k rest))) s f c (after_field s fxy (taken.Count n)) f' c'
+  pub came_factor : (fxy : ℕ) (body more : Tree) (s : OperatorModel) (f : S) (c : ℕ) (r : Result FieldSpec TurnRefusal) (n : ℕ) (f' : S) (c' : ℕ) → r ≡ factor_spec table s fxy
+      → TakesField takes r f (Ok (taken.Count n)) f' → c' ≡ ticked (ticked c 1) 1
+      → (k : Rest → Rest) → HasWalked takes table (λ rest. unroll (delayed fxy body more) (k rest)) (λ rest. passes n (unroll body) (unroll more (k rest))) s f c (after_field s fxy (taken.Count n))
+      f' c'
   came_factor fxy body more s f c r n f' c' is took tick k =
       let o = took_ok r f (taken.Count n) f' took in
       let e : factor_spec table s fxy ≡ Ok o.0 = sym is ∙ o.1 in
@@ -200,14 +220,28 @@ module _ {S E : Type 0} (takes : S → FieldSpec → Result Taken E → S → Ty
         way = λ rest. record {
           items = record { spec = o.0; taken = taken.Count n } ∷ [];
           taken = (f', ap (λ q. (asked q (λ u answers. ahead table open_end (after_field s fxy u) answers) []).next) e, o.2, refl);
-          leads = λ later_answer. ap (λ q. later 1 (asked q (λ u answers. ahead table (passes n (unroll body) (unroll more (k rest)) (counts_of later_answer)) (after_field s fxy u) answers) (taken.Count n ∷ later_answer))) e ∙ later_twice 1 1 _;
+          leads = λ later_answer. ap (λ q. later 1 (asked q (λ u answers. ahead table (passes n (unroll body) (unroll more (k rest)) (counts_of later_answer)) (after_field s fxy u) answers)
+              (taken.Count n ∷ later_answer))) e ∙ later_twice 1 1 _;
         };
       }
 
   -- where a field comes next and is not taken, the walk stops there
-  stops_asked : (k : ℕ) (r : Result FieldSpec TurnRefusal) (go : Taken → List Taken → NextTurn) (f : S) (why : WalkStop E) (f' : S) (n : Course) → n [] ≡ later k (asked r go []) → TakesField takes r f (Err why) f' → Stops takes n f (k + 1) why f'
-  stops_asked k (Ok spec) go f (stops.Field e) f' n h took = record { items = []; mid = f; taken = refl; stops = subst (λ x. StopsWalk takes x f (stops.Field e) f') (sym (ap (λ x. x.next) h)) took; turns = ap (λ x. x.turns) h }
-  stops_asked k (Ok spec) go f stops.Memory f' n h took = record { items = []; mid = f; taken = refl; stops = subst (λ x. StopsWalk takes x f stops.Memory f') (sym (ap (λ x. x.next) h)) took; turns = ap (λ x. x.turns) h }
+  stops_asked : (k : ℕ) (r : Result FieldSpec TurnRefusal) (go : Taken → List Taken → NextTurn) (f : S) (why : WalkStop E) (f' : S) (n : Course) → n [] ≡ later k (asked r go [])
+      → TakesField takes r f (Err why) f' → Stops takes n f (k + 1) why f'
+  stops_asked k (Ok spec) go f (stops.Field e) f' n h took = record {
+    items = [];
+    mid = f;
+    taken = refl;
+    stops = subst (λ x. StopsWalk takes x f (stops.Field e) f') (sym (ap (λ x. x.next) h)) took;
+    turns = ap (λ x. x.turns) h;
+  }
+  stops_asked k (Ok spec) go f stops.Memory f' n h took = record {
+    items = [];
+    mid = f;
+    taken = refl;
+    stops = subst (λ x. StopsWalk takes x f stops.Memory f') (sym (ap (λ x. x.next) h)) took;
+    turns = ap (λ x. x.turns) h;
+  }
   stops_asked k (Ok spec) go f (stops.Width w) f' n h took = absurd took
   stops_asked k (Ok spec) go f (stops.Defining w) f' n h took = absurd took
   stops_asked k (Err why) go f w f' n h took = record { items = []; mid = f; taken = refl; stops = subst (λ x. StopsWalk takes x f w f') (sym (ap (λ x. x.next) h)) took; turns = ap (λ x. x.turns) h }
@@ -223,7 +257,8 @@ module _ {S E : Type 0} (takes : S → FieldSpec → Result Taken E → S → Ty
   }
 
   -- a factor that was not taken
-  pub stops_factor : (fxy : ℕ) (body more : Tree) (s : OperatorModel) (f : S) (c : ℕ) (r : Result FieldSpec TurnRefusal) (why : WalkStop E) (f' : S) (c' : ℕ) → r ≡ factor_spec table s fxy → TakesField takes r f (Err why) f' → c' ≡ ticked (ticked c 1) 1
+  pub stops_factor : (fxy : ℕ) (body more : Tree) (s : OperatorModel) (f : S) (c : ℕ) (r : Result FieldSpec TurnRefusal) (why : WalkStop E) (f' : S) (c' : ℕ) → r ≡ factor_spec table s fxy
+      → TakesField takes r f (Err why) f' → c' ≡ ticked (ticked c 1) 1
       → (k : Rest → Rest) → StopsIn takes table (λ rest. unroll (delayed fxy body more) (k rest)) s f c why f' c'
   stops_factor fxy body more s f c r why f' c' is took tick k = record {
     turns = 2;
@@ -232,26 +267,33 @@ module _ {S E : Type 0} (takes : S → FieldSpec → Result Taken E → S → Ty
   }
 
   -- an operator that changes the operators in force
-  operator_is : (over left : Rest → Rest) (fxy : ℕ) (s : OperatorModel) → is_inserted_text fxy ≡ false → ((rest : Rest) (counts : List ℕ) → over rest counts ≡ operator_turn fxy (left rest counts)) → (rest : Rest) (counts : List ℕ) (answers : List Taken)
+  operator_is : (over left : Rest → Rest) (fxy : ℕ) (s : OperatorModel) → is_inserted_text fxy ≡ false → ((rest : Rest) (counts : List ℕ) → over rest counts ≡ operator_turn fxy (left rest counts))
+      → (rest : Rest) (counts : List ℕ) (answers : List Taken)
       → ahead table (over rest counts) s answers ≡ operated (after_operator s fxy) (λ s'. ahead table (left rest counts) s' answers)
   operator_is over left fxy s x is rest counts answers =
       ap (λ ts. ahead table ts s answers) (is rest counts)
-      ∙ ap (λ b. if b then asked (inserted_spec s fxy) (λ t more. ahead table (left rest counts) (after_field s fxy t) more) answers else operated (after_operator s fxy) (λ s'. ahead table (left rest counts) s' answers)) x
+      ∙ ap (λ b. if b then asked (inserted_spec s fxy) (λ t more. ahead table (left rest counts) (after_field s fxy t) more) answers else operated (after_operator s fxy)
+      (λ s'. ahead table (left rest counts) s' answers)) x
 
-  pub inserted_is : (over left : Rest → Rest) (fxy : ℕ) (s : OperatorModel) → is_inserted_text fxy ≡ true → ((rest : Rest) (counts : List ℕ) → over rest counts ≡ operator_turn fxy (left rest counts)) → (rest : Rest) (counts : List ℕ) (answers : List Taken)
+  pub inserted_is : (over left : Rest → Rest) (fxy : ℕ) (s : OperatorModel) → is_inserted_text fxy ≡ true → ((rest : Rest) (counts : List ℕ) → over rest counts ≡ operator_turn fxy (left rest counts))
+      → (rest : Rest) (counts : List ℕ) (answers : List Taken)
       → ahead table (over rest counts) s answers ≡ asked (inserted_spec s fxy) (λ t more. ahead table (left rest counts) (after_field s fxy t) more) answers
   inserted_is over left fxy s x is rest counts answers =
       ap (λ ts. ahead table ts s answers) (is rest counts)
-      ∙ ap (λ b. if b then asked (inserted_spec s fxy) (λ t more. ahead table (left rest counts) (after_field s fxy t) more) answers else operated (after_operator s fxy) (λ s'. ahead table (left rest counts) s' answers)) x
+      ∙ ap (λ b. if b then asked (inserted_spec s fxy) (λ t more. ahead table (left rest counts) (after_field s fxy t) more) answers else operated (after_operator s fxy)
+      (λ s'. ahead table (left rest counts) s' answers)) x
 
-  pub came_operator : (over left : Rest → Rest) (fxy : ℕ) (s s' : OperatorModel) (f : S) (c c' : ℕ) → is_inserted_text fxy ≡ false → ((rest : Rest) (counts : List ℕ) → over rest counts ≡ operator_turn fxy (left rest counts)) → after_operator s fxy ≡ Ok s' → c' ≡ ticked c 1 → HasWalked takes table over left s f c s' f c'
+  pub came_operator : (over left : Rest → Rest) (fxy : ℕ) (s s' : OperatorModel) (f : S) (c c' : ℕ) → is_inserted_text fxy ≡ false
+      → ((rest : Rest) (counts : List ℕ) → over rest counts ≡ operator_turn fxy (left rest counts)) → after_operator s fxy ≡ Ok s' → c' ≡ ticked c 1 → HasWalked takes table over left s f c s' f c'
   came_operator over left fxy s s' f c c' x is e tick = record {
     turns = 1;
     ticks = tick;
     way = λ rest. goes_turn takes _ _ f (λ more. operator_is over left fxy s x is rest (counts_of more) more ∙ ap (λ r. operated r (λ s2. ahead table (left rest (counts_of more)) s2 more)) e);
   }
 
-  pub stops_operator : (over left : Rest → Rest) (fxy : ℕ) (s : OperatorModel) (f : S) (c c' : ℕ) (why : TurnRefusal) → is_inserted_text fxy ≡ false → ((rest : Rest) (counts : List ℕ) → over rest counts ≡ operator_turn fxy (left rest counts)) → after_operator s fxy ≡ Err why → c' ≡ ticked c 1 → StopsIn takes table over s f c (stop_by why) f c'
+  pub stops_operator : (over left : Rest → Rest) (fxy : ℕ) (s : OperatorModel) (f : S) (c c' : ℕ) (why : TurnRefusal) → is_inserted_text fxy ≡ false
+      → ((rest : Rest) (counts : List ℕ) → over rest counts ≡ operator_turn fxy (left rest counts)) → after_operator s fxy ≡ Err why → c' ≡ ticked c 1
+      → StopsIn takes table over s f c (stop_by why) f c'
   stops_operator over left fxy s f c c' why x is e tick = record {
     turns = 1;
     ticks = tick;
@@ -261,13 +303,16 @@ module _ {S E : Type 0} (takes : S → FieldSpec → Result Taken E → S → Ty
   }
 
   -- a whole walk, and its finish
-  pub whole : (template : Tree) (s s' : OperatorModel) (f f' : S) (c c' c'' : ℕ) → HasWalked takes table (unroll template) (λ rest. rest) s f c s' f' c' → c'' ≡ ticked c' 1 → Walked takes (course table (turns_of template) s) f c (Ok tt) f' c''
+  pub whole : (template : Tree) (s s' : OperatorModel) (f f' : S) (c c' c'' : ℕ) → HasWalked takes table (unroll template) (λ rest. rest) s f c s' f' c' → c'' ≡ ticked c' 1
+      → Walked takes (course table (turns_of template) s) f c (Ok tt) f' c''
   whole template s s' f f' c c' c'' w tick =
       let way : WalkGoes takes (course table (turns_of template) s) f w.turns (course table (λ _. finish) s') f' = w.way (λ _. finish) in
-      let last : course table (turns_of template) s (answers_of way.items) ≡ later w.turns (stop at_end) = ap (λ answers. course table (turns_of template) s answers) (sym (append-nil (answers_of way.items))) ∙ way.leads [] in
+      let last : course table (turns_of template) s (answers_of way.items) ≡ later w.turns (stop at_end) =
+      ap (λ answers. course table (turns_of template) s answers) (sym (append-nil (answers_of way.items))) ∙ way.leads [] in
       (way.items, way.taken, ap (λ x. x.next) last, tick ∙ ap (λ k. ticked k 1) w.ticks ∙ ticked_twice c w.turns 1 ∙ ap (ticked c) (sym (ap (λ x. x.turns) last)))
 
-  pub whole_stops : (template : Tree) (s : OperatorModel) (f f' : S) (c c' : ℕ) (why : WalkStop E) → StopsIn takes table (unroll template) s f c why f' c' → Walked takes (course table (turns_of template) s) f c (Err why) f' c'
+  pub whole_stops : (template : Tree) (s : OperatorModel) (f f' : S) (c c' : ℕ) (why : WalkStop E) → StopsIn takes table (unroll template) s f c why f' c'
+      → Walked takes (course table (turns_of template) s) f c (Err why) f' c'
   whole_stops template s f f' c c' why w =
       let way : Stops takes (course table (turns_of template) s) f w.turns why f' = w.way (λ _. finish) in
       (way.items, way.mid, way.taken, way.stops, w.ticks ∙ ap (ticked c) (sym way.turns))
@@ -331,23 +376,30 @@ jump xs ys at after k h e =
 
 pub cost_cells : (t : Tree) (at : ℕ) (tail : List Cell) → get_or (costs (cells_of t at tail) at) 0 0 ≡ worst t + get_or (costs tail (at + size t)) 0 0
 cost_cells bare at tail = ap (λ k. get_or (costs tail k) 0 0) (let e : at ≡ at + 0 = omega arith in e) ∙ sym (zero-add _)
-cost_cells (element fxy more) at tail = ap (λ x. 1 + x) (cost_cells more (at + 1) tail ∙ ap (λ k. worst more + get_or (costs tail k) 0 0) (let e : at + 1 + size more ≡ at + (1 + size more) = omega arith in e)) ∙ sym (add_assoc 1 (worst more) _)
-cost_cells (operator fxy more) at tail = ap (λ x. 1 + x) (cost_cells more (at + 1) tail ∙ ap (λ k. worst more + get_or (costs tail k) 0 0) (let e : at + 1 + size more ≡ at + (1 + size more) = omega arith in e)) ∙ sym (add_assoc 1 (worst more) _)
+cost_cells (element fxy more) at tail = ap (λ x. 1 + x) (cost_cells more (at + 1) tail
+    ∙ ap (λ k. worst more + get_or (costs tail k) 0 0) (let e : at + 1 + size more ≡ at + (1 + size more) = omega arith in e)) ∙ sym (add_assoc 1 (worst more) _)
+cost_cells (operator fxy more) at tail = ap (λ x. 1 + x) (cost_cells more (at + 1) tail
+    ∙ ap (λ k. worst more + get_or (costs tail k) 0 0) (let e : at + 1 + size more ≡ at + (1 + size more) = omega arith in e)) ∙ sym (add_assoc 1 (worst more) _)
 cost_cells (fixed n body more) at tail =
     let after : ℕ = at + 2 + size body in
     let cells : List Cell = cells_of body (at + 1) (cell.PassEnd ∷ cells_of more after tail) in
     let b : get_or (costs cells (at + 1)) 0 0 ≡ worst body = cost_cells body (at + 1) (cell.PassEnd ∷ cells_of more after tail) ∙ add-zero (worst body) in
     let j : get_or (costs cells (at + 1)) (after - (at + 1)) 0 ≡ worst more + get_or (costs tail (at + (2 + size body + size more))) 0 0 =
-    jump cells (cells_of more after tail) (at + 1) after (size body + 1) (drop_body body (at + 1) (cells_of more after tail)) (omega arith) ∙ cost_cells more after tail ∙ ap (λ k. worst more + get_or (costs tail k) 0 0) (let e : after + size more ≡ at + (2 + size body + size more) = omega arith in e) in
+    jump cells (cells_of more after tail) (at + 1) after (size body + 1) (drop_body body (at + 1) (cells_of more after tail)) (omega arith) ∙ cost_cells more after tail
+    ∙ ap (λ k. worst more + get_or (costs tail k) 0 0) (let e : after + size more ≡ at + (2 + size body + size more) = omega arith in e) in
     ap (λ x. 1 + n * (1 + x) + get_or (costs cells (at + 1)) (after - (at + 1)) 0) b ∙ ap (λ y. 1 + n * (1 + worst body) + y) j ∙ sym (add_assoc (1 + n * (1 + worst body)) (worst more) _)
 cost_cells (delayed fxy body more) at tail =
     let after : ℕ = at + 3 + size body in
     let cells : List Cell = cells_of body (at + 2) (cell.PassEnd ∷ cells_of more after tail) in
     let two : at + 1 + 1 ≡ at + 2 = omega arith in
-    let b : get_or (costs cells (at + 1 + 1)) 0 0 ≡ worst body = ap (λ k. get_or (costs cells k) 0 0) two ∙ cost_cells body (at + 2) (cell.PassEnd ∷ cells_of more after tail) ∙ add-zero (worst body) in
+    let b : get_or (costs cells (at + 1 + 1)) 0 0 ≡ worst body = ap (λ k. get_or (costs cells k) 0 0) two ∙ cost_cells body (at + 2) (cell.PassEnd ∷ cells_of more after tail)
+    ∙ add-zero (worst body) in
     let j : get_or (costs (cell.Factor fxy ∷ cells) (at + 1)) (after - (at + 1)) 0 ≡ worst more + get_or (costs tail (at + (3 + size body + size more))) 0 0 =
-    jump (cell.Factor fxy ∷ cells) (cells_of more after tail) (at + 1) after (size body + 2) (skip 1 (size body + 1) (size body + 2) _ cells (cells_of more after tail) refl (drop_body body (at + 2) (cells_of more after tail)) (omega arith)) (omega arith) ∙ cost_cells more after tail ∙ ap (λ k. worst more + get_or (costs tail k) 0 0) (let e : after + size more ≡ at + (3 + size body + size more) = omega arith in e) in
-    ap (λ x. 2 + 2 ^ 64 * (1 + x) + get_or (costs (cell.Factor fxy ∷ cells) (at + 1)) (after - (at + 1)) 0) b ∙ ap (λ y. 2 + 2 ^ 64 * (1 + worst body) + y) j ∙ sym (add_assoc (2 + 2 ^ 64 * (1 + worst body)) (worst more) _)
+    jump (cell.Factor fxy ∷ cells) (cells_of more after tail) (at + 1) after (size body + 2)
+    (skip 1 (size body + 1) (size body + 2) _ cells (cells_of more after tail) refl (drop_body body (at + 2) (cells_of more after tail)) (omega arith)) (omega arith) ∙ cost_cells more after tail
+    ∙ ap (λ k. worst more + get_or (costs tail k) 0 0) (let e : after + size more ≡ at + (3 + size body + size more) = omega arith in e) in
+    ap (λ x. 2 + 2 ^ 64 * (1 + x) + get_or (costs (cell.Factor fxy ∷ cells) (at + 1)) (after - (at + 1)) 0) b ∙ ap (λ y. 2 + 2 ^ 64 * (1 + worst body) + y) j
+    ∙ sym (add_assoc (2 + 2 ^ 64 * (1 + worst body)) (worst more) _)
 
 -- the end of a pass, and of all
 tail_costs : (groups : List OpenGroup) (at : ℕ) → get_or (costs (tail_of groups) at) 0 0 ≡ 0
@@ -371,8 +423,10 @@ abbrev pub Meets : List Cell → Tree → List OpenGroup → ℕ → Type 0
 Meets [] more groups place = ⊥
 Meets (cell.Element fxy ∷ cs) more groups place = (m : Tree) × (more ≡ element fxy m) × (cs ≡ cells_of m (place + 1) (tail_of groups))
 Meets (cell.Operator fxy ∷ cs) more groups place = (m : Tree) × (more ≡ operator fxy m) × (cs ≡ cells_of m (place + 1) (tail_of groups))
-Meets (cell.Fixed count after ∷ cs) more groups place = (body m : Tree) × (more ≡ fixed count body m) × (after ≡ place + 2 + size body) × (cs ≡ cells_of body (place + 1) (cell.PassEnd ∷ cells_of m (place + 2 + size body) (tail_of groups)))
-Meets (cell.Delayed after ∷ cs) more groups place = (word : ℕ) × (body : Tree) × (m : Tree) × (more ≡ delayed word body m) × (after ≡ place + 3 + size body) × (cs ≡ cell.Factor word ∷ cells_of body (place + 2) (cell.PassEnd ∷ cells_of m (place + 3 + size body) (tail_of groups)))
+Meets (cell.Fixed count after ∷ cs) more groups place = (body m : Tree) × (more ≡ fixed count body m) × (after ≡ place + 2 + size body)
+    × (cs ≡ cells_of body (place + 1) (cell.PassEnd ∷ cells_of m (place + 2 + size body) (tail_of groups)))
+Meets (cell.Delayed after ∷ cs) more groups place = (word : ℕ) × (body : Tree) × (m : Tree) × (more ≡ delayed word body m) × (after ≡ place + 3 + size body)
+    × (cs ≡ cell.Factor word ∷ cells_of body (place + 2) (cell.PassEnd ∷ cells_of m (place + 3 + size body) (tail_of groups)))
 Meets (cell.Factor fxy ∷ cs) more groups place = ⊥
 Meets (cell.PassEnd ∷ cs) more groups place = (s : OpenGroup) × (outer : List OpenGroup) × (groups ≡ s ∷ outer) × (more ≡ bare)
 Meets (cell.Finish ∷ cs) more groups place = (groups ≡ []) × (more ≡ bare)
@@ -432,7 +486,15 @@ module _ (cells : List Cell) where
         λ k. unroll body (turns_after_pass groups' k),
         (body, groups', record { frames = same ∙ ap (λ fs. fs ++ f ∷ []) frames; here = here; deep = omega arith; legal = k1; outer = (h1, h2, d1, d2, k1, k2, outer); left_is = λ k counts. refl }),
         λ k counts. refl,
-        omega (arith, suc-mul m (1 + worst body), cost_here cells next body groups' here, ap (λ x. m * (1 + x)) (cost_here cells start body groups' h1), cost_here cells after more groups h2, ap (owed (costs cells 0)) same, owed_push (costs cells 0) stack f),
+        omega (
+          arith,
+          suc-mul m (1 + worst body),
+          cost_here cells next body groups' here,
+          ap (λ x. m * (1 + x)) (cost_here cells start body groups' h1),
+          cost_here cells after more groups h2,
+          ap (owed (costs cells 0)) same,
+          owed_push (costs cells 0) stack f,
+        ),
       )
 
 -- the groups round the innermost, and that
@@ -458,8 +520,10 @@ module _ {S E : Type 0} (takes : S → FieldSpec → Result Taken E → S → Ty
   moved place stack left st t e = subst (λ x. IsAtNodes cells place stack left x st.1) e st.2
 
   -- the walk moves one cell on
-  pub turn_on : (place : ℕ) (stack : List Frame) (left : Rest → Rest) (groups : List OpenGroup) (more : Tree) (before : Tree) (s s' : OperatorModel) (f f' : S) (c c' : ℕ) → IsAtNodes cells place stack left before groups → drop (place + 1) cells ≡ cells_of more (place + 1) (tail_of groups) → depth before ≡ depth more → worst before ≡ 1 + worst more → IsLegal more
-      → HasWalked takes table (λ k. unroll before (turns_after_pass groups k)) (λ k. unroll more (turns_after_pass groups k)) s f c s' f' c' → Turned takes table cells left place stack s f c (Ok (Some (place + 1))) stack s' f' c'
+  pub turn_on : (place : ℕ) (stack : List Frame) (left : Rest → Rest) (groups : List OpenGroup) (more : Tree) (before : Tree) (s s' : OperatorModel) (f f' : S) (c c' : ℕ)
+      → IsAtNodes cells place stack left before groups → drop (place + 1) cells ≡ cells_of more (place + 1) (tail_of groups) → depth before ≡ depth more → worst before ≡ 1 + worst more → IsLegal more
+      → HasWalked takes table (λ k. unroll before (turns_after_pass groups k)) (λ k. unroll more (turns_after_pass groups k)) s f c s' f' c'
+      → Turned takes table cells left place stack s f c (Ok (Some (place + 1))) stack s' f' c'
   turn_on place stack left groups more before s s' f f' c c' at next deep cost legal came = (
     λ k. unroll more (turns_after_pass groups k),
     (more, groups, record { frames = at.frames; here = next; deep = subst (λ d. length groups + d ≤ 32) deep at.deep; legal = legal; outer = at.outer; left_is = λ k counts. refl }),
@@ -467,27 +531,36 @@ module _ {S E : Type 0} (takes : S → FieldSpec → Result Taken E → S → Ty
     omega (arith, cost_here cells place before groups at.here, cost_here cells (place + 1) more groups next),
   )
 
-  pub turn_element : (place : ℕ) (stack : List Frame) (left : Rest → Rest) (d : Cell) (fxy : ℕ) (s s' : OperatorModel) (f f' : S) (c c' : ℕ) (r : Result FieldSpec TurnRefusal) (t : Taken) → IsAtCell cells place stack left → get_or cells place d ≡ cell.Element fxy → r ≡ element_spec table s fxy → TakesField takes r f (Ok t) f' → c' ≡ ticked c 1 → s' ≡ after_field s fxy t → Turned takes table cells left place stack s f c (Ok (Some (place + 1))) stack s' f' c'
+  pub turn_element : (place : ℕ) (stack : List Frame) (left : Rest → Rest) (d : Cell) (fxy : ℕ) (s s' : OperatorModel) (f f' : S) (c c' : ℕ) (r : Result FieldSpec TurnRefusal) (t : Taken)
+      → IsAtCell cells place stack left → get_or cells place d ≡ cell.Element fxy → r ≡ element_spec table s fxy → TakesField takes r f (Ok t) f' → c' ≡ ticked c 1 → s' ≡ after_field s fxy t
+      → Turned takes table cells left place stack s f c (Ok (Some (place + 1))) stack s' f' c'
   turn_element place stack left d fxy s s' f f' c c' r t st e spec took tick answers =
       let i = met cells place stack left d (cell.Element fxy) st e in
       let at : IsAtNodes cells place stack left (element fxy i.0) st.1 = moved place stack left st _ i.1 in
       turn_on place stack left st.1 i.0 (element fxy i.0) s s' f f' c c' at i.2 refl refl at.legal.1
       (subst (λ z. HasWalked takes table (λ k. unroll (element fxy i.0) (turns_after_pass st.1 k)) (λ k. unroll i.0 (turns_after_pass st.1 k)) s f c z f' c') (sym answers)
-      (came_field takes table (λ k. unroll (element fxy i.0) (turns_after_pass st.1 k)) (λ k. unroll i.0 (turns_after_pass st.1 k)) fxy s f c (element_spec table s fxy) t f' c' (λ rest counts answers. refl) (element_role table s fxy) (subst (λ q. TakesField takes q f (Ok t) f') spec took) tick))
+      (came_field takes table (λ k. unroll (element fxy i.0) (turns_after_pass st.1 k)) (λ k. unroll i.0 (turns_after_pass st.1 k)) fxy s f c (element_spec table s fxy) t f' c'
+      (λ rest counts answers. refl) (element_role table s fxy) (subst (λ q. TakesField takes q f (Ok t) f') spec took) tick))
 
-  pub fail_element : (place : ℕ) (stack : List Frame) (left : Rest → Rest) (d : Cell) (fxy : ℕ) (s : OperatorModel) (f f' : S) (c c' : ℕ) (r : Result FieldSpec TurnRefusal) (why : WalkStop E) → IsAtCell cells place stack left → get_or cells place d ≡ cell.Element fxy → r ≡ element_spec table s fxy → TakesField takes r f (Err why) f' → c' ≡ ticked c 1 → StopsIn takes table left s f c why f' c'
+  pub fail_element : (place : ℕ) (stack : List Frame) (left : Rest → Rest) (d : Cell) (fxy : ℕ) (s : OperatorModel) (f f' : S) (c c' : ℕ) (r : Result FieldSpec TurnRefusal) (why : WalkStop E)
+      → IsAtCell cells place stack left → get_or cells place d ≡ cell.Element fxy → r ≡ element_spec table s fxy → TakesField takes r f (Err why) f' → c' ≡ ticked c 1
+      → StopsIn takes table left s f c why f' c'
   fail_element place stack left d fxy s f f' c c' r why st e spec took tick =
       let i = met cells place stack left d (cell.Element fxy) st e in
       let at : IsAtNodes cells place stack left (element fxy i.0) st.1 = moved place stack left st _ i.1 in
       came_stops takes table why (came_none takes table left (λ k. unroll (element fxy i.0) (turns_after_pass st.1 k)) s f c at.left_is)
-      (stops_field takes table (λ k. unroll (element fxy i.0) (turns_after_pass st.1 k)) (λ k. unroll i.0 (turns_after_pass st.1 k)) fxy s f c (element_spec table s fxy) why f' c' (λ rest counts answers. refl) (subst (λ q. TakesField takes q f (Err why) f') spec took) tick)
+      (stops_field takes table (λ k. unroll (element fxy i.0) (turns_after_pass st.1 k)) (λ k. unroll i.0 (turns_after_pass st.1 k)) fxy s f c (element_spec table s fxy) why f' c'
+      (λ rest counts answers. refl) (subst (λ q. TakesField takes q f (Err why) f') spec took) tick)
 
-  pub operator_legal : (place : ℕ) (stack : List Frame) (left : Rest → Rest) (d : Cell) (fxy : ℕ) → IsAtCell cells place stack left → get_or cells place d ≡ cell.Operator fxy → is_legal_operator fxy ≡ true
+  pub operator_legal : (place : ℕ) (stack : List Frame) (left : Rest → Rest) (d : Cell) (fxy : ℕ) → IsAtCell cells place stack left → get_or cells place d ≡ cell.Operator fxy
+      → is_legal_operator fxy ≡ true
   operator_legal place stack left d fxy st e =
       let i = met cells place stack left d (cell.Operator fxy) st e in
       (moved place stack left st _ i.1).legal.1.0
 
-  pub turn_inserted : (place : ℕ) (stack : List Frame) (left : Rest → Rest) (d : Cell) (fxy : ℕ) (s s' : OperatorModel) (f f' : S) (c c' : ℕ) (r : Result FieldSpec TurnRefusal) (t : Taken) → IsAtCell cells place stack left → get_or cells place d ≡ cell.Operator fxy → is_inserted_text fxy ≡ true → r ≡ inserted_spec s fxy → TakesField takes r f (Ok t) f' → c' ≡ ticked c 1 → s' ≡ after_field s fxy t → Turned takes table cells left place stack s f c (Ok (Some (place + 1))) stack s' f' c'
+  pub turn_inserted : (place : ℕ) (stack : List Frame) (left : Rest → Rest) (d : Cell) (fxy : ℕ) (s s' : OperatorModel) (f f' : S) (c c' : ℕ) (r : Result FieldSpec TurnRefusal) (t : Taken)
+      → IsAtCell cells place stack left → get_or cells place d ≡ cell.Operator fxy → is_inserted_text fxy ≡ true → r ≡ inserted_spec s fxy → TakesField takes r f (Ok t) f' → c' ≡ ticked c 1
+      → s' ≡ after_field s fxy t → Turned takes table cells left place stack s f c (Ok (Some (place + 1))) stack s' f' c'
   turn_inserted place stack left d fxy s s' f f' c c' r t st e x spec took tick answers =
       let i = met cells place stack left d (cell.Operator fxy) st e in
       let at : IsAtNodes cells place stack left (operator fxy i.0) st.1 = moved place stack left st _ i.1 in
@@ -495,25 +568,32 @@ module _ {S E : Type 0} (takes : S → FieldSpec → Result Taken E → S → Ty
       let next : Rest → Rest = λ k. unroll i.0 (turns_after_pass st.1 k) in
       turn_on place stack left st.1 i.0 (operator fxy i.0) s s' f f' c c' at i.2 refl refl at.legal.1.1.1
       (subst (λ z. HasWalked takes table over next s f c z f' c') (sym answers)
-      (came_field takes table over next fxy s f c (inserted_spec s fxy) t f' c' (inserted_is takes table over next fxy s x (λ rest counts. refl)) (inserted_role s fxy) (subst (λ q. TakesField takes q f (Ok t) f') spec took) tick))
+      (came_field takes table over next fxy s f c (inserted_spec s fxy) t f' c' (inserted_is takes table over next fxy s x (λ rest counts. refl)) (inserted_role s fxy)
+      (subst (λ q. TakesField takes q f (Ok t) f') spec took) tick))
 
-  pub fail_inserted : (place : ℕ) (stack : List Frame) (left : Rest → Rest) (d : Cell) (fxy : ℕ) (s : OperatorModel) (f f' : S) (c c' : ℕ) (r : Result FieldSpec TurnRefusal) (why : WalkStop E) → IsAtCell cells place stack left → get_or cells place d ≡ cell.Operator fxy → is_inserted_text fxy ≡ true → r ≡ inserted_spec s fxy → TakesField takes r f (Err why) f' → c' ≡ ticked c 1 → StopsIn takes table left s f c why f' c'
+  pub fail_inserted : (place : ℕ) (stack : List Frame) (left : Rest → Rest) (d : Cell) (fxy : ℕ) (s : OperatorModel) (f f' : S) (c c' : ℕ) (r : Result FieldSpec TurnRefusal) (why : WalkStop E)
+      → IsAtCell cells place stack left → get_or cells place d ≡ cell.Operator fxy → is_inserted_text fxy ≡ true → r ≡ inserted_spec s fxy → TakesField takes r f (Err why) f' → c' ≡ ticked c 1
+      → StopsIn takes table left s f c why f' c'
   fail_inserted place stack left d fxy s f f' c c' r why st e x spec took tick =
       let i = met cells place stack left d (cell.Operator fxy) st e in
       let at : IsAtNodes cells place stack left (operator fxy i.0) st.1 = moved place stack left st _ i.1 in
       let over : Rest → Rest = λ k. unroll (operator fxy i.0) (turns_after_pass st.1 k) in
       let next : Rest → Rest = λ k. unroll i.0 (turns_after_pass st.1 k) in
       came_stops takes table why (came_none takes table left over s f c at.left_is)
-      (stops_field takes table over next fxy s f c (inserted_spec s fxy) why f' c' (inserted_is takes table over next fxy s x (λ rest counts. refl)) (subst (λ q. TakesField takes q f (Err why) f') spec took) tick)
+      (stops_field takes table over next fxy s f c (inserted_spec s fxy) why f' c' (inserted_is takes table over next fxy s x (λ rest counts. refl))
+      (subst (λ q. TakesField takes q f (Err why) f') spec took) tick)
 
-  pub turn_operator : (place : ℕ) (stack : List Frame) (left : Rest → Rest) (d : Cell) (fxy : ℕ) (s s' : OperatorModel) (f : S) (c c' : ℕ) → IsAtCell cells place stack left → get_or cells place d ≡ cell.Operator fxy → is_inserted_text fxy ≡ false → after_operator s fxy ≡ Ok s' → c' ≡ ticked c 1 → Turned takes table cells left place stack s f c (Ok (Some (place + 1))) stack s' f c'
+  pub turn_operator : (place : ℕ) (stack : List Frame) (left : Rest → Rest) (d : Cell) (fxy : ℕ) (s s' : OperatorModel) (f : S) (c c' : ℕ) → IsAtCell cells place stack left
+      → get_or cells place d ≡ cell.Operator fxy → is_inserted_text fxy ≡ false → after_operator s fxy ≡ Ok s' → c' ≡ ticked c 1
+      → Turned takes table cells left place stack s f c (Ok (Some (place + 1))) stack s' f c'
   turn_operator place stack left d fxy s s' f c c' st e x answers tick =
       let i = met cells place stack left d (cell.Operator fxy) st e in
       let at : IsAtNodes cells place stack left (operator fxy i.0) st.1 = moved place stack left st _ i.1 in
       turn_on place stack left st.1 i.0 (operator fxy i.0) s s' f f c c' at i.2 refl refl at.legal.1.1.1
       (came_operator takes table (λ k. unroll (operator fxy i.0) (turns_after_pass st.1 k)) (λ k. unroll i.0 (turns_after_pass st.1 k)) fxy s s' f c c' x (λ rest counts. refl) answers tick)
 
-  pub fail_operator : (place : ℕ) (stack : List Frame) (left : Rest → Rest) (d : Cell) (fxy : ℕ) (s : OperatorModel) (f : S) (c c' : ℕ) (why : TurnRefusal) → IsAtCell cells place stack left → get_or cells place d ≡ cell.Operator fxy → is_inserted_text fxy ≡ false → after_operator s fxy ≡ Err why → c' ≡ ticked c 1 → StopsIn takes table left s f c (stop_by why) f c'
+  pub fail_operator : (place : ℕ) (stack : List Frame) (left : Rest → Rest) (d : Cell) (fxy : ℕ) (s : OperatorModel) (f : S) (c c' : ℕ) (why : TurnRefusal) → IsAtCell cells place stack left
+      → get_or cells place d ≡ cell.Operator fxy → is_inserted_text fxy ≡ false → after_operator s fxy ≡ Err why → c' ≡ ticked c 1 → StopsIn takes table left s f c (stop_by why) f c'
   fail_operator place stack left d fxy s f c c' why st e x answers tick =
       let i = met cells place stack left d (cell.Operator fxy) st e in
       let at : IsAtNodes cells place stack left (operator fxy i.0) st.1 = moved place stack left st _ i.1 in
@@ -521,13 +601,15 @@ module _ {S E : Type 0} (takes : S → FieldSpec → Result Taken E → S → Ty
       (stops_operator takes table (λ k. unroll (operator fxy i.0) (turns_after_pass st.1 k)) (λ k. unroll i.0 (turns_after_pass st.1 k)) fxy s f c c' why x (λ rest counts. refl) answers tick)
 
   -- after a body and its end
-  past_body : (start after : ℕ) (body m : Tree) (tail : List Cell) → after ≡ start + (size body + 1) → drop start cells ≡ cells_of body start (cell.PassEnd ∷ cells_of m after tail) → drop after cells ≡ cells_of m after tail
+  past_body : (start after : ℕ) (body m : Tree) (tail : List Cell) → after ≡ start + (size body + 1) → drop start cells ≡ cells_of body start (cell.PassEnd ∷ cells_of m after tail)
+      → drop after cells ≡ cells_of m after tail
   past_body start after body m tail e h = ap (λ j. drop j cells) e ∙ sym (drop-drop (size body + 1) start cells) ∙ ap (drop (size body + 1)) h ∙ drop_body body start (cells_of m after tail)
 
   stack_length : (place : ℕ) (stack : List Frame) (left : Rest → Rest) (st : IsAtCell cells place stack left) → length stack ≡ length st.1
   stack_length place stack left st = ap length st.2.frames ∙ frames_length cells st.1
 
-  pub fixed_room : (place : ℕ) (stack : List Frame) (left : Rest → Rest) (d : Cell) (count after : ℕ) → IsAtCell cells place stack left → get_or cells place d ≡ cell.Fixed count after → length stack < 32
+  pub fixed_room : (place : ℕ) (stack : List Frame) (left : Rest → Rest) (d : Cell) (count after : ℕ) → IsAtCell cells place stack left → get_or cells place d ≡ cell.Fixed count after
+      → length stack < 32
   fixed_room place stack left d count after st e =
       let i = met cells place stack left d (cell.Fixed count after) st e in
       let deep : length st.1 + depth (fixed count i.0 i.1) ≤ 32 = subst (λ x. length st.1 + depth x ≤ 32) i.2 st.2.deep in
@@ -540,13 +622,15 @@ module _ {S E : Type 0} (takes : S → FieldSpec → Result Taken E → S → Ty
       omega (arith, deep, stack_length place stack left st)
 
   -- the factor is at the next place
-  pub factor_next : (place : ℕ) (stack : List Frame) (left : Rest → Rest) (d : Cell) (after : ℕ) → IsAtCell cells place stack left → get_or cells place d ≡ cell.Delayed after → (place + 1 < length cells) × (word : ℕ) × ((d2 : Cell) → get_or cells (place + 1) d2 ≡ cell.Factor word)
+  pub factor_next : (place : ℕ) (stack : List Frame) (left : Rest → Rest) (d : Cell) (after : ℕ) → IsAtCell cells place stack left → get_or cells place d ≡ cell.Delayed after
+      → (place + 1 < length cells) × (word : ℕ) × ((d2 : Cell) → get_or cells (place + 1) d2 ≡ cell.Factor word)
   factor_next place stack left d after st e =
       let i = met cells place stack left d (cell.Delayed after) st e in
       let r = drop_head cells (place + 1) _ _ i.5 in
       (r.0, i.0, r.1)
 
-  pub turn_fixed : (place : ℕ) (stack : List Frame) (left : Rest → Rest) (d : Cell) (count after next : ℕ) (stack' : List Frame) (s : OperatorModel) (f : S) (c c' : ℕ) → IsAtCell cells place stack left → get_or cells place d ≡ cell.Fixed count after
+  pub turn_fixed : (place : ℕ) (stack : List Frame) (left : Rest → Rest) (d : Cell) (count after next : ℕ) (stack' : List Frame) (s : OperatorModel) (f : S) (c c' : ℕ)
+      → IsAtCell cells place stack left → get_or cells place d ≡ cell.Fixed count after
       → (count ≡ 0 → (next ≡ after) × (stack' ≡ stack)) → (0 < count → (next ≡ place + 1) × (stack' ≡ stack ++ record { start = place + 1; after = after; left = count - 1 } ∷ []))
       → c' ≡ ticked c 1 → Turned takes table cells left place stack s f c (Ok (Some next)) stack' s f c'
   turn_fixed place stack left d count after next stack' s f c c' st e none some tick =
@@ -554,18 +638,22 @@ module _ {S E : Type 0} (takes : S → FieldSpec → Result Taken E → S → Ty
       let body : Tree = i.0 in
       let m : Tree = i.1 in
       let at : IsAtNodes cells place stack left (fixed count body m) st.1 = moved place stack left st _ i.2 in
-      let h1 : drop (place + 1) cells ≡ cells_of body (place + 1) (cell.PassEnd ∷ cells_of m after (tail_of st.1)) = subst (λ a. drop (place + 1) cells ≡ cells_of body (place + 1) (cell.PassEnd ∷ cells_of m a (tail_of st.1))) (sym i.3) i.4 in
-      let h2 : drop after cells ≡ cells_of m after (tail_of st.1) = past_body (place + 1) after body m (tail_of st.1) (i.3 ∙ (let q : place + 2 + size body ≡ place + 1 + (size body + 1) = omega arith in q)) h1 in
+      let h1 : drop (place + 1) cells ≡ cells_of body (place + 1) (cell.PassEnd ∷ cells_of m after (tail_of st.1)) =
+      subst (λ a. drop (place + 1) cells ≡ cells_of body (place + 1) (cell.PassEnd ∷ cells_of m a (tail_of st.1))) (sym i.3) i.4 in
+      let h2 : drop after cells ≡ cells_of m after (tail_of st.1) =
+      past_body (place + 1) after body m (tail_of st.1) (i.3 ∙ (let q : place + 2 + size body ≡ place + 1 + (size body + 1) = omega arith in q)) h1 in
       let en = entered cells count body m st.1 (place + 1) after next stack stack' none some at.frames h1 h2 (omega (arith, at.deep)) (omega (arith, at.deep)) at.legal.0 at.legal.1 at.outer in (
         en.0,
         en.1,
         came_then takes table (came_none takes table left (λ k. unroll (fixed count body m) (turns_after_pass st.1 k)) s f c at.left_is)
-            (came_then takes table (came_turn takes table (λ k. unroll (fixed count body m) (turns_after_pass st.1 k)) (λ k. passes count (unroll body) (unroll m (turns_after_pass st.1 k))) s f c c' tick (λ rest counts items. refl))
+            (came_then takes table (came_turn takes table (λ k. unroll (fixed count body m) (turns_after_pass st.1 k)) (λ k. passes count (unroll body) (unroll m (turns_after_pass st.1 k))) s f c c'
+            tick (λ rest counts items. refl))
             (came_none takes table (λ k. passes count (unroll body) (unroll m (turns_after_pass st.1 k))) en.0 s f c' en.2)),
         omega (arith, en.3, cost_here cells place (fixed count body m) st.1 at.here),
       )
 
-  pub turn_delayed : (place : ℕ) (stack : List Frame) (left : Rest → Rest) (d d2 : Cell) (after count next fxy : ℕ) (stack' : List Frame) (s s' : OperatorModel) (f f' : S) (c c' c'' : ℕ) (r : Result FieldSpec TurnRefusal) (t : Taken) → IsAtCell cells place stack left → get_or cells place d ≡ cell.Delayed after → get_or cells (place + 1) d2 ≡ cell.Factor fxy
+  pub turn_delayed : (place : ℕ) (stack : List Frame) (left : Rest → Rest) (d d2 : Cell) (after count next fxy : ℕ) (stack' : List Frame) (s s' : OperatorModel) (f f' : S) (c c' c'' : ℕ)
+      (r : Result FieldSpec TurnRefusal) (t : Taken) → IsAtCell cells place stack left → get_or cells place d ≡ cell.Delayed after → get_or cells (place + 1) d2 ≡ cell.Factor fxy
       → r ≡ factor_spec table s fxy → TakesField takes r f (Ok t) f' → t ≡ taken.Count count → s' ≡ after_field s fxy t → count ≤ 2 ^ 64
       → (count ≡ 0 → (next ≡ after) × (stack' ≡ stack)) → (0 < count → (next ≡ place + 2) × (stack' ≡ stack ++ record { start = place + 2; after = after; left = count - 1 } ∷ []))
       → c' ≡ ticked c 1 → c'' ≡ ticked c' 1 → Turned takes table cells left place stack s f c (Ok (Some next)) stack' s' f' c''
@@ -576,21 +664,25 @@ module _ {S E : Type 0} (takes : S → FieldSpec → Result Taken E → S → Ty
       let head = drop_head cells (place + 1) _ _ i.5 in
       let same : i.0 ≡ fxy = let q : ◌≡◌ {A = Cell} (cell.Factor i.0) (cell.Factor fxy) = sym (head.1 d2) ∙ e2 in cc in
       let at : IsAtNodes cells place stack left (delayed fxy body m) st.1 = moved place stack left st _ (i.3 ∙ ap (λ w. delayed w body m) same) in
-      let h1 : drop (place + 2) cells ≡ cells_of body (place + 2) (cell.PassEnd ∷ cells_of m after (tail_of st.1)) = ap (λ j. drop j cells) (let q : place + 2 ≡ place + 1 + 1 = omega arith in q) ∙ head.2 ∙ ap (λ a. cells_of body (place + 2) (cell.PassEnd ∷ cells_of m a (tail_of st.1))) (sym i.4) in
-      let h2 : drop after cells ≡ cells_of m after (tail_of st.1) = past_body (place + 2) after body m (tail_of st.1) (i.4 ∙ (let q : place + 3 + size body ≡ place + 2 + (size body + 1) = omega arith in q)) h1 in
+      let h1 : drop (place + 2) cells ≡ cells_of body (place + 2) (cell.PassEnd ∷ cells_of m after (tail_of st.1)) =
+      ap (λ j. drop j cells) (let q : place + 2 ≡ place + 1 + 1 = omega arith in q) ∙ head.2 ∙ ap (λ a. cells_of body (place + 2) (cell.PassEnd ∷ cells_of m a (tail_of st.1))) (sym i.4) in
+      let h2 : drop after cells ≡ cells_of m after (tail_of st.1) =
+      past_body (place + 2) after body m (tail_of st.1) (i.4 ∙ (let q : place + 3 + size body ≡ place + 2 + (size body + 1) = omega arith in q)) h1 in
       let en = entered cells count body m st.1 (place + 2) after next stack stack' none some at.frames h1 h2 (omega (arith, at.deep)) (omega (arith, at.deep)) at.legal.1.0 at.legal.1.1 at.outer in
       let set : s' ≡ after_field s fxy (taken.Count count) = answers ∙ ap (after_field s fxy) is in (
         en.0,
         en.1,
         came_then takes table (came_none takes table left (λ k. unroll (delayed fxy body m) (turns_after_pass st.1 k)) s f c at.left_is)
             (came_then takes table
-            (subst (λ z. HasWalked takes table (λ k. unroll (delayed fxy body m) (turns_after_pass st.1 k)) (λ k. passes count (unroll body) (unroll m (turns_after_pass st.1 k))) s f c z f' c'') (sym set)
+            (subst (λ z. HasWalked takes table (λ k. unroll (delayed fxy body m) (turns_after_pass st.1 k)) (λ k. passes count (unroll body) (unroll m (turns_after_pass st.1 k))) s f c z f' c'')
+            (sym set)
             (came_factor takes table fxy body m s f c r count f' c'' spec (subst (λ u. TakesField takes r f (Ok u) f') is took) (tock ∙ ap (λ j. ticked j 1) tick) (turns_after_pass st.1)))
             (came_none takes table (λ k. passes count (unroll body) (unroll m (turns_after_pass st.1 k))) en.0 s' f' c'' en.2)),
         omega (arith, en.3, cost_here cells place (delayed fxy body m) st.1 at.here, mul-le-mul_right (1 + worst body) most),
       )
 
-  pub fail_delayed : (place : ℕ) (stack : List Frame) (left : Rest → Rest) (d d2 : Cell) (after fxy : ℕ) (s : OperatorModel) (f f' : S) (c c' c'' : ℕ) (r : Result FieldSpec TurnRefusal) (why : WalkStop E) → IsAtCell cells place stack left → get_or cells place d ≡ cell.Delayed after → get_or cells (place + 1) d2 ≡ cell.Factor fxy
+  pub fail_delayed : (place : ℕ) (stack : List Frame) (left : Rest → Rest) (d d2 : Cell) (after fxy : ℕ) (s : OperatorModel) (f f' : S) (c c' c'' : ℕ) (r : Result FieldSpec TurnRefusal)
+      (why : WalkStop E) → IsAtCell cells place stack left → get_or cells place d ≡ cell.Delayed after → get_or cells (place + 1) d2 ≡ cell.Factor fxy
       → r ≡ factor_spec table s fxy → TakesField takes r f (Err why) f' → c' ≡ ticked c 1 → c'' ≡ ticked c' 1 → StopsIn takes table left s f c why f' c''
   fail_delayed place stack left d d2 after fxy s f f' c c' c'' r why st e e2 spec took tick tock =
       let i = met cells place stack left d (cell.Delayed after) st e in
@@ -600,14 +692,17 @@ module _ {S E : Type 0} (takes : S → FieldSpec → Result Taken E → S → Ty
       came_stops takes table why (came_none takes table left (λ k. unroll (delayed fxy i.1 i.2) (turns_after_pass st.1 k)) s f c at.left_is)
       (stops_factor takes table fxy i.1 i.2 s f c r why f' c'' spec took (tock ∙ ap (λ j. ticked j 1) tick) (turns_after_pass st.1))
 
-  pub pass_end_open : (place : ℕ) (stack : List Frame) (left : Rest → Rest) (d : Cell) → IsAtCell cells place stack left → get_or cells place d ≡ cell.PassEnd → (0 < length stack) × (length stack ≤ 32)
+  pub pass_end_open : (place : ℕ) (stack : List Frame) (left : Rest → Rest) (d : Cell) → IsAtCell cells place stack left → get_or cells place d ≡ cell.PassEnd
+      → (0 < length stack) × (length stack ≤ 32)
   pass_end_open place stack left d st e =
       let i = met cells place stack left d cell.PassEnd st e in
       let more : length st.1 ≡ length (i.0 ∷ i.1) = ap length i.2 in
       (omega (arith, more, stack_length place stack left st), omega (arith, st.2.deep, stack_length place stack left st))
 
-  pub turn_pass_end : (place : ℕ) (stack : List Frame) (left : Rest → Rest) (d : Cell) (frame : Frame) (stack1 stack' : List Frame) (next : ℕ) (s : OperatorModel) (f : S) (c c' : ℕ) → IsAtCell cells place stack left → get_or cells place d ≡ cell.PassEnd → stack ≡ stack1 ++ frame ∷ []
-      → (frame.left ≡ 0 → (next ≡ frame.after) × (stack' ≡ stack1)) → (0 < frame.left → (next ≡ frame.start) × (stack' ≡ stack1 ++ record { start = frame.start; after = frame.after; left = frame.left - 1 } ∷ []))
+  pub turn_pass_end : (place : ℕ) (stack : List Frame) (left : Rest → Rest) (d : Cell) (frame : Frame) (stack1 stack' : List Frame) (next : ℕ) (s : OperatorModel) (f : S) (c c' : ℕ)
+      → IsAtCell cells place stack left → get_or cells place d ≡ cell.PassEnd → stack ≡ stack1 ++ frame ∷ []
+      → (frame.left ≡ 0 → (next ≡ frame.after) × (stack' ≡ stack1))
+      → (0 < frame.left → (next ≡ frame.start) × (stack' ≡ stack1 ++ record { start = frame.start; after = frame.after; left = frame.left - 1 } ∷ []))
       → c' ≡ ticked c 1 → Turned takes table cells left place stack s f c (Ok (Some next)) stack' s f c'
   turn_pass_end place stack left d frame stack1 stack' next s f c c' st e popped none some tick =
       let i = met cells place stack left d cell.PassEnd st e in
@@ -623,12 +718,22 @@ module _ {S E : Type 0} (takes : S → FieldSpec → Result Taken E → S → Ty
         en.0,
         en.1,
         came_then takes table (came_none takes table left (λ k. turns_after_pass (g ∷ outer) k) s f c at.left_is)
-            (came_then takes table (came_turn takes table (λ k. turns_after_pass (g ∷ outer) k) (λ k. passes g.frame.left (unroll g.body) (unroll g.more (turns_after_pass outer k))) s f c c' tick (λ rest counts items. refl))
+            (came_then takes table (came_turn takes table (λ k. turns_after_pass (g ∷ outer) k) (λ k. passes g.frame.left (unroll g.body) (unroll g.more (turns_after_pass outer k))) s f c c' tick
+            (λ rest counts items. refl))
             (came_none takes table (λ k. passes g.frame.left (unroll g.body) (unroll g.more (turns_after_pass outer k))) en.0 s f c' en.2)),
-        omega (arith, en.3, cost_here cells place bare (g ∷ outer) at.here, ap (owed (costs cells 0)) (popped ∙ ap (λ w. stack1 ++ w ∷ []) last.1), owed_push (costs cells 0) stack1 g.frame, ap (λ x. g.frame.left * (1 + x)) (cost_here cells g.frame.start g.body (g ∷ outer) at.outer.0), cost_here cells g.frame.after g.more outer at.outer.1),
+        omega (
+          arith,
+          en.3,
+          cost_here cells place bare (g ∷ outer) at.here,
+          ap (owed (costs cells 0)) (popped ∙ ap (λ w. stack1 ++ w ∷ []) last.1),
+          owed_push (costs cells 0) stack1 g.frame,
+          ap (λ x. g.frame.left * (1 + x)) (cost_here cells g.frame.start g.body (g ∷ outer) at.outer.0),
+          cost_here cells g.frame.after g.more outer at.outer.1,
+        ),
       )
 
-  pub turn_finish : (place : ℕ) (stack : List Frame) (left : Rest → Rest) (d : Cell) (s : OperatorModel) (f : S) (c c' : ℕ) → IsAtCell cells place stack left → get_or cells place d ≡ cell.Finish → c' ≡ ticked c 1 → Turned takes table cells left place stack s f c (Ok None) stack s f c'
+  pub turn_finish : (place : ℕ) (stack : List Frame) (left : Rest → Rest) (d : Cell) (s : OperatorModel) (f : S) (c c' : ℕ) → IsAtCell cells place stack left → get_or cells place d ≡ cell.Finish
+      → c' ≡ ticked c 1 → Turned takes table cells left place stack s f c (Ok None) stack s f c'
   turn_finish place stack left d s f c c' st e tick =
       let i = met cells place stack left d cell.Finish st e in
       let half : IsAtNodes cells place stack left bare st.1 = moved place stack left st _ i.1 in
@@ -641,7 +746,9 @@ fits_first cells template stack h e = (template, [], record { frames = e; here =
 
 module _ {S E : Type 0} (takes : S → FieldSpec → Result Taken E → S → Type 0) (table : List Row) (cells : List Cell) where
   -- a turn that ended the walk
-  pub led_out : (template : Tree) (left : Rest → Rest) (place : ℕ) (stack : List Frame) (s : OperatorModel) (f0 f : S) (c0 c : ℕ) (o : Option ℕ) (stack' : List Frame) (s' : OperatorModel) (f' : S) (c' : ℕ) → ((next : ℕ) → o ≡ Some next → ⊥) → HasWalked takes table (unroll template) left begin f0 c0 s f c → Turned takes table cells left place stack s f c (Ok o) stack' s' f' c' → Walked takes (next_item table template) f0 c0 (Ok tt) f' c'
+  pub led_out : (template : Tree) (left : Rest → Rest) (place : ℕ) (stack : List Frame) (s : OperatorModel) (f0 f : S) (c0 c : ℕ) (o : Option ℕ) (stack' : List Frame) (s' : OperatorModel) (f' : S)
+      (c' : ℕ) → ((next : ℕ) → o ≡ Some next → ⊥) → HasWalked takes table (unroll template) left begin f0 c0 s f c → Turned takes table cells left place stack s f c (Ok o) stack' s' f' c'
+      → Walked takes (next_item table template) f0 c0 (Ok tt) f' c'
   unfolding next_item
   led_out template left place stack s f0 f c0 c (Some next) stack' s' f' c' never came t = absurd (never next refl)
   led_out template left place stack s f0 f c0 c None stack' s' f' c' never came t =
@@ -649,10 +756,12 @@ module _ {S E : Type 0} (takes : S → FieldSpec → Result Taken E → S → Ty
       (whole takes table template begin s f0 f c0 c c' (came_then takes table came (came_none takes table left (λ rest. rest) s f c t.0)) t.3)
 
   -- a turn that stopped the walk
-  pub led_off : (template : Tree) (left : Rest → Rest) (s : OperatorModel) (f0 f f' : S) (c0 c c' : ℕ) (why : WalkStop E) → HasWalked takes table (unroll template) left begin f0 c0 s f c → StopsIn takes table left s f c why f' c' → Walked takes (next_item table template) f0 c0 (Err why) f' c'
+  pub led_off : (template : Tree) (left : Rest → Rest) (s : OperatorModel) (f0 f f' : S) (c0 c c' : ℕ) (why : WalkStop E) → HasWalked takes table (unroll template) left begin f0 c0 s f c
+      → StopsIn takes table left s f c why f' c' → Walked takes (next_item table template) f0 c0 (Err why) f' c'
   unfolding next_item
   led_off template left s f0 f f' c0 c c' why came w = whole_stops takes table template begin f0 f' c0 c' why (came_stops takes table why came w)
 
   -- a walk that has made no turn
   pub came_begun : (template : Tree) (s : OperatorModel) (f : S) (c : ℕ) → s ≡ begin → HasWalked takes table (unroll template) (unroll template) begin f c s f c
-  came_begun template s f c e = subst (λ z. HasWalked takes table (unroll template) (unroll template) begin f c z f c) (sym e) (came_none takes table (unroll template) (unroll template) begin f c (λ rest counts. refl))
+  came_begun template s f c e = subst (λ z. HasWalked takes table (unroll template) (unroll template) begin f c z f c) (sym e)
+      (came_none takes table (unroll template) (unroll template) begin f c (λ rest counts. refl))

@@ -112,7 +112,7 @@ is_plain_number _ width r listed = false
 abbrev pub is_plain : FieldSpec → Bool
 is_plain a = not (is_character a.kind) && is_plain_number a.role a.width a.reference a.listed
 
--- the same, part by part
+-- a field is a plain number, part by part
 pub record IsPlainNumber (a : FieldSpec) : Type 0 where
   pub kind : is_character a.kind ≡ false
   pub role : a.role ≡ role.Element
@@ -247,7 +247,7 @@ abbrev pub kind_step : Kind → ℕ → ℕ
 kind_step kind.Character k = 8 * k
 kind_step _ k = k
 
--- the same by role
+-- how many bits each subset has after the base and k, by role
 abbrev pub increment_bits_of : Role → Kind → ℕ → ℕ
 increment_bits_of role.Reference kind k = 0
 increment_bits_of _ kind k = kind_step kind k
@@ -262,7 +262,7 @@ is_missing spec base = are_all_ones base && spec.may_be_missing
 abbrev pub stays_within : (may_be_missing : Bool) (width base k increment : ℕ) → Bool
 stays_within m width base k i = (m && (i == ones k)) || not (nat_lt (ones width) (base + i))
 
--- the same of all increments
+-- whether each increment is missing, or its sum with the base fits the width
 abbrev pub all_within : (may_be_missing : Bool) (width base k subsets : ℕ) → List Bool → Bool
 all_within m width base k n bits =
     list_all (λ i. stays_within m width base k (number_of i)) (increments n k bits)
@@ -279,7 +279,7 @@ abbrev pub are_increments_valid_by : Kind → FieldSpec → (k n : ℕ) → (bas
 are_increments_valid_by kind.Character spec k n base suffix = not (nat_lt (spec.width / 8) k)
 are_increments_valid_by _ spec k n base suffix = are_number_increments_valid spec k n base suffix
 
--- the same by role: a redefined reference has no increments
+-- whether the increments of an item are valid, by role: a redefined reference has none
 -- rule: compressed-references
 abbrev pub are_increments_valid : Role → FieldSpec → (k n : ℕ) → (base suffix : List Bool) → Bool
 are_increments_valid role.Reference spec k n base suffix = false

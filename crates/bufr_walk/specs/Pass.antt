@@ -7,7 +7,7 @@ use Rattle.bufr_walk.specs.Content.{Taken, FieldSpec, Content, FieldFault, Field
 use Rattle.bufr_walk.specs.Rules.{TurnRefusal}
 use Rattle.bufr_walk.specs.Course.{Course, Next, take_next, at_end, astray, refused, ticked, next_item}
 use Rattle.bufr_walk.specs.declared.fault.WalkFault.TheVariants as fault
-use Rattle.bufr_walk.specs.Reading.{DataCoding, plain, packed, would_be_many, Data, Stop, walk_stop, too_many, field_stop, WalkFault, walk_fault_of, Item, Values, apart, together, Read, course_of, Timed, calls_by, turns_by, next_after, turns_after, items_at_once, stop_at, ReadsItems}
+use Rattle.bufr_walk.specs.Reading.{DataCoding, plain, packed, would_be_many, Data, Stop, walk_stop, too_many, field_stop, WalkFault, walk_fault_of, Item, Values, apart, together, Read, course_of, Timed, calls_for, turns_for, next_after, turns_after, items_at_once, stop_at, ReadsItems}
 use Rattle.bufr_walk.specs.declared.spec.Role.TheVariants as role
 use Rattle.bufr_tables.specs.Prelude.{Row, Tree}
 
@@ -202,22 +202,22 @@ first_items [] = []
 first_items (items ∷ more) = items
 
 -- the items of a reading
-abbrev pub values_of : Passes → Values
-values_of (each passes) = apart (items_by_pass passes)
-values_of (all passes) = together (first_items (items_by_pass passes))
+abbrev pub values_in : Passes → Values
+values_in (each passes) = apart (items_by_pass passes)
+values_in (all passes) = together (first_items (items_by_pass passes))
 
 -- the items that were read
 abbrev pub values_read : Read → Values
-values_read r = values_of (reading_of (course_of r) r.source).passes
+values_read r = values_in (reading_of (course_of r) r.source).passes
 
 -- the calls that show a reading, and the turns of the showing
 abbrev pub calls_of : Read → List Timed
-calls_of r = calls_by r (values_read r)
+calls_of r = calls_for r (values_read r)
 
 abbrev pub turns_shown : Read → ℕ
-turns_shown r = turns_by r (values_read r)
+turns_shown r = turns_for r (values_read r)
 
--- ---- The same item by item, for a reader: each is what comes next, read where the one before ended.
+-- ---- The same item by item: each is what comes next, read where the one before ended.
 
 -- what comes next ends a pass, or stops it
 abbrev pub EndsPass : {C : Type 0} → DataCoding C → (many : Bool) → Next → List Bool → Option Stop
@@ -240,29 +240,25 @@ abbrev pub WantsMemory : (compressed : Bool) → (items : ℕ) → FieldSpec →
 WantsMemory false items spec = spec.role ≡ role.Reference
 WantsMemory true items spec = (items % items_at_once ≡ 0) ⊎ (spec.role ≡ role.Reference)
 
--- it may run out in a pass, before the field that comes next after some of its items
+-- it may run out in one of some passes, before the field that comes next after some of its items
 pub record RunsShort {C : Type 0} (form : DataCoding C) (compressed : Bool) (course : Course)
-    (p : DataPass C) (turns : ℕ) : Type 0 where
+    (passes : List (DataPass C)) (turns : ℕ) : Type 0 where
+  pub done : List (DataPass C)
+  pub here : DataPass C
+  pub later : List (DataPass C)
+  pub among : passes ≡ done ++ here ∷ later
   pub items : List (Item C)
   pub more : List (Item C)
-  pub are : p.items ≡ items ++ more
+  pub are : here.items ≡ items ++ more
   pub spec : FieldSpec
   pub next : next_after form course items ≡ take_next spec
   pub wants : WantsMemory compressed (length items) spec
-  pub turns_are : turns ≡ turns_after form course items
-
--- in one of some passes
-abbrev pub OneRunsShort : {C : Type 0} → DataCoding C → (compressed : Bool) → Course
-    → List (DataPass C) → (turns : ℕ) → Type 0
-OneRunsShort form compressed course [] turns = ⊥
-OneRunsShort form compressed course (p ∷ passes) turns =
-    RunsShort form compressed course p turns
-    ⊎ ((later : ℕ) × OneRunsShort form compressed course passes later × (turns ≡ p.turns + later))
+  pub turns_are : turns ≡ turns_in_all done + turns_after form course items
 
 -- in one of the passes of a reading
 abbrev pub MayRunShort : Course → (subsets : ℕ) → Passes → (turns : ℕ) → Type 0
-MayRunShort course n (each passes) turns = OneRunsShort plain false course passes turns
-MayRunShort course n (all passes) turns = OneRunsShort (packed n) true course passes turns
+MayRunShort course n (each passes) turns = RunsShort plain false course passes turns
+MayRunShort course n (all passes) turns = RunsShort (packed n) true course passes turns
 
 -- ---- What a call that reads answers.
 

@@ -4,7 +4,7 @@
 use Rattle.std.specs.Prelude.{ℕ, ◌≡◌, ◌≤◌, ◌+◌, Bool, List, drop, Result, Ok, Err, ◌++◌, ◌<◌, ◌*◌, ◌%◌, ◌==◌, ◌&&◌, ◌||◌, true, false, [], ◌∷◌, length, take, ◌/◌, ◌-◌, map, get_or}
 use Rattle.bufr_walk.specs.Content.{Taken, FieldSpec, Content, answer_of, plain_field, found, data_end, FieldFault, increment, unequal_factor, FieldRead, packed_field, answer_first}
 use Rattle.bufr_walk.specs.Reading.{WalkFault, spot, Item, plain, turns_after, ReadsPass, Read, course_of, max_values, items_at_once, Data, Values, apart, together, IsReading, ShowFault, Call, item_call, view_of, Timed, item_calls, Shows, content_at}
-use Rattle.bufr_walk.specs.Pass.{reading_of, values_of, values_read}
+use Rattle.bufr_walk.specs.Pass.{reading_of, values_in, values_read}
 use Rattle.bufr_walk.specs.Course.{WalkStop, Course, ticked}
 use Rattle.bufr_walk.specs.declared.walker.WalkStop.TheVariants as stops
 use Rattle.bufr_walk.specs.declared.fault.WalkFault.TheVariants as fault
@@ -296,7 +296,7 @@ PaysBits (together items) used = Unit {0}
 -- data were read, and each item of one subset took at least a bit
 abbrev pub IsReadAndPaid : Course → Data → (used : ℕ) → Type 0
 IsReadAndPaid course d used =
-    let values = values_of (reading_of course d).passes in
+    let values = values_in (reading_of course d).passes in
     IsReading course d values used × PaysBits values used
 
 -- a reading, and what is kept of it: each item that is kept took at least 7 bits

@@ -302,9 +302,9 @@ compressed_subset_calls table (suc n) j items =
     ++ compressed_subset_calls table n (j + 1) items
 
 -- the calls that show a reading
-abbrev pub calls_by : Read → Values → List Timed
-calls_by r (apart subsets) = subset_calls r.table (course_of r) 0 1 subsets
-calls_by r (together items) = compressed_subset_calls r.table r.source.subsets 0 items
+abbrev pub calls_for : Read → Values → List Timed
+calls_for r (apart subsets) = subset_calls r.table (course_of r) 0 1 subsets
+calls_for r (together items) = compressed_subset_calls r.table r.source.subsets 0 items
 
 -- 1 for a call of an item, 0 for one of a subset
 abbrev pub item_or_not : Call → ℕ
@@ -317,9 +317,9 @@ items_called [] = 0
 items_called (t ∷ calls) = item_or_not t.call + items_called calls
 
 -- the turns of a showing; one of compressed data takes none
-abbrev pub turns_by : Read → Values → ℕ
-turns_by r (apart subsets) = turns_in (course_of r) subsets
-turns_by r (together items) = 0
+abbrev pub turns_for : Read → Values → ℕ
+turns_for r (apart subsets) = turns_in (course_of r) subsets
+turns_for r (together items) = 0
 
 -- ---- Calls of a visitor, one after another, up to the first fault, with the turns made for them.
 

@@ -212,7 +212,7 @@ abbrev pub factor_field : Row → ℕ → FieldSpec
 factor_field row fxy = record (coded_spec begin row)
     { fxy = fxy; role = role.Factor; kind = kind.Numeric; may_be_missing = false }
 
--- such a factor, or the refusal of its width
+-- the factor of a delayed replication by its row, or the refusal of its width
 abbrev pub factor_by : Option Row → ℕ → Result FieldSpec TurnRefusal
 factor_by None fxy = Err (refusal.Width fxy)
 factor_by (Some row) fxy = if_valid_width (factor_field row fxy)
@@ -284,7 +284,7 @@ abbrev pub descriptor_of : TableField → ℕ
 descriptor_of (field.Element fxy) = fxy
 descriptor_of (field.Factor fxy) = fxy
 
--- its word in the key
+-- the word of a field in the key of the cache
 abbrev pub key_word : TableField → ℕ
 key_word (field.Element fxy) = fxy
 key_word (field.Factor fxy) = fxy + 65536

@@ -2,7 +2,7 @@
 //! ended.
 ghost use Rattle.std.specs.Prelude.{◌≡◌, ◌≤◌, ℕ, List, Bool, None, false, drop};
 ghost use Rattle.bufr_tables.specs.Prelude.{IsLegal, Record, Row, AreRows, Tree};
-ghost use Rattle.bufr_walk.specs.Prelude.{next_item, Data, Values, IsReading, Taken, FieldSpec, AreWithin, IsField, take_next, reading_of, values_of, read_pass, ReadsTo, plain, packed, would_be_many, turns_after};
+ghost use Rattle.bufr_walk.specs.Prelude.{next_item, Data, Values, IsReading, Taken, FieldSpec, AreWithin, IsField, take_next, reading_of, values_in, read_pass, ReadsTo, plain, packed, would_be_many, turns_after};
 
 /// Law: by each template of legal nodes and each Table B, a pass over any bits reads item by item.
 /// Each item is what comes next, and is read where the one before it ended. Then the template ends,
@@ -24,11 +24,11 @@ pub fn data_are_read_item_by_item()
         → AreRows records table → IsLegal template
         → (v : Values) (used : ℕ) → IsReading (next_item table template) d v used
         → let r = reading_of (next_item table template) d in
-        (r.stop ≡ None) × (values_of r.passes ≡ v) × (r.left ≡ drop used d.bits) }
+        (r.stop ≡ None) × (values_in r.passes ≡ v) × (r.left ≡ drop used d.bits) }
     ensures only_read { (records : List Record) (table : List Row) (template : Tree) (d : Data)
         → AreRows records table → IsLegal template
         → let r = reading_of (next_item table template) d in r.stop ≡ None
-        → (used : ℕ) × IsReading (next_item table template) d (values_of r.passes) used
+        → (used : ℕ) × IsReading (next_item table template) d (values_in r.passes) used
         × (r.left ≡ drop used d.bits) }
 {}
 

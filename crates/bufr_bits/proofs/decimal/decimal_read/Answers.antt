@@ -10,7 +10,11 @@ returns-in_default c = read_syntax c.args.text.now _ c.args.scale c.without_sign
 pub returns-in_err-number : goal.returns-in_err-number
 returns-in_err-number c =
     let passed = err_from_is_err_and c.from_residual.result c.from_residual.ensures.1 in
-    read_fault c.args.text.now _ c.in-Some.whole.now c.in-Some.fraction.now c.args.scale _ _ c.in_err-number.field-0.0 _ c.without_sign-negative.ensures.body c.in-Some.ensures (c.powers_of-up.ensures.up ∙ ap positive_scale (to_z-of_z c.ranges.scale)) (c.powers_of-up.ensures.down ∙ ap negative_scale (to_z-of_z c.ranges.scale)) c.in_err-number.ensures (passed.1 ∙ ap Err passed.2)
+    read_fault c.args.text.now _ c.in-Some.whole.now c.in-Some.fraction.now c.args.scale _ _ c.in_err-number.field-0.0 _ c.without_sign-negative.ensures.body c.in-Some.ensures
+    (c.powers_of-up.ensures.up ∙ ap positive_scale (to_z-of_z c.ranges.scale)) (c.powers_of-up.ensures.down ∙ ap negative_scale (to_z-of_z c.ranges.scale)) c.in_err-number.ensures
+    (passed.1 ∙ ap Err passed.2)
 
 pub returns : goal.returns
-returns c = read_found c.args.text.now _ c.in-Some.whole.now c.in-Some.fraction.now c.args.scale _ _ c.in_ok-number.number _ c.apply_sign.result c.without_sign-negative.ensures.body c.in-Some.ensures (c.powers_of-up.ensures.up ∙ ap positive_scale (to_z-of_z c.ranges.scale)) (c.powers_of-up.ensures.down ∙ ap negative_scale (to_z-of_z c.ranges.scale)) c.without_sign-negative.ensures.sign c.in_ok-number.ensures c.apply_sign.ensures
+returns c = read_found c.args.text.now _ c.in-Some.whole.now c.in-Some.fraction.now c.args.scale _ _ c.in_ok-number.number _ c.apply_sign.result c.without_sign-negative.ensures.body c.in-Some.ensures
+    (c.powers_of-up.ensures.up ∙ ap positive_scale (to_z-of_z c.ranges.scale)) (c.powers_of-up.ensures.down ∙ ap negative_scale (to_z-of_z c.ranges.scale)) c.without_sign-negative.ensures.sign
+    c.in_ok-number.ensures c.apply_sign.ensures

@@ -7,7 +7,8 @@ pub returns-then-not-are_zeros : goal.returns-then-not-are_zeros
 returns-then-not-are_zeros c =
     let whole = c.args.whole.now in
     let fraction = c.args.fraction.now in
-    let kept = are_kept whole fraction c.args.up c.args.down _ _ _ _ _ _ c.saturating_sub.ensures c.min.ensures c.split_at.ensures.front c.split_at.ensures.back c.split_at-2.ensures.front c.split_at-2.ensures.back in
+    let kept = are_kept whole fraction c.args.up c.args.down _ _ _ _ _ _ c.saturating_sub.ensures c.min.ensures c.split_at.ensures.front c.split_at.ensures.back c.split_at-2.ensures.front
+    c.split_at-2.ensures.back in
     let no_zeros = sym c.are_zeros.ensures ∙ c.if-not-are_zeros.true in
     answer_inexact whole fraction c.args.up c.args.down _ _ _ _ c.requires.whole c.requires.fraction c.requires.one kept (rw no_zeros refl)
 
@@ -15,7 +16,8 @@ pub returns-then-not-are_zeros-2 : goal.returns-then-not-are_zeros-2
 returns-then-not-are_zeros-2 c =
     let whole = c.args.whole.now in
     let fraction = c.args.fraction.now in
-    let kept = are_kept whole fraction c.args.up c.args.down _ _ _ _ _ _ c.saturating_sub.ensures c.min.ensures c.split_at.ensures.front c.split_at.ensures.back c.split_at-2.ensures.front c.split_at-2.ensures.back in
+    let kept = are_kept whole fraction c.args.up c.args.down _ _ _ _ _ _ c.saturating_sub.ensures c.min.ensures c.split_at.ensures.front c.split_at.ensures.back c.split_at-2.ensures.front
+    c.split_at-2.ensures.back in
     let no_zeros = sym c.are_zeros-2.ensures ∙ c.if-not-are_zeros-2.true in
     answer_inexact whole fraction c.args.up c.args.down _ _ _ _ c.requires.whole c.requires.fraction c.requires.one kept (rw no_zeros (and_false _))
 
@@ -23,7 +25,8 @@ pub returns : goal.returns
 returns c =
     let whole = c.args.whole.now in
     let fraction = c.args.fraction.now in
-    let kept = are_kept whole fraction c.args.up c.args.down _ _ _ _ _ _ c.saturating_sub.ensures c.min.ensures c.split_at.ensures.front c.split_at.ensures.back c.split_at-2.ensures.front c.split_at-2.ensures.back in
+    let kept = are_kept whole fraction c.args.up c.args.down _ _ _ _ _ _ c.saturating_sub.ensures c.min.ensures c.split_at.ensures.front c.split_at.ensures.back c.split_at-2.ensures.front
+    c.split_at-2.ensures.back in
     let zero_cut = sym c.are_zeros.ensures ∙ c.if-not-are_zeros.false in
     let zero_left = sym c.are_zeros-2.ensures ∙ c.if-not-are_zeros-2.false in
     let prefix = c.split_at-2.ensures.front_len in

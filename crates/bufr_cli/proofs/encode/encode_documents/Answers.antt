@@ -23,14 +23,17 @@ pub returns-in_err-next-clause-run : goal.returns-in_err-next-clause-run
 returns-in_err-next-clause-run g c =
     let p = err_from_is_err_and c.from_residual.result c.from_residual.ensures.1 in
     let handed = c.read_document.ensures.handed in
-    stop-encode-read _ _ _ _ _ _ _ _ _ _ _ _ _ _ c.loop-reader.reader c.read_document.new.reader c.loop-reader.tally _ _ _ c.from_residual.result c.loop-reader.invariant.ran handed.output handed.errors
+    stop-encode-read _ _ _ _ _ _ _ _ _ _ _ _ _ _ c.loop-reader.reader c.read_document.new.reader c.loop-reader.tally _ _ _ c.from_residual.result c.loop-reader.invariant.ran handed.output
+    handed.errors
     (rw c.in_err-next.was at c.read_document.ensures.open) (rw c.in_err-next.was at handed.fault) (p.1 ∙ ap Err p.2)
 
 pub returns-in_err-next-clause-reads : goal.returns-in_err-next-clause-reads
 returns-in_err-next-clause-reads g c =
     let p = err_from_is_err_and c.from_residual.result c.from_residual.ensures.1 in
     let write = rw c.in_err-next.was at c.read_document.ensures.handed.fault in
-    reads-made _ _ c.read_document.new.reader c.from_residual.result (counts-then _ _ _ new_reader c.loop-reader.reader c.read_document.new.reader c.loop-reader.invariant.ran.counts c.read_document.ensures.counts) (λ long. let same = p.1 ∙ ap Err (p.2 ∙ write) in cc)
+    reads-made _ _ c.read_document.new.reader c.from_residual.result
+    (counts-then _ _ _ new_reader c.loop-reader.reader c.read_document.new.reader c.loop-reader.invariant.ran.counts c.read_document.ensures.counts)
+    (λ long. let same = p.1 ∙ ap Err (p.2 ∙ write) in cc)
 
 pub returns-in_err-verdict-clause-run : goal.returns-in_err-verdict-clause-run
 returns-in_err-verdict-clause-run g c =
@@ -39,9 +42,14 @@ returns-in_err-verdict-clause-run g c =
     let handed = c.read_document.ensures.handed in
     let none = rw c.in_ok-next.was at handed.none in
     let ran = ran-kept _ _ _ _ _ _ _ _ _ _ _ _ _ _ _ handed.output handed.errors c.loop-reader.invariant.ran in
-    let stopped = stops _ _ _ _ _ _ _ _ _ _ _ _ _ _ _ _ _ ran (rw c.in_ok-next.was at c.read_document.ensures.next) c.read_document.ensures.counts _ _ c.encode_next.result _ c.from_residual-in_err-verdict.result
+    let stopped = stops _ _ _ _ _ _ _ _ _ _ _ _ _ _ _ _ _ ran (rw c.in_ok-next.was at c.read_document.ensures.next) c.read_document.ensures.counts _ _ c.encode_next.result _
+    c.from_residual-in_err-verdict.result
     reports c.in_err-verdict.was (p.1 ∙ ap Err p.2) in
-    stays-unflushed _ _ _ _ _ _ _ _ _ (c.encode_next.ensures.output_flushes ∙ none.0 ∙ c.loop-reader.invariant.output_flushes, c.encode_next.ensures.errors_flushes ∙ none.1 ∙ c.loop-reader.invariant.errors_flushes) c.from_residual-in_err-verdict.result _ c.from_residual-in_err-verdict.result (p.1 ∙ ap Err p.2) (p.1 ∙ ap Err p.2) stopped
+    stays-unflushed _ _ _ _ _ _ _ _ _ (
+      c.encode_next.ensures.output_flushes ∙ none.0 ∙ c.loop-reader.invariant.output_flushes,
+      c.encode_next.ensures.errors_flushes ∙ none.1 ∙ c.loop-reader.invariant.errors_flushes,
+    ) c.from_residual-in_err-verdict.result _ c.from_residual-in_err-verdict.result (p.1 ∙ ap Err p.2)
+    (p.1 ∙ ap Err p.2) stopped
 
 pub returns-in_err-verdict-clause-flushed : goal.returns-in_err-verdict-clause-flushed
 returns-in_err-verdict-clause-flushed g c = λ read.
@@ -58,7 +66,8 @@ returns-in_err-verdict-clause-reads g c =
     let p = err_from_is_err_and c.from_residual-in_err-verdict.result c.from_residual-in_err-verdict.ensures.1 in
     let handed = c.read_document.ensures.handed in
     let ran = ran-kept _ _ _ _ _ _ _ _ _ _ _ _ _ _ _ handed.output handed.errors c.loop-reader.invariant.ran in
-    reads-made _ _ c.read_document.new.reader c.from_residual-in_err-verdict.result (counts-then _ _ _ new_reader c.loop-reader.reader c.read_document.new.reader ran.counts c.read_document.ensures.counts)
+    reads-made _ _ c.read_document.new.reader c.from_residual-in_err-verdict.result
+    (counts-then _ _ _ new_reader c.loop-reader.reader c.read_document.new.reader ran.counts c.read_document.ensures.counts)
     (stop-reads _ _ _ c.read_document.new.reader _ _ _ _ _ c.in_ok-next.next c.encode_next.result _ c.from_residual-in_err-verdict.result (rw c.in_ok-next.was at c.read_document.ensures.next)
     reports c.in_err-verdict.was (p.1 ∙ ap Err p.2))
 
@@ -72,7 +81,8 @@ returns-in_default-clause-run g c =
 
 pub returns-in_default-clause-reads : goal.returns-in_default-clause-reads
 returns-in_default-clause-reads g c =
-    reads-made _ _ c.read_document.new.reader _ (counts-then _ _ _ new_reader c.loop-reader.reader c.read_document.new.reader c.loop-reader.invariant.ran.counts c.read_document.ensures.counts) (λ long. cc)
+    reads-made _ _ c.read_document.new.reader _ (counts-then _ _ _ new_reader c.loop-reader.reader c.read_document.new.reader c.loop-reader.invariant.ran.counts c.read_document.ensures.counts)
+    (λ long. cc)
 
 pub count-requires : goal.count-requires
 count-requires g c = record { few = ran-few _ _ _ _ _ _ _ _ _ _ _ _ _ c.loop-reader.invariant.ran }
@@ -87,7 +97,8 @@ returns-in-Refused-clause-run g c =
 
 pub returns-in-Refused-clause-reads : goal.returns-in-Refused-clause-reads
 returns-in-Refused-clause-reads g c =
-    reads-made _ _ c.read_document.new.reader _ (counts-then _ _ _ new_reader c.loop-reader.reader c.read_document.new.reader c.loop-reader.invariant.ran.counts c.read_document.ensures.counts) (λ long. cc)
+    reads-made _ _ c.read_document.new.reader _ (counts-then _ _ _ new_reader c.loop-reader.reader c.read_document.new.reader c.loop-reader.invariant.ran.counts c.read_document.ensures.counts)
+    (λ long. cc)
 
 pub loop-reader-smaller : goal.loop-reader-smaller
 loop-reader-smaller g c = falls _ _ (2 ^ 63) (ran-few _ _ _ _ _ _ _ _ _ _ _ _ _ c.loop-reader.invariant.ran) c.count.ensures.one
@@ -102,7 +113,8 @@ loop-reader-preserved g c =
     let none = rw c.in_ok-next.was at handed.none in
     let stays = rw c.in_ok-next.was at handed.counts in
     let ran = ran-kept _ _ _ _ _ _ _ _ _ _ _ _ _ _ _ handed.output handed.errors before.ran in record {
-      ran = ran-by-equal _ _ _ _ _ _ _ _ _ _ _ _ _ _ c.encode_next.ensures.reader (turn-on _ _ _ _ _ _ _ _ _ _ _ _ _ _ _ _ _ ran (rw c.in_ok-next.was at c.read_document.ensures.next) c.read_document.ensures.counts _ _ c.encode_next.result c.in-Some.verdict _
+      ran = ran-by-equal _ _ _ _ _ _ _ _ _ _ _ _ _ _ c.encode_next.ensures.reader
+          (turn-on _ _ _ _ _ _ _ _ _ _ _ _ _ _ _ _ _ ran (rw c.in_ok-next.was at c.read_document.ensures.next) c.read_document.ensures.counts _ _ c.encode_next.result c.in-Some.verdict _
           reports is c.in_default-verdict.not-Refused c.count.ensures.value);
       form = c.encode_next.ensures.form ∙ before.form;
       table_b = c.encode_next.ensures.table_b ∙ before.table_b;

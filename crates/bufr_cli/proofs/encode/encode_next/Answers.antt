@@ -48,7 +48,8 @@ returns-in_err-write_document_fault-in-Err-encode_by-clause-reports g c =
     let p = err_from_is_err_and residual.result residual.ensures.1 in
     let told = is-reported c.in-Err-encode_by.fault (search rules) in
     let from : piece ≡ OnErrors (refusal_line told.0.line told.0.why) = ap encoded (rw told.1 at c.in-Err-encode_by.ensures.fault) in
-    let cut = line-stopped (g.W.Sink.taken c.args.w.now) _ _ _ c.write_document_fault.result why (Err why) piece from (rw told.1 at c.write_document_fault.ensures.writes) c.in_err-write_document_fault-in-Err-encode_by.was refl in
+    let cut = line-stopped (g.W.Sink.taken c.args.w.now) _ _ _ c.write_document_fault.result why (Err why) piece from (rw told.1 at c.write_document_fault.ensures.writes)
+    c.in_err-write_document_fault-in-Err-encode_by.was refl in
     let stops : StopsPiece true (Err why) = search rules in
     next-stopped _ _ _ _ _ c.args.next _ (Err why) _ residual.result is cut stops refl (p.1 ∙ ap Err p.2)
 

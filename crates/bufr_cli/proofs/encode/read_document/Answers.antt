@@ -34,7 +34,11 @@ returns-in_err-hand_on_before_read-clause-open g c =
     let p = err_from_is_err_and c.from_residual.result c.from_residual.ensures.1 in
     let needs = rw (none-unless c.next_held.result c.in_default.not-Some) at c.next_held.ensures.gives before.sound in
     let s = c.next_held.new.self in
-    rw (p.1 ∙ ap Err p.2) (before.octets, call-needs _ _ c.args.reader.now c.loop-next.reader s before.octets before.call needs, (needs.going, nothing-yet s.at s.place s.held s.ended needs.none needs.short, needs.none))
+    rw (p.1 ∙ ap Err p.2) (
+      before.octets,
+      call-needs _ _ c.args.reader.now c.loop-next.reader s before.octets before.call needs,
+      (needs.going, nothing-yet s.at s.place s.held s.ended needs.none needs.short, needs.none),
+    )
 
 pub returns-in-Err-clause-next : goal.returns-in-Err-clause-next
 returns-in-Err-clause-next g c =

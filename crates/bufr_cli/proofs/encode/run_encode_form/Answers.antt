@@ -29,7 +29,8 @@ returns-in_err-hand_on g c =
     let pieces = document_pieces c.args.form c.args.table_b.now c.args.table_d.now in
     let p = err_from_is_err_and c.from_residual-in_err-hand_on.result c.from_residual-in_err-hand_on.ensures.1 in
     let handed = c.hand_on.ensures.handed in
-    let run = stop-encode-flush _ _ _ _ _ _ _ _ _ _ _ c.encode_documents.result _ c.in_ok-tally.was handed.output handed.errors (rw c.new.ensures at c.encode_documents.ensures.run) _ _ c.from_residual-in_err-hand_on.result
+    let run = stop-encode-flush _ _ _ _ _ _ _ _ _ _ _ c.encode_documents.result _ c.in_ok-tally.was handed.output handed.errors (rw c.new.ensures at c.encode_documents.ensures.run) _ _
+    c.from_residual-in_err-hand_on.result
     (rw c.in_err-hand_on.was at handed.fault) (p.1 ∙ ap Err p.2) in
     leaves-devices pieces from to before after c.from_residual-in_err-hand_on.result run
     (search rules) (search rules) (search rules, search rules) (search rules)

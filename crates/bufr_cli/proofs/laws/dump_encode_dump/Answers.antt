@@ -15,7 +15,8 @@ returns-clause-round c = λ records rows.
     let small : (i : ℕ) → slice_index c.args.stream.now i < 256 = λ i. let fits = c.type_inv.stream i in omega arith in
     let text = c.in_ok-text.ensures in
     let written = c.run_encode.ensures.whole in
-    let messages : RunsInMemory (record { output = c.run_encode.new.w; errors = c.run_encode.new.e; tally = c.in_ok-tally.tally }) (form_pieces AsWritten c.args.table_b.now c.args.table_d.now (taken_of c.in_ok-text.text.output)) = search rules in
+    let messages : RunsInMemory (record { output = c.run_encode.new.w; errors = c.run_encode.new.e; tally = c.in_ok-tally.tally })
+    (form_pieces AsWritten c.args.table_b.now c.args.table_d.now (taken_of c.in_ok-text.text.output)) = search rules in
     let again = rw c.taken-2.ensures at c.in_ok-again.ensures in
     whole-round c.args.table_b.now c.args.table_d.now records c.args.stream.now _ _ _ rows (octets-all c.args.stream.now small)
     text.output text.tallies messages.output messages.errors messages.tallies again.output again.errors again.tallies

@@ -24,7 +24,8 @@ returns-in-Err g c = job-runs _ c.args.job _ _ _ _ c.in-Dump.is (NoTables refl c
 
 pub returns-in-Ok-read_tables : goal.returns-in-Ok-read_tables
 returns-in-Ok-read_tables g c =
-    job-runs _ c.args.job _ _ _ _ c.in-Encode.is (ByTables c.in-Ok-read_tables.tables.table_b c.in-Ok-read_tables.tables.table_d c.in-Ok-read_tables.ensures.tables c.run_input-in-Ok-read_tables.ensures)
+    job-runs _ c.args.job _ _ _ _ c.in-Encode.is (ByTables c.in-Ok-read_tables.tables.table_b c.in-Ok-read_tables.tables.table_d c.in-Ok-read_tables.ensures.tables
+    c.run_input-in-Ok-read_tables.ensures)
 
 pub returns-in-Err-read_tables : goal.returns-in-Err-read_tables
 returns-in-Err-read_tables g c = job-runs _ c.args.job _ _ _ _ c.in-Encode.is (NoTables refl c.in-Err-read_tables.ensures.unread)

@@ -20,7 +20,8 @@ returns-in_err-hand_on_before_read-in-None-clause-run g c =
     let p = err_from_is_err_and c.from_residual.result c.from_residual.ensures.1 in
     let needs = rw c.in-None.is at c.next_held.follows.holds-at-none in
     let handed = c.hand_on_before_read.ensures.handed in
-    stop-hand-on (g.T.EventWriter.piece c.args.teller.now) _ _ _ _ _ _ _ _ _ _ _ c.loop-r.invariant.ran needs _ _ handed.output handed.errors _ _ _ c.from_residual.result (rw c.in_err-hand_on_before_read-in-None.was at handed.fault) (p.1 ∙ ap Err p.2)
+    stop-hand-on (g.T.EventWriter.piece c.args.teller.now) _ _ _ _ _ _ _ _ _ _ _ c.loop-r.invariant.ran needs _ _ handed.output handed.errors _ _ _ c.from_residual.result
+    (rw c.in_err-hand_on_before_read-in-None.was at handed.fault) (p.1 ∙ ap Err p.2)
 
 pub loop-r-smaller-in-Continue-branch-2 : goal.loop-r-smaller-in-Continue-branch-2
 loop-r-smaller-in-Continue-branch-2 g c =
@@ -38,7 +39,8 @@ loop-r-preserved-in-Continue-branch-2 g c =
     let ok = c.in_ok-read_more-in-None.was in
     let before = c.loop-r.invariant in
     record {
-      ran = read-on (g.T.EventWriter.piece c.args.teller.now) _ _ _ _ _ _ _ _ _ _ _ before.ran needs _ _ handed.output handed.errors _ _ _ _ _ (c.read_more.ensures.read needs.fault).1 c.read_more.ensures.counts _ ok;
+      ran = read-on (g.T.EventWriter.piece c.args.teller.now) _ _ _ _ _ _ _ _ _ _ _ before.ran needs _ _ handed.output handed.errors _ _ _ _ _ (c.read_more.ensures.read needs.fault).1
+          c.read_more.ensures.counts _ ok;
       same = before.same;
       memory = before.memory;
       reader = (rw ok at c.read_more.ensures.failed needs.fault) ∙ before.reader;
@@ -55,20 +57,24 @@ returns-in_err-read_more-in-None-clause-run g c =
     let handed = c.hand_on_before_read.ensures.handed in
     let none = rw c.in_ok-hand_on_before_read-in-None.was at handed.none in
     let before = c.loop-r.invariant in
-    stop-read (g.T.EventWriter.piece c.args.teller.now) _ _ _ _ _ _ _ _ _ _ _ before.ran needs _ _ handed.output handed.errors _ _ _ _ _ (c.read_more.ensures.read needs.fault).1 c.read_more.ensures.counts _ (none.0 ∙ before.output_flushes, none.1 ∙ before.errors_flushes) _ c.from_residual-in_err-read_more-in-None.result c.in_err-read_more-in-None.was (p.1 ∙ ap Err p.2)
+    stop-read (g.T.EventWriter.piece c.args.teller.now) _ _ _ _ _ _ _ _ _ _ _ before.ran needs _ _ handed.output handed.errors _ _ _ _ _ (c.read_more.ensures.read needs.fault).1
+    c.read_more.ensures.counts _ (none.0 ∙ before.output_flushes, none.1 ∙ before.errors_flushes) _ c.from_residual-in_err-read_more-in-None.result c.in_err-read_more-in-None.was
+    (p.1 ∙ ap Err p.2)
 
 pub returns-in_err-read_more-in-None-clause-reader : goal.returns-in_err-read_more-in-None-clause-reader
 returns-in_err-read_more-in-None-clause-reader g c =
     let needs = rw c.in-None.is at c.next_held.follows.holds-at-none in
     let p = err_from_is_err_and c.from_residual-in_err-read_more-in-None.result c.from_residual-in_err-read_more-in-None.ensures.1 in
-    failures-as _ _ _ c.read_more.result c.from_residual-in_err-read_more-in-None.result _ c.in_err-read_more-in-None.was (p.1 ∙ ap Err p.2) (c.read_more.ensures.failed needs.fault) c.loop-r.invariant.reader
+    failures-as _ _ _ c.read_more.result c.from_residual-in_err-read_more-in-None.result _ c.in_err-read_more-in-None.was (p.1 ∙ ap Err p.2) (c.read_more.ensures.failed needs.fault)
+    c.loop-r.invariant.reader
 
 pub returns-in_err-read_more-in-None-clause-reads : goal.returns-in_err-read_more-in-None-clause-reads
 returns-in_err-read_more-in-None-clause-reads g c =
     let p = err_from_is_err_and c.from_residual-in_err-read_more-in-None.result c.from_residual-in_err-read_more-in-None.ensures.1 in
     let needs = rw c.in-None.is at c.next_held.follows.holds-at-none in
     let handed = c.hand_on_before_read.ensures.handed in
-    let counts = read-counts (g.T.EventWriter.piece c.args.teller.now) _ _ _ _ _ _ _ _ _ _ _ c.loop-r.invariant.ran needs _ _ handed.output handed.errors _ _ _ _ _ (c.read_more.ensures.read needs.fault).1 c.read_more.ensures.counts in
+    let counts = read-counts (g.T.EventWriter.piece c.args.teller.now) _ _ _ _ _ _ _ _ _ _ _ c.loop-r.invariant.ran needs _ _ handed.output handed.errors _ _ _ _ _
+    (c.read_more.ensures.read needs.fault).1 c.read_more.ensures.counts in
     run-reads-stop _ _ _ _ _ _ _ _ _ _ c.from_residual-in_err-read_more-in-None.result counts (c.read_more.ensures.read needs.fault).1 c.in_err-read_more-in-None.was (p.1 ∙ ap Err p.2)
 
 pub returns-in_err-read_more-in-None-clause-writers : goal.returns-in_err-read_more-in-None-clause-writers
@@ -85,7 +91,8 @@ returns-in_err-hand_on_before_read-in-None-clause-writers g c =
     let p = err_from_is_err_and c.from_residual.result c.from_residual.ensures.1 in
     let before = c.loop-r.invariant in
     blames-report c.hand_on_before_read.result _ c.from_residual.result c.in_err-hand_on_before_read-in-None.was (p.1 ∙ ap Err p.2)
-    (stays-then _ _ _ _ _ _ before.output) (fails-then _ _ _ _ _ _ before.output) (stays-then _ _ _ _ _ _ before.errors) (fails-then _ _ _ _ _ _ before.errors) c.hand_on_before_read.ensures.handed.counts
+    (stays-then _ _ _ _ _ _ before.output) (fails-then _ _ _ _ _ _ before.output) (stays-then _ _ _ _ _ _ before.errors) (fails-then _ _ _ _ _ _ before.errors)
+    c.hand_on_before_read.ensures.handed.counts
 
 pub loop-r-preserved : goal.loop-r-preserved
 loop-r-preserved g c =
@@ -141,7 +148,8 @@ returns-in_err-verdict-in-Some-Ok-clause-run g c =
     let next = (rw (c.in-Some-Ok.is, c.in-Some-Ok.field-0-is) at c.next_held.follows.holds-at-none).1 (g.R.Source.left c.loop-r.r) (g.R.Source.reads c.loop-r.r) in
     let some = is-event c.loop-r.finder c.next_held.follows.lender-at-none c.in-Some-Ok.event next.ends c.in_default.not-Done in
     stop-report (g.T.EventWriter.piece c.args.teller.now) _ _ _ _ _ _ _ _ _ _ _ _ _ _ before.ran next _
-    (c.write_event.ensures.output_flushes ∙ before.output_flushes, c.write_event.ensures.errors_flushes ∙ before.errors_flushes) _ _ c.in-Some-Ok.event _ c.write_event.result _ c.from_residual-in_err-verdict-in-Some-Ok.result
+    (c.write_event.ensures.output_flushes ∙ before.output_flushes, c.write_event.ensures.errors_flushes ∙ before.errors_flushes) _ _ c.in-Some-Ok.event _ c.write_event.result _
+    c.from_residual-in_err-verdict-in-Some-Ok.result
     refl some (rw before.same at c.write_event.ensures.reports) (rw before.memory at c.write_event.ensures.stops) c.in_err-verdict-in-Some-Ok.was (p.1 ∙ ap Err p.2)
 
 pub returns-in_err-verdict-in-Some-Ok-clause-reader : goal.returns-in_err-verdict-in-Some-Ok-clause-reader

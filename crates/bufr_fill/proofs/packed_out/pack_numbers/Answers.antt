@@ -15,7 +15,8 @@ record IsIncrementWidth (spec : FieldSpec) (base : ℕ) (drawn : List FieldConte
   short : AreShort base k drawn
 
 -- the k that was found writes the increments of these contents over the least of them
-is_width : (spec : FieldSpec) (range : NumberRange) (ds : List FieldContent) (base most k : ℕ) (missing : Bool) → is_character spec.kind ≡ false → is_reference spec.role ≡ false → 1 ≤ spec.width → spec.width ≤ 63 → AllDrawn spec ds → IsRangeOf range ds
+is_width : (spec : FieldSpec) (range : NumberRange) (ds : List FieldContent) (base most k : ℕ) (missing : Bool) → is_character spec.kind ≡ false → is_reference spec.role ≡ false → 1 ≤ spec.width
+    → spec.width ≤ 63 → AllDrawn spec ds → IsRangeOf range ds
     → base ≡ unwrap_or (lowest (contents_drawn 0 ds)) 0 → most ≡ range.greatest - base → missing ≡ spec.may_be_missing → k ≡ least_from missing most 1 → IsIncrementWidth spec base ds k
 is_width spec range ds base most k missing c r some narrow all range_is b m q h =
     let low = unwrap_or (lowest (contents_drawn 0 ds)) 0 in
@@ -25,18 +26,39 @@ is_width spec range ds base most k missing c r some narrow all range_is b m q h 
 
 pub overflow_mul-drawn : goal.overflow_mul-drawn
 overflow_mul-drawn c =
-    let few = few_bits (length c.args.drawn.now) c.from-2.result 63 (omega (arith, c.from-2.ensures, (is_width c.args.spec.now c.args.range c.args.drawn.now _ _ _ _ c.requires.number c.requires.element c.width-width.ensures.some (c.width-width.ensures.narrow c.requires.number) c.requires.drawn c.requires.range (c.base-base.ensures 0 c.args.drawn.now c.requires.range) c.saturating_sub.ensures c.may_be_missing.ensures c.least_bits-k.ensures).narrow)) in
+    let few = few_bits (length c.args.drawn.now) c.from-2.result 63
+    (omega (
+      arith,
+      c.from-2.ensures,
+      (is_width c.args.spec.now c.args.range c.args.drawn.now _ _ _ _ c.requires.number c.requires.element c.width-width.ensures.some
+          (c.width-width.ensures.narrow c.requires.number) c.requires.drawn c.requires.range (c.base-base.ensures 0 c.args.drawn.now c.requires.range) c.saturating_sub.ensures c.may_be_missing.ensures
+          c.least_bits-k.ensures).narrow,
+    )) in
     omega (arith, few, c.requires.room)
 
 pub overflow_add-from-2 : goal.overflow_add-from-2
 overflow_add-from-2 c =
-    let few = few_bits (length c.args.drawn.now) c.from-2.result 63 (omega (arith, c.from-2.ensures, (is_width c.args.spec.now c.args.range c.args.drawn.now _ _ _ _ c.requires.number c.requires.element c.width-width.ensures.some (c.width-width.ensures.narrow c.requires.number) c.requires.drawn c.requires.range (c.base-base.ensures 0 c.args.drawn.now c.requires.range) c.saturating_sub.ensures c.may_be_missing.ensures c.least_bits-k.ensures).narrow)) in
+    let few = few_bits (length c.args.drawn.now) c.from-2.result 63
+    (omega (
+      arith,
+      c.from-2.ensures,
+      (is_width c.args.spec.now c.args.range c.args.drawn.now _ _ _ _ c.requires.number c.requires.element c.width-width.ensures.some
+          (c.width-width.ensures.narrow c.requires.number) c.requires.drawn c.requires.range (c.base-base.ensures 0 c.args.drawn.now c.requires.range) c.saturating_sub.ensures c.may_be_missing.ensures
+          c.least_bits-k.ensures).narrow,
+    )) in
     let narrow = c.width-width.ensures.narrow c.requires.number in
     omega (arith, few, c.from.ensures, narrow, c.requires.room)
 
 pub reserve-requires : goal.reserve-requires
 reserve-requires c =
-    let few = few_bits (length c.args.drawn.now) c.from-2.result 63 (omega (arith, c.from-2.ensures, (is_width c.args.spec.now c.args.range c.args.drawn.now _ _ _ _ c.requires.number c.requires.element c.width-width.ensures.some (c.width-width.ensures.narrow c.requires.number) c.requires.drawn c.requires.range (c.base-base.ensures 0 c.args.drawn.now c.requires.range) c.saturating_sub.ensures c.may_be_missing.ensures c.least_bits-k.ensures).narrow)) in
+    let few = few_bits (length c.args.drawn.now) c.from-2.result 63
+    (omega (
+      arith,
+      c.from-2.ensures,
+      (is_width c.args.spec.now c.args.range c.args.drawn.now _ _ _ _ c.requires.number c.requires.element c.width-width.ensures.some
+          (c.width-width.ensures.narrow c.requires.number) c.requires.drawn c.requires.range (c.base-base.ensures 0 c.args.drawn.now c.requires.range) c.saturating_sub.ensures c.may_be_missing.ensures
+          c.least_bits-k.ensures).narrow,
+    )) in
     let narrow = c.width-width.ensures.narrow c.requires.number in
     omega (arith, few, c.from.ensures, narrow, c.requires.room)
 
@@ -47,13 +69,23 @@ put-requires-clause-value c =
     (base_under c.args.spec.now c.requires.number c.requires.element (c.args.spec.now.width / 8) c.args.drawn.now c.width-width.ensures.some c.requires.drawn))
 
 pub put-requires-2-clause-value : goal.put-requires-2-clause-value
-put-requires-2-clause-value c = omega (arith, c.from-3.ensures, (is_width c.args.spec.now c.args.range c.args.drawn.now _ _ _ _ c.requires.number c.requires.element c.width-width.ensures.some (c.width-width.ensures.narrow c.requires.number) c.requires.drawn c.requires.range (c.base-base.ensures 0 c.args.drawn.now c.requires.range) c.saturating_sub.ensures c.may_be_missing.ensures c.least_bits-k.ensures).narrow)
+put-requires-2-clause-value c = omega (
+  arith,
+  c.from-3.ensures,
+  (is_width c.args.spec.now c.args.range c.args.drawn.now _ _ _ _ c.requires.number c.requires.element c.width-width.ensures.some
+      (c.width-width.ensures.narrow c.requires.number) c.requires.drawn c.requires.range (c.base-base.ensures 0 c.args.drawn.now c.requires.range) c.saturating_sub.ensures c.may_be_missing.ensures
+      c.least_bits-k.ensures).narrow,
+)
 
 pub put_increments-requires-clause-narrow : goal.put_increments-requires-clause-narrow
-put_increments-requires-clause-narrow c = (is_width c.args.spec.now c.args.range c.args.drawn.now _ _ _ _ c.requires.number c.requires.element c.width-width.ensures.some (c.width-width.ensures.narrow c.requires.number) c.requires.drawn c.requires.range (c.base-base.ensures 0 c.args.drawn.now c.requires.range) c.saturating_sub.ensures c.may_be_missing.ensures c.least_bits-k.ensures).narrow
+put_increments-requires-clause-narrow c = (is_width c.args.spec.now c.args.range c.args.drawn.now _ _ _ _ c.requires.number c.requires.element c.width-width.ensures.some
+    (c.width-width.ensures.narrow c.requires.number) c.requires.drawn c.requires.range (c.base-base.ensures 0 c.args.drawn.now c.requires.range) c.saturating_sub.ensures c.may_be_missing.ensures
+    c.least_bits-k.ensures).narrow
 
 pub put_increments-requires-clause-short : goal.put_increments-requires-clause-short
-put_increments-requires-clause-short c = (is_width c.args.spec.now c.args.range c.args.drawn.now _ _ _ _ c.requires.number c.requires.element c.width-width.ensures.some (c.width-width.ensures.narrow c.requires.number) c.requires.drawn c.requires.range (c.base-base.ensures 0 c.args.drawn.now c.requires.range) c.saturating_sub.ensures c.may_be_missing.ensures c.least_bits-k.ensures).short
+put_increments-requires-clause-short c = (is_width c.args.spec.now c.args.range c.args.drawn.now _ _ _ _ c.requires.number c.requires.element c.width-width.ensures.some
+    (c.width-width.ensures.narrow c.requires.number) c.requires.drawn c.requires.range (c.base-base.ensures 0 c.args.drawn.now c.requires.range) c.saturating_sub.ensures c.may_be_missing.ensures
+    c.least_bits-k.ensures).short
 
 pub returns : goal.returns
 returns c =
@@ -66,9 +98,13 @@ returns c =
     (c.put-2.ensures.bits ∙ ap (λ n. c.put.new.self.bits ++ bits_in n 6) c.from-3.ensures)
     (c.put_increments.ensures.bits count) in
     let narrow = c.width-width.ensures.narrow c.requires.number in
-    let few = few_bits (length c.args.drawn.now) k 63 (is_width c.args.spec.now c.args.range c.args.drawn.now _ _ _ _ c.requires.number c.requires.element c.width-width.ensures.some (c.width-width.ensures.narrow c.requires.number) c.requires.drawn c.requires.range (c.base-base.ensures 0 c.args.drawn.now c.requires.range) c.saturating_sub.ensures c.may_be_missing.ensures c.least_bits-k.ensures).narrow in (
+    let few = few_bits (length c.args.drawn.now) k 63 (is_width c.args.spec.now c.args.range c.args.drawn.now _ _ _ _ c.requires.number c.requires.element c.width-width.ensures.some
+    (c.width-width.ensures.narrow c.requires.number) c.requires.drawn c.requires.range (c.base-base.ensures 0 c.args.drawn.now c.requires.range) c.saturating_sub.ensures c.may_be_missing.ensures
+    c.least_bits-k.ensures).narrow in (
       packed_bits (bits_in base c.args.spec.now.width) k (flat_map (increment_bits base k) (contents_drawn count c.args.drawn.now)),
-      numbers_packed c.args.spec.now count c.args.drawn.now base k c.requires.number (c.base-base.ensures count c.args.drawn.now c.requires.range) (is_width c.args.spec.now c.args.range c.args.drawn.now _ _ _ _ c.requires.number c.requires.element c.width-width.ensures.some (c.width-width.ensures.narrow c.requires.number) c.requires.drawn c.requires.range (c.base-base.ensures 0 c.args.drawn.now c.requires.range) c.saturating_sub.ensures c.may_be_missing.ensures c.least_bits-k.ensures).value,
+      numbers_packed c.args.spec.now count c.args.drawn.now base k c.requires.number (c.base-base.ensures count c.args.drawn.now c.requires.range)
+          (is_width c.args.spec.now c.args.range c.args.drawn.now _ _ _ _ c.requires.number c.requires.element c.width-width.ensures.some (c.width-width.ensures.narrow c.requires.number)
+          c.requires.drawn c.requires.range (c.base-base.ensures 0 c.args.drawn.now c.requires.range) c.saturating_sub.ensures c.may_be_missing.ensures c.least_bits-k.ensures).value,
       put,
       parts_length c.args.out.now.bits c.put_increments.new.out.bits _ _ put
           (omega (arith, ap length c.in_ok-reserve.ensures.bits, c.put.ensures.len, c.put-2.ensures.len, c.put_increments.ensures.len, narrow, few)),

@@ -7,7 +7,12 @@ use Rattle.bufr_fill.proofs.RowLemmas.{few_bits, most_some, zero_bits}
 use Rattle.bufr_fill.proofs.packed_out.pack_texts.Goals as goal
 
 pub put_prefixes-requires-clause-few : goal.put_prefixes-requires-clause-few
-put_prefixes-requires-clause-few c = omega (arith, c.requires.k, most_room c.args.spec.now c.args.drawn.now (omega (arith, c.width-width.ensures.some, c.width-width.ensures.whole c.requires.text)) c.requires.drawn)
+put_prefixes-requires-clause-few c = omega (
+  arith,
+  c.requires.k,
+  most_room c.args.spec.now c.args.drawn.now (omega (arith, c.width-width.ensures.some, c.width-width.ensures.whole c.requires.text))
+      c.requires.drawn,
+)
 
 pub returns : goal.returns
 returns c =

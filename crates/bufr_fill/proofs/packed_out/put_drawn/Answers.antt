@@ -58,7 +58,8 @@ returns-then-k-gt63-clause-put c =
     let apart = packed_apart spec (spec.width / 8) c.args.drawn.now (drawn.Number 0) (omega (arith, c.requires.many, c.args.row.some)) (sym c.are_alike.ensures ∙ c.if-are_alike.false) in
     let by : packed_unlike spec.role spec cs ≡ packed_by spec.kind spec cs = apart_by spec cs c.role.result c.role.ensures c.in-Element.is in (
       put_uneven spec row.place (subsets_of row.entries.now) values cs c.requires.given
-          (apart ∙ by ∙ texts_apart spec c.args.drawn.now c.octets_needed-k.result (sym c.is_text.ensures ∙ c.if-is_text.true) (most_some c.args.drawn.now) c.requires.all c.octets_needed-k.ensures c.if-k-gt63.true)
+          (apart ∙ by ∙ texts_apart spec c.args.drawn.now c.octets_needed-k.result (sym c.is_text.ensures ∙ c.if-is_text.true) (most_some c.args.drawn.now) c.requires.all c.octets_needed-k.ensures
+          c.if-k-gt63.true)
           ∙ ap (λ n. Err (at_line n uneven_increment)) (sym c.first_line-then-k-gt63.ensures),
       refl,
     )
@@ -76,8 +77,10 @@ returns-after-is_text-clause-put c =
     elim c.if-is_text.branch [
       | then-is_text+else-k-gt63+in_ok-pack_texts-in-Element w ↦
           subst (λ bits. IsPutWithin c.args.out.now.bits bits spec (item_row row.place (subsets_of row.entries.now)) most c.taken_of-in-Element.result) (ap (λ o. o.bits) (sym w.out-is))
-          (put w.pack_texts.new.out.bits (2046 + 504 * length c.args.drawn.now) most values c.requires.given (omega (arith, c.requires.many, c.args.row.some)) c.taken_of-in-Element.ensures.gives (apart ∙ by) (omega (arith, c.requires.many)) w.in_ok-pack_texts-in-Element.ensures)
+          (put w.pack_texts.new.out.bits (2046 + 504 * length c.args.drawn.now) most values c.requires.given (omega (arith, c.requires.many, c.args.row.some)) c.taken_of-in-Element.ensures.gives
+          (apart ∙ by) (omega (arith, c.requires.many)) w.in_ok-pack_texts-in-Element.ensures)
       | else-is_text+in_ok-pack_numbers-in-Element w ↦
           subst (λ bits. IsPutWithin c.args.out.now.bits bits spec (item_row row.place (subsets_of row.entries.now)) most c.taken_of-in-Element.result) (ap (λ o. o.bits) (sym w.out-is))
-          (put w.pack_numbers.new.out.bits (69 + 63 * length c.args.drawn.now) most values c.requires.given (omega (arith, c.requires.many, c.args.row.some)) c.taken_of-in-Element.ensures.gives (apart ∙ by) (omega (arith, c.requires.many)) w.in_ok-pack_numbers-in-Element.ensures)
+          (put w.pack_numbers.new.out.bits (69 + 63 * length c.args.drawn.now) most values c.requires.given (omega (arith, c.requires.many, c.args.row.some)) c.taken_of-in-Element.ensures.gives
+          (apart ∙ by) (omega (arith, c.requires.many)) w.in_ok-pack_numbers-in-Element.ensures)
     ]

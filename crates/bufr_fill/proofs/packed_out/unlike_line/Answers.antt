@@ -10,11 +10,13 @@ is_same-requires-clause-other c = drawn_at c.args.spec.now c.args.drawn.now c.lo
 
 pub returns-then-not-is_same : goal.returns-then-not-is_same
 returns-then-not-is_same c =
-    unlike_here (c.args.spec.now.width / 8) c.args.drawn.now (cells_at c.args.row.place (subsets_of c.args.row.entries.now)) c.loop-subset.subset (drawn.Number 0) (omega (arith, c.loop-subset-test.true, c.requires.many))
+    unlike_here (c.args.spec.now.width / 8) c.args.drawn.now (cells_at c.args.row.place (subsets_of c.args.row.entries.now)) c.loop-subset.subset (drawn.Number 0)
+    (omega (arith, c.loop-subset-test.true, c.requires.many))
     (count_cells c.args.row.place c.args.row.entries.now c.args.row.ends.now c.args.row.ends_are ∙ sym c.requires.many) c.loop-subset.invariant (sym c.is_same.ensures ∙ c.if-not-is_same.true)
     c.line_of.result c.line_of.ensures
 
 pub loop-subset-preserved : goal.loop-subset-preserved
 loop-subset-preserved c =
-    unlike_more (c.args.spec.now.width / 8) c.args.drawn.now (cells_at c.args.row.place (subsets_of c.args.row.entries.now)) c.loop-subset.subset (drawn.Number 0) (omega (arith, c.loop-subset-test.true, c.requires.many))
+    unlike_more (c.args.spec.now.width / 8) c.args.drawn.now (cells_at c.args.row.place (subsets_of c.args.row.entries.now)) c.loop-subset.subset (drawn.Number 0)
+    (omega (arith, c.loop-subset-test.true, c.requires.many))
     (count_cells c.args.row.place c.args.row.entries.now c.args.row.ends.now c.args.row.ends_are ∙ sym c.requires.many) c.loop-subset.invariant (sym c.is_same.ensures ∙ c.if-not-is_same.false)

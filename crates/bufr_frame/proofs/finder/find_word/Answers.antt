@@ -21,7 +21,8 @@ returns-then-starts_with c =
 pub places-preserved : goal.places-preserved
 places-preserved c =
     nowhere-more c.args.rest.now c.places.place c.places.invariant
-    (absent-there c.args.rest.now (rest-from c.args.rest.now c.places.place) c.places.place c.starts_with.result (take_rest c.args.rest.now c.places.place) (c.starts_with.ensures.value ∙ begins (rest-from c.args.rest.now c.places.place)) c.if-starts_with.false)
+    (absent-there c.args.rest.now (rest-from c.args.rest.now c.places.place) c.places.place c.starts_with.result (take_rest c.args.rest.now c.places.place)
+    (c.starts_with.ensures.value ∙ begins (rest-from c.args.rest.now c.places.place)) c.if-starts_with.false)
 
 pub returns-in_err-place : goal.returns-in_err-place
 returns-in_err-place c =

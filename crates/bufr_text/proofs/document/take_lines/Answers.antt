@@ -36,7 +36,8 @@ returns-in-Refuses c = record {
 pub returns-in_err-turn-clause-adds : goal.returns-in_err-turn-clause-adds
 returns-in_err-turn-clause-adds c =
     let here = feed-at c.suffix.result.now (Some c.in-Some.length) c.in-Some.ensures in
-    refused-holds c.from_residual.result _ (wants-at c.args.progress.now c.loop-length.progress c.args.held.now c.loop-length.from c.in-Some.length c.loop-length.invariant (rw c.suffix.ensures at here) (rw (c.ahead-line.ensures, c.suffix-in-Some.ensures) at c.in_err-turn.ensures.wants))
+    refused-holds c.from_residual.result _ (wants-at c.args.progress.now c.loop-length.progress c.args.held.now c.loop-length.from c.in-Some.length c.loop-length.invariant
+    (rw c.suffix.ensures at here) (rw (c.ahead-line.ensures, c.suffix-in-Some.ensures) at c.in_err-turn.ensures.wants))
 
 pub returns-clause-takes : goal.returns-clause-takes
 returns-clause-takes c =

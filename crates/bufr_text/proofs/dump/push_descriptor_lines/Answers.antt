@@ -8,7 +8,8 @@ use Rattle.std.proofs.lemmas.Grind.{common_steps}
 pub loop-words-smaller : goal.loop-words-smaller
 loop-words-smaller g c =
     let some = some-left c.is_empty.result (words_left c.loop-words.words) c.is_empty.ensures c.loop-words-test.true in
-    let left : length (words_left c.push_descriptors.new.words) ≡ length (words_left c.loop-words.words) - 8 = ap length c.push_descriptors.ensures.words ∙ length-drop 8 (words_left c.loop-words.words) in
+    let left : length (words_left c.push_descriptors.new.words) ≡ length (words_left c.loop-words.words) - 8 =
+    ap length c.push_descriptors.ensures.words ∙ length-drop 8 (words_left c.loop-words.words) in
     omega (arith, some, left)
 
 pub loop-words-preserved : goal.loop-words-preserved

@@ -7,8 +7,10 @@ pub words-preserved : goal.words-preserved
 words-preserved g c =
     let before = c.words.invariant in
     record {
-      so_far = so_far_on before.so_far (descriptors-next (words_left c.words.words) (words_left c.next.new.self) c.words._done c.in-Some.word c.words-test.true c.in-Some.ensures.steps) (rw (c.text.ensures.value, c.from_word.ensures) at (c.push.ensures ⨾ c.push-in-words.ensures));
-      left = left-next (words_left c.words.words) (words_left c.next.new.self) (drop 8 (words_left c.args.words.now)) c.words._done c.in-Some.word c.words-test.true c.in-Some.ensures.steps before.left;
+      so_far = so_far_on before.so_far (descriptors-next (words_left c.words.words) (words_left c.next.new.self) c.words._done c.in-Some.word c.words-test.true c.in-Some.ensures.steps)
+          (rw (c.text.ensures.value, c.from_word.ensures) at (c.push.ensures ⨾ c.push-in-words.ensures));
+      left = left-next (words_left c.words.words) (words_left c.next.new.self) (drop 8 (words_left c.args.words.now)) c.words._done c.in-Some.word c.words-test.true c.in-Some.ensures.steps
+          before.left;
     }
 
 pub returns-in_default-clause-pushes : goal.returns-in_default-clause-pushes

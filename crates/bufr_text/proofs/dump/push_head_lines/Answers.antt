@@ -10,7 +10,30 @@ returns g c =
     let compressed = c.from-18.ensures ∙ flag-is c.compressed.result ∙ ap bit c.compressed.ensures in
     let optional = c.from-19.ensures ∙ flag-is c.is_some.result ∙ ap bit (c.is_some.ensures ∙ sym (is_some-map (λ s. s.now) c.section2.result) ∙ ap is_some c.section2.ensures) in
     let keys : Pushes c.push.new.self (header_text 0 (header_of c.args.message.now)) c.push_named-20.new.self =
-    rw (← c.head-head.ensures, ← c.from.ensures, ← c.from-2.ensures, ← c.from-3.ensures, ← c.from-4.ensures, ← c.from-5.ensures, ← c.from-6.ensures, ← c.from-7.ensures, ← c.from-8.ensures, ← c.from-9.ensures, ← c.from-10.ensures, ← c.from-11.ensures, ← c.from-12.ensures, ← c.from-13.ensures, ← c.from-14.ensures, ← c.from-15.ensures, ← c.from-16.ensures, ← observed, ← compressed, ← optional, ← c.subsets.ensures, ← c.from-20.ensures)
+    rw (
+      ← c.head-head.ensures,
+      ← c.from.ensures,
+      ← c.from-2.ensures,
+      ← c.from-3.ensures,
+      ← c.from-4.ensures,
+      ← c.from-5.ensures,
+      ← c.from-6.ensures,
+      ← c.from-7.ensures,
+      ← c.from-8.ensures,
+      ← c.from-9.ensures,
+      ← c.from-10.ensures,
+      ← c.from-11.ensures,
+      ← c.from-12.ensures,
+      ← c.from-13.ensures,
+      ← c.from-14.ensures,
+      ← c.from-15.ensures,
+      ← c.from-16.ensures,
+      ← observed,
+      ← compressed,
+      ← optional,
+      ← c.subsets.ensures,
+      ← c.from-20.ensures,
+    )
     (c.push_named.ensures ⨾ (c.push_named-2.ensures ⨾ (c.push_named-3.ensures ⨾ (c.push_named-4.ensures ⨾ (c.push_named-5.ensures ⨾ (c.push_named-6.ensures ⨾ (
     c.push_named-7.ensures ⨾ (c.push_named-8.ensures ⨾ (c.push_named-9.ensures ⨾ (c.push_named-10.ensures ⨾ (c.push_named-11.ensures ⨾ (c.push_named-12.ensures ⨾ (
     c.push_named-13.ensures ⨾ (c.push_named-14.ensures ⨾ (c.push_named-15.ensures ⨾ (c.push_named-16.ensures ⨾ (c.push_named-17.ensures ⨾ (

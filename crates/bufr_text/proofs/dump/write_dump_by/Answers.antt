@@ -12,7 +12,8 @@ returns-in_err-resize-clause-steps g c =
 pub returns-in-Ok : goal.returns-in-Ok
 returns-in-Ok g c =
     let before = c.new-lines.ensures in
-    let left = left-whole c.args.message.now c.args.reading.now c.show_by.new.steps before.status before.held c.push_head_lines.ensures c.status-outcome.result c.in-Ok.ensures.shown c.push.ensures c.hand_on.ensures.pushes c.hand_on.ensures.none c.status-outcome.ensures in
+    let left = left-whole c.args.message.now c.args.reading.now c.show_by.new.steps before.status before.held c.push_head_lines.ensures c.status-outcome.result c.in-Ok.ensures.shown c.push.ensures
+    c.hand_on.ensures.pushes c.hand_on.ensures.none c.status-outcome.ensures in
     record {
       same = search rules;
       writes = all-written-of c.args.message.now c.args.reading.now c.status-outcome.result left.0 before.taken (search (rules, left.0.sink));
@@ -25,7 +26,8 @@ returns-in-Ok g c =
 pub returns-in-Err-Visitor : goal.returns-in-Err-Visitor
 returns-in-Err-Visitor g c =
     let before = c.new-lines.ensures in
-    let left = left-failed c.args.message.now c.args.reading.now c.show_by.new.steps before.status before.held c.push_head_lines.ensures c.in-Err-Visitor.fault _ c.in-Err-Visitor.field-0-is c.in-Err-Visitor.ensures.shown in
+    let left = left-failed c.args.message.now c.args.reading.now c.show_by.new.steps before.status before.held c.push_head_lines.ensures c.in-Err-Visitor.fault _ c.in-Err-Visitor.field-0-is
+    c.in-Err-Visitor.ensures.shown in
     record {
       same = search rules;
       writes = all-written-of c.args.message.now c.args.reading.now (Err c.in-Err-Visitor.fault) left.0 before.taken (search (rules, left.0.sink));
@@ -38,7 +40,8 @@ returns-in-Err-Visitor g c =
 pub returns-in_ok-first-in-Err-Memory : goal.returns-in_ok-first-in-Err-Memory
 returns-in_ok-first-in-Err-Memory g c =
     let before = c.new-lines.ensures in
-    let left = left-first c.args.message.now c.args.reading.now c.show_by.new.steps before.status before.held c.push_head_lines.ensures run.Memory (Err run.Memory) _ refl c.in-Err-Memory.field-0-is c.in-Err-Memory.ensures.shown (rw (sym c.status-first.ensures ∙ c.in_ok-first-in-Err-Memory.was) refl) in
+    let left = left-first c.args.message.now c.args.reading.now c.show_by.new.steps before.status before.held c.push_head_lines.ensures run.Memory (Err run.Memory) _ refl c.in-Err-Memory.field-0-is
+    c.in-Err-Memory.ensures.shown (rw (sym c.status-first.ensures ∙ c.in_ok-first-in-Err-Memory.was) refl) in
     record {
       same = search rules;
       writes = all-written-of c.args.message.now c.args.reading.now (Err run.Memory) left.0 before.taken (search (rules, left.0.sink));
@@ -52,7 +55,9 @@ pub returns-in_err-first-in-Err-Memory : goal.returns-in_err-first-in-Err-Memory
 returns-in_err-first-in-Err-Memory g c =
     let before = c.new-lines.ensures in
     let p = err_from_is_err_and c.from_residual-in_err-first-in-Err-Memory.result c.from_residual-in_err-first-in-Err-Memory.ensures.1 in
-    let left = left-first c.args.message.now c.args.reading.now c.show_by.new.steps before.status before.held c.push_head_lines.ensures c.in_err-first-in-Err-Memory.field-0.0 c.from_residual-in_err-first-in-Err-Memory.result _ (p.1 ∙ ap Err p.2) c.in-Err-Memory.field-0-is c.in-Err-Memory.ensures.shown (rw (sym c.status-first.ensures ∙ c.in_err-first-in-Err-Memory.was) refl) in
+    let left = left-first c.args.message.now c.args.reading.now c.show_by.new.steps before.status before.held c.push_head_lines.ensures c.in_err-first-in-Err-Memory.field-0.0
+    c.from_residual-in_err-first-in-Err-Memory.result _ (p.1 ∙ ap Err p.2) c.in-Err-Memory.field-0-is c.in-Err-Memory.ensures.shown
+    (rw (sym c.status-first.ensures ∙ c.in_err-first-in-Err-Memory.was) refl) in
     record {
       same = search rules;
       writes = all-written-of c.args.message.now c.args.reading.now c.from_residual-in_err-first-in-Err-Memory.result left.0 before.taken (search (rules, left.0.sink));

@@ -19,7 +19,8 @@ returns-clause-octets c =
     let written = rw (c.take_specs-cache.ensures.same, c.select.ensures.table_b, c.select.ensures.table_d) at c.in_ok-payload.ensures.written in
     let h = written_form c.args.form by.table_b by.table_d d _ c.in_ok-payload.field-0 _ refl written in
     let same : c.deref-2.result.now ≡ c.in_ok-payload.field-0.items = c.deref-2.ensures.value in
-    if_ok_so c.write_whole.result c.write_whole.ensures.octets (λ octets m. whole c.args.form by.table_b by.table_d d (places h.template) h.template c.deref-2.result.now octets.items c.write_data-payload.new.steps h.is (rw same h.written) c.write_whole.ensures.payload m)
+    if_ok_so c.write_whole.result c.write_whole.ensures.octets (λ octets m. whole c.args.form by.table_b by.table_d d (places h.template) h.template c.deref-2.result.now octets.items
+    c.write_data-payload.new.steps h.is (rw same h.written) c.write_whole.ensures.payload m)
 
 pub returns-clause-fault : goal.returns-clause-fault
 returns-clause-fault c =
@@ -28,4 +29,5 @@ returns-clause-fault c =
     let written = rw (c.take_specs-cache.ensures.same, c.select.ensures.table_b, c.select.ensures.table_d) at c.in_ok-payload.ensures.written in
     let h = written_form c.args.form by.table_b by.table_d d _ c.in_ok-payload.field-0 _ refl written in
     let same : c.deref-2.result.now ≡ c.in_ok-payload.field-0.items = c.deref-2.ensures.value in
-    if_err_so c.write_whole.result c.write_whole.ensures.fault (λ why m. not_whole c.args.form by.table_b by.table_d d (places h.template) h.template c.deref-2.result.now c.write_data-payload.new.steps (reported_refusal why) h.is (rw same h.written) c.write_whole.ensures.payload m)
+    if_err_so c.write_whole.result c.write_whole.ensures.fault (λ why m. not_whole c.args.form by.table_b by.table_d d (places h.template) h.template c.deref-2.result.now
+    c.write_data-payload.new.steps (reported_refusal why) h.is (rw same h.written) c.write_whole.ensures.payload m)

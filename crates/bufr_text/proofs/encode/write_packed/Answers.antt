@@ -14,8 +14,11 @@ returns-in-Ok-end-clause-written c =
     let ss = subsets_of c.args.entries.now in
     let course = next_item c.args.cache.now c.args.template.now in
     let at = subst (StartsPackedOut ss) c.in-Some.is c.in_ok-out.ensures in
-    let after = some_ends c.out.inside.entries.now c.out.inside.ends.items (length c.walk_by.new.fields.subsets) c.out.invariant.ends_are c.out.invariant.some (ap (λ (p : PackedOutModel). length p.subsets) (sym c.out.view_is)) in
-    packed_written (places c.args.template.now) course ss c.in-Some.out c.args.steps.now c.walk_by.new.fields c.walk_by.new.steps c.into_octets.result.items at (some_before course ss c.in-Some.out c.args.steps.now (Ok tt) c.walk_by.new.fields c.walk_by.new.steps c.in-Ok.ensures.walked at after) c.requires.none c.in-Ok.ensures.walked c.in-Ok-end.ensures c.in-Ok.ensures.accepted
+    let after = some_ends c.out.inside.entries.now c.out.inside.ends.items (length c.walk_by.new.fields.subsets) c.out.invariant.ends_are c.out.invariant.some
+    (ap (λ (p : PackedOutModel). length p.subsets) (sym c.out.view_is)) in
+    packed_written (places c.args.template.now) course ss c.in-Some.out c.args.steps.now c.walk_by.new.fields c.walk_by.new.steps
+    c.into_octets.result.items at (some_before course ss c.in-Some.out c.args.steps.now (Ok tt) c.walk_by.new.fields c.walk_by.new.steps c.in-Ok.ensures.walked at after) c.requires.none
+    c.in-Ok.ensures.walked c.in-Ok-end.ensures c.in-Ok.ensures.accepted
     (record { same = c.into_octets.ensures.bits; count = omega (arith, c.into_octets.ensures.len, c.into_octets.result.ok.0) })
 
 pub returns-in-Err-end-clause-written : goal.returns-in-Err-end-clause-written
@@ -23,13 +26,19 @@ returns-in-Err-end-clause-written c =
     let ss = subsets_of c.args.entries.now in
     let course = next_item c.args.cache.now c.args.template.now in
     let at = subst (StartsPackedOut ss) c.in-Some.is c.in_ok-out.ensures in
-    let after = some_ends c.out.inside.entries.now c.out.inside.ends.items (length c.walk_by.new.fields.subsets) c.out.invariant.ends_are c.out.invariant.some (ap (λ (p : PackedOutModel). length p.subsets) (sym c.out.view_is)) in
-    packed_over (places c.args.template.now) course ss c.in-Some.out c.args.steps.now c.walk_by.new.fields c.walk_by.new.steps c.in-Err-end.why c.of_draft.result at (some_before course ss c.in-Some.out c.args.steps.now (Ok tt) c.walk_by.new.fields c.walk_by.new.steps c.in-Ok.ensures.walked at after) c.requires.none c.in-Ok.ensures.walked c.in-Err-end.ensures c.of_draft.ensures c.in-Ok.ensures.accepted
+    let after = some_ends c.out.inside.entries.now c.out.inside.ends.items (length c.walk_by.new.fields.subsets) c.out.invariant.ends_are c.out.invariant.some
+    (ap (λ (p : PackedOutModel). length p.subsets) (sym c.out.view_is)) in
+    packed_over (places c.args.template.now) course ss c.in-Some.out c.args.steps.now c.walk_by.new.fields c.walk_by.new.steps c.in-Err-end.why
+    c.of_draft.result at (some_before course ss c.in-Some.out c.args.steps.now (Ok tt) c.walk_by.new.fields c.walk_by.new.steps c.in-Ok.ensures.walked at after) c.requires.none
+    c.in-Ok.ensures.walked c.in-Err-end.ensures c.of_draft.ensures c.in-Ok.ensures.accepted
 
 pub returns-in-Err-clause-written : goal.returns-in-Err-clause-written
 returns-in-Err-clause-written c =
     let ss = subsets_of c.args.entries.now in
     let course = next_item c.args.cache.now c.args.template.now in
     let at = subst (StartsPackedOut ss) c.in-Some.is c.in_ok-out.ensures in
-    let after = some_ends c.out-in-Err.inside.entries.now c.out-in-Err.inside.ends.items (length c.walk_by.new.fields.subsets) c.out-in-Err.invariant.ends_are c.out-in-Err.invariant.some (ap (λ (p : PackedOutModel). length p.subsets) (sym c.out-in-Err.view_is)) in
-    packed_stopped (places c.args.template.now) course ss c.in-Some.out c.args.steps.now c.walk_by.new.fields c.walk_by.new.steps c.line.result c.in-Err.why c.of_stop.result (template_adds c.args.cache.now c.args.template.now) at (some_before course ss c.in-Some.out c.args.steps.now (Err c.in-Err.why) c.walk_by.new.fields c.walk_by.new.steps c.in-Err.ensures.walked at after) c.requires.none c.in-Err.ensures.walked c.line.ensures c.of_stop.ensures c.in-Err.ensures.refused
+    let after = some_ends c.out-in-Err.inside.entries.now c.out-in-Err.inside.ends.items (length c.walk_by.new.fields.subsets) c.out-in-Err.invariant.ends_are c.out-in-Err.invariant.some
+    (ap (λ (p : PackedOutModel). length p.subsets) (sym c.out-in-Err.view_is)) in
+    packed_stopped (places c.args.template.now) course ss c.in-Some.out c.args.steps.now c.walk_by.new.fields c.walk_by.new.steps c.line.result c.in-Err.why c.of_stop.result
+    (template_adds c.args.cache.now c.args.template.now) at (some_before course ss c.in-Some.out c.args.steps.now (Err c.in-Err.why) c.walk_by.new.fields c.walk_by.new.steps
+    c.in-Err.ensures.walked at after) c.requires.none c.in-Err.ensures.walked c.line.ensures c.of_stop.ensures c.in-Err.ensures.refused

@@ -7,7 +7,11 @@ use Rattle.bufr_text.proofs.encode.write_plain.Goals as goal
 use Rattle.std.proofs.lemmas.Grind.{common_steps}
 
 pub subsets-init : goal.subsets-init
-subsets-init c = (refl, none_written (places c.args.template.now) (next_item c.args.cache.now c.args.template.now) c.args.entries.now c.new-out.result c.args.steps.now (ap (λ p. p.left) c.new-out.ensures) (ap (λ p. p.bits) c.new-out.ensures) c.requires.none)
+subsets-init c = (
+  refl,
+  none_written (places c.args.template.now) (next_item c.args.cache.now c.args.template.now) c.args.entries.now c.new-out.result c.args.steps.now
+      (ap (λ p. p.left) c.new-out.ensures) (ap (λ p. p.bits) c.new-out.ensures) c.requires.none,
+)
 
 pub returns-in-Err-end_subset-clause-written : goal.returns-in-Err-end_subset-clause-written
 returns-in-Err-end_subset-clause-written c =
@@ -15,7 +19,8 @@ returns-in-Err-end_subset-clause-written c =
     let course = next_item c.args.cache.now c.args.template.now in
     let some : 1 ≤ length (subsets_of c.subsets.out.left) = omega (arith, c.subsets.invariant.1.rest, c.subsets-test.true, c.requires.many) in
     stopped n course (subsets_of c.args.entries.now) c.subsets.done c.subsets.out c.subsets.steps _ c.walk_by.new.steps c.subsets.invariant.1 some
-    (subset_over n course c.subsets.out c.subsets.steps c.walk_by.new.fields c.walk_by.new.steps c.in-Err-end_subset.why c.of_draft.result (rw c.subsets.invariant.0 at c.in-Ok.ensures.walked) some c.in-Err-end_subset.ensures.0 c.of_draft.ensures c.in-Ok.ensures.accepted)
+    (subset_over n course c.subsets.out c.subsets.steps c.walk_by.new.fields c.walk_by.new.steps c.in-Err-end_subset.why c.of_draft.result (rw c.subsets.invariant.0 at c.in-Ok.ensures.walked) some
+    c.in-Err-end_subset.ensures.0 c.of_draft.ensures c.in-Ok.ensures.accepted)
 
 pub returns-in-Err-clause-written : goal.returns-in-Err-clause-written
 returns-in-Err-clause-written c =
@@ -23,12 +28,15 @@ returns-in-Err-clause-written c =
     let course = next_item c.args.cache.now c.args.template.now in
     let some : 1 ≤ length (subsets_of c.subsets.out.left) = omega (arith, c.subsets.invariant.1.rest, c.subsets-test.true, c.requires.many) in
     stopped n course (subsets_of c.args.entries.now) c.subsets.done c.subsets.out c.subsets.steps _ c.walk_by.new.steps c.subsets.invariant.1 some
-    (subset_stopped n course c.subsets.out c.subsets.steps c.walk_by.new.fields c.walk_by.new.steps c.line.result c.in-Err.why c.of_stop.result (template_adds c.args.cache.now c.args.template.now) (rw c.subsets.invariant.0 at c.in-Err.ensures.walked) c.line.ensures c.of_stop.ensures c.in-Err.ensures.refused)
+    (subset_stopped n course c.subsets.out c.subsets.steps c.walk_by.new.fields c.walk_by.new.steps c.line.result c.in-Err.why c.of_stop.result (template_adds c.args.cache.now c.args.template.now)
+    (rw c.subsets.invariant.0 at c.in-Err.ensures.walked) c.line.ensures c.of_stop.ensures c.in-Err.ensures.refused)
 
 pub subsets-preserved : goal.subsets-preserved
 subsets-preserved c = grind (arith, common_steps, one_more, subset_written)
 
 pub returns-clause-written : goal.returns-clause-written
 returns-clause-written c =
-    all_written (places c.args.template.now) (next_item c.args.cache.now c.args.template.now) (subsets_of c.args.entries.now) c.subsets.done c.subsets.out c.subsets.steps c.into_octets.result.items c.subsets.invariant.1
-    (omega (arith, c.subsets-test.false, c.subsets.auto.done-end, c.requires.many)) (record { same = c.into_octets.ensures.bits; count = omega (arith, c.into_octets.ensures.len, c.into_octets.result.ok.0) })
+    all_written (places c.args.template.now) (next_item c.args.cache.now c.args.template.now) (subsets_of c.args.entries.now) c.subsets.done c.subsets.out c.subsets.steps c.into_octets.result.items
+    c.subsets.invariant.1
+    (omega (arith, c.subsets-test.false, c.subsets.auto.done-end, c.requires.many))
+    (record { same = c.into_octets.ensures.bits; count = omega (arith, c.into_octets.ensures.len, c.into_octets.result.ok.0) })

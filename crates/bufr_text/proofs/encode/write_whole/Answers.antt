@@ -17,7 +17,9 @@ pub returns-in-Ok-clause-octets : goal.returns-in-Ok-clause-octets
 returns-in-Ok-clause-octets c =
     let d = c.args.document.now in
     let payload = c.args.payload.now in
-    let parts : parts_of _ _ _ _ _ _ payload ≡ parts_as (compressed_as c.args.form d) d payload = λ j. parts_of (c.local1.ensures j) (c.section2.ensures j) (c.descriptors.ensures j) (c.subsets.ensures j) (c.observed.ensures j) ((c.is_compressed.ensures ∙ ap (compressed_by c.args.form) c.compressed.ensures) j) payload in
+    let parts : parts_of _ _ _ _ _ _ payload ≡ parts_as (compressed_as c.args.form d) d payload =
+    λ j. parts_of (c.local1.ensures j) (c.section2.ensures j) (c.descriptors.ensures j) (c.subsets.ensures j) (c.observed.ensures j)
+    ((c.is_compressed.ensures ∙ ap (compressed_by c.args.form) c.compressed.ensures) j) payload in
     let head : c.head.result ≡ head_from_values d = c.head.ensures.value in
     let whole : message_of d.line c.head.result _ ≡ message_of d.line (head_from_values d) (parts_as (compressed_as c.args.form d) d payload) = λ j. message_of d.line (head j) (parts j) in
     sym whole

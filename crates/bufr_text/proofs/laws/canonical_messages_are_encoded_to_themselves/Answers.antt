@@ -7,5 +7,7 @@ use Rattle.bufr_text.proofs.laws.canonical_messages_are_encoded_to_themselves.Go
 pub returns : goal.returns
 returns c = λ records table sequences m s template values used at rows a canonical.
     let good = table_read records table rows in
-    let legal = (tree_fine (tables_of table sequences) s.descriptors template a.expands).legal in
-    (canonical_encoded table sequences m s template values used at good legal a canonical, λ form octets again. canonical_back form table sequences m s template values used at octets good legal a canonical again)
+    let legal = (tree_fine (tables_of table sequences) s.descriptors template a.expands).legal in (
+      canonical_encoded table sequences m s template values used at good legal a canonical,
+      λ form octets again. canonical_back form table sequences m s template values used at octets good legal a canonical again,
+    )

@@ -6,6 +6,10 @@ pub returns : goal.returns
 returns c = λ form records table sequences d octets rows proper. (
   encoded_read form records table sequences rows d proper octets,
   λ read.
-      let dumps = dump_is_normal form records table sequences rows d octets read proper in
-      (dumps, normal_again form records table sequences rows d octets read 1 ∙ dumps, one_document_again form records table sequences rows d octets read proper, encoded_again_same form records table sequences rows d octets read 1 proper),
+      let dumps = dump_is_normal form records table sequences rows d octets read proper in (
+        dumps,
+        normal_again form records table sequences rows d octets read 1 ∙ dumps,
+        one_document_again form records table sequences rows d octets read proper,
+        encoded_again_same form records table sequences rows d octets read 1 proper,
+      ),
 )

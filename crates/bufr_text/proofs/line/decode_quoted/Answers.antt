@@ -13,7 +13,8 @@ pub loop-at-smaller : goal.loop-at-smaller
 loop-at-smaller c = grind (arith, common_steps, unquoting-within)
 
 pub loop-at-preserved : goal.loop-at-preserved
-loop-at-preserved c = unquoting-says c.args.text.now c.loop-at.out c.loop-at.count c.loop-at.at c.in-Octet.octet c.in-Octet.written c.loop-at.invariant c.loop-at-test.true (rw c.suffix.ensures at c.in-Octet.ensures)
+loop-at-preserved c = unquoting-says c.args.text.now c.loop-at.out c.loop-at.count c.loop-at.at c.in-Octet.octet c.in-Octet.written c.loop-at.invariant c.loop-at-test.true
+    (rw c.suffix.ensures at c.in-Octet.ensures)
 
 pub returns-in-Nothing : goal.returns-in-Nothing
 returns-in-Nothing c = unquoting-nothing c.args.text.now c.loop-at.out c.loop-at.count c.loop-at.at c.loop-at.invariant c.loop-at-test.true (rw c.suffix.ensures at c.in-Nothing.ensures)

@@ -5,7 +5,8 @@ use Rattle.bufr_text.proofs.line.line_said.Goals as goal
 
 pub returns : goal.returns
 returns c =
-    sym (value_there c.args.next c.in-Some.word.now c.args.line.now c.in-Some-without_prefix.rest.now (Some c.in-Some-number.value) c.in-Some.ensures.few c.in-Some.ensures.word c.in-Some-without_prefix.ensures.value c.in-Some-number.ensures)
+    sym (value_there c.args.next c.in-Some.word.now c.args.line.now c.in-Some-without_prefix.rest.now (Some c.in-Some-number.value) c.in-Some.ensures.few c.in-Some.ensures.word
+    c.in-Some-without_prefix.ensures.value c.in-Some-number.ensures)
 
 pub returns-2 : goal.returns-2
 returns-2 c =

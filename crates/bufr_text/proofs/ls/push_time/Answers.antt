@@ -44,5 +44,17 @@ returns g c =
 
 pub returns-then-head-gt9999 : goal.returns-then-head-gt9999
 returns-then-head-gt9999 g c =
-    rw (← c.head-head.ensures, ← c.from.ensures, ← c.from-then-head-gt9999.ensures, ← c.from-then-head-gt9999-2.ensures, ← c.from-then-head-gt9999-3.ensures, ← c.from-then-head-gt9999-4.ensures, ← c.from-then-head-gt9999-5.ensures)
-    (c.push.ensures ⨾ (c.push_padded.ensures ⨾ (c.push-then-head-gt9999.ensures ⨾ (c.push_padded-then-head-gt9999.ensures ⨾ (c.push-then-head-gt9999-2.ensures ⨾ (c.push_padded-then-head-gt9999-2.ensures ⨾ (c.push-then-head-gt9999-3.ensures ⨾ (c.push_padded-then-head-gt9999-3.ensures ⨾ (c.push-then-head-gt9999-4.ensures ⨾ (c.push_padded-then-head-gt9999-4.ensures ⨾ (c.push-then-head-gt9999-5.ensures ⨾ (c.push_padded-then-head-gt9999-5.ensures ⨾ nothing_pushed))))))))))))
+    rw (
+      ← c.head-head.ensures,
+      ← c.from.ensures,
+      ← c.from-then-head-gt9999.ensures,
+      ← c.from-then-head-gt9999-2.ensures,
+      ← c.from-then-head-gt9999-3.ensures,
+      ← c.from-then-head-gt9999-4.ensures,
+      ← c.from-then-head-gt9999-5.ensures,
+    )
+    (c.push.ensures ⨾ (c.push_padded.ensures ⨾ (c.push-then-head-gt9999.ensures ⨾
+    (c.push_padded-then-head-gt9999.ensures ⨾ (c.push-then-head-gt9999-2.ensures ⨾
+    (c.push_padded-then-head-gt9999-2.ensures ⨾ (c.push-then-head-gt9999-3.ensures ⨾
+    (c.push_padded-then-head-gt9999-3.ensures ⨾ (c.push-then-head-gt9999-4.ensures ⨾
+    (c.push_padded-then-head-gt9999-4.ensures ⨾ (c.push-then-head-gt9999-5.ensures ⨾ (c.push_padded-then-head-gt9999-5.ensures ⨾ nothing_pushed))))))))))))

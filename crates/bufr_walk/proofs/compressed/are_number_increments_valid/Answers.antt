@@ -12,7 +12,9 @@ returns-then-base-k c =
     let greatest = all_ones c.width-width.result spec.width c.width-width.ensures.value narrow in
     let last = all_ones c.args.k c.args.k refl c.requires.increment in
     let fit : c.raw_at-base.result.number + ones c.args.k ≤ ones spec.width = omega (arith, c.if-base-k.true, greatest, last) in
-    sym (numbers_fit spec c.args.k c.args.subsets c.raw_at-base.result.number spec.width (bits_at (octets_of c.args.bits.now) c.args.at spec.width) (drop (c.args.at + (spec.width + 6)) (bits_of (octets_of c.args.bits.now))) (c.raw_at-base.ensures.number ∙ ap (λ w. number_of (bits_at (octets_of c.args.bits.now) c.args.at w)) c.width-width.ensures.value) refl fit)
+    sym (numbers_fit spec c.args.k c.args.subsets c.raw_at-base.result.number spec.width (bits_at (octets_of c.args.bits.now) c.args.at spec.width)
+    (drop (c.args.at + (spec.width + 6)) (bits_of (octets_of c.args.bits.now)))
+    (c.raw_at-base.ensures.number ∙ ap (λ w. number_of (bits_at (octets_of c.args.bits.now) c.args.at w)) c.width-width.ensures.value) refl fit)
 
 never : (b m : Bool) → m ≡ false → (b && m) ≡ false
 never true m e = e
@@ -30,14 +32,18 @@ returns-then-not-stays c =
       | else-base w ↦ ap (λ b. b && spec.may_be_missing) (ap (λ v. are_all_ones (bits_at octets c.args.at v)) (sym c.width-width.ensures.value) ∙ sym c.raw_at-base.ensures.ones ∙ w.if-base.false)
     ] in
     let past : all_within spec.may_be_missing spec.width c.raw_at-base.result.number c.args.k c.args.subsets suffix ≡ false =
-    fails_next (λ i. stays_within spec.may_be_missing spec.width c.raw_at-base.result.number c.args.k (number_of i)) (c.args.subsets - c.loop-subset.subset) (c.args.subsets - (c.loop-subset.subset + 1)) c.args.k c.loop-subset.place (bits_of octets) _ (omega arith) c.loop-subset.invariant.sofar
+    fails_next (λ i. stays_within spec.may_be_missing spec.width c.raw_at-base.result.number c.args.k (number_of i)) (c.args.subsets - c.loop-subset.subset)
+    (c.args.subsets - (c.loop-subset.subset + 1)) c.args.k c.loop-subset.place (bits_of octets) _ (omega arith) c.loop-subset.invariant.sofar
     (stays_here spec.may_be_missing spec.width c.raw_at-base.result.number c.args.k _ _ _ _ c.number_at-increment.ensures.value c.stays_within-stays.ensures c.if-not-stays.true) in
     let is : c.raw_at-base.result.number ≡ number_of base = c.raw_at-base.ensures.number ∙ ap (λ w. number_of (bits_at octets c.args.at w)) c.width-width.ensures.value in
-    sym (ap (λ b. b || all_within spec.may_be_missing spec.width (number_of base) c.args.k c.args.subsets suffix) none ∙ ap (λ v. all_within spec.may_be_missing spec.width v c.args.k c.args.subsets suffix) (sym is) ∙ past)
+    sym (ap (λ b. b || all_within spec.may_be_missing spec.width (number_of base) c.args.k c.args.subsets suffix) none
+    ∙ ap (λ v. all_within spec.may_be_missing spec.width v c.args.k c.args.subsets suffix) (sym is) ∙ past)
 
 pub loop-subset-preserved : goal.loop-subset-preserved
 loop-subset-preserved c = record {
   place = omega arith;
-  sofar = passes_next (λ i. stays_within c.args.spec.now.may_be_missing c.args.spec.now.width c.raw_at-base.result.number c.args.k (number_of i)) (c.args.subsets - c.loop-subset.subset) (c.args.subsets - (c.loop-subset.subset + 1)) c.args.k c.loop-subset.place _ (bits_of (octets_of c.args.bits.now)) _ (omega arith) (omega arith) c.loop-subset.invariant.sofar
-      (stays_here c.args.spec.now.may_be_missing c.args.spec.now.width c.raw_at-base.result.number c.args.k _ _ _ _ c.number_at-increment.ensures.value c.stays_within-stays.ensures c.if-not-stays.false);
+  sofar = passes_next (λ i. stays_within c.args.spec.now.may_be_missing c.args.spec.now.width c.raw_at-base.result.number c.args.k (number_of i)) (c.args.subsets - c.loop-subset.subset)
+      (c.args.subsets - (c.loop-subset.subset + 1)) c.args.k c.loop-subset.place _ (bits_of (octets_of c.args.bits.now)) _ (omega arith) (omega arith) c.loop-subset.invariant.sofar
+      (stays_here c.args.spec.now.may_be_missing c.args.spec.now.width c.raw_at-base.result.number c.args.k _ _ _ _ c.number_at-increment.ensures.value c.stays_within-stays.ensures
+      c.if-not-stays.false);
 }

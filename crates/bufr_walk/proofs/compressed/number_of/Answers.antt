@@ -10,7 +10,8 @@ use Rattle.bufr_walk.proofs.compressed.number_of.Goals as goal
 use Rattle.bufr_walk.proofs.compressed.number_of.Goals.{then-increment-k-via-then-increment-k, then-increment-k-via-else-increment-k+then-sum-width, else-may_be_missing-via-then-may_be_missing+else-item-width, else-may_be_missing-via-else-may_be_missing}
 
 -- the increment is within the bits, at the place that is reached in 64 bits
-reach : (octets : List ℕ) (n : ℕ) (e : IndexedItem) (j wide subset step k : ℕ) → fits_at (bits_of octets) n e ≡ true → 1 ≤ e.step → j < n → is_character e.spec.kind ≡ false → wide ≡ e.spec.width → subset ≡ j → step ≡ k → k ≡ e.step
+reach : (octets : List ℕ) (n : ℕ) (e : IndexedItem) (j wide subset step k : ℕ) → fits_at (bits_of octets) n e ≡ true → 1 ≤ e.step → j < n → is_character e.spec.kind ≡ false → wide ≡ e.spec.width
+    → subset ≡ j → step ≡ k → k ≡ e.step
     → e.at + (wide + 6) + subset * step + k ≤ 8 * length octets
 reach octets n e j wide subset step k h some below c ew es e8 ek =
     let room = number_within (bits_of octets) n e j h some below c in
@@ -20,7 +21,8 @@ reach octets n e j wide subset step k h some below c ew es e8 ek =
 
 pub returns-then-item-width-clause-value : goal.returns-then-item-width-clause-value
 returns-then-item-width-clause-value c =
-    base_missing (octets_of c.args.pack.now.bits) c.args.pack.now.subsets c.args.item.now c.args.subset c.requires.fits c.if-item-eq0.true c.requires.subset c.requires.number c.requires.value (sym c.may_be_missing-may_be_missing.ensures ∙ c.if-may_be_missing.true)
+    base_missing (octets_of c.args.pack.now.bits) c.args.pack.now.subsets c.args.item.now c.args.subset c.requires.fits c.if-item-eq0.true c.requires.subset c.requires.number c.requires.value
+    (sym c.may_be_missing-may_be_missing.ensures ∙ c.if-may_be_missing.true)
     (c.if-item-width.true ∙ all_ones _ _ c.width-width.ensures.value (c.width-width.ensures.narrow c.requires.number))
 
 pub returns-then-item-eq0-clause-value : goal.returns-then-item-eq0-clause-value
@@ -36,16 +38,22 @@ returns-then-item-eq0-clause-below c = (kept_number (octets_of c.args.pack.now.b
 
 pub overflow_add-place-2 : goal.overflow_add-place-2
 overflow_add-place-2 c =
-    let room = number_within (bits_of (octets_of c.args.pack.now.bits)) c.args.pack.now.subsets c.args.item.now c.args.subset c.requires.fits (omega (arith, c.if-item-eq0.false)) c.requires.subset c.requires.number in
+    let room = number_within (bits_of (octets_of c.args.pack.now.bits)) c.args.pack.now.subsets c.args.item.now c.args.subset c.requires.fits (omega (arith, c.if-item-eq0.false)) c.requires.subset
+    c.requires.number in
     omega (arith, room, bits_length (octets_of c.args.pack.now.bits), c.from.ensures, c.width-width.ensures.value)
 
 pub overflow_add-place-3 : goal.overflow_add-place-3
 overflow_add-place-3 c =
-    omega (arith, reach (octets_of c.args.pack.now.bits) c.args.pack.now.subsets c.args.item.now c.args.subset _ _ _ _ c.requires.fits (omega (arith, c.if-item-eq0.false)) c.requires.subset c.requires.number (c.from.ensures ∙ c.width-width.ensures.value) c.from-2.ensures c.from-3.ensures c.from-k.ensures)
+    omega (
+      arith,
+      reach (octets_of c.args.pack.now.bits) c.args.pack.now.subsets c.args.item.now c.args.subset _ _ _ _ c.requires.fits (omega (arith, c.if-item-eq0.false)) c.requires.subset
+          c.requires.number (c.from.ensures ∙ c.width-width.ensures.value) c.from-2.ensures c.from-3.ensures c.from-k.ensures,
+    )
 
 pub number_at-increment-requires-clause-within : goal.number_at-increment-requires-clause-within
 number_at-increment-requires-clause-within c =
-    reach (octets_of c.args.pack.now.bits) c.args.pack.now.subsets c.args.item.now c.args.subset _ _ _ _ c.requires.fits (omega (arith, c.if-item-eq0.false)) c.requires.subset c.requires.number (c.from.ensures ∙ c.width-width.ensures.value) c.from-2.ensures c.from-3.ensures c.from-k.ensures
+    reach (octets_of c.args.pack.now.bits) c.args.pack.now.subsets c.args.item.now c.args.subset _ _ _ _ c.requires.fits (omega (arith, c.if-item-eq0.false)) c.requires.subset c.requires.number
+    (c.from.ensures ∙ c.width-width.ensures.value) c.from-2.ensures c.from-3.ensures c.from-k.ensures
 
 pub overflow_add-sum : goal.overflow_add-sum
 overflow_add-sum c =
@@ -62,16 +70,20 @@ returns-then-not-may_be_missing-clause-value c =
     let octets = octets_of c.args.pack.now.bits in
     let item = c.args.item.now in
     let some : 1 ≤ item.step = omega (arith, c.if-item-eq0.false) in
-    let more = increment_at octets item.at item.spec.width c.from-k.result item.step c.args.subset _ _ _ c.number_at-increment.result (c.from.ensures ∙ c.width-width.ensures.value) c.from-2.ensures c.from-3.ensures c.from-k.ensures c.number_at-increment.ensures.value in
-    (kept_never octets c.args.pack.now.subsets item c.args.subset c.number_at-increment.result c.requires.fits some c.requires.subset c.requires.number more (sym c.may_be_missing-may_be_missing.ensures ∙ c.if-not-may_be_missing.true)).0
+    let more = increment_at octets item.at item.spec.width c.from-k.result item.step c.args.subset _ _ _ c.number_at-increment.result (c.from.ensures ∙ c.width-width.ensures.value) c.from-2.ensures
+    c.from-3.ensures c.from-k.ensures c.number_at-increment.ensures.value in
+    (kept_never octets c.args.pack.now.subsets item c.args.subset c.number_at-increment.result c.requires.fits some c.requires.subset c.requires.number more
+    (sym c.may_be_missing-may_be_missing.ensures ∙ c.if-not-may_be_missing.true)).0
 
 pub returns-then-not-may_be_missing-clause-below : goal.returns-then-not-may_be_missing-clause-below
 returns-then-not-may_be_missing-clause-below c =
     let octets = octets_of c.args.pack.now.bits in
     let item = c.args.item.now in
     let some : 1 ≤ item.step = omega (arith, c.if-item-eq0.false) in
-    let more = increment_at octets item.at item.spec.width c.from-k.result item.step c.args.subset _ _ _ c.number_at-increment.result (c.from.ensures ∙ c.width-width.ensures.value) c.from-2.ensures c.from-3.ensures c.from-k.ensures c.number_at-increment.ensures.value in
-    let most = (kept_never octets c.args.pack.now.subsets item c.args.subset c.number_at-increment.result c.requires.fits some c.requires.subset c.requires.number more (sym c.may_be_missing-may_be_missing.ensures ∙ c.if-not-may_be_missing.true)).1 in
+    let more = increment_at octets item.at item.spec.width c.from-k.result item.step c.args.subset _ _ _ c.number_at-increment.result (c.from.ensures ∙ c.width-width.ensures.value) c.from-2.ensures
+    c.from-3.ensures c.from-k.ensures c.number_at-increment.ensures.value in
+    let most = (kept_never octets c.args.pack.now.subsets item c.args.subset c.number_at-increment.result c.requires.fits some c.requires.subset c.requires.number more
+    (sym c.may_be_missing-may_be_missing.ensures ∙ c.if-not-may_be_missing.true)).1 in
     let low = (kept_number octets c.args.pack.now.subsets item c.requires.fits c.requires.number).1 in
     omega (arith, most, low)
 
@@ -80,11 +92,15 @@ returns-then-increment-k-clause-value c =
     let octets = octets_of c.args.pack.now.bits in
     let item = c.args.item.now in
     let some : 1 ≤ item.step = omega (arith, c.if-item-eq0.false) in
-    let more = increment_at octets item.at item.spec.width c.from-k.result item.step c.args.subset _ _ _ c.number_at-increment.result (c.from.ensures ∙ c.width-width.ensures.value) c.from-2.ensures c.from-3.ensures c.from-k.ensures c.number_at-increment.ensures.value in
+    let more = increment_at octets item.at item.spec.width c.from-k.result item.step c.args.subset _ _ _ c.number_at-increment.result (c.from.ensures ∙ c.width-width.ensures.value) c.from-2.ensures
+    c.from-3.ensures c.from-k.ensures c.number_at-increment.ensures.value in
     let all = all_ones _ _ c.width-width.ensures.value (c.width-width.ensures.narrow c.requires.number) in
     elim c.then-increment-k.branch [
-      | then-increment-k-via-then-increment-k w ↦ kept_last octets c.args.pack.now.subsets item c.args.subset c.number_at-increment.result c.requires.fits some c.requires.subset c.requires.number more (sym c.may_be_missing-may_be_missing.ensures ∙ c.if-not-may_be_missing.false) (w.if-increment-k.true ∙ all_ones _ _ c.from-k.ensures (step_small (bits_of octets) c.args.pack.now.subsets item c.requires.fits))
-      | then-increment-k-via-else-increment-k+then-sum-width w ↦ kept_whole octets c.args.pack.now.subsets item c.args.subset c.number_at-increment.result c.requires.fits some c.requires.subset c.requires.number more (sym c.may_be_missing-may_be_missing.ensures ∙ c.if-not-may_be_missing.false) (omega (arith, w.if-sum-width.true, all))
+      | then-increment-k-via-then-increment-k w ↦ kept_last octets c.args.pack.now.subsets item c.args.subset c.number_at-increment.result c.requires.fits some c.requires.subset c.requires.number
+          more (sym c.may_be_missing-may_be_missing.ensures ∙ c.if-not-may_be_missing.false)
+          (w.if-increment-k.true ∙ all_ones _ _ c.from-k.ensures (step_small (bits_of octets) c.args.pack.now.subsets item c.requires.fits))
+      | then-increment-k-via-else-increment-k+then-sum-width w ↦ kept_whole octets c.args.pack.now.subsets item c.args.subset c.number_at-increment.result c.requires.fits some c.requires.subset
+          c.requires.number more (sym c.may_be_missing-may_be_missing.ensures ∙ c.if-not-may_be_missing.false) (omega (arith, w.if-sum-width.true, all))
     ]
 
 pub returns-clause-value : goal.returns-clause-value
@@ -92,6 +108,8 @@ returns-clause-value c =
     let octets = octets_of c.args.pack.now.bits in
     let item = c.args.item.now in
     let some : 1 ≤ item.step = omega (arith, c.if-item-eq0.false) in
-    let more = increment_at octets item.at item.spec.width c.from-k.result item.step c.args.subset _ _ _ c.number_at-increment.result (c.from.ensures ∙ c.width-width.ensures.value) c.from-2.ensures c.from-3.ensures c.from-k.ensures c.number_at-increment.ensures.value in
+    let more = increment_at octets item.at item.spec.width c.from-k.result item.step c.args.subset _ _ _ c.number_at-increment.result (c.from.ensures ∙ c.width-width.ensures.value) c.from-2.ensures
+    c.from-3.ensures c.from-k.ensures c.number_at-increment.ensures.value in
     let all = all_ones _ _ c.width-width.ensures.value (c.width-width.ensures.narrow c.requires.number) in
-    kept_some octets c.args.pack.now.subsets item c.args.subset c.number_at-increment.result c.requires.fits some c.requires.subset c.requires.number more (λ e. c.if-increment-k.false (e ∙ sym (all_ones _ _ c.from-k.ensures (step_small (bits_of octets) c.args.pack.now.subsets item c.requires.fits)))) (omega (arith, c.if-sum-width.false, all))
+    kept_some octets c.args.pack.now.subsets item c.args.subset c.number_at-increment.result c.requires.fits some c.requires.subset c.requires.number more
+    (λ e. c.if-increment-k.false (e ∙ sym (all_ones _ _ c.from-k.ensures (step_small (bits_of octets) c.args.pack.now.subsets item c.requires.fits)))) (omega (arith, c.if-sum-width.false, all))

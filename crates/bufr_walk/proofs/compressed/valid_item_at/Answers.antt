@@ -17,7 +17,8 @@ first_base a zero zero base suffix h some = absurd (omega (arith, some))
 first_base a zero (suc n) base suffix h some = refl
 first_base a (suc k) n base suffix h some = absurd (omega (arith, h))
 
-first_factor : (a : FieldSpec) (k n : ℕ) (base suffix : List Bool) (low first : ℕ) → IsSpec a → a.role ≡ role.Factor → k ≢ 0 → 1 ≤ n → low ≡ number_of base → first ≡ number_of (take k suffix) → taken.Count (low + first) ≡ answer_first a (contents_of a k n base suffix)
+first_factor : (a : FieldSpec) (k n : ℕ) (base suffix : List Bool) (low first : ℕ) → IsSpec a → a.role ≡ role.Factor → k ≢ 0 → 1 ≤ n → low ≡ number_of base → first ≡ number_of (take k suffix)
+    → taken.Count (low + first) ≡ answer_first a (contents_of a k n base suffix)
 first_factor a zero n base suffix low first spec e h some l f = absurd (h refl)
 first_factor a (suc k) zero base suffix low first spec e h some l f = absurd (omega (arith, some))
 first_factor a (suc k) (suc n) base suffix low first spec e h some l f =
@@ -35,7 +36,8 @@ pub returns-then-left-width-clause-seen : goal.returns-then-left-width-clause-se
 returns-then-left-width-clause-seen c =
     let all = bits_length (octets_of c.args.bits.now) in
     let wide : c.from-width.result ≡ c.args.spec.now.width = c.from-width.ensures ∙ c.width.ensures.value in
-    ends_first (bits_of (octets_of c.args.bits.now)) c.args.at c.args.subsets c.args.spec.now _ c.fxy.ensures (omega (arith, all, c.requires.within)) (omega (arith, all, wide, c.len_bits.ensures, c.if-left-width.true, c.requires.within))
+    ends_first (bits_of (octets_of c.args.bits.now)) c.args.at c.args.subsets c.args.spec.now _ c.fxy.ensures (omega (arith, all, c.requires.within))
+    (omega (arith, all, wide, c.len_bits.ensures, c.if-left-width.true, c.requires.within))
 
 pub returns-then-left-size-clause-seen : goal.returns-then-left-size-clause-seen
 returns-then-left-size-clause-seen c =
@@ -58,14 +60,18 @@ returns-clause-seen c =
       | then-is_text w ↦ let no : false ≡ true = sym number ∙ sym c.is_text.ensures ∙ w.if-is_text.true in absurd cc
       | else-is_text w ↦ w.result-is ∙ w.number_at-else-is_text.ensures.value ∙ ap (λ x. number_of (take x (drop c.args.at bits))) w.width-else-is_text.ensures.value
     ] in
-    let seen = seen_here bits c.args.at c.args.subsets c.args.spec.now (record { answer = c.if-k-eq0.answer; step = c.number_at-k.result; base = c.if-is_text.result; end = c.args.at + (c.from-width.result + 6 + c.from.result * c.from-2.result) }) (c.from-width.result + 6 + c.from.result * c.from-2.result) c.width.ensures.some refl
+    let seen = seen_here bits c.args.at c.args.subsets c.args.spec.now
+    (record { answer = c.if-k-eq0.answer; step = c.number_at-k.result; base = c.if-is_text.result; end = c.args.at + (c.from-width.result + 6 + c.from.result * c.from-2.result) })
+    (c.from-width.result + 6 + c.from.result * c.from-2.result) c.width.ensures.some refl
     (omega (arith, all, c.len_bits.ensures, c.if-left-size.false, c.requires.within))
     (c.number_at-k.ensures.value ∙ ap (λ w. number_of (take 6 (drop (c.args.at + w) bits))) wide)
     (size_same _ _ _ _ _ _ wide c.from.ensures (c.from-2.ensures ∙ c.increment_bits_of.ensures.value)) in
     elim c.if-k-eq0.branch [
-      | then-k-eq0 w ↦ seen (search rules) (search rules) (w.answer-is ∙ w.answer_at-answer.ensures.value ∙ first_base c.args.spec.now c.number_at-k.result c.args.subsets _ _ w.if-k-eq0.true c.requires.subsets) based
+      | then-k-eq0 w ↦ seen (search rules) (search rules) (w.answer-is ∙ w.answer_at-answer.ensures.value
+          ∙ first_base c.args.spec.now c.number_at-k.result c.args.subsets _ _ w.if-k-eq0.true c.requires.subsets) based
       | else-k-eq0+else-reference+else-not-valid+in-Factor+else-not-equal w ↦ seen (search rules) (search rules)
-          (w.answer-is ∙ first_factor c.args.spec.now c.number_at-k.result c.args.subsets _ _ w.number_at.result w.number_at-first.result c.width.ensures.spec (sym w.role.ensures ∙ w.in-Factor.is) w.if-k-eq0.false c.requires.subsets
+          (w.answer-is ∙ first_factor c.args.spec.now c.number_at-k.result c.args.subsets _ _ w.number_at.result w.number_at-first.result c.width.ensures.spec (sym w.role.ensures ∙ w.in-Factor.is)
+          w.if-k-eq0.false c.requires.subsets
           (w.number_at.ensures.value ∙ ap (λ x. number_of (take x (drop c.args.at bits))) w.width-in-Factor.ensures.value)
           (w.number_at-first.ensures.value ∙ ap (λ x. number_of (take c.number_at-k.result (drop (c.args.at + (x + 6)) bits))) wide))
           based

@@ -15,5 +15,6 @@ returns-then-eq-clause-put c =
       few = omega arith;
       fits = subst (λ specs. HasSpecAt specs c.args.guess c.args.spec.now) c.as_slice-known.ensures.value
           (fits_there c.as_slice-known.result.now c.args.guess there c.args.spec.now c.if-guess-known.true c.index-known-guess.is
-          (same_field there c.args.spec.now _ _ _ (same_true role.the_type tt there.role c.args.spec.now.role) (same_true kind.the_type tt there.kind c.args.spec.now.kind) (sym c.eq.ensures ∙ c.if-eq.true)));
+          (same_field there c.args.spec.now _ _ _ (same_true role.the_type tt there.role c.args.spec.now.role) (same_true kind.the_type tt there.kind c.args.spec.now.kind)
+          (sym c.eq.ensures ∙ c.if-eq.true)));
     }

@@ -10,7 +10,8 @@ returns-clause-plain c = λ records table template bits rows legal.
     (so.0, so.1)
 
 packed_so : (n : ℕ) (course : Course) (bits : List Bool) → IsSane (suc (length bits)) course → 1 ≤ n
-    → ReadsTo (packed n) (would_be_many n) course 0 bits (read_pass (packed n) (would_be_many n) course bits).items (read_pass (packed n) (would_be_many n) course bits).state.left (read_pass (packed n) (would_be_many n) course bits).stop
+    → ReadsTo (packed n) (would_be_many n) course 0 bits (read_pass (packed n) (would_be_many n) course bits).items (read_pass (packed n) (would_be_many n) course bits).state.left
+    (read_pass (packed n) (would_be_many n) course bits).stop
     × ((read_pass (packed n) (would_be_many n) course bits).turns ≡ turns_after (packed n) course (read_pass (packed n) (would_be_many n) course bits).items)
 packed_so zero course bits sane some = absurd (omega (arith, some))
 packed_so (suc n) course bits sane some =

@@ -12,5 +12,6 @@ pub fours-preserved : goal.fours-preserved
 fours-preserved c =
     let octets = octets_of c.args.bits.now in (
       omega (arith, c.fours-test.true),
-      four_put (bits_of octets) c.args.at c.fours.copied c.number-word.result _ _ _ _ c.fours.text (omega arith) (omega (arith, length-bits_of octets, c.fours-test.true, c.requires.within)) c.fours.invariant.1 c.number-word.ensures.value (omega (arith, c.number-word.ensures.below)) refl refl (omega arith),
+      four_put (bits_of octets) c.args.at c.fours.copied c.number-word.result _ _ _ _ c.fours.text (omega arith) (omega (arith, length-bits_of octets, c.fours-test.true, c.requires.within))
+          c.fours.invariant.1 c.number-word.ensures.value (omega (arith, c.number-word.ensures.below)) refl refl (omega arith),
     )

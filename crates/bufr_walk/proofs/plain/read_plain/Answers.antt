@@ -12,14 +12,17 @@ subsets-preserved c =
     let walked = rw c.subsets.invariant.0 at c.in-Ok.ensures.walked in
     let within = subst (λ (s : Cursor). s.at ≤ length s.bits) c.fields.view_is c.fields.invariant in (
       c.in-Ok.ensures.same ∙ c.subsets.invariant.0,
-      one_more (places c.args.template.now) course (bits_of (octets_of c.args.bits)) c.subsets.done c.subsets.fields c.walk_by-outcome.new.fields c.subsets.steps c.walk_by-outcome.new.steps c.subsets.invariant.1 (pass_reads course _ _ _ _ walked) c.in-Ok.ensures.accepted within (walk_forth course c.subsets.fields c.walk_by-outcome.new.fields c.subsets.steps c.walk_by-outcome.new.steps (Ok c.in-Ok.field-0) walked),
+      one_more (places c.args.template.now) course (bits_of (octets_of c.args.bits)) c.subsets.done c.subsets.fields c.walk_by-outcome.new.fields c.subsets.steps c.walk_by-outcome.new.steps
+          c.subsets.invariant.1 (pass_reads course _ _ _ _ walked) c.in-Ok.ensures.accepted within
+          (walk_forth course c.subsets.fields c.walk_by-outcome.new.fields c.subsets.steps c.walk_by-outcome.new.steps (Ok c.in-Ok.field-0) walked),
     )
 
 pub returns-in-Err-clause-reads : goal.returns-in-Err-clause-reads
 returns-in-Err-clause-reads c =
     let course = next_item c.args.cache.now c.args.template.now in
     let within = subst (λ (s : Cursor). s.at ≤ length s.bits) c.fields.view_is c.fields.invariant in
-    rw c.fault_at.ensures (stopped_there (places c.args.template.now) course (octets_of c.args.bits) c.args.subsets c.subsets.done c.subsets.fields c.walk_by-outcome.new.fields c.subsets.steps c.walk_by-outcome.new.steps _ c.subsets.invariant.1 c.subsets-test.true
+    rw c.fault_at.ensures (stopped_there (places c.args.template.now) course (octets_of c.args.bits) c.args.subsets c.subsets.done c.subsets.fields c.walk_by-outcome.new.fields c.subsets.steps
+    c.walk_by-outcome.new.steps _ c.subsets.invariant.1 c.subsets-test.true
     (pass_stops course _ _ _ _ (c.subsets.done + 1) c.fields.inside.at c.in-Err.why (ap (λ (s : Cursor). s.at) c.fields.view_is) (rw c.subsets.invariant.0 at c.in-Err.ensures.walked)) within)
 
 pub returns-in-Err-clause-refused : goal.returns-in-Err-clause-refused
@@ -27,11 +30,17 @@ returns-in-Err-clause-refused c =
     let course = next_item c.args.cache.now c.args.template.now in
     let walked = rw c.subsets.invariant.0 at c.in-Err.ensures.walked in
     let within = subst (λ (s : Cursor). s.at ≤ length s.bits) c.fields.view_is c.fields.invariant in
-    rw c.fault_at.ensures (few_stopped (places c.args.template.now) course (bits_of (octets_of c.args.bits)) c.subsets.done c.subsets.fields c.walk_by-outcome.new.fields c.subsets.steps c.walk_by-outcome.new.steps (c.subsets.done + 1) _ c.subsets.invariant.1
-    (pass_stops course _ _ _ _ (c.subsets.done + 1) c.fields.inside.at c.in-Err.why (ap (λ (s : Cursor). s.at) c.fields.view_is) walked) c.in-Err.ensures.refused within (walk_forth course c.subsets.fields c.walk_by-outcome.new.fields c.subsets.steps c.walk_by-outcome.new.steps (Err c.in-Err.why) walked))
+    rw c.fault_at.ensures (few_stopped (places c.args.template.now) course (bits_of (octets_of c.args.bits)) c.subsets.done c.subsets.fields c.walk_by-outcome.new.fields c.subsets.steps
+    c.walk_by-outcome.new.steps (c.subsets.done + 1) _ c.subsets.invariant.1
+    (pass_stops course _ _ _ _ (c.subsets.done + 1) c.fields.inside.at c.in-Err.why (ap (λ (s : Cursor). s.at) c.fields.view_is) walked) c.in-Err.ensures.refused within
+    (walk_forth course c.subsets.fields c.walk_by-outcome.new.fields c.subsets.steps c.walk_by-outcome.new.steps (Err c.in-Err.why) walked))
 
 pub subsets-init : goal.subsets-init
-subsets-init c = (refl, none_yet (places c.args.template.now) (next_item c.args.cache.now c.args.template.now) (bits_of (octets_of c.args.bits)) c.new-fields.result c.args.steps.now c.new-fields.ensures c.requires)
+subsets-init c = (
+  refl,
+  none_yet (places c.args.template.now) (next_item c.args.cache.now c.args.template.now) (bits_of (octets_of c.args.bits)) c.new-fields.result c.args.steps.now
+      c.new-fields.ensures c.requires,
+)
 
 pub returns-clause-reads : goal.returns-clause-reads
 returns-clause-reads c =

@@ -5,4 +5,6 @@ use Rattle.bufr_walk.proofs.ShownLemmas.{SubsetsShown}
 use Rattle.bufr_walk.proofs.plain.show_plain.Given as goal
 
 abbrev pub invariant-subsets : goal.invariant-subsets
-invariant-subsets g l = (l.cache ≡ l.fn.cache) × ((all : List (List (Item Content))) (left : List Bool) → ReadsSubsets (next_item l.fn.cache l.given.template.now) all (bits_of (octets_of l.given.bits)) left → length all ≡ l.given.subsets → SubsetsShown g.V.Visitor.sees l.fn.cache (next_item l.fn.cache l.given.template.now) all l.done left l.fn.visitor l.input l.visitor l.steps)
+invariant-subsets g l = (l.cache ≡ l.fn.cache) × ((all : List (List (Item Content))) (left : List Bool)
+    → ReadsSubsets (next_item l.fn.cache l.given.template.now) all (bits_of (octets_of l.given.bits)) left → length all ≡ l.given.subsets
+    → SubsetsShown g.V.Visitor.sees l.fn.cache (next_item l.fn.cache l.given.template.now) all l.done left l.fn.visitor l.input l.visitor l.steps)

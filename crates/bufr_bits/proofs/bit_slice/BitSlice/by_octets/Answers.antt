@@ -3,11 +3,13 @@ use Rattle.bufr_bits.specs.Prelude.{number_of, bits_at}
 use Rattle.bufr_bits.proofs.BitLemmas.{field_in, window_from, next_part, power_fits, fits_in_63}
 use Rattle.bufr_bits.proofs.bit_slice.BitSlice.by_octets.Goals as goal
 
-next_value : (c : goal.After-from-in-loop-done) → c.loop-done.value * 2 ^ c.min-taken.result % 18446744073709551616 + c.from-in-loop-done.result % (1 * 2 ^ c.min-taken.result % 18446744073709551616) ≡ number_of (bits_at c.args.self.now.octets.now c.args.at (c.loop-done.done + c.min-taken.result))
+next_value : (c : goal.After-from-in-loop-done) → c.loop-done.value * 2 ^ c.min-taken.result % 18446744073709551616 + c.from-in-loop-done.result % (1 * 2 ^ c.min-taken.result % 18446744073709551616)
+    ≡ number_of (bits_at c.args.self.now.octets.now c.args.at (c.loop-done.done + c.min-taken.result))
 next_value c =
     let done = c.from.ensures in
     let small : get_or c.args.self.now.octets.now ((c.args.at + c.from.result) / 8) 0 < 256 = omega arith in
-    next_part c.args.self.now.octets.now c.args.at c.args.width c.loop-done.done c.min-taken.result c.loop-done.value (c.from-in-loop-done.result % (1 * 2 ^ c.min-taken.result % 18446744073709551616)) (omega arith) (omega arith) (omega arith) (omega arith) c.loop-done.invariant.so_far (rw done at small)
+    next_part c.args.self.now.octets.now c.args.at c.args.width c.loop-done.done c.min-taken.result c.loop-done.value
+    (c.from-in-loop-done.result % (1 * 2 ^ c.min-taken.result % 18446744073709551616)) (omega arith) (omega arith) (omega arith) (omega arith) c.loop-done.invariant.so_far (rw done at small)
     (ap (λ p. c.from-in-loop-done.result % p) (power_fits c.min-taken.result (omega arith)) ∙ ap (λ n. n % 2 ^ c.min-taken.result) (rw done at c.from-in-loop-done.ensures))
 
 pub returns-in-Some : goal.returns-in-Some

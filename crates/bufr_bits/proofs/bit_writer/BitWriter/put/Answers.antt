@@ -27,7 +27,8 @@ pub returns-else-width-self-clause-bits : goal.returns-else-width-self-clause-bi
 returns-else-width-self-clause-bits c =
     let few = c.self.invariant.few in
     let free = c.if-width-self.false in
-    both_bits c.self.inside.octets.items c.self.inside.last c.self.inside.count c.args.value c.args.width (omega arith) c.self.invariant.low c.requires.value ∙ ap (λ (w : BitWriterModel). w.bits ++ bits_in c.args.value c.args.width) c.self.view_is
+    both_bits c.self.inside.octets.items c.self.inside.last c.self.inside.count c.args.value c.args.width (omega arith) c.self.invariant.low c.requires.value
+    ∙ ap (λ (w : BitWriterModel). w.bits ++ bits_in c.args.value c.args.width) c.self.view_is
 
 pub returns-else-width-self-clause-len : goal.returns-else-width-self-clause-len
 returns-else-width-self-clause-len c = length-put c.args.self.now.bits _ c.args.value c.args.width (returns-else-width-self-clause-bits c)

@@ -12,7 +12,8 @@ overflow_add-self c =
 pub returns-then-width-free-clause-bits : goal.returns-then-width-free-clause-bits
 returns-then-width-free-clause-bits c =
     let few = c.if-width-free.true in
-    both_bits c.self.inside.octets.items c.self.inside.last c.self.inside.count c.args.value c.args.width (omega (arith, few, c.self.invariant.few)) c.self.invariant.low c.requires.value ∙ ap (λ (w : BitWriterModel). w.bits ++ bits_in c.args.value c.args.width) c.self.view_is
+    both_bits c.self.inside.octets.items c.self.inside.last c.self.inside.count c.args.value c.args.width (omega (arith, few, c.self.invariant.few)) c.self.invariant.low c.requires.value
+    ∙ ap (λ (w : BitWriterModel). w.bits ++ bits_in c.args.value c.args.width) c.self.view_is
 
 pub returns-then-width-free-clause-len : goal.returns-then-width-free-clause-len
 returns-then-width-free-clause-len c = length-put c.args.self.now.bits _ c.args.value c.args.width (returns-then-width-free-clause-bits c)
@@ -33,7 +34,8 @@ pub overflow_add-full : goal.overflow_add-full
 overflow_add-full c =
     let many = c.if-width-free.false in
     let few = c.self.invariant.few in
-    let fits = full_fits c.self.inside.last c.self.inside.count c.args.value c.args.width (64 - c.self.inside.count) (c.args.width - (64 - c.self.inside.count)) (omega arith) (omega arith) c.self.invariant.low c.requires.value in
+    let fits = full_fits c.self.inside.last c.self.inside.count c.args.value c.args.width (64 - c.self.inside.count) (c.args.width - (64 - c.self.inside.count)) (omega arith) (omega arith)
+    c.self.invariant.low c.requires.value in
     omega (arith, fits)
 
 pub returns-clause-bits : goal.returns-clause-bits
@@ -41,7 +43,9 @@ returns-clause-bits c =
     let many = c.if-width-free.false in
     let few = c.self.invariant.few in
     let narrow = c.requires.width in
-    full_bits c.self.inside.octets.items c.put.new.out.items _ c.self.inside.last c.self.inside.count c.args.value c.args.width (64 - c.self.inside.count) (c.args.width - (64 - c.self.inside.count)) (omega arith) (omega arith) (omega arith) c.self.invariant.low c.requires.value c.to_be_bytes.ensures c.put.ensures.items ∙ ap (λ (w : BitWriterModel). w.bits ++ bits_in c.args.value c.args.width) c.self.view_is
+    full_bits c.self.inside.octets.items c.put.new.out.items _ c.self.inside.last c.self.inside.count c.args.value c.args.width (64 - c.self.inside.count) (c.args.width - (64 - c.self.inside.count))
+    (omega arith) (omega arith) (omega arith) c.self.invariant.low c.requires.value c.to_be_bytes.ensures c.put.ensures.items
+    ∙ ap (λ (w : BitWriterModel). w.bits ++ bits_in c.args.value c.args.width) c.self.view_is
 
 pub returns-clause-len : goal.returns-clause-len
 returns-clause-len c = length-put c.args.self.now.bits _ c.args.value c.args.width (returns-clause-bits c)

@@ -10,4 +10,5 @@ returns-then-not-negative-clause-text c =
 pub returns-clause-text : goal.returns-clause-text
 returns-clause-text c =
     let sign = sym c.if-not-negative.false ∙ c.without_sign-negative.ensures.sign in
-    rw c.if-not-negative.false (minus_text c.args.text.now _ c.in_ok-digits.count c.in_ok-digits.digits c.in_ok-digits.places sign c.without_sign-negative.ensures.body c.in_ok-digits.ensures.plain (omega (arith, c.if-digits-eq0.false)))
+    rw c.if-not-negative.false (minus_text c.args.text.now _ c.in_ok-digits.count c.in_ok-digits.digits c.in_ok-digits.places sign c.without_sign-negative.ensures.body c.in_ok-digits.ensures.plain
+    (omega (arith, c.if-digits-eq0.false)))

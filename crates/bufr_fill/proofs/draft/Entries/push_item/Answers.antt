@@ -8,7 +8,8 @@ pub returns-clause-item : goal.returns-clause-item
 returns-clause-item c =
     let d = c.self.inside in
     ap (entries_stored c.extend_from_slice.new.self.items) c.in_ok-push.ensures.items
-    ∙ entries-push d.octets.items c.parts_of-kind.result.1.now c.extend_from_slice.new.self.items d.kept.items _ (Holds (draft_in c.args.item)) c.self.invariant c.in_ok-extend_from_slice.ensures.items (search rules) (search rules) (c.parts_of-kind.ensures.is c.args.item.line c.args.item.fxy _)
+    ∙ entries-push d.octets.items c.parts_of-kind.result.1.now c.extend_from_slice.new.self.items d.kept.items _ (Holds (draft_in c.args.item)) c.self.invariant
+    c.in_ok-extend_from_slice.ensures.items (search rules) (search rules) (c.parts_of-kind.ensures.is c.args.item.line c.args.item.fxy _)
     ∙ ap (λ (entries : List DraftEntry). entries ++ Holds (draft_in c.args.item) ∷ []) c.self.view_is
 
 pub returns-in_err-push-clause-same : goal.returns-in_err-push-clause-same
@@ -16,6 +17,7 @@ returns-in_err-push-clause-same c =
     let p = err_from_is_err_and c.from_residual-in_err-push.result c.from_residual-in_err-push.ensures.1 in
     let d = c.self.inside in
     rw (p.1) (
-    entries-same d.octets.items c.parts_of-kind.result.1.now c.extend_from_slice.new.self.items d.kept.items c.push.new.self.items c.self.invariant c.in_ok-extend_from_slice.ensures.items c.in_err-push.ensures.items
+    entries-same d.octets.items c.parts_of-kind.result.1.now c.extend_from_slice.new.self.items d.kept.items c.push.new.self.items c.self.invariant c.in_ok-extend_from_slice.ensures.items
+    c.in_err-push.ensures.items
     ∙ c.self.view_is
     )

@@ -9,10 +9,12 @@ use Rattle.bufr_fill.proofs.packed_out.PackedOut.new.Goals.{then-is_end+in_ok-pu
 pub loop-place-preserved : goal.loop-place-preserved
 loop-place-preserved c = elim c.if-is_end.branch [
   | then-is_end+in_ok-push w ↦
-      ends_here c.args.entries.now c.loop-place.ends.items c.if-is_end.ends.items c.loop-place.place c.is_end.result (omega (arith, c.loop-place-test.true, c.len-place-end.ensures)) c.is_end.ensures w.if-is_end.true
+      ends_here c.args.entries.now c.loop-place.ends.items c.if-is_end.ends.items c.loop-place.place c.is_end.result (omega (arith, c.loop-place-test.true, c.len-place-end.ensures)) c.is_end.ensures
+      w.if-is_end.true
       (ap (λ v. v.items) w.ends-is ∙ w.in_ok-push.ensures.items) c.loop-place.invariant
   | else-is_end w ↦
-      ends_after c.args.entries.now c.loop-place.ends.items c.if-is_end.ends.items c.loop-place.place c.is_end.result (omega (arith, c.loop-place-test.true, c.len-place-end.ensures)) c.is_end.ensures w.if-is_end.false
+      ends_after c.args.entries.now c.loop-place.ends.items c.if-is_end.ends.items c.loop-place.place c.is_end.result (omega (arith, c.loop-place-test.true, c.len-place-end.ensures)) c.is_end.ensures
+      w.if-is_end.false
       (ap (λ v. v.items) w.ends-is) c.loop-place.invariant
 ]
 
@@ -28,7 +30,8 @@ at_start subsets bits = record { subsets = subsets; place = 0; bits = bits }
 
 pub returns-then-is_empty : goal.returns-then-is_empty
 returns-then-is_empty c =
-    let are : c.loop-place.ends.items ≡ ends_of 0 c.args.entries.now = ends_done c.args.entries.now c.loop-place.ends.items _ c.loop-place.place (omega (arith, c.loop-place-test.false, c.len-place-end.ensures)) c.loop-place.invariant in
+    let are : c.loop-place.ends.items ≡ ends_of 0 c.args.entries.now =
+    ends_done c.args.entries.now c.loop-place.ends.items _ c.loop-place.place (omega (arith, c.loop-place-test.false, c.len-place-end.ensures)) c.loop-place.invariant in
     none_end c.args.entries.now (sym are ∙ empty_is c.loop-place.ends.items _ (search rules) (sym c.is_empty.ensures ∙ c.if-is_empty.true))
 
 pub returns : goal.returns

@@ -10,7 +10,8 @@ abbrev with_bits : List Subset → ℕ → List Bool → PackedOutModel
 with_bits subsets place bits = record { subsets = subsets; place = place; bits = bits }
 
 -- the room that one more item takes
-room_for : (old new item : List Bool) (place count : ℕ) → new ≡ old ++ item → length old ≤ 2550 * (place * count) → length item ≤ 2046 + 504 * count → 1 ≤ count → length new ≤ 2550 * ((place + 1) * count)
+room_for : (old new item : List Bool) (place count : ℕ) → new ≡ old ++ item → length old ≤ 2550 * (place * count) → length item ≤ 2046 + 504 * count → 1 ≤ count
+    → length new ≤ 2550 * ((place + 1) * count)
 room_for old new item place count e room few some = omega (arith, ap length e, length-append old item)
 
 pub put_drawn-requires-clause-room : goal.put_drawn-requires-clause-room
@@ -25,7 +26,8 @@ put_drawn-requires-clause-many c =
 pub returns-then-row-gt-MAX_VALUES-clause-step : goal.returns-then-row-gt-MAX_VALUES-clause-step
 returns-then-row-gt-MAX_VALUES-clause-step c =
     let d = c.self.inside in
-    let many : length c.deref.result.now ≡ length (cells_at d.place (subsets_of d.entries.now)) = ap length c.deref.ensures.value ∙ sym (count_cells d.place d.entries.now d.ends.items c.self.invariant.ends_are) in (
+    let many : length c.deref.result.now ≡ length (cells_at d.place (subsets_of d.entries.now)) =
+    ap length c.deref.ensures.value ∙ sym (count_cells d.place d.entries.now d.ends.items c.self.invariant.ends_are) in (
       subst (λ (s : PackedOutModel). pack_across c.args.spec.now (item_row s.place s.subsets) ≡ Err (at_line c.first_line.result (too_many_values c.fxy.result))) c.self.view_is
           (many_fault c.args.spec.now d.place (subsets_of d.entries.now) (subst (λ n. max_values < (d.place + 1) * n) many c.if-row-gt-MAX_VALUES.true)
           ∙ ap (λ n. Err (at_line n (too_many_values c.args.spec.now.fxy))) (sym c.first_line.ensures)
@@ -37,7 +39,12 @@ pub returns-in_err-range-clause-step : goal.returns-in_err-range-clause-step
 returns-in_err-range-clause-step c =
     let d = c.self.inside in
     let passed = err_from_is_err_and c.from_residual.result c.from_residual.ensures.1 in
-    let many : length c.deref.result.now ≡ length (cells_at d.place (subsets_of d.entries.now)) = ap length c.deref.ensures.value ∙ sym (count_cells d.place d.entries.now d.ends.items c.self.invariant.ends_are) in
+    let many : length c.deref.result.now ≡ length (cells_at d.place (subsets_of d.entries.now)) =
+    ap length c.deref.ensures.value ∙ sym (count_cells d.place d.entries.now d.ends.items c.self.invariant.ends_are) in
     let few = subst (λ n. (d.place + 1) * n ≤ max_values) many c.if-row-gt-MAX_VALUES.false in
     let why = draft_fault c.in_err-range.field-0.0 in
-    rw (passed.1 ∙ ap Err passed.2) (subst (λ (s : PackedOutModel). IfDraftFault why (λ f. pack_across c.args.spec.now (item_row s.place s.subsets) ≡ Err f)) c.self.view_is (put_fault c.args.spec.now d.place (subsets_of d.entries.now) few why c.in_err-range.ensures), c.self.view_is)
+    rw (passed.1 ∙ ap Err passed.2) (
+      subst (λ (s : PackedOutModel). IfDraftFault why (λ f. pack_across c.args.spec.now (item_row s.place s.subsets) ≡ Err f)) c.self.view_is
+          (put_fault c.args.spec.now d.place (subsets_of d.entries.now) few why c.in_err-range.ensures),
+      c.self.view_is,
+    )

@@ -19,7 +19,12 @@ overflow_add-start-2 c =
 
 pub unreachable-requires : goal.unreachable-requires
 unreachable-requires c =
-    omega (arith, none_there c.args.self.entries.now c.min.result c.in-None.ensures, c.min.ensures, end_within c.args.self.entries.now c.args.self.ends.now c.args.subset c.args.self.ends_are c.requires)
+    omega (
+      arith,
+      none_there c.args.self.entries.now c.min.result c.in-None.ensures,
+      c.min.ensures,
+      end_within c.args.self.entries.now c.args.self.ends.now c.args.subset c.args.self.ends_are c.requires,
+    )
 
 pub returns : goal.returns
 returns c =
@@ -29,5 +34,6 @@ returns c =
       | then-subset-eq0 w ↦ w.start-is ∙ ap (begin_of 0 ends) (sym w.if-subset-eq0.true)
       | else-subset-eq0 w ↦ search (rules, begin_more)
     ] in
-    found_entry c.args.self.place c.args.subset c.args.self.entries.now c.args.self.ends.now 0 c.if-subset-eq0.start (entry_with c.in-Some.found.0 c.in-Some.found.1.now) c.args.self.ends_are c.requires begin
+    found_entry c.args.self.place c.args.subset c.args.self.entries.now c.args.self.ends.now 0 c.if-subset-eq0.start (entry_with c.in-Some.found.0 c.in-Some.found.1.now) c.args.self.ends_are
+    c.requires begin
     (ap (slice_get c.args.self.entries.now) (sym c.min.ensures) ∙ sym c.in-Some.ensures)

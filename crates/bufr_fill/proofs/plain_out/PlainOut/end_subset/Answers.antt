@@ -18,7 +18,8 @@ returns c =
     let s = c.args.self.now in
     let next : after_end s.left ≡ Err (at_line (line_at s.left) item_too_many) = elim c.match-get.branch [
       | in-Some+else-is_end w ↦
-          item_next d.entries.now d.place d.out.bits s (entry_with w.in-Some.entry w.in-Some.field-0-1.now) c.self.view_is w.in-Some.ensures (sym (w.is_end.ensures w.in-Some.field-0-1.now) ∙ w.if-is_end.false)
+          item_next d.entries.now d.place d.out.bits s (entry_with w.in-Some.entry w.in-Some.field-0-1.now) c.self.view_is w.in-Some.ensures
+          (sym (w.is_end.ensures w.in-Some.field-0-1.now) ∙ w.if-is_end.false)
       | in_default w ↦ none_next d.entries.now d.place d.out.bits s c.self.view_is w.in_default.ensures
     ] in (
       (at_line c.line-line.result item_too_many, refl, next ∙ ap (λ line. Err (at_line line item_too_many)) (sym c.line-line.ensures)),

@@ -12,7 +12,8 @@ invariant_of-self c =
 
 pub returns-in-Ok-clause-step : goal.returns-in-Ok-clause-step
 returns-in-Ok-clause-step c =
-    filled_here c.self.inside.entries.now c.self.inside.place (entry_with c.in-Some.found.0 c.in-Some.found.1.now) c.args.spec.now c.in_ok-drawn.drawn c.taken_of.result c.self.inside.out.bits c.push_content.new.out.bits c.args.self.now
+    filled_here c.self.inside.entries.now c.self.inside.place (entry_with c.in-Some.found.0 c.in-Some.found.1.now) c.args.spec.now c.in_ok-drawn.drawn c.taken_of.result c.self.inside.out.bits
+    c.push_content.new.out.bits c.args.self.now
     c.self.view_is (sym c.in-Some.ensures) c.in_ok-drawn.ensures.is c.taken_of.ensures.gives c.in-Ok.ensures.ok c.in-Ok.ensures.some
 
 pub returns-in-None-clause-step : goal.returns-in-None-clause-step

@@ -13,5 +13,12 @@ returns-in-End c =
 
 pub returns-in-Found : goal.returns-in-Found
 returns-in-Found c =
-    let sound = sym (ap (λ x. x.fault) c.self.view_is) ∙ c.in_default.is in
-    ((refl, (λ _. tt), held-found _ _ _ _ _ _ sound (rw c.in-Found.is at c.pass.ensures.shows) (rw c.in-Found.is at c.pass.ensures.gone) c.pass.ensures.near c.pass.ensures.bound c.pass.ensures.most c.passed_event.ensures), search rules)
+    let sound = sym (ap (λ x. x.fault) c.self.view_is) ∙ c.in_default.is in (
+      (
+        refl,
+        (λ _. tt),
+        held-found _ _ _ _ _ _ sound (rw c.in-Found.is at c.pass.ensures.shows) (rw c.in-Found.is at c.pass.ensures.gone) c.pass.ensures.near c.pass.ensures.bound c.pass.ensures.most
+            c.passed_event.ensures,
+      ),
+      search rules,
+    )

@@ -39,7 +39,8 @@ returns-in_err-n-clause-fills g c =
       once.0,
       record {
         read = once.1.read;
-        held = subst E none (part-append c.make_room.new.octets.items c.read_after.new.buffer.items once.0 start filled (length once.0) (omega (arith, c.self.invariant)) (omega (arith, free.1, c.make_room.new.octets.ok.0)) once.1.held
+        held = subst E none (part-append c.make_room.new.octets.items c.read_after.new.buffer.items once.0 start filled (length once.0) (omega (arith, c.self.invariant))
+            (omega (arith, free.1, c.make_room.new.octets.ok.0)) once.1.held
             ∙ ap (λ l. l ++ once.0) (c.in_ok-slid.ensures.held ∙ ap (λ s. s.held) c.self.view_is));
         end = λ ended. absurd (true≢false (sym ended ∙ going));
         room = omega (arith, c.make_room.ensures.room, c.read_after.ensures.room, ap (λ s. s.room) c.self.view_is);
@@ -61,7 +62,8 @@ returns-clause-fills g c =
       once.0,
       record {
         read = once.1.read;
-        held = subst E (sym out.0) (part-append c.make_room.new.octets.items c.read_after.new.buffer.items once.0 start filled (length once.0) (omega (arith, c.self.invariant)) (omega (arith, free.1, c.make_room.new.octets.ok.0)) once.1.held
+        held = subst E (sym out.0) (part-append c.make_room.new.octets.items c.read_after.new.buffer.items once.0 start filled (length once.0) (omega (arith, c.self.invariant))
+            (omega (arith, free.1, c.make_room.new.octets.ok.0)) once.1.held
             ∙ ap (λ l. l ++ once.0) (c.in_ok-slid.ensures.held ∙ ap (λ s. s.held) c.self.view_is));
         end = λ ended. out.1 (zero ended);
         room = omega (arith, c.make_room.ensures.room, c.read_after.ensures.room, ap (λ s. s.room) c.self.view_is);

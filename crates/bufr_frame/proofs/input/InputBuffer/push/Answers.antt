@@ -14,5 +14,6 @@ returns c =
     let within : v.filled < vec_len v.octets = omega (arith, c.requires, ap (λ s. s.free) c.self.view_is) in
     let less : vec_len v.octets - (v.filled + 1) ≡ vec_len v.octets - v.filled - 1 = omega arith in
     subst P c.self.view_is
-    (ap (λ l. state l (vec_len v.octets - (v.filled + 1))) (part-append items pushed (c.args.octet ∷ []) v.start v.filled 1 (omega (arith, c.self.invariant)) (omega (arith, within, v.octets.ok.0)) (take_more_set items v.filled c.args.octet (omega (arith, within, v.octets.ok.0))))
+    (ap (λ l. state l (vec_len v.octets - (v.filled + 1))) (part-append items pushed (c.args.octet ∷ []) v.start v.filled 1 (omega (arith, c.self.invariant)) (omega (arith, within, v.octets.ok.0))
+    (take_more_set items v.filled c.args.octet (omega (arith, within, v.octets.ok.0))))
     ∙ ap (state (slice_range items v.start v.filled ++ c.args.octet ∷ [])) less)

@@ -19,12 +19,15 @@ pub returns-clause-value : goal.returns-clause-value
 returns-clause-value c =
     let stored = c.self.inside.stored.items in
     let small : c.args.fxy < 16384 = omega arith in
-    let found : place_of (fxys_of stored) c.args.fxy ≡ Some c.in_ok-place.place = rw (← c.self.invariant.members_or_none) (sym (rw (c.key.ensures.value, element-key c.args.fxy small) at c.in_ok-place.ensures.value)) in
+    let found : place_of (fxys_of stored) c.args.fxy ≡ Some c.in_ok-place.place =
+    rw (← c.self.invariant.members_or_none) (sym (rw (c.key.ensures.value, element-key c.args.fxy small) at c.in_ok-place.ensures.value)) in
     rw (← c.self.view_is, c.as_slice-octets.ensures.value) (entry-row c.self.inside.octets.items stored c.args.fxy c.in_ok-place.place c.index-stored.result.now found c.index-stored.ensures)
 
 pub returns-clause-limits : goal.returns-clause-limits
 returns-clause-limits c =
     let stored = c.self.inside.stored.items in
     let small : c.args.fxy < 16384 = omega arith in
-    let found : place_of (fxys_of stored) c.args.fxy ≡ Some c.in_ok-place.place = rw (← c.self.invariant.members_or_none) (sym (rw (c.key.ensures.value, element-key c.args.fxy small) at c.in_ok-place.ensures.value)) in
-    found-limits (rows_kept c.self.inside.octets.items stored) c.args.fxy _ c.self.invariant.limits (sym (rw c.as_slice-octets.ensures.value (entry-row c.self.inside.octets.items stored c.args.fxy c.in_ok-place.place c.index-stored.result.now found c.index-stored.ensures)))
+    let found : place_of (fxys_of stored) c.args.fxy ≡ Some c.in_ok-place.place =
+    rw (← c.self.invariant.members_or_none) (sym (rw (c.key.ensures.value, element-key c.args.fxy small) at c.in_ok-place.ensures.value)) in
+    found-limits (rows_kept c.self.inside.octets.items stored) c.args.fxy _ c.self.invariant.limits
+    (sym (rw c.as_slice-octets.ensures.value (entry-row c.self.inside.octets.items stored c.args.fxy c.in_ok-place.place c.index-stored.result.now found c.index-stored.ensures)))

@@ -7,7 +7,8 @@ use Rattle.bufr_tables.proofs.table_b.TableB.push.Goals as goal
 pub add-requires-clause-absent : goal.add-requires-clause-absent
 add-requires-clause-absent c =
     let old = c.self.inside in
-    rw (c.key.ensures.value, element-key c.args.row.now.fxy c.requires.element, c.self.invariant.members_or_none) (place-lacking old.octets.items old.stored.items c.args.row.now.fxy (rw c.self.view_is c.requires.absent))
+    rw (c.key.ensures.value, element-key c.args.row.now.fxy c.requires.element, c.self.invariant.members_or_none)
+    (place-lacking old.octets.items old.stored.items c.args.row.now.fxy (rw c.self.view_is c.requires.absent))
 
 pub invariant_of-self : goal.invariant_of-self
 invariant_of-self c =
@@ -43,8 +44,10 @@ invariant_of-self-2 c =
     record {
       kept = rw items (all-push _ old.stored.items c.in_ok-stored.stored (kept-grown _ _ old.stored.items kept.kept made.grows) made.ok.kept);
       elements = rw items (all-push (λ s. s.fxy < 16384) old.stored.items c.in_ok-stored.stored kept.elements (rw (ap (λ (row : Row). row.fxy) made.ok.same) c.requires.element));
-      limits = rw (items, rows_kept-push old.octets.items _ old.stored.items c.in_ok-stored.stored c.args.row.now kept.kept made.grows made.ok) (rows-push (rows_kept old.octets.items old.stored.items) (row_parsed c.args.row.now) kept.limits c.requires.limits);
-      members_or_none = rw (items, c.add.ensures, c.key.ensures.value, element-key c.args.row.now.fxy c.requires.element, kept.members_or_none) (rw (map-append, (ap (λ (row : Row). row.fxy) made.ok.same)) refl);
+      limits = rw (items, rows_kept-push old.octets.items _ old.stored.items c.in_ok-stored.stored c.args.row.now kept.kept made.grows made.ok)
+          (rows-push (rows_kept old.octets.items old.stored.items) (row_parsed c.args.row.now) kept.limits c.requires.limits);
+      members_or_none = rw (items, c.add.ensures, c.key.ensures.value, element-key c.args.row.now.fxy c.requires.element, kept.members_or_none)
+          (rw (map-append, (ap (λ (row : Row). row.fxy) made.ok.same)) refl);
     }
 
 pub returns : goal.returns

@@ -6,7 +6,8 @@ use Rattle.bufr_tables.proofs.table_d.TableD.begin.Goals as goal
 pub add-requires-clause-absent : goal.add-requires-clause-absent
 add-requires-clause-absent c =
     let old = c.self.inside in
-    rw (c.key.ensures.value, c.self.invariant.members_or_none) (place-lacking old.members.items old.runs.items c.args.sequence c.self.invariant.sequences c.requires.low c.requires.high (rw c.self.view_is c.requires.absent))
+    rw (c.key.ensures.value, c.self.invariant.members_or_none) (place-lacking old.members.items old.runs.items c.args.sequence c.self.invariant.sequences c.requires.low c.requires.high
+    (rw c.self.view_is c.requires.absent))
 
 pub invariant_of-self-2 : goal.invariant_of-self-2
 invariant_of-self-2 c =

@@ -21,5 +21,7 @@ returns c =
     let kept = c.self.invariant in
     let low : 49152 ≤ c.args.fxy = omega arith in
     let high : c.args.fxy < 65536 = omega arith in
-    let found : place_of (map run_key c.self.inside.runs.items) (key_of c.args.fxy) ≡ Some c.in_ok-place.place = rw (← kept.members_or_none) (sym (rw c.key.ensures.value at c.in_ok-place.ensures.value)) in
-    rw (← c.self.view_is, c.deref.ensures.value) (members-found c.self.inside.members.items c.self.inside.runs.items c.args.fxy kept.sequences c.in_ok-place.place c.index-run.result.now low high found c.index-run.ensures)
+    let found : place_of (map run_key c.self.inside.runs.items) (key_of c.args.fxy) ≡ Some c.in_ok-place.place =
+    rw (← kept.members_or_none) (sym (rw c.key.ensures.value at c.in_ok-place.ensures.value)) in
+    rw (← c.self.view_is, c.deref.ensures.value) (members-found c.self.inside.members.items c.self.inside.runs.items c.args.fxy kept.sequences c.in_ok-place.place c.index-run.result.now low high
+    found c.index-run.ensures)

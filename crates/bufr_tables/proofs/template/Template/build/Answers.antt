@@ -11,13 +11,15 @@ returns-in_err-list-clause-fault c =
 
 pub returns-then-not-growing-clause-fault : goal.returns-then-not-growing-clause-fault
 returns-then-not-growing-clause-fault c = λ other.
-    whole-empty (tables_of c.args.table_b.now c.args.table_d.now) c.args.descriptors.now (growth c.in_ok-cells.cells.items 0 0 false) (builder_model c.list.new.growing) _ (search rules) c.in_ok-list.ensures c.if-not-growing.true (search rules)
+    whole-empty (tables_of c.args.table_b.now c.args.table_d.now) c.args.descriptors.now (growth c.in_ok-cells.cells.items 0 0 false) (builder_model c.list.new.growing) _ (search rules)
+    c.in_ok-list.ensures c.if-not-growing.true (search rules)
 
 -- what has been built
 built : (c : goal.In_ok-push_cell) → IsBuilt (tables_of c.args.table_b.now c.args.table_d.now) c.args.descriptors.now c.push_cell.new.cells.items c.list.new.growing.depth
 built c =
     whole-built (tables_of c.args.table_b.now c.args.table_d.now) c.args.descriptors.now (builder_model c.list.new.growing) c.push_cell.new.cells.items
-    (whole-ok (tables_of c.args.table_b.now c.args.table_d.now) c.args.descriptors.now (growth c.in_ok-cells.cells.items 0 0 false) (builder_model c.list.new.growing) (search rules) c.in_ok-list.ensures c.if-not-growing.false)
+    (whole-ok (tables_of c.args.table_b.now c.args.table_d.now) c.args.descriptors.now (growth c.in_ok-cells.cells.items 0 0 false) (builder_model c.list.new.growing) (search rules)
+    c.in_ok-list.ensures c.if-not-growing.false)
     c.in_ok-push_cell.ensures.ok c.list.new.growing.within
 
 pub invariant_of-result : goal.invariant_of-result

@@ -9,7 +9,8 @@ use Rattle.bufr_text.proofs.dump.LineWriterVisitor.item.Goals as goal
 pub returns : goal.returns
 returns g c =
     let pushed : Pushes c.args.self.now (item_text (seen c.args.item.now) ++ 10 ∷ []) _ = elim c.match-value.branch [
-      | in-Number+in-Some+then-eq+in-Ok w ↦ rw w.self-is (retold w.push_number_line.ensures (number_line (seen c.args.item.now) (row_of_entry w.in-Some.entry) _ _ (search rules) (ap (option_map row_of_entry) w.in-Some.is) (search rules)))
+      | in-Number+in-Some+then-eq+in-Ok w ↦ rw w.self-is (retold w.push_number_line.ensures
+          (number_line (seen c.args.item.now) (row_of_entry w.in-Some.entry) _ _ (search rules) (ap (option_map row_of_entry) w.in-Some.is) (search rules)))
       | in_default w ↦ rw w.self-is w.push_any_item.ensures
     ] in
     record { pushes = rw append-nil at (pushed ⨾ c.end_line.ensures); status = c.status.ensures }

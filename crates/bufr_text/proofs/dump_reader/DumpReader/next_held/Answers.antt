@@ -26,7 +26,12 @@ returns-in-Between-clause-gives c = λ sound left mid first bs before waited.
     let ended = sym c.ended.ensures ∙ c.if-ended.true in
     let held = ends-none v.input.held (c.self-2.invariant.2 ended) (ap (λ x. has_no_feed x.held) is ∙ went.2) in
     let R : ReaderModel → Type 0 = λ s. HandlesEnd s s (Ok None) in
-    let end = subst R is (refl, held, done-between (state v.progress.at (place_now v.fault v.progress) v.input.held v.input.ended v.fault v.input.reads) (place-sound v.fault v.progress (ap (λ x. x.fault) is ∙ went.1) ∙ ap (λ p. place_with p v.progress.parts) c.in-Between.is) held) in
+    let end = subst R is (
+      refl,
+      held,
+      done-between (state v.progress.at (place_now v.fault v.progress) v.input.held v.input.ended v.fault v.input.reads)
+          (place-sound v.fault v.progress (ap (λ x. x.fault) is ∙ went.1) ∙ ap (λ p. place_with p v.progress.parts) c.in-Between.is) held,
+    ) in
     end-next left mid first s s bs call waits went.1 (sym (ap (λ x. x.ended) is) ∙ ended) (Ok None) end
 
 pub returns-then-ended : goal.returns-then-ended
@@ -40,7 +45,8 @@ returns-then-ended c =
     let none = sym (ap (λ s. s.fault) c.self.view_is) ∙ none-unless c.self.inside.fault c.in_default.not-Some in
     let R : ReaderModel → Type 0 = λ x. reported_at_end x.at x.place ≡ Refused x.at NotAllowed ∷ [] in
     let reports = subst R is (rw (place-sound v.fault v.progress (ap (λ x. x.fault) is ∙ went.1)) (reported-inside v.progress.place v.progress.parts v.progress.at c.in_default-place.not-Between)) in
-    let end = end-inside s c.stop.new.self v.progress.at c.stop.result (sym (ap (λ x. x.ended) is) ∙ ended) (sym (ap (λ x. x.held) is) ∙ held) reports (ap (λ x. x.at) is) c.stop.ensures.new c.stop.ensures.value in
+    let end = end-inside s c.stop.new.self v.progress.at c.stop.result (sym (ap (λ x. x.ended) is) ∙ ended) (sym (ap (λ x. x.held) is) ∙ held) reports (ap (λ x. x.at) is) c.stop.ensures.new
+    c.stop.ensures.value in
     record {
       gives = λ sound left mid first bs before waited.
           let call = call-takes left mid first c.args.self.now s bs [] before went.0 c.take_held.ensures.ended c.take_held.ensures.reads in

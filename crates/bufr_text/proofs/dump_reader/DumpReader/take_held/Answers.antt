@@ -33,7 +33,8 @@ returns-in-More-clause-went c =
     let sound = ap (λ s. s.fault) c.self.view_is ∙ c.requires.sound in
     let P : ReaderModel → Type 0 = λ s. ParsesHeldLines s (state n.at (place_now v.fault n) (drop c.in-Ok.len v.input.held) v.input.ended v.fault v.input.reads) [] in
     let W : InputModel → Type 0 = λ i. ParsesHeldLines c.args.self.now (state n.at (place_now v.fault n) i.held i.ended v.fault i.reads) [] in (
-      subst W (sym c.skip.ensures) (subst P c.self.view_is (takes-reports v.progress n v.fault v.fault v.input.held c.in-Ok.len v.input.ended v.input.reads taken.More (place_now v.fault n) takes sound (place-sound v.fault n sound))),
+      subst W (sym c.skip.ensures) (subst P c.self.view_is (takes-reports v.progress n v.fault v.fault v.input.held c.in-Ok.len v.input.ended v.input.reads taken.More (place_now v.fault n) takes
+          sound (place-sound v.fault n sound))),
       sound,
       ap (λ i. has_no_feed i.held) c.skip.ensures ∙ takes.all refl,
     )
@@ -50,7 +51,8 @@ returns-in-Refuses-clause-went c =
     let f = c.at-fault.result in
     let W : ReaderModel → Type 0 = λ s. TakesHeldLines s (state n.at (place_now (Some f) n) held v.input.ended (Some f) v.input.reads) (Err f) in
     let H : InputModel → Type 0 = λ i. TakesHeldLines c.args.self.now (state n.at (place_now (Some f) n) i.held i.ended (Some f) i.reads) (Err f) in
-    subst H (sym c.skip.ensures) (subst W c.self.view_is (refuses-went old n.at c.in-Refuses.line n held v.input.ended v.input.reads c.in-Refuses.refusal f c.at-fault.ensures (λ g. takes-reports v.progress n v.fault g v.input.held c.in-Ok.len v.input.ended v.input.reads step documents.Stopped takes sound refl)))
+    subst H (sym c.skip.ensures) (subst W c.self.view_is (refuses-went old n.at c.in-Refuses.line n held v.input.ended v.input.reads c.in-Refuses.refusal f c.at-fault.ensures
+    (λ g. takes-reports v.progress n v.fault g v.input.held c.in-Ok.len v.input.ended v.input.reads step documents.Stopped takes sound refl)))
 
 pub returns-in_default-clause-went : goal.returns-in_default-clause-went
 returns-in_default-clause-went c = grind (arith, common_steps, wants-here)
@@ -62,7 +64,8 @@ invariant_of-self-in-Gives c =
     let d : Progress = record { place = place.Between; at = n.at; parts = c.replace-parts.new.dest } in
     let takes = subst (λ h. TakesLines v.progress n h c.in-Ok.len taken.Gives) c.held-held.ensures (rw c.in-Gives.is at c.in-Ok.ensures.takes) in
     subst (IsReader v.fault d) (sym c.skip.ensures)
-    (reader-skips v.fault v.fault v.progress d v.input c.in-Ok.len (λ e. progress-between v.progress n d v.input.held c.in-Ok.len v.input.reads taken.Gives takes (c.self.invariant.3 e) refl refl) c.self.invariant)
+    (reader-skips v.fault v.fault v.progress d v.input c.in-Ok.len (λ e. progress-between v.progress n d v.input.held c.in-Ok.len v.input.reads taken.Gives takes (c.self.invariant.3 e) refl refl)
+    c.self.invariant)
 
 pub returns-in-Gives-clause-went : goal.returns-in-Gives-clause-went
 returns-in-Gives-clause-went c =
@@ -78,7 +81,8 @@ returns-in-Gives-clause-went c =
     let W : InputModel → Type 0 = λ i. ParsesHeldLines c.args.self.now (state n.at (place_now v.fault d) i.held i.ended v.fault i.reads) (documents.Complete c.replace-parts.result ∷ []) in
     let E : ReaderModel → Type 0 = λ s. TakesEndLine s.at s.held n.at held in
     let H : InputModel → Type 0 = λ i. TakesEndLine c.args.self.now.at c.args.self.now.held n.at i.held in (
-      subst W (sym c.skip.ensures) (subst P c.self.view_is (subst D (sym c.replace-parts.ensures.value) (takes-reports v.progress n v.fault v.fault v.input.held c.in-Ok.len v.input.ended v.input.reads taken.Gives (place_now v.fault d) takes sound (place-sound v.fault d sound)))),
+      subst W (sym c.skip.ensures) (subst P c.self.view_is (subst D (sym c.replace-parts.ensures.value)
+          (takes-reports v.progress n v.fault v.fault v.input.held c.in-Ok.len v.input.ended v.input.reads taken.Gives (place_now v.fault d) takes sound (place-sound v.fault d sound)))),
       sound,
       subst H (sym c.skip.ensures) (subst E c.self.view_is (takes.closes refl)),
     )

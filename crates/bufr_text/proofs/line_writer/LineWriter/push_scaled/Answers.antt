@@ -8,7 +8,8 @@ use Rattle.bufr_text.proofs.line_writer.LineWriter.push_scaled.Goals.{After-push
 use Rattle.bufr_text.proofs.line_writer.LineWriter.push_scaled.Goals as goal
 
 -- the sign was pushed, and then the other part
-signed : (g : Over) (c : After-push g) {d : LineModel} → Pushes c.push.new.self (unsigned_text c.unsigned_abs-size.result c.args.scale) d → Pushes c.args.self.now (decimal_text_of c.args.value c.args.scale) d
+signed : (g : Over) (c : After-push g) {d : LineModel} → Pushes c.push.new.self (unsigned_text c.unsigned_abs-size.result c.args.scale) d
+    → Pushes c.args.self.now (decimal_text_of c.args.value c.args.scale) d
 signed g c rest =
     let sign : c.if-value-lt0.sign.now ≡ sign_of c.args.value =
     elim c.if-value-lt0.branch [
@@ -24,7 +25,8 @@ returns-then-digits-places g c =
     let places = c.from-places.ensures ∙ c.unsigned_abs.ensures.value ∙ ap unsigned_abs scale in
     signed g (goal.at.returns-then-digits-places g c).After-push (retold (c.push-then-digits-places.ensures ⨾ c.push_zeros.ensures ⨾ c.push-then-digits-places-2.ensures)
     (pointed_few c.as_bytes-digits.result.now _ c.from-places.result _ c.if-digits-places.true refl refl
-    ∙ ap (pointed c.from-places.result) (c.as_bytes-digits.ensures.value ∙ c.format.ensures.text) ∙ unsigned_pointed c.unsigned_abs-size.result c.args.scale c.from-places.result (rw scale at c.if-scale-gt0.true) places))
+    ∙ ap (pointed c.from-places.result) (c.as_bytes-digits.ensures.value ∙ c.format.ensures.text)
+    ∙ unsigned_pointed c.unsigned_abs-size.result c.args.scale c.from-places.result (rw scale at c.if-scale-gt0.true) places))
 
 pub returns-then-scale-gt0 : goal.returns-then-scale-gt0
 returns-then-scale-gt0 g c =
@@ -32,7 +34,8 @@ returns-then-scale-gt0 g c =
     let places = c.from-places.ensures ∙ c.unsigned_abs.ensures.value ∙ ap unsigned_abs scale in
     signed g (goal.at.returns-then-scale-gt0 g c).After-push (retold (c.push-then-scale-gt0.ensures ⨾ (c.push-then-scale-gt0-2.ensures ⨾ c.push-then-scale-gt0-3.ensures))
     (pointed_many c.as_bytes-digits.result.now _ _ c.from-places.result c.if-digits-places.false c.split_at.ensures.front c.split_at.ensures.back
-    ∙ ap (pointed c.from-places.result) (c.as_bytes-digits.ensures.value ∙ c.format.ensures.text) ∙ unsigned_pointed c.unsigned_abs-size.result c.args.scale c.from-places.result (rw scale at c.if-scale-gt0.true) places))
+    ∙ ap (pointed c.from-places.result) (c.as_bytes-digits.ensures.value ∙ c.format.ensures.text)
+    ∙ unsigned_pointed c.unsigned_abs-size.result c.args.scale c.from-places.result (rw scale at c.if-scale-gt0.true) places))
 
 pub returns : goal.returns
 returns g c =

@@ -8,7 +8,8 @@ use Rattle.bufr_walk.proofs.compressed.PackedInFields.take.Goals as goal
 
 pub returns-then-items-from-gt-MAX_VALUES-clause-step : goal.returns-then-items-from-gt-MAX_VALUES-clause-step
 returns-then-items-from-gt-MAX_VALUES-clause-step c =
-    too_many_here c.args.self.now c.args.spec.now (bits_of (octets_of c.self.inside.bits)) c.self.inside.at c.self.inside.subsets c.self.inside.kept c.len.result c.from.result _ c.fxy.ensures (sym c.self.view_is) (omega arith) c.from.ensures c.if-items-from-gt-MAX_VALUES.true
+    too_many_here c.args.self.now c.args.spec.now (bits_of (octets_of c.self.inside.bits)) c.self.inside.at c.self.inside.subsets c.self.inside.kept c.len.result c.from.result _ c.fxy.ensures
+    (sym c.self.view_is) (omega arith) c.from.ensures c.if-items-from-gt-MAX_VALUES.true
 
 pub valid_item_at-requires-clause-within : goal.valid_item_at-requires-clause-within
 valid_item_at-requires-clause-within c = omega (arith, bits_length (octets_of c.self.inside.bits), c.self.invariant.within)
@@ -17,12 +18,14 @@ pub returns-in_err-seen-clause-step : goal.returns-in_err-seen-clause-step
 returns-in_err-seen-clause-step c =
     let p = err_from_is_err_and c.from_residual.result c.from_residual.ensures.1 in
     let few = few_here (bits_of (octets_of c.self.inside.bits)) c.self.inside.subsets c.self.inside.kept c.len.result c.from.result (omega arith) c.from.ensures c.if-items-from-gt-MAX_VALUES.false in
-    rw (p.1, p.2) (fault_here c.args.self.now c.args.spec.now (bits_of (octets_of c.self.inside.bits)) c.self.inside.at c.self.inside.subsets c.self.inside.kept _ (sym c.self.view_is) few c.in_err-seen.ensures.seen)
+    rw (p.1, p.2) (fault_here c.args.self.now c.args.spec.now (bits_of (octets_of c.self.inside.bits)) c.self.inside.at c.self.inside.subsets c.self.inside.kept _ (sym c.self.view_is) few
+    c.in_err-seen.ensures.seen)
 
 pub returns-in_err-place-clause-step : goal.returns-in_err-place-clause-step
 returns-in_err-place-clause-step c =
     let p = err_from_is_err_and c.from_residual-in_err-place.result c.from_residual-in_err-place.ensures.1 in
-    rw (p.1, p.2) (no_room c.args.self.now c.args.spec.now (bits_of (octets_of c.self.inside.bits)) c.self.inside.at c.self.inside.subsets c.self.inside.kept c.keep.new.self _ c.self.view_is c.in_err-place.ensures.same c.in_err-place.ensures.fault c.in_err-place.ensures.full)
+    rw (p.1, p.2) (no_room c.args.self.now c.args.spec.now (bits_of (octets_of c.self.inside.bits)) c.self.inside.at c.self.inside.subsets c.self.inside.kept c.keep.new.self _ c.self.view_is
+    c.in_err-place.ensures.same c.in_err-place.ensures.fault c.in_err-place.ensures.full)
 
 pub returns-clause-step : goal.returns-clause-step
 returns-clause-step c =

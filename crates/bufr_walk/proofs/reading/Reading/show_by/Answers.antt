@@ -19,4 +19,5 @@ returns-in-Together-clause-few g c = few_items c.args.self.now c.self.inside.kep
 
 pub returns-in-Apart-clause-bounded : goal.returns-in-Apart-clause-bounded
 returns-in-Apart-clause-bounded g c =
-    steps_within g.V.Visitor.sees c.args.self.now c.self.inside.kept c.args.visitor.now c.show_plain.new.visitor c.show_plain.result c.show_plain.new.steps (subst (λ r. IsSound r.template) c.self.view_is c.cells.ensures.flattened.sound) (subst (λ r. IsStoredReading r c.self.inside.kept) c.self.view_is c.self.invariant) (shown g c)
+    steps_within g.V.Visitor.sees c.args.self.now c.self.inside.kept c.args.visitor.now c.show_plain.new.visitor c.show_plain.result c.show_plain.new.steps
+    (subst (λ r. IsSound r.template) c.self.view_is c.cells.ensures.flattened.sound) (subst (λ r. IsStoredReading r c.self.inside.kept) c.self.view_is c.self.invariant) (shown g c)
