@@ -22,7 +22,7 @@ ECCODES = pathlib.Path("/usr/share/eccodes/definitions/bufr/tables/0/wmo")
 WREPORT = pathlib.Path("/usr/share/wreport")
 VERSIONS = range(7, 40)
 # What bufr-auto takes for read otherwise than meant, up to version 6.
-AUTO = (TOP / "scripts/bufr-auto").read_text()
+AUTO = (TOP / "scripts/bufr_auto.py").read_text()
 CHANGED_SINCE_6 = re.search(r'CHANGED_SINCE_6 = set\(\s*"""([^"]*)"""', AUTO)[1].split()
 # What wreport has otherwise. Of versions 12 and 13: members that are missing, or stand there twice.
 MISPRINTS = "301034 307046 307052 307054 307055 307084 308008 310019 310025".split()
