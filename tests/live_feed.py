@@ -4,7 +4,7 @@
 The output goes to a pipe and to a terminal, with half a message pending too, and all of it comes before a read that fails.
 A stray word that states 16 MB takes no memory. A file is still written in large blocks.
 """
-# rule: output-waits, input-not-read, fault-70
+# rule: output-held-back, input-not-read, fault-70
 import os
 import pathlib
 import pty

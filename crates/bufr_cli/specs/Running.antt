@@ -210,7 +210,7 @@ pub record RunCut (pieces : RunPieces)
       → WritesPieces output output' errors errors' (read_pieces pieces ended bs)
 
 -- all is handed on where the run went through, or a read of it failed
--- rule: output-waits
+-- rule: output-held-back
 abbrev pub HandsOn : {X : Type 0} → Result X RunFault → (all : Type 0) → Type 0
 HandsOn (Ok x) all = all
 HandsOn (Err Read) all = all
