@@ -202,7 +202,7 @@ $1 == "message" {
     if (is_joined && !next_listed())
         fail("the text has more messages than the listing")
 }
-$1 == "end" { end_subset(); is_open = 0 }
+$1 == "end" { end_subset(); is_open = 0; fflush() }
 $1 == "subset" {
     end_subset()
     subset = $2
