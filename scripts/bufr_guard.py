@@ -163,6 +163,8 @@ def reason(error: BaseException) -> str:
     """What is told of an exception; of one that no script meant, its place too."""
     if isinstance(error, Failed):
         return str(error)
+    if isinstance(error, ModuleNotFoundError):
+        return f"{error.name} is not installed for this Python (Debian: apt-get install python3-{error.name})"
     if isinstance(error, OSError) and error.strerror:
         is_named = isinstance(error.filename, (str, bytes))
         return f"{os.fsdecode(error.filename)}: {error.strerror}" if is_named else error.strerror

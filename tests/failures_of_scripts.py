@@ -296,6 +296,10 @@ def options(trial: Trial) -> None:
     trial.words = kept
     done = trial.run(["--nonsense"])
     holds(f"{trial.name} --nonsense", done.returncode == 2 and b"\n" == done.stderr[-1:], done)
+    if trial.name == "bufr-dask":
+        (trial.place / "distributed.py").write_text("raise ModuleNotFoundError(name=__name__)\n")
+        done = trial.run([SYNOP], environment={"PYTHONPATH": str(trial.place)})
+        trial.fails("a package that is not there", done, "bufr-dask: distributed is not installed for this Python")
     if trial.name in OTHERS:
         return
     shutil.copy(SYNOP, trial.place / "-")
