@@ -17,21 +17,6 @@ LINE, HEADER = 4096, 1 << 16
 END = b"\nend\n"
 # So many kinds of notes are told apart.
 KINDS_OF_NOTES = 1000
-# How a file begins that has no message, and what it is.
-KINDS_OF_FILES = {
-    b"\x1f\x8b": "gzip data (zcat)",
-    b"BZh": "bzip2 data (bzcat)",
-    b"\xfd7zXZ": "xz data (xzcat)",
-    b"\x28\xb5\x2f\xfd": "zstd data (zstdcat)",
-    b"PK\3\4": "a zip archive (unzip -p)",
-    b"GRIB": "GRIB",
-    b"CDF": "netCDF",
-    b"\x89HDF": "HDF5",
-    b"<!doctype html": "HTML",
-    b"<html": "HTML",
-    b"<?xml": "XML",
-    b"message\n": "the text of a dump (--encode)",
-}
 # The descriptors of versions up to 6 that version 13 has otherwise.
 CHANGED_SINCE_6 = set(
     """
@@ -82,18 +67,6 @@ class Feed:
         self.taken += len(octets)
         self.begin += octets[: 256 - len(self.begin)]
         return octets
-
-    def looks(self) -> str:
-        """What it looks like, where that is known."""
-        if not self.taken:
-            return ": it is empty"
-        begin = self.begin.lstrip()
-        if begin[:1] == b"<":
-            begin = begin.lower()
-        kind = next((kind for sign, kind in KINDS_OF_FILES.items() if begin.startswith(sign)), None)
-        if kind is None and all(octet >= 32 or octet in b"\1\3\t\n\r" for octet in begin):
-            kind = "text"
-        return f": it looks like {kind}" if kind else ""
 
     def close(self) -> None:
         if self.descriptor:
@@ -421,7 +394,7 @@ class Work:
                 if not piece:
                     yield None
             if not count:
-                self.last.append(f"bufr-auto: {feed.name} has no {self.kind.PIECE}{feed.looks()}\n".encode())
+                self.last.append(bufr_guard.bare(feed.name, feed.begin, self.kind.PIECE))
         except Unread as unread:
             self.fail(unread)
         yield part

@@ -17,7 +17,7 @@ where it cannot go on.
 - `start` and `wait` run a program, which a signal ends with the script. `checked` tells one that did not end well.
 - `opened`, `temporary`, `put_aside` and `copied` give descriptors; where the folder of temporary files is full they
   say so. `output` is standard output in large blocks.
-- `say` writes lines on standard error, `Progress` a line that goes away again.
+- `say` writes lines on standard error, `Progress` a line that goes away again. `bare` is one of a file without a message.
 
 It imports next to nothing, since it is loaded at each start.
 """
@@ -31,6 +31,21 @@ import time
 BLOCK = 1 << 20
 NOWHERE = float("inf")
 RUNNING = set()
+# How a file begins that has no message, and what it is.
+KINDS_OF_FILES = {
+    b"\x1f\x8b": "gzip data (zcat)",
+    b"BZh": "bzip2 data (bzcat)",
+    b"\xfd7zXZ": "xz data (xzcat)",
+    b"\x28\xb5\x2f\xfd": "zstd data (zstdcat)",
+    b"PK\3\4": "a zip archive (unzip -p)",
+    b"GRIB": "GRIB",
+    b"CDF": "netCDF",
+    b"\x89HDF": "HDF5",
+    b"<!doctype html": "HTML",
+    b"<html": "HTML",
+    b"<?xml": "XML",
+    b"message\n": "the text of a dump (--encode)",
+}
 
 
 class Failed(Exception):
@@ -148,6 +163,8 @@ def reason(error: BaseException) -> str:
     """What is told of an exception; of one that no script meant, its place too."""
     if isinstance(error, Failed):
         return str(error)
+    if isinstance(error, ModuleNotFoundError):
+        return f"{error.name} is not installed for this Python (Debian: apt-get install python3-{error.name})"
     if isinstance(error, OSError) and error.strerror:
         is_named = isinstance(error.filename, (str, bytes))
         return f"{os.fsdecode(error.filename)}: {error.strerror}" if is_named else error.strerror
@@ -206,6 +223,18 @@ def say(lines: bytes) -> None:
         if not hasattr(say, "file"):
             say.file = open(2, "wb", BLOCK, closefd=False)
         say.file.write(lines)
+
+
+def bare(file, begin: bytes, piece: str = "message") -> bytes:
+    """The line that a file, or standard input, has no message, and what it looks like by its beginning."""
+    head = begin.lstrip()
+    if head[:1] == b"<":
+        head = head.lower()
+    kind = next((kind for sign, kind in KINDS_OF_FILES.items() if head.startswith(sign)), None)
+    if kind is None and all(octet >= 32 or octet in b"\1\3\t\n\r" for octet in head):
+        kind = "text"
+    looks = ": it is empty" if not begin else f": it looks like {kind}" if kind else ""
+    return f"{name()}: {shown(file or 'standard input')} has no {piece}{looks}\n".encode()
 
 
 class Progress:
@@ -331,11 +360,20 @@ def leave(number: int, _frame) -> None:
 
 def opened(file) -> int:
     """A descriptor of a file, or of standard input, that can be read at any place: of what cannot a copy is made."""
+    descriptor = to_read(file)
+    return descriptor if is_regular(descriptor) else copied(descriptor)
+
+
+def to_read(file) -> int:
+    """A descriptor of a file, or of standard input."""
     try:
-        descriptor = 0 if file is None else os.open(file, os.O_RDONLY)
+        return 0 if file is None else os.open(file, os.O_RDONLY)
     except OSError:
         raise Failed(f"cannot open {file}") from None
-    return descriptor if stat.S_ISREG(os.fstat(descriptor).st_mode) else copied(descriptor)
+
+
+def is_regular(descriptor: int) -> bool:
+    return stat.S_ISREG(os.fstat(descriptor).st_mode)
 
 
 def temporary() -> int:
@@ -416,6 +454,8 @@ def fault_lines(errors: int):
     with open(os.dup(errors), "rb") as lines:
         lines.seek(0)
         for line in lines:
+            if not line.endswith(b"\n"):
+                return  # there was no room for the rest
             offset = line[7 : line.find(b":")]
             yield (int(offset) if line.startswith(b"offset ") and offset.isdigit() else NOWHERE), line
 

@@ -9,7 +9,7 @@
 # in wide.awk. A descriptor stands for its first item; texts and missing values are as in long.awk.
 #
 # A group's first pass begins behind its factor (031000 to 031002), and the next one where the descriptor comes again
-# with which that began. A group inside a pass belongs to the pass. A subset is passed over where it has no such level,
+# with which that began. So a pass of two like halves counts as two. A group inside a pass belongs to it. A subset is passed over where it has no such level,
 # and where that descriptor comes twice in a pass. These subsets, and columns that no row had, are told on standard error
 # at the end. The status is 1 where passes could not be told apart. It is 2 where a column is no descriptor and no key,
 # and where listing, fault lines and text are not of one stream. Any awk will do.
@@ -202,7 +202,7 @@ $1 == "message" {
     if (is_joined && !next_listed())
         fail("the text has more messages than the listing")
 }
-$1 == "end" { end_subset(); is_open = 0 }
+$1 == "end" { end_subset(); is_open = 0; fflush() }
 $1 == "subset" {
     end_subset()
     subset = $2

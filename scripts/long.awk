@@ -42,7 +42,7 @@ BEGIN { print "message,subset,item,descriptor,value,name,unit" }
 
 $0 == "" || /^#/ { next }
 $0 == "message" { message++; subset = 0; is_open = 1; next }
-$0 == "end" { subset = is_open = 0; next }
+$0 == "end" { subset = is_open = 0; fflush(); next }
 /^subset [0-9]/ { subset = $2; item = 0; next }
 
 subset {

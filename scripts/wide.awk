@@ -109,7 +109,7 @@ $1 == "message" {
         fail("the text has more messages than the listing")
     next
 }
-$1 == "end" { row(); is_open = 0; next }
+$1 == "end" { row(); is_open = 0; fflush(); next }
 $1 == "subset" {
     row()
     subset = $2

@@ -1,12 +1,13 @@
 #!/usr/bin/env python3
 """Each awk that is there makes the same tables of the examples, and long.awk a row of seven fields for each item. What
-two scripts have alike, since a script is one file, is the same.
+two scripts have alike, since a script is one file, is the same. Of a feed the rows of a message are there at its end.
 
     tests/awk_scripts.py [PROGRAM]
 """
 import csv
 import os
 import re
+import select
 import shutil
 import subprocess
 
@@ -32,6 +33,8 @@ ODD_ROWS = b"""message,subset,item,descriptor,value,name,unit
 """
 LONG = ["-f", str(TOP / "scripts/long.awk")]
 WIDE = ["-v", "columns=001002,001015,012101:2", "-f", str(TOP / "scripts/wide.awk")]
+LEVELS = ["-v", "columns=012101", "-f", str(TOP / "scripts/levels.awk")]
+FEED = b"message\nsubset 1\n001002 1\n031001 2\n012101 28.5\n012101 29.5\nend\n"
 
 
 def run(words: list, text: bytes) -> tuple:
@@ -39,6 +42,23 @@ def run(words: list, text: bytes) -> tuple:
     pipe, environment = subprocess.PIPE, {**os.environ, "LC_ALL": "C.UTF-8"}
     done = subprocess.run(words, input=text, stdout=pipe, stderr=pipe, env=environment)
     return done.returncode, done.stdout, done.stderr
+
+
+def serves(words: list) -> bool:
+    """Whether the rows of a message are there before the input ends."""
+    if "mawk" in os.path.realpath(shutil.which(words[0])):
+        words = [words[0], "-Winteractive", *words[1:]]
+    with subprocess.Popen(words, stdin=subprocess.PIPE, stdout=subprocess.PIPE, stderr=subprocess.DEVNULL) as script:
+        script.stdin.write(FEED)
+        script.stdin.flush()
+        read = b""
+        while b"29.5" not in read and select.select([script.stdout], [], [], 20)[0]:
+            octets = os.read(script.stdout.fileno(), 1 << 12)
+            if not octets:
+                break
+            read += octets
+        script.stdin.close()
+    return b"29.5" in read
 
 
 def functions(script: str) -> dict:
@@ -65,6 +85,8 @@ def main() -> None:
         for text, wanted in ((ODD, (0, ODD_ROWS, b"")), (ODD[:-4], (2, ODD_ROWS, told))) if shutil.which(awk[0]) else ():
             done = run([*awk, *LONG], text)
             wrongs += [f"{awk}: long.awk gives {done} of {text}"] * (done != wanted)
+        for script in (LONG, ["-v", "columns=012101:2", *WIDE[2:]], LEVELS) if shutil.which(awk[0]) else ():
+            wrongs += [f"{awk}: of a feed the rows of {script[-1]} are not there"] * (not serves([*awk, *script]))
     wide, levels = functions("wide.awk"), functions("levels.awk")
     alike = {name for name in wide if wide[name] == levels.get(name)}
     wrongs += [f"wide.awk and levels.awk are alike in {alike}"] * (alike != {"fail", "field", "next_listed"})

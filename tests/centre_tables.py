@@ -128,6 +128,8 @@ def main() -> None:
         holds("encode", done.stdout, message)
         holds("bufr-lacks behind", script("bufr-lacks", message + b"".join(others)), (1, other_lines, ""))
         holds("nothing lacks", script("bufr-lacks", message), (0, "", ""))
+        told = "bufr-lacks: standard input has no message: it looks like HTML\n"
+        holds("no message", script("bufr-lacks", b"<HTML>"), (0, "", told))
         holds("a fault alone", script("bufr-lacks", b"BUFR" + message), (1, "", "offset 0: 1 cut\n"))
         (place / "stream").write_bytes(b"BUFR" + message + b"".join(others))
         for name, output, errors in (("bufr-lacks", other_lines, ""), ("bufr-auto", TEXT, "offset")):

@@ -4,12 +4,15 @@
     tests/extract_messages.py [PROGRAM]
 
 Each condition is given over a file, over standard input as a file, and over a pipe: the same messages must come, with the
-fault lines and the status of `bufr ls`. Of 100,000 messages of 10 KB it takes at most twice the processor time of
+fault lines and the status of `bufr ls`. Of a feed each message is there at once. Of 100,000 messages of 10 KB it takes at most twice the processor time of
 `bufr ls`, a Python that does nothing, and a copy of what it takes together. The commands take turns, and the least
 seconds of each count: of ten rounds, or of fewer where these do.
 """
+import gzip
 import os
 import pathlib
+import select
+import shutil
 import subprocess
 import sys
 import tempfile
@@ -143,6 +146,46 @@ def tells_years_of_the_century(folder: pathlib.Path) -> None:
         want(done.stderr.decode().startswith(told) and bool(done.stderr) == bool(told), f"{words} is told {done.stderr}")
 
 
+def tells_that_there_is_no_message(path: pathlib.Path) -> None:
+    """A file without a message is told, however it is read, and not one of which nothing is taken."""
+    zipped, cut = gzip.compress(made(1)), b"BUFR\0\0\x40\x04" + bytes(60)
+    for octets, told, status in (
+        (zipped, ": it looks like gzip data (zcat)", 0),
+        (b"", ": it is empty", 0),
+        (cut, "", 1),
+        (made(1), None, 0),
+        (cut + made(1), None, 1),
+    ):
+        path.write_bytes(octets)
+        for words in ([], ["category=9"], ["--awk", "0"]):
+            for name, done in ((path, run([*words, path])), ("standard input", run(words, input=octets))):
+                lines = done.stderr.decode().splitlines()
+                wanted = [] if told is None else [f"bufr-extract: {name} has no message{told}"]
+                want((done.returncode, lines[status:]) == (status, wanted), f"{words} of {octets[:9]}: {done}")
+
+
+def serves_a_feed(folder: pathlib.Path) -> None:
+    """Each message is there before the next one is sent, by any awk."""
+    for awk in filter(None, map(shutil.which, ("awk", "mawk", "gawk"))):
+        (folder / "awk").unlink(missing_ok=True)
+        (folder / "awk").symlink_to(os.path.realpath(awk))
+        path = f"{folder}:{os.environ['PATH']}"
+        for words in ([], ["category!=0"], ["--awk", "1 # each"], ["category!=0", "--awk", 'value["length"] > 0']):
+            with subprocess.Popen(
+                [sys.executable, EXTRACT, *words],
+                stdin=subprocess.PIPE,
+                stdout=subprocess.PIPE,
+                bufsize=0,
+                env={**os.environ, "PATH": path},
+            ) as feed:
+                for number in (1, 2, 3):
+                    feed.stdin.write(HEADING + made(number))
+                    is_there = select.select([feed.stdout], [], [], 20)[0]
+                    want(is_there and feed.stdout.read(1 << 16) == made(number), f"{awk}, {words}: a message waits")
+                feed.stdin.close()
+                want(feed.wait() == 0 and not feed.stdout.read(), f"{awk}, {words}: a feed ends otherwise")
+
+
 def takes_at_most_twice_the_time(program: str, folder: pathlib.Path) -> None:
     path, output = folder / "long.bufr", folder / "output"
     pieces = b"".join(made(number, 10_000) for number in range(100))
@@ -178,6 +221,8 @@ def main() -> None:
         takes_what_is_asked(program, folder / "stream.bufr")
         refuses_what_it_cannot(folder / "one.bufr")
         tells_years_of_the_century(folder)
+        tells_that_there_is_no_message(folder / "none")
+        serves_a_feed(folder)
         takes_at_most_twice_the_time(program, folder)
 
 

@@ -204,6 +204,10 @@ def killed(trial: Trial) -> None:
                     trial.fails(f"{command} and {how}, {moment}", done, f"cannot go on: bufr ended with {told}")
                 else:  # where errors of `bufr` go to the same place, that is told there
                     holds(f"{trial.name}: {command} and {how}", trial.name in ("bufr-extract", "bufr-lacks"), done)
+    if trial.name == "bufr-parallel":  # its fault lines wait in a file, where there may be no room for the last one
+        done = trial.run([SYNOP], environment=trial.program('if [ "$1" = ls ]; then printf "offset 2" >&2; exit 2; fi'))
+        told = "bufr-parallel: cannot go on: bufr ended with 2\n"
+        holds("bufr-parallel, a fault line that is cut", (done.returncode, done.stderr.decode()) == (2, told), done)
     done = trial.run([SYNOP], environment={"BUFR": "/nosuch"})
     trial.fails("no program", done, "cannot run /nosuch: No such file or directory")
 
@@ -296,6 +300,10 @@ def options(trial: Trial) -> None:
     trial.words = kept
     done = trial.run(["--nonsense"])
     holds(f"{trial.name} --nonsense", done.returncode == 2 and b"\n" == done.stderr[-1:], done)
+    if trial.name == "bufr-dask":
+        (trial.place / "distributed.py").write_text("raise ModuleNotFoundError(name=__name__)\n")
+        done = trial.run([SYNOP], environment={"PYTHONPATH": str(trial.place)})
+        trial.fails("a package that is not there", done, "bufr-dask: distributed is not installed for this Python")
     if trial.name in OTHERS:
         return
     shutil.copy(SYNOP, trial.place / "-")

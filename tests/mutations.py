@@ -52,6 +52,10 @@ MUTATIONS = [
     ("scripts/bufr-extract", "base + begin, base + end", "begin, end", "tests/extract_messages.py"),
     ("scripts/bufr-extract", "pattern += f\"| edition=3", "pattern += f\"|", "tests/extract_messages.py"),
     ("scripts/bufr-extract", "raise Failed(\"write failed\") from None", "raise", "tests/extract_messages.py"),
+    ("scripts/bufr-extract", "        if feeder:\n            hand_on(bufr_guard.flush)\n", "", "tests/extract_messages.py"),
+    ("scripts/bufr-extract", " and is_bare(stream, base)", "", "tests/extract_messages.py"),
+    ("scripts/bufr-extract", "        raise feeder.failure\n", "        pass\n", "tests/failures_of_scripts.py bufr-extract"),
+    ("scripts/bufr_guard.py", "if not line.endswith(b\"\\n\"):", "if False:", "tests/failures_of_scripts.py bufr-parallel"),
     (
         "scripts/bufr-extract",
         "        bufr_guard.checked(status, what=program)\n",

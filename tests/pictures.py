@@ -177,7 +177,7 @@ def main() -> None:
         folder = pathlib.Path(place)
         # a Python that finds another matplotlib first, which cannot be imported
         (folder / "hidden").mkdir()
-        (folder / "hidden/matplotlib.py").write_text("raise ImportError\n")
+        (folder / "hidden/matplotlib.py").write_text("raise ModuleNotFoundError(name=__name__)\n")
         done = run(
             sys.executable,
             ["map", folder / "a.png"],

@@ -1,10 +1,12 @@
 #!/usr/bin/env python3
 """Runs every case of cases.tsv on a program with the command line of `bufr`, and tells those that it answers otherwise.
 
-    tests/vectors/run.py PROGRAM [WORD..]        as PROGRAM, or as ./run.py python3 my_bufr.py
+    tests/vectors/run.py [--only TEXT] PROGRAM [WORD..]        as PROGRAM, or as ./run.py python3 my_bufr.py
 
-README.md beside it says what the files are. The status is 1 where a case is answered otherwise, and 2 without a program.
+--only tries the cases with this text in their name, rules or words. A program has 20 seconds for each case. README.md
+beside it says what the files are. The status is 1 where a case is answered otherwise, and 2 where none can be tried.
 """
+import argparse
 import csv
 import os
 import pathlib
@@ -12,6 +14,7 @@ import subprocess
 import sys
 
 HERE = pathlib.Path(__file__).resolve().parent
+SECONDS = 20
 
 
 def content(name: str) -> bytes:
@@ -21,7 +24,11 @@ def content(name: str) -> bytes:
 def unlike(program: list, case: dict) -> list:
     """What the program answers otherwise."""
     words = [*program, *case["words"].split()]
-    done = subprocess.run(words, input=content(case["input"]), stdout=subprocess.PIPE, stderr=subprocess.PIPE, cwd=HERE)
+    pipe = subprocess.PIPE
+    try:
+        done = subprocess.run(words, input=content(case["input"]), stdout=pipe, stderr=pipe, cwd=HERE, timeout=SECONDS)
+    except subprocess.TimeoutExpired:
+        return [f"no end after {SECONDS} seconds"]
     wanted = {"status": int(case["status"]), "output": content(case["output"]), "faults": content(case["faults"])}
     given = {"status": done.returncode, "output": done.stdout, "faults": done.stderr}
     return [
@@ -32,20 +39,26 @@ def unlike(program: list, case: dict) -> list:
 
 
 def main() -> None:
-    if len(sys.argv) < 2:
-        print(__doc__, file=sys.stderr)
-        sys.exit(2)
-    program = [os.path.abspath(word) if os.sep in word or os.path.exists(word) else word for word in sys.argv[1:]]
+    asker = argparse.ArgumentParser(description=__doc__, formatter_class=argparse.RawDescriptionHelpFormatter)
+    asker.add_argument("--only", metavar="TEXT", default="")
+    asker.add_argument("program", metavar="PROGRAM", nargs=argparse.REMAINDER)
+    asked = asker.parse_args()
+    if not asked.program:
+        asker.error("name the program")
+    program = [os.path.abspath(word) if os.sep in word or os.path.exists(word) else word for word in asked.program]
     with open(HERE / "cases.tsv", encoding="ascii", newline="") as file:
-        cases = list(csv.DictReader(file, delimiter="\t"))
+        cases = [case for case in csv.DictReader(file, delimiter="\t") if asked.only in " ".join(case.values())]
     wrong = 0
     for case in cases:
-        told = unlike(program, case)
+        try:
+            told = unlike(program, case)
+        except OSError as error:
+            asker.error(f"cannot run {program[0]}: {error.strerror}")
         wrong += bool(told)
         for line in told:
             print(f"{case['case']}: {line}")
     print(f"{len(cases) - wrong} of {len(cases)} vectors are answered as they should be")
-    sys.exit(1 if wrong or not cases else 0)
+    sys.exit(2 if not cases else 1 if wrong else 0)
 
 
 if __name__ == "__main__":
