@@ -6,7 +6,8 @@ use Rattle.std.proofs.lemmas.Bool.{ltb-false}
 use Rattle.std.specs.List.{AllByRecursion}
 use Rattle.bufr_tables.specs.Prelude.{IsLegal, Record, Row, AreRows, Tree}
 use Rattle.bufr_walk.specs.Prelude.{FieldSpec, IsSpec, Content, bits_for, FieldFault, found, content_at, Course, Next, take_next, at_end, astray, refused, next_item, max_values, Item, DataCoding, plain, packed, ReadsPass}
-use Rattle.bufr_fill.specs.Prelude.{Draft, Subset, DraftFaultKind, FaultAt, at_line, too_many_values, content_of, plainly, plain_filler, RowCell, ItemRow, cells_at, rows, longest, at_line_if_fault, content_here, contents_here, packed_to, are_many, pack_across, packed_filler, plain_data, packed_data, first_line, ◌>>=◌, WrittenItem, written_item, Filler, fill, fill_one, fill_none, filled, with_bits_before, packing, Fits, AllFit, HasOctets, AllHaveOctets, IsSaid, AreSaidFrom, IsReadBack, IsPackedReadBack, AreDrafts, items_of_subset}
+use Rattle.bufr_fill.specs.Prelude.{Draft, Subset, DraftFaultKind, FaultAt, at_line, too_many_values, content_of, plainly, plain_filler, RowCell, ItemRow, cells_at, rows, longest, at_line_if_fault, content_here, contents_here, packed_to, are_many, pack_across, packed_filler, plain_data, packed_data, first_line, ◌>>=◌, WrittenItem, written_item, Filler, fill, with_bits_before, packing, Fits, AllFit, HasOctets, AllHaveOctets, IsSaid, AreSaidFrom, IsReadBack, IsPackedReadBack, AreDrafts, items_of_subset}
+use Rattle.bufr_fill.proofs.FillSteps.{filled, fill_one, fill_none, fill_more, fill_last}
 use Rattle.bufr_walk.proofs.NextField.{table_read, IsGoodCourse, next_field}
 use Rattle.bufr_walk.specs.Prelude.{IsWithin}
 use Rattle.bufr_fill.proofs.GoodReads.{draft_fits, answer_within}
@@ -67,8 +68,8 @@ module _ {C D E : Type 0} (form : DataCoding C) (filler : Filler D C E) (of_item
     back_next (refused why) q e = cc
 
   pub back : (course : Course) (ds : List D) (out : List Bool) → IsGoodCourse course → AllByRecursion HasText ds → fill filler course ds ≡ Ok out → IsBack form of_item course ds out
-  back course [] out good texts e = back_end course out (course []).next refl e
-  back course (d ∷ ds) out good texts e = back_next course d ds out good texts.0 (λ next rest g p. back next ds rest g texts.1 p) (course []).next refl e
+  back course [] out good texts e = back_end course out (course []).next refl (sym (fill_last filler course) ∙ e)
+  back course (d ∷ ds) out good texts e = back_next course d ds out good texts.0 (λ next rest g p. back next ds rest g texts.1 p) (course []).next refl (sym (fill_more filler course d ds) ∙ e)
 
 -- ---- data that are not compressed
 
