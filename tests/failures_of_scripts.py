@@ -167,21 +167,25 @@ def room(trial: Trial) -> None:
 def shorter(trial: Trial) -> None:
     """The file becomes shorter while it is read: before `bufr ls` reads it, behind that, or before a dump."""
     stream = trial.place / "stream"
-    octets = lib.asking(lib.message(bytes(60_000)), 39) * 40
+    octets = lib.asking(lib.message(bytes(60_000)), 39) * (200 if trial.name == "bufr-auto" else 40)
     stream.write_bytes(octets)
     whole = trial.run([stream]).stdout
+    # Before, so much is left that all that `bufr ls` lists can be read: four messages and a part of the fifth.
+    cut = "head -c {1} {0} > {0}.1; cat {0}.1 > {0}"
     for what, lines in (
-        ("behind", f'if [ "$1" = ls ]; then {program()} ls; status=$?; head -c 100000 {stream} > {stream}.1; '
-                   f'cat {stream}.1 > {stream}; exit $status; fi'),
-        ("before", f'if [ "$1" = ls ]; then : > {stream}; fi'),
+        ("behind", f'if [ "$1" = ls ]; then {program()} ls; status=$?; {cut.format(stream, 100_000)}; exit $status; fi'),
+        ("before", f'if [ "$1" = ls ]; then {cut.format(stream, 300_000)}; fi'),
+        ("without", f'if [ "$1" = dump ]; then {cut.format(stream, 300_000)}; fi'),
     ):
+        if (what == "without") != (trial.name == "bufr-auto"):
+            continue  # bufr-auto alone reads the stream itself
         stream.write_bytes(octets)
         done = trial.run([stream], environment=trial.program(lines))
-        if trial.name in ("bufr-auto", "bufr-extract", "bufr-lacks") and stream.stat().st_size == len(octets):
-            continue  # it reads the stream without `bufr ls`
         if what == "before" and trial.name in ("bufr-extract", "bufr-lacks"):
-            # `bufr ls` reads an empty file.
-            holds(f"{trial.name}: a file that is empty when it is read", (done.returncode, done.stdout) == (0, b""), done)
+            # `bufr ls` reads a file that is shorter, and that alone.
+            wanted = trial.run([stream])
+            is_same = (done.returncode, done.stdout, done.stderr) == (1, wanted.stdout, wanted.stderr)
+            holds(f"{trial.name}: a file that is shorter when it is read", is_same, done.stderr)
             continue
         trial.fails(f"a file that becomes shorter {what} `bufr ls`", done, "shorter")
         holds(f"{trial.name}, {what} `bufr ls`: a prefix", whole.startswith(done.stdout), len(done.stdout))

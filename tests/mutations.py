@@ -156,9 +156,9 @@ MUTATIONS = [
 
 
 def copied(place: str) -> pathlib.Path:
-    """A copy of this tree without the crates, which the program was built of."""
+    """A copy of this tree without what was built."""
     top = pathlib.Path(place) / "tree"
-    left_out = shutil.ignore_patterns(".git", "crates", "__pycache__")
+    left_out = shutil.ignore_patterns(".git", "out", "__pycache__")
     shutil.copytree(TOP, top, symlinks=True, ignore=left_out)
     return top
 
